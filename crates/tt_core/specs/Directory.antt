@@ -1,0 +1,112 @@
+-- Apple TrueType Reference Manual, "The Font Directory": the offset subtable of 12 bytes, and a record of 16 bytes for
+-- each table. Search words, checksums, the order of the records and alignment are not tested (profile).
+use Rattle.std.specs.Prelude.{◌≡◌, ℕ, ◌+◌, ◌*◌, ◌<◌, ◌≤◌, Bool, false, not, ◌||◌, ◌==◌, nat_lt, if◌then◌else◌, List, length, slice_range, bytes_eq, Option, Some, None, is_some, Result, Ok, Err, IsOkAnd, OnOk, ◌⊎◌}
+use Rattle.std.specs.List.{list_all}
+use Rattle.std.proofs.Common.{inl, inr, subst}
+use Rattle.tt_core.specs.declared.fault.Fault.{Fault}
+use Rattle.tt_core.specs.declared.fault.Why.TheVariants as why
+use Rattle.tt_core.specs.Faults.{fault_at, file_fault}
+use Rattle.tt_core.specs.Numbers.{unsigned_at}
+use Rattle.tt_core.specs.Outcomes.{◌>>=◌}
+use Rattle.tt_core.specs.Search.{first_below}
+
+-- the versions that are read: 1.0, and 'true'
+abbrev pub is_version : ℕ → Bool
+is_version v = (v == 0x00010000) || (v == 0x74727565)
+
+abbrev pub record_count : List ℕ → ℕ
+record_count file = unsigned_at file 4 2
+
+-- where record i stands
+abbrev pub record_place : ℕ → ℕ
+record_place i = 12 + 16 * i
+
+-- where the directory ends
+abbrev pub directory_end : List ℕ → ℕ
+directory_end file = record_place (record_count file)
+
+abbrev pub record_tag : List ℕ → ℕ → List ℕ
+record_tag file i = slice_range file (record_place i) (record_place i + 4)
+
+-- where the table of record i begins in the file
+abbrev pub record_offset : List ℕ → ℕ → ℕ
+record_offset file i = unsigned_at file (record_place i + 8) 4
+
+-- where it ends; the sum has no bound
+abbrev pub record_end : List ℕ → ℕ → ℕ
+record_end file i = record_offset file i + unsigned_at file (record_place i + 12) 4
+
+-- a file whose directory can be read is itself the directory; else its first fault
+unfoldable pub directory_of : List ℕ → Result (List ℕ) Fault
+directory_of file =
+    if nat_lt (length file) 12 then Err (file_fault (length file) why.DirShort)
+    else (if not (is_version (unsigned_at file 0 4)) then Err (file_fault 0 why.BadVersion)
+    else (if nat_lt (length file) (directory_end file) then Err (file_fault (length file) why.DirShort) else Ok file))
+
+-- record i names the table
+abbrev pub has_tag : List ℕ → List ℕ → ℕ → Bool
+has_tag file tag i = bytes_eq (record_tag file i) tag
+
+-- the first record of a tag
+abbrev pub record_of : List ℕ → List ℕ → Option ℕ
+record_of file tag = first_below (record_count file) (has_tag file tag)
+
+-- the bytes that a record names
+abbrev pub named_by : List ℕ → Option ℕ → Result (Option (List ℕ)) Fault
+named_by file None = Ok None
+named_by file (Some i) =
+    if nat_lt (length file) (record_end file i) then Err (file_fault (record_place i) why.TableRange)
+    else Ok (Some (slice_range file (record_offset file i) (record_end file i)))
+
+-- the table of a tag: the slice that the first record of the tag names
+unfoldable pub table_of : List ℕ → List ℕ → Result (Option (List ℕ)) Fault
+table_of file tag = named_by file (record_of file tag)
+
+-- a table that has to be there
+abbrev pub or_missing : List ℕ → Option (List ℕ) → Result (List ℕ) Fault
+or_missing tag None = Err (fault_at tag 0 why.NoTable)
+or_missing tag (Some table) = Ok table
+
+unfoldable pub needed_table : List ℕ → List ℕ → Result (List ℕ) Fault
+needed_table file tag = table_of file tag >>= or_missing tag
+
+-- What stands behind a fault, apart from the order in which faults are looked for.
+
+-- a defect of the directory itself: it does not fit, or the version is another
+abbrev pub IsDirectoryDefect : List ℕ → Fault → Type 0
+IsDirectoryDefect file fault =
+    (((length file < 12) ⊎ (length file < directory_end file)) × (fault ≡ file_fault (length file) why.DirShort))
+    ⊎ ((4 ≤ length file) × (is_version (unsigned_at file 0 4) ≡ false) × (fault ≡ file_fault 0 why.BadVersion))
+
+-- there is a record, and this holds of it
+abbrev pub SomeRecord : Option ℕ → (ℕ → Type 0) → Type 0
+SomeRecord None P = ⊥
+SomeRecord (Some i) P = P i
+
+-- the first record of the tag names bytes past the end of the file
+abbrev pub PassesEnd : List ℕ → List ℕ → Fault → Type 0
+PassesEnd file tag fault = SomeRecord (record_of file tag) (λ i. (length file < record_end file i) × (fault ≡ file_fault (record_place i) why.TableRange))
+
+-- a needed table is missing, or passes the end of the file
+abbrev pub IsTableDefect : List ℕ → List ℕ → Fault → Type 0
+IsTableDefect file tag fault = PassesEnd file tag fault ⊎ ((is_some (record_of file tag) ≡ false) × (fault ≡ fault_at tag 0 why.NoTable))
+
+-- a table has a defect: it is missing, or passes the end of the file, or its bytes are bad
+abbrev pub IsDefectIn : List ℕ → List ℕ → (List ℕ → Fault → Type 0) → Fault → Type 0
+IsDefectIn file tag IsBad fault = IsTableDefect file tag fault ⊎ IsOkAnd (needed_table file tag) (λ table. IsBad table fault)
+
+-- the test that the bytes of a tag pass: each is ASCII
+abbrev pub is_ascii : List ℕ → Bool
+is_ascii tag = list_all (λ b. nat_lt b 128) tag
+
+-- no fault is a defect of this kind
+abbrev pub HasNo : (Fault → Type 0) → Type 0
+HasNo IsOne = (fault : Fault) → ¬ IsOne fault
+
+-- where the bytes of a table that is there are good on Ok, the table has no defect on Ok
+pub OnOk-HasNo-IsDefectIn : {X : Type 0} (r : Result X Fault) (file tag table : List ℕ) (IsBad : List ℕ → Fault → Type 0) → needed_table file tag ≡ Ok table → HasNo (IsTableDefect file tag) → OnOk r (HasNo (IsBad table)) → OnOk r (HasNo (IsDefectIn file tag IsBad))
+OnOk-HasNo-IsDefectIn (Err e) file tag table IsBad there kept good = tt
+OnOk-HasNo-IsDefectIn (Ok x) file tag table IsBad there kept good = λ fault. λ defect. elim defect [
+  | inl missing ↦ kept fault missing
+  | inr bad ↦ let P : Result (List ℕ) Fault → Type 0 = λ r. IsOkAnd r (λ t. IsBad t fault) in good fault (subst P there bad)
+]

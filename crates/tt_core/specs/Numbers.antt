@@ -1,0 +1,58 @@
+-- Apple TrueType Reference Manual, "The TrueType Font File" (data types): every number of a font is
+-- big-endian, and a signed one is two's complement. Below it, the two roundings of the whole program.
+use Rattle.std.specs.Prelude.{◌≡◌, ℕ, zero, suc, ◌+◌, ◌*◌, ◌^◌, List, [], ◌∷◌, length, slice_index, nat_lt, nat_le, if◌then◌else◌, ℤ, pos, negsuc, ◌+ℤ◌, ◌-ℤ◌, ◌*ℤ◌, neg_ℤ, int_lt, Option, Some, None, option_map, refl}
+use Rattle.std.specs.Int.{int_div_euclid}
+
+-- the number in the k bytes from a place on, the highest byte first; a byte past the end counts as 0
+abbrev pub unsigned_at : List ℕ → ℕ → ℕ → ℕ
+unsigned_at bytes at zero = 0
+unsigned_at bytes at (suc k) = slice_index bytes at * 256 ^ k + unsigned_at bytes (suc at) k
+
+-- the same number, where its k bytes are all there
+abbrev pub number_at : List ℕ → ℕ → ℕ → Option ℕ
+number_at bytes at k = if nat_le (at + k) (length bytes) then Some (unsigned_at bytes at k) else None
+
+-- 16 bits read as two's complement
+abbrev pub signed16 : ℕ → ℤ
+signed16 n = if nat_lt n (2 ^ 15) then pos n else pos n -ℤ pos (2 ^ 16)
+
+-- the signed number in the two bytes at a place, where they are there
+abbrev pub signed_at : List ℕ → ℕ → Option ℤ
+signed_at bytes at = option_map signed16 (number_at bytes at 2)
+
+-- n / d for a positive d, rounded to the nearest whole number, a half upwards: the floor of (2n + d) / (2d)
+abbrev pub nearest_quotient : ℤ → ℤ → ℤ
+nearest_quotient n d = int_div_euclid (pos 2 *ℤ n +ℤ d) (pos 2 *ℤ d)
+
+-- the same for any d but 0: the signs of both are changed first if d is negative
+abbrev pub rounded_quotient : ℤ → ℤ → ℤ
+rounded_quotient n d = if int_lt d (pos 0) then nearest_quotient (neg_ℤ n) (neg_ℤ d) else nearest_quotient n d
+
+-- a distance in font units as 26.6, at a size in pixels per em
+abbrev pub scaled : ℤ → ℕ → ℕ → ℤ
+scaled v ppem em = rounded_quotient (v *ℤ pos (ppem * 64)) (pos em)
+
+-- worked values
+two_bytes : number_at (1 ∷ 2 ∷ 3 ∷ []) 1 2 ≡ Some 515
+two_bytes = refl
+
+past_the_end : number_at (1 ∷ 2 ∷ 3 ∷ []) 2 2 ≡ None
+past_the_end = refl
+
+minus_two : signed_at (255 ∷ 254 ∷ []) 0 ≡ Some (negsuc 1)
+minus_two = refl
+
+half_goes_up : rounded_quotient (pos 1) (pos 2) ≡ pos 1
+half_goes_up = refl
+
+minus_half_goes_up : rounded_quotient (negsuc 0) (pos 2) ≡ pos 0
+minus_half_goes_up = refl
+
+minus_one_and_a_half : rounded_quotient (negsuc 2) (pos 2) ≡ negsuc 0
+minus_one_and_a_half = refl
+
+negative_divisor : rounded_quotient (pos 3) (negsuc 1) ≡ negsuc 0
+negative_divisor = refl
+
+one_em_at_size_16 : scaled (pos 256) 16 256 ≡ pos 1024
+one_em_at_size_16 = refl

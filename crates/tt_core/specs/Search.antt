@@ -1,0 +1,24 @@
+-- The plain search that tables are read by: the first number that passes a test.
+use Rattle.std.specs.Prelude.{◌≡◌, ℕ, zero, suc, ◌+◌, ◌-◌, ◌<◌, Bool, true, false, if◌then◌else◌, Option, Some, None, refl}
+use Rattle.std.proofs.Common.{arith}
+
+-- the least number from i on, of n numbers, that passes the test
+abbrev pub first_from : (ℕ → Bool) → ℕ → ℕ → Option ℕ
+first_from passes i zero = None
+first_from passes i (suc n) = if passes i then Some i else first_from passes (i + 1) n
+
+-- the least number below n that passes the test
+abbrev pub first_below : ℕ → (ℕ → Bool) → Option ℕ
+first_below n passes = first_from passes 0 n
+
+-- where i does not pass, the search goes on behind it
+pub first_from_next : (passes : ℕ → Bool) (i n : ℕ) → i < n → passes i ≡ false → first_from passes i (n - i) ≡ first_from passes (i + 1) (n - (i + 1))
+first_from_next passes i n below fails =
+    let more : n - i ≡ suc (n - (i + 1)) = omega arith in
+    rw (more, fails) refl
+
+-- where i passes, it is the answer
+pub first_from_here : (passes : ℕ → Bool) (i n : ℕ) → i < n → passes i ≡ true → first_from passes i (n - i) ≡ Some i
+first_from_here passes i n below holds =
+    let more : n - i ≡ suc (n - (i + 1)) = omega arith in
+    rw (more, holds) refl

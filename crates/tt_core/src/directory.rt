@@ -1,0 +1,113 @@
+//! The table directory. Apple TrueType Reference Manual, "The Font Directory".
+
+ghost use Rattle.std.specs.Prelude.{◌≡◌, ◌<◌, ◌≤◌, List, ℕ, length, IsTrue, IfOk, IfErr, OnOk, IfSome, is_some, option_copied};
+ghost use Rattle.tt_core.specs.declared.directory.TheConstants.{FONT_LIMIT};
+ghost use Rattle.tt_core.specs.Directory.{directory_of, directory_end, record_count, record_of, table_of, needed_table, is_ascii, HasNo, IsDirectoryDefect, PassesEnd, IsTableDefect};
+ghost use Rattle.tt_core.specs.Outcomes.{Gives};
+
+use crate::fault::{Fault, Why};
+use crate::number::{u16_at, u32_at};
+use std::marker::Model;
+
+/// The most bytes that a font file may have (profile).
+pub const FONT_LIMIT: usize = 67_108_864;
+
+const FILE: [u8; 4] = *b"file";
+
+/// A font file whose directory fits. A clause sees it as the file's bytes.
+#[derive(Drop)]
+pub struct Dir<'a> {
+    file: &'a [u8],
+    count: usize,
+}
+
+impl<'a> Model for Dir<'a> {
+    ghost Value = { List ℕ };
+
+    ghost view = { λ d. d.file.now };
+
+    ghost invariant = { λ d. (d.count ≡ record_count d.file.now) × (directory_end d.file.now ≤ length d.file.now)
+        × (length d.file.now ≤ FONT_LIMIT) };
+}
+
+impl<'a> Dir<'a> {
+    /// Reads the directory's head. Errors: DirShort, BadVersion.
+    #[tactic(auto, unfolding(crate::specs::Directory::directory_of))]
+    pub fn open(file: &'a [u8]) -> Result<Dir<'a>, Fault>
+        requires { length file.now ≤ FONT_LIMIT }
+        ensures exact { Gives (λ d. d) result (directory_of file.now) }
+        ensures whole { IfOk result (λ d. d ≡ file.now) }
+        ensures sound { OnOk result (HasNo (IsDirectoryDefect file.now)) }
+        ensures fault { IfErr result (IsDirectoryDefect file.now) }
+        ensures ascii { IfErr result (λ f. IsTrue (is_ascii f.table)) }
+    {
+        let short = Fault::new(FILE, file.len() as u32, Why::DirShort);
+        if file.len() < 12 {
+            return Err(short);
+        }
+        let version = u32_at(file, 0).unwrap();
+        if version != 0x0001_0000 && version != 0x7472_7565 {
+            return Err(Fault::new(FILE, 0, Why::BadVersion));
+        }
+        let count = usize::from(u16_at(file, 4).unwrap());
+        if file.len() < 12 + 16 * count {
+            return Err(short);
+        }
+        Ok(Dir { file, count })
+    }
+
+    /// The table of a tag, or None where no record has the tag; the first record counts (profile).
+    /// Error: TableRange.
+    #[tactic(auto, unfolding(crate::specs::Directory::table_of))]
+    pub fn table(&self, tag: [u8; 4]) -> Result<Option<&'a [u8]>, Fault>
+        ensures exact { Gives option_copied result (table_of self.now tag) }
+        ensures found { IfOk result (λ o. is_some o ≡ is_some (record_of self.now tag)) }
+        ensures size { IfOk result (λ o. IfSome o (λ table. length table.now ≤ FONT_LIMIT)) }
+        ensures sound { OnOk result (HasNo (PassesEnd self.now tag)) }
+        ensures fault { IfErr result (PassesEnd self.now tag) }
+        ensures ascii { IfErr result (λ f. IsTrue (is_ascii f.table)) }
+    {
+        let Some(i) = self.record(tag) else {
+            return Ok(None);
+        };
+        let place = 12 + 16 * i;
+        let offset = u32_at(self.file, place + 8).unwrap() as usize;
+        let length = u32_at(self.file, place + 12).unwrap() as usize;
+        if self.file.len() < offset + length {
+            return Err(Fault::new(FILE, place as u32, Why::TableRange));
+        }
+        Ok(Some(&self.file[offset..offset + length]))
+    }
+
+    /// A table that has to be there. Errors: TableRange, NoTable.
+    #[tactic(auto, unfolding(crate::specs::Directory::needed_table))]
+    pub fn needed(&self, tag: [u8; 4]) -> Result<&'a [u8], Fault>
+        requires { IsTrue (is_ascii tag) }
+        ensures exact { Gives (λ table. table.now) result (needed_table self.now tag) }
+        ensures size { IfOk result (λ table. length table.now ≤ FONT_LIMIT) }
+        ensures sound { OnOk result (HasNo (IsTableDefect self.now tag)) }
+        ensures fault { IfErr result (IsTableDefect self.now tag) }
+        ensures ascii { IfErr result (λ f. IsTrue (is_ascii f.table)) }
+    {
+        match self.table(tag)? {
+            Some(table) => Ok(table),
+            None => Err(Fault::new(tag, 0, Why::NoTable)),
+        }
+    }
+
+    #[tactic(auto, using(crate::specs::Search::first_from_next, crate::specs::Search::first_from_here))]
+    fn record(&self, tag: [u8; 4]) -> Option<usize>
+        ensures first { result ≡ record_of self.now tag }
+        ensures bound { IfSome result (λ i. i < record_count self.now) }
+        ensures room { directory_end self.now ≤ length self.now }
+        ensures size { length self.now ≤ FONT_LIMIT }
+    {
+        for i in 0..self.count {
+            let place = 12 + 16 * i;
+            if self.file[place..place + 4] == tag[..] {
+                return Some(i);
+            }
+        }
+        None
+    }
+}

@@ -1,0 +1,224 @@
+//! The refusals of a font and of a job, with their numbers and names.
+
+ghost use Rattle.std.specs.Prelude.{◌≡◌};
+ghost use Rattle.tt_core.specs.Faults.{fault_at, why_number, why_name, job_number, job_name};
+
+use thiserror::Error;
+
+/// What is wrong with a font.
+#[derive(Clone, Copy, Debug, PartialEq, Eq)]
+pub enum Why {
+    /// The file's version is neither 0x00010000 nor 'true'.
+    BadVersion = 1,
+    /// The directory passes the end of the file.
+    DirShort = 2,
+    /// A needed table is missing.
+    NoTable = 3,
+    /// A needed table passes the end of the file.
+    TableRange = 4,
+    /// head's magic number is another.
+    HeadMagic = 5,
+    /// unitsPerEm is outside 16 to 16384.
+    EmRange = 6,
+    /// indexToLocFormat is neither 0 nor 1.
+    LocaFormat = 7,
+    /// maxp is not of version 1.0.
+    MaxpVersion = 8,
+    /// head, maxp, hhea or hmtx is too short, or counts nothing.
+    MetricsShort = 9,
+    /// No supported character map.
+    NoCmap = 10,
+    /// cmap's header, records or subtable do not fit, or its end codes fall.
+    CmapShape = 11,
+    /// loca has too few entries.
+    LocaShort = 12,
+    /// A loca entry is above the next one, or past glyf.
+    GlyphRange = 13,
+    /// A glyph's bytes end too early.
+    GlyphShort = 14,
+    /// A contour ends before the one before it.
+    ContourOrder = 15,
+    /// A repeated flag runs past the last point.
+    FlagRun = 16,
+    /// Composites are nested too deep.
+    ComponentDepth = 17,
+    /// A composite has too many components.
+    ComponentCount = 18,
+    /// A component is no glyph of the font.
+    ComponentGlyph = 19,
+    /// A point to be matched does not exist.
+    MatchPoint = 20,
+    /// A component asks for a scaled offset.
+    ScaledOffset = 21,
+    /// A glyph has too many points.
+    PointLimit = 22,
+    /// A coordinate is outside its range.
+    CoordRange = 23,
+    /// A program makes too many steps.
+    StepLimit = 30,
+    /// The stack is full.
+    StackFull = 31,
+    /// The stack has too few entries.
+    StackShort = 32,
+    /// Calls are nested too deep.
+    CallDepth = 33,
+    /// The opcode is no instruction.
+    BadOpcode = 34,
+    /// The instruction is outside the supported set.
+    OffProfile = 35,
+    /// A jump leaves the program.
+    JumpRange = 36,
+    /// The program ends inside an instruction or a call.
+    CodeShort = 37,
+    /// No such function.
+    NoFunction = 38,
+    /// A function is defined or ended out of place.
+    DefinitionPlace = 39,
+    /// An IF or ELSE has no end.
+    IfOpen = 40,
+    /// An FDEF has no end.
+    NoEndf = 41,
+    /// No such point.
+    PointRange = 42,
+    /// No such contour.
+    ContourRange = 43,
+    /// No such zone.
+    ZoneRange = 44,
+    /// No such control value.
+    CvtRange = 45,
+    /// No such storage place.
+    StorageRange = 46,
+    /// A division by zero.
+    DivZero = 47,
+    /// A value is outside its range.
+    ValueRange = 48,
+    /// The projection and freedom vectors are perpendicular.
+    Perpendicular = 49,
+    /// An argument has no meaning.
+    BadArgument = 50,
+}
+
+impl Why {
+    /// The number that messages give.
+    #[tactic(auto, unfolding(crate::specs::Faults::why_number))]
+    pub fn number(self) -> u8
+        ensures { result ≡ why_number self }
+    {
+        self as u8
+    }
+
+    /// The name that messages give.
+    #[tactic(auto, unfolding(crate::specs::Faults::why_name))]
+    pub fn name(self) -> &'static str
+        ensures { result.now ≡ why_name self }
+    {
+        match self {
+            Why::BadVersion => "BadVersion",
+            Why::DirShort => "DirShort",
+            Why::NoTable => "NoTable",
+            Why::TableRange => "TableRange",
+            Why::HeadMagic => "HeadMagic",
+            Why::EmRange => "EmRange",
+            Why::LocaFormat => "LocaFormat",
+            Why::MaxpVersion => "MaxpVersion",
+            Why::MetricsShort => "MetricsShort",
+            Why::NoCmap => "NoCmap",
+            Why::CmapShape => "CmapShape",
+            Why::LocaShort => "LocaShort",
+            Why::GlyphRange => "GlyphRange",
+            Why::GlyphShort => "GlyphShort",
+            Why::ContourOrder => "ContourOrder",
+            Why::FlagRun => "FlagRun",
+            Why::ComponentDepth => "ComponentDepth",
+            Why::ComponentCount => "ComponentCount",
+            Why::ComponentGlyph => "ComponentGlyph",
+            Why::MatchPoint => "MatchPoint",
+            Why::ScaledOffset => "ScaledOffset",
+            Why::PointLimit => "PointLimit",
+            Why::CoordRange => "CoordRange",
+            Why::StepLimit => "StepLimit",
+            Why::StackFull => "StackFull",
+            Why::StackShort => "StackShort",
+            Why::CallDepth => "CallDepth",
+            Why::BadOpcode => "BadOpcode",
+            Why::OffProfile => "OffProfile",
+            Why::JumpRange => "JumpRange",
+            Why::CodeShort => "CodeShort",
+            Why::NoFunction => "NoFunction",
+            Why::DefinitionPlace => "DefinitionPlace",
+            Why::IfOpen => "IfOpen",
+            Why::NoEndf => "NoEndf",
+            Why::PointRange => "PointRange",
+            Why::ContourRange => "ContourRange",
+            Why::ZoneRange => "ZoneRange",
+            Why::CvtRange => "CvtRange",
+            Why::StorageRange => "StorageRange",
+            Why::DivZero => "DivZero",
+            Why::ValueRange => "ValueRange",
+            Why::Perpendicular => "Perpendicular",
+            Why::BadArgument => "BadArgument",
+        }
+    }
+}
+
+/// A defect of a font: the table (`file` for the directory), the offset in it, and what is wrong there.
+#[derive(Clone, Copy, Debug, PartialEq, Eq)]
+pub struct Fault {
+    /// The table's tag.
+    pub table: [u8; 4],
+    /// In bytes from the table's start.
+    pub offset: u32,
+    pub why: Why,
+}
+
+impl Fault {
+    pub fn new(table: [u8; 4], offset: u32, why: Why) -> Self
+        ensures { result ≡ fault_at table offset why }
+    {
+        Fault { table, offset, why }
+    }
+}
+
+/// What is wrong with a job: its size, its text, or the picture that they would make.
+#[derive(Clone, Copy, Debug, PartialEq, Eq, Error)]
+pub enum JobFault {
+    /// The size is outside 1 to 300 pixels per em.
+    #[error("the size is outside 1 to 300 pixels per em")]
+    SizeRange = 60,
+    /// The text has more than 4,096 characters.
+    #[error("the text has more than 4,096 characters")]
+    TextLong = 61,
+    /// The picture would have no pixel.
+    #[error("the picture would have no pixel")]
+    EmptyPicture = 62,
+    /// The picture would be too large.
+    #[error("the picture would be too large")]
+    PictureLarge = 63,
+    /// The margin is above 64 pixels.
+    #[error("the margin is above 64 pixels")]
+    MarginRange = 64,
+}
+
+impl JobFault {
+    /// The number that messages give.
+    #[tactic(auto, unfolding(crate::specs::Faults::job_number))]
+    pub fn number(self) -> u8
+        ensures { result ≡ job_number self }
+    {
+        self as u8
+    }
+
+    /// The name that messages give.
+    #[tactic(auto, unfolding(crate::specs::Faults::job_name))]
+    pub fn name(self) -> &'static str
+        ensures { result.now ≡ job_name self }
+    {
+        match self {
+            JobFault::SizeRange => "SizeRange",
+            JobFault::TextLong => "TextLong",
+            JobFault::EmptyPicture => "EmptyPicture",
+            JobFault::PictureLarge => "PictureLarge",
+            JobFault::MarginRange => "MarginRange",
+        }
+    }
+}

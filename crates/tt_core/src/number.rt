@@ -1,0 +1,71 @@
+//! Numbers of a font, and the two roundings. Apple TrueType Reference Manual, "The TrueType Font File", data types.
+
+ghost use Rattle.std.specs.Prelude.{◌≡◌, ◌≢◌, ◌+◌, ◌*◌, ◌^◌, ◌<◌, ◌≤◌, ◌<ℤ◌, pos, unsigned_abs};
+ghost use Rattle.tt_core.specs.Numbers.{number_at, signed_at, nearest_quotient, rounded_quotient, scaled};
+
+use byteorder::{BigEndian, ByteOrder};
+
+/// The u16 at a byte, or None where its bytes pass the end.
+pub fn u16_at(b: &[u8], at: usize) -> Option<u16>
+    ensures { result ≡ number_at b.now at 2 }
+{
+    if at > b.len() || b.len() - at < 2 {
+        return None;
+    }
+    Some(BigEndian::read_u16(&b[at..]))
+}
+
+/// The i16 at a byte, or None where its bytes pass the end.
+pub fn i16_at(b: &[u8], at: usize) -> Option<i16>
+    ensures { result ≡ signed_at b.now at }
+{
+    if at > b.len() || b.len() - at < 2 {
+        return None;
+    }
+    Some(BigEndian::read_i16(&b[at..]))
+}
+
+/// The u32 at a byte, or None where its bytes pass the end.
+pub fn u32_at(b: &[u8], at: usize) -> Option<u32>
+    ensures { result ≡ number_at b.now at 4 }
+{
+    if at > b.len() || b.len() - at < 4 {
+        return None;
+    }
+    Some(BigEndian::read_u32(&b[at..]))
+}
+
+fn nearest(n: i64, d: i64) -> i64
+    requires numerator { unsigned_abs n < 2 ^ 61 }
+    requires denominator { unsigned_abs d < 2 ^ 61 }
+    requires positive { pos 0 <ℤ d }
+    ensures exact { result ≡ nearest_quotient n d }
+    ensures bound { unsigned_abs result ≤ unsigned_abs n }
+{
+    (2 * n + d).div_euclid(2 * d)
+}
+
+/// `n / d` rounded to the nearest whole number, a half upwards.
+pub fn rq(n: i64, d: i64) -> i64
+    requires numerator { unsigned_abs n < 2 ^ 61 }
+    requires denominator { unsigned_abs d < 2 ^ 61 }
+    requires nonzero { d ≢ pos 0 }
+    ensures exact { result ≡ rounded_quotient n d }
+    ensures bound { unsigned_abs result ≤ unsigned_abs n }
+{
+    if d < 0 {
+        nearest(-n, -d)
+    } else {
+        nearest(n, d)
+    }
+}
+
+/// A distance in font units as 26.6, at `ppem` pixels per em of `em` font units.
+pub fn scale(v: i32, ppem: u32, em: u16) -> i64
+    requires size { ppem ≤ 300 }
+    requires units { 0 < em }
+    ensures exact { result ≡ scaled v ppem em }
+    ensures bound { unsigned_abs result ≤ unsigned_abs v * (ppem * 64) }
+{
+    rq(i64::from(v) * i64::from(ppem * 64), i64::from(em))
+}

@@ -1,0 +1,36 @@
+-- Apple TrueType Reference Manual, "The 'hhea' table"; OpenType, "hhea: Horizontal Header Table".
+use Rattle.std.specs.Prelude.{◌≡◌, ℕ, ◌≤◌, ◌==◌, if◌then◌else◌, List, length, codes, Result, Ok, Err, ◌⊎◌}
+use Rattle.tt_core.specs.declared.fault.Fault.{Fault}
+use Rattle.tt_core.specs.declared.fault.Why.TheVariants as why
+use Rattle.tt_core.specs.Directory.{needed_table, IsDefectIn}
+use Rattle.tt_core.specs.Faults.{fault_at}
+use Rattle.tt_core.specs.Numbers.{unsigned_at, signed16}
+use Rattle.tt_core.specs.Outcomes.{◌>>=◌}
+use Rattle.tt_metrics.specs.declared.hhea.Hhea.{Hhea}
+use Rattle.tt_metrics.specs.Tables.{or_short, IsShort}
+
+-- 'hhea'
+abbrev pub hhea_tag : List ℕ
+hhea_tag = codes "hhea"
+
+-- ascent at 4, descent at 6, numOfLongHorMetrics at 34
+abbrev pub hhea_fields : List ℕ → Result Hhea Fault
+hhea_fields hhea =
+    if unsigned_at hhea 34 2 == 0 then Err (fault_at hhea_tag 34 why.MetricsShort)
+    else Ok (record { ascent = signed16 (unsigned_at hhea 4 2); descent = signed16 (unsigned_at hhea 6 2); long_metrics = unsigned_at hhea 34 2 })
+
+-- the bytes of hhea, of which 36 have to be there
+unfoldable pub hhea_in : List ℕ → Result Hhea Fault
+hhea_in hhea = or_short hhea_tag 36 hhea >>= hhea_fields
+
+unfoldable pub hhea_of : List ℕ → Result Hhea Fault
+hhea_of file = needed_table file hhea_tag >>= hhea_in
+
+-- hhea is too short, or counts no long metrics
+abbrev pub IsBadHhea : List ℕ → Fault → Type 0
+IsBadHhea hhea fault =
+    IsShort hhea_tag 36 hhea fault
+    ⊎ ((36 ≤ length hhea) × (unsigned_at hhea 34 2 ≡ 0) × (fault ≡ fault_at hhea_tag 34 why.MetricsShort))
+
+abbrev pub IsHheaDefect : List ℕ → Fault → Type 0
+IsHheaDefect file fault = IsDefectIn file hhea_tag IsBadHhea fault

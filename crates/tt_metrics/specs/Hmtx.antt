@@ -1,0 +1,31 @@
+-- Apple TrueType Reference Manual, "The 'hmtx' table"; OpenType, "hmtx: Horizontal Metrics Table".
+use Rattle.std.specs.Prelude.{ℕ, ◌+◌, ◌-◌, ◌*◌, min, nat_lt, if◌then◌else◌, List, codes, Result, ℤ, pos, unwrap_or}
+use Rattle.tt_core.specs.declared.fault.Fault.{Fault}
+use Rattle.tt_core.specs.Directory.{needed_table, IsDefectIn}
+use Rattle.tt_core.specs.Numbers.{unsigned_at, signed_at}
+use Rattle.tt_core.specs.Outcomes.{◌>>=◌}
+use Rattle.tt_metrics.specs.Tables.{or_short, IsShort}
+
+-- 'hmtx'
+abbrev pub hmtx_tag : List ℕ
+hmtx_tag = codes "hmtx"
+
+-- the pairs of advance and bearing of n glyphs have to be there
+unfoldable pub hmtx_of : List ℕ → ℕ → Result (List ℕ) Fault
+hmtx_of file n = needed_table file hmtx_tag >>= or_short hmtx_tag (4 * n)
+
+-- the advance of glyph g, in font units; past the pairs it is the last pair's
+abbrev pub advance_in : List ℕ → ℕ → ℕ → ℕ
+advance_in hmtx n g = unsigned_at hmtx (4 * min g (n - 1)) 2
+
+-- where the bearing of glyph g stands: in its pair, or in the list behind the pairs
+abbrev pub bearing_place : ℕ → ℕ → ℕ
+bearing_place n g = if nat_lt g n then 4 * g + 2 else 4 * n + 2 * (g - n)
+
+-- the left side bearing of glyph g, in font units; past the end of the table it is 0 (profile)
+abbrev pub bearing_in : List ℕ → ℕ → ℕ → ℤ
+bearing_in hmtx n g = unwrap_or (signed_at hmtx (bearing_place n g)) (pos 0)
+
+-- the pairs do not fit
+abbrev pub IsHmtxDefect : List ℕ → ℕ → Fault → Type 0
+IsHmtxDefect file n fault = IsDefectIn file hmtx_tag (IsShort hmtx_tag (4 * n)) fault

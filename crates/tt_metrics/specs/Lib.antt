@@ -1,0 +1,6 @@
+pub mod Head
+pub mod Hhea
+pub mod Hmtx
+pub mod Maxp
+pub mod Metrics
+pub mod Tables

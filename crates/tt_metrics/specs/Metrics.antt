@@ -1,0 +1,81 @@
+-- The numbers of head, maxp, hhea and hmtx together.
+use Rattle.std.specs.Prelude.{◌≡◌, ℕ, ◌*◌, ◌<◌, ◌≤◌, ℤ, List, length, [], ◌∷◌, Result, Ok, IsOkAnd, ◌⊎◌, negsuc, refl}
+use Rattle.tt_core.specs.declared.fault.Fault.{Fault}
+use Rattle.tt_core.specs.Outcomes.{◌>>=◌}
+use Rattle.tt_metrics.specs.declared.head.Head.{Head}
+use Rattle.tt_metrics.specs.declared.head.LocaFormat.{LocaFormat}
+use Rattle.tt_metrics.specs.declared.hhea.Hhea.{Hhea}
+use Rattle.tt_metrics.specs.declared.maxp.Maxp.{Maxp}
+use Rattle.tt_metrics.specs.Head.{head_of, IsHeadDefect}
+use Rattle.tt_metrics.specs.Hhea.{hhea_of, IsHheaDefect}
+use Rattle.tt_metrics.specs.Hmtx.{hmtx_of, advance_in, bearing_in, IsHmtxDefect}
+use Rattle.tt_metrics.specs.Maxp.{maxp_of, IsMaxpDefect}
+
+pub record Fields : Type 0 where
+  pub head : Head
+  pub maxp : Maxp
+  pub hhea : Hhea
+  pub hmtx : List ℕ
+
+-- the four tables in the order in which they are read; the first fault is the answer
+unfoldable pub metrics_of : List ℕ → Result Fields Fault
+metrics_of file = do
+  head ← head_of file
+  maxp ← maxp_of file
+  hhea ← hhea_of file
+  hmtx ← hmtx_of file hhea.long_metrics
+  Ok (record { head = head; maxp = maxp; hhea = hhea; hmtx = hmtx })
+
+-- font units in an em
+abbrev pub units_per_em_of : Fields → ℕ
+units_per_em_of m = m.head.units_per_em
+
+abbrev pub loca_format_of : Fields → LocaFormat
+loca_format_of m = m.head.loca_format
+
+abbrev pub glyphs_of : Fields → ℕ
+glyphs_of m = m.maxp.glyphs
+
+abbrev pub twilight_of : Fields → ℕ
+twilight_of m = m.maxp.twilight
+
+abbrev pub storage_of : Fields → ℕ
+storage_of m = m.maxp.storage
+
+-- font units above the base line
+abbrev pub ascent_of : Fields → ℤ
+ascent_of m = m.hhea.ascent
+
+-- font units above the base line, so mostly negative
+abbrev pub descent_of : Fields → ℤ
+descent_of m = m.hhea.descent
+
+abbrev pub advance_of : Fields → ℕ → ℕ
+advance_of m g = advance_in m.hmtx m.hhea.long_metrics g
+
+abbrev pub left_side_bearing_of : Fields → ℕ → ℤ
+left_side_bearing_of m g = bearing_in m.hmtx m.hhea.long_metrics g
+
+-- what the rest of the program counts on
+pub record IsInRange (m : Fields) : Type 0 where
+  pub em_low : 16 ≤ units_per_em_of m
+  pub em_high : units_per_em_of m ≤ 16384
+  pub glyphs : 0 < glyphs_of m
+  pub long_metrics : 0 < m.hhea.long_metrics
+  pub pairs : 4 * m.hhea.long_metrics ≤ length m.hmtx
+
+-- a defect of one of the four tables
+abbrev pub IsMetricsDefect : List ℕ → Fault → Type 0
+IsMetricsDefect file fault =
+    IsHeadDefect file fault ⊎ IsMaxpDefect file fault ⊎ IsHheaDefect file fault
+    ⊎ IsOkAnd (hhea_of file) (λ hhea. IsHmtxDefect file hhea.long_metrics fault)
+
+-- worked values: one pair and one bearing behind it
+last_advance_repeats : advance_in (1 ∷ 2 ∷ 255 ∷ 254 ∷ 255 ∷ 253 ∷ []) 1 5 ≡ 258
+last_advance_repeats = refl
+
+bearing_in_its_pair : bearing_in (1 ∷ 2 ∷ 255 ∷ 254 ∷ 255 ∷ 253 ∷ []) 1 0 ≡ negsuc 1
+bearing_in_its_pair = refl
+
+bearing_behind_the_pairs : bearing_in (1 ∷ 2 ∷ 255 ∷ 254 ∷ 255 ∷ 253 ∷ []) 1 1 ≡ negsuc 2
+bearing_behind_the_pairs = refl

@@ -1,0 +1,13 @@
+-- What the four tables share: a table that is needed, and long enough to be read.
+use Rattle.std.specs.Prelude.{◌≡◌, ℕ, ◌<◌, nat_lt, if◌then◌else◌, List, length, Result, Ok, Err}
+use Rattle.tt_core.specs.declared.fault.Fault.{Fault}
+use Rattle.tt_core.specs.declared.fault.Why.TheVariants as why
+use Rattle.tt_core.specs.Faults.{fault_at}
+
+-- a table of fewer bytes than are needed is refused at its length
+abbrev pub or_short : List ℕ → ℕ → List ℕ → Result (List ℕ) Fault
+or_short tag least table = if nat_lt (length table) least then Err (fault_at tag (length table) why.MetricsShort) else Ok table
+
+-- the table has fewer bytes than are needed
+abbrev pub IsShort : List ℕ → ℕ → List ℕ → Fault → Type 0
+IsShort tag least table fault = (length table < least) × (fault ≡ fault_at tag (length table) why.MetricsShort)

@@ -1,0 +1,69 @@
+//! The font header. Apple TrueType Reference Manual, "The 'head' table".
+
+ghost use Rattle.std.specs.Prelude.{◌≡◌, ◌≤◌, IsTrue, IfOk, IfErr, OnOk, length};
+ghost use Rattle.tt_core.specs.Directory.{is_ascii, HasNo};
+ghost use Rattle.tt_core.specs.Outcomes.{Gives};
+ghost use Rattle.tt_metrics.specs.Head.{head_in, head_of, IsBadHead, IsHeadDefect};
+
+use crate::table::long_enough;
+use tt_core::{Dir, FONT_LIMIT, Fault, Why, u16_at, u32_at};
+
+const HEAD: [u8; 4] = *b"head";
+
+/// How loca writes an offset.
+#[derive(Clone, Copy, Debug, PartialEq, Eq)]
+pub enum LocaFormat {
+    /// Half the offset, as a u16.
+    Short,
+    /// The offset, as a u32.
+    Long,
+}
+
+#[derive(Clone, Copy)]
+pub struct Head {
+    /// Font units in an em, 16 to 16384.
+    pub units_per_em: u16,
+    pub loca_format: LocaFormat,
+}
+
+/// Errors: NoTable, TableRange, MetricsShort, HeadMagic, EmRange, LocaFormat.
+#[tactic(auto, unfolding(crate::specs::Head::head_of))]
+pub(crate) fn read_head(dir: &Dir) -> Result<Head, Fault>
+    ensures exact { Gives (λ head. head) result (head_of dir.now) }
+    ensures em_low { IfOk result (λ head. 16 ≤ head.units_per_em) }
+    ensures em_high { IfOk result (λ head. head.units_per_em ≤ 16384) }
+    ensures sound { OnOk result (HasNo (IsHeadDefect dir.now)) }
+    ensures fault { IfErr result (IsHeadDefect dir.now) }
+    ensures ascii { IfErr result (λ f. IsTrue (is_ascii f.table)) }
+{
+    fields_of(dir.needed(HEAD)?)
+}
+
+#[tactic(auto, unfolding(crate::specs::Head::head_in))]
+fn fields_of(head: &[u8]) -> Result<Head, Fault>
+    requires { length head.now ≤ FONT_LIMIT }
+    ensures exact { Gives (λ head. head) result (head_in head.now) }
+    ensures em_low { IfOk result (λ head. 16 ≤ head.units_per_em) }
+    ensures em_high { IfOk result (λ head. head.units_per_em ≤ 16384) }
+    ensures sound { OnOk result (HasNo (IsBadHead head.now)) }
+    ensures fault { IfErr result (IsBadHead head.now) }
+    ensures ascii { IfErr result (λ f. IsTrue (is_ascii f.table)) }
+{
+    let head = long_enough(HEAD, 54, head)?;
+    if u32_at(head, 12).unwrap() != 0x5F0F_3CF5 {
+        return Err(Fault::new(HEAD, 12, Why::HeadMagic));
+    }
+    let units_per_em = u16_at(head, 18).unwrap();
+    if units_per_em < 16 || units_per_em > 16384 {
+        return Err(Fault::new(HEAD, 18, Why::EmRange));
+    }
+    let loca_format = match u16_at(head, 50).unwrap() {
+        0 => LocaFormat::Short,
+        1 => LocaFormat::Long,
+        _ => return Err(Fault::new(HEAD, 50, Why::LocaFormat)),
+    };
+    Ok(Head {
+        units_per_em,
+        loca_format,
+    })
+}

@@ -1,0 +1,54 @@
+//! The horizontal header. Apple TrueType Reference Manual, "The 'hhea' table".
+
+ghost use Rattle.std.specs.Prelude.{◌≡◌, ◌≤◌, ◌<◌, IsTrue, IfOk, IfErr, OnOk, length};
+ghost use Rattle.tt_core.specs.Directory.{is_ascii, HasNo};
+ghost use Rattle.tt_core.specs.Outcomes.{Gives};
+ghost use Rattle.tt_metrics.specs.Hhea.{hhea_in, hhea_of, IsBadHhea, IsHheaDefect};
+
+use crate::table::long_enough;
+use tt_core::{Dir, FONT_LIMIT, Fault, Why, i16_at, u16_at};
+
+const HHEA: [u8; 4] = *b"hhea";
+
+#[derive(Clone, Copy)]
+pub struct Hhea {
+    /// Font units above the base line.
+    pub ascent: i16,
+    /// Font units above the base line, so mostly negative.
+    pub descent: i16,
+    /// How many pairs hmtx begins with.
+    pub long_metrics: u16,
+}
+
+/// Errors: NoTable, TableRange, MetricsShort.
+#[tactic(auto, unfolding(crate::specs::Hhea::hhea_of))]
+pub(crate) fn read_hhea(dir: &Dir) -> Result<Hhea, Fault>
+    ensures exact { Gives (λ hhea. hhea) result (hhea_of dir.now) }
+    ensures long_metrics { IfOk result (λ hhea. 0 < hhea.long_metrics) }
+    ensures sound { OnOk result (HasNo (IsHheaDefect dir.now)) }
+    ensures fault { IfErr result (IsHheaDefect dir.now) }
+    ensures ascii { IfErr result (λ f. IsTrue (is_ascii f.table)) }
+{
+    fields_of(dir.needed(HHEA)?)
+}
+
+#[tactic(auto, unfolding(crate::specs::Hhea::hhea_in))]
+fn fields_of(hhea: &[u8]) -> Result<Hhea, Fault>
+    requires { length hhea.now ≤ FONT_LIMIT }
+    ensures exact { Gives (λ hhea. hhea) result (hhea_in hhea.now) }
+    ensures long_metrics { IfOk result (λ hhea. 0 < hhea.long_metrics) }
+    ensures sound { OnOk result (HasNo (IsBadHhea hhea.now)) }
+    ensures fault { IfErr result (IsBadHhea hhea.now) }
+    ensures ascii { IfErr result (λ f. IsTrue (is_ascii f.table)) }
+{
+    let hhea = long_enough(HHEA, 36, hhea)?;
+    let long_metrics = u16_at(hhea, 34).unwrap();
+    if long_metrics == 0 {
+        return Err(Fault::new(HHEA, 34, Why::MetricsShort));
+    }
+    Ok(Hhea {
+        ascent: i16_at(hhea, 4).unwrap(),
+        descent: i16_at(hhea, 6).unwrap(),
+        long_metrics,
+    })
+}

@@ -1,0 +1,12 @@
+//! The numbers of head, maxp, hhea and hmtx.
+#![tactic(auto)]
+
+mod head;
+mod hhea;
+mod hmtx;
+mod maxp;
+mod metrics;
+mod table;
+
+pub use head::LocaFormat;
+pub use metrics::Metrics;

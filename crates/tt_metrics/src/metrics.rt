@@ -1,0 +1,125 @@
+//! The four tables together.
+
+ghost use Rattle.std.specs.Prelude.{◌≡◌, ◌<◌, ◌≤◌, IsTrue, IfOk, IfErr, OnOk};
+ghost use Rattle.tt_core.specs.Directory.{is_ascii, HasNo};
+ghost use Rattle.tt_core.specs.Outcomes.{Gives};
+ghost use Rattle.tt_metrics.specs.Metrics.{metrics_of, units_per_em_of, loca_format_of, glyphs_of, twilight_of, storage_of, ascent_of, descent_of, advance_of, left_side_bearing_of, IsInRange, IsMetricsDefect};
+
+use crate::head::{Head, LocaFormat, read_head};
+use crate::hhea::{Hhea, read_hhea};
+use crate::hmtx::{advance_at, bearing_at, read_hmtx};
+use crate::maxp::{Maxp, read_maxp};
+use std::marker::Model;
+use tt_core::{Dir, Fault};
+
+/// What head, maxp, hhea and hmtx say. A clause sees it as the tables' fields.
+#[derive(Drop)]
+pub struct Metrics<'a> {
+    head: Head,
+    maxp: Maxp,
+    hhea: Hhea,
+    hmtx: &'a [u8],
+}
+
+impl<'a> Model for Metrics<'a> {
+    ghost use Rattle.std.specs.Prelude.{◌<◌, ◌≤◌, ◌*◌, length};
+    ghost use Rattle.tt_metrics.specs.Metrics.{Fields, IsInRange};
+
+    ghost Value = { Fields };
+
+    ghost view = { λ m. record { head = m.head; maxp = m.maxp; hhea = m.hhea; hmtx = m.hmtx.now } };
+
+    ghost invariant = { λ m. IsInRange (record { head = m.head; maxp = m.maxp; hhea = m.hhea; hmtx = m.hmtx.now }) };
+}
+
+impl<'a> Metrics<'a> {
+    /// Reads head, maxp, hhea and hmtx, in this order. Errors: NoTable, TableRange, HeadMagic,
+    /// EmRange, LocaFormat, MaxpVersion, MetricsShort.
+    #[tactic(auto, unfolding(crate::specs::Metrics::metrics_of))]
+    pub fn open(dir: &Dir<'a>) -> Result<Metrics<'a>, Fault>
+        ensures exact { Gives (λ m. m) result (metrics_of dir.now) }
+        ensures ranges { IfOk result IsInRange }
+        ensures sound { OnOk result (HasNo (IsMetricsDefect dir.now)) }
+        ensures fault { IfErr result (IsMetricsDefect dir.now) }
+        ensures ascii { IfErr result (λ f. IsTrue (is_ascii f.table)) }
+    {
+        let head = read_head(dir)?;
+        let maxp = read_maxp(dir)?;
+        let hhea = read_hhea(dir)?;
+        let hmtx = read_hmtx(dir, hhea.long_metrics)?;
+        Ok(Metrics {
+            head,
+            maxp,
+            hhea,
+            hmtx,
+        })
+    }
+
+    /// Font units in an em.
+    pub fn units_per_em(&self) -> u16
+        ensures exact { result ≡ units_per_em_of self.now }
+        ensures low { 16 ≤ result }
+        ensures high { result ≤ 16384 }
+    {
+        self.head.units_per_em
+    }
+
+    /// How many glyphs the font has.
+    pub fn glyphs(&self) -> u16
+        ensures exact { result ≡ glyphs_of self.now }
+        ensures some { 0 < result }
+    {
+        self.maxp.glyphs
+    }
+
+    /// Font units above the base line.
+    pub fn ascent(&self) -> i16
+        ensures { result ≡ ascent_of self.now }
+    {
+        self.hhea.ascent
+    }
+
+    /// Font units above the base line, so mostly negative.
+    pub fn descent(&self) -> i16
+        ensures { result ≡ descent_of self.now }
+    {
+        self.hhea.descent
+    }
+
+    /// How loca writes an offset.
+    pub fn loca_format(&self) -> LocaFormat
+        ensures { result ≡ loca_format_of self.now }
+    {
+        self.head.loca_format
+    }
+
+    /// Places of the storage area.
+    pub fn storage(&self) -> u16
+        ensures { result ≡ storage_of self.now }
+    {
+        self.maxp.storage
+    }
+
+    /// Points of the twilight zone.
+    pub fn twilight(&self) -> u16
+        ensures { result ≡ twilight_of self.now }
+    {
+        self.maxp.twilight
+    }
+
+    /// The advance of a glyph, in font units.
+    pub fn advance(&self, g: u16) -> u16
+        requires { g < glyphs_of self.now }
+        ensures { result ≡ advance_of self.now g }
+    {
+        advance_at(self.hmtx, self.hhea.long_metrics, g)
+    }
+
+    /// The left side bearing of a glyph, in font units.
+    pub fn lsb(&self, g: u16) -> i16
+        requires { g < glyphs_of self.now }
+        ensures { result ≡ left_side_bearing_of self.now g }
+    {
+        bearing_at(self.hmtx, self.hhea.long_metrics, g)
+    }
+}

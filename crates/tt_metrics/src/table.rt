@@ -1,0 +1,29 @@
+//! A table that has to be there with so many bytes.
+
+ghost use Rattle.std.specs.Prelude.{◌≡◌, ◌≤◌, length, IsTrue, IfOk, IfErr, OnOk};
+ghost use Rattle.tt_core.specs.Directory.{is_ascii, HasNo};
+ghost use Rattle.tt_core.specs.Outcomes.{Gives};
+ghost use Rattle.tt_metrics.specs.Tables.{or_short, IsShort};
+
+use tt_core::{FONT_LIMIT, Fault, Why};
+
+/// Refuses a table of fewer bytes than `least`, at its length.
+pub(crate) fn long_enough<'a>(
+    tag: [u8; 4],
+    least: usize,
+    table: &'a [u8],
+) -> Result<&'a [u8], Fault>
+    requires ascii { IsTrue (is_ascii tag) }
+    requires size { length table.now ≤ FONT_LIMIT }
+    ensures exact { Gives (λ t. t.now) result (or_short tag least table.now) }
+    ensures whole { IfOk result (λ t. t.now ≡ table.now) }
+    ensures long { IfOk result (λ t. least ≤ length t.now) }
+    ensures sound { OnOk result (HasNo (IsShort tag least table.now)) }
+    ensures fault { IfErr result (IsShort tag least table.now) }
+    ensures ascii { IfErr result (λ f. IsTrue (is_ascii f.table)) }
+{
+    if table.len() < least {
+        return Err(Fault::new(tag, table.len() as u32, Why::MetricsShort));
+    }
+    Ok(table)
+}
