@@ -1,0 +1,64 @@
+-- OpenType, "cmap: Character to Glyph Index Mapping Table": version, count of encoding records, and records of platform,
+-- encoding and offset. Only subtables of format 4 are looked for (profile).
+use Rattle.std.specs.Prelude.{ℕ, ◌+◌, ◌*◌, Bool, ◌&&◌, ◌==◌, nat_lt, nat_le, if◌then◌else◌, List, length, codes, Option, Some, None, option_map, Result, Ok, Err}
+use Rattle.tt_core.specs.declared.fault.Fault.{Fault}
+use Rattle.tt_core.specs.declared.fault.Why.{Why}
+use Rattle.tt_core.specs.declared.fault.Why.TheVariants as why
+use Rattle.tt_core.specs.Faults.{fault_at}
+use Rattle.tt_core.specs.Numbers.{unsigned_at}
+use Rattle.tt_core.specs.Search.{first_below}
+use Rattle.tt_cmap.specs.declared.subtable.Platform.{Platform}
+use Rattle.tt_cmap.specs.declared.subtable.Platform.TheVariants.{Windows, Unicode}
+
+-- a fault of cmap
+abbrev pub cmap_fault : ℕ → Why → Fault
+cmap_fault offset why = fault_at (codes "cmap") offset why
+
+abbrev pub record_count : List ℕ → ℕ
+record_count table = unsigned_at table 2 2
+
+-- where record i stands
+abbrev pub record_place : ℕ → ℕ
+record_place i = 4 + 8 * i
+
+abbrev pub platform_of : List ℕ → ℕ → ℕ
+platform_of table i = unsigned_at table (record_place i) 2
+
+abbrev pub encoding_of : List ℕ → ℕ → ℕ
+encoding_of table i = unsigned_at table (record_place i + 2) 2
+
+-- where the subtable of record i begins
+abbrev pub subtable_of : List ℕ → ℕ → ℕ
+subtable_of table i = unsigned_at table (record_place i + 4) 4
+
+-- the header and the records fit; they count this many
+unfoldable pub records_of : List ℕ → Result ℕ Fault
+records_of table =
+    if nat_lt (length table) 4 then Err (cmap_fault (length table) why.CmapShape)
+    else (if nat_lt (length table) (record_place (record_count table)) then Err (cmap_fault (length table) why.CmapShape)
+    else Ok (record_count table))
+
+-- record i is for the platform
+abbrev pub is_for : Platform → List ℕ → ℕ → Bool
+is_for Windows table i = (platform_of table i == 3) && (encoding_of table i == 1)
+is_for Unicode table i = platform_of table i == 0
+
+-- its subtable has room for a format word, and that word is 4
+abbrev pub is_format4 : List ℕ → ℕ → Bool
+is_format4 table at = nat_le (at + 2) (length table) && (unsigned_at table at 2 == 4)
+
+abbrev pub is_wanted : Platform → List ℕ → ℕ → Bool
+is_wanted platform table i = is_for platform table i && is_format4 table (subtable_of table i)
+
+-- the subtable of the first record of the platform that can be used
+abbrev pub first_subtable : Platform → List ℕ → Option ℕ
+first_subtable platform table = option_map (subtable_of table) (first_below (record_count table) (is_wanted platform table))
+
+-- the first of two, where it is there
+abbrev pub or_else : Option ℕ → Option ℕ → Option ℕ
+or_else None other = other
+or_else (Some x) other = Some x
+
+-- the subtable that serves: Windows' first, then Unicode's
+abbrev pub chosen_subtable : List ℕ → Option ℕ
+chosen_subtable table = or_else (first_subtable Windows table) (first_subtable Unicode table)

@@ -1,0 +1,8 @@
+//! From a character to its glyph. OpenType, "cmap: Character to Glyph Index Mapping Table".
+#![tactic(auto)]
+
+mod format4;
+mod lookup;
+mod subtable;
+
+pub use lookup::Cmap;
