@@ -1,0 +1,12 @@
+use Rattle.std.proofs.Common.{rules}
+use Rattle.tt_render.proofs.Known.{appends_more}
+use Rattle.tt_render.proofs.writing.write_all_of.Goals as goal
+
+pub loop-sent-preserved : goal.loop-sent-preserved
+loop-sent-preserved g c =
+    let written = g.W.Sink.written in
+    record {
+      within = search rules;
+      part = appends_more (written c.args.out.now) (written c.loop-sent.out) (written c.write.new.self) c.args.bytes.now c.loop-sent.sent c.in-Ok.n (search rules) c.loop-sent.invariant.part c.in-Ok.ensures.bytes;
+      sound = search rules;
+    }

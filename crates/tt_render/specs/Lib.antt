@@ -1,0 +1,6 @@
+pub mod Defects
+pub mod MapLines
+pub mod Outcome
+pub mod Reading
+pub mod Report
+pub mod Writing

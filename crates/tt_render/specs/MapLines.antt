@@ -1,0 +1,40 @@
+-- What `map` writes: for each character its code point, its glyph and the glyph's advance in font units.
+use Rattle.std.specs.Prelude.{ℕ, ◌-◌, List, ◌++◌, length, replicate, flat_map, true, chars, codes, decimal, Result, Ok}
+use Rattle.std.specs.Fmt.{digits}
+use Rattle.tt_core.specs.declared.fault.Fault.{Fault}
+use Rattle.tt_core.specs.Directory.{directory_of, needed_table}
+use Rattle.tt_core.specs.Outcomes.{◌>>=◌}
+use Rattle.tt_cmap.specs.Lookup.{Lookup, lookup_of, glyph_of}
+use Rattle.tt_metrics.specs.Metrics.{Fields, metrics_of, glyphs_of, advance_of}
+
+-- digits behind as many zeros as make them four
+abbrev pub at_least_four : List ℕ → List ℕ
+at_least_four ds = replicate (4 - length ds) 48 ++ ds
+
+-- a code point in capital hexadecimal
+abbrev pub code_point : ℕ → List ℕ
+code_point c = at_least_four (digits 16 true c)
+
+-- `U+XXXX glyph advance` and a line feed
+abbrev pub line_text : ℕ → ℕ → ℕ → List ℕ
+line_text c glyph advance = codes "U+" ++ (code_point c ++ (codes " " ++ (decimal glyph ++ (codes " " ++ (decimal advance ++ codes "\n")))))
+
+abbrev pub map_line : Fields → Lookup → ℕ → List ℕ
+map_line m lookup c = line_text c (glyph_of lookup c) (advance_of m (glyph_of lookup c))
+
+-- the lines of the characters of a text, in the order of the text
+abbrev pub map_lines : Fields → Lookup → List ℕ → List ℕ
+map_lines m lookup text = flat_map (map_line m lookup) (chars text)
+
+-- 'cmap'
+abbrev pub cmap_tag : List ℕ
+cmap_tag = codes "cmap"
+
+-- the lines by the tables of a file, or the file's first fault in the order in which they are read
+unfoldable pub lines_of : List ℕ → List ℕ → Result (List ℕ) Fault
+lines_of file text = do
+  directory ← directory_of file
+  m ← metrics_of directory
+  table ← needed_table directory cmap_tag
+  lookup ← lookup_of table (glyphs_of m)
+  Ok (map_lines m lookup text)

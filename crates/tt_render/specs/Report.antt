@@ -1,0 +1,32 @@
+-- What the program says of a fault: its exit status, and its line on standard error.
+use Rattle.std.specs.Prelude.{ℕ, List, ◌++◌, codes, decimal}
+use Rattle.tt_core.specs.declared.fault.Fault.{Fault}
+use Rattle.tt_core.specs.declared.fault.JobFault.{JobFault}
+use Rattle.tt_core.specs.Faults.{why_number, why_name, job_number, job_name}
+use Rattle.tt_render.specs.declared.fault.RunFault.{RunFault}
+use Rattle.tt_render.specs.declared.fault.RunFault.TheVariants as run
+
+abbrev pub status_of : RunFault → ℕ
+status_of (run.Font f) = 1
+status_of (run.Job j) = 2
+status_of run.Read = 3
+status_of run.FontLarge = 3
+status_of (run.Write sent) = 4
+status_of run.Memory = 5
+
+-- `tt_render: <table>+<offset>: <number> <name>`
+abbrev pub font_line : Fault → List ℕ
+font_line f =
+    codes "tt_render: " ++ (f.table ++ (codes "+" ++ (decimal f.offset ++ (codes ": " ++ (decimal (why_number f.why) ++ (codes " " ++ why_name f.why))))))
+
+-- `tt_render: <number> <name>`
+abbrev pub job_line : JobFault → List ℕ
+job_line j = codes "tt_render: " ++ (decimal (job_number j) ++ (codes " " ++ job_name j))
+
+abbrev pub line_of : RunFault → List ℕ
+line_of (run.Font f) = font_line f
+line_of (run.Job j) = job_line j
+line_of run.Read = codes "tt_render: cannot read the font"
+line_of run.FontLarge = codes "tt_render: font larger than 67108864 bytes"
+line_of (run.Write sent) = codes "tt_render: cannot write after " ++ (decimal sent ++ codes " bytes")
+line_of run.Memory = codes "tt_render: out of memory"

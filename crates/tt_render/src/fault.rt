@@ -1,0 +1,64 @@
+//! Why a call ends without its work done.
+
+ghost use Rattle.std.specs.Prelude.{◌≡◌};
+ghost use Rattle.tt_render.specs.declared.fault.RunFault.TheVariants.{Font, Memory, Write};
+
+use crate::writing::Cut;
+use std::alloc::{AllocError, AllocFailed};
+use thiserror::Error;
+use tt_core::{Fault, JobFault};
+
+/// Why `map` ends without its work done.
+#[derive(Clone, Copy, Debug, PartialEq, Eq, Error)]
+pub enum RunFault {
+    /// The font has this defect; nothing was written.
+    #[error("the font is refused")]
+    Font(Fault),
+    /// The job cannot be done; nothing was written.
+    #[error("{0}")]
+    Job(JobFault),
+    /// The font could not be read to its end; nothing was written.
+    #[error("cannot read the font")]
+    Read,
+    /// The font has more than 67,108,864 bytes; nothing was written.
+    #[error("the font is too large")]
+    FontLarge,
+    /// Writing failed after `sent` bytes of this call.
+    #[error("cannot write after {sent} bytes")]
+    Write { sent: u64 },
+    /// Memory was refused; nothing was written.
+    #[error("out of memory")]
+    Memory,
+}
+
+impl From<Fault> for RunFault {
+    ghost from_gives = { λ f e. e ≡ Font f };
+
+    fn from(fault: Fault) -> RunFault {
+        RunFault::Font(fault)
+    }
+}
+
+impl From<Cut> for RunFault {
+    ghost from_gives = { λ cut e. e ≡ Write cut.sent };
+
+    fn from(cut: Cut) -> RunFault {
+        RunFault::Write { sent: cut.sent }
+    }
+}
+
+impl From<AllocError> for RunFault {
+    ghost from_gives = { λ _ e. e ≡ Memory };
+
+    fn from(_e: AllocError) -> RunFault {
+        RunFault::Memory
+    }
+}
+
+impl<T: Drop> From<AllocFailed<T>> for RunFault {
+    ghost from_gives = { λ _ e. e ≡ Memory };
+
+    fn from(_e: AllocFailed<T>) -> RunFault {
+        RunFault::Memory
+    }
+}
