@@ -1,0 +1,14 @@
+//! Tests of what no contract says: that calls succeed, and what devices that fail or move little do to them. The values
+//! come from worked examples of the rules. Cases that need only the program are run by scripts, in the folder tests/.
+#![tactic(auto)]
+
+#[cfg(test)]
+mod device_tests;
+#[cfg(test)]
+mod devices;
+#[cfg(test)]
+mod map_tests;
+#[cfg(test)]
+mod number_tests;
+#[cfg(test)]
+mod test_font;
