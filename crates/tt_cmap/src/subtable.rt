@@ -85,9 +85,7 @@ pub(crate) fn chosen(table: &[u8], count: usize) -> Option<usize>
     ensures chosen { result ≡ chosen_subtable table.now }
     ensures within { IfSome result (λ at. at + 2 ≤ length table.now) }
 {
-    first_subtable(Platform::Windows, table, count).or(first_subtable(
-        Platform::Unicode,
-        table,
-        count,
-    ))
+    let windows = first_subtable(Platform::Windows, table, count);
+    let unicode = first_subtable(Platform::Unicode, table, count);
+    windows.or(unicode)
 }

@@ -1,6 +1,6 @@
 //! Readers and writers that remember whether they failed.
 
-ghost use Rattle.std.specs.Prelude.{◌≡◌, ℕ, Bool, false, List, Option};
+ghost use Rattle.std.specs.Prelude.{◌≡◌, ℕ, Bool, true, false, List, Option};
 ghost use Rattle.std.specs.Io.{ReadsAtMost, WritesAtMost};
 ghost use Rattle.std.specs.Io.KnownBytes.{ReadConsumes, WriteAppends};
 ghost use Rattle.tt_core.specs.Device.{RemembersFailure, TakesSome};
@@ -74,6 +74,13 @@ impl<T> Device<T> {
             failed: false,
         }
     }
+
+    fn fail(&mut self) -> IoFailed
+        ensures { self.new ≡ record self.old { failed = true } }
+    {
+        self.failed = true;
+        IoFailed
+    }
 }
 
 impl<R: Read> Source for Device<R> {
@@ -95,8 +102,7 @@ impl<R: Read> Source for Device<R> {
                 }
             }
         }
-        self.failed = true;
-        Err(IoFailed)
+        Err(self.fail())
     }
 
     fn failed(&self) -> bool {
@@ -128,8 +134,7 @@ impl<W: Write> Sink for Device<W> {
                 }
             }
         }
-        self.failed = true;
-        Err(IoFailed)
+        Err(self.fail())
     }
 
     fn failed(&self) -> bool {

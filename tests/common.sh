@@ -1,0 +1,78 @@
+# shellcheck shell=bash
+# What the scripts of the folders beside this file share: which program they run, and how one run of it is compared with
+# what is wanted. Each script sources this file, and at its end calls `report`.
+set -Eeuo pipefail
+trap 'echo "tests: ${BASH_SOURCE[0]##*/}, line $LINENO: a command of the script itself failed" >&2' ERR
+
+root=$(cd -- "$(dirname -- "${BASH_SOURCE[0]}")/.." && pwd)
+
+# TT_RENDER=PATH tries another program in the place of ours.
+program=${TT_RENDER:-$root/tt_render}
+program=$(readlink -f -- "$program")
+
+room=$(mktemp -d)
+trap 'rm -rf -- "$room"' EXIT
+
+passed=0
+failed=0
+
+# The program is started once here, so that the time of building it falls on no case, nor its lines on the case's
+# standard error.
+if ! "$program" --help >/dev/null; then
+  echo "tests: $program does not start" >&2
+  exit 1
+fi
+
+# bytes HEX: prints the bytes that hexadecimal digits name.
+bytes() {
+  printf '%b' "$(sed 's/../\\x&/g' <<<"$1")"
+}
+
+# verdict NAME WORD..: counts the case, which failed if there are any words, and prints what they say.
+verdict() {
+  if [ $# -eq 1 ]; then
+    passed=$((passed + 1))
+    return
+  fi
+  failed=$((failed + 1))
+  printf 'FAILED %s\n' "$1"
+  shift
+  printf '  %s\n' "$@"
+}
+
+# tried NAME STATUS: compares the run that left $room/status, $room/stdout and $room/stderr with the status and the files
+# $room/wanted_stdout and $room/wanted_stderr.
+tried() {
+  local part why=()
+  local got
+  got=$(<"$room/status")
+  [ "$got" = "$2" ] || why+=("status $got, and not $2")
+  for part in stdout stderr; do
+    if ! cmp -s -- "$room/$part" "$room/wanted_$part"; then
+      why+=("$part has $(wc -c <"$room/$part") bytes, and not the $(wc -c <"$room/wanted_$part") that are wanted:")
+      why+=("$(diff -a -- "$room/wanted_$part" "$room/$part" | head -n 6 | cut -c 1-160 || true)")
+    fi
+  done
+  verdict "$1" "${why[@]}"
+}
+
+# run WORD..: runs the program and leaves its status, standard output and standard error in the room.
+run() {
+  local status=0
+  "$program" "$@" </dev/null >"$room/stdout" 2>"$room/stderr" || status=$?
+  echo "$status" >"$room/status"
+}
+
+# wanted STDERR-LINE: the run writes nothing but that line, or with an empty line nothing at all, on standard error.
+# Standard input becomes what standard output must have.
+wanted() {
+  cat >"$room/wanted_stdout"
+  : >"$room/wanted_stderr"
+  [ -z "$1" ] || printf '%s\n' "$1" >"$room/wanted_stderr"
+}
+
+# report NAME: the script's last line, and its status.
+report() {
+  echo "$1: $passed passed, $failed failed"
+  [ "$failed" -eq 0 ] || exit 1
+}
