@@ -1,6 +1,6 @@
 -- Apple TrueType Reference Manual, "The Font Directory": the offset subtable of 12 bytes, and a record of 16 bytes for
 -- each table. Search words, checksums, the order of the records and alignment are not tested (profile).
-use Rattle.std.specs.Prelude.{◌≡◌, ℕ, ◌+◌, ◌*◌, ◌<◌, ◌≤◌, Bool, false, not, ◌||◌, ◌==◌, nat_lt, if◌then◌else◌, List, length, slice_range, bytes_eq, Option, Some, None, is_some, Result, Ok, Err, IsOkAnd, OnOk, ◌⊎◌}
+use Rattle.std.specs.Prelude.{◌≡◌, ℕ, ◌+◌, ◌*◌, ◌<◌, ◌≤◌, Bool, false, not, ◌||◌, ◌==◌, nat_lt, if◌then◌else◌, List, [], ◌∷◌, length, take, slice_range, codes, bytes_eq, Option, Some, None, is_some, Result, Ok, Err, IsOkAnd, OnOk, ◌⊎◌, refl}
 use Rattle.std.specs.List.{list_all}
 use Rattle.std.proofs.Common.{inl, inr, subst}
 use Rattle.tt_core.specs.declared.fault.Fault.{Fault}
@@ -110,3 +110,29 @@ OnOk-HasNo-IsDefectIn (Ok x) file tag table IsBad there kept good = λ fault. λ
   | inl missing ↦ kept fault missing
   | inr bad ↦ let P : Result (List ℕ) Fault → Type 0 = λ r. IsOkAnd r (λ t. IsBad t fault) in good fault (subst P there bad)
 ]
+
+-- worked values: a file with one table of two bytes
+abbrev one_table : List ℕ
+one_table =
+    0 ∷ 1 ∷ 0 ∷ 0 ∷ 0 ∷ 1 ∷ 0 ∷ 0 ∷ 0 ∷ 0 ∷ 0 ∷ 0
+    ∷ 104 ∷ 101 ∷ 97 ∷ 100 ∷ 0 ∷ 0 ∷ 0 ∷ 0 ∷ 0 ∷ 0 ∷ 0 ∷ 28 ∷ 0 ∷ 0 ∷ 0 ∷ 2 ∷ 7 ∷ 8 ∷ []
+
+its_directory : directory_of one_table ≡ Ok one_table
+unfolding directory_of
+its_directory = refl
+
+its_head : table_of one_table (codes "head") ≡ Ok (Some (7 ∷ 8 ∷ []))
+unfolding table_of
+its_head = refl
+
+its_maxp : needed_table one_table (codes "maxp") ≡ Err (fault_at (codes "maxp") 0 why.NoTable)
+unfolding needed_table table_of
+its_maxp = refl
+
+a_table_past_the_end : table_of (take 29 one_table) (codes "head") ≡ Err (file_fault 12 why.TableRange)
+unfolding table_of
+a_table_past_the_end = refl
+
+a_short_file : directory_of (take 11 one_table) ≡ Err (file_fault 11 why.DirShort)
+unfolding directory_of
+a_short_file = refl

@@ -1,5 +1,5 @@
 -- What `map` writes: for each character its code point, its glyph and the glyph's advance in font units.
-use Rattle.std.specs.Prelude.{ℕ, ◌-◌, List, ◌++◌, length, replicate, flat_map, true, chars, codes, decimal, Result, Ok}
+use Rattle.std.specs.Prelude.{ℕ, ◌-◌, List, ◌++◌, length, replicate, flat_map, true, chars, codes, decimal, Result, Ok, ◌≡◌, refl}
 use Rattle.std.specs.Fmt.{digits}
 use Rattle.tt_core.specs.declared.fault.Fault.{Fault}
 use Rattle.tt_core.specs.Directory.{directory_of, needed_table}
@@ -38,3 +38,12 @@ lines_of file text = do
   table ← needed_table directory cmap_tag
   lookup ← lookup_of table (glyphs_of m)
   Ok (map_lines m lookup text)
+
+-- worked values
+a_letter : line_text 65 1 256 ≡ codes "U+0041 1 256\n"
+unfolding digits
+a_letter = refl
+
+past_the_first_plane : code_point 0x1F600 ≡ codes "1F600"
+unfolding digits
+past_the_first_plane = refl

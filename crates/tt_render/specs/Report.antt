@@ -1,8 +1,10 @@
 -- What the program says of a fault: its exit status, and its line on standard error.
-use Rattle.std.specs.Prelude.{ℕ, List, ◌++◌, codes, decimal}
+use Rattle.std.specs.Prelude.{ℕ, List, ◌++◌, codes, decimal, ◌≡◌, refl}
+use Rattle.std.specs.Fmt.{digits}
 use Rattle.tt_core.specs.declared.fault.Fault.{Fault}
 use Rattle.tt_core.specs.declared.fault.JobFault.{JobFault}
-use Rattle.tt_core.specs.Faults.{why_number, why_name, job_number, job_name}
+use Rattle.tt_core.specs.declared.fault.Why.TheVariants as why
+use Rattle.tt_core.specs.Faults.{fault_at, why_number, why_name, job_number, job_name}
 use Rattle.tt_render.specs.declared.fault.RunFault.{RunFault}
 use Rattle.tt_render.specs.declared.fault.RunFault.TheVariants as run
 
@@ -30,3 +32,8 @@ line_of run.Read = codes "tt_render: cannot read the font"
 line_of run.FontLarge = codes "tt_render: font larger than 67108864 bytes"
 line_of (run.Write sent) = codes "tt_render: cannot write after " ++ (decimal sent ++ codes " bytes")
 line_of run.Memory = codes "tt_render: out of memory"
+
+-- a worked value
+an_instruction_outside : line_of (run.Font (fault_at (codes "glyf") 14 why.OffProfile)) ≡ codes "tt_render: glyf+14: 35 OffProfile"
+unfolding digits why_number why_name
+an_instruction_outside = refl
