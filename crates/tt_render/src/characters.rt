@@ -1,10 +1,9 @@
 //! Each character's glyph and advance, as lines.
 
-ghost use Rattle.std.specs.Prelude.{◌≡◌, ◌<◌, ◌≤◌, ◌++◌, false, List, ℕ, length, chars, string_bytes, IfOk, IfErr, OnOk, OnErr, MatchBool};
-ghost use Rattle.tt_core.specs.Directory.{directory_of};
-ghost use Rattle.tt_metrics.specs.Metrics.{glyphs_of, advance_of};
+ghost use Rattle.std.specs.Prelude.{◌≡◌, ◌≤◌, ◌++◌, false, length, string_bytes, IfOk, IfErr, OnOk};
+ghost use Rattle.tt_metrics.specs.Metrics.{glyphs_of};
 ghost use Rattle.tt_render.specs.Defects.{TellsDefects, TellsDefectsOf, HasAsciiTable};
-ghost use Rattle.tt_render.specs.MapLines.{line_text, map_line, map_lines};
+ghost use Rattle.tt_render.specs.MapLines.{line_text, map_lines};
 ghost use Rattle.tt_render.specs.Outcome.{LinesGive, TextGives, MapGives};
 
 use crate::fault::RunFault;
@@ -21,6 +20,9 @@ pub const TEXT_LIMIT: usize = 4096;
 /// Writes a line `U+XXXX glyph advance` for each character of the text: the code point in capital
 /// hexadecimal, the glyph's number and its advance in font units. Nothing is written before all lines
 /// are made.
+///
+/// Errors, the first of: Job (TextLong), before the font is read; Read, FontLarge; Font, in the order in
+/// which the bytes are read; Write. Memory comes where a growth was refused.
 pub fn map<R: Source, W: Sink>(
     alloc: Global,
     font: &mut R,

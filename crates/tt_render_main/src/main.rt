@@ -1,7 +1,9 @@
 //! The program: its command line, its files, its texts and its exit status.
 #![tactic(auto)]
 
+ghost use Rattle.std.specs.Prelude.{◌≡◌, ◌≤◌, ◌⊎◌};
 ghost use Rattle.tt_render.specs.Defects.{HasAsciiTable};
+ghost use Rattle.tt_render.specs.Report.{status_of};
 
 mod command;
 
@@ -23,7 +25,9 @@ fn main(rt: HostRuntime) -> ExitCode {
 }
 
 /// Reads the command line and does what it says; answers the exit status.
-fn program<R: Files + Env + Print + Eprint + AllocGlobal>(rt: &R) -> u8 {
+fn program<R: Files + Env + Print + Eprint + AllocGlobal>(rt: &R) -> u8
+    ensures { result ≤ 5 }
+{
     let words = match words(rt) {
         Ok(words) => words,
         Err(error) => return no_words(rt, &error),
@@ -44,7 +48,9 @@ fn program<R: Files + Env + Print + Eprint + AllocGlobal>(rt: &R) -> u8 {
 }
 
 /// clap has refused a command line without a command or its words; this only says so again.
-fn incomplete<R: Eprint>(rt: &R) -> u8 {
+fn incomplete<R: Eprint>(rt: &R) -> u8
+    ensures { result ≡ 2 }
+{
     let _ = rt.eprintln("tt_render: the command line is incomplete");
     2
 }
@@ -59,7 +65,9 @@ fn matches<'a>(alloc: Global, words: &'a [String]) -> Result<ArgMatches<'a>, Err
 }
 
 /// Writes the lines of `map` on standard output.
-fn print_map<R: Files + Print + Eprint + AllocGlobal>(rt: &R, path: &str, text: &str) -> u8 {
+fn print_map<R: Files + Print + Eprint + AllocGlobal>(rt: &R, path: &str, text: &str) -> u8
+    ensures { result ≤ 5 }
+{
     let file = match fs::open(rt, path) {
         Ok(file) => file,
         Err(error) => return not_opened(rt, &error),
@@ -75,6 +83,7 @@ fn print_map<R: Files + Print + Eprint + AllocGlobal>(rt: &R, path: &str, text: 
 /// Prints a fault's line on standard error; answers its exit status.
 fn reported<R: Eprint + AllocGlobal>(rt: &R, fault: &RunFault) -> u8
     requires { HasAsciiTable fault.now }
+    ensures { (result ≡ status_of fault.now) ⊎ (result ≡ 5) }
 {
     match tt_render::line(rt.alloc(), fault) {
         Ok(line) => {
@@ -85,13 +94,17 @@ fn reported<R: Eprint + AllocGlobal>(rt: &R, fault: &RunFault) -> u8
     }
 }
 
-fn no_memory<R: Eprint>(rt: &R) -> u8 {
+fn no_memory<R: Eprint>(rt: &R) -> u8
+    ensures { result ≡ 5 }
+{
     let _ = rt.eprintln(NO_MEMORY);
     tt_render::status(&RunFault::Memory)
 }
 
 /// A font that cannot be opened cannot be read.
-fn not_opened<R: Eprint + AllocGlobal>(rt: &R, error: &io::Error) -> u8 {
+fn not_opened<R: Eprint + AllocGlobal>(rt: &R, error: &io::Error) -> u8
+    ensures { result ≤ 5 }
+{
     if error.kind() == io::ErrorKind::OutOfMemory {
         return no_memory(rt);
     }
@@ -99,7 +112,9 @@ fn not_opened<R: Eprint + AllocGlobal>(rt: &R, error: &io::Error) -> u8 {
 }
 
 /// A word of the command line that is no text is a fault of the command line.
-fn no_words<R: Eprint>(rt: &R, error: &io::Error) -> u8 {
+fn no_words<R: Eprint>(rt: &R, error: &io::Error) -> u8
+    ensures { (result ≡ 2) ⊎ (result ≡ 5) }
+{
     if error.kind() == io::ErrorKind::OutOfMemory {
         return no_memory(rt);
     }
@@ -108,7 +123,9 @@ fn no_words<R: Eprint>(rt: &R, error: &io::Error) -> u8 {
 }
 
 /// Help and the version go to standard output, with status 0; any other text is a fault.
-fn not_parsed<R: Print + Eprint>(rt: &R, error: &Error) -> u8 {
+fn not_parsed<R: Print + Eprint>(rt: &R, error: &Error) -> u8
+    ensures { result ≤ 5 }
+{
     if error.kind() == ErrorKind::OutOfMemory {
         return no_memory(rt);
     }

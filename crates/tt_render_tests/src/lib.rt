@@ -4,7 +4,6 @@
 
 #[cfg(test)]
 mod device_tests;
-#[cfg(test)]
 mod devices;
 #[cfg(test)]
 mod map_tests;
