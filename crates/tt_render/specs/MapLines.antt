@@ -15,7 +15,7 @@ at_least_four ds = replicate (4 - length ds) 48 ++ ds
 abbrev pub code_point : ℕ → List ℕ
 code_point c = at_least_four (digits 16 true c)
 
--- `U+XXXX glyph advance` and a line feed
+-- `U+NNNN glyph advance` and a line feed
 abbrev pub line_text : ℕ → ℕ → ℕ → List ℕ
 line_text c glyph advance = codes "U+" ++ (code_point c ++ (codes " " ++ (decimal glyph ++ (codes " " ++ (decimal advance ++ codes "\n")))))
 

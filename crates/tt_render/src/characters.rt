@@ -17,7 +17,7 @@ use tt_metrics::Metrics;
 /// The most characters that a text may have (profile).
 pub const TEXT_LIMIT: usize = 4096;
 
-/// Writes a line `U+XXXX glyph advance` for each character of the text: the code point in capital
+/// Writes a line `U+NNNN glyph advance` for each character of the text: the code point in capital
 /// hexadecimal, the glyph's number and its advance in font units. Nothing is written before all lines
 /// are made.
 ///
