@@ -1,9 +1,10 @@
 -- OpenType, "cmap": the glyph of a character, by the chosen subtable.
-use Rattle.std.specs.Prelude.{◌≡◌, ℕ, List, [], ◌∷◌, Option, Some, None, Result, Ok, Err, refl}
+use Rattle.std.specs.Prelude.{false, ◌<◌, ◌≡◌, ℕ, List, [], ◌∷◌, Option, Some, None, Result, Ok, Err, refl}
 use Rattle.tt_core.specs.declared.fault.Fault.{Fault}
 use Rattle.tt_core.specs.declared.fault.Why.TheVariants as why
 use Rattle.tt_core.specs.Outcomes.{◌>>=◌}
-use Rattle.tt_cmap.specs.Format4.{segments_of, glyph_in}
+use Rattle.tt_core.specs.Search.{IsLeast, first_below_least, first_below_nothing}
+use Rattle.tt_cmap.specs.Format4.{segment_count, segments_of, reaches, by_segment, glyph_in}
 use Rattle.tt_cmap.specs.Subtables.{cmap_fault, records_of, chosen_subtable}
 
 -- the bytes of cmap, and how many glyphs the font has
@@ -30,6 +31,17 @@ by_subtable table glyphs c (Some at) = glyph_in table at glyphs c
 -- the glyph of a character
 abbrev pub glyph_of : Lookup → ℕ → ℕ
 glyph_of m c = by_subtable m.table m.glyphs c (chosen_subtable m.table)
+
+-- g is what the least segment that reaches the character says of it, and 0 where no segment does
+pub record FollowsSegments (m : Lookup) (c g : ℕ) : Type 0 where
+  pub by_least : (at i : ℕ) → chosen_subtable m.table ≡ Some at → IsLeast (reaches m.table at c) (segment_count m.table at) i → g ≡ by_segment m.table at m.glyphs c i
+  pub past_all : (at : ℕ) → chosen_subtable m.table ≡ Some at → ((i : ℕ) → i < segment_count m.table at → reaches m.table at c i ≡ false) → g ≡ 0
+
+pub glyph_follows_segments : (m : Lookup) (c : ℕ) → FollowsSegments m c (glyph_of m c)
+glyph_follows_segments m c = record {
+  by_least = λ at i chosen least. rw (chosen, first_below_least (reaches m.table at c) (segment_count m.table at) i least) refl;
+  past_all = λ at chosen fails. rw (chosen, first_below_nothing (reaches m.table at c) (segment_count m.table at) fails) refl;
+}
 
 -- worked values: two segments, 0041 to 0042 by a delta of -64, and the last one
 abbrev two_segments : List ℕ

@@ -3,7 +3,7 @@
 ghost use Rattle.std.specs.Prelude.{◌≡◌, ◌<◌, ◌≤◌, length, IsTrue, IfOk, IfErr, OnOk};
 ghost use Rattle.tt_core.specs.Directory.{is_ascii, HasNo};
 ghost use Rattle.tt_core.specs.Outcomes.{Gives};
-ghost use Rattle.tt_cmap.specs.Lookup.{lookup_of, glyph_of};
+ghost use Rattle.tt_cmap.specs.Lookup.{lookup_of, glyph_of, FollowsSegments};
 ghost use Rattle.tt_cmap.specs.Defects.{IsBadCmap};
 
 use crate::format4::{glyph, segments};
@@ -65,6 +65,7 @@ impl<'a> Cmap<'a> {
     /// The glyph of a character: 0 where the map has none, or one that the font lacks (profile).
     pub fn glyph(&self, c: char) -> u16
         ensures meaning { result ≡ glyph_of self.now c }
+        ensures segments { FollowsSegments self.now c result }
         ensures below { result < self.now.glyphs }
     {
         glyph(self.table, self.at, self.segments, self.glyphs, c as usize)

@@ -38,3 +38,37 @@ first_from_none passes i (suc n) (suc k) nothing below =
 -- where nothing is found, nothing passes
 pub first_below_none : (n : ℕ) (passes : ℕ → Bool) (k : ℕ) → first_below n passes ≡ None → k < n → passes k ≡ false
 first_below_none n passes k nothing below = rw zero-add at (first_from_none passes 0 n k nothing below)
+
+-- k is the least number below n that passes
+pub record IsLeast (passes : ℕ → Bool) (n k : ℕ) : Type 0 where
+  pub within : k < n
+  pub holds : passes k ≡ true
+  pub before : (j : ℕ) → j < k → passes j ≡ false
+
+first_from_least : (passes : ℕ → Bool) (i n d : ℕ) → d < n → passes (i + d) ≡ true → ((j : ℕ) → j < d → passes (i + j) ≡ false) → first_from passes i n ≡ Some (i + d)
+first_from_least passes i zero d within holds before = absurd (omega arith)
+first_from_least passes i (suc n) zero within holds before =
+    let here : passes i ≡ true = rw add-zero at holds in rw (here, add-zero i) refl
+first_from_least passes i (suc n) (suc d) within holds before =
+    let here : passes i ≡ false = rw add-zero at (before 0 (omega arith)) in
+    let place : i + suc d ≡ (i + 1) + d = omega arith in
+    let later : (j : ℕ) → j < d → passes ((i + 1) + j) ≡ false = λ j below. let same : i + suc j ≡ (i + 1) + j = omega arith in rw same at (before (suc j) (omega arith)) in
+    rw (here, place) (first_from_least passes (i + 1) n d (omega arith) (rw place at holds) later)
+
+-- the least number that passes is what is found
+pub first_below_least : (passes : ℕ → Bool) (n k : ℕ) → IsLeast passes n k → first_below n passes ≡ Some k
+first_below_least passes n k least =
+    let holds : passes (0 + k) ≡ true = rw zero-add least.holds in
+    let before : (j : ℕ) → j < k → passes (0 + j) ≡ false = λ j below. rw zero-add (least.before j below) in
+    rw zero-add at (first_from_least passes 0 n k least.within holds before)
+
+first_from_nothing : (passes : ℕ → Bool) (i n : ℕ) → ((j : ℕ) → j < n → passes (i + j) ≡ false) → first_from passes i n ≡ None
+first_from_nothing passes i zero fails = refl
+first_from_nothing passes i (suc n) fails =
+    let here : passes i ≡ false = rw add-zero at (fails 0 (omega arith)) in
+    let later : (j : ℕ) → j < n → passes ((i + 1) + j) ≡ false = λ j below. let same : i + suc j ≡ (i + 1) + j = omega arith in rw same at (fails (suc j) (omega arith)) in
+    rw here (first_from_nothing passes (i + 1) n later)
+
+-- where nothing passes, nothing is found
+pub first_below_nothing : (passes : ℕ → Bool) (n : ℕ) → ((j : ℕ) → j < n → passes j ≡ false) → first_below n passes ≡ None
+first_below_nothing passes n fails = first_from_nothing passes 0 n (λ j below. rw zero-add (fails j below))
