@@ -1,0 +1,11 @@
+pub mod Chains
+pub mod Components
+pub mod Contours
+pub mod Deltas
+pub mod Runs
+pub mod Sums
+pub mod Covers
+pub mod Outlines
+pub mod Places
+pub mod Glyphs
+pub mod Parts

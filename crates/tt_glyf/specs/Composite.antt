@@ -1,0 +1,187 @@
+-- OpenType, "The 'glyf' table", "Composite Glyph Description": component records one after the other, up to the first
+-- without the flag for more, then perhaps a program.
+use Rattle.std.specs.Prelude.{ℕ, zero, suc, ◌+◌, ◌*◌, Bool, false, not, ◌&&◌, ◌||◌, nat_lt, if◌then◌else◌, ℤ, pos, ◌-ℤ◌, List, [], ◌∷◌, Result, Ok, Err}
+use Rattle.std.specs.Ordering.{int_eq}
+use Rattle.tt_core.specs.declared.fault.Fault.{Fault}
+use Rattle.tt_core.specs.declared.fault.Why.TheVariants as why
+use Rattle.tt_core.specs.Outcomes.{◌>>=◌}
+use Rattle.tt_glyf.specs.declared.raw.Record.{Record}
+use Rattle.tt_glyf.specs.Bytes.{Stretch, Listing, byte_in, word_in, signed_in, slice_in, glyph_fault, after}
+use Rattle.tt_glyf.specs.Raw.{GlyphData, composite}
+use Rattle.tt_glyf.specs.Flags.{has}
+
+abbrev pub arguments_are_words : ℕ
+arguments_are_words = 0x1
+
+-- they are offsets along x and y, and so signed; else point numbers
+abbrev pub arguments_are_offsets : ℕ
+arguments_are_offsets = 0x2
+
+abbrev pub we_have_a_scale : ℕ
+we_have_a_scale = 0x8
+
+abbrev pub more_components : ℕ
+more_components = 0x20
+
+abbrev pub we_have_two_scales : ℕ
+we_have_two_scales = 0x40
+
+abbrev pub we_have_a_two_by_two : ℕ
+we_have_a_two_by_two = 0x80
+
+abbrev pub we_have_instructions : ℕ
+we_have_instructions = 0x100
+
+abbrev pub scaled_component_offset : ℕ
+scaled_component_offset = 0x800
+
+abbrev pub unscaled_component_offset : ℕ
+unscaled_component_offset = 0x1000
+
+-- 8 bits read as two's complement
+abbrev pub signed8 : ℕ → ℤ
+signed8 n = if nat_lt n 128 then pos n else pos n -ℤ pos 256
+
+-- how many bytes an argument has
+abbrev pub argument_size : ℕ → ℕ
+argument_size flags = if has flags arguments_are_words then 2 else 1
+
+-- an argument, at a place
+unfoldable pub argument_at : Stretch → ℕ → ℕ → Result ℤ Fault
+argument_at g flags at =
+    if has flags arguments_are_words
+    then (if has flags arguments_are_offsets then signed_in g at else (word_in g at >>= λ n. Ok (pos n)))
+    else (byte_in g at >>= λ n. Ok (if has flags arguments_are_offsets then signed8 n else pos n))
+
+-- x' = xx x + xy y and y' = yx x + yy y, in 2.14 fixed point numbers, of which one is 16384
+pub record Transform : Type 0 where
+  pub xx : ℤ
+  pub yx : ℤ
+  pub xy : ℤ
+  pub yy : ℤ
+
+-- one
+abbrev pub one : ℤ
+one = pos 16384
+
+abbrev pub identity : Transform
+identity = record { xx = one; yx = pos 0; xy = pos 0; yy = one }
+
+-- of the three flags the first that is set counts (profile)
+abbrev pub transform_size : ℕ → ℕ
+transform_size flags =
+    if has flags we_have_a_scale then 2
+    else (if has flags we_have_two_scales then 4
+    else (if has flags we_have_a_two_by_two then 8 else 0))
+
+abbrev pub one_scale : ℤ → Transform
+one_scale s = record { xx = s; yx = pos 0; xy = pos 0; yy = s }
+
+unfoldable pub two_scales_at : Stretch → ℕ → Result Transform Fault
+two_scales_at g at = do
+  xx ← signed_in g at
+  yy ← signed_in g (at + 2)
+  Ok (record { xx = xx; yx = pos 0; xy = pos 0; yy = yy })
+
+unfoldable pub two_by_two_at : Stretch → ℕ → Result Transform Fault
+two_by_two_at g at = do
+  xx ← signed_in g at
+  yx ← signed_in g (at + 2)
+  xy ← signed_in g (at + 4)
+  yy ← signed_in g (at + 6)
+  Ok (record { xx = xx; yx = yx; xy = xy; yy = yy })
+
+-- the transform, at a place
+unfoldable pub transform_at : Stretch → ℕ → ℕ → Result Transform Fault
+transform_at g flags at =
+    if has flags we_have_a_scale then (signed_in g at >>= λ s. Ok (one_scale s))
+    else (if has flags we_have_two_scales then two_scales_at g at
+    else (if has flags we_have_a_two_by_two then two_by_two_at g at else Ok identity))
+
+-- how many bytes a record has
+abbrev pub record_size : ℕ → ℕ
+record_size flags = 4 + 2 * argument_size flags + transform_size flags
+
+abbrev pub is_identity : Transform → Bool
+is_identity t = int_eq t.xx one && int_eq t.yx (pos 0) && int_eq t.xy (pos 0) && int_eq t.yy one
+
+abbrev pub transform_of : Record → Transform
+transform_of r = record { xx = r.xx; yx = r.yx; xy = r.xy; yy = r.yy }
+
+-- offsets are to be transformed
+abbrev pub scales_offsets : ℕ → Bool
+scales_offsets flags = has flags scaled_component_offset && not (has flags unscaled_component_offset) && has flags arguments_are_offsets
+
+abbrev pub has_arguments_zero : Record → Bool
+has_arguments_zero r = int_eq r.arg1 (pos 0) && int_eq r.arg2 (pos 0)
+
+-- the record wants an offset that is transformed, and that is not what it is anyway
+abbrev pub asks_scaled_offset : Record → Bool
+asks_scaled_offset r = scales_offsets r.flags && not (is_identity (transform_of r)) && not (has_arguments_zero r)
+
+-- a scaled offset is refused (profile)
+unfoldable pub unscaled : Stretch → ℕ → Record → Result Record Fault
+unscaled g at r = if asks_scaled_offset r then Err (glyph_fault g at why.ScaledOffset) else Ok r
+
+-- a component has to be a glyph of the font
+unfoldable pub known_glyph : ℕ → Stretch → ℕ → ℕ → Result ℕ Fault
+known_glyph glyphs g at glyph = if nat_lt glyph glyphs then Ok glyph else Err (glyph_fault g at why.ComponentGlyph)
+
+-- the two arguments
+pub record Arguments : Type 0 where
+  pub arg1 : ℤ
+  pub arg2 : ℤ
+
+unfoldable pub arguments_at : Stretch → ℕ → ℕ → Result Arguments Fault
+arguments_at g flags at = do
+  arg1 ← argument_at g flags at
+  arg2 ← argument_at g flags (at + argument_size flags)
+  Ok (record { arg1 = arg1; arg2 = arg2 })
+
+-- the component record at a place
+unfoldable pub record_at : ℕ → Stretch → ℕ → Result Record Fault
+record_at glyphs g at = do
+  flags ← word_in g at
+  number ← word_in g (at + 2)
+  glyph ← known_glyph glyphs g at number
+  args ← arguments_at g flags (at + 4)
+  t ← transform_at g flags (at + 4 + 2 * argument_size flags)
+  unscaled g at (record { at = g.start + at; flags = flags; glyph = glyph; arg1 = args.arg1; arg2 = args.arg2; xx = t.xx; yx = t.yx; xy = t.xy; yy = t.yy })
+
+-- the most records that a glyph may have (profile)
+unfoldable pub record_limit : ℕ
+record_limit = 32
+
+-- the records from a place on, of which so many are let pass
+unfoldable pub records_from : ℕ → Stretch → ℕ → ℕ → Result (Listing Record) Fault
+records_from glyphs g at zero = Err (glyph_fault g at why.ComponentCount)
+records_from glyphs g at (suc allowed) = do
+  r ← record_at glyphs g at
+  after (r ∷ []) (if has r.flags more_components then records_from glyphs g (at + record_size r.flags) allowed else Ok (record { items = []; next = at + record_size r.flags }))
+
+-- the records stand behind the header
+abbrev pub records_of : ℕ → Stretch → Result (Listing Record) Fault
+records_of glyphs g = records_from glyphs g 10 record_limit
+
+-- some record says that a program follows
+abbrev pub has_program : List Record → Bool
+has_program [] = false
+has_program (r ∷ rs) = has r.flags we_have_instructions || has_program rs
+
+pub record Program : Type 0 where
+  pub code : List ℕ
+  pub code_at : ℕ
+
+-- the program behind the records, which is there where any of them says so (profile)
+unfoldable pub program_of : Stretch → Listing Record → Result Program Fault
+program_of g records =
+    if has_program records.items
+    then (word_in g records.next >>= λ size. slice_in g (records.next + 2) size >>= λ code. Ok (record { code = code; code_at = g.start + (records.next + 2) }))
+    else Ok (record { code = []; code_at = g.start + records.next })
+
+-- what a composite glyph says behind its header, in a font of so many glyphs
+unfoldable pub composite_of : ℕ → Stretch → ℤ → Result GlyphData Fault
+composite_of glyphs g x_min = do
+  records ← records_of glyphs g
+  p ← program_of g records
+  Ok (composite (record { x_min = x_min; records = records.items; code = p.code; code_at = p.code_at }))

@@ -1,0 +1,66 @@
+-- Apple TrueType Reference Manual and OpenType, "The 'glyf' table": what the bytes of a glyph say, or their first fault
+-- in the order in which they are read.
+use Rattle.std.specs.Prelude.{◌≡◌, true, neg_ℤ, take, codes, ℕ, ◌==◌, nat_lt, int_lt, if◌then◌else◌, ℤ, pos, unsigned_abs, List, [], ◌∷◌, length, Result, Ok, Err, refl}
+use Rattle.tt_core.specs.declared.fault.Fault.{Fault}
+use Rattle.tt_core.specs.declared.fault.Why.TheVariants as why
+use Rattle.tt_core.specs.Faults.{fault_at}
+use Rattle.tt_core.specs.Outcomes.{◌>>=◌}
+use Rattle.tt_glyf.specs.declared.raw.RawPoint.{RawPoint}
+use Rattle.tt_glyf.specs.Bytes.{Stretch, stretch_at, byte_in, word_in, signed_in, slice_in, short}
+use Rattle.tt_glyf.specs.Composite.{two_scales_at, two_by_two_at, transform_at, argument_at, arguments_at, unscaled, known_glyph, record_at, record_limit, records_from, program_of, composite_of}
+use Rattle.tt_glyf.specs.Coordinates.{delta_at, within_words, coordinate_at, coordinates_from}
+use Rattle.tt_glyf.specs.Flags.{run_at, flags_from}
+use Rattle.tt_glyf.specs.Loca.{GlyphTables, glyph_offset, has_no_bytes, glyph_bytes_of}
+use Rattle.tt_glyf.specs.Raw.{GlyphData, empty, simple, composite}
+use Rattle.tt_glyf.specs.Simple.{end_at, ends_from, point_limit, points_within, points_of, simple_of}
+
+pub record Header : Type 0 where
+  pub contours : ℤ
+  pub x_min : ℤ
+
+-- numberOfContours at 0, xMin at 2; the 10 bytes have to be there
+unfoldable pub header_of : Stretch → Result Header Fault
+header_of g =
+    if nat_lt (length g.bytes) 10 then Err (short g)
+    else (signed_in g 0 >>= λ contours. signed_in g 2 >>= λ x_min. Ok (record { contours = contours; x_min = x_min }))
+
+-- behind the header: no contours are an empty glyph, whose other bytes are not read, and any negative number is a
+-- composite (profile)
+unfoldable pub described : ℕ → Stretch → Header → Result GlyphData Fault
+described glyphs g h =
+    if int_lt h.contours (pos 0) then composite_of glyphs g h.x_min
+    else (if unsigned_abs h.contours == 0 then Ok empty else simple_of g h.x_min (unsigned_abs h.contours))
+
+-- the glyph that some bytes of glyf describe
+abbrev pub glyph_in : ℕ → Stretch → Result GlyphData Fault
+glyph_in glyphs g = header_of g >>= described glyphs g
+
+-- the glyph of a number
+unfoldable pub glyph_data_of : GlyphTables → ℕ → Result GlyphData Fault
+glyph_data_of t g =
+    if has_no_bytes t g then Ok empty
+    else (glyph_bytes_of t g >>= λ bytes. glyph_in t.glyphs (stretch_at (glyph_offset t g) bytes))
+
+-- worked values: one contour of four points, all on the curve
+square : List ℕ
+square = 0 ∷ 1 ∷ 0 ∷ 64 ∷ 0 ∷ 0 ∷ 0 ∷ 192 ∷ 0 ∷ 128 ∷ 0 ∷ 3 ∷ 0 ∷ 0 ∷ 0x33 ∷ 0x35 ∷ 0x33 ∷ 0x15 ∷ 0x40 ∷ 0x80 ∷ 0x80 ∷ 0x80 ∷ []
+
+corner : ℤ → ℤ → RawPoint
+corner x y = record { x = x; y = y; on = true }
+
+square_is_read : glyph_in 3 (stretch_at 0 square) ≡ Ok (simple (record { x_min = pos 64; points = corner (pos 64) (pos 0) ∷ corner (pos 64) (pos 128) ∷ corner (pos 192) (pos 128) ∷ corner (pos 192) (pos 0) ∷ []; ends = 3 ∷ []; code = []; code_at = 14 }))
+unfolding square corner header_of described simple_of ends_from end_at points_within point_limit points_of flags_from run_at coordinates_from coordinate_at within_words delta_at byte_in word_in signed_in slice_in
+square_is_read = refl
+
+-- its last byte is not there
+square_cut : glyph_in 3 (stretch_at 100 (take 21 square)) ≡ Err (fault_at (codes "glyf") 121 why.GlyphShort)
+unfolding square header_of described simple_of ends_from end_at points_within point_limit points_of flags_from run_at coordinates_from coordinate_at within_words delta_at byte_in word_in signed_in slice_in
+square_cut = refl
+
+-- a component of glyph 1, turned a quarter and moved by 127 to the right
+turned : List ℕ
+turned = 255 ∷ 255 ∷ 0 ∷ 64 ∷ 0 ∷ 0 ∷ 0 ∷ 192 ∷ 0 ∷ 128 ∷ 0 ∷ 0x82 ∷ 0 ∷ 1 ∷ 0x7F ∷ 0 ∷ 0 ∷ 0 ∷ 0x40 ∷ 0 ∷ 0xC0 ∷ 0 ∷ 0 ∷ 0 ∷ []
+
+turned_is_read : glyph_in 3 (stretch_at 22 turned) ≡ Ok (composite (record { x_min = pos 64; records = record { at = 32; flags = 0x82; glyph = 1; arg1 = pos 127; arg2 = pos 0; xx = pos 0; yx = pos 16384; xy = neg_ℤ (pos 16384); yy = pos 0 } ∷ []; code = []; code_at = 46 }))
+unfolding turned header_of described composite_of records_from record_limit record_at known_glyph arguments_at argument_at transform_at two_scales_at two_by_two_at unscaled program_of byte_in word_in signed_in slice_in
+turned_is_read = refl

@@ -1,0 +1,11 @@
+pub mod Bytes
+pub mod Composite
+pub mod Coordinates
+pub mod Flags
+pub mod GlyphData
+pub mod Loca
+pub mod Meaning
+pub mod Raw
+pub mod Reading
+pub mod Simple
+pub mod Views

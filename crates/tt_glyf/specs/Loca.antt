@@ -1,0 +1,90 @@
+-- Apple TrueType Reference Manual, "The 'loca' table"; OpenType, "loca: Index to Location".
+use Rattle.std.specs.Prelude.{◌≡◌, ◌≢◌, ℕ, ◌+◌, ◌*◌, ◌<◌, ◌≤◌, min, Bool, ◌||◌, ◌==◌, nat_lt, if◌then◌else◌, List, [], length, slice_range, codes, Result, Ok, Err, ◌⊎◌}
+use Rattle.tt_core.specs.declared.fault.Fault.{Fault}
+use Rattle.tt_core.specs.declared.fault.Why.TheVariants as why
+use Rattle.tt_core.specs.declared.directory.TheConstants.{FONT_LIMIT}
+use Rattle.tt_core.specs.Faults.{fault_at}
+use Rattle.tt_core.specs.Numbers.{unsigned_at}
+use Rattle.tt_metrics.specs.declared.head.LocaFormat.{LocaFormat}
+use Rattle.tt_metrics.specs.declared.head.LocaFormat.TheVariants.{Short, Long}
+use Rattle.tt_metrics.specs.Metrics.{Fields, loca_format_of, glyphs_of}
+
+-- 'loca'
+abbrev pub loca_tag : List ℕ
+loca_tag = codes "loca"
+
+-- loca and glyf, with what head and maxp say of them
+pub record GlyphTables : Type 0 where
+  pub loca : List ℕ
+  pub glyf : List ℕ
+  pub format : LocaFormat
+  pub glyphs : ℕ
+
+-- how many bytes an entry has
+abbrev pub entry_size : LocaFormat → ℕ
+entry_size Short = 2
+entry_size Long = 4
+
+-- where the entry of glyph g stands in loca
+abbrev pub entry_place : LocaFormat → ℕ → ℕ
+entry_place format g = entry_size format * g
+
+-- the offset that entry g gives: a short entry is half of it
+abbrev pub entry_at : LocaFormat → List ℕ → ℕ → ℕ
+entry_at Short loca g = 2 * unsigned_at loca (2 * g) 2
+entry_at Long loca g = unsigned_at loca (4 * g) 4
+
+-- the offset of glyph g in glyf
+abbrev pub glyph_offset : GlyphTables → ℕ → ℕ
+glyph_offset t g = entry_at t.format t.loca g
+
+-- the two tables of a font whose metrics are known
+abbrev pub tables_with : List ℕ → List ℕ → Fields → GlyphTables
+tables_with loca glyf m = record { loca = loca; glyf = glyf; format = loca_format_of m; glyphs = glyphs_of m }
+
+-- how many bytes loca needs: an entry for each glyph, and one more
+abbrev pub loca_size : LocaFormat → ℕ → ℕ
+loca_size format glyphs = entry_size format * (glyphs + 1)
+
+-- the two tables, where loca is long enough
+unfoldable pub glyph_tables_of : List ℕ → List ℕ → Fields → Result GlyphTables Fault
+glyph_tables_of loca glyf m =
+    if nat_lt (length loca) (loca_size (loca_format_of m) (glyphs_of m)) then Err (fault_at loca_tag (length loca) why.LocaShort)
+    else Ok (tables_with loca glyf m)
+
+-- loca has fewer entries than it needs
+abbrev pub IsLocaDefect : List ℕ → Fields → Fault → Type 0
+IsLocaDefect loca m fault = (length loca < loca_size (loca_format_of m) (glyphs_of m)) × (fault ≡ fault_at loca_tag (length loca) why.LocaShort)
+
+-- what reading a glyph counts on
+pub record AreTables (t : GlyphTables) : Type 0 where
+  pub entries : loca_size t.format t.glyphs ≤ length t.loca
+  pub loca_limit : length t.loca ≤ FONT_LIMIT
+  pub glyf_limit : length t.glyf ≤ FONT_LIMIT
+  pub some : 0 < t.glyphs
+
+-- equal neighbours, wherever they point: the glyph has no bytes
+abbrev pub has_no_bytes : GlyphTables → ℕ → Bool
+has_no_bytes t g = glyph_offset t g == glyph_offset t (g + 1)
+
+-- entry g is above the next one, or past glyf
+abbrev pub is_out_of_range : GlyphTables → ℕ → Bool
+is_out_of_range t g = nat_lt (glyph_offset t (g + 1)) (glyph_offset t g) || nat_lt (length t.glyf) (glyph_offset t g)
+
+-- the bytes from entry g to the next entry, or to the end of glyf, whichever comes first (profile)
+abbrev pub bytes_between : GlyphTables → ℕ → List ℕ
+bytes_between t g = slice_range t.glyf (glyph_offset t g) (min (glyph_offset t (g + 1)) (length t.glyf))
+
+-- the bytes of a glyph
+unfoldable pub glyph_bytes_of : GlyphTables → ℕ → Result (List ℕ) Fault
+glyph_bytes_of t g =
+    if has_no_bytes t g then Ok []
+    else (if is_out_of_range t g then Err (fault_at loca_tag (entry_place t.format g) why.GlyphRange)
+    else Ok (bytes_between t g))
+
+-- entry g and the next one differ, and entry g is above it or past glyf
+abbrev pub IsRangeDefect : GlyphTables → ℕ → Fault → Type 0
+IsRangeDefect t g fault =
+    (glyph_offset t g ≢ glyph_offset t (g + 1))
+    × ((glyph_offset t (g + 1) < glyph_offset t g) ⊎ (length t.glyf < glyph_offset t g))
+    × (fault ≡ fault_at loca_tag (entry_place t.format g) why.GlyphRange)

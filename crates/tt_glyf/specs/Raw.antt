@@ -1,0 +1,31 @@
+-- What a glyph is read into, as the definitions see it.
+use Rattle.std.specs.Prelude.{ℕ, ℤ, List}
+use Rattle.tt_glyf.specs.declared.raw.Raw.{Raw}
+use Rattle.tt_glyf.specs.declared.raw.Raw.TheVariants as raw
+use Rattle.tt_glyf.specs.declared.raw.RawPoint.{RawPoint}
+use Rattle.tt_glyf.specs.declared.raw.Record.{Record}
+
+-- code is the glyph's program, and code_at its offset in glyf
+pub record SimpleGlyph : Type 0 where
+  pub x_min : ℤ
+  pub points : List RawPoint
+  pub ends : List ℕ
+  pub code : List ℕ
+  pub code_at : ℕ
+
+pub record CompositeGlyph : Type 0 where
+  pub x_min : ℤ
+  pub records : List Record
+  pub code : List ℕ
+  pub code_at : ℕ
+
+pub data GlyphData : Type 0 where
+  empty : GlyphData
+  simple : SimpleGlyph → GlyphData
+  composite : CompositeGlyph → GlyphData
+
+-- the view of what is read
+abbrev pub glyph_data : Raw → GlyphData
+glyph_data raw.Empty = empty
+glyph_data (raw.Simple x_min points ends code code_at) = simple (record { x_min = x_min; points = points; ends = ends; code = code.now; code_at = code_at })
+glyph_data (raw.Composite x_min records code code_at) = composite (record { x_min = x_min; records = records; code = code.now; code_at = code_at })

@@ -1,0 +1,66 @@
+-- OpenType, "The 'glyf' table", "Simple Glyph Description": the last point of each contour, the program, the flags, the
+-- coordinates. Equal neighbours among the contours' ends give a contour without points, and bytes after the last
+-- coordinate are ignored (profile).
+use Rattle.std.specs.Prelude.{ℕ, zero, suc, ◌+◌, ◌-◌, nat_lt, if◌then◌else◌, ℤ, List, [], ◌∷◌, length, slice_index, Result, Ok, Err}
+use Rattle.tt_core.specs.declared.fault.Fault.{Fault}
+use Rattle.tt_core.specs.declared.fault.Why.TheVariants as why
+use Rattle.tt_core.specs.Outcomes.{◌>>=◌}
+use Rattle.tt_glyf.specs.declared.raw.RawPoint.{RawPoint}
+use Rattle.tt_glyf.specs.Bytes.{Stretch, Listing, word_in, slice_in, glyph_fault, after}
+use Rattle.tt_glyf.specs.Coordinates.{coordinates_of, x_axis, y_axis}
+use Rattle.tt_glyf.specs.Raw.{GlyphData, simple}
+use Rattle.tt_glyf.specs.Flags.{has, on_curve_point, flags_of}
+
+-- an end that is not below the one before it
+abbrev pub rising : Stretch → ℕ → ℕ → ℕ → Result ℕ Fault
+rising g at before e = if nat_lt e before then Err (glyph_fault g at why.ContourOrder) else Ok e
+
+-- the end of a contour, at a place
+unfoldable pub end_at : Stretch → ℕ → ℕ → Result ℕ Fault
+end_at g at before = word_in g at >>= rising g at before
+
+-- the ends of so many contours, the one before them being `before`
+unfoldable pub ends_from : Stretch → ℕ → ℕ → ℕ → Result (Listing ℕ) Fault
+ends_from g at zero before = Ok (record { items = []; next = at })
+ends_from g at (suc contours) before = do
+  e ← end_at g at before
+  after (e ∷ []) (ends_from g (at + 2) contours e)
+
+-- the ends stand behind the header
+abbrev pub ends_of : Stretch → ℕ → Result (Listing ℕ) Fault
+ends_of g contours = ends_from g 10 contours 0
+
+-- how many points there are: the last contour ends with the last of them
+abbrev pub point_count : List ℕ → ℕ
+point_count ends = slice_index ends (length ends - 1) + 1
+
+-- the most points that a glyph may have (profile)
+unfoldable pub point_limit : ℕ
+point_limit = 16384
+
+-- more points are refused at the last contour's end, which stands before this place
+unfoldable pub points_within : Stretch → Listing ℕ → Result ℕ Fault
+points_within g ends = if nat_lt point_limit (point_count ends.items) then Err (glyph_fault g (ends.next - 2) why.PointLimit) else Ok (point_count ends.items)
+
+-- the points of these flags and coordinates
+abbrev pub points_from : List ℕ → List ℤ → List ℤ → List RawPoint
+points_from (flag ∷ flags) (x ∷ xs) (y ∷ ys) = record { x = x; y = y; on = has flag on_curve_point } ∷ points_from flags xs ys
+points_from flags xs ys = []
+
+-- so many points from a place on: the flags, all x, then all y
+unfoldable pub points_of : Stretch → ℕ → ℕ → Result (List RawPoint) Fault
+points_of g at points = do
+  flags ← flags_of g at points
+  xs ← coordinates_of g x_axis flags.items flags.next
+  ys ← coordinates_of g y_axis flags.items xs.next
+  Ok (points_from flags.items xs.items ys.items)
+
+-- what a glyph of so many contours says behind its header
+unfoldable pub simple_of : Stretch → ℤ → ℕ → Result GlyphData Fault
+simple_of g x_min contours = do
+  ends ← ends_of g contours
+  points ← points_within g ends
+  size ← word_in g ends.next
+  code ← slice_in g (ends.next + 2) size
+  points ← points_of g (ends.next + 2 + size) points
+  Ok (simple (record { x_min = x_min; points = points; ends = ends.items; code = code; code_at = g.start + (ends.next + 2) }))

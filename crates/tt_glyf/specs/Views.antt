@@ -1,0 +1,60 @@
+-- How the definitions see the values that the code reads into.
+use Rattle.std.specs.Prelude.{ℕ, ℤ}
+use Rattle.tt_glyf.specs.declared.component.Arguments as arguments
+use Rattle.tt_glyf.specs.declared.composite.Program as program
+use Rattle.tt_glyf.specs.declared.composite.RecordList as record_list
+use Rattle.tt_glyf.specs.declared.component.Transform as transform
+use Rattle.tt_glyf.specs.declared.coordinates.Axis as axis
+use Rattle.tt_glyf.specs.declared.coordinates.Coordinate as coordinate
+use Rattle.tt_glyf.specs.declared.coordinates.Coordinates as coordinates
+use Rattle.tt_glyf.specs.declared.coordinates.Delta as delta
+use Rattle.tt_glyf.specs.declared.coordinates.Sum as sum
+use Rattle.tt_glyf.specs.declared.flags.FlagList as flag_list
+use Rattle.tt_glyf.specs.declared.flags.Run as run
+use Rattle.tt_glyf.specs.declared.header.Header as header
+use Rattle.tt_glyf.specs.declared.raw.Record.{Record}
+use Rattle.tt_glyf.specs.declared.simple.EndList as end_list
+use Rattle.tt_glyf.specs.Bytes.{Listing}
+use Rattle.tt_glyf.specs.Composite.{Arguments, Transform, Program}
+use Rattle.tt_glyf.specs.Coordinates.{Axis, Coordinate, Delta}
+use Rattle.tt_glyf.specs.Flags.{Run}
+use Rattle.tt_glyf.specs.GlyphData.{Header}
+
+abbrev pub run_of : run.Run → Run
+run_of r = record { flag = r.flag; copies = r.copies; next = r.next }
+
+abbrev pub flags_listing : flag_list.FlagList → Listing ℕ
+flags_listing f = record { items = f.flags.items; next = f.next }
+
+abbrev pub axis_of : axis.Axis → Axis
+axis_of a = record { short = a.short.0; same = a.same.0 }
+
+abbrev pub delta_of : delta.Delta → Delta
+delta_of d = record { by = d.by; next = d.next }
+
+abbrev pub sum_of : sum.Sum → Coordinate
+sum_of s = record { value = s.value; next = s.next }
+
+abbrev pub coordinate_of : coordinate.Coordinate → Coordinate
+coordinate_of c = record { value = c.value; next = c.next }
+
+abbrev pub coordinates_listing : coordinates.Coordinates → Listing ℤ
+coordinates_listing c = record { items = c.values.items; next = c.next }
+
+abbrev pub ends_listing : end_list.EndList → Listing ℕ
+ends_listing e = record { items = e.ends.items; next = e.next }
+
+abbrev pub arguments_of : arguments.Arguments → Arguments
+arguments_of a = record { arg1 = a.arg1; arg2 = a.arg2 }
+
+abbrev pub transform_view : transform.Transform → Transform
+transform_view t = record { xx = t.xx; yx = t.yx; xy = t.xy; yy = t.yy }
+
+abbrev pub records_listing : record_list.RecordList → Listing Record
+records_listing r = record { items = r.records.items; next = r.next }
+
+abbrev pub program_view : program.Program → Program
+program_view p = record { code = p.code.now; code_at = p.code_at }
+
+abbrev pub header_view : header.Header → Header
+header_view h = record { contours = h.contours; x_min = h.x_min }

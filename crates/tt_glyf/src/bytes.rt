@@ -1,0 +1,129 @@
+//! The bytes of one glyph, read by their places.
+
+ghost use Rattle.std.specs.Prelude.{◌≡◌, ◌+◌, ◌<◌, ◌≤◌, length, IsTrue, IfOk, IfErr};
+ghost use Rattle.tt_core.specs.declared.directory.TheConstants.{FONT_LIMIT};
+ghost use Rattle.tt_core.specs.Directory.{is_ascii};
+ghost use Rattle.tt_core.specs.Outcomes.{Gives};
+ghost use Rattle.tt_glyf.specs.Bytes.{byte_in, word_in, signed_in, slice_in, glyph_fault, short};
+
+use std::marker::Model;
+use tt_core::{FONT_LIMIT, Fault, Why, i16_at, u16_at};
+
+const GLYF: [u8; 4] = *b"glyf";
+
+/// The bytes of one glyph, and where they begin in glyf.
+#[derive(Drop)]
+pub(crate) struct GlyphBytes<'a> {
+    start: usize,
+    bytes: &'a [u8],
+}
+
+impl<'a> Model for GlyphBytes<'a> {
+    ghost use Rattle.std.specs.Prelude.{◌+◌, ◌≤◌, length};
+    ghost use Rattle.tt_core.specs.declared.directory.TheConstants.{FONT_LIMIT};
+    ghost use Rattle.tt_glyf.specs.Bytes.{Stretch};
+
+    ghost Value = { Stretch };
+
+    ghost view = { λ g. record { start = g.start; bytes = g.bytes.now } };
+
+    ghost invariant = { λ g. g.start + length g.bytes.now ≤ FONT_LIMIT };
+}
+
+impl<'a> GlyphBytes<'a> {
+    pub(crate) fn new(start: usize, bytes: &'a [u8]) -> GlyphBytes<'a>
+        requires { start + length bytes.now ≤ FONT_LIMIT }
+        ensures { result ≡ record { start = start; bytes = bytes.now } }
+    {
+        GlyphBytes { start, bytes }
+    }
+
+    pub(crate) fn len(&self) -> usize
+        ensures exact { result ≡ length self.now.bytes }
+        ensures limit { self.now.start + result ≤ FONT_LIMIT }
+    {
+        let _ = self.start;
+        self.bytes.len()
+    }
+
+    /// The offset in glyf of a place, which may be the end of the bytes.
+    pub(crate) fn place(&self, at: usize) -> u32
+        requires { at ≤ length self.now.bytes }
+        ensures { result ≡ self.now.start + at }
+    {
+        (self.start + at) as u32
+    }
+
+    pub(crate) fn fault(&self, at: usize, why: Why) -> Fault
+        requires { at ≤ length self.now.bytes }
+        ensures exact { result ≡ glyph_fault self.now at why }
+        ensures ascii { IsTrue (is_ascii result.table) }
+    {
+        Fault::new(GLYF, self.place(at), why)
+    }
+
+    /// The bytes end too early.
+    pub(crate) fn short(&self) -> Fault
+        ensures exact { result ≡ short self.now }
+        ensures ascii { IsTrue (is_ascii result.table) }
+    {
+        self.fault(self.bytes.len(), Why::GlyphShort)
+    }
+
+    /// Error: GlyphShort.
+    #[tactic(auto, unfolding(crate::specs::Bytes::byte_in))]
+    pub(crate) fn byte(&self, at: usize) -> Result<u8, Fault>
+        ensures exact { Gives (λ n. n) result (byte_in self.now at) }
+        ensures room { IfOk result (λ n. at + 1 ≤ length self.now.bytes) }
+        ensures limit { length self.now.bytes ≤ FONT_LIMIT }
+        ensures ascii { IfErr result (λ f. IsTrue (is_ascii f.table)) }
+    {
+        if at < self.bytes.len() {
+            Ok(self.bytes[at])
+        } else {
+            Err(self.short())
+        }
+    }
+
+    /// Error: GlyphShort.
+    #[tactic(auto, unfolding(crate::specs::Bytes::word_in))]
+    pub(crate) fn word(&self, at: usize) -> Result<u16, Fault>
+        ensures exact { Gives (λ n. n) result (word_in self.now at) }
+        ensures room { IfOk result (λ n. at + 2 ≤ length self.now.bytes) }
+        ensures limit { length self.now.bytes ≤ FONT_LIMIT }
+        ensures ascii { IfErr result (λ f. IsTrue (is_ascii f.table)) }
+    {
+        match u16_at(self.bytes, at) {
+            Some(n) => Ok(n),
+            None => Err(self.short()),
+        }
+    }
+
+    /// Error: GlyphShort.
+    #[tactic(auto, unfolding(crate::specs::Bytes::signed_in))]
+    pub(crate) fn signed(&self, at: usize) -> Result<i16, Fault>
+        ensures exact { Gives (λ n. n) result (signed_in self.now at) }
+        ensures room { IfOk result (λ n. at + 2 ≤ length self.now.bytes) }
+        ensures limit { length self.now.bytes ≤ FONT_LIMIT }
+        ensures ascii { IfErr result (λ f. IsTrue (is_ascii f.table)) }
+    {
+        match i16_at(self.bytes, at) {
+            Some(n) => Ok(n),
+            None => Err(self.short()),
+        }
+    }
+
+    /// So many bytes from a place on. Error: GlyphShort.
+    #[tactic(auto, unfolding(crate::specs::Bytes::slice_in))]
+    pub(crate) fn slice(&self, at: usize, n: usize) -> Result<&'a [u8], Fault>
+        ensures exact { Gives (λ b. b.now) result (slice_in self.now at n) }
+        ensures room { IfOk result (λ b. at + n ≤ length self.now.bytes) }
+        ensures limit { length self.now.bytes ≤ FONT_LIMIT }
+        ensures ascii { IfErr result (λ f. IsTrue (is_ascii f.table)) }
+    {
+        if at > self.bytes.len() || self.bytes.len() - at < n {
+            return Err(self.short());
+        }
+        Ok(&self.bytes[at..at + n])
+    }
+}

@@ -1,0 +1,259 @@
+//! A component record. OpenType, "The 'glyf' table", "Composite Glyph Description".
+
+ghost use Rattle.std.specs.Prelude.{◌≡◌, ◌+◌, ◌*◌, ◌≤◌, length, IsTrue, IfOk, IfErr};
+ghost use Rattle.tt_core.specs.declared.directory.TheConstants.{FONT_LIMIT};
+ghost use Rattle.tt_core.specs.Directory.{is_ascii};
+ghost use Rattle.tt_core.specs.Outcomes.{Gives};
+ghost use Rattle.tt_glyf.specs.Composite.{signed8, argument_size, argument_at, arguments_at, transform_size, two_scales_at, two_by_two_at, transform_at, record_size, scales_offsets, is_identity, transform_of, has_arguments_zero, asks_scaled_offset, unscaled, known_glyph, record_at};
+ghost use Rattle.tt_glyf.specs.Views.{arguments_of, transform_view};
+
+use crate::bytes::GlyphBytes;
+use crate::component_flags::{ComponentFlags, has_flag};
+use crate::raw::Record;
+use tt_core::{Fault, Why};
+
+/// One, as a 2.14 fixed point number.
+const ONE: i16 = 16_384;
+
+/// Bytes of an argument.
+fn argument_size(flags: u16) -> usize
+    ensures exact { result ≡ argument_size flags }
+    ensures bound { result ≤ 2 }
+{
+    if has_flag(flags, ComponentFlags::ARGUMENTS_ARE_WORDS) {
+        2
+    } else {
+        1
+    }
+}
+
+/// Bytes of the transform. Of the three flags the first that is set counts (profile).
+fn transform_size(flags: u16) -> usize
+    ensures exact { result ≡ transform_size flags }
+    ensures bound { result ≤ 8 }
+{
+    if has_flag(flags, ComponentFlags::WE_HAVE_A_SCALE) {
+        2
+    } else if has_flag(flags, ComponentFlags::WE_HAVE_TWO_SCALES) {
+        4
+    } else if has_flag(flags, ComponentFlags::WE_HAVE_A_TWO_BY_TWO) {
+        8
+    } else {
+        0
+    }
+}
+
+/// Bytes of a record.
+pub(crate) fn record_size(flags: u16) -> usize
+    ensures exact { result ≡ record_size flags }
+    ensures bound { result ≤ 16 }
+{
+    4 + 2 * argument_size(flags) + transform_size(flags)
+}
+
+/// 8 bits read as two's complement.
+fn signed_byte(byte: u8) -> i32
+    ensures { result ≡ signed8 byte }
+{
+    if byte < 128 {
+        i32::from(byte)
+    } else {
+        i32::from(byte) - 256
+    }
+}
+
+/// Error: GlyphShort.
+#[tactic(auto, unfolding(crate::specs::Composite::argument_at))]
+fn argument_at(glyph: &GlyphBytes, flags: u16, at: usize) -> Result<i32, Fault>
+    ensures exact { Gives (λ a. a) result (argument_at glyph.now flags at) }
+    ensures room { IfOk result (λ a. at + argument_size flags ≤ length glyph.now.bytes) }
+    ensures limit { length glyph.now.bytes ≤ FONT_LIMIT }
+    ensures ascii { IfErr result (λ f. IsTrue (is_ascii f.table)) }
+{
+    let signed = has_flag(flags, ComponentFlags::ARGUMENTS_ARE_OFFSETS);
+    if has_flag(flags, ComponentFlags::ARGUMENTS_ARE_WORDS) {
+        if signed {
+            return Ok(i32::from(glyph.signed(at)?));
+        }
+        return Ok(i32::from(glyph.word(at)?));
+    }
+    let byte = glyph.byte(at)?;
+    if signed {
+        Ok(signed_byte(byte))
+    } else {
+        Ok(i32::from(byte))
+    }
+}
+
+#[derive(Clone, Copy)]
+struct Arguments {
+    arg1: i32,
+    arg2: i32,
+}
+
+/// Error: GlyphShort.
+#[tactic(auto, unfolding(crate::specs::Composite::arguments_at))]
+fn arguments_at(glyph: &GlyphBytes, flags: u16, at: usize) -> Result<Arguments, Fault>
+    requires { at ≤ length glyph.now.bytes }
+    ensures exact { Gives arguments_of result (arguments_at glyph.now flags at) }
+    ensures room { IfOk result (λ a. at + 2 * argument_size flags ≤ length glyph.now.bytes) }
+    ensures ascii { IfErr result (λ f. IsTrue (is_ascii f.table)) }
+{
+    let arg1 = argument_at(glyph, flags, at)?;
+    let arg2 = argument_at(glyph, flags, at + argument_size(flags))?;
+    Ok(Arguments { arg1, arg2 })
+}
+
+/// x' = xx x + xy y and y' = yx x + yy y.
+#[derive(Clone, Copy)]
+struct Transform {
+    xx: i16,
+    yx: i16,
+    xy: i16,
+    yy: i16,
+}
+
+/// Error: GlyphShort.
+#[tactic(auto, unfolding(crate::specs::Composite::two_scales_at))]
+fn two_scales_at(glyph: &GlyphBytes, at: usize) -> Result<Transform, Fault>
+    ensures exact { Gives transform_view result (two_scales_at glyph.now at) }
+    ensures room { IfOk result (λ t. at + 4 ≤ length glyph.now.bytes) }
+    ensures ascii { IfErr result (λ f. IsTrue (is_ascii f.table)) }
+{
+    let xx = glyph.signed(at)?;
+    let yy = glyph.signed(at + 2)?;
+    Ok(Transform {
+        xx,
+        yx: 0,
+        xy: 0,
+        yy,
+    })
+}
+
+/// Error: GlyphShort.
+#[tactic(auto, unfolding(crate::specs::Composite::two_by_two_at))]
+fn two_by_two_at(glyph: &GlyphBytes, at: usize) -> Result<Transform, Fault>
+    ensures exact { Gives transform_view result (two_by_two_at glyph.now at) }
+    ensures room { IfOk result (λ t. at + 8 ≤ length glyph.now.bytes) }
+    ensures ascii { IfErr result (λ f. IsTrue (is_ascii f.table)) }
+{
+    let xx = glyph.signed(at)?;
+    let yx = glyph.signed(at + 2)?;
+    let xy = glyph.signed(at + 4)?;
+    let yy = glyph.signed(at + 6)?;
+    Ok(Transform { xx, yx, xy, yy })
+}
+
+/// Error: GlyphShort.
+#[tactic(auto, unfolding(crate::specs::Composite::transform_at))]
+fn transform_at(glyph: &GlyphBytes, flags: u16, at: usize) -> Result<Transform, Fault>
+    requires { at ≤ length glyph.now.bytes }
+    ensures exact { Gives transform_view result (transform_at glyph.now flags at) }
+    ensures room { IfOk result (λ t. at + transform_size flags ≤ length glyph.now.bytes) }
+    ensures ascii { IfErr result (λ f. IsTrue (is_ascii f.table)) }
+{
+    if has_flag(flags, ComponentFlags::WE_HAVE_A_SCALE) {
+        let scale = glyph.signed(at)?;
+        return Ok(Transform {
+            xx: scale,
+            yx: 0,
+            xy: 0,
+            yy: scale,
+        });
+    }
+    if has_flag(flags, ComponentFlags::WE_HAVE_TWO_SCALES) {
+        return two_scales_at(glyph, at);
+    }
+    if has_flag(flags, ComponentFlags::WE_HAVE_A_TWO_BY_TWO) {
+        return two_by_two_at(glyph, at);
+    }
+    Ok(Transform {
+        xx: ONE,
+        yx: 0,
+        xy: 0,
+        yy: ONE,
+    })
+}
+
+/// Whether offsets are to be transformed.
+fn scales_offsets(flags: u16) -> bool
+    ensures { result ≡ scales_offsets flags }
+{
+    has_flag(flags, ComponentFlags::SCALED_COMPONENT_OFFSET)
+        && !has_flag(flags, ComponentFlags::UNSCALED_COMPONENT_OFFSET)
+        && has_flag(flags, ComponentFlags::ARGUMENTS_ARE_OFFSETS)
+}
+
+fn is_identity(part: Record) -> bool
+    ensures { result ≡ is_identity (transform_of part) }
+{
+    part.xx == ONE && part.yx == 0 && part.xy == 0 && part.yy == ONE
+}
+
+fn has_arguments_zero(part: Record) -> bool
+    ensures { result ≡ has_arguments_zero part }
+{
+    part.arg1 == 0 && part.arg2 == 0
+}
+
+/// Whether a record wants an offset that is transformed, and that is not what it is anyway.
+fn asks_scaled_offset(part: Record) -> bool
+    ensures { result ≡ asks_scaled_offset part }
+{
+    scales_offsets(part.flags) && !is_identity(part) && !has_arguments_zero(part)
+}
+
+/// Error: ScaledOffset (profile).
+#[tactic(auto, unfolding(crate::specs::Composite::unscaled))]
+fn unscaled(glyph: &GlyphBytes, at: usize, part: Record) -> Result<Record, Fault>
+    requires { at ≤ length glyph.now.bytes }
+    ensures exact { Gives (λ r. r) result (unscaled glyph.now at part) }
+    ensures whole { IfOk result (λ r. r ≡ part) }
+    ensures ascii { IfErr result (λ f. IsTrue (is_ascii f.table)) }
+{
+    if asks_scaled_offset(part) {
+        return Err(glyph.fault(at, Why::ScaledOffset));
+    }
+    Ok(part)
+}
+
+/// Error: ComponentGlyph.
+#[tactic(auto, unfolding(crate::specs::Composite::known_glyph))]
+fn known_glyph(glyph: &GlyphBytes, glyphs: u16, at: usize, number: u16) -> Result<u16, Fault>
+    requires { at ≤ length glyph.now.bytes }
+    ensures exact { Gives (λ n. n) result (known_glyph glyphs glyph.now at number) }
+    ensures ascii { IfErr result (λ f. IsTrue (is_ascii f.table)) }
+{
+    if number >= glyphs {
+        return Err(glyph.fault(at, Why::ComponentGlyph));
+    }
+    Ok(number)
+}
+
+/// The component record at a place. Errors: GlyphShort, ComponentGlyph, ScaledOffset.
+#[tactic(auto, unfolding(crate::specs::Composite::record_at))]
+pub(crate) fn record_at(glyph: &GlyphBytes, glyphs: u16, at: usize) -> Result<Record, Fault>
+    requires { at ≤ length glyph.now.bytes }
+    ensures exact { Gives (λ r. r) result (record_at glyphs glyph.now at) }
+    ensures room { IfOk result (λ r. at + record_size r.flags ≤ length glyph.now.bytes) }
+    ensures limit { length glyph.now.bytes ≤ FONT_LIMIT }
+    ensures ascii { IfErr result (λ f. IsTrue (is_ascii f.table)) }
+{
+    let flags = glyph.word(at)?;
+    let number = glyph.word(at + 2)?;
+    let component = known_glyph(glyph, glyphs, at, number)?;
+    let args = arguments_at(glyph, flags, at + 4)?;
+    let t = transform_at(glyph, flags, at + 4 + 2 * argument_size(flags))?;
+    let part = Record {
+        at: glyph.place(at),
+        flags,
+        glyph: component,
+        arg1: args.arg1,
+        arg2: args.arg2,
+        xx: t.xx,
+        yx: t.yx,
+        xy: t.xy,
+        yy: t.yy,
+    };
+    unscaled(glyph, at, part)
+}

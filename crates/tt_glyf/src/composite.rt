@@ -1,0 +1,112 @@
+//! A composite glyph. OpenType, "The 'glyf' table", "Composite Glyph Description".
+
+ghost use Rattle.std.specs.Prelude.{◌≡◌, ◌+◌, ◌*◌, ◌<◌, ◌≤◌, length, vec_len, IsTrue, IfOk, IfErr};
+ghost use Rattle.tt_core.specs.Directory.{is_ascii};
+ghost use Rattle.tt_core.specs.Outcomes.{Gives};
+ghost use Rattle.tt_glyf.specs.Composite.{records_of, has_program, program_of, composite_of};
+ghost use Rattle.tt_glyf.specs.Raw.{glyph_data};
+ghost use Rattle.tt_glyf.specs.Reading.{ReadGives, IfFont};
+ghost use Rattle.tt_glyf.specs.Views.{records_listing, program_view};
+
+use crate::bytes::GlyphBytes;
+use crate::component::{record_at, record_size};
+use crate::component_flags::{ComponentFlags, has_flag};
+use crate::fault::GlyfFault;
+use crate::lists::Records;
+use crate::raw::{Raw, Record};
+use std::alloc::Global;
+use tt_core::{Fault, Why};
+
+/// The most records that a glyph may have (profile).
+const RECORD_LIMIT: usize = 32;
+
+/// The records of a glyph, and the place behind them.
+#[derive(Drop)]
+struct RecordList {
+    records: Vec<Record>,
+    next: usize,
+}
+
+/// Errors: GlyphShort, ComponentCount, ComponentGlyph, ScaledOffset, Memory.
+#[tactic(auto, using(crate::proofs::Components::more, crate::proofs::Components::last, crate::proofs::Components::breaks, crate::proofs::Components::over))]
+fn read_records(alloc: Global, glyph: &GlyphBytes, glyphs: u16) -> Result<RecordList, GlyfFault>
+    requires { 10 ≤ length glyph.now.bytes }
+    ensures exact { ReadGives records_listing result (records_of glyphs glyph.now) }
+    ensures room { IfOk result (λ r. r.next ≤ length glyph.now.bytes) }
+    ensures ascii { IfFont result (λ f. IsTrue (is_ascii f.table)) }
+{
+    let mut records = Vec::new(alloc);
+    let mut next = 10;
+    for i in 0..RECORD_LIMIT {
+        let part = record_at(glyph, glyphs, next)?;
+        next += record_size(part.flags);
+        records.push(part)?;
+        if !has_flag(part.flags, ComponentFlags::MORE_COMPONENTS) {
+            return Ok(RecordList { records, next });
+        }
+    }
+    Err(GlyfFault::Font(glyph.fault(next, Why::ComponentCount)))
+}
+
+/// Whether any record says that a program follows (profile).
+fn has_program(records: &[Record]) -> bool
+    ensures { result ≡ has_program records.now }
+{
+    for part in records {
+        if has_flag(part.flags, ComponentFlags::WE_HAVE_INSTRUCTIONS) {
+            return true;
+        }
+    }
+    false
+}
+
+/// A program, and its offset in glyf.
+#[derive(Drop)]
+struct Program<'a> {
+    code: &'a [u8],
+    code_at: u32,
+}
+
+/// The program behind the records, empty where there is none. Error: GlyphShort.
+#[tactic(auto, unfolding(crate::specs::Composite::program_of))]
+fn read_program<'a>(glyph: &GlyphBytes<'a>, list: &RecordList) -> Result<Program<'a>, Fault>
+    requires { list.now.next ≤ length glyph.now.bytes }
+    ensures exact { Gives program_view result (program_of glyph.now (records_listing list.now)) }
+    ensures ascii { IfErr result (λ f. IsTrue (is_ascii f.table)) }
+{
+    if !has_program(&list.records) {
+        return Ok(Program {
+            code: &[],
+            code_at: glyph.place(list.next),
+        });
+    }
+    let size = usize::from(glyph.word(list.next)?);
+    let code = glyph.slice(list.next + 2, size)?;
+    Ok(Program {
+        code,
+        code_at: glyph.place(list.next + 2),
+    })
+}
+
+/// What stands behind the header of a composite glyph. Errors: GlyphShort, ComponentCount,
+/// ComponentGlyph, ScaledOffset, Memory.
+#[tactic(auto, unfolding(crate::specs::Composite::composite_of))]
+pub(crate) fn read_composite<'a>(
+    alloc: Global,
+    glyph: &GlyphBytes<'a>,
+    x_min: i16,
+    glyphs: u16,
+) -> Result<Raw<'a>, GlyfFault>
+    requires { 10 ≤ length glyph.now.bytes }
+    ensures exact { ReadGives glyph_data result (composite_of glyphs glyph.now x_min) }
+    ensures ascii { IfFont result (λ f. IsTrue (is_ascii f.table)) }
+{
+    let list = read_records(alloc, glyph, glyphs)?;
+    let program = read_program(glyph, &list)?;
+    Ok(Raw::Composite {
+        x_min,
+        records: Records::new(list.records),
+        code: program.code,
+        code_at: program.code_at,
+    })
+}

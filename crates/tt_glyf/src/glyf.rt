@@ -1,0 +1,181 @@
+//! The glyph data of a font. Apple TrueType Reference Manual and OpenType, "The 'glyf' table".
+
+ghost use Rattle.std.specs.Prelude.{◌≡◌, ◌+◌, ◌-◌, ◌<◌, ◌≤◌, IsTrue, IfOk, IfErr, OnOk, length, false};
+ghost use Rattle.tt_core.specs.declared.directory.TheConstants.{FONT_LIMIT};
+ghost use Rattle.tt_core.specs.Directory.{is_ascii, HasNo};
+ghost use Rattle.tt_core.specs.Outcomes.{Gives};
+ghost use Rattle.tt_glyf.specs.Bytes.{stretch_at};
+ghost use Rattle.tt_glyf.specs.GlyphData.{glyph_in, described, glyph_data_of};
+ghost use Rattle.tt_glyf.specs.Loca.{glyph_tables_of, tables_with, entry_size, entry_place, glyph_offset, has_no_bytes, bytes_between, glyph_bytes_of, IsLocaDefect, IsRangeDefect, AreTables};
+ghost use Rattle.tt_glyf.specs.Meaning.{IfSimple, IfComposite, stretch_of, HasProgram, AreEnds, ArePoints, AreComponents, AreRecords};
+ghost use Rattle.tt_glyf.specs.Raw.{glyph_data};
+ghost use Rattle.tt_glyf.specs.Reading.{ReadGives, IfFont};
+ghost use Rattle.tt_glyf.specs.Views.{header_view};
+
+use crate::bytes::GlyphBytes;
+use crate::composite::read_composite;
+use crate::fault::GlyfFault;
+use crate::header::{Header, read_header};
+use crate::loca::{entry, width};
+use crate::raw::Raw;
+use crate::simple::read_simple;
+use std::alloc::Global;
+use std::marker::Model;
+use tt_core::{FONT_LIMIT, Fault, Why};
+use tt_metrics::{LocaFormat, Metrics};
+
+const LOCA: [u8; 4] = *b"loca";
+
+/// The glyph data of a font. A clause sees it as the bytes of loca and glyf, loca's format and the
+/// number of glyphs.
+#[derive(Drop)]
+pub struct Glyf<'a> {
+    loca: &'a [u8],
+    glyf: &'a [u8],
+    format: LocaFormat,
+    glyphs: u16,
+}
+
+impl<'a> Model for Glyf<'a> {
+    ghost use Rattle.tt_glyf.specs.Loca.{GlyphTables, AreTables};
+
+    ghost Value = { GlyphTables };
+
+    ghost view = { λ t. record { loca = t.loca.now; glyf = t.glyf.now; format = t.format; glyphs = t.glyphs } };
+
+    ghost invariant = { λ t. AreTables (record { loca = t.loca.now; glyf = t.glyf.now; format = t.format; glyphs = t.glyphs }) };
+}
+
+impl<'a> Glyf<'a> {
+    /// Takes loca and glyf of the font with these metrics. Error: LocaShort.
+    #[tactic(auto, unfolding(crate::specs::Loca::glyph_tables_of))]
+    pub fn open(loca: &'a [u8], glyf: &'a [u8], metrics: &Metrics) -> Result<Glyf<'a>, Fault>
+        requires loca { length loca.now ≤ FONT_LIMIT }
+        requires glyf { length glyf.now ≤ FONT_LIMIT }
+        ensures exact { Gives (λ t. t) result (glyph_tables_of loca.now glyf.now metrics.now) }
+        ensures whole { IfOk result (λ t. t ≡ tables_with loca.now glyf.now metrics.now) }
+        ensures tables { IfOk result AreTables }
+        ensures sound { OnOk result (HasNo (IsLocaDefect loca.now metrics.now)) }
+        ensures fault { IfErr result (IsLocaDefect loca.now metrics.now) }
+        ensures ascii { IfErr result (λ f. IsTrue (is_ascii f.table)) }
+    {
+        let format = metrics.loca_format();
+        let glyphs = metrics.glyphs();
+        if loca.len() < width(format) * (usize::from(glyphs) + 1) {
+            return Err(Fault::new(LOCA, loca.len() as u32, Why::LocaShort));
+        }
+        Ok(Glyf {
+            loca,
+            glyf,
+            format,
+            glyphs,
+        })
+    }
+
+    /// The offset of a glyph in glyf, as loca gives it.
+    pub fn start(&self, g: u16) -> u32
+        requires { g < self.now.glyphs }
+        ensures { result ≡ glyph_offset self.now g }
+    {
+        entry(self.loca, self.format, usize::from(g))
+    }
+
+    /// The bytes of a glyph, none where loca's entries are equal. Error: GlyphRange.
+    #[tactic(auto, unfolding(crate::specs::Loca::glyph_bytes_of))]
+    pub fn bytes(&self, g: u16) -> Result<&'a [u8], Fault>
+        requires { g < self.now.glyphs }
+        ensures exact { Gives (λ b. b.now) result (glyph_bytes_of self.now g) }
+        ensures size { IfOk result (λ b. length b.now ≤ FONT_LIMIT) }
+        ensures place { has_no_bytes self.now g ≡ false → IfOk result (λ b. glyph_offset self.now g + length b.now ≤ length self.now.glyf) }
+        ensures limit { length self.now.glyf ≤ FONT_LIMIT }
+        ensures sound { OnOk result (HasNo (IsRangeDefect self.now g)) }
+        ensures fault { IfErr result (IsRangeDefect self.now g) }
+        ensures ascii { IfErr result (λ f. IsTrue (is_ascii f.table)) }
+    {
+        let start = self.start(g) as usize;
+        let next = entry(self.loca, self.format, usize::from(g) + 1) as usize;
+        if start == next {
+            return Ok(&[]);
+        }
+        if next < start || self.glyf.len() < start {
+            let place = width(self.format) * usize::from(g);
+            return Err(Fault::new(LOCA, place as u32, Why::GlyphRange));
+        }
+        Ok(&self.glyf[start..next.min(self.glyf.len())])
+    }
+
+    /// Whether loca's entries are equal, so that the glyph has no bytes.
+    fn has_no_bytes(&self, g: u16) -> bool
+        requires { g < self.now.glyphs }
+        ensures exact { result ≡ has_no_bytes self.now g }
+        ensures limit { length self.now.glyf ≤ FONT_LIMIT }
+    {
+        let start = entry(self.loca, self.format, usize::from(g));
+        let next = entry(self.loca, self.format, usize::from(g) + 1);
+        start == next
+    }
+
+    /// What a glyph is, as it stands in the file. Errors: GlyphRange, GlyphShort, ContourOrder,
+    /// FlagRun, ComponentCount, ComponentGlyph, ScaledOffset, PointLimit, CoordRange, Memory.
+    pub fn read(&self, alloc: Global, g: u16) -> Result<Raw<'a>, GlyfFault>
+        requires { g < self.now.glyphs }
+        ensures exact { ReadGives glyph_data result (glyph_data_of self.now g) }
+        ensures few { IfOk result (λ r. IfSimple (glyph_data r) (λ s. length s.points ≤ 16384)) }
+        ensures ends { IfOk result (λ r. IfSimple (glyph_data r) (λ s. AreEnds (length s.points) s.ends)) }
+        ensures sums { IfOk result (λ r. IfSimple (glyph_data r) (λ s. ArePoints (bytes_between self.now g) (s.code_at + length s.code - glyph_offset self.now g) s.points)) }
+        ensures components { IfOk result (λ r. IfComposite (glyph_data r) (λ c. AreComponents self.now.glyphs (stretch_of self.now g) 10 c.records)) }
+        ensures records { IfOk result (λ r. IfComposite (glyph_data r) (λ c. AreRecords self.now.glyphs c.records)) }
+        ensures program { IfOk result (λ r. HasProgram self.now.glyf (glyph_data r)) }
+        ensures limit { length self.now.glyf ≤ FONT_LIMIT }
+        ensures ascii { IfFont result (λ f. IsTrue (is_ascii f.table)) }
+    {
+        let raw = self.read_whole(alloc, g)?;
+        Ok(raw)
+    }
+
+    #[tactic(auto, unfolding(crate::specs::GlyphData::glyph_data_of))]
+    fn read_whole(&self, alloc: Global, g: u16) -> Result<Raw<'a>, GlyfFault>
+        requires { g < self.now.glyphs }
+        ensures exact { ReadGives glyph_data result (glyph_data_of self.now g) }
+        ensures limit { length self.now.glyf ≤ FONT_LIMIT }
+        ensures ascii { IfFont result (λ f. IsTrue (is_ascii f.table)) }
+    {
+        if self.has_no_bytes(g) {
+            return Ok(Raw::Empty);
+        }
+        let bytes = self.bytes(g)?;
+        let glyph = GlyphBytes::new(self.start(g) as usize, bytes);
+        read_glyph(alloc, &glyph, self.glyphs)
+    }
+}
+
+/// The glyph that some bytes of glyf describe.
+fn read_glyph<'a>(alloc: Global, glyph: &GlyphBytes<'a>, glyphs: u16) -> Result<Raw<'a>, GlyfFault>
+    ensures exact { ReadGives glyph_data result (glyph_in glyphs glyph.now) }
+    ensures ascii { IfFont result (λ f. IsTrue (is_ascii f.table)) }
+{
+    let header = read_header(glyph)?;
+    read_described(alloc, glyph, header, glyphs)
+}
+
+/// What stands behind a header.
+#[tactic(auto, unfolding(crate::specs::GlyphData::described))]
+fn read_described<'a>(
+    alloc: Global,
+    glyph: &GlyphBytes<'a>,
+    header: Header,
+    glyphs: u16,
+) -> Result<Raw<'a>, GlyfFault>
+    requires { 10 ≤ length glyph.now.bytes }
+    ensures exact { ReadGives glyph_data result (described glyphs glyph.now (header_view header)) }
+    ensures ascii { IfFont result (λ f. IsTrue (is_ascii f.table)) }
+{
+    if header.contours < 0 {
+        return read_composite(alloc, glyph, header.x_min, glyphs);
+    }
+    if header.contours == 0 {
+        return Ok(Raw::Empty);
+    }
+    let contours = usize::from(header.contours.unsigned_abs());
+    read_simple(alloc, glyph, header.x_min, contours)
+}

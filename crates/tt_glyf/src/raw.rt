@@ -1,0 +1,70 @@
+//! What a glyph is read into: font units, as they stand in the file.
+
+ghost use Rattle.std.specs.Prelude.{◌≡◌};
+ghost use Rattle.tt_glyf.specs.Flags.{has};
+
+use crate::component_flags::{ComponentFlags, has_flag};
+use crate::lists::{Ends, Points, Records};
+
+/// A glyph, read.
+#[derive(Drop)]
+pub enum Raw<'a> {
+    /// No outline.
+    Empty,
+    Simple {
+        x_min: i16,
+        points: Points,
+        /// The last point of each contour.
+        ends: Ends,
+        /// The glyph's program.
+        code: &'a [u8],
+        /// The program's offset in glyf.
+        code_at: u32,
+    },
+    Composite {
+        x_min: i16,
+        records: Records,
+        /// The glyph's program, empty where there is none.
+        code: &'a [u8],
+        /// The program's offset in glyf.
+        code_at: u32,
+    },
+}
+
+/// A point, in font units.
+#[derive(Clone, Copy, Debug, PartialEq, Eq)]
+pub struct RawPoint {
+    pub x: i16,
+    pub y: i16,
+    /// It is on the curve.
+    pub on: bool,
+}
+
+/// A component of a composite glyph.
+#[derive(Clone, Copy, Debug, PartialEq, Eq)]
+pub struct Record {
+    /// The record's offset in glyf.
+    pub at: u32,
+    /// As they stand in the file; `ComponentFlags` names them.
+    pub flags: u16,
+    /// The component.
+    pub glyph: u16,
+    /// An offset along x, or a point of what is assembled so far.
+    pub arg1: i32,
+    /// An offset along y, or a point of the component.
+    pub arg2: i32,
+    /// x' = xx x + xy y and y' = yx x + yy y, where one is 16384.
+    pub xx: i16,
+    pub yx: i16,
+    pub xy: i16,
+    pub yy: i16,
+}
+
+impl Record {
+    /// Whether the record has this flag.
+    pub fn has(&self, flag: ComponentFlags) -> bool
+        ensures { result ≡ has self.now.flags flag.0 }
+    {
+        has_flag(self.flags, flag)
+    }
+}
