@@ -14,15 +14,25 @@ from fontTools.ttLib import TTFont
 PATH = "/usr/share/fonts/truetype/dejavu/DejaVuSans.ttf"
 
 
-def fields(glyph):
-    """Returns kind, points or records, contours, and the bytes of the program, of a glyph whose bytes have been read."""
+def sums(rows):
+    """Returns three sums of the numbers of some rows, each number times the place of its row, from 1 on."""
+    return [sum(place * row[it] for place, row in enumerate(rows, 1)) for it in range(3)]
+
+
+def fields(font, glyph):
+    """Returns kind, points or records, contours, the bytes of the program and the sums, of a glyph that has been read."""
     count = glyph.numberOfContours
     if count == 0:
-        return "empty", 0, 0, 0
+        return "empty", 0, 0, 0, 0, 0, 0
     code = len(glyph.program.getBytecode()) if hasattr(glyph, "program") else 0
     if glyph.isComposite():
-        return "composite", len(glyph.components), count, code
-    return "simple", len(glyph.coordinates), count, code
+        rows = [
+            (font.getGlyphID(c.glyphName), *((c.x, c.y) if hasattr(c, "x") else (c.firstPt, c.secondPt)))
+            for c in glyph.components
+        ]
+        return "composite", len(rows), count, code, *sums(rows)
+    rows = [(x, y, flag & 1) for (x, y), flag in zip(glyph.coordinates, glyph.flags)]
+    return "simple", len(rows), count, code, *sums(rows)
 
 
 def main():
@@ -31,13 +41,15 @@ def main():
     font = TTFont(PATH)
     glyf = font["glyf"]
     print(f"# Written by make_expected.py from {PATH}, MD5 {sum}. A line is")
-    print("#   GLYPH KIND COUNT CONTOURS PROGRAM")
+    print("#   GLYPH KIND COUNT CONTOURS PROGRAM SUM SUM SUM")
     print("# COUNT is the points of a simple glyph, without the phantom points, and the component records of a composite one.")
     print("# CONTOURS is the first word of the glyph's bytes, -1 for a composite, and PROGRAM the length of its instructions.")
+    print("# The sums are of x, y and 1 for an on-curve point, or of the component and its two arguments, each times the place of")
+    print("# the point or record, from 1 on.")
     for number, name in enumerate(font.getGlyphOrder()):
         glyph = glyf.glyphs[name]
         glyph.expand(glyf)
-        print(number, *fields(glyph))
+        print(number, *fields(font, glyph))
 
 
 main()

@@ -78,14 +78,14 @@ IsDirectoryDefect file fault =
     (((length file < 12) ⊎ (length file < directory_end file)) × (fault ≡ file_fault (length file) why.DirShort))
     ⊎ ((4 ≤ length file) × (is_version (unsigned_at file 0 4) ≡ false) × (fault ≡ file_fault 0 why.BadVersion))
 
--- there is a record, and this holds of it
-abbrev pub SomeRecord : Option ℕ → (ℕ → Type 0) → Type 0
-SomeRecord None P = ⊥
-SomeRecord (Some i) P = P i
+-- a record names bytes past the end of the file
+abbrev pub RecordPassesEnd : List ℕ → Option ℕ → Fault → Type 0
+RecordPassesEnd file None fault = ⊥
+RecordPassesEnd file (Some i) fault = (length file < record_end file i) × (fault ≡ file_fault (record_place i) why.TableRange)
 
--- the first record of the tag names bytes past the end of the file
+-- the first record of the tag does
 abbrev pub PassesEnd : List ℕ → List ℕ → Fault → Type 0
-PassesEnd file tag fault = SomeRecord (record_of file tag) (λ i. (length file < record_end file i) × (fault ≡ file_fault (record_place i) why.TableRange))
+PassesEnd file tag fault = RecordPassesEnd file (record_of file tag) fault
 
 -- a needed table is missing, or passes the end of the file
 abbrev pub IsTableDefect : List ℕ → List ℕ → Fault → Type 0

@@ -1,9 +1,10 @@
 //! The table directory. Apple TrueType Reference Manual, "The Font Directory".
 
-ghost use Rattle.std.specs.Prelude.{◌≡◌, ◌<◌, ◌≤◌, List, ℕ, length, IsTrue, IfOk, IfErr, OnOk, IfSome, is_some, option_copied};
+ghost use Rattle.std.specs.Prelude.{◌≡◌, ◌<◌, ◌≤◌, false, List, ℕ, length, IsTrue, IfOk, IfErr, OnOk, IfSome, is_some, option_copied};
 ghost use Rattle.tt_core.specs.declared.directory.TheConstants.{FONT_LIMIT};
-ghost use Rattle.tt_core.specs.Directory.{directory_of, directory_end, record_count, record_of, table_of, needed_table, is_ascii, HasNo, IsDirectoryDefect, PassesEnd, IsTableDefect};
+ghost use Rattle.tt_core.specs.Directory.{directory_of, directory_end, record_count, record_of, has_tag, named_by, table_of, needed_table, is_ascii, HasNo, IsDirectoryDefect, RecordPassesEnd, PassesEnd, IsTableDefect};
 ghost use Rattle.tt_core.specs.Outcomes.{Gives};
+ghost use Rattle.tt_core.specs.Search.{IsLeast};
 
 use crate::fault::{Fault, Why};
 use crate::number::{u16_at, u32_at};
@@ -61,22 +62,40 @@ impl<'a> Dir<'a> {
     #[tactic(auto, unfolding(crate::specs::Directory::table_of))]
     pub fn table(&self, tag: [u8; 4]) -> Result<Option<&'a [u8]>, Fault>
         ensures exact { Gives option_copied result (table_of self.now tag) }
+        ensures first { (i : ℕ) → IsLeast (has_tag self.now tag) (record_count self.now) i
+            → Gives option_copied result (named_by self.now (Some i)) }
+        ensures absent { ((i : ℕ) → i < record_count self.now → has_tag self.now tag i ≡ false)
+            → Gives option_copied result (Ok None) }
         ensures found { IfOk result (λ o. is_some o ≡ is_some (record_of self.now tag)) }
         ensures size { IfOk result (λ o. IfSome o (λ table. length table.now ≤ FONT_LIMIT)) }
         ensures sound { OnOk result (HasNo (PassesEnd self.now tag)) }
         ensures fault { IfErr result (PassesEnd self.now tag) }
         ensures ascii { IfErr result (λ f. IsTrue (is_ascii f.table)) }
     {
-        let Some(i) = self.record(tag) else {
+        self.named(self.record(tag))
+    }
+
+    /// The table that the record of a number names.
+    fn named(&self, number: Option<usize>) -> Result<Option<&'a [u8]>, Fault>
+        requires { IfSome number (λ i. i < record_count self.now) }
+        ensures exact { Gives option_copied result (named_by self.now number) }
+        ensures found { IfOk result (λ o. is_some o ≡ is_some number) }
+        ensures size { IfOk result (λ o. IfSome o (λ table. length table.now ≤ FONT_LIMIT)) }
+        ensures sound { OnOk result (HasNo (RecordPassesEnd self.now number)) }
+        ensures fault { IfErr result (RecordPassesEnd self.now number) }
+        ensures ascii { IfErr result (λ f. IsTrue (is_ascii f.table)) }
+    {
+        let file = self.file;
+        let Some(i) = number else {
             return Ok(None);
         };
         let place = 12 + 16 * i;
-        let offset = u32_at(self.file, place + 8).unwrap() as usize;
-        let length = u32_at(self.file, place + 12).unwrap() as usize;
-        if self.file.len() < offset + length {
+        let offset = u32_at(file, place + 8).unwrap() as usize;
+        let length = u32_at(file, place + 12).unwrap() as usize;
+        if file.len() < offset + length {
             return Err(Fault::new(FILE, place as u32, Why::TableRange));
         }
-        Ok(Some(&self.file[offset..offset + length]))
+        Ok(Some(&file[offset..offset + length]))
     }
 
     /// A table that has to be there. Errors: TableRange, NoTable.

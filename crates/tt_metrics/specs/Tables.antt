@@ -1,4 +1,5 @@
--- What the four tables share: a table that is needed, and long enough to be read.
+-- OpenType, "Font Tables": head, maxp, hhea and hmtx are required. What the four share: a table that is long enough to
+-- be read.
 use Rattle.std.specs.Prelude.{◌≡◌, ℕ, ◌<◌, nat_lt, if◌then◌else◌, List, length, Result, Ok, Err}
 use Rattle.tt_core.specs.declared.fault.Fault.{Fault}
 use Rattle.tt_core.specs.declared.fault.Why.TheVariants as why
