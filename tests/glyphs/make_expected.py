@@ -52,4 +52,5 @@ def main():
         print(number, *fields(font, glyph))
 
 
-main()
+if __name__ == "__main__":
+    main()
