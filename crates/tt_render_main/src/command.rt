@@ -7,7 +7,7 @@ use std::alloc::{AllocError, Global};
 pub(crate) fn command<'a>(alloc: Global) -> Result<Command<'a>, AllocError> {
     Command::new(alloc, "tt_render")
         .bin_name("tt_render")?
-        .about("Draws one line of text from a TrueType font as a black and white picture")
+        .about("Finds the glyphs of a text in a TrueType font")
         .version("0.1.0")
         .subcommand_required(true)
         .subcommand(map_command(alloc)?)
