@@ -6,7 +6,7 @@ use Rattle.std.proofs.lemmas.Bool.Decides.{nat_tests}
 use Rattle.tt_core.specs.Outcomes.{◌>>=◌}
 use Rattle.tt_glyf.specs.declared.raw.Record.{Record}
 use Rattle.tt_glyf.specs.Bytes.{Stretch, Listing, byte_in, word_in, signed_in, slice_in}
-use Rattle.tt_glyf.specs.Composite.{Arguments, Transform, Program, signed8, argument_size, argument_at, arguments_at, transform_size, one_scale, identity, two_scales_at, two_by_two_at, transform_at, record_size, asks_scaled_offset, unscaled, known_glyph, record_at, records_from, more_components, arguments_are_words, arguments_are_offsets, we_have_a_scale, we_have_two_scales, we_have_a_two_by_two, has_program, program_of}
+use Rattle.tt_glyf.specs.Composite.{Arguments, Transform, Program, signed8, argument_size, argument_at, arguments_at, transform_size, one_scale, identity, two_scales_at, two_by_two_at, transform_at, record_size, asks_scaled_offset, unscaled, known_glyph, record_at, records_from, more_components, arg_1_and_2_are_words, args_are_xy_values, we_have_a_scale, we_have_an_x_and_y_scale, we_have_a_two_by_two, has_program, program_of}
 use Rattle.tt_glyf.specs.Flags.{has}
 use Rattle.tt_glyf.specs.Meaning.{AreComponents, NumbersPoints}
 use Rattle.tt_glyf.proofs.Chains.{came-through, came-after, passed, passed-else}
@@ -41,7 +41,7 @@ argument-cases g at false offsets a was =
 
 argument-room : (g : Stretch) (flags at : ℕ) (a : ℤ) → argument_at g flags at ≡ Ok a → at + argument_size flags ≤ length g.bytes
 unfolding argument_at
-argument-room g flags at a was = argument-cases g at (has flags arguments_are_words) (has flags arguments_are_offsets) a was
+argument-room g flags at a was = argument-cases g at (has flags arg_1_and_2_are_words) (has flags args_are_xy_values) a was
 
 arguments-room : (g : Stretch) (flags at : ℕ) (a : Arguments) → arguments_at g flags at ≡ Ok a → at + 2 * argument_size flags ≤ length g.bytes
 unfolding arguments_at
@@ -79,7 +79,7 @@ transform-cases g at false false false t le was = omega arith
 
 transform-room : (g : Stretch) (flags at : ℕ) (t : Transform) → at ≤ length g.bytes → transform_at g flags at ≡ Ok t → at + transform_size flags ≤ length g.bytes
 unfolding transform_at
-transform-room g flags at t le was = transform-cases g at (has flags we_have_a_scale) (has flags we_have_two_scales) (has flags we_have_a_two_by_two) t le was
+transform-room g flags at t le was = transform-cases g at (has flags we_have_a_scale) (has flags we_have_an_x_and_y_scale) (has flags we_have_a_two_by_two) t le was
 
 argument-number-cases : (g : Stretch) (at : ℕ) (words offsets : Bool) (a : ℤ) → offsets ≡ false → (if words then (if offsets then signed_in g at else (word_in g at >>= λ n. Ok (pos n))) else (byte_in g at >>= λ n. Ok (if offsets then signed8 n else pos n))) ≡ Ok a → pos 0 ≤ℤ a
 argument-number-cases g at words true a is was = absurd cc
@@ -92,11 +92,11 @@ argument-number-cases g at false false a is was =
     let e : pos through.value ≡ a = cc through.rest in
     rw (← e) (search rules)
 
-argument-number : (g : Stretch) (flags at : ℕ) (a : ℤ) → has flags arguments_are_offsets ≡ false → argument_at g flags at ≡ Ok a → pos 0 ≤ℤ a
+argument-number : (g : Stretch) (flags at : ℕ) (a : ℤ) → has flags args_are_xy_values ≡ false → argument_at g flags at ≡ Ok a → pos 0 ≤ℤ a
 unfolding argument_at
-argument-number g flags at a is was = argument-number-cases g at (has flags arguments_are_words) (has flags arguments_are_offsets) a is was
+argument-number g flags at a is was = argument-number-cases g at (has flags arg_1_and_2_are_words) (has flags args_are_xy_values) a is was
 
-arguments-number : (g : Stretch) (flags at : ℕ) (a : Arguments) → arguments_at g flags at ≡ Ok a → has flags arguments_are_offsets ≡ false → (pos 0 ≤ℤ a.arg1) × (pos 0 ≤ℤ a.arg2)
+arguments-number : (g : Stretch) (flags at : ℕ) (a : Arguments) → arguments_at g flags at ≡ Ok a → has flags args_are_xy_values ≡ false → (pos 0 ≤ℤ a.arg1) × (pos 0 ≤ℤ a.arg2)
 unfolding arguments_at
 arguments-number g flags at a was is =
     let first = came-through (argument_at g flags at) _ a was in
@@ -121,7 +121,7 @@ pub record IsPart (glyphs : ℕ) (g : Stretch) (at : ℕ) (r : Record) : Type 0 
   pub room : at + record_size r.flags ≤ length g.bytes
   pub numbers : NumbersPoints r
 
-part-make : (glyphs : ℕ) (g : Stretch) (at flags glyph : ℕ) (args : Arguments) (t : Transform) (r : Record) → unscaled g at (record { at = g.start + at; flags = flags; glyph = glyph; arg1 = args.arg1; arg2 = args.arg2; xx = t.xx; yx = t.yx; xy = t.xy; yy = t.yy }) ≡ Ok r → glyph < glyphs → (has flags arguments_are_offsets ≡ false → (pos 0 ≤ℤ args.arg1) × (pos 0 ≤ℤ args.arg2)) → at + 4 + 2 * argument_size flags + transform_size flags ≤ length g.bytes → IsPart glyphs g at r
+part-make : (glyphs : ℕ) (g : Stretch) (at flags glyph : ℕ) (args : Arguments) (t : Transform) (r : Record) → unscaled g at (record { at = g.start + at; flags = flags; glyph = glyph; arg1 = args.arg1; arg2 = args.arg2; xx = t.xx; yx = t.yx; xy = t.xy; yy = t.yy }) ≡ Ok r → glyph < glyphs → (has flags args_are_xy_values ≡ false → (pos 0 ≤ℤ args.arg1) × (pos 0 ≤ℤ args.arg2)) → at + 4 + 2 * argument_size flags + transform_size flags ≤ length g.bytes → IsPart glyphs g at r
 part-make glyphs g at flags glyph args t r was known numbers room =
     let whole : at + record_size flags ≤ length g.bytes = omega arith in
     let is = part-was g at (record { at = g.start + at; flags = flags; glyph = glyph; arg1 = args.arg1; arg2 = args.arg2; xx = t.xx; yx = t.yx; xy = t.xy; yy = t.yy }) r was in

@@ -10,12 +10,12 @@ use Rattle.tt_glyf.specs.Bytes.{Stretch, Listing, byte_in, word_in, signed_in, s
 use Rattle.tt_glyf.specs.Raw.{GlyphData, composite}
 use Rattle.tt_glyf.specs.Flags.{has}
 
-abbrev pub arguments_are_words : ℕ
-arguments_are_words = 0x1
+abbrev pub arg_1_and_2_are_words : ℕ
+arg_1_and_2_are_words = 0x1
 
 -- they are offsets along x and y, and so signed; else point numbers
-abbrev pub arguments_are_offsets : ℕ
-arguments_are_offsets = 0x2
+abbrev pub args_are_xy_values : ℕ
+args_are_xy_values = 0x2
 
 abbrev pub we_have_a_scale : ℕ
 we_have_a_scale = 0x8
@@ -23,8 +23,8 @@ we_have_a_scale = 0x8
 abbrev pub more_components : ℕ
 more_components = 0x20
 
-abbrev pub we_have_two_scales : ℕ
-we_have_two_scales = 0x40
+abbrev pub we_have_an_x_and_y_scale : ℕ
+we_have_an_x_and_y_scale = 0x40
 
 abbrev pub we_have_a_two_by_two : ℕ
 we_have_a_two_by_two = 0x80
@@ -44,14 +44,14 @@ signed8 n = if nat_lt n 128 then pos n else pos n -ℤ pos 256
 
 -- how many bytes an argument has
 abbrev pub argument_size : ℕ → ℕ
-argument_size flags = if has flags arguments_are_words then 2 else 1
+argument_size flags = if has flags arg_1_and_2_are_words then 2 else 1
 
 -- an argument, at a place
 unfoldable pub argument_at : Stretch → ℕ → ℕ → Result ℤ Fault
 argument_at g flags at =
-    if has flags arguments_are_words
-    then (if has flags arguments_are_offsets then signed_in g at else (word_in g at >>= λ n. Ok (pos n)))
-    else (byte_in g at >>= λ n. Ok (if has flags arguments_are_offsets then signed8 n else pos n))
+    if has flags arg_1_and_2_are_words
+    then (if has flags args_are_xy_values then signed_in g at else (word_in g at >>= λ n. Ok (pos n)))
+    else (byte_in g at >>= λ n. Ok (if has flags args_are_xy_values then signed8 n else pos n))
 
 -- x' = xx x + xy y and y' = yx x + yy y, in 2.14 fixed point numbers, of which one is 16384
 pub record Transform : Type 0 where
@@ -71,7 +71,7 @@ identity = record { xx = one; yx = pos 0; xy = pos 0; yy = one }
 abbrev pub transform_size : ℕ → ℕ
 transform_size flags =
     if has flags we_have_a_scale then 2
-    else (if has flags we_have_two_scales then 4
+    else (if has flags we_have_an_x_and_y_scale then 4
     else (if has flags we_have_a_two_by_two then 8 else 0))
 
 abbrev pub one_scale : ℤ → Transform
@@ -95,7 +95,7 @@ two_by_two_at g at = do
 unfoldable pub transform_at : Stretch → ℕ → ℕ → Result Transform Fault
 transform_at g flags at =
     if has flags we_have_a_scale then (signed_in g at >>= λ s. Ok (one_scale s))
-    else (if has flags we_have_two_scales then two_scales_at g at
+    else (if has flags we_have_an_x_and_y_scale then two_scales_at g at
     else (if has flags we_have_a_two_by_two then two_by_two_at g at else Ok identity))
 
 -- how many bytes a record has
@@ -110,7 +110,7 @@ transform_of r = record { xx = r.xx; yx = r.yx; xy = r.xy; yy = r.yy }
 
 -- offsets are to be transformed
 abbrev pub scales_offsets : ℕ → Bool
-scales_offsets flags = has flags scaled_component_offset && not (has flags unscaled_component_offset) && has flags arguments_are_offsets
+scales_offsets flags = has flags scaled_component_offset && not (has flags unscaled_component_offset) && has flags args_are_xy_values
 
 abbrev pub has_arguments_zero : Record → Bool
 has_arguments_zero r = int_eq r.arg1 (pos 0) && int_eq r.arg2 (pos 0)

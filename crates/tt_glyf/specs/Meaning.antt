@@ -5,7 +5,7 @@ use Rattle.tt_core.specs.Numbers.{unsigned_at, signed16}
 use Rattle.tt_glyf.specs.declared.raw.RawPoint.{RawPoint}
 use Rattle.tt_glyf.specs.declared.raw.Record.{Record}
 use Rattle.tt_glyf.specs.Bytes.{Stretch, stretch_at}
-use Rattle.tt_glyf.specs.Composite.{record_at, record_size, more_components, arguments_are_offsets}
+use Rattle.tt_glyf.specs.Composite.{record_at, record_size, more_components, args_are_xy_values}
 use Rattle.tt_glyf.specs.Coordinates.{Axis, Delta, x_axis, y_axis, short_delta}
 use Rattle.tt_glyf.specs.Flags.{Run, has, on_curve_point, repeat_flag}
 use Rattle.tt_glyf.specs.Loca.{GlyphTables, glyph_offset, bytes_between}
@@ -98,7 +98,7 @@ AreComponents glyphs g at (r ∷ s ∷ rs) = (record_at glyphs g at ≡ Ok r) ×
 
 -- arguments that are no offsets number points
 abbrev pub NumbersPoints : Record → Type 0
-NumbersPoints r = has r.flags arguments_are_offsets ≡ false → (pos 0 ≤ℤ r.arg1) × (pos 0 ≤ℤ r.arg2)
+NumbersPoints r = has r.flags args_are_xy_values ≡ false → (pos 0 ≤ℤ r.arg1) × (pos 0 ≤ℤ r.arg2)
 
 -- so many records are let pass, each of a glyph of the font
 pub record AreRecords (glyphs : ℕ) (records : List Record) : Type 0 where

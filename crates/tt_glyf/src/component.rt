@@ -20,7 +20,7 @@ fn argument_size(flags: u16) -> usize
     ensures exact { result ≡ argument_size flags }
     ensures bound { result ≤ 2 }
 {
-    if has_flag(flags, ComponentFlags::ARGUMENTS_ARE_WORDS) {
+    if has_flag(flags, ComponentFlags::ARG_1_AND_2_ARE_WORDS) {
         2
     } else {
         1
@@ -34,7 +34,7 @@ fn transform_size(flags: u16) -> usize
 {
     if has_flag(flags, ComponentFlags::WE_HAVE_A_SCALE) {
         2
-    } else if has_flag(flags, ComponentFlags::WE_HAVE_TWO_SCALES) {
+    } else if has_flag(flags, ComponentFlags::WE_HAVE_AN_X_AND_Y_SCALE) {
         4
     } else if has_flag(flags, ComponentFlags::WE_HAVE_A_TWO_BY_TWO) {
         8
@@ -70,8 +70,8 @@ fn argument_at(glyph: &GlyphBytes, flags: u16, at: usize) -> Result<i32, Fault>
     ensures limit { length glyph.now.bytes ≤ FONT_LIMIT }
     ensures ascii { IfErr result (λ f. IsTrue (is_ascii f.table)) }
 {
-    let signed = has_flag(flags, ComponentFlags::ARGUMENTS_ARE_OFFSETS);
-    if has_flag(flags, ComponentFlags::ARGUMENTS_ARE_WORDS) {
+    let signed = has_flag(flags, ComponentFlags::ARGS_ARE_XY_VALUES);
+    if has_flag(flags, ComponentFlags::ARG_1_AND_2_ARE_WORDS) {
         if signed {
             return Ok(i32::from(glyph.signed(at)?));
         }
@@ -161,7 +161,7 @@ fn transform_at(glyph: &GlyphBytes, flags: u16, at: usize) -> Result<Transform, 
             yy: scale,
         });
     }
-    if has_flag(flags, ComponentFlags::WE_HAVE_TWO_SCALES) {
+    if has_flag(flags, ComponentFlags::WE_HAVE_AN_X_AND_Y_SCALE) {
         return two_scales_at(glyph, at);
     }
     if has_flag(flags, ComponentFlags::WE_HAVE_A_TWO_BY_TWO) {
@@ -181,7 +181,7 @@ fn scales_offsets(flags: u16) -> bool
 {
     has_flag(flags, ComponentFlags::SCALED_COMPONENT_OFFSET)
         && !has_flag(flags, ComponentFlags::UNSCALED_COMPONENT_OFFSET)
-        && has_flag(flags, ComponentFlags::ARGUMENTS_ARE_OFFSETS)
+        && has_flag(flags, ComponentFlags::ARGS_ARE_XY_VALUES)
 }
 
 fn is_identity(part: Record) -> bool

@@ -11,12 +11,12 @@ pub struct ComponentFlags(u16);
 
 bitflag_items! {
     impl ComponentFlags: u16 {
-        const ARGUMENTS_ARE_WORDS = 0x1;
-        const ARGUMENTS_ARE_OFFSETS = 0x2;
-        const ROUND_OFFSET_TO_GRID = 0x4;
+        const ARG_1_AND_2_ARE_WORDS = 0x1;
+        const ARGS_ARE_XY_VALUES = 0x2;
+        const ROUND_XY_TO_GRID = 0x4;
         const WE_HAVE_A_SCALE = 0x8;
         const MORE_COMPONENTS = 0x20;
-        const WE_HAVE_TWO_SCALES = 0x40;
+        const WE_HAVE_AN_X_AND_Y_SCALE = 0x40;
         const WE_HAVE_A_TWO_BY_TWO = 0x80;
         const WE_HAVE_INSTRUCTIONS = 0x100;
         const USE_MY_METRICS = 0x200;
@@ -32,9 +32,9 @@ impl Flags for ComponentFlags {
 
     ghost exact = { ⊤ };
 
-    ghost table = { (codes "ARGUMENTS_ARE_WORDS", 0x1) ∷ (codes "ARGUMENTS_ARE_OFFSETS", 0x2)
-        ∷ (codes "ROUND_OFFSET_TO_GRID", 0x4) ∷ (codes "WE_HAVE_A_SCALE", 0x8) ∷ (codes "MORE_COMPONENTS", 0x20)
-        ∷ (codes "WE_HAVE_TWO_SCALES", 0x40) ∷ (codes "WE_HAVE_A_TWO_BY_TWO", 0x80)
+    ghost table = { (codes "ARG_1_AND_2_ARE_WORDS", 0x1) ∷ (codes "ARGS_ARE_XY_VALUES", 0x2)
+        ∷ (codes "ROUND_XY_TO_GRID", 0x4) ∷ (codes "WE_HAVE_A_SCALE", 0x8) ∷ (codes "MORE_COMPONENTS", 0x20)
+        ∷ (codes "WE_HAVE_AN_X_AND_Y_SCALE", 0x40) ∷ (codes "WE_HAVE_A_TWO_BY_TWO", 0x80)
         ∷ (codes "WE_HAVE_INSTRUCTIONS", 0x100) ∷ (codes "USE_MY_METRICS", 0x200)
         ∷ (codes "SCALED_COMPONENT_OFFSET", 0x800) ∷ (codes "UNSCALED_COMPONENT_OFFSET", 0x1000) ∷ [] };
 

@@ -148,7 +148,7 @@ fn a_component_has_its_offsets_and_its_transform(rt: HostRuntime) {
     };
     let part = record_of(&rt, rt.alloc(), &glyph);
     assert_eq!(rt; part, turned);
-    assert!(rt; part.has(ComponentFlags::ARGUMENTS_ARE_OFFSETS));
+    assert!(rt; part.has(ComponentFlags::ARGS_ARE_XY_VALUES));
     assert!(rt; !part.has(ComponentFlags::USE_MY_METRICS));
 }
 
