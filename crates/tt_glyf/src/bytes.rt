@@ -42,7 +42,6 @@ impl<'a> GlyphBytes<'a> {
         ensures exact { result ≡ length self.now.bytes }
         ensures limit { self.now.start + result ≤ FONT_LIMIT }
     {
-        let _ = self.start;
         self.bytes.len()
     }
 
