@@ -3,4 +3,3 @@ pub mod MapLines
 pub mod Outcome
 pub mod Reading
 pub mod Report
-pub mod Writing

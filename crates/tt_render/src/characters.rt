@@ -8,11 +8,11 @@ ghost use Rattle.tt_render.specs.Outcome.{LinesGive, TextGives, MapGives};
 
 use crate::fault::RunFault;
 use crate::reading::read_font;
-use crate::writing::write_all_of;
 use std::alloc::{AllocError, Global};
 use tt_cmap::Cmap;
 use tt_core::{Dir, FONT_LIMIT, JobFault, Sink, Source};
 use tt_metrics::Metrics;
+use tt_pbm::write_all_of;
 
 /// The most characters that a text may have (profile).
 pub const TEXT_LIMIT: usize = 4096;

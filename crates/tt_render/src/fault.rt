@@ -3,10 +3,10 @@
 ghost use Rattle.std.specs.Prelude.{◌≡◌};
 ghost use Rattle.tt_render.specs.declared.fault.RunFault.TheVariants.{Font, Memory, Write};
 
-use crate::writing::Cut;
 use std::alloc::{AllocError, AllocFailed};
 use thiserror::Error;
 use tt_core::{Fault, JobFault};
+use tt_pbm::Cut;
 
 /// Why `map` ends without its work done.
 #[derive(Clone, Copy, Debug, PartialEq, Eq, Error)]

@@ -5,7 +5,6 @@ mod characters;
 mod fault;
 mod reading;
 mod reports;
-mod writing;
 
 pub use characters::{TEXT_LIMIT, map};
 pub use fault::RunFault;

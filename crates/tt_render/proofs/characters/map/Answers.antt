@@ -32,11 +32,12 @@ returns-in_err-write_all_of-clause-outcome g c =
     let lines = c.in_ok-lines.lines in
     let sent = c.in_err-write_all_of.field-0.0.sent in
     let made = rw c.deref.ensures.value at c.in_ok-lines.ensures.exact in
-    let cut = rw c.as_bytes.ensures.value at c.in_err-write_all_of.ensures in
+    let within = rw c.as_bytes.ensures.value at c.in_err-write_all_of.ensures.within in
+    let part = rw c.as_bytes.ensures.value at c.in_err-write_all_of.ensures.part in
     let Q : List ℕ → Type 0 = λ ls. (sent < length ls) × Appends (written c.args.out.now) (written c.write_all_of.new.out) (take sent ls) in
     let p = err_from_is_err_and c.from_residual-in_err-write_all_of.result c.from_residual-in_err-write_all_of.ensures.1 in
     rw (p.1, p.2)
-    (with_lines Q (left c.args.font.now) (left c.read_font.new.font) file.file.items c.args.text.now (string_bytes lines) c.in_ok-test_text.ensures file.ensures.0 file.ensures.1 file.ensures.2 made (cut.1, cut.0), file.ensures.1, file.ensures.3, cut.2)
+    (with_lines Q (left c.args.font.now) (left c.read_font.new.font) file.file.items c.args.text.now (string_bytes lines) c.in_ok-test_text.ensures file.ensures.0 file.ensures.1 file.ensures.2 made (within, part), file.ensures.1, file.ensures.3, c.in_err-write_all_of.ensures.failure)
 
 pub returns-clause-outcome : goal.returns-clause-outcome
 returns-clause-outcome g c =
@@ -45,9 +46,9 @@ returns-clause-outcome g c =
     let file = c.in_ok-file in
     let lines = c.in_ok-lines.lines in
     let made = rw c.deref.ensures.value at c.in_ok-lines.ensures.exact in
-    let all = rw c.as_bytes.ensures.value at c.in_ok-write_all_of.ensures in
+    let all = rw c.as_bytes.ensures.value at c.in_ok-write_all_of.ensures.all in
     let Q : List ℕ → Type 0 = Appends (written c.args.out.now) (written c.write_all_of.new.out) in
-    (with_lines Q (left c.args.font.now) (left c.read_font.new.font) file.file.items c.args.text.now (string_bytes lines) c.in_ok-test_text.ensures file.ensures.0 file.ensures.1 file.ensures.2 made all.0, file.ensures.1, file.ensures.3, all.1)
+    (with_lines Q (left c.args.font.now) (left c.read_font.new.font) file.file.items c.args.text.now (string_bytes lines) c.in_ok-test_text.ensures file.ensures.0 file.ensures.1 file.ensures.2 made all, file.ensures.1, file.ensures.3, c.in_ok-write_all_of.ensures.failure)
 
 pub returns-clause-defects : goal.returns-clause-defects
 returns-clause-defects g c =

@@ -1,6 +1,6 @@
 use Rattle.std.proofs.Common.{rules}
-use Rattle.tt_render.proofs.Known.{appends_more}
-use Rattle.tt_render.proofs.writing.write_all_of.Goals as goal
+use Rattle.tt_pbm.proofs.Appended.{appends_more}
+use Rattle.tt_pbm.proofs.writing.write_all_of.Goals as goal
 
 pub loop-sent-preserved : goal.loop-sent-preserved
 loop-sent-preserved g c =

@@ -1,6 +1,6 @@
 use Rattle.std.proofs.Common.{◌≡◌, ◌-◌, ◌≤◌, length, take, false}
 use Rattle.std.specs.Io.KnownBytes.{Appends}
-use Rattle.tt_render.proofs.writing.write_all_of.Given as goal
+use Rattle.tt_pbm.proofs.writing.write_all_of.Given as goal
 
 -- the first `sent` bytes went out
 abbrev pub invariant-loop-sent : goal.invariant-loop-sent

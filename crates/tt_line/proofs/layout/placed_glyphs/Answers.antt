@@ -1,0 +1,50 @@
+use Rattle.std.proofs.Common.{◌≡◌, ◌<◌, ◌≤◌, ℕ, [], ◌∷◌, ◌++◌, length, sum, chars, sym, ap, ◌∙◌, arith}
+use Rattle.std.proofs.lemmas.Iterator.{YieldsList-from_chars}
+use Rattle.std.proofs.lemmas.Iterator.Consumers.{YieldsList-so_far, YieldsList-end}
+use Rattle.std.proofs.lemmas.List.{map-id, length-map}
+use Rattle.std.proofs.lemmas.List.Elements.{All-push}
+use Rattle.tt_metrics.specs.Metrics.{glyphs_of}
+use Rattle.tt_cmap.specs.Lookup.{glyph_of}
+use Rattle.tt_line.specs.Layout.{advance_in_pixels, advances_of, text_glyphs}
+use Rattle.tt_line.proofs.Pens.{part_within, next_pen, next_placed, pens_within, length-placed, glyphs_of_placed}
+use Rattle.tt_line.proofs.layout.placed_glyphs.Goals as goal
+
+pub overflow_add-pen : goal.overflow_add-pen
+overflow_add-pen c =
+    let cs = chars c.args.text.now in
+    let part = sym (map-id c.loop-c.yielded) ∙ YieldsList-so_far (YieldsList-from_chars c.args.text.now c.utf8.text cc) c.loop-c.yielded _ c.loop-c.yielded_by in
+    let within = part_within (advance_in_pixels c.args.metrics.now c.args.ppem) (glyph_of c.args.cmap.now) c.loop-c.yielded cs (length c.loop-c.yielded) part in
+    let pen : c.loop-c.pen ≤ sum (advances_of c.args.metrics.now c.args.ppem (text_glyphs c.args.cmap.now c.args.text.now)) = rw c.loop-c.invariant.pen within in
+    omega arith
+
+pub loop-c-preserved : goal.loop-c-preserved
+loop-c-preserved c =
+    let f = advance_in_pixels c.args.metrics.now c.args.ppem in
+    let g = glyph_of c.args.cmap.now in
+    let items : c.push.new.self.items ≡ c.loop-c.glyphs.items ++ (c.glyph-glyph.result, c.loop-c.pen) ∷ [] = c.in_ok-push.ensures.items in
+    record {
+      pen = next_pen f g c.loop-c.yielded c.in-Some.c c.glyph-glyph.result c.loop-c.pen c.advance-pen.result c.loop-c.invariant.pen c.glyph-glyph.ensures.meaning c.advance-pen.ensures.exact;
+      placed = next_placed f g c.loop-c.yielded c.in-Some.c c.glyph-glyph.result c.loop-c.pen c.loop-c.glyphs.items c.push.new.self.items c.loop-c.invariant.pen c.loop-c.invariant.placed c.glyph-glyph.ensures.meaning items;
+      known = rw items (All-push (λ (p : ℕ × ℕ). p.0 < glyphs_of c.args.metrics.now) c.loop-c.glyphs.items (c.glyph-glyph.result, c.loop-c.pen) c.loop-c.invariant.known (omega arith));
+    }
+
+pub returns-clause-exact : goal.returns-clause-exact
+returns-clause-exact c =
+    let e = YieldsList-end (YieldsList-from_chars c.args.text.now c.utf8.text cc) c.loop-c.yielded _ c.loop-c.yielded_by _ _ c.in-None.is c.next.ensures.steps in
+    let all : c.loop-c.yielded ≡ chars c.args.text.now = sym (map-id c.loop-c.yielded) ∙ e.0 in
+    rw (← all) c.loop-c.invariant.placed
+
+pub returns-clause-count : goal.returns-clause-count
+returns-clause-count c =
+    let glyphs = text_glyphs c.args.cmap.now c.args.text.now in
+    ap length (returns-clause-exact c) ∙ length-placed (advance_in_pixels c.args.metrics.now c.args.ppem) glyphs ∙ length-map (chars c.args.text.now) (glyph_of c.args.cmap.now)
+
+pub returns-clause-glyphs : goal.returns-clause-glyphs
+returns-clause-glyphs c =
+    let glyphs = text_glyphs c.args.cmap.now c.args.text.now in
+    rw (returns-clause-exact c) (glyphs_of_placed (advance_in_pixels c.args.metrics.now c.args.ppem) glyphs)
+
+pub returns-clause-pens : goal.returns-clause-pens
+returns-clause-pens c =
+    let glyphs = text_glyphs c.args.cmap.now c.args.text.now in
+    rw (returns-clause-exact c) (pens_within (advance_in_pixels c.args.metrics.now c.args.ppem) glyphs)

@@ -1,0 +1,163 @@
+-- Apple TrueType Reference Manual, "The 'hhea' table" and "The 'hmtx' table": ascent, descent and advance widths in a
+-- line of text. That a line is laid out in whole pixels, and how large a picture may be, are this project's own rules
+-- (profile).
+use Rattle.std.specs.Prelude.{◌≡◌, ℕ, ◌+◌, ◌*◌, ◌<◌, ◌≤◌, ◌||◌, ◌==◌, nat_lt, if◌then◌else◌, ℤ, pos, negsuc, neg_ℤ, ◌+ℤ◌, ◌*ℤ◌, ◌<ℤ◌, ◌≤ℤ◌, int_lt, unsigned_abs, List, [], ◌∷◌, length, take, map, sum, slice_index, chars, Result, Ok, Err, ◌⊎◌, refl}
+use Rattle.std.specs.Int.{int_div_euclid}
+use Rattle.std.specs.List.{range_with_len}
+use Rattle.tt_core.specs.declared.fault.JobFault.{JobFault}
+use Rattle.tt_core.specs.declared.fault.JobFault.TheVariants as job
+use Rattle.tt_core.specs.Numbers.{rounded_quotient}
+use Rattle.tt_core.specs.Outcomes.{◌>>=◌}
+use Rattle.tt_cmap.specs.Lookup.{Lookup, glyph_of}
+use Rattle.tt_line.specs.declared.picture.Extent.{Extent}
+use Rattle.tt_line.specs.declared.picture.TheConstants.{WIDTH_LIMIT, HEIGHT_LIMIT}
+use Rattle.tt_metrics.specs.declared.head.LocaFormat.TheVariants.{Short}
+use Rattle.tt_metrics.specs.Metrics.{Fields, units_per_em_of, ascent_of, descent_of, advance_of}
+
+-- n / d for a positive d, rounded up to a whole number
+abbrev pub ceiling_quotient : ℤ → ℤ → ℤ
+ceiling_quotient n d = neg_ℤ (int_div_euclid (neg_ℤ n) d)
+
+-- the advance of a glyph in pixels, at a size in pixels per em: rounded to the nearest, a half upwards
+abbrev pub advance_in_pixels : Fields → ℕ → ℕ → ℕ
+advance_in_pixels m ppem g = unsigned_abs (rounded_quotient (pos (advance_of m g * ppem)) (pos (units_per_em_of m)))
+
+-- pixels from the base line up to the ascent
+abbrev pub rise_of : Fields → ℕ → ℤ
+rise_of m ppem = ceiling_quotient (ascent_of m *ℤ pos ppem) (pos (units_per_em_of m))
+
+-- pixels from the base line down to the descent
+abbrev pub depth_of : Fields → ℕ → ℤ
+depth_of m ppem = ceiling_quotient (neg_ℤ (descent_of m) *ℤ pos ppem) (pos (units_per_em_of m))
+
+-- the glyph of each character of a text
+abbrev pub text_glyphs : Lookup → List ℕ → List ℕ
+text_glyphs lookup text = map (glyph_of lookup) (chars text)
+
+-- the advance in pixels of each of some glyphs
+abbrev pub advances_of : Fields → ℕ → List ℕ → List ℕ
+advances_of m ppem glyphs = map (advance_in_pixels m ppem) glyphs
+
+-- where glyph i begins, in pixels: the advances of the i glyphs before it
+abbrev pub pen_of : Fields → ℕ → List ℕ → ℕ → ℕ
+pen_of m ppem glyphs i = sum (take i (advances_of m ppem glyphs))
+
+-- each glyph with its pen
+abbrev pub placed_glyphs : Fields → ℕ → List ℕ → List (ℕ × ℕ)
+placed_glyphs m ppem glyphs = map (λ i. (slice_index glyphs i, pen_of m ppem glyphs i)) (range_with_len 0 (length glyphs))
+
+-- how large the picture of a line with its margins would be
+abbrev pub extent_of : Fields → ℕ → ℕ → List ℕ → Extent
+extent_of m ppem margin glyphs = record {
+  width = sum (advances_of m ppem glyphs) + 2 * margin;
+  height = rise_of m ppem +ℤ depth_of m ppem +ℤ pos (2 * margin);
+}
+
+-- a picture without a pixel is refused, and then one that is too large
+unfoldable pub within_limits : Extent → Result Extent JobFault
+within_limits e =
+    if (e.width == 0) || int_lt e.height (pos 1) then Err job.EmptyPicture
+    else (if nat_lt WIDTH_LIMIT e.width || int_lt (pos HEIGHT_LIMIT) e.height then Err job.PictureLarge else Ok e)
+
+-- a line laid out, in pixels: the picture's size, how far the base line lies below the upper margin, and the glyph and
+-- the pen of each character
+pub record Placement : Type 0 where
+  pub width : ℕ
+  pub height : ℕ
+  pub rise : ℤ
+  pub glyphs : List (ℕ × ℕ)
+
+abbrev pub placed_in : Fields → ℕ → List ℕ → Extent → Placement
+placed_in m ppem glyphs e = record {
+  width = e.width;
+  height = unsigned_abs e.height;
+  rise = rise_of m ppem;
+  glyphs = placed_glyphs m ppem glyphs;
+}
+
+abbrev pub glyph_placement : Fields → ℕ → ℕ → List ℕ → Result Placement JobFault
+glyph_placement m ppem margin glyphs = within_limits (extent_of m ppem margin glyphs) >>= λ e. Ok (placed_in m ppem glyphs e)
+
+-- the layout of a text at a size in pixels per em with a margin in pixels, or why there is none
+unfoldable pub placement : Fields → Lookup → List ℕ → ℕ → ℕ → Result Placement JobFault
+placement m lookup text ppem margin = glyph_placement m ppem margin (text_glyphs lookup text)
+
+-- no pixel
+abbrev pub IsEmpty : Extent → Type 0
+IsEmpty e = (e.width < 1) ⊎ (e.height <ℤ pos 1)
+
+-- more pixels than a picture may have
+abbrev pub IsLarge : Extent → Type 0
+IsLarge e = (WIDTH_LIMIT < e.width) ⊎ (pos HEIGHT_LIMIT <ℤ e.height)
+
+-- what stands behind a refusal
+abbrev pub IsRefusal : Extent → JobFault → Type 0
+IsRefusal e job.EmptyPicture = IsEmpty e
+IsRefusal e job.PictureLarge = (¬ IsEmpty e) × IsLarge e
+IsRefusal e j = ⊥
+
+-- what a picture that is not refused has
+pub record IsWithinLimits (e : Extent) : Type 0 where
+  pub some_width : 1 ≤ e.width
+  pub width : e.width ≤ WIDTH_LIMIT
+  pub some_height : pos 1 ≤ℤ e.height
+  pub height : e.height ≤ℤ pos HEIGHT_LIMIT
+
+-- worked values: 256 units in an em, 300 above the base line and 100 below it, and advances of 256, 250 and 8
+example : Fields
+example = record {
+  head = record { units_per_em = 256; loca_format = Short };
+  maxp = record { glyphs = 3; twilight = 0; storage = 0 };
+  hhea = record { ascent = pos 300; descent = negsuc 99; long_metrics = 3 };
+  hmtx = 1 ∷ 0 ∷ 0 ∷ 0 ∷ 0 ∷ 250 ∷ 0 ∷ 0 ∷ 0 ∷ 8 ∷ 0 ∷ 0 ∷ [];
+}
+
+rounded_up : ceiling_quotient (pos 7) (pos 2) ≡ pos 4
+rounded_up = refl
+
+rounded_up_below_zero : ceiling_quotient (negsuc 6) (pos 2) ≡ negsuc 2
+rounded_up_below_zero = refl
+
+whole_below_zero : ceiling_quotient (negsuc 7) (pos 2) ≡ negsuc 3
+whole_below_zero = refl
+
+a_little_below_zero : ceiling_quotient (negsuc 0) (pos 16384) ≡ pos 0
+a_little_below_zero = refl
+
+-- 16, 15.625 and 0.5
+its_advances : advances_of example 16 (0 ∷ 1 ∷ 2 ∷ []) ≡ 16 ∷ 16 ∷ 1 ∷ []
+unfolding example
+its_advances = refl
+
+-- 18.75 and 6.25
+its_rise : rise_of example 16 ≡ pos 19
+unfolding example
+its_rise = refl
+
+its_depth : depth_of example 16 ≡ pos 7
+unfolding example
+its_depth = refl
+
+its_pens : placed_glyphs example 16 (2 ∷ 0 ∷ 2 ∷ []) ≡ (2, 0) ∷ (0, 1) ∷ (2, 17) ∷ []
+unfolding example
+its_pens = refl
+
+its_placement : glyph_placement example 16 2 (2 ∷ 0 ∷ []) ≡ Ok (record { width = 21; height = 30; rise = pos 19; glyphs = (2, 0) ∷ (0, 1) ∷ [] })
+unfolding example within_limits
+its_placement = refl
+
+no_glyph_and_no_margin : glyph_placement example 16 0 [] ≡ Err job.EmptyPicture
+unfolding example within_limits
+no_glyph_and_no_margin = refl
+
+the_largest : within_limits (record { width = 16384; height = pos 4096 }) ≡ Ok (record { width = 16384; height = pos 4096 })
+unfolding within_limits
+the_largest = refl
+
+one_pixel_wider : within_limits (record { width = 16385; height = pos 1 }) ≡ Err job.PictureLarge
+unfolding within_limits
+one_pixel_wider = refl
+
+empty_before_large : within_limits (record { width = 16385; height = pos 0 }) ≡ Err job.EmptyPicture
+unfolding within_limits
+empty_before_large = refl

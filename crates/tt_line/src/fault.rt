@@ -1,0 +1,40 @@
+//! What comes in the place of a line.
+
+ghost use Rattle.std.specs.Prelude.{◌≡◌};
+ghost use Rattle.tt_line.specs.declared.fault.LineFault.TheVariants.{Job, Memory};
+
+use std::alloc::{AllocError, AllocFailed};
+use tt_core::JobFault;
+
+/// Why a line was not laid out.
+#[derive(Clone, Copy, Debug, PartialEq, Eq)]
+pub enum LineFault {
+    /// The job asks for a picture that is refused.
+    Job(JobFault),
+    /// Memory ran out.
+    Memory,
+}
+
+impl From<JobFault> for LineFault {
+    ghost from_gives = { λ j e. e ≡ Job j };
+
+    fn from(fault: JobFault) -> LineFault {
+        LineFault::Job(fault)
+    }
+}
+
+impl From<AllocError> for LineFault {
+    ghost from_gives = { λ _ e. e ≡ Memory };
+
+    fn from(_error: AllocError) -> LineFault {
+        LineFault::Memory
+    }
+}
+
+impl<T: Drop> From<AllocFailed<T>> for LineFault {
+    ghost from_gives = { λ _ e. e ≡ Memory };
+
+    fn from(_error: AllocFailed<T>) -> LineFault {
+        LineFault::Memory
+    }
+}

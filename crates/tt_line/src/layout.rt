@@ -1,0 +1,111 @@
+//! The line as a whole.
+
+ghost use Rattle.std.specs.Prelude.{◌≡◌, ◌<◌, ◌≤◌, ◌^◌, length, map, chars, sum, All, unsigned_abs, IfOk};
+ghost use Rattle.tt_line.specs.Layout.{text_glyphs, advances_of, placed_glyphs, extent_of, placement, IsRefusal};
+ghost use Rattle.tt_line.specs.Outcome.{placement_of, LineGives, IfJob};
+ghost use Rattle.tt_metrics.specs.Metrics.{glyphs_of};
+
+use crate::fault::LineFault;
+use crate::picture::{HEIGHT_LIMIT, WIDTH_LIMIT, test_limits, with_margins};
+use crate::pixels::{advance, depth, rise};
+use std::alloc::{AllocError, Global};
+use tt_cmap::Cmap;
+use tt_metrics::Metrics;
+
+/// The most characters that a line may have (profile).
+pub const LINE_LIMIT: usize = 4096;
+
+/// A line of text laid out.
+#[derive(Drop)]
+pub struct Line {
+    /// Pixels in a row of the picture, margins included: 1 to 16,384.
+    pub width: u32,
+    /// Rows of the picture, margins included: 1 to 4,096.
+    pub height: u32,
+    /// Pixels from the base line up to the upper margin.
+    pub rise: i32,
+    /// The glyph of each character, and the pixels from the left margin to its origin.
+    pub glyphs: Vec<(u16, u32)>,
+}
+
+/// Lays out a text at `ppem` pixels per em, with margins of `margin` pixels. Each advance is rounded to the
+/// nearest pixel, and ascent and descent are rounded up. No memory is taken for a line that is refused.
+///
+/// Errors, the first of: Job (EmptyPicture) where the width or the height is below 1, Job (PictureLarge) where
+/// the width is above 16,384 or the height above 4,096. Memory comes where a growth was refused.
+#[tactic(auto, unfolding(crate::specs::Layout::placement))]
+pub fn lay(
+    alloc: Global,
+    metrics: &Metrics,
+    cmap: &Cmap,
+    text: &str,
+    ppem: u32,
+    margin: u32,
+) -> Result<Line, LineFault>
+    requires size { ppem ≤ 300 }
+    requires margin { margin ≤ 64 }
+    requires text { length (chars text.now) ≤ LINE_LIMIT }
+    requires glyphs { cmap.now.glyphs ≡ glyphs_of metrics.now }
+    ensures exact { LineGives placement_of result (placement metrics.now cmap.now text.now ppem margin) }
+    ensures width { IfOk result (λ l. (1 ≤ l.width) × (l.width ≤ WIDTH_LIMIT)) }
+    ensures height { IfOk result (λ l. (1 ≤ l.height) × (l.height ≤ HEIGHT_LIMIT)) }
+    ensures rise { IfOk result (λ l. unsigned_abs l.rise < 2 ^ 20) }
+    ensures count { IfOk result (λ l. length l.glyphs.items ≡ length (chars text.now)) }
+    ensures glyphs { IfOk result (λ l. map (λ p. p.0) l.glyphs.items ≡ text_glyphs cmap.now text.now) }
+    ensures known { IfOk result (λ l. All (λ p. p.0 < glyphs_of metrics.now) l.glyphs.items) }
+    ensures pens { IfOk result (λ l. All (λ p. p.1 ≤ l.width) l.glyphs.items) }
+    ensures refused { IfJob result (IsRefusal (extent_of metrics.now ppem margin (text_glyphs cmap.now text.now))) }
+{
+    let rise = rise(metrics, ppem);
+    let advances = sum_of_advances(metrics, cmap, text, ppem);
+    let extent = test_limits(with_margins(advances, rise, depth(metrics, ppem), margin))?;
+    let glyphs = placed_glyphs(alloc, metrics, cmap, text, ppem)?;
+    Ok(Line {
+        width: extent.width as u32,
+        height: extent.height as u32,
+        rise,
+        glyphs,
+    })
+}
+
+/// In pixels. A sum of so many advances can pass 32 bits.
+fn sum_of_advances(metrics: &Metrics, cmap: &Cmap, text: &str, ppem: u32) -> u64
+    requires size { ppem ≤ 300 }
+    requires text { length (chars text.now) ≤ LINE_LIMIT }
+    requires glyphs { cmap.now.glyphs ≡ glyphs_of metrics.now }
+    ensures exact { result ≡ sum (advances_of metrics.now ppem (text_glyphs cmap.now text.now)) }
+    ensures bound { result < 2 ^ 40 }
+{
+    let mut sum = 0;
+    for c in text.chars() {
+        sum += u64::from(advance(metrics, ppem, cmap.glyph(c)));
+    }
+    sum
+}
+
+/// The glyph of each character with its pen, in pixels.
+fn placed_glyphs(
+    alloc: Global,
+    metrics: &Metrics,
+    cmap: &Cmap,
+    text: &str,
+    ppem: u32,
+) -> Result<Vec<(u16, u32)>, AllocError>
+    requires size { ppem ≤ 300 }
+    requires glyphs { cmap.now.glyphs ≡ glyphs_of metrics.now }
+    requires fits { sum (advances_of metrics.now ppem (text_glyphs cmap.now text.now)) ≤ WIDTH_LIMIT }
+    ensures exact { IfOk result (λ v. v.items ≡ placed_glyphs metrics.now ppem (text_glyphs cmap.now text.now)) }
+    ensures count { IfOk result (λ v. length v.items ≡ length (chars text.now)) }
+    ensures glyphs { IfOk result (λ v. map (λ p. p.0) v.items ≡ text_glyphs cmap.now text.now) }
+    ensures known { IfOk result (λ v. All (λ p. p.0 < glyphs_of metrics.now) v.items) }
+    ensures pens { IfOk result (λ v. All (λ p. p.1 ≤ sum (advances_of metrics.now ppem (text_glyphs cmap.now text.now))) v.items) }
+{
+    let mut glyphs = Vec::new(alloc);
+    let mut pen = 0;
+    for c in text.chars() {
+        let glyph = cmap.glyph(c);
+        glyphs.push((glyph, pen))?;
+        pen += advance(metrics, ppem, glyph);
+    }
+    Ok(glyphs)
+}

@@ -1,0 +1,11 @@
+//! Where the glyphs of a line of text stand, in pixels, and how large its picture is.
+#![tactic(auto)]
+
+mod fault;
+mod layout;
+mod picture;
+mod pixels;
+
+pub use fault::LineFault;
+pub use layout::{LINE_LIMIT, Line, lay};
+pub use picture::{HEIGHT_LIMIT, WIDTH_LIMIT};

@@ -1,0 +1,3 @@
+pub mod Bits
+pub mod P4
+pub mod Rows

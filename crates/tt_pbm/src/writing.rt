@@ -1,0 +1,30 @@
+//! Writing bytes to their end.
+
+ghost use Rattle.std.specs.Prelude.{◌≡◌, ◌<◌, false, is_err, length, take, OnOk, IfErr};
+ghost use Rattle.std.specs.Io.KnownBytes.{Appends};
+
+use tt_core::Sink;
+
+/// A write failed; the first `sent` bytes of the call went out, and no more.
+#[derive(Clone, Copy, Debug, PartialEq, Eq)]
+pub struct Cut {
+    pub sent: u64,
+}
+
+/// Writes all of the bytes. Error: a Cut, where a write fails; then the sink has failed.
+pub fn write_all_of<W: Sink>(out: &mut W, bytes: &[u8]) -> Result<(), Cut>
+    requires { W.has_failed out.old ≡ false }
+    ensures all { OnOk result (Appends (W.written out.old) (W.written out.new) bytes.now) }
+    ensures part { IfErr result (λ cut. Appends (W.written out.old) (W.written out.new) (take cut.sent bytes.now)) }
+    ensures within { IfErr result (λ cut. cut.sent < length bytes.now) }
+    ensures failure { W.has_failed out.new ≡ is_err result }
+{
+    let mut sent = 0;
+    while sent < bytes.len() {
+        match out.write(&bytes[sent..]) {
+            Ok(n) => sent += n,
+            Err(_) => return Err(Cut { sent: sent as u64 }),
+        }
+    }
+    Ok(())
+}

@@ -1,0 +1,35 @@
+-- Floors of quotients: how large one is, and which multiples of the divisor lie below the number that was divided.
+use Rattle.std.proofs.Common.{◌≡◌, ℕ, ◌/◌, ◌^◌, ◌<◌, ◌≤◌, ap, ◌&&◌, SFits, w64, arith}
+use Rattle.std.specs.Prelude.{ℤ, pos, negsuc, ◌+ℤ◌, ◌-ℤ◌, ◌*ℤ◌, ◌≤ℤ◌, ◌<ℤ◌, int_lt, unsigned_abs}
+use Rattle.std.specs.Int.{int_div_euclid}
+use Rattle.std.proofs.lemmas.Int.{ints, by_lt_z}
+use Rattle.tt_core.specs.Products.{mul_sum, floor_above, floor_below}
+use Rattle.tt_scan.specs.Winding.{is_zero}
+
+half_below : (a b : ℕ) → a < 2 ^ 63 → 2 ≤ b → a / b < 2 ^ 62
+half_below a b h p = grind arith
+
+pub floor_small : (n d : ℤ) → SFits w64 n → pos 2 ≤ℤ d → unsigned_abs (int_div_euclid n d) ≤ 2 ^ 62
+floor_small (pos a) (pos b) f h =
+    let q : a / b < 2 ^ 62 = half_below a b (omega (arith, ints)) (omega (arith, ints)) in omega arith
+floor_small (negsuc a) (pos b) f h =
+    let q : a / b < 2 ^ 62 = half_below a b (omega (arith, ints)) (omega (arith, ints)) in omega arith
+floor_small n (negsuc b) f h = absurd (omega (arith, ints))
+
+-- d goes q times into n, and the rest is left: n less c times d is below 0, and is 0
+pub below_floor : (d q rest n c : ℤ) → pos 0 ≤ℤ rest → rest <ℤ d → d *ℤ q +ℤ rest ≡ n → int_lt (n -ℤ d *ℤ c) (pos 0) ≡ int_lt q c
+below_floor d q rest n c low high is =
+    by_lt_z q c
+    (λ less. let above = floor_above d q rest n c low high is less in grind (arith, ints))
+    (λ more. let under = floor_below d q rest n c (omega (arith, ints)) low is more in grind (arith, ints))
+
+same_floor : (d q rest n c : ℤ) → q ≡ c → d *ℤ q +ℤ rest ≡ n → is_zero (n -ℤ d *ℤ c) ≡ (is_zero rest && is_zero (q -ℤ c))
+same_floor d q rest n c same is = let product = ap (λ (z : ℤ). d *ℤ z) same in grind (arith, ints)
+
+pub at_floor : (d q rest n c : ℤ) → pos 0 ≤ℤ rest → rest <ℤ d → d *ℤ q +ℤ rest ≡ n → is_zero (n -ℤ d *ℤ c) ≡ (is_zero rest && is_zero (q -ℤ c))
+at_floor d q rest n c low high is =
+    by_lt_z q c
+    (λ less. let above = floor_above d q rest n c low high is less in grind (arith, ints))
+    (λ more. by_lt_z c q
+    (λ less. let under = floor_below d q rest n (c +ℤ pos 1) (omega (arith, ints)) low is (omega (arith, ints)) in let spread = mul_sum d c (pos 1) in grind (arith, ints))
+    (λ same. same_floor d q rest n c (omega (arith, ints)) is))

@@ -1,0 +1,103 @@
+-- Ranges of numbers, told in other ways.
+use Rattle.std.proofs.Common.{◌≡◌, ◌∙◌, Bool, true, false, ◌&&◌, refl, arith}
+use Rattle.std.specs.Prelude.{ℤ, pos, ◌+ℤ◌, ◌-ℤ◌, ◌*ℤ◌, ◌≤ℤ◌, ◌<ℤ◌, int_lt, int_le}
+use Rattle.std.specs.Int.{int_min, int_max}
+use Rattle.std.proofs.lemmas.Int.{ints, clamps, by_lt_z}
+use Rattle.tt_scan.specs.declared.edge.Edge.{Edge}
+use Rattle.tt_scan.specs.declared.edge.Frame.{Frame}
+use Rattle.tt_scan.specs.Winding.{is_between, row_y}
+
+pub between_turned : (a b z : ℤ) → is_between a b z ≡ is_between b a z
+between_turned a b z = grind (arith, ints)
+
+ordered : (a b z : ℤ) → a ≤ℤ b → is_between a b z ≡ (int_le a z && int_le z b)
+ordered a b z order = grind (arith, ints)
+
+shifted : (a b c d : ℤ) → a -ℤ b ≡ c -ℤ d → int_le a b ≡ int_le c d
+shifted a b c d same = grind (arith, ints)
+
+-- between two numbers: not below the less, not above the greater
+between_is : (a b z : ℤ) → is_between a b z ≡ (int_le (int_min a b) z && int_le z (int_max a b))
+between_is a b z =
+    by_lt_z b a
+    (λ less.
+    let low : int_min a b ≡ b = omega (arith, ints, clamps) in
+    let high : int_max a b ≡ a = omega (arith, ints, clamps) in
+    rw (low, high) (between_turned a b z ∙ ordered b a z (omega (arith, ints))))
+    (λ more.
+    let low : int_min a b ≡ a = omega (arith, ints, clamps) in
+    let high : int_max a b ≡ b = omega (arith, ints, clamps) in
+    rw (low, high) (ordered a b z more))
+
+-- the same of a number that counts from another place, upwards or downwards
+pub between_from : (a b z low high k : ℤ) → int_min a b -ℤ z ≡ low -ℤ k → int_max a b -ℤ z ≡ high -ℤ k → is_between a b z ≡ (int_le low k && int_le k high)
+between_from a b z low high k is_low is_high =
+    let one = shifted (int_min a b) z low k is_low in
+    let two = shifted z (int_max a b) k high (omega (arith, ints)) in
+    between_is a b z ∙ rw (one, two) refl
+
+and_turned : (p q : Bool) → (p && q) ≡ (q && p)
+and_turned true true = refl
+and_turned true false = refl
+and_turned false true = refl
+and_turned false false = refl
+
+pub between_down : (a b z low high k : ℤ) → int_max a b -ℤ z ≡ k -ℤ low → int_min a b -ℤ z ≡ k -ℤ high → is_between a b z ≡ (int_le low k && int_le k high)
+between_down a b z low high k is_low is_high =
+    let one = shifted (int_min a b) z k high is_high in
+    let two = shifted z (int_max a b) low k (omega (arith, ints)) in
+    between_is a b z ∙ rw (one, two) (and_turned (int_le k high) (int_le low k))
+
+-- whole pixels, from their counts: `first` from the floor of low and all but one more pixel, `last` from the floor of high
+pixel_first : (low first rest k : ℤ) → pos 8192 *ℤ first +ℤ rest ≡ low +ℤ pos 8191 → pos 0 ≤ℤ rest → rest <ℤ pos 8192 → int_le first k ≡ int_le low (pos 8192 *ℤ k)
+pixel_first low first rest k is rest_low rest_high =
+    by_lt_z k first
+    (λ less. let before : (pos 8192 *ℤ k) <ℤ low = omega (arith, ints) in grind (arith, ints))
+    (λ more. let reached : low ≤ℤ (pos 8192 *ℤ k) = omega (arith, ints) in grind (arith, ints))
+
+pixel_last : (high last rest k : ℤ) → pos 8192 *ℤ last +ℤ rest ≡ high → pos 0 ≤ℤ rest → rest <ℤ pos 8192 → int_le k last ≡ int_le (pos 8192 *ℤ k) high
+pixel_last high last rest k is rest_low rest_high =
+    by_lt_z last k
+    (λ less. let over : high <ℤ (pos 8192 *ℤ k) = omega (arith, ints) in grind (arith, ints))
+    (λ more. let within : (pos 8192 *ℤ k) ≤ℤ high = omega (arith, ints) in grind (arith, ints))
+
+pub pixels_are : (low high first one last two k : ℤ) → pos 8192 *ℤ first +ℤ one ≡ low +ℤ pos 8191 → pos 0 ≤ℤ one → one <ℤ pos 8192
+    → pos 8192 *ℤ last +ℤ two ≡ high → pos 0 ≤ℤ two → two <ℤ pos 8192 → (int_le first k && int_le k last) ≡ (int_le low (pos 8192 *ℤ k) && int_le (pos 8192 *ℤ k) high)
+pixels_are low high first one last two k is_first one_low one_high is_last two_low two_high =
+    let left = pixel_first low first one k is_first one_low one_high in
+    let right = pixel_last high last two k is_last two_low two_high in
+    rw (left, right) refl
+
+pub none_between : (a b k : ℤ) → int_le a b ≡ false → false ≡ (int_le a k && int_le k b)
+none_between a b k none = grind (arith, ints)
+
+-- no row lies from 0 on and below 0
+pub none_at : (row : ℤ) → pos 0 ≤ℤ row → false ≡ (int_le (pos 0) row && int_lt row (pos 0))
+none_at row from = grind (arith, ints)
+
+-- a range cut to the rows from 0 on, below height
+clipped_first : (first height from k : ℤ) → from ≡ int_max (pos 0) (int_min first height) → pos 0 ≤ℤ k → k <ℤ height → int_le first k ≡ int_le from k
+clipped_first first height from k is low high =
+    by_lt_z k first
+    (λ below. let after : k <ℤ from = omega (arith, ints, clamps) in grind (arith, ints))
+    (λ reached. let after : from ≤ℤ k = omega (arith, ints, clamps) in grind (arith, ints))
+
+clipped_last : (last height from past k : ℤ) → past ≡ int_max from (int_min (last +ℤ pos 1) height) → k <ℤ height → from ≤ℤ k → int_le k last ≡ int_lt k past
+clipped_last last height from past k is high reached =
+    by_lt_z last k
+    (λ over. let after : past ≤ℤ k = omega (arith, ints, clamps) in grind (arith, ints))
+    (λ more. let after : k <ℤ past = omega (arith, ints, clamps) in grind (arith, ints))
+
+same_after : (p q r : Bool) → (p ≡ true → q ≡ r) → (p && q) ≡ (p && r)
+same_after true q r f = f refl
+same_after false q r f = refl
+
+pub clipped : (first last height from past k : ℤ) → from ≡ int_max (pos 0) (int_min first height) → past ≡ int_max from (int_min (last +ℤ pos 1) height)
+    → pos 0 ≤ℤ k → k <ℤ height → (int_le first k && int_le k last) ≡ (int_le from k && int_lt k past)
+clipped first last height from past k is_from is_past low high =
+    rw (clipped_first first height from k is_from low high) (same_after (int_le from k) (int_le k last) (int_lt k past) (λ reached. clipped_last last height from past k is_past high (omega (arith, ints))))
+
+-- the rows whose centre line meets an edge, by how far they lie below the highest centres
+pub row_met : (e : Edge) (f : Frame) (top low high row : ℤ) → top ≡ row_y f (pos 0) → low ≡ int_min e.ay e.by → high ≡ int_max e.ay e.by
+    → is_between e.ay e.by (row_y f row) ≡ (int_le (top -ℤ high) (pos 8192 *ℤ row) && int_le (pos 8192 *ℤ row) (top -ℤ low))
+row_met e f top low high row is_top is_low is_high = between_down e.ay e.by (row_y f row) (top -ℤ high) (top -ℤ low) (pos 8192 *ℤ row) (omega (arith, ints)) (omega (arith, ints))

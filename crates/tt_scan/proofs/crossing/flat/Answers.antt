@@ -1,0 +1,35 @@
+use Rattle.std.proofs.Common.{◌≡◌, ap, SFits, w64, of_z, refl, rules, arith}
+use Rattle.std.proofs.lemmas.Int.{ints, clamps, to_z-of_z}
+use Rattle.tt_scan.proofs.Crosses.{apart_cross, level_cross, off_level}
+use Rattle.tt_scan.proofs.crossing.flat.Goals as goal
+
+pub returns-then-y-edge-clause-exact : goal.returns-then-y-edge-clause-exact
+returns-then-y-edge-clause-exact c =
+    let off = off_level c.args.edge.ay c.args.edge.by c.args.y c.requires.level (λ same. c.if-y-edge.true (ap (of_z w64) same)) in
+    apart_cross c.args.edge c.args.margin c.args.y c.apart.result off c.apart.ensures.touch c.apart.ensures.turn c.apart.ensures.first
+
+pub from_centre-right-requires-clause-place : goal.from_centre-right-requires-clause-place
+from_centre-right-requires-clause-place c =
+    let ax : SFits w64 c.args.edge.ax = search rules in
+    let bx : SFits w64 c.args.edge.bx = search rules in
+    let max : SFits w64 c.max.result = search rules in
+    let is = simp to_z-of_z at c.max.ensures.value in
+    simp to_z-of_z (omega (arith, ints, clamps))
+
+pub returns-clause-exact : goal.returns-clause-exact
+returns-clause-exact c =
+    let ax : SFits w64 c.args.edge.ax = search rules in
+    let bx : SFits w64 c.args.edge.bx = search rules in
+    let ay : SFits w64 c.args.edge.ay = search rules in
+    let y : SFits w64 c.args.y = c.ranges.y in
+    let min : SFits w64 c.min.result = search rules in
+    let max : SFits w64 c.max.result = search rules in
+    let low : SFits w64 c.from_centre-left.result = search rules in
+    let high : SFits w64 c.from_centre-right.result = search rules in
+    let is_min = simp to_z-of_z at c.min.ensures.value in
+    let is_max = simp to_z-of_z at c.max.ensures.value in
+    let is_low = simp to_z-of_z at c.from_centre-left.ensures.exact in
+    let is_high = simp to_z-of_z at c.from_centre-right.ensures.exact in
+    let touch = simp to_z-of_z at c.pixels_between.ensures.exact in
+    let here : c.args.y ≡ c.args.edge.ay = omega (arith, ints) in
+    level_cross c.args.edge c.args.margin c.args.y c.from_centre-left.result c.from_centre-right.result _ c.requires.level here (rw (is_low, is_min) refl) (rw (is_high, is_max) refl) touch c.pixels_between.ensures.order refl refl

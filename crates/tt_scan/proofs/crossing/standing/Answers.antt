@@ -1,0 +1,76 @@
+use Rattle.std.proofs.Common.{◌≡◌, ◌+ℤ◌, ◌-ℤ◌, ◌*ℤ◌, ◌<ℤ◌, pos, ℤ, SFits, w64, refl, rules, arith}
+use Rattle.std.proofs.lemmas.Int.{ints, to_z-of_z}
+use Rattle.tt_scan.specs.Winding.{column_x, side}
+use Rattle.tt_scan.proofs.Floors.{at_floor, below_floor}
+use Rattle.tt_scan.proofs.Sides.{side_at}
+use Rattle.tt_scan.proofs.crossing.standing.Goals as goal
+
+pub overflow_add-sum : goal.overflow_add-sum
+overflow_add-sum c =
+    let one : SFits w64 c.product.result = search rules in
+    let two : SFits w64 c.product-2.result = search rules in
+    simp to_z-of_z (omega (arith, ints, c.product.ensures.bound, c.product-2.ensures.bound))
+
+pub overflow_mul-rise : goal.overflow_mul-rise
+overflow_mul-rise c =
+    let ay : SFits w64 c.args.edge.ay = search rules in
+    let by : SFits w64 c.args.edge.by = search rules in
+    let rise : SFits w64 (c.args.edge.by -ℤ c.args.edge.ay) = omega (arith, ints) in
+    simp to_z-of_z (omega (arith, ints))
+
+pub divided-requires : goal.divided-requires
+divided-requires c =
+    let ay : SFits w64 c.args.edge.ay = search rules in
+    let by : SFits w64 c.args.edge.by = search rules in
+    let rise : SFits w64 (c.args.edge.by -ℤ c.args.edge.ay) = omega (arith, ints) in
+    let divisor : SFits w64 (pos 8192 *ℤ (c.args.edge.by -ℤ c.args.edge.ay)) = omega (arith, ints) in
+    record { positive = simp to_z-of_z (omega (arith, ints)) }
+
+-- what was divided, and by what
+abbrev number : goal.After-divided → ℤ
+number c = c.product.result +ℤ c.product-2.result
+
+abbrev divisor : goal.After-divided → ℤ
+divisor c = pos 8192 *ℤ (c.args.edge.by -ℤ c.args.edge.ay)
+
+parts : (c : goal.After-divided) (k : ℤ) → (side c.args.edge (column_x c.args.margin k) c.args.y ≡ number c -ℤ divisor c *ℤ k) × (divisor c *ℤ c.divided.result.whole +ℤ c.divided.result.rest ≡ number c) × (c.divided.result.rest <ℤ divisor c)
+parts c k =
+    let ax : SFits w64 c.args.edge.ax = search rules in
+    let ay : SFits w64 c.args.edge.ay = search rules in
+    let bx : SFits w64 c.args.edge.bx = search rules in
+    let by : SFits w64 c.args.edge.by = search rules in
+    let y : SFits w64 c.args.y = c.ranges.y in
+    let run : SFits w64 (c.args.edge.bx -ℤ c.args.edge.ax) = omega (arith, ints) in
+    let rise : SFits w64 (c.args.edge.by -ℤ c.args.edge.ay) = omega (arith, ints) in
+    let height : SFits w64 (c.args.y -ℤ c.args.edge.ay) = omega (arith, ints) in
+    let far : SFits w64 c.from_centre.result = search rules in
+    let one : SFits w64 c.product.result = search rules in
+    let two : SFits w64 c.product-2.result = search rules in
+    let sum : SFits w64 (c.product.result +ℤ c.product-2.result) = omega (arith, ints, c.product.ensures.bound, c.product-2.ensures.bound) in
+    let divisor : SFits w64 (pos 8192 *ℤ (c.args.edge.by -ℤ c.args.edge.ay)) = omega (arith, ints) in
+    let at = simp to_z-of_z at c.from_centre.ensures.exact in
+    let left = simp to_z-of_z at c.product.ensures.exact in
+    let right = simp to_z-of_z at c.product-2.ensures.exact in (
+      side_at c.args.edge c.args.margin c.args.y c.from_centre.result k (number c) (pos 8192 *ℤ (c.args.edge.by -ℤ c.args.edge.ay)) at (rw (left, right) refl) refl,
+      simp to_z-of_z at c.divided.ensures.exact,
+      simp to_z-of_z at c.divided.ensures.high,
+    )
+
+pub returns-clause-on : goal.returns-clause-on
+returns-clause-on c = λ k.
+    let p = parts c k in
+    rw p.0 (at_floor (divisor c) c.divided.result.whole c.divided.result.rest (number c) k c.divided.ensures.low p.2 p.1)
+
+pub returns-clause-right : goal.returns-clause-right
+returns-clause-right c = λ k.
+    let p = parts c k in
+    rw p.0 (below_floor (divisor c) c.divided.result.whole c.divided.result.rest (number c) k c.divided.ensures.low p.2 p.1)
+
+pub returns-clause-small : goal.returns-clause-small
+returns-clause-small c =
+    let ay : SFits w64 c.args.edge.ay = search rules in
+    let by : SFits w64 c.args.edge.by = search rules in
+    let rise : SFits w64 (c.args.edge.by -ℤ c.args.edge.ay) = omega (arith, ints) in
+    let divisor : SFits w64 (pos 8192 *ℤ (c.args.edge.by -ℤ c.args.edge.ay)) = omega (arith, ints) in
+    let small = simp to_z-of_z at c.divided.ensures.small in
+    small (omega (arith, ints))

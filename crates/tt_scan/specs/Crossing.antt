@@ -1,0 +1,27 @@
+-- No part of the standard: what is asked of an edge at the centre line of a row, and of the rows that it meets.
+use Rattle.std.specs.Prelude.{◌≡◌, ℕ, Bool, false, ◌&&◌, if◌then◌else◌, ℤ, pos, int_lt, int_le, ◌≤ℤ◌, ◌<ℤ◌, Option, Some, None, IfSome}
+use Rattle.tt_scan.specs.declared.edge.Cross.{Cross}
+use Rattle.tt_scan.specs.declared.edge.Edge.{Edge}
+use Rattle.tt_scan.specs.declared.edge.Frame.{Frame}
+use Rattle.tt_scan.specs.Winding.{column_x, row_y, is_between, lies_on, edge_turn, turned}
+
+-- a column from the first to the last
+abbrev pub spans : Option (ℤ × ℤ) → ℤ → Bool
+spans None column = false
+spans (Some t) column = int_le t.0 column && int_le column t.1
+
+-- what an edge does at a height, told of every column: which centres lie on it, how it turns there, and from which column
+-- on a centre lies strictly right of it
+pub record IsCross (e : Edge) (margin : ℕ) (y : ℤ) (r : Cross) : Type 0 where
+  pub touch : (c : ℤ) → lies_on e (column_x margin c) y ≡ spans r.touch c
+  pub touched : IfSome r.touch (λ t. t.0 ≤ℤ t.1)
+  pub turn : r.turn ≡ edge_turn e y
+  pub right : (c : ℤ) → turned e (column_x margin c) y ≡ (if int_le r.first c then r.turn else pos 0)
+  pub still : r.turn ≡ pos 0 → r.first ≡ pos 0
+
+-- the rows of a frame whose centre line meets an edge: the first of them, and one past the last
+pub record AreRows (e : Edge) (f : Frame) (r : ℤ × ℤ) : Type 0 where
+  pub met : (row : ℤ) → pos 0 ≤ℤ row → row <ℤ pos f.height → is_between e.ay e.by (row_y f row) ≡ (int_le r.0 row && int_lt row r.1)
+  pub low : pos 0 ≤ℤ r.0
+  pub order : r.0 ≤ℤ r.1
+  pub high : r.1 ≤ℤ pos f.height

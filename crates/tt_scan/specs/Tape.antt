@@ -1,0 +1,13 @@
+-- No part of the standard: the edges of one glyph, where its picture stands, and how many crossings were asked for.
+use Rattle.std.specs.Prelude.{ℕ, pos, List, get_or}
+use Rattle.tt_scan.specs.declared.edge.Edge.{Edge}
+use Rattle.tt_scan.specs.declared.edge.Frame.{Frame}
+
+pub record Edges : Type 0 where
+  pub frame : Frame
+  pub edges : List Edge
+  pub crosses : ℕ
+
+-- edge i; past the last one an edge at 0 stands for none
+abbrev pub edge_at : List Edge → ℕ → Edge
+edge_at edges i = get_or edges i (record { ax = pos 0; ay = pos 0; bx = pos 0; by = pos 0 })

@@ -1,0 +1,96 @@
+-- OpenType, "TrueType Fundamentals", the scan converter's rules 1 and 2; Apple TrueType Reference Manual, "Digitizing
+-- Letterform Designs": a point is inside where its winding number is not 0. All numbers here are in 1/8192 pixel, but for
+-- the numbers of columns and rows.
+use Rattle.std.specs.Prelude.{◌≡◌, ℕ, ◌^◌, ◌<◌, ◌≤◌, Bool, true, false, ◌&&◌, ◌||◌, not, if◌then◌else◌, ℤ, pos, negsuc, ◌+ℤ◌, ◌-ℤ◌, ◌*ℤ◌, int_lt, int_le, unsigned_abs, List, [], ◌∷◌, refl}
+use Rattle.tt_scan.specs.declared.edge.Edge.{Edge}
+use Rattle.tt_scan.specs.declared.edge.Frame.{Frame}
+
+-- an edge and a frame that the program takes
+pub record EdgeFits (e : Edge) : Type 0 where
+  pub ax : unsigned_abs e.ax < 2 ^ 30
+  pub ay : unsigned_abs e.ay < 2 ^ 30
+  pub bx : unsigned_abs e.bx < 2 ^ 30
+  pub by : unsigned_abs e.by < 2 ^ 30
+
+pub record FrameFits (f : Frame) : Type 0 where
+  pub width_low : 1 ≤ f.width
+  pub width_high : f.width ≤ 16384
+  pub height_low : 1 ≤ f.height
+  pub height_high : f.height ≤ 4096
+  pub margin : f.margin ≤ 64
+  pub rise : unsigned_abs f.rise < 2 ^ 20
+
+-- where the centres of a column stand
+abbrev pub column_x : ℕ → ℤ → ℤ
+column_x margin column = pos 8192 *ℤ (column -ℤ pos margin) +ℤ pos 4096
+
+-- where the centres of a row stand
+abbrev pub row_y : Frame → ℤ → ℤ
+row_y f row = pos 8192 *ℤ ((f.rise +ℤ pos f.margin) -ℤ row) -ℤ pos 4096
+
+-- on which side of the line through an edge a point lies, seen from a to b: below 0 on the right, above 0 on the left
+abbrev pub side : Edge → ℤ → ℤ → ℤ
+side e x y = (e.bx -ℤ e.ax) *ℤ (y -ℤ e.ay) -ℤ (e.by -ℤ e.ay) *ℤ (x -ℤ e.ax)
+
+abbrev pub is_zero : ℤ → Bool
+is_zero z = int_le z (pos 0) && int_le (pos 0) z
+
+-- z lies between a and b, both included, whichever is the lower
+abbrev pub is_between : ℤ → ℤ → ℤ → Bool
+is_between a b z = (int_le a z && int_le z b) || (int_le b z && int_le z a)
+
+-- rule 2: the point lies on the edge, its ends included
+abbrev pub lies_on : Edge → ℤ → ℤ → Bool
+lies_on e x y = is_zero (side e x y) && is_between e.ax e.bx x && is_between e.ay e.by y
+
+-- how an edge turns at a height: +1 where it rises through it, -1 where it falls; its lower end counts, its upper does not
+abbrev pub edge_turn : Edge → ℤ → ℤ
+edge_turn e y =
+    if int_le e.ay y && int_lt y e.by then pos 1
+    else (if int_le e.by y && int_lt y e.ay then negsuc 0 else pos 0)
+
+-- what an edge adds to the winding of a point: its turn at the point's height, where the point lies strictly right of it
+abbrev pub turned : Edge → ℤ → ℤ → ℤ
+turned e x y =
+    if int_le e.ay y && int_lt y e.by && int_lt (side e x y) (pos 0) then pos 1
+    else (if int_le e.by y && int_lt y e.ay && int_lt (pos 0) (side e x y) then negsuc 0 else pos 0)
+
+-- how often the edges go round a point
+abbrev pub winding : List Edge → ℤ → ℤ → ℤ
+winding [] x y = pos 0
+winding (e ∷ es) x y = turned e x y +ℤ winding es x y
+
+abbrev pub lies_on_one : List Edge → ℤ → ℤ → Bool
+lies_on_one [] x y = false
+lies_on_one (e ∷ es) x y = lies_on e x y || lies_on_one es x y
+
+-- a centre is black where it lies on an edge, or inside by rule 1
+abbrev pub is_black : List Edge → ℤ → ℤ → Bool
+is_black es x y = lies_on_one es x y || not (is_zero (winding es x y))
+
+-- worked values: a square from (1,1) to (3,3), upwards on its left
+edge : ℤ → ℤ → ℤ → ℤ → Edge
+edge ax ay bx by = record { ax = ax; ay = ay; bx = bx; by = by }
+
+square : List Edge
+square = edge (pos 1) (pos 1) (pos 1) (pos 3) ∷ edge (pos 1) (pos 3) (pos 3) (pos 3) ∷ edge (pos 3) (pos 3) (pos 3) (pos 1) ∷ edge (pos 3) (pos 1) (pos 1) (pos 1) ∷ []
+
+inside_is_black : is_black square (pos 2) (pos 2) ≡ true
+unfolding square edge
+inside_is_black = refl
+
+right_edge_is_black : is_black square (pos 3) (pos 2) ≡ true
+unfolding square edge
+right_edge_is_black = refl
+
+right_of_it_is_white : is_black square (pos 4) (pos 2) ≡ false
+unfolding square edge
+right_of_it_is_white = refl
+
+above_it_is_white : is_black square (pos 2) (pos 4) ≡ false
+unfolding square edge
+above_it_is_white = refl
+
+a_point_is_black_at_itself : is_black (edge (pos 5) (pos 5) (pos 5) (pos 5) ∷ []) (pos 5) (pos 5) ≡ true
+unfolding edge
+a_point_is_black_at_itself = refl

@@ -1,0 +1,178 @@
+//! What an edge does at the centre line of a row: here an edge that rises from a to b.
+//!
+//! ```text
+//! column   0   1   2   3   4
+//!
+//! row 0    .   .   .   b   .    touch (3, 3)  turn 0  first 0
+//!                     /
+//! row 1    .   .   . / .   .    touch None    turn 1  first 3
+//!                   /
+//! row 2    .   .   /   .   .    touch (2, 2)  turn 1  first 3
+//!                 /
+//! row 3    .   . a .   .   .    touch None    turn 1  first 2
+//! ```
+//!
+//! `turn` and `first` serve rule 1, a centre inside is black: from column `first` on the centres lie strictly right of
+//! the edge, and it adds `turn` to the winding number there. The lower end counts, the upper does not, so that a joint of
+//! two edges counts once. `touch` serves rule 2, a centre on the contour is black: both ends count.
+
+ghost use Rattle.std.specs.Prelude.{◌≡◌, ℤ, ◌^◌, ◌<◌, ◌≤◌, ◌&&◌, pos, int_lt, ◌-ℤ◌, ◌<ℤ◌, ◌≤ℤ◌, unsigned_abs, IfSome};
+ghost use Rattle.tt_scan.specs.Crossing.{spans, IsCross};
+ghost use Rattle.tt_scan.specs.Winding.{EdgeFits, FrameFits, column_x, row_y, side, is_zero};
+
+use crate::edge::{Cross, Edge, Frame};
+use crate::quotient::{PIXEL, Quotient, divided, pixels_between, product};
+
+/// From a border of a pixel to its centre, in 1/8192 pixel.
+const HALF: i64 = PIXEL / 2;
+
+/// Where the centres of a row stand, in 1/8192 pixel.
+pub(crate) fn row_height(frame: Frame, row: i64) -> i64
+    requires frame { FrameFits frame }
+    requires low { pos 0 ≤ℤ row }
+    requires high { row <ℤ pos frame.height }
+    ensures exact { result ≡ row_y frame row }
+    ensures small { unsigned_abs result < 2 ^ 35 }
+{
+    PIXEL * (i64::from(frame.rise) + i64::from(frame.margin) - row) - HALF
+}
+
+/// How far a place stands right of the centres of column 0. Both are in 1/8192 pixel.
+fn from_centre(x: i64, margin: u32) -> i64
+    requires place { unsigned_abs x < 2 ^ 30 }
+    requires margin { margin ≤ 64 }
+    ensures exact { result ≡ x -ℤ column_x margin (pos 0) }
+    ensures bound { unsigned_abs result < 2 ^ 31 }
+{
+    x + (PIXEL * i64::from(margin) - HALF)
+}
+
+/// The last column whose centre is not right of a rising edge, at a height between its ends; no rest is left where the
+/// edge stands on that centre.
+fn standing(edge: Edge, margin: u32, y: i64) -> Quotient
+    requires edge { EdgeFits edge }
+    requires margin { margin ≤ 64 }
+    requires rises { edge.ay <ℤ edge.by }
+    requires low { edge.ay ≤ℤ y }
+    requires high { y ≤ℤ edge.by }
+    ensures on { (c : ℤ) → is_zero (side edge (column_x margin c) y) ≡ (is_zero result.rest && is_zero (result.whole -ℤ c)) }
+    ensures right { (c : ℤ) → int_lt (side edge (column_x margin c) y) (pos 0) ≡ int_lt result.whole c }
+    ensures small { unsigned_abs result.whole ≤ 2 ^ 62 }
+{
+    let run = edge.bx - edge.ax;
+    let rise = edge.by - edge.ay;
+    let sum = product(run, y - edge.ay) + product(rise, from_centre(edge.ax, margin));
+    divided(sum, PIXEL * rise)
+}
+
+/// That column as the columns which the edge touches.
+fn touched(at: Quotient) -> Option<(i64, i64)>
+    ensures exact { (c : ℤ) → spans result c ≡ (is_zero at.rest && is_zero (at.whole -ℤ c)) }
+    ensures order { IfSome result (λ t. t.0 ≤ℤ t.1) }
+{
+    if at.rest == 0 {
+        Some((at.whole, at.whole))
+    } else {
+        None
+    }
+}
+
+/// What an edge does at a height that it does not reach.
+fn apart() -> Cross
+    ensures touch { result.touch ≡ None }
+    ensures turn { result.turn ≡ pos 0 }
+    ensures first { result.first ≡ pos 0 }
+{
+    Cross {
+        touch: None,
+        turn: 0,
+        first: 0,
+    }
+}
+
+/// What an edge with a below b does at a height.
+fn rising(edge: Edge, margin: u32, y: i64) -> Cross
+    requires edge { EdgeFits edge }
+    requires margin { margin ≤ 64 }
+    requires rises { edge.ay <ℤ edge.by }
+    ensures exact { IsCross edge margin y result }
+    ensures bound { unsigned_abs result.turn ≤ 1 }
+{
+    if y < edge.ay || edge.by < y {
+        return apart();
+    }
+    let at = standing(edge, margin, y);
+    let touch = touched(at);
+    if y < edge.by {
+        Cross {
+            touch,
+            turn: 1,
+            first: at.whole + 1,
+        }
+    } else {
+        Cross {
+            touch,
+            turn: 0,
+            first: 0,
+        }
+    }
+}
+
+/// What an edge with a above b does at a height: what it does from b to a, but it turns the other way.
+fn falling(edge: Edge, margin: u32, y: i64) -> Cross
+    requires edge { EdgeFits edge }
+    requires margin { margin ≤ 64 }
+    requires falls { edge.by <ℤ edge.ay }
+    ensures exact { IsCross edge margin y result }
+    ensures bound { unsigned_abs result.turn ≤ 1 }
+{
+    let reversed = Edge {
+        ax: edge.bx,
+        ay: edge.by,
+        bx: edge.ax,
+        by: edge.ay,
+    };
+    let up = rising(reversed, margin, y);
+    Cross {
+        touch: up.touch,
+        turn: -up.turn,
+        first: up.first,
+    }
+}
+
+/// What an edge with a and b at one height does at a height; they may be one point.
+fn flat(edge: Edge, margin: u32, y: i64) -> Cross
+    requires edge { EdgeFits edge }
+    requires margin { margin ≤ 64 }
+    requires level { edge.ay ≡ edge.by }
+    ensures exact { IsCross edge margin y result }
+    ensures bound { unsigned_abs result.turn ≤ 1 }
+{
+    if y != edge.ay {
+        return apart();
+    }
+    let left = from_centre(edge.ax.min(edge.bx), margin);
+    let right = from_centre(edge.ax.max(edge.bx), margin);
+    Cross {
+        touch: pixels_between(left, right),
+        turn: 0,
+        first: 0,
+    }
+}
+
+/// What an edge does at a height.
+pub(crate) fn crossing(edge: Edge, margin: u32, y: i64) -> Cross
+    requires edge { EdgeFits edge }
+    requires margin { margin ≤ 64 }
+    requires height { unsigned_abs y < 2 ^ 35 }
+    ensures exact { IsCross edge margin y result }
+    ensures bound { unsigned_abs result.turn ≤ 1 }
+{
+    if edge.ay < edge.by {
+        rising(edge, margin, y)
+    } else if edge.by < edge.ay {
+        falling(edge, margin, y)
+    } else {
+        flat(edge, margin, y)
+    }
+}

@@ -1,0 +1,57 @@
+//! Floor division. Its numbers may be negative.
+
+ghost use Rattle.std.specs.Prelude.{◌≡◌, ℤ, ◌^◌, ◌<◌, ◌≤◌, ◌&&◌, pos, int_le, ◌+ℤ◌, ◌*ℤ◌, ◌<ℤ◌, ◌≤ℤ◌, unsigned_abs, IfSome};
+ghost use Rattle.tt_scan.specs.Crossing.{spans};
+
+/// A pixel, in 1/8192 pixel.
+pub(crate) const PIXEL: i64 = 8192;
+
+/// How often a divisor goes into a number, and the rest: not negative, and less than the divisor.
+#[derive(Clone, Copy)]
+pub(crate) struct Quotient {
+    pub(crate) whole: i64,
+    pub(crate) rest: i64,
+}
+
+/// The floor of `n / d`, and what is left of `n`.
+pub(crate) fn divided(n: i64, d: i64) -> Quotient
+    requires positive { pos 0 <ℤ d }
+    ensures exact { d *ℤ result.whole +ℤ result.rest ≡ n }
+    ensures low { pos 0 ≤ℤ result.rest }
+    ensures high { result.rest <ℤ d }
+    ensures small { pos 2 ≤ℤ d → unsigned_abs result.whole ≤ 2 ^ 62 }
+{
+    Quotient {
+        whole: n.div_euclid(d),
+        rest: n.rem_euclid(d),
+    }
+}
+
+/// `a * b`, told as a product of whole numbers.
+pub(crate) fn product(a: i64, b: i64) -> i64
+    requires left { unsigned_abs a < 2 ^ 31 }
+    requires right { unsigned_abs b < 2 ^ 31 }
+    ensures exact { result ≡ a *ℤ b }
+    ensures bound { unsigned_abs result < 2 ^ 62 }
+{
+    a * b
+}
+
+/// The first and the last of the whole numbers of pixels from `low` to `high`, which are in 1/8192 pixel; None where
+/// there is none.
+pub(crate) fn pixels_between(low: i64, high: i64) -> Option<(i64, i64)>
+    requires low { unsigned_abs low < 2 ^ 36 }
+    requires high { unsigned_abs high < 2 ^ 36 }
+    ensures exact { (k : ℤ) → spans result k ≡ (int_le low (pos 8192 *ℤ k) && int_le (pos 8192 *ℤ k) high) }
+    ensures order { IfSome result (λ t. t.0 ≤ℤ t.1) }
+    ensures first { IfSome result (λ t. unsigned_abs t.0 < 2 ^ 24) }
+    ensures last { IfSome result (λ t. unsigned_abs t.1 < 2 ^ 24) }
+{
+    let first = divided(low + (PIXEL - 1), PIXEL).whole;
+    let last = divided(high, PIXEL).whole;
+    if first <= last {
+        Some((first, last))
+    } else {
+        None
+    }
+}

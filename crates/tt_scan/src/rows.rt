@@ -1,0 +1,37 @@
+//! The rows of a frame that an edge meets.
+
+ghost use Rattle.std.specs.Prelude.{◌≡◌, ℤ, ◌^◌, ◌<◌, ◌&&◌, pos, int_lt, int_le, ◌<ℤ◌, ◌≤ℤ◌, unsigned_abs};
+ghost use Rattle.tt_scan.specs.Crossing.{AreRows};
+ghost use Rattle.tt_scan.specs.Winding.{EdgeFits, FrameFits};
+
+use crate::crossing::row_height;
+use crate::edge::{Edge, Frame};
+use crate::quotient::pixels_between;
+
+/// Of the rows from `first` to `last` those of a frame of so many rows: the first of them, and one past the last.
+fn within(first: i64, last: i64, height: i64) -> (i64, i64)
+    requires first { unsigned_abs first < 2 ^ 24 }
+    requires last { unsigned_abs last < 2 ^ 24 }
+    requires height { pos 0 ≤ℤ height }
+    ensures met { (k : ℤ) → pos 0 ≤ℤ k → k <ℤ height → (int_le first k && int_le k last) ≡ (int_le result.0 k && int_lt k result.1) }
+    ensures low { pos 0 ≤ℤ result.0 }
+    ensures order { result.0 ≤ℤ result.1 }
+    ensures high { result.1 ≤ℤ height }
+{
+    let from = first.clamp(0, height);
+    (from, (last + 1).clamp(from, height))
+}
+
+/// The first of the frame's rows whose centre line meets the edge, its ends included, and one past the last; two equal
+/// numbers where none does.
+pub(crate) fn rows_met(edge: Edge, frame: Frame) -> (i64, i64)
+    requires edge { EdgeFits edge }
+    requires frame { FrameFits frame }
+    ensures { AreRows edge frame result }
+{
+    let top = row_height(frame, 0);
+    match pixels_between(top - edge.ay.max(edge.by), top - edge.ay.min(edge.by)) {
+        Some((first, last)) => within(first, last, i64::from(frame.height)),
+        None => (0, 0),
+    }
+}

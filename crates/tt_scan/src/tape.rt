@@ -1,0 +1,98 @@
+//! The edges of one glyph. No other module sees the fields of a tape: an edge is read by `rows_of` and
+//! `cross` alone, and each `cross` is counted.
+
+ghost use Rattle.std.specs.Prelude.{◌≡◌, ℕ, ◌+◌, ◌*◌, ◌^◌, ◌<◌, ◌≤◌, ◌<ℤ◌, ◌≤ℤ◌, pos, length, [], ◌∷◌, ◌++◌, get_or, unsigned_abs, OnOk, OnErr};
+ghost use Rattle.tt_scan.specs.Winding.{EdgeFits, FrameFits, row_y};
+ghost use Rattle.tt_scan.specs.Crossing.{IsCross, AreRows};
+ghost use Rattle.tt_scan.specs.Tape.{edge_at};
+
+use crate::crossing::{crossing, row_height};
+use crate::edge::{Cross, Edge, Frame};
+use crate::rows::rows_met;
+use std::alloc::{AllocError, Global};
+use std::marker::Model;
+
+/// The edges of one glyph, in the frame of its picture.
+#[derive(Drop)]
+pub struct Tape {
+    frame: Frame,
+    edges: Vec<Edge>,
+    crosses: u64,
+}
+
+impl Model for Tape {
+    ghost use Rattle.std.specs.Prelude.{All};
+    ghost use Rattle.tt_scan.specs.Tape.{Edges};
+    ghost use Rattle.tt_scan.specs.Winding.{EdgeFits, FrameFits};
+
+    ghost Value = { Edges };
+
+    ghost view = { λ t. record { frame = t.frame; edges = t.edges.items; crosses = t.crosses } };
+
+    ghost invariant = { λ t. FrameFits t.frame × All EdgeFits t.edges.items };
+}
+
+impl Tape {
+    /// A tape without edges. It takes no memory yet.
+    pub fn new(alloc: Global, frame: Frame) -> Tape
+        requires { FrameFits frame }
+        ensures { result ≡ record { frame = frame; edges = []; crosses = 0 } }
+    {
+        Tape {
+            frame,
+            edges: Vec::new(alloc),
+            crosses: 0,
+        }
+    }
+
+    /// Adds an edge. After an error the tape is as it was.
+    pub fn push(&mut self, edge: Edge) -> Result<(), AllocError>
+        requires { EdgeFits edge }
+        ensures added { OnOk result (self.new ≡ record self.old { edges = self.old.edges ++ edge ∷ [] }) }
+        ensures kept { OnErr result (self.new ≡ self.old) }
+    {
+        Ok(self.edges.push(edge)?)
+    }
+
+    /// How many edges there are.
+    pub fn edges(&self) -> usize
+        ensures exact { result ≡ length self.now.edges }
+        ensures small { result < 2 ^ 63 }
+    {
+        self.edges.len()
+    }
+
+    /// How many crossings were asked for.
+    pub fn crosses(&self) -> u64
+        ensures { result ≡ self.now.crosses }
+    {
+        self.crosses
+    }
+
+    /// The first of the frame's rows whose centre line meets edge `i`, its ends included, and one past the
+    /// last; two equal numbers where none does.
+    pub fn rows_of(&self, i: usize) -> (i64, i64)
+        requires { i < length self.now.edges }
+        ensures { AreRows (edge_at self.now.edges i) self.now.frame result }
+    {
+        rows_met(self.edges[i], self.frame)
+    }
+
+    /// What edge `i` does at the centre line of a row.
+    pub fn cross(&mut self, i: usize, row: i64) -> Cross
+        requires within { i < length self.old.edges }
+        requires row_low { pos 0 ≤ℤ row }
+        requires row_high { row <ℤ pos self.old.frame.height }
+        requires count { self.old.crosses < 2 ^ 63 }
+        ensures exact { IsCross (edge_at self.old.edges i) self.old.frame.margin (row_y self.old.frame row) result }
+        ensures bound { unsigned_abs result.turn ≤ 1 }
+        ensures counted { self.new ≡ record self.old { crosses = self.old.crosses + 1 } }
+    {
+        self.crosses += 1;
+        crossing(
+            self.edges[i],
+            self.frame.margin,
+            row_height(self.frame, row),
+        )
+    }
+}
