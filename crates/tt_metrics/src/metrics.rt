@@ -55,6 +55,18 @@ impl<'a> Metrics<'a> {
         })
     }
 
+    /// The same metrics once more. The tables' bytes are not copied.
+    pub fn copy(&self) -> Metrics<'a>
+        ensures { result ≡ self.now }
+    {
+        Metrics {
+            head: self.head,
+            maxp: self.maxp,
+            hhea: self.hhea,
+            hmtx: self.hmtx,
+        }
+    }
+
     /// Font units in an em.
     pub fn units_per_em(&self) -> u16
         ensures exact { result ≡ units_per_em_of self.now }

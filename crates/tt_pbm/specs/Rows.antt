@@ -1,5 +1,5 @@
 -- No part of the standard: laws of the rows of a picture.
-use Rattle.std.specs.Prelude.{◌≡◌, refl, ℕ, zero, suc, ◌+◌, ◌*◌, ◌/◌, ◌%◌, ◌-◌, ◌^◌, ◌<◌, ◌≤◌, Bool, true, false, ◌&&◌, ◌==◌, nat_lt, if◌then◌else◌, List, ◌∷◌, ◌++◌, map, length, take, slice_index}
+use Rattle.std.specs.Prelude.{◌≡◌, refl, ℕ, zero, suc, ◌+◌, ◌*◌, ◌/◌, ◌%◌, ◌-◌, ◌^◌, ◌<◌, ◌≤◌, Bool, true, false, ◌&&◌, ◌==◌, nat_lt, if◌then◌else◌, List, ◌∷◌, ◌++◌, map, length, take, slice_index, replicate}
 use Rattle.std.specs.List.{range_with_len}
 use Rattle.std.specs.Int.{bit_at}
 use Rattle.std.proofs.Common.{arith, sym, ◌∙◌, ap, add-zero, zero-add, add-one}
@@ -8,7 +8,7 @@ use Rattle.std.proofs.lemmas.Grind.{same_number_lists, pow_more}
 use Rattle.std.proofs.lemmas.List.{map-append}
 use Rattle.std.proofs.lemmas.List.FromFn.{length-map-range_with_len, get_or-map-range_with_len, take-map-range_with_len}
 use Rattle.std.proofs.lemmas.Nat.{div-mul-add, mod-mul-add}
-use Rattle.std.proofs.lemmas.Nat.Bits.{bit_at_lowest, bit_at-suc, bit_at-lt, same_from_bits_below}
+use Rattle.std.proofs.lemmas.Nat.Bits.{bit_at_lowest, bit_at-suc, bit_at-lt, bit_at-zero, same_from_bits_below}
 use Rattle.tt_pbm.specs.P4.{stride, columns, shows, byte_of, byte_at, rows}
 use Rattle.tt_pbm.specs.Bits.{bit}
 
@@ -98,3 +98,12 @@ rows_next w r black row same =
     let more : stride w * (r + 1) ≡ stride w * r + stride w = omega arith in
     let split : rows w black 0 (stride w * r + stride w) ≡ rows w black 0 (stride w * r) ++ rows w black (stride w * r) (stride w) = rw zero-add at (rows_more w black 0 (stride w * r) (stride w)) in
     rw (same, more) (sym split)
+
+zero_everywhere : (n i : ℕ) → slice_index (replicate n 0) i ≡ 0
+zero_everywhere zero i = refl
+zero_everywhere (suc n) zero = refl
+zero_everywhere (suc n) (suc i) = zero_everywhere n i
+
+-- a row of zeros is white
+pub bit-replicate_zero : (n k : ℕ) → bit (replicate n 0) k ≡ false
+bit-replicate_zero n k = rw (zero_everywhere n (k / 8), bit_at-zero) refl

@@ -1,30 +1,61 @@
--- A defect that `map` can meet: of the directory, or of a table that it needs.
-use Rattle.std.specs.Prelude.{List, ℕ, Option, Some, None, Result, Ok, Err, IsTrue, ⊤, ◌⊎◌}
+-- The defects that a call can meet in a font.
+use Rattle.std.specs.Prelude.{◌≡◌, ◌<◌, List, ℕ, length, slice_index, Option, Some, None, Result, Ok, Err, IsOkAnd, IsTrue, ⊤, ◌⊎◌}
 use Rattle.tt_core.specs.declared.fault.Fault.{Fault}
-use Rattle.tt_core.specs.Directory.{HasNo, IsDefectIn, IsDirectoryDefect, is_ascii}
+use Rattle.tt_core.specs.Directory.{HasNo, IsDefectIn, IsTableDefect, IsDirectoryDefect, is_ascii}
+use Rattle.tt_fit.specs.Fitting.{Setting, fitted_outline}
+use Rattle.tt_fit.specs.Preparation.{setting_of}
+use Rattle.tt_glyf.specs.Bytes.{glyf_tag}
+use Rattle.tt_glyf.specs.Loca.{loca_tag, IsLocaDefect}
+use Rattle.tt_line.specs.Layout.{text_glyphs}
 use Rattle.tt_cmap.specs.Defects.{IsBadCmap}
-use Rattle.tt_metrics.specs.Metrics.{IsMetricsDefect}
+use Rattle.tt_metrics.specs.Metrics.{Fields, IsMetricsDefect}
 use Rattle.tt_render.specs.declared.fault.RunFault.{RunFault}
 use Rattle.tt_render.specs.declared.fault.RunFault.TheVariants as run
-use Rattle.tt_render.specs.MapLines.{cmap_tag}
+use Rattle.tt_render.specs.Face.{Face, face_of, cmap_tag}
+use Rattle.tt_render.specs.Picture.{Ask, no_programs, glyphs_in, setting_in}
 
-abbrev pub IsMapDefect : List ℕ → Fault → Type 0
-IsMapDefect file fault = IsDirectoryDefect file fault ⊎ IsMetricsDefect file fault ⊎ IsDefectIn file cmap_tag IsBadCmap fault
+-- a defect of the directory, or of a table that every text is looked up in
+abbrev pub IsFaceDefect : List ℕ → Fault → Type 0
+IsFaceDefect file fault = IsDirectoryDefect file fault ⊎ IsMetricsDefect file fault ⊎ IsDefectIn file cmap_tag IsBadCmap fault
 
--- a fault that is named stands in the file
-abbrev pub NamesDefect : List ℕ → RunFault → Type 0
-NamesDefect file (run.Font f) = IsMapDefect file f
-NamesDefect file e = ⊤
+-- a defect of loca, or of where glyf stands
+abbrev pub IsGlyphTableDefect : List ℕ → Fields → Fault → Type 0
+IsGlyphTableDefect directory m fault = IsDefectIn directory loca_tag (λ loca. IsLocaDefect loca m) fault ⊎ IsTableDefect directory glyf_tag fault
 
--- Ok means that the file has no defect, and a font fault that it has this one
-abbrev pub TellsDefects : {V : Type 0} → List ℕ → Result V RunFault → Type 0
-TellsDefects file (Ok v) = HasNo (IsMapDefect file)
-TellsDefects file (Err e) = NamesDefect file e
+-- one of some glyphs has no outline but this fault
+abbrev pub IsGlyphDefect : Setting → List ℕ → Fault → Type 0
+IsGlyphDefect s glyphs fault = (i : ℕ) × (i < length glyphs) × (fitted_outline s (slice_index glyphs i) ≡ Err fault)
+
+-- what the font's programs leave is this fault
+abbrev pub IsPreparationDefect : Face → Ask → Fault → Type 0
+IsPreparationDefect face a fault = IsOkAnd (glyphs_in face.directory face.metrics) (λ tables. setting_of face.metrics tables no_programs a.ppem a.fit ≡ Err fault)
+
+-- a defect of what outlines are made from
+abbrev pub IsSettingDefect : Face → Ask → Fault → Type 0
+IsSettingDefect face a fault = IsGlyphTableDefect face.directory face.metrics fault ⊎ IsPreparationDefect face a fault
+
+-- a defect of what some glyphs are drawn from
+abbrev pub IsLineDefect : Face → Ask → List ℕ → Fault → Type 0
+IsLineDefect face a glyphs fault = IsSettingDefect face a fault ⊎ IsOkAnd (setting_in face a) (λ s. IsGlyphDefect s glyphs fault)
+
+-- a defect of what every text is looked up in, or of what the glyphs of this one are drawn from
+abbrev pub IsRunDefect : Ask → List ℕ → Fault → Type 0
+IsRunDefect a file fault = IsFaceDefect file fault ⊎ IsOkAnd (face_of file) (λ face. IsLineDefect face a (text_glyphs face.lookup a.text) fault)
+
+-- a fault that is named stands
+abbrev pub NamesDefect : (Fault → Type 0) → RunFault → Type 0
+NamesDefect IsOne (run.Font f) = IsOne f
+NamesDefect IsOne e = ⊤
+
+-- Ok means that there is no defect, and a font fault that there is this one
+abbrev pub TellsDefects : {V : Type 0} → (Fault → Type 0) → Result V RunFault → Type 0
+TellsDefects IsOne (Ok v) = HasNo IsOne
+TellsDefects IsOne (Err e) = NamesDefect IsOne e
 
 -- the same of the bytes of a reader, where they are known
-abbrev pub TellsDefectsOf : {V : Type 0} → Option (List ℕ) → Result V RunFault → Type 0
-TellsDefectsOf None result = ⊤
-TellsDefectsOf (Some file) result = TellsDefects file result
+abbrev pub TellsDefectsOf : {V : Type 0} → Option (List ℕ) → (List ℕ → Fault → Type 0) → Result V RunFault → Type 0
+TellsDefectsOf None IsOne result = ⊤
+TellsDefectsOf (Some file) IsOne result = TellsDefects (IsOne file) result
 
 -- the table that a fault names is four ASCII bytes
 abbrev pub HasAsciiTable : RunFault → Type 0

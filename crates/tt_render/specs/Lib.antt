@@ -1,5 +1,10 @@
 pub mod Defects
+pub mod Face
 pub mod MapLines
 pub mod Outcome
+pub mod Outlines
+pub mod Picture
+pub mod Pixels
 pub mod Reading
 pub mod Report
+pub mod Views

@@ -1,11 +1,14 @@
 -- What `map` writes: for each character its code point, its glyph and the glyph's advance in font units.
-use Rattle.std.specs.Prelude.{ℕ, ◌-◌, List, ◌++◌, length, replicate, flat_map, true, chars, codes, decimal, Result, Ok, ◌≡◌, refl}
+use Rattle.std.specs.Prelude.{ℕ, ◌-◌, List, ◌++◌, length, replicate, flat_map, true, chars, codes, decimal, nat_lt, if◌then◌else◌, Result, Ok, Err, ◌≡◌, refl}
 use Rattle.std.specs.Fmt.{digits}
 use Rattle.tt_core.specs.declared.fault.Fault.{Fault}
-use Rattle.tt_core.specs.Directory.{directory_of, needed_table}
+use Rattle.tt_core.specs.declared.fault.JobFault.TheVariants.{TextLong}
 use Rattle.tt_core.specs.Outcomes.{◌>>=◌}
-use Rattle.tt_cmap.specs.Lookup.{Lookup, lookup_of, glyph_of}
-use Rattle.tt_metrics.specs.Metrics.{Fields, metrics_of, glyphs_of, advance_of}
+use Rattle.tt_cmap.specs.Lookup.{Lookup, glyph_of}
+use Rattle.tt_metrics.specs.Metrics.{Fields, advance_of}
+use Rattle.tt_render.specs.declared.characters.TheConstants.{TEXT_LIMIT}
+use Rattle.tt_render.specs.Face.{face_of}
+use Rattle.tt_render.specs.Outcome.{Refused, job, as_font, of_font}
 
 -- digits behind as many zeros as make them four
 abbrev pub at_least_four : List ℕ → List ℕ
@@ -26,18 +29,15 @@ map_line m lookup c = line_text c (glyph_of lookup c) (advance_of m (glyph_of lo
 abbrev pub map_lines : Fields → Lookup → List ℕ → List ℕ
 map_lines m lookup text = flat_map (map_line m lookup) (chars text)
 
--- 'cmap'
-abbrev pub cmap_tag : List ℕ
-cmap_tag = codes "cmap"
-
 -- the lines by the tables of a file, or the file's first fault in the order in which they are read
 unfoldable pub lines_of : List ℕ → List ℕ → Result (List ℕ) Fault
-lines_of file text = do
-  directory ← directory_of file
-  m ← metrics_of directory
-  table ← needed_table directory cmap_tag
-  lookup ← lookup_of table (glyphs_of m)
-  Ok (map_lines m lookup text)
+lines_of file text = face_of file >>= λ face. Ok (map_lines face.metrics face.lookup text)
+
+-- what is to be written for a text and a font file, or why nothing is: the text is tested first, then the file's size
+unfoldable pub map_outcome : List ℕ → List ℕ → Result (List ℕ) Refused
+map_outcome text file =
+    if nat_lt TEXT_LIMIT (length (chars text)) then Err (job TextLong)
+    else of_font (λ file. as_font (lines_of file text)) file
 
 -- worked values
 a_letter : line_text 65 1 256 ≡ codes "U+0041 1 256\n"

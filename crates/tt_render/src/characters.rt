@@ -1,16 +1,18 @@
 //! Each character's glyph and advance, as lines.
 
-ghost use Rattle.std.specs.Prelude.{◌≡◌, ◌≤◌, ◌++◌, false, length, string_bytes, IfOk, IfErr, OnOk};
+ghost use Rattle.std.specs.Prelude.{◌≡◌, ◌<◌, ◌≤◌, ◌++◌, false, nat_lt, length, chars, string_bytes, IfOk, IfErr, OnOk};
 ghost use Rattle.tt_metrics.specs.Metrics.{glyphs_of};
-ghost use Rattle.tt_render.specs.Defects.{TellsDefects, TellsDefectsOf, HasAsciiTable};
-ghost use Rattle.tt_render.specs.MapLines.{line_text, map_lines};
-ghost use Rattle.tt_render.specs.Outcome.{LinesGive, TextGives, MapGives};
+ghost use Rattle.tt_core.specs.declared.fault.JobFault.TheVariants.{TextLong};
+ghost use Rattle.tt_render.specs.Defects.{IsFaceDefect, TellsDefects, TellsDefectsOf, HasAsciiTable};
+ghost use Rattle.tt_render.specs.MapLines.{line_text, lines_of, map_lines, map_outcome};
+ghost use Rattle.tt_render.specs.Outcome.{CallGives, IfJob, MakingGives, TextGives, as_font};
 
+use crate::face::open_face;
 use crate::fault::RunFault;
 use crate::reading::read_font;
 use std::alloc::{AllocError, Global};
 use tt_cmap::Cmap;
-use tt_core::{Dir, FONT_LIMIT, JobFault, Sink, Source};
+use tt_core::{FONT_LIMIT, JobFault, Sink, Source};
 use tt_metrics::Metrics;
 use tt_pbm::write_all_of;
 
@@ -31,15 +33,16 @@ pub fn map<R: Source, W: Sink>(
 ) -> Result<(), RunFault>
     requires font { R.has_failed font.old ≡ false }
     requires out { W.has_failed out.old ≡ false }
-    ensures outcome { MapGives result (record {
+    ensures outcome { CallGives result (record {
       left_before = R.left font.old;
       left_after = R.left font.new;
       read_failed = R.has_failed font.new;
       out_before = W.written out.old;
       out_after = W.written out.new;
       write_failed = W.has_failed out.new;
-    }) text.now }
-    ensures defects { TellsDefectsOf (R.left font.old) result }
+    }) (map_outcome text.now) }
+    ensures defects { TellsDefectsOf (R.left font.old) IsFaceDefect result }
+    ensures text { IfJob result (λ j. (j ≡ TextLong) × (TEXT_LIMIT < length (chars text.now))) }
     ensures ascii { IfErr result HasAsciiTable }
 {
     test_text(text)?;
@@ -53,24 +56,29 @@ pub fn map<R: Source, W: Sink>(
 fn test_text(text: &str) -> Result<(), RunFault>
     ensures { TextGives result text.now }
 {
-    if text.chars().count() > TEXT_LIMIT {
+    if is_long(text) {
         return Err(RunFault::Job(JobFault::TextLong));
     }
     Ok(())
+}
+
+/// Whether a text has more characters than are taken.
+pub(crate) fn is_long(text: &str) -> bool
+    ensures { result ≡ nat_lt TEXT_LIMIT (length (chars text.now)) }
+{
+    text.chars().count() > TEXT_LIMIT
 }
 
 /// The lines by the tables of a font file.
 #[tactic(auto, unfolding(crate::specs::MapLines::lines_of))]
 fn lines_by(alloc: Global, file: &[u8], text: &str) -> Result<String, RunFault>
     requires { length file.now ≤ FONT_LIMIT }
-    ensures exact { LinesGive string_bytes result file.now text.now }
-    ensures defects { TellsDefects file.now result }
+    ensures exact { MakingGives string_bytes result (as_font (lines_of file.now text.now)) }
+    ensures defects { TellsDefects (IsFaceDefect file.now) result }
     ensures ascii { IfErr result HasAsciiTable }
 {
-    let dir = Dir::open(file)?;
-    let metrics = Metrics::open(&dir)?;
-    let cmap = Cmap::open(dir.needed(*b"cmap")?, metrics.glyphs())?;
-    Ok(lines(alloc, &metrics, &cmap, text)?)
+    let face = open_face(file)?;
+    Ok(lines(alloc, &face.metrics, &face.cmap, text)?)
 }
 
 fn lines(alloc: Global, metrics: &Metrics, cmap: &Cmap, text: &str) -> Result<String, AllocError>

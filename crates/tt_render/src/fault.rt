@@ -1,14 +1,17 @@
 //! Why a call ends without its work done.
 
 ghost use Rattle.std.specs.Prelude.{◌≡◌};
-ghost use Rattle.tt_render.specs.declared.fault.RunFault.TheVariants.{Font, Memory, Write};
+ghost use Rattle.tt_render.specs.declared.fault.RunFault.TheVariants.{Font, Job, Memory, Write};
+ghost use Rattle.tt_render.specs.Views.{of_fit_fault, of_line_fault};
 
 use std::alloc::{AllocError, AllocFailed};
 use thiserror::Error;
 use tt_core::{Fault, JobFault};
+use tt_fit::FitFault;
+use tt_line::LineFault;
 use tt_pbm::Cut;
 
-/// Why `map` ends without its work done.
+/// Why `run` or `map` ends without its work done.
 #[derive(Clone, Copy, Debug, PartialEq, Eq, Error)]
 pub enum RunFault {
     /// The font has this defect; nothing was written.
@@ -36,6 +39,36 @@ impl From<Fault> for RunFault {
 
     fn from(fault: Fault) -> RunFault {
         RunFault::Font(fault)
+    }
+}
+
+impl From<JobFault> for RunFault {
+    ghost from_gives = { λ j e. e ≡ Job j };
+
+    fn from(fault: JobFault) -> RunFault {
+        RunFault::Job(fault)
+    }
+}
+
+impl From<LineFault> for RunFault {
+    ghost from_gives = { λ f e. e ≡ of_line_fault f };
+
+    fn from(fault: LineFault) -> RunFault {
+        match fault {
+            LineFault::Job(fault) => RunFault::Job(fault),
+            LineFault::Memory => RunFault::Memory,
+        }
+    }
+}
+
+impl From<FitFault> for RunFault {
+    ghost from_gives = { λ f e. e ≡ of_fit_fault f };
+
+    fn from(fault: FitFault) -> RunFault {
+        match fault {
+            FitFault::Font(fault) => RunFault::Font(fault),
+            FitFault::Memory => RunFault::Memory,
+        }
     }
 }
 

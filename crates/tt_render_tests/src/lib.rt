@@ -6,6 +6,8 @@
 mod device_tests;
 mod devices;
 #[cfg(test)]
+mod fit_tests;
+#[cfg(test)]
 mod line_tests;
 #[cfg(test)]
 mod map_tests;

@@ -2,11 +2,11 @@ use Rattle.std.proofs.Common.{◌≡◌, ℕ, List, Ok, inl, inr, sym, subst}
 use Rattle.tt_core.specs.Directory.{IsDefectIn, OnOk-HasNo-IsDefectIn}
 use Rattle.tt_cmap.specs.Defects.{IsBadCmap}
 use Rattle.tt_metrics.specs.Metrics.{IsMetricsDefect}
-use Rattle.tt_render.specs.MapLines.{cmap_tag}
-use Rattle.tt_render.proofs.characters.lines_by.Goals as goal
+use Rattle.tt_render.specs.Face.{cmap_tag}
+use Rattle.tt_render.proofs.face.open_face.Goals as goal
 
-pub returns-clause-defects : goal.returns-clause-defects
-returns-clause-defects c =
+pub returns-clause-sound : goal.returns-clause-sound
+returns-clause-sound c =
     let dir : c.in_ok-dir.dir ≡ c.args.file.now = c.in_ok-dir.ensures.whole in
     let there = c.in_ok-needed in
     λ fault defect. elim defect [

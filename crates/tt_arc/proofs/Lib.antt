@@ -1,0 +1,4 @@
+pub mod Contours
+pub mod Eighths
+mod Few
+pub mod Walks

@@ -1,0 +1,53 @@
+//! The edges of an outline, put on a tape.
+
+ghost use Rattle.std.specs.Prelude.{◌≡◌, ◌*◌, ◌≤◌, ◌++◌, length, map, All, IfOk, OnOk};
+ghost use Rattle.tt_fit.specs.Outline.{AreEnds};
+ghost use Rattle.tt_scan.specs.Winding.{FrameFits};
+ghost use Rattle.tt_arc.specs.Chords.{IsNear, moved, contours_edges, chord_edges};
+
+use crate::contour::push_contour;
+use crate::dot::Shift;
+use std::alloc::{AllocError, Global};
+use tt_fit::Outline;
+use tt_scan::{Frame, Tape};
+
+/// Adds the edges of all contours. Each end is one past its contour's last point.
+fn push_contours(
+    tape: &mut Tape,
+    points: &[(i32, i32, bool)],
+    ends: &[u32],
+    by: Shift,
+) -> Result<(), AllocError>
+    requires ends { AreEnds (length points.now) ends.now }
+    requires near { All (IsNear by.dx by.dy) points.now }
+    ensures exact { OnOk result (tape.new ≡ record tape.old { edges = tape.old.edges ++ contours_edges 0 ends.now (map (moved by.dx by.dy) points.now) }) }
+{
+    let mut from = 0;
+    for end in ends {
+        let to = *end as usize;
+        push_contour(tape, &points[from..to], by)?;
+        from = to;
+    }
+    Ok(())
+}
+
+/// The edges of an outline that is moved by `dx` and `dy`, in 26.6: the straight lines of its closed
+/// contours, and each curve as eight chords (profile). A contour of one point has none. Apple TrueType
+/// Reference Manual, "Digitizing Letterform Designs". Error: memory ran out.
+pub fn chords(
+    alloc: Global,
+    outline: &Outline,
+    dx: i64,
+    dy: i64,
+    frame: Frame,
+) -> Result<Tape, AllocError>
+    requires frame { FrameFits frame }
+    requires ends { AreEnds (length outline.now.points.items) outline.now.ends.items }
+    requires near { All (IsNear dx dy) outline.now.points.items }
+    ensures exact { IfOk result (λ t. t ≡ record { frame = frame; edges = chord_edges outline.now.points.items outline.now.ends.items dx dy; crosses = 0 }) }
+    ensures few { IfOk result (λ t. length t.edges ≤ 8 * length outline.now.points.items) }
+{
+    let mut tape = Tape::new(alloc, frame);
+    push_contours(&mut tape, &outline.points, &outline.ends, Shift { dx, dy })?;
+    Ok(tape)
+}

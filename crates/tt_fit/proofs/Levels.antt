@@ -1,0 +1,15 @@
+-- One level of components.
+use Rattle.std.proofs.Common.{◌≡◌, ℕ, zero, suc, ◌-◌, ◌<◌, refl, arith}
+use Rattle.tt_core.specs.Outcomes.{◌>>=◌}
+use Rattle.tt_glyf.specs.declared.raw.Record.{Record}
+use Rattle.tt_fit.specs.Components.{placed}
+use Rattle.tt_fit.specs.Fitting.{Setting, size_of, added, outline_at}
+use Rattle.tt_fit.specs.Outline.{Shape}
+
+-- where a level is left, a record adds its component's outline
+pub one_level : (s : Setting) (levels : ℕ) (r : Record) (o : Shape) → 0 < levels → added s levels r o ≡ (outline_at s (levels - 1) r.glyph >>= λ component. placed (size_of s) r component o)
+unfolding added
+one_level s zero r o some = absurd (omega arith)
+one_level s (suc levels) r o some =
+    let fewer : suc levels - 1 ≡ levels = omega arith in
+    rw fewer refl

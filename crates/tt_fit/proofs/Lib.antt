@@ -1,0 +1,4 @@
+pub mod Contours
+pub mod Levels
+pub mod Lists
+pub mod Outlines

@@ -1,0 +1,13 @@
+use Rattle.std.proofs.Common.{◌≡◌, ◌+◌, length, drop, All}
+use Rattle.tt_fit.specs.Components.{placed_point}
+use Rattle.tt_fit.specs.Outline.{IsPoint}
+use Rattle.tt_fit.specs.Scaling.{after_each}
+use Rattle.tt_fit.specs.Views.{shift_view}
+use Rattle.tt_fit.proofs.joining.push_placed.Given as goal
+
+abbrev pub invariant-loop-point : goal.invariant-loop-point
+invariant-loop-point l = record {
+  so_far : after_each (placed_point l.part (shift_view l.by)) (drop l.point-index l.component) l.points.items ≡ after_each (placed_point l.part (shift_view l.by)) l.component l.fn.points.items;
+  many : length l.points.items ≡ length l.fn.points.items + l.point-index;
+  coordinates : All IsPoint l.points.items;
+}

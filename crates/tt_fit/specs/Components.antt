@@ -1,0 +1,132 @@
+-- OpenType, "The 'glyf' table", "Composite Glyph Description": a component is transformed, moved by an offset or by
+-- what matches two points, and joined with what is assembled so far.
+use Rattle.std.specs.Prelude.{◌≡◌, ℕ, ◌+◌, ◌*◌, ◌/◌, Bool, true, false, nat_lt, if◌then◌else◌, ℤ, pos, negsuc, neg_ℤ, unsigned_abs, int_lt, ◌+ℤ◌, ◌-ℤ◌, ◌*ℤ◌, List, [], ◌∷◌, ◌++◌, length, map, Option, Some, None, Result, Ok, Err, refl}
+use Rattle.std.specs.List.{slice_get}
+use Rattle.tt_core.specs.declared.fault.Fault.{Fault}
+use Rattle.tt_core.specs.declared.fault.Why.TheVariants as why
+use Rattle.tt_core.specs.Numbers.{rounded_quotient}
+use Rattle.tt_core.specs.Outcomes.{◌>>=◌}
+use Rattle.tt_glyf.specs.Composite.{args_are_xy_values}
+use Rattle.tt_glyf.specs.declared.raw.Record.{Record}
+use Rattle.tt_glyf.specs.Flags.{has}
+use Rattle.tt_fit.specs.Outline.{Shape}
+use Rattle.tt_fit.specs.Scaling.{Size, scale, glyf_fault, settled, each}
+
+abbrev pub round_xy_to_grid : ℕ
+round_xy_to_grid = 0x4
+
+abbrev pub use_my_metrics : ℕ
+use_my_metrics = 0x200
+
+-- a distance in 26.6 to whole pixels: the magnitude and half a pixel cut down to a multiple of 64, the sign put back
+abbrev pub grid_magnitude : ℕ → ℕ
+grid_magnitude n = 64 * ((n + 32) / 64)
+
+abbrev pub to_grid : ℤ → ℤ
+to_grid v = if int_lt v (pos 0) then neg_ℤ (pos (grid_magnitude (unsigned_abs v))) else pos (grid_magnitude (unsigned_abs v))
+
+-- a point's position under a component's transform, whose numbers are 2.14
+abbrev pub transformed : Record → ℤ × ℤ × Bool → ℤ × ℤ
+transformed r p = (rounded_quotient (r.xx *ℤ p.0 +ℤ r.xy *ℤ p.1) (pos 16384), rounded_quotient (r.yx *ℤ p.0 +ℤ r.yy *ℤ p.1) (pos 16384))
+
+-- an argument as an offset, rounded where the record says so
+abbrev pub offset_along : Size → Record → ℤ → ℤ
+offset_along z r v = if has r.flags round_xy_to_grid then to_grid (scale z v) else scale z v
+
+abbrev pub offset_of : Size → Record → ℤ × ℤ
+offset_of z r = (offset_along z r r.arg1, offset_along z r r.arg2)
+
+-- the point of a number, if there is one
+abbrev pub point_of : List (ℤ × ℤ × Bool) → ℤ → Option (ℤ × ℤ × Bool)
+point_of ps (pos n) = slice_get ps n
+point_of ps (negsuc n) = None
+
+-- what takes a component's point, transformed, onto another point
+abbrev pub onto : Record → ℤ × ℤ × Bool → ℤ × ℤ × Bool → ℤ × ℤ
+onto r p q = (q.0 -ℤ (transformed r p).0, q.1 -ℤ (transformed r p).1)
+
+-- what takes the component's point onto the point that is assembled so far; both have to exist
+abbrev pub matched_by : Record → Option (ℤ × ℤ × Bool) → Option (ℤ × ℤ × Bool) → Result (ℤ × ℤ) Fault
+matched_by r (Some p) (Some q) = Ok (onto r p q)
+matched_by r (Some p) None = Err (glyf_fault r.at why.MatchPoint)
+matched_by r None q = Err (glyf_fault r.at why.MatchPoint)
+
+-- how far a component is moved: its points, then those that are assembled so far
+unfoldable pub shift_of : Size → Record → List (ℤ × ℤ × Bool) → List (ℤ × ℤ × Bool) → Result (ℤ × ℤ) Fault
+shift_of z r component points =
+    if has r.flags args_are_xy_values then Ok (offset_of z r)
+    else matched_by r (point_of component r.arg2) (point_of points r.arg1)
+
+abbrev pub landed : Record → ℤ × ℤ → ℤ × ℤ × Bool → ℤ × ℤ × Bool
+landed r by p = ((transformed r p).0 +ℤ by.0, (transformed r p).1 +ℤ by.1, p.2)
+
+-- a point of a component in its place
+abbrev pub placed_point : Record → ℤ × ℤ → ℤ × ℤ × Bool → Result (ℤ × ℤ × Bool) Fault
+placed_point r by p = settled r.at (landed r by p)
+
+-- no more points than a glyph may have (profile)
+unfoldable pub within_point_limit : ℕ → List (ℤ × ℤ × Bool) → Result (List (ℤ × ℤ × Bool)) Fault
+within_point_limit at points = if nat_lt 16384 (length points) then Err (glyf_fault at why.PointLimit) else Ok points
+
+-- the last of the records that use a component's metrics counts (profile)
+abbrev pub phantom_with : Record → Shape → Shape → List (ℤ × ℤ)
+phantom_with r component o = if has r.flags use_my_metrics then component.phantom else o.phantom
+
+-- so many points before them, the contours end so much later
+abbrev pub ends_after : ℕ → List ℕ → List ℕ
+ends_after points ends = map (λ e. points + e) ends
+
+-- a component placed behind what is assembled so far
+unfoldable pub placed : Size → Record → Shape → Shape → Result Shape Fault
+placed z r component o = do
+  by ← shift_of z r component.points o.points
+  landed ← each (placed_point r by) component.points
+  points ← within_point_limit r.at (o.points ++ landed)
+  Ok (record { points = points; ends = o.ends ++ ends_after (length o.points) component.ends; phantom = phantom_with r component o })
+
+-- worked values: 256 units in an em, at 16 pixels
+its_size : Size
+its_size = record { ppem = 16; units_per_em = 256 }
+
+-- moved by 10 and -10 units without a transform
+moved : ℕ → Record
+moved flags = record { at = 32; flags = flags; glyph = 1; arg1 = pos 10; arg2 = neg_ℤ (pos 10); xx = pos 16384; yx = pos 0; xy = pos 0; yy = pos 16384 }
+
+half_a_pixel_goes_outward : to_grid (pos 32) ≡ pos 64
+half_a_pixel_goes_outward = refl
+
+minus_half_a_pixel_goes_outward : to_grid (neg_ℤ (pos 32)) ≡ neg_ℤ (pos 64)
+minus_half_a_pixel_goes_outward = refl
+
+an_offset : offset_of its_size (moved 0x2) ≡ (pos 40, neg_ℤ (pos 40))
+unfolding its_size moved
+an_offset = refl
+
+a_rounded_offset : offset_of its_size (moved 0x6) ≡ (pos 64, neg_ℤ (pos 64))
+unfolding its_size moved
+a_rounded_offset = refl
+
+-- turned by a quarter: x' = -y and y' = x; flagged for offsets, or its point 1 onto point 0
+turned : ℕ → Record
+turned flags = record { at = 32; flags = flags; glyph = 1; arg1 = pos 0; arg2 = pos 1; xx = pos 0; yx = pos 16384; xy = neg_ℤ (pos 16384); yy = pos 0 }
+
+a_quarter_turn : transformed (turned 0x2) (pos 100, pos 7, true) ≡ (neg_ℤ (pos 7), pos 100)
+unfolding turned
+a_quarter_turn = refl
+
+two_points : List (ℤ × ℤ × Bool)
+two_points = (pos 1, pos 2, true) ∷ (pos 100, pos 7, false) ∷ []
+
+shape_of : List (ℤ × ℤ × Bool) → ℤ → Shape
+shape_of points advance = record { points = points; ends = length points ∷ []; phantom = (pos 0, pos 0) ∷ (advance, pos 0) ∷ (pos 0, pos 64) ∷ (pos 0, pos 0) ∷ [] }
+
+-- point 1 lands where point 0 of what is assembled so far is
+a_matched_component : placed its_size (turned 0x200) (shape_of two_points (pos 5)) (shape_of ((pos 1000, pos 2000, true) ∷ []) (pos 9))
+    ≡ Ok (record { points = (pos 1000, pos 2000, true) ∷ (pos 1005, pos 1901, true) ∷ (pos 1000, pos 2000, false) ∷ []; ends = 1 ∷ 3 ∷ []; phantom = (pos 0, pos 0) ∷ (pos 5, pos 0) ∷ (pos 0, pos 64) ∷ (pos 0, pos 0) ∷ [] })
+unfolding its_size turned two_points shape_of placed shift_of settled within_point_limit
+a_matched_component = refl
+
+-- no point 0 is assembled yet
+an_unmatched_component : placed its_size (turned 0) (shape_of two_points (pos 5)) (shape_of [] (pos 9)) ≡ Err (glyf_fault 32 why.MatchPoint)
+unfolding its_size turned two_points shape_of placed shift_of settled within_point_limit
+an_unmatched_component = refl

@@ -1,0 +1,139 @@
+-- OpenType, "The 'glyf' table": the outline of a glyph at a size, its components made first, one record after the other.
+use Rattle.std.specs.Prelude.{◌≡◌, ℕ, zero, suc, ◌≤◌, true, ℤ, pos, neg_ℤ, ◌+ℤ◌, codes, List, [], ◌∷◌, Result, Ok, Err, refl}
+use Rattle.tt_core.specs.declared.fault.Fault.{Fault}
+use Rattle.tt_core.specs.declared.fault.Why.TheVariants as why
+use Rattle.tt_core.specs.Faults.{fault_at}
+use Rattle.tt_core.specs.Outcomes.{◌>>=◌}
+use Rattle.tt_glyf.specs.Bytes.{byte_in, word_in, signed_in, slice_in}
+use Rattle.tt_glyf.specs.Composite.{transform_at, argument_at, arguments_at, unscaled, known_glyph, record_at, record_limit, records_from, program_of, composite_of}
+use Rattle.tt_glyf.specs.Coordinates.{delta_at, within_words, coordinate_at, coordinates_from}
+use Rattle.tt_glyf.specs.declared.raw.Record.{Record}
+use Rattle.tt_glyf.specs.Flags.{run_at, flags_from}
+use Rattle.tt_glyf.specs.GlyphData.{glyph_data_of, header_of, described}
+use Rattle.tt_glyf.specs.Loca.{GlyphTables, glyph_offset, glyph_bytes_of}
+use Rattle.tt_glyf.specs.Simple.{end_at, ends_from, point_limit, points_within, points_of, simple_of}
+use Rattle.tt_metrics.specs.declared.head.LocaFormat.TheVariants.{Short}
+use Rattle.tt_glyf.specs.Raw.{GlyphData, empty, simple, composite}
+use Rattle.tt_metrics.specs.Metrics.{Fields, units_per_em_of, loca_format_of, glyphs_of}
+use Rattle.tt_fit.specs.Components.{placed, shift_of, within_point_limit}
+use Rattle.tt_fit.specs.Outline.{Shape}
+use Rattle.tt_fit.specs.Programs.{Hints, unhinted, GlyphProgram, finished}
+use Rattle.tt_fit.specs.Scaling.{Size, glyf_fault, phantom_points, blank, scaled_outline, settled}
+
+-- what outlines are made from: the glyph data and the metrics of a font, the pixels per em, and what its programs leave
+pub record Setting : Type 0 where
+  pub tables : GlyphTables
+  pub metrics : Fields
+  pub ppem : ℕ
+  pub hints : Hints
+
+-- the glyph data is that of the metrics, and the size is one that is supported
+pub record IsSetting (s : Setting) : Type 0 where
+  pub format : s.tables.format ≡ loca_format_of s.metrics
+  pub glyphs : s.tables.glyphs ≡ glyphs_of s.metrics
+  pub low : 1 ≤ s.ppem
+  pub high : s.ppem ≤ 300
+
+-- the same, but for what the programs leave
+abbrev pub hinted_by : Setting → Hints → Setting
+hinted_by s hints = record s { hints = hints }
+
+abbrev pub size_of : Setting → Size
+size_of s = record { ppem = s.ppem; units_per_em = units_per_em_of s.metrics }
+
+-- a glyph without points, whose outline in font units begins at this x
+abbrev pub start : Setting → ℤ → ℕ → Result Shape Fault
+start s x_min g = blank (glyph_offset s.tables g) (phantom_points (size_of s) s.metrics x_min g)
+
+-- each record in order, by what a record adds to the outline so far
+abbrev pub joined : (Record → Shape → Result Shape Fault) → List Record → Shape → Result Shape Fault
+joined add [] o = Ok o
+joined add (r ∷ rs) o = add r o >>= joined add rs
+
+abbrev pub glyph_program : Setting → ℕ → List ℕ → ℕ → GlyphProgram
+glyph_program s g code code_at = record { code = code; code_at = code_at; glyph_at = glyph_offset s.tables g }
+
+-- the outline of a glyph, by what a record adds to the outline so far
+abbrev pub made : Setting → (Record → Shape → Result Shape Fault) → ℕ → GlyphData → Result Shape Fault
+made s add g empty = start s (pos 0) g
+made s add g (simple d) = start s d.x_min g >>= scaled_outline (size_of s) (glyph_offset s.tables g) d.points d.ends >>= finished s.hints (glyph_program s g d.code d.code_at)
+made s add g (composite d) = start s d.x_min g >>= joined add d.records >>= finished s.hints (glyph_program s g d.code d.code_at)
+
+abbrev pub outline_by : Setting → (Record → Shape → Result Shape Fault) → ℕ → Result Shape Fault
+outline_by s add g = glyph_data_of s.tables g >>= made s add g
+
+-- what a record adds where so many levels of components are left: its component's own outline, placed
+unfoldable pub added : Setting → ℕ → Record → Shape → Result Shape Fault
+added s zero r o = Err (glyf_fault r.at why.ComponentDepth)
+added s (suc levels) r o = outline_by s (added s levels) r.glyph >>= λ component. placed (size_of s) r component o
+
+-- the outline of a glyph, where so many levels of components are left
+abbrev pub outline_at : Setting → ℕ → ℕ → Result Shape Fault
+outline_at s levels g = outline_by s (added s levels) g
+
+-- how deep components may be nested (profile)
+abbrev pub component_levels : ℕ
+component_levels = 4
+
+-- the outline of a character's glyph, or the fault that comes first
+unfoldable pub fitted_outline : Setting → ℕ → Result Shape Fault
+fitted_outline s g = outline_at s component_levels g
+
+-- worked values: three glyphs at 16 pixels, 256 units in an em, each 256 wide; the bearing of glyph 1 alone is 64
+abbrev its_metrics : Fields
+its_metrics = record {
+  head = record { units_per_em = 256; loca_format = Short };
+  maxp = record { glyphs = 3; twilight = 0; storage = 0 };
+  hhea = record { ascent = pos 256; descent = neg_ℤ (pos 64); long_metrics = 1 };
+  hmtx = 1 ∷ 0 ∷ 0 ∷ 0 ∷ 0 ∷ 64 ∷ 0 ∷ 0 ∷ [];
+}
+
+-- glyph 0 is empty, glyph 1 a square of four points, (64,0), (64,128), (192,128), (192,0), and glyph 2 is behind it
+abbrev its_setting : List ℕ → Setting
+its_setting third = record {
+  tables = record {
+    loca = 0 ∷ 0 ∷ 0 ∷ 0 ∷ 0 ∷ 11 ∷ 0 ∷ 22 ∷ [];
+    glyf = 0 ∷ 1 ∷ 0 ∷ 64 ∷ 0 ∷ 0 ∷ 0 ∷ 192 ∷ 0 ∷ 128 ∷ 0 ∷ 3 ∷ 0 ∷ 0 ∷ 0x33 ∷ 0x35 ∷ 0x33 ∷ 0x15 ∷ 0x40 ∷ 0x80 ∷ 0x80 ∷ 0x80 ∷ third;
+    format = Short;
+    glyphs = 3;
+  };
+  metrics = its_metrics;
+  ppem = 16;
+  hints = unhinted;
+}
+
+abbrev its_phantom_points : ℤ → List (ℤ × ℤ)
+its_phantom_points left = (left, pos 0) ∷ (left +ℤ pos 1024, pos 0) ∷ (pos 0, pos 1024) ∷ (pos 0, neg_ℤ (pos 256)) ∷ []
+
+empty_is_blank : fitted_outline (its_setting []) 0 ≡ Ok (record { points = []; ends = []; phantom = its_phantom_points (pos 0) })
+unfolding fitted_outline glyph_data_of blank
+empty_is_blank = refl
+
+square_is_scaled : fitted_outline (its_setting []) 1 ≡ Ok (record {
+  points = (pos 256, pos 0, true) ∷ (pos 256, pos 512, true) ∷ (pos 768, pos 512, true) ∷ (pos 768, pos 0, true) ∷ [];
+  ends = 4 ∷ [];
+  phantom = its_phantom_points (pos 0);
+})
+unfolding fitted_outline glyph_data_of glyph_bytes_of header_of described simple_of ends_from end_at points_within point_limit points_of flags_from run_at coordinates_from coordinate_at within_words delta_at byte_in word_in signed_in slice_in blank scaled_outline settled
+square_is_scaled = refl
+
+-- two components of glyph 1, the second moved by 64 to the right; the second gives its metrics
+abbrev two_squares : List ℕ
+two_squares = 255 ∷ 255 ∷ 0 ∷ 64 ∷ 0 ∷ 0 ∷ 1 ∷ 0 ∷ 0 ∷ 128 ∷ 0 ∷ 0x22 ∷ 0 ∷ 1 ∷ 0 ∷ 0 ∷ 2 ∷ 2 ∷ 0 ∷ 1 ∷ 64 ∷ 0 ∷ []
+
+squares_are_joined : fitted_outline (its_setting two_squares) 2 ≡ Ok (record {
+  points = (pos 256, pos 0, true) ∷ (pos 256, pos 512, true) ∷ (pos 768, pos 512, true) ∷ (pos 768, pos 0, true)
+      ∷ (pos 512, pos 0, true) ∷ (pos 512, pos 512, true) ∷ (pos 1024, pos 512, true) ∷ (pos 1024, pos 0, true) ∷ [];
+  ends = 4 ∷ 8 ∷ [];
+  phantom = its_phantom_points (pos 0);
+})
+unfolding fitted_outline added placed shift_of within_point_limit glyph_data_of glyph_bytes_of header_of described composite_of records_from record_limit record_at known_glyph arguments_at argument_at transform_at unscaled program_of simple_of ends_from end_at points_within point_limit points_of flags_from run_at coordinates_from coordinate_at within_words delta_at byte_in word_in signed_in slice_in blank scaled_outline settled
+squares_are_joined = refl
+
+-- one component, which is the glyph itself
+abbrev itself : List ℕ
+itself = 255 ∷ 255 ∷ 0 ∷ 64 ∷ 0 ∷ 0 ∷ 1 ∷ 0 ∷ 0 ∷ 128 ∷ 0 ∷ 2 ∷ 0 ∷ 2 ∷ 0 ∷ 0 ∷ []
+
+itself_is_too_deep : fitted_outline (its_setting itself) 2 ≡ Err (fault_at (codes "glyf") 32 why.ComponentDepth)
+unfolding fitted_outline added glyph_data_of glyph_bytes_of header_of described composite_of records_from record_limit record_at known_glyph arguments_at argument_at transform_at unscaled program_of byte_in word_in signed_in slice_in blank
+itself_is_too_deep = refl

@@ -1,0 +1,8 @@
+pub mod Components
+pub mod Fitting
+pub mod Outline
+pub mod Preparation
+pub mod Programs
+pub mod Reading
+pub mod Scaling
+pub mod Views

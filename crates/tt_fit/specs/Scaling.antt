@@ -1,0 +1,97 @@
+-- Apple TrueType Reference Manual, "Digitizing Letterform Designs" and "Instructing TrueType Glyphs": points from font
+-- units to 26.6 pixels, and the phantom points.
+use Rattle.std.specs.Prelude.{◌≡◌, ℕ, ◌+◌, Bool, true, ◌&&◌, nat_le, if◌then◌else◌, ℤ, pos, neg_ℤ, unsigned_abs, ◌+ℤ◌, ◌-ℤ◌, List, [], ◌∷◌, ◌++◌, map, codes, Result, Ok, Err, refl}
+use Rattle.std.specs.List.{list_all}
+use Rattle.tt_core.specs.declared.fault.Fault.{Fault}
+use Rattle.tt_core.specs.declared.fault.Why.{Why}
+use Rattle.tt_core.specs.declared.fault.Why.TheVariants as why
+use Rattle.tt_core.specs.Faults.{fault_at}
+use Rattle.tt_core.specs.Numbers.{scaled}
+use Rattle.tt_core.specs.Outcomes.{◌>>=◌}
+use Rattle.tt_glyf.specs.Bytes.{glyf_tag}
+use Rattle.tt_glyf.specs.declared.raw.RawPoint.{RawPoint}
+use Rattle.tt_metrics.specs.Metrics.{Fields, ascent_of, descent_of, advance_of, left_side_bearing_of}
+use Rattle.tt_fit.specs.Outline.{Shape}
+
+-- pixels per em, and font units in an em
+pub record Size : Type 0 where
+  pub ppem : ℕ
+  pub units_per_em : ℕ
+
+-- font units as 26.6 pixels
+abbrev pub scale : Size → ℤ → ℤ
+scale z v = scaled v z.ppem z.units_per_em
+
+-- the most that a coordinate may be in magnitude, in 26.6 pixels (profile)
+abbrev pub is_coordinate : ℤ → Bool
+is_coordinate v = nat_le (unsigned_abs v) 2097151
+
+-- a fault at an offset in glyf
+abbrev pub glyf_fault : ℕ → Why → Fault
+glyf_fault at why = fault_at glyf_tag at why
+
+-- a coordinate leaves the limit
+abbrev pub coordinate_fault : ℕ → Fault
+coordinate_fault at = glyf_fault at why.CoordRange
+
+-- a point whose coordinates are within the limit
+unfoldable pub settled : ℕ → ℤ × ℤ × Bool → Result (ℤ × ℤ × Bool) Fault
+settled at p = if is_coordinate p.0 && is_coordinate p.1 then Ok p else Err (coordinate_fault at)
+
+-- what is made of each element, or the first fault
+abbrev pub each : {A B : Type 0} → (A → Result B Fault) → List A → Result (List B) Fault
+each make [] = Ok []
+each make (x ∷ xs) = make x >>= λ y. each make xs >>= λ ys. Ok (y ∷ ys)
+
+-- the same behind elements that are there
+abbrev pub after_each : {A B : Type 0} → (A → Result B Fault) → List A → List B → Result (List B) Fault
+after_each make xs before = each make xs >>= λ ys. Ok (before ++ ys)
+
+abbrev pub scaled_position : Size → RawPoint → ℤ × ℤ × Bool
+scaled_position z p = (scale z p.x, scale z p.y, p.on)
+
+-- a point of a glyph that begins at this offset in glyf
+abbrev pub scaled_point : Size → ℕ → RawPoint → Result (ℤ × ℤ × Bool) Fault
+scaled_point z at p = settled at (scaled_position z p)
+
+-- the left and right ends of the advance, the ascent and the descent; each number is scaled as one (profile for the
+-- last two)
+abbrev pub phantom_points : Size → Fields → ℤ → ℕ → List (ℤ × ℤ)
+phantom_points z m x_min g =
+    (scale z (x_min -ℤ left_side_bearing_of m g), pos 0)
+    ∷ (scale z (x_min -ℤ left_side_bearing_of m g +ℤ pos (advance_of m g)), pos 0)
+    ∷ (pos 0, scale z (ascent_of m))
+    ∷ (pos 0, scale z (descent_of m)) ∷ []
+
+abbrev pub are_coordinates : List (ℤ × ℤ) → Bool
+are_coordinates ps = list_all (λ p. is_coordinate p.0 && is_coordinate p.1) ps
+
+-- an outline without points, of a glyph that begins at this offset in glyf, with these phantom points
+unfoldable pub blank : ℕ → List (ℤ × ℤ) → Result Shape Fault
+blank at phantom = if are_coordinates phantom then Ok (record { points = []; ends = []; phantom = phantom }) else Err (coordinate_fault at)
+
+-- an outline with these points; each contour's last point is given
+unfoldable pub scaled_outline : Size → ℕ → List RawPoint → List ℕ → Shape → Result Shape Fault
+scaled_outline z at points ends o = each (scaled_point z at) points >>= λ ps. Ok (record o { points = ps; ends = map (λ e. e + 1) ends })
+
+-- worked values: 256 units in an em, at 16 pixels
+its_size : Size
+its_size = record { ppem = 16; units_per_em = 256 }
+
+a_scaled_point : scaled_point its_size 0 (record { x = pos 64; y = neg_ℤ (pos 128); on = true }) ≡ Ok (pos 256, neg_ℤ (pos 512), true)
+unfolding its_size settled
+a_scaled_point = refl
+
+-- 16 units in an em, at 300 pixels: one em is 19200
+a_scaled_point_at_the_limit : scaled_point (record { ppem = 300; units_per_em = 16 }) 22 (record { x = pos 1747; y = pos 0; on = true }) ≡ Ok (pos 2096400, pos 0, true)
+unfolding settled
+a_scaled_point_at_the_limit = refl
+
+a_scaled_point_past_the_limit : scaled_point (record { ppem = 300; units_per_em = 16 }) 22 (record { x = pos 0; y = pos 1748; on = true }) ≡ Err (fault_at (codes "glyf") 22 why.CoordRange)
+unfolding settled
+a_scaled_point_past_the_limit = refl
+
+-- the first fault stops the list
+a_list_with_a_fault : each (settled 22) ((pos 1, pos 2, true) ∷ (pos 2097151, neg_ℤ (pos 2097152), true) ∷ []) ≡ Err (coordinate_fault 22)
+unfolding settled
+a_list_with_a_fault = refl

@@ -1,0 +1,157 @@
+//! Where a component's points come to be. OpenType, "The 'glyf' table", "Composite Glyph Description".
+
+ghost use Rattle.std.specs.Prelude.{◌≡◌, ◌<◌, ◌≤◌, ◌^◌, pos, ◌+ℤ◌, ◌*ℤ◌, unsigned_abs, IsTrue, IfOk, IfErr};
+ghost use Rattle.tt_core.specs.Directory.{is_ascii};
+ghost use Rattle.tt_core.specs.Numbers.{rounded_quotient};
+ghost use Rattle.tt_core.specs.Outcomes.{Gives};
+ghost use Rattle.tt_fit.specs.Components.{to_grid, transformed, offset_along, offset_of, point_of, onto, matched_by, shift_of, landed, placed_point};
+ghost use Rattle.tt_fit.specs.Outline.{IsPoint};
+ghost use Rattle.tt_fit.specs.Views.{size_view, landing_view, position_view, shift_view};
+
+use crate::places::{Position, Shift};
+use crate::scaling::{Landing, glyf_fault, settled};
+use crate::size::Size;
+use tt_core::{Fault, Why, rq};
+use tt_glyf::{ComponentFlags, Record};
+
+/// One, in a transform.
+const ONE: i64 = 16384;
+
+/// A row of a transform: what it takes of x and of y.
+#[derive(Clone, Copy)]
+struct Row {
+    x: i16,
+    y: i16,
+}
+
+fn times(factor: i16, v: i32) -> i64
+    ensures exact { result ≡ factor *ℤ v }
+    ensures bound { unsigned_abs result ≤ 2 ^ 46 }
+{
+    i64::from(factor) * i64::from(v)
+}
+
+fn blend(row: Row, point: (i32, i32, bool)) -> i64
+    ensures exact { result ≡ rounded_quotient (row.x *ℤ point.0 +ℤ row.y *ℤ point.1) (pos 16384) }
+    ensures bound { unsigned_abs result ≤ 2 ^ 47 }
+{
+    rq(times(row.x, point.0) + times(row.y, point.1), ONE)
+}
+
+/// A point's position under a component's transform.
+fn transformed(part: Record, point: (i32, i32, bool)) -> Position
+    ensures { position_view result ≡ transformed part point }
+{
+    let row_x = Row {
+        x: part.xx,
+        y: part.xy,
+    };
+    let row_y = Row {
+        x: part.yx,
+        y: part.yy,
+    };
+    Position {
+        x: blend(row_x, point),
+        y: blend(row_y, point),
+    }
+}
+
+/// The nearest whole pixel.
+fn to_grid(v: i64) -> i64
+    requires { unsigned_abs v < 2 ^ 46 }
+    ensures exact { result ≡ to_grid v }
+    ensures bound { unsigned_abs result < 2 ^ 47 }
+{
+    let magnitude = (v.unsigned_abs() + 32) / 64 * 64;
+    if v < 0 {
+        -(magnitude as i64)
+    } else {
+        magnitude as i64
+    }
+}
+
+/// An argument as an offset.
+fn offset_along(size: Size, part: Record, v: i32) -> i64
+    ensures exact { result ≡ offset_along (size_view size) part v }
+    ensures bound { unsigned_abs result < 2 ^ 47 }
+{
+    let offset = size.scaled(v);
+    if part.has(ComponentFlags::ROUND_XY_TO_GRID) {
+        to_grid(offset)
+    } else {
+        offset
+    }
+}
+
+fn offset_of(size: Size, part: Record) -> Shift
+    ensures { shift_view result ≡ offset_of (size_view size) part }
+{
+    Shift {
+        x: offset_along(size, part, part.arg1),
+        y: offset_along(size, part, part.arg2),
+    }
+}
+
+fn point_of(points: &[(i32, i32, bool)], number: i32) -> Option<(i32, i32, bool)>
+    ensures { result ≡ point_of points.now number }
+{
+    match usize::try_from(number) {
+        Ok(i) => points.get(i).copied(),
+        Err(_) => None,
+    }
+}
+
+/// What takes a component's point onto another.
+fn onto(part: Record, point: (i32, i32, bool), target: (i32, i32, bool)) -> Shift
+    ensures { shift_view result ≡ onto part point target }
+{
+    let from = transformed(part, point);
+    Shift {
+        x: i64::from(target.0) - from.x,
+        y: i64::from(target.1) - from.y,
+    }
+}
+
+/// How far a component is moved, where these points are assembled so far. Error: MatchPoint.
+#[tactic(auto, unfolding(crate::specs::Components::shift_of))]
+pub(crate) fn shift_of(
+    size: Size,
+    part: Record,
+    component: &[(i32, i32, bool)],
+    points: &[(i32, i32, bool)],
+) -> Result<Shift, Fault>
+    ensures exact { Gives shift_view result (shift_of (size_view size) part component.now points.now) }
+    ensures ascii { IfErr result (λ f. IsTrue (is_ascii f.table)) }
+{
+    if part.has(ComponentFlags::ARGS_ARE_XY_VALUES) {
+        return Ok(offset_of(size, part));
+    }
+    match (point_of(component, part.arg2), point_of(points, part.arg1)) {
+        (Some(point), Some(target)) => Ok(onto(part, point, target)),
+        _ => Err(glyf_fault(part.at, Why::MatchPoint)),
+    }
+}
+
+fn landed(part: Record, by: Shift, point: (i32, i32, bool)) -> Landing
+    ensures { landing_view result ≡ landed part (shift_view by) point }
+{
+    let to = transformed(part, point);
+    Landing {
+        x: to.x + by.x,
+        y: to.y + by.y,
+        on: point.2,
+    }
+}
+
+/// A point of a component in its place. Error: CoordRange, at the record.
+pub(crate) fn placed_point(
+    part: Record,
+    by: Shift,
+    point: (i32, i32, bool),
+) -> Result<(i32, i32, bool), Fault>
+    ensures exact { Gives (λ p. p) result (placed_point part (shift_view by) point) }
+    ensures within { IfOk result IsPoint }
+    ensures ascii { IfErr result (λ f. IsTrue (is_ascii f.table)) }
+{
+    settled(part.at, landed(part, by, point))
+}

@@ -1,0 +1,221 @@
+//! The outlines of a font at a size.
+
+ghost use Rattle.std.specs.Prelude.{◌≡◌, ◌<◌, ◌≤◌, IsTrue, IfOk, IfErr, length, All};
+ghost use Rattle.tt_core.specs.Directory.{is_ascii};
+ghost use Rattle.tt_core.specs.Outcomes.{Gives};
+ghost use Rattle.tt_glyf.specs.Loca.{glyph_offset};
+ghost use Rattle.tt_metrics.specs.Metrics.{loca_format_of, glyphs_of};
+ghost use Rattle.tt_fit.specs.Components.{placed};
+ghost use Rattle.tt_fit.specs.Fitting.{IsSetting, hinted_by, size_of, start, glyph_program, joined, added, outline_at, fitted_outline};
+ghost use Rattle.tt_fit.specs.Outline.{outline_of, IsPoint, IsPhantom, AreEnds, IsOutline};
+ghost use Rattle.tt_fit.specs.Preparation.{program_tables, setting_of};
+ghost use Rattle.tt_fit.specs.Reading.{FitGives, IfFont};
+ghost use Rattle.tt_fit.specs.Views.{hints_of, size_view, program_view};
+
+use crate::fault::FitFault;
+use crate::hints::{Hints, Program, finished};
+use crate::joining::placed;
+use crate::outline::Outline;
+use crate::programs::{Fit, Programs};
+use crate::scaling::{blank, glyf_fault, phantom_points, scaled_outline};
+use crate::size::Size;
+use std::alloc::Global;
+use std::marker::Model;
+use tt_core::{Fault, Why};
+use tt_glyf::{Glyf, Raw, Record};
+use tt_metrics::Metrics;
+
+/// How deep components may be nested (profile).
+const COMPONENT_LEVELS: u32 = 4;
+
+/// Makes the outlines of a font at a size. A clause sees it as the glyph data, the metrics, the size,
+/// and what the font's programs left.
+#[derive(Drop)]
+pub struct Fitter<'a> {
+    alloc: Global,
+    metrics: Metrics<'a>,
+    glyf: Glyf<'a>,
+    ppem: u32,
+    hints: Hints,
+}
+
+impl<'a> Model for Fitter<'a> {
+    ghost use Rattle.tt_fit.specs.Fitting.{Setting, IsSetting};
+    ghost use Rattle.tt_fit.specs.Views.{hints_of};
+
+    ghost Value = { Setting };
+
+    ghost view = { λ f. record { tables = f.glyf; metrics = f.metrics; ppem = f.ppem; hints = hints_of f.hints } };
+
+    ghost invariant = { λ f. IsSetting (record { tables = f.glyf; metrics = f.metrics; ppem = f.ppem; hints = hints_of f.hints }) };
+}
+
+impl<'a> Fitter<'a> {
+    /// Takes the metrics and the glyph data of a font, and its programs, which are not looked at with
+    /// `Fit::None`. Error: Memory.
+    #[tactic(auto, unfolding(crate::specs::Preparation::setting_of))]
+    pub fn new(
+        alloc: Global,
+        metrics: &Metrics<'a>,
+        glyf: Glyf<'a>,
+        programs: Programs<'a>,
+        ppem: u32,
+        fit: Fit,
+    ) -> Result<Fitter<'a>, FitFault>
+        requires low { 1 ≤ ppem }
+        requires high { ppem ≤ 300 }
+        requires format { glyf.format ≡ loca_format_of metrics.now }
+        requires glyphs { glyf.glyphs ≡ glyphs_of metrics.now }
+        ensures exact { FitGives (λ f. f) result (setting_of metrics.now glyf.entry (program_tables programs.entry) ppem fit) }
+        ensures setting { IfOk result IsSetting }
+        ensures tables { IfOk result (λ f. f.tables ≡ glyf.entry) }
+        ensures metrics { IfOk result (λ f. f.metrics ≡ metrics.now) }
+        ensures ppem { IfOk result (λ f. f.ppem ≡ ppem) }
+        ensures ascii { IfFont result (λ f. IsTrue (is_ascii f.table)) }
+    {
+        let hints = match fit {
+            Fit::None => Hints::Off,
+        };
+        Ok(Fitter {
+            alloc,
+            metrics: metrics.copy(),
+            glyf,
+            ppem,
+            hints,
+        })
+    }
+
+    /// The outline of a glyph, in 26.6 pixels. Errors: those of reading a glyph, CoordRange,
+    /// ComponentDepth, MatchPoint, PointLimit, Memory.
+    #[tactic(auto, unfolding(crate::specs::Fitting::fitted_outline))]
+    pub fn fitted(&self, g: u16) -> Result<Outline, FitFault>
+        requires { g < self.now.tables.glyphs }
+        ensures exact { FitGives outline_of result (fitted_outline self.now g) }
+        ensures few { IfOk result (λ o. length o.points.items ≤ 16384) }
+        ensures coordinates { IfOk result (λ o. All IsPoint o.points.items) }
+        ensures phantom { IfOk result (λ o. All IsPhantom o.phantom) }
+        ensures ends { IfOk result (λ o. AreEnds (length o.points.items) o.ends.items) }
+        ensures outline { IfOk result (λ o. IsOutline (outline_of o)) }
+        ensures ascii { IfFont result (λ f. IsTrue (is_ascii f.table)) }
+    {
+        self.outline(&self.hints, COMPONENT_LEVELS, g)
+    }
+
+    fn size(&self) -> Size
+        ensures { size_view result ≡ size_of self.now }
+    {
+        Size {
+            ppem: self.ppem,
+            units_per_em: self.metrics.units_per_em(),
+        }
+    }
+
+    /// An outline without points. Error: CoordRange.
+    fn start(&self, x_min: i16, g: u16) -> Result<Outline, Fault>
+        requires { g < self.now.tables.glyphs }
+        ensures exact { Gives outline_of result (start self.now x_min g) }
+        ensures sound { IfOk result (λ o. IsOutline (outline_of o)) }
+        ensures ascii { IfErr result (λ f. IsTrue (is_ascii f.table)) }
+    {
+        let phantom = phantom_points(self.size(), &self.metrics, x_min, g);
+        blank(self.alloc, self.glyf.start(g), phantom)
+    }
+
+    fn program<'b>(&self, g: u16, code: &'b [u8], code_at: u32) -> Program<'b>
+        requires { g < self.now.tables.glyphs }
+        ensures { program_view result ≡ glyph_program self.now g code.now code_at }
+    {
+        Program {
+            code,
+            code_at,
+            glyph_at: self.glyf.start(g),
+        }
+    }
+
+    /// The outline of a glyph, where so many levels of components are left.
+    #[cycle(fitting)]
+    fn outline(&self, hints: &Hints, levels: u32, g: u16) -> Result<Outline, FitFault>
+        requires { g < self.now.tables.glyphs }
+        ensures exact { FitGives outline_of result (outline_at (hinted_by self.now (hints_of hints.now)) levels g) }
+        ensures sound { IfOk result (λ o. IsOutline (outline_of o)) }
+        ensures ascii { IfFont result (λ f. IsTrue (is_ascii f.table)) }
+    {
+        match self.glyf.read(self.alloc, g)? {
+            Raw::Empty => Ok(self.start(0, g)?),
+            Raw::Simple {
+                x_min,
+                points,
+                ends,
+                code,
+                code_at,
+            } => {
+                let start = self.start(x_min, g)?;
+                let at = self.glyf.start(g);
+                let scaled = scaled_outline(
+                    self.alloc,
+                    self.size(),
+                    at,
+                    points.as_slice(),
+                    ends.as_slice(),
+                    start,
+                )?;
+                finished(self.alloc, hints, self.program(g, code, code_at), scaled)
+            }
+            Raw::Composite {
+                x_min,
+                records,
+                code,
+                code_at,
+            } => {
+                let start = self.start(x_min, g)?;
+                let joined = self.joined(hints, levels, records.as_slice(), start)?;
+                finished(self.alloc, hints, self.program(g, code, code_at), joined)
+            }
+        }
+    }
+
+    /// Each record in order, added to the outline so far.
+    #[cycle(fitting)]
+    fn joined(
+        &self,
+        hints: &Hints,
+        levels: u32,
+        records: &[Record],
+        start: Outline,
+    ) -> Result<Outline, FitFault>
+        requires known { All (λ r. r.glyph < self.now.tables.glyphs) records.now }
+        requires start { IsOutline (outline_of start) }
+        ensures exact { FitGives outline_of result (joined (added (hinted_by self.now (hints_of hints.now)) levels) records.now (outline_of start)) }
+        ensures sound { IfOk result (λ o. IsOutline (outline_of o)) }
+        ensures ascii { IfFont result (λ f. IsTrue (is_ascii f.table)) }
+    {
+        let mut so_far = start;
+        for part in records {
+            so_far = self.added(hints, levels, *part, so_far)?;
+        }
+        Ok(so_far)
+    }
+
+    /// One record: its component's own outline is made, placed, and given up.
+    #[cycle(fitting)]
+    #[tactic(auto, using(crate::proofs::Levels::one_level), unfolding(crate::specs::Fitting::added))]
+    fn added(
+        &self,
+        hints: &Hints,
+        levels: u32,
+        part: Record,
+        so_far: Outline,
+    ) -> Result<Outline, FitFault>
+        requires known { part.glyph < self.now.tables.glyphs }
+        requires so_far { IsOutline (outline_of so_far) }
+        ensures exact { FitGives outline_of result (added (hinted_by self.now (hints_of hints.now)) levels part (outline_of so_far)) }
+        ensures sound { IfOk result (λ o. IsOutline (outline_of o)) }
+        ensures ascii { IfFont result (λ f. IsTrue (is_ascii f.table)) }
+    {
+        if levels == 0 {
+            return Err(FitFault::Font(glyf_fault(part.at, Why::ComponentDepth)));
+        }
+        let component = self.outline(hints, levels - 1, part.glyph)?;
+        placed(self.size(), part, &component, so_far)
+    }
+}

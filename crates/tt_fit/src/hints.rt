@@ -1,0 +1,46 @@
+//! Where a font's programs come into an outline. Apple TrueType Reference Manual, "Instructing TrueType Glyphs".
+
+ghost use Rattle.std.specs.Prelude.{IsTrue, IfOk};
+ghost use Rattle.tt_core.specs.Directory.{is_ascii};
+ghost use Rattle.tt_fit.specs.Outline.{outline_of, IsOutline};
+ghost use Rattle.tt_fit.specs.Programs.{finished};
+ghost use Rattle.tt_fit.specs.Reading.{FitGives, IfFont};
+ghost use Rattle.tt_fit.specs.Views.{hints_of, program_view};
+
+use crate::fault::FitFault;
+use crate::outline::Outline;
+use std::alloc::Global;
+
+/// What the font program and the control value program left to the glyphs.
+#[derive(Drop)]
+pub(crate) enum Hints {
+    /// No program is run.
+    Off,
+}
+
+/// A glyph's program.
+#[derive(Clone, Copy)]
+pub(crate) struct Program<'a> {
+    pub(crate) code: &'a [u8],
+    /// Its offset in glyf.
+    pub(crate) code_at: u32,
+    /// The offset of the glyph's first byte in glyf.
+    pub(crate) glyph_at: u32,
+}
+
+/// The outline that a glyph's program leaves, of scaled points or of joined components.
+pub(crate) fn finished(
+    alloc: Global,
+    hints: &Hints,
+    program: Program,
+    outline: Outline,
+) -> Result<Outline, FitFault>
+    requires { IsOutline (outline_of outline) }
+    ensures exact { FitGives outline_of result (finished (hints_of hints.now) (program_view program.entry) (outline_of outline)) }
+    ensures sound { IfOk result (λ o. IsOutline (outline_of o)) }
+    ensures ascii { IfFont result (λ f. IsTrue (is_ascii f.table)) }
+{
+    match hints {
+        Hints::Off => Ok(outline),
+    }
+}

@@ -1,0 +1,18 @@
+//! Outlines of glyphs at a size: scaled, and composites assembled from their components.
+#![tactic(auto)]
+
+mod component;
+mod fault;
+mod fitter;
+mod hints;
+mod joining;
+mod outline;
+mod places;
+mod programs;
+mod scaling;
+mod size;
+
+pub use fault::FitFault;
+pub use fitter::Fitter;
+pub use outline::Outline;
+pub use programs::{Fit, Programs};

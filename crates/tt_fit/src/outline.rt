@@ -1,0 +1,12 @@
+//! The outline of a glyph at a size.
+
+/// An outline, in 26.6 pixels.
+#[derive(Drop)]
+pub struct Outline {
+    /// x, y, and whether the point is on the curve; contour after contour.
+    pub points: Vec<(i32, i32, bool)>,
+    /// For each contour the number one past its last point.
+    pub ends: Vec<u32>,
+    /// The left and right ends of the advance, the ascent and the descent.
+    pub phantom: [(i32, i32); 4],
+}

@@ -1,0 +1,19 @@
+//! The tables of a font's programs, and whether they are run.
+
+/// How outlines are fitted to the grid.
+#[derive(Clone, Copy, Debug, PartialEq, Eq)]
+pub enum Fit {
+    /// Not at all: no program is run, and points are scaled only.
+    None,
+}
+
+/// The tables with a font's programs, each empty where the font has none.
+#[derive(Clone, Copy)]
+pub struct Programs<'a> {
+    /// The control values.
+    pub cvt: &'a [u8],
+    /// The font program.
+    pub fpgm: &'a [u8],
+    /// The control value program.
+    pub prep: &'a [u8],
+}

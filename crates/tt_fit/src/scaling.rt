@@ -1,0 +1,223 @@
+//! From font units to 26.6 pixels, and the phantom points. Apple TrueType Reference Manual, "Digitizing Letterform
+//! Designs" and "Instructing TrueType Glyphs".
+
+ghost use Rattle.std.specs.Prelude.{◌≡◌, ◌+◌, ◌<◌, ◌≤◌, ◌^◌, false, true, pos, ◌+ℤ◌, ◌-ℤ◌, length, map, unsigned_abs, MatchOption, All, IsTrue, IfOk, IfErr, OnOk, OnErr};
+ghost use Rattle.tt_core.specs.Directory.{is_ascii};
+ghost use Rattle.tt_core.specs.Outcomes.{Gives};
+ghost use Rattle.tt_metrics.specs.Metrics.{glyphs_of, advance_of, left_side_bearing_of};
+ghost use Rattle.tt_glyf.specs.Meaning.{AreEnds as EndContours};
+ghost use Rattle.tt_fit.specs.Outline.{Shape, outline_of, IsCoordinate, IsPoint, AreEnds, IsOutline};
+ghost use Rattle.tt_fit.specs.Reading.{FitGives, IfFont};
+ghost use Rattle.tt_fit.specs.Scaling.{scale, is_coordinate, glyf_fault, coordinate_fault, settled, each, scaled_position, scaled_point, phantom_points, blank, scaled_outline};
+ghost use Rattle.tt_fit.specs.Views.{size_view, landing_view, phantom_view};
+
+use crate::fault::FitFault;
+use crate::outline::Outline;
+use crate::size::Size;
+use std::alloc::{AllocError, Global};
+use tt_core::{Fault, Why, scale};
+use tt_glyf::RawPoint;
+use tt_metrics::Metrics;
+
+const GLYF: [u8; 4] = *b"glyf";
+
+/// The most that a coordinate may be in magnitude, in 26.6 pixels (profile).
+const COORDINATE_LIMIT: i64 = 2_097_151;
+
+/// A fault at an offset in glyf.
+pub(crate) fn glyf_fault(at: u32, why: Why) -> Fault
+    ensures exact { result ≡ glyf_fault at why }
+    ensures ascii { IsTrue (is_ascii result.table) }
+{
+    Fault::new(GLYF, at, why)
+}
+
+impl Size {
+    /// A distance in font units as 26.6.
+    pub(crate) fn scaled(self, v: i32) -> i64
+        ensures exact { result ≡ scale (size_view self) v }
+        ensures bound { unsigned_abs result < 2 ^ 46 }
+    {
+        scale(v, self.ppem, self.units_per_em)
+    }
+}
+
+/// A coordinate in 26.6 pixels, where it is within the limit.
+fn within(v: i64) -> Option<i32>
+    ensures { MatchOption result (is_coordinate v ≡ false) (λ w. (w ≡ v) × (is_coordinate v ≡ true)) }
+{
+    if -COORDINATE_LIMIT <= v && v <= COORDINATE_LIMIT {
+        Some(v as i32)
+    } else {
+        None
+    }
+}
+
+/// Where a point comes to be, in 26.6 pixels, before it is known to be within the limit.
+#[derive(Clone, Copy)]
+pub(crate) struct Landing {
+    pub(crate) x: i64,
+    pub(crate) y: i64,
+    pub(crate) on: bool,
+}
+
+/// Error: CoordRange, at this offset in glyf.
+#[tactic(auto, unfolding(crate::specs::Scaling::settled))]
+pub(crate) fn settled(at: u32, landing: Landing) -> Result<(i32, i32, bool), Fault>
+    ensures exact { Gives (λ p. p) result (settled at (landing_view landing)) }
+    ensures within { IfOk result IsPoint }
+    ensures ascii { IfErr result (λ f. IsTrue (is_ascii f.table)) }
+{
+    match (within(landing.x), within(landing.y)) {
+        (Some(x), Some(y)) => Ok((x, y, landing.on)),
+        _ => Err(glyf_fault(at, Why::CoordRange)),
+    }
+}
+
+fn scaled_position(size: Size, point: RawPoint) -> Landing
+    ensures { landing_view result ≡ scaled_position (size_view size) point }
+{
+    Landing {
+        x: size.scaled(i32::from(point.x)),
+        y: size.scaled(i32::from(point.y)),
+        on: point.on,
+    }
+}
+
+/// Error: CoordRange.
+fn scaled_point(size: Size, at: u32, point: RawPoint) -> Result<(i32, i32, bool), Fault>
+    ensures exact { Gives (λ p. p) result (scaled_point (size_view size) at point) }
+    ensures within { IfOk result IsPoint }
+    ensures ascii { IfErr result (λ f. IsTrue (is_ascii f.table)) }
+{
+    settled(at, scaled_position(size, point))
+}
+
+/// Errors: CoordRange, Memory.
+#[tactic(auto, using(crate::proofs::Lists::points, crate::proofs::Lists::from_nothing))]
+fn scaled_points(
+    alloc: Global,
+    size: Size,
+    at: u32,
+    points: &[RawPoint],
+) -> Result<Vec<(i32, i32, bool)>, FitFault>
+    ensures exact { FitGives (λ v. v.items) result (each (scaled_point (size_view size) at) points.now) }
+    ensures many { IfOk result (λ v. length v.items ≡ length points.now) }
+    ensures coordinates { IfOk result (λ v. All IsPoint v.items) }
+    ensures ascii { IfFont result (λ f. IsTrue (is_ascii f.table)) }
+{
+    let mut scaled = Vec::new(alloc);
+    for point in points {
+        scaled.push(scaled_point(size, at, *point)?)?;
+    }
+    Ok(scaled)
+}
+
+/// The places one past the last point of each contour.
+fn contour_ends(alloc: Global, last_points: &[u16]) -> Result<Vec<u32>, AllocError>
+    ensures { IfOk result (λ v. v.items ≡ map (λ e. e + 1) last_points.now) }
+{
+    last_points.iter().map(|e| u32::from(*e) + 1).collect(alloc)
+}
+
+/// The phantom points' coordinates that are not 0, in 26.6 pixels.
+#[derive(Clone, Copy)]
+pub(crate) struct Phantom {
+    left: i64,
+    right: i64,
+    ascent: i64,
+    descent: i64,
+}
+
+/// The ends of a glyph's advance, in font units.
+#[derive(Clone, Copy)]
+struct Span {
+    left: i32,
+    right: i32,
+}
+
+fn span_of(metrics: &Metrics, x_min: i16, g: u16) -> Span
+    requires { g < glyphs_of metrics.now }
+    ensures left { result.left ≡ x_min -ℤ left_side_bearing_of metrics.now g }
+    ensures right { result.right ≡ x_min -ℤ left_side_bearing_of metrics.now g +ℤ pos (advance_of metrics.now g) }
+{
+    let left = i32::from(x_min) - i32::from(metrics.lsb(g));
+    Span {
+        left,
+        right: left + i32::from(metrics.advance(g)),
+    }
+}
+
+/// The phantom points of glyph `g`.
+pub(crate) fn phantom_points(size: Size, metrics: &Metrics, x_min: i16, g: u16) -> Phantom
+    requires { g < glyphs_of metrics.now }
+    ensures { phantom_view result ≡ phantom_points (size_view size) metrics.now x_min g }
+{
+    let span = span_of(metrics, x_min, g);
+    Phantom {
+        left: size.scaled(span.left),
+        right: size.scaled(span.right),
+        ascent: size.scaled(i32::from(metrics.ascent())),
+        descent: size.scaled(i32::from(metrics.descent())),
+    }
+}
+
+/// Error: CoordRange, at this offset in glyf.
+fn coordinate(at: u32, v: i64) -> Result<i32, Fault>
+    ensures value { IfOk result (λ w. w ≡ v) }
+    ensures within { IfOk result IsCoordinate }
+    ensures ok { OnOk result (is_coordinate v ≡ true) }
+    ensures refused { OnErr result (is_coordinate v ≡ false) }
+    ensures fault { IfErr result (λ f. f ≡ coordinate_fault at) }
+    ensures ascii { IfErr result (λ f. IsTrue (is_ascii f.table)) }
+{
+    match within(v) {
+        Some(w) => Ok(w),
+        None => Err(glyf_fault(at, Why::CoordRange)),
+    }
+}
+
+/// An outline without points. Error: CoordRange, at this offset in glyf.
+#[tactic(auto, unfolding(crate::specs::Scaling::blank))]
+pub(crate) fn blank(alloc: Global, at: u32, phantom: Phantom) -> Result<Outline, Fault>
+    ensures exact { Gives outline_of result (blank at (phantom_view phantom)) }
+    ensures sound { IfOk result (λ o. IsOutline (outline_of o)) }
+    ensures ascii { IfErr result (λ f. IsTrue (is_ascii f.table)) }
+{
+    let left = coordinate(at, phantom.left)?;
+    let right = coordinate(at, phantom.right)?;
+    let ascent = coordinate(at, phantom.ascent)?;
+    let descent = coordinate(at, phantom.descent)?;
+    Ok(Outline {
+        points: Vec::new(alloc),
+        ends: Vec::new(alloc),
+        phantom: [(left, 0), (right, 0), (0, ascent), (0, descent)],
+    })
+}
+
+/// The points of a simple glyph that begins at this offset in glyf. Errors: CoordRange, Memory.
+#[tactic(auto, unfolding(crate::specs::Scaling::scaled_outline))]
+pub(crate) fn scaled_outline(
+    alloc: Global,
+    size: Size,
+    at: u32,
+    points: &[RawPoint],
+    last_points: &[u16],
+    start: Outline,
+) -> Result<Outline, FitFault>
+    requires few { length points.now ≤ 16384 }
+    requires ends { EndContours (length points.now) last_points.now }
+    requires start { IsOutline (outline_of start) }
+    ensures exact { FitGives outline_of result (scaled_outline (size_view size) at points.now last_points.now (outline_of start)) }
+    ensures sound { IfOk result (λ o. IsOutline (outline_of o)) }
+    ensures ascii { IfFont result (λ f. IsTrue (is_ascii f.table)) }
+{
+    let points = scaled_points(alloc, size, at, points)?;
+    let ends = contour_ends(alloc, last_points)?;
+    let phantom = start.phantom;
+    Ok(Outline {
+        points,
+        ends,
+        phantom,
+    })
+}

@@ -1,0 +1,80 @@
+-- Glyphs that are drawn one after the other: where one fails, that glyph's fault is the answer.
+use Rattle.std.proofs.Common.{◌≡◌, ◌∙◌, ℕ, zero, suc, ◌<◌, List, [], ◌∷◌, length, map, get_or, slice_index, ℤ, pos, unsigned_abs, ◌≤◌, All, Result, Ok, Err, refl, arith, ap}
+use Rattle.std.proofs.lemmas.List.{get_or-map, length-map}
+use Rattle.tt_core.specs.declared.fault.Fault.{Fault}
+use Rattle.tt_core.specs.Directory.{HasNo}
+use Rattle.tt_core.specs.Outcomes.{◌>>=◌}
+use Rattle.tt_fit.specs.Fitting.{Setting, fitted_outline}
+use Rattle.tt_fit.specs.Outline.{Shape, IsPhantom}
+use Rattle.tt_scan.specs.declared.edge.Edge.{Edge}
+use Rattle.tt_render.specs.Defects.{IsGlyphDefect}
+use Rattle.tt_render.specs.Picture.{each, glyph_edges, edges_at}
+
+-- the first phantom point is within the limit, or there is none and it counts as 0
+pub origin_within : (ps : List (ℤ × ℤ)) → All IsPhantom ps → unsigned_abs (get_or ps 0 (pos 0, pos 0)).0 ≤ 2097151
+origin_within [] within = omega arith
+origin_within (p ∷ ps) within = (within 0 p (omega arith)).0
+
+-- a step that cannot fail failed because of the one before it
+failed_first : {A B E : Type 0} (r : Result A E) (k : A → B) (e : E) → (r >>= λ x. Ok (k x)) ≡ Err e → r ≡ Err e
+failed_first (Ok x) k e fails = absurd (cc)
+failed_first (Err d) k e fails = cc
+
+-- one of some values has this fault
+abbrev FailsAt : {A B E : Type 0} → (A → Result B E) → List A → A → E → Type 0
+FailsAt f xs d e = (i : ℕ) × (i < length xs) × (f (get_or xs i d) ≡ Err e)
+
+later : {A B E : Type 0} (f : A → Result B E) (x : A) (xs : List A) (d : A) (e : E) → FailsAt f xs d e → FailsAt f (x ∷ xs) d e
+later f x xs d e there = (suc there.0, omega (arith, there.1), there.2)
+
+rest_failed : {B E : Type 0} (y : B) (r : Result (List B) E) (e : E) → (r >>= λ ys. Ok (y ∷ ys)) ≡ Err e → r ≡ Err e
+rest_failed y (Ok ys) e fails = absurd (cc)
+rest_failed y (Err d) e fails = cc
+
+same_err : {B C E : Type 0} (why e : E) → ◌≡◌ {A = Result C E} (Err why) (Err e) → ◌≡◌ {A = Result B E} (Err why) (Err e)
+same_err why e same = cc
+
+first_or_later : {A B E : Type 0} (f : A → Result B E) (x : A) (xs : List A) (d : A) (e : E) (r : Result B E) → f x ≡ r → (each f xs ≡ Err e → FailsAt f xs d e) → (r >>= λ y. each f xs >>= λ ys. Ok (y ∷ ys)) ≡ Err e → FailsAt f (x ∷ xs) d e
+first_or_later f x xs d e (Ok y) is others fails = later f x xs d e (others (rest_failed y (each f xs) e fails))
+first_or_later f x xs d e (Err why) is others fails = (zero, omega arith, is ∙ same_err why e fails)
+
+each_failed : {A B E : Type 0} (f : A → Result B E) (xs : List A) (d : A) (e : E) → each f xs ≡ Err e → FailsAt f xs d e
+each_failed f [] d e fails = absurd (cc)
+each_failed f (x ∷ xs) d e fails = first_or_later f x xs d e (f x) refl (each_failed f xs d e) fails
+
+first_was : {A B E : Type 0} (f : A → Result B E) (x : A) (e : E) (next : B → Result (List B) E) → f x ≡ Err e → (f x >>= next) ≡ Err e
+first_was f x e next fails = rw fails refl
+
+rest_was : {B E : Type 0} (r : Result B E) (s : Result (List B) E) (ys : List B) → (r >>= λ y. s >>= λ zs. Ok (y ∷ zs)) ≡ Ok ys → (zs : List B) × (s ≡ Ok zs)
+rest_was (Ok y) (Ok zs) ys done = (zs, refl)
+rest_was (Ok y) (Err e) ys done = absurd (cc)
+rest_was (Err e) s ys done = absurd (cc)
+
+-- where all were made, none has a fault
+each_made : {A B E : Type 0} (f : A → Result B E) (xs : List A) (ys : List B) (d : A) (e : E) (i : ℕ) → each f xs ≡ Ok ys → i < length xs → f (get_or xs i d) ≡ Err e → ⊥
+each_made f [] ys d e i made below fails = absurd (omega arith)
+each_made f (x ∷ xs) ys d e zero made below fails = let whole = first_was f x e (λ y. each f xs >>= λ ys. Ok (y ∷ ys)) fails in absurd (cc)
+each_made f (x ∷ xs) ys d e (suc i) made below fails =
+    let rest = rest_was (f x) (each f xs) ys made in each_made f xs rest.0 d e i rest.1 (omega arith) fails
+
+-- a glyph whose edges cannot be had has no outline
+glyph_failed : (s : Setting) (g : ℕ × ℕ) (e : Fault) → glyph_edges s g ≡ Err e → fitted_outline s g.0 ≡ Err e
+glyph_failed s g e fails = failed_first (fitted_outline s g.0) (edges_at g.1) e fails
+
+number_at : (gs : List (ℕ × ℕ)) (i : ℕ) → slice_index (map (λ g. g.0) gs) i ≡ (get_or gs i (0, 0)).0
+number_at [] i = refl
+number_at (g ∷ gs) zero = refl
+number_at (g ∷ gs) (suc i) = number_at gs i
+
+pub defect_of_line : (s : Setting) (gs : List (ℕ × ℕ)) (e : Fault) → each (glyph_edges s) gs ≡ Err e → IsGlyphDefect s (map (λ g. g.0) gs) e
+defect_of_line s gs e fails =
+    let there = each_failed (glyph_edges s) gs (0, 0) e fails in
+    let many = length-map gs (λ (g : ℕ × ℕ). g.0) in
+    (there.0, omega (arith, there.1), rw (number_at gs there.0) (glyph_failed s (get_or gs there.0 (0, 0)) e there.2))
+
+pub no_defect_of_line : (s : Setting) (gs : List (ℕ × ℕ)) (tapes : List (List Edge)) → each (glyph_edges s) gs ≡ Ok tapes → HasNo (IsGlyphDefect s (map (λ g. g.0) gs))
+no_defect_of_line s gs tapes made = λ e there.
+    let many = length-map gs (λ (g : ℕ × ℕ). g.0) in
+    let below : there.0 < length gs = omega (arith, there.1) in
+    let fails : fitted_outline s (get_or gs there.0 (0, 0)).0 ≡ Err e = rw (number_at gs there.0) at there.2 in
+    each_made (glyph_edges s) gs tapes (0, 0) e there.0 made below (rw fails refl)

@@ -1,0 +1,113 @@
+-- The picture of a line of text: each glyph's outline moved to its pen, blackened by the scan converter's rules (OpenType,
+-- "TrueType Fundamentals"), written as format P4 of Netpbm's PBM. Margins and limits are profile.
+use Rattle.std.specs.Prelude.{◌≡◌, ℕ, ◌+◌, ◌*◌, ◌<◌, ◌≤◌, ◌||◌, nat_lt, if◌then◌else◌, ℤ, pos, neg_ℤ, ◌-ℤ◌, List, [], ◌∷◌, ◌++◌, length, get_or, chars, codes, Result, Ok, Err, refl}
+use Rattle.tt_arc.specs.Chords.{chord_edges}
+use Rattle.tt_core.specs.declared.fault.Fault.{Fault}
+use Rattle.tt_core.specs.declared.fault.JobFault.{JobFault}
+use Rattle.tt_core.specs.declared.fault.JobFault.TheVariants as fault
+use Rattle.tt_core.specs.Directory.{needed_table}
+use Rattle.tt_core.specs.Outcomes.{◌>>=◌}
+use Rattle.tt_fit.specs.declared.programs.Fit.{Fit}
+use Rattle.tt_fit.specs.Fitting.{Setting, fitted_outline}
+use Rattle.tt_fit.specs.Outline.{Shape}
+use Rattle.tt_fit.specs.Preparation.{ProgramTables, setting_of}
+use Rattle.tt_glyf.specs.Bytes.{glyf_tag}
+use Rattle.tt_glyf.specs.Loca.{GlyphTables, loca_tag, glyph_tables_of}
+use Rattle.tt_line.specs.Layout.{Placement, placement}
+use Rattle.tt_metrics.specs.Metrics.{Fields}
+use Rattle.tt_pbm.specs.P4.{p4}
+use Rattle.tt_scan.specs.declared.edge.Edge.{Edge}
+use Rattle.tt_scan.specs.declared.edge.Frame.{Frame}
+use Rattle.tt_render.specs.declared.characters.TheConstants.{TEXT_LIMIT}
+use Rattle.tt_render.specs.declared.job.Job.{Job}
+use Rattle.tt_render.specs.declared.job.TheConstants.{SIZE_LIMIT, MARGIN_LIMIT}
+use Rattle.tt_render.specs.Face.{Face, face_of}
+use Rattle.tt_render.specs.Outcome.{Refused, as_font, as_job, of_font}
+use Rattle.tt_render.specs.Pixels.{is_black_pixel}
+
+-- what is asked: a text, the pixels per em, the pixels round the line, and how outlines are fitted
+pub record Ask : Type 0 where
+  pub text : List ℕ
+  pub ppem : ℕ
+  pub margin : ℕ
+  pub fit : Fit
+
+abbrev pub ask_of : Job → Ask
+ask_of j = record { text = j.text.now; ppem = j.ppem; margin = j.margin; fit = j.fit }
+
+-- the limits of a job, in the order in which they are tested
+unfoldable pub tested : Ask → Result (Unit {0}) JobFault
+tested a =
+    if nat_lt a.ppem 1 || nat_lt SIZE_LIMIT a.ppem then Err fault.SizeRange
+    else (if nat_lt MARGIN_LIMIT a.margin then Err fault.MarginRange
+    else (if nat_lt TEXT_LIMIT (length (chars a.text)) then Err fault.TextLong else Ok tt))
+
+-- a job within its limits
+pub record IsAsked (a : Ask) : Type 0 where
+  pub low : 1 ≤ a.ppem
+  pub high : a.ppem ≤ SIZE_LIMIT
+  pub margin : a.margin ≤ MARGIN_LIMIT
+  pub text : length (chars a.text) ≤ TEXT_LIMIT
+
+-- the tables of a font's programs; without fitting they are not looked at
+abbrev pub no_programs : ProgramTables
+no_programs = record { cvt = []; fpgm = []; prep = [] }
+
+-- loca and glyf; a loca that is too short comes before a glyf that is not there
+unfoldable pub glyphs_in : List ℕ → Fields → Result GlyphTables Fault
+glyphs_in directory m = do
+  loca ← needed_table directory loca_tag
+  long_enough ← glyph_tables_of loca [] m
+  glyf ← needed_table directory glyf_tag
+  glyph_tables_of loca glyf m
+
+-- what the outlines are made from
+unfoldable pub setting_in : Face → Ask → Result Setting Fault
+setting_in face a = glyphs_in face.directory face.metrics >>= λ tables. setting_of face.metrics tables no_programs a.ppem a.fit
+
+-- the x of the first phantom point, which is to stand at the pen
+abbrev pub origin_of : Shape → ℤ
+origin_of o = (get_or o.phantom 0 (pos 0, pos 0)).0
+
+-- the edges of an outline at a pen; a pixel has 64 units
+abbrev pub edges_at : ℕ → Shape → List Edge
+edges_at pen o = chord_edges o.points o.ends (pos (64 * pen) -ℤ origin_of o) (pos 0)
+
+-- the edges of a glyph at its pen
+abbrev pub glyph_edges : Setting → ℕ × ℕ → Result (List Edge) Fault
+glyph_edges s g = fitted_outline s g.0 >>= λ o. Ok (edges_at g.1 o)
+
+-- f of each, or the first fault
+abbrev pub each : {A B E : Type 0} → (A → Result B E) → List A → Result (List B) E
+each f [] = Ok []
+each f (x ∷ xs) = f x >>= λ y. each f xs >>= λ ys. Ok (y ∷ ys)
+
+-- what is there already, and then f of each
+abbrev pub each_after : {A B E : Type 0} → (A → Result B E) → List A → List B → Result (List B) E
+each_after f xs out = each f xs >>= λ ys. Ok (out ++ ys)
+
+-- where the picture of a line stands
+abbrev pub frame_of : Placement → ℕ → Frame
+frame_of line margin = record { width = line.width; height = line.height; margin = margin; rise = line.rise }
+
+-- the file of a picture in which some glyphs' edges are drawn
+abbrev pub picture : Frame → List (List Edge) → List ℕ
+picture f glyphs = p4 f.width f.height (is_black_pixel f glyphs)
+
+-- the picture of a line that is laid out
+unfoldable pub drawn : Face → Ask → Placement → Result (List ℕ) Fault
+drawn face a line = do
+  s ← setting_in face a
+  glyphs ← each (glyph_edges s) line.glyphs
+  Ok (picture (frame_of line a.margin) glyphs)
+
+-- the picture of a text by a font, or the first refusal
+unfoldable pub pictured : Ask → List ℕ → Result (List ℕ) Refused
+pictured a file =
+    as_font (face_of file) >>= λ face.
+    as_job (placement face.metrics face.lookup a.text a.ppem a.margin) >>= λ line.
+    as_font (drawn face a line)
+
+-- what is to be written for a job and a font file, or why nothing is: the job is tested first, then the file's size
+unfoldable pub run_outcome : Ask → List ℕ → Result (List ℕ) Refused
+run_outcome a file = as_job (tested a) >>= λ u. of_font (pictured a) file

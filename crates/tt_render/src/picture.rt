@@ -1,0 +1,121 @@
+//! The picture of a line.
+
+ghost use Rattle.std.specs.Prelude.{◌≡◌, ◌<◌, ◌≤◌, ◌^◌, length, map, unsigned_abs, All, IsTrue, IfOk, IfErr, OnOk};
+ghost use Rattle.tt_core.specs.Directory.{is_ascii, HasNo};
+ghost use Rattle.tt_core.specs.Outcomes.{Gives};
+ghost use Rattle.tt_line.specs.Outcome.{placement_of};
+ghost use Rattle.tt_metrics.specs.Metrics.{loca_format_of, glyphs_of};
+ghost use Rattle.tt_render.specs.Defects.{IsGlyphTableDefect, IsSettingDefect, IsLineDefect, IsRunDefect, TellsDefects, HasAsciiTable};
+ghost use Rattle.tt_render.specs.Face.{face_view};
+ghost use Rattle.tt_render.specs.Outcome.{MakingGives, as_font};
+ghost use Rattle.tt_render.specs.Picture.{ask_of, drawn, pictured, setting_in, glyphs_in, IsAsked};
+ghost use Rattle.tt_render.specs.Views.{picture_bytes};
+
+use crate::bitmap::bitmap;
+use crate::drawing::tapes;
+use crate::face::{Face, open_face};
+use crate::fault::RunFault;
+use crate::job::Job;
+use std::alloc::Global;
+use tt_core::{FONT_LIMIT, Fault};
+use tt_fit::{Fitter, Programs};
+use tt_glyf::Glyf;
+use tt_line::{Line, lay};
+use tt_pbm::{Header, p4_header};
+use tt_scan::Frame;
+
+/// A picture that is ready to be written: its header, and its rows one behind the other.
+#[derive(Drop)]
+pub(crate) struct Picture {
+    pub(crate) header: Header,
+    pub(crate) rows: Vec<u8>,
+}
+
+/// loca and glyf. Errors: NoTable, TableRange, LocaShort.
+#[tactic(auto, unfolding(crate::specs::Picture::glyphs_in))]
+fn open_glyf<'a>(face: &Face<'a>) -> Result<Glyf<'a>, Fault>
+    ensures exact { Gives (λ t. t) result (glyphs_in face.now.dir face.now.metrics) }
+    ensures format { IfOk result (λ t. t.format ≡ loca_format_of face.now.metrics) }
+    ensures glyphs { IfOk result (λ t. t.glyphs ≡ glyphs_of face.now.metrics) }
+    ensures sound { OnOk result (HasNo (IsGlyphTableDefect face.now.dir face.now.metrics)) }
+    ensures fault { IfErr result (IsGlyphTableDefect face.now.dir face.now.metrics) }
+    ensures ascii { IfErr result (λ f. IsTrue (is_ascii f.table)) }
+{
+    let loca = face.dir.needed(*b"loca")?;
+    // A loca that is too short comes before a glyf that is not there.
+    Glyf::open(loca, &[], &face.metrics)?;
+    let glyf = face.dir.needed(*b"glyf")?;
+    Glyf::open(loca, glyf, &face.metrics)
+}
+
+/// What makes the outlines of a job. Errors: those of loca and glyf, Memory.
+#[tactic(auto, unfolding(crate::specs::Picture::setting_in))]
+fn open_fitter<'a>(alloc: Global, face: &Face<'a>, job: &Job) -> Result<Fitter<'a>, RunFault>
+    requires { IsAsked (ask_of job.now) }
+    ensures exact { MakingGives (λ f. f) result (as_font (setting_in (face_view face.now) (ask_of job.now))) }
+    ensures glyphs { IfOk result (λ f. f.tables.glyphs ≡ glyphs_of face.now.metrics) }
+    ensures defects { TellsDefects (IsSettingDefect (face_view face.now) (ask_of job.now)) result }
+    ensures ascii { IfErr result HasAsciiTable }
+{
+    let glyf = open_glyf(face)?;
+    let programs = Programs {
+        cvt: &[],
+        fpgm: &[],
+        prep: &[],
+    };
+    Ok(Fitter::new(alloc, &face.metrics, glyf, programs, job.ppem, job.fit)?)
+}
+
+/// The picture of a line that is laid out. Errors: those of loca and glyf, of the glyphs in the order of
+/// the line, Memory.
+#[tactic(auto, unfolding(crate::specs::Picture::drawn))]
+fn draw_line(alloc: Global, face: &Face, job: &Job, line: &Line) -> Result<Picture, RunFault>
+    requires asked { IsAsked (ask_of job.now) }
+    requires width { (1 ≤ line.now.width) × (line.now.width ≤ 16384) }
+    requires height { (1 ≤ line.now.height) × (line.now.height ≤ 4096) }
+    requires rise { unsigned_abs line.now.rise < 2 ^ 20 }
+    requires known { All (λ g. g.0 < glyphs_of face.now.metrics) line.now.glyphs.items }
+    requires pens { All (λ g. g.1 ≤ line.now.width) line.now.glyphs.items }
+    ensures exact { MakingGives picture_bytes result (as_font (drawn (face_view face.now) (ask_of job.now) (placement_of line.now))) }
+    ensures header { IfOk result (λ p. p.header.len ≤ 16) }
+    ensures defects { TellsDefects (IsLineDefect (face_view face.now) (ask_of job.now) (map (λ g. g.0) line.now.glyphs.items)) result }
+    ensures ascii { IfErr result HasAsciiTable }
+{
+    let fitter = open_fitter(alloc, face, job)?;
+    let frame = Frame {
+        width: line.width,
+        height: line.height,
+        margin: job.margin,
+        rise: line.rise,
+    };
+    let mut tapes = tapes(alloc, &fitter, &line.glyphs, frame)?;
+    let rows = bitmap(alloc, &mut tapes, frame)?;
+    Ok(Picture {
+        header: p4_header(frame.width, frame.height),
+        rows,
+    })
+}
+
+/// The picture of a job by a font file. Errors, the first of: those of the tables that every text is
+/// looked up in; EmptyPicture, PictureLarge; those of loca and glyf; those of the glyphs in the order of
+/// the text. Memory comes where a growth was refused.
+#[tactic(auto, unfolding(crate::specs::Picture::pictured))]
+pub(crate) fn draw(alloc: Global, file: &[u8], job: &Job) -> Result<Picture, RunFault>
+    requires size { length file.now ≤ FONT_LIMIT }
+    requires asked { IsAsked (ask_of job.now) }
+    ensures exact { MakingGives picture_bytes result (pictured (ask_of job.now) file.now) }
+    ensures header { IfOk result (λ p. p.header.len ≤ 16) }
+    ensures defects { TellsDefects (IsRunDefect (ask_of job.now) file.now) result }
+    ensures ascii { IfErr result HasAsciiTable }
+{
+    let face = open_face(file)?;
+    let line = lay(
+        alloc,
+        &face.metrics,
+        &face.cmap,
+        job.text,
+        job.ppem,
+        job.margin,
+    )?;
+    draw_line(alloc, &face, job, &line)
+}

@@ -1,0 +1,67 @@
+//! A line of text drawn, from a reader to a writer.
+
+ghost use Rattle.std.specs.Prelude.{◌≡◌, ◌<◌, ◌≤◌, false, is_err, length, take, IfErr, OnOk};
+ghost use Rattle.std.specs.Io.KnownBytes.{Appends};
+ghost use Rattle.tt_render.specs.Defects.{IsRunDefect, TellsDefectsOf, HasAsciiTable};
+ghost use Rattle.tt_render.specs.Outcome.{CallGives};
+ghost use Rattle.tt_render.specs.Picture.{ask_of, run_outcome};
+ghost use Rattle.tt_render.specs.Views.{picture_bytes};
+
+use crate::fault::RunFault;
+use crate::job::{Job, test_job};
+use crate::picture::{Picture, draw};
+use crate::reading::read_font;
+use std::alloc::Global;
+use tt_core::{Sink, Source};
+use tt_pbm::{Cut, write_all_of};
+
+/// Draws a line of text and writes its picture as binary PBM (P4): a pixel is black where its centre lies
+/// on, or inside, the outline of some glyph of the line. Nothing is written before the picture stands.
+///
+/// Errors, the first of: Job (SizeRange, MarginRange, TextLong), before the font is read; Read, FontLarge;
+/// Font and Job (EmptyPicture, PictureLarge), in the order in which the bytes are read, the picture's size
+/// being known once cmap is; Write. Memory comes where a growth was refused.
+pub fn run<R: Source, W: Sink>(
+    alloc: Global,
+    font: &mut R,
+    out: &mut W,
+    job: &Job,
+) -> Result<(), RunFault>
+    requires font { R.has_failed font.old ≡ false }
+    requires out { W.has_failed out.old ≡ false }
+    ensures outcome { CallGives result (record {
+      left_before = R.left font.old;
+      left_after = R.left font.new;
+      read_failed = R.has_failed font.new;
+      out_before = W.written out.old;
+      out_after = W.written out.new;
+      write_failed = W.has_failed out.new;
+    }) (run_outcome (ask_of job.now)) }
+    ensures defects { TellsDefectsOf (R.left font.old) (IsRunDefect (ask_of job.now)) result }
+    ensures ascii { IfErr result HasAsciiTable }
+{
+    test_job(job)?;
+    let file = read_font(alloc, font)?;
+    let picture = draw(alloc, &file, job)?;
+    write_picture(out, &picture)?;
+    Ok(())
+}
+
+/// Writes the header, and then the rows.
+fn write_picture<W: Sink>(out: &mut W, picture: &Picture) -> Result<(), Cut>
+    requires out { W.has_failed out.old ≡ false }
+    requires header { picture.now.header.len ≤ 16 }
+    ensures all { OnOk result (Appends (W.written out.old) (W.written out.new) (picture_bytes picture.now)) }
+    ensures part { IfErr result (λ cut. Appends (W.written out.old) (W.written out.new) (take cut.sent (picture_bytes picture.now))) }
+    ensures within { IfErr result (λ cut. cut.sent < length (picture_bytes picture.now)) }
+    ensures failure { W.has_failed out.new ≡ is_err result }
+{
+    let header = &picture.header.bytes[..picture.header.len];
+    write_all_of(out, header)?;
+    match write_all_of(out, &picture.rows) {
+        Ok(()) => Ok(()),
+        Err(cut) => Err(Cut {
+            sent: header.len() as u64 + cut.sent,
+        }),
+    }
+}
