@@ -1,10 +1,8 @@
 -- What a job's test says of what is to be written.
-use Rattle.std.proofs.Common.{◌≡◌, ℕ, Bool, true, false, List, Option, Result, Ok, Err, refl}
-use Rattle.std.specs.Io.KnownBytes.{Keeps}
+use Rattle.std.proofs.Common.{◌≡◌, ℕ, Bool, false, List, Option, Ok, Err, refl}
 use Rattle.tt_core.specs.declared.fault.JobFault.{JobFault}
-use Rattle.tt_core.specs.Outcomes.{◌>>=◌}
 use Rattle.tt_render.specs.declared.fault.RunFault.TheVariants as run
-use Rattle.tt_render.specs.Outcome.{Refused, job, as_job, of_font, needs_font, CallFails}
+use Rattle.tt_render.specs.Outcome.{needs_font, CallFails}
 use Rattle.tt_render.specs.Picture.{Ask, tested, pictured, run_outcome}
 use Rattle.tt_render.proofs.Mapping.{IsOfFont, keeps_same}
 

@@ -1,11 +1,11 @@
 -- Glyphs that are drawn one after the other: where one fails, that glyph's fault is the answer.
-use Rattle.std.proofs.Common.{◌≡◌, ◌∙◌, ℕ, zero, suc, ◌<◌, List, [], ◌∷◌, length, map, get_or, slice_index, ℤ, pos, unsigned_abs, ◌≤◌, All, Result, Ok, Err, refl, arith, ap}
-use Rattle.std.proofs.lemmas.List.{get_or-map, length-map}
+use Rattle.std.proofs.Common.{◌≡◌, ◌∙◌, ℕ, zero, suc, ◌<◌, List, [], ◌∷◌, length, map, get_or, slice_index, ℤ, pos, unsigned_abs, ◌≤◌, All, Result, Ok, Err, refl, arith}
+use Rattle.std.proofs.lemmas.List.{length-map}
 use Rattle.tt_core.specs.declared.fault.Fault.{Fault}
 use Rattle.tt_core.specs.Directory.{HasNo}
 use Rattle.tt_core.specs.Outcomes.{◌>>=◌}
 use Rattle.tt_fit.specs.Fitting.{Setting, fitted_outline}
-use Rattle.tt_fit.specs.Outline.{Shape, IsPhantom}
+use Rattle.tt_fit.specs.Outline.{IsPhantom}
 use Rattle.tt_scan.specs.declared.edge.Edge.{Edge}
 use Rattle.tt_render.specs.Defects.{IsGlyphDefect}
 use Rattle.tt_render.specs.Picture.{each, glyph_edges, edges_at}

@@ -1,5 +1,5 @@
 -- The defects that the steps of a drawing tell, joined.
-use Rattle.std.proofs.Common.{◌≡◌, ◌∙◌, ℕ, List, map, Result, Ok, Err, inl, inr, refl, sym, subst}
+use Rattle.std.proofs.Common.{◌≡◌, ℕ, List, map, Result, Ok, Err, inl, inr, subst}
 use Rattle.std.specs.Prelude.{IsOkAnd, OnOk}
 use Rattle.tt_core.specs.declared.fault.Fault.{Fault}
 use Rattle.tt_core.specs.Directory.{HasNo, IsDefectIn, IsTableDefect}
@@ -17,7 +17,7 @@ use Rattle.tt_render.specs.declared.fault.RunFault.{RunFault}
 use Rattle.tt_render.specs.declared.fault.RunFault.TheVariants as run
 use Rattle.tt_render.specs.Defects.{IsFaceDefect, IsGlyphTableDefect, IsSettingDefect, IsGlyphDefect, IsLineDefect, IsRunDefect, NamesDefect, TellsDefects}
 use Rattle.tt_render.specs.Face.{Face, face_of}
-use Rattle.tt_render.specs.Outcome.{Refused, font, as_font}
+use Rattle.tt_render.specs.Outcome.{as_font}
 use Rattle.tt_render.specs.Picture.{Ask, no_programs, glyphs_in, setting_in, each, glyph_edges}
 use Rattle.tt_render.specs.Views.{of_fit_fault}
 use Rattle.tt_render.proofs.Drawn.{defect_of_line, no_defect_of_line}

@@ -1,5 +1,5 @@
 -- No part of the standard: the outlines that are kept while a line is drawn, each glyph's once.
-use Rattle.std.specs.Prelude.{◌≡◌, ℕ, Result, Ok}
+use Rattle.std.specs.Prelude.{◌≡◌, Ok}
 use Rattle.tt_fit.specs.Fitting.{Setting, fitted_outline}
 use Rattle.tt_fit.specs.Outline.{IsOutline, outline_of}
 use Rattle.tt_render.specs.declared.drawing.Fitted.{Fitted}

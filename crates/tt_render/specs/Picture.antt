@@ -1,6 +1,6 @@
 -- The picture of a line of text: each glyph's outline moved to its pen, blackened by the scan converter's rules (OpenType,
 -- "TrueType Fundamentals"), written as format P4 of Netpbm's PBM. Margins and limits are profile.
-use Rattle.std.specs.Prelude.{◌≡◌, ℕ, ◌+◌, ◌*◌, ◌<◌, ◌≤◌, ◌||◌, nat_lt, if◌then◌else◌, ℤ, pos, neg_ℤ, ◌-ℤ◌, List, [], ◌∷◌, ◌++◌, length, get_or, chars, codes, Result, Ok, Err, refl}
+use Rattle.std.specs.Prelude.{ℕ, ◌*◌, ◌≤◌, ◌||◌, nat_lt, if◌then◌else◌, ℤ, pos, ◌-ℤ◌, List, [], ◌∷◌, ◌++◌, length, get_or, chars, Result, Ok, Err}
 use Rattle.tt_arc.specs.Chords.{chord_edges}
 use Rattle.tt_core.specs.declared.fault.Fault.{Fault}
 use Rattle.tt_core.specs.declared.fault.JobFault.{JobFault}

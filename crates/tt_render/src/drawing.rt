@@ -61,7 +61,13 @@ fn tape_at(alloc: Global, outline: &Outline, pen: u32, frame: Frame) -> Result<T
     ensures fits { IfOk result (TapeFits frame 0) }
 {
     let origin = outline.phantom[0].0;
-    chords(alloc, outline, 64 * i64::from(pen) - i64::from(origin), 0, frame)
+    chords(
+        alloc,
+        outline,
+        64 * i64::from(pen) - i64::from(origin),
+        0,
+        frame,
+    )
 }
 
 /// The edges of a glyph at its pen.

@@ -7,7 +7,7 @@ ghost use Rattle.tt_render.specs.Report.{status_of};
 
 mod command;
 
-use crate::command::command;
+use crate::command::{command, job};
 use clap::error::ErrorKind;
 use clap::{ArgMatches, Error};
 use std::alloc::{AllocError, Global};
@@ -15,7 +15,7 @@ use std::process::ExitCode;
 use std::rt::{Env, Files};
 use std::{env, fs, io};
 use tt_core::Device;
-use tt_render::RunFault;
+use tt_render::{Job, RunFault};
 
 /// The line for want of memory, which takes none.
 const NO_MEMORY: &str = "tt_render: out of memory";
@@ -42,6 +42,12 @@ fn program<R: Files + Env + Print + Eprint + AllocGlobal>(rt: &R) -> u8
                 return incomplete(rt);
             };
             print_map(rt, font, text)
+        }
+        Some(("draw", draw)) => {
+            let (Some(font), Some(job)) = (draw.get_str("FONT"), job(draw)) else {
+                return incomplete(rt);
+            };
+            print_picture(rt, font, &job)
         }
         _ => incomplete(rt),
     }
@@ -75,6 +81,22 @@ fn print_map<R: Files + Print + Eprint + AllocGlobal>(rt: &R, path: &str, text: 
     let mut font = Device::new(file);
     let mut out = Device::new(io::writer(rt));
     match tt_render::map(rt.alloc(), &mut font, text, &mut out) {
+        Ok(()) => 0,
+        Err(fault) => reported(rt, &fault),
+    }
+}
+
+/// Writes the picture of `draw` on standard output.
+fn print_picture<R: Files + Print + Eprint + AllocGlobal>(rt: &R, path: &str, job: &Job) -> u8
+    ensures { result ≤ 5 }
+{
+    let file = match fs::open(rt, path) {
+        Ok(file) => file,
+        Err(error) => return not_opened(rt, &error),
+    };
+    let mut font = Device::new(file);
+    let mut out = Device::new(io::writer(rt));
+    match tt_render::run(rt.alloc(), &mut font, &mut out, job) {
         Ok(()) => 0,
         Err(fault) => reported(rt, &fault),
     }

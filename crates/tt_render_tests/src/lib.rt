@@ -14,4 +14,6 @@ mod map_tests;
 #[cfg(test)]
 mod number_tests;
 #[cfg(test)]
+mod run_tests;
+#[cfg(test)]
 mod test_font;

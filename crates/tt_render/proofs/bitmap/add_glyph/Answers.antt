@@ -1,5 +1,5 @@
-use Rattle.std.proofs.Common.{◌≡◌, ◌∙◌, ℕ, ◌==◌, ◌&&◌, ◌||◌, pos, rules, arith, SFits, w64, refl}
-use Rattle.std.proofs.lemmas.Int.{ints, to_z-of_z}
+use Rattle.std.proofs.Common.{◌≡◌, ◌∙◌, pos, rules, arith, SFits, w64}
+use Rattle.std.proofs.lemmas.Int.{to_z-of_z}
 use Rattle.tt_pbm.specs.Bits.{bit}
 use Rattle.tt_scan.specs.Winding.{is_black, column_x, row_y}
 use Rattle.tt_render.proofs.Bits.{one_more}

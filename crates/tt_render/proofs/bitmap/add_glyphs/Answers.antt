@@ -1,11 +1,10 @@
-use Rattle.std.proofs.Common.{◌≡◌, ◌∙◌, ◌≢◌, ℕ, ◌+◌, ◌*◌, ◌<◌, ◌≤◌, ◌&&◌, ◌||◌, nat_lt, pos, length, take, get_or, set, refl, sym, ap, rules, arith, []}
+use Rattle.std.proofs.Common.{◌≡◌, ◌∙◌, ◌≢◌, ℕ, ◌+◌, ◌*◌, ◌<◌, ◌≤◌, ◌&&◌, ◌||◌, nat_lt, pos, length, get_or, set, refl, sym, ap, arith, []}
 use Rattle.std.proofs.lemmas.List.{get_or-map, get_or-set_other, length-set, length-map}
 use Rattle.std.proofs.lemmas.List.Elements.{AllWithin-more_set}
 use Rattle.std.proofs.Math.Seq.{map-set_same}
 use Rattle.tt_pbm.specs.Bits.{bit}
-use Rattle.tt_scan.specs.Tape.{Edges}
 use Rattle.tt_scan.specs.Winding.{is_black, column_x, row_y}
-use Rattle.tt_render.specs.Pixels.{is_black_pixel, edges_in, TapeFits, row_crossings}
+use Rattle.tt_render.specs.Pixels.{edges_in, TapeFits, row_crossings}
 use Rattle.tt_render.proofs.Glyphs.{one_glyph_more}
 use Rattle.tt_render.proofs.bitmap.add_glyphs.Goals as goal
 
@@ -37,7 +36,7 @@ loop-i-preserved c =
       room = c.add_glyph.ensures.room ∙ so_far.room;
       done = AllWithin-more_set c.loop-i.tapes c.loop-i.i new inside (TapeFits c.args.frame ((c.args.r + 1) * row_crossings)) so_far.done fits_after;
       left = λ k d low high.
-        let other : k ≢ c.loop-i.i = λ e. absurd (omega (arith, e)) in
-        rw (get_or-set_other c.loop-i.tapes c.loop-i.i k new d other) (so_far.left k d (omega arith) high);
+          let other : k ≢ c.loop-i.i = λ e. absurd (omega (arith, e)) in
+          rw (get_or-set_other c.loop-i.tapes c.loop-i.i k new d other) (so_far.left k d (omega arith) high);
       edges = same ∙ so_far.edges;
     }

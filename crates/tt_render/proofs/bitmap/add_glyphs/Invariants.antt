@@ -1,4 +1,4 @@
-use Rattle.std.proofs.Common.{◌≡◌, ℕ, ◌+◌, ◌*◌, ◌||◌, ◌&&◌, nat_lt, pos, length, take}
+use Rattle.std.proofs.Common.{◌≡◌, ℕ, ◌+◌, ◌*◌, ◌||◌, ◌&&◌, nat_lt, length, take}
 use Rattle.std.specs.List.{AllWithin}
 use Rattle.tt_pbm.specs.Bits.{bit}
 use Rattle.tt_render.specs.Pixels.{is_black_pixel, edges_in, TapeFits, row_crossings}

@@ -1,6 +1,5 @@
-use Rattle.std.proofs.Common.{◌≡◌, ◌∙◌, ◌||◌, ◌&&◌, nat_lt, false, length, replicate, rules, arith, refl, sym, ap}
+use Rattle.std.proofs.Common.{◌≡◌, ◌∙◌, length, refl, ap}
 use Rattle.std.proofs.lemmas.List.{length-replicate}
-use Rattle.tt_pbm.specs.Bits.{bit}
 use Rattle.tt_pbm.specs.P4.{stride}
 use Rattle.tt_pbm.specs.Rows.{row_is, bit-replicate_zero}
 use Rattle.tt_render.specs.Pixels.{is_black_pixel, edges_in}
@@ -11,5 +10,5 @@ returns-clause-row c =
     let white = c.whiten.ensures in
     let room : length c.add_glyphs.new.row ≡ stride c.args.frame.width = c.add_glyphs.ensures.room ∙ (ap length white ∙ (length-replicate (length c.args.row.now) 0 ∙ c.requires.room)) in
     row_is c.args.frame.width c.args.r (is_black_pixel c.args.frame (edges_in c.args.tapes.now)) c.add_glyphs.new.row room
-      (λ i within. (c.type_inv.row i).fits)
-      (λ k. c.add_glyphs.ensures.bits k ∙ rw (white, bit-replicate_zero (length c.args.row.now) k) refl)
+    (λ i within. (c.type_inv.row i).fits)
+    (λ k. c.add_glyphs.ensures.bits k ∙ rw (white, bit-replicate_zero (length c.args.row.now) k) refl)

@@ -1,4 +1,4 @@
-use Rattle.std.proofs.Common.{◌≡◌, ◌<◌, ◌≤◌, ◌*ℤ◌, ◌-ℤ◌, pos, unsigned_abs, SFits, w32, w64, get_or, rules, arith}
+use Rattle.std.proofs.Common.{◌≤◌, ◌*ℤ◌, ◌-ℤ◌, pos, unsigned_abs, SFits, w32, w64, get_or, rules, arith}
 use Rattle.std.proofs.lemmas.Int.{ints, to_z-of_z}
 use Rattle.tt_render.proofs.Drawn.{origin_within}
 use Rattle.tt_render.proofs.drawing.tape_at.Goals as goal
@@ -15,5 +15,5 @@ chords-requires-clause-near c =
     let times : SFits w64 (pos 64 *ℤ c.from.result) = omega (arith, ints) in
     let moved : SFits w64 (pos 64 *ℤ c.from.result -ℤ c.from-2.result) = omega (arith, ints) in
     λ k d below.
-      let point = c.requires.outline.coordinates k d below in
-      simp to_z-of_z (record { x = omega (arith, ints, point.0); y = omega (arith, ints, point.1) })
+    let point = c.requires.outline.coordinates k d below in
+    simp to_z-of_z (record { x = omega (arith, ints, point.0); y = omega (arith, ints, point.1) })

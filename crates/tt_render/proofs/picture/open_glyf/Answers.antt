@@ -1,4 +1,3 @@
-use Rattle.std.proofs.Common.{◌≡◌, Ok}
 use Rattle.tt_core.specs.Directory.{OnOk-HasNo-IsDefectIn}
 use Rattle.tt_glyf.specs.Loca.{loca_tag, IsLocaDefect}
 use Rattle.tt_render.proofs.Telling.{no_glyph_table_defect}

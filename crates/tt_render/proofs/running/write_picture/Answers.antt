@@ -1,4 +1,4 @@
-use Rattle.std.proofs.Common.{◌≡◌, length, take}
+use Rattle.std.proofs.Common.{take}
 use Rattle.tt_render.proofs.Sent.{appends_both}
 use Rattle.tt_render.proofs.running.write_picture.Goals as goal
 
