@@ -1,6 +1,6 @@
 -- OpenType, "cmap: Character to Glyph Index Mapping Table": what stands behind a fault of cmap, apart from the order in which faults are looked for.
 use Rattle.std.specs.Prelude.{◌≡◌, ℕ, ◌+◌, ◌*◌, ◌%◌, ◌<◌, ◌≤◌, true, List, length, Option, Some, None, ◌⊎◌}
-use Rattle.tt_core.specs.declared.fault.Fault.{Fault}
+use Rattle.tt_core.specs.Faults.{Fault}
 use Rattle.tt_core.specs.declared.fault.Why.TheVariants as why
 use Rattle.tt_cmap.specs.Format4.{segment_bytes, segment_count, end_place, falls}
 use Rattle.tt_cmap.specs.Subtables.{cmap_fault, record_count, record_place, chosen_subtable}

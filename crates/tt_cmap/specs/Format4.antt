@@ -1,7 +1,7 @@
 -- OpenType, "cmap", format 4: segments by their last characters, in rising order. The subtable's length word is not
 -- used: the bound is the end of cmap (profile).
 use Rattle.std.specs.Prelude.{ℕ, ◌+◌, ◌-◌, ◌*◌, ◌/◌, ◌%◌, Bool, not, ◌==◌, nat_lt, nat_le, if◌then◌else◌, List, length, Option, Some, None, Result, Ok, Err}
-use Rattle.tt_core.specs.declared.fault.Fault.{Fault}
+use Rattle.tt_core.specs.Faults.{Fault}
 use Rattle.tt_core.specs.declared.fault.Why.TheVariants as why
 use Rattle.tt_core.specs.Numbers.{unsigned_at, number_at}
 use Rattle.tt_core.specs.Search.{first_below}

@@ -1,6 +1,6 @@
 -- OpenType, "cmap": the glyph of a character, by the chosen subtable.
 use Rattle.std.specs.Prelude.{false, ◌<◌, ◌≡◌, ℕ, List, [], ◌∷◌, Option, Some, None, Result, Ok, Err, refl}
-use Rattle.tt_core.specs.declared.fault.Fault.{Fault}
+use Rattle.tt_core.specs.Faults.{Fault}
 use Rattle.tt_core.specs.declared.fault.Why.TheVariants as why
 use Rattle.tt_core.specs.Outcomes.{◌>>=◌}
 use Rattle.tt_core.specs.Search.{IsLeast, first_below_least, first_below_nothing}

@@ -1,7 +1,7 @@
 -- OpenType, "cmap: Character to Glyph Index Mapping Table": version, count of encoding records, and records of platform,
 -- encoding and offset. Only subtables of format 4 are looked for (profile).
 use Rattle.std.specs.Prelude.{ℕ, ◌+◌, ◌*◌, Bool, ◌&&◌, ◌==◌, nat_lt, nat_le, if◌then◌else◌, List, length, codes, Option, Some, None, option_map, Result, Ok, Err}
-use Rattle.tt_core.specs.declared.fault.Fault.{Fault}
+use Rattle.tt_core.specs.Faults.{Fault}
 use Rattle.tt_core.specs.declared.fault.Why.{Why}
 use Rattle.tt_core.specs.declared.fault.Why.TheVariants as why
 use Rattle.tt_core.specs.Faults.{fault_at}

@@ -1,7 +1,8 @@
 //! A subtable of format 4. OpenType, "cmap", format 4: segment mapping to delta values.
 
 ghost use Rattle.std.specs.Prelude.{◌≡◌, ◌+◌, ◌-◌, ◌*◌, ◌^◌, ◌<◌, ◌≤◌, true, length, IsTrue, IfOk, IfErr, OnOk, IfSome};
-ghost use Rattle.tt_core.specs.Directory.{is_ascii, HasNo};
+ghost use Rattle.tt_core.specs.Limits.{font_limit};
+ghost use Rattle.tt_core.specs.Directory.{HasNo};
 ghost use Rattle.tt_core.specs.Outcomes.{Gives};
 ghost use Rattle.tt_core.specs.Search.{first_below};
 ghost use Rattle.tt_cmap.specs.Format4.{segments_of, segment_bytes, segment_count, end_code, falls, segment_of, or_missing, by_segment, glyph_in};
@@ -22,7 +23,7 @@ fn word(table: &[u8], at: usize) -> usize
 /// How many segments the subtable has, whose four lists fit and whose end codes rise. Error: CmapShape.
 #[tactic(auto, unfolding(crate::specs::Format4::segments_of))]
 pub(crate) fn segments(table: &[u8], at: usize) -> Result<usize, Fault>
-    requires size { length table.now ≤ FONT_LIMIT }
+    requires size { length table.now ≤ font_limit }
     requires place { at ≤ length table.now }
     ensures exact { Gives (λ n. n) result (segments_of table.now at) }
     ensures count { IfOk result (λ n. n ≡ segment_count table.now at) }
@@ -30,7 +31,6 @@ pub(crate) fn segments(table: &[u8], at: usize) -> Result<usize, Fault>
     ensures fit { IfOk result (λ n. at + 16 + 8 * n ≤ length table.now) }
     ensures sound { OnOk result (HasNo (IsBadSubtable table.now at)) }
     ensures fault { IfErr result (IsBadSubtable table.now at) }
-    ensures ascii { IfErr result (λ f. IsTrue (is_ascii f.table)) }
 {
     let short = Fault::new(CMAP, at as u32, Why::CmapShape);
     if table.len() < at + 14 {
@@ -53,7 +53,7 @@ pub(crate) fn segments(table: &[u8], at: usize) -> Result<usize, Fault>
 /// The first segment that the next one ends before.
 #[tactic(auto, using(tt_core::specs::Search::first_from_next, tt_core::specs::Search::first_from_here))]
 fn falling_end(table: &[u8], at: usize, count: usize) -> Option<usize>
-    requires size { length table.now ≤ FONT_LIMIT }
+    requires size { length table.now ≤ font_limit }
     requires fit { at + 16 + 8 * count ≤ length table.now }
     ensures first { result ≡ first_below (count - 1) (falls table.now at) }
     ensures bound { IfSome result (λ i. i + 1 < count) }
@@ -70,7 +70,7 @@ fn falling_end(table: &[u8], at: usize, count: usize) -> Option<usize>
 /// The first segment that ends at the character, or behind it: the segments in turn.
 #[tactic(auto, using(tt_core::specs::Search::first_from_next, tt_core::specs::Search::first_from_here))]
 fn segment(table: &[u8], at: usize, count: usize, c: usize) -> Option<usize>
-    requires size { length table.now ≤ FONT_LIMIT }
+    requires size { length table.now ≤ font_limit }
     requires fit { at + 16 + 8 * count ≤ length table.now }
     requires count { count ≡ segment_count table.now at }
     ensures first { result ≡ segment_of table.now at c }
@@ -94,7 +94,7 @@ fn known(glyphs: u16, g: usize) -> u16
 }
 
 fn glyph_by_segment(table: &[u8], at: usize, count: usize, glyphs: u16, c: usize, i: usize) -> u16
-    requires size { length table.now ≤ FONT_LIMIT }
+    requires size { length table.now ≤ font_limit }
     requires fit { at + 16 + 8 * count ≤ length table.now }
     requires even { 2 * count ≡ segment_bytes table.now at }
     requires segment { i < count }
@@ -122,7 +122,7 @@ fn glyph_by_segment(table: &[u8], at: usize, count: usize, glyphs: u16, c: usize
 
 /// The glyph of a character, below `glyphs`.
 pub(crate) fn glyph(table: &[u8], at: usize, count: usize, glyphs: u16, c: usize) -> u16
-    requires size { length table.now ≤ FONT_LIMIT }
+    requires size { length table.now ≤ font_limit }
     requires fit { at + 16 + 8 * count ≤ length table.now }
     requires even { 2 * count ≡ segment_bytes table.now at }
     requires count { count ≡ segment_count table.now at }

@@ -1,7 +1,8 @@
 //! The table as a whole.
 
 ghost use Rattle.std.specs.Prelude.{◌≡◌, ◌<◌, ◌≤◌, length, IsTrue, IfOk, IfErr, OnOk};
-ghost use Rattle.tt_core.specs.Directory.{is_ascii, HasNo};
+ghost use Rattle.tt_core.specs.Limits.{font_limit};
+ghost use Rattle.tt_core.specs.Directory.{HasNo};
 ghost use Rattle.tt_core.specs.Outcomes.{Gives};
 ghost use Rattle.tt_cmap.specs.Lookup.{lookup_of, glyph_of, FollowsSegments};
 ghost use Rattle.tt_cmap.specs.Defects.{IsBadCmap};
@@ -22,7 +23,7 @@ pub struct Cmap<'a> {
 
 impl<'a> Model for Cmap<'a> {
     ghost use Rattle.std.specs.Prelude.{◌≡◌, ◌+◌, ◌*◌, ◌<◌, ◌≤◌, length, Some};
-    ghost use Rattle.tt_core.specs.declared.directory.TheConstants.{FONT_LIMIT};
+    ghost use Rattle.tt_core.specs.Limits.{font_limit};
     ghost use Rattle.tt_cmap.specs.Format4.{segment_bytes, segment_count};
     ghost use Rattle.tt_cmap.specs.Lookup.{Lookup};
     ghost use Rattle.tt_cmap.specs.Subtables.{chosen_subtable};
@@ -33,7 +34,7 @@ impl<'a> Model for Cmap<'a> {
 
     ghost invariant = { λ c. (chosen_subtable c.table.now ≡ Some c.at) × (c.segments ≡ segment_count c.table.now c.at)
         × (2 * c.segments ≡ segment_bytes c.table.now c.at) × (c.at + 16 + 8 * c.segments ≤ length c.table.now)
-        × (length c.table.now ≤ FONT_LIMIT) × (0 < c.glyphs) };
+        × (length c.table.now ≤ font_limit) × (0 < c.glyphs) };
 }
 
 impl<'a> Cmap<'a> {
@@ -41,13 +42,12 @@ impl<'a> Cmap<'a> {
     /// first of platform 0 with one (profile). Errors: CmapShape, NoCmap.
     #[tactic(auto, unfolding(crate::specs::Lookup::lookup_of))]
     pub fn open(table: &'a [u8], glyphs: u16) -> Result<Cmap<'a>, Fault>
-        requires size { length table.now ≤ FONT_LIMIT }
+        requires size { length table.now ≤ font_limit }
         requires glyphs { 0 < glyphs }
         ensures exact { Gives (λ c. c) result (lookup_of table.now glyphs) }
         ensures whole { IfOk result (λ c. c ≡ record { table = table.now; glyphs = glyphs }) }
         ensures sound { OnOk result (HasNo (IsBadCmap table.now)) }
         ensures fault { IfErr result (IsBadCmap table.now) }
-        ensures ascii { IfErr result (λ f. IsTrue (is_ascii f.table)) }
     {
         let count = record_count(table)?;
         let Some(at) = chosen(table, count) else {

@@ -1,8 +1,9 @@
 //! Which subtable of cmap serves. OpenType, "cmap", encoding records.
 
 ghost use Rattle.std.specs.Prelude.{◌≡◌, ◌*◌, ◌+◌, ◌<◌, ◌≤◌, length, IsTrue, IfOk, IfErr, OnOk, IfSome};
+ghost use Rattle.tt_core.specs.Limits.{font_limit};
 ghost use Rattle.std.specs.Bool.{OnTrue};
-ghost use Rattle.tt_core.specs.Directory.{is_ascii, HasNo};
+ghost use Rattle.tt_core.specs.Directory.{HasNo};
 ghost use Rattle.tt_core.specs.Outcomes.{Gives};
 ghost use Rattle.tt_cmap.specs.Subtables.{records_of, record_count, record_place, is_for, is_format4, first_subtable, chosen_subtable};
 ghost use Rattle.tt_cmap.specs.Defects.{IsBadRecords};
@@ -23,13 +24,12 @@ pub(crate) enum Platform {
 /// How many records there are. Error: CmapShape.
 #[tactic(auto, unfolding(crate::specs::Subtables::records_of))]
 pub(crate) fn record_count(table: &[u8]) -> Result<usize, Fault>
-    requires { length table.now ≤ FONT_LIMIT }
+    requires { length table.now ≤ font_limit }
     ensures exact { Gives (λ n. n) result (records_of table.now) }
     ensures count { IfOk result (λ n. n ≡ record_count table.now) }
     ensures fit { IfOk result (λ n. record_place n ≤ length table.now) }
     ensures sound { OnOk result (HasNo (IsBadRecords table.now)) }
     ensures fault { IfErr result (IsBadRecords table.now) }
-    ensures ascii { IfErr result (λ f. IsTrue (is_ascii f.table)) }
 {
     let short = Fault::new(CMAP, table.len() as u32, Why::CmapShape);
     if table.len() < 4 {

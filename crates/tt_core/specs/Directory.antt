@@ -1,11 +1,9 @@
 -- Apple TrueType Reference Manual, "The Font Directory": the offset subtable of 12 bytes, and a record of 16 bytes for
 -- each table. Search words, checksums, the order of the records and alignment are not tested (profile).
 use Rattle.std.specs.Prelude.{◌≡◌, ℕ, ◌+◌, ◌*◌, ◌<◌, ◌≤◌, Bool, false, not, ◌||◌, ◌==◌, nat_lt, if◌then◌else◌, List, [], ◌∷◌, length, take, slice_range, codes, bytes_eq, Option, Some, None, is_some, Result, Ok, Err, IsOkAnd, OnOk, ◌⊎◌, refl}
-use Rattle.std.specs.List.{list_all}
 use Rattle.std.proofs.Common.{inl, inr, subst}
-use Rattle.tt_core.specs.declared.fault.Fault.{Fault}
 use Rattle.tt_core.specs.declared.fault.Why.TheVariants as why
-use Rattle.tt_core.specs.Faults.{fault_at, file_fault}
+use Rattle.tt_core.specs.Faults.{Fault, fault_at, file_fault}
 use Rattle.tt_core.specs.Numbers.{unsigned_at}
 use Rattle.tt_core.specs.Outcomes.{◌>>=◌}
 use Rattle.tt_core.specs.Search.{first_below}
@@ -94,10 +92,6 @@ IsTableDefect file tag fault = PassesEnd file tag fault ⊎ ((is_some (record_of
 -- a table has a defect: it is missing, or passes the end of the file, or its bytes are bad
 abbrev pub IsDefectIn : List ℕ → List ℕ → (List ℕ → Fault → Type 0) → Fault → Type 0
 IsDefectIn file tag IsBad fault = IsTableDefect file tag fault ⊎ IsOkAnd (needed_table file tag) (λ table. IsBad table fault)
-
--- the test that the bytes of a tag pass: each is ASCII
-abbrev pub is_ascii : List ℕ → Bool
-is_ascii tag = list_all (λ b. nat_lt b 128) tag
 
 -- no fault is a defect of this kind
 abbrev pub HasNo : (Fault → Type 0) → Type 0

@@ -1,6 +1,8 @@
+pub mod Bits
 pub mod Device
 pub mod Directory
 pub mod Faults
+pub mod Limits
 pub mod Numbers
 pub mod Outcomes
 pub mod Products

@@ -1,17 +1,15 @@
 //! The table directory. Apple TrueType Reference Manual, "The Font Directory".
 
 ghost use Rattle.std.specs.Prelude.{◌≡◌, ◌<◌, ◌≤◌, false, List, ℕ, length, IsTrue, IfOk, IfErr, OnOk, IfSome, is_some, option_copied};
-ghost use Rattle.tt_core.specs.declared.directory.TheConstants.{FONT_LIMIT};
-ghost use Rattle.tt_core.specs.Directory.{directory_of, directory_end, record_count, record_of, has_tag, named_by, table_of, needed_table, is_ascii, HasNo, IsDirectoryDefect, RecordPassesEnd, PassesEnd, IsTableDefect};
+ghost use Rattle.tt_core.specs.Directory.{directory_of, directory_end, record_count, record_of, has_tag, named_by, table_of, needed_table, HasNo, IsDirectoryDefect, RecordPassesEnd, PassesEnd, IsTableDefect};
+ghost use Rattle.tt_core.specs.Faults.{is_ascii};
+ghost use Rattle.tt_core.specs.Limits.{font_limit};
 ghost use Rattle.tt_core.specs.Outcomes.{Gives};
 ghost use Rattle.tt_core.specs.Search.{IsLeast};
 
 use crate::fault::{Fault, Why};
 use crate::number::{u16_at, u32_at};
 use std::marker::Model;
-
-/// The most bytes that a font file may have (profile).
-pub const FONT_LIMIT: usize = 67_108_864;
 
 const FILE: [u8; 4] = *b"file";
 
@@ -28,19 +26,18 @@ impl<'a> Model for Dir<'a> {
     ghost view = { λ d. d.file.now };
 
     ghost invariant = { λ d. (d.count ≡ record_count d.file.now) × (directory_end d.file.now ≤ length d.file.now)
-        × (length d.file.now ≤ FONT_LIMIT) };
+        × (length d.file.now ≤ font_limit) };
 }
 
 impl<'a> Dir<'a> {
     /// Reads the directory's head. Errors: DirShort, BadVersion.
     #[tactic(auto, unfolding(crate::specs::Directory::directory_of))]
     pub fn open(file: &'a [u8]) -> Result<Dir<'a>, Fault>
-        requires { length file.now ≤ FONT_LIMIT }
+        requires { length file.now ≤ font_limit }
         ensures exact { Gives (λ d. d) result (directory_of file.now) }
         ensures whole { IfOk result (λ d. d ≡ file.now) }
         ensures sound { OnOk result (HasNo (IsDirectoryDefect file.now)) }
         ensures fault { IfErr result (IsDirectoryDefect file.now) }
-        ensures ascii { IfErr result (λ f. IsTrue (is_ascii f.table)) }
     {
         let short = Fault::new(FILE, file.len() as u32, Why::DirShort);
         if file.len() < 12 {
@@ -67,10 +64,9 @@ impl<'a> Dir<'a> {
         ensures absent { ((i : ℕ) → i < record_count self.now → has_tag self.now tag i ≡ false)
             → Gives option_copied result (Ok None) }
         ensures found { IfOk result (λ o. is_some o ≡ is_some (record_of self.now tag)) }
-        ensures size { IfOk result (λ o. IfSome o (λ table. length table.now ≤ FONT_LIMIT)) }
+        ensures size { IfOk result (λ o. IfSome o (λ table. length table.now ≤ font_limit)) }
         ensures sound { OnOk result (HasNo (PassesEnd self.now tag)) }
         ensures fault { IfErr result (PassesEnd self.now tag) }
-        ensures ascii { IfErr result (λ f. IsTrue (is_ascii f.table)) }
     {
         self.named(self.record(tag))
     }
@@ -80,10 +76,9 @@ impl<'a> Dir<'a> {
         requires { IfSome number (λ i. i < record_count self.now) }
         ensures exact { Gives option_copied result (named_by self.now number) }
         ensures found { IfOk result (λ o. is_some o ≡ is_some number) }
-        ensures size { IfOk result (λ o. IfSome o (λ table. length table.now ≤ FONT_LIMIT)) }
+        ensures size { IfOk result (λ o. IfSome o (λ table. length table.now ≤ font_limit)) }
         ensures sound { OnOk result (HasNo (RecordPassesEnd self.now number)) }
         ensures fault { IfErr result (RecordPassesEnd self.now number) }
-        ensures ascii { IfErr result (λ f. IsTrue (is_ascii f.table)) }
     {
         let file = self.file;
         let Some(i) = number else {
@@ -103,10 +98,9 @@ impl<'a> Dir<'a> {
     pub fn needed(&self, tag: [u8; 4]) -> Result<&'a [u8], Fault>
         requires { IsTrue (is_ascii tag) }
         ensures exact { Gives (λ table. table.now) result (needed_table self.now tag) }
-        ensures size { IfOk result (λ table. length table.now ≤ FONT_LIMIT) }
+        ensures size { IfOk result (λ table. length table.now ≤ font_limit) }
         ensures sound { OnOk result (HasNo (IsTableDefect self.now tag)) }
         ensures fault { IfErr result (IsTableDefect self.now tag) }
-        ensures ascii { IfErr result (λ f. IsTrue (is_ascii f.table)) }
     {
         match self.table(tag)? {
             Some(table) => Ok(table),
@@ -119,7 +113,7 @@ impl<'a> Dir<'a> {
         ensures first { result ≡ record_of self.now tag }
         ensures bound { IfSome result (λ i. i < record_count self.now) }
         ensures room { directory_end self.now ≤ length self.now }
-        ensures size { length self.now ≤ FONT_LIMIT }
+        ensures size { length self.now ≤ font_limit }
     {
         for i in 0..self.count {
             let place = 12 + 16 * i;

@@ -1,8 +1,9 @@
 //! The refusals of a font and of a job, with their numbers and names.
 
-ghost use Rattle.std.specs.Prelude.{◌≡◌};
-ghost use Rattle.tt_core.specs.Faults.{fault_at, why_number, why_name, job_number, job_name};
+ghost use Rattle.std.specs.Prelude.{◌≡◌, IsTrue};
+ghost use Rattle.tt_core.specs.Faults.{fault_at, is_ascii, why_number, why_name, job_number, job_name};
 
+use std::marker::Model;
 use thiserror::Error;
 
 /// What is wrong with a font.
@@ -161,7 +162,8 @@ impl Why {
     }
 }
 
-/// A defect of a font: the table (`file` for the directory), the offset in it, and what is wrong there.
+/// A defect of a font: the table (`file` for the directory), the offset in it, and what is wrong there. The table's tag
+/// is ASCII. A clause sees it as the record of the three.
 #[derive(Clone, Copy, Debug, PartialEq, Eq)]
 pub struct Fault {
     /// The table's tag.
@@ -171,11 +173,36 @@ pub struct Fault {
     pub why: Why,
 }
 
+impl Model for Fault {
+    ghost use Rattle.std.specs.Prelude.{IsTrue};
+    ghost use Rattle.tt_core.specs.Faults as faults;
+
+    ghost Value = { faults.Fault };
+
+    ghost view = { λ f. record { table = f.table; offset = f.offset; why = f.why } };
+
+    ghost invariant = { λ f. IsTrue (faults.is_ascii f.table) };
+
+    ghost inverse = { λ d. record { table = d.table; offset = d.offset; why = d.why } };
+}
+
 impl Fault {
     pub fn new(table: [u8; 4], offset: u32, why: Why) -> Self
+        requires { IsTrue (is_ascii table) }
         ensures { result ≡ fault_at table offset why }
     {
         Fault { table, offset, why }
+    }
+
+    /// The table's tag as text.
+    pub fn tag(&self) -> &str
+        ensures text { result.now ≡ self.now.table }
+        ensures ascii { IsTrue (is_ascii self.now.table) }
+    {
+        match std::str::from_utf8(&self.table) {
+            Ok(tag) => tag,
+            Err(_) => unreachable!(),
+        }
     }
 }
 

@@ -4,9 +4,16 @@
 mod device;
 mod directory;
 mod fault;
+mod font_fault;
+mod limits;
 mod number;
 
 pub use device::{Device, IoFailed, Sink, Source};
-pub use directory::{Dir, FONT_LIMIT};
+pub use directory::Dir;
 pub use fault::{Fault, JobFault, Why};
+pub use font_fault::FontFault;
+pub use limits::{
+    COMPONENT_LIMIT, COORDINATE_LIMIT, FONT_LIMIT, HEIGHT_LIMIT, LEVEL_LIMIT, MARGIN_LIMIT, POINT_LIMIT, SIZE_LIMIT, TEXT_LIMIT,
+    WIDTH_LIMIT,
+};
 pub use number::{i16_at, rq, scale, u16_at, u32_at};

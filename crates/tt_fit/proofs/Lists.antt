@@ -1,9 +1,9 @@
 -- Lists that are made one element after the other, and the ends of contours.
 use Rattle.std.proofs.Common.{◌≡◌, ℤ, Bool, List, [], ◌∷◌, ◌++◌, All, Result, refl, arith}
 use Rattle.std.proofs.lemmas.List.Elements.{All-push}
-use Rattle.tt_core.specs.declared.fault.Fault.{Fault}
+use Rattle.tt_core.specs.Faults.{Fault}
 use Rattle.tt_fit.specs.Outline.{IsPoint}
-use Rattle.tt_fit.specs.Scaling.{each, after_each}
+use Rattle.tt_core.specs.Outcomes.{each, after_each}
 
 -- behind nothing
 pub from_nothing : {A B : Type 0} (make : A → Result B Fault) (xs : List A) → after_each make xs [] ≡ each make xs

@@ -2,7 +2,7 @@
 -- what matches two points, and joined with what is assembled so far.
 use Rattle.std.specs.Prelude.{◌≡◌, ℕ, ◌+◌, ◌*◌, ◌/◌, Bool, true, false, nat_lt, if◌then◌else◌, ℤ, pos, negsuc, neg_ℤ, unsigned_abs, int_lt, ◌+ℤ◌, ◌-ℤ◌, ◌*ℤ◌, List, [], ◌∷◌, ◌++◌, length, map, Option, Some, None, Result, Ok, Err, refl}
 use Rattle.std.specs.List.{slice_get}
-use Rattle.tt_core.specs.declared.fault.Fault.{Fault}
+use Rattle.tt_core.specs.Faults.{Fault}
 use Rattle.tt_core.specs.declared.fault.Why.TheVariants as why
 use Rattle.tt_core.specs.Numbers.{rounded_quotient}
 use Rattle.tt_core.specs.Outcomes.{◌>>=◌}
@@ -10,7 +10,8 @@ use Rattle.tt_glyf.specs.Composite.{args_are_xy_values}
 use Rattle.tt_glyf.specs.declared.raw.Record.{Record}
 use Rattle.tt_glyf.specs.Flags.{has}
 use Rattle.tt_fit.specs.Outline.{Shape}
-use Rattle.tt_fit.specs.Scaling.{Size, scale, glyf_fault, settled, each}
+use Rattle.tt_core.specs.Outcomes.{each}
+use Rattle.tt_fit.specs.Scaling.{Size, scale, glyf_fault, settled}
 
 abbrev pub round_xy_to_grid : ℕ
 round_xy_to_grid = 0x4

@@ -3,6 +3,5 @@ pub mod Fitting
 pub mod Outline
 pub mod Preparation
 pub mod Programs
-pub mod Reading
 pub mod Scaling
 pub mod Views

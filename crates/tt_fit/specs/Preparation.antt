@@ -1,7 +1,7 @@
 -- Apple TrueType Reference Manual, "Instructing TrueType Glyphs": what the font program and the control value program
 -- leave before the first glyph. Without programs they are not looked at (profile).
 use Rattle.std.specs.Prelude.{ℕ, List, Result, Ok}
-use Rattle.tt_core.specs.declared.fault.Fault.{Fault}
+use Rattle.tt_core.specs.Faults.{Fault}
 use Rattle.tt_core.specs.Outcomes.{◌>>=◌}
 use Rattle.tt_glyf.specs.Loca.{GlyphTables}
 use Rattle.tt_metrics.specs.Metrics.{Fields}

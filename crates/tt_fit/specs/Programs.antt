@@ -1,7 +1,7 @@
 -- Apple TrueType Reference Manual, "Instructing TrueType Glyphs": where a font's programs come into an outline.
 -- Without them a glyph keeps its scaled points (profile).
 use Rattle.std.specs.Prelude.{ℕ, List, Result, Ok}
-use Rattle.tt_core.specs.declared.fault.Fault.{Fault}
+use Rattle.tt_core.specs.Faults.{Fault}
 use Rattle.tt_fit.specs.Outline.{Shape}
 
 -- what the programs of the font and of its control values leave to the glyphs

@@ -2,12 +2,12 @@
 -- units to 26.6 pixels, and the phantom points.
 use Rattle.std.specs.Prelude.{◌≡◌, ℕ, ◌+◌, Bool, true, ◌&&◌, nat_le, if◌then◌else◌, ℤ, pos, neg_ℤ, unsigned_abs, ◌+ℤ◌, ◌-ℤ◌, List, [], ◌∷◌, ◌++◌, map, codes, Result, Ok, Err, refl}
 use Rattle.std.specs.List.{list_all}
-use Rattle.tt_core.specs.declared.fault.Fault.{Fault}
+use Rattle.tt_core.specs.Faults.{Fault}
 use Rattle.tt_core.specs.declared.fault.Why.{Why}
 use Rattle.tt_core.specs.declared.fault.Why.TheVariants as why
 use Rattle.tt_core.specs.Faults.{fault_at}
 use Rattle.tt_core.specs.Numbers.{scaled}
-use Rattle.tt_core.specs.Outcomes.{◌>>=◌}
+use Rattle.tt_core.specs.Outcomes.{◌>>=◌, each}
 use Rattle.tt_glyf.specs.Bytes.{glyf_tag}
 use Rattle.tt_glyf.specs.declared.raw.RawPoint.{RawPoint}
 use Rattle.tt_metrics.specs.Metrics.{Fields, ascent_of, descent_of, advance_of, left_side_bearing_of}
@@ -37,15 +37,6 @@ coordinate_fault at = glyf_fault at why.CoordRange
 -- a point whose coordinates are within the limit
 unfoldable pub settled : ℕ → ℤ × ℤ × Bool → Result (ℤ × ℤ × Bool) Fault
 settled at p = if is_coordinate p.0 && is_coordinate p.1 then Ok p else Err (coordinate_fault at)
-
--- what is made of each element, or the first fault
-abbrev pub each : {A B : Type 0} → (A → Result B Fault) → List A → Result (List B) Fault
-each make [] = Ok []
-each make (x ∷ xs) = make x >>= λ y. each make xs >>= λ ys. Ok (y ∷ ys)
-
--- the same behind elements that are there
-abbrev pub after_each : {A B : Type 0} → (A → Result B Fault) → List A → List B → Result (List B) Fault
-after_each make xs before = each make xs >>= λ ys. Ok (before ++ ys)
 
 abbrev pub scaled_position : Size → RawPoint → ℤ × ℤ × Bool
 scaled_position z p = (scale z p.x, scale z p.y, p.on)

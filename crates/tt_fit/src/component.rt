@@ -1,7 +1,6 @@
 //! Where a component's points come to be. OpenType, "The 'glyf' table", "Composite Glyph Description".
 
 ghost use Rattle.std.specs.Prelude.{◌≡◌, ◌<◌, ◌≤◌, ◌^◌, pos, ◌+ℤ◌, ◌*ℤ◌, unsigned_abs, IsTrue, IfOk, IfErr};
-ghost use Rattle.tt_core.specs.Directory.{is_ascii};
 ghost use Rattle.tt_core.specs.Numbers.{rounded_quotient};
 ghost use Rattle.tt_core.specs.Outcomes.{Gives};
 ghost use Rattle.tt_fit.specs.Components.{to_grid, transformed, offset_along, offset_of, point_of, onto, matched_by, shift_of, landed, placed_point};
@@ -121,7 +120,6 @@ pub(crate) fn shift_of(
     points: &[(i32, i32, bool)],
 ) -> Result<Shift, Fault>
     ensures exact { Gives shift_view result (shift_of (size_view size) part component.now points.now) }
-    ensures ascii { IfErr result (λ f. IsTrue (is_ascii f.table)) }
 {
     if part.has(ComponentFlags::ARGS_ARE_XY_VALUES) {
         return Ok(offset_of(size, part));
@@ -151,7 +149,6 @@ pub(crate) fn placed_point(
 ) -> Result<(i32, i32, bool), Fault>
     ensures exact { Gives (λ p. p) result (placed_point part (shift_view by) point) }
     ensures within { IfOk result IsPoint }
-    ensures ascii { IfErr result (λ f. IsTrue (is_ascii f.table)) }
 {
     settled(part.at, landed(part, by, point))
 }

@@ -1,7 +1,6 @@
 //! The outlines of a font at a size.
 
 ghost use Rattle.std.specs.Prelude.{◌≡◌, ◌<◌, ◌≤◌, IsTrue, IfOk, IfErr, length, All};
-ghost use Rattle.tt_core.specs.Directory.{is_ascii};
 ghost use Rattle.tt_core.specs.Outcomes.{Gives};
 ghost use Rattle.tt_glyf.specs.Loca.{glyph_offset};
 ghost use Rattle.tt_metrics.specs.Metrics.{loca_format_of, glyphs_of};
@@ -9,10 +8,9 @@ ghost use Rattle.tt_fit.specs.Components.{placed};
 ghost use Rattle.tt_fit.specs.Fitting.{IsSetting, hinted_by, size_of, start, glyph_program, joined, added, outline_at, fitted_outline};
 ghost use Rattle.tt_fit.specs.Outline.{outline_of, IsPoint, IsPhantom, AreEnds, IsOutline};
 ghost use Rattle.tt_fit.specs.Preparation.{program_tables, setting_of};
-ghost use Rattle.tt_fit.specs.Reading.{FitGives, IfFont};
+ghost use Rattle.tt_core.specs.Outcomes.{FontGives};
 ghost use Rattle.tt_fit.specs.Views.{hints_of, size_view, program_view};
 
-use crate::fault::FitFault;
 use crate::hints::{Hints, Program, finished};
 use crate::joining::placed;
 use crate::outline::Outline;
@@ -21,7 +19,7 @@ use crate::scaling::{blank, glyf_fault, phantom_points, scaled_outline};
 use crate::size::Size;
 use std::alloc::Global;
 use std::marker::Model;
-use tt_core::{Fault, Why};
+use tt_core::{Fault, Why, FontFault};
 use tt_glyf::{Glyf, Raw, Record};
 use tt_metrics::Metrics;
 
@@ -61,17 +59,16 @@ impl<'a> Fitter<'a> {
         programs: Programs<'a>,
         ppem: u32,
         fit: Fit,
-    ) -> Result<Fitter<'a>, FitFault>
+    ) -> Result<Fitter<'a>, FontFault>
         requires low { 1 ≤ ppem }
         requires high { ppem ≤ 300 }
         requires format { glyf.format ≡ loca_format_of metrics.now }
         requires glyphs { glyf.glyphs ≡ glyphs_of metrics.now }
-        ensures exact { FitGives (λ f. f) result (setting_of metrics.now glyf.entry (program_tables programs.entry) ppem fit) }
+        ensures exact { FontGives (λ f. f) result (setting_of metrics.now glyf.entry (program_tables programs.entry) ppem fit) }
         ensures setting { IfOk result IsSetting }
         ensures tables { IfOk result (λ f. f.tables ≡ glyf.entry) }
         ensures metrics { IfOk result (λ f. f.metrics ≡ metrics.now) }
         ensures ppem { IfOk result (λ f. f.ppem ≡ ppem) }
-        ensures ascii { IfFont result (λ f. IsTrue (is_ascii f.table)) }
     {
         let hints = match fit {
             Fit::None => Hints::Off,
@@ -88,15 +85,14 @@ impl<'a> Fitter<'a> {
     /// The outline of a glyph, in 26.6 pixels. Errors: those of reading a glyph, CoordRange,
     /// ComponentDepth, MatchPoint, PointLimit, Memory.
     #[tactic(auto, unfolding(crate::specs::Fitting::fitted_outline))]
-    pub fn fitted(&self, g: u16) -> Result<Outline, FitFault>
+    pub fn fitted(&self, g: u16) -> Result<Outline, FontFault>
         requires { g < self.now.tables.glyphs }
-        ensures exact { FitGives outline_of result (fitted_outline self.now g) }
+        ensures exact { FontGives outline_of result (fitted_outline self.now g) }
         ensures few { IfOk result (λ o. length o.points.items ≤ 16384) }
         ensures coordinates { IfOk result (λ o. All IsPoint o.points.items) }
         ensures phantom { IfOk result (λ o. All IsPhantom o.phantom) }
         ensures ends { IfOk result (λ o. AreEnds (length o.points.items) o.ends.items) }
         ensures outline { IfOk result (λ o. IsOutline (outline_of o)) }
-        ensures ascii { IfFont result (λ f. IsTrue (is_ascii f.table)) }
     {
         self.outline(&self.hints, COMPONENT_LEVELS, g)
     }
@@ -115,7 +111,6 @@ impl<'a> Fitter<'a> {
         requires { g < self.now.tables.glyphs }
         ensures exact { Gives outline_of result (start self.now x_min g) }
         ensures sound { IfOk result (λ o. IsOutline (outline_of o)) }
-        ensures ascii { IfErr result (λ f. IsTrue (is_ascii f.table)) }
     {
         let phantom = phantom_points(self.size(), &self.metrics, x_min, g);
         blank(self.alloc, self.glyf.start(g), phantom)
@@ -134,11 +129,10 @@ impl<'a> Fitter<'a> {
 
     /// The outline of a glyph, where so many levels of components are left.
     #[cycle(fitting)]
-    fn outline(&self, hints: &Hints, levels: u32, g: u16) -> Result<Outline, FitFault>
+    fn outline(&self, hints: &Hints, levels: u32, g: u16) -> Result<Outline, FontFault>
         requires { g < self.now.tables.glyphs }
-        ensures exact { FitGives outline_of result (outline_at (hinted_by self.now (hints_of hints.now)) levels g) }
+        ensures exact { FontGives outline_of result (outline_at (hinted_by self.now (hints_of hints.now)) levels g) }
         ensures sound { IfOk result (λ o. IsOutline (outline_of o)) }
-        ensures ascii { IfFont result (λ f. IsTrue (is_ascii f.table)) }
     {
         match self.glyf.read(self.alloc, g)? {
             Raw::Empty => Ok(self.start(0, g)?),
@@ -182,12 +176,11 @@ impl<'a> Fitter<'a> {
         levels: u32,
         records: &[Record],
         start: Outline,
-    ) -> Result<Outline, FitFault>
+    ) -> Result<Outline, FontFault>
         requires known { All (λ r. r.glyph < self.now.tables.glyphs) records.now }
         requires start { IsOutline (outline_of start) }
-        ensures exact { FitGives outline_of result (joined (added (hinted_by self.now (hints_of hints.now)) levels) records.now (outline_of start)) }
+        ensures exact { FontGives outline_of result (joined (added (hinted_by self.now (hints_of hints.now)) levels) records.now (outline_of start)) }
         ensures sound { IfOk result (λ o. IsOutline (outline_of o)) }
-        ensures ascii { IfFont result (λ f. IsTrue (is_ascii f.table)) }
     {
         let mut so_far = start;
         for part in records {
@@ -205,15 +198,14 @@ impl<'a> Fitter<'a> {
         levels: u32,
         part: Record,
         so_far: Outline,
-    ) -> Result<Outline, FitFault>
+    ) -> Result<Outline, FontFault>
         requires known { part.glyph < self.now.tables.glyphs }
         requires so_far { IsOutline (outline_of so_far) }
-        ensures exact { FitGives outline_of result (added (hinted_by self.now (hints_of hints.now)) levels part (outline_of so_far)) }
+        ensures exact { FontGives outline_of result (added (hinted_by self.now (hints_of hints.now)) levels part (outline_of so_far)) }
         ensures sound { IfOk result (λ o. IsOutline (outline_of o)) }
-        ensures ascii { IfFont result (λ f. IsTrue (is_ascii f.table)) }
     {
         if levels == 0 {
-            return Err(FitFault::Font(glyf_fault(part.at, Why::ComponentDepth)));
+            return Err(FontFault::Font(glyf_fault(part.at, Why::ComponentDepth)));
         }
         let component = self.outline(hints, levels - 1, part.glyph)?;
         placed(self.size(), part, &component, so_far)

@@ -1,13 +1,12 @@
 //! Where a font's programs come into an outline. Apple TrueType Reference Manual, "Instructing TrueType Glyphs".
 
 ghost use Rattle.std.specs.Prelude.{IsTrue, IfOk};
-ghost use Rattle.tt_core.specs.Directory.{is_ascii};
 ghost use Rattle.tt_fit.specs.Outline.{outline_of, IsOutline};
 ghost use Rattle.tt_fit.specs.Programs.{finished};
-ghost use Rattle.tt_fit.specs.Reading.{FitGives, IfFont};
+ghost use Rattle.tt_core.specs.Outcomes.{FontGives};
 ghost use Rattle.tt_fit.specs.Views.{hints_of, program_view};
 
-use crate::fault::FitFault;
+use tt_core::FontFault;
 use crate::outline::Outline;
 use std::alloc::Global;
 
@@ -34,11 +33,10 @@ pub(crate) fn finished(
     hints: &Hints,
     program: Program,
     outline: Outline,
-) -> Result<Outline, FitFault>
+) -> Result<Outline, FontFault>
     requires { IsOutline (outline_of outline) }
-    ensures exact { FitGives outline_of result (finished (hints_of hints.now) (program_view program.entry) (outline_of outline)) }
+    ensures exact { FontGives outline_of result (finished (hints_of hints.now) (program_view program.entry) (outline_of outline)) }
     ensures sound { IfOk result (λ o. IsOutline (outline_of o)) }
-    ensures ascii { IfFont result (λ f. IsTrue (is_ascii f.table)) }
 {
     match hints {
         Hints::Off => Ok(outline),

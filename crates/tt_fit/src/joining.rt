@@ -1,21 +1,19 @@
 //! A component joined with what is assembled so far. OpenType, "The 'glyf' table", "Composite Glyph Description".
 
 ghost use Rattle.std.specs.Prelude.{◌≡◌, ◌+◌, ◌<◌, ◌≤◌, ◌++◌, length, All, IsTrue, IfOk, OnOk};
-ghost use Rattle.tt_core.specs.Directory.{is_ascii};
 ghost use Rattle.tt_fit.specs.Components.{placed_point, ends_after, placed};
 ghost use Rattle.tt_fit.specs.Outline.{outline_of, IsPoint, IsOutline};
-ghost use Rattle.tt_fit.specs.Reading.{FitGives, IfFont, Leaves};
-ghost use Rattle.tt_fit.specs.Scaling.{after_each};
+ghost use Rattle.tt_core.specs.Outcomes.{FontGives, Leaves};
+ghost use Rattle.tt_core.specs.Outcomes.{after_each};
 ghost use Rattle.tt_fit.specs.Views.{size_view, shift_view};
 
 use crate::component::{placed_point, shift_of};
-use crate::fault::FitFault;
 use crate::outline::Outline;
 use crate::places::Shift;
 use crate::scaling::glyf_fault;
 use crate::size::Size;
 use std::alloc::AllocError;
-use tt_core::Why;
+use tt_core::{FontFault, Why};
 use tt_glyf::{ComponentFlags, Record};
 
 /// The most points that a glyph may have (profile).
@@ -28,12 +26,11 @@ fn push_placed(
     part: Record,
     by: Shift,
     component: &[(i32, i32, bool)],
-) -> Result<(), FitFault>
+) -> Result<(), FontFault>
     requires { All IsPoint points.old.items }
     ensures exact { Leaves result points.new.items (after_each (placed_point part (shift_view by)) component.now points.old.items) }
     ensures many { OnOk result (length points.new.items ≡ length points.old.items + length component.now) }
     ensures coordinates { OnOk result (All IsPoint points.new.items) }
-    ensures ascii { IfFont result (λ f. IsTrue (is_ascii f.table)) }
 {
     for point in component {
         points.push(placed_point(part, by, *point)?)?;
@@ -60,12 +57,11 @@ pub(crate) fn placed(
     part: Record,
     component: &Outline,
     so_far: Outline,
-) -> Result<Outline, FitFault>
+) -> Result<Outline, FontFault>
     requires component { IsOutline (outline_of component.now) }
     requires so_far { IsOutline (outline_of so_far) }
-    ensures exact { FitGives outline_of result (placed (size_view size) part (outline_of component.now) (outline_of so_far)) }
+    ensures exact { FontGives outline_of result (placed (size_view size) part (outline_of component.now) (outline_of so_far)) }
     ensures sound { IfOk result (λ o. IsOutline (outline_of o)) }
-    ensures ascii { IfFont result (λ f. IsTrue (is_ascii f.table)) }
 {
     let Outline {
         mut points,
@@ -76,7 +72,7 @@ pub(crate) fn placed(
     let by = shift_of(size, part, &component.points, &points)?;
     push_placed(&mut points, part, by, &component.points)?;
     if points.len() > POINT_LIMIT {
-        return Err(FitFault::Font(glyf_fault(part.at, Why::PointLimit)));
+        return Err(FontFault::Font(glyf_fault(part.at, Why::PointLimit)));
     }
     push_ends(&mut ends, before as u32, &component.ends)?;
     let phantom = if part.has(ComponentFlags::USE_MY_METRICS) {

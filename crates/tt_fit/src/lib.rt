@@ -2,7 +2,6 @@
 #![tactic(auto)]
 
 mod component;
-mod fault;
 mod fitter;
 mod hints;
 mod joining;
@@ -12,7 +11,7 @@ mod programs;
 mod scaling;
 mod size;
 
-pub use fault::FitFault;
 pub use fitter::Fitter;
 pub use outline::Outline;
 pub use programs::{Fit, Programs};
+pub use tt_core::FontFault as FitFault;

@@ -2,20 +2,19 @@
 //! Designs" and "Instructing TrueType Glyphs".
 
 ghost use Rattle.std.specs.Prelude.{◌≡◌, ◌+◌, ◌<◌, ◌≤◌, ◌^◌, false, true, pos, ◌+ℤ◌, ◌-ℤ◌, length, map, unsigned_abs, MatchOption, All, IsTrue, IfOk, IfErr, OnOk, OnErr};
-ghost use Rattle.tt_core.specs.Directory.{is_ascii};
 ghost use Rattle.tt_core.specs.Outcomes.{Gives};
 ghost use Rattle.tt_metrics.specs.Metrics.{glyphs_of, advance_of, left_side_bearing_of};
 ghost use Rattle.tt_glyf.specs.Meaning.{AreEnds as EndContours};
 ghost use Rattle.tt_fit.specs.Outline.{Shape, outline_of, IsCoordinate, IsPoint, AreEnds, IsOutline};
-ghost use Rattle.tt_fit.specs.Reading.{FitGives, IfFont};
-ghost use Rattle.tt_fit.specs.Scaling.{scale, is_coordinate, glyf_fault, coordinate_fault, settled, each, scaled_position, scaled_point, phantom_points, blank, scaled_outline};
+ghost use Rattle.tt_core.specs.Outcomes.{FontGives};
+ghost use Rattle.tt_core.specs.Outcomes.{each};
+ghost use Rattle.tt_fit.specs.Scaling.{scale, is_coordinate, glyf_fault, coordinate_fault, settled, scaled_position, scaled_point, phantom_points, blank, scaled_outline};
 ghost use Rattle.tt_fit.specs.Views.{size_view, landing_view, phantom_view};
 
-use crate::fault::FitFault;
 use crate::outline::Outline;
 use crate::size::Size;
 use std::alloc::{AllocError, Global};
-use tt_core::{Fault, Why, scale};
+use tt_core::{Fault, Why, scale, FontFault};
 use tt_glyf::RawPoint;
 use tt_metrics::Metrics;
 
@@ -27,7 +26,6 @@ const COORDINATE_LIMIT: i64 = 2_097_151;
 /// A fault at an offset in glyf.
 pub(crate) fn glyf_fault(at: u32, why: Why) -> Fault
     ensures exact { result ≡ glyf_fault at why }
-    ensures ascii { IsTrue (is_ascii result.table) }
 {
     Fault::new(GLYF, at, why)
 }
@@ -66,7 +64,6 @@ pub(crate) struct Landing {
 pub(crate) fn settled(at: u32, landing: Landing) -> Result<(i32, i32, bool), Fault>
     ensures exact { Gives (λ p. p) result (settled at (landing_view landing)) }
     ensures within { IfOk result IsPoint }
-    ensures ascii { IfErr result (λ f. IsTrue (is_ascii f.table)) }
 {
     match (within(landing.x), within(landing.y)) {
         (Some(x), Some(y)) => Ok((x, y, landing.on)),
@@ -88,7 +85,6 @@ fn scaled_position(size: Size, point: RawPoint) -> Landing
 fn scaled_point(size: Size, at: u32, point: RawPoint) -> Result<(i32, i32, bool), Fault>
     ensures exact { Gives (λ p. p) result (scaled_point (size_view size) at point) }
     ensures within { IfOk result IsPoint }
-    ensures ascii { IfErr result (λ f. IsTrue (is_ascii f.table)) }
 {
     settled(at, scaled_position(size, point))
 }
@@ -100,11 +96,10 @@ fn scaled_points(
     size: Size,
     at: u32,
     points: &[RawPoint],
-) -> Result<Vec<(i32, i32, bool)>, FitFault>
-    ensures exact { FitGives (λ v. v.items) result (each (scaled_point (size_view size) at) points.now) }
+) -> Result<Vec<(i32, i32, bool)>, FontFault>
+    ensures exact { FontGives (λ v. v.items) result (each (scaled_point (size_view size) at) points.now) }
     ensures many { IfOk result (λ v. length v.items ≡ length points.now) }
     ensures coordinates { IfOk result (λ v. All IsPoint v.items) }
-    ensures ascii { IfFont result (λ f. IsTrue (is_ascii f.table)) }
 {
     let mut scaled = Vec::new(alloc);
     for point in points {
@@ -169,7 +164,6 @@ fn coordinate(at: u32, v: i64) -> Result<i32, Fault>
     ensures ok { OnOk result (is_coordinate v ≡ true) }
     ensures refused { OnErr result (is_coordinate v ≡ false) }
     ensures fault { IfErr result (λ f. f ≡ coordinate_fault at) }
-    ensures ascii { IfErr result (λ f. IsTrue (is_ascii f.table)) }
 {
     match within(v) {
         Some(w) => Ok(w),
@@ -182,7 +176,6 @@ fn coordinate(at: u32, v: i64) -> Result<i32, Fault>
 pub(crate) fn blank(alloc: Global, at: u32, phantom: Phantom) -> Result<Outline, Fault>
     ensures exact { Gives outline_of result (blank at (phantom_view phantom)) }
     ensures sound { IfOk result (λ o. IsOutline (outline_of o)) }
-    ensures ascii { IfErr result (λ f. IsTrue (is_ascii f.table)) }
 {
     let left = coordinate(at, phantom.left)?;
     let right = coordinate(at, phantom.right)?;
@@ -204,13 +197,12 @@ pub(crate) fn scaled_outline(
     points: &[RawPoint],
     last_points: &[u16],
     start: Outline,
-) -> Result<Outline, FitFault>
+) -> Result<Outline, FontFault>
     requires few { length points.now ≤ 16384 }
     requires ends { EndContours (length points.now) last_points.now }
     requires start { IsOutline (outline_of start) }
-    ensures exact { FitGives outline_of result (scaled_outline (size_view size) at points.now last_points.now (outline_of start)) }
+    ensures exact { FontGives outline_of result (scaled_outline (size_view size) at points.now last_points.now (outline_of start)) }
     ensures sound { IfOk result (λ o. IsOutline (outline_of o)) }
-    ensures ascii { IfFont result (λ f. IsTrue (is_ascii f.table)) }
 {
     let points = scaled_points(alloc, size, at, points)?;
     let ends = contour_ends(alloc, last_points)?;

@@ -1,7 +1,7 @@
 -- The ends of contours, and the points, one at a time.
 use Rattle.std.proofs.Common.{◌≡◌, ℕ, zero, suc, ◌+◌, ◌-◌, ◌*◌, ◌<◌, ◌≤◌, List, [], ◌∷◌, ◌++◌, length, drop, get_or, Ok, Err, ℤ, pos, refl, arith, add-one, append-nil, append_assoc, drop-cons}
 use Rattle.std.proofs.lemmas.List.{drop_all}
-use Rattle.tt_core.specs.declared.fault.Fault.{Fault}
+use Rattle.tt_core.specs.Faults.{Fault}
 use Rattle.tt_glyf.specs.declared.raw.RawPoint.{RawPoint}
 use Rattle.tt_glyf.specs.Bytes.{Stretch, after}
 use Rattle.tt_glyf.specs.Flags.{has, on_curve_point}

@@ -1,7 +1,7 @@
 -- What a glyph that was read is.
 use Rattle.std.proofs.Common.{◌≡◌, ℕ, ◌+◌, ◌-◌, ◌<◌, ◌≤◌, min, Bool, true, false, ◌==◌, if◌then◌else◌, List, [], length, Ok, Err, ℤ, pos, unsigned_abs, int_lt, refl, arith, sym, ◌∙◌}
 use Rattle.std.proofs.lemmas.Bool.Decides.{nat_tests}
-use Rattle.tt_core.specs.declared.fault.Fault.{Fault}
+use Rattle.tt_core.specs.Faults.{Fault}
 use Rattle.tt_core.specs.Outcomes.{◌>>=◌}
 use Rattle.tt_glyf.specs.declared.raw.RawPoint.{RawPoint}
 use Rattle.tt_glyf.specs.Bytes.{Stretch, stretch_at, Listing, word_in, slice_in}

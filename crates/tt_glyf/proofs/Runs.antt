@@ -1,7 +1,7 @@
 -- The runs of flags, one at a time.
 use Rattle.std.proofs.Common.{◌≡◌, ℕ, zero, suc, ◌+◌, ◌-◌, ◌<◌, ◌≤◌, List, ◌++◌, Ok, Err, refl, ap, arith, add-one, append-nil}
 use Rattle.std.proofs.Math.ListN.{replicate}
-use Rattle.tt_core.specs.declared.fault.Fault.{Fault}
+use Rattle.tt_core.specs.Faults.{Fault}
 use Rattle.tt_glyf.specs.Bytes.{Stretch, after}
 use Rattle.tt_glyf.specs.Flags.{Run, run_at, flags_from}
 use Rattle.tt_glyf.proofs.Chains.{chain-same, after-after}

@@ -1,7 +1,7 @@
 -- The coordinates along an axis, one at a time.
 use Rattle.std.proofs.Common.{◌≡◌, ℕ, ◌+◌, ◌<◌, ◌≤◌, List, [], ◌∷◌, ◌++◌, length, drop, get_or, Ok, Err, ℤ, refl, add-one, append-nil, drop-cons}
 use Rattle.std.proofs.lemmas.List.{drop_all}
-use Rattle.tt_core.specs.declared.fault.Fault.{Fault}
+use Rattle.tt_core.specs.Faults.{Fault}
 use Rattle.tt_glyf.specs.Bytes.{Stretch, after}
 use Rattle.tt_glyf.specs.Coordinates.{Axis, Coordinate, coordinate_at, coordinates_from}
 use Rattle.tt_glyf.proofs.Chains.{after-after}

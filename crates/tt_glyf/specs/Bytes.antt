@@ -1,7 +1,7 @@
 -- OpenType, "The 'glyf' table" and the data types: the bytes of one glyph are read from front to back, and what passes
 -- their end is refused at their end.
 use Rattle.std.specs.Prelude.{ℕ, ◌+◌, nat_lt, nat_le, if◌then◌else◌, ℤ, List, ◌++◌, length, slice_index, slice_range, codes, Result, Ok, Err}
-use Rattle.tt_core.specs.declared.fault.Fault.{Fault}
+use Rattle.tt_core.specs.Faults.{Fault}
 use Rattle.tt_core.specs.declared.fault.Why.{Why}
 use Rattle.tt_core.specs.declared.fault.Why.TheVariants as why
 use Rattle.tt_core.specs.Faults.{fault_at}

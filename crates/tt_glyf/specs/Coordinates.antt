@@ -1,7 +1,7 @@
 -- OpenType, "The 'glyf' table", "Simple Glyph Description": all deltas along x, then all deltas along y. A coordinate is
 -- the sum of all deltas up to it, and has to fit 16 bits.
 use Rattle.std.specs.Prelude.{ℕ, ◌+◌, ◌&&◌, Bool, if◌then◌else◌, ℤ, pos, neg_ℤ, ◌+ℤ◌, int_lt, List, [], ◌∷◌, Result, Ok, Err}
-use Rattle.tt_core.specs.declared.fault.Fault.{Fault}
+use Rattle.tt_core.specs.Faults.{Fault}
 use Rattle.tt_core.specs.declared.fault.Why.TheVariants as why
 use Rattle.tt_core.specs.Outcomes.{◌>>=◌}
 use Rattle.tt_glyf.specs.Bytes.{Stretch, Listing, byte_in, signed_in, glyph_fault, after}

@@ -2,7 +2,7 @@
 -- says that the next byte counts further copies. Bits 64 and 128 are ignored (profile).
 use Rattle.std.specs.Prelude.{ℕ, zero, suc, ◌+◌, ◌-◌, Bool, ◌==◌, nat_lt, if◌then◌else◌, [], replicate, Result, Ok, Err}
 use Rattle.std.specs.Int.RustNames.{bit_and}
-use Rattle.tt_core.specs.declared.fault.Fault.{Fault}
+use Rattle.tt_core.specs.Faults.{Fault}
 use Rattle.tt_core.specs.declared.fault.Why.TheVariants as why
 use Rattle.tt_core.specs.Outcomes.{◌>>=◌}
 use Rattle.tt_glyf.specs.Bytes.{Stretch, Listing, byte_in, glyph_fault, after}

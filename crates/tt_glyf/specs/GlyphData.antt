@@ -1,7 +1,7 @@
 -- Apple TrueType Reference Manual and OpenType, "The 'glyf' table": what the bytes of a glyph say, or their first fault
 -- in the order in which they are read.
 use Rattle.std.specs.Prelude.{◌≡◌, true, neg_ℤ, take, codes, ℕ, ◌==◌, nat_lt, int_lt, if◌then◌else◌, ℤ, pos, unsigned_abs, List, [], ◌∷◌, length, Result, Ok, Err, refl}
-use Rattle.tt_core.specs.declared.fault.Fault.{Fault}
+use Rattle.tt_core.specs.Faults.{Fault}
 use Rattle.tt_core.specs.declared.fault.Why.TheVariants as why
 use Rattle.tt_core.specs.Faults.{fault_at}
 use Rattle.tt_core.specs.Outcomes.{◌>>=◌}

@@ -6,6 +6,5 @@ pub mod GlyphData
 pub mod Loca
 pub mod Meaning
 pub mod Raw
-pub mod Reading
 pub mod Simple
 pub mod Views

@@ -1,8 +1,8 @@
 -- Apple TrueType Reference Manual, "The 'loca' table"; OpenType, "loca: Index to Location".
 use Rattle.std.specs.Prelude.{◌≡◌, ◌≢◌, ℕ, ◌+◌, ◌*◌, ◌<◌, ◌≤◌, min, Bool, ◌||◌, ◌==◌, nat_lt, if◌then◌else◌, List, [], length, slice_range, codes, Result, Ok, Err, ◌⊎◌}
-use Rattle.tt_core.specs.declared.fault.Fault.{Fault}
+use Rattle.tt_core.specs.Faults.{Fault}
 use Rattle.tt_core.specs.declared.fault.Why.TheVariants as why
-use Rattle.tt_core.specs.declared.directory.TheConstants.{FONT_LIMIT}
+use Rattle.tt_core.specs.Limits.{font_limit}
 use Rattle.tt_core.specs.Faults.{fault_at}
 use Rattle.tt_core.specs.Numbers.{unsigned_at}
 use Rattle.tt_metrics.specs.declared.head.LocaFormat.{LocaFormat}
@@ -59,8 +59,8 @@ IsLocaDefect loca m fault = (length loca < loca_size (loca_format_of m) (glyphs_
 -- what reading a glyph counts on
 pub record AreTables (t : GlyphTables) : Type 0 where
   pub entries : loca_size t.format t.glyphs ≤ length t.loca
-  pub loca_limit : length t.loca ≤ FONT_LIMIT
-  pub glyf_limit : length t.glyf ≤ FONT_LIMIT
+  pub loca_limit : length t.loca ≤ font_limit
+  pub glyf_limit : length t.glyf ≤ font_limit
   pub some : 0 < t.glyphs
 
 -- equal neighbours, wherever they point: the glyph has no bytes

@@ -2,7 +2,7 @@
 -- coordinates. Equal neighbours among the contours' ends give a contour without points, and bytes after the last
 -- coordinate are ignored (profile).
 use Rattle.std.specs.Prelude.{ℕ, zero, suc, ◌+◌, ◌-◌, nat_lt, if◌then◌else◌, ℤ, List, [], ◌∷◌, length, slice_index, Result, Ok, Err}
-use Rattle.tt_core.specs.declared.fault.Fault.{Fault}
+use Rattle.tt_core.specs.Faults.{Fault}
 use Rattle.tt_core.specs.declared.fault.Why.TheVariants as why
 use Rattle.tt_core.specs.Outcomes.{◌>>=◌}
 use Rattle.tt_glyf.specs.declared.raw.RawPoint.{RawPoint}

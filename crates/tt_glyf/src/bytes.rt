@@ -1,8 +1,7 @@
 //! The bytes of one glyph, read by their places.
 
 ghost use Rattle.std.specs.Prelude.{◌≡◌, ◌+◌, ◌<◌, ◌≤◌, length, IsTrue, IfOk, IfErr};
-ghost use Rattle.tt_core.specs.declared.directory.TheConstants.{FONT_LIMIT};
-ghost use Rattle.tt_core.specs.Directory.{is_ascii};
+ghost use Rattle.tt_core.specs.Limits.{font_limit};
 ghost use Rattle.tt_core.specs.Outcomes.{Gives};
 ghost use Rattle.tt_glyf.specs.Bytes.{byte_in, word_in, signed_in, slice_in, glyph_fault, short};
 
@@ -20,19 +19,19 @@ pub(crate) struct GlyphBytes<'a> {
 
 impl<'a> Model for GlyphBytes<'a> {
     ghost use Rattle.std.specs.Prelude.{◌+◌, ◌≤◌, length};
-    ghost use Rattle.tt_core.specs.declared.directory.TheConstants.{FONT_LIMIT};
+    ghost use Rattle.tt_core.specs.Limits.{font_limit};
     ghost use Rattle.tt_glyf.specs.Bytes.{Stretch};
 
     ghost Value = { Stretch };
 
     ghost view = { λ g. record { start = g.start; bytes = g.bytes.now } };
 
-    ghost invariant = { λ g. g.start + length g.bytes.now ≤ FONT_LIMIT };
+    ghost invariant = { λ g. g.start + length g.bytes.now ≤ font_limit };
 }
 
 impl<'a> GlyphBytes<'a> {
     pub(crate) fn new(start: usize, bytes: &'a [u8]) -> GlyphBytes<'a>
-        requires { start + length bytes.now ≤ FONT_LIMIT }
+        requires { start + length bytes.now ≤ font_limit }
         ensures { result ≡ record { start = start; bytes = bytes.now } }
     {
         GlyphBytes { start, bytes }
@@ -40,7 +39,7 @@ impl<'a> GlyphBytes<'a> {
 
     pub(crate) fn len(&self) -> usize
         ensures exact { result ≡ length self.now.bytes }
-        ensures limit { self.now.start + result ≤ FONT_LIMIT }
+        ensures limit { self.now.start + result ≤ font_limit }
     {
         self.bytes.len()
     }
@@ -56,7 +55,6 @@ impl<'a> GlyphBytes<'a> {
     pub(crate) fn fault(&self, at: usize, why: Why) -> Fault
         requires { at ≤ length self.now.bytes }
         ensures exact { result ≡ glyph_fault self.now at why }
-        ensures ascii { IsTrue (is_ascii result.table) }
     {
         Fault::new(GLYF, self.place(at), why)
     }
@@ -64,7 +62,6 @@ impl<'a> GlyphBytes<'a> {
     /// The bytes end too early.
     pub(crate) fn short(&self) -> Fault
         ensures exact { result ≡ short self.now }
-        ensures ascii { IsTrue (is_ascii result.table) }
     {
         self.fault(self.bytes.len(), Why::GlyphShort)
     }
@@ -74,8 +71,7 @@ impl<'a> GlyphBytes<'a> {
     pub(crate) fn byte(&self, at: usize) -> Result<u8, Fault>
         ensures exact { Gives (λ n. n) result (byte_in self.now at) }
         ensures room { IfOk result (λ n. at + 1 ≤ length self.now.bytes) }
-        ensures limit { length self.now.bytes ≤ FONT_LIMIT }
-        ensures ascii { IfErr result (λ f. IsTrue (is_ascii f.table)) }
+        ensures limit { length self.now.bytes ≤ font_limit }
     {
         if at < self.bytes.len() {
             Ok(self.bytes[at])
@@ -89,8 +85,7 @@ impl<'a> GlyphBytes<'a> {
     pub(crate) fn word(&self, at: usize) -> Result<u16, Fault>
         ensures exact { Gives (λ n. n) result (word_in self.now at) }
         ensures room { IfOk result (λ n. at + 2 ≤ length self.now.bytes) }
-        ensures limit { length self.now.bytes ≤ FONT_LIMIT }
-        ensures ascii { IfErr result (λ f. IsTrue (is_ascii f.table)) }
+        ensures limit { length self.now.bytes ≤ font_limit }
     {
         match u16_at(self.bytes, at) {
             Some(n) => Ok(n),
@@ -103,8 +98,7 @@ impl<'a> GlyphBytes<'a> {
     pub(crate) fn signed(&self, at: usize) -> Result<i16, Fault>
         ensures exact { Gives (λ n. n) result (signed_in self.now at) }
         ensures room { IfOk result (λ n. at + 2 ≤ length self.now.bytes) }
-        ensures limit { length self.now.bytes ≤ FONT_LIMIT }
-        ensures ascii { IfErr result (λ f. IsTrue (is_ascii f.table)) }
+        ensures limit { length self.now.bytes ≤ font_limit }
     {
         match i16_at(self.bytes, at) {
             Some(n) => Ok(n),
@@ -117,8 +111,7 @@ impl<'a> GlyphBytes<'a> {
     pub(crate) fn slice(&self, at: usize, n: usize) -> Result<&'a [u8], Fault>
         ensures exact { Gives (λ b. b.now) result (slice_in self.now at n) }
         ensures room { IfOk result (λ b. at + n ≤ length self.now.bytes) }
-        ensures limit { length self.now.bytes ≤ FONT_LIMIT }
-        ensures ascii { IfErr result (λ f. IsTrue (is_ascii f.table)) }
+        ensures limit { length self.now.bytes ≤ font_limit }
     {
         if at > self.bytes.len() || self.bytes.len() - at < n {
             return Err(self.short());

@@ -1,8 +1,7 @@
 //! A component record. OpenType, "The 'glyf' table", "Composite Glyph Description".
 
 ghost use Rattle.std.specs.Prelude.{◌≡◌, ◌+◌, ◌*◌, ◌≤◌, length, IsTrue, IfOk, IfErr};
-ghost use Rattle.tt_core.specs.declared.directory.TheConstants.{FONT_LIMIT};
-ghost use Rattle.tt_core.specs.Directory.{is_ascii};
+ghost use Rattle.tt_core.specs.Limits.{font_limit};
 ghost use Rattle.tt_core.specs.Outcomes.{Gives};
 ghost use Rattle.tt_glyf.specs.Composite.{signed8, argument_size, argument_at, arguments_at, transform_size, two_scales_at, two_by_two_at, transform_at, record_size, scales_offsets, is_identity, transform_of, has_arguments_zero, asks_scaled_offset, unscaled, known_glyph, record_at};
 ghost use Rattle.tt_glyf.specs.Views.{arguments_of, transform_view};
@@ -67,8 +66,7 @@ fn signed_byte(byte: u8) -> i32
 fn argument_at(glyph: &GlyphBytes, flags: u16, at: usize) -> Result<i32, Fault>
     ensures exact { Gives (λ a. a) result (argument_at glyph.now flags at) }
     ensures room { IfOk result (λ a. at + argument_size flags ≤ length glyph.now.bytes) }
-    ensures limit { length glyph.now.bytes ≤ FONT_LIMIT }
-    ensures ascii { IfErr result (λ f. IsTrue (is_ascii f.table)) }
+    ensures limit { length glyph.now.bytes ≤ font_limit }
 {
     let signed = has_flag(flags, ComponentFlags::ARGS_ARE_XY_VALUES);
     if has_flag(flags, ComponentFlags::ARG_1_AND_2_ARE_WORDS) {
@@ -97,7 +95,6 @@ fn arguments_at(glyph: &GlyphBytes, flags: u16, at: usize) -> Result<Arguments, 
     requires { at ≤ length glyph.now.bytes }
     ensures exact { Gives arguments_of result (arguments_at glyph.now flags at) }
     ensures room { IfOk result (λ a. at + 2 * argument_size flags ≤ length glyph.now.bytes) }
-    ensures ascii { IfErr result (λ f. IsTrue (is_ascii f.table)) }
 {
     let arg1 = argument_at(glyph, flags, at)?;
     let arg2 = argument_at(glyph, flags, at + argument_size(flags))?;
@@ -118,7 +115,6 @@ struct Transform {
 fn two_scales_at(glyph: &GlyphBytes, at: usize) -> Result<Transform, Fault>
     ensures exact { Gives transform_view result (two_scales_at glyph.now at) }
     ensures room { IfOk result (λ t. at + 4 ≤ length glyph.now.bytes) }
-    ensures ascii { IfErr result (λ f. IsTrue (is_ascii f.table)) }
 {
     let xx = glyph.signed(at)?;
     let yy = glyph.signed(at + 2)?;
@@ -135,7 +131,6 @@ fn two_scales_at(glyph: &GlyphBytes, at: usize) -> Result<Transform, Fault>
 fn two_by_two_at(glyph: &GlyphBytes, at: usize) -> Result<Transform, Fault>
     ensures exact { Gives transform_view result (two_by_two_at glyph.now at) }
     ensures room { IfOk result (λ t. at + 8 ≤ length glyph.now.bytes) }
-    ensures ascii { IfErr result (λ f. IsTrue (is_ascii f.table)) }
 {
     let xx = glyph.signed(at)?;
     let yx = glyph.signed(at + 2)?;
@@ -150,7 +145,6 @@ fn transform_at(glyph: &GlyphBytes, flags: u16, at: usize) -> Result<Transform, 
     requires { at ≤ length glyph.now.bytes }
     ensures exact { Gives transform_view result (transform_at glyph.now flags at) }
     ensures room { IfOk result (λ t. at + transform_size flags ≤ length glyph.now.bytes) }
-    ensures ascii { IfErr result (λ f. IsTrue (is_ascii f.table)) }
 {
     if has_flag(flags, ComponentFlags::WE_HAVE_A_SCALE) {
         let scale = glyph.signed(at)?;
@@ -209,7 +203,6 @@ fn unscaled(glyph: &GlyphBytes, at: usize, part: Record) -> Result<Record, Fault
     requires { at ≤ length glyph.now.bytes }
     ensures exact { Gives (λ r. r) result (unscaled glyph.now at part) }
     ensures whole { IfOk result (λ r. r ≡ part) }
-    ensures ascii { IfErr result (λ f. IsTrue (is_ascii f.table)) }
 {
     if asks_scaled_offset(part) {
         return Err(glyph.fault(at, Why::ScaledOffset));
@@ -222,7 +215,6 @@ fn unscaled(glyph: &GlyphBytes, at: usize, part: Record) -> Result<Record, Fault
 fn known_glyph(glyph: &GlyphBytes, glyphs: u16, at: usize, number: u16) -> Result<u16, Fault>
     requires { at ≤ length glyph.now.bytes }
     ensures exact { Gives (λ n. n) result (known_glyph glyphs glyph.now at number) }
-    ensures ascii { IfErr result (λ f. IsTrue (is_ascii f.table)) }
 {
     if number >= glyphs {
         return Err(glyph.fault(at, Why::ComponentGlyph));
@@ -236,8 +228,7 @@ pub(crate) fn record_at(glyph: &GlyphBytes, glyphs: u16, at: usize) -> Result<Re
     requires { at ≤ length glyph.now.bytes }
     ensures exact { Gives (λ r. r) result (record_at glyphs glyph.now at) }
     ensures room { IfOk result (λ r. at + record_size r.flags ≤ length glyph.now.bytes) }
-    ensures limit { length glyph.now.bytes ≤ FONT_LIMIT }
-    ensures ascii { IfErr result (λ f. IsTrue (is_ascii f.table)) }
+    ensures limit { length glyph.now.bytes ≤ font_limit }
 {
     let flags = glyph.word(at)?;
     let number = glyph.word(at + 2)?;

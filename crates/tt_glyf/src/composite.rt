@@ -1,21 +1,18 @@
 //! A composite glyph. OpenType, "The 'glyf' table", "Composite Glyph Description".
 
 ghost use Rattle.std.specs.Prelude.{◌≡◌, ◌+◌, ◌*◌, ◌<◌, ◌≤◌, length, vec_len, IsTrue, IfOk, IfErr};
-ghost use Rattle.tt_core.specs.Directory.{is_ascii};
 ghost use Rattle.tt_core.specs.Outcomes.{Gives};
 ghost use Rattle.tt_glyf.specs.Composite.{records_of, has_program, program_of, composite_of};
 ghost use Rattle.tt_glyf.specs.Raw.{glyph_data};
-ghost use Rattle.tt_glyf.specs.Reading.{ReadGives, IfFont};
+ghost use Rattle.tt_core.specs.Outcomes.{FontGives};
 ghost use Rattle.tt_glyf.specs.Views.{records_listing, program_view};
 
 use crate::bytes::GlyphBytes;
 use crate::component::{record_at, record_size};
 use crate::component_flags::{ComponentFlags, has_flag};
-use crate::fault::GlyfFault;
-use crate::lists::Records;
 use crate::raw::{Raw, Record};
 use std::alloc::Global;
-use tt_core::{Fault, Why};
+use tt_core::{Fault, Why, FontFault};
 
 /// The most records that a glyph may have (profile).
 const RECORD_LIMIT: usize = 32;
@@ -29,11 +26,10 @@ struct RecordList {
 
 /// Errors: GlyphShort, ComponentCount, ComponentGlyph, ScaledOffset, Memory.
 #[tactic(auto, using(crate::proofs::Components::more, crate::proofs::Components::last, crate::proofs::Components::breaks, crate::proofs::Components::over))]
-fn read_records(alloc: Global, glyph: &GlyphBytes, glyphs: u16) -> Result<RecordList, GlyfFault>
+fn read_records(alloc: Global, glyph: &GlyphBytes, glyphs: u16) -> Result<RecordList, FontFault>
     requires { 10 ≤ length glyph.now.bytes }
-    ensures exact { ReadGives records_listing result (records_of glyphs glyph.now) }
+    ensures exact { FontGives records_listing result (records_of glyphs glyph.now) }
     ensures room { IfOk result (λ r. r.next ≤ length glyph.now.bytes) }
-    ensures ascii { IfFont result (λ f. IsTrue (is_ascii f.table)) }
 {
     let mut records = Vec::new(alloc);
     let mut next = 10;
@@ -45,7 +41,7 @@ fn read_records(alloc: Global, glyph: &GlyphBytes, glyphs: u16) -> Result<Record
             return Ok(RecordList { records, next });
         }
     }
-    Err(GlyfFault::Font(glyph.fault(next, Why::ComponentCount)))
+    Err(FontFault::Font(glyph.fault(next, Why::ComponentCount)))
 }
 
 /// Whether any record says that a program follows (profile).
@@ -72,7 +68,6 @@ struct Program<'a> {
 fn read_program<'a>(glyph: &GlyphBytes<'a>, list: &RecordList) -> Result<Program<'a>, Fault>
     requires { list.now.next ≤ length glyph.now.bytes }
     ensures exact { Gives program_view result (program_of glyph.now (records_listing list.now)) }
-    ensures ascii { IfErr result (λ f. IsTrue (is_ascii f.table)) }
 {
     if !has_program(&list.records) {
         return Ok(Program {
@@ -96,16 +91,15 @@ pub(crate) fn read_composite<'a>(
     glyph: &GlyphBytes<'a>,
     x_min: i16,
     glyphs: u16,
-) -> Result<Raw<'a>, GlyfFault>
+) -> Result<Raw<'a>, FontFault>
     requires { 10 ≤ length glyph.now.bytes }
-    ensures exact { ReadGives glyph_data result (composite_of glyphs glyph.now x_min) }
-    ensures ascii { IfFont result (λ f. IsTrue (is_ascii f.table)) }
+    ensures exact { FontGives glyph_data result (composite_of glyphs glyph.now x_min) }
 {
     let list = read_records(alloc, glyph, glyphs)?;
     let program = read_program(glyph, &list)?;
     Ok(Raw::Composite {
         x_min,
-        records: Records::new(list.records),
+        records: list.records,
         code: program.code,
         code_at: program.code_at,
     })

@@ -1,17 +1,15 @@
 //! The coordinates of the points along one axis. OpenType, "The 'glyf' table", "Simple Glyph Description".
 
 ghost use Rattle.std.specs.Prelude.{◌≡◌, ◌+◌, ◌<◌, ◌≤◌, length, vec_len, unsigned_abs, ◌+ℤ◌, IsTrue, IfOk, IfErr};
-ghost use Rattle.tt_core.specs.Directory.{is_ascii};
 ghost use Rattle.tt_core.specs.Outcomes.{Gives};
 ghost use Rattle.tt_glyf.specs.Coordinates.{short_delta, delta_at, summed, within_words, coordinate_at, coordinates_of};
 ghost use Rattle.tt_glyf.specs.Views.{axis_of, delta_of, sum_of, coordinate_of, coordinates_listing};
-ghost use Rattle.tt_glyf.specs.Reading.{ReadGives, IfFont};
+ghost use Rattle.tt_core.specs.Outcomes.{FontGives};
 
 use crate::bytes::GlyphBytes;
-use crate::fault::GlyfFault;
 use crate::flags::{PointFlags, has_flag};
 use std::alloc::Global;
-use tt_core::{Fault, Why};
+use tt_core::{Fault, Why, FontFault};
 
 /// The two flags that tell how a delta along an axis is written.
 #[derive(Clone, Copy)]
@@ -45,7 +43,6 @@ fn delta_at(glyph: &GlyphBytes, axis: Axis, flag: u8, at: usize) -> Result<Delta
     ensures exact { Gives delta_of result (delta_at glyph.now (axis_of axis) flag at) }
     ensures bound { IfOk result (λ d. unsigned_abs d.by ≤ 32768) }
     ensures room { IfOk result (λ d. d.next ≤ length glyph.now.bytes) }
-    ensures ascii { IfErr result (λ f. IsTrue (is_ascii f.table)) }
 {
     let same = has_flag(flag, axis.same);
     if has_flag(flag, axis.short) {
@@ -94,7 +91,6 @@ fn summed(before: Coordinate, delta: Delta) -> Sum
 fn within_words(glyph: &GlyphBytes, sum: Sum) -> Result<Coordinate, Fault>
     ensures exact { Gives coordinate_of result (within_words glyph.now (sum_of sum)) }
     ensures next { IfOk result (λ c. c.next ≡ sum.next) }
-    ensures ascii { IfErr result (λ f. IsTrue (is_ascii f.table)) }
 {
     match i16::try_from(sum.value) {
         Ok(value) => Ok(Coordinate {
@@ -116,7 +112,6 @@ fn coordinate_at(
     requires { before.next ≤ length glyph.now.bytes }
     ensures exact { Gives coordinate_of result (coordinate_at glyph.now (axis_of axis) flag (coordinate_of before)) }
     ensures room { IfOk result (λ c. c.next ≤ length glyph.now.bytes) }
-    ensures ascii { IfErr result (λ f. IsTrue (is_ascii f.table)) }
 {
     let delta = delta_at(glyph, axis, flag, before.next)?;
     within_words(glyph, summed(before, delta))
@@ -137,12 +132,11 @@ pub(crate) fn read_coordinates(
     axis: Axis,
     flags: &[u8],
     at: usize,
-) -> Result<Coordinates, GlyfFault>
+) -> Result<Coordinates, FontFault>
     requires { at ≤ length glyph.now.bytes }
-    ensures exact { ReadGives coordinates_listing result (coordinates_of glyph.now (axis_of axis) flags.now at) }
+    ensures exact { FontGives coordinates_listing result (coordinates_of glyph.now (axis_of axis) flags.now at) }
     ensures many { IfOk result (λ c. vec_len c.values ≡ length flags.now) }
     ensures room { IfOk result (λ c. c.next ≤ length glyph.now.bytes) }
-    ensures ascii { IfFont result (λ f. IsTrue (is_ascii f.table)) }
 {
     let mut values = Vec::new(alloc);
     let mut last = Coordinate { value: 0, next: at };

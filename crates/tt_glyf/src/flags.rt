@@ -1,17 +1,15 @@
 //! The flags of the points of a simple glyph. OpenType, "The 'glyf' table", "Simple Glyph Flags".
 
 ghost use Rattle.std.specs.Prelude.{◌≡◌, ◌+◌, ◌^◌, ◌<◌, ◌≤◌, ◌++◌, length, replicate, vec_len, IsTrue, IfOk, IfErr, OnOk};
-ghost use Rattle.tt_core.specs.Directory.{is_ascii};
 ghost use Rattle.tt_core.specs.Outcomes.{Gives};
 ghost use Rattle.tt_glyf.specs.Flags.{has, run_at, flags_of};
-ghost use Rattle.tt_glyf.specs.Reading.{ReadGives, IfFont};
+ghost use Rattle.tt_core.specs.Outcomes.{FontGives};
 ghost use Rattle.tt_glyf.specs.Views.{run_of, flags_listing};
 
 use crate::bytes::GlyphBytes;
-use crate::fault::GlyfFault;
 use bitflags::{Flag, Flags, bitflag_items};
 use std::alloc::{AllocError, Global};
-use tt_core::{Fault, Why};
+use tt_core::{Fault, Why, FontFault};
 
 /// The flags of a point.
 #[derive(Clone, Copy, Debug, PartialEq, Eq)]
@@ -75,7 +73,6 @@ fn run_at(glyph: &GlyphBytes, at: usize, left: usize) -> Result<Run, Fault>
     ensures exact { Gives run_of result (run_at glyph.now at left) }
     ensures within { IfOk result (λ r. r.copies < left) }
     ensures room { IfOk result (λ r. r.next ≤ length glyph.now.bytes) }
-    ensures ascii { IfErr result (λ f. IsTrue (is_ascii f.table)) }
 {
     let flag = glyph.byte(at)?;
     if !has_flag(flag, PointFlags::REPEAT_FLAG) {
@@ -96,12 +93,10 @@ fn run_at(glyph: &GlyphBytes, at: usize, left: usize) -> Result<Run, Fault>
     })
 }
 
-/// Errors: Memory.
-fn push_copies(flags: &mut Vec<u8>, flag: u8, n: usize) -> Result<(), GlyfFault>
+fn push_copies(flags: &mut Vec<u8>, flag: u8, n: usize) -> Result<(), AllocError>
     requires { vec_len flags.old + n < 2 ^ 32 }
     ensures pushed { OnOk result (flags.new.items ≡ flags.old.items ++ replicate n flag) }
     ensures grown { OnOk result (vec_len flags.new ≡ vec_len flags.old + n) }
-    ensures memory { IfFont result (λ f. ⊥) }
 {
     flags.resize(flags.len() + n, flag)?;
     Ok(())
@@ -121,13 +116,12 @@ pub(crate) fn read_flags(
     glyph: &GlyphBytes,
     at: usize,
     points: usize,
-) -> Result<FlagList, GlyfFault>
+) -> Result<FlagList, FontFault>
     requires place { at ≤ length glyph.now.bytes }
     requires size { points < 2 ^ 32 }
-    ensures exact { ReadGives flags_listing result (flags_of glyph.now at points) }
+    ensures exact { FontGives flags_listing result (flags_of glyph.now at points) }
     ensures many { IfOk result (λ f. vec_len f.flags ≡ points) }
     ensures room { IfOk result (λ f. f.next ≤ length glyph.now.bytes) }
-    ensures ascii { IfFont result (λ f. IsTrue (is_ascii f.table)) }
 {
     let mut flags = Vec::new(alloc);
     let mut next = at;

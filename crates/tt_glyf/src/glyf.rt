@@ -1,27 +1,26 @@
 //! The glyph data of a font. Apple TrueType Reference Manual and OpenType, "The 'glyf' table".
 
 ghost use Rattle.std.specs.Prelude.{◌≡◌, ◌+◌, ◌-◌, ◌<◌, ◌≤◌, IsTrue, IfOk, IfErr, OnOk, length, false};
-ghost use Rattle.tt_core.specs.declared.directory.TheConstants.{FONT_LIMIT};
-ghost use Rattle.tt_core.specs.Directory.{is_ascii, HasNo};
+ghost use Rattle.tt_core.specs.Limits.{font_limit};
+ghost use Rattle.tt_core.specs.Directory.{HasNo};
 ghost use Rattle.tt_core.specs.Outcomes.{Gives};
 ghost use Rattle.tt_glyf.specs.Bytes.{stretch_at};
 ghost use Rattle.tt_glyf.specs.GlyphData.{glyph_in, described, glyph_data_of};
 ghost use Rattle.tt_glyf.specs.Loca.{glyph_tables_of, tables_with, entry_size, entry_place, glyph_offset, has_no_bytes, bytes_between, glyph_bytes_of, IsLocaDefect, IsRangeDefect, AreTables};
 ghost use Rattle.tt_glyf.specs.Meaning.{IfSimple, IfComposite, stretch_of, HasProgram, AreEnds, ArePoints, AreComponents, AreRecords};
 ghost use Rattle.tt_glyf.specs.Raw.{glyph_data};
-ghost use Rattle.tt_glyf.specs.Reading.{ReadGives, IfFont};
+ghost use Rattle.tt_core.specs.Outcomes.{FontGives};
 ghost use Rattle.tt_glyf.specs.Views.{header_view};
 
 use crate::bytes::GlyphBytes;
 use crate::composite::read_composite;
-use crate::fault::GlyfFault;
 use crate::header::{Header, read_header};
 use crate::loca::{entry, width};
 use crate::raw::Raw;
 use crate::simple::read_simple;
 use std::alloc::Global;
 use std::marker::Model;
-use tt_core::{FONT_LIMIT, Fault, Why};
+use tt_core::{FONT_LIMIT, Fault, Why, FontFault};
 use tt_metrics::{LocaFormat, Metrics};
 
 const LOCA: [u8; 4] = *b"loca";
@@ -50,14 +49,13 @@ impl<'a> Glyf<'a> {
     /// Takes loca and glyf of the font with these metrics. Error: LocaShort.
     #[tactic(auto, unfolding(crate::specs::Loca::glyph_tables_of))]
     pub fn open(loca: &'a [u8], glyf: &'a [u8], metrics: &Metrics) -> Result<Glyf<'a>, Fault>
-        requires loca { length loca.now ≤ FONT_LIMIT }
-        requires glyf { length glyf.now ≤ FONT_LIMIT }
+        requires loca { length loca.now ≤ font_limit }
+        requires glyf { length glyf.now ≤ font_limit }
         ensures exact { Gives (λ t. t) result (glyph_tables_of loca.now glyf.now metrics.now) }
         ensures whole { IfOk result (λ t. t ≡ tables_with loca.now glyf.now metrics.now) }
         ensures tables { IfOk result AreTables }
         ensures sound { OnOk result (HasNo (IsLocaDefect loca.now metrics.now)) }
         ensures fault { IfErr result (IsLocaDefect loca.now metrics.now) }
-        ensures ascii { IfErr result (λ f. IsTrue (is_ascii f.table)) }
     {
         let format = metrics.loca_format();
         let glyphs = metrics.glyphs();
@@ -85,12 +83,11 @@ impl<'a> Glyf<'a> {
     pub fn bytes(&self, g: u16) -> Result<&'a [u8], Fault>
         requires { g < self.now.glyphs }
         ensures exact { Gives (λ b. b.now) result (glyph_bytes_of self.now g) }
-        ensures size { IfOk result (λ b. length b.now ≤ FONT_LIMIT) }
+        ensures size { IfOk result (λ b. length b.now ≤ font_limit) }
         ensures place { has_no_bytes self.now g ≡ false → IfOk result (λ b. glyph_offset self.now g + length b.now ≤ length self.now.glyf) }
-        ensures limit { length self.now.glyf ≤ FONT_LIMIT }
+        ensures limit { length self.now.glyf ≤ font_limit }
         ensures sound { OnOk result (HasNo (IsRangeDefect self.now g)) }
         ensures fault { IfErr result (IsRangeDefect self.now g) }
-        ensures ascii { IfErr result (λ f. IsTrue (is_ascii f.table)) }
     {
         let start = self.start(g) as usize;
         let next = entry(self.loca, self.format, usize::from(g) + 1) as usize;
@@ -108,7 +105,7 @@ impl<'a> Glyf<'a> {
     fn has_no_bytes(&self, g: u16) -> bool
         requires { g < self.now.glyphs }
         ensures exact { result ≡ has_no_bytes self.now g }
-        ensures limit { length self.now.glyf ≤ FONT_LIMIT }
+        ensures limit { length self.now.glyf ≤ font_limit }
     {
         let start = entry(self.loca, self.format, usize::from(g));
         let next = entry(self.loca, self.format, usize::from(g) + 1);
@@ -117,28 +114,26 @@ impl<'a> Glyf<'a> {
 
     /// What a glyph is, as it stands in the file. Errors: GlyphRange, GlyphShort, ContourOrder,
     /// FlagRun, ComponentCount, ComponentGlyph, ScaledOffset, PointLimit, CoordRange, Memory.
-    pub fn read(&self, alloc: Global, g: u16) -> Result<Raw<'a>, GlyfFault>
+    pub fn read(&self, alloc: Global, g: u16) -> Result<Raw<'a>, FontFault>
         requires { g < self.now.glyphs }
-        ensures exact { ReadGives glyph_data result (glyph_data_of self.now g) }
+        ensures exact { FontGives glyph_data result (glyph_data_of self.now g) }
         ensures few { IfOk result (λ r. IfSimple (glyph_data r) (λ s. length s.points ≤ 16384)) }
         ensures ends { IfOk result (λ r. IfSimple (glyph_data r) (λ s. AreEnds (length s.points) s.ends)) }
         ensures sums { IfOk result (λ r. IfSimple (glyph_data r) (λ s. ArePoints (bytes_between self.now g) (s.code_at + length s.code - glyph_offset self.now g) s.points)) }
         ensures components { IfOk result (λ r. IfComposite (glyph_data r) (λ c. AreComponents self.now.glyphs (stretch_of self.now g) 10 c.records)) }
         ensures records { IfOk result (λ r. IfComposite (glyph_data r) (λ c. AreRecords self.now.glyphs c.records)) }
         ensures program { IfOk result (λ r. HasProgram self.now.glyf (glyph_data r)) }
-        ensures limit { length self.now.glyf ≤ FONT_LIMIT }
-        ensures ascii { IfFont result (λ f. IsTrue (is_ascii f.table)) }
+        ensures limit { length self.now.glyf ≤ font_limit }
     {
         let raw = self.read_whole(alloc, g)?;
         Ok(raw)
     }
 
     #[tactic(auto, unfolding(crate::specs::GlyphData::glyph_data_of))]
-    fn read_whole(&self, alloc: Global, g: u16) -> Result<Raw<'a>, GlyfFault>
+    fn read_whole(&self, alloc: Global, g: u16) -> Result<Raw<'a>, FontFault>
         requires { g < self.now.glyphs }
-        ensures exact { ReadGives glyph_data result (glyph_data_of self.now g) }
-        ensures limit { length self.now.glyf ≤ FONT_LIMIT }
-        ensures ascii { IfFont result (λ f. IsTrue (is_ascii f.table)) }
+        ensures exact { FontGives glyph_data result (glyph_data_of self.now g) }
+        ensures limit { length self.now.glyf ≤ font_limit }
     {
         if self.has_no_bytes(g) {
             return Ok(Raw::Empty);
@@ -150,9 +145,8 @@ impl<'a> Glyf<'a> {
 }
 
 /// The glyph that some bytes of glyf describe.
-fn read_glyph<'a>(alloc: Global, glyph: &GlyphBytes<'a>, glyphs: u16) -> Result<Raw<'a>, GlyfFault>
-    ensures exact { ReadGives glyph_data result (glyph_in glyphs glyph.now) }
-    ensures ascii { IfFont result (λ f. IsTrue (is_ascii f.table)) }
+fn read_glyph<'a>(alloc: Global, glyph: &GlyphBytes<'a>, glyphs: u16) -> Result<Raw<'a>, FontFault>
+    ensures exact { FontGives glyph_data result (glyph_in glyphs glyph.now) }
 {
     let header = read_header(glyph)?;
     read_described(alloc, glyph, header, glyphs)
@@ -165,10 +159,9 @@ fn read_described<'a>(
     glyph: &GlyphBytes<'a>,
     header: Header,
     glyphs: u16,
-) -> Result<Raw<'a>, GlyfFault>
+) -> Result<Raw<'a>, FontFault>
     requires { 10 ≤ length glyph.now.bytes }
-    ensures exact { ReadGives glyph_data result (described glyphs glyph.now (header_view header)) }
-    ensures ascii { IfFont result (λ f. IsTrue (is_ascii f.table)) }
+    ensures exact { FontGives glyph_data result (described glyphs glyph.now (header_view header)) }
 {
     if header.contours < 0 {
         return read_composite(alloc, glyph, header.x_min, glyphs);

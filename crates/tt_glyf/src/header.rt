@@ -1,7 +1,6 @@
 //! The header of a glyph. OpenType, "The 'glyf' table", "Glyph Header".
 
 ghost use Rattle.std.specs.Prelude.{◌≤◌, length, IsTrue, IfOk, IfErr};
-ghost use Rattle.tt_core.specs.Directory.{is_ascii};
 ghost use Rattle.tt_core.specs.Outcomes.{Gives};
 ghost use Rattle.tt_glyf.specs.GlyphData.{header_of};
 ghost use Rattle.tt_glyf.specs.Views.{header_view};
@@ -21,7 +20,6 @@ pub(crate) struct Header {
 pub(crate) fn read_header(glyph: &GlyphBytes) -> Result<Header, Fault>
     ensures exact { Gives header_view result (header_of glyph.now) }
     ensures room { IfOk result (λ h. 10 ≤ length glyph.now.bytes) }
-    ensures ascii { IfErr result (λ f. IsTrue (is_ascii f.table)) }
 {
     if glyph.len() < 10 {
         return Err(glyph.short());

@@ -6,21 +6,14 @@ mod component;
 mod component_flags;
 mod composite;
 mod coordinates;
-mod fault;
 mod flags;
 mod glyf;
 mod header;
-mod lists;
 mod loca;
 mod raw;
 mod simple;
-#[cfg(test)]
-mod test_font;
-#[cfg(test)]
-mod tests;
 
 pub use component_flags::ComponentFlags;
-pub use fault::GlyfFault;
 pub use glyf::Glyf;
-pub use lists::{Ends, Points, Records};
 pub use raw::{Raw, RawPoint, Record};
+pub use tt_core::FontFault as GlyfFault;

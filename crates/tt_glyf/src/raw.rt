@@ -4,7 +4,6 @@ ghost use Rattle.std.specs.Prelude.{◌≡◌};
 ghost use Rattle.tt_glyf.specs.Flags.{has};
 
 use crate::component_flags::{ComponentFlags, has_flag};
-use crate::lists::{Ends, Points, Records};
 
 /// A glyph, read.
 #[derive(Drop)]
@@ -13,9 +12,9 @@ pub enum Raw<'a> {
     Empty,
     Simple {
         x_min: i16,
-        points: Points,
+        points: Vec<RawPoint>,
         /// The last point of each contour.
-        ends: Ends,
+        ends: Vec<u16>,
         /// The glyph's program.
         code: &'a [u8],
         /// The program's offset in glyf.
@@ -23,7 +22,7 @@ pub enum Raw<'a> {
     },
     Composite {
         x_min: i16,
-        records: Records,
+        records: Vec<Record>,
         /// The glyph's program, empty where there is none.
         code: &'a [u8],
         /// The program's offset in glyf.

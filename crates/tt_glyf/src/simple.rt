@@ -1,21 +1,18 @@
 //! A simple glyph. OpenType, "The 'glyf' table", "Simple Glyph Description".
 
 ghost use Rattle.std.specs.Prelude.{◌≡◌, ◌+◌, ◌*◌, ◌^◌, ◌<◌, ◌≤◌, length, vec_len, IsTrue, IfOk, IfErr};
-ghost use Rattle.tt_core.specs.Directory.{is_ascii};
 ghost use Rattle.tt_core.specs.Outcomes.{Gives};
 ghost use Rattle.tt_glyf.specs.Raw.{glyph_data};
-ghost use Rattle.tt_glyf.specs.Reading.{ReadGives, IfFont};
+ghost use Rattle.tt_core.specs.Outcomes.{FontGives};
 ghost use Rattle.tt_glyf.specs.Simple.{end_at, ends_of, points_within, points_from, points_of, simple_of};
 ghost use Rattle.tt_glyf.specs.Views.{ends_listing};
 
 use crate::bytes::GlyphBytes;
 use crate::coordinates::{Axis, read_coordinates};
-use crate::fault::GlyfFault;
 use crate::flags::{PointFlags, has_flag, read_flags};
-use crate::lists::{Ends, Points};
 use crate::raw::{Raw, RawPoint};
-use std::alloc::Global;
-use tt_core::{Fault, Why};
+use std::alloc::{AllocError, Global};
+use tt_core::{Fault, Why, FontFault};
 
 /// The most points that a glyph may have (profile).
 const POINT_LIMIT: usize = 16_384;
@@ -35,7 +32,6 @@ const Y_AXIS: Axis = Axis {
 fn end_at(glyph: &GlyphBytes, at: usize, before: u16) -> Result<u16, Fault>
     ensures exact { Gives (λ e. e) result (end_at glyph.now at before) }
     ensures room { IfOk result (λ e. at + 2 ≤ length glyph.now.bytes) }
-    ensures ascii { IfErr result (λ f. IsTrue (is_ascii f.table)) }
 {
     let end = glyph.word(at)?;
     if end < before {
@@ -53,14 +49,13 @@ struct EndList {
 
 /// Errors: GlyphShort, ContourOrder, Memory.
 #[tactic(auto, using(crate::proofs::Contours::turn, crate::proofs::Contours::breaks, crate::proofs::Contours::done))]
-fn read_ends(alloc: Global, glyph: &GlyphBytes, contours: usize) -> Result<EndList, GlyfFault>
+fn read_ends(alloc: Global, glyph: &GlyphBytes, contours: usize) -> Result<EndList, FontFault>
     requires header { 10 ≤ length glyph.now.bytes }
     requires size { contours < 2 ^ 16 }
-    ensures exact { ReadGives ends_listing result (ends_of glyph.now contours) }
+    ensures exact { FontGives ends_listing result (ends_of glyph.now contours) }
     ensures many { IfOk result (λ e. vec_len e.ends ≡ contours) }
     ensures next { IfOk result (λ e. e.next ≡ 10 + 2 * contours) }
     ensures room { IfOk result (λ e. e.next ≤ length glyph.now.bytes) }
-    ensures ascii { IfFont result (λ f. IsTrue (is_ascii f.table)) }
 {
     let mut ends = Vec::new(alloc);
     let mut before = 0;
@@ -82,7 +77,6 @@ fn point_count(glyph: &GlyphBytes, list: &EndList) -> Result<usize, Fault>
     requires room { list.now.next ≤ length glyph.now.bytes }
     ensures exact { Gives (λ n. n) result (points_within glyph.now (ends_listing list.now)) }
     ensures few { IfOk result (λ n. n ≤ 16384) }
-    ensures ascii { IfErr result (λ f. IsTrue (is_ascii f.table)) }
 {
     let count = usize::from(list.ends[list.ends.len() - 1]) + 1;
     if count > POINT_LIMIT {
@@ -91,17 +85,16 @@ fn point_count(glyph: &GlyphBytes, list: &EndList) -> Result<usize, Fault>
     Ok(count)
 }
 
-/// The points of these flags and coordinates. Error: Memory.
+/// The points of these flags and coordinates.
 fn assembled(
     alloc: Global,
     flags: &[u8],
     xs: &[i16],
     ys: &[i16],
-) -> Result<Vec<RawPoint>, GlyfFault>
+) -> Result<Vec<RawPoint>, AllocError>
     requires xs { length xs.now ≡ length flags.now }
     requires ys { length ys.now ≡ length flags.now }
     ensures exact { IfOk result (λ p. p.items ≡ points_from flags.now xs.now ys.now) }
-    ensures memory { IfFont result (λ f. ⊥) }
 {
     let mut points = Vec::new(alloc);
     for i in 0..flags.len() {
@@ -122,16 +115,15 @@ fn read_points(
     glyph: &GlyphBytes,
     at: usize,
     count: usize,
-) -> Result<Vec<RawPoint>, GlyfFault>
+) -> Result<Vec<RawPoint>, FontFault>
     requires place { at ≤ length glyph.now.bytes }
     requires few { count ≤ 16384 }
-    ensures exact { ReadGives (λ p. p.items) result (points_of glyph.now at count) }
-    ensures ascii { IfFont result (λ f. IsTrue (is_ascii f.table)) }
+    ensures exact { FontGives (λ p. p.items) result (points_of glyph.now at count) }
 {
     let list = read_flags(alloc, glyph, at, count)?;
     let xs = read_coordinates(alloc, glyph, X_AXIS, &list.flags, list.next)?;
     let ys = read_coordinates(alloc, glyph, Y_AXIS, &list.flags, xs.next)?;
-    assembled(alloc, &list.flags, &xs.values, &ys.values)
+    Ok(assembled(alloc, &list.flags, &xs.values, &ys.values)?)
 }
 
 /// What stands behind the header of a glyph of some contours. Errors: GlyphShort, ContourOrder,
@@ -142,12 +134,11 @@ pub(crate) fn read_simple<'a>(
     glyph: &GlyphBytes<'a>,
     x_min: i16,
     contours: usize,
-) -> Result<Raw<'a>, GlyfFault>
+) -> Result<Raw<'a>, FontFault>
     requires header { 10 ≤ length glyph.now.bytes }
     requires some { 0 < contours }
     requires size { contours < 2 ^ 16 }
-    ensures exact { ReadGives glyph_data result (simple_of glyph.now x_min contours) }
-    ensures ascii { IfFont result (λ f. IsTrue (is_ascii f.table)) }
+    ensures exact { FontGives glyph_data result (simple_of glyph.now x_min contours) }
 {
     let list = read_ends(alloc, glyph, contours)?;
     let count = point_count(glyph, &list)?;
@@ -156,8 +147,8 @@ pub(crate) fn read_simple<'a>(
     let points = read_points(alloc, glyph, list.next + 2 + size, count)?;
     Ok(Raw::Simple {
         x_min,
-        points: Points::new(points),
-        ends: Ends::new(list.ends),
+        points,
+        ends: list.ends,
         code,
         code_at: glyph.place(list.next + 2),
     })

@@ -8,7 +8,7 @@ ghost use Rattle.std.specs.Prelude.{◌<◌};
 use anyhow::{Result, anyhow, bail};
 use std::{env, fmt, fs};
 use tt_core::{Dir, FONT_LIMIT, Fault};
-use tt_glyf::{Glyf, GlyfFault, Raw, RawPoint, Record};
+use tt_glyf::{Glyf, FontFault, Raw, RawPoint, Record};
 use tt_metrics::Metrics;
 
 fn main(rt: HostRuntime) -> Result<()> {
@@ -42,13 +42,13 @@ fn read_twice<'a, R: Eprint + AllocGlobal>(rt: &R, glyphs: &Glyf<'a>, g: u16) ->
 {
     match glyphs.read(rt.alloc(), g) {
         Ok(raw) => return Ok(raw),
-        Err(GlyfFault::Font(fault)) => return Err(refused(fault)),
-        Err(GlyfFault::Memory) => eprintln!(rt; "glyph {g}: out of memory")?,
+        Err(FontFault::Font(fault)) => return Err(refused(fault)),
+        Err(FontFault::Memory) => eprintln!(rt; "glyph {g}: out of memory")?,
     }
     match glyphs.read(rt.alloc(), g) {
         Ok(raw) => Ok(raw),
-        Err(GlyfFault::Font(fault)) => Err(refused(fault)),
-        Err(GlyfFault::Memory) => bail!("out of memory again"),
+        Err(FontFault::Font(fault)) => Err(refused(fault)),
+        Err(FontFault::Memory) => bail!("out of memory again"),
     }
 }
 

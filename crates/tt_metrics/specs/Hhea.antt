@@ -1,6 +1,6 @@
 -- Apple TrueType Reference Manual, "The 'hhea' table"; OpenType, "hhea: Horizontal Header Table".
 use Rattle.std.specs.Prelude.{◌≡◌, ℕ, ◌≤◌, ◌==◌, if◌then◌else◌, List, length, codes, Result, Ok, Err, ◌⊎◌}
-use Rattle.tt_core.specs.declared.fault.Fault.{Fault}
+use Rattle.tt_core.specs.Faults.{Fault}
 use Rattle.tt_core.specs.declared.fault.Why.TheVariants as why
 use Rattle.tt_core.specs.Directory.{needed_table, IsDefectIn}
 use Rattle.tt_core.specs.Faults.{fault_at}

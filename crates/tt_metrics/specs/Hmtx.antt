@@ -1,6 +1,6 @@
 -- Apple TrueType Reference Manual, "The 'hmtx' table"; OpenType, "hmtx: Horizontal Metrics Table".
 use Rattle.std.specs.Prelude.{ℕ, ◌+◌, ◌-◌, ◌*◌, min, nat_lt, if◌then◌else◌, List, codes, Result, ℤ, pos, unwrap_or}
-use Rattle.tt_core.specs.declared.fault.Fault.{Fault}
+use Rattle.tt_core.specs.Faults.{Fault}
 use Rattle.tt_core.specs.Directory.{needed_table, IsDefectIn}
 use Rattle.tt_core.specs.Numbers.{unsigned_at, signed_at}
 use Rattle.tt_core.specs.Outcomes.{◌>>=◌}

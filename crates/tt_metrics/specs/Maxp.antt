@@ -1,7 +1,7 @@
 -- Apple TrueType Reference Manual, "The 'maxp' table"; OpenType, "maxp: Maximum Profile". Of the maxima only those of
 -- the twilight zone and of the storage area are used (profile).
 use Rattle.std.specs.Prelude.{◌≡◌, ℕ, ◌≤◌, Bool, false, ◌==◌, if◌then◌else◌, List, length, codes, Result, Ok, Err, ◌⊎◌}
-use Rattle.tt_core.specs.declared.fault.Fault.{Fault}
+use Rattle.tt_core.specs.Faults.{Fault}
 use Rattle.tt_core.specs.declared.fault.Why.TheVariants as why
 use Rattle.tt_core.specs.Directory.{needed_table, IsDefectIn}
 use Rattle.tt_core.specs.Faults.{fault_at}

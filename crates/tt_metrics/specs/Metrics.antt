@@ -1,7 +1,7 @@
 -- Apple TrueType Reference Manual, "The 'head' table", "The 'maxp' table", "The 'hhea' table" and "The 'hmtx' table": the
 -- numbers of the four together.
 use Rattle.std.specs.Prelude.{◌≡◌, ℕ, ◌*◌, ◌<◌, ◌≤◌, ℤ, List, length, [], ◌∷◌, Result, Ok, IsOkAnd, ◌⊎◌, negsuc, refl}
-use Rattle.tt_core.specs.declared.fault.Fault.{Fault}
+use Rattle.tt_core.specs.Faults.{Fault}
 use Rattle.tt_core.specs.Outcomes.{◌>>=◌}
 use Rattle.tt_metrics.specs.declared.head.Head.{Head}
 use Rattle.tt_metrics.specs.declared.head.LocaFormat.{LocaFormat}

@@ -1,7 +1,7 @@
 -- OpenType, "Font Tables": head, maxp, hhea and hmtx are required. What the four share: a table that is long enough to
 -- be read.
 use Rattle.std.specs.Prelude.{◌≡◌, ℕ, ◌<◌, nat_lt, if◌then◌else◌, List, length, Result, Ok, Err}
-use Rattle.tt_core.specs.declared.fault.Fault.{Fault}
+use Rattle.tt_core.specs.Faults.{Fault}
 use Rattle.tt_core.specs.declared.fault.Why.TheVariants as why
 use Rattle.tt_core.specs.Faults.{fault_at}
 

@@ -1,7 +1,8 @@
 //! The font header. Apple TrueType Reference Manual, "The 'head' table".
 
 ghost use Rattle.std.specs.Prelude.{◌≡◌, ◌≤◌, IsTrue, IfOk, IfErr, OnOk, length};
-ghost use Rattle.tt_core.specs.Directory.{is_ascii, HasNo};
+ghost use Rattle.tt_core.specs.Limits.{font_limit};
+ghost use Rattle.tt_core.specs.Directory.{HasNo};
 ghost use Rattle.tt_core.specs.Outcomes.{Gives};
 ghost use Rattle.tt_metrics.specs.Head.{head_in, head_of, IsBadHead, IsHeadDefect};
 
@@ -34,20 +35,18 @@ pub(crate) fn read_head(dir: &Dir) -> Result<Head, Fault>
     ensures em_high { IfOk result (λ head. head.units_per_em ≤ 16384) }
     ensures sound { OnOk result (HasNo (IsHeadDefect dir.now)) }
     ensures fault { IfErr result (IsHeadDefect dir.now) }
-    ensures ascii { IfErr result (λ f. IsTrue (is_ascii f.table)) }
 {
     fields_of(dir.needed(HEAD)?)
 }
 
 #[tactic(auto, unfolding(crate::specs::Head::head_in))]
 fn fields_of(head: &[u8]) -> Result<Head, Fault>
-    requires { length head.now ≤ FONT_LIMIT }
+    requires { length head.now ≤ font_limit }
     ensures exact { Gives (λ head. head) result (head_in head.now) }
     ensures em_low { IfOk result (λ head. 16 ≤ head.units_per_em) }
     ensures em_high { IfOk result (λ head. head.units_per_em ≤ 16384) }
     ensures sound { OnOk result (HasNo (IsBadHead head.now)) }
     ensures fault { IfErr result (IsBadHead head.now) }
-    ensures ascii { IfErr result (λ f. IsTrue (is_ascii f.table)) }
 {
     let head = long_enough(HEAD, 54, head)?;
     if u32_at(head, 12).unwrap() != 0x5F0F_3CF5 {

@@ -1,7 +1,8 @@
 //! The horizontal header. Apple TrueType Reference Manual, "The 'hhea' table".
 
 ghost use Rattle.std.specs.Prelude.{◌≡◌, ◌≤◌, ◌<◌, IsTrue, IfOk, IfErr, OnOk, length};
-ghost use Rattle.tt_core.specs.Directory.{is_ascii, HasNo};
+ghost use Rattle.tt_core.specs.Limits.{font_limit};
+ghost use Rattle.tt_core.specs.Directory.{HasNo};
 ghost use Rattle.tt_core.specs.Outcomes.{Gives};
 ghost use Rattle.tt_metrics.specs.Hhea.{hhea_in, hhea_of, IsBadHhea, IsHheaDefect};
 
@@ -27,19 +28,17 @@ pub(crate) fn read_hhea(dir: &Dir) -> Result<Hhea, Fault>
     ensures long_metrics { IfOk result (λ hhea. 0 < hhea.long_metrics) }
     ensures sound { OnOk result (HasNo (IsHheaDefect dir.now)) }
     ensures fault { IfErr result (IsHheaDefect dir.now) }
-    ensures ascii { IfErr result (λ f. IsTrue (is_ascii f.table)) }
 {
     fields_of(dir.needed(HHEA)?)
 }
 
 #[tactic(auto, unfolding(crate::specs::Hhea::hhea_in))]
 fn fields_of(hhea: &[u8]) -> Result<Hhea, Fault>
-    requires { length hhea.now ≤ FONT_LIMIT }
+    requires { length hhea.now ≤ font_limit }
     ensures exact { Gives (λ hhea. hhea) result (hhea_in hhea.now) }
     ensures long_metrics { IfOk result (λ hhea. 0 < hhea.long_metrics) }
     ensures sound { OnOk result (HasNo (IsBadHhea hhea.now)) }
     ensures fault { IfErr result (IsBadHhea hhea.now) }
-    ensures ascii { IfErr result (λ f. IsTrue (is_ascii f.table)) }
 {
     let hhea = long_enough(HHEA, 36, hhea)?;
     let long_metrics = u16_at(hhea, 34).unwrap();

@@ -1,7 +1,8 @@
 //! The maximum profile. Apple TrueType Reference Manual, "The 'maxp' table".
 
 ghost use Rattle.std.specs.Prelude.{◌≡◌, ◌≤◌, ◌<◌, IsTrue, IfOk, IfErr, OnOk, length};
-ghost use Rattle.tt_core.specs.Directory.{is_ascii, HasNo};
+ghost use Rattle.tt_core.specs.Limits.{font_limit};
+ghost use Rattle.tt_core.specs.Directory.{HasNo};
 ghost use Rattle.tt_core.specs.Outcomes.{Gives};
 ghost use Rattle.tt_metrics.specs.Maxp.{maxp_in, maxp_of, IsBadMaxp, IsMaxpDefect};
 
@@ -26,19 +27,17 @@ pub(crate) fn read_maxp(dir: &Dir) -> Result<Maxp, Fault>
     ensures glyphs { IfOk result (λ maxp. 0 < maxp.glyphs) }
     ensures sound { OnOk result (HasNo (IsMaxpDefect dir.now)) }
     ensures fault { IfErr result (IsMaxpDefect dir.now) }
-    ensures ascii { IfErr result (λ f. IsTrue (is_ascii f.table)) }
 {
     fields_of(dir.needed(MAXP)?)
 }
 
 #[tactic(auto, unfolding(crate::specs::Maxp::maxp_in))]
 fn fields_of(maxp: &[u8]) -> Result<Maxp, Fault>
-    requires { length maxp.now ≤ FONT_LIMIT }
+    requires { length maxp.now ≤ font_limit }
     ensures exact { Gives (λ maxp. maxp) result (maxp_in maxp.now) }
     ensures glyphs { IfOk result (λ maxp. 0 < maxp.glyphs) }
     ensures sound { OnOk result (HasNo (IsBadMaxp maxp.now)) }
     ensures fault { IfErr result (IsBadMaxp maxp.now) }
-    ensures ascii { IfErr result (λ f. IsTrue (is_ascii f.table)) }
 {
     let maxp = long_enough(MAXP, 4, maxp)?;
     if u32_at(maxp, 0).unwrap() != 0x0001_0000 {

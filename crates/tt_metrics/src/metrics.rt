@@ -1,7 +1,7 @@
 //! The four tables together.
 
 ghost use Rattle.std.specs.Prelude.{◌≡◌, ◌<◌, ◌≤◌, IsTrue, IfOk, IfErr, OnOk};
-ghost use Rattle.tt_core.specs.Directory.{is_ascii, HasNo};
+ghost use Rattle.tt_core.specs.Directory.{HasNo};
 ghost use Rattle.tt_core.specs.Outcomes.{Gives};
 ghost use Rattle.tt_metrics.specs.Metrics.{metrics_of, units_per_em_of, loca_format_of, glyphs_of, twilight_of, storage_of, ascent_of, descent_of, advance_of, left_side_bearing_of, IsInRange, IsMetricsDefect};
 
@@ -41,7 +41,6 @@ impl<'a> Metrics<'a> {
         ensures ranges { IfOk result IsInRange }
         ensures sound { OnOk result (HasNo (IsMetricsDefect dir.now)) }
         ensures fault { IfErr result (IsMetricsDefect dir.now) }
-        ensures ascii { IfErr result (λ f. IsTrue (is_ascii f.table)) }
     {
         let head = read_head(dir)?;
         let maxp = read_maxp(dir)?;

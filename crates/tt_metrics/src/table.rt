@@ -1,7 +1,9 @@
 //! A table that has to be there with so many bytes.
 
 ghost use Rattle.std.specs.Prelude.{◌≡◌, ◌≤◌, length, IsTrue, IfOk, IfErr, OnOk};
-ghost use Rattle.tt_core.specs.Directory.{is_ascii, HasNo};
+ghost use Rattle.tt_core.specs.Limits.{font_limit};
+ghost use Rattle.tt_core.specs.Directory.{HasNo};
+ghost use Rattle.tt_core.specs.Faults.{is_ascii};
 ghost use Rattle.tt_core.specs.Outcomes.{Gives};
 ghost use Rattle.tt_metrics.specs.Tables.{or_short, IsShort};
 
@@ -14,13 +16,12 @@ pub(crate) fn long_enough<'a>(
     table: &'a [u8],
 ) -> Result<&'a [u8], Fault>
     requires ascii { IsTrue (is_ascii tag) }
-    requires size { length table.now ≤ FONT_LIMIT }
+    requires size { length table.now ≤ font_limit }
     ensures exact { Gives (λ t. t.now) result (or_short tag least table.now) }
     ensures whole { IfOk result (λ t. t.now ≡ table.now) }
     ensures long { IfOk result (λ t. least ≤ length t.now) }
     ensures sound { OnOk result (HasNo (IsShort tag least table.now)) }
     ensures fault { IfErr result (IsShort tag least table.now) }
-    ensures ascii { IfErr result (λ f. IsTrue (is_ascii f.table)) }
 {
     if table.len() < least {
         return Err(Fault::new(tag, table.len() as u32, Why::MetricsShort));

@@ -20,7 +20,7 @@ use std::io::{self, BufWriter, Write};
 use std::{env, fmt, fs, slice};
 use tt_arc::chords;
 use tt_core::{Dir, FONT_LIMIT, Fault};
-use tt_fit::{Fit, FitFault, Fitter, Outline, Programs};
+use tt_fit::{Fit, FontFault, Fitter, Outline, Programs};
 use tt_glyf::Glyf;
 use tt_metrics::Metrics;
 use tt_scan::{Frame, Tape};
@@ -88,8 +88,8 @@ fn print_font<R: Print + Eprint + AllocGlobal>(
     };
     match Fitter::new(rt.alloc(), &metrics, glyphs, programs, size, Fit::None) {
         Ok(fitter) => print_glyphs(rt, &fitter, metrics.glyphs(), words),
-        Err(FitFault::Font(fault)) => Err(refused(fault)),
-        Err(FitFault::Memory) => bail!("out of memory"),
+        Err(FontFault::Font(fault)) => Err(refused(fault)),
+        Err(FontFault::Memory) => bail!("out of memory"),
     }
 }
 
@@ -150,19 +150,19 @@ fn print_glyph<R: Eprint, W: Write>(rt: &R, out: &mut W, fitter: &Fitter, g: u16
 {
     match fitted_twice(rt, fitter, g) {
         Ok(outline) => print_outline(out, g, &outline),
-        Err(FitFault::Font(fault)) => print_refusal(out, g, fault),
-        Err(FitFault::Memory) => bail!("out of memory again"),
+        Err(FontFault::Font(fault)) => print_refusal(out, g, fault),
+        Err(FontFault::Memory) => bail!("out of memory again"),
     }
 }
 
 /// Asks for an outline, and once more where memory was refused.
-fn fitted_twice<R: Eprint>(rt: &R, fitter: &Fitter, g: u16) -> Result<Outline, FitFault>
+fn fitted_twice<R: Eprint>(rt: &R, fitter: &Fitter, g: u16) -> Result<Outline, FontFault>
     requires { g < fitter.now.tables.glyphs }
     ensures coordinates { IfOk result (λ o. All IsPoint o.points.items) }
     ensures ends { IfOk result (λ o. AreEnds (length o.points.items) o.ends.items) }
 {
     match fitter.fitted(g) {
-        Err(FitFault::Memory) => {
+        Err(FontFault::Memory) => {
             tell(rt, g);
             fitter.fitted(g)
         }
@@ -213,8 +213,8 @@ fn print_picture<R: Eprint + AllocGlobal, W: Write>(
             let mut tape = chords_twice(rt, g, &outline, frame)?;
             print_pixels(out, &mut tape, frame)
         }
-        Err(FitFault::Font(fault)) => print_refusal(out, g, fault),
-        Err(FitFault::Memory) => bail!("out of memory again"),
+        Err(FontFault::Font(fault)) => print_refusal(out, g, fault),
+        Err(FontFault::Memory) => bail!("out of memory again"),
     }
 }
 

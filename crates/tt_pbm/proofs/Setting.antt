@@ -4,7 +4,7 @@ use Rattle.std.specs.Int.{w8}
 use Rattle.std.proofs.lemmas.Bool.Decides.{nat_tests}
 use Rattle.std.proofs.lemmas.Bool.{cases_eq}
 use Rattle.std.proofs.lemmas.Nat.Bits.{bit_at_set_same, bit_at_set_other}
-use Rattle.tt_pbm.specs.Bits.{bit}
+use Rattle.tt_core.specs.Bits.{bit}
 
 -- the row with the byte of a column changed
 abbrev blackened : List ℕ → ℕ → List ℕ

@@ -1,3 +1,2 @@
-pub mod Bits
 pub mod P4
 pub mod Rows

@@ -5,6 +5,7 @@ use Rattle.std.specs.Prelude.{◌≡◌, refl, ℕ, zero, suc, ◌+◌, ◌*◌,
 use Rattle.std.specs.Fmt.{digits}
 use Rattle.std.specs.List.{range_with_len, sum_by}
 use Rattle.std.proofs.Common.{arith}
+use Rattle.tt_core.specs.Bits.{stride}
 use Rattle.tt_pbm.specs.declared.header.Header.{Header}
 
 -- `P4`, width and height in decimal
@@ -14,10 +15,6 @@ p4_header_of w h = codes "P4\n" ++ (decimal w ++ (codes " " ++ (decimal h ++ cod
 -- the bytes that a header holds
 abbrev pub header_bytes : Header → List ℕ
 header_bytes header = take header.len header.bytes
-
--- how many bytes a row of w pixels has
-abbrev pub stride : ℕ → ℕ
-stride w = (w + 7) / 8
 
 -- n columns as the digits of a number in base 2, the first column highest, 1 for black
 abbrev pub columns : ℕ → (ℕ → Bool) → ℕ

@@ -9,8 +9,9 @@ use Rattle.std.proofs.lemmas.List.{map-append}
 use Rattle.std.proofs.lemmas.List.FromFn.{length-map-range_with_len, get_or-map-range_with_len, take-map-range_with_len}
 use Rattle.std.proofs.lemmas.Nat.{div-mul-add, mod-mul-add}
 use Rattle.std.proofs.lemmas.Nat.Bits.{bit_at_lowest, bit_at-suc, bit_at-lt, bit_at-zero, same_from_bits_below}
-use Rattle.tt_pbm.specs.P4.{stride, columns, shows, byte_of, byte_at, rows}
-use Rattle.tt_pbm.specs.Bits.{bit}
+use Rattle.tt_core.specs.Bits.{stride}
+use Rattle.tt_pbm.specs.P4.{columns, shows, byte_of, byte_at, rows}
+use Rattle.tt_core.specs.Bits.{bit}
 
 -- ---- splitting
 

@@ -1,13 +1,13 @@
 -- The defects that the steps of a drawing tell, joined.
 use Rattle.std.proofs.Common.{◌≡◌, ℕ, List, map, Result, Ok, Err, inl, inr, subst}
 use Rattle.std.specs.Prelude.{IsOkAnd, OnOk}
-use Rattle.tt_core.specs.declared.fault.Fault.{Fault}
+use Rattle.tt_core.specs.Faults.{Fault}
 use Rattle.tt_core.specs.Directory.{HasNo, IsDefectIn, IsTableDefect}
-use Rattle.tt_fit.specs.declared.fault.FitFault.{FitFault}
-use Rattle.tt_fit.specs.declared.fault.FitFault.TheVariants as fit
+use Rattle.tt_fit.specs.declared.fault.FontFault.{FontFault}
+use Rattle.tt_fit.specs.declared.fault.FontFault.TheVariants as fit
 use Rattle.tt_fit.specs.Fitting.{Setting}
 use Rattle.tt_fit.specs.Preparation.{setting_of}
-use Rattle.tt_fit.specs.Reading.{FitGives}
+use Rattle.tt_fit.specs.Reading.{FontGives}
 use Rattle.tt_glyf.specs.Bytes.{glyf_tag}
 use Rattle.tt_glyf.specs.Loca.{GlyphTables, loca_tag, IsLocaDefect}
 use Rattle.tt_line.specs.Layout.{text_glyphs}
@@ -34,7 +34,7 @@ as_font_made (Ok y) x made = cc
 as_font_made (Err e) x made = absurd (cc)
 
 -- a fault of preparing the programs is one of what outlines are made from
-pub preparing_tells : (face : Face) (a : Ask) (tables : GlyphTables) → glyphs_in face.directory face.metrics ≡ Ok tables → (e : FitFault) → FitGives {X = Setting} (λ f. f) (Err e) (setting_of face.metrics tables no_programs a.ppem a.fit) → NamesDefect (IsSettingDefect face a) (of_fit_fault e)
+pub preparing_tells : (face : Face) (a : Ask) (tables : GlyphTables) → glyphs_in face.directory face.metrics ≡ Ok tables → (e : FontFault) → FontGives {X = Setting} (λ f. f) (Err e) (setting_of face.metrics tables no_programs a.ppem a.fit) → NamesDefect (IsSettingDefect face a) (of_fit_fault e)
 preparing_tells face a tables there (fit.Font f) fails = inr (rw there fails)
 preparing_tells face a tables there fit.Memory fails = tt
 
@@ -48,7 +48,7 @@ no_setting_defect face a tables s there good made = λ fault defect. elim defect
 ]
 
 -- a glyph's fault is one of the line
-pub glyph_tells : {X : Type 0} (view : X → List (List Edge)) (face : Face) (a : Ask) (s : Setting) (gs : List (ℕ × ℕ)) → setting_in face a ≡ Ok s → (e : FitFault) → FitGives view (Err e) (each (glyph_edges s) gs) → NamesDefect (IsLineDefect face a (map (λ g. g.0) gs)) (of_fit_fault e)
+pub glyph_tells : {X : Type 0} (view : X → List (List Edge)) (face : Face) (a : Ask) (s : Setting) (gs : List (ℕ × ℕ)) → setting_in face a ≡ Ok s → (e : FontFault) → FontGives view (Err e) (each (glyph_edges s) gs) → NamesDefect (IsLineDefect face a (map (λ g. g.0) gs)) (of_fit_fault e)
 glyph_tells view face a s gs there (fit.Font f) fails = inr (rw there (defect_of_line s gs f fails))
 glyph_tells view face a s gs there fit.Memory fails = tt
 

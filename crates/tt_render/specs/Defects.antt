@@ -1,6 +1,6 @@
 -- The defects that a call can meet in a font.
 use Rattle.std.specs.Prelude.{◌≡◌, ◌<◌, List, ℕ, length, slice_index, Option, Some, None, Result, Ok, Err, IsOkAnd, IsTrue, ⊤, ◌⊎◌}
-use Rattle.tt_core.specs.declared.fault.Fault.{Fault}
+use Rattle.tt_core.specs.Faults.{Fault}
 use Rattle.tt_core.specs.Directory.{HasNo, IsDefectIn, IsTableDefect, IsDirectoryDefect, is_ascii}
 use Rattle.tt_fit.specs.Fitting.{Setting, fitted_outline}
 use Rattle.tt_fit.specs.Preparation.{setting_of}

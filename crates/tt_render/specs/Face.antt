@@ -1,7 +1,7 @@
 -- Apple TrueType Reference Manual, "The Font Directory", and OpenType, "cmap": what a text is looked up in.
 use Rattle.std.specs.Prelude.{ℕ, List, codes, Result, Ok}
 use Rattle.tt_cmap.specs.Lookup.{Lookup, lookup_of}
-use Rattle.tt_core.specs.declared.fault.Fault.{Fault}
+use Rattle.tt_core.specs.Faults.{Fault}
 use Rattle.tt_core.specs.Directory.{directory_of, needed_table}
 use Rattle.tt_core.specs.Outcomes.{◌>>=◌}
 use Rattle.tt_metrics.specs.Metrics.{Fields, metrics_of, glyphs_of}

@@ -1,7 +1,7 @@
 -- What `map` writes: for each character its code point, its glyph and the glyph's advance in font units.
 use Rattle.std.specs.Prelude.{ℕ, ◌-◌, List, ◌++◌, length, replicate, flat_map, true, chars, codes, decimal, nat_lt, if◌then◌else◌, Result, Ok, Err, ◌≡◌, refl}
 use Rattle.std.specs.Fmt.{digits}
-use Rattle.tt_core.specs.declared.fault.Fault.{Fault}
+use Rattle.tt_core.specs.Faults.{Fault}
 use Rattle.tt_core.specs.declared.fault.JobFault.TheVariants.{TextLong}
 use Rattle.tt_core.specs.Outcomes.{◌>>=◌}
 use Rattle.tt_cmap.specs.Lookup.{Lookup, glyph_of}

@@ -1,8 +1,8 @@
 -- No part of the standard: what a call promises of its answer and of both devices, on each of its answers.
 use Rattle.std.specs.Prelude.{◌≡◌, ℕ, ◌<◌, ◌≤◌, Bool, true, false, nat_lt, if◌then◌else◌, List, length, take, chars, Option, IfSome, Result, Ok, Err, ⊤}
 use Rattle.std.specs.Io.KnownBytes.{Appends, Consumes, IsAtEnd, Keeps}
-use Rattle.tt_core.specs.declared.directory.TheConstants.{FONT_LIMIT}
-use Rattle.tt_core.specs.declared.fault.Fault.{Fault}
+use Rattle.tt_core.specs.Limits.{font_limit}
+use Rattle.tt_core.specs.Faults.{Fault}
 use Rattle.tt_core.specs.declared.fault.JobFault.{JobFault}
 use Rattle.tt_core.specs.declared.fault.JobFault.TheVariants as fault
 use Rattle.tt_render.specs.declared.characters.TheConstants.{TEXT_LIMIT}
@@ -25,7 +25,7 @@ as_job (Err fault) = Err (job fault)
 
 -- what is made of a font, if it is not too large to be read
 abbrev pub of_font : (List ℕ → Result (List ℕ) Refused) → List ℕ → Result (List ℕ) Refused
-of_font made file = if nat_lt FONT_LIMIT (length file) then Err large else made file
+of_font made file = if nat_lt font_limit (length file) then Err large else made file
 
 -- a reader and a writer, before a call and after it: the bytes that are left, those that went out, and who has failed
 pub record Traffic : Type 0 where

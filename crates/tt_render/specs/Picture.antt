@@ -2,7 +2,7 @@
 -- "TrueType Fundamentals"), written as format P4 of Netpbm's PBM. Margins and limits are profile.
 use Rattle.std.specs.Prelude.{ℕ, ◌*◌, ◌≤◌, ◌||◌, nat_lt, if◌then◌else◌, ℤ, pos, ◌-ℤ◌, List, [], ◌∷◌, ◌++◌, length, get_or, chars, Result, Ok, Err}
 use Rattle.tt_arc.specs.Chords.{chord_edges}
-use Rattle.tt_core.specs.declared.fault.Fault.{Fault}
+use Rattle.tt_core.specs.Faults.{Fault}
 use Rattle.tt_core.specs.declared.fault.JobFault.{JobFault}
 use Rattle.tt_core.specs.declared.fault.JobFault.TheVariants as fault
 use Rattle.tt_core.specs.Directory.{needed_table}

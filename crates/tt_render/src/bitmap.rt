@@ -1,8 +1,9 @@
 //! The bits of a picture, row by row.
 
 ghost use Rattle.std.specs.Prelude.{◌≡◌, ℕ, ◌+◌, ◌*◌, ◌^◌, ◌<◌, ◌≤◌, ◌||◌, ◌&&◌, ◌==◌, nat_lt, pos, length, replicate, All, IfOk};
-ghost use Rattle.tt_pbm.specs.Bits.{bit};
-ghost use Rattle.tt_pbm.specs.P4.{stride, rows};
+ghost use Rattle.tt_core.specs.Bits.{bit};
+ghost use Rattle.tt_core.specs.Bits.{stride};
+ghost use Rattle.tt_pbm.specs.P4.{rows};
 ghost use Rattle.tt_scan.specs.Winding.{is_black, column_x, row_y, FrameFits};
 ghost use Rattle.tt_render.specs.Pixels.{is_black_pixel, edges_in, TapeFits, row_crossings};
 

@@ -1,6 +1,7 @@
 //! Each character's glyph and advance, as lines.
 
 ghost use Rattle.std.specs.Prelude.{◌≡◌, ◌<◌, ◌≤◌, ◌++◌, false, nat_lt, length, chars, string_bytes, IfOk, IfErr, OnOk};
+ghost use Rattle.tt_core.specs.Limits.{font_limit};
 ghost use Rattle.tt_metrics.specs.Metrics.{glyphs_of};
 ghost use Rattle.tt_core.specs.declared.fault.JobFault.TheVariants.{TextLong};
 ghost use Rattle.tt_render.specs.Defects.{IsFaceDefect, TellsDefects, TellsDefectsOf, HasAsciiTable};
@@ -43,7 +44,6 @@ pub fn map<R: Source, W: Sink>(
     }) (map_outcome text.now) }
     ensures defects { TellsDefectsOf (R.left font.old) IsFaceDefect result }
     ensures text { IfJob result (λ j. (j ≡ TextLong) × (TEXT_LIMIT < length (chars text.now))) }
-    ensures ascii { IfErr result HasAsciiTable }
 {
     test_text(text)?;
     let file = read_font(alloc, font)?;
@@ -72,10 +72,9 @@ pub(crate) fn is_long(text: &str) -> bool
 /// The lines by the tables of a font file.
 #[tactic(auto, unfolding(crate::specs::MapLines::lines_of))]
 fn lines_by(alloc: Global, file: &[u8], text: &str) -> Result<String, RunFault>
-    requires { length file.now ≤ FONT_LIMIT }
+    requires { length file.now ≤ font_limit }
     ensures exact { MakingGives string_bytes result (as_font (lines_of file.now text.now)) }
     ensures defects { TellsDefects (IsFaceDefect file.now) result }
-    ensures ascii { IfErr result HasAsciiTable }
 {
     let face = open_face(file)?;
     Ok(lines(alloc, &face.metrics, &face.cmap, text)?)

@@ -3,8 +3,7 @@
 ghost use Rattle.std.specs.Prelude.{◌≡◌, ◌*◌, ◌<◌, ◌≤◌, ◌^◌, length, All, IsTrue, IfOk, IfSome, get_or, OnOk, Err};
 ghost use Rattle.tt_fit.specs.Fitting.{fitted_outline};
 ghost use Rattle.tt_fit.specs.Outline.{IsOutline, outline_of};
-ghost use Rattle.tt_fit.specs.Reading.{FitGives, IfFont};
-ghost use Rattle.tt_core.specs.Directory.{is_ascii};
+ghost use Rattle.tt_fit.specs.Reading.{FontGives, IfFont};
 ghost use Rattle.tt_scan.specs.Winding.{FrameFits};
 ghost use Rattle.tt_render.specs.declared.drawing.Fitted.{Fitted};
 ghost use Rattle.tt_render.specs.Outlines.{IsFitted};
@@ -13,7 +12,7 @@ ghost use Rattle.tt_render.specs.Pixels.{edges_in, TapeFits};
 
 use std::alloc::{AllocError, Global};
 use tt_arc::chords;
-use tt_fit::{FitFault, Fitter, Outline};
+use tt_fit::{FontFault, Fitter, Outline};
 use tt_scan::{Frame, Tape};
 
 /// A glyph of the line and its outline.
@@ -36,13 +35,12 @@ fn find(kept: &[Fitted], glyph: u16) -> Option<usize>
 }
 
 /// Where the outline of a glyph is kept; it is made if it is not there.
-fn keep(kept: &mut Vec<Fitted>, fitter: &Fitter, glyph: u16) -> Result<usize, FitFault>
+fn keep(kept: &mut Vec<Fitted>, fitter: &Fitter, glyph: u16) -> Result<usize, FontFault>
     requires known { glyph < fitter.now.tables.glyphs }
     requires kept { All (IsFitted fitter.now) kept.old.items }
     ensures found { IfOk result (λ i. (i < length kept.new.items) × ((d : Fitted) → (get_or kept.new.items i d).glyph ≡ glyph)) }
     ensures kept { OnOk result (All (IsFitted fitter.now) kept.new.items) }
     ensures fault { IfFont result (λ f. fitted_outline fitter.now glyph ≡ Err f) }
-    ensures ascii { IfFont result (λ f. IsTrue (is_ascii f.table)) }
 {
     if let Some(i) = find(kept, glyph) {
         return Ok(i);
@@ -77,15 +75,14 @@ fn glyph_tape(
     fitter: &Fitter,
     placed: (u16, u32),
     frame: Frame,
-) -> Result<Tape, FitFault>
+) -> Result<Tape, FontFault>
     requires known { placed.0 < fitter.now.tables.glyphs }
     requires pen { placed.1 ≤ 16384 }
     requires kept { All (IsFitted fitter.now) kept.old.items }
     requires frame { FrameFits frame }
-    ensures exact { FitGives (λ t. t.edges) result (glyph_edges fitter.now placed) }
+    ensures exact { FontGives (λ t. t.edges) result (glyph_edges fitter.now placed) }
     ensures fits { IfOk result (TapeFits frame 0) }
     ensures kept { OnOk result (All (IsFitted fitter.now) kept.new.items) }
-    ensures ascii { IfFont result (λ f. IsTrue (is_ascii f.table)) }
 {
     let at = keep(kept, fitter, placed.0)?;
     Ok(tape_at(alloc, &kept[at].outline, placed.1, frame)?)
@@ -97,13 +94,12 @@ pub(crate) fn tapes(
     fitter: &Fitter,
     glyphs: &[(u16, u32)],
     frame: Frame,
-) -> Result<Vec<Tape>, FitFault>
+) -> Result<Vec<Tape>, FontFault>
     requires known { All (λ g. g.0 < fitter.now.tables.glyphs) glyphs.now }
     requires pens { All (λ g. g.1 ≤ 16384) glyphs.now }
     requires frame { FrameFits frame }
-    ensures exact { FitGives (λ v. edges_in v.items) result (each (glyph_edges fitter.now) glyphs.now) }
+    ensures exact { FontGives (λ v. edges_in v.items) result (each (glyph_edges fitter.now) glyphs.now) }
     ensures fits { IfOk result (λ v. All (TapeFits frame 0) v.items) }
-    ensures ascii { IfFont result (λ f. IsTrue (is_ascii f.table)) }
 {
     let mut kept = Vec::new(alloc);
     let mut tapes = Vec::new(alloc);

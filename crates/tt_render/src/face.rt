@@ -1,7 +1,8 @@
 //! The tables that every text is looked up in.
 
 ghost use Rattle.std.specs.Prelude.{◌≡◌, ◌≤◌, length, IsTrue, IfOk, IfErr, OnOk};
-ghost use Rattle.tt_core.specs.Directory.{is_ascii, HasNo};
+ghost use Rattle.tt_core.specs.Limits.{font_limit};
+ghost use Rattle.tt_core.specs.Directory.{HasNo};
 ghost use Rattle.tt_core.specs.Outcomes.{Gives};
 ghost use Rattle.tt_metrics.specs.Metrics.{glyphs_of};
 ghost use Rattle.tt_render.specs.Defects.{IsFaceDefect};
@@ -22,13 +23,12 @@ pub(crate) struct Face<'a> {
 /// The tables of a font file. Errors: those of the directory, of head, maxp, hhea and hmtx, and of cmap.
 #[tactic(auto, unfolding(crate::specs::Face::face_of))]
 pub(crate) fn open_face<'a>(file: &'a [u8]) -> Result<Face<'a>, Fault>
-    requires { length file.now ≤ FONT_LIMIT }
+    requires { length file.now ≤ font_limit }
     ensures exact { Gives face_view result (face_of file.now) }
     ensures whole { IfOk result (λ f. f.dir ≡ file.now) }
     ensures glyphs { IfOk result (λ f. f.cmap.glyphs ≡ glyphs_of f.metrics) }
     ensures sound { OnOk result (HasNo (IsFaceDefect file.now)) }
     ensures fault { IfErr result (IsFaceDefect file.now) }
-    ensures ascii { IfErr result (λ f. IsTrue (is_ascii f.table)) }
 {
     let dir = Dir::open(file)?;
     let metrics = Metrics::open(&dir)?;

@@ -7,7 +7,7 @@ ghost use Rattle.tt_render.specs.Views.{of_fit_fault, of_line_fault};
 use std::alloc::{AllocError, AllocFailed};
 use thiserror::Error;
 use tt_core::{Fault, JobFault};
-use tt_fit::FitFault;
+use tt_fit::FontFault;
 use tt_line::LineFault;
 use tt_pbm::Cut;
 
@@ -61,13 +61,13 @@ impl From<LineFault> for RunFault {
     }
 }
 
-impl From<FitFault> for RunFault {
+impl From<FontFault> for RunFault {
     ghost from_gives = { λ f e. e ≡ of_fit_fault f };
 
-    fn from(fault: FitFault) -> RunFault {
+    fn from(fault: FontFault) -> RunFault {
         match fault {
-            FitFault::Font(fault) => RunFault::Font(fault),
-            FitFault::Memory => RunFault::Memory,
+            FontFault::Font(fault) => RunFault::Font(fault),
+            FontFault::Memory => RunFault::Memory,
         }
     }
 }

@@ -1,7 +1,8 @@
 //! The picture of a line.
 
 ghost use Rattle.std.specs.Prelude.{◌≡◌, ◌<◌, ◌≤◌, ◌^◌, length, map, unsigned_abs, All, IsTrue, IfOk, IfErr, OnOk};
-ghost use Rattle.tt_core.specs.Directory.{is_ascii, HasNo};
+ghost use Rattle.tt_core.specs.Limits.{font_limit};
+ghost use Rattle.tt_core.specs.Directory.{HasNo};
 ghost use Rattle.tt_core.specs.Outcomes.{Gives};
 ghost use Rattle.tt_line.specs.Outcome.{placement_of};
 ghost use Rattle.tt_metrics.specs.Metrics.{loca_format_of, glyphs_of};
@@ -39,7 +40,6 @@ fn open_glyf<'a>(face: &Face<'a>) -> Result<Glyf<'a>, Fault>
     ensures glyphs { IfOk result (λ t. t.glyphs ≡ glyphs_of face.now.metrics) }
     ensures sound { OnOk result (HasNo (IsGlyphTableDefect face.now.dir face.now.metrics)) }
     ensures fault { IfErr result (IsGlyphTableDefect face.now.dir face.now.metrics) }
-    ensures ascii { IfErr result (λ f. IsTrue (is_ascii f.table)) }
 {
     let loca = face.dir.needed(*b"loca")?;
     // A loca that is too short comes before a glyf that is not there.
@@ -55,7 +55,6 @@ fn open_fitter<'a>(alloc: Global, face: &Face<'a>, job: &Job) -> Result<Fitter<'
     ensures exact { MakingGives (λ f. f) result (as_font (setting_in (face_view face.now) (ask_of job.now))) }
     ensures glyphs { IfOk result (λ f. f.tables.glyphs ≡ glyphs_of face.now.metrics) }
     ensures defects { TellsDefects (IsSettingDefect (face_view face.now) (ask_of job.now)) result }
-    ensures ascii { IfErr result HasAsciiTable }
 {
     let glyf = open_glyf(face)?;
     let programs = Programs {
@@ -79,7 +78,6 @@ fn draw_line(alloc: Global, face: &Face, job: &Job, line: &Line) -> Result<Pictu
     ensures exact { MakingGives picture_bytes result (as_font (drawn (face_view face.now) (ask_of job.now) (placement_of line.now))) }
     ensures header { IfOk result (λ p. p.header.len ≤ 16) }
     ensures defects { TellsDefects (IsLineDefect (face_view face.now) (ask_of job.now) (map (λ g. g.0) line.now.glyphs.items)) result }
-    ensures ascii { IfErr result HasAsciiTable }
 {
     let fitter = open_fitter(alloc, face, job)?;
     let frame = Frame {
@@ -101,12 +99,11 @@ fn draw_line(alloc: Global, face: &Face, job: &Job, line: &Line) -> Result<Pictu
 /// the text. Memory comes where a growth was refused.
 #[tactic(auto, unfolding(crate::specs::Picture::pictured))]
 pub(crate) fn draw(alloc: Global, file: &[u8], job: &Job) -> Result<Picture, RunFault>
-    requires size { length file.now ≤ FONT_LIMIT }
+    requires size { length file.now ≤ font_limit }
     requires asked { IsAsked (ask_of job.now) }
     ensures exact { MakingGives picture_bytes result (pictured (ask_of job.now) file.now) }
     ensures header { IfOk result (λ p. p.header.len ≤ 16) }
     ensures defects { TellsDefects (IsRunDefect (ask_of job.now) file.now) result }
-    ensures ascii { IfErr result HasAsciiTable }
 {
     let face = open_face(file)?;
     let line = lay(

@@ -38,7 +38,6 @@ pub fn run<R: Source, W: Sink>(
       write_failed = W.has_failed out.new;
     }) (run_outcome (ask_of job.now)) }
     ensures defects { TellsDefectsOf (R.left font.old) (IsRunDefect (ask_of job.now)) result }
-    ensures ascii { IfErr result HasAsciiTable }
 {
     test_job(job)?;
     let file = read_font(alloc, font)?;

@@ -1,13 +1,13 @@
 //! Outlines of worked glyphs. A point's place is worked out by hand: at 64 pixels of 1024 units a unit is 4 units of 26.6.
 
 ghost use Rattle.std.specs.Prelude.{◌≤◌, length};
-ghost use Rattle.tt_core.specs.declared.directory.TheConstants.{FONT_LIMIT};
+ghost use Rattle.tt_core.specs.Limits.{font_limit};
 
 use crate::test_font::TEST_FONT;
 use std::alloc::Global;
 use std::process::Abort;
 use tt_core::{Dir, FONT_LIMIT, Fault, Why};
-use tt_fit::{Fit, FitFault, Fitter, Outline, Programs};
+use tt_fit::{Fit, FontFault, Fitter, Outline, Programs};
 use tt_glyf::Glyf;
 use tt_metrics::Metrics;
 
@@ -34,8 +34,8 @@ const NO_PROGRAMS: Programs<'static> = Programs {
 };
 
 /// A glyph at 64 pixels, with the test font's metrics and these glyphs.
-fn outline_of(rt: &impl Abort, alloc: Global, glyf: &[u8], g: u16) -> Result<Outline, FitFault>
-    requires { length glyf.now ≤ FONT_LIMIT }
+fn outline_of(rt: &impl Abort, alloc: Global, glyf: &[u8], g: u16) -> Result<Outline, FontFault>
+    requires { length glyf.now ≤ font_limit }
 {
     let dir = Dir::open(&TEST_FONT).expect(rt, "a directory");
     let metrics = Metrics::open(&dir).expect(rt, "metrics");
@@ -105,7 +105,7 @@ fn is_square_made(rt: &impl Abort, alloc: Global) -> bool {
             assert!(rt; outline.ends.as_slice() == [4, 8].as_slice());
             true
         }
-        Err(FitFault::Memory) => false,
+        Err(FontFault::Memory) => false,
         Err(_) => panic!(rt; "the glyph has no defect"),
     }
 }
@@ -123,7 +123,7 @@ fn a_glyph_in_itself_is_too_deep(rt: HostRuntime) {
     // the first component is the composite itself
     glyf[35] = 2;
     match outline_of(&rt, rt.alloc(), &glyf, 2) {
-        Err(FitFault::Font(fault)) => {
+        Err(FontFault::Font(fault)) => {
             assert_eq!(rt; fault, Fault::new(*b"glyf", 32, Why::ComponentDepth))
         }
         _ => panic!(rt; "a fault"),

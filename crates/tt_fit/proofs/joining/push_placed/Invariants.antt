@@ -1,7 +1,7 @@
 use Rattle.std.proofs.Common.{◌≡◌, ◌+◌, length, drop, All}
 use Rattle.tt_fit.specs.Components.{placed_point}
 use Rattle.tt_fit.specs.Outline.{IsPoint}
-use Rattle.tt_fit.specs.Scaling.{after_each}
+use Rattle.tt_core.specs.Outcomes.{after_each}
 use Rattle.tt_fit.specs.Views.{shift_view}
 use Rattle.tt_fit.proofs.joining.push_placed.Given as goal
 

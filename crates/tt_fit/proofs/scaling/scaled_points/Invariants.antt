@@ -1,6 +1,7 @@
 use Rattle.std.proofs.Common.{◌≡◌, length, drop, All}
 use Rattle.tt_fit.specs.Outline.{IsPoint}
-use Rattle.tt_fit.specs.Scaling.{scaled_point, each, after_each}
+use Rattle.tt_core.specs.Outcomes.{each, after_each}
+use Rattle.tt_fit.specs.Scaling.{scaled_point}
 use Rattle.tt_fit.specs.Views.{size_view}
 use Rattle.tt_fit.proofs.scaling.scaled_points.Given as goal
 

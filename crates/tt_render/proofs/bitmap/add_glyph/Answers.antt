@@ -1,6 +1,6 @@
 use Rattle.std.proofs.Common.{◌≡◌, ◌∙◌, pos, rules, arith, SFits, w64}
 use Rattle.std.proofs.lemmas.Int.{to_z-of_z}
-use Rattle.tt_pbm.specs.Bits.{bit}
+use Rattle.tt_core.specs.Bits.{bit}
 use Rattle.tt_scan.specs.Winding.{is_black, column_x, row_y}
 use Rattle.tt_render.proofs.Bits.{one_more}
 use Rattle.tt_render.proofs.bitmap.add_glyph.Goals as goal

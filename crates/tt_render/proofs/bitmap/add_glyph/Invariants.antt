@@ -1,5 +1,5 @@
 use Rattle.std.proofs.Common.{◌≡◌, ℕ, ◌+◌, ◌*◌, ◌^◌, ◌≤◌, ◌||◌, ◌&&◌, nat_lt, pos, length}
-use Rattle.tt_pbm.specs.Bits.{bit}
+use Rattle.tt_core.specs.Bits.{bit}
 use Rattle.tt_scan.specs.Winding.{is_black, column_x, row_y}
 use Rattle.tt_render.proofs.bitmap.add_glyph.Given as goal
 

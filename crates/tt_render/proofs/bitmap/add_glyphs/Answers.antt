@@ -2,7 +2,7 @@ use Rattle.std.proofs.Common.{◌≡◌, ◌∙◌, ◌≢◌, ℕ, ◌+◌, ◌
 use Rattle.std.proofs.lemmas.List.{get_or-map, get_or-set_other, length-set, length-map}
 use Rattle.std.proofs.lemmas.List.Elements.{AllWithin-more_set}
 use Rattle.std.proofs.Math.Seq.{map-set_same}
-use Rattle.tt_pbm.specs.Bits.{bit}
+use Rattle.tt_core.specs.Bits.{bit}
 use Rattle.tt_scan.specs.Winding.{is_black, column_x, row_y}
 use Rattle.tt_render.specs.Pixels.{edges_in, TapeFits, row_crossings}
 use Rattle.tt_render.proofs.Glyphs.{one_glyph_more}

@@ -1,6 +1,6 @@
 use Rattle.std.proofs.Common.{◌≡◌, ℕ, ◌+◌, ◌*◌, ◌||◌, ◌&&◌, nat_lt, length, take}
 use Rattle.std.specs.List.{AllWithin}
-use Rattle.tt_pbm.specs.Bits.{bit}
+use Rattle.tt_core.specs.Bits.{bit}
 use Rattle.tt_render.specs.Pixels.{is_black_pixel, edges_in, TapeFits, row_crossings}
 use Rattle.tt_render.proofs.bitmap.add_glyphs.Given as goal
 

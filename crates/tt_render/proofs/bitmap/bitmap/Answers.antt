@@ -1,6 +1,7 @@
 use Rattle.std.proofs.Common.{◌≡◌, ◌∙◌, ◌++◌, ◌*◌, rules, arith, refl}
 use Rattle.std.proofs.lemmas.Grind.{common_steps}
-use Rattle.tt_pbm.specs.P4.{stride, rows}
+use Rattle.tt_core.specs.Bits.{stride}
+use Rattle.tt_pbm.specs.P4.{rows}
 use Rattle.tt_pbm.specs.Rows.{rows_next}
 use Rattle.tt_render.specs.Pixels.{is_black_pixel, edges_in}
 use Rattle.tt_render.proofs.bitmap.bitmap.Goals as goal

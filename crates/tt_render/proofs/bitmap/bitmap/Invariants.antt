@@ -1,5 +1,6 @@
 use Rattle.std.proofs.Common.{◌≡◌, ◌*◌, All, vec_len}
-use Rattle.tt_pbm.specs.P4.{stride, rows}
+use Rattle.tt_core.specs.Bits.{stride}
+use Rattle.tt_pbm.specs.P4.{rows}
 use Rattle.tt_render.specs.Pixels.{is_black_pixel, edges_in, TapeFits, row_crossings}
 use Rattle.tt_render.proofs.bitmap.bitmap.Given as goal
 

@@ -1,6 +1,6 @@
 use Rattle.std.proofs.Common.{◌≡◌, ◌∙◌, length, refl, ap}
 use Rattle.std.proofs.lemmas.List.{length-replicate}
-use Rattle.tt_pbm.specs.P4.{stride}
+use Rattle.tt_core.specs.Bits.{stride}
 use Rattle.tt_pbm.specs.Rows.{row_is, bit-replicate_zero}
 use Rattle.tt_render.specs.Pixels.{is_black_pixel, edges_in}
 use Rattle.tt_render.proofs.bitmap.make_row.Goals as goal

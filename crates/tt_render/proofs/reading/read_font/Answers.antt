@@ -1,7 +1,7 @@
 use Rattle.std.proofs.Common.{◌≡◌, ◌<◌, ◌++◌, length, take, rules, arith, length-append}
 use Rattle.std.proofs.lemmas.Grind.{common_steps}
 use Rattle.std.proofs.lemmas.Result.{err_from_is_err_and}
-use Rattle.tt_core.specs.declared.directory.TheConstants.{FONT_LIMIT}
+use Rattle.tt_core.specs.Limits.{font_limit}
 use Rattle.tt_render.proofs.Known.{consumes_nothing, consumes_more, consumes_kept, consumes_larger, consumes_empty}
 use Rattle.tt_render.proofs.reading.read_font.Goals as goal
 
@@ -25,8 +25,8 @@ returns-then-n-len g c =
     let left = g.R.Source.left in
     let piece = take c.in-Ok.n c.read.new.buf in
     let known = consumes_more (left c.args.font.now) (left c.pieces.font) (left c.read.new.self) c.pieces.file.items piece c.pieces.invariant.known c.in-Ok.ensures.bytes.0 in
-    let large : FONT_LIMIT < length (c.pieces.file.items ++ piece) = let taken = c.in-Ok.ensures.bound in simp length-append (omega (arith, c.pieces.file.ok.0)) in
-    (consumes_larger (left c.args.font.now) (left c.read.new.self) (c.pieces.file.items ++ piece) FONT_LIMIT known large, (c.pieces.file.items ++ piece, known), search rules)
+    let large : font_limit < length (c.pieces.file.items ++ piece) = let taken = c.in-Ok.ensures.bound in simp length-append (omega (arith, c.pieces.file.ok.0)) in
+    (consumes_larger (left c.args.font.now) (left c.read.new.self) (c.pieces.file.items ++ piece) font_limit known large, (c.pieces.file.items ++ piece, known), search rules)
 
 pub pieces-preserved : goal.pieces-preserved
 pieces-preserved g c =

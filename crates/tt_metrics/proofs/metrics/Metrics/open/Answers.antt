@@ -1,5 +1,5 @@
 use Rattle.std.proofs.Common.{Result, IsOkAnd, inl, inr, subst}
-use Rattle.tt_core.specs.declared.fault.Fault.{Fault}
+use Rattle.tt_core.specs.Faults.{Fault}
 use Rattle.tt_metrics.specs.declared.hhea.Hhea.{Hhea}
 use Rattle.tt_metrics.specs.Hmtx.{IsHmtxDefect}
 use Rattle.tt_metrics.proofs.metrics.Metrics.open.Goals as goal

@@ -1,10 +1,10 @@
 //! Glyphs of worked examples, and each refusal at its place.
 
 ghost use Rattle.std.specs.Prelude.{◌≤◌, length};
-ghost use Rattle.tt_core.specs.declared.directory.TheConstants.{FONT_LIMIT};
+ghost use Rattle.tt_core.specs.Limits.{font_limit};
 
 use crate::test_font::TEST_FONT;
-use crate::{ComponentFlags, Glyf, GlyfFault, Raw, RawPoint, Record};
+use crate::{ComponentFlags, Glyf, FontFault, Raw, RawPoint, Record};
 use std::alloc::Global;
 use std::process::Abort;
 use tt_core::{Dir, FONT_LIMIT, Fault, Why};
@@ -31,9 +31,9 @@ fn glyph_1<'a>(
     alloc: Global,
     loca: &'a [u8],
     glyf: &'a [u8],
-) -> Result<Raw<'a>, GlyfFault>
-    requires loca { length loca.now ≤ FONT_LIMIT }
-    requires glyf { length glyf.now ≤ FONT_LIMIT }
+) -> Result<Raw<'a>, FontFault>
+    requires loca { length loca.now ≤ font_limit }
+    requires glyf { length glyf.now ≤ font_limit }
 {
     let dir = Dir::open(&TEST_FONT).expect(rt, "a directory");
     let metrics = Metrics::open(&dir).expect(rt, "metrics");
@@ -43,9 +43,9 @@ fn glyph_1<'a>(
     tables.read(alloc, 1)
 }
 
-fn fault_of(read: Result<Raw, GlyfFault>) -> Option<Fault> {
+fn fault_of(read: Result<Raw, FontFault>) -> Option<Fault> {
     match read {
-        Err(GlyfFault::Font(fault)) => Some(fault),
+        Err(FontFault::Font(fault)) => Some(fault),
         _ => None,
     }
 }
@@ -91,7 +91,7 @@ fn a_square_has_its_four_points(rt: HostRuntime) {
 fn is_square_read(rt: &impl Abort, alloc: Global) -> bool {
     match glyph_1(rt, alloc, &LOCA, &SQUARE) {
         Ok(raw) => is_square(rt, raw),
-        Err(GlyfFault::Memory) => false,
+        Err(FontFault::Memory) => false,
         Err(_) => panic!(rt; "the square has no defect"),
     }
 }
@@ -113,7 +113,7 @@ fn equal_neighbours_and_no_contours_are_empty(rt: HostRuntime) {
 
 /// The one record of a composite glyph.
 fn record_of(rt: &impl Abort, alloc: Global, glyf: &[u8]) -> Record
-    requires { length glyf.now ≤ FONT_LIMIT }
+    requires { length glyf.now ≤ font_limit }
 {
     match glyph_1(rt, alloc, &LOCA, glyf) {
         Ok(Raw::Composite { records, .. }) => {

@@ -1,10 +1,14 @@
 -- Netpbm, "PBM", format P4: the pixels of a row of bytes, the leftmost in the highest bit of the first byte.
-use Rattle.std.specs.Prelude.{◌≡◌, refl, ℕ, ◌-◌, ◌/◌, ◌%◌, Bool, true, false, ◌==◌, List, [], ◌∷◌, slice_index}
+use Rattle.std.specs.Prelude.{◌≡◌, refl, ℕ, ◌+◌, ◌-◌, ◌/◌, ◌%◌, Bool, true, false, ◌==◌, List, [], ◌∷◌, slice_index}
 use Rattle.std.specs.Int.{bit_at}
 
 -- pixel k of a row is black; past the last byte none is
 abbrev pub bit : List ℕ → ℕ → Bool
 bit row k = bit_at (slice_index row (k / 8)) (7 - k % 8) == 1
+
+-- how many bytes a row of w pixels has
+abbrev pub stride : ℕ → ℕ
+stride w = (w + 7) / 8
 
 -- worked values
 a_first_column : bit (0x80 ∷ []) 0 ≡ true

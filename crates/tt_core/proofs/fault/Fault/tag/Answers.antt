@@ -1,0 +1,5 @@
+use Rattle.tt_core.proofs.Text.{IsUtf8-from_test}
+use Rattle.tt_core.proofs.fault.Fault.tag.Goals as goal
+
+pub unreachable-requires : goal.unreachable-requires
+unreachable-requires c = c.in-Err.ensures.cases.0 (IsUtf8-from_test c.self.inside.table c.self.invariant)

@@ -1,0 +1,41 @@
+-- The limits of this project, each said once (profile): no standard has them.
+use Rattle.std.specs.Prelude.{ℕ}
+
+-- bytes of a font file
+abbrev pub font_limit : ℕ
+font_limit = 67108864
+
+-- characters of a text
+abbrev pub text_limit : ℕ
+text_limit = 4096
+
+-- pixels per em
+abbrev pub size_limit : ℕ
+size_limit = 300
+
+-- pixels round a line
+abbrev pub margin_limit : ℕ
+margin_limit = 64
+
+-- columns and rows of a picture
+abbrev pub width_limit : ℕ
+width_limit = 16384
+
+abbrev pub height_limit : ℕ
+height_limit = 4096
+
+-- points of a glyph, phantom points not counted
+abbrev pub point_limit : ℕ
+point_limit = 16384
+
+-- component records of a glyph
+abbrev pub component_limit : ℕ
+component_limit = 32
+
+-- how deep components may be nested
+abbrev pub level_limit : ℕ
+level_limit = 4
+
+-- a coordinate in magnitude, in 26.6 pixels
+abbrev pub coordinate_limit : ℕ
+coordinate_limit = 2097151

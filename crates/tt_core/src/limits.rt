@@ -1,0 +1,32 @@
+//! The limits of this project (profile). They bound memory and the size of numbers; no standard has them.
+
+/// Bytes of a font file: every offset fits 32 bits, and sums of offsets do.
+pub const FONT_LIMIT: usize = 67_108_864;
+
+/// Characters of a text.
+pub const TEXT_LIMIT: usize = 4096;
+
+/// Pixels per em.
+pub const SIZE_LIMIT: u32 = 300;
+
+/// Pixels round a line.
+pub const MARGIN_LIMIT: u32 = 64;
+
+/// Columns of a picture.
+pub const WIDTH_LIMIT: u32 = 16_384;
+
+/// Rows of a picture.
+pub const HEIGHT_LIMIT: u32 = 4096;
+
+/// Points of a glyph, phantom points not counted.
+pub const POINT_LIMIT: usize = 16_384;
+
+/// Component records of a glyph.
+pub const COMPONENT_LIMIT: usize = 32;
+
+/// How deep components may be nested.
+pub const LEVEL_LIMIT: u32 = 4;
+
+/// A coordinate in magnitude, in 26.6 pixels: two of them and a pen are below 2^23, so that every product of a scan
+/// conversion fits 64 bits.
+pub const COORDINATE_LIMIT: i32 = 2_097_151;
