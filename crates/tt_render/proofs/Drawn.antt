@@ -3,12 +3,12 @@ use Rattle.std.proofs.Common.{◌≡◌, ◌∙◌, ℕ, zero, suc, ◌<◌, Lis
 use Rattle.std.proofs.lemmas.List.{length-map}
 use Rattle.tt_core.specs.Faults.{Fault}
 use Rattle.tt_core.specs.Directory.{HasNo}
-use Rattle.tt_core.specs.Outcomes.{◌>>=◌}
+use Rattle.tt_core.specs.Outcomes.{◌>>=◌, each}
 use Rattle.tt_fit.specs.Fitting.{Setting, fitted_outline}
 use Rattle.tt_fit.specs.Outline.{IsPhantom}
 use Rattle.tt_scan.specs.declared.edge.Edge.{Edge}
 use Rattle.tt_render.specs.Defects.{IsGlyphDefect}
-use Rattle.tt_render.specs.Picture.{each, glyph_edges, edges_at}
+use Rattle.tt_render.specs.Picture.{glyph_edges, edges_at}
 
 -- the first phantom point is within the limit, or there is none and it counts as 0
 pub origin_within : (ps : List (ℤ × ℤ)) → All IsPhantom ps → unsigned_abs (get_or ps 0 (pos 0, pos 0)).0 ≤ 2097151

@@ -2,8 +2,9 @@ mod Bits
 mod Drawn
 mod Glyphs
 pub mod Known
-pub mod Mapping
-mod Asked
+pub mod Calls
 mod Sent
 mod Telling
 pub mod Text
+mod Keeping
+mod Answered

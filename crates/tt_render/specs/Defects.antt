@@ -1,18 +1,23 @@
 -- The defects that a call can meet in a font.
-use Rattle.std.specs.Prelude.{◌≡◌, ◌<◌, List, ℕ, length, slice_index, Option, Some, None, Result, Ok, Err, IsOkAnd, IsTrue, ⊤, ◌⊎◌}
+use Rattle.std.specs.Prelude.{◌≡◌, ◌<◌, List, ℕ, length, slice_index, Option, Some, None, Result, Ok, Err, IsOkAnd, IfSome, Bool, true, false, ⊤, ◌⊎◌}
 use Rattle.tt_core.specs.Faults.{Fault}
-use Rattle.tt_core.specs.Directory.{HasNo, IsDefectIn, IsTableDefect, IsDirectoryDefect, is_ascii}
+use Rattle.tt_core.specs.Directory.{HasNo, IsDefectIn, IsTableDefect, IsDirectoryDefect}
 use Rattle.tt_fit.specs.Fitting.{Setting, fitted_outline}
 use Rattle.tt_fit.specs.Preparation.{setting_of}
 use Rattle.tt_glyf.specs.Bytes.{glyf_tag}
 use Rattle.tt_glyf.specs.Loca.{loca_tag, IsLocaDefect}
-use Rattle.tt_line.specs.Layout.{text_glyphs}
+use Rattle.tt_line.specs.Layout.{text_glyphs, extent_of, IsRefusal}
 use Rattle.tt_cmap.specs.Defects.{IsBadCmap}
 use Rattle.tt_metrics.specs.Metrics.{Fields, IsMetricsDefect}
+use Rattle.tt_core.specs.declared.fault.JobFault.{JobFault}
+use Rattle.tt_render.specs.Asked.{Ask, IsAskRefusal}
+use Rattle.tt_render.specs.declared.fault.DrawFault.{DrawFault}
+use Rattle.tt_render.specs.declared.fault.DrawFault.TheVariants as draw
 use Rattle.tt_render.specs.declared.fault.RunFault.{RunFault}
 use Rattle.tt_render.specs.declared.fault.RunFault.TheVariants as run
 use Rattle.tt_render.specs.Face.{Face, face_of, cmap_tag}
-use Rattle.tt_render.specs.Picture.{Ask, no_programs, glyphs_in, setting_in}
+use Rattle.tt_render.specs.Outcome.{needs_font}
+use Rattle.tt_render.specs.Picture.{no_programs, glyphs_in, setting_in}
 
 -- a defect of the directory, or of a table that every text is looked up in
 abbrev pub IsFaceDefect : List ℕ → Fault → Type 0
@@ -42,22 +47,43 @@ IsLineDefect face a glyphs fault = IsSettingDefect face a fault ⊎ IsOkAnd (set
 abbrev pub IsRunDefect : Ask → List ℕ → Fault → Type 0
 IsRunDefect a file fault = IsFaceDefect file fault ⊎ IsOkAnd (face_of file) (λ face. IsLineDefect face a (text_glyphs face.lookup a.text) fault)
 
--- a fault that is named stands
-abbrev pub NamesDefect : (Fault → Type 0) → RunFault → Type 0
-NamesDefect IsOne (run.Font f) = IsOne f
-NamesDefect IsOne e = ⊤
+-- Ok means that there is no defect, and a fault that an error tells is one
+abbrev pub TellsDefects : {V E : Type 0} → (E → Option Fault) → (Fault → Type 0) → Result V E → Type 0
+TellsDefects told IsOne (Ok v) = HasNo IsOne
+TellsDefects told IsOne (Err e) = IfSome (told e) IsOne
 
--- Ok means that there is no defect, and a font fault that there is this one
-abbrev pub TellsDefects : {V : Type 0} → (Fault → Type 0) → Result V RunFault → Type 0
-TellsDefects IsOne (Ok v) = HasNo IsOne
-TellsDefects IsOne (Err e) = NamesDefect IsOne e
+-- the fault of the font that stopped the making of a picture
+abbrev pub draw_font_fault : DrawFault → Option Fault
+draw_font_fault (draw.Font f) = Some f
+draw_font_fault (draw.Job j) = None
+draw_font_fault draw.Memory = None
+
+-- a call that wrote, all or a part, found no defect, and a font fault that it names stands
+abbrev pub CallTellsDefects : {V : Type 0} → (Fault → Type 0) → Result V RunFault → Type 0
+CallTellsDefects IsOne (Ok v) = HasNo IsOne
+CallTellsDefects IsOne (Err (run.Font f)) = IsOne f
+CallTellsDefects IsOne (Err (run.Write sent)) = HasNo IsOne
+CallTellsDefects IsOne (Err e) = ⊤
 
 -- the same of the bytes of a reader, where they are known
 abbrev pub TellsDefectsOf : {V : Type 0} → Option (List ℕ) → (List ℕ → Fault → Type 0) → Result V RunFault → Type 0
 TellsDefectsOf None IsOne result = ⊤
-TellsDefectsOf (Some file) IsOne result = TellsDefects (IsOne file) result
+TellsDefectsOf (Some file) IsOne result = CallTellsDefects (IsOne file) result
 
--- the table that a fault names is four ASCII bytes
-abbrev pub HasAsciiTable : RunFault → Type 0
-HasAsciiTable (run.Font f) = IsTrue (is_ascii f.table)
-HasAsciiTable e = ⊤
+-- the refusal of the job that stopped the making of a picture
+abbrev pub draw_job_fault : DrawFault → Option JobFault
+draw_job_fault (draw.Font f) = None
+draw_job_fault (draw.Job j) = Some j
+draw_job_fault draw.Memory = None
+
+-- what stands behind a refusal of the picture's extent
+abbrev pub IsExtentRefusal : Face → Ask → JobFault → Type 0
+IsExtentRefusal face a j = IsRefusal (extent_of face.metrics a.ppem a.margin (text_glyphs face.lookup a.text)) j
+
+-- what stands behind a refusal of the job by a font file: the extent comes second
+abbrev pub IsRefusedBy : Bool → Ask → Option (List ℕ) → JobFault → Type 0
+IsRefusedBy true a left j = IfSome left (λ file. IsOkAnd (face_of file) (λ face. IsExtentRefusal face a j))
+IsRefusedBy false a left j = IsAskRefusal a j
+
+abbrev pub IsJobRefusal : Ask → Option (List ℕ) → JobFault → Type 0
+IsJobRefusal a left j = IsRefusedBy (needs_font j) a left j

@@ -1,3 +1,4 @@
+pub mod Asked
 pub mod Defects
 pub mod Face
 pub mod MapLines

@@ -2,13 +2,12 @@
 use Rattle.std.specs.Prelude.{ℕ, ◌-◌, List, ◌++◌, length, replicate, flat_map, true, chars, codes, decimal, nat_lt, if◌then◌else◌, Result, Ok, Err, ◌≡◌, refl}
 use Rattle.std.specs.Fmt.{digits}
 use Rattle.tt_core.specs.Faults.{Fault}
-use Rattle.tt_core.specs.declared.fault.JobFault.TheVariants.{TextLong}
 use Rattle.tt_core.specs.Outcomes.{◌>>=◌}
 use Rattle.tt_cmap.specs.Lookup.{Lookup, glyph_of}
 use Rattle.tt_metrics.specs.Metrics.{Fields, advance_of}
-use Rattle.tt_render.specs.declared.characters.TheConstants.{TEXT_LIMIT}
+use Rattle.tt_render.specs.Asked.{text_tested}
 use Rattle.tt_render.specs.Face.{face_of}
-use Rattle.tt_render.specs.Outcome.{Refused, job, as_font, of_font}
+use Rattle.tt_render.specs.Outcome.{Refused, Wanted, as_font, outcome_of}
 
 -- digits behind as many zeros as make them four
 abbrev pub at_least_four : List ℕ → List ℕ
@@ -35,9 +34,10 @@ lines_of file text = face_of file >>= λ face. Ok (map_lines face.metrics face.l
 
 -- what is to be written for a text and a font file, or why nothing is: the text is tested first, then the file's size
 unfoldable pub map_outcome : List ℕ → List ℕ → Result (List ℕ) Refused
-map_outcome text file =
-    if nat_lt TEXT_LIMIT (length (chars text)) then Err (job TextLong)
-    else of_font (λ file. as_font (lines_of file text)) file
+map_outcome text file = outcome_of (text_tested text) (λ font. as_font (lines_of font text)) file
+
+abbrev pub map_wanted : List ℕ → Wanted
+map_wanted text = record { tested = text_tested text; bytes = map_outcome text }
 
 -- worked values
 a_letter : line_text 65 1 256 ≡ codes "U+0041 1 256\n"

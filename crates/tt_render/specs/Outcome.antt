@@ -1,11 +1,13 @@
 -- No part of the standard: what a call promises of its answer and of both devices, on each of its answers.
-use Rattle.std.specs.Prelude.{◌≡◌, ℕ, ◌<◌, ◌≤◌, Bool, true, false, nat_lt, if◌then◌else◌, List, length, take, chars, Option, IfSome, Result, Ok, Err, ⊤}
+use Rattle.std.specs.Prelude.{◌≡◌, ℕ, ◌<◌, ◌≤◌, Bool, true, false, nat_lt, if◌then◌else◌, List, length, take, Option, Some, None, IfSome, Result, Ok, Err, ⊤}
 use Rattle.std.specs.Io.KnownBytes.{Appends, Consumes, IsAtEnd, Keeps}
-use Rattle.tt_core.specs.Limits.{font_limit}
-use Rattle.tt_core.specs.Faults.{Fault}
 use Rattle.tt_core.specs.declared.fault.JobFault.{JobFault}
 use Rattle.tt_core.specs.declared.fault.JobFault.TheVariants as fault
-use Rattle.tt_render.specs.declared.characters.TheConstants.{TEXT_LIMIT}
+use Rattle.tt_core.specs.Faults.{Fault}
+use Rattle.tt_core.specs.Limits.{font_limit}
+use Rattle.tt_core.specs.Outcomes.{◌>>=◌}
+use Rattle.tt_render.specs.declared.fault.DrawFault.{DrawFault}
+use Rattle.tt_render.specs.declared.fault.DrawFault.TheVariants as draw
 use Rattle.tt_render.specs.declared.fault.RunFault.{RunFault}
 use Rattle.tt_render.specs.declared.fault.RunFault.TheVariants as run
 
@@ -26,6 +28,16 @@ as_job (Err fault) = Err (job fault)
 -- what is made of a font, if it is not too large to be read
 abbrev pub of_font : (List ℕ → Result (List ℕ) Refused) → List ℕ → Result (List ℕ) Refused
 of_font made file = if nat_lt font_limit (length file) then Err large else made file
+
+-- what is to be written for a font file, or why nothing is: the job is tested first, then the file's size
+abbrev pub outcome_of : Result (Unit {0}) JobFault → (List ℕ → Result (List ℕ) Refused) → List ℕ → Result (List ℕ) Refused
+outcome_of tested made file = as_job tested >>= λ u. of_font made file
+
+-- what stops the making of a picture: nothing is told where memory ran out
+abbrev pub refusal : DrawFault → Option Refused
+refusal (draw.Font f) = Some (font f)
+refusal (draw.Job j) = Some (job j)
+refusal draw.Memory = None
 
 -- a reader and a writer, before a call and after it: the bytes that are left, those that went out, and who has failed
 pub record Traffic : Type 0 where
@@ -62,45 +74,40 @@ needs_font fault.EmptyPicture = true
 needs_font fault.PictureLarge = true
 needs_font j = false
 
--- a job is refused by what the reader had, or whatever the reader has, of which then nothing is read
-abbrev pub JobFails : Bool → JobFault → Traffic → (List ℕ → Result (List ℕ) Refused) → Type 0
-JobFails true j t wanted = IfSome t.left_before (λ file. wanted file ≡ Err (job j)) × IsAtEnd t.left_after × Untouched t
-JobFails false j t wanted = ((file : List ℕ) → wanted file ≡ Err (job j)) × Keeps t.left_before t.left_after × Untouched t
+-- what a call that was asked for does: the tests of the job alone, and what is to be written for a font file
+pub record Wanted : Type 0 where
+  pub tested : Result (Unit {0}) JobFault
+  pub bytes : List ℕ → Result (List ℕ) Refused
 
-abbrev pub CallFails : RunFault → Traffic → (List ℕ → Result (List ℕ) Refused) → Type 0
-CallFails (run.Font f) t wanted = IfSome t.left_before (λ file. wanted file ≡ Err (font f)) × IsAtEnd t.left_after × Untouched t
-CallFails (run.Job j) t wanted = JobFails (needs_font j) j t wanted
-CallFails run.Read t wanted =
-    (t.read_failed ≡ true) × Advances t.left_before t.left_after × Keeps t.out_before t.out_after × (t.write_failed ≡ false)
-CallFails run.FontLarge t wanted =
-    IfSome t.left_before (λ file. wanted file ≡ Err large) × Advances t.left_before t.left_after × Untouched t
-CallFails (run.Write sent) t wanted =
-    IfSome t.left_before (WithBytes wanted (SendsFirst sent t)) × IsAtEnd t.left_after × (t.read_failed ≡ false) × (t.write_failed ≡ true)
-CallFails run.Memory t wanted = Advances t.left_before t.left_after × Untouched t
+-- a job is refused by what the reader had, or by itself, whatever the reader has, of which then nothing is read
+abbrev pub JobFails : Bool → JobFault → Traffic → Wanted → Type 0
+JobFails true j t w = (w.tested ≡ Ok tt) × IfSome t.left_before (λ file. w.bytes file ≡ Err (job j)) × IsAtEnd t.left_after × Untouched t
+JobFails false j t w = (w.tested ≡ Err j) × ((file : List ℕ) → w.bytes file ≡ Err (job j)) × Keeps t.left_before t.left_after × Untouched t
+
+abbrev pub CallFails : RunFault → Traffic → Wanted → Type 0
+CallFails (run.Font f) t w =
+    (w.tested ≡ Ok tt) × IfSome t.left_before (λ file. w.bytes file ≡ Err (font f)) × IsAtEnd t.left_after × Untouched t
+CallFails (run.Job j) t w = JobFails (needs_font j) j t w
+CallFails run.Read t w =
+    (w.tested ≡ Ok tt) × (t.read_failed ≡ true) × Advances t.left_before t.left_after × Keeps t.out_before t.out_after × (t.write_failed ≡ false)
+CallFails run.FontLarge t w =
+    (w.tested ≡ Ok tt) × IfSome t.left_before (λ file. w.bytes file ≡ Err large) × Advances t.left_before t.left_after × Untouched t
+CallFails (run.Write sent) t w =
+    (w.tested ≡ Ok tt) × IfSome t.left_before (WithBytes w.bytes (SendsFirst sent t)) × IsAtEnd t.left_after × (t.read_failed ≡ false) × (t.write_failed ≡ true)
+CallFails run.Memory t w = (w.tested ≡ Ok tt) × Advances t.left_before t.left_after × Untouched t
 
 -- a call wrote all of the bytes that are wanted for what the reader had, or failed so
-abbrev pub CallGives : Result (Unit {0}) RunFault → Traffic → (List ℕ → Result (List ℕ) Refused) → Type 0
-CallGives (Ok v) t wanted =
-    IfSome t.left_before (WithBytes wanted (SendsAll t)) × IsAtEnd t.left_after × (t.read_failed ≡ false) × (t.write_failed ≡ false)
-CallGives (Err e) t wanted = CallFails e t wanted
+abbrev pub CallGives : {V : Type 0} → Result V RunFault → Traffic → Wanted → Type 0
+CallGives (Ok v) t w =
+    (w.tested ≡ Ok tt) × IfSome t.left_before (WithBytes w.bytes (SendsAll t)) × IsAtEnd t.left_after × (t.read_failed ≡ false) × (t.write_failed ≡ false)
+CallGives (Err e) t w = CallFails e t w
 
 -- this holds of a refusal of the job
-abbrev pub IfJob : {X : Type 0} → Result X RunFault → (JobFault → Type 0) → Type 0
+abbrev pub IfJob : {V : Type 0} → Result V RunFault → (JobFault → Type 0) → Type 0
 IfJob (Err (run.Job j)) P = P j
 IfJob r P = ⊤
 
--- the text is short enough, or refused
-abbrev pub TextGives : Result (Unit {0}) RunFault → List ℕ → Type 0
-TextGives (Ok v) text = length (chars text) ≤ TEXT_LIMIT
-TextGives (Err e) text = (e ≡ run.Job fault.TextLong) × (TEXT_LIMIT < length (chars text))
-
-abbrev pub MakingFails : {Y : Type 0} → RunFault → Result Y Refused → Type 0
-MakingFails (run.Font f) wanted = wanted ≡ Err (font f)
-MakingFails (run.Job j) wanted = (wanted ≡ Err (job j)) × (needs_font j ≡ true)
-MakingFails run.Memory wanted = ⊤
-MakingFails e wanted = ⊥
-
--- what was made, seen by a view, is what is wanted, or the refusal is; devices have no part in it
-abbrev pub MakingGives : {X Y : Type 0} → (X → Y) → Result X RunFault → Result Y Refused → Type 0
-MakingGives view (Ok x) wanted = wanted ≡ Ok (view x)
-MakingGives view (Err e) wanted = MakingFails e wanted
+-- this holds where the font was too large
+abbrev pub IfLarge : {V : Type 0} → Result V RunFault → Type 0 → Type 0
+IfLarge (Err run.FontLarge) P = P
+IfLarge r P = ⊤

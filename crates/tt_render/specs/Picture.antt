@@ -3,11 +3,8 @@
 use Rattle.std.specs.Prelude.{ℕ, ◌*◌, ◌≤◌, ◌||◌, nat_lt, if◌then◌else◌, ℤ, pos, ◌-ℤ◌, List, [], ◌∷◌, ◌++◌, length, get_or, chars, Result, Ok, Err}
 use Rattle.tt_arc.specs.Chords.{chord_edges}
 use Rattle.tt_core.specs.Faults.{Fault}
-use Rattle.tt_core.specs.declared.fault.JobFault.{JobFault}
-use Rattle.tt_core.specs.declared.fault.JobFault.TheVariants as fault
 use Rattle.tt_core.specs.Directory.{needed_table}
-use Rattle.tt_core.specs.Outcomes.{◌>>=◌}
-use Rattle.tt_fit.specs.declared.programs.Fit.{Fit}
+use Rattle.tt_core.specs.Outcomes.{◌>>=◌, each}
 use Rattle.tt_fit.specs.Fitting.{Setting, fitted_outline}
 use Rattle.tt_fit.specs.Outline.{Shape}
 use Rattle.tt_fit.specs.Preparation.{ProgramTables, setting_of}
@@ -18,36 +15,10 @@ use Rattle.tt_metrics.specs.Metrics.{Fields}
 use Rattle.tt_pbm.specs.P4.{p4}
 use Rattle.tt_scan.specs.declared.edge.Edge.{Edge}
 use Rattle.tt_scan.specs.declared.edge.Frame.{Frame}
-use Rattle.tt_render.specs.declared.characters.TheConstants.{TEXT_LIMIT}
-use Rattle.tt_render.specs.declared.job.Job.{Job}
-use Rattle.tt_render.specs.declared.job.TheConstants.{SIZE_LIMIT, MARGIN_LIMIT}
+use Rattle.tt_render.specs.Asked.{Ask, tested}
 use Rattle.tt_render.specs.Face.{Face, face_of}
-use Rattle.tt_render.specs.Outcome.{Refused, as_font, as_job, of_font}
+use Rattle.tt_render.specs.Outcome.{Refused, Wanted, as_font, as_job, outcome_of}
 use Rattle.tt_render.specs.Pixels.{is_black_pixel}
-
--- what is asked: a text, the pixels per em, the pixels round the line, and how outlines are fitted
-pub record Ask : Type 0 where
-  pub text : List ℕ
-  pub ppem : ℕ
-  pub margin : ℕ
-  pub fit : Fit
-
-abbrev pub ask_of : Job → Ask
-ask_of j = record { text = j.text.now; ppem = j.ppem; margin = j.margin; fit = j.fit }
-
--- the limits of a job, in the order in which they are tested
-unfoldable pub tested : Ask → Result (Unit {0}) JobFault
-tested a =
-    if nat_lt a.ppem 1 || nat_lt SIZE_LIMIT a.ppem then Err fault.SizeRange
-    else (if nat_lt MARGIN_LIMIT a.margin then Err fault.MarginRange
-    else (if nat_lt TEXT_LIMIT (length (chars a.text)) then Err fault.TextLong else Ok tt))
-
--- a job within its limits
-pub record IsAsked (a : Ask) : Type 0 where
-  pub low : 1 ≤ a.ppem
-  pub high : a.ppem ≤ SIZE_LIMIT
-  pub margin : a.margin ≤ MARGIN_LIMIT
-  pub text : length (chars a.text) ≤ TEXT_LIMIT
 
 -- the tables of a font's programs; without fitting they are not looked at
 abbrev pub no_programs : ProgramTables
@@ -77,15 +48,6 @@ edges_at pen o = chord_edges o.points o.ends (pos (64 * pen) -ℤ origin_of o) (
 abbrev pub glyph_edges : Setting → ℕ × ℕ → Result (List Edge) Fault
 glyph_edges s g = fitted_outline s g.0 >>= λ o. Ok (edges_at g.1 o)
 
--- f of each, or the first fault
-abbrev pub each : {A B E : Type 0} → (A → Result B E) → List A → Result (List B) E
-each f [] = Ok []
-each f (x ∷ xs) = f x >>= λ y. each f xs >>= λ ys. Ok (y ∷ ys)
-
--- what is there already, and then f of each
-abbrev pub each_after : {A B E : Type 0} → (A → Result B E) → List A → List B → Result (List B) E
-each_after f xs out = each f xs >>= λ ys. Ok (out ++ ys)
-
 -- where the picture of a line stands
 abbrev pub frame_of : Placement → ℕ → Frame
 frame_of line margin = record { width = line.width; height = line.height; margin = margin; rise = line.rise }
@@ -110,4 +72,7 @@ pictured a file =
 
 -- what is to be written for a job and a font file, or why nothing is: the job is tested first, then the file's size
 unfoldable pub run_outcome : Ask → List ℕ → Result (List ℕ) Refused
-run_outcome a file = as_job (tested a) >>= λ u. of_font (pictured a) file
+run_outcome a file = outcome_of (tested a) (pictured a) file
+
+abbrev pub run_wanted : Ask → Wanted
+run_wanted a = record { tested = tested a; bytes = run_outcome a }

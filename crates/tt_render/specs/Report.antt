@@ -1,10 +1,9 @@
 -- What the program says of a fault: its exit status, and its line on standard error.
 use Rattle.std.specs.Prelude.{ℕ, List, ◌++◌, codes, decimal, ◌≡◌, refl}
 use Rattle.std.specs.Fmt.{digits}
-use Rattle.tt_core.specs.Faults.{Fault}
 use Rattle.tt_core.specs.declared.fault.JobFault.{JobFault}
 use Rattle.tt_core.specs.declared.fault.Why.TheVariants as why
-use Rattle.tt_core.specs.Faults.{fault_at, why_number, why_name, job_number, job_name}
+use Rattle.tt_core.specs.Faults.{Fault, fault_at, why_number, why_name, job_number, job_name}
 use Rattle.tt_render.specs.declared.fault.RunFault.{RunFault}
 use Rattle.tt_render.specs.declared.fault.RunFault.TheVariants as run
 

@@ -1,23 +1,34 @@
 -- How the definitions see the values that the code works with.
 use Rattle.std.specs.Prelude.{ℕ, List, ◌++◌}
-use Rattle.tt_fit.specs.declared.fault.FontFault.{FontFault}
-use Rattle.tt_fit.specs.declared.fault.FontFault.TheVariants as fit
+use Rattle.tt_core.specs.declared.font_fault.FontFault.{FontFault}
+use Rattle.tt_core.specs.declared.font_fault.FontFault.TheVariants as font
 use Rattle.tt_line.specs.declared.fault.LineFault.{LineFault}
 use Rattle.tt_line.specs.declared.fault.LineFault.TheVariants as line
 use Rattle.tt_pbm.specs.P4.{header_bytes}
+use Rattle.tt_render.specs.declared.drawing.Picture.{Picture}
+use Rattle.tt_render.specs.declared.fault.DrawFault.{DrawFault}
+use Rattle.tt_render.specs.declared.fault.DrawFault.TheVariants as draw
 use Rattle.tt_render.specs.declared.fault.RunFault.{RunFault}
 use Rattle.tt_render.specs.declared.fault.RunFault.TheVariants as run
-use Rattle.tt_render.specs.declared.picture.Picture.{Picture}
 
 -- the bytes of a picture
 abbrev pub picture_bytes : Picture → List ℕ
 picture_bytes p = header_bytes p.header ++ p.rows.items
 
--- what stopped the making of an outline, or of a line, stops the call
-abbrev pub of_fit_fault : FontFault → RunFault
-of_fit_fault (fit.Font f) = run.Font f
-of_fit_fault fit.Memory = run.Memory
+-- what stopped a part of a call stops the call
+abbrev pub run_fault_of_font : FontFault → RunFault
+run_fault_of_font (font.Font f) = run.Font f
+run_fault_of_font font.Memory = run.Memory
 
-abbrev pub of_line_fault : LineFault → RunFault
-of_line_fault (line.Job j) = run.Job j
-of_line_fault line.Memory = run.Memory
+abbrev pub run_fault_of_draw : DrawFault → RunFault
+run_fault_of_draw (draw.Font f) = run.Font f
+run_fault_of_draw (draw.Job j) = run.Job j
+run_fault_of_draw draw.Memory = run.Memory
+
+abbrev pub draw_fault_of_font : FontFault → DrawFault
+draw_fault_of_font (font.Font f) = draw.Font f
+draw_fault_of_font font.Memory = draw.Memory
+
+abbrev pub draw_fault_of_line : LineFault → DrawFault
+draw_fault_of_line (line.Job j) = draw.Job j
+draw_fault_of_line line.Memory = draw.Memory

@@ -1,6 +1,7 @@
 //! The bits of a picture, row by row.
 
 ghost use Rattle.std.specs.Prelude.{◌≡◌, ℕ, ◌+◌, ◌*◌, ◌^◌, ◌<◌, ◌≤◌, ◌||◌, ◌&&◌, ◌==◌, nat_lt, pos, length, replicate, All, IfOk};
+ghost use Rattle.tt_core.specs.Limits.{width_limit, height_limit};
 ghost use Rattle.tt_core.specs.Bits.{bit};
 ghost use Rattle.tt_core.specs.Bits.{stride};
 ghost use Rattle.tt_pbm.specs.P4.{rows};
@@ -15,7 +16,7 @@ use tt_scan::{Frame, Tape};
 fn add_glyph(tape: &mut Tape, frame: Frame, r: u32, row: &mut [u8])
     requires tape { tape.old.frame ≡ frame }
     requires edges { length tape.old.edges ≤ 2 ^ 17 }
-    requires width { frame.width ≤ 16384 }
+    requires width { frame.width ≤ width_limit }
     requires within { r < frame.height }
     requires count { tape.old.crosses ≤ 2 ^ 62 }
     requires room { length row.old ≡ stride frame.width }
@@ -43,8 +44,8 @@ fn mark(row: &mut [u8], column: usize, black: bool)
 
 /// Blackens the pixels of a row that some glyph covers; all others stay as they are.
 fn add_glyphs(tapes: &mut [Tape], frame: Frame, r: u32, row: &mut [u8])
-    requires width { frame.width ≤ 16384 }
-    requires height { frame.height ≤ 4096 }
+    requires width { frame.width ≤ width_limit }
+    requires height { frame.height ≤ height_limit }
     requires within { r < frame.height }
     requires tapes { All (TapeFits frame (r * row_crossings)) tapes.old }
     requires room { length row.old ≡ stride frame.width }
@@ -60,8 +61,8 @@ fn add_glyphs(tapes: &mut [Tape], frame: Frame, r: u32, row: &mut [u8])
 
 /// Makes a row of a picture in the place of what was there.
 fn make_row(tapes: &mut [Tape], frame: Frame, r: u32, row: &mut [u8])
-    requires width { frame.width ≤ 16384 }
-    requires height { frame.height ≤ 4096 }
+    requires width { frame.width ≤ width_limit }
+    requires height { frame.height ≤ height_limit }
     requires within { r < frame.height }
     requires tapes { All (TapeFits frame (r * row_crossings)) tapes.old }
     requires room { length row.old ≡ stride frame.width }

@@ -1,110 +1,121 @@
-//! The glyphs of a line, as tapes of edges.
+//! The picture of a line.
 
-ghost use Rattle.std.specs.Prelude.{◌≡◌, ◌*◌, ◌<◌, ◌≤◌, ◌^◌, length, All, IsTrue, IfOk, IfSome, get_or, OnOk, Err};
-ghost use Rattle.tt_fit.specs.Fitting.{fitted_outline};
-ghost use Rattle.tt_fit.specs.Outline.{IsOutline, outline_of};
-ghost use Rattle.tt_fit.specs.Reading.{FontGives, IfFont};
-ghost use Rattle.tt_scan.specs.Winding.{FrameFits};
-ghost use Rattle.tt_render.specs.declared.drawing.Fitted.{Fitted};
-ghost use Rattle.tt_render.specs.Outlines.{IsFitted};
-ghost use Rattle.tt_render.specs.Picture.{each, edges_at, glyph_edges};
-ghost use Rattle.tt_render.specs.Pixels.{edges_in, TapeFits};
+ghost use Rattle.std.specs.Prelude.{◌≡◌, ◌<◌, ◌≤◌, ◌^◌, length, map, unsigned_abs, All, IfOk, IfErr, OnOk, IsOkAnd};
+ghost use Rattle.tt_core.specs.Limits.{font_limit, width_limit, height_limit};
+ghost use Rattle.tt_core.specs.Directory.{HasNo};
+ghost use Rattle.tt_core.specs.Outcomes.{Gives, GivesUnless, FontGives, IfTold, font_fault};
+ghost use Rattle.tt_line.specs.Outcome.{placement_of};
+ghost use Rattle.tt_metrics.specs.Metrics.{loca_format_of, glyphs_of};
+ghost use Rattle.tt_render.specs.Asked.{ask_of, IsAsked};
+ghost use Rattle.tt_render.specs.Defects.{IsGlyphTableDefect, IsSettingDefect, IsLineDefect, IsRunDefect, IsExtentRefusal, TellsDefects, draw_font_fault, draw_job_fault};
+ghost use Rattle.tt_render.specs.Face.{face_of, face_view};
+ghost use Rattle.tt_render.specs.Outcome.{refusal};
+ghost use Rattle.tt_render.specs.Picture.{drawn, pictured, setting_in, glyphs_in};
+ghost use Rattle.tt_render.specs.Views.{picture_bytes};
 
-use std::alloc::{AllocError, Global};
-use tt_arc::chords;
-use tt_fit::{FontFault, Fitter, Outline};
-use tt_scan::{Frame, Tape};
+use crate::bitmap::bitmap;
+use crate::tapes::tapes;
+use crate::face::{Face, open_face};
+use crate::fault::DrawFault;
+use crate::job::Job;
+use std::alloc::Global;
+use tt_core::{Fault, FontFault};
+use tt_fit::{Fitter, Programs};
+use tt_glyf::Glyf;
+use tt_line::{Line, lay};
+use tt_pbm::{Header, p4_header};
+use tt_scan::Frame;
 
-/// A glyph of the line and its outline.
+/// A picture that is ready to be written: its header, and its rows one behind the other.
 #[derive(Drop)]
-struct Fitted {
-    glyph: u16,
-    outline: Outline,
+pub(crate) struct Picture {
+    pub(crate) header: Header,
+    pub(crate) rows: Vec<u8>,
 }
 
-/// Where the outline of a glyph stands among those that are kept.
-fn find(kept: &[Fitted], glyph: u16) -> Option<usize>
-    ensures { IfSome result (λ i. (i < length kept.now) × ((d : Fitted) → (get_or kept.now i d).glyph ≡ glyph)) }
+/// loca and glyf. Errors: NoTable, TableRange, LocaShort.
+#[tactic(auto, unfolding(crate::specs::Picture::glyphs_in))]
+fn open_glyf<'a>(face: &Face<'a>) -> Result<Glyf<'a>, Fault>
+    ensures exact { Gives (λ t. t) result (glyphs_in face.now.dir face.now.metrics) }
+    ensures format { IfOk result (λ t. t.format ≡ loca_format_of face.now.metrics) }
+    ensures glyphs { IfOk result (λ t. t.glyphs ≡ glyphs_of face.now.metrics) }
+    ensures sound { OnOk result (HasNo (IsGlyphTableDefect face.now.dir face.now.metrics)) }
+    ensures fault { IfErr result (IsGlyphTableDefect face.now.dir face.now.metrics) }
 {
-    for i in 0..kept.len() {
-        if kept[i].glyph == glyph {
-            return Some(i);
-        }
-    }
-    None
+    let loca = face.dir.needed(*b"loca")?;
+    // A loca that is too short comes before a glyf that is not there.
+    Glyf::open(loca, &[], &face.metrics)?;
+    let glyf = face.dir.needed(*b"glyf")?;
+    Glyf::open(loca, glyf, &face.metrics)
 }
 
-/// Where the outline of a glyph is kept; it is made if it is not there.
-fn keep(kept: &mut Vec<Fitted>, fitter: &Fitter, glyph: u16) -> Result<usize, FontFault>
-    requires known { glyph < fitter.now.tables.glyphs }
-    requires kept { All (IsFitted fitter.now) kept.old.items }
-    ensures found { IfOk result (λ i. (i < length kept.new.items) × ((d : Fitted) → (get_or kept.new.items i d).glyph ≡ glyph)) }
-    ensures kept { OnOk result (All (IsFitted fitter.now) kept.new.items) }
-    ensures fault { IfFont result (λ f. fitted_outline fitter.now glyph ≡ Err f) }
+/// What makes the outlines of a job. Errors: those of loca and glyf, Memory.
+#[tactic(auto, unfolding(crate::specs::Picture::setting_in))]
+fn open_fitter<'a>(alloc: Global, face: &Face<'a>, job: &Job) -> Result<Fitter<'a>, FontFault>
+    requires { IsAsked (ask_of job.now) }
+    ensures exact { FontGives (λ f. f) result (setting_in (face_view face.now) (ask_of job.now)) }
+    ensures glyphs { IfOk result (λ f. f.tables.glyphs ≡ glyphs_of face.now.metrics) }
+    ensures defects { TellsDefects font_fault (IsSettingDefect (face_view face.now) (ask_of job.now)) result }
 {
-    if let Some(i) = find(kept, glyph) {
-        return Ok(i);
-    }
-    let outline = fitter.fitted(glyph)?;
-    kept.push(Fitted { glyph, outline })?;
-    Ok(kept.len() - 1)
+    let glyf = open_glyf(face)?;
+    let programs = Programs {
+        cvt: &[],
+        fpgm: &[],
+        prep: &[],
+    };
+    Ok(Fitter::new(alloc, &face.metrics, glyf, programs, job.ppem, job.fit)?)
 }
 
-/// The edges of an outline whose first phantom point stands at a pen, in pixels.
-fn tape_at(alloc: Global, outline: &Outline, pen: u32, frame: Frame) -> Result<Tape, AllocError>
-    requires frame { FrameFits frame }
-    requires outline { IsOutline (outline_of outline.now) }
-    requires pen { pen ≤ 16384 }
-    ensures exact { IfOk result (λ t. t ≡ record { frame = frame; edges = edges_at pen (outline_of outline.now); crosses = 0 }) }
-    ensures fits { IfOk result (TapeFits frame 0) }
+/// The picture of a line that is laid out. Errors: those of loca and glyf, of the glyphs in the order of
+/// the line, Memory.
+#[tactic(auto, unfolding(crate::specs::Picture::drawn))]
+fn draw_line(alloc: Global, face: &Face, job: &Job, line: &Line) -> Result<Picture, FontFault>
+    requires asked { IsAsked (ask_of job.now) }
+    requires width { (1 ≤ line.now.width) × (line.now.width ≤ width_limit) }
+    requires height { (1 ≤ line.now.height) × (line.now.height ≤ height_limit) }
+    requires rise { unsigned_abs line.now.rise < 2 ^ 20 }
+    requires known { All (λ g. g.0 < glyphs_of face.now.metrics) line.now.glyphs.items }
+    requires pens { All (λ g. g.1 ≤ line.now.width) line.now.glyphs.items }
+    ensures exact { FontGives picture_bytes result (drawn (face_view face.now) (ask_of job.now) (placement_of line.now)) }
+    ensures header { IfOk result (λ p. p.header.len ≤ 16) }
+    ensures defects { TellsDefects font_fault (IsLineDefect (face_view face.now) (ask_of job.now) (map (λ g. g.0) line.now.glyphs.items)) result }
 {
-    let origin = outline.phantom[0].0;
-    chords(
-        alloc,
-        outline,
-        64 * i64::from(pen) - i64::from(origin),
-        0,
-        frame,
-    )
-}
-
-/// The edges of a glyph at its pen.
-fn glyph_tape(
-    alloc: Global,
-    kept: &mut Vec<Fitted>,
-    fitter: &Fitter,
-    placed: (u16, u32),
-    frame: Frame,
-) -> Result<Tape, FontFault>
-    requires known { placed.0 < fitter.now.tables.glyphs }
-    requires pen { placed.1 ≤ 16384 }
-    requires kept { All (IsFitted fitter.now) kept.old.items }
-    requires frame { FrameFits frame }
-    ensures exact { FontGives (λ t. t.edges) result (glyph_edges fitter.now placed) }
-    ensures fits { IfOk result (TapeFits frame 0) }
-    ensures kept { OnOk result (All (IsFitted fitter.now) kept.new.items) }
-{
-    let at = keep(kept, fitter, placed.0)?;
-    Ok(tape_at(alloc, &kept[at].outline, placed.1, frame)?)
-}
-
-/// The edges of each glyph at its pen. An outline is made once, however often its glyph stands in the line.
-pub(crate) fn tapes(
-    alloc: Global,
-    fitter: &Fitter,
-    glyphs: &[(u16, u32)],
-    frame: Frame,
-) -> Result<Vec<Tape>, FontFault>
-    requires known { All (λ g. g.0 < fitter.now.tables.glyphs) glyphs.now }
-    requires pens { All (λ g. g.1 ≤ 16384) glyphs.now }
-    requires frame { FrameFits frame }
-    ensures exact { FontGives (λ v. edges_in v.items) result (each (glyph_edges fitter.now) glyphs.now) }
-    ensures fits { IfOk result (λ v. All (TapeFits frame 0) v.items) }
-{
+    let fitter = open_fitter(alloc, face, job)?;
+    let frame = Frame {
+        width: line.width,
+        height: line.height,
+        margin: job.margin,
+        rise: line.rise,
+    };
     let mut kept = Vec::new(alloc);
-    let mut tapes = Vec::new(alloc);
-    for placed in glyphs {
-        tapes.push(glyph_tape(alloc, &mut kept, fitter, *placed, frame)?)?;
-    }
-    Ok(tapes)
+    let mut tapes = tapes(alloc, &mut kept, &fitter, &line.glyphs, frame)?;
+    let rows = bitmap(alloc, &mut tapes, frame)?;
+    Ok(Picture {
+        header: p4_header(frame.width, frame.height),
+        rows,
+    })
+}
+
+/// The picture of a job by a font file. Errors, the first of: those of the tables that every text is
+/// looked up in; EmptyPicture, PictureLarge; those of loca and glyf; those of the glyphs in the order of
+/// the text. Memory comes where a growth was refused.
+#[tactic(auto, unfolding(crate::specs::Picture::pictured))]
+pub(crate) fn draw(alloc: Global, file: &[u8], job: &Job) -> Result<Picture, DrawFault>
+    requires size { length file.now ≤ font_limit }
+    requires asked { IsAsked (ask_of job.now) }
+    ensures exact { GivesUnless refusal picture_bytes result (pictured (ask_of job.now) file.now) }
+    ensures header { IfOk result (λ p. p.header.len ≤ 16) }
+    ensures defects { TellsDefects draw_font_fault (IsRunDefect (ask_of job.now) file.now) result }
+    ensures extent { IfTold draw_job_fault result (λ j. IsOkAnd (face_of file.now) (λ face. IsExtentRefusal face (ask_of job.now) j)) }
+{
+    let face = open_face(file)?;
+    let line = lay(
+        alloc,
+        &face.metrics,
+        &face.cmap,
+        job.text,
+        job.ppem,
+        job.margin,
+    )?;
+    Ok(draw_line(alloc, &face, job, &line)?)
 }

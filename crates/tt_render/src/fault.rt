@@ -1,13 +1,13 @@
 //! Why a call ends without its work done.
 
 ghost use Rattle.std.specs.Prelude.{◌≡◌};
-ghost use Rattle.tt_render.specs.declared.fault.RunFault.TheVariants.{Font, Job, Memory, Write};
-ghost use Rattle.tt_render.specs.Views.{of_fit_fault, of_line_fault};
+ghost use Rattle.tt_render.specs.declared.fault.DrawFault.TheVariants as draw;
+ghost use Rattle.tt_render.specs.declared.fault.RunFault.TheVariants.{Job, Memory, Write};
+ghost use Rattle.tt_render.specs.Views.{run_fault_of_font, run_fault_of_draw, draw_fault_of_font, draw_fault_of_line};
 
 use std::alloc::{AllocError, AllocFailed};
 use thiserror::Error;
-use tt_core::{Fault, JobFault};
-use tt_fit::FontFault;
+use tt_core::{Fault, FontFault, JobFault};
 use tt_line::LineFault;
 use tt_pbm::Cut;
 
@@ -34,14 +34,6 @@ pub enum RunFault {
     Memory,
 }
 
-impl From<Fault> for RunFault {
-    ghost from_gives = { λ f e. e ≡ Font f };
-
-    fn from(fault: Fault) -> RunFault {
-        RunFault::Font(fault)
-    }
-}
-
 impl From<JobFault> for RunFault {
     ghost from_gives = { λ j e. e ≡ Job j };
 
@@ -50,24 +42,25 @@ impl From<JobFault> for RunFault {
     }
 }
 
-impl From<LineFault> for RunFault {
-    ghost from_gives = { λ f e. e ≡ of_line_fault f };
-
-    fn from(fault: LineFault) -> RunFault {
-        match fault {
-            LineFault::Job(fault) => RunFault::Job(fault),
-            LineFault::Memory => RunFault::Memory,
-        }
-    }
-}
-
 impl From<FontFault> for RunFault {
-    ghost from_gives = { λ f e. e ≡ of_fit_fault f };
+    ghost from_gives = { λ f e. e ≡ run_fault_of_font f };
 
     fn from(fault: FontFault) -> RunFault {
         match fault {
             FontFault::Font(fault) => RunFault::Font(fault),
             FontFault::Memory => RunFault::Memory,
+        }
+    }
+}
+
+impl From<DrawFault> for RunFault {
+    ghost from_gives = { λ f e. e ≡ run_fault_of_draw f };
+
+    fn from(fault: DrawFault) -> RunFault {
+        match fault {
+            DrawFault::Font(fault) => RunFault::Font(fault),
+            DrawFault::Job(fault) => RunFault::Job(fault),
+            DrawFault::Memory => RunFault::Memory,
         }
     }
 }
@@ -93,5 +86,46 @@ impl<T: Drop> From<AllocFailed<T>> for RunFault {
 
     fn from(_e: AllocFailed<T>) -> RunFault {
         RunFault::Memory
+    }
+}
+
+/// Why a picture was not made. Devices have no part in it.
+#[derive(Clone, Copy)]
+pub(crate) enum DrawFault {
+    /// The font has this defect.
+    Font(Fault),
+    /// The picture of the job would have no pixel, or too many.
+    Job(JobFault),
+    /// Memory was refused.
+    Memory,
+}
+
+impl From<Fault> for DrawFault {
+    ghost from_gives = { λ f e. e ≡ draw.Font f };
+
+    fn from(fault: Fault) -> DrawFault {
+        DrawFault::Font(fault)
+    }
+}
+
+impl From<FontFault> for DrawFault {
+    ghost from_gives = { λ f e. e ≡ draw_fault_of_font f };
+
+    fn from(fault: FontFault) -> DrawFault {
+        match fault {
+            FontFault::Font(fault) => DrawFault::Font(fault),
+            FontFault::Memory => DrawFault::Memory,
+        }
+    }
+}
+
+impl From<LineFault> for DrawFault {
+    ghost from_gives = { λ f e. e ≡ draw_fault_of_line f };
+
+    fn from(fault: LineFault) -> DrawFault {
+        match fault {
+            LineFault::Job(fault) => DrawFault::Job(fault),
+            LineFault::Memory => DrawFault::Memory,
+        }
     }
 }

@@ -2,18 +2,20 @@
 #![tactic(auto)]
 
 mod bitmap;
-mod characters;
 mod drawing;
 mod face;
 mod fault;
 mod job;
-mod picture;
+mod kept;
+mod limits;
+mod mapping;
 mod reading;
 mod reports;
 mod running;
+mod tapes;
 
-pub use characters::{TEXT_LIMIT, map};
 pub use fault::RunFault;
-pub use job::{Job, MARGIN_LIMIT, SIZE_LIMIT};
+pub use job::Job;
+pub use mapping::map;
 pub use reports::{line, status};
 pub use running::run;

@@ -1,8 +1,6 @@
 //! What the program says of a fault.
 
-ghost use Rattle.std.specs.Prelude.{◌≡◌, string_bytes, IfOk, IsTrue};
-ghost use Rattle.tt_core.specs.Directory.{is_ascii};
-ghost use Rattle.tt_render.specs.Defects.{HasAsciiTable};
+ghost use Rattle.std.specs.Prelude.{◌≡◌, string_bytes, IfOk};
 ghost use Rattle.tt_render.specs.Report.{status_of, line_of, font_line};
 
 use crate::fault::RunFault;
@@ -24,7 +22,6 @@ pub fn status(fault: &RunFault) -> u8
 
 /// The program's line on standard error, without the line feed.
 pub fn line(alloc: Global, fault: &RunFault) -> Result<String, AllocError>
-    requires { HasAsciiTable fault.now }
     ensures { IfOk result (λ text. string_bytes text ≡ line_of fault.now) }
 {
     match fault {
@@ -46,12 +43,9 @@ pub fn line(alloc: Global, fault: &RunFault) -> Result<String, AllocError>
 }
 
 fn font_line(alloc: Global, fault: Fault) -> Result<String, AllocError>
-    requires { IsTrue (is_ascii fault.table) }
     ensures { IfOk result (λ text. string_bytes text ≡ font_line fault) }
 {
-    let Ok(table) = std::str::from_utf8(&fault.table) else {
-        unreachable!();
-    };
+    let table = fault.tag();
     let offset = fault.offset;
     let number = fault.why.number();
     let name = fault.why.name();

@@ -1,15 +1,18 @@
 //! A line of text drawn, from a reader to a writer.
 
-ghost use Rattle.std.specs.Prelude.{◌≡◌, ◌<◌, ◌≤◌, false, is_err, length, take, IfErr, OnOk};
+ghost use Rattle.std.specs.Prelude.{◌≡◌, ◌<◌, ◌≤◌, false, is_err, length, take, IfErr, IfSome, OnOk};
 ghost use Rattle.std.specs.Io.KnownBytes.{Appends};
-ghost use Rattle.tt_render.specs.Defects.{IsRunDefect, TellsDefectsOf, HasAsciiTable};
-ghost use Rattle.tt_render.specs.Outcome.{CallGives};
-ghost use Rattle.tt_render.specs.Picture.{ask_of, run_outcome};
+ghost use Rattle.tt_core.specs.Limits.{font_limit};
+ghost use Rattle.tt_render.specs.Asked.{ask_of};
+ghost use Rattle.tt_render.specs.Defects.{IsRunDefect, IsJobRefusal, TellsDefectsOf};
+ghost use Rattle.tt_render.specs.Outcome.{CallGives, IfJob, IfLarge};
+ghost use Rattle.tt_render.specs.Picture.{run_wanted};
 ghost use Rattle.tt_render.specs.Views.{picture_bytes};
 
 use crate::fault::RunFault;
-use crate::job::{Job, test_job};
-use crate::picture::{Picture, draw};
+use crate::job::Job;
+use crate::drawing::{Picture, draw};
+use crate::limits::test_job;
 use crate::reading::read_font;
 use std::alloc::Global;
 use tt_core::{Sink, Source};
@@ -36,8 +39,10 @@ pub fn run<R: Source, W: Sink>(
       out_before = W.written out.old;
       out_after = W.written out.new;
       write_failed = W.has_failed out.new;
-    }) (run_outcome (ask_of job.now)) }
+    }) (run_wanted (ask_of job.now)) }
     ensures defects { TellsDefectsOf (R.left font.old) (IsRunDefect (ask_of job.now)) result }
+    ensures job { IfJob result (IsJobRefusal (ask_of job.now) (R.left font.old)) }
+    ensures large { IfLarge result (IfSome (R.left font.old) (λ file. font_limit < length file)) }
 {
     test_job(job)?;
     let file = read_font(alloc, font)?;

@@ -1,0 +1,59 @@
+-- No part of the standard: what is asked of a call, and the tests that a job passes before the font is read (profile).
+use Rattle.std.specs.Prelude.{◌≡◌, refl, ℕ, ◌<◌, ◌≤◌, ◌||◌, nat_lt, if◌then◌else◌, List, length, chars, codes, Result, Ok, Err, ◌⊎◌}
+use Rattle.tt_core.specs.declared.fault.JobFault.{JobFault}
+use Rattle.tt_core.specs.declared.fault.JobFault.TheVariants as fault
+use Rattle.tt_core.specs.Limits.{text_limit, size_limit, margin_limit}
+use Rattle.tt_fit.specs.declared.programs.Fit.{Fit}
+use Rattle.tt_fit.specs.declared.programs.Fit.TheVariants as fit
+use Rattle.tt_render.specs.declared.job.Job.{Job}
+
+-- a text, the pixels per em, the pixels round the line, and how outlines are fitted
+pub record Ask : Type 0 where
+  pub text : List ℕ
+  pub ppem : ℕ
+  pub margin : ℕ
+  pub fit : Fit
+
+abbrev pub ask_of : Job → Ask
+ask_of j = record { text = j.text.now; ppem = j.ppem; margin = j.margin; fit = j.fit }
+
+-- the limit of a text, in characters
+unfoldable pub text_tested : List ℕ → Result (Unit {0}) JobFault
+text_tested text = if nat_lt text_limit (length (chars text)) then Err fault.TextLong else Ok tt
+
+-- the limits of a job, in the order in which they are tested
+unfoldable pub tested : Ask → Result (Unit {0}) JobFault
+tested a =
+    if nat_lt a.ppem 1 || nat_lt size_limit a.ppem then Err fault.SizeRange
+    else (if nat_lt margin_limit a.margin then Err fault.MarginRange
+    else text_tested a.text)
+
+-- a job within its limits
+pub record IsAsked (a : Ask) : Type 0 where
+  pub low : 1 ≤ a.ppem
+  pub high : a.ppem ≤ size_limit
+  pub margin : a.margin ≤ margin_limit
+  pub text : length (chars a.text) ≤ text_limit
+
+-- what stands behind a refusal of the job alone
+abbrev pub IsAskRefusal : Ask → JobFault → Type 0
+IsAskRefusal a fault.SizeRange = (a.ppem < 1) ⊎ (size_limit < a.ppem)
+IsAskRefusal a fault.MarginRange = margin_limit < a.margin
+IsAskRefusal a fault.TextLong = text_limit < length (chars a.text)
+IsAskRefusal a j = ⊥
+
+-- worked values
+of_size : ℕ → Ask
+of_size ppem = record { text = codes "A"; ppem = ppem; margin = 0; fit = fit.None }
+
+no_size : tested (of_size 0) ≡ Err fault.SizeRange
+unfolding of_size tested text_tested
+no_size = refl
+
+a_larger_size : tested (of_size 301) ≡ Err fault.SizeRange
+unfolding of_size tested text_tested
+a_larger_size = refl
+
+size_before_margin : tested (record (of_size 301) { margin = 65 }) ≡ Err fault.SizeRange
+unfolding of_size tested text_tested
+size_before_margin = refl
