@@ -5,6 +5,7 @@ use Rattle.tt_core.specs.declared.fault.Why.TheVariants as why
 use Rattle.tt_core.specs.Limits.{font_limit}
 use Rattle.tt_core.specs.Faults.{fault_at}
 use Rattle.tt_core.specs.Numbers.{unsigned_at}
+use Rattle.tt_core.specs.Outcomes.{◌>>=◌}
 use Rattle.tt_metrics.specs.declared.head.LocaFormat.{LocaFormat}
 use Rattle.tt_metrics.specs.declared.head.LocaFormat.TheVariants.{Short, Long}
 use Rattle.tt_metrics.specs.Metrics.{Fields, loca_format_of, glyphs_of}
@@ -13,10 +14,9 @@ use Rattle.tt_metrics.specs.Metrics.{Fields, loca_format_of, glyphs_of}
 abbrev pub loca_tag : List ℕ
 loca_tag = codes "loca"
 
--- loca and glyf, with what head and maxp say of them
-pub record GlyphTables : Type 0 where
+-- loca, with what head and maxp say of it
+pub record Locations : Type 0 where
   pub loca : List ℕ
-  pub glyf : List ℕ
   pub format : LocaFormat
   pub glyphs : ℕ
 
@@ -34,27 +34,48 @@ abbrev pub entry_at : LocaFormat → List ℕ → ℕ → ℕ
 entry_at Short loca g = 2 * unsigned_at loca (2 * g) 2
 entry_at Long loca g = unsigned_at loca (4 * g) 4
 
--- the offset of glyph g in glyf
-abbrev pub glyph_offset : GlyphTables → ℕ → ℕ
-glyph_offset t g = entry_at t.format t.loca g
-
--- the two tables of a font whose metrics are known
-abbrev pub tables_with : List ℕ → List ℕ → Fields → GlyphTables
-tables_with loca glyf m = record { loca = loca; glyf = glyf; format = loca_format_of m; glyphs = glyphs_of m }
+-- loca of a font whose metrics are known
+abbrev pub loca_with : List ℕ → Fields → Locations
+loca_with loca m = record { loca = loca; format = loca_format_of m; glyphs = glyphs_of m }
 
 -- how many bytes loca needs: an entry for each glyph, and one more
 abbrev pub loca_size : LocaFormat → ℕ → ℕ
 loca_size format glyphs = entry_size format * (glyphs + 1)
 
--- the two tables, where loca is long enough
-unfoldable pub glyph_tables_of : List ℕ → List ℕ → Fields → Result GlyphTables Fault
-glyph_tables_of loca glyf m =
+-- loca, where it is long enough
+unfoldable pub loca_of : List ℕ → Fields → Result Locations Fault
+loca_of loca m =
     if nat_lt (length loca) (loca_size (loca_format_of m) (glyphs_of m)) then Err (fault_at loca_tag (length loca) why.LocaShort)
-    else Ok (tables_with loca glyf m)
+    else Ok (loca_with loca m)
 
 -- loca has fewer entries than it needs
 abbrev pub IsLocaDefect : List ℕ → Fields → Fault → Type 0
 IsLocaDefect loca m fault = (length loca < loca_size (loca_format_of m) (glyphs_of m)) × (fault ≡ fault_at loca_tag (length loca) why.LocaShort)
+
+-- loca has an entry for each glyph, and one more
+pub record AreLocations (l : Locations) : Type 0 where
+  pub entries : loca_size l.format l.glyphs ≤ length l.loca
+  pub limit : length l.loca ≤ font_limit
+  pub some : 0 < l.glyphs
+
+-- loca and glyf, with what head and maxp say of them
+pub record GlyphTables : Type 0 where
+  pub loca : List ℕ
+  pub glyf : List ℕ
+  pub format : LocaFormat
+  pub glyphs : ℕ
+
+-- loca, and glyf beside it
+abbrev pub with_glyf : Locations → List ℕ → GlyphTables
+with_glyf l glyf = record { loca = l.loca; glyf = glyf; format = l.format; glyphs = l.glyphs }
+
+-- the two tables of a font whose metrics are known
+abbrev pub tables_with : List ℕ → List ℕ → Fields → GlyphTables
+tables_with loca glyf m = with_glyf (loca_with loca m) glyf
+
+-- the two tables, where loca is long enough
+abbrev pub glyph_tables_of : List ℕ → List ℕ → Fields → Result GlyphTables Fault
+glyph_tables_of loca glyf m = loca_of loca m >>= λ l. Ok (with_glyf l glyf)
 
 -- what reading a glyph counts on
 pub record AreTables (t : GlyphTables) : Type 0 where
@@ -62,6 +83,10 @@ pub record AreTables (t : GlyphTables) : Type 0 where
   pub loca_limit : length t.loca ≤ font_limit
   pub glyf_limit : length t.glyf ≤ font_limit
   pub some : 0 < t.glyphs
+
+-- the offset of glyph g in glyf
+abbrev pub glyph_offset : GlyphTables → ℕ → ℕ
+glyph_offset t g = entry_at t.format t.loca g
 
 -- equal neighbours, wherever they point: the glyph has no bytes
 abbrev pub has_no_bytes : GlyphTables → ℕ → Bool

@@ -6,7 +6,7 @@ ghost use Rattle.tt_core.specs.Outcomes.{Gives};
 ghost use Rattle.tt_glyf.specs.Bytes.{byte_in, word_in, signed_in, slice_in, glyph_fault, short};
 
 use std::marker::Model;
-use tt_core::{FONT_LIMIT, Fault, Why, i16_at, u16_at};
+use tt_core::{Fault, Why, i16_at, u16_at};
 
 const GLYF: [u8; 4] = *b"glyf";
 

@@ -12,7 +12,7 @@ use crate::component::{record_at, record_size};
 use crate::component_flags::{ComponentFlags, has_flag};
 use crate::raw::{Raw, Record};
 use std::alloc::Global;
-use tt_core::{Fault, Why, FontFault};
+use tt_core::{Fault, FontFault, Why};
 
 /// The most records that a glyph may have (profile).
 const RECORD_LIMIT: usize = 32;

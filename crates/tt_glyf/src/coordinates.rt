@@ -9,7 +9,7 @@ ghost use Rattle.tt_core.specs.Outcomes.{FontGives};
 use crate::bytes::GlyphBytes;
 use crate::flags::{PointFlags, has_flag};
 use std::alloc::Global;
-use tt_core::{Fault, Why, FontFault};
+use tt_core::{Fault, FontFault, Why};
 
 /// The two flags that tell how a delta along an axis is written.
 #[derive(Clone, Copy)]

@@ -9,7 +9,7 @@ ghost use Rattle.tt_glyf.specs.Views.{run_of, flags_listing};
 use crate::bytes::GlyphBytes;
 use bitflags::{Flag, Flags, bitflag_items};
 use std::alloc::{AllocError, Global};
-use tt_core::{Fault, Why, FontFault};
+use tt_core::{Fault, FontFault, Why};
 
 /// The flags of a point.
 #[derive(Clone, Copy, Debug, PartialEq, Eq)]

@@ -6,7 +6,7 @@ ghost use Rattle.tt_core.specs.Directory.{HasNo};
 ghost use Rattle.tt_core.specs.Outcomes.{Gives};
 ghost use Rattle.tt_glyf.specs.Bytes.{stretch_at};
 ghost use Rattle.tt_glyf.specs.GlyphData.{glyph_in, described, glyph_data_of};
-ghost use Rattle.tt_glyf.specs.Loca.{glyph_tables_of, tables_with, entry_size, entry_place, glyph_offset, has_no_bytes, bytes_between, glyph_bytes_of, IsLocaDefect, IsRangeDefect, AreTables};
+ghost use Rattle.tt_glyf.specs.Loca.{glyph_tables_of, tables_with, with_glyf, glyph_offset, has_no_bytes, bytes_between, glyph_bytes_of, IsLocaDefect, IsRangeDefect, AreTables};
 ghost use Rattle.tt_glyf.specs.Meaning.{IfSimple, IfComposite, stretch_of, HasProgram, AreEnds, ArePoints, AreComponents, AreRecords};
 ghost use Rattle.tt_glyf.specs.Raw.{glyph_data};
 ghost use Rattle.tt_core.specs.Outcomes.{FontGives};
@@ -15,39 +15,36 @@ ghost use Rattle.tt_glyf.specs.Views.{header_view};
 use crate::bytes::GlyphBytes;
 use crate::composite::read_composite;
 use crate::header::{Header, read_header};
-use crate::loca::{entry, width};
+use crate::loca::Loca;
 use crate::raw::Raw;
 use crate::simple::read_simple;
 use std::alloc::Global;
 use std::marker::Model;
-use tt_core::{FONT_LIMIT, Fault, Why, FontFault};
-use tt_metrics::{LocaFormat, Metrics};
-
-const LOCA: [u8; 4] = *b"loca";
+use tt_core::{Fault, FontFault, Why};
+use tt_metrics::Metrics;
 
 /// The glyph data of a font. A clause sees it as the bytes of loca and glyf, loca's format and the
 /// number of glyphs.
 #[derive(Drop)]
 pub struct Glyf<'a> {
-    loca: &'a [u8],
+    loca: Loca<'a>,
     glyf: &'a [u8],
-    format: LocaFormat,
-    glyphs: u16,
 }
 
 impl<'a> Model for Glyf<'a> {
-    ghost use Rattle.tt_glyf.specs.Loca.{GlyphTables, AreTables};
+    ghost use Rattle.std.specs.Prelude.{◌≤◌, length};
+    ghost use Rattle.tt_core.specs.Limits.{font_limit};
+    ghost use Rattle.tt_glyf.specs.Loca.{GlyphTables, with_glyf};
 
     ghost Value = { GlyphTables };
 
-    ghost view = { λ t. record { loca = t.loca.now; glyf = t.glyf.now; format = t.format; glyphs = t.glyphs } };
+    ghost view = { λ t. with_glyf t.loca t.glyf.now };
 
-    ghost invariant = { λ t. AreTables (record { loca = t.loca.now; glyf = t.glyf.now; format = t.format; glyphs = t.glyphs }) };
+    ghost invariant = { λ t. length t.glyf.now ≤ font_limit };
 }
 
 impl<'a> Glyf<'a> {
     /// Takes loca and glyf of the font with these metrics. Error: LocaShort.
-    #[tactic(auto, unfolding(crate::specs::Loca::glyph_tables_of))]
     pub fn open(loca: &'a [u8], glyf: &'a [u8], metrics: &Metrics) -> Result<Glyf<'a>, Fault>
         requires loca { length loca.now ≤ font_limit }
         requires glyf { length glyf.now ≤ font_limit }
@@ -57,17 +54,16 @@ impl<'a> Glyf<'a> {
         ensures sound { OnOk result (HasNo (IsLocaDefect loca.now metrics.now)) }
         ensures fault { IfErr result (IsLocaDefect loca.now metrics.now) }
     {
-        let format = metrics.loca_format();
-        let glyphs = metrics.glyphs();
-        if loca.len() < width(format) * (usize::from(glyphs) + 1) {
-            return Err(Fault::new(LOCA, loca.len() as u32, Why::LocaShort));
-        }
-        Ok(Glyf {
-            loca,
-            glyf,
-            format,
-            glyphs,
-        })
+        let loca = Loca::open(loca, metrics)?;
+        Ok(Glyf::of(loca, glyf))
+    }
+
+    /// Takes a font's loca, and its glyf beside it.
+    pub fn of(loca: Loca<'a>, glyf: &'a [u8]) -> Glyf<'a>
+        requires { length glyf.now ≤ font_limit }
+        ensures { result ≡ with_glyf loca.entry glyf.now }
+    {
+        Glyf { loca, glyf }
     }
 
     /// The offset of a glyph in glyf, as loca gives it.
@@ -75,7 +71,7 @@ impl<'a> Glyf<'a> {
         requires { g < self.now.glyphs }
         ensures { result ≡ glyph_offset self.now g }
     {
-        entry(self.loca, self.format, usize::from(g))
+        self.loca.offset(usize::from(g))
     }
 
     /// The bytes of a glyph, none where loca's entries are equal. Error: GlyphRange.
@@ -89,14 +85,13 @@ impl<'a> Glyf<'a> {
         ensures sound { OnOk result (HasNo (IsRangeDefect self.now g)) }
         ensures fault { IfErr result (IsRangeDefect self.now g) }
     {
-        let start = self.start(g) as usize;
-        let next = entry(self.loca, self.format, usize::from(g) + 1) as usize;
+        let start = self.loca.offset(usize::from(g)) as usize;
+        let next = self.loca.offset(usize::from(g) + 1) as usize;
         if start == next {
             return Ok(&[]);
         }
         if next < start || self.glyf.len() < start {
-            let place = width(self.format) * usize::from(g);
-            return Err(Fault::new(LOCA, place as u32, Why::GlyphRange));
+            return Err(self.loca.fault(g, Why::GlyphRange));
         }
         Ok(&self.glyf[start..next.min(self.glyf.len())])
     }
@@ -107,8 +102,8 @@ impl<'a> Glyf<'a> {
         ensures exact { result ≡ has_no_bytes self.now g }
         ensures limit { length self.now.glyf ≤ font_limit }
     {
-        let start = entry(self.loca, self.format, usize::from(g));
-        let next = entry(self.loca, self.format, usize::from(g) + 1);
+        let start = self.loca.offset(usize::from(g));
+        let next = self.loca.offset(usize::from(g) + 1);
         start == next
     }
 
@@ -140,7 +135,7 @@ impl<'a> Glyf<'a> {
         }
         let bytes = self.bytes(g)?;
         let glyph = GlyphBytes::new(self.start(g) as usize, bytes);
-        read_glyph(alloc, &glyph, self.glyphs)
+        read_glyph(alloc, &glyph, self.loca.glyphs())
     }
 }
 

@@ -15,5 +15,6 @@ mod simple;
 
 pub use component_flags::ComponentFlags;
 pub use glyf::Glyf;
+pub use loca::Loca;
 pub use raw::{Raw, RawPoint, Record};
 pub use tt_core::FontFault as GlyfFault;

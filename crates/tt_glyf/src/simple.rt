@@ -12,7 +12,7 @@ use crate::coordinates::{Axis, read_coordinates};
 use crate::flags::{PointFlags, has_flag, read_flags};
 use crate::raw::{Raw, RawPoint};
 use std::alloc::{AllocError, Global};
-use tt_core::{Fault, Why, FontFault};
+use tt_core::{Fault, FontFault, Why};
 
 /// The most points that a glyph may have (profile).
 const POINT_LIMIT: usize = 16_384;
