@@ -2,17 +2,17 @@
 use Rattle.std.proofs.Common.{◌≡◌, ℕ, ◌+◌, ◌-◌, ◌<◌, ◌≤◌, min, Bool, true, false, ◌==◌, if◌then◌else◌, List, [], length, Ok, Err, ℤ, pos, unsigned_abs, int_lt, refl, arith, sym, ◌∙◌}
 use Rattle.std.proofs.lemmas.Bool.Decides.{nat_tests}
 use Rattle.tt_core.specs.Faults.{Fault}
+use Rattle.tt_core.specs.Limits.{component_limit, point_limit}
 use Rattle.tt_core.specs.Outcomes.{◌>>=◌}
 use Rattle.tt_glyf.specs.declared.raw.RawPoint.{RawPoint}
 use Rattle.tt_glyf.specs.Bytes.{Stretch, stretch_at, Listing, word_in, slice_in}
-use Rattle.tt_glyf.specs.Composite.{Program, record_limit, records_of, program_of, composite_of}
+use Rattle.tt_glyf.specs.Composite.{Program, records_of, program_of, composite_of}
 use Rattle.tt_glyf.specs.GlyphData.{Header, header_of, described, glyph_in, glyph_data_of}
 use Rattle.tt_glyf.specs.Loca.{GlyphTables, glyph_offset, has_no_bytes, is_out_of_range, bytes_between, glyph_bytes_of}
 use Rattle.tt_glyf.specs.Meaning.{IfSimple, IfComposite, stretch_of, IsProgram, HasProgram, AreEnds, ArePoints, AreComponents, AreRecords}
 use Rattle.tt_glyf.specs.Raw.{GlyphData, empty, simple, composite}
 use Rattle.tt_glyf.specs.Simple.{ends_of, point_count, points_within, points_of, simple_of}
 use Rattle.tt_glyf.proofs.Chains.{came-through}
-use Rattle.tt_glyf.proofs.Components.{record_limit_is}
 use Rattle.tt_glyf.proofs.Outlines.{EndsRead, ends-were, never-falls, CountRead, count-was, PointsRead, points-were}
 use Rattle.tt_glyf.proofs.Parts.{ArePartsRead, records-were, IsProgramRead, program-was}
 use Rattle.tt_glyf.proofs.Places.{IsWithin, slice-was, program-is}
@@ -25,7 +25,7 @@ IsProgramOf g (composite c) = IsProgramRead g (record { code = c.code; code_at =
 
 -- what is said of a glyph, over its own bytes
 pub record IsRead (glyphs : ℕ) (g : Stretch) (d : GlyphData) : Type 0 where
-  pub few : IfSimple d (λ s. length s.points ≤ 16384)
+  pub few : IfSimple d (λ s. length s.points ≤ point_limit)
   pub ends : IfSimple d (λ s. AreEnds (length s.points) s.ends)
   pub points : IfSimple d (λ s. ArePoints g.bytes (s.code_at + length s.code - g.start) s.points)
   pub components : IfComposite d (λ c. AreComponents glyphs g 10 c.records)
@@ -72,7 +72,7 @@ simple-was glyphs g x_min contours d some was =
     let is : simple (record { x_min = x_min; points = points; ends = ends.items; code = code; code_at = g.start + (ends.next + 2) }) ≡ d = cc by_points.rest in
     rw (← is) (simple-make glyphs g x_min contours n size ends code points some (ends-were g 10 contours 0 ends by_ends.first) (count-was g ends n by_count.first) (slice-was g (ends.next + 2) size code by_code.first) (points-were g (ends.next + 2 + size) n points by_points.first))
 
-composite-make : (glyphs : ℕ) (g : Stretch) (x_min : ℤ) (records : Listing _) (p : Program) → ArePartsRead glyphs g 10 record_limit records → IsProgramRead g p → IsRead glyphs g (composite (record { x_min = x_min; records = records.items; code = p.code; code_at = p.code_at }))
+composite-make : (glyphs : ℕ) (g : Stretch) (x_min : ℤ) (records : Listing _) (p : Program) → ArePartsRead glyphs g 10 component_limit records → IsProgramRead g p → IsRead glyphs g (composite (record { x_min = x_min; records = records.items; code = p.code; code_at = p.code_at }))
 composite-make glyphs g x_min records p r is =
     let few = r.few in
     record {
@@ -80,7 +80,7 @@ composite-make glyphs g x_min records p r is =
       ends = tt;
       points = tt;
       components = r.are;
-      records = record { some = r.some; few = omega (arith, record_limit_is); known = r.known; numbers = r.numbers };
+      records = record { some = r.some; few = r.few; known = r.known; numbers = r.numbers };
       program = is;
     }
 
@@ -89,7 +89,7 @@ unfolding composite_of
 composite-was glyphs g x_min d was =
     let by_records = came-through (records_of glyphs g) _ d was in
     let records = by_records.value in
-    let read = records-were glyphs g 10 record_limit records by_records.first in
+    let read = records-were glyphs g 10 component_limit records by_records.first in
     let by_program = came-through (program_of g records) _ d by_records.rest in
     let p = by_program.value in
     let is : composite (record { x_min = x_min; records = records.items; code = p.code; code_at = p.code_at }) ≡ d = cc by_program.rest in
@@ -137,7 +137,7 @@ programs-in t g bytes (composite c) b p = program-in t g bytes c.code c.code_at 
 
 -- what is said of the glyph of a number
 pub record IsGlyph (t : GlyphTables) (g : ℕ) (d : GlyphData) : Type 0 where
-  pub few : IfSimple d (λ s. length s.points ≤ 16384)
+  pub few : IfSimple d (λ s. length s.points ≤ point_limit)
   pub ends : IfSimple d (λ s. AreEnds (length s.points) s.ends)
   pub points : IfSimple d (λ s. ArePoints (bytes_between t g) (s.code_at + length s.code - glyph_offset t g) s.points)
   pub components : IfComposite d (λ c. AreComponents t.glyphs (stretch_of t g) 10 c.records)

@@ -2,12 +2,13 @@
 use Rattle.std.proofs.Common.{◌≡◌, ℕ, zero, suc, ◌+◌, ◌<◌, ◌≤◌, Bool, false, nat_lt, List, [], ◌∷◌, ◌++◌, length, map, Ok, ℤ, refl, arith, ap, sym, ◌∙◌}
 use Rattle.std.specs.Prelude.{slice_index}
 use Rattle.std.proofs.lemmas.Bool.Decides.{nat_tests}
+use Rattle.tt_core.specs.Limits.{point_limit}
 use Rattle.tt_glyf.specs.declared.raw.RawPoint.{RawPoint}
 use Rattle.tt_glyf.specs.Bytes.{Stretch, Listing, word_in}
 use Rattle.tt_glyf.specs.Coordinates.{x_axis, y_axis, origin}
 use Rattle.tt_glyf.specs.Flags.{has, on_curve_point}
 use Rattle.tt_glyf.specs.Meaning.{ArePoints}
-use Rattle.tt_glyf.specs.Simple.{rising, end_at, ends_from, point_count, point_limit, points_within, points_from, points_of}
+use Rattle.tt_glyf.specs.Simple.{rising, end_at, ends_from, point_count, points_within, points_from, points_of}
 use Rattle.tt_glyf.proofs.Chains.{came-through, came-after, passed}
 use Rattle.tt_glyf.proofs.Covers.{AreCovered, flags-were}
 use Rattle.tt_glyf.proofs.Deltas.{AreRead, coordinates-were}
@@ -62,14 +63,14 @@ never-falls before (e ∷ es) (suc i) (suc j) rise le below = never-falls e es i
 -- so many points
 pub record CountRead (ends : List ℕ) (n : ℕ) : Type 0 where
   pub is : n ≡ point_count ends
-  pub few : n ≤ 16384
+  pub few : n ≤ point_limit
 
 pub count-was : (g : Stretch) (ends : Listing ℕ) (n : ℕ) → points_within g ends ≡ Ok n → CountRead ends.items n
-unfolding points_within point_limit
+unfolding points_within
 count-was g ends n was =
     let p = passed _ _ _ _ was in
     let is : point_count ends.items ≡ n = p.1 in
-    let test : nat_lt 16384 n ≡ false = rw (← is) p.0 in
+    let test : nat_lt point_limit n ≡ false = rw (← is) p.0 in
     record { is = sym is; few = grind (arith, nat_tests) }
 
 -- the points of lists of one length

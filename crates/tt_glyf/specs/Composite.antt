@@ -1,9 +1,10 @@
 -- OpenType, "The 'glyf' table", "Composite Glyph Description": component records one after the other, up to the first
 -- without the flag for more, then perhaps a program.
-use Rattle.std.specs.Prelude.{ℕ, zero, suc, ◌+◌, ◌*◌, Bool, false, not, ◌&&◌, ◌||◌, nat_lt, if◌then◌else◌, ℤ, pos, ◌-ℤ◌, List, [], ◌∷◌, Result, Ok, Err}
+use Rattle.std.specs.Prelude.{ℕ, zero, suc, ◌+◌, ◌*◌, Bool, false, not, ◌&&◌, ◌||◌, nat_lt, if◌then◌else◌, ℤ, pos, ◌-ℤ◌, List, [], ◌∷◌, codes, Result, Ok, Err}
 use Rattle.std.specs.Ordering.{int_eq}
 use Rattle.tt_core.specs.Faults.{Fault}
 use Rattle.tt_core.specs.declared.fault.Why.TheVariants as why
+use Rattle.tt_core.specs.Limits.{component_limit}
 use Rattle.tt_core.specs.Outcomes.{◌>>=◌}
 use Rattle.tt_glyf.specs.declared.raw.Record.{Record}
 use Rattle.tt_glyf.specs.Bytes.{Stretch, Listing, byte_in, word_in, signed_in, slice_in, glyph_fault, after}
@@ -16,6 +17,10 @@ arg_1_and_2_are_words = 0x1
 -- they are offsets along x and y, and so signed; else point numbers
 abbrev pub args_are_xy_values : ℕ
 args_are_xy_values = 0x2
+
+-- offsets are rounded to whole pixels
+abbrev pub round_xy_to_grid : ℕ
+round_xy_to_grid = 0x4
 
 abbrev pub we_have_a_scale : ℕ
 we_have_a_scale = 0x8
@@ -32,11 +37,25 @@ we_have_a_two_by_two = 0x80
 abbrev pub we_have_instructions : ℕ
 we_have_instructions = 0x100
 
+-- the metrics of the component are the glyph's
+abbrev pub use_my_metrics : ℕ
+use_my_metrics = 0x200
+
 abbrev pub scaled_component_offset : ℕ
 scaled_component_offset = 0x800
 
 abbrev pub unscaled_component_offset : ℕ
 unscaled_component_offset = 0x1000
+
+-- the flags, by their names
+abbrev pub component_flags : List (List ℕ × ℕ)
+component_flags =
+    (codes "ARG_1_AND_2_ARE_WORDS", arg_1_and_2_are_words) ∷ (codes "ARGS_ARE_XY_VALUES", args_are_xy_values)
+    ∷ (codes "ROUND_XY_TO_GRID", round_xy_to_grid) ∷ (codes "WE_HAVE_A_SCALE", we_have_a_scale)
+    ∷ (codes "MORE_COMPONENTS", more_components) ∷ (codes "WE_HAVE_AN_X_AND_Y_SCALE", we_have_an_x_and_y_scale)
+    ∷ (codes "WE_HAVE_A_TWO_BY_TWO", we_have_a_two_by_two) ∷ (codes "WE_HAVE_INSTRUCTIONS", we_have_instructions)
+    ∷ (codes "USE_MY_METRICS", use_my_metrics) ∷ (codes "SCALED_COMPONENT_OFFSET", scaled_component_offset)
+    ∷ (codes "UNSCALED_COMPONENT_OFFSET", unscaled_component_offset) ∷ []
 
 -- 8 bits read as two's complement
 abbrev pub signed8 : ℕ → ℤ
@@ -148,10 +167,6 @@ record_at glyphs g at = do
   t ← transform_at g flags (at + 4 + 2 * argument_size flags)
   unscaled g at (record { at = g.start + at; flags = flags; glyph = glyph; arg1 = args.arg1; arg2 = args.arg2; xx = t.xx; yx = t.yx; xy = t.xy; yy = t.yy })
 
--- the most records that a glyph may have (profile)
-unfoldable pub record_limit : ℕ
-record_limit = 32
-
 -- the records from a place on, of which so many are let pass
 unfoldable pub records_from : ℕ → Stretch → ℕ → ℕ → Result (Listing Record) Fault
 records_from glyphs g at zero = Err (glyph_fault g at why.ComponentCount)
@@ -159,9 +174,9 @@ records_from glyphs g at (suc allowed) = do
   r ← record_at glyphs g at
   after (r ∷ []) (if has r.flags more_components then records_from glyphs g (at + record_size r.flags) allowed else Ok (record { items = []; next = at + record_size r.flags }))
 
--- the records stand behind the header
+-- the records stand behind the header, and no more than these are read (profile)
 abbrev pub records_of : ℕ → Stretch → Result (Listing Record) Fault
-records_of glyphs g = records_from glyphs g 10 record_limit
+records_of glyphs g = records_from glyphs g 10 component_limit
 
 -- some record says that a program follows
 abbrev pub has_program : List Record → Bool

@@ -1,6 +1,6 @@
 -- OpenType, "The 'glyf' table", "Simple Glyph Flags": a flag byte stands for one point, or for a run of points where it
 -- says that the next byte counts further copies. Bits 64 and 128 are ignored (profile).
-use Rattle.std.specs.Prelude.{ℕ, zero, suc, ◌+◌, ◌-◌, Bool, ◌==◌, nat_lt, if◌then◌else◌, [], replicate, Result, Ok, Err}
+use Rattle.std.specs.Prelude.{ℕ, zero, suc, ◌+◌, ◌-◌, Bool, ◌==◌, nat_lt, if◌then◌else◌, List, [], ◌∷◌, replicate, codes, Result, Ok, Err}
 use Rattle.std.specs.Int.RustNames.{bit_and}
 use Rattle.tt_core.specs.Faults.{Fault}
 use Rattle.tt_core.specs.declared.fault.Why.TheVariants as why
@@ -29,6 +29,14 @@ x_is_same_or_positive = 16
 
 abbrev pub y_is_same_or_positive : ℕ
 y_is_same_or_positive = 32
+
+-- the flags, by their names
+abbrev pub point_flags : List (List ℕ × ℕ)
+point_flags =
+    (codes "ON_CURVE_POINT", on_curve_point) ∷ (codes "X_SHORT_VECTOR", x_short_vector)
+    ∷ (codes "Y_SHORT_VECTOR", y_short_vector) ∷ (codes "REPEAT_FLAG", repeat_flag)
+    ∷ (codes "X_IS_SAME_OR_POSITIVE", x_is_same_or_positive)
+    ∷ (codes "Y_IS_SAME_OR_POSITIVE", y_is_same_or_positive) ∷ []
 
 -- a flag, how many further points it stands for, and the place behind it
 pub record Run : Type 0 where

@@ -7,12 +7,12 @@ use Rattle.tt_core.specs.Faults.{fault_at}
 use Rattle.tt_core.specs.Outcomes.{◌>>=◌}
 use Rattle.tt_glyf.specs.declared.raw.RawPoint.{RawPoint}
 use Rattle.tt_glyf.specs.Bytes.{Stretch, stretch_at, byte_in, word_in, signed_in, slice_in, short}
-use Rattle.tt_glyf.specs.Composite.{two_scales_at, two_by_two_at, transform_at, argument_at, arguments_at, unscaled, known_glyph, record_at, record_limit, records_from, program_of, composite_of}
+use Rattle.tt_glyf.specs.Composite.{one, two_scales_at, two_by_two_at, transform_at, argument_at, arguments_at, unscaled, known_glyph, record_at, records_from, program_of, composite_of}
 use Rattle.tt_glyf.specs.Coordinates.{delta_at, within_words, coordinate_at, coordinates_from}
 use Rattle.tt_glyf.specs.Flags.{run_at, flags_from}
 use Rattle.tt_glyf.specs.Loca.{GlyphTables, glyph_offset, has_no_bytes, glyph_bytes_of}
 use Rattle.tt_glyf.specs.Raw.{GlyphData, empty, simple, composite}
-use Rattle.tt_glyf.specs.Simple.{end_at, ends_from, point_limit, points_within, points_of, simple_of}
+use Rattle.tt_glyf.specs.Simple.{end_at, ends_from, points_within, points_of, simple_of}
 
 pub record Header : Type 0 where
   pub contours : ℤ
@@ -49,18 +49,18 @@ corner : ℤ → ℤ → RawPoint
 corner x y = record { x = x; y = y; on = true }
 
 square_is_read : glyph_in 3 (stretch_at 0 square) ≡ Ok (simple (record { x_min = pos 64; points = corner (pos 64) (pos 0) ∷ corner (pos 64) (pos 128) ∷ corner (pos 192) (pos 128) ∷ corner (pos 192) (pos 0) ∷ []; ends = 3 ∷ []; code = []; code_at = 14 }))
-unfolding square corner header_of described simple_of ends_from end_at points_within point_limit points_of flags_from run_at coordinates_from coordinate_at within_words delta_at byte_in word_in signed_in slice_in
+unfolding square corner header_of described simple_of ends_from end_at points_within points_of flags_from run_at coordinates_from coordinate_at within_words delta_at byte_in word_in signed_in slice_in
 square_is_read = refl
 
 -- its last byte is not there
 square_cut : glyph_in 3 (stretch_at 100 (take 21 square)) ≡ Err (fault_at (codes "glyf") 121 why.GlyphShort)
-unfolding square header_of described simple_of ends_from end_at points_within point_limit points_of flags_from run_at coordinates_from coordinate_at within_words delta_at byte_in word_in signed_in slice_in
+unfolding square header_of described simple_of ends_from end_at points_within points_of flags_from run_at coordinates_from coordinate_at within_words delta_at byte_in word_in signed_in slice_in
 square_cut = refl
 
 -- a component of glyph 1, turned a quarter and moved by 127 to the right
 turned : List ℕ
 turned = 255 ∷ 255 ∷ 0 ∷ 64 ∷ 0 ∷ 0 ∷ 0 ∷ 192 ∷ 0 ∷ 128 ∷ 0 ∷ 0x82 ∷ 0 ∷ 1 ∷ 0x7F ∷ 0 ∷ 0 ∷ 0 ∷ 0x40 ∷ 0 ∷ 0xC0 ∷ 0 ∷ 0 ∷ 0 ∷ []
 
-turned_is_read : glyph_in 3 (stretch_at 22 turned) ≡ Ok (composite (record { x_min = pos 64; records = record { at = 32; flags = 0x82; glyph = 1; arg1 = pos 127; arg2 = pos 0; xx = pos 0; yx = pos 16384; xy = neg_ℤ (pos 16384); yy = pos 0 } ∷ []; code = []; code_at = 46 }))
-unfolding turned header_of described composite_of records_from record_limit record_at known_glyph arguments_at argument_at transform_at two_scales_at two_by_two_at unscaled program_of byte_in word_in signed_in slice_in
+turned_is_read : glyph_in 3 (stretch_at 22 turned) ≡ Ok (composite (record { x_min = pos 64; records = record { at = 32; flags = 0x82; glyph = 1; arg1 = pos 127; arg2 = pos 0; xx = pos 0; yx = one; xy = neg_ℤ one; yy = pos 0 } ∷ []; code = []; code_at = 46 }))
+unfolding turned header_of described composite_of records_from record_at known_glyph arguments_at argument_at transform_at two_scales_at two_by_two_at unscaled program_of byte_in word_in signed_in slice_in
 turned_is_read = refl

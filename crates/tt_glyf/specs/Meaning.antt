@@ -1,6 +1,7 @@
 -- What a glyph that was read is, said of its bytes as they stand: which run covers a point, of which deltas a coordinate
 -- is the sum, which records are the components. OpenType, "The 'glyf' table".
 use Rattle.std.specs.Prelude.{◌≡◌, ℕ, ◌+◌, ◌-◌, ◌<◌, ◌≤◌, true, false, suc, if◌then◌else◌, ℤ, pos, ◌+ℤ◌, ◌≤ℤ◌, List, [], ◌∷◌, ◌++◌, length, map, fold, take, replicate, slice_index, slice_range, get_or, All, Ok}
+use Rattle.tt_core.specs.Limits.{component_limit}
 use Rattle.tt_core.specs.Numbers.{unsigned_at, signed16}
 use Rattle.tt_glyf.specs.declared.raw.RawPoint.{RawPoint}
 use Rattle.tt_glyf.specs.declared.raw.Record.{Record}
@@ -103,6 +104,6 @@ NumbersPoints r = has r.flags args_are_xy_values ≡ false → (pos 0 ≤ℤ r.a
 -- so many records are let pass, each of a glyph of the font
 pub record AreRecords (glyphs : ℕ) (records : List Record) : Type 0 where
   pub some : 0 < length records
-  pub few : length records ≤ 32
+  pub few : length records ≤ component_limit
   pub known : All (λ r. r.glyph < glyphs) records
   pub numbers : All NumbersPoints records

@@ -4,6 +4,7 @@
 use Rattle.std.specs.Prelude.{ℕ, zero, suc, ◌+◌, ◌-◌, nat_lt, if◌then◌else◌, ℤ, List, [], ◌∷◌, length, slice_index, Result, Ok, Err}
 use Rattle.tt_core.specs.Faults.{Fault}
 use Rattle.tt_core.specs.declared.fault.Why.TheVariants as why
+use Rattle.tt_core.specs.Limits.{point_limit}
 use Rattle.tt_core.specs.Outcomes.{◌>>=◌}
 use Rattle.tt_glyf.specs.declared.raw.RawPoint.{RawPoint}
 use Rattle.tt_glyf.specs.Bytes.{Stretch, Listing, word_in, slice_in, glyph_fault, after}
@@ -34,11 +35,7 @@ ends_of g contours = ends_from g 10 contours 0
 abbrev pub point_count : List ℕ → ℕ
 point_count ends = slice_index ends (length ends - 1) + 1
 
--- the most points that a glyph may have (profile)
-unfoldable pub point_limit : ℕ
-point_limit = 16384
-
--- more points are refused at the last contour's end, which stands before this place
+-- more points are refused at the last contour's end, which stands before this place (profile)
 unfoldable pub points_within : Stretch → Listing ℕ → Result ℕ Fault
 points_within g ends = if nat_lt point_limit (point_count ends.items) then Err (glyph_fault g (ends.next - 2) why.PointLimit) else Ok (point_count ends.items)
 

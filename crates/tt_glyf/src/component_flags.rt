@@ -26,17 +26,14 @@ bitflag_items! {
 }
 
 impl Flags for ComponentFlags {
-    ghost use Rattle.std.specs.Prelude.{⊤, ◌≡◌, [], ◌∷◌, codes};
+    ghost use Rattle.std.specs.Prelude.{⊤};
+    ghost use Rattle.tt_glyf.specs.Composite.{component_flags};
 
     type Bits = u16;
 
     ghost exact = { ⊤ };
 
-    ghost table = { (codes "ARG_1_AND_2_ARE_WORDS", 0x1) ∷ (codes "ARGS_ARE_XY_VALUES", 0x2)
-        ∷ (codes "ROUND_XY_TO_GRID", 0x4) ∷ (codes "WE_HAVE_A_SCALE", 0x8) ∷ (codes "MORE_COMPONENTS", 0x20)
-        ∷ (codes "WE_HAVE_AN_X_AND_Y_SCALE", 0x40) ∷ (codes "WE_HAVE_A_TWO_BY_TWO", 0x80)
-        ∷ (codes "WE_HAVE_INSTRUCTIONS", 0x100) ∷ (codes "USE_MY_METRICS", 0x200)
-        ∷ (codes "SCALED_COMPONENT_OFFSET", 0x800) ∷ (codes "UNSCALED_COMPONENT_OFFSET", 0x1000) ∷ [] };
+    ghost table = { component_flags };
 
     ghost set_of = { λ f. f.0 };
 

@@ -12,10 +12,7 @@ use crate::component::{record_at, record_size};
 use crate::component_flags::{ComponentFlags, has_flag};
 use crate::raw::{Raw, Record};
 use std::alloc::Global;
-use tt_core::{Fault, FontFault, Why};
-
-/// The most records that a glyph may have (profile).
-const RECORD_LIMIT: usize = 32;
+use tt_core::{COMPONENT_LIMIT, Fault, FontFault, Why};
 
 /// The records of a glyph, and the place behind them.
 #[derive(Drop)]
@@ -33,7 +30,7 @@ fn read_records(alloc: Global, glyph: &GlyphBytes, glyphs: u16) -> Result<Record
 {
     let mut records = Vec::new(alloc);
     let mut next = 10;
-    for i in 0..RECORD_LIMIT {
+    for i in 0..COMPONENT_LIMIT {
         let part = record_at(glyph, glyphs, next)?;
         next += record_size(part.flags);
         records.push(part)?;

@@ -27,14 +27,14 @@ bitflag_items! {
 }
 
 impl Flags for PointFlags {
-    ghost use Rattle.std.specs.Prelude.{⊤, ◌≡◌, [], ◌∷◌, codes};
+    ghost use Rattle.std.specs.Prelude.{⊤};
+    ghost use Rattle.tt_glyf.specs.Flags.{point_flags};
 
     type Bits = u8;
 
     ghost exact = { ⊤ };
 
-    ghost table = { (codes "ON_CURVE_POINT", 1) ∷ (codes "X_SHORT_VECTOR", 2) ∷ (codes "Y_SHORT_VECTOR", 4)
-        ∷ (codes "REPEAT_FLAG", 8) ∷ (codes "X_IS_SAME_OR_POSITIVE", 16) ∷ (codes "Y_IS_SAME_OR_POSITIVE", 32) ∷ [] };
+    ghost table = { point_flags };
 
     ghost set_of = { λ f. f.0 };
 

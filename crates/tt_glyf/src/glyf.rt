@@ -1,7 +1,7 @@
 //! The glyph data of a font. Apple TrueType Reference Manual and OpenType, "The 'glyf' table".
 
 ghost use Rattle.std.specs.Prelude.{◌≡◌, ◌+◌, ◌-◌, ◌<◌, ◌≤◌, IsTrue, IfOk, IfErr, OnOk, length, false};
-ghost use Rattle.tt_core.specs.Limits.{font_limit};
+ghost use Rattle.tt_core.specs.Limits.{font_limit, point_limit};
 ghost use Rattle.tt_core.specs.Directory.{HasNo};
 ghost use Rattle.tt_core.specs.Outcomes.{Gives};
 ghost use Rattle.tt_glyf.specs.Bytes.{stretch_at};
@@ -112,7 +112,7 @@ impl<'a> Glyf<'a> {
     pub fn read(&self, alloc: Global, g: u16) -> Result<Raw<'a>, FontFault>
         requires { g < self.now.glyphs }
         ensures exact { FontGives glyph_data result (glyph_data_of self.now g) }
-        ensures few { IfOk result (λ r. IfSimple (glyph_data r) (λ s. length s.points ≤ 16384)) }
+        ensures few { IfOk result (λ r. IfSimple (glyph_data r) (λ s. length s.points ≤ point_limit)) }
         ensures ends { IfOk result (λ r. IfSimple (glyph_data r) (λ s. AreEnds (length s.points) s.ends)) }
         ensures sums { IfOk result (λ r. IfSimple (glyph_data r) (λ s. ArePoints (bytes_between self.now g) (s.code_at + length s.code - glyph_offset self.now g) s.points)) }
         ensures components { IfOk result (λ r. IfComposite (glyph_data r) (λ c. AreComponents self.now.glyphs (stretch_of self.now g) 10 c.records)) }

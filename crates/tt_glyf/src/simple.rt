@@ -1,6 +1,7 @@
 //! A simple glyph. OpenType, "The 'glyf' table", "Simple Glyph Description".
 
 ghost use Rattle.std.specs.Prelude.{◌≡◌, ◌+◌, ◌*◌, ◌^◌, ◌<◌, ◌≤◌, length, vec_len, IsTrue, IfOk, IfErr};
+ghost use Rattle.tt_core.specs.Limits.{point_limit};
 ghost use Rattle.tt_core.specs.Outcomes.{Gives};
 ghost use Rattle.tt_glyf.specs.Raw.{glyph_data};
 ghost use Rattle.tt_core.specs.Outcomes.{FontGives};
@@ -12,10 +13,7 @@ use crate::coordinates::{Axis, read_coordinates};
 use crate::flags::{PointFlags, has_flag, read_flags};
 use crate::raw::{Raw, RawPoint};
 use std::alloc::{AllocError, Global};
-use tt_core::{Fault, FontFault, Why};
-
-/// The most points that a glyph may have (profile).
-const POINT_LIMIT: usize = 16_384;
+use tt_core::{Fault, FontFault, POINT_LIMIT, Why};
 
 const X_AXIS: Axis = Axis {
     short: PointFlags::X_SHORT_VECTOR,
@@ -70,13 +68,13 @@ fn read_ends(alloc: Global, glyph: &GlyphBytes, contours: usize) -> Result<EndLi
 }
 
 /// How many points there are. Error: PointLimit, at the last contour's end.
-#[tactic(auto, unfolding(crate::specs::Simple::points_within, crate::specs::Simple::point_limit))]
+#[tactic(auto, unfolding(crate::specs::Simple::points_within))]
 fn point_count(glyph: &GlyphBytes, list: &EndList) -> Result<usize, Fault>
     requires some { 0 < vec_len list.now.ends }
     requires behind { 2 ≤ list.now.next }
     requires room { list.now.next ≤ length glyph.now.bytes }
     ensures exact { Gives (λ n. n) result (points_within glyph.now (ends_listing list.now)) }
-    ensures few { IfOk result (λ n. n ≤ 16384) }
+    ensures few { IfOk result (λ n. n ≤ point_limit) }
 {
     let count = usize::from(list.ends[list.ends.len() - 1]) + 1;
     if count > POINT_LIMIT {
@@ -117,7 +115,7 @@ fn read_points(
     count: usize,
 ) -> Result<Vec<RawPoint>, FontFault>
     requires place { at ≤ length glyph.now.bytes }
-    requires few { count ≤ 16384 }
+    requires few { count ≤ point_limit }
     ensures exact { FontGives (λ p. p.items) result (points_of glyph.now at count) }
 {
     let list = read_flags(alloc, glyph, at, count)?;

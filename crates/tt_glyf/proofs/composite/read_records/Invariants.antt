@@ -1,9 +1,10 @@
 use Rattle.std.proofs.Common.{◌≡◌, ◌-◌, ◌≤◌, length}
+use Rattle.tt_core.specs.Limits.{component_limit}
 use Rattle.tt_glyf.specs.Bytes.{after}
-use Rattle.tt_glyf.specs.Composite.{records_from, records_of, record_limit}
+use Rattle.tt_glyf.specs.Composite.{records_from, records_of}
 use Rattle.tt_glyf.proofs.composite.read_records.Given as goal
 
 abbrev pub invariant-loop-i : goal.invariant-loop-i
 invariant-loop-i l =
-    (after l.records.items (records_from l.glyphs l.glyph l.next (record_limit - l.i)) ≡ records_of l.glyphs l.glyph)
+    (after l.records.items (records_from l.glyphs l.glyph l.next (component_limit - l.i)) ≡ records_of l.glyphs l.glyph)
     × (l.next ≤ length l.glyph.bytes)
