@@ -1,10 +1,15 @@
--- One level of components.
-use Rattle.std.proofs.Common.{◌≡◌, ℕ, zero, suc, ◌-◌, ◌<◌, refl, arith}
+-- One record more, and one level of components.
+use Rattle.std.proofs.Common.{◌≡◌, ℕ, zero, suc, ◌+◌, ◌-◌, ◌<◌, List, length, drop, get_or, Result, Ok, refl, arith, add-one, drop-cons}
+use Rattle.tt_core.specs.Faults.{Fault}
 use Rattle.tt_core.specs.Outcomes.{◌>>=◌}
 use Rattle.tt_glyf.specs.declared.raw.Record.{Record}
 use Rattle.tt_fit.specs.Components.{placed}
-use Rattle.tt_fit.specs.Fitting.{Setting, size_of, added, outline_at}
+use Rattle.tt_fit.specs.Fitting.{Setting, size_of, joined, added, outline_at}
 use Rattle.tt_fit.specs.Outline.{Shape}
+
+pub one_record_more : (add : Record → Shape → Result Shape Fault) (rs : List Record) (i : ℕ) (d : Record) (o next : Shape) → i < length rs → add (get_or rs i d) o ≡ Ok next
+    → joined add (drop (i + 1) rs) next ≡ joined add (drop i rs) o
+one_record_more add rs i d o next below gives = rw (add-one, drop-cons rs i d below, gives) refl
 
 -- where a level is left, a record adds its component's outline
 pub one_level : (s : Setting) (levels : ℕ) (r : Record) (o : Shape) → 0 < levels → added s levels r o ≡ (outline_at s (levels - 1) r.glyph >>= λ component. placed (size_of s) r component o)

@@ -9,7 +9,7 @@ use Rattle.tt_core.specs.Outcomes.{◌>>=◌}
 use Rattle.tt_glyf.specs.Composite.{args_are_xy_values}
 use Rattle.tt_glyf.specs.declared.raw.Record.{Record}
 use Rattle.tt_glyf.specs.Flags.{has}
-use Rattle.tt_fit.specs.Outline.{Shape}
+use Rattle.tt_fit.specs.Outline.{PhantomPoints, Shape}
 use Rattle.tt_core.specs.Outcomes.{each}
 use Rattle.tt_fit.specs.Scaling.{Size, scale, glyf_fault, settled}
 
@@ -70,7 +70,7 @@ unfoldable pub within_point_limit : ℕ → List (ℤ × ℤ × Bool) → Result
 within_point_limit at points = if nat_lt 16384 (length points) then Err (glyf_fault at why.PointLimit) else Ok points
 
 -- the last of the records that use a component's metrics counts (profile)
-abbrev pub phantom_with : Record → Shape → Shape → List (ℤ × ℤ)
+abbrev pub phantom_with : Record → Shape → Shape → PhantomPoints
 phantom_with r component o = if has r.flags use_my_metrics then component.phantom else o.phantom
 
 -- so many points before them, the contours end so much later
@@ -118,12 +118,15 @@ a_quarter_turn = refl
 two_points : List (ℤ × ℤ × Bool)
 two_points = (pos 1, pos 2, true) ∷ (pos 100, pos 7, false) ∷ []
 
+phantom_after : ℤ → PhantomPoints
+phantom_after advance = record { left = (pos 0, pos 0); right = (advance, pos 0); ascent = (pos 0, pos 64); descent = (pos 0, pos 0) }
+
 shape_of : List (ℤ × ℤ × Bool) → ℤ → Shape
-shape_of points advance = record { points = points; ends = length points ∷ []; phantom = (pos 0, pos 0) ∷ (advance, pos 0) ∷ (pos 0, pos 64) ∷ (pos 0, pos 0) ∷ [] }
+shape_of points advance = record { points = points; ends = length points ∷ []; phantom = phantom_after advance }
 
 -- point 1 lands where point 0 of what is assembled so far is
 a_matched_component : placed its_size (turned 0x200) (shape_of two_points (pos 5)) (shape_of ((pos 1000, pos 2000, true) ∷ []) (pos 9))
-    ≡ Ok (record { points = (pos 1000, pos 2000, true) ∷ (pos 1005, pos 1901, true) ∷ (pos 1000, pos 2000, false) ∷ []; ends = 1 ∷ 3 ∷ []; phantom = (pos 0, pos 0) ∷ (pos 5, pos 0) ∷ (pos 0, pos 64) ∷ (pos 0, pos 0) ∷ [] })
+    ≡ Ok (record { points = (pos 1000, pos 2000, true) ∷ (pos 1005, pos 1901, true) ∷ (pos 1000, pos 2000, false) ∷ []; ends = 1 ∷ 3 ∷ []; phantom = phantom_after (pos 5) })
 unfolding its_size turned two_points shape_of placed shift_of settled within_point_limit
 a_matched_component = refl
 

@@ -16,8 +16,8 @@ use Rattle.tt_metrics.specs.declared.head.LocaFormat.TheVariants.{Short}
 use Rattle.tt_glyf.specs.Raw.{GlyphData, empty, simple, composite}
 use Rattle.tt_metrics.specs.Metrics.{Fields, units_per_em_of, loca_format_of, glyphs_of}
 use Rattle.tt_fit.specs.Components.{placed, shift_of, within_point_limit}
-use Rattle.tt_fit.specs.Outline.{Shape}
-use Rattle.tt_fit.specs.Programs.{Hints, unhinted, GlyphProgram, finished}
+use Rattle.tt_fit.specs.Outline.{PhantomPoints, Shape}
+use Rattle.tt_fit.specs.Programs.{Hints, unhinted, AreHints, GlyphProgram, finished}
 use Rattle.tt_fit.specs.Scaling.{Size, glyf_fault, phantom_points, blank, scaled_outline, settled}
 
 -- what outlines are made from: the glyph data and the metrics of a font, the pixels per em, and what its programs leave
@@ -27,12 +27,14 @@ pub record Setting : Type 0 where
   pub ppem : ℕ
   pub hints : Hints
 
--- the glyph data is that of the metrics, and the size is one that is supported
+-- the glyph data is that of the metrics, the size is one that is supported, and what the programs leave is what they
+-- can leave
 pub record IsSetting (s : Setting) : Type 0 where
   pub format : s.tables.format ≡ loca_format_of s.metrics
   pub glyphs : s.tables.glyphs ≡ glyphs_of s.metrics
   pub low : 1 ≤ s.ppem
   pub high : s.ppem ≤ 300
+  pub hints : AreHints s.hints
 
 -- the same, but for what the programs leave
 abbrev pub hinted_by : Setting → Hints → Setting
@@ -102,8 +104,8 @@ its_setting third = record {
   hints = unhinted;
 }
 
-abbrev its_phantom_points : ℤ → List (ℤ × ℤ)
-its_phantom_points left = (left, pos 0) ∷ (left +ℤ pos 1024, pos 0) ∷ (pos 0, pos 1024) ∷ (pos 0, neg_ℤ (pos 256)) ∷ []
+abbrev its_phantom_points : ℤ → PhantomPoints
+its_phantom_points left = record { left = (left, pos 0); right = (left +ℤ pos 1024, pos 0); ascent = (pos 0, pos 1024); descent = (pos 0, neg_ℤ (pos 256)) }
 
 empty_is_blank : fitted_outline (its_setting []) 0 ≡ Ok (record { points = []; ends = []; phantom = its_phantom_points (pos 0) })
 unfolding fitted_outline glyph_data_of blank

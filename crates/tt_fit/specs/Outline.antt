@@ -1,16 +1,32 @@
 -- No part of the standard: what a fitted glyph is, in 26.6 pixels, and what holds of every one.
-use Rattle.std.specs.Prelude.{◌≡◌, ℕ, ◌-◌, ◌<◌, ◌≤◌, Bool, ℤ, unsigned_abs, List, length, slice_index, All}
+use Rattle.std.specs.Prelude.{◌≡◌, ℕ, ◌-◌, ◌<◌, ◌≤◌, Bool, ℤ, pos, unsigned_abs, List, length, get_or, slice_index, All}
 use Rattle.tt_fit.specs.declared.outline.Outline.{Outline}
 
+-- the left and right ends of the advance, the ascent and the descent, each as a position
+pub record PhantomPoints : Type 0 where
+  pub left : ℤ × ℤ
+  pub right : ℤ × ℤ
+  pub ascent : ℤ × ℤ
+  pub descent : ℤ × ℤ
+
+-- they stand in this order
+abbrev pub phantom_of : List (ℤ × ℤ) → PhantomPoints
+phantom_of ps = record {
+  left = get_or ps 0 (pos 0, pos 0);
+  right = get_or ps 1 (pos 0, pos 0);
+  ascent = get_or ps 2 (pos 0, pos 0);
+  descent = get_or ps 3 (pos 0, pos 0);
+}
+
 -- the points with their flag for on the curve, contour after contour; for each contour the number one past its last
--- point; the four phantom points
+-- point; the phantom points
 pub record Shape : Type 0 where
   pub points : List (ℤ × ℤ × Bool)
   pub ends : List ℕ
-  pub phantom : List (ℤ × ℤ)
+  pub phantom : PhantomPoints
 
 abbrev pub outline_of : Outline → Shape
-outline_of o = record { points = o.points.items; ends = o.ends.items; phantom = o.phantom }
+outline_of o = record { points = o.points.items; ends = o.ends.items; phantom = phantom_of o.phantom }
 
 -- a coordinate is within the limit (profile)
 abbrev pub IsCoordinate : ℤ → Type 0
@@ -19,8 +35,15 @@ IsCoordinate v = unsigned_abs v ≤ 2097151
 abbrev pub IsPoint : ℤ × ℤ × Bool → Type 0
 IsPoint p = IsCoordinate p.0 × IsCoordinate p.1
 
-abbrev pub IsPhantom : ℤ × ℤ → Type 0
-IsPhantom p = IsCoordinate p.0 × IsCoordinate p.1
+abbrev pub IsPosition : ℤ × ℤ → Type 0
+IsPosition p = IsCoordinate p.0 × IsCoordinate p.1
+
+-- each of the four
+pub record ArePhantom (p : PhantomPoints) : Type 0 where
+  pub left : IsPosition p.left
+  pub right : IsPosition p.right
+  pub ascent : IsPosition p.ascent
+  pub descent : IsPosition p.descent
 
 -- the ends of contours never fall, and the last is the number of points, which is 0 where there are no ends
 pub record AreEnds (points : ℕ) (ends : List ℕ) : Type 0 where
@@ -32,5 +55,5 @@ pub record AreEnds (points : ℕ) (ends : List ℕ) : Type 0 where
 pub record IsOutline (o : Shape) : Type 0 where
   pub few : length o.points ≤ 16384
   pub coordinates : All IsPoint o.points
-  pub phantom : All IsPhantom o.phantom
+  pub phantom : ArePhantom o.phantom
   pub ends : AreEnds (length o.points) o.ends

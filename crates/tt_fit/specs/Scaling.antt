@@ -1,7 +1,6 @@
 -- Apple TrueType Reference Manual, "Digitizing Letterform Designs" and "Instructing TrueType Glyphs": points from font
 -- units to 26.6 pixels, and the phantom points.
-use Rattle.std.specs.Prelude.{◌≡◌, ℕ, ◌+◌, Bool, true, ◌&&◌, nat_le, if◌then◌else◌, ℤ, pos, neg_ℤ, unsigned_abs, ◌+ℤ◌, ◌-ℤ◌, List, [], ◌∷◌, ◌++◌, map, codes, Result, Ok, Err, refl}
-use Rattle.std.specs.List.{list_all}
+use Rattle.std.specs.Prelude.{◌≡◌, ℕ, ◌+◌, Bool, true, ◌&&◌, nat_le, if◌then◌else◌, ℤ, pos, neg_ℤ, unsigned_abs, ◌+ℤ◌, ◌-ℤ◌, List, [], ◌∷◌, map, codes, Result, Ok, Err, refl}
 use Rattle.tt_core.specs.Faults.{Fault}
 use Rattle.tt_core.specs.declared.fault.Why.{Why}
 use Rattle.tt_core.specs.declared.fault.Why.TheVariants as why
@@ -11,7 +10,7 @@ use Rattle.tt_core.specs.Outcomes.{◌>>=◌, each}
 use Rattle.tt_glyf.specs.Bytes.{glyf_tag}
 use Rattle.tt_glyf.specs.declared.raw.RawPoint.{RawPoint}
 use Rattle.tt_metrics.specs.Metrics.{Fields, ascent_of, descent_of, advance_of, left_side_bearing_of}
-use Rattle.tt_fit.specs.Outline.{Shape}
+use Rattle.tt_fit.specs.Outline.{PhantomPoints, Shape}
 
 -- pixels per em, and font units in an em
 pub record Size : Type 0 where
@@ -47,19 +46,23 @@ scaled_point z at p = settled at (scaled_position z p)
 
 -- the left and right ends of the advance, the ascent and the descent; each number is scaled as one (profile for the
 -- last two)
-abbrev pub phantom_points : Size → Fields → ℤ → ℕ → List (ℤ × ℤ)
-phantom_points z m x_min g =
-    (scale z (x_min -ℤ left_side_bearing_of m g), pos 0)
-    ∷ (scale z (x_min -ℤ left_side_bearing_of m g +ℤ pos (advance_of m g)), pos 0)
-    ∷ (pos 0, scale z (ascent_of m))
-    ∷ (pos 0, scale z (descent_of m)) ∷ []
+abbrev pub phantom_points : Size → Fields → ℤ → ℕ → PhantomPoints
+phantom_points z m x_min g = record {
+  left = (scale z (x_min -ℤ left_side_bearing_of m g), pos 0);
+  right = (scale z (x_min -ℤ left_side_bearing_of m g +ℤ pos (advance_of m g)), pos 0);
+  ascent = (pos 0, scale z (ascent_of m));
+  descent = (pos 0, scale z (descent_of m));
+}
 
-abbrev pub are_coordinates : List (ℤ × ℤ) → Bool
-are_coordinates ps = list_all (λ p. is_coordinate p.0 && is_coordinate p.1) ps
+abbrev pub is_position : ℤ × ℤ → Bool
+is_position p = is_coordinate p.0 && is_coordinate p.1
+
+abbrev pub are_positions : PhantomPoints → Bool
+are_positions p = is_position p.left && is_position p.right && is_position p.ascent && is_position p.descent
 
 -- an outline without points, of a glyph that begins at this offset in glyf, with these phantom points
-unfoldable pub blank : ℕ → List (ℤ × ℤ) → Result Shape Fault
-blank at phantom = if are_coordinates phantom then Ok (record { points = []; ends = []; phantom = phantom }) else Err (coordinate_fault at)
+unfoldable pub blank : ℕ → PhantomPoints → Result Shape Fault
+blank at phantom = if are_positions phantom then Ok (record { points = []; ends = []; phantom = phantom }) else Err (coordinate_fault at)
 
 -- an outline with these points; each contour's last point is given
 unfoldable pub scaled_outline : Size → ℕ → List RawPoint → List ℕ → Shape → Result Shape Fault

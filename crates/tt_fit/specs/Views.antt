@@ -1,5 +1,5 @@
 -- How the definitions see the values that the code works with.
-use Rattle.std.specs.Prelude.{Bool, ℤ, pos, List, [], ◌∷◌}
+use Rattle.std.specs.Prelude.{Bool, ℤ, pos}
 use Rattle.tt_fit.specs.declared.places.Position as position
 use Rattle.tt_fit.specs.declared.places.Shift as shift
 use Rattle.tt_fit.specs.declared.hints.Hints as hints
@@ -8,6 +8,7 @@ use Rattle.tt_fit.specs.declared.hints.Program as program
 use Rattle.tt_fit.specs.declared.scaling.Landing as landing
 use Rattle.tt_fit.specs.declared.scaling.Phantom as phantom
 use Rattle.tt_fit.specs.declared.size.Size as size
+use Rattle.tt_fit.specs.Outline.{PhantomPoints}
 use Rattle.tt_fit.specs.Programs.{Hints, unhinted, GlyphProgram}
 use Rattle.tt_fit.specs.Scaling.{Size}
 
@@ -17,8 +18,8 @@ size_view z = record { ppem = z.ppem; units_per_em = z.units_per_em }
 abbrev pub landing_view : landing.Landing → ℤ × ℤ × Bool
 landing_view p = (p.x, p.y, p.on)
 
-abbrev pub phantom_view : phantom.Phantom → List (ℤ × ℤ)
-phantom_view p = (p.left, pos 0) ∷ (p.right, pos 0) ∷ (pos 0, p.ascent) ∷ (pos 0, p.descent) ∷ []
+abbrev pub phantom_view : phantom.Phantom → PhantomPoints
+phantom_view p = record { left = (p.left, pos 0); right = (p.right, pos 0); ascent = (pos 0, p.ascent); descent = (pos 0, p.descent) }
 
 abbrev pub position_view : position.Position → ℤ × ℤ
 position_view p = (p.x, p.y)
@@ -30,4 +31,4 @@ abbrev pub program_view : program.Program → GlyphProgram
 program_view p = record { code = p.code.now; code_at = p.code_at; glyph_at = p.glyph_at }
 
 abbrev pub hints_of : hints.Hints → Hints
-hints_of hinting.Off = unhinted
+hints_of (hinting.Off bytes) = unhinted

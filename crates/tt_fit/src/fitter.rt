@@ -6,8 +6,9 @@ ghost use Rattle.tt_glyf.specs.Loca.{glyph_offset};
 ghost use Rattle.tt_metrics.specs.Metrics.{loca_format_of, glyphs_of};
 ghost use Rattle.tt_fit.specs.Components.{placed};
 ghost use Rattle.tt_fit.specs.Fitting.{IsSetting, hinted_by, size_of, start, glyph_program, joined, added, outline_at, fitted_outline};
-ghost use Rattle.tt_fit.specs.Outline.{outline_of, IsPoint, IsPhantom, AreEnds, IsOutline};
+ghost use Rattle.tt_fit.specs.Outline.{outline_of, phantom_of, IsPoint, ArePhantom, AreEnds, IsOutline};
 ghost use Rattle.tt_fit.specs.Preparation.{program_tables, setting_of};
+ghost use Rattle.tt_fit.specs.Programs.{AreHints};
 ghost use Rattle.tt_core.specs.Outcomes.{FontGives};
 ghost use Rattle.tt_fit.specs.Views.{hints_of, size_view, program_view};
 
@@ -18,8 +19,8 @@ use crate::programs::{Fit, Programs};
 use crate::scaling::{blank, glyf_fault, phantom_points, scaled_outline};
 use crate::size::Size;
 use std::alloc::Global;
-use std::marker::Model;
-use tt_core::{Fault, Why, FontFault};
+use std::marker::{Model, PhantomData};
+use tt_core::{Fault, FontFault, Why};
 use tt_glyf::{Glyf, Raw, Record};
 use tt_metrics::Metrics;
 
@@ -34,7 +35,7 @@ pub struct Fitter<'a> {
     metrics: Metrics<'a>,
     glyf: Glyf<'a>,
     ppem: u32,
-    hints: Hints,
+    hints: Hints<'a>,
 }
 
 impl<'a> Model for Fitter<'a> {
@@ -71,7 +72,7 @@ impl<'a> Fitter<'a> {
         ensures ppem { IfOk result (λ f. f.ppem ≡ ppem) }
     {
         let hints = match fit {
-            Fit::None => Hints::Off,
+            Fit::None => Hints::Off(PhantomData),
         };
         Ok(Fitter {
             alloc,
@@ -90,7 +91,7 @@ impl<'a> Fitter<'a> {
         ensures exact { FontGives outline_of result (fitted_outline self.now g) }
         ensures few { IfOk result (λ o. length o.points.items ≤ 16384) }
         ensures coordinates { IfOk result (λ o. All IsPoint o.points.items) }
-        ensures phantom { IfOk result (λ o. All IsPhantom o.phantom) }
+        ensures phantom { IfOk result (λ o. ArePhantom (phantom_of o.phantom)) }
         ensures ends { IfOk result (λ o. AreEnds (length o.points.items) o.ends.items) }
         ensures outline { IfOk result (λ o. IsOutline (outline_of o)) }
     {
@@ -130,7 +131,8 @@ impl<'a> Fitter<'a> {
     /// The outline of a glyph, where so many levels of components are left.
     #[cycle(fitting)]
     fn outline(&self, hints: &Hints, levels: u32, g: u16) -> Result<Outline, FontFault>
-        requires { g < self.now.tables.glyphs }
+        requires hints { AreHints (hints_of hints.now) }
+        requires known { g < self.now.tables.glyphs }
         ensures exact { FontGives outline_of result (outline_at (hinted_by self.now (hints_of hints.now)) levels g) }
         ensures sound { IfOk result (λ o. IsOutline (outline_of o)) }
     {
@@ -177,6 +179,7 @@ impl<'a> Fitter<'a> {
         records: &[Record],
         start: Outline,
     ) -> Result<Outline, FontFault>
+        requires hints { AreHints (hints_of hints.now) }
         requires known { All (λ r. r.glyph < self.now.tables.glyphs) records.now }
         requires start { IsOutline (outline_of start) }
         ensures exact { FontGives outline_of result (joined (added (hinted_by self.now (hints_of hints.now)) levels) records.now (outline_of start)) }
@@ -199,6 +202,7 @@ impl<'a> Fitter<'a> {
         part: Record,
         so_far: Outline,
     ) -> Result<Outline, FontFault>
+        requires hints { AreHints (hints_of hints.now) }
         requires known { part.glyph < self.now.tables.glyphs }
         requires so_far { IsOutline (outline_of so_far) }
         ensures exact { FontGives outline_of result (added (hinted_by self.now (hints_of hints.now)) levels part (outline_of so_far)) }

@@ -2,19 +2,20 @@
 
 ghost use Rattle.std.specs.Prelude.{IsTrue, IfOk};
 ghost use Rattle.tt_fit.specs.Outline.{outline_of, IsOutline};
-ghost use Rattle.tt_fit.specs.Programs.{finished};
+ghost use Rattle.tt_fit.specs.Programs.{AreHints, finished};
 ghost use Rattle.tt_core.specs.Outcomes.{FontGives};
 ghost use Rattle.tt_fit.specs.Views.{hints_of, program_view};
 
-use tt_core::FontFault;
 use crate::outline::Outline;
 use std::alloc::Global;
+use std::marker::PhantomData;
+use tt_core::FontFault;
 
-/// What the font program and the control value program left to the glyphs.
+/// What the font program and the control value program left to the glyphs, over the bytes of the font.
 #[derive(Drop)]
-pub(crate) enum Hints {
+pub(crate) enum Hints<'a> {
     /// No program is run.
-    Off,
+    Off(PhantomData<&'a [u8]>),
 }
 
 /// A glyph's program.
@@ -34,11 +35,12 @@ pub(crate) fn finished(
     program: Program,
     outline: Outline,
 ) -> Result<Outline, FontFault>
-    requires { IsOutline (outline_of outline) }
+    requires hints { AreHints (hints_of hints.now) }
+    requires outline { IsOutline (outline_of outline) }
     ensures exact { FontGives outline_of result (finished (hints_of hints.now) (program_view program.entry) (outline_of outline)) }
     ensures sound { IfOk result (λ o. IsOutline (outline_of o)) }
 {
     match hints {
-        Hints::Off => Ok(outline),
+        Hints::Off(_) => Ok(outline),
     }
 }

@@ -14,7 +14,7 @@ ghost use Rattle.tt_fit.specs.Views.{size_view, landing_view, phantom_view};
 use crate::outline::Outline;
 use crate::size::Size;
 use std::alloc::{AllocError, Global};
-use tt_core::{Fault, Why, scale, FontFault};
+use tt_core::{Fault, FontFault, Why, scale};
 use tt_glyf::RawPoint;
 use tt_metrics::Metrics;
 
