@@ -1,6 +1,7 @@
 -- What is made is an outline: blank ones, scaled ones and joined ones.
 use Rattle.std.proofs.Common.{◌≡◌, ℕ, ◌+◌, ◌≤◌, ℤ, pos, Bool, List, [], ◌++◌, length, map, All, refl, arith}
 use Rattle.std.proofs.lemmas.List.Elements.{All-nil}
+use Rattle.tt_core.specs.Limits.{point_limit}
 use Rattle.tt_glyf.specs.Meaning.{AreEnds as EndContours}
 use Rattle.tt_fit.specs.Components.{ends_after}
 use Rattle.tt_fit.specs.Outline.{Shape, PhantomPoints, IsCoordinate, IsPoint, ArePhantom, AreEnds, IsOutline}
@@ -20,13 +21,13 @@ pub blank-is : (points : List (ℤ × ℤ × Bool)) (ends : List ℕ) (left righ
 blank-is points ends left right ascent descent no_points no_contours l r a d =
     rw (no_points, no_contours) (record { few = omega arith; coordinates = All-nil IsPoint; phantom = record { left = (l, zero-is); right = (r, zero-is); ascent = (zero-is, a); descent = (zero-is, d) }; ends = no-ends })
 
-pub scaled-is : (points : List (ℤ × ℤ × Bool)) (ends lasts : List ℕ) (n : ℕ) (phantom : PhantomPoints) → length points ≡ n → n ≤ 16384 → All IsPoint points → EndContours n lasts → ends ≡ map (λ e. e + 1) lasts → ArePhantom phantom
+pub scaled-is : (points : List (ℤ × ℤ × Bool)) (ends lasts : List ℕ) (n : ℕ) (phantom : PhantomPoints) → length points ≡ n → n ≤ point_limit → All IsPoint points → EndContours n lasts → ends ≡ map (λ e. e + 1) lasts → ArePhantom phantom
     → IsOutline (record { points = points; ends = ends; phantom = phantom })
 scaled-is points ends lasts n phantom many few coordinates are is phantoms =
     rw is (record { few = omega (arith, many, few); coordinates = coordinates; phantom = phantoms; ends = rw many (scaled-ends n lasts are) })
 
 pub joined-is : (o component : Shape) (points : List (ℤ × ℤ × Bool)) (ends : List ℕ) (phantom : PhantomPoints) → IsOutline o → IsOutline component
-    → length points ≡ length o.points + length component.points → length points ≤ 16384 → All IsPoint points → ends ≡ o.ends ++ ends_after (length o.points) component.ends → ArePhantom phantom
+    → length points ≡ length o.points + length component.points → length points ≤ point_limit → All IsPoint points → ends ≡ o.ends ++ ends_after (length o.points) component.ends → ArePhantom phantom
     → IsOutline (record { points = points; ends = ends; phantom = phantom })
 joined-is o component points ends phantom is more many few coordinates joined phantoms =
     rw joined (record { few = few; coordinates = coordinates; phantom = phantoms; ends = rw many (joined-ends (length o.points) (length component.points) o.ends component.ends is.ends more.ends) })

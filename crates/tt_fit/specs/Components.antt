@@ -4,13 +4,13 @@ use Rattle.std.specs.Prelude.{◌≡◌, ℕ, ◌+◌, ◌*◌, ◌/◌, Bool, t
 use Rattle.std.specs.List.{slice_get}
 use Rattle.tt_core.specs.Faults.{Fault}
 use Rattle.tt_core.specs.declared.fault.Why.TheVariants as why
+use Rattle.tt_core.specs.Limits.{point_limit}
 use Rattle.tt_core.specs.Numbers.{rounded_quotient}
-use Rattle.tt_core.specs.Outcomes.{◌>>=◌}
-use Rattle.tt_glyf.specs.Composite.{args_are_xy_values}
+use Rattle.tt_core.specs.Outcomes.{◌>>=◌, each}
+use Rattle.tt_glyf.specs.Composite.{args_are_xy_values, one}
 use Rattle.tt_glyf.specs.declared.raw.Record.{Record}
 use Rattle.tt_glyf.specs.Flags.{has}
 use Rattle.tt_fit.specs.Outline.{PhantomPoints, Shape}
-use Rattle.tt_core.specs.Outcomes.{each}
 use Rattle.tt_fit.specs.Scaling.{Size, scale, glyf_fault, settled}
 
 abbrev pub round_xy_to_grid : ℕ
@@ -28,7 +28,7 @@ to_grid v = if int_lt v (pos 0) then neg_ℤ (pos (grid_magnitude (unsigned_abs 
 
 -- a point's position under a component's transform, whose numbers are 2.14
 abbrev pub transformed : Record → ℤ × ℤ × Bool → ℤ × ℤ
-transformed r p = (rounded_quotient (r.xx *ℤ p.0 +ℤ r.xy *ℤ p.1) (pos 16384), rounded_quotient (r.yx *ℤ p.0 +ℤ r.yy *ℤ p.1) (pos 16384))
+transformed r p = (rounded_quotient (r.xx *ℤ p.0 +ℤ r.xy *ℤ p.1) one, rounded_quotient (r.yx *ℤ p.0 +ℤ r.yy *ℤ p.1) one)
 
 -- an argument as an offset, rounded where the record says so
 abbrev pub offset_along : Size → Record → ℤ → ℤ
@@ -65,9 +65,9 @@ landed r by p = ((transformed r p).0 +ℤ by.0, (transformed r p).1 +ℤ by.1, p
 abbrev pub placed_point : Record → ℤ × ℤ → ℤ × ℤ × Bool → Result (ℤ × ℤ × Bool) Fault
 placed_point r by p = settled r.at (landed r by p)
 
--- no more points than a glyph may have (profile)
+-- no more points than a glyph may have
 unfoldable pub within_point_limit : ℕ → List (ℤ × ℤ × Bool) → Result (List (ℤ × ℤ × Bool)) Fault
-within_point_limit at points = if nat_lt 16384 (length points) then Err (glyf_fault at why.PointLimit) else Ok points
+within_point_limit at points = if nat_lt point_limit (length points) then Err (glyf_fault at why.PointLimit) else Ok points
 
 -- the last of the records that use a component's metrics counts (profile)
 abbrev pub phantom_with : Record → Shape → Shape → PhantomPoints
@@ -91,7 +91,7 @@ its_size = record { ppem = 16; units_per_em = 256 }
 
 -- moved by 10 and -10 units without a transform
 moved : ℕ → Record
-moved flags = record { at = 32; flags = flags; glyph = 1; arg1 = pos 10; arg2 = neg_ℤ (pos 10); xx = pos 16384; yx = pos 0; xy = pos 0; yy = pos 16384 }
+moved flags = record { at = 32; flags = flags; glyph = 1; arg1 = pos 10; arg2 = neg_ℤ (pos 10); xx = one; yx = pos 0; xy = pos 0; yy = one }
 
 half_a_pixel_goes_outward : to_grid (pos 32) ≡ pos 64
 half_a_pixel_goes_outward = refl
@@ -109,7 +109,7 @@ a_rounded_offset = refl
 
 -- turned by a quarter: x' = -y and y' = x; flagged for offsets, or its point 1 onto point 0
 turned : ℕ → Record
-turned flags = record { at = 32; flags = flags; glyph = 1; arg1 = pos 0; arg2 = pos 1; xx = pos 0; yx = pos 16384; xy = neg_ℤ (pos 16384); yy = pos 0 }
+turned flags = record { at = 32; flags = flags; glyph = 1; arg1 = pos 0; arg2 = pos 1; xx = pos 0; yx = one; xy = neg_ℤ one; yy = pos 0 }
 
 a_quarter_turn : transformed (turned 0x2) (pos 100, pos 7, true) ≡ (neg_ℤ (pos 7), pos 100)
 unfolding turned

@@ -3,6 +3,7 @@ use Rattle.std.specs.Prelude.{◌≡◌, ℕ, zero, suc, ◌≤◌, true, ℤ, p
 use Rattle.tt_core.specs.Faults.{Fault}
 use Rattle.tt_core.specs.declared.fault.Why.TheVariants as why
 use Rattle.tt_core.specs.Faults.{fault_at}
+use Rattle.tt_core.specs.Limits.{level_limit, size_limit}
 use Rattle.tt_core.specs.Outcomes.{◌>>=◌}
 use Rattle.tt_glyf.specs.Bytes.{byte_in, word_in, signed_in, slice_in}
 use Rattle.tt_glyf.specs.Composite.{transform_at, argument_at, arguments_at, unscaled, known_glyph, record_at, record_limit, records_from, program_of, composite_of}
@@ -33,7 +34,7 @@ pub record IsSetting (s : Setting) : Type 0 where
   pub format : s.tables.format ≡ loca_format_of s.metrics
   pub glyphs : s.tables.glyphs ≡ glyphs_of s.metrics
   pub low : 1 ≤ s.ppem
-  pub high : s.ppem ≤ 300
+  pub high : s.ppem ≤ size_limit
   pub hints : AreHints s.hints
 
 -- the same, but for what the programs leave
@@ -73,13 +74,9 @@ added s (suc levels) r o = outline_by s (added s levels) r.glyph >>= λ componen
 abbrev pub outline_at : Setting → ℕ → ℕ → Result Shape Fault
 outline_at s levels g = outline_by s (added s levels) g
 
--- how deep components may be nested (profile)
-abbrev pub component_levels : ℕ
-component_levels = 4
-
 -- the outline of a character's glyph, or the fault that comes first
 unfoldable pub fitted_outline : Setting → ℕ → Result Shape Fault
-fitted_outline s g = outline_at s component_levels g
+fitted_outline s g = outline_at s level_limit g
 
 -- worked values: three glyphs at 16 pixels, 256 units in an em, each 256 wide; the bearing of glyph 1 alone is 64
 abbrev its_metrics : Fields

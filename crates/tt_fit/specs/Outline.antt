@@ -1,5 +1,6 @@
 -- No part of the standard: what a fitted glyph is, in 26.6 pixels, and what holds of every one.
 use Rattle.std.specs.Prelude.{◌≡◌, ℕ, ◌-◌, ◌<◌, ◌≤◌, Bool, ℤ, pos, unsigned_abs, List, length, get_or, slice_index, All}
+use Rattle.tt_core.specs.Limits.{coordinate_limit, point_limit}
 use Rattle.tt_fit.specs.declared.outline.Outline.{Outline}
 
 -- the left and right ends of the advance, the ascent and the descent, each as a position
@@ -28,9 +29,9 @@ pub record Shape : Type 0 where
 abbrev pub outline_of : Outline → Shape
 outline_of o = record { points = o.points.items; ends = o.ends.items; phantom = phantom_of o.phantom }
 
--- a coordinate is within the limit (profile)
+-- a coordinate is within the limit
 abbrev pub IsCoordinate : ℤ → Type 0
-IsCoordinate v = unsigned_abs v ≤ 2097151
+IsCoordinate v = unsigned_abs v ≤ coordinate_limit
 
 abbrev pub IsPoint : ℤ × ℤ × Bool → Type 0
 IsPoint p = IsCoordinate p.0 × IsCoordinate p.1
@@ -51,9 +52,9 @@ pub record AreEnds (points : ℕ) (ends : List ℕ) : Type 0 where
   pub within : (i : ℕ) → slice_index ends i ≤ points
   pub last : slice_index ends (length ends - 1) ≡ points
 
--- at most so many points (profile), each coordinate within the limit, and ends that fit the points
+-- at most so many points, each coordinate within the limit, and ends that fit the points
 pub record IsOutline (o : Shape) : Type 0 where
-  pub few : length o.points ≤ 16384
+  pub few : length o.points ≤ point_limit
   pub coordinates : All IsPoint o.points
   pub phantom : ArePhantom o.phantom
   pub ends : AreEnds (length o.points) o.ends

@@ -5,6 +5,7 @@ use Rattle.tt_core.specs.Faults.{Fault}
 use Rattle.tt_core.specs.declared.fault.Why.{Why}
 use Rattle.tt_core.specs.declared.fault.Why.TheVariants as why
 use Rattle.tt_core.specs.Faults.{fault_at}
+use Rattle.tt_core.specs.Limits.{coordinate_limit}
 use Rattle.tt_core.specs.Numbers.{scaled}
 use Rattle.tt_core.specs.Outcomes.{◌>>=◌, each}
 use Rattle.tt_glyf.specs.Bytes.{glyf_tag}
@@ -21,9 +22,9 @@ pub record Size : Type 0 where
 abbrev pub scale : Size → ℤ → ℤ
 scale z v = scaled v z.ppem z.units_per_em
 
--- the most that a coordinate may be in magnitude, in 26.6 pixels (profile)
+-- the same as IsCoordinate, as a test
 abbrev pub is_coordinate : ℤ → Bool
-is_coordinate v = nat_le (unsigned_abs v) 2097151
+is_coordinate v = nat_le (unsigned_abs v) coordinate_limit
 
 -- a fault at an offset in glyf
 abbrev pub glyf_fault : ℕ → Why → Fault

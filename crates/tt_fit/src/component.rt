@@ -1,8 +1,9 @@
 //! Where a component's points come to be. OpenType, "The 'glyf' table", "Composite Glyph Description".
 
-ghost use Rattle.std.specs.Prelude.{◌≡◌, ◌<◌, ◌≤◌, ◌^◌, pos, ◌+ℤ◌, ◌*ℤ◌, unsigned_abs, IsTrue, IfOk, IfErr};
+ghost use Rattle.std.specs.Prelude.{◌≡◌, ◌<◌, ◌≤◌, ◌^◌, ◌+ℤ◌, ◌*ℤ◌, unsigned_abs, IsTrue, IfOk, IfErr};
 ghost use Rattle.tt_core.specs.Numbers.{rounded_quotient};
 ghost use Rattle.tt_core.specs.Outcomes.{Gives};
+ghost use Rattle.tt_glyf.specs.Composite.{one};
 ghost use Rattle.tt_fit.specs.Components.{to_grid, transformed, offset_along, offset_of, point_of, onto, matched_by, shift_of, landed, placed_point};
 ghost use Rattle.tt_fit.specs.Outline.{IsPoint};
 ghost use Rattle.tt_fit.specs.Views.{size_view, landing_view, position_view, shift_view};
@@ -31,7 +32,7 @@ fn times(factor: i16, v: i32) -> i64
 }
 
 fn blend(row: Row, point: (i32, i32, bool)) -> i64
-    ensures exact { result ≡ rounded_quotient (row.x *ℤ point.0 +ℤ row.y *ℤ point.1) (pos 16384) }
+    ensures exact { result ≡ rounded_quotient (row.x *ℤ point.0 +ℤ row.y *ℤ point.1) one }
     ensures bound { unsigned_abs result ≤ 2 ^ 47 }
 {
     rq(times(row.x, point.0) + times(row.y, point.1), ONE)

@@ -1,7 +1,8 @@
 //! The outlines of a font at a size.
 
 ghost use Rattle.std.specs.Prelude.{◌≡◌, ◌<◌, ◌≤◌, IsTrue, IfOk, IfErr, length, All};
-ghost use Rattle.tt_core.specs.Outcomes.{Gives};
+ghost use Rattle.tt_core.specs.Limits.{point_limit, size_limit};
+ghost use Rattle.tt_core.specs.Outcomes.{FontGives, Gives};
 ghost use Rattle.tt_glyf.specs.Loca.{glyph_offset};
 ghost use Rattle.tt_metrics.specs.Metrics.{loca_format_of, glyphs_of};
 ghost use Rattle.tt_fit.specs.Components.{placed};
@@ -9,7 +10,6 @@ ghost use Rattle.tt_fit.specs.Fitting.{IsSetting, hinted_by, size_of, start, gly
 ghost use Rattle.tt_fit.specs.Outline.{outline_of, phantom_of, IsPoint, ArePhantom, AreEnds, IsOutline};
 ghost use Rattle.tt_fit.specs.Preparation.{program_tables, setting_of};
 ghost use Rattle.tt_fit.specs.Programs.{AreHints};
-ghost use Rattle.tt_core.specs.Outcomes.{FontGives};
 ghost use Rattle.tt_fit.specs.Views.{hints_of, size_view, program_view};
 
 use crate::hints::{Hints, Program, finished};
@@ -20,12 +20,9 @@ use crate::scaling::{blank, glyf_fault, phantom_points, scaled_outline};
 use crate::size::Size;
 use std::alloc::Global;
 use std::marker::{Model, PhantomData};
-use tt_core::{Fault, FontFault, Why};
+use tt_core::{Fault, FontFault, LEVEL_LIMIT, Why};
 use tt_glyf::{Glyf, Raw, Record};
 use tt_metrics::Metrics;
-
-/// How deep components may be nested (profile).
-const COMPONENT_LEVELS: u32 = 4;
 
 /// Makes the outlines of a font at a size. A clause sees it as the glyph data, the metrics, the size,
 /// and what the font's programs left.
@@ -62,7 +59,7 @@ impl<'a> Fitter<'a> {
         fit: Fit,
     ) -> Result<Fitter<'a>, FontFault>
         requires low { 1 ≤ ppem }
-        requires high { ppem ≤ 300 }
+        requires high { ppem ≤ size_limit }
         requires format { glyf.format ≡ loca_format_of metrics.now }
         requires glyphs { glyf.glyphs ≡ glyphs_of metrics.now }
         ensures exact { FontGives (λ f. f) result (setting_of metrics.now glyf.entry (program_tables programs.entry) ppem fit) }
@@ -89,13 +86,13 @@ impl<'a> Fitter<'a> {
     pub fn fitted(&self, g: u16) -> Result<Outline, FontFault>
         requires { g < self.now.tables.glyphs }
         ensures exact { FontGives outline_of result (fitted_outline self.now g) }
-        ensures few { IfOk result (λ o. length o.points.items ≤ 16384) }
+        ensures few { IfOk result (λ o. length o.points.items ≤ point_limit) }
         ensures coordinates { IfOk result (λ o. All IsPoint o.points.items) }
         ensures phantom { IfOk result (λ o. ArePhantom (phantom_of o.phantom)) }
         ensures ends { IfOk result (λ o. AreEnds (length o.points.items) o.ends.items) }
         ensures outline { IfOk result (λ o. IsOutline (outline_of o)) }
     {
-        self.outline(&self.hints, COMPONENT_LEVELS, g)
+        self.outline(&self.hints, LEVEL_LIMIT, g)
     }
 
     fn size(&self) -> Size

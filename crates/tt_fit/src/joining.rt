@@ -1,10 +1,10 @@
 //! A component joined with what is assembled so far. OpenType, "The 'glyf' table", "Composite Glyph Description".
 
 ghost use Rattle.std.specs.Prelude.{◌≡◌, ◌+◌, ◌<◌, ◌≤◌, ◌++◌, length, All, IsTrue, IfOk, OnOk};
+ghost use Rattle.tt_core.specs.Limits.{point_limit};
+ghost use Rattle.tt_core.specs.Outcomes.{after_each, FontGives, Leaves};
 ghost use Rattle.tt_fit.specs.Components.{placed_point, ends_after, placed};
 ghost use Rattle.tt_fit.specs.Outline.{outline_of, IsPoint, IsOutline};
-ghost use Rattle.tt_core.specs.Outcomes.{FontGives, Leaves};
-ghost use Rattle.tt_core.specs.Outcomes.{after_each};
 ghost use Rattle.tt_fit.specs.Views.{size_view, shift_view};
 
 use crate::component::{placed_point, shift_of};
@@ -13,11 +13,8 @@ use crate::places::Shift;
 use crate::scaling::glyf_fault;
 use crate::size::Size;
 use std::alloc::AllocError;
-use tt_core::{FontFault, Why};
+use tt_core::{FontFault, POINT_LIMIT, Why};
 use tt_glyf::{ComponentFlags, Record};
-
-/// The most points that a glyph may have (profile).
-const POINT_LIMIT: usize = 16384;
 
 /// Errors: CoordRange, Memory.
 #[tactic(auto, using(crate::proofs::Lists::points))]
@@ -40,8 +37,8 @@ fn push_placed(
 
 /// The ends of a component's contours, behind so many points.
 fn push_ends(ends: &mut Vec<u32>, points: u32, component: &[u32]) -> Result<(), AllocError>
-    requires points { points ≤ 16384 }
-    requires component { All (λ e. e ≤ 16384) component.now }
+    requires points { points ≤ point_limit }
+    requires component { All (λ e. e ≤ point_limit) component.now }
     ensures { OnOk result (ends.new.items ≡ ends.old.items ++ ends_after points component.now) }
 {
     for end in component {

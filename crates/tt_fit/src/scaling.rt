@@ -1,27 +1,23 @@
 //! From font units to 26.6 pixels, and the phantom points. Apple TrueType Reference Manual, "Digitizing Letterform
 //! Designs" and "Instructing TrueType Glyphs".
 
-ghost use Rattle.std.specs.Prelude.{◌≡◌, ◌+◌, ◌<◌, ◌≤◌, ◌^◌, false, true, pos, ◌+ℤ◌, ◌-ℤ◌, length, map, unsigned_abs, MatchOption, All, IsTrue, IfOk, IfErr, OnOk, OnErr};
-ghost use Rattle.tt_core.specs.Outcomes.{Gives};
+ghost use Rattle.std.specs.Prelude.{◌≡◌, ◌+◌, ◌<◌, ◌≤◌, false, true, pos, ◌+ℤ◌, ◌-ℤ◌, length, map, All, IsTrue, IfOk, IfErr};
+ghost use Rattle.tt_core.specs.Limits.{point_limit};
+ghost use Rattle.tt_core.specs.Outcomes.{each, FontGives, Gives};
 ghost use Rattle.tt_metrics.specs.Metrics.{glyphs_of, advance_of, left_side_bearing_of};
 ghost use Rattle.tt_glyf.specs.Meaning.{AreEnds as EndContours};
 ghost use Rattle.tt_fit.specs.Outline.{Shape, outline_of, IsCoordinate, IsPoint, AreEnds, IsOutline};
-ghost use Rattle.tt_core.specs.Outcomes.{FontGives};
-ghost use Rattle.tt_core.specs.Outcomes.{each};
-ghost use Rattle.tt_fit.specs.Scaling.{scale, is_coordinate, glyf_fault, coordinate_fault, settled, scaled_position, scaled_point, phantom_points, blank, scaled_outline};
+ghost use Rattle.tt_fit.specs.Scaling.{is_coordinate, glyf_fault, coordinate_fault, settled, scaled_position, scaled_point, phantom_points, blank, scaled_outline};
 ghost use Rattle.tt_fit.specs.Views.{size_view, landing_view, phantom_view};
 
 use crate::outline::Outline;
 use crate::size::Size;
 use std::alloc::{AllocError, Global};
-use tt_core::{Fault, FontFault, Why, scale};
+use tt_core::{COORDINATE_LIMIT, Fault, FontFault, Why};
 use tt_glyf::RawPoint;
 use tt_metrics::Metrics;
 
 const GLYF: [u8; 4] = *b"glyf";
-
-/// The most that a coordinate may be in magnitude, in 26.6 pixels (profile).
-const COORDINATE_LIMIT: i64 = 2_097_151;
 
 /// A fault at an offset in glyf.
 pub(crate) fn glyf_fault(at: u32, why: Why) -> Fault
@@ -30,25 +26,17 @@ pub(crate) fn glyf_fault(at: u32, why: Why) -> Fault
     Fault::new(GLYF, at, why)
 }
 
-impl Size {
-    /// A distance in font units as 26.6.
-    pub(crate) fn scaled(self, v: i32) -> i64
-        ensures exact { result ≡ scale (size_view self) v }
-        ensures bound { unsigned_abs result < 2 ^ 46 }
-    {
-        scale(v, self.ppem, self.units_per_em)
-    }
-}
-
-/// A coordinate in 26.6 pixels, where it is within the limit.
-fn within(v: i64) -> Option<i32>
-    ensures { MatchOption result (is_coordinate v ≡ false) (λ w. (w ≡ v) × (is_coordinate v ≡ true)) }
+/// A coordinate in 26.6 pixels. Error: CoordRange, at this offset in glyf.
+fn coordinate(at: u32, v: i64) -> Result<i32, Fault>
+    ensures ok { IfOk result (λ w. (w ≡ v) × (is_coordinate v ≡ true)) }
+    ensures within { IfOk result IsCoordinate }
+    ensures err { IfErr result (λ f. (f ≡ coordinate_fault at) × (is_coordinate v ≡ false)) }
 {
-    if -COORDINATE_LIMIT <= v && v <= COORDINATE_LIMIT {
-        Some(v as i32)
-    } else {
-        None
+    let limit = i64::from(COORDINATE_LIMIT);
+    if v < -limit || limit < v {
+        return Err(glyf_fault(at, Why::CoordRange));
     }
+    Ok(v as i32)
 }
 
 /// Where a point comes to be, in 26.6 pixels, before it is known to be within the limit.
@@ -65,10 +53,9 @@ pub(crate) fn settled(at: u32, landing: Landing) -> Result<(i32, i32, bool), Fau
     ensures exact { Gives (λ p. p) result (settled at (landing_view landing)) }
     ensures within { IfOk result IsPoint }
 {
-    match (within(landing.x), within(landing.y)) {
-        (Some(x), Some(y)) => Ok((x, y, landing.on)),
-        _ => Err(glyf_fault(at, Why::CoordRange)),
-    }
+    let x = coordinate(at, landing.x)?;
+    let y = coordinate(at, landing.y)?;
+    Ok((x, y, landing.on))
 }
 
 fn scaled_position(size: Size, point: RawPoint) -> Landing
@@ -157,20 +144,6 @@ pub(crate) fn phantom_points(size: Size, metrics: &Metrics, x_min: i16, g: u16) 
     }
 }
 
-/// Error: CoordRange, at this offset in glyf.
-fn coordinate(at: u32, v: i64) -> Result<i32, Fault>
-    ensures value { IfOk result (λ w. w ≡ v) }
-    ensures within { IfOk result IsCoordinate }
-    ensures ok { OnOk result (is_coordinate v ≡ true) }
-    ensures refused { OnErr result (is_coordinate v ≡ false) }
-    ensures fault { IfErr result (λ f. f ≡ coordinate_fault at) }
-{
-    match within(v) {
-        Some(w) => Ok(w),
-        None => Err(glyf_fault(at, Why::CoordRange)),
-    }
-}
-
 /// An outline without points. Error: CoordRange, at this offset in glyf.
 #[tactic(auto, unfolding(crate::specs::Scaling::blank))]
 pub(crate) fn blank(alloc: Global, at: u32, phantom: Phantom) -> Result<Outline, Fault>
@@ -198,7 +171,7 @@ pub(crate) fn scaled_outline(
     last_points: &[u16],
     start: Outline,
 ) -> Result<Outline, FontFault>
-    requires few { length points.now ≤ 16384 }
+    requires few { length points.now ≤ point_limit }
     requires ends { EndContours (length points.now) last_points.now }
     requires start { IsOutline (outline_of start) }
     ensures exact { FontGives outline_of result (scaled_outline (size_view size) at points.now last_points.now (outline_of start)) }
