@@ -6,11 +6,11 @@ use Rattle.std.specs.Int.{int_div_euclid}
 use Rattle.std.specs.List.{range_with_len}
 use Rattle.tt_core.specs.declared.fault.JobFault.{JobFault}
 use Rattle.tt_core.specs.declared.fault.JobFault.TheVariants as job
+use Rattle.tt_core.specs.Limits.{width_limit, height_limit}
 use Rattle.tt_core.specs.Numbers.{rounded_quotient}
 use Rattle.tt_core.specs.Outcomes.{◌>>=◌}
 use Rattle.tt_cmap.specs.Lookup.{Lookup, glyph_of}
 use Rattle.tt_line.specs.declared.picture.Extent.{Extent}
-use Rattle.tt_line.specs.declared.picture.TheConstants.{WIDTH_LIMIT, HEIGHT_LIMIT}
 use Rattle.tt_metrics.specs.declared.head.LocaFormat.TheVariants.{Short}
 use Rattle.tt_metrics.specs.Metrics.{Fields, units_per_em_of, ascent_of, descent_of, advance_of}
 
@@ -57,7 +57,7 @@ extent_of m ppem margin glyphs = record {
 unfoldable pub within_limits : Extent → Result Extent JobFault
 within_limits e =
     if (e.width == 0) || int_lt e.height (pos 1) then Err job.EmptyPicture
-    else (if nat_lt WIDTH_LIMIT e.width || int_lt (pos HEIGHT_LIMIT) e.height then Err job.PictureLarge else Ok e)
+    else (if nat_lt width_limit e.width || int_lt (pos height_limit) e.height then Err job.PictureLarge else Ok e)
 
 -- a line laid out, in pixels: the picture's size, how far the base line lies below the upper margin, and the glyph and
 -- the pen of each character
@@ -88,7 +88,7 @@ IsEmpty e = (e.width < 1) ⊎ (e.height <ℤ pos 1)
 
 -- more pixels than a picture may have
 abbrev pub IsLarge : Extent → Type 0
-IsLarge e = (WIDTH_LIMIT < e.width) ⊎ (pos HEIGHT_LIMIT <ℤ e.height)
+IsLarge e = (width_limit < e.width) ⊎ (pos height_limit <ℤ e.height)
 
 -- what stands behind a refusal
 abbrev pub IsRefusal : Extent → JobFault → Type 0
@@ -99,9 +99,9 @@ IsRefusal e j = ⊥
 -- what a picture that is not refused has
 pub record IsWithinLimits (e : Extent) : Type 0 where
   pub some_width : 1 ≤ e.width
-  pub width : e.width ≤ WIDTH_LIMIT
+  pub width : e.width ≤ width_limit
   pub some_height : pos 1 ≤ℤ e.height
-  pub height : e.height ≤ℤ pos HEIGHT_LIMIT
+  pub height : e.height ≤ℤ pos height_limit
 
 -- worked values: 256 units in an em, 300 above the base line and 100 below it, and advances of 256, 250 and 8
 example : Fields

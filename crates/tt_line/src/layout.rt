@@ -1,19 +1,18 @@
 //! The line as a whole.
 
 ghost use Rattle.std.specs.Prelude.{◌≡◌, ◌<◌, ◌≤◌, ◌^◌, length, map, chars, sum, All, unsigned_abs, IfOk};
+ghost use Rattle.tt_core.specs.Limits.{size_limit, margin_limit, text_limit, width_limit, height_limit};
+ghost use Rattle.tt_core.specs.Outcomes.{GivesUnless, IfTold};
 ghost use Rattle.tt_line.specs.Layout.{text_glyphs, advances_of, placed_glyphs, extent_of, placement, IsRefusal};
-ghost use Rattle.tt_line.specs.Outcome.{placement_of, LineGives, IfJob};
+ghost use Rattle.tt_line.specs.Outcome.{placement_of, job_fault};
 ghost use Rattle.tt_metrics.specs.Metrics.{glyphs_of};
 
 use crate::fault::LineFault;
-use crate::picture::{HEIGHT_LIMIT, WIDTH_LIMIT, test_limits, with_margins};
+use crate::picture::{test_limits, with_margins};
 use crate::pixels::{advance, depth, rise};
 use std::alloc::{AllocError, Global};
 use tt_cmap::Cmap;
 use tt_metrics::Metrics;
-
-/// The most characters that a line may have (profile).
-pub const LINE_LIMIT: usize = 4096;
 
 /// A line of text laid out.
 #[derive(Drop)]
@@ -42,19 +41,19 @@ pub fn lay(
     ppem: u32,
     margin: u32,
 ) -> Result<Line, LineFault>
-    requires size { ppem ≤ 300 }
-    requires margin { margin ≤ 64 }
-    requires text { length (chars text.now) ≤ LINE_LIMIT }
+    requires size { ppem ≤ size_limit }
+    requires margin { margin ≤ margin_limit }
+    requires text { length (chars text.now) ≤ text_limit }
     requires glyphs { cmap.now.glyphs ≡ glyphs_of metrics.now }
-    ensures exact { LineGives placement_of result (placement metrics.now cmap.now text.now ppem margin) }
-    ensures width { IfOk result (λ l. (1 ≤ l.width) × (l.width ≤ WIDTH_LIMIT)) }
-    ensures height { IfOk result (λ l. (1 ≤ l.height) × (l.height ≤ HEIGHT_LIMIT)) }
+    ensures exact { GivesUnless job_fault placement_of result (placement metrics.now cmap.now text.now ppem margin) }
+    ensures width { IfOk result (λ l. (1 ≤ l.width) × (l.width ≤ width_limit)) }
+    ensures height { IfOk result (λ l. (1 ≤ l.height) × (l.height ≤ height_limit)) }
     ensures rise { IfOk result (λ l. unsigned_abs l.rise < 2 ^ 20) }
     ensures count { IfOk result (λ l. length l.glyphs.items ≡ length (chars text.now)) }
     ensures glyphs { IfOk result (λ l. map (λ p. p.0) l.glyphs.items ≡ text_glyphs cmap.now text.now) }
     ensures known { IfOk result (λ l. All (λ p. p.0 < glyphs_of metrics.now) l.glyphs.items) }
     ensures pens { IfOk result (λ l. All (λ p. p.1 ≤ l.width) l.glyphs.items) }
-    ensures refused { IfJob result (IsRefusal (extent_of metrics.now ppem margin (text_glyphs cmap.now text.now))) }
+    ensures refused { IfTold job_fault result (IsRefusal (extent_of metrics.now ppem margin (text_glyphs cmap.now text.now))) }
 {
     let rise = rise(metrics, ppem);
     let advances = sum_of_advances(metrics, cmap, text, ppem);
@@ -70,8 +69,8 @@ pub fn lay(
 
 /// In pixels. A sum of so many advances can pass 32 bits.
 fn sum_of_advances(metrics: &Metrics, cmap: &Cmap, text: &str, ppem: u32) -> u64
-    requires size { ppem ≤ 300 }
-    requires text { length (chars text.now) ≤ LINE_LIMIT }
+    requires size { ppem ≤ size_limit }
+    requires text { length (chars text.now) ≤ text_limit }
     requires glyphs { cmap.now.glyphs ≡ glyphs_of metrics.now }
     ensures exact { result ≡ sum (advances_of metrics.now ppem (text_glyphs cmap.now text.now)) }
     ensures bound { result < 2 ^ 40 }
@@ -91,9 +90,9 @@ fn placed_glyphs(
     text: &str,
     ppem: u32,
 ) -> Result<Vec<(u16, u32)>, AllocError>
-    requires size { ppem ≤ 300 }
+    requires size { ppem ≤ size_limit }
     requires glyphs { cmap.now.glyphs ≡ glyphs_of metrics.now }
-    requires fits { sum (advances_of metrics.now ppem (text_glyphs cmap.now text.now)) ≤ WIDTH_LIMIT }
+    requires fits { sum (advances_of metrics.now ppem (text_glyphs cmap.now text.now)) ≤ width_limit }
     ensures exact { IfOk result (λ v. v.items ≡ placed_glyphs metrics.now ppem (text_glyphs cmap.now text.now)) }
     ensures count { IfOk result (λ v. length v.items ≡ length (chars text.now)) }
     ensures glyphs { IfOk result (λ v. map (λ p. p.0) v.items ≡ text_glyphs cmap.now text.now) }

@@ -7,5 +7,4 @@ mod picture;
 mod pixels;
 
 pub use fault::LineFault;
-pub use layout::{LINE_LIMIT, Line, lay};
-pub use picture::{HEIGHT_LIMIT, WIDTH_LIMIT};
+pub use layout::{Line, lay};

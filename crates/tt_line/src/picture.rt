@@ -1,16 +1,11 @@
 //! How large the picture of a line is.
 
 ghost use Rattle.std.specs.Prelude.{◌≡◌, ◌+◌, ◌*◌, ◌<◌, ◌≤◌, ◌^◌, ◌+ℤ◌, pos, unsigned_abs, IfOk, IfErr};
+ghost use Rattle.tt_core.specs.Limits.{margin_limit};
 ghost use Rattle.tt_core.specs.Outcomes.{Gives};
 ghost use Rattle.tt_line.specs.Layout.{within_limits, IsRefusal, IsWithinLimits};
 
-use tt_core::JobFault;
-
-/// The most pixels that a row of a picture has (profile).
-pub const WIDTH_LIMIT: u32 = 16384;
-
-/// The most rows that a picture has (profile).
-pub const HEIGHT_LIMIT: u32 = 4096;
+use tt_core::{HEIGHT_LIMIT, JobFault, WIDTH_LIMIT};
 
 /// In pixels. The height may be negative.
 #[derive(Clone, Copy)]
@@ -24,7 +19,7 @@ pub(crate) fn with_margins(advances: u64, rise: i32, depth: i32, margin: u32) ->
     requires advances { advances < 2 ^ 40 }
     requires rise { unsigned_abs rise < 2 ^ 20 }
     requires depth { unsigned_abs depth < 2 ^ 20 }
-    requires margin { margin ≤ 64 }
+    requires margin { margin ≤ margin_limit }
     ensures width { result.width ≡ advances + 2 * margin }
     ensures height { result.height ≡ rise +ℤ depth +ℤ pos (2 * margin) }
 {

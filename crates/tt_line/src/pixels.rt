@@ -1,6 +1,7 @@
 //! Distances of a font in whole pixels. Apple TrueType Reference Manual, "The 'hhea' table" and "The 'hmtx' table".
 
 ghost use Rattle.std.specs.Prelude.{◌≡◌, ◌*◌, ◌<◌, ◌≤◌, ◌^◌, ◌*ℤ◌, ◌≤ℤ◌, pos, unsigned_abs};
+ghost use Rattle.tt_core.specs.Limits.{size_limit};
 ghost use Rattle.tt_core.specs.Numbers.{rounded_quotient};
 ghost use Rattle.tt_line.specs.Layout.{ceiling_quotient, advance_in_pixels, rise_of, depth_of};
 ghost use Rattle.tt_metrics.specs.Metrics.{glyphs_of};
@@ -10,7 +11,7 @@ use tt_metrics::Metrics;
 
 /// The advance of a glyph, rounded to the nearest pixel.
 pub(crate) fn advance(metrics: &Metrics, ppem: u32, glyph: u16) -> u32
-    requires size { ppem ≤ 300 }
+    requires size { ppem ≤ size_limit }
     requires known { glyph < glyphs_of metrics.now }
     ensures exact { result ≡ advance_in_pixels metrics.now ppem glyph }
     ensures bound { result < 2 ^ 25 }
@@ -20,7 +21,7 @@ pub(crate) fn advance(metrics: &Metrics, ppem: u32, glyph: u16) -> u32
 
 /// Pixels from the base line up to the ascent.
 pub(crate) fn rise(metrics: &Metrics, ppem: u32) -> i32
-    requires size { ppem ≤ 300 }
+    requires size { ppem ≤ size_limit }
     ensures exact { result ≡ rise_of metrics.now ppem }
     ensures bound { unsigned_abs result < 2 ^ 20 }
 {
@@ -29,7 +30,7 @@ pub(crate) fn rise(metrics: &Metrics, ppem: u32) -> i32
 
 /// Pixels from the base line down to the descent.
 pub(crate) fn depth(metrics: &Metrics, ppem: u32) -> i32
-    requires size { ppem ≤ 300 }
+    requires size { ppem ≤ size_limit }
     ensures exact { result ≡ depth_of metrics.now ppem }
     ensures bound { unsigned_abs result < 2 ^ 20 }
 {
@@ -38,7 +39,7 @@ pub(crate) fn depth(metrics: &Metrics, ppem: u32) -> i32
 
 /// Font units in pixels, rounded to the nearest.
 fn nearest(units: u16, ppem: u32, em: u16) -> u32
-    requires size { ppem ≤ 300 }
+    requires size { ppem ≤ size_limit }
     requires em { 0 < em }
     ensures exact { result ≡ unsigned_abs (rounded_quotient (pos (units * ppem)) (pos em)) }
     ensures bound { result < 2 ^ 25 }
@@ -49,7 +50,7 @@ fn nearest(units: u16, ppem: u32, em: u16) -> u32
 /// Font units in pixels, rounded up.
 fn rounded_up(units: i32, ppem: u32, em: u16) -> i32
     requires units { unsigned_abs units ≤ 2 ^ 15 }
-    requires size { ppem ≤ 300 }
+    requires size { ppem ≤ size_limit }
     requires em { 16 ≤ em }
     ensures exact { result ≡ ceiling_quotient (units *ℤ pos ppem) (pos em) }
     ensures bound { unsigned_abs result < 2 ^ 20 }
@@ -59,7 +60,7 @@ fn rounded_up(units: i32, ppem: u32, em: u16) -> i32
 
 /// `n / d` rounded up.
 fn ceiling(n: i32, d: i32) -> i32
-    requires numerator { unsigned_abs n ≤ 300 * 2 ^ 15 }
+    requires numerator { unsigned_abs n ≤ size_limit * 2 ^ 15 }
     requires denominator { pos 16 ≤ℤ d }
     ensures exact { result ≡ ceiling_quotient n d }
     ensures bound { unsigned_abs result < 2 ^ 20 }
