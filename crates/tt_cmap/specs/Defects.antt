@@ -24,11 +24,11 @@ IsBadSubtable table at fault =
     ⊎ IsFalling table at fault
 
 -- no subtable can be used, or the chosen one is bad
-abbrev pub IsBadChoice : List ℕ → Fault → Option ℕ → Type 0
-IsBadChoice table fault None = fault ≡ cmap_fault 0 why.NoCmap
-IsBadChoice table fault (Some at) = IsBadSubtable table at fault
+abbrev pub IsBadChoice : List ℕ → Option ℕ → Fault → Type 0
+IsBadChoice table None fault = fault ≡ cmap_fault 0 why.NoCmap
+IsBadChoice table (Some at) fault = IsBadSubtable table at fault
 
 abbrev pub IsBadCmap : List ℕ → Fault → Type 0
 IsBadCmap table fault =
     IsBadRecords table fault
-    ⊎ ((record_place (record_count table) ≤ length table) × IsBadChoice table fault (chosen_subtable table))
+    ⊎ ((record_place (record_count table) ≤ length table) × IsBadChoice table (chosen_subtable table) fault)

@@ -1,12 +1,13 @@
 -- OpenType, "cmap: Character to Glyph Index Mapping Table": version, count of encoding records, and records of platform,
 -- encoding and offset. Only subtables of format 4 are looked for (profile).
-use Rattle.std.specs.Prelude.{ℕ, ◌+◌, ◌*◌, Bool, ◌&&◌, ◌==◌, nat_lt, nat_le, if◌then◌else◌, List, length, codes, Option, Some, None, option_map, Result, Ok, Err}
+use Rattle.std.specs.Prelude.{◌≡◌, ℕ, ◌+◌, ◌*◌, ◌<◌, Bool, false, ◌&&◌, ◌==◌, nat_lt, nat_le, if◌then◌else◌, List, [], ◌∷◌, length, codes, Option, Some, None, option_map, Result, Ok, Err, ◌⊎◌, refl}
+use Rattle.std.proofs.Common.{inl, inr}
 use Rattle.tt_core.specs.Faults.{Fault}
 use Rattle.tt_core.specs.declared.fault.Why.{Why}
 use Rattle.tt_core.specs.declared.fault.Why.TheVariants as why
 use Rattle.tt_core.specs.Faults.{fault_at}
 use Rattle.tt_core.specs.Numbers.{unsigned_at}
-use Rattle.tt_core.specs.Search.{first_below}
+use Rattle.tt_core.specs.Search.{first_below, IsLeast, first_below_least, first_below_nothing}
 use Rattle.tt_cmap.specs.declared.subtable.Platform.{Platform}
 use Rattle.tt_cmap.specs.declared.subtable.Platform.TheVariants.{Windows, Unicode}
 
@@ -47,10 +48,11 @@ is_for Unicode table i = platform_of table i == 0
 abbrev pub is_format4 : List ℕ → ℕ → Bool
 is_format4 table at = nat_le (at + 2) (length table) && (unsigned_at table at 2 == 4)
 
+-- it is for the platform, and its subtable has format 4
 abbrev pub is_wanted : Platform → List ℕ → ℕ → Bool
 is_wanted platform table i = is_for platform table i && is_format4 table (subtable_of table i)
 
--- the subtable of the first record of the platform that can be used
+-- the subtable of the first record of the platform whose subtable has format 4
 abbrev pub first_subtable : Platform → List ℕ → Option ℕ
 first_subtable platform table = option_map (subtable_of table) (first_below (record_count table) (is_wanted platform table))
 
@@ -62,3 +64,35 @@ or_else (Some x) other = Some x
 -- the subtable that serves: Windows' first, then Unicode's
 abbrev pub chosen_subtable : List ℕ → Option ℕ
 chosen_subtable table = or_else (first_subtable Windows table) (first_subtable Unicode table)
+
+-- no record of the platform has a subtable of format 4
+abbrev pub HasNone : Platform → List ℕ → Type 0
+HasNone platform table = (i : ℕ) → i < record_count table → is_wanted platform table i ≡ false
+
+-- record i serves: the least of Windows, and where Windows has none, the least of Unicode
+abbrev pub Serves : List ℕ → ℕ → Type 0
+Serves table i =
+    IsLeast (is_wanted Windows table) (record_count table) i
+    ⊎ (HasNone Windows table × IsLeast (is_wanted Unicode table) (record_count table) i)
+
+abbrev pub NoneServes : List ℕ → Type 0
+NoneServes table = HasNone Windows table × HasNone Unicode table
+
+pub chosen_serves : (table : List ℕ) (i : ℕ) → Serves table i → chosen_subtable table ≡ Some (subtable_of table i)
+chosen_serves table i (inl least) = rw (first_below_least (is_wanted Windows table) (record_count table) i least) refl
+chosen_serves table i (inr least) =
+    rw (first_below_nothing (is_wanted Windows table) (record_count table) least.0, first_below_least (is_wanted Unicode table) (record_count table) i least.1) refl
+
+pub none_chosen : (table : List ℕ) → NoneServes table → chosen_subtable table ≡ None
+none_chosen table none =
+    rw (first_below_nothing (is_wanted Windows table) (record_count table) none.0, first_below_nothing (is_wanted Unicode table) (record_count table) none.1) refl
+
+-- worked values: a record of Unicode with a subtable of format 4, and one of Windows with a subtable of any format
+abbrev two_records : ℕ → List ℕ
+two_records format = 0 ∷ 0 ∷ 0 ∷ 2 ∷ 0 ∷ 0 ∷ 0 ∷ 3 ∷ 0 ∷ 0 ∷ 0 ∷ 20 ∷ 0 ∷ 3 ∷ 0 ∷ 1 ∷ 0 ∷ 0 ∷ 0 ∷ 22 ∷ 0 ∷ 4 ∷ 0 ∷ format ∷ []
+
+windows_before_unicode : chosen_subtable (two_records 4) ≡ Some 22
+windows_before_unicode = refl
+
+another_format : chosen_subtable (two_records 6) ≡ Some 20
+another_format = refl

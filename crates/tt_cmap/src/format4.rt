@@ -10,7 +10,7 @@ ghost use Rattle.tt_core.specs.Numbers.{unsigned_at};
 ghost use Rattle.tt_cmap.specs.Defects.{IsBadSubtable};
 
 use crate::subtable::CMAP;
-use tt_core::{FONT_LIMIT, Fault, Why, u16_at};
+use tt_core::{Fault, Why, u16_at};
 
 fn word(table: &[u8], at: usize) -> usize
     requires { at + 2 ≤ length table.now }
@@ -75,6 +75,7 @@ fn segment(table: &[u8], at: usize, count: usize, c: usize) -> Option<usize>
     requires count { count ≡ segment_count table.now at }
     ensures first { result ≡ segment_of table.now at c }
     ensures bound { IfSome result (λ i. i < count) }
+    ensures reached { IfSome result (λ i. c ≤ 0xFFFF) }
 {
     for i in 0..count {
         if c <= word(table, at + 14 + 2 * i) {
@@ -129,6 +130,7 @@ pub(crate) fn glyph(table: &[u8], at: usize, count: usize, glyphs: u16, c: usize
     requires character { c < 2 ^ 21 }
     requires glyphs { 0 < glyphs }
     ensures exact { result ≡ glyph_in table.now at glyphs c }
+    ensures beyond { 0xFFFF < c → result ≡ 0 }
     ensures below { result < glyphs }
 {
     match segment(table, at, count, c) {

@@ -1,38 +1,39 @@
 //! The table as a whole.
 
-ghost use Rattle.std.specs.Prelude.{◌≡◌, ◌<◌, ◌≤◌, length, IsTrue, IfOk, IfErr, OnOk};
+ghost use Rattle.std.specs.Prelude.{◌≡◌, ◌<◌, ◌≤◌, ℕ, length, Some, None, IsTrue, IfSome, IfOk, IfErr, OnOk};
 ghost use Rattle.tt_core.specs.Limits.{font_limit};
 ghost use Rattle.tt_core.specs.Directory.{HasNo};
 ghost use Rattle.tt_core.specs.Outcomes.{Gives};
-ghost use Rattle.tt_cmap.specs.Lookup.{lookup_of, glyph_of, FollowsSegments};
-ghost use Rattle.tt_cmap.specs.Defects.{IsBadCmap};
+ghost use Rattle.tt_cmap.specs.Lookup.{lookup_of, lookup_by, by_subtable, glyph_of, FollowsSegments};
+ghost use Rattle.tt_cmap.specs.Subtables.{subtable_of, Serves, NoneServes};
+ghost use Rattle.tt_cmap.specs.Defects.{IsBadCmap, IsBadChoice};
 
 use crate::format4::{glyph, segments};
 use crate::subtable::{CMAP, chosen, record_count};
 use std::marker::Model;
-use tt_core::{FONT_LIMIT, Fault, Why};
+use tt_core::{Fault, Why};
 
-/// A character map. A clause sees it as the table's bytes and the number of glyphs.
+/// A character map. A clause sees it as the table's bytes, the place of the subtable that serves, and the
+/// number of glyphs.
 #[derive(Drop)]
 pub struct Cmap<'a> {
     table: &'a [u8],
-    glyphs: u16,
     at: usize,
     segments: usize,
+    glyphs: u16,
 }
 
 impl<'a> Model for Cmap<'a> {
-    ghost use Rattle.std.specs.Prelude.{◌≡◌, ◌+◌, ◌*◌, ◌<◌, ◌≤◌, length, Some};
+    ghost use Rattle.std.specs.Prelude.{◌≡◌, ◌+◌, ◌*◌, ◌<◌, ◌≤◌, length};
     ghost use Rattle.tt_core.specs.Limits.{font_limit};
     ghost use Rattle.tt_cmap.specs.Format4.{segment_bytes, segment_count};
     ghost use Rattle.tt_cmap.specs.Lookup.{Lookup};
-    ghost use Rattle.tt_cmap.specs.Subtables.{chosen_subtable};
 
     ghost Value = { Lookup };
 
-    ghost view = { λ c. record { table = c.table.now; glyphs = c.glyphs } };
+    ghost view = { λ c. record { table = c.table.now; at = c.at; glyphs = c.glyphs } };
 
-    ghost invariant = { λ c. (chosen_subtable c.table.now ≡ Some c.at) × (c.segments ≡ segment_count c.table.now c.at)
+    ghost invariant = { λ c. (c.segments ≡ segment_count c.table.now c.at)
         × (2 * c.segments ≡ segment_bytes c.table.now c.at) × (c.at + 16 + 8 * c.segments ≤ length c.table.now)
         × (length c.table.now ≤ font_limit) × (0 < c.glyphs) };
 }
@@ -45,20 +46,38 @@ impl<'a> Cmap<'a> {
         requires size { length table.now ≤ font_limit }
         requires glyphs { 0 < glyphs }
         ensures exact { Gives (λ c. c) result (lookup_of table.now glyphs) }
-        ensures whole { IfOk result (λ c. c ≡ record { table = table.now; glyphs = glyphs }) }
+        // The record that serves names the subtable.
+        ensures first { (i : ℕ) → Serves table.now i → Gives (λ c. c) result (lookup_by table.now glyphs (Some (subtable_of table.now i))) }
+        ensures absent { NoneServes table.now → Gives (λ c. c) result (lookup_by table.now glyphs None) }
+        ensures whole { IfOk result (λ c. c.table ≡ table.now) }
+        ensures glyphs { IfOk result (λ c. c.glyphs ≡ glyphs) }
         ensures sound { OnOk result (HasNo (IsBadCmap table.now)) }
         ensures fault { IfErr result (IsBadCmap table.now) }
     {
         let count = record_count(table)?;
-        let Some(at) = chosen(table, count) else {
+        Cmap::by_subtable(table, glyphs, chosen(table, count))
+    }
+
+    /// The map by the subtable that begins at a place. Errors: NoCmap, CmapShape.
+    fn by_subtable(table: &'a [u8], glyphs: u16, place: Option<usize>) -> Result<Cmap<'a>, Fault>
+        requires size { length table.now ≤ font_limit }
+        requires within { IfSome place (λ at. at ≤ length table.now) }
+        requires glyphs { 0 < glyphs }
+        ensures exact { Gives (λ c. c) result (by_subtable table.now glyphs place) }
+        ensures whole { IfOk result (λ c. c.table ≡ table.now) }
+        ensures glyphs { IfOk result (λ c. c.glyphs ≡ glyphs) }
+        ensures sound { OnOk result (HasNo (IsBadChoice table.now place)) }
+        ensures fault { IfErr result (IsBadChoice table.now place) }
+    {
+        let Some(at) = place else {
             return Err(Fault::new(CMAP, 0, Why::NoCmap));
         };
         let segments = segments(table, at)?;
         Ok(Cmap {
             table,
-            glyphs,
             at,
             segments,
+            glyphs,
         })
     }
 
@@ -66,6 +85,8 @@ impl<'a> Cmap<'a> {
     pub fn glyph(&self, c: char) -> u16
         ensures meaning { result ≡ glyph_of self.now c }
         ensures segments { FollowsSegments self.now c result }
+        // Segments end at U+FFFF.
+        ensures beyond { 0xFFFF < c → result ≡ 0 }
         ensures below { result < self.now.glyphs }
     {
         glyph(self.table, self.at, self.segments, self.glyphs, c as usize)

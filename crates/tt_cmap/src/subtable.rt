@@ -8,7 +8,7 @@ ghost use Rattle.tt_core.specs.Outcomes.{Gives};
 ghost use Rattle.tt_cmap.specs.Subtables.{records_of, record_count, record_place, is_for, is_format4, first_subtable, chosen_subtable};
 ghost use Rattle.tt_cmap.specs.Defects.{IsBadRecords};
 
-use tt_core::{FONT_LIMIT, Fault, Why, u16_at, u32_at};
+use tt_core::{Fault, Why, u16_at, u32_at};
 
 pub(crate) const CMAP: [u8; 4] = *b"cmap";
 
@@ -85,7 +85,8 @@ pub(crate) fn chosen(table: &[u8], count: usize) -> Option<usize>
     ensures chosen { result ≡ chosen_subtable table.now }
     ensures within { IfSome result (λ at. at + 2 ≤ length table.now) }
 {
-    let windows = first_subtable(Platform::Windows, table, count);
-    let unicode = first_subtable(Platform::Unicode, table, count);
-    windows.or(unicode)
+    match first_subtable(Platform::Windows, table, count) {
+        Some(at) => Some(at),
+        None => first_subtable(Platform::Unicode, table, count),
+    }
 }

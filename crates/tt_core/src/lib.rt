@@ -13,7 +13,7 @@ pub use directory::Dir;
 pub use fault::{Fault, JobFault, Why};
 pub use font_fault::FontFault;
 pub use limits::{
-    COMPONENT_LIMIT, COORDINATE_LIMIT, FONT_LIMIT, HEIGHT_LIMIT, LEVEL_LIMIT, MARGIN_LIMIT, POINT_LIMIT, SIZE_LIMIT, TEXT_LIMIT,
-    WIDTH_LIMIT,
+    COMPONENT_LIMIT, COORDINATE_LIMIT, FONT_LIMIT, HEIGHT_LIMIT, LEVEL_LIMIT, MARGIN_LIMIT,
+    POINT_LIMIT, SIZE_LIMIT, TEXT_LIMIT, WIDTH_LIMIT,
 };
 pub use number::{i16_at, rq, scale, u16_at, u32_at};

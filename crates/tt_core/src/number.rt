@@ -1,6 +1,7 @@
 //! Numbers of a font, and the two roundings. Apple TrueType Reference Manual, "The TrueType Font File", data types.
 
 ghost use Rattle.std.specs.Prelude.{◌≡◌, ◌≢◌, ◌+◌, ◌*◌, ◌^◌, ◌<◌, ◌≤◌, ◌<ℤ◌, pos, unsigned_abs};
+ghost use Rattle.tt_core.specs.Limits.{size_limit};
 ghost use Rattle.tt_core.specs.Numbers.{number_at, signed_at, nearest_quotient, rounded_quotient, scaled};
 
 use byteorder::{BigEndian, ByteOrder};
@@ -62,7 +63,7 @@ pub fn rq(n: i64, d: i64) -> i64
 
 /// A distance in font units as 26.6, at `ppem` pixels per em of `em` font units.
 pub fn scale(v: i32, ppem: u32, em: u16) -> i64
-    requires size { ppem ≤ 300 }
+    requires size { ppem ≤ size_limit }
     requires units { 0 < em }
     ensures exact { result ≡ scaled v ppem em }
     ensures bound { unsigned_abs result ≤ unsigned_abs v * (ppem * 64) }

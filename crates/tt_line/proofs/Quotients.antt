@@ -3,6 +3,7 @@ use Rattle.std.proofs.Common.{ℕ, ◌+◌, ◌*◌, ◌/◌, ◌^◌, ◌<◌, 
 use Rattle.std.specs.Int.{int_div_euclid}
 use Rattle.std.proofs.lemmas.Int.{ints}
 use Rattle.tt_core.specs.Limits.{size_limit}
+use Rattle.tt_metrics.specs.Head.{smallest_em}
 use Rattle.tt_line.specs.Layout.{ceiling_quotient}
 
 below_multiple : (a b m : ℕ) → a < b * m → a / b < m
@@ -15,8 +16,8 @@ quotient_within (pos a) b m high low =
 quotient_within (negsuc a) b m high low =
     let q : a / b < m = below_multiple a b m (omega (arith, ints)) in omega arith
 
--- at 16 units in an em or more, an ascent or descent of 16 bits at the largest size
-pub ceiling_within : (n d : ℤ) → unsigned_abs n ≤ size_limit * 2 ^ 15 → pos 16 ≤ℤ d → unsigned_abs (ceiling_quotient n d) ≤ 614400
+-- at the smallest em or a larger one, an ascent or descent of 16 bits at the largest size
+pub ceiling_within : (n d : ℤ) → unsigned_abs n ≤ size_limit * 2 ^ 15 → pos smallest_em ≤ℤ d → unsigned_abs (ceiling_quotient n d) ≤ 614400
 ceiling_within n (pos d) small large =
     let inner = quotient_within (neg_ℤ n) d 614400 (omega (arith, ints)) (omega (arith, ints)) in
     omega (arith, ints, inner)

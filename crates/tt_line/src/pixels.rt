@@ -4,6 +4,7 @@ ghost use Rattle.std.specs.Prelude.{◌≡◌, ◌*◌, ◌<◌, ◌≤◌, ◌^
 ghost use Rattle.tt_core.specs.Limits.{size_limit};
 ghost use Rattle.tt_core.specs.Numbers.{rounded_quotient};
 ghost use Rattle.tt_line.specs.Layout.{ceiling_quotient, advance_in_pixels, rise_of, depth_of};
+ghost use Rattle.tt_metrics.specs.Head.{smallest_em};
 ghost use Rattle.tt_metrics.specs.Metrics.{glyphs_of};
 
 use tt_core::rq;
@@ -51,7 +52,7 @@ fn nearest(units: u16, ppem: u32, em: u16) -> u32
 fn rounded_up(units: i32, ppem: u32, em: u16) -> i32
     requires units { unsigned_abs units ≤ 2 ^ 15 }
     requires size { ppem ≤ size_limit }
-    requires em { 16 ≤ em }
+    requires em { smallest_em ≤ em }
     ensures exact { result ≡ ceiling_quotient (units *ℤ pos ppem) (pos em) }
     ensures bound { unsigned_abs result < 2 ^ 20 }
 {
@@ -61,7 +62,7 @@ fn rounded_up(units: i32, ppem: u32, em: u16) -> i32
 /// `n / d` rounded up.
 fn ceiling(n: i32, d: i32) -> i32
     requires numerator { unsigned_abs n ≤ size_limit * 2 ^ 15 }
-    requires denominator { pos 16 ≤ℤ d }
+    requires denominator { pos smallest_em ≤ℤ d }
     ensures exact { result ≡ ceiling_quotient n d }
     ensures bound { unsigned_abs result < 2 ^ 20 }
 {

@@ -18,9 +18,15 @@ head_tag = codes "head"
 abbrev pub is_magic : ℕ → Bool
 is_magic n = n == 0x5F0F3CF5
 
--- the sizes of an em that are read, in font units
+-- how many font units an em has: the standard's own range
+abbrev pub smallest_em : ℕ
+smallest_em = 16
+
+abbrev pub largest_em : ℕ
+largest_em = 16384
+
 abbrev pub is_em : ℕ → Bool
-is_em n = nat_le 16 n && nat_le n 16384
+is_em n = nat_le smallest_em n && nat_le n largest_em
 
 abbrev pub is_loca_format : ℕ → Bool
 is_loca_format n = (n == 0) || (n == 1)

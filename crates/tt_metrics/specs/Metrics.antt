@@ -7,7 +7,7 @@ use Rattle.tt_metrics.specs.declared.head.Head.{Head}
 use Rattle.tt_metrics.specs.declared.head.LocaFormat.{LocaFormat}
 use Rattle.tt_metrics.specs.declared.hhea.Hhea.{Hhea}
 use Rattle.tt_metrics.specs.declared.maxp.Maxp.{Maxp}
-use Rattle.tt_metrics.specs.Head.{head_of, IsHeadDefect}
+use Rattle.tt_metrics.specs.Head.{smallest_em, largest_em, head_of, IsHeadDefect}
 use Rattle.tt_metrics.specs.Hhea.{hhea_of, IsHheaDefect}
 use Rattle.tt_metrics.specs.Hmtx.{hmtx_of, advance_in, bearing_in, IsHmtxDefect}
 use Rattle.tt_metrics.specs.Maxp.{maxp_of, IsMaxpDefect}
@@ -59,8 +59,8 @@ left_side_bearing_of m g = bearing_in m.hmtx m.hhea.long_metrics g
 
 -- what the rest of the program counts on
 pub record IsInRange (m : Fields) : Type 0 where
-  pub em_low : 16 ≤ units_per_em_of m
-  pub em_high : units_per_em_of m ≤ 16384
+  pub em_low : smallest_em ≤ units_per_em_of m
+  pub em_high : units_per_em_of m ≤ largest_em
   pub glyphs : 0 < glyphs_of m
   pub long_metrics : 0 < m.hhea.long_metrics
   pub pairs : 4 * m.hhea.long_metrics ≤ length m.hmtx

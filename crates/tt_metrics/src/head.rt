@@ -4,12 +4,18 @@ ghost use Rattle.std.specs.Prelude.{◌≡◌, ◌≤◌, IsTrue, IfOk, IfErr, O
 ghost use Rattle.tt_core.specs.Limits.{font_limit};
 ghost use Rattle.tt_core.specs.Directory.{HasNo};
 ghost use Rattle.tt_core.specs.Outcomes.{Gives};
-ghost use Rattle.tt_metrics.specs.Head.{head_in, head_of, IsBadHead, IsHeadDefect};
+ghost use Rattle.tt_metrics.specs.Head.{smallest_em, largest_em, head_in, head_of, IsBadHead, IsHeadDefect};
 
 use crate::table::long_enough;
-use tt_core::{Dir, FONT_LIMIT, Fault, Why, u16_at, u32_at};
+use tt_core::{Dir, Fault, Why, u16_at, u32_at};
 
 const HEAD: [u8; 4] = *b"head";
+
+/// The fewest font units that an em has.
+const SMALLEST_EM: u16 = 16;
+
+/// The most font units that an em has.
+const LARGEST_EM: u16 = 16_384;
 
 /// How loca writes an offset.
 #[derive(Clone, Copy, Debug, PartialEq, Eq)]
@@ -22,7 +28,7 @@ pub enum LocaFormat {
 
 #[derive(Clone, Copy)]
 pub struct Head {
-    /// Font units in an em, 16 to 16384.
+    /// Font units in an em.
     pub units_per_em: u16,
     pub loca_format: LocaFormat,
 }
@@ -31,8 +37,8 @@ pub struct Head {
 #[tactic(auto, unfolding(crate::specs::Head::head_of))]
 pub(crate) fn read_head(dir: &Dir) -> Result<Head, Fault>
     ensures exact { Gives (λ head. head) result (head_of dir.now) }
-    ensures em_low { IfOk result (λ head. 16 ≤ head.units_per_em) }
-    ensures em_high { IfOk result (λ head. head.units_per_em ≤ 16384) }
+    ensures em_low { IfOk result (λ head. smallest_em ≤ head.units_per_em) }
+    ensures em_high { IfOk result (λ head. head.units_per_em ≤ largest_em) }
     ensures sound { OnOk result (HasNo (IsHeadDefect dir.now)) }
     ensures fault { IfErr result (IsHeadDefect dir.now) }
 {
@@ -43,8 +49,8 @@ pub(crate) fn read_head(dir: &Dir) -> Result<Head, Fault>
 fn fields_of(head: &[u8]) -> Result<Head, Fault>
     requires { length head.now ≤ font_limit }
     ensures exact { Gives (λ head. head) result (head_in head.now) }
-    ensures em_low { IfOk result (λ head. 16 ≤ head.units_per_em) }
-    ensures em_high { IfOk result (λ head. head.units_per_em ≤ 16384) }
+    ensures em_low { IfOk result (λ head. smallest_em ≤ head.units_per_em) }
+    ensures em_high { IfOk result (λ head. head.units_per_em ≤ largest_em) }
     ensures sound { OnOk result (HasNo (IsBadHead head.now)) }
     ensures fault { IfErr result (IsBadHead head.now) }
 {
@@ -53,7 +59,7 @@ fn fields_of(head: &[u8]) -> Result<Head, Fault>
         return Err(Fault::new(HEAD, 12, Why::HeadMagic));
     }
     let units_per_em = u16_at(head, 18).unwrap();
-    if units_per_em < 16 || units_per_em > 16384 {
+    if !(SMALLEST_EM..=LARGEST_EM).contains(&units_per_em) {
         return Err(Fault::new(HEAD, 18, Why::EmRange));
     }
     let loca_format = match u16_at(head, 50).unwrap() {

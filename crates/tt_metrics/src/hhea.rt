@@ -7,7 +7,7 @@ ghost use Rattle.tt_core.specs.Outcomes.{Gives};
 ghost use Rattle.tt_metrics.specs.Hhea.{hhea_in, hhea_of, IsBadHhea, IsHheaDefect};
 
 use crate::table::long_enough;
-use tt_core::{Dir, FONT_LIMIT, Fault, Why, i16_at, u16_at};
+use tt_core::{Dir, Fault, Why, i16_at, u16_at};
 
 const HHEA: [u8; 4] = *b"hhea";
 

@@ -7,7 +7,7 @@ ghost use Rattle.tt_core.specs.Outcomes.{Gives};
 ghost use Rattle.tt_metrics.specs.Hmtx.{hmtx_of, advance_in, bearing_in, IsHmtxDefect};
 
 use crate::table::long_enough;
-use tt_core::{Dir, FONT_LIMIT, Fault, i16_at, u16_at};
+use tt_core::{Dir, Fault, i16_at, u16_at};
 
 const HMTX: [u8; 4] = *b"hmtx";
 

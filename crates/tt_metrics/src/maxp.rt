@@ -7,7 +7,7 @@ ghost use Rattle.tt_core.specs.Outcomes.{Gives};
 ghost use Rattle.tt_metrics.specs.Maxp.{maxp_in, maxp_of, IsBadMaxp, IsMaxpDefect};
 
 use crate::table::long_enough;
-use tt_core::{Dir, FONT_LIMIT, Fault, Why, u16_at, u32_at};
+use tt_core::{Dir, Fault, Why, u16_at, u32_at};
 
 const MAXP: [u8; 4] = *b"maxp";
 

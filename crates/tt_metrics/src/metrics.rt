@@ -3,6 +3,7 @@
 ghost use Rattle.std.specs.Prelude.{◌≡◌, ◌<◌, ◌≤◌, IsTrue, IfOk, IfErr, OnOk};
 ghost use Rattle.tt_core.specs.Directory.{HasNo};
 ghost use Rattle.tt_core.specs.Outcomes.{Gives};
+ghost use Rattle.tt_metrics.specs.Head.{smallest_em, largest_em};
 ghost use Rattle.tt_metrics.specs.Metrics.{metrics_of, units_per_em_of, loca_format_of, glyphs_of, twilight_of, storage_of, ascent_of, descent_of, advance_of, left_side_bearing_of, IsInRange, IsMetricsDefect};
 
 use crate::head::{Head, LocaFormat, read_head};
@@ -69,8 +70,8 @@ impl<'a> Metrics<'a> {
     /// Font units in an em.
     pub fn units_per_em(&self) -> u16
         ensures exact { result ≡ units_per_em_of self.now }
-        ensures low { 16 ≤ result }
-        ensures high { result ≤ 16384 }
+        ensures low { smallest_em ≤ result }
+        ensures high { result ≤ largest_em }
     {
         self.head.units_per_em
     }

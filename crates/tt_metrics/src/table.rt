@@ -7,7 +7,7 @@ ghost use Rattle.tt_core.specs.Faults.{is_ascii};
 ghost use Rattle.tt_core.specs.Outcomes.{Gives};
 ghost use Rattle.tt_metrics.specs.Tables.{or_short, IsShort};
 
-use tt_core::{FONT_LIMIT, Fault, Why};
+use tt_core::{Fault, Why};
 
 /// Refuses a table of fewer bytes than `least`, at its length.
 pub(crate) fn long_enough<'a>(
