@@ -1,6 +1,6 @@
 //! The line as a whole.
 
-ghost use Rattle.std.specs.Prelude.{◌≡◌, ◌<◌, ◌≤◌, ◌^◌, length, map, chars, sum, All, unsigned_abs, IfOk};
+ghost use Rattle.std.specs.Prelude.{◌≡◌, ◌<◌, ◌≤◌, ◌^◌, length, map, chars, sum, All, unsigned_abs, IsOk, IfOk, IfErr, IfNone};
 ghost use Rattle.tt_core.specs.Limits.{size_limit, margin_limit, text_limit, width_limit, height_limit};
 ghost use Rattle.tt_core.specs.Outcomes.{GivesUnless, IfTold};
 ghost use Rattle.tt_line.specs.Layout.{text_glyphs, advances_of, placed_glyphs, extent_of, placement, IsRefusal};
@@ -53,9 +53,12 @@ pub fn lay(
     ensures glyphs { IfOk result (λ l. map (λ p. p.0) l.glyphs.items ≡ text_glyphs cmap.now text.now) }
     ensures known { IfOk result (λ l. All (λ p. p.0 < glyphs_of metrics.now) l.glyphs.items) }
     ensures pens { IfOk result (λ l. All (λ p. p.1 ≤ l.width) l.glyphs.items) }
+    // Memory is taken only for the glyphs of a line that is not refused.
+    ensures memory { IfErr result (λ e. IfNone (job_fault e) (IsOk (placement metrics.now cmap.now text.now ppem margin) × (0 < length (chars text.now)))) }
     ensures refused { IfTold job_fault result (IsRefusal (extent_of metrics.now ppem margin (text_glyphs cmap.now text.now))) }
 {
     let rise = rise(metrics, ppem);
+    // The text is walked once for its width, so that no memory is taken for a line that is refused.
     let advances = sum_of_advances(metrics, cmap, text, ppem);
     let extent = test_limits(with_margins(advances, rise, depth(metrics, ppem), margin))?;
     let glyphs = placed_glyphs(alloc, metrics, cmap, text, ppem)?;
@@ -94,6 +97,7 @@ fn placed_glyphs(
     requires glyphs { cmap.now.glyphs ≡ glyphs_of metrics.now }
     requires fits { sum (advances_of metrics.now ppem (text_glyphs cmap.now text.now)) ≤ width_limit }
     ensures exact { IfOk result (λ v. v.items ≡ placed_glyphs metrics.now ppem (text_glyphs cmap.now text.now)) }
+    ensures memory { IfErr result (λ e. 0 < length (chars text.now)) }
     ensures count { IfOk result (λ v. length v.items ≡ length (chars text.now)) }
     ensures glyphs { IfOk result (λ v. map (λ p. p.0) v.items ≡ text_glyphs cmap.now text.now) }
     ensures known { IfOk result (λ v. All (λ p. p.0 < glyphs_of metrics.now) v.items) }

@@ -1,6 +1,6 @@
-use Rattle.std.proofs.Common.{◌≡◌, ◌<◌, ◌≤◌, ℕ, [], ◌∷◌, ◌++◌, length, sum, chars, sym, ap, ◌∙◌, arith}
+use Rattle.std.proofs.Common.{◌≡◌, ◌<◌, ◌≤◌, ℕ, [], ◌∷◌, ◌++◌, length, sum, chars, Result, Ok, Err, IfErr, sym, ap, ◌∙◌, arith}
 use Rattle.std.proofs.lemmas.Iterator.{YieldsList-from_chars}
-use Rattle.std.proofs.lemmas.Iterator.Consumers.{YieldsList-so_far, YieldsList-end}
+use Rattle.std.proofs.lemmas.Iterator.Consumers.{YieldsList-so_far, YieldsList-turn, YieldsList-end}
 use Rattle.std.proofs.lemmas.List.{map-id, length-map}
 use Rattle.std.proofs.lemmas.List.Elements.{All-push}
 use Rattle.tt_metrics.specs.Metrics.{glyphs_of}
@@ -27,6 +27,16 @@ loop-c-preserved c =
       placed = next_placed f g c.loop-c.yielded c.in-Some.c c.glyph-glyph.result c.loop-c.pen c.loop-c.glyphs.items c.push.new.self.items c.loop-c.invariant.pen c.loop-c.invariant.placed c.glyph-glyph.ensures.meaning items;
       known = rw items (All-push (λ (p : ℕ × ℕ). p.0 < glyphs_of c.args.metrics.now) c.loop-c.glyphs.items (c.glyph-glyph.result, c.loop-c.pen) c.loop-c.invariant.known (omega arith));
     }
+
+some_characters : {X E : Type 0} (r : Result X E) (n : ℕ) → 0 < n → IfErr r (λ e. 0 < n)
+some_characters (Ok x) n some = tt
+some_characters (Err e) n some = some
+
+pub returns-in_err-push-clause-memory : goal.returns-in_err-push-clause-memory
+returns-in_err-push-clause-memory c =
+    let t = YieldsList-turn (YieldsList-from_chars c.args.text.now c.utf8.text cc) c.loop-c.yielded _ c.loop-c.yielded_by _ _ c.in-Some.c c.in-Some.is c.next.ensures.steps in
+    let left : length c.loop-c.yielded < length (chars c.args.text.now) = t.0 in
+    some_characters c.from_residual.result (length (chars c.args.text.now)) (omega arith)
 
 pub returns-clause-exact : goal.returns-clause-exact
 returns-clause-exact c =
