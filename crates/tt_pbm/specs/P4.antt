@@ -6,6 +6,7 @@ use Rattle.std.specs.Fmt.{digits}
 use Rattle.std.specs.List.{range_with_len, sum_by}
 use Rattle.std.proofs.Common.{arith}
 use Rattle.tt_core.specs.Bits.{stride}
+use Rattle.tt_core.specs.Limits.{width_limit, height_limit}
 use Rattle.tt_pbm.specs.declared.header.Header.{Header}
 
 -- `P4`, width and height in decimal
@@ -50,7 +51,7 @@ abbrev pub p4 : ℕ → ℕ → (ℕ → ℕ → Bool) → List ℕ
 p4 w h black = p4_header_of w h ++ rows w black 0 (stride w * h)
 
 -- worked values
-a_header : p4_header_of 16384 4096 ≡ codes "P4\n16384 4096\n"
+a_header : p4_header_of width_limit height_limit ≡ codes "P4\n16384 4096\n"
 unfolding digits
 a_header = refl
 

@@ -1,6 +1,7 @@
 //! The header of a picture. Netpbm, "PBM", format P4.
 
 ghost use Rattle.std.specs.Prelude.{◌≡◌, ◌+◌, ◌<◌, ◌≤◌, ◌++◌, [], ◌∷◌, length, take, decimal};
+ghost use Rattle.tt_core.specs.Limits.{width_limit, height_limit};
 ghost use Rattle.tt_pbm.specs.P4.{p4_header_of, header_bytes};
 
 /// Room for a header: two numbers of at most 5 digits, and 5 bytes round them.
@@ -40,9 +41,9 @@ impl Header {
 /// The header of a picture of `w` columns and `h` rows.
 pub fn p4_header(w: u32, h: u32) -> Header
     requires some_columns { 1 ≤ w }
-    requires columns { w ≤ 16384 }
+    requires columns { w ≤ width_limit }
     requires some_rows { 1 ≤ h }
-    requires rows { h ≤ 4096 }
+    requires rows { h ≤ height_limit }
     ensures exact { take result.len result.bytes ≡ p4_header_of w h }
     ensures size { result.len ≤ 16 }
 {

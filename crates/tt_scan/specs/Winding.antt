@@ -1,7 +1,9 @@
 -- OpenType, "TrueType Fundamentals", the scan converter's rules 1 and 2; Apple TrueType Reference Manual, "Digitizing
 -- Letterform Designs": a point is inside where its winding number is not 0. All numbers here are in 1/8192 pixel, but for
 -- the numbers of columns and rows.
-use Rattle.std.specs.Prelude.{◌≡◌, ℕ, ◌^◌, ◌<◌, ◌≤◌, Bool, true, false, ◌&&◌, ◌||◌, not, if◌then◌else◌, ℤ, pos, negsuc, ◌+ℤ◌, ◌-ℤ◌, ◌*ℤ◌, int_lt, int_le, unsigned_abs, List, [], ◌∷◌, refl}
+use Rattle.std.specs.Prelude.{◌≡◌, ℕ, ◌+◌, ◌^◌, ◌<◌, ◌≤◌, Bool, true, false, ◌&&◌, ◌||◌, not, if◌then◌else◌, ℤ, pos, negsuc, ◌+ℤ◌, ◌-ℤ◌, ◌*ℤ◌, int_lt, int_le, unsigned_abs, List, [], ◌∷◌, refl}
+use Rattle.std.specs.List.{Any}
+use Rattle.tt_core.specs.Limits.{width_limit, height_limit, margin_limit}
 use Rattle.tt_scan.specs.declared.edge.Edge.{Edge}
 use Rattle.tt_scan.specs.declared.edge.Frame.{Frame}
 
@@ -14,10 +16,10 @@ pub record EdgeFits (e : Edge) : Type 0 where
 
 pub record FrameFits (f : Frame) : Type 0 where
   pub width_low : 1 ≤ f.width
-  pub width_high : f.width ≤ 16384
+  pub width_high : f.width ≤ width_limit
   pub height_low : 1 ≤ f.height
-  pub height_high : f.height ≤ 4096
-  pub margin : f.margin ≤ 64
+  pub height_high : f.height ≤ height_limit
+  pub margin : f.margin ≤ margin_limit
   pub rise : unsigned_abs f.rise < 2 ^ 20
 
 -- where the centres of a column stand
@@ -68,6 +70,15 @@ lies_on_one (e ∷ es) x y = lies_on e x y || lies_on_one es x y
 abbrev pub is_black : List Edge → ℤ → ℤ → Bool
 is_black es x y = lies_on_one es x y || not (is_zero (winding es x y))
 
+-- a point lies on some edge of a list
+abbrev pub LiesOnSome : List Edge → ℤ → ℤ → Type 0
+LiesOnSome es x y = Any (λ e. lies_on e x y ≡ true) es
+
+-- how many edges have a row's centre line in their closed range of heights, their ends included
+abbrev pub rows_met : List Edge → ℤ → ℕ
+rows_met [] y = 0
+rows_met (e ∷ es) y = (if is_between e.ay e.by y then 1 else 0) + rows_met es y
+
 -- worked values: a square from (1,1) to (3,3), upwards on its left
 edge : ℤ → ℤ → ℤ → ℤ → Edge
 edge ax ay bx by = record { ax = ax; ay = ay; bx = bx; by = by }
@@ -94,3 +105,16 @@ above_it_is_white = refl
 a_point_is_black_at_itself : is_black (edge (pos 5) (pos 5) (pos 5) (pos 5) ∷ []) (pos 5) (pos 5) ≡ true
 unfolding edge
 a_point_is_black_at_itself = refl
+
+-- the square's four edges: the level ones count at their own height alone
+its_lower_side_meets_three : rows_met square (pos 1) ≡ 3
+unfolding square edge
+its_lower_side_meets_three = refl
+
+its_middle_meets_two : rows_met square (pos 2) ≡ 2
+unfolding square edge
+its_middle_meets_two = refl
+
+above_it_meets_none : rows_met square (pos 4) ≡ 0
+unfolding square edge
+above_it_meets_none = refl

@@ -17,6 +17,7 @@
 //! two edges counts once. `touch` serves rule 2, a centre on the contour is black: both ends count.
 
 ghost use Rattle.std.specs.Prelude.{◌≡◌, ℤ, ◌^◌, ◌<◌, ◌≤◌, ◌&&◌, pos, int_lt, ◌-ℤ◌, ◌<ℤ◌, ◌≤ℤ◌, unsigned_abs, IfSome};
+ghost use Rattle.tt_core.specs.Limits.{margin_limit};
 ghost use Rattle.tt_scan.specs.Crossing.{spans, IsCross};
 ghost use Rattle.tt_scan.specs.Winding.{EdgeFits, FrameFits, column_x, row_y, side, is_zero};
 
@@ -40,7 +41,7 @@ pub(crate) fn row_height(frame: Frame, row: i64) -> i64
 /// How far a place stands right of the centres of column 0. Both are in 1/8192 pixel.
 fn from_centre(x: i64, margin: u32) -> i64
     requires place { unsigned_abs x < 2 ^ 30 }
-    requires margin { margin ≤ 64 }
+    requires margin { margin ≤ margin_limit }
     ensures exact { result ≡ x -ℤ column_x margin (pos 0) }
     ensures bound { unsigned_abs result < 2 ^ 31 }
 {
@@ -51,7 +52,7 @@ fn from_centre(x: i64, margin: u32) -> i64
 /// edge stands on that centre.
 fn standing(edge: Edge, margin: u32, y: i64) -> Quotient
     requires edge { EdgeFits edge }
-    requires margin { margin ≤ 64 }
+    requires margin { margin ≤ margin_limit }
     requires rises { edge.ay <ℤ edge.by }
     requires low { edge.ay ≤ℤ y }
     requires high { y ≤ℤ edge.by }
@@ -93,7 +94,7 @@ fn apart() -> Cross
 /// What an edge with a below b does at a height.
 fn rising(edge: Edge, margin: u32, y: i64) -> Cross
     requires edge { EdgeFits edge }
-    requires margin { margin ≤ 64 }
+    requires margin { margin ≤ margin_limit }
     requires rises { edge.ay <ℤ edge.by }
     ensures exact { IsCross edge margin y result }
     ensures bound { unsigned_abs result.turn ≤ 1 }
@@ -121,7 +122,7 @@ fn rising(edge: Edge, margin: u32, y: i64) -> Cross
 /// What an edge with a above b does at a height: what it does from b to a, but it turns the other way.
 fn falling(edge: Edge, margin: u32, y: i64) -> Cross
     requires edge { EdgeFits edge }
-    requires margin { margin ≤ 64 }
+    requires margin { margin ≤ margin_limit }
     requires falls { edge.by <ℤ edge.ay }
     ensures exact { IsCross edge margin y result }
     ensures bound { unsigned_abs result.turn ≤ 1 }
@@ -143,7 +144,7 @@ fn falling(edge: Edge, margin: u32, y: i64) -> Cross
 /// What an edge with a and b at one height does at a height; they may be one point.
 fn flat(edge: Edge, margin: u32, y: i64) -> Cross
     requires edge { EdgeFits edge }
-    requires margin { margin ≤ 64 }
+    requires margin { margin ≤ margin_limit }
     requires level { edge.ay ≡ edge.by }
     ensures exact { IsCross edge margin y result }
     ensures bound { unsigned_abs result.turn ≤ 1 }
@@ -163,7 +164,7 @@ fn flat(edge: Edge, margin: u32, y: i64) -> Cross
 /// What an edge does at a height.
 pub(crate) fn crossing(edge: Edge, margin: u32, y: i64) -> Cross
     requires edge { EdgeFits edge }
-    requires margin { margin ≤ 64 }
+    requires margin { margin ≤ margin_limit }
     requires height { unsigned_abs y < 2 ^ 35 }
     ensures exact { IsCross edge margin y result }
     ensures bound { unsigned_abs result.turn ≤ 1 }

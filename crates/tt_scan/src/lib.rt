@@ -4,6 +4,7 @@
 
 mod crossing;
 mod edge;
+pub mod laws;
 mod pixel;
 mod quotient;
 mod rows;

@@ -24,7 +24,7 @@ fn within(first: i64, last: i64, height: i64) -> (i64, i64)
 
 /// The first of the frame's rows whose centre line meets the edge, its ends included, and one past the last; two equal
 /// numbers where none does.
-pub(crate) fn rows_met(edge: Edge, frame: Frame) -> (i64, i64)
+pub(crate) fn row_range(edge: Edge, frame: Frame) -> (i64, i64)
     requires edge { EdgeFits edge }
     requires frame { FrameFits frame }
     ensures { AreRows edge frame result }

@@ -8,7 +8,7 @@ ghost use Rattle.tt_scan.specs.Tape.{edge_at};
 
 use crate::crossing::{crossing, row_height};
 use crate::edge::{Cross, Edge, Frame};
-use crate::rows::rows_met;
+use crate::rows::row_range;
 use std::alloc::{AllocError, Global};
 use std::marker::Model;
 
@@ -75,7 +75,7 @@ impl Tape {
         requires { i < length self.now.edges }
         ensures { AreRows (edge_at self.now.edges i) self.now.frame result }
     {
-        rows_met(self.edges[i], self.frame)
+        row_range(self.edges[i], self.frame)
     }
 
     /// What edge `i` does at the centre line of a row.

@@ -1,7 +1,7 @@
 use Rattle.std.proofs.Common.{◌∙◌, sym, ◌-ℤ◌, SFits, w64, rules, arith}
 use Rattle.std.proofs.lemmas.Int.{ints, clamps, to_z-of_z}
 use Rattle.tt_scan.proofs.Ranges.{row_met, none_at}
-use Rattle.tt_scan.proofs.rows.rows_met.Goals as goal
+use Rattle.tt_scan.proofs.rows.row_range.Goals as goal
 
 pub overflow_sub-top-2 : goal.overflow_sub-top-2
 overflow_sub-top-2 c =
