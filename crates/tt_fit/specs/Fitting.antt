@@ -6,13 +6,13 @@ use Rattle.tt_core.specs.Faults.{fault_at}
 use Rattle.tt_core.specs.Limits.{level_limit, size_limit}
 use Rattle.tt_core.specs.Outcomes.{◌>>=◌}
 use Rattle.tt_glyf.specs.Bytes.{byte_in, word_in, signed_in, slice_in}
-use Rattle.tt_glyf.specs.Composite.{transform_at, argument_at, arguments_at, unscaled, known_glyph, record_at, record_limit, records_from, program_of, composite_of}
+use Rattle.tt_glyf.specs.Composite.{transform_at, argument_at, arguments_at, unscaled, known_glyph, record_at, records_from, program_of, composite_of}
 use Rattle.tt_glyf.specs.Coordinates.{delta_at, within_words, coordinate_at, coordinates_from}
 use Rattle.tt_glyf.specs.declared.raw.Record.{Record}
 use Rattle.tt_glyf.specs.Flags.{run_at, flags_from}
 use Rattle.tt_glyf.specs.GlyphData.{glyph_data_of, header_of, described}
 use Rattle.tt_glyf.specs.Loca.{GlyphTables, glyph_offset, glyph_bytes_of}
-use Rattle.tt_glyf.specs.Simple.{end_at, ends_from, point_limit, points_within, points_of, simple_of}
+use Rattle.tt_glyf.specs.Simple.{end_at, ends_from, points_within, points_of, simple_of}
 use Rattle.tt_metrics.specs.declared.head.LocaFormat.TheVariants.{Short}
 use Rattle.tt_glyf.specs.Raw.{GlyphData, empty, simple, composite}
 use Rattle.tt_metrics.specs.Metrics.{Fields, units_per_em_of, loca_format_of, glyphs_of}
@@ -113,7 +113,7 @@ square_is_scaled : fitted_outline (its_setting []) 1 ≡ Ok (record {
   ends = 4 ∷ [];
   phantom = its_phantom_points (pos 0);
 })
-unfolding fitted_outline glyph_data_of glyph_bytes_of header_of described simple_of ends_from end_at points_within point_limit points_of flags_from run_at coordinates_from coordinate_at within_words delta_at byte_in word_in signed_in slice_in blank scaled_outline settled
+unfolding fitted_outline glyph_data_of glyph_bytes_of header_of described simple_of ends_from end_at points_within points_of flags_from run_at coordinates_from coordinate_at within_words delta_at byte_in word_in signed_in slice_in blank scaled_outline settled
 square_is_scaled = refl
 
 -- two components of glyph 1, the second moved by 64 to the right; the second gives its metrics
@@ -126,7 +126,7 @@ squares_are_joined : fitted_outline (its_setting two_squares) 2 ≡ Ok (record {
   ends = 4 ∷ 8 ∷ [];
   phantom = its_phantom_points (pos 0);
 })
-unfolding fitted_outline added placed shift_of within_point_limit glyph_data_of glyph_bytes_of header_of described composite_of records_from record_limit record_at known_glyph arguments_at argument_at transform_at unscaled program_of simple_of ends_from end_at points_within point_limit points_of flags_from run_at coordinates_from coordinate_at within_words delta_at byte_in word_in signed_in slice_in blank scaled_outline settled
+unfolding fitted_outline added placed shift_of within_point_limit glyph_data_of glyph_bytes_of header_of described composite_of records_from record_at known_glyph arguments_at argument_at transform_at unscaled program_of simple_of ends_from end_at points_within points_of flags_from run_at coordinates_from coordinate_at within_words delta_at byte_in word_in signed_in slice_in blank scaled_outline settled
 squares_are_joined = refl
 
 -- one component, which is the glyph itself
@@ -134,5 +134,5 @@ abbrev itself : List ℕ
 itself = 255 ∷ 255 ∷ 0 ∷ 64 ∷ 0 ∷ 0 ∷ 1 ∷ 0 ∷ 0 ∷ 128 ∷ 0 ∷ 2 ∷ 0 ∷ 2 ∷ 0 ∷ 0 ∷ []
 
 itself_is_too_deep : fitted_outline (its_setting itself) 2 ≡ Err (fault_at (codes "glyf") 32 why.ComponentDepth)
-unfolding fitted_outline added glyph_data_of glyph_bytes_of header_of described composite_of records_from record_limit record_at known_glyph arguments_at argument_at transform_at unscaled program_of byte_in word_in signed_in slice_in blank
+unfolding fitted_outline added glyph_data_of glyph_bytes_of header_of described composite_of records_from record_at known_glyph arguments_at argument_at transform_at unscaled program_of byte_in word_in signed_in slice_in blank
 itself_is_too_deep = refl

@@ -5,15 +5,9 @@ use Rattle.tt_core.specs.Faults.{Fault}
 use Rattle.tt_core.specs.Directory.{HasNo}
 use Rattle.tt_core.specs.Outcomes.{◌>>=◌, each}
 use Rattle.tt_fit.specs.Fitting.{Setting, fitted_outline}
-use Rattle.tt_fit.specs.Outline.{IsPhantom}
 use Rattle.tt_scan.specs.declared.edge.Edge.{Edge}
 use Rattle.tt_render.specs.Defects.{IsGlyphDefect}
 use Rattle.tt_render.specs.Picture.{glyph_edges, edges_at}
-
--- the first phantom point is within the limit, or there is none and it counts as 0
-pub origin_within : (ps : List (ℤ × ℤ)) → All IsPhantom ps → unsigned_abs (get_or ps 0 (pos 0, pos 0)).0 ≤ 2097151
-origin_within [] within = omega arith
-origin_within (p ∷ ps) within = (within 0 p (omega arith)).0
 
 -- a step that cannot fail failed because of the one before it
 failed_first : {A B E : Type 0} (r : Result A E) (k : A → B) (e : E) → (r >>= λ x. Ok (k x)) ≡ Err e → r ≡ Err e

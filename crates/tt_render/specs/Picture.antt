@@ -9,7 +9,7 @@ use Rattle.tt_fit.specs.Fitting.{Setting, fitted_outline}
 use Rattle.tt_fit.specs.Outline.{Shape}
 use Rattle.tt_fit.specs.Preparation.{ProgramTables, setting_of}
 use Rattle.tt_glyf.specs.Bytes.{glyf_tag}
-use Rattle.tt_glyf.specs.Loca.{GlyphTables, loca_tag, glyph_tables_of}
+use Rattle.tt_glyf.specs.Loca.{GlyphTables, loca_tag, loca_of, with_glyf}
 use Rattle.tt_line.specs.Layout.{Placement, placement}
 use Rattle.tt_metrics.specs.Metrics.{Fields}
 use Rattle.tt_pbm.specs.P4.{p4}
@@ -28,9 +28,9 @@ no_programs = record { cvt = []; fpgm = []; prep = [] }
 unfoldable pub glyphs_in : List ℕ → Fields → Result GlyphTables Fault
 glyphs_in directory m = do
   loca ← needed_table directory loca_tag
-  long_enough ← glyph_tables_of loca [] m
+  locations ← loca_of loca m
   glyf ← needed_table directory glyf_tag
-  glyph_tables_of loca glyf m
+  Ok (with_glyf locations glyf)
 
 -- what the outlines are made from
 unfoldable pub setting_in : Face → Ask → Result Setting Fault
@@ -38,7 +38,7 @@ setting_in face a = glyphs_in face.directory face.metrics >>= λ tables. setting
 
 -- the x of the first phantom point, which is to stand at the pen
 abbrev pub origin_of : Shape → ℤ
-origin_of o = (get_or o.phantom 0 (pos 0, pos 0)).0
+origin_of o = o.phantom.left.0
 
 -- the edges of an outline at a pen; a pixel has 64 units
 abbrev pub edges_at : ℕ → Shape → List Edge

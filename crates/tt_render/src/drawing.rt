@@ -21,7 +21,7 @@ use crate::job::Job;
 use std::alloc::Global;
 use tt_core::{Fault, FontFault};
 use tt_fit::{Fitter, Programs};
-use tt_glyf::Glyf;
+use tt_glyf::{Glyf, Loca};
 use tt_line::{Line, lay};
 use tt_pbm::{Header, p4_header};
 use tt_scan::Frame;
@@ -42,11 +42,9 @@ fn open_glyf<'a>(face: &Face<'a>) -> Result<Glyf<'a>, Fault>
     ensures sound { OnOk result (HasNo (IsGlyphTableDefect face.now.dir face.now.metrics)) }
     ensures fault { IfErr result (IsGlyphTableDefect face.now.dir face.now.metrics) }
 {
-    let loca = face.dir.needed(*b"loca")?;
     // A loca that is too short comes before a glyf that is not there.
-    Glyf::open(loca, &[], &face.metrics)?;
-    let glyf = face.dir.needed(*b"glyf")?;
-    Glyf::open(loca, glyf, &face.metrics)
+    let loca = Loca::open(face.dir.needed(*b"loca")?, &face.metrics)?;
+    Ok(Glyf::of(loca, face.dir.needed(*b"glyf")?))
 }
 
 /// What makes the outlines of a job. Errors: those of loca and glyf, Memory.

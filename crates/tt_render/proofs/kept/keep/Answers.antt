@@ -1,8 +1,9 @@
 use Rattle.std.proofs.Common.{◌≡◌, ◌∙◌, ◌++◌, ◌∷◌, [], true, false, map, refl}
 use Rattle.std.proofs.lemmas.Grind.{common_steps}
 use Rattle.std.proofs.lemmas.List.{map-append}
+use Rattle.std.proofs.lemmas.List.Elements.{All-push}
 use Rattle.tt_render.specs.declared.kept.Fitted.{Fitted}
-use Rattle.tt_render.specs.Outlines.{glyphs_kept, is_among}
+use Rattle.tt_render.specs.Outlines.{IsFitted, glyphs_kept, is_among}
 use Rattle.tt_render.proofs.Keeping.{is_kept, is_not_kept}
 use Rattle.tt_render.proofs.kept.keep.Goals as goal
 
@@ -19,3 +20,10 @@ returns-clause-glyphs c =
     let kept : Fitted = record { glyph = c.args.glyph; outline = c.in_ok-outline.outline } in
     let items : c.push.new.self.items ≡ c.args.kept.now.items ++ kept ∷ [] = c.in_ok-push.ensures.items in
     rw (items, missing) (map-append (λ (k : Fitted). k.glyph) c.args.kept.now.items (kept ∷ []))
+
+pub returns-clause-kept : goal.returns-clause-kept
+returns-clause-kept c =
+    let kept : Fitted = record { glyph = c.args.glyph; outline = c.in_ok-outline.outline } in
+    let items : c.push.new.self.items ≡ c.args.kept.now.items ++ kept ∷ [] = c.in_ok-push.ensures.items in
+    let fitted : IsFitted c.args.fitter.now kept = record { outline = c.in_ok-outline.ensures.exact; whole = c.in_ok-outline.ensures.outline } in
+    rw items (All-push (IsFitted c.args.fitter.now) c.args.kept.now.items kept c.requires.kept fitted)

@@ -1,6 +1,5 @@
 use Rattle.std.proofs.Common.{◌≤◌, ◌*ℤ◌, ◌-ℤ◌, pos, unsigned_abs, SFits, w32, w64, get_or, rules, arith}
 use Rattle.std.proofs.lemmas.Int.{ints, to_z-of_z}
-use Rattle.tt_render.proofs.Drawn.{origin_within}
 use Rattle.tt_render.proofs.tapes.tape_at.Goals as goal
 
 pub chords-requires-clause-near : goal.chords-requires-clause-near
@@ -10,7 +9,7 @@ chords-requires-clause-near c =
     let pen_is = c.from.ensures in
     let origin_is = c.from-2.ensures in
     let bits : SFits w32 (get_or c.args.outline.now.phantom 0 (pos 0, pos 0)).0 = search rules in
-    let within = origin_within c.args.outline.now.phantom c.requires.outline.phantom in
+    let within = c.requires.outline.phantom.left.0 in
     let small : unsigned_abs c.from-2.result ≤ 2097151 = rw (simp to_z-of_z at origin_is) within in
     let times : SFits w64 (pos 64 *ℤ c.from.result) = omega (arith, ints) in
     let moved : SFits w64 (pos 64 *ℤ c.from.result -ℤ c.from-2.result) = omega (arith, ints) in
