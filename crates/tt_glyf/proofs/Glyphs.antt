@@ -1,20 +1,23 @@
 -- What a glyph that was read is.
-use Rattle.std.proofs.Common.{◌≡◌, ℕ, ◌+◌, ◌-◌, ◌<◌, ◌≤◌, min, Bool, true, false, ◌==◌, if◌then◌else◌, List, [], length, Ok, Err, ℤ, pos, unsigned_abs, int_lt, refl, arith, sym, ◌∙◌}
+use Rattle.std.proofs.Common.{◌≡◌, ℕ, ◌+◌, ◌-◌, ◌<◌, ◌≤◌, min, Bool, true, false, ◌==◌, nat_lt, if◌then◌else◌, List, [], length, Ok, Err, ℤ, pos, unsigned_abs, int_lt, refl, arith, sym, ◌∙◌}
 use Rattle.std.proofs.lemmas.Bool.Decides.{nat_tests}
 use Rattle.tt_core.specs.Faults.{Fault}
 use Rattle.tt_core.specs.Limits.{component_limit, point_limit}
+use Rattle.tt_core.specs.Numbers.{unsigned_at}
 use Rattle.tt_core.specs.Outcomes.{◌>>=◌}
 use Rattle.tt_glyf.specs.declared.raw.RawPoint.{RawPoint}
-use Rattle.tt_glyf.specs.Bytes.{Stretch, stretch_at, Listing, word_in, slice_in}
-use Rattle.tt_glyf.specs.Composite.{Program, records_of, program_of, composite_of}
+use Rattle.tt_glyf.specs.declared.raw.Record.{Record}
+use Rattle.tt_glyf.specs.Bytes.{Stretch, stretch_at, Listing, word_in, signed_in, slice_in, short}
+use Rattle.tt_glyf.specs.Composite.{Program, records_of, has_program, program_of, composite_of}
 use Rattle.tt_glyf.specs.GlyphData.{Header, header_of, described, glyph_in, glyph_data_of}
 use Rattle.tt_glyf.specs.Loca.{GlyphTables, glyph_offset, has_no_bytes, is_out_of_range, bytes_between, glyph_bytes_of}
-use Rattle.tt_glyf.specs.Meaning.{IfSimple, IfComposite, stretch_of, IsProgram, HasProgram, AreEnds, ArePoints, AreComponents, AreRecords}
-use Rattle.tt_glyf.specs.Raw.{GlyphData, empty, simple, composite}
+use Rattle.tt_glyf.specs.Meaning.{IfSimple, IfComposite, stretch_of, IsProgram, HasProgram, contour_count, written_x_min, size_place, written_size, flags_place, records_end, AreEnds, AreWords, ArePoints, AreComponents, AreRecords, AreCompositeWords}
+use Rattle.tt_glyf.specs.Raw.{SimpleGlyph, CompositeGlyph, GlyphData, empty, simple, composite}
 use Rattle.tt_glyf.specs.Simple.{ends_of, point_count, points_within, points_of, simple_of}
 use Rattle.tt_glyf.proofs.Chains.{came-through}
-use Rattle.tt_glyf.proofs.Outlines.{EndsRead, ends-were, never-falls, CountRead, count-was, PointsRead, points-were}
-use Rattle.tt_glyf.proofs.Parts.{ArePartsRead, records-were, IsProgramRead, program-was}
+use Rattle.tt_glyf.proofs.Fields.{IsField, word-was, signed-was}
+use Rattle.tt_glyf.proofs.Outlines.{EndsRead, ends-were, never-falls, CountRead, count-was, PointsRead, points-were, points-are}
+use Rattle.tt_glyf.proofs.Parts.{ArePartsRead, records-were, IsProgramRead, IsProgramBehind, program-was}
 use Rattle.tt_glyf.proofs.Places.{IsWithin, slice-was, program-is}
 
 -- the program is somewhere in the glyph's bytes
@@ -27,38 +30,44 @@ IsProgramOf g (composite c) = IsProgramRead g (record { code = c.code; code_at =
 pub record IsRead (glyphs : ℕ) (g : Stretch) (d : GlyphData) : Type 0 where
   pub few : IfSimple d (λ s. length s.points ≤ point_limit)
   pub ends : IfSimple d (λ s. AreEnds (length s.points) s.ends)
-  pub points : IfSimple d (λ s. ArePoints g.bytes (s.code_at + length s.code - g.start) s.points)
-  pub components : IfComposite d (λ c. AreComponents glyphs g 10 c.records)
+  pub words : IfSimple d (AreWords g)
+  pub points : IfSimple d (λ s. ArePoints g.bytes (flags_place g.bytes (length s.ends)) s.points)
+  pub components : IfComposite d (λ c. AreComponents g 10 c.records)
   pub records : IfComposite d (λ c. AreRecords glyphs c.records)
+  pub composite_words : IfComposite d (AreCompositeWords g)
   pub program : IsProgramOf g d
 
 nothing-read : (glyphs : ℕ) (g : Stretch) → IsRead glyphs g empty
-nothing-read glyphs g = record { few = tt; ends = tt; points = tt; components = tt; records = tt; program = tt }
+nothing-read glyphs g = record { few = tt; ends = tt; words = tt; points = tt; components = tt; records = tt; composite_words = tt; program = tt }
 
-ends-are : (ends : List ℕ) (n points contours : ℕ) → 0 < contours → EndsRead 10 contours 0 (record { items = ends; next = n }) → point_count ends ≡ points → AreEnds points ends
-ends-are ends n points contours some read last =
-    let many = read.many in
-    record { some = omega arith; rising = λ i j le below. never-falls 0 ends i j read.rise le below; last = last }
+-- what was read of a simple glyph of so many contours
+pub record SimpleRead (g : Stretch) (x_min : ℤ) (contours : ℕ) (s : SimpleGlyph) : Type 0 where
+  pub x_min_is : s.x_min ≡ x_min
+  pub ends : EndsRead g.bytes 10 contours 0 (record { items = s.ends; next = size_place contours })
+  pub code_at : s.code_at ≡ g.start + (size_place contours + 2)
+  pub code_size : length s.code ≡ written_size g.bytes contours
+  pub code : IsWithin g.bytes s.code (size_place contours + 2)
+  pub count : CountRead s.ends (length s.points)
+  pub points : PointsRead g.bytes (flags_place g.bytes contours) (length s.points) s.points
 
-simple-make : (glyphs : ℕ) (g : Stretch) (x_min : ℤ) (contours n size : ℕ) (ends : Listing ℕ) (code : List ℕ) (points : List RawPoint) → 0 < contours → EndsRead 10 contours 0 ends → CountRead ends.items n → (length code ≡ size) × IsWithin g.bytes code (ends.next + 2) → PointsRead g.bytes (ends.next + 2 + size) n points → IsRead glyphs g (simple (record { x_min = x_min; points = points; ends = ends.items; code = code; code_at = g.start + (ends.next + 2) }))
-simple-make glyphs g x_min contours n size ends code points some e c k p =
+simple-make : (g : Stretch) (x_min : ℤ) (contours n size : ℕ) (ends : Listing ℕ) (code : List ℕ) (points : List RawPoint) → EndsRead g.bytes 10 contours 0 ends → CountRead ends.items n → size ≡ unsigned_at g.bytes ends.next 2 → (length code ≡ size) × IsWithin g.bytes code (ends.next + 2) → PointsRead g.bytes (ends.next + 2 + size) n points → SimpleRead g x_min contours (record { x_min = x_min; points = points; ends = ends.items; code = code; code_at = g.start + (ends.next + 2) })
+simple-make g x_min contours n size ends code points e c s k p =
     let many = p.many in
-    let few = c.few in
-    let count : point_count ends.items ≡ length points = sym c.is ∙ sym many in
-    let length_is = k.0 in
-    let place : g.start + (ends.next + 2) + length code - g.start ≡ ends.next + 2 + size = omega arith in
+    let next = e.next in
+    let place : size_place contours + 2 + written_size g.bytes contours ≡ ends.next + 2 + size = rw (s, next) refl in
     record {
-      few = omega arith;
-      ends = ends-are ends.items ends.next (length points) contours some e count;
-      points = rw place p.are;
-      components = tt;
-      records = tt;
-      program = record { place = ends.next + 2; at = refl; within = k.1 };
+      x_min_is = refl;
+      ends = rw next at e;
+      code_at = rw next refl;
+      code_size = rw next at (k.0 ∙ s);
+      code = rw next at k.1;
+      count = rw (← many) at c;
+      points = rw place (rw (← many) at p);
     }
 
-simple-was : (glyphs : ℕ) (g : Stretch) (x_min : ℤ) (contours : ℕ) (d : GlyphData) → 0 < contours → simple_of g x_min contours ≡ Ok d → IsRead glyphs g d
+pub simple-was : (g : Stretch) (x_min : ℤ) (contours : ℕ) (d : GlyphData) → 10 ≤ length g.bytes → simple_of g x_min contours ≡ Ok d → (s : SimpleGlyph) × SimpleRead g x_min contours s × (d ≡ simple s)
 unfolding simple_of
-simple-was glyphs g x_min contours d some was =
+simple-was g x_min contours d header was =
     let by_ends = came-through (ends_of g contours) _ d was in
     let ends = by_ends.value in
     let by_count = came-through (points_within g ends) _ d by_ends.rest in
@@ -70,21 +79,42 @@ simple-was glyphs g x_min contours d some was =
     let by_points = came-through (points_of g (ends.next + 2 + size) n) _ d by_code.rest in
     let points = by_points.value in
     let is : simple (record { x_min = x_min; points = points; ends = ends.items; code = code; code_at = g.start + (ends.next + 2) }) ≡ d = cc by_points.rest in
-    rw (← is) (simple-make glyphs g x_min contours n size ends code points some (ends-were g 10 contours 0 ends by_ends.first) (count-was g ends n by_count.first) (slice-was g (ends.next + 2) size code by_code.first) (points-were g (ends.next + 2 + size) n points by_points.first))
+    let k = slice-was g (ends.next + 2) size code by_code.first in
+    let room = k.1.room in
+    let many = k.0 in
+    (record { x_min = x_min; points = points; ends = ends.items; code = code; code_at = g.start + (ends.next + 2) }, simple-make g x_min contours n size ends code points (ends-were g 10 contours 0 ends header by_ends.first) (count-was g ends n by_count.first) (word-was g ends.next size by_size.first).is k (points-were g (ends.next + 2 + size) n points (omega arith) by_points.first), sym is)
 
-composite-make : (glyphs : ℕ) (g : Stretch) (x_min : ℤ) (records : Listing _) (p : Program) → ArePartsRead glyphs g 10 component_limit records → IsProgramRead g p → IsRead glyphs g (composite (record { x_min = x_min; records = records.items; code = p.code; code_at = p.code_at }))
-composite-make glyphs g x_min records p r is =
-    let few = r.few in
+ends-are : (bytes ends : List ℕ) (points n contours : ℕ) → 0 < contours → EndsRead bytes 10 contours 0 (record { items = ends; next = n }) → CountRead ends points → AreEnds points ends
+ends-are bytes ends points n contours some read count =
+    let many = read.many in
+    record { some = omega arith; rising = λ i j le below. never-falls 0 ends i j read.rise le below; last = sym count.is }
+
+simple-is : (glyphs : ℕ) (g : Stretch) (contours : ℕ) (s : SimpleGlyph) → 0 < contours → contours ≡ unsigned_abs (contour_count g.bytes) → SimpleRead g (written_x_min g.bytes) contours s → IsRead glyphs g (simple s)
+simple-is glyphs g contours s some is read =
+    let many = read.ends.many in
     record {
-      few = tt;
-      ends = tt;
-      points = tt;
-      components = r.are;
-      records = record { some = r.some; few = r.few; known = r.known; numbers = r.numbers };
-      program = is;
+      few = read.count.few;
+      ends = ends-are g.bytes s.ends (length s.points) (size_place contours) contours some read.ends read.count;
+      words = record { x_min = read.x_min_is; contours = many ∙ is; ends = λ i below. read.ends.words i (omega arith); code_at = rw many read.code_at; code_size = rw many read.code_size };
+      points = rw many (points-are g.bytes (flags_place g.bytes contours) (length s.points) s.points read.points);
+      components = tt;
+      records = tt;
+      composite_words = tt;
+      program = record { place = size_place contours + 2; at = read.code_at; within = read.code };
     }
 
-composite-was : (glyphs : ℕ) (g : Stretch) (x_min : ℤ) (d : GlyphData) → composite_of glyphs g x_min ≡ Ok d → IsRead glyphs g d
+-- what was read of a composite glyph
+pub record CompositeRead (glyphs : ℕ) (g : Stretch) (x_min : ℤ) (c : CompositeGlyph) : Type 0 where
+  pub x_min_is : c.x_min ≡ x_min
+  pub parts : ArePartsRead glyphs g 10 component_limit (record { items = c.records; next = records_end g.bytes 10 c.records })
+  pub program : IsProgramBehind g (records_end g.bytes 10 c.records) (has_program c.records) (record { code = c.code; code_at = c.code_at })
+
+composite-make : (glyphs : ℕ) (g : Stretch) (x_min : ℤ) (records : Listing Record) (p : Program) → ArePartsRead glyphs g 10 component_limit records → IsProgramBehind g records.next (has_program records.items) p → CompositeRead glyphs g x_min (record { x_min = x_min; records = records.items; code = p.code; code_at = p.code_at })
+composite-make glyphs g x_min records p parts program =
+    let end = parts.end in
+    record { x_min_is = refl; parts = rw end at parts; program = rw end at program }
+
+pub composite-was : (glyphs : ℕ) (g : Stretch) (x_min : ℤ) (d : GlyphData) → composite_of glyphs g x_min ≡ Ok d → (c : CompositeGlyph) × CompositeRead glyphs g x_min c × (d ≡ composite c)
 unfolding composite_of
 composite-was glyphs g x_min d was =
     let by_records = came-through (records_of glyphs g) _ d was in
@@ -93,23 +123,60 @@ composite-was glyphs g x_min d was =
     let by_program = came-through (program_of g records) _ d by_records.rest in
     let p = by_program.value in
     let is : composite (record { x_min = x_min; records = records.items; code = p.code; code_at = p.code_at }) ≡ d = cc by_program.rest in
-    rw (← is) (composite-make glyphs g x_min records p read (program-was g records p read.room by_program.first))
+    (record { x_min = x_min; records = records.items; code = p.code; code_at = p.code_at }, composite-make glyphs g x_min records p read (program-was g records p read.room by_program.first), sym is)
 
-described-cases : (glyphs : ℕ) (g : Stretch) (x_min : ℤ) (contours : ℕ) (negative none : Bool) (d : GlyphData) → (contours == 0) ≡ none → (if negative then composite_of glyphs g x_min else (if none then Ok empty else simple_of g x_min contours)) ≡ Ok d → IsRead glyphs g d
-described-cases glyphs g x_min contours true none d is was = composite-was glyphs g x_min d was
-described-cases glyphs g x_min contours false true d is was =
+composite-is : (glyphs : ℕ) (g : Stretch) (c : CompositeGlyph) → CompositeRead glyphs g (written_x_min g.bytes) c → IsRead glyphs g (composite c)
+composite-is glyphs g c read = record {
+      few = tt;
+      ends = tt;
+      words = tt;
+      points = tt;
+      components = read.parts.are;
+      records = record { some = read.parts.some; few = read.parts.few; known = read.parts.known };
+      composite_words = record { x_min = read.x_min_is; follows = read.program.size; none = read.program.none };
+      program = read.program.read;
+    }
+
+described-cases : (glyphs : ℕ) (g : Stretch) (contours : ℕ) (negative none : Bool) (d : GlyphData) → 10 ≤ length g.bytes → contours ≡ unsigned_abs (contour_count g.bytes) → (contours == 0) ≡ none → (if negative then composite_of glyphs g (written_x_min g.bytes) else (if none then Ok empty else simple_of g (written_x_min g.bytes) contours)) ≡ Ok d → IsRead glyphs g d
+described-cases glyphs g contours true none d header count is was =
+    let read = composite-was glyphs g (written_x_min g.bytes) d was in
+    let whole = composite-is glyphs g read.0 read.1 in
+    rw read.2 whole
+described-cases glyphs g contours false true d header count is was =
     let e : d ≡ empty = cc in
     rw e (nothing-read glyphs g)
-described-cases glyphs g x_min contours false false d is was = simple-was glyphs g x_min contours d (grind (arith, nat_tests)) was
+described-cases glyphs g contours false false d header count is was =
+    let read = simple-was g (written_x_min g.bytes) contours d header was in
+    let whole = simple-is glyphs g contours read.0 (grind (arith, nat_tests)) count read.1 in
+    rw read.2 whole
 
-described-was : (glyphs : ℕ) (g : Stretch) (h : Header) (d : GlyphData) → described glyphs g h ≡ Ok d → IsRead glyphs g d
+-- the header that is written
+abbrev pub written_header : List ℕ → Header
+written_header bytes = record { contours = contour_count bytes; x_min = written_x_min bytes }
+
+header-cases : (g : Stretch) (h : Header) (cut : Bool) → nat_lt (length g.bytes) 10 ≡ cut → (if cut then Err (short g) else (signed_in g 0 >>= λ contours. signed_in g 2 >>= λ x_min. Ok (record { contours = contours; x_min = x_min }))) ≡ Ok h → IsField g 10 h (written_header g.bytes)
+header-cases g h true is was = absurd cc
+header-cases g h false is was =
+    let by_contours = came-through (signed_in g 0) _ h was in
+    let by_x_min = came-through (signed_in g 2) _ h by_contours.rest in
+    let contours = (signed-was g 0 by_contours.value by_contours.first).is in
+    let x_min = (signed-was g 2 by_x_min.value by_x_min.first).is in
+    let e : ◌≡◌ {A = Header} (record { contours = by_contours.value; x_min = by_x_min.value }) h = cc by_x_min.rest in
+    rw (← e) (record { is = rw (← contours, ← x_min) refl; room = grind (arith, nat_tests) })
+
+pub header-was : (g : Stretch) (h : Header) → header_of g ≡ Ok h → IsField g 10 h (written_header g.bytes)
+unfolding header_of
+header-was g h was = header-cases g h (nat_lt (length g.bytes) 10) refl was
+
+described-was : (glyphs : ℕ) (g : Stretch) (d : GlyphData) → 10 ≤ length g.bytes → described glyphs g (written_header g.bytes) ≡ Ok d → IsRead glyphs g d
 unfolding described
-described-was glyphs g h d was = described-cases glyphs g h.x_min (unsigned_abs h.contours) (int_lt h.contours (pos 0)) (unsigned_abs h.contours == 0) d refl was
+described-was glyphs g d header was = described-cases glyphs g (unsigned_abs (contour_count g.bytes)) (int_lt (contour_count g.bytes) (pos 0)) (unsigned_abs (contour_count g.bytes) == 0) d header refl refl was
 
 glyph-was : (glyphs : ℕ) (g : Stretch) (d : GlyphData) → glyph_in glyphs g ≡ Ok d → IsRead glyphs g d
 glyph-was glyphs g d was =
     let by_header = came-through (header_of g) (described glyphs g) d was in
-    described-was glyphs g by_header.value d by_header.rest
+    let header = header-was g by_header.value by_header.first in
+    described-was glyphs g d header.room (rw header.is at by_header.rest)
 
 -- the bytes of a glyph, where loca's entries differ
 record AreBytes (t : GlyphTables) (g : ℕ) (bytes : List ℕ) : Type 0 where
@@ -139,9 +206,11 @@ programs-in t g bytes (composite c) b p = program-in t g bytes c.code c.code_at 
 pub record IsGlyph (t : GlyphTables) (g : ℕ) (d : GlyphData) : Type 0 where
   pub few : IfSimple d (λ s. length s.points ≤ point_limit)
   pub ends : IfSimple d (λ s. AreEnds (length s.points) s.ends)
-  pub points : IfSimple d (λ s. ArePoints (bytes_between t g) (s.code_at + length s.code - glyph_offset t g) s.points)
-  pub components : IfComposite d (λ c. AreComponents t.glyphs (stretch_of t g) 10 c.records)
+  pub words : IfSimple d (AreWords (stretch_of t g))
+  pub points : IfSimple d (λ s. ArePoints (bytes_between t g) (flags_place (bytes_between t g) (length s.ends)) s.points)
+  pub components : IfComposite d (λ c. AreComponents (stretch_of t g) 10 c.records)
   pub records : IfComposite d (λ c. AreRecords t.glyphs c.records)
+  pub composite_words : IfComposite d (AreCompositeWords (stretch_of t g))
   pub program : HasProgram t.glyf d
 
 glyph-make : (t : GlyphTables) (g : ℕ) (bytes : List ℕ) (d : GlyphData) → AreBytes t g bytes → IsRead t.glyphs (stretch_at (glyph_offset t g) bytes) d → IsGlyph t g d
@@ -149,12 +218,12 @@ glyph-make t g bytes d b read =
     let program = programs-in t g bytes d b read.program in
     let is = b.is in
     let whole : IsRead t.glyphs (stretch_of t g) d = rw is at read in
-    record { few = whole.few; ends = whole.ends; points = whole.points; components = whole.components; records = whole.records; program = program }
+    record { few = whole.few; ends = whole.ends; words = whole.words; points = whole.points; components = whole.components; records = whole.records; composite_words = whole.composite_words; program = program }
 
 glyph-cases : (t : GlyphTables) (g : ℕ) (none : Bool) (d : GlyphData) → has_no_bytes t g ≡ none → (if none then Ok empty else (glyph_bytes_of t g >>= λ bytes. glyph_in t.glyphs (stretch_at (glyph_offset t g) bytes))) ≡ Ok d → IsGlyph t g d
 glyph-cases t g true d is was =
     let e : d ≡ empty = cc in
-    rw e (record { few = tt; ends = tt; points = tt; components = tt; records = tt; program = tt })
+    rw e (record { few = tt; ends = tt; words = tt; points = tt; components = tt; records = tt; composite_words = tt; program = tt })
 glyph-cases t g false d is was =
     let by_bytes = came-through (glyph_bytes_of t g) _ d was in
     let bytes = by_bytes.value in

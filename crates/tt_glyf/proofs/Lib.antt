@@ -2,6 +2,7 @@ pub mod Chains
 pub mod Components
 pub mod Contours
 pub mod Deltas
+pub mod Fields
 pub mod Runs
 pub mod Sums
 pub mod Covers

@@ -1,131 +1,133 @@
 -- What a composite glyph that was read is.
-use Rattle.std.proofs.Common.{◌≡◌, ℕ, zero, suc, ◌+◌, ◌-◌, ◌*◌, ◌<◌, ◌≤◌, Bool, true, false, nat_lt, nat_le, if◌then◌else◌, List, [], ◌∷◌, length, Ok, ℤ, pos, ◌≤ℤ◌, refl, arith, rules}
-use Rattle.std.specs.Prelude.{All, slice_range}
+use Rattle.std.proofs.Common.{◌≡◌, ℕ, zero, suc, ◌+◌, ◌-◌, ◌*◌, ◌<◌, ◌≤◌, Bool, true, false, nat_lt, if◌then◌else◌, List, [], ◌∷◌, length, Ok, ℤ, pos, refl, arith, ap, sym, ◌∙◌}
+use Rattle.std.specs.Prelude.{All, slice_index, slice_range}
 use Rattle.std.proofs.lemmas.List.Elements.{All-cons}
 use Rattle.std.proofs.lemmas.Bool.Decides.{nat_tests}
+use Rattle.tt_core.specs.Numbers.{unsigned_at, signed16}
 use Rattle.tt_core.specs.Outcomes.{◌>>=◌}
 use Rattle.tt_glyf.specs.declared.raw.Record.{Record}
 use Rattle.tt_glyf.specs.Bytes.{Stretch, Listing, byte_in, word_in, signed_in, slice_in}
 use Rattle.tt_glyf.specs.Composite.{Arguments, Transform, Program, signed8, argument_size, argument_at, arguments_at, transform_size, one_scale, identity, two_scales_at, two_by_two_at, transform_at, record_size, asks_scaled_offset, unscaled, known_glyph, record_at, records_from, more_components, arg_1_and_2_are_words, args_are_xy_values, we_have_a_scale, we_have_an_x_and_y_scale, we_have_a_two_by_two, has_program, program_of}
 use Rattle.tt_glyf.specs.Flags.{has}
-use Rattle.tt_glyf.specs.Meaning.{AreComponents, NumbersPoints}
+use Rattle.tt_glyf.specs.Meaning.{written_argument, written_transform, record_of, written_component_flags, written_component, written_record, record_end, records_end, AreComponents}
 use Rattle.tt_glyf.proofs.Chains.{came-through, came-after, passed, passed-else}
+use Rattle.tt_glyf.proofs.Fields.{IsField, byte-was, word-was, signed-was}
 use Rattle.tt_glyf.proofs.Places.{IsWithin, slice-was}
 
-byte-room : (g : Stretch) (at n : ℕ) → byte_in g at ≡ Ok n → at + 1 ≤ length g.bytes
-unfolding byte_in
-byte-room g at n was =
-    let test = (passed-else (nat_lt at (length g.bytes)) _ _ _ was).0 in
-    grind (arith, nat_tests)
-
-word-room : (g : Stretch) (at n : ℕ) → word_in g at ≡ Ok n → at + 2 ≤ length g.bytes
-unfolding word_in
-word-room g at n was =
-    let test = (passed-else (nat_le (at + 2) (length g.bytes)) _ _ _ was).0 in
-    grind (arith, nat_tests)
-
-signed-room : (g : Stretch) (at : ℕ) (n : ℤ) → signed_in g at ≡ Ok n → at + 2 ≤ length g.bytes
-unfolding signed_in
-signed-room g at n was =
-    let test = (passed-else (nat_le (at + 2) (length g.bytes)) _ _ _ was).0 in
-    grind (arith, nat_tests)
-
-argument-cases : (g : Stretch) (at : ℕ) (words offsets : Bool) (a : ℤ) → (if words then (if offsets then signed_in g at else (word_in g at >>= λ n. Ok (pos n))) else (byte_in g at >>= λ n. Ok (if offsets then signed8 n else pos n))) ≡ Ok a → at + (if words then 2 else 1) ≤ length g.bytes
-argument-cases g at true true a was = signed-room g at a was
+argument-cases : (g : Stretch) (at : ℕ) (words offsets : Bool) (a : ℤ) → (if words then (if offsets then signed_in g at else (word_in g at >>= λ n. Ok (pos n))) else (byte_in g at >>= λ n. Ok (if offsets then signed8 n else pos n))) ≡ Ok a → IsField g (at + (if words then 2 else 1)) a (if words then (if offsets then signed16 (unsigned_at g.bytes at 2) else pos (unsigned_at g.bytes at 2)) else (if offsets then signed8 (slice_index g.bytes at) else pos (slice_index g.bytes at)))
+argument-cases g at true true a was = signed-was g at a was
 argument-cases g at true false a was =
     let through = came-through (word_in g at) _ a was in
-    word-room g at through.value through.first
+    let word = word-was g at through.value through.first in
+    let is : pos through.value ≡ a = cc through.rest in
+    rw (← is) (record { is = ap pos word.is; room = word.room })
 argument-cases g at false offsets a was =
     let through = came-through (byte_in g at) _ a was in
-    byte-room g at through.value through.first
+    let byte = byte-was g at through.value through.first in
+    let is : (if offsets then signed8 through.value else pos through.value) ≡ a = cc through.rest in
+    rw (← is) (record { is = ap (λ (n : ℕ). if offsets then signed8 n else pos n) byte.is; room = byte.room })
 
-argument-room : (g : Stretch) (flags at : ℕ) (a : ℤ) → argument_at g flags at ≡ Ok a → at + argument_size flags ≤ length g.bytes
+pub argument-was : (g : Stretch) (flags at : ℕ) (a : ℤ) → argument_at g flags at ≡ Ok a → IsField g (at + argument_size flags) a (written_argument g.bytes flags at)
 unfolding argument_at
-argument-room g flags at a was = argument-cases g at (has flags arg_1_and_2_are_words) (has flags args_are_xy_values) a was
+argument-was g flags at a was = argument-cases g at (has flags arg_1_and_2_are_words) (has flags args_are_xy_values) a was
 
-arguments-room : (g : Stretch) (flags at : ℕ) (a : Arguments) → arguments_at g flags at ≡ Ok a → at + 2 * argument_size flags ≤ length g.bytes
+abbrev pub written_arguments : List ℕ → ℕ → ℕ → Arguments
+written_arguments bytes flags at = record { arg1 = written_argument bytes flags at; arg2 = written_argument bytes flags (at + argument_size flags) }
+
+pub arguments-were : (g : Stretch) (flags at : ℕ) (a : Arguments) → arguments_at g flags at ≡ Ok a → IsField g (at + 2 * argument_size flags) a (written_arguments g.bytes flags at)
 unfolding arguments_at
-arguments-room g flags at a was =
+arguments-were g flags at a was =
     let first = came-through (argument_at g flags at) _ a was in
     let second = came-through (argument_at g flags (at + argument_size flags)) _ a first.rest in
-    let room = argument-room g flags (at + argument_size flags) second.value second.first in
-    omega arith
+    let arg1 = argument-was g flags at first.value first.first in
+    let arg2 = argument-was g flags (at + argument_size flags) second.value second.first in
+    let room = arg2.room in
+    let value1 = arg1.is in
+    let value2 = arg2.is in
+    let is : ◌≡◌ {A = Arguments} (record { arg1 = first.value; arg2 = second.value }) a = cc second.rest in
+    rw (← is) (record { is = rw (← value1, ← value2) refl; room = omega arith })
 
-two_scales-room : (g : Stretch) (at : ℕ) (t : Transform) → two_scales_at g at ≡ Ok t → at + 4 ≤ length g.bytes
+two_scales-were : (g : Stretch) (at : ℕ) (t : Transform) → two_scales_at g at ≡ Ok t → IsField g (at + 4) t (record { xx = signed16 (unsigned_at g.bytes at 2); yx = pos 0; xy = pos 0; yy = signed16 (unsigned_at g.bytes (at + 2) 2) })
 unfolding two_scales_at
-two_scales-room g at t was =
-    let xx = came-through (signed_in g at) _ t was in
-    let yy = came-through (signed_in g (at + 2)) _ t xx.rest in
-    let room = signed-room g (at + 2) yy.value yy.first in
-    omega arith
+two_scales-were g at t was =
+    let by_xx = came-through (signed_in g at) _ t was in
+    let by_yy = came-through (signed_in g (at + 2)) _ t by_xx.rest in
+    let xx = signed-was g at by_xx.value by_xx.first in
+    let yy = signed-was g (at + 2) by_yy.value by_yy.first in
+    let room = yy.room in
+    let value_xx = xx.is in
+    let value_yy = yy.is in
+    let is : ◌≡◌ {A = Transform} (record { xx = by_xx.value; yx = pos 0; xy = pos 0; yy = by_yy.value }) t = cc by_yy.rest in
+    rw (← is) (record { is = rw (← value_xx, ← value_yy) refl; room = omega arith })
 
-two_by_two-room : (g : Stretch) (at : ℕ) (t : Transform) → two_by_two_at g at ≡ Ok t → at + 8 ≤ length g.bytes
+two_by_two-was : (g : Stretch) (at : ℕ) (t : Transform) → two_by_two_at g at ≡ Ok t → IsField g (at + 8) t (record { xx = signed16 (unsigned_at g.bytes at 2); yx = signed16 (unsigned_at g.bytes (at + 2) 2); xy = signed16 (unsigned_at g.bytes (at + 4) 2); yy = signed16 (unsigned_at g.bytes (at + 6) 2) })
 unfolding two_by_two_at
-two_by_two-room g at t was =
-    let xx = came-through (signed_in g at) _ t was in
-    let yx = came-through (signed_in g (at + 2)) _ t xx.rest in
-    let xy = came-through (signed_in g (at + 4)) _ t yx.rest in
-    let yy = came-through (signed_in g (at + 6)) _ t xy.rest in
-    let room = signed-room g (at + 6) yy.value yy.first in
-    omega arith
+two_by_two-was g at t was =
+    let by_xx = came-through (signed_in g at) _ t was in
+    let by_yx = came-through (signed_in g (at + 2)) _ t by_xx.rest in
+    let by_xy = came-through (signed_in g (at + 4)) _ t by_yx.rest in
+    let by_yy = came-through (signed_in g (at + 6)) _ t by_xy.rest in
+    let xx = signed-was g at by_xx.value by_xx.first in
+    let yx = signed-was g (at + 2) by_yx.value by_yx.first in
+    let xy = signed-was g (at + 4) by_xy.value by_xy.first in
+    let yy = signed-was g (at + 6) by_yy.value by_yy.first in
+    let room = yy.room in
+    let value_xx = xx.is in
+    let value_yx = yx.is in
+    let value_xy = xy.is in
+    let value_yy = yy.is in
+    let is : ◌≡◌ {A = Transform} (record { xx = by_xx.value; yx = by_yx.value; xy = by_xy.value; yy = by_yy.value }) t = cc by_yy.rest in
+    rw (← is) (record { is = rw (← value_xx, ← value_yx, ← value_xy, ← value_yy) refl; room = omega arith })
 
-transform-cases : (g : Stretch) (at : ℕ) (a b c : Bool) (t : Transform) → at ≤ length g.bytes → (if a then (signed_in g at >>= λ s. Ok (one_scale s)) else (if b then two_scales_at g at else (if c then two_by_two_at g at else Ok identity))) ≡ Ok t → at + (if a then 2 else (if b then 4 else (if c then 8 else 0))) ≤ length g.bytes
+transform-cases : (g : Stretch) (at : ℕ) (a b c : Bool) (t : Transform) → at ≤ length g.bytes → (if a then (signed_in g at >>= λ s. Ok (one_scale s)) else (if b then two_scales_at g at else (if c then two_by_two_at g at else Ok identity))) ≡ Ok t → IsField g (at + (if a then 2 else (if b then 4 else (if c then 8 else 0)))) t (if a then one_scale (signed16 (unsigned_at g.bytes at 2)) else (if b then record { xx = signed16 (unsigned_at g.bytes at 2); yx = pos 0; xy = pos 0; yy = signed16 (unsigned_at g.bytes (at + 2) 2) } else (if c then record { xx = signed16 (unsigned_at g.bytes at 2); yx = signed16 (unsigned_at g.bytes (at + 2) 2); xy = signed16 (unsigned_at g.bytes (at + 4) 2); yy = signed16 (unsigned_at g.bytes (at + 6) 2) } else identity)))
 transform-cases g at true b c t le was =
     let through = came-through (signed_in g at) _ t was in
-    signed-room g at through.value through.first
-transform-cases g at false true c t le was = two_scales-room g at t was
-transform-cases g at false false true t le was = two_by_two-room g at t was
-transform-cases g at false false false t le was = omega arith
+    let scale = signed-was g at through.value through.first in
+    let is : one_scale through.value ≡ t = cc through.rest in
+    rw (← is) (record { is = ap one_scale scale.is; room = scale.room })
+transform-cases g at false true c t le was = two_scales-were g at t was
+transform-cases g at false false true t le was = two_by_two-was g at t was
+transform-cases g at false false false t le was = record { is = cc; room = omega arith }
 
-transform-room : (g : Stretch) (flags at : ℕ) (t : Transform) → at ≤ length g.bytes → transform_at g flags at ≡ Ok t → at + transform_size flags ≤ length g.bytes
+pub transform-was : (g : Stretch) (flags at : ℕ) (t : Transform) → at ≤ length g.bytes → transform_at g flags at ≡ Ok t → IsField g (at + transform_size flags) t (written_transform g.bytes flags at)
 unfolding transform_at
-transform-room g flags at t le was = transform-cases g at (has flags we_have_a_scale) (has flags we_have_an_x_and_y_scale) (has flags we_have_a_two_by_two) t le was
+transform-was g flags at t le was = transform-cases g at (has flags we_have_a_scale) (has flags we_have_an_x_and_y_scale) (has flags we_have_a_two_by_two) t le was
 
-argument-number-cases : (g : Stretch) (at : ℕ) (words offsets : Bool) (a : ℤ) → offsets ≡ false → (if words then (if offsets then signed_in g at else (word_in g at >>= λ n. Ok (pos n))) else (byte_in g at >>= λ n. Ok (if offsets then signed8 n else pos n))) ≡ Ok a → pos 0 ≤ℤ a
-argument-number-cases g at words true a is was = absurd cc
-argument-number-cases g at true false a is was =
-    let through = came-through (word_in g at) _ a was in
-    let e : pos through.value ≡ a = cc through.rest in
-    rw (← e) (search rules)
-argument-number-cases g at false false a is was =
-    let through = came-through (byte_in g at) _ a was in
-    let e : pos through.value ≡ a = cc through.rest in
-    rw (← e) (search rules)
+-- a glyph of the font
+pub record IsKnown (glyphs number glyph : ℕ) : Type 0 where
+  pub is : glyph ≡ number
+  pub known : number < glyphs
 
-argument-number : (g : Stretch) (flags at : ℕ) (a : ℤ) → has flags args_are_xy_values ≡ false → argument_at g flags at ≡ Ok a → pos 0 ≤ℤ a
-unfolding argument_at
-argument-number g flags at a is was = argument-number-cases g at (has flags arg_1_and_2_are_words) (has flags args_are_xy_values) a is was
-
-arguments-number : (g : Stretch) (flags at : ℕ) (a : Arguments) → arguments_at g flags at ≡ Ok a → has flags args_are_xy_values ≡ false → (pos 0 ≤ℤ a.arg1) × (pos 0 ≤ℤ a.arg2)
-unfolding arguments_at
-arguments-number g flags at a was is =
-    let first = came-through (argument_at g flags at) _ a was in
-    let second = came-through (argument_at g flags (at + argument_size flags)) _ a first.rest in
-    let e : ◌≡◌ {A = Arguments} (record { arg1 = first.value; arg2 = second.value }) a = cc second.rest in
-    rw (← e) (argument-number g flags at first.value is first.first, argument-number g flags (at + argument_size flags) second.value is second.first)
-
-glyph-known : (glyphs : ℕ) (g : Stretch) (at number glyph : ℕ) → known_glyph glyphs g at number ≡ Ok glyph → glyph < glyphs
+pub glyph-known : (glyphs : ℕ) (g : Stretch) (at number glyph : ℕ) → known_glyph glyphs g at number ≡ Ok glyph → IsKnown glyphs number glyph
 unfolding known_glyph
 glyph-known glyphs g at number glyph was =
     let p = passed-else (nat_lt number glyphs) _ number glyph was in
-    let test : nat_lt glyph glyphs ≡ true = rw (← p.1) p.0 in
-    grind (arith, nat_tests)
+    let test = p.0 in
+    record { is = sym p.1; known = grind (arith, nat_tests) }
 
-part-was : (g : Stretch) (at : ℕ) (part r : Record) → unscaled g at part ≡ Ok r → part ≡ r
+-- what is known of a record that was read, with these flags
+pub record IsPartBy (glyphs : ℕ) (g : Stretch) (at flags : ℕ) (r : Record) : Type 0 where
+  pub is : r ≡ record_of (g.start + at) flags (written_component g.bytes at) (written_argument g.bytes flags (at + 4)) (written_argument g.bytes flags (at + 4 + argument_size flags)) (written_transform g.bytes flags (at + 4 + 2 * argument_size flags))
+  pub known : written_component g.bytes at < glyphs
+  pub room : at + record_size flags ≤ length g.bytes
+  pub unscaled : asks_scaled_offset r ≡ false
+
+abbrev pub IsPart : ℕ → Stretch → ℕ → Record → Type 0
+IsPart glyphs g at r = IsPartBy glyphs g at (written_component_flags g.bytes at) r
+
+part-was : (g : Stretch) (at : ℕ) (part r : Record) → unscaled g at part ≡ Ok r → (asks_scaled_offset part ≡ false) × (part ≡ r)
 unfolding unscaled
-part-was g at part r was = (passed (asks_scaled_offset part) _ part r was).1
+part-was g at part r was = passed (asks_scaled_offset part) _ part r was
 
--- what is known of a record that was read
-pub record IsPart (glyphs : ℕ) (g : Stretch) (at : ℕ) (r : Record) : Type 0 where
-  pub known : r.glyph < glyphs
-  pub room : at + record_size r.flags ≤ length g.bytes
-  pub numbers : NumbersPoints r
-
-part-make : (glyphs : ℕ) (g : Stretch) (at flags glyph : ℕ) (args : Arguments) (t : Transform) (r : Record) → unscaled g at (record { at = g.start + at; flags = flags; glyph = glyph; arg1 = args.arg1; arg2 = args.arg2; xx = t.xx; yx = t.yx; xy = t.xy; yy = t.yy }) ≡ Ok r → glyph < glyphs → (has flags args_are_xy_values ≡ false → (pos 0 ≤ℤ args.arg1) × (pos 0 ≤ℤ args.arg2)) → at + 4 + 2 * argument_size flags + transform_size flags ≤ length g.bytes → IsPart glyphs g at r
-part-make glyphs g at flags glyph args t r was known numbers room =
-    let whole : at + record_size flags ≤ length g.bytes = omega arith in
-    let is = part-was g at (record { at = g.start + at; flags = flags; glyph = glyph; arg1 = args.arg1; arg2 = args.arg2; xx = t.xx; yx = t.yx; xy = t.xy; yy = t.yy }) r was in
-    rw (← is) (record { known = known; room = whole; numbers = numbers })
+part-make : (glyphs : ℕ) (g : Stretch) (at flags number glyph : ℕ) (args : Arguments) (t : Transform) (r : Record) → unscaled g at (record_of (g.start + at) flags glyph args.arg1 args.arg2 t) ≡ Ok r → number ≡ written_component g.bytes at → IsKnown glyphs number glyph → args ≡ written_arguments g.bytes flags (at + 4) → IsField g (at + 4 + 2 * argument_size flags + transform_size flags) t (written_transform g.bytes flags (at + 4 + 2 * argument_size flags)) → IsPartBy glyphs g at flags r
+part-make glyphs g at flags number glyph args t r was component known arguments transform =
+    let p = part-was g at (record_of (g.start + at) flags glyph args.arg1 args.arg2 t) r was in
+    let e1 = known.is in
+    let e2 = transform.is in
+    let room = transform.room in
+    let there = known.known in
+    let is : record_of (g.start + at) flags glyph args.arg1 args.arg2 t ≡ record_of (g.start + at) flags (written_component g.bytes at) (written_argument g.bytes flags (at + 4)) (written_argument g.bytes flags (at + 4 + argument_size flags)) (written_transform g.bytes flags (at + 4 + 2 * argument_size flags)) = rw (e1, component, arguments, e2) refl in
+    record { is = sym p.1 ∙ is; known = rw (← component) there; room = omega arith; unscaled = rw (← p.1) p.0 }
 
 pub record-was : (glyphs : ℕ) (g : Stretch) (at : ℕ) (r : Record) → record_at glyphs g at ≡ Ok r → IsPart glyphs g at r
 unfolding record_at
@@ -136,56 +138,66 @@ record-was glyphs g at r was =
     let by_glyph = came-through (known_glyph glyphs g at by_number.value) _ r by_number.rest in
     let by_args = came-through (arguments_at g flags (at + 4)) _ r by_glyph.rest in
     let by_t = came-through (transform_at g flags (at + 4 + 2 * argument_size flags)) _ r by_args.rest in
-    let args = arguments-room g flags (at + 4) by_args.value by_args.first in
-    part-make glyphs g at flags by_glyph.value by_args.value by_t.value r
-    by_t.rest
-    (glyph-known glyphs g at by_number.value by_glyph.value by_glyph.first)
-    (arguments-number g flags (at + 4) by_args.value by_args.first)
-    (transform-room g flags (at + 4 + 2 * argument_size flags) by_t.value args by_t.first)
+    let args = arguments-were g flags (at + 4) by_args.value by_args.first in
+    let number = word-was g (at + 2) by_number.value by_number.first in
+    let known = glyph-known glyphs g at by_number.value by_glyph.value by_glyph.first in
+    let t = transform-was g flags (at + 4 + 2 * argument_size flags) by_t.value args.room by_t.first in
+    rw (word-was g at flags by_flags.first).is at (part-make glyphs g at flags by_number.value by_glyph.value by_args.value by_t.value r by_t.rest number.is known args.is t)
 
 -- the records that were read
 pub record ArePartsRead (glyphs : ℕ) (g : Stretch) (at allowed : ℕ) (read : Listing Record) : Type 0 where
-  pub are : AreComponents glyphs g at read.items
+  pub are : AreComponents g at read.items
   pub some : 0 < length read.items
   pub few : length read.items ≤ allowed
   pub known : All (λ r. r.glyph < glyphs) read.items
-  pub numbers : All NumbersPoints read.items
+  pub end : read.next ≡ records_end g.bytes at read.items
   pub room : read.next ≤ length g.bytes
 
-components-more : (glyphs : ℕ) (g : Stretch) (at : ℕ) (r : Record) (rs : List Record) → record_at glyphs g at ≡ Ok r → has r.flags more_components ≡ true → AreComponents glyphs g (at + record_size r.flags) rs → AreComponents glyphs g at (r ∷ rs)
-components-more glyphs g at r [] was goes_on are = absurd are
-components-more glyphs g at r (s ∷ rs) was goes_on are = (was, goes_on, are)
+flags-are : (glyphs : ℕ) (g : Stretch) (at : ℕ) (r : Record) → IsPart glyphs g at r → r.flags ≡ written_component_flags g.bytes at
+flags-are glyphs g at r part = ap (λ (x : Record). x.flags) part.is
 
-parts-last : (glyphs : ℕ) (g : Stretch) (at allowed : ℕ) (r : Record) → record_at glyphs g at ≡ Ok r → has r.flags more_components ≡ false → ArePartsRead glyphs g at (suc allowed) (record { items = r ∷ []; next = at + record_size r.flags })
-parts-last glyphs g at allowed r was stops =
-    let part = record-was glyphs g at r was in
+glyph-is : (glyphs : ℕ) (g : Stretch) (at : ℕ) (r : Record) → IsPart glyphs g at r → r.glyph < glyphs
+glyph-is glyphs g at r part =
+    let is : r.glyph ≡ written_component g.bytes at = ap (λ (x : Record). x.glyph) part.is in
+    let known = part.known in
+    rw is known
+
+components-more : (glyphs : ℕ) (g : Stretch) (at : ℕ) (r : Record) (rs : List Record) → IsPart glyphs g at r → has r.flags more_components ≡ true → AreComponents g (record_end g.bytes at) rs → AreComponents g at (r ∷ rs)
+components-more glyphs g at r [] part goes_on are = absurd are
+components-more glyphs g at r (s ∷ rs) part goes_on are = (part.is, part.room, goes_on, are)
+
+parts-last : (glyphs : ℕ) (g : Stretch) (at allowed : ℕ) (r : Record) → IsPart glyphs g at r → has r.flags more_components ≡ false → ArePartsRead glyphs g at (suc allowed) (record { items = r ∷ []; next = record_end g.bytes at })
+parts-last glyphs g at allowed r part stops =
     record {
-      are = (was, stops);
+      are = (part.is, part.room, stops);
       some = omega arith;
       few = omega arith;
-      known = All-cons (λ r. r.glyph < glyphs) r [] part.known (λ k d below. absurd (omega arith));
-      numbers = All-cons NumbersPoints r [] part.numbers (λ k d below. absurd (omega arith));
+      known = All-cons (λ r. r.glyph < glyphs) r [] (glyph-is glyphs g at r part) (λ k d below. absurd (omega arith));
+      end = refl;
       room = part.room;
     }
 
-parts-more : (glyphs : ℕ) (g : Stretch) (at allowed : ℕ) (r : Record) (rest : Listing Record) → record_at glyphs g at ≡ Ok r → has r.flags more_components ≡ true → ArePartsRead glyphs g (at + record_size r.flags) allowed rest → ArePartsRead glyphs g at (suc allowed) (record { items = r ∷ rest.items; next = rest.next })
-parts-more glyphs g at allowed r rest was goes_on read =
-    let part = record-was glyphs g at r was in
+parts-more : (glyphs : ℕ) (g : Stretch) (at allowed : ℕ) (r : Record) (rest : Listing Record) → IsPart glyphs g at r → has r.flags more_components ≡ true → ArePartsRead glyphs g (record_end g.bytes at) allowed rest → ArePartsRead glyphs g at (suc allowed) (record { items = r ∷ rest.items; next = rest.next })
+parts-more glyphs g at allowed r rest part goes_on read =
     let few = read.few in
     record {
-      are = components-more glyphs g at r rest.items was goes_on read.are;
+      are = components-more glyphs g at r rest.items part goes_on read.are;
       some = omega arith;
       few = omega arith;
-      known = All-cons (λ r. r.glyph < glyphs) r rest.items part.known read.known;
-      numbers = All-cons NumbersPoints r rest.items part.numbers read.numbers;
+      known = All-cons (λ r. r.glyph < glyphs) r rest.items (glyph-is glyphs g at r part) read.known;
+      end = read.end;
       room = read.room;
     }
 
-parts-cases : (glyphs : ℕ) (g : Stretch) (at allowed : ℕ) (r : Record) (rest : Listing Record) (m : Bool) → record_at glyphs g at ≡ Ok r → has r.flags more_components ≡ m → (if m then records_from glyphs g (at + record_size r.flags) allowed else Ok (record { items = []; next = at + record_size r.flags })) ≡ Ok rest → (records_from glyphs g (at + record_size r.flags) allowed ≡ Ok rest → ArePartsRead glyphs g (at + record_size r.flags) allowed rest) → ArePartsRead glyphs g at (suc allowed) (record { items = r ∷ rest.items; next = rest.next })
-parts-cases glyphs g at allowed r rest true was is came further = parts-more glyphs g at allowed r rest was is (further came)
-parts-cases glyphs g at allowed r rest false was is came further =
-    let e : rest ≡ record { items = []; next = at + record_size r.flags } = cc in
-    rw e (parts-last glyphs g at allowed r was is)
+parts-cases : (glyphs : ℕ) (g : Stretch) (at allowed : ℕ) (r : Record) (rest : Listing Record) (m : Bool) → IsPart glyphs g at r → has r.flags more_components ≡ m → (if m then records_from glyphs g (at + record_size r.flags) allowed else Ok (record { items = []; next = at + record_size r.flags })) ≡ Ok rest → (records_from glyphs g (record_end g.bytes at) allowed ≡ Ok rest → ArePartsRead glyphs g (record_end g.bytes at) allowed rest) → ArePartsRead glyphs g at (suc allowed) (record { items = r ∷ rest.items; next = rest.next })
+parts-cases glyphs g at allowed r rest true part is came further =
+    let flags = flags-are glyphs g at r part in
+    parts-more glyphs g at allowed r rest part is (further (rw flags at came))
+parts-cases glyphs g at allowed r rest false part is came further =
+    let flags = flags-are glyphs g at r part in
+    let e : ◌≡◌ {A = Listing Record} (record { items = []; next = at + record_size r.flags }) rest = cc in
+    let place : ◌≡◌ {A = Listing Record} (record { items = []; next = record_end g.bytes at }) rest = rw (← flags) e in
+    rw (← place) (parts-last glyphs g at allowed r part is)
 
 pub records-were : (glyphs : ℕ) (g : Stretch) (at allowed : ℕ) (read : Listing Record) → records_from glyphs g at allowed ≡ Ok read → ArePartsRead glyphs g at allowed read
 unfolding records_from
@@ -194,7 +206,7 @@ records-were glyphs g at (suc allowed) read was =
     let through = came-through (record_at glyphs g at) _ read was in
     let r = through.value in
     let behind = came-after (r ∷ []) (if has r.flags more_components then records_from glyphs g (at + record_size r.flags) allowed else Ok (record { items = []; next = at + record_size r.flags })) read through.rest in
-    let whole = parts-cases glyphs g at allowed r behind.read (has r.flags more_components) through.first refl behind.was (λ came. records-were glyphs g (at + record_size r.flags) allowed behind.read came) in
+    let whole = parts-cases glyphs g at allowed r behind.read (has r.flags more_components) (record-was glyphs g at r through.first) refl behind.was (λ came. records-were glyphs g (record_end g.bytes at) allowed behind.read came) in
     rw behind.is whole
 
 nothing-there : (bytes : List ℕ) (at : ℕ) → ◌≡◌ {A = List ℕ} [] (slice_range bytes at (at + 0))
@@ -208,19 +220,39 @@ pub record IsProgramRead (g : Stretch) (p : Program) : Type 0 where
   pub at : p.code_at ≡ g.start + place
   pub within : IsWithin g.bytes p.code place
 
-program-make : (g : Stretch) (place : ℕ) (code : List ℕ) (p : Program) → IsWithin g.bytes code place → ◌≡◌ {A = Program} (record { code = code; code_at = g.start + place }) p → IsProgramRead g p
-program-make g place code p within is = rw (← is) (record { place = place; at = refl; within = within })
+-- the program that was read behind the records, where one of them says so
+pub record IsProgramBehind (g : Stretch) (next : ℕ) (follows : Bool) (p : Program) : Type 0 where
+  pub read : IsProgramRead g p
+  pub size : follows ≡ true → (p.code_at ≡ g.start + (next + 2)) × (length p.code ≡ unsigned_at g.bytes next 2)
+  pub none : follows ≡ false → p.code ≡ []
+  pub room : follows ≡ true → next + 2 + unsigned_at g.bytes next 2 ≤ length g.bytes
 
-program-cases : (g : Stretch) (next : ℕ) (follows : Bool) (p : Program) → next ≤ length g.bytes → (if follows then (word_in g next >>= λ size. slice_in g (next + 2) size >>= λ code. Ok (record { code = code; code_at = g.start + (next + 2) })) else Ok (record { code = []; code_at = g.start + next })) ≡ Ok p → IsProgramRead g p
+program-there : (g : Stretch) (next size : ℕ) (code : List ℕ) → size ≡ unsigned_at g.bytes next 2 → length code ≡ size → IsWithin g.bytes code (next + 2) → IsProgramBehind g next true (record { code = code; code_at = g.start + (next + 2) })
+program-there g next size code is many within =
+    let room = within.room in
+    record {
+      read = record { place = next + 2; at = refl; within = within };
+      size = λ t. (refl, many ∙ is);
+      none = λ f. absurd cc;
+      room = λ t. rw (← is) (omega arith);
+    }
+
+program-cases : (g : Stretch) (next : ℕ) (follows : Bool) (p : Program) → next ≤ length g.bytes → (if follows then (word_in g next >>= λ size. slice_in g (next + 2) size >>= λ code. Ok (record { code = code; code_at = g.start + (next + 2) })) else Ok (record { code = []; code_at = g.start + next })) ≡ Ok p → IsProgramBehind g next follows p
 program-cases g next true p room was =
     let by_size = came-through (word_in g next) _ p was in
     let by_code = came-through (slice_in g (next + 2) by_size.value) _ p by_size.rest in
     let is : ◌≡◌ {A = Program} (record { code = by_code.value; code_at = g.start + (next + 2) }) p = cc by_code.rest in
-    program-make g (next + 2) by_code.value p (slice-was g (next + 2) by_size.value by_code.value by_code.first).1 is
+    let code = slice-was g (next + 2) by_size.value by_code.value by_code.first in
+    rw (← is) (program-there g next by_size.value by_code.value (word-was g next by_size.value by_size.first).is code.0 code.1)
 program-cases g next false p room was =
     let is : ◌≡◌ {A = Program} (record { code = []; code_at = g.start + next }) p = cc in
-    program-make g next [] p (record { room = omega arith; is = nothing-there g.bytes next }) is
+    rw (← is) (record {
+      read = record { place = next; at = refl; within = record { room = omega arith; is = nothing-there g.bytes next } };
+      size = λ t. absurd cc;
+      none = λ f. refl;
+      room = λ t. absurd cc;
+    })
 
-pub program-was : (g : Stretch) (records : Listing Record) (p : Program) → records.next ≤ length g.bytes → program_of g records ≡ Ok p → IsProgramRead g p
+pub program-was : (g : Stretch) (records : Listing Record) (p : Program) → records.next ≤ length g.bytes → program_of g records ≡ Ok p → IsProgramBehind g records.next (has_program records.items) p
 unfolding program_of
 program-was g records p room was = program-cases g records.next (has_program records.items) p room was

@@ -1,12 +1,12 @@
--- What a glyph that was read is, said of its bytes as they stand: which run covers a point, of which deltas a coordinate
--- is the sum, which records are the components. OpenType, "The 'glyf' table".
-use Rattle.std.specs.Prelude.{◌≡◌, ℕ, ◌+◌, ◌-◌, ◌<◌, ◌≤◌, true, false, suc, if◌then◌else◌, ℤ, pos, ◌+ℤ◌, ◌≤ℤ◌, List, [], ◌∷◌, ◌++◌, length, map, fold, take, replicate, slice_index, slice_range, get_or, All, Ok}
+-- What a glyph that was read is, said of its bytes as they stand: which words are the ends, which run covers a point, of
+-- which deltas a coordinate is the sum, which records are the components. OpenType, "The 'glyf' table".
+use Rattle.std.specs.Prelude.{◌≡◌, ℕ, zero, ◌+◌, ◌-◌, ◌*◌, ◌^◌, ◌<◌, ◌≤◌, true, false, suc, if◌then◌else◌, ℤ, pos, unsigned_abs, ◌+ℤ◌, ◌≤ℤ◌, ◌<ℤ◌, List, [], ◌∷◌, ◌++◌, length, map, fold, take, replicate, slice_index, slice_range, get_or, All}
 use Rattle.tt_core.specs.Limits.{component_limit}
 use Rattle.tt_core.specs.Numbers.{unsigned_at, signed16}
 use Rattle.tt_glyf.specs.declared.raw.RawPoint.{RawPoint}
 use Rattle.tt_glyf.specs.declared.raw.Record.{Record}
 use Rattle.tt_glyf.specs.Bytes.{Stretch, stretch_at}
-use Rattle.tt_glyf.specs.Composite.{record_at, record_size, more_components, args_are_xy_values}
+use Rattle.tt_glyf.specs.Composite.{Transform, signed8, argument_size, record_size, one_scale, identity, has_program, arg_1_and_2_are_words, args_are_xy_values, we_have_a_scale, we_have_an_x_and_y_scale, we_have_a_two_by_two, more_components}
 use Rattle.tt_glyf.specs.Coordinates.{Axis, Delta, x_axis, y_axis, short_delta}
 use Rattle.tt_glyf.specs.Flags.{Run, has, on_curve_point, repeat_flag}
 use Rattle.tt_glyf.specs.Loca.{GlyphTables, glyph_offset, bytes_between}
@@ -43,21 +43,53 @@ pub record AreEnds (points : ℕ) (ends : List ℕ) : Type 0 where
   pub rising : (i j : ℕ) → i ≤ j → j < length ends → slice_index ends i ≤ slice_index ends j
   pub last : slice_index ends (length ends - 1) + 1 ≡ points
 
+-- the header: numberOfContours, negative for a composite glyph, and xMin
+abbrev pub contour_count : List ℕ → ℤ
+contour_count bytes = signed16 (unsigned_at bytes 0 2)
+
+abbrev pub written_x_min : List ℕ → ℤ
+written_x_min bytes = signed16 (unsigned_at bytes 2 2)
+
+-- where the end of contour i stands, and what stands there
+abbrev pub end_place : ℕ → ℕ
+end_place i = 10 + 2 * i
+
+abbrev pub written_end : List ℕ → ℕ → ℕ
+written_end bytes i = unsigned_at bytes (end_place i) 2
+
+-- behind the ends of so many contours stands the size of the program, then the program, then the flags
+abbrev pub size_place : ℕ → ℕ
+size_place contours = end_place contours
+
+abbrev pub written_size : List ℕ → ℕ → ℕ
+written_size bytes contours = unsigned_at bytes (size_place contours) 2
+
+abbrev pub flags_place : List ℕ → ℕ → ℕ
+flags_place bytes contours = size_place contours + 2 + written_size bytes contours
+
+-- the words of a simple glyph
+pub record AreWords (g : Stretch) (s : SimpleGlyph) : Type 0 where
+  pub x_min : s.x_min ≡ written_x_min g.bytes
+  pub contours : length s.ends ≡ unsigned_abs (contour_count g.bytes)
+  pub ends : (i : ℕ) → i < length s.ends → slice_index s.ends i ≡ written_end g.bytes i
+  pub code_at : s.code_at ≡ g.start + (size_place (length s.ends) + 2)
+  pub code_size : length s.code ≡ written_size g.bytes (length s.ends)
+
 -- the run of flags that is written at a place
 abbrev pub written_run : List ℕ → ℕ → Run
 written_run bytes at =
     if has (slice_index bytes at) repeat_flag then record { flag = slice_index bytes at; copies = slice_index bytes (at + 1); next = at + 2 }
     else record { flag = slice_index bytes at; copies = 0; next = at + 1 }
 
--- these are the runs that are written from a place up to another, one behind the other
-abbrev pub AreRuns : List ℕ → ℕ → List Run → ℕ → Type 0
-AreRuns bytes at [] end = at ≡ end
-AreRuns bytes at (r ∷ rs) end = (r ≡ written_run bytes at) × AreRuns bytes r.next rs end
+-- the place behind so many runs
+abbrev pub runs_end : List ℕ → ℕ → ℕ → ℕ
+runs_end bytes at zero = at
+runs_end bytes at (suc runs) = runs_end bytes (written_run bytes at).next runs
 
--- the flags of the points that the runs cover
-abbrev pub covered : List Run → List ℕ
-covered [] = []
-covered (r ∷ rs) = replicate (suc r.copies) r.flag ++ covered rs
+-- the flags of the points that so many runs cover
+abbrev pub written_flags : List ℕ → ℕ → ℕ → List ℕ
+written_flags bytes at zero = []
+written_flags bytes at (suc runs) = replicate (suc (written_run bytes at).copies) (written_run bytes at).flag ++ written_flags bytes (written_run bytes at).next runs
 
 -- the delta that is written at a place for a point with this flag
 abbrev pub written_delta : List ℕ → Axis → ℕ → ℕ → Delta
@@ -76,34 +108,102 @@ abbrev pub deltas_end : List ℕ → Axis → List ℕ → ℕ → ℕ
 deltas_end bytes a [] at = at
 deltas_end bytes a (flag ∷ flags) at = deltas_end bytes a flags (written_delta bytes a flag at).next
 
+-- behind so many runs of flags the deltas along x, and behind these the deltas along y
+abbrev pub x_deltas : List ℕ → ℕ → ℕ → List ℤ
+x_deltas bytes at runs = deltas bytes x_axis (written_flags bytes at runs) (runs_end bytes at runs)
+
+abbrev pub y_place : List ℕ → ℕ → ℕ → ℕ
+y_place bytes at runs = deltas_end bytes x_axis (written_flags bytes at runs) (runs_end bytes at runs)
+
+abbrev pub y_deltas : List ℕ → ℕ → ℕ → List ℤ
+y_deltas bytes at runs = deltas bytes y_axis (written_flags bytes at runs) (y_place bytes at runs)
+
+abbrev pub points_end : List ℕ → ℕ → ℕ → ℕ
+points_end bytes at runs = deltas_end bytes y_axis (written_flags bytes at runs) (y_place bytes at runs)
+
 -- each value is the sum of all deltas up to it, counted from a first value
 pub record AreSums (from : ℤ) (values by : List ℤ) : Type 0 where
   pub many : length values ≡ length by
   pub sums : (i : ℕ) → i < length values → get_or values i (pos 0) ≡ fold ◌+ℤ◌ from (take (i + 1) by)
 
 -- the points whose flags begin at a place: each has the flag of the run that covers it, and its coordinates are the sums
--- of all deltas up to it, those along x behind the flags and those along y behind these
+-- of all deltas up to it; no run and no delta passes the end of the bytes
 pub record ArePoints (bytes : List ℕ) (at : ℕ) (points : List RawPoint) : Type 0 where
-  pub runs : List Run
-  pub x_at : ℕ
-  pub flags : AreRuns bytes at runs x_at
-  pub on : map (λ p. p.on) points ≡ map (λ flag. has flag on_curve_point) (covered runs)
-  pub xs : AreSums (pos 0) (map (λ p. p.x) points) (deltas bytes x_axis (covered runs) x_at)
-  pub ys : AreSums (pos 0) (map (λ p. p.y) points) (deltas bytes y_axis (covered runs) (deltas_end bytes x_axis (covered runs) x_at))
+  pub runs : ℕ
+  pub on : map (λ p. p.on) points ≡ map (λ flag. has flag on_curve_point) (written_flags bytes at runs)
+  pub xs : AreSums (pos 0) (map (λ p. p.x) points) (x_deltas bytes at runs)
+  pub ys : AreSums (pos 0) (map (λ p. p.y) points) (y_deltas bytes at runs)
+  pub within : points_end bytes at runs ≤ length bytes
 
--- these are the records from a place on, one behind the other, up to the first without the flag for more
-abbrev pub AreComponents : ℕ → Stretch → ℕ → List Record → Type 0
-AreComponents glyphs g at [] = ⊥
-AreComponents glyphs g at (r ∷ []) = (record_at glyphs g at ≡ Ok r) × (has r.flags more_components ≡ false)
-AreComponents glyphs g at (r ∷ s ∷ rs) = (record_at glyphs g at ≡ Ok r) × (has r.flags more_components ≡ true) × AreComponents glyphs g (at + record_size r.flags) (s ∷ rs)
+-- an argument of a record with these flags: bytes or words, signed where they are offsets
+abbrev pub written_argument : List ℕ → ℕ → ℕ → ℤ
+written_argument bytes flags at =
+    if has flags arg_1_and_2_are_words
+    then (if has flags args_are_xy_values then signed16 (unsigned_at bytes at 2) else pos (unsigned_at bytes at 2))
+    else (if has flags args_are_xy_values then signed8 (slice_index bytes at) else pos (slice_index bytes at))
 
--- arguments that are no offsets number points
-abbrev pub NumbersPoints : Record → Type 0
-NumbersPoints r = has r.flags args_are_xy_values ≡ false → (pos 0 ≤ℤ r.arg1) × (pos 0 ≤ℤ r.arg2)
+-- the transform: one scale, or one along x and one along y, or both rows of a matrix
+abbrev pub written_transform : List ℕ → ℕ → ℕ → Transform
+written_transform bytes flags at =
+    if has flags we_have_a_scale then one_scale (signed16 (unsigned_at bytes at 2))
+    else (if has flags we_have_an_x_and_y_scale
+    then record { xx = signed16 (unsigned_at bytes at 2); yx = pos 0; xy = pos 0; yy = signed16 (unsigned_at bytes (at + 2) 2) }
+    else (if has flags we_have_a_two_by_two
+    then record { xx = signed16 (unsigned_at bytes at 2); yx = signed16 (unsigned_at bytes (at + 2) 2); xy = signed16 (unsigned_at bytes (at + 4) 2); yy = signed16 (unsigned_at bytes (at + 6) 2) }
+    else identity))
+
+-- a record of these flags, this component, these arguments and this transform
+abbrev pub record_of : ℕ → ℕ → ℕ → ℤ → ℤ → Transform → Record
+record_of at flags glyph arg1 arg2 t = record { at = at; flags = flags; glyph = glyph; arg1 = arg1; arg2 = arg2; xx = t.xx; yx = t.yx; xy = t.xy; yy = t.yy }
+
+abbrev pub written_component_flags : List ℕ → ℕ → ℕ
+written_component_flags bytes at = unsigned_at bytes at 2
+
+abbrev pub written_component : List ℕ → ℕ → ℕ
+written_component bytes at = unsigned_at bytes (at + 2) 2
+
+-- the component record that is written at a place: flags, the component, two arguments, the transform
+abbrev pub written_record : Stretch → ℕ → Record
+written_record g at =
+    let flags = written_component_flags g.bytes at in
+    record_of (g.start + at) flags (written_component g.bytes at)
+        (written_argument g.bytes flags (at + 4)) (written_argument g.bytes flags (at + 4 + argument_size flags))
+        (written_transform g.bytes flags (at + 4 + 2 * argument_size flags))
+
+-- the place behind it
+abbrev pub record_end : List ℕ → ℕ → ℕ
+record_end bytes at = at + record_size (written_component_flags bytes at)
+
+-- these are the records from a place on, one behind the other, up to the first without the flag for more; none passes the
+-- end of the bytes
+abbrev pub AreComponents : Stretch → ℕ → List Record → Type 0
+AreComponents g at [] = ⊥
+AreComponents g at (r ∷ []) = (r ≡ written_record g at) × (record_end g.bytes at ≤ length g.bytes) × (has r.flags more_components ≡ false)
+AreComponents g at (r ∷ s ∷ rs) = (r ≡ written_record g at) × (record_end g.bytes at ≤ length g.bytes) × (has r.flags more_components ≡ true) × AreComponents g (record_end g.bytes at) (s ∷ rs)
+
+-- an offset is 16 bits with a sign at most, and the number of a point 16 bits without one
+abbrev pub IsArgument : ℕ → ℤ → Type 0
+IsArgument flags a =
+    (has flags args_are_xy_values ≡ true → unsigned_abs a ≤ 2 ^ 15)
+    × (has flags args_are_xy_values ≡ false → (pos 0 ≤ℤ a) × (a <ℤ pos (2 ^ 16)))
+
+abbrev pub HasArguments : Record → Type 0
+HasArguments r = IsArgument r.flags r.arg1 × IsArgument r.flags r.arg2
 
 -- so many records are let pass, each of a glyph of the font
 pub record AreRecords (glyphs : ℕ) (records : List Record) : Type 0 where
   pub some : 0 < length records
   pub few : length records ≤ component_limit
   pub known : All (λ r. r.glyph < glyphs) records
-  pub numbers : All NumbersPoints records
+
+-- the place behind the records from a place on, whatever their flags
+abbrev pub records_end : List ℕ → ℕ → List Record → ℕ
+records_end bytes at [] = at
+records_end bytes at (r ∷ rs) = records_end bytes (record_end bytes at) rs
+
+-- the words of a composite glyph; where a record says so, the size of the program stands behind the records, then the
+-- program
+pub record AreCompositeWords (g : Stretch) (c : CompositeGlyph) : Type 0 where
+  pub x_min : c.x_min ≡ written_x_min g.bytes
+  pub follows : has_program c.records ≡ true → (c.code_at ≡ g.start + (records_end g.bytes 10 c.records + 2)) × (length c.code ≡ unsigned_at g.bytes (records_end g.bytes 10 c.records) 2)
+  pub none : has_program c.records ≡ false → c.code ≡ []

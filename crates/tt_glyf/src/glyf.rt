@@ -7,7 +7,7 @@ ghost use Rattle.tt_core.specs.Outcomes.{Gives};
 ghost use Rattle.tt_glyf.specs.Bytes.{stretch_at};
 ghost use Rattle.tt_glyf.specs.GlyphData.{glyph_in, described, glyph_data_of};
 ghost use Rattle.tt_glyf.specs.Loca.{glyph_tables_of, tables_with, with_glyf, glyph_offset, has_no_bytes, bytes_between, glyph_bytes_of, IsLocaDefect, IsRangeDefect, AreTables};
-ghost use Rattle.tt_glyf.specs.Meaning.{IfSimple, IfComposite, stretch_of, HasProgram, AreEnds, ArePoints, AreComponents, AreRecords};
+ghost use Rattle.tt_glyf.specs.Meaning.{IfSimple, IfComposite, stretch_of, flags_place, HasProgram, AreEnds, AreWords, ArePoints, AreComponents, AreRecords, AreCompositeWords};
 ghost use Rattle.tt_glyf.specs.Raw.{glyph_data};
 ghost use Rattle.tt_core.specs.Outcomes.{FontGives};
 ghost use Rattle.tt_glyf.specs.Views.{header_view};
@@ -114,9 +114,11 @@ impl<'a> Glyf<'a> {
         ensures exact { FontGives glyph_data result (glyph_data_of self.now g) }
         ensures few { IfOk result (λ r. IfSimple (glyph_data r) (λ s. length s.points ≤ point_limit)) }
         ensures ends { IfOk result (λ r. IfSimple (glyph_data r) (λ s. AreEnds (length s.points) s.ends)) }
-        ensures sums { IfOk result (λ r. IfSimple (glyph_data r) (λ s. ArePoints (bytes_between self.now g) (s.code_at + length s.code - glyph_offset self.now g) s.points)) }
-        ensures components { IfOk result (λ r. IfComposite (glyph_data r) (λ c. AreComponents self.now.glyphs (stretch_of self.now g) 10 c.records)) }
+        ensures sums { IfOk result (λ r. IfSimple (glyph_data r) (λ s. ArePoints (bytes_between self.now g) (flags_place (bytes_between self.now g) (length s.ends)) s.points)) }
+        ensures components { IfOk result (λ r. IfComposite (glyph_data r) (λ c. AreComponents (stretch_of self.now g) 10 c.records)) }
         ensures records { IfOk result (λ r. IfComposite (glyph_data r) (λ c. AreRecords self.now.glyphs c.records)) }
+        ensures words { IfOk result (λ r. IfSimple (glyph_data r) (AreWords (stretch_of self.now g))) }
+        ensures composite_words { IfOk result (λ r. IfComposite (glyph_data r) (AreCompositeWords (stretch_of self.now g))) }
         ensures program { IfOk result (λ r. HasProgram self.now.glyf (glyph_data r)) }
         ensures limit { length self.now.glyf ≤ font_limit }
     {

@@ -19,3 +19,9 @@ returns-clause-records c = (glyph-is c.args.self.now c.args.g (glyph_data c.in_o
 
 pub returns-clause-program : goal.returns-clause-program
 returns-clause-program c = (glyph-is c.args.self.now c.args.g (glyph_data c.in_ok-raw.raw) c.in_ok-raw.ensures.exact).program
+
+pub returns-clause-words : goal.returns-clause-words
+returns-clause-words c = (glyph-is c.args.self.now c.args.g (glyph_data c.in_ok-raw.raw) c.in_ok-raw.ensures.exact).words
+
+pub returns-clause-composite_words : goal.returns-clause-composite_words
+returns-clause-composite_words c = (glyph-is c.args.self.now c.args.g (glyph_data c.in_ok-raw.raw) c.in_ok-raw.ensures.exact).composite_words
