@@ -1,10 +1,11 @@
 -- A tape on which the edges of contours stand, one more contour at a time.
-use Rattle.std.proofs.Common.{◌≡◌, ℕ, ◌+◌, ◌-◌, ◌<◌, List, ◌++◌, length, map, drop, get_or, All, refl, arith, append_assoc, add-one, drop-cons}
-use Rattle.std.specs.List.{slice_range}
+use Rattle.std.proofs.Common.{◌≡◌, ℕ, zero, suc, ◌+◌, ◌-◌, ◌<◌, ◌≤◌, List, [], ◌++◌, length, map, drop, All, refl, arith, append_assoc}
+use Rattle.std.specs.List.{slice_index, slice_range, flat_map, range_with_len}
 use Rattle.std.proofs.lemmas.List.{get_or-take, get_or-drop, length-take, length-drop, take-map, drop-map}
 use Rattle.tt_scan.specs.declared.edge.Edge.{Edge}
 use Rattle.tt_arc.specs.declared.dot.Dot.{Dot}
-use Rattle.tt_arc.specs.Chords.{contour_edges, contours_edges}
+use Rattle.tt_fit.specs.Outline.{AreEnds}
+use Rattle.tt_arc.specs.Chords.{contour_edges, contour_start, contour_at}
 
 slice_of_map : {X : Type 0} (f : X → Dot) (ps : List X) (a b : ℕ) → slice_range (map f ps) a b ≡ map f (slice_range ps a b)
 slice_of_map f ps a b = rw (drop-map f a ps, take-map f (b - a) (drop a ps)) refl
@@ -15,6 +16,19 @@ all_of_slice P ps a b all k d below =
     let within : a + k < length ps = omega (arith, length-take (b - a) (drop a ps), length-drop a ps) in
     rw (get_or-take (b - a) (drop a ps) k d shorter, get_or-drop a ps k d) (all (a + k) d within)
 
-pub one_contour_more : {X : Type 0} (f : X → Dot) (ps : List X) (ends : List ℕ) (out new : List Edge) (from i to : ℕ) → i < length ends → to ≡ get_or ends i 0 → new ≡ out ++ contour_edges (map f (slice_range ps from to)) → new ++ contours_edges to (drop (i + 1) ends) (map f ps) ≡ out ++ contours_edges from (drop i ends) (map f ps)
-one_contour_more f ps ends out new from i to below is_to is_new =
-    rw (is_new, is_to, add-one, drop-cons ends i 0 below, slice_of_map f ps from (get_or ends i 0), append_assoc) refl
+-- the edges of the contours from contour c on
+abbrev pub edges_from : List Dot → List ℕ → ℕ → List Edge
+edges_from ps ends c = flat_map (λ c. contour_edges (contour_at ps ends c)) (range_with_len c (length ends - c))
+
+pub none_left : (ps : List Dot) (ends : List ℕ) → edges_from ps ends (length ends) ≡ []
+none_left ps ends = let none : length ends - length ends ≡ 0 = omega arith in rw none refl
+
+pub one_contour_more : {X : Type 0} (f : X → Dot) (ps : List X) (ends : List ℕ) (out new : List Edge) (from i to : ℕ) → i < length ends → from ≡ contour_start ends i → to ≡ slice_index ends i → new ≡ out ++ contour_edges (map f (slice_range ps from to)) → new ++ edges_from (map f ps) ends (i + 1) ≡ out ++ edges_from (map f ps) ends i
+one_contour_more f ps ends out new from i to below is_from is_to is_new =
+    let more : length ends - i ≡ suc (length ends - (i + 1)) = omega arith in
+    rw (is_new, more, is_from, is_to, slice_of_map f ps (contour_start ends i) (slice_index ends i), append_assoc) refl
+
+-- a contour begins no later than it ends
+pub start_within : (n : ℕ) (ends : List ℕ) → AreEnds n ends → (c : ℕ) → c < length ends → contour_start ends c ≤ slice_index ends c
+start_within n ends are zero below = omega arith
+start_within n ends are (suc c) below = are.rising c (suc c) (omega arith) below

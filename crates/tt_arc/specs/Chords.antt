@@ -2,8 +2,8 @@
 -- straight lines where two points are on the curve, by quadratic curves where a point is off it; midway between two points
 -- off the curve a point on it is implied. That a curve is cut into eight chords is profile. Points are in 26.6, edges in
 -- 1/8192 pixel.
-use Rattle.std.specs.Prelude.{◌≡◌, ℕ, zero, suc, ◌+◌, ◌-◌, ◌*◌, ◌^◌, ◌<◌, ◌≤◌, Bool, true, false, if◌then◌else◌, ℤ, pos, ◌+ℤ◌, ◌*ℤ◌, unsigned_abs, List, [], ◌∷◌, ◌++◌, map, take, get_or, refl}
-use Rattle.std.specs.List.{slice_range}
+use Rattle.std.specs.Prelude.{◌≡◌, ℕ, zero, suc, ◌+◌, ◌-◌, ◌*◌, ◌^◌, ◌<◌, ◌≤◌, Bool, true, false, nat_lt, if◌then◌else◌, ℤ, pos, ◌+ℤ◌, ◌*ℤ◌, unsigned_abs, List, [], ◌∷◌, ◌++◌, length, map, take, get_or, refl}
+use Rattle.std.specs.List.{slice_index, slice_range, flat_map, range_with_len}
 use Rattle.tt_scan.specs.declared.edge.Edge.{Edge}
 use Rattle.tt_arc.specs.declared.curve.Bend.{Bend}
 use Rattle.tt_arc.specs.declared.curve.Curve.{Curve}
@@ -59,30 +59,42 @@ edges_of before p after =
     if p.on then (if after.on then edge_between (spot_of p) (spot_of after) ∷ [] else [])
     else first_chords (curve_of before p after) 8
 
--- the edges of a point and those that follow it, where one more point stands before and one behind them
-abbrev pub edges_along : Dot → Dot → List Dot → Dot → List Edge
-edges_along before p [] behind = edges_of before p behind
-edges_along before p (q ∷ ps) behind = edges_of before p q ++ edges_along p q ps behind
+-- a point of a contour by its number; past the last one a point at 0 stands for none
+abbrev pub dot_at : List Dot → ℕ → Dot
+dot_at ps i = get_or ps i (record { x = pos 0; y = pos 0; on = false })
 
--- the last of a point and those that follow it
-abbrev pub last_of : Dot → List Dot → Dot
-last_of p [] = p
-last_of p (q ∷ ps) = last_of q ps
+-- the numbers of the points before and after point i of a closed contour of n points
+abbrev pub place_before : ℕ → ℕ → ℕ
+place_before n zero = n - 1
+place_before n (suc i) = i
 
--- the edges of a closed contour: the last point stands before the first, and the first behind the last
+abbrev pub place_after : ℕ → ℕ → ℕ
+place_after n i = if nat_lt (i + 1) n then i + 1 else 0
+
+-- the edges of point i of a closed contour
+abbrev pub edges_at : List Dot → ℕ → List Edge
+edges_at ps i = edges_of (dot_at ps (place_before (length ps) i)) (dot_at ps i) (dot_at ps (place_after (length ps) i))
+
+-- the edges of a closed contour, point by point; a point alone has none
 abbrev pub contour_edges : List Dot → List Edge
-contour_edges [] = []
-contour_edges (p ∷ []) = []
-contour_edges (p ∷ q ∷ ps) = edges_along (last_of q ps) p (q ∷ ps) p
+contour_edges ps = if nat_lt 1 (length ps) then flat_map (edges_at ps) (range_with_len 0 (length ps)) else []
 
--- the edges of the contours from a point on, each of which ends before the point of its end
-abbrev pub contours_edges : ℕ → List ℕ → List Dot → List Edge
-contours_edges from [] ps = []
-contours_edges from (end ∷ ends) ps = contour_edges (slice_range ps from end) ++ contours_edges end ends ps
+-- contour c begins where the one before it ends
+abbrev pub contour_start : List ℕ → ℕ → ℕ
+contour_start ends zero = 0
+contour_start ends (suc c) = slice_index ends c
+
+-- the points of contour c
+abbrev pub contour_at : List Dot → List ℕ → ℕ → List Dot
+contour_at ps ends c = slice_range ps (contour_start ends c) (slice_index ends c)
+
+-- the edges of all contours, one after the other
+abbrev pub outline_edges : List Dot → List ℕ → List Edge
+outline_edges ps ends = flat_map (λ c. contour_edges (contour_at ps ends c)) (range_with_len 0 (length ends))
 
 -- the edges of an outline moved by dx and dy
 abbrev pub chord_edges : List (ℤ × ℤ × Bool) → List ℕ → ℤ → ℤ → List Edge
-chord_edges points ends dx dy = contours_edges 0 ends (map (moved dx dy) points)
+chord_edges points ends dx dy = outline_edges (map (moved dx dy) points) ends
 
 -- a moved point that the program takes
 pub record DotFits (p : Dot) : Type 0 where

@@ -3,7 +3,7 @@
 ghost use Rattle.std.specs.Prelude.{◌≡◌, ◌*◌, ◌≤◌, ◌++◌, length, map, All, IfOk, OnOk};
 ghost use Rattle.tt_fit.specs.Outline.{AreEnds};
 ghost use Rattle.tt_scan.specs.Winding.{FrameFits};
-ghost use Rattle.tt_arc.specs.Chords.{IsNear, moved, contours_edges, chord_edges};
+ghost use Rattle.tt_arc.specs.Chords.{IsNear, moved, outline_edges, chord_edges};
 
 use crate::contour::push_contour;
 use crate::dot::Shift;
@@ -12,6 +12,7 @@ use tt_fit::Outline;
 use tt_scan::{Frame, Tape};
 
 /// Adds the edges of all contours. Each end is one past its contour's last point.
+#[tactic(auto, using(crate::proofs::Contours::none_left))]
 fn push_contours(
     tape: &mut Tape,
     points: &[(i32, i32, bool)],
@@ -20,7 +21,7 @@ fn push_contours(
 ) -> Result<(), AllocError>
     requires ends { AreEnds (length points.now) ends.now }
     requires near { All (IsNear by.dx by.dy) points.now }
-    ensures exact { OnOk result (tape.new ≡ record tape.old { edges = tape.old.edges ++ contours_edges 0 ends.now (map (moved by.dx by.dy) points.now) }) }
+    ensures exact { OnOk result (tape.new ≡ record tape.old { edges = tape.old.edges ++ outline_edges (map (moved by.dx by.dy) points.now) ends.now }) }
 {
     let mut from = 0;
     for end in ends {

@@ -1,5 +1,6 @@
 use Rattle.std.proofs.Common.{◌≡◌, ◌++◌, All, map, drop}
-use Rattle.tt_arc.specs.Chords.{DotFits, IsNear, moved, edges_along, contour_edges}
+use Rattle.tt_arc.specs.Chords.{DotFits, IsNear, moved, contour_edges}
+use Rattle.tt_arc.proofs.Walks.{edges_along}
 use Rattle.tt_arc.proofs.contour.push_contour.Given as goal
 
 abbrev pub invariant-loop-point : goal.invariant-loop-point

@@ -1,13 +1,12 @@
-use Rattle.std.proofs.Common.{◌≡◌, ℕ, ◌<◌, ◌≤◌, ◌++◌, length, map, drop}
-use Rattle.std.specs.List.{slice_index}
-use Rattle.tt_arc.specs.Chords.{moved, contours_edges}
+use Rattle.std.proofs.Common.{◌≡◌, ◌++◌, map}
+use Rattle.tt_arc.specs.Chords.{moved, contour_start, outline_edges}
+use Rattle.tt_arc.proofs.Contours.{edges_from}
 use Rattle.tt_arc.proofs.outline.push_contours.Given as goal
 
 abbrev pub invariant-loop-end : goal.invariant-loop-end
 invariant-loop-end l = record {
-  walked : l.tape.edges ++ contours_edges l.from (drop l.end-index l.ends) (map (moved l.by.dx l.by.dy) l.points) ≡ l.fn.tape.edges ++ contours_edges 0 l.ends (map (moved l.by.dx l.by.dy) l.points);
+  walked : l.tape.edges ++ edges_from (map (moved l.by.dx l.by.dy) l.points) l.ends l.end-index ≡ l.fn.tape.edges ++ outline_edges (map (moved l.by.dx l.by.dy) l.points) l.ends;
   frame : l.tape.frame ≡ l.fn.tape.frame;
   crosses : l.tape.crosses ≡ l.fn.tape.crosses;
-  within : l.from ≤ length l.points;
-  behind : (i : ℕ) → l.end-index ≤ i → i < length l.ends → l.from ≤ slice_index l.ends i;
+  from : l.from ≡ contour_start l.ends l.end-index;
 }
