@@ -1,5 +1,5 @@
-use Rattle.std.proofs.Common.{SFits, w64, rules}
-use Rattle.std.proofs.lemmas.Int.{to_z-of_z}
+use Rattle.std.proofs.Common.{SFits, w64, arith}
+use Rattle.std.proofs.lemmas.Int.{ints, to_z-of_z}
 use Rattle.tt_scan.proofs.Floors.{floor_small}
 use Rattle.tt_scan.proofs.quotient.divided.Goals as goal
 
@@ -7,6 +7,8 @@ pub returns-clause-small : goal.returns-clause-small
 returns-clause-small c = λ two.
     let n : SFits w64 c.args.n = c.ranges.n in
     let d : SFits w64 c.args.d = c.ranges.d in
-    let whole : SFits w64 c.div_euclid.result = search rules in
-    let is = simp to_z-of_z at c.div_euclid.ensures in
-    simp to_z-of_z (rw is (floor_small c.args.n c.args.d n two))
+    let small = floor_small c.args.n c.args.d n two in
+    grind (arith, ints, to_z-of_z)
+
+pub returns-clause-low : goal.returns-clause-low
+returns-clause-low c = grind (arith, ints)

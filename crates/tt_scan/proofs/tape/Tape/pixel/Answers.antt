@@ -1,4 +1,6 @@
 use Rattle.std.proofs.Common.{◌≡◌, ◌∙◌, ◌+◌, ◌<◌, true, false, sym, refl, length, take, SFits, w64, to_z, ◌+ℤ◌, rules, arith}
+use Rattle.std.proofs.Math.Seq.{take-length}
+use Rattle.std.proofs.lemmas.Bool.Decides.{nat_tests}
 use Rattle.std.proofs.lemmas.Int.{ints, to_z-of_z}
 use Rattle.tt_scan.specs.Crossing.{IsCross}
 use Rattle.tt_scan.specs.Tape.{edge_at}
@@ -40,3 +42,13 @@ loop-i-preserved c =
       winding = simp to_z-of_z winding;
       small = simp to_z-of_z (omega (arith, ints, c.loop-i.winding-is, c.loop-i.invariant.small, c.turn_before-winding.ensures.small));
     }
+
+pub returns-clause-black : goal.returns-clause-black
+returns-clause-black c =
+    let column : SFits w64 c.args.c = c.ranges.c in
+    let row : SFits w64 c.args.r = c.ranges.r in
+    let done : c.loop-i.i ≡ length c.args.self.now.edges = omega (arith, c.loop-i.auto.i-end, c.loop-i-test.false, c.loop-i.invariant.end) in
+    let all : take c.loop-i.i c.args.self.now.edges ≡ c.args.self.now.edges = rw done (take-length c.args.self.now.edges) in
+    let clear : lies_on_one c.args.self.now.edges (column_x c.args.self.now.frame.margin c.args.c) (row_y c.args.self.now.frame c.args.r) ≡ false = rw all at (simp to_z-of_z at c.loop-i.invariant.clear) in
+    let winding : to_z w64 c.loop-i.winding-bits ≡ winding c.args.self.now.edges (column_x c.args.self.now.frame.margin c.args.c) (row_y c.args.self.now.frame c.args.r) = rw all at (simp to_z-of_z at c.loop-i.invariant.winding) in
+    rw (clear, ← winding) (grind (arith, ints, nat_tests))
