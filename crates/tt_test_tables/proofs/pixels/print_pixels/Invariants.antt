@@ -1,5 +1,5 @@
 use Rattle.std.proofs.Common.{◌≡◌}
-use Rattle.tt_outline_table.proofs.print_pixels.Given as goal
+use Rattle.tt_test_tables.proofs.pixels.print_pixels.Given as goal
 
 abbrev pub invariant-loop-c : goal.invariant-loop-c
 invariant-loop-c g l = l.tape.frame ≡ l.fn.frame

@@ -1,5 +1,5 @@
-//! Prints what tt_scan says of the outlines that it reads, to be compared with what `tests/pixels/plain.c` says. A line of
-//! standard input is a case; the frame is in pixels, and the ends of the COUNT edges in 1/8192 pixel:
+//! What tt_scan says of outlines. A line of standard input is a question; the frame is in pixels, and the ends of the COUNT
+//! edges in 1/8192 pixel:
 //!
 //!     pixels WIDTH HEIGHT MARGIN RISE COUNT AX AY BX BY ..
 //!     edges WIDTH HEIGHT MARGIN RISE COUNT AX AY BX BY ..
@@ -7,18 +7,17 @@
 //! Its answer is a line too. For `pixels` it is the picture from the top, '#' for a black pixel and '.' for a white one,
 //! and '/' after each row. For `edges` it is for each edge `rows FIRST END`, or `rows none`, then for each row of the frame
 //! `|TURN FIRST`, or `|TURN FIRST touch FIRST LAST` where the edge touches centres, and '/' after each edge.
-#![tactic(auto)]
 
-ghost use Rattle.std.specs.Prelude.{◌≡◌, ◌≤ℤ◌, IfOk};
+ghost use Rattle.std.specs.Prelude.{◌≡◌, IfOk};
 ghost use Rattle.tt_scan.specs.Winding.{EdgeFits, FrameFits};
 
+use crate::words::Words;
 use anyhow::{Context, Result, bail};
 use std::alloc::Global;
 use std::io::{self, BufRead, BufReader, BufWriter, Write};
-use std::str::SplitAsciiWhitespace;
 use tt_scan::{Edge, Frame, Tape};
 
-/// More edges than a case has, and more crossings than it asks for.
+/// More edges than a question or a glyph has, and more crossings than are asked for.
 const MOST_EDGES: usize = 1 << 20;
 
 const MOST_CROSSES: u64 = 1 << 40;
@@ -26,12 +25,9 @@ const MOST_CROSSES: u64 = 1 << 40;
 /// The ends of an edge stay less than this from 0.
 const REACH: i64 = 1 << 30;
 
-/// The rise of a frame stays less than this from 0.
-const RISE: i64 = 1 << 20;
-
-fn main(rt: HostRuntime) -> Result<()> {
+pub(crate) fn answer_all<R: Print + Input + AllocGlobal>(rt: &R) -> Result<()> {
     let input = BufReader::new(rt.alloc(), rt.reader())?;
-    let mut out = BufWriter::new(rt.alloc(), io::writer(&rt))?;
+    let mut out = BufWriter::new(rt.alloc(), io::writer(rt))?;
     let mut number = 0u64;
     for line in input.lines(rt.alloc()) {
         let line = line?;
@@ -43,72 +39,49 @@ fn main(rt: HostRuntime) -> Result<()> {
 }
 
 fn answer<W: Write>(alloc: Global, out: &mut W, line: &str) -> Result<()> {
-    let mut words = line.split_ascii_whitespace();
-    let what = word(&mut words)?;
-    let frame = frame_in(&mut words)?;
+    let mut words = Words::Line(line.split_ascii_whitespace());
+    let what = words.word()?;
+    let frame = words.frame()?;
     let mut tape = tape_in(alloc, &mut words, frame)?;
-    if words.next().is_some() {
-        bail!("a word too many");
-    }
+    words.end()?;
     match what {
-        "pixels" => print_pixels(out, &mut tape, frame)?,
+        "pixels" => print_pixels(out, &mut tape, frame, "/")?,
         "edges" => print_edges(out, &mut tape, frame)?,
-        _ => bail!("no such case"),
+        _ => bail!("no such question"),
     }
     writeln!(out)?;
     Ok(())
 }
 
-fn word<'a>(words: &mut SplitAsciiWhitespace<'a>) -> Result<&'a str> {
-    words.next().context("a word is missing")
-}
-
-/// The next word, a number from `low` to `high`.
-fn number_in(words: &mut SplitAsciiWhitespace, low: i64, high: i64) -> Result<i64>
-    ensures low { IfOk result (λ n. low ≤ℤ n) }
-    ensures high { IfOk result (λ n. n ≤ℤ high) }
-{
-    let number: i64 = word(words)?.parse()?;
-    if number < low || high < number {
-        bail!("{number} is not from {low} to {high}");
-    }
-    Ok(number)
-}
-
-fn frame_in(words: &mut SplitAsciiWhitespace) -> Result<Frame>
-    ensures { IfOk result FrameFits }
-{
-    Ok(Frame {
-        width: number_in(words, 1, 16384)? as u32,
-        height: number_in(words, 1, 4096)? as u32,
-        margin: number_in(words, 0, 64)? as u32,
-        rise: number_in(words, 1 - RISE, RISE - 1)? as i32,
-    })
-}
-
-fn edge_in(words: &mut SplitAsciiWhitespace) -> Result<Edge>
+fn edge_in(words: &mut Words) -> Result<Edge>
     ensures { IfOk result EdgeFits }
 {
     Ok(Edge {
-        ax: number_in(words, 1 - REACH, REACH - 1)?,
-        ay: number_in(words, 1 - REACH, REACH - 1)?,
-        bx: number_in(words, 1 - REACH, REACH - 1)?,
-        by: number_in(words, 1 - REACH, REACH - 1)?,
+        ax: words.number(1 - REACH, REACH - 1)?,
+        ay: words.number(1 - REACH, REACH - 1)?,
+        bx: words.number(1 - REACH, REACH - 1)?,
+        by: words.number(1 - REACH, REACH - 1)?,
     })
 }
 
-fn tape_in(alloc: Global, words: &mut SplitAsciiWhitespace, frame: Frame) -> Result<Tape>
+fn tape_in(alloc: Global, words: &mut Words, frame: Frame) -> Result<Tape>
     requires { FrameFits frame }
     ensures { IfOk result (λ t. t.frame ≡ frame) }
 {
     let mut tape = Tape::new(alloc, frame);
-    for _ in 0..number_in(words, 0, MOST_EDGES as i64)? {
+    for _ in 0..words.number(0, MOST_EDGES as i64)? {
         tape.push(edge_in(words)?)?;
     }
     Ok(tape)
 }
 
-fn print_pixels<W: Write>(out: &mut W, tape: &mut Tape, frame: Frame) -> Result<()>
+/// Prints a picture from the top, with `end` after each row.
+pub(crate) fn print_pixels<W: Write>(
+    out: &mut W,
+    tape: &mut Tape,
+    frame: Frame,
+    end: &str,
+) -> Result<()>
     requires { tape.old.frame ≡ frame }
 {
     for r in 0..frame.height {
@@ -122,7 +95,7 @@ fn print_pixels<W: Write>(out: &mut W, tape: &mut Tape, frame: Frame) -> Result<
                 write!(out, ".")?;
             }
         }
-        write!(out, "/")?;
+        write!(out, "{end}")?;
     }
     Ok(())
 }

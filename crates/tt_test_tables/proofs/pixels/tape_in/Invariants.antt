@@ -1,5 +1,5 @@
 use Rattle.std.proofs.Common.{◌≡◌}
-use Rattle.tt_pixel_table.proofs.tape_in.Given as goal
+use Rattle.tt_test_tables.proofs.pixels.tape_in.Given as goal
 
 abbrev pub invariant-loop : goal.invariant-loop
 invariant-loop l = l.tape.frame ≡ l.fn.frame

@@ -1,7 +1,7 @@
 use Rattle.std.proofs.Common.{◌≡◌, length, chars, arith}
 use Rattle.std.proofs.lemmas.Iterator.{YieldsList-from_chars}
 use Rattle.std.proofs.lemmas.Iterator.Consumers.{count_from_yields_List}
-use Rattle.tt_render_tests.proofs.line_tests.laid.Goals as goal
+use Rattle.tt_test_layers.proofs.line_tests.laid.Goals as goal
 
 pub lay-requires-clause-text : goal.lay-requires-clause-text
 lay-requires-clause-text g c =

@@ -1,7 +1,7 @@
 -- Whether the devices of the tests have failed.
 use Rattle.std.specs.Prelude.{Bool}
-use Rattle.tt_render_tests.specs.declared.devices.Reader.{Reader}
-use Rattle.tt_render_tests.specs.declared.devices.Writer.{Writer}
+use Rattle.tt_test_layers.specs.declared.devices.Reader.{Reader}
+use Rattle.tt_test_layers.specs.declared.devices.Writer.{Writer}
 
 abbrev pub has_reader_failed : Reader → Bool
 has_reader_failed r = r.failed

@@ -16,7 +16,7 @@ pub(crate) struct Reader<'a> {
 }
 
 impl<'a> Reader<'a> {
-    ghost use Rattle.tt_render_tests.specs.Failures.{has_reader_failed};
+    ghost use Rattle.tt_test_layers.specs.Failures.{has_reader_failed};
 
     pub(crate) fn new(bytes: &'a [u8], step: usize, fails_at: u32) -> Self
         ensures { has_reader_failed result ≡ false }
@@ -33,7 +33,7 @@ impl<'a> Reader<'a> {
 
 impl<'a> Source for Reader<'a> {
     ghost use Rattle.std.specs.Prelude.{None};
-    ghost use Rattle.tt_render_tests.specs.Failures.{has_reader_failed};
+    ghost use Rattle.tt_test_layers.specs.Failures.{has_reader_failed};
 
     ghost left = { λ _. None };
 
@@ -92,7 +92,7 @@ pub(crate) struct Writer {
 }
 
 impl Writer {
-    ghost use Rattle.tt_render_tests.specs.Failures.{has_writer_failed};
+    ghost use Rattle.tt_test_layers.specs.Failures.{has_writer_failed};
 
     pub(crate) fn new(room: usize, step: usize) -> Self
         ensures { has_writer_failed result ≡ false }
@@ -113,7 +113,7 @@ impl Writer {
 
 impl Sink for Writer {
     ghost use Rattle.std.specs.Prelude.{None};
-    ghost use Rattle.tt_render_tests.specs.Failures.{has_writer_failed};
+    ghost use Rattle.tt_test_layers.specs.Failures.{has_writer_failed};
 
     ghost written = { λ _. None };
 
