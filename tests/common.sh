@@ -6,21 +6,47 @@ trap 'echo "tests: ${BASH_SOURCE[0]##*/}, line $LINENO: a command of the script 
 
 root=$(cd -- "$(dirname -- "${BASH_SOURCE[0]}")/.." && pwd)
 
-# TT_RENDER=PATH tries another program in the place of ours.
-program=${TT_RENDER:-$root/tt_render}
-program=$(readlink -f -- "$program")
-
 room=$(mktemp -d)
 trap 'rm -rf -- "$room"' EXIT
 
 passed=0
 failed=0
 
-# The program is started once here, so that the time of building it falls on no case, nor its lines on the case's
-# standard error.
-if ! "$program" --help >/dev/null; then
-  echo "tests: $program does not start" >&2
-  exit 1
+# Leaves the program of tables as $program: that of TT_TABLES=PATH, or our own, which is proved and built here if it lacks or
+# a source is newer.
+tables_program() {
+  local crate=$root/crates/tt_test_tables
+  program=${TT_TABLES:-$crate/out/tt_test_tables}
+  if [ -z "${TT_TABLES:-}" ]; then
+    if [ ! -x "$program" ] ||
+      [ -n "$(find "$root"/crates.txt "$root"/crates/*/{src,specs,proofs} -newer "$program" -print -quit 2>/dev/null)" ]; then
+      echo "tests: proving and building tt_test_tables" >&2
+      (cd -- "$crate" && rt run -- glyphs "$PWD/data/composite_font.ttf") </dev/null >"$room/log" 2>&1 ||
+        tail -n 20 -- "$room/log" >&2
+    fi
+  fi
+  if [ ! -x "$program" ]; then
+    echo "tests: there is no program $program" >&2
+    exit 1
+  fi
+}
+
+# Leaves our program, or that of TT_RENDER=PATH, as $program. It is started once here, so that the time of building it falls
+# on no case, nor its lines on the case's standard error.
+render_program() {
+  program=${TT_RENDER:-$root/tt_render}
+  program=$(readlink -f -- "$program")
+  if ! "$program" --help >/dev/null; then
+    echo "tests: $program does not start" >&2
+    exit 1
+  fi
+}
+
+# A script that asks the program of tables says `asks=tables` before it sources this file.
+if [ "${asks:-render}" = tables ]; then
+  tables_program
+else
+  render_program
 fi
 
 # bytes HEX: prints the bytes that hexadecimal digits name.
