@@ -1,0 +1,31 @@
+-- No part of the standard: what the program's commands ask for.
+use Rattle.std.specs.Prelude.{ℕ, List, codes, Option, Some, None, option_map, Result, if◌then◌else◌}
+use Rattle.std.specs.Str.{bytes_eq}
+use Rattle.tt_core.specs.Faults.{Fault}
+use Rattle.tt_fit.specs.declared.programs.Fit.{Fit}
+use Rattle.tt_fit.specs.declared.programs.Fit.TheVariants as fit
+use Rattle.tt_render.specs.Defects.{IsFaceDefect, IsRunDefect}
+use Rattle.tt_render.specs.MapLines.{map_outcome}
+use Rattle.tt_render.specs.Outcome.{Refused}
+use Rattle.tt_render.specs.Picture.{Ask, ask_of, run_outcome}
+use Rattle.tt_render_program.specs.declared.command.Command.{Command}
+use Rattle.tt_render_program.specs.declared.command.Command.TheVariants.{Map, Draw}
+use Rattle.tt_render_program.specs.declared.command.Words.{Words}
+
+-- the ways to fit by their names
+abbrev pub fit_named : List ℕ → Option Fit
+fit_named name = if bytes_eq name (codes "none") then Some fit.None else None
+
+-- what the words of a drawing ask for
+abbrev pub asked : Words → Option Ask
+asked w = option_map (λ f. record { text = w.text.now; ppem = w.size; margin = w.margin; fit = f }) (fit_named w.fit.now)
+
+-- what a command writes for a font file, or why it writes nothing
+abbrev pub wanted : Command → List ℕ → Result (List ℕ) Refused
+wanted (Map font text) = map_outcome text.now
+wanted (Draw font job) = run_outcome (ask_of job)
+
+-- the defects of a font file for which a command refuses it
+abbrev pub IsDefectFor : Command → List ℕ → Fault → Type 0
+IsDefectFor (Map font text) file fault = IsFaceDefect file fault
+IsDefectFor (Draw font job) file fault = IsRunDefect (ask_of job) file fault

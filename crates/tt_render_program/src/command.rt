@@ -1,0 +1,42 @@
+//! What a command line asks for.
+
+ghost use Rattle.std.specs.Prelude.{◌≡◌, option_map};
+ghost use Rattle.tt_render.specs.Picture.{ask_of};
+ghost use Rattle.tt_render_program.specs.Commands.{asked};
+
+use tt_fit::Fit;
+use tt_render::Job;
+
+/// A command line that was understood.
+#[derive(Clone, Copy)]
+pub enum Command<'a> {
+    /// Write each character's code point, glyph and advance.
+    Map { font: &'a str, text: &'a str },
+    /// Draw a line of text.
+    Draw { font: &'a str, job: Job<'a> },
+}
+
+/// The words of a drawing, as they stand on the command line.
+#[derive(Clone, Copy)]
+pub struct Words<'a> {
+    pub text: &'a str,
+    pub size: u32,
+    pub margin: u32,
+    pub fit: &'a str,
+}
+
+/// The job that is asked for; none where the way to fit has no such name.
+pub fn job_of<'a>(words: &Words<'a>) -> Option<Job<'a>>
+    ensures { option_map ask_of result ≡ asked words.now }
+{
+    let fit = match words.fit {
+        "none" => Fit::None,
+        _ => return None,
+    };
+    Some(Job {
+        text: words.text,
+        ppem: words.size,
+        margin: words.margin,
+        fit,
+    })
+}

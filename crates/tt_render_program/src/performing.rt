@@ -1,0 +1,47 @@
+//! A command done, over its font and the standard streams.
+
+ghost use Rattle.std.specs.Prelude.{◌≡◌, ◌≤◌, false};
+ghost use Rattle.tt_render_program.specs.Commands.{wanted, IsDefectFor};
+ghost use Rattle.tt_render_program.specs.Telling.{Does};
+
+use crate::command::Command;
+use crate::telling::tell;
+use std::alloc::Global;
+use tt_core::{Sink, Source};
+
+/// Does what a command asks for, and tells a fault on standard error; answers the exit status.
+pub fn perform<R: Source, W: Sink, E: Sink>(
+    alloc: Global,
+    command: &Command,
+    font: &mut R,
+    out: &mut W,
+    error: &mut E,
+) -> u8
+    requires font { R.has_failed font.old ≡ false }
+    requires out { W.has_failed out.old ≡ false }
+    requires error { E.has_failed error.old ≡ false }
+    // Some answer stands for what went through the devices, and the status and the line are told of that answer.
+    ensures outcome { Does (wanted command.now) (IsDefectFor command.now) (record {
+      left_before = R.left font.old;
+      left_after = R.left font.new;
+      read_failed = R.has_failed font.new;
+      out_before = W.written out.old;
+      out_after = W.written out.new;
+      write_failed = W.has_failed out.new;
+    }) (record {
+      before = E.written error.old;
+      after = E.written error.new;
+      failed = E.has_failed error.new;
+    }) result }
+{
+    match command {
+        Command::Map { text, .. } => {
+            let answer = tt_render::map(alloc, font, text, out);
+            tell(alloc, &answer, error)
+        }
+        Command::Draw { job, .. } => {
+            let answer = tt_render::run(alloc, font, out, job);
+            tell(alloc, &answer, error)
+        }
+    }
+}

@@ -1,0 +1,70 @@
+//! What is told of an answer: the exit status, and a line on standard error.
+
+ghost use Rattle.std.specs.Prelude.{◌≡◌, ◌++◌, false, codes, string_bytes, IfOk};
+ghost use Rattle.tt_render.specs.Report.{line_of};
+ghost use Rattle.tt_render_program.specs.Telling.{Prints, Tells};
+
+use std::alloc::{AllocError, Global};
+use tt_core::Sink;
+use tt_pbm::write_all_of;
+use tt_render::{RunFault, line, status};
+
+/// The line for want of memory, which takes none.
+const NO_MEMORY: &str = "tt_render: out of memory\n";
+
+/// Tells an answer on standard error; answers the exit status.
+pub(crate) fn tell<E: Sink>(alloc: Global, answer: &Result<(), RunFault>, error: &mut E) -> u8
+    requires { E.has_failed error.old ≡ false }
+    ensures { Tells answer.now result (record {
+      before = E.written error.old;
+      after = E.written error.new;
+      failed = E.has_failed error.new;
+    }) }
+{
+    match answer {
+        Ok(()) => 0,
+        Err(fault) => tell_fault(alloc, fault, error),
+    }
+}
+
+/// Tells a fault, or want of memory where that is refused for the fault's line.
+fn tell_fault<E: Sink>(alloc: Global, fault: &RunFault, error: &mut E) -> u8
+    requires { E.has_failed error.old ≡ false }
+    ensures { Tells (Err fault.now) result (record {
+      before = E.written error.old;
+      after = E.written error.new;
+      failed = E.has_failed error.new;
+    }) }
+{
+    match ended_line(alloc, fault) {
+        Ok(text) => {
+            print(error, &text);
+            status(fault)
+        }
+        Err(AllocError) => {
+            print(error, NO_MEMORY);
+            status(&RunFault::Memory)
+        }
+    }
+}
+
+/// The line of a fault, with its line feed.
+fn ended_line(alloc: Global, fault: &RunFault) -> Result<String, AllocError>
+    ensures { IfOk result (λ text. string_bytes text ≡ line_of fault.now ++ codes "\n") }
+{
+    let mut text = line(alloc, fault)?;
+    text.push_str("\n")?;
+    Ok(text)
+}
+
+/// Prints a text on standard error. Where that fails, no other place is left to tell it.
+pub(crate) fn print<E: Sink>(error: &mut E, text: &str)
+    requires { E.has_failed error.old ≡ false }
+    ensures { Prints (record {
+      before = E.written error.old;
+      after = E.written error.new;
+      failed = E.has_failed error.new;
+    }) text.now }
+{
+    let _ = write_all_of(error, text.as_bytes());
+}
