@@ -1,3 +1,3 @@
-pub mod Commands
+pub mod Requests
 pub mod Stops
 pub mod Telling

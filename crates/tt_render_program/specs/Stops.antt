@@ -1,4 +1,4 @@
--- No part of the standard: the ends of the program at which no command is done.
+-- No part of the standard: the ends of the program at which no request is done.
 use Rattle.std.specs.Prelude.{ℕ, List, [], ◌++◌, codes}
 use Rattle.std.specs.declared.io.ErrorKind.{ErrorKind}
 use Rattle.std.specs.declared.io.ErrorKind.TheVariants.{OutOfMemory}
@@ -7,10 +7,15 @@ use Rattle.tt_render.specs.Report.{line_of, status_of}
 use Rattle.tt_render_program.specs.declared.stopping.Stop.{Stop}
 use Rattle.tt_render_program.specs.declared.stopping.Stop.TheVariants as stop
 
+-- a word that is no text is a fault of the command line
+abbrev pub stop_at_words : ErrorKind → Stop
+stop_at_words OutOfMemory = stop.Memory
+stop_at_words kind = stop.NoText
+
 -- a font that cannot be opened cannot be read
-abbrev pub stop_of_kind : ErrorKind → Stop
-stop_of_kind OutOfMemory = stop.Memory
-stop_of_kind kind = stop.Unopened
+abbrev pub stop_at_open : ErrorKind → Stop
+stop_at_open OutOfMemory = stop.Memory
+stop_at_open kind = stop.Unopened
 
 abbrev pub stop_status : Stop → ℕ
 stop_status stop.Shown = 0

@@ -1,18 +1,18 @@
-//! A command done, over its font and the standard streams.
+//! A request done, over its font and the standard streams.
 
 ghost use Rattle.std.specs.Prelude.{◌≡◌, ◌≤◌, false};
-ghost use Rattle.tt_render_program.specs.Commands.{wanted, IsDefectFor};
+ghost use Rattle.tt_render_program.specs.Requests.{wanted, IsDefectFor};
 ghost use Rattle.tt_render_program.specs.Telling.{Does};
 
-use crate::command::Command;
+use crate::request::Request;
 use crate::telling::tell;
 use std::alloc::Global;
 use tt_core::{Sink, Source};
 
-/// Does what a command asks for, and tells a fault on standard error; answers the exit status.
+/// Does what a request asks for, and tells a fault on standard error; answers the exit status.
 pub fn perform<R: Source, W: Sink, E: Sink>(
     alloc: Global,
-    command: &Command,
+    request: &Request,
     font: &mut R,
     out: &mut W,
     error: &mut E,
@@ -20,8 +20,9 @@ pub fn perform<R: Source, W: Sink, E: Sink>(
     requires font { R.has_failed font.old ≡ false }
     requires out { W.has_failed out.old ≡ false }
     requires error { E.has_failed error.old ≡ false }
+    ensures range { result ≤ 5 }
     // Some answer stands for what went through the devices, and the status and the line are told of that answer.
-    ensures outcome { Does (wanted command.now) (IsDefectFor command.now) (record {
+    ensures outcome { Does (wanted request.now) (IsDefectFor request.now) (record {
       left_before = R.left font.old;
       left_after = R.left font.new;
       read_failed = R.has_failed font.new;
@@ -34,12 +35,12 @@ pub fn perform<R: Source, W: Sink, E: Sink>(
       failed = E.has_failed error.new;
     }) result }
 {
-    match command {
-        Command::Map { text, .. } => {
+    match request {
+        Request::Map { text, .. } => {
             let answer = tt_render::map(alloc, font, text, out);
             tell(alloc, &answer, error)
         }
-        Command::Draw { job, .. } => {
+        Request::Draw { job, .. } => {
             let answer = tt_render::run(alloc, font, out, job);
             tell(alloc, &answer, error)
         }

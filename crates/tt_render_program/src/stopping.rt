@@ -1,14 +1,14 @@
-//! The ends of the program at which no command is done.
+//! The ends of the program at which no request is done.
 
-ghost use Rattle.std.specs.Prelude.{◌≡◌, false};
-ghost use Rattle.tt_render_program.specs.Stops.{stop_of_kind, stop_status, stop_text};
+ghost use Rattle.std.specs.Prelude.{◌≡◌, ◌≤◌, false};
+ghost use Rattle.tt_render_program.specs.Stops.{stop_at_open, stop_at_words, stop_status, stop_text};
 ghost use Rattle.tt_render_program.specs.Telling.{Prints};
 
 use crate::telling::print;
 use std::io::ErrorKind;
 use tt_core::Sink;
 
-/// Why no command is done.
+/// Why no request is done.
 #[derive(Clone, Copy, Debug, PartialEq, Eq)]
 pub enum Stop {
     /// Help or the version was asked for, and is printed.
@@ -19,17 +19,27 @@ pub enum Stop {
     Refused,
     /// A word of the command line is no text.
     NoText,
-    /// A command or a word of it lacks, though clap let the command line pass.
+    /// A word lacks, though clap let the command line pass.
     Incomplete,
     /// The font cannot be opened.
     Unopened,
-    /// Memory was refused before a command was known, or its font open.
+    /// Memory was refused before a request was known, or its font open.
     Memory,
 }
 
+/// Why there are no words of a command line: memory, or a word that is no text.
+pub fn stop_of_words(kind: ErrorKind) -> Stop
+    ensures { result ≡ stop_at_words kind }
+{
+    match kind {
+        ErrorKind::OutOfMemory => Stop::Memory,
+        _ => Stop::NoText,
+    }
+}
+
 /// Why a font is not open.
-pub fn of_unopened(kind: ErrorKind) -> Stop
-    ensures { result ≡ stop_of_kind kind }
+pub fn stop_of_open(kind: ErrorKind) -> Stop
+    ensures { result ≡ stop_at_open kind }
 {
     match kind {
         ErrorKind::OutOfMemory => Stop::Memory,
@@ -37,9 +47,11 @@ pub fn of_unopened(kind: ErrorKind) -> Stop
     }
 }
 
-/// Says why no command is done on standard error; answers the exit status.
+/// Says on standard error why no request is done; answers the exit status.
+#[tactic(auto, using(crate::proofs::Statuses::stop_within))]
 pub fn tell_stop<E: Sink>(stop: Stop, error: &mut E) -> u8
     requires { E.has_failed error.old ≡ false }
+    ensures range { result ≤ 5 }
     ensures status { result ≡ stop_status stop }
     ensures text { Prints (record {
       before = E.written error.old;

@@ -1,6 +1,6 @@
 //! What is told of an answer: the exit status, and a line on standard error.
 
-ghost use Rattle.std.specs.Prelude.{◌≡◌, ◌++◌, false, codes, string_bytes, IfOk};
+ghost use Rattle.std.specs.Prelude.{◌≡◌, ◌≤◌, ◌++◌, false, codes, string_bytes, IfOk};
 ghost use Rattle.tt_render.specs.Report.{line_of};
 ghost use Rattle.tt_render_program.specs.Telling.{Prints, Tells};
 
@@ -15,7 +15,8 @@ const NO_MEMORY: &str = "tt_render: out of memory\n";
 /// Tells an answer on standard error; answers the exit status.
 pub(crate) fn tell<E: Sink>(alloc: Global, answer: &Result<(), RunFault>, error: &mut E) -> u8
     requires { E.has_failed error.old ≡ false }
-    ensures { Tells answer.now result (record {
+    ensures range { result ≤ 5 }
+    ensures told { Tells answer.now result (record {
       before = E.written error.old;
       after = E.written error.new;
       failed = E.has_failed error.new;
@@ -28,9 +29,11 @@ pub(crate) fn tell<E: Sink>(alloc: Global, answer: &Result<(), RunFault>, error:
 }
 
 /// Tells a fault, or want of memory where that is refused for the fault's line.
+#[tactic(auto, using(crate::proofs::Statuses::status_within))]
 fn tell_fault<E: Sink>(alloc: Global, fault: &RunFault, error: &mut E) -> u8
     requires { E.has_failed error.old ≡ false }
-    ensures { Tells (Err fault.now) result (record {
+    ensures range { result ≤ 5 }
+    ensures told { Tells (Err fault.now) result (record {
       before = E.written error.old;
       after = E.written error.new;
       failed = E.has_failed error.new;

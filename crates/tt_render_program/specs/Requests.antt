@@ -1,4 +1,4 @@
--- No part of the standard: what the program's commands ask for.
+-- No part of the standard: what the program's command lines ask for.
 use Rattle.std.specs.Prelude.{ℕ, List, codes, Option, Some, None, option_map, Result, if◌then◌else◌}
 use Rattle.std.specs.Str.{bytes_eq}
 use Rattle.tt_core.specs.Faults.{Fault}
@@ -8,9 +8,9 @@ use Rattle.tt_render.specs.Defects.{IsFaceDefect, IsRunDefect}
 use Rattle.tt_render.specs.MapLines.{map_outcome}
 use Rattle.tt_render.specs.Outcome.{Refused}
 use Rattle.tt_render.specs.Picture.{Ask, ask_of, run_outcome}
-use Rattle.tt_render_program.specs.declared.command.Command.{Command}
-use Rattle.tt_render_program.specs.declared.command.Command.TheVariants.{Map, Draw}
-use Rattle.tt_render_program.specs.declared.command.Words.{Words}
+use Rattle.tt_render_program.specs.declared.request.Request.{Request}
+use Rattle.tt_render_program.specs.declared.request.Request.TheVariants.{Map, Draw}
+use Rattle.tt_render_program.specs.declared.request.Words.{Words}
 
 -- the ways to fit by their names
 abbrev pub fit_named : List ℕ → Option Fit
@@ -20,12 +20,17 @@ fit_named name = if bytes_eq name (codes "none") then Some fit.None else None
 abbrev pub asked : Words → Option Ask
 asked w = option_map (λ f. record { text = w.text.now; ppem = w.size; margin = w.margin; fit = f }) (fit_named w.fit.now)
 
--- what a command writes for a font file, or why it writes nothing
-abbrev pub wanted : Command → List ℕ → Result (List ℕ) Refused
+-- the path of a request's font
+abbrev pub font_of : Request → List ℕ
+font_of (Map font text) = font.now
+font_of (Draw font job) = font.now
+
+-- what a request has written for a font file, or why it writes nothing
+abbrev pub wanted : Request → List ℕ → Result (List ℕ) Refused
 wanted (Map font text) = map_outcome text.now
 wanted (Draw font job) = run_outcome (ask_of job)
 
--- the defects of a font file for which a command refuses it
-abbrev pub IsDefectFor : Command → List ℕ → Fault → Type 0
+-- the defects of a font file for which a request is refused
+abbrev pub IsDefectFor : Request → List ℕ → Fault → Type 0
 IsDefectFor (Map font text) file fault = IsFaceDefect file fault
 IsDefectFor (Draw font job) file fault = IsRunDefect (ask_of job) file fault

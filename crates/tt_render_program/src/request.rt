@@ -2,18 +2,29 @@
 
 ghost use Rattle.std.specs.Prelude.{◌≡◌, option_map};
 ghost use Rattle.tt_render.specs.Picture.{ask_of};
-ghost use Rattle.tt_render_program.specs.Commands.{asked};
+ghost use Rattle.tt_render_program.specs.Requests.{asked, font_of};
 
 use tt_fit::Fit;
 use tt_render::Job;
 
-/// A command line that was understood.
+/// What a command line asks for.
 #[derive(Clone, Copy)]
-pub enum Command<'a> {
+pub enum Request<'a> {
     /// Write each character's code point, glyph and advance.
     Map { font: &'a str, text: &'a str },
     /// Draw a line of text.
     Draw { font: &'a str, job: Job<'a> },
+}
+
+impl<'a> Request<'a> {
+    /// The path of the font.
+    pub fn font(&self) -> &'a str
+        ensures { result.now ≡ font_of self.now }
+    {
+        match self {
+            Request::Map { font, .. } | Request::Draw { font, .. } => font,
+        }
+    }
 }
 
 /// The words of a drawing, as they stand on the command line.
