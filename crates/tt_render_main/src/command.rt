@@ -2,8 +2,7 @@
 
 use clap::{Arg, ArgAction, ArgMatches, Command, value_parser};
 use std::alloc::{AllocError, Global};
-use tt_fit::Fit;
-use tt_render::Job;
+use tt_render_program::{Request, Words, job_of};
 
 /// The words of `--fit`.
 static FITS: [&str; 1] = ["none"];
@@ -25,38 +24,51 @@ fn draw_command<'a>(alloc: Global) -> Result<Command<'a>, AllocError> {
         .after_help(
             "A TEXT that begins with '-' goes behind '--': tt_render draw --size N FONT -- -text",
         )
-        .arg(
-            number(alloc, "size")
-                .required(true)
-                .help("Pixels per em, 1 to 300"),
-        )?
-        .arg(
-            number(alloc, "margin")
-                .default_value("0")
-                .help("Pixels round the line, at most 64"),
-        )?
+        .arg(size(alloc))?
+        .arg(margin(alloc))?
         .arg(fit(alloc))?
-        .arg(word(alloc, "FONT").help("The path of a TrueType font file"))?
-        .arg(word(alloc, "TEXT").help("At most 4096 characters"))
+        .arg(font(alloc))?
+        .arg(text(alloc))
 }
 
 fn map_command<'a>(alloc: Global) -> Result<Command<'a>, AllocError> {
     Command::new(alloc, "map")
         .about("Prints each character's glyph number and advance in font units")
         .after_help("A TEXT that begins with '-' goes behind '--': tt_render map FONT -- -text")
-        .arg(word(alloc, "FONT").help("The path of a TrueType font file"))?
-        .arg(word(alloc, "TEXT").help("At most 4096 characters"))
+        .arg(font(alloc))?
+        .arg(text(alloc))
 }
 
-fn word<'a>(alloc: Global, name: &'a str) -> Arg<'a> {
-    Arg::new(alloc, name).required(true).action(ArgAction::Set)
+fn font<'a>(alloc: Global) -> Arg<'a> {
+    Arg::new(alloc, "FONT")
+        .required(true)
+        .action(ArgAction::Set)
+        .help("The path of a TrueType font file")
 }
 
-fn number<'a>(alloc: Global, name: &'a str) -> Arg<'a> {
-    Arg::new(alloc, name)
-        .long(name)
+fn text<'a>(alloc: Global) -> Arg<'a> {
+    Arg::new(alloc, "TEXT")
+        .required(true)
+        .action(ArgAction::Set)
+        .help("At most 4096 characters")
+}
+
+fn size<'a>(alloc: Global) -> Arg<'a> {
+    Arg::new(alloc, "size")
+        .long("size")
         .value_name("N")
         .value_parser(value_parser!(u32))
+        .required(true)
+        .help("Pixels per em, 1 to 300")
+}
+
+fn margin<'a>(alloc: Global) -> Arg<'a> {
+    Arg::new(alloc, "margin")
+        .long("margin")
+        .value_name("N")
+        .value_parser(value_parser!(u32))
+        .default_value("0")
+        .help("Pixels round the line, 0 to 64")
 }
 
 fn fit<'a>(alloc: Global) -> Arg<'a> {
@@ -68,19 +80,26 @@ fn fit<'a>(alloc: Global) -> Arg<'a> {
         .help("none: outlines are scaled only; a later version will run the fonts' programs")
 }
 
-/// What a command line asks of `draw`.
-pub(crate) fn job<'a>(draw: &ArgMatches<'a>) -> Option<Job<'a>> {
-    Some(Job {
-        text: draw.get_str("TEXT")?,
-        ppem: draw.get_one::<u32>("size")?,
-        margin: draw.get_one::<u32>("margin")?,
-        fit: fit_named(draw.get_str("fit")?)?,
-    })
-}
-
-fn fit_named(name: &str) -> Option<Fit> {
-    match name {
-        "none" => Some(Fit::None),
+/// What a command line asks for.
+pub(crate) fn request<'a>(matches: &ArgMatches<'a>) -> Option<Request<'a>> {
+    match matches.subcommand()? {
+        ("map", map) => Some(Request::Map {
+            font: map.get_str("FONT")?,
+            text: map.get_str("TEXT")?,
+        }),
+        ("draw", draw) => Some(Request::Draw {
+            font: draw.get_str("FONT")?,
+            job: job_of(&drawing(draw)?)?,
+        }),
         _ => None,
     }
+}
+
+fn drawing<'a>(draw: &ArgMatches<'a>) -> Option<Words<'a>> {
+    Some(Words {
+        text: draw.get_str("TEXT")?,
+        size: draw.get_one::<u32>("size")?,
+        margin: draw.get_one::<u32>("margin")?,
+        fit: draw.get_str("fit")?,
+    })
 }

@@ -1,64 +1,47 @@
-//! The program: its command line, its files, its texts and its exit status.
+//! The program: clap, the font's file and the standard streams, handed to tt_render_program, which decides.
 #![tactic(auto)]
 
-ghost use Rattle.std.specs.Prelude.{◌≡◌, ◌≤◌, ◌⊎◌};
-ghost use Rattle.tt_render.specs.Defects.{HasAsciiTable};
-ghost use Rattle.tt_render.specs.Report.{status_of};
+ghost use Rattle.std.specs.Prelude.{◌≤◌};
 
 mod command;
 
-use crate::command::{command, job};
+use crate::command::{command, request};
 use clap::error::ErrorKind;
 use clap::{ArgMatches, Error};
-use std::alloc::{AllocError, Global};
+use std::alloc::Global;
 use std::process::ExitCode;
-use std::rt::{Env, Files};
+use std::rt::{Env, Files, Stderr};
 use std::{env, fs, io};
 use tt_core::Device;
-use tt_render::{Job, RunFault};
-
-/// The line for want of memory, which takes none.
-const NO_MEMORY: &str = "tt_render: out of memory";
+use tt_render_program::{Stop, perform, stop_of_open, stop_of_words, tell_stop};
 
 fn main(rt: HostRuntime) -> ExitCode {
-    ExitCode::from(program(&rt))
+    ExitCode::from(program(&rt, rt.stderr()))
 }
 
-/// Reads the command line and does what it says; answers the exit status.
-fn program<R: Files + Env + Print + Eprint + AllocGlobal>(rt: &R) -> u8
+/// Reads the command line and does what it asks for; answers the exit status.
+fn program<R: Files + Env + Print + Eprint + AllocGlobal>(rt: &R, stderr: Stderr) -> u8
     ensures { result ≤ 5 }
 {
+    let mut errors = Device::new(stderr);
     let words = match words(rt) {
         Ok(words) => words,
-        Err(error) => return no_words(rt, &error),
+        Err(error) => return tell_stop(stop_of_words(error.kind()), &mut errors),
     };
     let matches = match matches(rt.alloc(), words.as_slice()) {
         Ok(matches) => matches,
-        Err(error) => return not_parsed(rt, &error),
+        Err(error) => return tell_stop(stop_of_error(rt, &error), &mut errors),
     };
-    match matches.subcommand() {
-        Some(("map", map)) => {
-            let (Some(font), Some(text)) = (map.get_str("FONT"), map.get_str("TEXT")) else {
-                return incomplete(rt);
-            };
-            print_map(rt, font, text)
-        }
-        Some(("draw", draw)) => {
-            let (Some(font), Some(job)) = (draw.get_str("FONT"), job(draw)) else {
-                return incomplete(rt);
-            };
-            print_picture(rt, font, &job)
-        }
-        _ => incomplete(rt),
-    }
-}
-
-/// clap has refused a command line without a command or its words; this only says so again.
-fn incomplete<R: Eprint>(rt: &R) -> u8
-    ensures { result ≡ 2 }
-{
-    let _ = rt.eprintln("tt_render: the command line is incomplete");
-    2
+    let Some(request) = request(&matches) else {
+        return tell_stop(Stop::Incomplete, &mut errors);
+    };
+    let file = match fs::open(rt, request.font()) {
+        Ok(file) => file,
+        Err(error) => return tell_stop(stop_of_open(error.kind()), &mut errors),
+    };
+    let mut font = Device::new(file);
+    let mut out = Device::new(io::writer(rt));
+    perform(rt.alloc(), &request, &mut font, &mut out, &mut errors)
 }
 
 fn words<R: Env + AllocGlobal>(rt: &R) -> io::Result<Vec<String>> {
@@ -70,92 +53,17 @@ fn matches<'a>(alloc: Global, words: &'a [String]) -> Result<ArgMatches<'a>, Err
     command(alloc)?.try_get_matches_from(words)
 }
 
-/// Writes the lines of `map` on standard output.
-fn print_map<R: Files + Print + Eprint + AllocGlobal>(rt: &R, path: &str, text: &str) -> u8
-    ensures { result ≤ 5 }
-{
-    let file = match fs::open(rt, path) {
-        Ok(file) => file,
-        Err(error) => return not_opened(rt, &error),
-    };
-    let mut font = Device::new(file);
-    let mut out = Device::new(io::writer(rt));
-    match tt_render::map(rt.alloc(), &mut font, text, &mut out) {
-        Ok(()) => 0,
-        Err(fault) => reported(rt, &fault),
-    }
-}
-
-/// Writes the picture of `draw` on standard output.
-fn print_picture<R: Files + Print + Eprint + AllocGlobal>(rt: &R, path: &str, job: &Job) -> u8
-    ensures { result ≤ 5 }
-{
-    let file = match fs::open(rt, path) {
-        Ok(file) => file,
-        Err(error) => return not_opened(rt, &error),
-    };
-    let mut font = Device::new(file);
-    let mut out = Device::new(io::writer(rt));
-    match tt_render::run(rt.alloc(), &mut font, &mut out, job) {
-        Ok(()) => 0,
-        Err(fault) => reported(rt, &fault),
-    }
-}
-
-/// Prints a fault's line on standard error; answers its exit status.
-fn reported<R: Eprint + AllocGlobal>(rt: &R, fault: &RunFault) -> u8
-    requires { HasAsciiTable fault.now }
-    ensures { (result ≡ status_of fault.now) ⊎ (result ≡ 5) }
-{
-    match tt_render::line(rt.alloc(), fault) {
-        Ok(line) => {
-            let _ = rt.eprintln(line.as_str());
-            tt_render::status(fault)
-        }
-        Err(AllocError) => no_memory(rt),
-    }
-}
-
-fn no_memory<R: Eprint>(rt: &R) -> u8
-    ensures { result ≡ 5 }
-{
-    let _ = rt.eprintln(NO_MEMORY);
-    tt_render::status(&RunFault::Memory)
-}
-
-/// A font that cannot be opened cannot be read.
-fn not_opened<R: Eprint + AllocGlobal>(rt: &R, error: &io::Error) -> u8
-    ensures { result ≤ 5 }
-{
-    if error.kind() == io::ErrorKind::OutOfMemory {
-        return no_memory(rt);
-    }
-    reported(rt, &RunFault::Read)
-}
-
-/// A word of the command line that is no text is a fault of the command line.
-fn no_words<R: Eprint>(rt: &R, error: &io::Error) -> u8
-    ensures { (result ≡ 2) ⊎ (result ≡ 5) }
-{
-    if error.kind() == io::ErrorKind::OutOfMemory {
-        return no_memory(rt);
-    }
-    let _ = rt.eprintln("tt_render: the command line is not UTF-8");
-    2
-}
-
-/// Help and the version go to standard output, with status 0; any other text is a fault.
-fn not_parsed<R: Print + Eprint>(rt: &R, error: &Error) -> u8
-    ensures { result ≤ 5 }
-{
+/// Prints what clap says: help and the version on standard output, all else on standard error.
+fn stop_of_error<R: Print + Eprint>(rt: &R, error: &Error) -> Stop {
     if error.kind() == ErrorKind::OutOfMemory {
-        return no_memory(rt);
+        return Stop::Memory;
     }
-    match error.print(rt) {
-        Err(_) if !error.use_stderr() => {
-            let _ = rt.eprintln("tt_render: cannot write the help");
-            4
-        }
-        _ => error.exit_code() as u8,
+    let printed = error.print(rt);
+    if error.use_stderr() {
+        Stop::Refused
+    } else if printed.is_ok() {
+        Stop::Shown
+    } else {
+        Stop::NotShown
     }
 }

@@ -1,11 +1,11 @@
 //! What the program decides: which job a command line makes, and which exit status and line each end has.
 #![tactic(auto)]
 
-mod request;
 mod performing;
+mod request;
 mod stopping;
 mod telling;
 
-pub use request::{Request, Words, job_of};
 pub use performing::perform;
+pub use request::{Request, Words, job_of};
 pub use stopping::{Stop, stop_of_open, stop_of_words, tell_stop};
