@@ -37,12 +37,12 @@ pub fn perform<R: Source, W: Sink, E: Sink>(
 {
     match request {
         Request::Map { text, .. } => {
-            let answer = tt_render::map(alloc, font, text, out);
-            tell(alloc, &answer, error)
+            let mapped = tt_render::map(alloc, font, text, out);
+            tell(alloc, &mapped, error)
         }
         Request::Draw { job, .. } => {
-            let answer = tt_render::run(alloc, font, out, job);
-            tell(alloc, &answer, error)
+            let drawn = tt_render::run(alloc, font, out, job);
+            tell(alloc, &drawn, error)
         }
     }
 }
