@@ -4,10 +4,11 @@ use Rattle.std.specs.Str.{bytes_eq}
 use Rattle.tt_core.specs.Faults.{Fault}
 use Rattle.tt_fit.specs.declared.programs.Fit.{Fit}
 use Rattle.tt_fit.specs.declared.programs.Fit.TheVariants as fit
+use Rattle.tt_render.specs.Asked.{Ask, ask_of}
 use Rattle.tt_render.specs.Defects.{IsFaceDefect, IsRunDefect}
-use Rattle.tt_render.specs.MapLines.{map_outcome}
-use Rattle.tt_render.specs.Outcome.{Refused}
-use Rattle.tt_render.specs.Picture.{Ask, ask_of, run_outcome}
+use Rattle.tt_render.specs.MapLines.{map_wanted}
+use Rattle.tt_render.specs.Outcome.{Wanted}
+use Rattle.tt_render.specs.Picture.{run_wanted}
 use Rattle.tt_render_program.specs.declared.request.Request.{Request}
 use Rattle.tt_render_program.specs.declared.request.Request.TheVariants.{Map, Draw}
 use Rattle.tt_render_program.specs.declared.request.Words.{Words}
@@ -25,10 +26,10 @@ abbrev pub font_of : Request → List ℕ
 font_of (Map font text) = font.now
 font_of (Draw font job) = font.now
 
--- what a request has written for a font file, or why it writes nothing
-abbrev pub wanted : Request → List ℕ → Result (List ℕ) Refused
-wanted (Map font text) = map_outcome text.now
-wanted (Draw font job) = run_outcome (ask_of job)
+-- what a request wants to be written for a font file, and the tests that it passes before the font is read
+abbrev pub wanted : Request → Wanted
+wanted (Map font text) = map_wanted text.now
+wanted (Draw font job) = run_wanted (ask_of job)
 
 -- the defects of a font file for which a request is refused
 abbrev pub IsDefectFor : Request → List ℕ → Fault → Type 0

@@ -5,7 +5,7 @@ use Rattle.tt_core.specs.Faults.{Fault}
 use Rattle.tt_render.specs.declared.fault.RunFault.{RunFault}
 use Rattle.tt_render.specs.declared.fault.RunFault.TheVariants as run
 use Rattle.tt_render.specs.Defects.{TellsDefectsOf}
-use Rattle.tt_render.specs.Outcome.{CallGives, Refused, Traffic}
+use Rattle.tt_render.specs.Outcome.{CallGives, Traffic, Wanted}
 use Rattle.tt_render.specs.Report.{line_of, status_of}
 
 -- standard error before a call and after it: the bytes that went out, and whether it has failed
@@ -36,7 +36,7 @@ Tells (Ok v) status e = (status ≡ 0) × PrintsNothing e
 Tells (Err fault) status e = TellsFault fault status e ⊎ TellsFault run.Memory status e
 
 -- a call gave some answer, with what its contract says of the devices, and the program told that answer
-pub record Does (wanted : List ℕ → Result (List ℕ) Refused) (IsDefect : List ℕ → Fault → Type 0) (t : Traffic) (e : Errors) (status : ℕ) : Type 0 where
+pub record Does (wanted : Wanted) (IsDefect : List ℕ → Fault → Type 0) (t : Traffic) (e : Errors) (status : ℕ) : Type 0 where
   pub answer : Result (Unit {0}) RunFault
   pub outcome : CallGives answer t wanted
   pub defects : TellsDefectsOf t.left_before IsDefect answer

@@ -1,7 +1,7 @@
 //! What a command line asks for.
 
 ghost use Rattle.std.specs.Prelude.{◌≡◌, option_map};
-ghost use Rattle.tt_render.specs.Picture.{ask_of};
+ghost use Rattle.tt_render.specs.Asked.{ask_of};
 ghost use Rattle.tt_render_program.specs.Requests.{asked, font_of};
 
 use tt_fit::Fit;
