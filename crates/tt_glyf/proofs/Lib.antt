@@ -1,3 +1,4 @@
+pub mod Broken
 pub mod Chains
 pub mod Components
 pub mod Contours

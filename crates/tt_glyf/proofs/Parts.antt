@@ -8,6 +8,7 @@ use Rattle.tt_core.specs.Outcomes.{◌>>=◌}
 use Rattle.tt_glyf.specs.declared.raw.Record.{Record}
 use Rattle.tt_glyf.specs.Bytes.{Stretch, Listing, byte_in, word_in, signed_in, slice_in}
 use Rattle.tt_glyf.specs.Composite.{Arguments, Transform, Program, signed8, argument_size, argument_at, arguments_at, transform_size, one_scale, identity, two_scales_at, two_by_two_at, transform_at, record_size, asks_scaled_offset, unscaled, known_glyph, record_at, records_from, more_components, arg_1_and_2_are_words, args_are_xy_values, we_have_a_scale, we_have_an_x_and_y_scale, we_have_a_two_by_two, has_program, program_of}
+use Rattle.tt_glyf.specs.Defects.{written_records, record_place, GoesOn}
 use Rattle.tt_glyf.specs.Flags.{has}
 use Rattle.tt_glyf.specs.Meaning.{written_argument, written_transform, record_of, written_component_flags, written_component, written_record, record_end, records_end, AreComponents}
 use Rattle.tt_glyf.proofs.Chains.{came-through, came-after, passed, passed-else}
@@ -144,6 +145,40 @@ record-was glyphs g at r was =
     let t = transform-was g flags (at + 4 + 2 * argument_size flags) by_t.value args.room by_t.first in
     rw (word-was g at flags by_flags.first).is at (part-make glyphs g at flags by_number.value by_glyph.value by_args.value by_t.value r by_t.rest number.is known args.is t)
 
+-- these are the records up to the last one, and the place behind them
+pub record AreUpTo (g : Stretch) (at : ℕ) (read : Listing Record) : Type 0 where
+  pub n : ℕ
+  pub goes_on : GoesOn g at n
+  pub stops : has (written_component_flags g.bytes (record_place g.bytes at n)) more_components ≡ false
+  pub items : written_records g at (suc n) ≡ read.items
+  pub next : record_place g.bytes at (suc n) ≡ read.next
+
+-- a record that is let pass
+pub record IsGoodRecord (glyphs : ℕ) (g : Stretch) (at n allowed : ℕ) : Type 0 where
+  pub few : n < allowed
+  pub known : written_component g.bytes at < glyphs
+  pub room : record_end g.bytes at ≤ length g.bytes
+  pub unscaled : asks_scaled_offset (written_record g at) ≡ false
+
+abbrev pub AreGoodRecords : ℕ → Stretch → ℕ → ℕ → Type 0
+AreGoodRecords glyphs g at allowed = (n : ℕ) → GoesOn g at n → IsGoodRecord glyphs g (record_place g.bytes at n) n allowed
+
+good-first : (glyphs : ℕ) (g : Stretch) (at allowed : ℕ) (r : Record) → IsPart glyphs g at r → IsGoodRecord glyphs g at 0 (suc allowed)
+good-first glyphs g at allowed r part =
+    let is : r ≡ written_record g at = part.is in
+    record { few = omega arith; known = part.known; room = part.room; unscaled = rw (← is) part.unscaled }
+
+good-last : (glyphs : ℕ) (g : Stretch) (at allowed : ℕ) (r : Record) (n : ℕ) → IsPart glyphs g at r → has (written_component_flags g.bytes at) more_components ≡ false → GoesOn g at n → IsGoodRecord glyphs g (record_place g.bytes at n) n (suc allowed)
+good-last glyphs g at allowed r zero part stops goes_on = good-first glyphs g at allowed r part
+good-last glyphs g at allowed r (suc n) part stops goes_on = let more = goes_on.0 in absurd cc
+
+good-more : (glyphs : ℕ) (g : Stretch) (at allowed : ℕ) (r : Record) (n : ℕ) → IsPart glyphs g at r → AreGoodRecords glyphs g (record_end g.bytes at) allowed → GoesOn g at n → IsGoodRecord glyphs g (record_place g.bytes at n) n (suc allowed)
+good-more glyphs g at allowed r zero part others goes_on = good-first glyphs g at allowed r part
+good-more glyphs g at allowed r (suc n) part others goes_on =
+    let good = others n goes_on.1 in
+    let few = good.few in
+    record { few = omega arith; known = good.known; room = good.room; unscaled = good.unscaled }
+
 -- the records that were read
 pub record ArePartsRead (glyphs : ℕ) (g : Stretch) (at allowed : ℕ) (read : Listing Record) : Type 0 where
   pub are : AreComponents g at read.items
@@ -152,6 +187,8 @@ pub record ArePartsRead (glyphs : ℕ) (g : Stretch) (at allowed : ℕ) (read : 
   pub known : All (λ r. r.glyph < glyphs) read.items
   pub end : read.next ≡ records_end g.bytes at read.items
   pub room : read.next ≤ length g.bytes
+  pub up_to : AreUpTo g at read
+  pub good : AreGoodRecords glyphs g at allowed
 
 flags-are : (glyphs : ℕ) (g : Stretch) (at : ℕ) (r : Record) → IsPart glyphs g at r → r.flags ≡ written_component_flags g.bytes at
 flags-are glyphs g at r part = ap (λ (x : Record). x.flags) part.is
@@ -168,6 +205,9 @@ components-more glyphs g at r (s ∷ rs) part goes_on are = (part.is, part.room,
 
 parts-last : (glyphs : ℕ) (g : Stretch) (at allowed : ℕ) (r : Record) → IsPart glyphs g at r → has r.flags more_components ≡ false → ArePartsRead glyphs g at (suc allowed) (record { items = r ∷ []; next = record_end g.bytes at })
 parts-last glyphs g at allowed r part stops =
+    let is : r ≡ written_record g at = part.is in
+    let flags = flags-are glyphs g at r part in
+    let stop : has (written_component_flags g.bytes at) more_components ≡ false = rw flags at stops in
     record {
       are = (part.is, part.room, stops);
       some = omega arith;
@@ -175,11 +215,17 @@ parts-last glyphs g at allowed r part stops =
       known = All-cons (λ r. r.glyph < glyphs) r [] (glyph-is glyphs g at r part) (λ k d below. absurd (omega arith));
       end = refl;
       room = part.room;
+      up_to = record { n = 0; goes_on = tt; stops = stop; items = rw (← is) refl; next = refl };
+      good = λ n goes_on. good-last glyphs g at allowed r n part stop goes_on;
     }
 
 parts-more : (glyphs : ℕ) (g : Stretch) (at allowed : ℕ) (r : Record) (rest : Listing Record) → IsPart glyphs g at r → has r.flags more_components ≡ true → ArePartsRead glyphs g (record_end g.bytes at) allowed rest → ArePartsRead glyphs g at (suc allowed) (record { items = r ∷ rest.items; next = rest.next })
 parts-more glyphs g at allowed r rest part goes_on read =
     let few = read.few in
+    let is : r ≡ written_record g at = part.is in
+    let flags = flags-are glyphs g at r part in
+    let more : has (written_component_flags g.bytes at) more_components ≡ true = rw flags at goes_on in
+    let others = read.up_to in
     record {
       are = components-more glyphs g at r rest.items part goes_on read.are;
       some = omega arith;
@@ -187,6 +233,8 @@ parts-more glyphs g at allowed r rest part goes_on read =
       known = All-cons (λ r. r.glyph < glyphs) r rest.items (glyph-is glyphs g at r part) read.known;
       end = read.end;
       room = read.room;
+      up_to = record { n = suc others.n; goes_on = (more, others.goes_on); stops = others.stops; items = rw (← is) (ap (λ (rs : List Record). r ∷ rs) others.items); next = others.next };
+      good = λ n goes_on. good-more glyphs g at allowed r n part read.good goes_on;
     }
 
 parts-cases : (glyphs : ℕ) (g : Stretch) (at allowed : ℕ) (r : Record) (rest : Listing Record) (m : Bool) → IsPart glyphs g at r → has r.flags more_components ≡ m → (if m then records_from glyphs g (at + record_size r.flags) allowed else Ok (record { items = []; next = at + record_size r.flags })) ≡ Ok rest → (records_from glyphs g (record_end g.bytes at) allowed ≡ Ok rest → ArePartsRead glyphs g (record_end g.bytes at) allowed rest) → ArePartsRead glyphs g at (suc allowed) (record { items = r ∷ rest.items; next = rest.next })

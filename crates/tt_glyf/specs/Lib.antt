@@ -1,6 +1,7 @@
 pub mod Bytes
 pub mod Composite
 pub mod Coordinates
+pub mod Defects
 pub mod Flags
 pub mod GlyphData
 pub mod Loca

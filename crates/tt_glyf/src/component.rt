@@ -1,9 +1,10 @@
 //! A component record. OpenType, "The 'glyf' table", "Composite Glyph Description".
 
-ghost use Rattle.std.specs.Prelude.{◌≡◌, ◌+◌, ◌*◌, ◌≤◌, length, IsTrue, IfOk, IfErr};
+ghost use Rattle.std.specs.Prelude.{◌≡◌, ◌+◌, ◌*◌, ◌≤◌, length, unsigned_abs, IsTrue, IfOk, IfErr};
 ghost use Rattle.tt_core.specs.Limits.{font_limit};
 ghost use Rattle.tt_core.specs.Outcomes.{Gives};
 ghost use Rattle.tt_glyf.specs.Composite.{signed8, argument_size, argument_at, arguments_at, transform_size, two_scales_at, two_by_two_at, transform_at, record_size, scales_offsets, is_identity, transform_of, has_arguments_zero, asks_scaled_offset, unscaled, known_glyph, record_at};
+ghost use Rattle.tt_glyf.specs.Meaning.{HasArguments, IsArgument};
 ghost use Rattle.tt_glyf.specs.Views.{arguments_of, transform_view};
 
 use crate::bytes::GlyphBytes;
@@ -52,7 +53,8 @@ pub(crate) fn record_size(flags: u16) -> usize
 
 /// 8 bits read as two's complement.
 fn signed_byte(byte: u8) -> i32
-    ensures { result ≡ signed8 byte }
+    ensures exact { result ≡ signed8 byte }
+    ensures bound { unsigned_abs result ≤ 128 }
 {
     if byte < 128 {
         i32::from(byte)
@@ -65,6 +67,7 @@ fn signed_byte(byte: u8) -> i32
 #[tactic(auto, unfolding(crate::specs::Composite::argument_at))]
 fn argument_at(glyph: &GlyphBytes, flags: u16, at: usize) -> Result<i32, Fault>
     ensures exact { Gives (λ a. a) result (argument_at glyph.now flags at) }
+    ensures bound { IfOk result (IsArgument flags) }
     ensures room { IfOk result (λ a. at + argument_size flags ≤ length glyph.now.bytes) }
     ensures limit { length glyph.now.bytes ≤ font_limit }
 {
@@ -94,6 +97,7 @@ struct Arguments {
 fn arguments_at(glyph: &GlyphBytes, flags: u16, at: usize) -> Result<Arguments, Fault>
     requires { at ≤ length glyph.now.bytes }
     ensures exact { Gives arguments_of result (arguments_at glyph.now flags at) }
+    ensures bound { IfOk result (λ a. IsArgument flags a.arg1 × IsArgument flags a.arg2) }
     ensures room { IfOk result (λ a. at + 2 * argument_size flags ≤ length glyph.now.bytes) }
 {
     let arg1 = argument_at(glyph, flags, at)?;
@@ -227,6 +231,7 @@ fn known_glyph(glyph: &GlyphBytes, glyphs: u16, at: usize, number: u16) -> Resul
 pub(crate) fn record_at(glyph: &GlyphBytes, glyphs: u16, at: usize) -> Result<Record, Fault>
     requires { at ≤ length glyph.now.bytes }
     ensures exact { Gives (λ r. r) result (record_at glyphs glyph.now at) }
+    ensures arguments { IfOk result HasArguments }
     ensures room { IfOk result (λ r. at + record_size r.flags ≤ length glyph.now.bytes) }
     ensures limit { length glyph.now.bytes ≤ font_limit }
 {

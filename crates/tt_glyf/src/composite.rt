@@ -1,8 +1,9 @@
 //! A composite glyph. OpenType, "The 'glyf' table", "Composite Glyph Description".
 
-ghost use Rattle.std.specs.Prelude.{◌≡◌, ◌+◌, ◌*◌, ◌<◌, ◌≤◌, length, vec_len, IsTrue, IfOk, IfErr};
+ghost use Rattle.std.specs.Prelude.{◌≡◌, ◌+◌, ◌*◌, ◌<◌, ◌≤◌, length, vec_len, All, IsTrue, IfOk, IfErr};
 ghost use Rattle.tt_core.specs.Outcomes.{Gives};
 ghost use Rattle.tt_glyf.specs.Composite.{records_of, has_program, program_of, composite_of};
+ghost use Rattle.tt_glyf.specs.Meaning.{HasArguments, IfComposite};
 ghost use Rattle.tt_glyf.specs.Raw.{glyph_data};
 ghost use Rattle.tt_core.specs.Outcomes.{FontGives};
 ghost use Rattle.tt_glyf.specs.Views.{records_listing, program_view};
@@ -26,6 +27,7 @@ struct RecordList {
 fn read_records(alloc: Global, glyph: &GlyphBytes, glyphs: u16) -> Result<RecordList, FontFault>
     requires { 10 ≤ length glyph.now.bytes }
     ensures exact { FontGives records_listing result (records_of glyphs glyph.now) }
+    ensures arguments { IfOk result (λ r. All HasArguments r.records.items) }
     ensures room { IfOk result (λ r. r.next ≤ length glyph.now.bytes) }
 {
     let mut records = Vec::new(alloc);
@@ -91,6 +93,7 @@ pub(crate) fn read_composite<'a>(
 ) -> Result<Raw<'a>, FontFault>
     requires { 10 ≤ length glyph.now.bytes }
     ensures exact { FontGives glyph_data result (composite_of glyphs glyph.now x_min) }
+    ensures arguments { IfOk result (λ r. IfComposite (glyph_data r) (λ c. All HasArguments c.records)) }
 {
     let list = read_records(alloc, glyph, glyphs)?;
     let program = read_program(glyph, &list)?;

@@ -1,13 +1,13 @@
 //! The glyph data of a font. Apple TrueType Reference Manual and OpenType, "The 'glyf' table".
 
-ghost use Rattle.std.specs.Prelude.{◌≡◌, ◌+◌, ◌-◌, ◌<◌, ◌≤◌, IsTrue, IfOk, IfErr, OnOk, length, false};
+ghost use Rattle.std.specs.Prelude.{◌≡◌, ◌+◌, ◌-◌, ◌<◌, ◌≤◌, IsTrue, IfOk, All, IfErr, OnOk, length, false};
 ghost use Rattle.tt_core.specs.Limits.{font_limit, point_limit};
 ghost use Rattle.tt_core.specs.Directory.{HasNo};
 ghost use Rattle.tt_core.specs.Outcomes.{Gives};
 ghost use Rattle.tt_glyf.specs.Bytes.{stretch_at};
 ghost use Rattle.tt_glyf.specs.GlyphData.{glyph_in, described, glyph_data_of};
 ghost use Rattle.tt_glyf.specs.Loca.{glyph_tables_of, tables_with, with_glyf, glyph_offset, has_no_bytes, bytes_between, glyph_bytes_of, IsLocaDefect, IsRangeDefect, AreTables};
-ghost use Rattle.tt_glyf.specs.Meaning.{IfSimple, IfComposite, stretch_of, flags_place, HasProgram, AreEnds, AreWords, ArePoints, AreComponents, AreRecords, AreCompositeWords};
+ghost use Rattle.tt_glyf.specs.Meaning.{IfSimple, IfComposite, stretch_of, flags_place, HasArguments, HasProgram, AreEnds, AreWords, ArePoints, AreComponents, AreRecords, AreCompositeWords};
 ghost use Rattle.tt_glyf.specs.Raw.{glyph_data};
 ghost use Rattle.tt_core.specs.Outcomes.{FontGives};
 ghost use Rattle.tt_glyf.specs.Views.{header_view};
@@ -119,6 +119,7 @@ impl<'a> Glyf<'a> {
         ensures records { IfOk result (λ r. IfComposite (glyph_data r) (λ c. AreRecords self.now.glyphs c.records)) }
         ensures words { IfOk result (λ r. IfSimple (glyph_data r) (AreWords (stretch_of self.now g))) }
         ensures composite_words { IfOk result (λ r. IfComposite (glyph_data r) (AreCompositeWords (stretch_of self.now g))) }
+        ensures arguments { IfOk result (λ r. IfComposite (glyph_data r) (λ c. All HasArguments c.records)) }
         ensures program { IfOk result (λ r. HasProgram self.now.glyf (glyph_data r)) }
         ensures limit { length self.now.glyf ≤ font_limit }
     {
@@ -130,6 +131,7 @@ impl<'a> Glyf<'a> {
     fn read_whole(&self, alloc: Global, g: u16) -> Result<Raw<'a>, FontFault>
         requires { g < self.now.glyphs }
         ensures exact { FontGives glyph_data result (glyph_data_of self.now g) }
+        ensures arguments { IfOk result (λ r. IfComposite (glyph_data r) (λ c. All HasArguments c.records)) }
         ensures limit { length self.now.glyf ≤ font_limit }
     {
         if self.has_no_bytes(g) {
@@ -144,6 +146,7 @@ impl<'a> Glyf<'a> {
 /// The glyph that some bytes of glyf describe.
 fn read_glyph<'a>(alloc: Global, glyph: &GlyphBytes<'a>, glyphs: u16) -> Result<Raw<'a>, FontFault>
     ensures exact { FontGives glyph_data result (glyph_in glyphs glyph.now) }
+    ensures arguments { IfOk result (λ r. IfComposite (glyph_data r) (λ c. All HasArguments c.records)) }
 {
     let header = read_header(glyph)?;
     read_described(alloc, glyph, header, glyphs)
@@ -159,6 +162,7 @@ fn read_described<'a>(
 ) -> Result<Raw<'a>, FontFault>
     requires { 10 ≤ length glyph.now.bytes }
     ensures exact { FontGives glyph_data result (described glyphs glyph.now (header_view header)) }
+    ensures arguments { IfOk result (λ r. IfComposite (glyph_data r) (λ c. All HasArguments c.records)) }
 {
     if header.contours < 0 {
         return read_composite(alloc, glyph, header.x_min, glyphs);

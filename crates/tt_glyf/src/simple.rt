@@ -1,8 +1,9 @@
 //! A simple glyph. OpenType, "The 'glyf' table", "Simple Glyph Description".
 
-ghost use Rattle.std.specs.Prelude.{◌≡◌, ◌+◌, ◌*◌, ◌^◌, ◌<◌, ◌≤◌, length, vec_len, IsTrue, IfOk, IfErr};
+ghost use Rattle.std.specs.Prelude.{◌≡◌, ◌+◌, ◌*◌, ◌^◌, ◌<◌, ◌≤◌, length, vec_len, All, IsTrue, IfOk, IfErr};
 ghost use Rattle.tt_core.specs.Limits.{point_limit};
 ghost use Rattle.tt_core.specs.Outcomes.{Gives};
+ghost use Rattle.tt_glyf.specs.Meaning.{HasArguments, IfComposite};
 ghost use Rattle.tt_glyf.specs.Raw.{glyph_data};
 ghost use Rattle.tt_core.specs.Outcomes.{FontGives};
 ghost use Rattle.tt_glyf.specs.Simple.{end_at, ends_of, points_within, points_from, points_of, simple_of};
@@ -137,6 +138,7 @@ pub(crate) fn read_simple<'a>(
     requires some { 0 < contours }
     requires size { contours < 2 ^ 16 }
     ensures exact { FontGives glyph_data result (simple_of glyph.now x_min contours) }
+    ensures arguments { IfOk result (λ r. IfComposite (glyph_data r) (λ c. All HasArguments c.records)) }
 {
     let list = read_ends(alloc, glyph, contours)?;
     let count = point_count(glyph, &list)?;
