@@ -84,10 +84,15 @@ last_at : (p : Dot) (ps : List Dot) → last_of p ps ≡ dot_at (p ∷ ps) (leng
 last_at p [] = refl
 last_at p (q ∷ ps) = last_at q ps
 
-of_two : (ps : List Dot) → 2 ≤ length ps → contour_edges ps ≡ flat_map (edges_at ps) (range_with_len 0 (length ps))
+pub of_two : (ps : List Dot) → 1 < length ps → contour_edges ps ≡ flat_map (edges_at ps) (range_with_len 0 (length ps))
 of_two ps two = rw (lt-ltb 1 (length ps) two) refl
 
-contour_whole : (p q : Dot) (ps : List Dot) → edges_along (last_of q ps) p (q ∷ ps) p ≡ contour_edges (p ∷ q ∷ ps)
+pub of_fewer : (ps : List Dot) → length ps < 2 → contour_edges ps ≡ []
+of_fewer [] few = refl
+of_fewer (p ∷ []) few = refl
+of_fewer (p ∷ q ∷ ps) few = absurd (omega arith)
+
+pub contour_whole : (p q : Dot) (ps : List Dot) → edges_along (last_of q ps) p (q ∷ ps) p ≡ contour_edges (p ∷ q ∷ ps)
 contour_whole p q ps =
     let less : length (p ∷ q ∷ ps) - 1 ≡ suc (length ps) = omega arith in
     let last : last_of q ps ≡ dot_at (p ∷ q ∷ ps) (place_before (length (p ∷ q ∷ ps)) 0) = rw less (last_at q ps) in
@@ -101,12 +106,6 @@ contour_is f (p ∷ q ∷ ps) d first before two is_first is_before =
     let less : length (p ∷ q ∷ ps) - 1 ≡ suc (length ps) = omega arith in
     let at_last = rw less at is_before in
     rw (rest_is p (q ∷ ps), is_first, at_last, ← last_is f q ps d) (contour_whole (f p) (f q) (map f ps))
-
--- a contour of fewer points has no edges
-pub no_contour : {X : Type 0} (f : X → Dot) (ps : List X) → length ps < 2 → contour_edges (map f ps) ≡ []
-no_contour f [] few = refl
-no_contour f (p ∷ []) few = refl
-no_contour f (p ∷ q ∷ ps) few = absurd (omega arith)
 
 -- one point of a contour done
 pub one_point_more : {X : Type 0} (f : X → Dot) (out new : List Edge) (xs : List X) (i : ℕ) (d : X) (before p after behind : Dot) → i < length xs → after ≡ f (get_or xs i d) → new ≡ out ++ edges_of before p after → new ++ edges_along p after (map f (drop (i + 1) xs)) behind ≡ out ++ edges_along before p (map f (drop i xs)) behind

@@ -4,6 +4,7 @@
 mod contour;
 mod curve;
 mod dot;
+pub mod laws;
 mod outline;
 
 pub use outline::chords;

@@ -1,4 +1,4 @@
-use Rattle.std.proofs.Common.{length, refl, ◌∙◌, add-one, arith}
+use Rattle.std.proofs.Common.{length, refl, ◌∙◌, add-one}
 use Rattle.std.specs.List.{slice_index}
 use Rattle.tt_arc.specs.Chords.{IsNear, moved}
 use Rattle.tt_arc.proofs.Contours.{all_of_slice, one_contour_more, start_within}

@@ -1,0 +1,60 @@
+-- What the edges of an outline come to, told of its single points.
+use Rattle.std.specs.Prelude.{◌≡◌, ◌≢◌, ◌↔◌, ◌⊎◌, ℕ, ◌<◌, Bool, true, false, ◌&&◌, if◌then◌else◌, ℤ, pos, negsuc, ◌+ℤ◌, int_lt, int_le, List, [], ◌∷◌, length, map, refl}
+use Rattle.std.specs.List.{Any}
+use Rattle.tt_scan.specs.declared.edge.Edge.{Edge}
+use Rattle.tt_scan.specs.Winding.{side, lies_on, lies_on_one, winding, is_black}
+use Rattle.tt_arc.specs.declared.dot.Dot.{Dot}
+use Rattle.tt_arc.specs.Chords.{moved, edges_of, edges_at, contour_at, chord_edges}
+
+-- contour c has two points or more, i is one of them, and (x, y) lies on an edge of that point
+pub record LiesOnEdgeOf (ps : List Dot) (ends : List ℕ) (x y : ℤ) (c i : ℕ) : Type 0 where
+  pub contour : c < length ends
+  pub two : 1 < length (contour_at ps ends c)
+  pub point : i < length (contour_at ps ends c)
+  pub on : Any (λ e. lies_on e x y ≡ true) (edges_at (contour_at ps ends c) i)
+
+-- this holds of some point of some contour of an outline moved by dx and dy
+abbrev pub LiesOnOutline : List (ℤ × ℤ × Bool) → List ℕ → ℤ → ℤ → ℤ → ℤ → Type 0
+LiesOnOutline points ends dx dy x y = (c : ℕ) × (i : ℕ) × LiesOnEdgeOf (map (moved dx dy) points) ends x y c i
+
+-- a place lies on the edges of an outline where it lies on an edge of a single point
+abbrev pub OnByPoints : Type 0
+OnByPoints = (points : List (ℤ × ℤ × Bool)) (ends : List ℕ) (dx dy x y : ℤ)
+    → (lies_on_one (chord_edges points ends dx dy) x y ≡ true) ↔ LiesOnOutline points ends dx dy x y
+
+-- it is black where it does, or where the edges go round it
+abbrev pub BlackByPoints : Type 0
+BlackByPoints = (points : List (ℤ × ℤ × Bool)) (ends : List ℕ) (dx dy x y : ℤ)
+    → (is_black (chord_edges points ends dx dy) x y ≡ true)
+    ↔ (LiesOnOutline points ends dx dy x y ⊎ (winding (chord_edges points ends dx dy) x y ≢ pos 0))
+
+-- what an edge adds to the winding of a place where the edges count that the place lies strictly left of: the turn at
+-- its height, which on this side goes round the place the other way
+abbrev pub turned_right : Edge → ℤ → ℤ → ℤ
+turned_right e x y =
+    if int_le e.ay y && int_lt y e.by && int_lt (pos 0) (side e x y) then negsuc 0
+    else (if int_le e.by y && int_lt y e.ay && int_lt (side e x y) (pos 0) then pos 1 else pos 0)
+
+abbrev pub winding_right : List Edge → ℤ → ℤ → ℤ
+winding_right [] x y = pos 0
+winding_right (e ∷ es) x y = turned_right e x y +ℤ winding_right es x y
+
+-- off the edges of an outline the winding is the same from either side
+abbrev pub SidesAgree : Type 0
+SidesAgree = (points : List (ℤ × ℤ × Bool)) (ends : List ℕ) (dx dy x y : ℤ)
+    → lies_on_one (chord_edges points ends dx dy) x y ≡ false
+    → winding (chord_edges points ends dx dy) x y ≡ winding_right (chord_edges points ends dx dy) x y
+
+-- worked values: inside a square, upwards on its left, and left of it
+square : List Edge
+square =
+    let points = (pos 0, pos 0, true) ∷ (pos 0, pos 2, true) ∷ (pos 2, pos 2, true) ∷ (pos 2, pos 0, true) ∷ [] in
+    chord_edges points (4 ∷ []) (pos 0) (pos 0)
+
+inside_from_the_right : winding_right square (pos 128) (pos 128) ≡ pos 1
+unfolding square edges_of
+inside_from_the_right = refl
+
+left_of_it_from_the_right : winding_right square (negsuc 0) (pos 128) ≡ pos 0
+unfolding square edges_of
+left_of_it_from_the_right = refl

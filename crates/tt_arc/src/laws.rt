@@ -1,0 +1,14 @@
+//! Laws of the definitions. Each function takes nothing and gives nothing: its clauses hold of all outlines.
+
+ghost use Rattle.tt_arc.specs.Laws.{OnByPoints, BlackByPoints, SidesAgree};
+
+/// Where a place lies on an outline, and where it is black, told of the outline's single points.
+pub fn outline_points()
+    ensures on { OnByPoints }
+    ensures black { BlackByPoints }
+{}
+
+/// The winding round a place, counted of the edges on its left or of those on its right.
+pub fn sides_agree()
+    ensures { SidesAgree }
+{}
