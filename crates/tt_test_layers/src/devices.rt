@@ -1,8 +1,8 @@
 //! Readers and writers that move few bytes, or fail.
 
-ghost use Rattle.std.specs.Prelude.{◌≡◌, ◌≤◌, false};
+ghost use Rattle.std.specs.Prelude.{◌≡◌, ◌≤◌, false, length};
 
-use std::io::{self, Read};
+use std::io::{self, ErrorKind, Read, Write};
 use tt_core::{IoFailed, Sink, Source};
 
 /// A reader of some bytes: at most `step` a call, and the call number `fails_at` fails.
@@ -137,7 +137,7 @@ impl Sink for Writer {
     }
 }
 
-/// A `Read` that is interrupted `times` times, and then gives one byte 7.
+/// A device that is interrupted `times` times, and then gives a byte 7, or takes one byte.
 #[derive(Drop)]
 pub(crate) struct Interrupted {
     pub(crate) times: u32,
@@ -147,12 +147,64 @@ impl Read for Interrupted {
     fn read(&mut self, buf: &mut [u8]) -> io::Result<usize> {
         if self.times > 0 {
             self.times -= 1;
-            return Err(io::Error::from(io::ErrorKind::Interrupted));
+            return Err(io::Error::from(ErrorKind::Interrupted));
         }
-        if buf.is_empty() {
-            return Ok(0);
-        }
-        buf[0] = 7;
-        Ok(1)
+        Ok(first_of(buf))
     }
+}
+
+impl Write for Interrupted {
+    fn write(&mut self, buf: &[u8]) -> io::Result<usize> {
+        if self.times > 0 {
+            self.times -= 1;
+            return Err(io::Error::from(ErrorKind::Interrupted));
+        }
+        Ok(buf.len().min(1))
+    }
+
+    fn flush(&mut self) -> io::Result<()> {
+        Ok(())
+    }
+}
+
+/// A device whose first `times` calls fail, and which then gives a byte 7, or takes one byte.
+#[derive(Drop)]
+pub(crate) struct Broken {
+    pub(crate) times: u32,
+}
+
+impl Read for Broken {
+    fn read(&mut self, buf: &mut [u8]) -> io::Result<usize> {
+        if self.times > 0 {
+            self.times -= 1;
+            return Err(io::Error::from(ErrorKind::BrokenPipe));
+        }
+        Ok(first_of(buf))
+    }
+}
+
+impl Write for Broken {
+    fn write(&mut self, buf: &[u8]) -> io::Result<usize> {
+        if self.times > 0 {
+            self.times -= 1;
+            return Err(io::Error::from(ErrorKind::BrokenPipe));
+        }
+        Ok(buf.len().min(1))
+    }
+
+    fn flush(&mut self) -> io::Result<()> {
+        Ok(())
+    }
+}
+
+/// Puts a byte 7 to the front, where there is room for one.
+fn first_of(buf: &mut [u8]) -> usize
+    ensures len { length buf.new ≡ length buf.old }
+    ensures bound { result ≤ length buf.new }
+{
+    if buf.is_empty() {
+        return 0;
+    }
+    buf[0] = 7;
+    1
 }

@@ -6,8 +6,8 @@ ghost use Rattle.tt_core.specs.Limits.{font_limit};
 use crate::test_font::TEST_FONT;
 use std::alloc::Global;
 use std::process::Abort;
-use tt_core::{Dir, FONT_LIMIT, Fault, Why};
-use tt_fit::{Fit, FontFault, Fitter, Outline, Programs};
+use tt_core::{Dir, FONT_LIMIT, Fault, FontFault, Why};
+use tt_fit::{Fit, Fitter, Outline, Programs};
 use tt_glyf::Glyf;
 use tt_metrics::Metrics;
 

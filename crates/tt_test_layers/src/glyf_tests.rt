@@ -4,10 +4,11 @@ ghost use Rattle.std.specs.Prelude.{◌≤◌, length};
 ghost use Rattle.tt_core.specs.Limits.{font_limit};
 
 use crate::test_font::TEST_FONT;
-use crate::{ComponentFlags, Glyf, FontFault, Raw, RawPoint, Record};
 use std::alloc::Global;
 use std::process::Abort;
-use tt_core::{Dir, FONT_LIMIT, Fault, Why};
+use std::test::Fail;
+use tt_core::{Dir, FONT_LIMIT, Fault, FontFault, Why};
+use tt_glyf::{ComponentFlags, Glyf, Raw, RawPoint, Record};
 use tt_metrics::Metrics;
 
 /// Glyphs 0 and 2 have no bytes, and glyph 1 has all of glyf, to which its bytes are cut.
@@ -69,8 +70,8 @@ fn is_square(rt: &impl Abort, raw: Raw) -> bool {
             assert_eq!(rt; x_min, 64);
             assert_eq!(rt; points.len(), 4);
             assert_eq!(rt; ends.len(), 1);
-            assert!(rt; points.into_vec().as_slice() == corners.as_slice());
-            assert!(rt; ends.into_vec().as_slice() == [3].as_slice());
+            assert!(rt; points.as_slice() == corners.as_slice());
+            assert!(rt; ends.as_slice() == [3].as_slice());
             assert!(rt; code.is_empty());
             assert_eq!(rt; code_at, 14);
             true
@@ -244,4 +245,66 @@ fn a_defect_of_loca_is_told_at_its_place(rt: HostRuntime) {
     let behind = [0x00, 0x00, 0x00, 0x0B, 0x00, 0x0C, 0x00, 0x0C];
     let short = fault_of(glyph_1(&rt, rt.alloc(), &behind, &SQUARE));
     assert_eq!(rt; short, Some(Fault::new(*b"glyf", 22, Why::GlyphShort)));
+}
+
+/// A composite of 32 components, as many as one may have: of each another glyph or other offsets.
+#[test]
+fn as_many_components_as_one_may_have_are_read(rt: HostRuntime) {
+    let mut glyph = [0u8; 202];
+    glyph[0] = 0xFF;
+    glyph[1] = 0xFF;
+    for i in 0..32usize {
+        let at = 10 + 6 * i;
+        // offsets, and more components but for the last; glyph i modulo 3; i and -i
+        glyph[at + 1] = if i < 31 { 0x22 } else { 0x02 };
+        glyph[at + 3] = i as u8 % 3;
+        glyph[at + 4] = i as u8;
+        glyph[at + 5] = 0u8.wrapping_sub(i as u8);
+    }
+    match glyph_1(&rt, rt.alloc(), &LOCA, &glyph) {
+        Ok(Raw::Composite { records, code, .. }) => {
+            assert_eq!(rt; records.len(), 32);
+            assert!(rt; code.is_empty());
+            let mut i = 0i32;
+            for part in &records {
+                assert_eq!(rt;
+                    (part.at as i32, i32::from(part.glyph)),
+                    (10i32.wrapping_add(i.wrapping_mul(6)), i % 3)
+                );
+                assert_eq!(rt; (part.arg1, part.arg2), (i, 0i32.wrapping_sub(i)));
+                i = i.wrapping_add(1);
+            }
+        }
+        _ => panic!(rt; "a composite"),
+    }
+}
+
+/// One contour of 16,384 points, as many as a glyph may have, each one unit to the right of the last.
+#[test]
+fn as_many_points_as_a_glyph_may_have_are_read(rt: HostRuntime) -> Result<(), Fail> {
+    let mut glyph = Vec::from_slice(
+        rt.alloc(),
+        &[0, 1, 0, 0, 0, 0, 0, 0, 0, 0, 0x3F, 0xFF, 0, 0],
+    )?;
+    for _ in 0..64 {
+        // on the curve, a positive byte along x, the same y; 255 times more
+        glyph.extend_from_slice(&[0x3B, 0xFF])?;
+    }
+    for _ in 0..16384 {
+        glyph.push(1)?;
+    }
+    assert!(rt; glyph.len() <= 20000);
+    match glyph_1(&rt, rt.alloc(), &LOCA, &glyph) {
+        Ok(Raw::Simple { points, ends, .. }) => {
+            assert_eq!(rt; points.len(), 16384);
+            assert!(rt; ends.as_slice() == [16383].as_slice());
+            let mut x = 0i16;
+            for point in &points {
+                x = x.wrapping_add(1);
+                assert!(rt; *point == RawPoint { x, y: 0, on: true }, "point {x}");
+            }
+        }
+        _ => panic!(rt; "a simple glyph"),
+    }
+    Ok(())
 }

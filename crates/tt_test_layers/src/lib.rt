@@ -8,6 +8,8 @@ mod devices;
 #[cfg(test)]
 mod fit_tests;
 #[cfg(test)]
+mod glyf_tests;
+#[cfg(test)]
 mod line_tests;
 #[cfg(test)]
 mod map_tests;

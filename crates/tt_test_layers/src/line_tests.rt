@@ -5,8 +5,8 @@ use std::alloc::Global;
 use std::process::Abort;
 use std::test::Fail;
 use tt_cmap::Cmap;
-use tt_core::{Dir, JobFault};
-use tt_line::{LINE_LIMIT, Line, LineFault, lay};
+use tt_core::{Dir, JobFault, MARGIN_LIMIT, SIZE_LIMIT, TEXT_LIMIT};
+use tt_line::{Line, LineFault, lay};
 use tt_metrics::Metrics;
 
 /// A text in a font as long as the test font.
@@ -22,8 +22,8 @@ fn laid(
     let metrics = Metrics::open(&dir).expect(rt, "metrics");
     let cmap = dir.needed(*b"cmap").expect(rt, "a cmap");
     let cmap = Cmap::open(cmap, metrics.glyphs()).expect(rt, "characters");
-    assert!(rt; text.chars().count() <= LINE_LIMIT);
-    assert!(rt; ppem <= 300 && margin <= 64);
+    assert!(rt; text.chars().count() <= TEXT_LIMIT);
+    assert!(rt; ppem <= SIZE_LIMIT && margin <= MARGIN_LIMIT);
     lay(alloc, &metrics, &cmap, text, ppem, margin)
 }
 
