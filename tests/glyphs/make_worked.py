@@ -1,22 +1,22 @@
 #!/usr/bin/env python3
-"""Makes worked.txt: the small fonts of the project's file of worked answers, which is no part of this repository, each with
-its glyphs as fontTools reads them.
+"""Makes worked.txt: the small fonts of ../rows/draw.txt, each with its glyphs as fontTools reads them.
 
-  /usr/bin/python3 tests/glyphs/make_worked.py ROWS.JSON > tests/glyphs/worked.txt
+  apt-get install python3-fonttools
+  /usr/bin/python3 tests/glyphs/make_worked.py
 
-Made with fontTools 4.38.0. Taken is each font that some case draws without a refusal.
+Made with fontTools 4.38.0 (Debian's python3-fonttools 4.38.0-1+deb12u1). Taken is each font that some case draws without a
+refusal, under the name of the first.
 """
-import hashlib
 import io
-import json
 import logging
-import sys
+import pathlib
 
 from fontTools.ttLib import TTFont
 
 from make_expected import fields
 
 logging.disable(logging.WARNING)
+HERE = pathlib.Path(__file__).parent
 HEAD = """\
 # Small fonts, made by make_worked.py: a font a line,
 #   NAME FONT GLYPHS
@@ -25,21 +25,30 @@ HEAD = """\
 """
 
 
+def fonts():
+    """Returns the name of each font, by its bytes."""
+    found = {}
+    for line in (HERE.parent / "rows/draw.txt").read_text(encoding="utf-8").split("\n"):
+        words = line.split()
+        if line.startswith("font "):
+            whole = bytes.fromhex(words[1])
+        elif len(words) > 6 and words[5] == "0":
+            found.setdefault(whole if words[1] == "whole" else bytes.fromhex(words[1]), words[0])
+    return found
+
+
 def main():
-    with open(sys.argv[1]) as it:
-        cases = json.load(it)
-    fonts = dict.fromkeys(c["font_hex"] for c in cases if c["command"] == "draw" and c["expect"]["status"] == 0)
-    print(HEAD, end="")
-    for digits in fonts:
-        data = bytes.fromhex(digits)
-        font = TTFont(io.BytesIO(data))
-        glyf = font["glyf"]
-        lines = []
-        for number, name in enumerate(font.getGlyphOrder()):
-            glyph = glyf.glyphs[name]
-            glyph.expand(glyf)
-            lines.append(",".join(map(str, (number, *fields(font, glyph)))))
-        print("font_" + hashlib.sha256(data).hexdigest()[:8], digits, ";".join(lines))
+    with open(HERE / "worked.txt", "w", encoding="utf-8") as out:
+        print(HEAD, end="", file=out)
+        for data, name in fonts().items():
+            font = TTFont(io.BytesIO(data))
+            glyf = font["glyf"]
+            lines = []
+            for number, it in enumerate(font.getGlyphOrder()):
+                glyph = glyf.glyphs[it]
+                glyph.expand(glyf)
+                lines.append(",".join(map(str, (number, *fields(font, glyph)))))
+            print(name, data.hex(), ";".join(lines), file=out)
 
 
 main()

@@ -102,9 +102,9 @@ def extent(font, size):
     return -(-hhea.ascent * size // em), -(hhea.descent * size // em)
 
 
-def drawn(size, margin, path, text):
-    """Returns the P4 file of a line."""
-    font = TTFont(path)
+def drawn(size, margin, file, text):
+    """Returns the P4 file of a line; the font is a path, or a file that is open."""
+    font = TTFont(file)
     outlines, glyphs = Outlines(font, size), glyphs_of(font, text)
     widths = [nearest(font["hmtx"][font.getGlyphName(it)][0] * size, font["head"].unitsPerEm) for it in glyphs]
     width = sum(widths) + 2 * margin
@@ -144,4 +144,5 @@ def main():
             print(hashlib.sha256(drawn(size, margin, path, text)).hexdigest(), size, margin, path, text, file=out)
 
 
-main()
+if __name__ == "__main__":
+    main()
