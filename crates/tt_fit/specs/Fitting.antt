@@ -8,6 +8,7 @@ use Rattle.tt_core.specs.Outcomes.{◌>>=◌}
 use Rattle.tt_glyf.specs.Bytes.{byte_in, word_in, signed_in, slice_in}
 use Rattle.tt_glyf.specs.Composite.{transform_at, argument_at, arguments_at, unscaled, known_glyph, record_at, records_from, program_of, composite_of}
 use Rattle.tt_glyf.specs.Coordinates.{delta_at, within_words, coordinate_at, coordinates_from}
+use Rattle.tt_glyf.specs.declared.raw.RawPoint.{RawPoint}
 use Rattle.tt_glyf.specs.declared.raw.Record.{Record}
 use Rattle.tt_glyf.specs.Flags.{run_at, flags_from}
 use Rattle.tt_glyf.specs.GlyphData.{glyph_data_of, header_of, described}
@@ -56,10 +57,14 @@ joined add (r ∷ rs) o = add r o >>= joined add rs
 abbrev pub glyph_program : Setting → ℕ → List ℕ → ℕ → GlyphProgram
 glyph_program s g code code_at = record { code = code; code_at = code_at; glyph_at = glyph_offset s.tables g }
 
+-- the outline of a simple glyph, begun without points: its points scaled, and its program over them
+abbrev pub simple_outline : Setting → ℕ → List RawPoint → List ℕ → GlyphProgram → Shape → Result Shape Fault
+simple_outline s g points ends program o = scaled_outline (size_of s) (glyph_offset s.tables g) points ends o >>= finished s.hints program
+
 -- the outline of a glyph, by what a record adds to the outline so far
 abbrev pub made : Setting → (Record → Shape → Result Shape Fault) → ℕ → GlyphData → Result Shape Fault
 made s add g empty = start s (pos 0) g
-made s add g (simple d) = start s d.x_min g >>= scaled_outline (size_of s) (glyph_offset s.tables g) d.points d.ends >>= finished s.hints (glyph_program s g d.code d.code_at)
+made s add g (simple d) = start s d.x_min g >>= simple_outline s g d.points d.ends (glyph_program s g d.code d.code_at)
 made s add g (composite d) = start s d.x_min g >>= joined add d.records >>= finished s.hints (glyph_program s g d.code d.code_at)
 
 abbrev pub outline_by : Setting → (Record → Shape → Result Shape Fault) → ℕ → Result Shape Fault

@@ -4,9 +4,10 @@ ghost use Rattle.std.specs.Prelude.{◌≡◌, ◌<◌, ◌≤◌, IsTrue, IfOk,
 ghost use Rattle.tt_core.specs.Limits.{point_limit, size_limit};
 ghost use Rattle.tt_core.specs.Outcomes.{FontGives, Gives};
 ghost use Rattle.tt_glyf.specs.Loca.{glyph_offset};
+ghost use Rattle.tt_glyf.specs.Meaning.{AreEnds as EndContours};
 ghost use Rattle.tt_metrics.specs.Metrics.{loca_format_of, glyphs_of};
 ghost use Rattle.tt_fit.specs.Components.{placed};
-ghost use Rattle.tt_fit.specs.Fitting.{IsSetting, hinted_by, size_of, start, glyph_program, joined, added, outline_at, fitted_outline};
+ghost use Rattle.tt_fit.specs.Fitting.{IsSetting, hinted_by, size_of, start, glyph_program, simple_outline, joined, added, outline_at, fitted_outline};
 ghost use Rattle.tt_fit.specs.Outline.{outline_of, phantom_of, IsPoint, ArePhantom, AreEnds, IsOutline};
 ghost use Rattle.tt_fit.specs.Preparation.{program_tables, setting_of};
 ghost use Rattle.tt_fit.specs.Programs.{AreHints};
@@ -21,7 +22,7 @@ use crate::size::Size;
 use std::alloc::Global;
 use std::marker::{Model, PhantomData};
 use tt_core::{Fault, FontFault, LEVEL_LIMIT, Why};
-use tt_glyf::{Glyf, Raw, Record};
+use tt_glyf::{Glyf, Raw, RawPoint, Record};
 use tt_metrics::Metrics;
 
 /// Makes the outlines of a font at a size. A clause sees it as the glyph data, the metrics, the size,
@@ -125,6 +126,29 @@ impl<'a> Fitter<'a> {
         }
     }
 
+    /// The outline of a simple glyph, begun without points. Errors: CoordRange, Memory.
+    fn simple(
+        &self,
+        hints: &Hints,
+        g: u16,
+        points: &[RawPoint],
+        last_points: &[u16],
+        program: Program,
+        start: Outline,
+    ) -> Result<Outline, FontFault>
+        requires hints { AreHints (hints_of hints.now) }
+        requires known { g < self.now.tables.glyphs }
+        requires few { length points.now ≤ point_limit }
+        requires ends { EndContours (length points.now) last_points.now }
+        requires start { IsOutline (outline_of start) }
+        ensures exact { FontGives outline_of result (simple_outline (hinted_by self.now (hints_of hints.now)) g points.now last_points.now (program_view program) (outline_of start)) }
+        ensures sound { IfOk result (λ o. IsOutline (outline_of o)) }
+    {
+        let at = self.glyf.start(g);
+        let scaled = scaled_outline(self.alloc, self.size(), at, points, last_points, start)?;
+        finished(self.alloc, hints, program, scaled)
+    }
+
     /// The outline of a glyph, where so many levels of components are left.
     #[cycle(fitting)]
     fn outline(&self, hints: &Hints, levels: u32, g: u16) -> Result<Outline, FontFault>
@@ -143,16 +167,8 @@ impl<'a> Fitter<'a> {
                 code_at,
             } => {
                 let start = self.start(x_min, g)?;
-                let at = self.glyf.start(g);
-                let scaled = scaled_outline(
-                    self.alloc,
-                    self.size(),
-                    at,
-                    points.as_slice(),
-                    ends.as_slice(),
-                    start,
-                )?;
-                finished(self.alloc, hints, self.program(g, code, code_at), scaled)
+                let program = self.program(g, code, code_at);
+                self.simple(hints, g, &points, &ends, program, start)
             }
             Raw::Composite {
                 x_min,
