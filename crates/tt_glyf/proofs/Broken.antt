@@ -1,5 +1,5 @@
 -- Where a glyph is refused, the defect that its fault names stands in its bytes.
-use Rattle.std.proofs.Common.{◌≡◌, ℕ, zero, suc, ◌+◌, ◌-◌, ◌*◌, ◌<◌, ◌≤◌, min, Bool, true, false, ◌==◌, nat_lt, int_lt, if◌then◌else◌, List, [], ◌∷◌, ◌++◌, length, take, fold, Ok, Err, inl, inr, ℤ, pos, unsigned_abs, ◌+ℤ◌, ◌<ℤ◌, refl, arith, sym, add-one, ap, zero-add, ◌∙◌}
+use Rattle.std.proofs.Common.{◌≡◌, ℕ, zero, suc, ◌+◌, ◌-◌, ◌*◌, ◌<◌, ◌≤◌, min, Bool, true, false, ◌==◌, nat_lt, int_lt, if◌then◌else◌, List, [], ◌∷◌, ◌++◌, length, take, fold, Result, Ok, Err, inl, inr, ℤ, pos, unsigned_abs, ◌+ℤ◌, ◌<ℤ◌, refl, arith, sym, add-one, ap, zero-add, ◌∙◌}
 use Rattle.std.specs.Prelude.{◌⊎◌, slice_index}
 use Rattle.std.proofs.Math.ListN.{replicate}
 use Rattle.std.proofs.lemmas.Bool.Decides.{nat_tests}
@@ -40,8 +40,8 @@ IsEndDefect g at before f = IsCut g (at + 2) f ⊎ ((at + 2 ≤ length g.bytes) 
 
 end-broke : (g : Stretch) (at before : ℕ) (f : Fault) → end_at g at before ≡ Err f → IsEndDefect g at before f
 unfolding end_at IsEndDefect
-end-broke g at before f was = elim was-err (word_in g at) (rising g at before) f was [
-  | inl no ↦ let s = word-short g at f no in inl (s.ends, s.is)
+end-broke g at before f was = elim (was-err (word_in g at) (rising g at before) f was) [
+  | inl here ↦ let s = word-short g at f here in inl (s.ends, s.is)
   | inr later ↦
     let word = word-was g at later.value later.first in
     let p = failed (nat_lt later.value before) _ later.value f later.rest in
@@ -60,19 +60,19 @@ AreEndsBad g contours f = IsCut g (size_place contours) f ⊎ IsFallingEnd g con
 end-falls : (g : Stretch) (i contours : ℕ) (f : Fault) → i < contours → IsEndDefect g (end_place i) (end_before g.bytes i) f → AreEndsBad g contours f
 unfolding IsEndDefect
 end-falls g zero contours f within bad = elim bad [
-  | inl no ↦ inl (further g (end_place 0 + 2) (size_place contours) f (omega arith) no)
+  | inl here ↦ inl (further g (end_place 0 + 2) (size_place contours) f (omega arith) here)
   | inr falls ↦ let below = falls.1 in absurd (omega arith)
 ]
 end-falls g (suc i) contours f within bad = elim bad [
-  | inl no ↦ inl (further g (end_place (suc i) + 2) (size_place contours) f (omega arith) no)
-  | inr falls ↦ inr (rw (← add-one i) at (i, within, falls.0, falls.1, falls.2))
+  | inl here ↦ inl (further g (end_place (suc i) + 2) (size_place contours) f (omega arith) here)
+  | inr falls ↦ inr (i, omega arith, rw (add-one i) falls.0, rw (add-one i) falls.1, rw (add-one i) falls.2)
 ]
 
 pub ends-broke : (g : Stretch) (i n before contours : ℕ) (f : Fault) → i + n ≡ contours → before ≡ end_before g.bytes i → ends_from g (end_place i) n before ≡ Err f → AreEndsBad g contours f
 unfolding ends_from
 ends-broke g i zero before contours f total last was = absurd cc
-ends-broke g i (suc n) before contours f total last was = elim was-err (end_at g (end_place i) before) _ f was [
-  | inl no ↦ end-falls g i contours f (omega arith) (rw last at (end-broke g (end_place i) before f no))
+ends-broke g i (suc n) before contours f total last was = elim (was-err (end_at g (end_place i) before) _ f was) [
+  | inl here ↦ end-falls g i contours f (omega arith) (rw last at (end-broke g (end_place i) before f here))
   | inr later ↦
     let end = end-was g (end_place i) before later.value later.first in
     let place : end_place i + 2 ≡ end_place (suc i) = omega arith in
@@ -88,8 +88,8 @@ abbrev IsBadAs : Stretch → ℕ → ℕ → Run → Fault → Type 0
 IsBadAs g at left r f = IsCut g r.next f ⊎ ((left ≤ r.copies) × (f ≡ glyph_fault g at why.FlagRun))
 
 run-broke-cases : (g : Stretch) (at left flag : ℕ) (repeats : Bool) (f : Fault) → (if repeats then (byte_in g (at + 1) >>= λ copies. run_within g at left (record { flag = flag; copies = copies; next = at + 2 })) else Ok (record { flag = flag; copies = 0; next = at + 1 })) ≡ Err f → IsBadAs g at left (run_as g.bytes at flag repeats) f
-run-broke-cases g at left flag true f was = elim was-err (byte_in g (at + 1)) _ f was [
-  | inl no ↦ inl (cut g (at + 1 + 1) (at + 2) f (omega arith) (byte-short g (at + 1) f no))
+run-broke-cases g at left flag true f was = elim (was-err (byte_in g (at + 1)) _ f was) [
+  | inl here ↦ inl (cut g (at + 1 + 1) (at + 2) f (omega arith) (byte-short g (at + 1) f here))
   | inr later ↦
     let byte = byte-was g (at + 1) later.value later.first in
     let p = failed-else (nat_lt later.value left) _ (record { flag = flag; copies = later.value; next = at + 2 }) f later.rest in
@@ -104,8 +104,8 @@ run-goes-on bytes at flag false = omega arith
 
 run-broke : (g : Stretch) (at left : ℕ) (f : Fault) → run_at g at left ≡ Err f → IsBadRun g at left f
 unfolding run_at
-run-broke g at left f was = elim was-err (byte_in g at) _ f was [
-  | inl no ↦ inl (cut g (at + 1) (written_run g.bytes at).next f (run-goes-on g.bytes at (slice_index g.bytes at) (has (slice_index g.bytes at) repeat_flag)) (byte-short g at f no))
+run-broke g at left f was = elim (was-err (byte_in g at) _ f was) [
+  | inl here ↦ inl (cut g (at + 1) (written_run g.bytes at).next f (run-goes-on g.bytes at (slice_index g.bytes at) (has (slice_index g.bytes at) repeat_flag)) (byte-short g at f here))
   | inr later ↦
     let flag = byte-was g at later.value later.first in
     rw flag.is at (run-broke-cases g at left later.value (has later.value repeat_flag) f later.rest)
@@ -130,8 +130,8 @@ pub flags-broke : (fuel : ℕ) (g : Stretch) (at left : ℕ) (f : Fault) → lef
 unfolding flags_from
 flags-broke fuel g at zero f enough was = absurd cc
 flags-broke zero g at (suc left) f enough was = absurd (omega arith)
-flags-broke (suc fuel) g at (suc left) f enough was = elim was-err (run_at g at (suc left)) (λ r. after (replicate (suc r.copies) r.flag) (flags_from fuel g r.next (left - r.copies))) f was [
-  | inl no ↦ flags-first g at left f (run-broke g at (suc left) f no)
+flags-broke (suc fuel) g at (suc left) f enough was = elim (was-err (run_at g at (suc left)) (λ r. after (replicate (suc r.copies) r.flag) (flags_from fuel g r.next (left - r.copies))) f was) [
+  | inl here ↦ flags-first g at left f (run-broke g at (suc left) f here)
   | inr later ↦
     let r = later.value in
     let rest = after-err (replicate (suc r.copies) r.flag) (flags_from fuel g r.next (left - r.copies)) f later.rest in
@@ -142,14 +142,14 @@ flags-broke (suc fuel) g at (suc left) f enough was = elim was-err (run_at g at 
 abbrev delta_as : List ℕ → ℕ → Bool → Bool → Delta
 delta_as bytes at short same = if short then record { by = short_delta same (slice_index bytes at); next = at + 1 } else (if same then record { by = pos 0; next = at } else record { by = signed16 (unsigned_at bytes at 2); next = at + 2 })
 
-delta-broke-cases : (g : Stretch) (at : ℕ) (short same : Bool) (f : Fault) → (if short then (byte_in g at >>= λ byte. Ok (record { by = short_delta same byte; next = at + 1 })) else (if same then Ok (record { by = pos 0; next = at }) else (signed_in g at >>= λ word. Ok (record { by = word; next = at + 2 })))) ≡ Err f → IsCut g (delta_as g.bytes at short same).next f
-delta-broke-cases g at true same f was = elim was-err (byte_in g at) _ f was [
-  | inl no ↦ let s = byte-short g at f no in (s.ends, s.is)
+delta-broke-cases : (g : Stretch) (at : ℕ) (short same : Bool) (f : Fault) → ◌≡◌ {A = Result Delta Fault} (if short then (byte_in g at >>= λ byte. Ok (record { by = short_delta same byte; next = at + 1 })) else (if same then Ok (record { by = pos 0; next = at }) else (signed_in g at >>= λ word. Ok (record { by = word; next = at + 2 })))) (Err f) → IsCut g (delta_as g.bytes at short same).next f
+delta-broke-cases g at true same f was = elim (was-err (byte_in g at) _ f was) [
+  | inl here ↦ let s = byte-short g at f here in (s.ends, s.is)
   | inr later ↦ let rest = later.rest in absurd cc
 ]
 delta-broke-cases g at false true f was = absurd cc
-delta-broke-cases g at false false f was = elim was-err (signed_in g at) _ f was [
-  | inl no ↦ let s = signed-short g at f no in (s.ends, s.is)
+delta-broke-cases g at false false f was = elim (was-err (signed_in g at) _ f was) [
+  | inl here ↦ let s = signed-short g at f here in (s.ends, s.is)
   | inr later ↦ let rest = later.rest in absurd cc
 ]
 
@@ -185,16 +185,18 @@ AreSumsBad g a flags before f =
     ⊎ (LeavesFrom before.value (deltas g.bytes a flags before.next) × (f ≡ glyph_fault g 0 why.CoordRange))
 
 sums-more : (g : Stretch) (a : Axis) (flag : ℕ) (flags : List ℕ) (before c : Coordinate) (f : Fault) → c ≡ summed before (written_delta g.bytes a flag before.next) → AreSumsBad g a flags c f → AreSumsBad g a (flag ∷ flags) before f
-sums-more g a flag flags before c f is bad = elim rw is at bad [
-  | inl no ↦ inl no
+sums-more g a flag flags before c f is bad =
+  let there : AreSumsBad g a flags (summed before (written_delta g.bytes a flag before.next)) f = rw is at bad in
+  elim there [
+  | inl here ↦ inl here
   | inr leaves ↦ inr (leaves-more before.value (written_delta g.bytes a flag before.next).by (deltas g.bytes a flags (written_delta g.bytes a flag before.next).next) leaves.0, leaves.1)
 ]
 
 -- the coordinate of one point
 coordinate-broke : (g : Stretch) (a : Axis) (flag : ℕ) (flags : List ℕ) (before : Coordinate) (f : Fault) → before.next ≤ length g.bytes → coordinate_at g a flag before ≡ Err f → AreSumsBad g a (flag ∷ flags) before f
 unfolding coordinate_at within_words
-coordinate-broke g a flag flags before f le was = elim was-err (delta_at g a flag before.next) _ f was [
-  | inl no ↦ inl (further g (written_delta g.bytes a flag before.next).next (deltas_end g.bytes a (flag ∷ flags) before.next) f (deltas-go-on g.bytes a flags (written_delta g.bytes a flag before.next).next) (delta-broke g a flag before.next f no))
+coordinate-broke g a flag flags before f le was = elim (was-err (delta_at g a flag before.next) _ f was) [
+  | inl here ↦ inl (further g (written_delta g.bytes a flag before.next).next (deltas_end g.bytes a (flag ∷ flags) before.next) f (deltas-go-on g.bytes a flags (written_delta g.bytes a flag before.next).next) (delta-broke g a flag before.next f here))
   | inr later ↦
     let d = delta-was g a flag before.next later.value le later.first in
     let p = failed-else (is_coordinate (summed before later.value).value) _ (summed before later.value) f later.rest in
@@ -205,8 +207,8 @@ coordinate-broke g a flag flags before f le was = elim was-err (delta_at g a fla
 pub sums-broke : (g : Stretch) (a : Axis) (flags : List ℕ) (before : Coordinate) (f : Fault) → before.next ≤ length g.bytes → coordinates_from g a flags before ≡ Err f → AreSumsBad g a flags before f
 unfolding coordinates_from
 sums-broke g a [] before f le was = absurd cc
-sums-broke g a (flag ∷ flags) before f le was = elim was-err (coordinate_at g a flag before) _ f was [
-  | inl no ↦ coordinate-broke g a flag flags before f le no
+sums-broke g a (flag ∷ flags) before f le was = elim (was-err (coordinate_at g a flag before) _ f was) [
+  | inl here ↦ coordinate-broke g a flag flags before f le here
   | inr later ↦
     let next = coordinate-was g a flag before later.value le later.first in
     let rest = after-err (later.value.value ∷ []) (coordinates_from g a flags later.value) f later.rest in
@@ -222,7 +224,7 @@ x-broke g at n flags f covered bad =
     let runs = covered.runs in
     let is : AreSumsBad g x_axis (written_flags g.bytes at runs) (origin (runs_end g.bytes at runs)) f = rw (covered.covers, covered.end) at bad in
     (runs, covered.many, elim is [
-      | inl no ↦ inl (further g (y_place g.bytes at runs) (points_end g.bytes at runs) f (deltas-go-on g.bytes y_axis (written_flags g.bytes at runs) (y_place g.bytes at runs)) no)
+      | inl here ↦ inl (further g (y_place g.bytes at runs) (points_end g.bytes at runs) f (deltas-go-on g.bytes y_axis (written_flags g.bytes at runs) (y_place g.bytes at runs)) here)
       | inr leaves ↦ inr (inl leaves.0, leaves.1)
     ])
 
@@ -233,7 +235,7 @@ y-broke g at n flags xs f covered read bad =
     let at_y : AreSumsBad g y_axis flags.items (origin (deltas_end g.bytes x_axis flags.items flags.next)) f = rw next at bad in
     let is : AreSumsBad g y_axis (written_flags g.bytes at runs) (origin (y_place g.bytes at runs)) f = rw (covered.covers, covered.end) at at_y in
     (runs, covered.many, elim is [
-      | inl no ↦ inl no
+      | inl here ↦ inl here
       | inr leaves ↦ inr (inr leaves.0, leaves.1)
     ])
 
@@ -242,25 +244,25 @@ all-of n = omega arith
 
 pub points-broke : (g : Stretch) (at n : ℕ) (f : Fault) → at ≤ length g.bytes → points_of g at n ≡ Err f → ArePointsBad g at n f
 unfolding points_of
-points-broke g at n f le was = elim was-err (flags_from n g at n) _ f was [
-  | inl no ↦ inl (flags-broke n g at n f (all-of n) no)
+points-broke g at n f le was = elim (was-err (flags_from n g at n) _ f was) [
+  | inl here ↦ inl (flags-broke n g at n f (all-of n) here)
   | inr by_flags ↦
     let flags = by_flags.value in
     let covered = flags-were n g at n flags (all-of n) le by_flags.first in
-    inr (elim was-err (coordinates_from g x_axis flags.items (origin flags.next)) _ f by_flags.rest [
-      | inl no ↦ x-broke g at n flags f covered (sums-broke g x_axis flags.items (origin flags.next) f covered.room no)
+    inr (elim (was-err (coordinates_from g x_axis flags.items (origin flags.next)) _ f by_flags.rest) [
+      | inl here ↦ x-broke g at n flags f covered (sums-broke g x_axis flags.items (origin flags.next) f covered.room here)
       | inr by_xs ↦
         let xs = by_xs.value in
         let read = coordinates-were g x_axis flags.items (origin flags.next) xs covered.room by_xs.first in
-        elim was-err (coordinates_from g y_axis flags.items (origin xs.next)) _ f by_xs.rest [
-          | inl no ↦ y-broke g at n flags xs f covered read (sums-broke g y_axis flags.items (origin xs.next) f read.room no)
+        elim (was-err (coordinates_from g y_axis flags.items (origin xs.next)) _ f by_xs.rest) [
+          | inl here ↦ y-broke g at n flags xs f covered read (sums-broke g y_axis flags.items (origin xs.next) f read.room here)
           | inr by_ys ↦ let rest = by_ys.rest in absurd cc
         ]
     ])
 ]
 
 -- how many points there are, by the ends that were read
-count-is : (bytes : List ℕ) (contours : ℕ) (ends : Listing ℕ) → 0 < contours → EndsRead bytes 10 contours 0 ends → point_count ends.items ≡ written_points bytes contours
+pub count-is : (bytes : List ℕ) (contours : ℕ) (ends : Listing ℕ) → 0 < contours → EndsRead bytes 10 contours 0 ends → point_count ends.items ≡ written_points bytes contours
 count-is bytes contours ends some read =
     let many = read.many in
     let word = read.words (contours - 1) (omega arith) in
@@ -287,8 +289,8 @@ points-behind g contours n size ends f some read count is bad =
 
 pub simple-broke : (g : Stretch) (x_min : ℤ) (contours : ℕ) (f : Fault) → 10 ≤ length g.bytes → 0 < contours → simple_of g x_min contours ≡ Err f → IsSimpleDefect g contours f
 unfolding simple_of
-simple-broke g x_min contours f header some was = elim was-err (ends_of g contours) _ f was [
-  | inl no ↦ elim ends-broke g 0 contours 0 contours f (zero-add contours) refl no [
+simple-broke g x_min contours f header some was = elim (was-err (ends_of g contours) _ f was) [
+  | inl here ↦ elim (ends-broke g 0 contours 0 contours f (zero-add contours) refl here) [
       | inl short ↦ inl (further g (size_place contours) (flags_place g.bytes contours) f (omega arith) short)
       | inr falls ↦ inr (inl falls)
     ]
@@ -296,25 +298,25 @@ simple-broke g x_min contours f header some was = elim was-err (ends_of g contou
     let ends = by_ends.value in
     let read = ends-were g 10 contours 0 ends header by_ends.first in
     let next = read.next in
-    elim was-err (points_within g ends) _ f by_ends.rest [
-      | inl no ↦ inr (inr (inl (many-broke g contours ends f some read no)))
+    elim (was-err (points_within g ends) _ f by_ends.rest) [
+      | inl here ↦ inr (inr (inl (many-broke g contours ends f some read here)))
       | inr by_count ↦
         let n = by_count.value in
         let count = count-was g ends n by_count.first in
-        elim was-err (word_in g ends.next) _ f by_count.rest [
-          | inl no ↦ inl (cut g (ends.next + 2) (flags_place g.bytes contours) f (omega arith) (word-short g ends.next f no))
+        elim (was-err (word_in g ends.next) _ f by_count.rest) [
+          | inl here ↦ inl (cut g (ends.next + 2) (flags_place g.bytes contours) f (omega arith) (word-short g ends.next f here))
           | inr by_size ↦
             let size = by_size.value in
             let word = word-was g ends.next size by_size.first in
             let place : ends.next + 2 + size ≡ flags_place g.bytes contours = rw (word.is, next) refl in
-            elim was-err (slice_in g (ends.next + 2) size) _ f by_size.rest [
-              | inl no ↦ inl (cut g (ends.next + 2 + size) (flags_place g.bytes contours) f (omega arith) (slice-short g (ends.next + 2) size f no))
+            elim (was-err (slice_in g (ends.next + 2) size) _ f by_size.rest) [
+              | inl here ↦ inl (cut g (ends.next + 2 + size) (flags_place g.bytes contours) f (omega arith) (slice-short g (ends.next + 2) size f here))
               | inr by_code ↦
                 let code = slice-was g (ends.next + 2) size by_code.value by_code.first in
                 let room = code.1.room in
                 let many = code.0 in
-                elim was-err (points_of g (ends.next + 2 + size) n) _ f by_code.rest [
-                  | inl no ↦ inr (inr (inr (points-behind g contours n size ends f some read count.is word.is (points-broke g (ends.next + 2 + size) n f (omega arith) no))))
+                elim (was-err (points_of g (ends.next + 2 + size) n) _ f by_code.rest) [
+                  | inl here ↦ inr (inr (inr (points-behind g contours n size ends f some read count.is word.is (points-broke g (ends.next + 2 + size) n f (omega arith) here))))
                   | inr by_points ↦ let rest = by_points.rest in absurd cc
                 ]
             ]

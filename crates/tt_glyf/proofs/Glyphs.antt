@@ -179,7 +179,7 @@ glyph-was glyphs g d was =
     described-was glyphs g d header.room (rw header.is at by_header.rest)
 
 -- the bytes of a glyph, where loca's entries differ
-record AreBytes (t : GlyphTables) (g : ℕ) (bytes : List ℕ) : Type 0 where
+pub record AreBytes (t : GlyphTables) (g : ℕ) (bytes : List ℕ) : Type 0 where
   pub is : bytes ≡ bytes_between t g
   pub ordered : glyph_offset t g ≤ min (glyph_offset t (g + 1)) (length t.glyf)
 
@@ -188,7 +188,7 @@ bytes-cases t g true out f bytes some is was = absurd cc
 bytes-cases t g false true f bytes some is was = absurd cc
 bytes-cases t g false false f bytes some is was = record { is = cc; ordered = grind (arith, nat_tests) }
 
-bytes-were : (t : GlyphTables) (g : ℕ) (bytes : List ℕ) → has_no_bytes t g ≡ false → glyph_bytes_of t g ≡ Ok bytes → AreBytes t g bytes
+pub bytes-were : (t : GlyphTables) (g : ℕ) (bytes : List ℕ) → has_no_bytes t g ≡ false → glyph_bytes_of t g ≡ Ok bytes → AreBytes t g bytes
 unfolding glyph_bytes_of
 bytes-were t g bytes some was = bytes-cases t g (has_no_bytes t g) (is_out_of_range t g) _ bytes some refl was
 

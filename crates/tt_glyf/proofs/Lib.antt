@@ -1,12 +1,16 @@
+pub mod BadRecords
 pub mod Broken
 pub mod Chains
 pub mod Components
 pub mod Contours
 pub mod Deltas
 pub mod Fields
+pub mod Reading
 pub mod Runs
 pub mod Sums
 pub mod Covers
+pub mod Defects
+pub mod Whole
 pub mod Outlines
 pub mod Places
 pub mod Glyphs

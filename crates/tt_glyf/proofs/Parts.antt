@@ -166,7 +166,7 @@ AreGoodRecords glyphs g at allowed = (n : ℕ) → GoesOn g at n → IsGoodRecor
 good-first : (glyphs : ℕ) (g : Stretch) (at allowed : ℕ) (r : Record) → IsPart glyphs g at r → IsGoodRecord glyphs g at 0 (suc allowed)
 good-first glyphs g at allowed r part =
     let is : r ≡ written_record g at = part.is in
-    record { few = omega arith; known = part.known; room = part.room; unscaled = rw (← is) part.unscaled }
+    record { few = omega arith; known = part.known; room = part.room; unscaled = rw is at part.unscaled }
 
 good-last : (glyphs : ℕ) (g : Stretch) (at allowed : ℕ) (r : Record) (n : ℕ) → IsPart glyphs g at r → has (written_component_flags g.bytes at) more_components ≡ false → GoesOn g at n → IsGoodRecord glyphs g (record_place g.bytes at n) n (suc allowed)
 good-last glyphs g at allowed r zero part stops goes_on = good-first glyphs g at allowed r part
@@ -190,7 +190,7 @@ pub record ArePartsRead (glyphs : ℕ) (g : Stretch) (at allowed : ℕ) (read : 
   pub up_to : AreUpTo g at read
   pub good : AreGoodRecords glyphs g at allowed
 
-flags-are : (glyphs : ℕ) (g : Stretch) (at : ℕ) (r : Record) → IsPart glyphs g at r → r.flags ≡ written_component_flags g.bytes at
+pub flags-are : (glyphs : ℕ) (g : Stretch) (at : ℕ) (r : Record) → IsPart glyphs g at r → r.flags ≡ written_component_flags g.bytes at
 flags-are glyphs g at r part = ap (λ (x : Record). x.flags) part.is
 
 glyph-is : (glyphs : ℕ) (g : Stretch) (at : ℕ) (r : Record) → IsPart glyphs g at r → r.glyph < glyphs

@@ -9,7 +9,8 @@ ghost use Rattle.tt_glyf.specs.GlyphData.{glyph_in, described, glyph_data_of};
 ghost use Rattle.tt_glyf.specs.Loca.{glyph_tables_of, tables_with, with_glyf, glyph_offset, has_no_bytes, bytes_between, glyph_bytes_of, IsLocaDefect, IsRangeDefect, AreTables};
 ghost use Rattle.tt_glyf.specs.Meaning.{IfSimple, IfComposite, stretch_of, flags_place, HasArguments, HasProgram, AreEnds, AreWords, ArePoints, AreComponents, AreRecords, AreCompositeWords};
 ghost use Rattle.tt_glyf.specs.Raw.{glyph_data};
-ghost use Rattle.tt_core.specs.Outcomes.{FontGives};
+ghost use Rattle.tt_core.specs.Outcomes.{FontGives, IfTold, font_fault};
+ghost use Rattle.tt_glyf.specs.Defects.{IsGlyphDefect};
 ghost use Rattle.tt_glyf.specs.Views.{header_view};
 
 use crate::bytes::GlyphBytes;
@@ -112,6 +113,9 @@ impl<'a> Glyf<'a> {
     pub fn read(&self, alloc: Global, g: u16) -> Result<Raw<'a>, FontFault>
         requires { g < self.now.glyphs }
         ensures exact { FontGives glyph_data result (glyph_data_of self.now g) }
+        // On Ok nothing is wrong with the glyph, and a fault tells what is.
+        ensures sound { OnOk result (HasNo (IsGlyphDefect self.now g)) }
+        ensures fault { IfTold font_fault result (IsGlyphDefect self.now g) }
         ensures few { IfOk result (λ r. IfSimple (glyph_data r) (λ s. length s.points ≤ point_limit)) }
         ensures ends { IfOk result (λ r. IfSimple (glyph_data r) (λ s. AreEnds (length s.points) s.ends)) }
         ensures sums { IfOk result (λ r. IfSimple (glyph_data r) (λ s. ArePoints (bytes_between self.now g) (flags_place (bytes_between self.now g) (length s.ends)) s.points)) }
@@ -123,8 +127,7 @@ impl<'a> Glyf<'a> {
         ensures program { IfOk result (λ r. HasProgram self.now.glyf (glyph_data r)) }
         ensures limit { length self.now.glyf ≤ font_limit }
     {
-        let raw = self.read_whole(alloc, g)?;
-        Ok(raw)
+        self.read_whole(alloc, g)
     }
 
     #[tactic(auto, unfolding(crate::specs::GlyphData::glyph_data_of))]

@@ -1,27 +1,41 @@
-use Rattle.tt_glyf.specs.Raw.{glyph_data}
+use Rattle.std.specs.Prelude.{◌≤◌, length}
+use Rattle.tt_core.specs.Directory.{HasNo}
+use Rattle.tt_core.specs.Limits.{point_limit}
+use Rattle.tt_glyf.specs.Defects.{IsGlyphDefect}
+use Rattle.tt_glyf.specs.GlyphData.{glyph_data_of}
+use Rattle.tt_glyf.specs.Loca.{bytes_between}
+use Rattle.tt_glyf.specs.Meaning.{IfSimple, IfComposite, stretch_of, flags_place, HasProgram, AreEnds, AreWords, ArePoints, AreComponents, AreRecords, AreCompositeWords}
+use Rattle.tt_glyf.proofs.Defects.{glyph-broke, glyph-whole}
 use Rattle.tt_glyf.proofs.Glyphs.{glyph-is}
+use Rattle.tt_glyf.proofs.Reading.{if-read, on-read, if-broke}
 use Rattle.tt_glyf.proofs.glyf.Glyf.read.Goals as goal
 
 pub returns-clause-few : goal.returns-clause-few
-returns-clause-few c = (glyph-is c.args.self.now c.args.g (glyph_data c.in_ok-raw.raw) c.in_ok-raw.ensures.exact).few
+returns-clause-few c = if-read c.read_whole.result (glyph_data_of c.args.self.now c.args.g) (λ d. IfSimple d (λ s. length s.points ≤ point_limit)) c.read_whole.ensures.exact (λ d was. (glyph-is c.args.self.now c.args.g d was).few)
 
 pub returns-clause-ends : goal.returns-clause-ends
-returns-clause-ends c = (glyph-is c.args.self.now c.args.g (glyph_data c.in_ok-raw.raw) c.in_ok-raw.ensures.exact).ends
+returns-clause-ends c = if-read c.read_whole.result (glyph_data_of c.args.self.now c.args.g) (λ d. IfSimple d (λ s. AreEnds (length s.points) s.ends)) c.read_whole.ensures.exact (λ d was. (glyph-is c.args.self.now c.args.g d was).ends)
 
 pub returns-clause-sums : goal.returns-clause-sums
-returns-clause-sums c = (glyph-is c.args.self.now c.args.g (glyph_data c.in_ok-raw.raw) c.in_ok-raw.ensures.exact).points
-
-pub returns-clause-components : goal.returns-clause-components
-returns-clause-components c = (glyph-is c.args.self.now c.args.g (glyph_data c.in_ok-raw.raw) c.in_ok-raw.ensures.exact).components
-
-pub returns-clause-records : goal.returns-clause-records
-returns-clause-records c = (glyph-is c.args.self.now c.args.g (glyph_data c.in_ok-raw.raw) c.in_ok-raw.ensures.exact).records
-
-pub returns-clause-program : goal.returns-clause-program
-returns-clause-program c = (glyph-is c.args.self.now c.args.g (glyph_data c.in_ok-raw.raw) c.in_ok-raw.ensures.exact).program
+returns-clause-sums c = if-read c.read_whole.result (glyph_data_of c.args.self.now c.args.g) (λ d. IfSimple d (λ s. ArePoints (bytes_between c.args.self.now c.args.g) (flags_place (bytes_between c.args.self.now c.args.g) (length s.ends)) s.points)) c.read_whole.ensures.exact (λ d was. (glyph-is c.args.self.now c.args.g d was).points)
 
 pub returns-clause-words : goal.returns-clause-words
-returns-clause-words c = (glyph-is c.args.self.now c.args.g (glyph_data c.in_ok-raw.raw) c.in_ok-raw.ensures.exact).words
+returns-clause-words c = if-read c.read_whole.result (glyph_data_of c.args.self.now c.args.g) (λ d. IfSimple d (AreWords (stretch_of c.args.self.now c.args.g))) c.read_whole.ensures.exact (λ d was. (glyph-is c.args.self.now c.args.g d was).words)
+
+pub returns-clause-components : goal.returns-clause-components
+returns-clause-components c = if-read c.read_whole.result (glyph_data_of c.args.self.now c.args.g) (λ d. IfComposite d (λ x. AreComponents (stretch_of c.args.self.now c.args.g) 10 x.records)) c.read_whole.ensures.exact (λ d was. (glyph-is c.args.self.now c.args.g d was).components)
+
+pub returns-clause-records : goal.returns-clause-records
+returns-clause-records c = if-read c.read_whole.result (glyph_data_of c.args.self.now c.args.g) (λ d. IfComposite d (λ x. AreRecords c.args.self.now.glyphs x.records)) c.read_whole.ensures.exact (λ d was. (glyph-is c.args.self.now c.args.g d was).records)
 
 pub returns-clause-composite_words : goal.returns-clause-composite_words
-returns-clause-composite_words c = (glyph-is c.args.self.now c.args.g (glyph_data c.in_ok-raw.raw) c.in_ok-raw.ensures.exact).composite_words
+returns-clause-composite_words c = if-read c.read_whole.result (glyph_data_of c.args.self.now c.args.g) (λ d. IfComposite d (AreCompositeWords (stretch_of c.args.self.now c.args.g))) c.read_whole.ensures.exact (λ d was. (glyph-is c.args.self.now c.args.g d was).composite_words)
+
+pub returns-clause-program : goal.returns-clause-program
+returns-clause-program c = if-read c.read_whole.result (glyph_data_of c.args.self.now c.args.g) (λ d. HasProgram c.args.self.now.glyf d) c.read_whole.ensures.exact (λ d was. (glyph-is c.args.self.now c.args.g d was).program)
+
+pub returns-clause-sound : goal.returns-clause-sound
+returns-clause-sound c = on-read c.read_whole.result (glyph_data_of c.args.self.now c.args.g) (HasNo (IsGlyphDefect c.args.self.now c.args.g)) c.read_whole.ensures.exact (λ d was. glyph-whole c.args.self.now c.args.g d was)
+
+pub returns-clause-fault : goal.returns-clause-fault
+returns-clause-fault c = if-broke c.read_whole.result (glyph_data_of c.args.self.now c.args.g) (IsGlyphDefect c.args.self.now c.args.g) c.read_whole.ensures.exact (λ f was. glyph-broke c.args.self.now c.args.g f was)
