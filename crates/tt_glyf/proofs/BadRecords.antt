@@ -1,5 +1,5 @@
 -- Where a composite glyph is refused, the defect that its fault names stands in its bytes.
-use Rattle.std.proofs.Common.{◌≡◌, ℕ, zero, suc, ◌+◌, ◌*◌, ◌<◌, ◌≤◌, Bool, true, false, nat_lt, if◌then◌else◌, List, [], ◌∷◌, length, Result, Ok, Err, inl, inr, ℤ, pos, refl, arith, ap, sym, ◌∙◌}
+use Rattle.std.proofs.Common.{◌≡◌, ℕ, zero, suc, ◌+◌, ◌*◌, ◌≤◌, Bool, true, false, nat_lt, if◌then◌else◌, [], ◌∷◌, Result, Ok, Err, inl, inr, ℤ, pos, refl, arith, ap, sym, ◌∙◌}
 use Rattle.std.specs.Prelude.{◌⊎◌}
 use Rattle.std.proofs.lemmas.Bool.Decides.{nat_tests}
 use Rattle.tt_core.specs.Faults.{Fault}
@@ -10,9 +10,9 @@ use Rattle.tt_core.specs.Outcomes.{◌>>=◌}
 use Rattle.tt_glyf.specs.declared.raw.Record.{Record}
 use Rattle.tt_glyf.specs.Bytes.{Stretch, Listing, byte_in, word_in, signed_in, slice_in, glyph_fault}
 use Rattle.tt_glyf.specs.Composite.{Arguments, Transform, Program, signed8, argument_size, argument_at, arguments_at, transform_size, one_scale, identity, two_scales_at, two_by_two_at, transform_at, record_size, asks_scaled_offset, unscaled, known_glyph, record_at, records_from, records_of, more_components, arg_1_and_2_are_words, args_are_xy_values, we_have_a_scale, we_have_an_x_and_y_scale, we_have_a_two_by_two, has_program, program_of, composite_of}
-use Rattle.tt_glyf.specs.Defects.{IsCut, IsBadRecord, IsRecordsDefect, IsProgramDefect, IsCompositeDefect, written_records, record_place, GoesOn}
+use Rattle.tt_glyf.specs.Defects.{IsCut, IsBadRecord, IsRecordsDefect, IsProgramDefect, IsCompositeDefect}
 use Rattle.tt_glyf.specs.Flags.{has}
-use Rattle.tt_glyf.specs.Meaning.{written_argument, written_transform, record_of, written_component_flags, written_component, written_record, record_end}
+use Rattle.tt_glyf.specs.Meaning.{written_argument, written_transform, record_of, written_component_flags, written_component, record_end}
 use Rattle.tt_glyf.proofs.Broken.{cut}
 use Rattle.tt_glyf.proofs.Chains.{was-err, after-err, failed, failed-else}
 use Rattle.tt_glyf.proofs.Fields.{IsShort, short-further, byte-short, word-was, word-short, signed-short, slice-short}
@@ -38,9 +38,9 @@ unfolding arguments_at
 arguments-broke g flags at f was = elim (was-err (argument_at g flags at) _ f was) [
   | inl here ↦ short-further g (at + argument_size flags) (at + 2 * argument_size flags) f (omega arith) (argument-broke g flags at f here)
   | inr first ↦ elim (was-err (argument_at g flags (at + argument_size flags)) _ f first.rest) [
-      | inl here ↦ short-further g (at + argument_size flags + argument_size flags) (at + 2 * argument_size flags) f (omega arith) (argument-broke g flags (at + argument_size flags) f here)
-      | inr second ↦ let rest = second.rest in absurd cc
-    ]
+    | inl here ↦ short-further g (at + argument_size flags + argument_size flags) (at + 2 * argument_size flags) f (omega arith) (argument-broke g flags (at + argument_size flags) f here)
+    | inr second ↦ let rest = second.rest in absurd cc
+  ]
 ]
 
 two_scales-broke : (g : Stretch) (at : ℕ) (f : Fault) → two_scales_at g at ≡ Err f → IsShort g (at + 4) f
@@ -48,9 +48,9 @@ unfolding two_scales_at
 two_scales-broke g at f was = elim (was-err (signed_in g at) _ f was) [
   | inl here ↦ short-further g (at + 2) (at + 4) f (omega arith) (signed-short g at f here)
   | inr xx ↦ elim (was-err (signed_in g (at + 2)) _ f xx.rest) [
-      | inl here ↦ short-further g (at + 2 + 2) (at + 4) f (omega arith) (signed-short g (at + 2) f here)
-      | inr yy ↦ let rest = yy.rest in absurd cc
-    ]
+    | inl here ↦ short-further g (at + 2 + 2) (at + 4) f (omega arith) (signed-short g (at + 2) f here)
+    | inr yy ↦ let rest = yy.rest in absurd cc
+  ]
 ]
 
 two_by_two-broke : (g : Stretch) (at : ℕ) (f : Fault) → two_by_two_at g at ≡ Err f → IsShort g (at + 8) f
@@ -58,15 +58,15 @@ unfolding two_by_two_at
 two_by_two-broke g at f was = elim (was-err (signed_in g at) _ f was) [
   | inl here ↦ short-further g (at + 2) (at + 8) f (omega arith) (signed-short g at f here)
   | inr xx ↦ elim (was-err (signed_in g (at + 2)) _ f xx.rest) [
-      | inl here ↦ short-further g (at + 2 + 2) (at + 8) f (omega arith) (signed-short g (at + 2) f here)
-      | inr yx ↦ elim (was-err (signed_in g (at + 4)) _ f yx.rest) [
-          | inl here ↦ short-further g (at + 4 + 2) (at + 8) f (omega arith) (signed-short g (at + 4) f here)
-          | inr xy ↦ elim (was-err (signed_in g (at + 6)) _ f xy.rest) [
-              | inl here ↦ short-further g (at + 6 + 2) (at + 8) f (omega arith) (signed-short g (at + 6) f here)
-              | inr yy ↦ let rest = yy.rest in absurd cc
-            ]
-        ]
+    | inl here ↦ short-further g (at + 2 + 2) (at + 8) f (omega arith) (signed-short g (at + 2) f here)
+    | inr yx ↦ elim (was-err (signed_in g (at + 4)) _ f yx.rest) [
+      | inl here ↦ short-further g (at + 4 + 2) (at + 8) f (omega arith) (signed-short g (at + 4) f here)
+      | inr xy ↦ elim (was-err (signed_in g (at + 6)) _ f xy.rest) [
+        | inl here ↦ short-further g (at + 6 + 2) (at + 8) f (omega arith) (signed-short g (at + 6) f here)
+        | inr yy ↦ let rest = yy.rest in absurd cc
+      ]
     ]
+  ]
 ]
 
 transform-broke-cases : (g : Stretch) (at : ℕ) (a b c : Bool) (f : Fault) → (if a then (signed_in g at >>= λ s. Ok (one_scale s)) else (if b then two_scales_at g at else (if c then two_by_two_at g at else Ok identity))) ≡ Err f → IsShort g (at + (if a then 2 else (if b then 4 else (if c then 8 else 0)))) f
@@ -114,30 +114,30 @@ unfolding record_at
 record-broke glyphs g at f was = elim (was-err (word_in g at) _ f was) [
   | inl here ↦ inl (cut g (at + 2) (record_end g.bytes at) f (omega arith) (word-short g at f here))
   | inr by_flags ↦
-    let flags = by_flags.value in
-    let word = word-was g at flags by_flags.first in
-    let bad : IsBadBy glyphs g at flags f = elim (was-err (word_in g (at + 2)) _ f by_flags.rest) [
-      | inl here ↦ inl (cut g (at + 2 + 2) (at + record_size flags) f (omega arith) (word-short g (at + 2) f here))
-      | inr by_number ↦
-        let number = word-was g (at + 2) by_number.value by_number.first in
-        elim (was-err (known_glyph glyphs g at by_number.value) _ f by_number.rest) [
-          | inl here ↦ inr (inl (rw number.is at (unknown-broke glyphs g at by_number.value f here)))
-          | inr by_glyph ↦
-            let known = glyph-known glyphs g at by_number.value by_glyph.value by_glyph.first in
-            elim (was-err (arguments_at g flags (at + 4)) _ f by_glyph.rest) [
-              | inl here ↦ inl (cut g (at + 4 + 2 * argument_size flags) (at + record_size flags) f (omega arith) (arguments-broke g flags (at + 4) f here))
-              | inr by_args ↦
-                let args = arguments-were g flags (at + 4) by_args.value by_args.first in
-                elim (was-err (transform_at g flags (at + 4 + 2 * argument_size flags)) _ f by_args.rest) [
-                  | inl here ↦ inl (cut g (at + 4 + 2 * argument_size flags + transform_size flags) (at + record_size flags) f (omega arith) (transform-broke g flags (at + 4 + 2 * argument_size flags) f here))
-                  | inr by_t ↦
-                    let t = transform-was g flags (at + 4 + 2 * argument_size flags) by_t.value args.room by_t.first in
-                    inr (inr (scaled-by g at flags by_number.value by_glyph.value by_args.value by_t.value f known.is number.is args.is t.is by_t.rest))
-                ]
+      let flags = by_flags.value in
+      let word = word-was g at flags by_flags.first in
+      let bad : IsBadBy glyphs g at flags f = elim (was-err (word_in g (at + 2)) _ f by_flags.rest) [
+        | inl here ↦ inl (cut g (at + 2 + 2) (at + record_size flags) f (omega arith) (word-short g (at + 2) f here))
+        | inr by_number ↦
+            let number = word-was g (at + 2) by_number.value by_number.first in
+            elim (was-err (known_glyph glyphs g at by_number.value) _ f by_number.rest) [
+              | inl here ↦ inr (inl (rw number.is at (unknown-broke glyphs g at by_number.value f here)))
+              | inr by_glyph ↦
+                  let known = glyph-known glyphs g at by_number.value by_glyph.value by_glyph.first in
+                  elim (was-err (arguments_at g flags (at + 4)) _ f by_glyph.rest) [
+                    | inl here ↦ inl (cut g (at + 4 + 2 * argument_size flags) (at + record_size flags) f (omega arith) (arguments-broke g flags (at + 4) f here))
+                    | inr by_args ↦
+                        let args = arguments-were g flags (at + 4) by_args.value by_args.first in
+                        elim (was-err (transform_at g flags (at + 4 + 2 * argument_size flags)) _ f by_args.rest) [
+                          | inl here ↦ inl (cut g (at + 4 + 2 * argument_size flags + transform_size flags) (at + record_size flags) f (omega arith) (transform-broke g flags (at + 4 + 2 * argument_size flags) f here))
+                          | inr by_t ↦
+                              let t = transform-was g flags (at + 4 + 2 * argument_size flags) by_t.value args.room by_t.first in
+                              inr (inr (scaled-by g at flags by_number.value by_glyph.value by_args.value by_t.value f known.is number.is args.is t.is by_t.rest))
+                        ]
+                  ]
             ]
-        ]
-    ] in
-    rw word.is at bad
+      ] in
+      rw word.is at bad
 ]
 
 -- the records
@@ -157,9 +157,9 @@ records-broke glyphs g at zero f was = inr (tt, cc)
 records-broke glyphs g at (suc allowed) f was = elim (was-err (record_at glyphs g at) _ f was) [
   | inl here ↦ inl (0, omega arith, tt, record-broke glyphs g at f here)
   | inr later ↦
-    let r = later.value in
-    let rest = after-err (r ∷ []) _ f later.rest in
-    records-broke-cases glyphs g at allowed r (has r.flags more_components) f (flags-are glyphs g at r (record-was glyphs g at r later.first)) refl rest (λ came. records-broke glyphs g (record_end g.bytes at) allowed f came)
+      let r = later.value in
+      let rest = after-err (r ∷ []) _ f later.rest in
+      records-broke-cases glyphs g at allowed r (has r.flags more_components) f (flags-are glyphs g at r (record-was glyphs g at r later.first)) refl rest (λ came. records-broke glyphs g (record_end g.bytes at) allowed f came)
 ]
 
 -- the program
@@ -171,11 +171,11 @@ program-broke-cases : (g : Stretch) (next : ℕ) (follows : Bool) (f : Fault) �
 program-broke-cases g next true f was = elim (was-err (word_in g next) _ f was) [
   | inl here ↦ record { says = refl; short = short-further g (next + 2) (next + 2 + unsigned_at g.bytes next 2) f (omega arith) (word-short g next f here) }
   | inr by_size ↦
-    let size = word-was g next by_size.value by_size.first in
-    elim (was-err (slice_in g (next + 2) by_size.value) _ f by_size.rest) [
-      | inl here ↦ record { says = refl; short = rw size.is at (slice-short g (next + 2) by_size.value f here) }
-      | inr by_code ↦ let rest = by_code.rest in absurd cc
-    ]
+      let size = word-was g next by_size.value by_size.first in
+      elim (was-err (slice_in g (next + 2) by_size.value) _ f by_size.rest) [
+        | inl here ↦ record { says = refl; short = rw size.is at (slice-short g (next + 2) by_size.value f here) }
+        | inr by_code ↦ let rest = by_code.rest in absurd cc
+      ]
 ]
 program-broke-cases g next false f was = absurd cc
 
@@ -195,10 +195,10 @@ unfolding composite_of
 composite-broke glyphs g x_min f was = elim (was-err (records_of glyphs g) _ f was) [
   | inl here ↦ inl (records-broke glyphs g 10 component_limit f here)
   | inr by_records ↦
-    let records = by_records.value in
-    let read = records-were glyphs g 10 component_limit records by_records.first in
-    elim (was-err (program_of g records) _ f by_records.rest) [
-      | inl here ↦ inr (program-behind g records f read.up_to (program-broke g records f here))
-      | inr by_program ↦ let rest = by_program.rest in absurd cc
-    ]
+      let records = by_records.value in
+      let read = records-were glyphs g 10 component_limit records by_records.first in
+      elim (was-err (program_of g records) _ f by_records.rest) [
+        | inl here ↦ inr (program-behind g records f read.up_to (program-broke g records f here))
+        | inr by_program ↦ let rest = by_program.rest in absurd cc
+      ]
 ]

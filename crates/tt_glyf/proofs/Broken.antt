@@ -1,27 +1,24 @@
 -- Where a glyph is refused, the defect that its fault names stands in its bytes.
-use Rattle.std.proofs.Common.{◌≡◌, ℕ, zero, suc, ◌+◌, ◌-◌, ◌*◌, ◌<◌, ◌≤◌, min, Bool, true, false, ◌==◌, nat_lt, int_lt, if◌then◌else◌, List, [], ◌∷◌, ◌++◌, length, take, fold, Result, Ok, Err, inl, inr, ℤ, pos, unsigned_abs, ◌+ℤ◌, ◌<ℤ◌, refl, arith, sym, add-one, ap, zero-add, ◌∙◌}
+use Rattle.std.proofs.Common.{◌≡◌, ℕ, zero, suc, ◌+◌, ◌-◌, ◌<◌, ◌≤◌, Bool, true, false, nat_lt, if◌then◌else◌, List, [], ◌∷◌, length, take, fold, Result, Ok, Err, inl, inr, ℤ, pos, ◌+ℤ◌, refl, arith, add-one, ap, zero-add, ◌∙◌}
 use Rattle.std.specs.Prelude.{◌⊎◌, slice_index}
 use Rattle.std.proofs.Math.ListN.{replicate}
 use Rattle.std.proofs.lemmas.Bool.Decides.{nat_tests}
 use Rattle.tt_core.specs.Faults.{Fault}
 use Rattle.tt_core.specs.declared.fault.Why.TheVariants as why
-use Rattle.tt_core.specs.Limits.{component_limit, point_limit}
+use Rattle.tt_core.specs.Limits.{point_limit}
 use Rattle.tt_core.specs.Numbers.{unsigned_at, signed16}
 use Rattle.tt_core.specs.Outcomes.{◌>>=◌}
-use Rattle.tt_glyf.specs.declared.raw.RawPoint.{RawPoint}
-use Rattle.tt_glyf.specs.declared.raw.Record.{Record}
-use Rattle.tt_glyf.specs.Bytes.{Stretch, stretch_at, Listing, byte_in, word_in, signed_in, slice_in, glyph_fault, short, after}
+use Rattle.tt_glyf.specs.Bytes.{Stretch, Listing, byte_in, word_in, signed_in, slice_in, glyph_fault, short, after}
 use Rattle.tt_glyf.specs.Coordinates.{Axis, Coordinate, Delta, x_axis, y_axis, origin, short_delta, delta_at, summed, is_coordinate, within_words, coordinate_at, coordinates_from}
-use Rattle.tt_glyf.specs.Defects.{IsCut, IsFallingEnd, IsManyPoints, written_points, IsBadRun, IsFlagDefect, LeavesWords, IsCoordinateDefect, IsSimpleDefect}
+use Rattle.tt_glyf.specs.Defects.{IsCut, IsFallingEnd, IsManyPoints, written_points, IsBadRun, IsFlagDefect, IsCoordinateDefect, IsSimpleDefect}
 use Rattle.tt_glyf.specs.Flags.{Run, has, repeat_flag, run_within, run_at, flags_from}
-use Rattle.tt_glyf.specs.Meaning.{end_place, written_end, size_place, written_size, flags_place, written_run, runs_end, written_flags, written_delta, deltas, deltas_end, x_deltas, y_place, y_deltas, points_end}
-use Rattle.tt_glyf.specs.Raw.{GlyphData, simple}
+use Rattle.tt_glyf.specs.Meaning.{end_place, written_end, size_place, flags_place, written_run, runs_end, written_flags, written_delta, deltas, deltas_end, y_place, points_end}
 use Rattle.tt_glyf.specs.Simple.{rising, end_at, ends_from, ends_of, point_count, points_within, points_of, simple_of}
 use Rattle.tt_glyf.proofs.Chains.{was-err, after-err, failed, failed-else}
 use Rattle.tt_glyf.proofs.Covers.{IsRead, run-was, flags-length, AreCovered, flags-were}
 use Rattle.tt_glyf.proofs.Deltas.{coordinate-was, AreRead, delta-was, coordinates-were}
-use Rattle.tt_glyf.proofs.Fields.{IsField, IsShort, byte-was, byte-short, word-was, word-short, signed-short, slice-short}
-use Rattle.tt_glyf.proofs.Outlines.{EndsRead, end-was, ends-were, CountRead, count-was}
+use Rattle.tt_glyf.proofs.Fields.{IsShort, byte-was, byte-short, word-was, word-short, signed-short, slice-short}
+use Rattle.tt_glyf.proofs.Outlines.{EndsRead, end-was, ends-were, count-was}
 use Rattle.tt_glyf.proofs.Places.{slice-was}
 
 pub cut : (g : Stretch) (end later : ℕ) (f : Fault) → end ≤ later → IsShort g end f → IsCut g later f
@@ -43,10 +40,10 @@ unfolding end_at IsEndDefect
 end-broke g at before f was = elim (was-err (word_in g at) (rising g at before) f was) [
   | inl here ↦ let s = word-short g at f here in inl (s.ends, s.is)
   | inr later ↦
-    let word = word-was g at later.value later.first in
-    let p = failed (nat_lt later.value before) _ later.value f later.rest in
-    let test : nat_lt (unsigned_at g.bytes at 2) before ≡ true = rw word.is at p.0 in
-    inr (word.room, grind (arith, nat_tests), p.1)
+      let word = word-was g at later.value later.first in
+      let p = failed (nat_lt later.value before) _ later.value f later.rest in
+      let test : nat_lt (unsigned_at g.bytes at 2) before ≡ true = rw word.is at p.0 in
+      inr (word.room, grind (arith, nat_tests), p.1)
 ]
 
 -- the end before the one of a number, and 0 before the first
@@ -74,10 +71,10 @@ ends-broke g i zero before contours f total last was = absurd cc
 ends-broke g i (suc n) before contours f total last was = elim (was-err (end_at g (end_place i) before) _ f was) [
   | inl here ↦ end-falls g i contours f (omega arith) (rw last at (end-broke g (end_place i) before f here))
   | inr later ↦
-    let end = end-was g (end_place i) before later.value later.first in
-    let place : end_place i + 2 ≡ end_place (suc i) = omega arith in
-    let rest = after-err (later.value ∷ []) _ f later.rest in
-    ends-broke g (suc i) n later.value contours f (omega arith) end.is (rw place at rest)
+      let end = end-was g (end_place i) before later.value later.first in
+      let place : end_place i + 2 ≡ end_place (suc i) = omega arith in
+      let rest = after-err (later.value ∷ []) _ f later.rest in
+      ends-broke g (suc i) n later.value contours f (omega arith) end.is (rw place at rest)
 ]
 
 -- the runs of flags
@@ -91,10 +88,10 @@ run-broke-cases : (g : Stretch) (at left flag : ℕ) (repeats : Bool) (f : Fault
 run-broke-cases g at left flag true f was = elim (was-err (byte_in g (at + 1)) _ f was) [
   | inl here ↦ inl (cut g (at + 1 + 1) (at + 2) f (omega arith) (byte-short g (at + 1) f here))
   | inr later ↦
-    let byte = byte-was g (at + 1) later.value later.first in
-    let p = failed-else (nat_lt later.value left) _ (record { flag = flag; copies = later.value; next = at + 2 }) f later.rest in
-    let test : nat_lt (slice_index g.bytes (at + 1)) left ≡ false = rw byte.is at p.0 in
-    inr (grind (arith, nat_tests), p.1)
+      let byte = byte-was g (at + 1) later.value later.first in
+      let p = failed-else (nat_lt later.value left) _ (record { flag = flag; copies = later.value; next = at + 2 }) f later.rest in
+      let test : nat_lt (slice_index g.bytes (at + 1)) left ≡ false = rw byte.is at p.0 in
+      inr (grind (arith, nat_tests), p.1)
 ]
 run-broke-cases g at left flag false f was = absurd cc
 
@@ -107,8 +104,8 @@ unfolding run_at
 run-broke g at left f was = elim (was-err (byte_in g at) _ f was) [
   | inl here ↦ inl (cut g (at + 1) (written_run g.bytes at).next f (run-goes-on g.bytes at (slice_index g.bytes at) (has (slice_index g.bytes at) repeat_flag)) (byte-short g at f here))
   | inr later ↦
-    let flag = byte-was g at later.value later.first in
-    rw flag.is at (run-broke-cases g at left later.value (has later.value repeat_flag) f later.rest)
+      let flag = byte-was g at later.value later.first in
+      rw flag.is at (run-broke-cases g at left later.value (has later.value repeat_flag) f later.rest)
 ]
 
 flags-first : (g : Stretch) (at left : ℕ) (f : Fault) → IsBadRun g at (suc left) f → IsFlagDefect g at (suc left) f
@@ -133,9 +130,9 @@ flags-broke zero g at (suc left) f enough was = absurd (omega arith)
 flags-broke (suc fuel) g at (suc left) f enough was = elim (was-err (run_at g at (suc left)) (λ r. after (replicate (suc r.copies) r.flag) (flags_from fuel g r.next (left - r.copies))) f was) [
   | inl here ↦ flags-first g at left f (run-broke g at (suc left) f here)
   | inr later ↦
-    let r = later.value in
-    let rest = after-err (replicate (suc r.copies) r.flag) (flags_from fuel g r.next (left - r.copies)) f later.rest in
-    flags-more g at left r f (run-was g at (suc left) r (omega arith) later.first) (flags-broke fuel g r.next (left - r.copies) f (omega arith) rest)
+      let r = later.value in
+      let rest = after-err (replicate (suc r.copies) r.flag) (flags_from fuel g r.next (left - r.copies)) f later.rest in
+      flags-more g at left r f (run-was g at (suc left) r (omega arith) later.first) (flags-broke fuel g r.next (left - r.copies) f (omega arith) rest)
 ]
 
 -- the deltas along an axis
@@ -186,11 +183,11 @@ AreSumsBad g a flags before f =
 
 sums-more : (g : Stretch) (a : Axis) (flag : ℕ) (flags : List ℕ) (before c : Coordinate) (f : Fault) → c ≡ summed before (written_delta g.bytes a flag before.next) → AreSumsBad g a flags c f → AreSumsBad g a (flag ∷ flags) before f
 sums-more g a flag flags before c f is bad =
-  let there : AreSumsBad g a flags (summed before (written_delta g.bytes a flag before.next)) f = rw is at bad in
-  elim there [
-  | inl here ↦ inl here
-  | inr leaves ↦ inr (leaves-more before.value (written_delta g.bytes a flag before.next).by (deltas g.bytes a flags (written_delta g.bytes a flag before.next).next) leaves.0, leaves.1)
-]
+    let there : AreSumsBad g a flags (summed before (written_delta g.bytes a flag before.next)) f = rw is at bad in
+    elim there [
+      | inl here ↦ inl here
+      | inr leaves ↦ inr (leaves-more before.value (written_delta g.bytes a flag before.next).by (deltas g.bytes a flags (written_delta g.bytes a flag before.next).next) leaves.0, leaves.1)
+    ]
 
 -- the coordinate of one point
 coordinate-broke : (g : Stretch) (a : Axis) (flag : ℕ) (flags : List ℕ) (before : Coordinate) (f : Fault) → before.next ≤ length g.bytes → coordinate_at g a flag before ≡ Err f → AreSumsBad g a (flag ∷ flags) before f
@@ -198,10 +195,10 @@ unfolding coordinate_at within_words
 coordinate-broke g a flag flags before f le was = elim (was-err (delta_at g a flag before.next) _ f was) [
   | inl here ↦ inl (further g (written_delta g.bytes a flag before.next).next (deltas_end g.bytes a (flag ∷ flags) before.next) f (deltas-go-on g.bytes a flags (written_delta g.bytes a flag before.next).next) (delta-broke g a flag before.next f here))
   | inr later ↦
-    let d = delta-was g a flag before.next later.value le later.first in
-    let p = failed-else (is_coordinate (summed before later.value).value) _ (summed before later.value) f later.rest in
-    let leaves : is_coordinate (summed before (written_delta g.bytes a flag before.next)).value ≡ false = rw d.is at p.0 in
-    inr ((0, omega arith, leaves), p.1)
+      let d = delta-was g a flag before.next later.value le later.first in
+      let p = failed-else (is_coordinate (summed before later.value).value) _ (summed before later.value) f later.rest in
+      let leaves : is_coordinate (summed before (written_delta g.bytes a flag before.next)).value ≡ false = rw d.is at p.0 in
+      inr ((0, omega arith, leaves), p.1)
 ]
 
 pub sums-broke : (g : Stretch) (a : Axis) (flags : List ℕ) (before : Coordinate) (f : Fault) → before.next ≤ length g.bytes → coordinates_from g a flags before ≡ Err f → AreSumsBad g a flags before f
@@ -210,9 +207,9 @@ sums-broke g a [] before f le was = absurd cc
 sums-broke g a (flag ∷ flags) before f le was = elim (was-err (coordinate_at g a flag before) _ f was) [
   | inl here ↦ coordinate-broke g a flag flags before f le here
   | inr later ↦
-    let next = coordinate-was g a flag before later.value le later.first in
-    let rest = after-err (later.value.value ∷ []) (coordinates_from g a flags later.value) f later.rest in
-    sums-more g a flag flags before later.value f next.is (sums-broke g a flags later.value f next.room rest)
+      let next = coordinate-was g a flag before later.value le later.first in
+      let rest = after-err (later.value.value ∷ []) (coordinates_from g a flags later.value) f later.rest in
+      sums-more g a flag flags before later.value f next.is (sums-broke g a flags later.value f next.room rest)
 ]
 
 -- the points
@@ -222,22 +219,28 @@ ArePointsBad g at n f = IsFlagDefect g at n f ⊎ IsCoordinateDefect g at n f
 x-broke : (g : Stretch) (at n : ℕ) (flags : Listing ℕ) (f : Fault) → AreCovered g.bytes at n flags → AreSumsBad g x_axis flags.items (origin flags.next) f → IsCoordinateDefect g at n f
 x-broke g at n flags f covered bad =
     let runs = covered.runs in
-    let is : AreSumsBad g x_axis (written_flags g.bytes at runs) (origin (runs_end g.bytes at runs)) f = rw (covered.covers, covered.end) at bad in
-    (runs, covered.many, elim is [
-      | inl here ↦ inl (further g (y_place g.bytes at runs) (points_end g.bytes at runs) f (deltas-go-on g.bytes y_axis (written_flags g.bytes at runs) (y_place g.bytes at runs)) here)
-      | inr leaves ↦ inr (inl leaves.0, leaves.1)
-    ])
+    let is : AreSumsBad g x_axis (written_flags g.bytes at runs) (origin (runs_end g.bytes at runs)) f = rw (covered.covers, covered.end) at bad in (
+      runs,
+      covered.many,
+      elim is [
+        | inl here ↦ inl (further g (y_place g.bytes at runs) (points_end g.bytes at runs) f (deltas-go-on g.bytes y_axis (written_flags g.bytes at runs) (y_place g.bytes at runs)) here)
+        | inr leaves ↦ inr (inl leaves.0, leaves.1)
+      ],
+    )
 
 y-broke : (g : Stretch) (at n : ℕ) (flags : Listing ℕ) (xs : Listing ℤ) (f : Fault) → AreCovered g.bytes at n flags → AreRead g.bytes x_axis flags.items (origin flags.next) xs → AreSumsBad g y_axis flags.items (origin xs.next) f → IsCoordinateDefect g at n f
 y-broke g at n flags xs f covered read bad =
     let runs = covered.runs in
     let next = read.next in
     let at_y : AreSumsBad g y_axis flags.items (origin (deltas_end g.bytes x_axis flags.items flags.next)) f = rw next at bad in
-    let is : AreSumsBad g y_axis (written_flags g.bytes at runs) (origin (y_place g.bytes at runs)) f = rw (covered.covers, covered.end) at at_y in
-    (runs, covered.many, elim is [
-      | inl here ↦ inl here
-      | inr leaves ↦ inr (inr leaves.0, leaves.1)
-    ])
+    let is : AreSumsBad g y_axis (written_flags g.bytes at runs) (origin (y_place g.bytes at runs)) f = rw (covered.covers, covered.end) at at_y in (
+      runs,
+      covered.many,
+      elim is [
+        | inl here ↦ inl here
+        | inr leaves ↦ inr (inr leaves.0, leaves.1)
+      ],
+    )
 
 all-of : (n : ℕ) → n ≤ n
 all-of n = omega arith
@@ -247,18 +250,18 @@ unfolding points_of
 points-broke g at n f le was = elim (was-err (flags_from n g at n) _ f was) [
   | inl here ↦ inl (flags-broke n g at n f (all-of n) here)
   | inr by_flags ↦
-    let flags = by_flags.value in
-    let covered = flags-were n g at n flags (all-of n) le by_flags.first in
-    inr (elim (was-err (coordinates_from g x_axis flags.items (origin flags.next)) _ f by_flags.rest) [
-      | inl here ↦ x-broke g at n flags f covered (sums-broke g x_axis flags.items (origin flags.next) f covered.room here)
-      | inr by_xs ↦
-        let xs = by_xs.value in
-        let read = coordinates-were g x_axis flags.items (origin flags.next) xs covered.room by_xs.first in
-        elim (was-err (coordinates_from g y_axis flags.items (origin xs.next)) _ f by_xs.rest) [
-          | inl here ↦ y-broke g at n flags xs f covered read (sums-broke g y_axis flags.items (origin xs.next) f read.room here)
-          | inr by_ys ↦ let rest = by_ys.rest in absurd cc
-        ]
-    ])
+      let flags = by_flags.value in
+      let covered = flags-were n g at n flags (all-of n) le by_flags.first in
+      inr (elim (was-err (coordinates_from g x_axis flags.items (origin flags.next)) _ f by_flags.rest) [
+        | inl here ↦ x-broke g at n flags f covered (sums-broke g x_axis flags.items (origin flags.next) f covered.room here)
+        | inr by_xs ↦
+            let xs = by_xs.value in
+            let read = coordinates-were g x_axis flags.items (origin flags.next) xs covered.room by_xs.first in
+            elim (was-err (coordinates_from g y_axis flags.items (origin xs.next)) _ f by_xs.rest) [
+              | inl here ↦ y-broke g at n flags xs f covered read (sums-broke g y_axis flags.items (origin xs.next) f read.room here)
+              | inr by_ys ↦ let rest = by_ys.rest in absurd cc
+            ]
+      ])
 ]
 
 -- how many points there are, by the ends that were read
@@ -291,35 +294,35 @@ pub simple-broke : (g : Stretch) (x_min : ℤ) (contours : ℕ) (f : Fault) → 
 unfolding simple_of
 simple-broke g x_min contours f header some was = elim (was-err (ends_of g contours) _ f was) [
   | inl here ↦ elim (ends-broke g 0 contours 0 contours f (zero-add contours) refl here) [
-      | inl short ↦ inl (further g (size_place contours) (flags_place g.bytes contours) f (omega arith) short)
-      | inr falls ↦ inr (inl falls)
-    ]
+    | inl short ↦ inl (further g (size_place contours) (flags_place g.bytes contours) f (omega arith) short)
+    | inr falls ↦ inr (inl falls)
+  ]
   | inr by_ends ↦
-    let ends = by_ends.value in
-    let read = ends-were g 10 contours 0 ends header by_ends.first in
-    let next = read.next in
-    elim (was-err (points_within g ends) _ f by_ends.rest) [
-      | inl here ↦ inr (inr (inl (many-broke g contours ends f some read here)))
-      | inr by_count ↦
-        let n = by_count.value in
-        let count = count-was g ends n by_count.first in
-        elim (was-err (word_in g ends.next) _ f by_count.rest) [
-          | inl here ↦ inl (cut g (ends.next + 2) (flags_place g.bytes contours) f (omega arith) (word-short g ends.next f here))
-          | inr by_size ↦
-            let size = by_size.value in
-            let word = word-was g ends.next size by_size.first in
-            let place : ends.next + 2 + size ≡ flags_place g.bytes contours = rw (word.is, next) refl in
-            elim (was-err (slice_in g (ends.next + 2) size) _ f by_size.rest) [
-              | inl here ↦ inl (cut g (ends.next + 2 + size) (flags_place g.bytes contours) f (omega arith) (slice-short g (ends.next + 2) size f here))
-              | inr by_code ↦
-                let code = slice-was g (ends.next + 2) size by_code.value by_code.first in
-                let room = code.1.room in
-                let many = code.0 in
-                elim (was-err (points_of g (ends.next + 2 + size) n) _ f by_code.rest) [
-                  | inl here ↦ inr (inr (inr (points-behind g contours n size ends f some read count.is word.is (points-broke g (ends.next + 2 + size) n f (omega arith) here))))
-                  | inr by_points ↦ let rest = by_points.rest in absurd cc
-                ]
+      let ends = by_ends.value in
+      let read = ends-were g 10 contours 0 ends header by_ends.first in
+      let next = read.next in
+      elim (was-err (points_within g ends) _ f by_ends.rest) [
+        | inl here ↦ inr (inr (inl (many-broke g contours ends f some read here)))
+        | inr by_count ↦
+            let n = by_count.value in
+            let count = count-was g ends n by_count.first in
+            elim (was-err (word_in g ends.next) _ f by_count.rest) [
+              | inl here ↦ inl (cut g (ends.next + 2) (flags_place g.bytes contours) f (omega arith) (word-short g ends.next f here))
+              | inr by_size ↦
+                  let size = by_size.value in
+                  let word = word-was g ends.next size by_size.first in
+                  let place : ends.next + 2 + size ≡ flags_place g.bytes contours = rw (word.is, next) refl in
+                  elim (was-err (slice_in g (ends.next + 2) size) _ f by_size.rest) [
+                    | inl here ↦ inl (cut g (ends.next + 2 + size) (flags_place g.bytes contours) f (omega arith) (slice-short g (ends.next + 2) size f here))
+                    | inr by_code ↦
+                        let code = slice-was g (ends.next + 2) size by_code.value by_code.first in
+                        let room = code.1.room in
+                        let many = code.0 in
+                        elim (was-err (points_of g (ends.next + 2 + size) n) _ f by_code.rest) [
+                          | inl here ↦ inr (inr (inr (points-behind g contours n size ends f some read count.is word.is (points-broke g (ends.next + 2 + size) n f (omega arith) here))))
+                          | inr by_points ↦ let rest = by_points.rest in absurd cc
+                        ]
+                  ]
             ]
-        ]
-    ]
+      ]
 ]

@@ -1,5 +1,5 @@
 -- A glyph is refused for a defect that stands in it, and in one that is read no defect stands.
-use Rattle.std.proofs.Common.{◌≡◌, ℕ, ◌+◌, ◌<◌, ◌≤◌, min, Bool, true, false, ◌==◌, nat_lt, if◌then◌else◌, List, [], length, Result, Ok, Err, inl, inr, ℤ, pos, unsigned_abs, int_lt, refl, arith, sym}
+use Rattle.std.proofs.Common.{◌≡◌, ℕ, ◌+◌, ◌<◌, ◌≤◌, Bool, true, false, ◌==◌, nat_lt, if◌then◌else◌, List, [], length, Result, Ok, Err, inl, inr, ℤ, pos, unsigned_abs, int_lt, refl, arith}
 use Rattle.std.specs.Prelude.{◌≢◌, ◌⊎◌, ◌||◌, ◌<ℤ◌}
 use Rattle.std.proofs.lemmas.Bool.Decides.{nat_tests}
 use Rattle.std.proofs.lemmas.Int.{ints}
@@ -28,9 +28,9 @@ header-broke-cases g true f is was = (grind (arith, nat_tests), cc)
 header-broke-cases g false f is was = elim (was-err (signed_in g 0) _ f was) [
   | inl here ↦ cut g (0 + 2) 10 f (omega arith) (signed-short g 0 f here)
   | inr by_contours ↦ elim (was-err (signed_in g 2) _ f by_contours.rest) [
-      | inl here ↦ cut g (2 + 2) 10 f (omega arith) (signed-short g 2 f here)
-      | inr by_x_min ↦ let rest = by_x_min.rest in absurd cc
-    ]
+    | inl here ↦ cut g (2 + 2) 10 f (omega arith) (signed-short g 2 f here)
+    | inr by_x_min ↦ let rest = by_x_min.rest in absurd cc
+  ]
 ]
 
 header-broke : (g : Stretch) (f : Fault) → header_of g ≡ Err f → IsCut g 10 f
@@ -66,8 +66,8 @@ bytes-broke : (glyphs : ℕ) (g : Stretch) (f : Fault) → glyph_in glyphs g ≡
 bytes-broke glyphs g f was = elim (was-err (header_of g) (described glyphs g) f was) [
   | inl here ↦ inl (header-broke g f here)
   | inr later ↦
-    let header = header-was g later.value later.first in
-    described-broke glyphs g f header.room (rw header.is at later.rest)
+      let header = header-was g later.value later.first in
+      described-broke glyphs g f header.room (rw header.is at later.rest)
 ]
 
 -- the range
@@ -83,10 +83,14 @@ less a b is = grind (arith, nat_tests)
 
 range-broke-cases : (t : GlyphTables) (g : ℕ) (none out : Bool) (f : Fault) → has_no_bytes t g ≡ none → is_out_of_range t g ≡ out → ◌≡◌ {A = Result (List ℕ) Fault} (if none then Ok [] else (if out then Err (fault_at loca_tag (entry_place t.format g) why.GlyphRange) else Ok (bytes_between t g))) (Err f) → IsRangeDefect t g f
 range-broke-cases t g true out f some is was = absurd cc
-range-broke-cases t g false true f some is was = (differ (glyph_offset t g) (glyph_offset t (g + 1)) some, elim (either (nat_lt (glyph_offset t (g + 1)) (glyph_offset t g)) (nat_lt (length t.glyf) (glyph_offset t g)) is) [
-  | inl falls ↦ inl (less (glyph_offset t (g + 1)) (glyph_offset t g) falls)
-  | inr past ↦ inr (less (length t.glyf) (glyph_offset t g) past)
-], cc)
+range-broke-cases t g false true f some is was = (
+  differ (glyph_offset t g) (glyph_offset t (g + 1)) some,
+  elim (either (nat_lt (glyph_offset t (g + 1)) (glyph_offset t g)) (nat_lt (length t.glyf) (glyph_offset t g)) is) [
+    | inl falls ↦ inl (less (glyph_offset t (g + 1)) (glyph_offset t g) falls)
+    | inr past ↦ inr (less (length t.glyf) (glyph_offset t g) past)
+  ],
+  cc,
+)
 range-broke-cases t g false false f some is was = absurd cc
 
 range-broke : (t : GlyphTables) (g : ℕ) (f : Fault) → glyph_bytes_of t g ≡ Err f → IsRangeDefect t g f
@@ -104,8 +108,8 @@ glyph-broke-cases t g true f is was = absurd cc
 glyph-broke-cases t g false f is was = elim (was-err (glyph_bytes_of t g) _ f was) [
   | inl here ↦ inl (range-broke t g f here)
   | inr later ↦
-    let are = bytes-were t g later.value is later.first in
-    inr (has-bytes t g later.value is are, bytes-broke t.glyphs (stretch_of t g) f (rw are.is at later.rest))
+      let are = bytes-were t g later.value is later.first in
+      inr (has-bytes t g later.value is are, bytes-broke t.glyphs (stretch_of t g) f (rw are.is at later.rest))
 ]
 
 -- a fault names a defect that stands
@@ -117,15 +121,15 @@ described-whole-cases : (glyphs : ℕ) (g : Stretch) (negative none : Bool) (d :
 described-whole-cases glyphs g negative none d f header is_negative is was bad = elim bad [
   | inl short ↦ let ends = short.0 in absurd (omega arith)
   | inr (inl one) ↦
-    let sign = positive-is (contour_count g.bytes) one.1 in
-    let came : simple_of g (written_x_min g.bytes) (unsigned_abs (contour_count g.bytes)) ≡ Ok d = rw (← is_negative, ← is, sign.0, sign.1) at was in
-    let read = simple-was g (written_x_min g.bytes) (unsigned_abs (contour_count g.bytes)) d header came in
-    simple-whole g (written_x_min g.bytes) (unsigned_abs (contour_count g.bytes)) read.0 f sign.2 read.1 one.2
+      let sign = positive-is (contour_count g.bytes) one.1 in
+      let came : simple_of g (written_x_min g.bytes) (unsigned_abs (contour_count g.bytes)) ≡ Ok d = rw (← is_negative, ← is, sign.0, sign.1) at was in
+      let read = simple-was g (written_x_min g.bytes) (unsigned_abs (contour_count g.bytes)) d header came in
+      simple-whole g (written_x_min g.bytes) (unsigned_abs (contour_count g.bytes)) read.0 f sign.2 read.1 one.2
   | inr (inr one) ↦
-    let sign = negative-is (contour_count g.bytes) one.1 in
-    let came : composite_of glyphs g (written_x_min g.bytes) ≡ Ok d = rw (← is_negative, sign) at was in
-    let read = composite-was glyphs g (written_x_min g.bytes) d came in
-    composite-whole glyphs g (written_x_min g.bytes) read.0 f read.1 one.2
+      let sign = negative-is (contour_count g.bytes) one.1 in
+      let came : composite_of glyphs g (written_x_min g.bytes) ≡ Ok d = rw (← is_negative, sign) at was in
+      let read = composite-was glyphs g (written_x_min g.bytes) d came in
+      composite-whole glyphs g (written_x_min g.bytes) read.0 f read.1 one.2
 ]
 
 described-whole : (glyphs : ℕ) (g : Stretch) (d : GlyphData) (f : Fault) → 10 ≤ length g.bytes → described glyphs g (written_header g.bytes) ≡ Ok d → ¬ IsBadGlyph glyphs g f
@@ -149,9 +153,9 @@ glyph-whole-cases t g false d f is was bad =
     let ordered = are.ordered in
     elim bad [
       | inl range ↦ elim (range.1) [
-          | inl falls ↦ absurd (omega arith)
-          | inr past ↦ absurd (omega arith)
-        ]
+        | inl falls ↦ absurd (omega arith)
+        | inr past ↦ absurd (omega arith)
+      ]
       | inr one ↦ bytes-whole t.glyphs (stretch_of t g) d f (rw are.is at by_bytes.rest) one.1
     ]
 

@@ -1,5 +1,5 @@
 -- A coordinate is the sum of all deltas up to it.
-use Rattle.std.proofs.Common.{◌≡◌, ℕ, zero, suc, ◌+◌, ◌<◌, ◌≤◌, Bool, true, false, if◌then◌else◌, List, [], ◌∷◌, ◌++◌, length, get_or, take, fold, Ok, ℤ, pos, ◌+ℤ◌, refl, arith, add-one, ap, sym, ◌∙◌}
+use Rattle.std.proofs.Common.{◌≡◌, ℕ, zero, suc, ◌+◌, ◌<◌, ◌≤◌, Bool, true, false, if◌then◌else◌, List, [], ◌∷◌, ◌++◌, length, get_or, take, fold, Ok, ℤ, pos, ◌+ℤ◌, refl, arith, add-one, ap}
 use Rattle.std.specs.Prelude.{slice_index}
 use Rattle.tt_core.specs.Numbers.{unsigned_at, signed16}
 use Rattle.tt_core.specs.Outcomes.{◌>>=◌}

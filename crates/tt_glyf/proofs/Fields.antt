@@ -1,5 +1,5 @@
 -- A field that was read is the one that is written there, and one that was not passes the end of the bytes.
-use Rattle.std.proofs.Common.{◌≡◌, ℕ, ◌+◌, ◌<◌, ◌≤◌, nat_lt, nat_le, List, length, Ok, Err, ℤ, arith, sym}
+use Rattle.std.proofs.Common.{◌≡◌, ℕ, ◌+◌, ◌<◌, ◌≤◌, nat_lt, nat_le, length, Ok, Err, ℤ, arith, sym}
 use Rattle.std.specs.Prelude.{slice_index}
 use Rattle.std.proofs.lemmas.Bool.Decides.{nat_tests}
 use Rattle.tt_core.specs.Faults.{Fault}

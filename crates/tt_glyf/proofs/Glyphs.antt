@@ -1,5 +1,5 @@
 -- What a glyph that was read is.
-use Rattle.std.proofs.Common.{◌≡◌, ℕ, ◌+◌, ◌-◌, ◌<◌, ◌≤◌, min, Bool, true, false, ◌==◌, nat_lt, if◌then◌else◌, List, [], length, Ok, Err, ℤ, pos, unsigned_abs, int_lt, refl, arith, sym, ◌∙◌}
+use Rattle.std.proofs.Common.{◌≡◌, ℕ, ◌+◌, ◌<◌, ◌≤◌, min, Bool, true, false, ◌==◌, nat_lt, if◌then◌else◌, List, [], length, Ok, Err, ℤ, pos, unsigned_abs, int_lt, refl, arith, sym, ◌∙◌}
 use Rattle.std.proofs.lemmas.Bool.Decides.{nat_tests}
 use Rattle.tt_core.specs.Faults.{Fault}
 use Rattle.tt_core.specs.Limits.{component_limit, point_limit}
@@ -13,7 +13,7 @@ use Rattle.tt_glyf.specs.GlyphData.{Header, header_of, described, glyph_in, glyp
 use Rattle.tt_glyf.specs.Loca.{GlyphTables, glyph_offset, has_no_bytes, is_out_of_range, bytes_between, glyph_bytes_of}
 use Rattle.tt_glyf.specs.Meaning.{IfSimple, IfComposite, stretch_of, IsProgram, HasProgram, contour_count, written_x_min, size_place, written_size, flags_place, records_end, AreEnds, AreWords, ArePoints, AreComponents, AreRecords, AreCompositeWords}
 use Rattle.tt_glyf.specs.Raw.{SimpleGlyph, CompositeGlyph, GlyphData, empty, simple, composite}
-use Rattle.tt_glyf.specs.Simple.{ends_of, point_count, points_within, points_of, simple_of}
+use Rattle.tt_glyf.specs.Simple.{ends_of, points_within, points_of, simple_of}
 use Rattle.tt_glyf.proofs.Chains.{came-through}
 use Rattle.tt_glyf.proofs.Fields.{IsField, word-was, signed-was}
 use Rattle.tt_glyf.proofs.Outlines.{EndsRead, ends-were, never-falls, CountRead, count-was, PointsRead, points-were, points-are}
@@ -127,15 +127,15 @@ composite-was glyphs g x_min d was =
 
 composite-is : (glyphs : ℕ) (g : Stretch) (c : CompositeGlyph) → CompositeRead glyphs g (written_x_min g.bytes) c → IsRead glyphs g (composite c)
 composite-is glyphs g c read = record {
-      few = tt;
-      ends = tt;
-      words = tt;
-      points = tt;
-      components = read.parts.are;
-      records = record { some = read.parts.some; few = read.parts.few; known = read.parts.known };
-      composite_words = record { x_min = read.x_min_is; follows = read.program.size; none = read.program.none };
-      program = read.program.read;
-    }
+  few = tt;
+  ends = tt;
+  words = tt;
+  points = tt;
+  components = read.parts.are;
+  records = record { some = read.parts.some; few = read.parts.few; known = read.parts.known };
+  composite_words = record { x_min = read.x_min_is; follows = read.program.size; none = read.program.none };
+  program = read.program.read;
+}
 
 described-cases : (glyphs : ℕ) (g : Stretch) (contours : ℕ) (negative none : Bool) (d : GlyphData) → 10 ≤ length g.bytes → contours ≡ unsigned_abs (contour_count g.bytes) → (contours == 0) ≡ none → (if negative then composite_of glyphs g (written_x_min g.bytes) else (if none then Ok empty else simple_of g (written_x_min g.bytes) contours)) ≡ Ok d → IsRead glyphs g d
 described-cases glyphs g contours true none d header count is was =

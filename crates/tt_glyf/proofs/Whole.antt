@@ -1,20 +1,19 @@
 -- In the bytes of a glyph that was read no defect stands.
-use Rattle.std.proofs.Common.{◌≡◌, ℕ, zero, suc, ◌+◌, ◌-◌, ◌*◌, ◌<◌, ◌≤◌, true, false, List, [], ◌∷◌, length, inl, inr, ℤ, pos, refl, subst, arith, sym, ap, add-one, ◌∙◌}
+use Rattle.std.proofs.Common.{◌≡◌, ℕ, zero, suc, ◌+◌, ◌<◌, true, false, List, [], ◌∷◌, length, inl, inr, ℤ, pos, refl, subst, arith, sym, ap, ◌∙◌}
 use Rattle.std.specs.Prelude.{◌⊎◌}
 use Rattle.std.proofs.lemmas.Bool.{true≢false}
 use Rattle.tt_core.specs.Faults.{Fault}
 use Rattle.tt_core.specs.declared.fault.Why.TheVariants as why
 use Rattle.tt_core.specs.Numbers.{unsigned_at}
 use Rattle.tt_glyf.specs.declared.raw.RawPoint.{RawPoint}
-use Rattle.tt_core.specs.Limits.{component_limit, point_limit}
+use Rattle.tt_core.specs.Limits.{component_limit}
 use Rattle.tt_glyf.specs.Bytes.{Stretch, Listing, glyph_fault}
 use Rattle.tt_glyf.specs.Composite.{has_program, more_components}
 use Rattle.tt_glyf.specs.Coordinates.{Axis, Coordinate, x_axis, y_axis, origin}
-use Rattle.tt_glyf.specs.Defects.{IsCut, LeavesWords, IsFallingEnd, IsManyPoints, written_points, IsFlagDefect, IsCoordinateDefect, IsSimpleDefect, IsRecordsDefect, IsProgramDefect, IsCompositeDefect, written_records, record_place, GoesOn}
+use Rattle.tt_glyf.specs.Defects.{IsCut, LeavesWords, IsFallingEnd, written_points, IsFlagDefect, IsCoordinateDefect, IsSimpleDefect, IsRecordsDefect, IsProgramDefect, IsCompositeDefect, written_records, record_place, GoesOn}
 use Rattle.tt_glyf.specs.Flags.{has}
-use Rattle.tt_glyf.specs.Meaning.{written_end, size_place, flags_place, written_run, runs_end, written_flags, written_delta, deltas, x_deltas, y_place, y_deltas, points_end, written_component_flags, record_end, records_end}
+use Rattle.tt_glyf.specs.Meaning.{size_place, flags_place, written_run, runs_end, written_flags, written_delta, deltas, x_deltas, y_place, y_deltas, points_end, written_component_flags, record_end, records_end}
 use Rattle.tt_glyf.specs.Raw.{SimpleGlyph, CompositeGlyph}
-use Rattle.tt_glyf.specs.Simple.{point_count}
 use Rattle.tt_glyf.proofs.Broken.{count-is}
 use Rattle.tt_glyf.proofs.Covers.{AreGoodRuns, flags-length}
 use Rattle.tt_glyf.proofs.Deltas.{AreRead}
@@ -84,13 +83,13 @@ no-leaving bytes a flags before read start are bad =
 no-coordinate-defect-by : (g : Stretch) (at n : ℕ) (points : List RawPoint) (f : Fault) → (read : PointsRead g.bytes at n points) → ¬ IsBadBehind g at read.runs f
 no-coordinate-defect-by g at n points f read bad = elim bad [
   | inl short ↦
-    let ends = short.0 in
-    let room = read.ys.room in
-    absurd (omega arith)
+      let ends = short.0 in
+      let room = read.ys.room in
+      absurd (omega arith)
   | inr leaves ↦ elim (leaves.0) [
-      | inl along_x ↦ no-leaving g.bytes x_axis (written_flags g.bytes at read.runs) (origin (runs_end g.bytes at read.runs)) _ refl read.xs along_x
-      | inr along_y ↦ no-leaving g.bytes y_axis (written_flags g.bytes at read.runs) (origin (y_place g.bytes at read.runs)) _ refl read.ys along_y
-    ]
+    | inl along_x ↦ no-leaving g.bytes x_axis (written_flags g.bytes at read.runs) (origin (runs_end g.bytes at read.runs)) _ refl read.xs along_x
+    | inr along_y ↦ no-leaving g.bytes y_axis (written_flags g.bytes at read.runs) (origin (y_place g.bytes at read.runs)) _ refl read.ys along_y
+  ]
 ]
 
 no-coordinate-defect : (g : Stretch) (at n : ℕ) (points : List RawPoint) (f : Fault) → PointsRead g.bytes at n points → ¬ IsCoordinateDefect g at n f
@@ -103,22 +102,22 @@ points-are-written g x_min contours s some read = read.count.is ∙ count-is g.b
 
 pub simple-whole : (g : Stretch) (x_min : ℤ) (contours : ℕ) (s : SimpleGlyph) (f : Fault) → 0 < contours → SimpleRead g x_min contours s → ¬ IsSimpleDefect g contours f
 simple-whole g x_min contours s f some read bad =
-  let points = points-are-written g x_min contours s some read in
-  let there = rw points at read.points in
-  elim bad [
-    | inl short ↦
-      let ends = short.0 in
-      let size = read.code_size in
-      let room = read.code.room in
-      absurd (omega arith)
-    | inr (inl falls) ↦ no-falling g contours (record { items = s.ends; next = size_place contours }) f read.ends falls
-    | inr (inr (inl many)) ↦
-      let over = many.1 in
-      let few = read.count.few in
-      absurd (omega arith)
-    | inr (inr (inr (inl flags))) ↦ no-flag-defect g (flags_place g.bytes contours) (written_points g.bytes contours) f there.good flags
-    | inr (inr (inr (inr coordinates))) ↦ no-coordinate-defect g (flags_place g.bytes contours) (written_points g.bytes contours) s.points f there coordinates
-  ]
+    let points = points-are-written g x_min contours s some read in
+    let there = rw points at read.points in
+    elim bad [
+      | inl short ↦
+          let ends = short.0 in
+          let size = read.code_size in
+          let room = read.code.room in
+          absurd (omega arith)
+      | inr (inl falls) ↦ no-falling g contours (record { items = s.ends; next = size_place contours }) f read.ends falls
+      | inr (inr (inl many)) ↦
+          let over = many.1 in
+          let few = read.count.few in
+          absurd (omega arith)
+      | inr (inr (inr (inl flags))) ↦ no-flag-defect g (flags_place g.bytes contours) (written_points g.bytes contours) f there.good flags
+      | inr (inr (inr (inr coordinates))) ↦ no-coordinate-defect g (flags_place g.bytes contours) (written_points g.bytes contours) s.points f there coordinates
+    ]
 
 -- the last record is one
 last-same : (g : Stretch) (at k n : ℕ) → GoesOn g at k → has (written_component_flags g.bytes (record_place g.bytes at k)) more_components ≡ false → GoesOn g at n → has (written_component_flags g.bytes (record_place g.bytes at n)) more_components ≡ false → k ≡ n
@@ -130,21 +129,21 @@ last-same g at (suc k) (suc n) on_k stops_k on_n stops_n = ap suc (last-same g (
 no-records-defect : (glyphs : ℕ) (g : Stretch) (f : Fault) → AreGoodRecords glyphs g 10 component_limit → ¬ IsRecordsDefect glyphs g 10 component_limit f
 no-records-defect glyphs g f good bad = elim bad [
   | inl one ↦
-    let record_is = good one.0 one.2 in
-    elim (one.3) [
-      | inl short ↦
-        let ends = short.0 in
-        let room = record_is.room in
-        absurd (omega arith)
-      | inr (inl unknown) ↦
-        let over = unknown.0 in
-        let known = record_is.known in
-        absurd (omega arith)
-      | inr (inr scaled) ↦ absurd (true≢false (sym scaled.0 ∙ record_is.unscaled))
-    ]
+      let record_is = good one.0 one.2 in
+      elim (one.3) [
+        | inl short ↦
+            let ends = short.0 in
+            let room = record_is.room in
+            absurd (omega arith)
+        | inr (inl unknown) ↦
+            let over = unknown.0 in
+            let known = record_is.known in
+            absurd (omega arith)
+        | inr (inr scaled) ↦ absurd (true≢false (sym scaled.0 ∙ record_is.unscaled))
+      ]
   | inr over ↦
-    let few = (good component_limit over.0).few in
-    absurd (omega arith)
+      let few = (good component_limit over.0).few in
+      absurd (omega arith)
 ]
 
 no-program-defect : (g : Stretch) (c : CompositeGlyph) (f : Fault) → AreUpTo g 10 (record { items = c.records; next = records_end g.bytes 10 c.records }) → IsProgramBehind g (records_end g.bytes 10 c.records) (has_program c.records) (record { code = c.code; code_at = c.code_at }) → ¬ IsProgramDefect g 10 f

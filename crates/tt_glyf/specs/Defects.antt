@@ -1,6 +1,6 @@
 -- What can be wrong with a glyph, said of its bytes as they stand: each defect with its fault, whichever of them is met
 -- first. OpenType, "The 'glyf' table"; the limits are profile.
-use Rattle.std.specs.Prelude.{◌≡◌, ℕ, zero, suc, ◌+◌, ◌-◌, ◌<◌, ◌≤◌, Bool, true, false, ℤ, pos, unsigned_abs, ◌+ℤ◌, ◌<ℤ◌, List, [], ◌∷◌, length, fold, take, ◌⊎◌}
+use Rattle.std.specs.Prelude.{◌≡◌, ℕ, zero, suc, ◌+◌, ◌-◌, ◌<◌, ◌≤◌, true, false, ℤ, pos, unsigned_abs, ◌+ℤ◌, ◌<ℤ◌, List, [], ◌∷◌, length, fold, take, ◌⊎◌}
 use Rattle.tt_core.specs.Faults.{Fault}
 use Rattle.tt_core.specs.declared.fault.Why.TheVariants as why
 use Rattle.tt_core.specs.Limits.{component_limit, point_limit}
@@ -11,7 +11,7 @@ use Rattle.tt_glyf.specs.Composite.{more_components, has_program, asks_scaled_of
 use Rattle.tt_glyf.specs.Coordinates.{is_coordinate}
 use Rattle.tt_glyf.specs.Flags.{has}
 use Rattle.tt_glyf.specs.Loca.{GlyphTables, glyph_offset, IsRangeDefect}
-use Rattle.tt_glyf.specs.Meaning.{stretch_of, contour_count, end_place, written_end, size_place, flags_place, written_run, runs_end, written_flags, x_deltas, y_deltas, points_end, written_component_flags, written_component, written_record, record_end, records_end}
+use Rattle.tt_glyf.specs.Meaning.{stretch_of, contour_count, end_place, written_end, size_place, flags_place, written_run, runs_end, written_flags, x_deltas, y_deltas, points_end, written_component_flags, written_component, written_record, record_end}
 
 -- the bytes end before a place behind a field
 abbrev pub IsCut : Stretch → ℕ → Fault → Type 0

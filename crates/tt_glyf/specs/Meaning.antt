@@ -167,8 +167,8 @@ abbrev pub written_record : Stretch → ℕ → Record
 written_record g at =
     let flags = written_component_flags g.bytes at in
     record_of (g.start + at) flags (written_component g.bytes at)
-        (written_argument g.bytes flags (at + 4)) (written_argument g.bytes flags (at + 4 + argument_size flags))
-        (written_transform g.bytes flags (at + 4 + 2 * argument_size flags))
+    (written_argument g.bytes flags (at + 4)) (written_argument g.bytes flags (at + 4 + argument_size flags))
+    (written_transform g.bytes flags (at + 4 + 2 * argument_size flags))
 
 -- the place behind it
 abbrev pub record_end : List ℕ → ℕ → ℕ
