@@ -3,6 +3,7 @@
 ghost use Rattle.std.specs.Prelude.{◌≤◌, length};
 ghost use Rattle.tt_core.specs.Limits.{font_limit};
 
+use crate::defects::defect_of;
 use crate::test_font::TEST_FONT;
 use std::alloc::Global;
 use std::process::Abort;
@@ -45,9 +46,9 @@ fn glyph_1<'a>(
 }
 
 fn fault_of(read: Result<Raw, FontFault>) -> Option<Fault> {
-    match read {
-        Err(FontFault::Font(fault)) => Some(fault),
-        _ => None,
+    match read.err() {
+        Some(fault) => defect_of(fault),
+        None => None,
     }
 }
 
@@ -263,16 +264,14 @@ fn as_many_components_as_one_may_have_are_read(rt: HostRuntime) {
     }
     match glyph_1(&rt, rt.alloc(), &LOCA, &glyph) {
         Ok(Raw::Composite { records, code, .. }) => {
-            assert_eq!(rt; records.len(), 32);
             assert!(rt; code.is_empty());
-            let mut i = 0i32;
-            for part in &records {
-                assert_eq!(rt;
-                    (part.at as i32, i32::from(part.glyph)),
-                    (10i32.wrapping_add(i.wrapping_mul(6)), i % 3)
-                );
-                assert_eq!(rt; (part.arg1, part.arg2), (i, 0i32.wrapping_sub(i)));
-                i = i.wrapping_add(1);
+            let items = records.as_slice();
+            assert!(rt; items.len() == 32);
+            for i in 0..32usize {
+                let (part, number) = (items[i], i as i32);
+                assert_eq!(rt; part.at, 10 + 6 * (i as u32));
+                assert_eq!(rt; part.glyph, (i % 3) as u16);
+                assert_eq!(rt; (part.arg1, part.arg2), (number, -number));
             }
         }
         _ => panic!(rt; "a composite"),

@@ -3,6 +3,8 @@
 #![tactic(auto)]
 
 #[cfg(test)]
+mod defects;
+#[cfg(test)]
 mod device_tests;
 mod devices;
 #[cfg(test)]
