@@ -141,7 +141,7 @@ impl<'a> Fitter<'a> {
         requires few { length points.now ≤ point_limit }
         requires ends { EndContours (length points.now) last_points.now }
         requires start { IsOutline (outline_of start) }
-        ensures exact { FontGives outline_of result (simple_outline (hinted_by self.now (hints_of hints.now)) g points.now last_points.now (program_view program) (outline_of start)) }
+        ensures exact { FontGives outline_of result (simple_outline (hinted_by self.now (hints_of hints.now)) g points.now last_points.now (program_view program.entry) (outline_of start)) }
         ensures sound { IfOk result (λ o. IsOutline (outline_of o)) }
     {
         let at = self.glyf.start(g);
