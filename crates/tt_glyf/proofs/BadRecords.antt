@@ -18,7 +18,10 @@ use Rattle.tt_glyf.proofs.Chains.{was-err, after-err, failed, failed-else}
 use Rattle.tt_glyf.proofs.Fields.{IsShort, short-further, byte-short, word-was, word-short, signed-short, slice-short}
 use Rattle.tt_glyf.proofs.Parts.{AreUpTo, flags-are, arguments-were, written_arguments, transform-was, glyph-known, record-was, records-were}
 
-argument-broke-cases : (g : Stretch) (at : ℕ) (words offsets : Bool) (f : Fault) → (if words then (if offsets then signed_in g at else (word_in g at >>= λ n. Ok (pos n))) else (byte_in g at >>= λ n. Ok (if offsets then signed8 n else pos n))) ≡ Err f → IsShort g (at + (if words then 2 else 1)) f
+argument-broke-cases : (g : Stretch) (at : ℕ) (words offsets : Bool) (f : Fault)
+    → (if words then (if offsets then signed_in g at else (word_in g at >>= λ n. Ok (pos n)))
+    else (byte_in g at >>= λ n. Ok (if offsets then signed8 n else pos n))) ≡ Err f
+    → IsShort g (at + (if words then 2 else 1)) f
 argument-broke-cases g at true true f was = signed-short g at f was
 argument-broke-cases g at true false f was = elim (was-err (word_in g at) _ f was) [
   | inl here ↦ word-short g at f here
@@ -29,16 +32,21 @@ argument-broke-cases g at false offsets f was = elim (was-err (byte_in g at) _ f
   | inr later ↦ let rest = later.rest in absurd cc
 ]
 
-argument-broke : (g : Stretch) (flags at : ℕ) (f : Fault) → argument_at g flags at ≡ Err f → IsShort g (at + argument_size flags) f
+argument-broke : (g : Stretch) (flags at : ℕ) (f : Fault) → argument_at g flags at ≡ Err f
+    → IsShort g (at + argument_size flags) f
 unfolding argument_at
-argument-broke g flags at f was = argument-broke-cases g at (has flags arg_1_and_2_are_words) (has flags args_are_xy_values) f was
+argument-broke g flags at f was =
+    argument-broke-cases g at (has flags arg_1_and_2_are_words) (has flags args_are_xy_values) f was
 
-arguments-broke : (g : Stretch) (flags at : ℕ) (f : Fault) → arguments_at g flags at ≡ Err f → IsShort g (at + 2 * argument_size flags) f
+arguments-broke : (g : Stretch) (flags at : ℕ) (f : Fault) → arguments_at g flags at ≡ Err f
+    → IsShort g (at + 2 * argument_size flags) f
 unfolding arguments_at
 arguments-broke g flags at f was = elim (was-err (argument_at g flags at) _ f was) [
-  | inl here ↦ short-further g (at + argument_size flags) (at + 2 * argument_size flags) f (omega arith) (argument-broke g flags at f here)
+  | inl here ↦ short-further g (at + argument_size flags) (at + 2 * argument_size flags) f (omega arith)
+      (argument-broke g flags at f here)
   | inr first ↦ elim (was-err (argument_at g flags (at + argument_size flags)) _ f first.rest) [
-    | inl here ↦ short-further g (at + argument_size flags + argument_size flags) (at + 2 * argument_size flags) f (omega arith) (argument-broke g flags (at + argument_size flags) f here)
+    | inl here ↦ short-further g (at + argument_size flags + argument_size flags) (at + 2 * argument_size flags) f
+        (omega arith) (argument-broke g flags (at + argument_size flags) f here)
     | inr second ↦ let rest = second.rest in absurd cc
   ]
 ]
@@ -69,7 +77,10 @@ two_by_two-broke g at f was = elim (was-err (signed_in g at) _ f was) [
   ]
 ]
 
-transform-broke-cases : (g : Stretch) (at : ℕ) (a b c : Bool) (f : Fault) → (if a then (signed_in g at >>= λ s. Ok (one_scale s)) else (if b then two_scales_at g at else (if c then two_by_two_at g at else Ok identity))) ≡ Err f → IsShort g (at + (if a then 2 else (if b then 4 else (if c then 8 else 0)))) f
+transform-broke-cases : (g : Stretch) (at : ℕ) (a b c : Bool) (f : Fault)
+    → (if a then (signed_in g at >>= λ s. Ok (one_scale s))
+    else (if b then two_scales_at g at else (if c then two_by_two_at g at else Ok identity))) ≡ Err f
+    → IsShort g (at + (if a then 2 else (if b then 4 else (if c then 8 else 0)))) f
 transform-broke-cases g at true b c f was = elim (was-err (signed_in g at) _ f was) [
   | inl here ↦ signed-short g at f here
   | inr later ↦ let rest = later.rest in absurd cc
@@ -78,24 +89,32 @@ transform-broke-cases g at false true c f was = two_scales-broke g at f was
 transform-broke-cases g at false false true f was = two_by_two-broke g at f was
 transform-broke-cases g at false false false f was = absurd cc
 
-transform-broke : (g : Stretch) (flags at : ℕ) (f : Fault) → transform_at g flags at ≡ Err f → IsShort g (at + transform_size flags) f
+transform-broke : (g : Stretch) (flags at : ℕ) (f : Fault) → transform_at g flags at ≡ Err f
+    → IsShort g (at + transform_size flags) f
 unfolding transform_at
-transform-broke g flags at f was = transform-broke-cases g at (has flags we_have_a_scale) (has flags we_have_an_x_and_y_scale) (has flags we_have_a_two_by_two) f was
+transform-broke g flags at f was =
+    transform-broke-cases g at (has flags we_have_a_scale) (has flags we_have_an_x_and_y_scale)
+        (has flags we_have_a_two_by_two) f was
 
-unknown-broke : (glyphs : ℕ) (g : Stretch) (at number : ℕ) (f : Fault) → known_glyph glyphs g at number ≡ Err f → (glyphs ≤ number) × (f ≡ glyph_fault g at why.ComponentGlyph)
+unknown-broke : (glyphs : ℕ) (g : Stretch) (at number : ℕ) (f : Fault) → known_glyph glyphs g at number ≡ Err f
+    → (glyphs ≤ number) × (f ≡ glyph_fault g at why.ComponentGlyph)
 unfolding known_glyph
 unknown-broke glyphs g at number f was =
     let p = failed-else (nat_lt number glyphs) _ number f was in
     let test = p.0 in
     (grind (arith, nat_tests), p.1)
 
-scaled-broke : (g : Stretch) (at : ℕ) (r : Record) (f : Fault) → unscaled g at r ≡ Err f → (asks_scaled_offset r ≡ true) × (f ≡ glyph_fault g at why.ScaledOffset)
+scaled-broke : (g : Stretch) (at : ℕ) (r : Record) (f : Fault) → unscaled g at r ≡ Err f
+    → (asks_scaled_offset r ≡ true) × (f ≡ glyph_fault g at why.ScaledOffset)
 unfolding unscaled
 scaled-broke g at r f was = failed (asks_scaled_offset r) _ r f was
 
 -- the same of the record with these flags
 abbrev record_by : Stretch → ℕ → ℕ → Record
-record_by g at flags = record_of (g.start + at) flags (written_component g.bytes at) (written_argument g.bytes flags (at + 4)) (written_argument g.bytes flags (at + 4 + argument_size flags)) (written_transform g.bytes flags (at + 4 + 2 * argument_size flags))
+record_by g at flags =
+    record_of (g.start + at) flags (written_component g.bytes at) (written_argument g.bytes flags (at + 4))
+        (written_argument g.bytes flags (at + 4 + argument_size flags))
+        (written_transform g.bytes flags (at + 4 + 2 * argument_size flags))
 
 abbrev IsBadBy : ℕ → Stretch → ℕ → ℕ → Fault → Type 0
 IsBadBy glyphs g at flags f =
@@ -103,13 +122,19 @@ IsBadBy glyphs g at flags f =
     ⊎ ((glyphs ≤ written_component g.bytes at) × (f ≡ glyph_fault g at why.ComponentGlyph))
     ⊎ ((asks_scaled_offset (record_by g at flags) ≡ true) × (f ≡ glyph_fault g at why.ScaledOffset))
 
-scaled-by : (g : Stretch) (at flags number glyph : ℕ) (args : Arguments) (t : Transform) (f : Fault) → glyph ≡ number → number ≡ written_component g.bytes at → args ≡ written_arguments g.bytes flags (at + 4) → t ≡ written_transform g.bytes flags (at + 4 + 2 * argument_size flags) → unscaled g at (record_of (g.start + at) flags glyph args.arg1 args.arg2 t) ≡ Err f → (asks_scaled_offset (record_by g at flags) ≡ true) × (f ≡ glyph_fault g at why.ScaledOffset)
+scaled-by : (g : Stretch) (at flags number glyph : ℕ) (args : Arguments) (t : Transform) (f : Fault) → glyph ≡ number
+    → number ≡ written_component g.bytes at → args ≡ written_arguments g.bytes flags (at + 4)
+    → t ≡ written_transform g.bytes flags (at + 4 + 2 * argument_size flags)
+    → unscaled g at (record_of (g.start + at) flags glyph args.arg1 args.arg2 t) ≡ Err f
+    → (asks_scaled_offset (record_by g at flags) ≡ true) × (f ≡ glyph_fault g at why.ScaledOffset)
 scaled-by g at flags number glyph args t f e1 e2 e3 e4 was =
-    let is : record_of (g.start + at) flags glyph args.arg1 args.arg2 t ≡ record_by g at flags = rw (e1, e2, e3, e4) refl in
+    let is : record_of (g.start + at) flags glyph args.arg1 args.arg2 t ≡ record_by g at flags = rw (e1, e2, e3, e4)
+            refl in
     let p = scaled-broke g at (record_of (g.start + at) flags glyph args.arg1 args.arg2 t) f was in
     (sym (ap asks_scaled_offset is) ∙ p.0, p.1)
 
-record-broke : (glyphs : ℕ) (g : Stretch) (at : ℕ) (f : Fault) → record_at glyphs g at ≡ Err f → IsBadRecord glyphs g at f
+record-broke : (glyphs : ℕ) (g : Stretch) (at : ℕ) (f : Fault) → record_at glyphs g at ≡ Err f
+    → IsBadRecord glyphs g at f
 unfolding record_at
 record-broke glyphs g at f was = elim (was-err (word_in g at) _ f was) [
   | inl here ↦ inl (cut g (at + 2) (record_end g.bytes at) f (omega arith) (word-short g at f here))
@@ -125,14 +150,19 @@ record-broke glyphs g at f was = elim (was-err (word_in g at) _ f was) [
               | inr by_glyph ↦
                   let known = glyph-known glyphs g at by_number.value by_glyph.value by_glyph.first in
                   elim (was-err (arguments_at g flags (at + 4)) _ f by_glyph.rest) [
-                    | inl here ↦ inl (cut g (at + 4 + 2 * argument_size flags) (at + record_size flags) f (omega arith) (arguments-broke g flags (at + 4) f here))
+                    | inl here ↦ inl (cut g (at + 4 + 2 * argument_size flags) (at + record_size flags) f (omega arith)
+                        (arguments-broke g flags (at + 4) f here))
                     | inr by_args ↦
                         let args = arguments-were g flags (at + 4) by_args.value by_args.first in
                         elim (was-err (transform_at g flags (at + 4 + 2 * argument_size flags)) _ f by_args.rest) [
-                          | inl here ↦ inl (cut g (at + 4 + 2 * argument_size flags + transform_size flags) (at + record_size flags) f (omega arith) (transform-broke g flags (at + 4 + 2 * argument_size flags) f here))
+                          | inl here ↦ inl (cut g (at + 4 + 2 * argument_size flags + transform_size flags)
+                              (at + record_size flags) f (omega arith)
+                              (transform-broke g flags (at + 4 + 2 * argument_size flags) f here))
                           | inr by_t ↦
-                              let t = transform-was g flags (at + 4 + 2 * argument_size flags) by_t.value args.room by_t.first in
-                              inr (inr (scaled-by g at flags by_number.value by_glyph.value by_args.value by_t.value f known.is number.is args.is t.is by_t.rest))
+                              let t = transform-was g flags (at + 4 + 2 * argument_size flags) by_t.value args.room
+                                      by_t.first in
+                              inr (inr (scaled-by g at flags by_number.value by_glyph.value by_args.value by_t.value f
+                                  known.is number.is args.is t.is by_t.rest))
                         ]
                   ]
             ]
@@ -141,17 +171,26 @@ record-broke glyphs g at f was = elim (was-err (word_in g at) _ f was) [
 ]
 
 -- the records
-records-further : (glyphs : ℕ) (g : Stretch) (at allowed : ℕ) (f : Fault) → has (written_component_flags g.bytes at) more_components ≡ true → IsRecordsDefect glyphs g (record_end g.bytes at) allowed f → IsRecordsDefect glyphs g at (suc allowed) f
+records-further : (glyphs : ℕ) (g : Stretch) (at allowed : ℕ) (f : Fault)
+    → has (written_component_flags g.bytes at) more_components ≡ true
+    → IsRecordsDefect glyphs g (record_end g.bytes at) allowed f → IsRecordsDefect glyphs g at (suc allowed) f
 records-further glyphs g at allowed f more bad = elim bad [
   | inl one ↦ let few = one.1 in inl (suc one.0, omega arith, (more, one.2), one.3)
   | inr over ↦ inr ((more, over.0), over.1)
 ]
 
-records-broke-cases : (glyphs : ℕ) (g : Stretch) (at allowed : ℕ) (r : Record) (m : Bool) (f : Fault) → r.flags ≡ written_component_flags g.bytes at → has r.flags more_components ≡ m → ◌≡◌ {A = Result (Listing Record) Fault} (if m then records_from glyphs g (at + record_size r.flags) allowed else Ok (record { items = []; next = at + record_size r.flags })) (Err f) → (records_from glyphs g (record_end g.bytes at) allowed ≡ Err f → IsRecordsDefect glyphs g (record_end g.bytes at) allowed f) → IsRecordsDefect glyphs g at (suc allowed) f
-records-broke-cases glyphs g at allowed r true f flags is came others = records-further glyphs g at allowed f (rw flags at is) (others (rw flags at came))
+records-broke-cases : (glyphs : ℕ) (g : Stretch) (at allowed : ℕ) (r : Record) (m : Bool) (f : Fault)
+    → r.flags ≡ written_component_flags g.bytes at → has r.flags more_components ≡ m
+    → ◌≡◌ {A = Result (Listing Record) Fault} (if m then records_from glyphs g (at + record_size r.flags) allowed
+    else Ok (record { items = []; next = at + record_size r.flags })) (Err f)
+    → (records_from glyphs g (record_end g.bytes at) allowed ≡ Err f
+    → IsRecordsDefect glyphs g (record_end g.bytes at) allowed f) → IsRecordsDefect glyphs g at (suc allowed) f
+records-broke-cases glyphs g at allowed r true f flags is came others =
+    records-further glyphs g at allowed f (rw flags at is) (others (rw flags at came))
 records-broke-cases glyphs g at allowed r false f flags is came others = absurd cc
 
-pub records-broke : (glyphs : ℕ) (g : Stretch) (at allowed : ℕ) (f : Fault) → records_from glyphs g at allowed ≡ Err f → IsRecordsDefect glyphs g at allowed f
+pub records-broke : (glyphs : ℕ) (g : Stretch) (at allowed : ℕ) (f : Fault) → records_from glyphs g at allowed ≡ Err f
+    → IsRecordsDefect glyphs g at allowed f
 unfolding records_from
 records-broke glyphs g at zero f was = inr (tt, cc)
 records-broke glyphs g at (suc allowed) f was = elim (was-err (record_at glyphs g at) _ f was) [
@@ -159,7 +198,9 @@ records-broke glyphs g at (suc allowed) f was = elim (was-err (record_at glyphs 
   | inr later ↦
       let r = later.value in
       let rest = after-err (r ∷ []) _ f later.rest in
-      records-broke-cases glyphs g at allowed r (has r.flags more_components) f (flags-are glyphs g at r (record-was glyphs g at r later.first)) refl rest (λ came. records-broke glyphs g (record_end g.bytes at) allowed f came)
+      records-broke-cases glyphs g at allowed r (has r.flags more_components) f
+          (flags-are glyphs g at r (record-was glyphs g at r later.first)) refl rest
+          (λ came. records-broke glyphs g (record_end g.bytes at) allowed f came)
 ]
 
 -- the program
@@ -167,9 +208,13 @@ record ProgramBroke (g : Stretch) (next : ℕ) (follows : Bool) (f : Fault) : Ty
   pub says : follows ≡ true
   pub short : IsShort g (next + 2 + unsigned_at g.bytes next 2) f
 
-program-broke-cases : (g : Stretch) (next : ℕ) (follows : Bool) (f : Fault) → ◌≡◌ {A = Result Program Fault} (if follows then (word_in g next >>= λ size. slice_in g (next + 2) size >>= λ code. Ok (record { code = code; code_at = g.start + (next + 2) })) else Ok (record { code = []; code_at = g.start + next })) (Err f) → ProgramBroke g next follows f
+program-broke-cases : (g : Stretch) (next : ℕ) (follows : Bool) (f : Fault)
+    → ◌≡◌ {A = Result Program Fault} (if follows then (word_in g next >>= λ size. slice_in g (next + 2) size
+    >>= λ code. Ok (record { code = code; code_at = g.start + (next + 2) }))
+    else Ok (record { code = []; code_at = g.start + next })) (Err f) → ProgramBroke g next follows f
 program-broke-cases g next true f was = elim (was-err (word_in g next) _ f was) [
-  | inl here ↦ record { says = refl; short = short-further g (next + 2) (next + 2 + unsigned_at g.bytes next 2) f (omega arith) (word-short g next f here) }
+  | inl here ↦ record { says = refl; short = short-further g (next + 2) (next + 2 + unsigned_at g.bytes next 2) f
+      (omega arith) (word-short g next f here) }
   | inr by_size ↦
       let size = word-was g next by_size.value by_size.first in
       elim (was-err (slice_in g (next + 2) by_size.value) _ f by_size.rest) [
@@ -179,18 +224,21 @@ program-broke-cases g next true f was = elim (was-err (word_in g next) _ f was) 
 ]
 program-broke-cases g next false f was = absurd cc
 
-program-broke : (g : Stretch) (records : Listing Record) (f : Fault) → program_of g records ≡ Err f → ProgramBroke g records.next (has_program records.items) f
+program-broke : (g : Stretch) (records : Listing Record) (f : Fault) → program_of g records ≡ Err f
+    → ProgramBroke g records.next (has_program records.items) f
 unfolding program_of
 program-broke g records f was = program-broke-cases g records.next (has_program records.items) f was
 
-program-behind : (g : Stretch) (records : Listing Record) (f : Fault) → AreUpTo g 10 records → ProgramBroke g records.next (has_program records.items) f → IsProgramDefect g 10 f
+program-behind : (g : Stretch) (records : Listing Record) (f : Fault) → AreUpTo g 10 records
+    → ProgramBroke g records.next (has_program records.items) f → IsProgramDefect g 10 f
 program-behind g records f up_to broke =
     let next = up_to.next in
     let items = up_to.items in
     let short = rw (← next) at broke.short in
     (up_to.n, up_to.goes_on, up_to.stops, ap has_program items ∙ broke.says, (short.ends, short.is))
 
-pub composite-broke : (glyphs : ℕ) (g : Stretch) (x_min : ℤ) (f : Fault) → composite_of glyphs g x_min ≡ Err f → IsCompositeDefect glyphs g f
+pub composite-broke : (glyphs : ℕ) (g : Stretch) (x_min : ℤ) (f : Fault) → composite_of glyphs g x_min ≡ Err f
+    → IsCompositeDefect glyphs g f
 unfolding composite_of
 composite-broke glyphs g x_min f was = elim (was-err (records_of glyphs g) _ f was) [
   | inl here ↦ inl (records-broke glyphs g 10 component_limit f here)

@@ -6,7 +6,8 @@ use Rattle.tt_core.specs.Outcomes.{◌>>=◌}
 use Rattle.tt_glyf.specs.Bytes.{Listing, after}
 
 -- the same first step, and then the same
-pub chain-same : {A B E : Type 0} (x : Result A E) (f h : A → Result B E) → ((y : A) → f y ≡ h y) → (x >>= f) ≡ (x >>= h)
+pub chain-same : {A B E : Type 0} (x : Result A E) (f h : A → Result B E) → ((y : A) → f y ≡ h y)
+    → (x >>= f) ≡ (x >>= h)
 chain-same (Ok y) f h same = same y
 chain-same (Err e) f h same = refl
 
@@ -34,16 +35,19 @@ pub record CameAfter {A : Type 0} (before : List A) (x : Result (Listing A) Faul
   pub was : x ≡ Ok read
   pub is : y ≡ record { items = before ++ read.items; next = read.next }
 
-pub came-after : {A : Type 0} (before : List A) (x : Result (Listing A) Fault) (y : Listing A) → after before x ≡ Ok y → CameAfter before x y
+pub came-after : {A : Type 0} (before : List A) (x : Result (Listing A) Fault) (y : Listing A) → after before x ≡ Ok y
+    → CameAfter before x y
 came-after before (Ok read) y was = record { read = read; was = refl; is = cc }
 came-after before (Err f) y was = absurd cc
 
 -- a test that was passed
-pub passed : {A E : Type 0} (failed : Bool) (e : E) (x y : A) → ◌≡◌ {A = Result A E} (if failed then Err e else Ok x) (Ok y) → (failed ≡ false) × (x ≡ y)
+pub passed : {A E : Type 0} (failed : Bool) (e : E) (x y : A)
+    → ◌≡◌ {A = Result A E} (if failed then Err e else Ok x) (Ok y) → (failed ≡ false) × (x ≡ y)
 passed true e x y was = absurd cc
 passed false e x y was = (refl, cc)
 
-pub passed-else : {A E : Type 0} (holds : Bool) (e : E) (x y : A) → ◌≡◌ {A = Result A E} (if holds then Ok x else Err e) (Ok y) → (holds ≡ true) × (x ≡ y)
+pub passed-else : {A E : Type 0} (holds : Bool) (e : E) (x y : A)
+    → ◌≡◌ {A = Result A E} (if holds then Ok x else Err e) (Ok y) → (holds ≡ true) × (x ≡ y)
 passed-else true e x y was = (refl, cc)
 passed-else false e x y was = absurd cc
 
@@ -54,19 +58,23 @@ pub record BrokeLater {A B E : Type 0} (x : Result A E) (f : A → Result B E) (
   pub rest : f value ≡ Err e
 
 -- where a chain broke
-pub was-err : {A B E : Type 0} (x : Result A E) (f : A → Result B E) (e : E) → (x >>= f) ≡ Err e → (x ≡ Err e) ⊎ BrokeLater x f e
+pub was-err : {A B E : Type 0} (x : Result A E) (f : A → Result B E) (e : E) → (x >>= f) ≡ Err e → (x ≡ Err e)
+    ⊎ BrokeLater x f e
 was-err (Ok v) f e was = inr (record { value = v; first = refl; rest = was })
 was-err (Err d) f e was = inl cc
 
-pub after-err : {A : Type 0} (before : List A) (x : Result (Listing A) Fault) (f : Fault) → after before x ≡ Err f → x ≡ Err f
+pub after-err : {A : Type 0} (before : List A) (x : Result (Listing A) Fault) (f : Fault) → after before x ≡ Err f
+    → x ≡ Err f
 after-err before (Ok read) f was = absurd cc
 after-err before (Err d) f was = cc
 
 -- a test that was not passed
-pub failed : {A E : Type 0} (holds : Bool) (e : E) (x : A) (f : E) → ◌≡◌ {A = Result A E} (if holds then Err e else Ok x) (Err f) → (holds ≡ true) × (f ≡ e)
+pub failed : {A E : Type 0} (holds : Bool) (e : E) (x : A) (f : E)
+    → ◌≡◌ {A = Result A E} (if holds then Err e else Ok x) (Err f) → (holds ≡ true) × (f ≡ e)
 failed true e x f was = (refl, cc)
 failed false e x f was = absurd cc
 
-pub failed-else : {A E : Type 0} (holds : Bool) (e : E) (x : A) (f : E) → ◌≡◌ {A = Result A E} (if holds then Ok x else Err e) (Err f) → (holds ≡ false) × (f ≡ e)
+pub failed-else : {A E : Type 0} (holds : Bool) (e : E) (x : A) (f : E)
+    → ◌≡◌ {A = Result A E} (if holds then Ok x else Err e) (Err f) → (holds ≡ false) × (f ≡ e)
 failed-else true e x f was = absurd cc
 failed-else false e x f was = (refl, cc)

@@ -9,25 +9,33 @@ use Rattle.tt_glyf.specs.Composite.{record_at, records_from, record_size, more_c
 use Rattle.tt_glyf.specs.Flags.{has}
 use Rattle.tt_glyf.proofs.Chains.{after-after}
 
-pub more : (n : ℕ) (g : Stretch) (before : List Record) (at i : ℕ) (r : Record) → i < component_limit → record_at n g at ≡ Ok r → has r.flags more_components ≡ true → after before (records_from n g at (component_limit - i)) ≡ after (before ++ r ∷ []) (records_from n g (at + record_size r.flags) (component_limit - (i + 1)))
+pub more : (n : ℕ) (g : Stretch) (before : List Record) (at i : ℕ) (r : Record) → i < component_limit
+    → record_at n g at ≡ Ok r → has r.flags more_components ≡ true
+    → after before (records_from n g at (component_limit - i)) ≡ after (before ++ r ∷ [])
+    (records_from n g (at + record_size r.flags) (component_limit - (i + 1)))
 unfolding records_from
 more n g before at i r below was goes_on =
     let step : component_limit - i ≡ suc (component_limit - (i + 1)) = omega arith in
     rw (step, was, goes_on, after-after) refl
 
-pub last : (n : ℕ) (g : Stretch) (before : List Record) (at i : ℕ) (r : Record) → i < component_limit → record_at n g at ≡ Ok r → has r.flags more_components ≡ false → after before (records_from n g at (component_limit - i)) ≡ Ok (record { items = before ++ r ∷ []; next = at + record_size r.flags })
+pub last : (n : ℕ) (g : Stretch) (before : List Record) (at i : ℕ) (r : Record) → i < component_limit
+    → record_at n g at ≡ Ok r → has r.flags more_components ≡ false
+    → after before (records_from n g at (component_limit - i)) ≡ Ok
+    (record { items = before ++ r ∷ []; next = at + record_size r.flags })
 unfolding records_from
 last n g before at i r below was stops =
     let step : component_limit - i ≡ suc (component_limit - (i + 1)) = omega arith in
     rw (step, was, stops) refl
 
-pub breaks : (n : ℕ) (g : Stretch) (before : List Record) (at i : ℕ) (f : Fault) → i < component_limit → record_at n g at ≡ Err f → after before (records_from n g at (component_limit - i)) ≡ Err f
+pub breaks : (n : ℕ) (g : Stretch) (before : List Record) (at i : ℕ) (f : Fault) → i < component_limit
+    → record_at n g at ≡ Err f → after before (records_from n g at (component_limit - i)) ≡ Err f
 unfolding records_from
 breaks n g before at i f below was =
     let step : component_limit - i ≡ suc (component_limit - (i + 1)) = omega arith in
     rw (step, was) refl
 
-pub over : (n : ℕ) (g : Stretch) (before : List Record) (at i : ℕ) → component_limit ≤ i → after before (records_from n g at (component_limit - i)) ≡ Err (glyph_fault g at why.ComponentCount)
+pub over : (n : ℕ) (g : Stretch) (before : List Record) (at i : ℕ) → component_limit ≤ i
+    → after before (records_from n g at (component_limit - i)) ≡ Err (glyph_fault g at why.ComponentCount)
 unfolding records_from
 over n g before at i all =
     let none : component_limit - i ≡ 0 = omega arith in

@@ -23,7 +23,10 @@ use Rattle.tt_glyf.proofs.Glyphs.{written_header, header-was, simple-was, compos
 use Rattle.tt_glyf.proofs.Whole.{simple-whole, composite-whole}
 
 -- the header
-header-broke-cases : (g : Stretch) (shorter : Bool) (f : Fault) → nat_lt (length g.bytes) 10 ≡ shorter → ◌≡◌ {A = Result Header Fault} (if shorter then Err (short g) else (signed_in g 0 >>= λ contours. signed_in g 2 >>= λ x_min. Ok (record { contours = contours; x_min = x_min }))) (Err f) → IsCut g 10 f
+header-broke-cases : (g : Stretch) (shorter : Bool) (f : Fault) → nat_lt (length g.bytes) 10 ≡ shorter
+    → ◌≡◌ {A = Result Header Fault} (if shorter then Err (short g)
+    else (signed_in g 0 >>= λ contours. signed_in g 2 >>= λ x_min. Ok (record { contours = contours; x_min = x_min })))
+    (Err f) → IsCut g 10 f
 header-broke-cases g true f is was = (grind (arith, nat_tests), cc)
 header-broke-cases g false f is was = elim (was-err (signed_in g 0) _ f was) [
   | inl here ↦ cut g (0 + 2) 10 f (omega arith) (signed-short g 0 f here)
@@ -51,16 +54,27 @@ positive-is : (c : ℤ) → pos 0 <ℤ c → (int_lt c (pos 0) ≡ false) × ((u
 positive-is c is = (grind (arith, ints), grind (arith, ints, nat_tests), grind (arith, ints))
 
 abbrev described_by : ℕ → Stretch → Bool → Bool → Result GlyphData Fault
-described_by glyphs g negative none = if negative then composite_of glyphs g (written_x_min g.bytes) else (if none then Ok empty else simple_of g (written_x_min g.bytes) (unsigned_abs (contour_count g.bytes)))
+described_by glyphs g negative none =
+    if negative then composite_of glyphs g (written_x_min g.bytes)
+        else (if none then Ok empty else simple_of g (written_x_min g.bytes) (unsigned_abs (contour_count g.bytes)))
 
-described-broke-cases : (glyphs : ℕ) (g : Stretch) (negative none : Bool) (f : Fault) → 10 ≤ length g.bytes → int_lt (contour_count g.bytes) (pos 0) ≡ negative → (unsigned_abs (contour_count g.bytes) == 0) ≡ none → described_by glyphs g negative none ≡ Err f → IsBadGlyph glyphs g f
-described-broke-cases glyphs g true none f header negative is was = inr (inr (header, is-negative (contour_count g.bytes) negative, composite-broke glyphs g (written_x_min g.bytes) f was))
+described-broke-cases : (glyphs : ℕ) (g : Stretch) (negative none : Bool) (f : Fault) → 10 ≤ length g.bytes
+    → int_lt (contour_count g.bytes) (pos 0) ≡ negative → (unsigned_abs (contour_count g.bytes) == 0) ≡ none
+    → described_by glyphs g negative none ≡ Err f → IsBadGlyph glyphs g f
+described-broke-cases glyphs g true none f header negative is was =
+    inr (inr (header, is-negative (contour_count g.bytes) negative, composite-broke glyphs g (written_x_min g.bytes) f
+        was))
 described-broke-cases glyphs g false true f header negative is was = absurd cc
-described-broke-cases glyphs g false false f header negative is was = inr (inl (header, is-positive (contour_count g.bytes) negative is, simple-broke g (written_x_min g.bytes) (unsigned_abs (contour_count g.bytes)) f header (grind (arith, nat_tests)) was))
+described-broke-cases glyphs g false false f header negative is was =
+    inr (inl (header, is-positive (contour_count g.bytes) negative is, simple-broke g (written_x_min g.bytes)
+        (unsigned_abs (contour_count g.bytes)) f header (grind (arith, nat_tests)) was))
 
-described-broke : (glyphs : ℕ) (g : Stretch) (f : Fault) → 10 ≤ length g.bytes → described glyphs g (written_header g.bytes) ≡ Err f → IsBadGlyph glyphs g f
+described-broke : (glyphs : ℕ) (g : Stretch) (f : Fault) → 10 ≤ length g.bytes
+    → described glyphs g (written_header g.bytes) ≡ Err f → IsBadGlyph glyphs g f
 unfolding described
-described-broke glyphs g f header was = described-broke-cases glyphs g (int_lt (contour_count g.bytes) (pos 0)) (unsigned_abs (contour_count g.bytes) == 0) f header refl refl was
+described-broke glyphs g f header was =
+    described-broke-cases glyphs g (int_lt (contour_count g.bytes) (pos 0)) (unsigned_abs (contour_count g.bytes) == 0)
+        f header refl refl was
 
 bytes-broke : (glyphs : ℕ) (g : Stretch) (f : Fault) → glyph_in glyphs g ≡ Err f → IsBadGlyph glyphs g f
 bytes-broke glyphs g f was = elim (was-err (header_of g) (described glyphs g) f was) [
@@ -81,7 +95,10 @@ differ a b is same = grind (arith, nat_tests)
 less : (a b : ℕ) → nat_lt a b ≡ true → a < b
 less a b is = grind (arith, nat_tests)
 
-range-broke-cases : (t : GlyphTables) (g : ℕ) (none out : Bool) (f : Fault) → has_no_bytes t g ≡ none → is_out_of_range t g ≡ out → ◌≡◌ {A = Result (List ℕ) Fault} (if none then Ok [] else (if out then Err (fault_at loca_tag (entry_place t.format g) why.GlyphRange) else Ok (bytes_between t g))) (Err f) → IsRangeDefect t g f
+range-broke-cases : (t : GlyphTables) (g : ℕ) (none out : Bool) (f : Fault) → has_no_bytes t g ≡ none
+    → is_out_of_range t g ≡ out → ◌≡◌ {A = Result (List ℕ) Fault}
+    (if none then Ok [] else (if out then Err (fault_at loca_tag (entry_place t.format g) why.GlyphRange)
+    else Ok (bytes_between t g))) (Err f) → IsRangeDefect t g f
 range-broke-cases t g true out f some is was = absurd cc
 range-broke-cases t g false true f some is was = (
   differ (glyph_offset t g) (glyph_offset t (g + 1)) some,
@@ -103,7 +120,9 @@ has-bytes t g bytes some are =
     let other = differ (glyph_offset t g) (glyph_offset t (g + 1)) some in
     (omega arith, omega arith)
 
-glyph-broke-cases : (t : GlyphTables) (g : ℕ) (none : Bool) (f : Fault) → has_no_bytes t g ≡ none → (if none then Ok empty else (glyph_bytes_of t g >>= λ bytes. glyph_in t.glyphs (stretch_at (glyph_offset t g) bytes))) ≡ Err f → IsGlyphDefect t g f
+glyph-broke-cases : (t : GlyphTables) (g : ℕ) (none : Bool) (f : Fault) → has_no_bytes t g ≡ none
+    → (if none then Ok empty else (glyph_bytes_of t g >>= λ bytes. glyph_in t.glyphs
+    (stretch_at (glyph_offset t g) bytes))) ≡ Err f → IsGlyphDefect t g f
 glyph-broke-cases t g true f is was = absurd cc
 glyph-broke-cases t g false f is was = elim (was-err (glyph_bytes_of t g) _ f was) [
   | inl here ↦ inl (range-broke t g f here)
@@ -117,12 +136,16 @@ pub glyph-broke : (t : GlyphTables) (g : ℕ) (f : Fault) → glyph_data_of t g 
 unfolding glyph_data_of
 glyph-broke t g f was = glyph-broke-cases t g (has_no_bytes t g) f refl was
 
-described-whole-cases : (glyphs : ℕ) (g : Stretch) (negative none : Bool) (d : GlyphData) (f : Fault) → 10 ≤ length g.bytes → int_lt (contour_count g.bytes) (pos 0) ≡ negative → (unsigned_abs (contour_count g.bytes) == 0) ≡ none → described_by glyphs g negative none ≡ Ok d → ¬ IsBadGlyph glyphs g f
+described-whole-cases : (glyphs : ℕ) (g : Stretch) (negative none : Bool) (d : GlyphData) (f : Fault)
+    → 10 ≤ length g.bytes → int_lt (contour_count g.bytes) (pos 0) ≡ negative
+    → (unsigned_abs (contour_count g.bytes) == 0) ≡ none → described_by glyphs g negative none ≡ Ok d
+    → ¬ IsBadGlyph glyphs g f
 described-whole-cases glyphs g negative none d f header is_negative is was bad = elim bad [
   | inl short ↦ let ends = short.0 in absurd (omega arith)
   | inr (inl one) ↦
       let sign = positive-is (contour_count g.bytes) one.1 in
-      let came : simple_of g (written_x_min g.bytes) (unsigned_abs (contour_count g.bytes)) ≡ Ok d = rw (← is_negative, ← is, sign.0, sign.1) at was in
+      let came : simple_of g (written_x_min g.bytes) (unsigned_abs (contour_count g.bytes)) ≡ Ok d = rw
+              (← is_negative, ← is, sign.0, sign.1) at was in
       let read = simple-was g (written_x_min g.bytes) (unsigned_abs (contour_count g.bytes)) d header came in
       simple-whole g (written_x_min g.bytes) (unsigned_abs (contour_count g.bytes)) read.0 f sign.2 read.1 one.2
   | inr (inr one) ↦
@@ -132,17 +155,23 @@ described-whole-cases glyphs g negative none d f header is_negative is was bad =
       composite-whole glyphs g (written_x_min g.bytes) read.0 f read.1 one.2
 ]
 
-described-whole : (glyphs : ℕ) (g : Stretch) (d : GlyphData) (f : Fault) → 10 ≤ length g.bytes → described glyphs g (written_header g.bytes) ≡ Ok d → ¬ IsBadGlyph glyphs g f
+described-whole : (glyphs : ℕ) (g : Stretch) (d : GlyphData) (f : Fault) → 10 ≤ length g.bytes
+    → described glyphs g (written_header g.bytes) ≡ Ok d → ¬ IsBadGlyph glyphs g f
 unfolding described
-described-whole glyphs g d f header was bad = described-whole-cases glyphs g (int_lt (contour_count g.bytes) (pos 0)) (unsigned_abs (contour_count g.bytes) == 0) d f header refl refl was bad
+described-whole glyphs g d f header was bad =
+    described-whole-cases glyphs g (int_lt (contour_count g.bytes) (pos 0)) (unsigned_abs (contour_count g.bytes) == 0)
+        d f header refl refl was bad
 
-bytes-whole : (glyphs : ℕ) (g : Stretch) (d : GlyphData) (f : Fault) → glyph_in glyphs g ≡ Ok d → ¬ IsBadGlyph glyphs g f
+bytes-whole : (glyphs : ℕ) (g : Stretch) (d : GlyphData) (f : Fault) → glyph_in glyphs g ≡ Ok d
+    → ¬ IsBadGlyph glyphs g f
 bytes-whole glyphs g d f was bad =
     let by_header = came-through (header_of g) (described glyphs g) d was in
     let header = header-was g by_header.value by_header.first in
     described-whole glyphs g d f header.room (rw header.is at by_header.rest) bad
 
-glyph-whole-cases : (t : GlyphTables) (g : ℕ) (none : Bool) (d : GlyphData) (f : Fault) → has_no_bytes t g ≡ none → (if none then Ok empty else (glyph_bytes_of t g >>= λ bytes. glyph_in t.glyphs (stretch_at (glyph_offset t g) bytes))) ≡ Ok d → ¬ IsGlyphDefect t g f
+glyph-whole-cases : (t : GlyphTables) (g : ℕ) (none : Bool) (d : GlyphData) (f : Fault) → has_no_bytes t g ≡ none
+    → (if none then Ok empty else (glyph_bytes_of t g >>= λ bytes. glyph_in t.glyphs
+    (stretch_at (glyph_offset t g) bytes))) ≡ Ok d → ¬ IsGlyphDefect t g f
 glyph-whole-cases t g true d f is was bad = elim bad [
   | inl range ↦ let other = range.0 in grind (arith, nat_tests)
   | inr one ↦ let below = one.0.0 in grind (arith, nat_tests)

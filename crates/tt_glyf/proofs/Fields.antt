@@ -25,7 +25,8 @@ word-was g at n was =
     let test = p.0 in
     record { is = sym p.1; room = grind (arith, nat_tests) }
 
-pub signed-was : (g : Stretch) (at : ℕ) (n : ℤ) → signed_in g at ≡ Ok n → IsField g (at + 2) n (signed16 (unsigned_at g.bytes at 2))
+pub signed-was : (g : Stretch) (at : ℕ) (n : ℤ) → signed_in g at ≡ Ok n
+    → IsField g (at + 2) n (signed16 (unsigned_at g.bytes at 2))
 unfolding signed_in
 signed-was g at n was =
     let p = passed-else (nat_le (at + 2) (length g.bytes)) _ (signed16 (unsigned_at g.bytes at 2)) n was in

@@ -38,7 +38,9 @@ pub record IsRead (glyphs : ℕ) (g : Stretch) (d : GlyphData) : Type 0 where
   pub program : IsProgramOf g d
 
 nothing-read : (glyphs : ℕ) (g : Stretch) → IsRead glyphs g empty
-nothing-read glyphs g = record { few = tt; ends = tt; words = tt; points = tt; components = tt; records = tt; composite_words = tt; program = tt }
+nothing-read glyphs g =
+    record { few = tt; ends = tt; words = tt; points = tt; components = tt; records = tt; composite_words = tt;
+        program = tt }
 
 -- what was read of a simple glyph of so many contours
 pub record SimpleRead (g : Stretch) (x_min : ℤ) (contours : ℕ) (s : SimpleGlyph) : Type 0 where
@@ -50,7 +52,12 @@ pub record SimpleRead (g : Stretch) (x_min : ℤ) (contours : ℕ) (s : SimpleGl
   pub count : CountRead s.ends (length s.points)
   pub points : PointsRead g.bytes (flags_place g.bytes contours) (length s.points) s.points
 
-simple-make : (g : Stretch) (x_min : ℤ) (contours n size : ℕ) (ends : Listing ℕ) (code : List ℕ) (points : List RawPoint) → EndsRead g.bytes 10 contours 0 ends → CountRead ends.items n → size ≡ unsigned_at g.bytes ends.next 2 → (length code ≡ size) × IsWithin g.bytes code (ends.next + 2) → PointsRead g.bytes (ends.next + 2 + size) n points → SimpleRead g x_min contours (record { x_min = x_min; points = points; ends = ends.items; code = code; code_at = g.start + (ends.next + 2) })
+simple-make : (g : Stretch) (x_min : ℤ) (contours n size : ℕ) (ends : Listing ℕ) (code : List ℕ)
+    (points : List RawPoint) → EndsRead g.bytes 10 contours 0 ends → CountRead ends.items n
+    → size ≡ unsigned_at g.bytes ends.next 2 → (length code ≡ size) × IsWithin g.bytes code (ends.next + 2)
+    → PointsRead g.bytes (ends.next + 2 + size) n points
+    → SimpleRead g x_min contours (record { x_min = x_min; points = points; ends = ends.items; code = code;
+    code_at = g.start + (ends.next + 2) })
 simple-make g x_min contours n size ends code points e c s k p =
     let many = p.many in
     let next = e.next in
@@ -65,7 +72,8 @@ simple-make g x_min contours n size ends code points e c s k p =
       points = rw place (rw (← many) at p);
     }
 
-pub simple-was : (g : Stretch) (x_min : ℤ) (contours : ℕ) (d : GlyphData) → 10 ≤ length g.bytes → simple_of g x_min contours ≡ Ok d → (s : SimpleGlyph) × SimpleRead g x_min contours s × (d ≡ simple s)
+pub simple-was : (g : Stretch) (x_min : ℤ) (contours : ℕ) (d : GlyphData) → 10 ≤ length g.bytes
+    → simple_of g x_min contours ≡ Ok d → (s : SimpleGlyph) × SimpleRead g x_min contours s × (d ≡ simple s)
 unfolding simple_of
 simple-was g x_min contours d header was =
     let by_ends = came-through (ends_of g contours) _ d was in
@@ -78,24 +86,34 @@ simple-was g x_min contours d header was =
     let code = by_code.value in
     let by_points = came-through (points_of g (ends.next + 2 + size) n) _ d by_code.rest in
     let points = by_points.value in
-    let is : simple (record { x_min = x_min; points = points; ends = ends.items; code = code; code_at = g.start + (ends.next + 2) }) ≡ d = cc by_points.rest in
+    let is : simple (record { x_min = x_min; points = points; ends = ends.items; code = code;
+            code_at = g.start + (ends.next + 2) }) ≡ d = cc by_points.rest in
     let k = slice-was g (ends.next + 2) size code by_code.first in
     let room = k.1.room in
     let many = k.0 in
-    (record { x_min = x_min; points = points; ends = ends.items; code = code; code_at = g.start + (ends.next + 2) }, simple-make g x_min contours n size ends code points (ends-were g 10 contours 0 ends header by_ends.first) (count-was g ends n by_count.first) (word-was g ends.next size by_size.first).is k (points-were g (ends.next + 2 + size) n points (omega arith) by_points.first), sym is)
+    (record { x_min = x_min; points = points; ends = ends.items; code = code;
+        code_at = g.start + (ends.next + 2) }, simple-make g x_min contours n size ends code points
+        (ends-were g 10 contours 0 ends header by_ends.first) (count-was g ends n by_count.first)
+        (word-was g ends.next size by_size.first).is k (points-were g (ends.next + 2 + size) n points (omega arith)
+        by_points.first), sym is)
 
-ends-are : (bytes ends : List ℕ) (points n contours : ℕ) → 0 < contours → EndsRead bytes 10 contours 0 (record { items = ends; next = n }) → CountRead ends points → AreEnds points ends
+ends-are : (bytes ends : List ℕ) (points n contours : ℕ) → 0 < contours
+    → EndsRead bytes 10 contours 0 (record { items = ends; next = n }) → CountRead ends points → AreEnds points ends
 ends-are bytes ends points n contours some read count =
     let many = read.many in
-    record { some = omega arith; rising = λ i j le below. never-falls 0 ends i j read.rise le below; last = sym count.is }
+    record { some = omega arith; rising = λ i j le below. never-falls 0 ends i j read.rise le below;
+        last = sym count.is }
 
-simple-is : (glyphs : ℕ) (g : Stretch) (contours : ℕ) (s : SimpleGlyph) → 0 < contours → contours ≡ unsigned_abs (contour_count g.bytes) → SimpleRead g (written_x_min g.bytes) contours s → IsRead glyphs g (simple s)
+simple-is : (glyphs : ℕ) (g : Stretch) (contours : ℕ) (s : SimpleGlyph) → 0 < contours
+    → contours ≡ unsigned_abs (contour_count g.bytes) → SimpleRead g (written_x_min g.bytes) contours s
+    → IsRead glyphs g (simple s)
 simple-is glyphs g contours s some is read =
     let many = read.ends.many in
     record {
       few = read.count.few;
       ends = ends-are g.bytes s.ends (length s.points) (size_place contours) contours some read.ends read.count;
-      words = record { x_min = read.x_min_is; contours = many ∙ is; ends = λ i below. read.ends.words i (omega arith); code_at = rw many read.code_at; code_size = rw many read.code_size };
+      words = record { x_min = read.x_min_is; contours = many ∙ is; ends = λ i below. read.ends.words i (omega arith);
+          code_at = rw many read.code_at; code_size = rw many read.code_size };
       points = rw many (points-are g.bytes (flags_place g.bytes contours) (length s.points) s.points read.points);
       components = tt;
       records = tt;
@@ -106,15 +124,21 @@ simple-is glyphs g contours s some is read =
 -- what was read of a composite glyph
 pub record CompositeRead (glyphs : ℕ) (g : Stretch) (x_min : ℤ) (c : CompositeGlyph) : Type 0 where
   pub x_min_is : c.x_min ≡ x_min
-  pub parts : ArePartsRead glyphs g 10 component_limit (record { items = c.records; next = records_end g.bytes 10 c.records })
-  pub program : IsProgramBehind g (records_end g.bytes 10 c.records) (has_program c.records) (record { code = c.code; code_at = c.code_at })
+  pub parts : ArePartsRead glyphs g 10 component_limit (record { items = c.records;
+      next = records_end g.bytes 10 c.records })
+  pub program : IsProgramBehind g (records_end g.bytes 10 c.records) (has_program c.records)
+      (record { code = c.code; code_at = c.code_at })
 
-composite-make : (glyphs : ℕ) (g : Stretch) (x_min : ℤ) (records : Listing Record) (p : Program) → ArePartsRead glyphs g 10 component_limit records → IsProgramBehind g records.next (has_program records.items) p → CompositeRead glyphs g x_min (record { x_min = x_min; records = records.items; code = p.code; code_at = p.code_at })
+composite-make : (glyphs : ℕ) (g : Stretch) (x_min : ℤ) (records : Listing Record) (p : Program)
+    → ArePartsRead glyphs g 10 component_limit records → IsProgramBehind g records.next (has_program records.items) p
+    → CompositeRead glyphs g x_min (record { x_min = x_min; records = records.items; code = p.code;
+    code_at = p.code_at })
 composite-make glyphs g x_min records p parts program =
     let end = parts.end in
     record { x_min_is = refl; parts = rw end at parts; program = rw end at program }
 
-pub composite-was : (glyphs : ℕ) (g : Stretch) (x_min : ℤ) (d : GlyphData) → composite_of glyphs g x_min ≡ Ok d → (c : CompositeGlyph) × CompositeRead glyphs g x_min c × (d ≡ composite c)
+pub composite-was : (glyphs : ℕ) (g : Stretch) (x_min : ℤ) (d : GlyphData) → composite_of glyphs g x_min ≡ Ok d
+    → (c : CompositeGlyph) × CompositeRead glyphs g x_min c × (d ≡ composite c)
 unfolding composite_of
 composite-was glyphs g x_min d was =
     let by_records = came-through (records_of glyphs g) _ d was in
@@ -122,10 +146,14 @@ composite-was glyphs g x_min d was =
     let read = records-were glyphs g 10 component_limit records by_records.first in
     let by_program = came-through (program_of g records) _ d by_records.rest in
     let p = by_program.value in
-    let is : composite (record { x_min = x_min; records = records.items; code = p.code; code_at = p.code_at }) ≡ d = cc by_program.rest in
-    (record { x_min = x_min; records = records.items; code = p.code; code_at = p.code_at }, composite-make glyphs g x_min records p read (program-was g records p read.room by_program.first), sym is)
+    let is : composite (record { x_min = x_min; records = records.items; code = p.code; code_at = p.code_at }) ≡ d = cc
+            by_program.rest in
+    (record { x_min = x_min; records = records.items; code = p.code;
+        code_at = p.code_at }, composite-make glyphs g x_min records p read
+        (program-was g records p read.room by_program.first), sym is)
 
-composite-is : (glyphs : ℕ) (g : Stretch) (c : CompositeGlyph) → CompositeRead glyphs g (written_x_min g.bytes) c → IsRead glyphs g (composite c)
+composite-is : (glyphs : ℕ) (g : Stretch) (c : CompositeGlyph) → CompositeRead glyphs g (written_x_min g.bytes) c
+    → IsRead glyphs g (composite c)
 composite-is glyphs g c read = record {
   few = tt;
   ends = tt;
@@ -137,7 +165,10 @@ composite-is glyphs g c read = record {
   program = read.program.read;
 }
 
-described-cases : (glyphs : ℕ) (g : Stretch) (contours : ℕ) (negative none : Bool) (d : GlyphData) → 10 ≤ length g.bytes → contours ≡ unsigned_abs (contour_count g.bytes) → (contours == 0) ≡ none → (if negative then composite_of glyphs g (written_x_min g.bytes) else (if none then Ok empty else simple_of g (written_x_min g.bytes) contours)) ≡ Ok d → IsRead glyphs g d
+described-cases : (glyphs : ℕ) (g : Stretch) (contours : ℕ) (negative none : Bool) (d : GlyphData)
+    → 10 ≤ length g.bytes → contours ≡ unsigned_abs (contour_count g.bytes) → (contours == 0) ≡ none
+    → (if negative then composite_of glyphs g (written_x_min g.bytes)
+    else (if none then Ok empty else simple_of g (written_x_min g.bytes) contours)) ≡ Ok d → IsRead glyphs g d
 described-cases glyphs g contours true none d header count is was =
     let read = composite-was glyphs g (written_x_min g.bytes) d was in
     let whole = composite-is glyphs g read.0 read.1 in
@@ -154,7 +185,9 @@ described-cases glyphs g contours false false d header count is was =
 abbrev pub written_header : List ℕ → Header
 written_header bytes = record { contours = contour_count bytes; x_min = written_x_min bytes }
 
-header-cases : (g : Stretch) (h : Header) (cut : Bool) → nat_lt (length g.bytes) 10 ≡ cut → (if cut then Err (short g) else (signed_in g 0 >>= λ contours. signed_in g 2 >>= λ x_min. Ok (record { contours = contours; x_min = x_min }))) ≡ Ok h → IsField g 10 h (written_header g.bytes)
+header-cases : (g : Stretch) (h : Header) (cut : Bool) → nat_lt (length g.bytes) 10 ≡ cut
+    → (if cut then Err (short g) else (signed_in g 0 >>= λ contours. signed_in g 2
+    >>= λ x_min. Ok (record { contours = contours; x_min = x_min }))) ≡ Ok h → IsField g 10 h (written_header g.bytes)
 header-cases g h true is was = absurd cc
 header-cases g h false is was =
     let by_contours = came-through (signed_in g 0) _ h was in
@@ -168,9 +201,12 @@ pub header-was : (g : Stretch) (h : Header) → header_of g ≡ Ok h → IsField
 unfolding header_of
 header-was g h was = header-cases g h (nat_lt (length g.bytes) 10) refl was
 
-described-was : (glyphs : ℕ) (g : Stretch) (d : GlyphData) → 10 ≤ length g.bytes → described glyphs g (written_header g.bytes) ≡ Ok d → IsRead glyphs g d
+described-was : (glyphs : ℕ) (g : Stretch) (d : GlyphData) → 10 ≤ length g.bytes
+    → described glyphs g (written_header g.bytes) ≡ Ok d → IsRead glyphs g d
 unfolding described
-described-was glyphs g d header was = described-cases glyphs g (unsigned_abs (contour_count g.bytes)) (int_lt (contour_count g.bytes) (pos 0)) (unsigned_abs (contour_count g.bytes) == 0) d header refl refl was
+described-was glyphs g d header was =
+    described-cases glyphs g (unsigned_abs (contour_count g.bytes)) (int_lt (contour_count g.bytes) (pos 0))
+        (unsigned_abs (contour_count g.bytes) == 0) d header refl refl was
 
 glyph-was : (glyphs : ℕ) (g : Stretch) (d : GlyphData) → glyph_in glyphs g ≡ Ok d → IsRead glyphs g d
 glyph-was glyphs g d was =
@@ -183,21 +219,28 @@ pub record AreBytes (t : GlyphTables) (g : ℕ) (bytes : List ℕ) : Type 0 wher
   pub is : bytes ≡ bytes_between t g
   pub ordered : glyph_offset t g ≤ min (glyph_offset t (g + 1)) (length t.glyf)
 
-bytes-cases : (t : GlyphTables) (g : ℕ) (none out : Bool) (f : Fault) (bytes : List ℕ) → none ≡ false → is_out_of_range t g ≡ out → (if none then Ok [] else (if out then Err f else Ok (bytes_between t g))) ≡ Ok bytes → AreBytes t g bytes
+bytes-cases : (t : GlyphTables) (g : ℕ) (none out : Bool) (f : Fault) (bytes : List ℕ) → none ≡ false
+    → is_out_of_range t g ≡ out → (if none then Ok [] else (if out then Err f else Ok (bytes_between t g))) ≡ Ok bytes
+    → AreBytes t g bytes
 bytes-cases t g true out f bytes some is was = absurd cc
 bytes-cases t g false true f bytes some is was = absurd cc
 bytes-cases t g false false f bytes some is was = record { is = cc; ordered = grind (arith, nat_tests) }
 
-pub bytes-were : (t : GlyphTables) (g : ℕ) (bytes : List ℕ) → has_no_bytes t g ≡ false → glyph_bytes_of t g ≡ Ok bytes → AreBytes t g bytes
+pub bytes-were : (t : GlyphTables) (g : ℕ) (bytes : List ℕ) → has_no_bytes t g ≡ false → glyph_bytes_of t g ≡ Ok bytes
+    → AreBytes t g bytes
 unfolding glyph_bytes_of
 bytes-were t g bytes some was = bytes-cases t g (has_no_bytes t g) (is_out_of_range t g) _ bytes some refl was
 
-program-in : (t : GlyphTables) (g : ℕ) (bytes code : List ℕ) (at : ℕ) → AreBytes t g bytes → IsProgramRead (stretch_at (glyph_offset t g) bytes) (record { code = code; code_at = at }) → IsProgram t.glyf code at
+program-in : (t : GlyphTables) (g : ℕ) (bytes code : List ℕ) (at : ℕ) → AreBytes t g bytes
+    → IsProgramRead (stretch_at (glyph_offset t g) bytes) (record { code = code; code_at = at })
+    → IsProgram t.glyf code at
 program-in t g bytes code at b p =
-    let whole = program-is t.glyf bytes code (glyph_offset t g) (min (glyph_offset t (g + 1)) (length t.glyf)) p.place b.ordered (omega arith) b.is p.within in
+    let whole = program-is t.glyf bytes code (glyph_offset t g) (min (glyph_offset t (g + 1)) (length t.glyf)) p.place
+            b.ordered (omega arith) b.is p.within in
     rw p.at whole
 
-programs-in : (t : GlyphTables) (g : ℕ) (bytes : List ℕ) (d : GlyphData) → AreBytes t g bytes → IsProgramOf (stretch_at (glyph_offset t g) bytes) d → HasProgram t.glyf d
+programs-in : (t : GlyphTables) (g : ℕ) (bytes : List ℕ) (d : GlyphData) → AreBytes t g bytes
+    → IsProgramOf (stretch_at (glyph_offset t g) bytes) d → HasProgram t.glyf d
 programs-in t g bytes empty b p = tt
 programs-in t g bytes (simple s) b p = program-in t g bytes s.code s.code_at b p
 programs-in t g bytes (composite c) b p = program-in t g bytes c.code c.code_at b p
@@ -207,27 +250,35 @@ pub record IsGlyph (t : GlyphTables) (g : ℕ) (d : GlyphData) : Type 0 where
   pub few : IfSimple d (λ s. length s.points ≤ point_limit)
   pub ends : IfSimple d (λ s. AreEnds (length s.points) s.ends)
   pub words : IfSimple d (AreWords (stretch_of t g))
-  pub points : IfSimple d (λ s. ArePoints (bytes_between t g) (flags_place (bytes_between t g) (length s.ends)) s.points)
+  pub points : IfSimple d (λ s. ArePoints (bytes_between t g) (flags_place (bytes_between t g) (length s.ends))
+      s.points)
   pub components : IfComposite d (λ c. AreComponents (stretch_of t g) 10 c.records)
   pub records : IfComposite d (λ c. AreRecords t.glyphs c.records)
   pub composite_words : IfComposite d (AreCompositeWords (stretch_of t g))
   pub program : HasProgram t.glyf d
 
-glyph-make : (t : GlyphTables) (g : ℕ) (bytes : List ℕ) (d : GlyphData) → AreBytes t g bytes → IsRead t.glyphs (stretch_at (glyph_offset t g) bytes) d → IsGlyph t g d
+glyph-make : (t : GlyphTables) (g : ℕ) (bytes : List ℕ) (d : GlyphData) → AreBytes t g bytes
+    → IsRead t.glyphs (stretch_at (glyph_offset t g) bytes) d → IsGlyph t g d
 glyph-make t g bytes d b read =
     let program = programs-in t g bytes d b read.program in
     let is = b.is in
     let whole : IsRead t.glyphs (stretch_of t g) d = rw is at read in
-    record { few = whole.few; ends = whole.ends; words = whole.words; points = whole.points; components = whole.components; records = whole.records; composite_words = whole.composite_words; program = program }
+    record { few = whole.few; ends = whole.ends; words = whole.words; points = whole.points;
+        components = whole.components; records = whole.records; composite_words = whole.composite_words;
+        program = program }
 
-glyph-cases : (t : GlyphTables) (g : ℕ) (none : Bool) (d : GlyphData) → has_no_bytes t g ≡ none → (if none then Ok empty else (glyph_bytes_of t g >>= λ bytes. glyph_in t.glyphs (stretch_at (glyph_offset t g) bytes))) ≡ Ok d → IsGlyph t g d
+glyph-cases : (t : GlyphTables) (g : ℕ) (none : Bool) (d : GlyphData) → has_no_bytes t g ≡ none
+    → (if none then Ok empty else (glyph_bytes_of t g >>= λ bytes. glyph_in t.glyphs
+    (stretch_at (glyph_offset t g) bytes))) ≡ Ok d → IsGlyph t g d
 glyph-cases t g true d is was =
     let e : d ≡ empty = cc in
-    rw e (record { few = tt; ends = tt; words = tt; points = tt; components = tt; records = tt; composite_words = tt; program = tt })
+    rw e (record { few = tt; ends = tt; words = tt; points = tt; components = tt; records = tt; composite_words = tt;
+        program = tt })
 glyph-cases t g false d is was =
     let by_bytes = came-through (glyph_bytes_of t g) _ d was in
     let bytes = by_bytes.value in
-    glyph-make t g bytes d (bytes-were t g bytes is by_bytes.first) (glyph-was t.glyphs (stretch_at (glyph_offset t g) bytes) d by_bytes.rest)
+    glyph-make t g bytes d (bytes-were t g bytes is by_bytes.first)
+        (glyph-was t.glyphs (stretch_at (glyph_offset t g) bytes) d by_bytes.rest)
 
 pub glyph-is : (t : GlyphTables) (g : ℕ) (d : GlyphData) → glyph_data_of t g ≡ Ok d → IsGlyph t g d
 unfolding glyph_data_of

@@ -15,7 +15,12 @@ use Rattle.tt_glyf.proofs.Chains.{came-through, came-after, passed, passed-else}
 use Rattle.tt_glyf.proofs.Fields.{IsField, byte-was, word-was, signed-was}
 use Rattle.tt_glyf.proofs.Places.{IsWithin, slice-was}
 
-argument-cases : (g : Stretch) (at : ℕ) (words offsets : Bool) (a : ℤ) → (if words then (if offsets then signed_in g at else (word_in g at >>= λ n. Ok (pos n))) else (byte_in g at >>= λ n. Ok (if offsets then signed8 n else pos n))) ≡ Ok a → IsField g (at + (if words then 2 else 1)) a (if words then (if offsets then signed16 (unsigned_at g.bytes at 2) else pos (unsigned_at g.bytes at 2)) else (if offsets then signed8 (slice_index g.bytes at) else pos (slice_index g.bytes at)))
+argument-cases : (g : Stretch) (at : ℕ) (words offsets : Bool) (a : ℤ)
+    → (if words then (if offsets then signed_in g at else (word_in g at >>= λ n. Ok (pos n)))
+    else (byte_in g at >>= λ n. Ok (if offsets then signed8 n else pos n))) ≡ Ok a
+    → IsField g (at + (if words then 2 else 1)) a (if words
+    then (if offsets then signed16 (unsigned_at g.bytes at 2) else pos (unsigned_at g.bytes at 2))
+    else (if offsets then signed8 (slice_index g.bytes at) else pos (slice_index g.bytes at)))
 argument-cases g at true true a was = signed-was g at a was
 argument-cases g at true false a was =
     let through = came-through (word_in g at) _ a was in
@@ -28,14 +33,18 @@ argument-cases g at false offsets a was =
     let is : (if offsets then signed8 through.value else pos through.value) ≡ a = cc through.rest in
     rw (← is) (record { is = ap (λ (n : ℕ). if offsets then signed8 n else pos n) byte.is; room = byte.room })
 
-pub argument-was : (g : Stretch) (flags at : ℕ) (a : ℤ) → argument_at g flags at ≡ Ok a → IsField g (at + argument_size flags) a (written_argument g.bytes flags at)
+pub argument-was : (g : Stretch) (flags at : ℕ) (a : ℤ) → argument_at g flags at ≡ Ok a
+    → IsField g (at + argument_size flags) a (written_argument g.bytes flags at)
 unfolding argument_at
-argument-was g flags at a was = argument-cases g at (has flags arg_1_and_2_are_words) (has flags args_are_xy_values) a was
+argument-was g flags at a was =
+    argument-cases g at (has flags arg_1_and_2_are_words) (has flags args_are_xy_values) a was
 
 abbrev pub written_arguments : List ℕ → ℕ → ℕ → Arguments
-written_arguments bytes flags at = record { arg1 = written_argument bytes flags at; arg2 = written_argument bytes flags (at + argument_size flags) }
+written_arguments bytes flags at =
+    record { arg1 = written_argument bytes flags at; arg2 = written_argument bytes flags (at + argument_size flags) }
 
-pub arguments-were : (g : Stretch) (flags at : ℕ) (a : Arguments) → arguments_at g flags at ≡ Ok a → IsField g (at + 2 * argument_size flags) a (written_arguments g.bytes flags at)
+pub arguments-were : (g : Stretch) (flags at : ℕ) (a : Arguments) → arguments_at g flags at ≡ Ok a
+    → IsField g (at + 2 * argument_size flags) a (written_arguments g.bytes flags at)
 unfolding arguments_at
 arguments-were g flags at a was =
     let first = came-through (argument_at g flags at) _ a was in
@@ -48,7 +57,9 @@ arguments-were g flags at a was =
     let is : ◌≡◌ {A = Arguments} (record { arg1 = first.value; arg2 = second.value }) a = cc second.rest in
     rw (← is) (record { is = rw (← value1, ← value2) refl; room = omega arith })
 
-two_scales-were : (g : Stretch) (at : ℕ) (t : Transform) → two_scales_at g at ≡ Ok t → IsField g (at + 4) t (record { xx = signed16 (unsigned_at g.bytes at 2); yx = pos 0; xy = pos 0; yy = signed16 (unsigned_at g.bytes (at + 2) 2) })
+two_scales-were : (g : Stretch) (at : ℕ) (t : Transform) → two_scales_at g at ≡ Ok t
+    → IsField g (at + 4) t (record { xx = signed16 (unsigned_at g.bytes at 2); yx = pos 0; xy = pos 0;
+    yy = signed16 (unsigned_at g.bytes (at + 2) 2) })
 unfolding two_scales_at
 two_scales-were g at t was =
     let by_xx = came-through (signed_in g at) _ t was in
@@ -58,10 +69,14 @@ two_scales-were g at t was =
     let room = yy.room in
     let value_xx = xx.is in
     let value_yy = yy.is in
-    let is : ◌≡◌ {A = Transform} (record { xx = by_xx.value; yx = pos 0; xy = pos 0; yy = by_yy.value }) t = cc by_yy.rest in
+    let is : ◌≡◌ {A = Transform} (record { xx = by_xx.value; yx = pos 0; xy = pos 0; yy = by_yy.value }) t = cc
+            by_yy.rest in
     rw (← is) (record { is = rw (← value_xx, ← value_yy) refl; room = omega arith })
 
-two_by_two-was : (g : Stretch) (at : ℕ) (t : Transform) → two_by_two_at g at ≡ Ok t → IsField g (at + 8) t (record { xx = signed16 (unsigned_at g.bytes at 2); yx = signed16 (unsigned_at g.bytes (at + 2) 2); xy = signed16 (unsigned_at g.bytes (at + 4) 2); yy = signed16 (unsigned_at g.bytes (at + 6) 2) })
+two_by_two-was : (g : Stretch) (at : ℕ) (t : Transform) → two_by_two_at g at ≡ Ok t
+    → IsField g (at + 8) t (record { xx = signed16 (unsigned_at g.bytes at 2);
+    yx = signed16 (unsigned_at g.bytes (at + 2) 2); xy = signed16 (unsigned_at g.bytes (at + 4) 2);
+    yy = signed16 (unsigned_at g.bytes (at + 6) 2) })
 unfolding two_by_two_at
 two_by_two-was g at t was =
     let by_xx = came-through (signed_in g at) _ t was in
@@ -77,10 +92,19 @@ two_by_two-was g at t was =
     let value_yx = yx.is in
     let value_xy = xy.is in
     let value_yy = yy.is in
-    let is : ◌≡◌ {A = Transform} (record { xx = by_xx.value; yx = by_yx.value; xy = by_xy.value; yy = by_yy.value }) t = cc by_yy.rest in
+    let is : ◌≡◌ {A = Transform} (record { xx = by_xx.value; yx = by_yx.value; xy = by_xy.value; yy = by_yy.value })
+            t = cc by_yy.rest in
     rw (← is) (record { is = rw (← value_xx, ← value_yx, ← value_xy, ← value_yy) refl; room = omega arith })
 
-transform-cases : (g : Stretch) (at : ℕ) (a b c : Bool) (t : Transform) → at ≤ length g.bytes → (if a then (signed_in g at >>= λ s. Ok (one_scale s)) else (if b then two_scales_at g at else (if c then two_by_two_at g at else Ok identity))) ≡ Ok t → IsField g (at + (if a then 2 else (if b then 4 else (if c then 8 else 0)))) t (if a then one_scale (signed16 (unsigned_at g.bytes at 2)) else (if b then record { xx = signed16 (unsigned_at g.bytes at 2); yx = pos 0; xy = pos 0; yy = signed16 (unsigned_at g.bytes (at + 2) 2) } else (if c then record { xx = signed16 (unsigned_at g.bytes at 2); yx = signed16 (unsigned_at g.bytes (at + 2) 2); xy = signed16 (unsigned_at g.bytes (at + 4) 2); yy = signed16 (unsigned_at g.bytes (at + 6) 2) } else identity)))
+transform-cases : (g : Stretch) (at : ℕ) (a b c : Bool) (t : Transform) → at ≤ length g.bytes
+    → (if a then (signed_in g at >>= λ s. Ok (one_scale s))
+    else (if b then two_scales_at g at else (if c then two_by_two_at g at else Ok identity))) ≡ Ok t
+    → IsField g (at + (if a then 2 else (if b then 4 else (if c then 8 else 0)))) t
+    (if a then one_scale (signed16 (unsigned_at g.bytes at 2))
+    else (if b then record { xx = signed16 (unsigned_at g.bytes at 2); yx = pos 0; xy = pos 0;
+    yy = signed16 (unsigned_at g.bytes (at + 2) 2) } else (if c
+    then record { xx = signed16 (unsigned_at g.bytes at 2); yx = signed16 (unsigned_at g.bytes (at + 2) 2);
+    xy = signed16 (unsigned_at g.bytes (at + 4) 2); yy = signed16 (unsigned_at g.bytes (at + 6) 2) } else identity)))
 transform-cases g at true b c t le was =
     let through = came-through (signed_in g at) _ t was in
     let scale = signed-was g at through.value through.first in
@@ -90,16 +114,20 @@ transform-cases g at false true c t le was = two_scales-were g at t was
 transform-cases g at false false true t le was = two_by_two-was g at t was
 transform-cases g at false false false t le was = record { is = cc; room = omega arith }
 
-pub transform-was : (g : Stretch) (flags at : ℕ) (t : Transform) → at ≤ length g.bytes → transform_at g flags at ≡ Ok t → IsField g (at + transform_size flags) t (written_transform g.bytes flags at)
+pub transform-was : (g : Stretch) (flags at : ℕ) (t : Transform) → at ≤ length g.bytes → transform_at g flags at ≡ Ok t
+    → IsField g (at + transform_size flags) t (written_transform g.bytes flags at)
 unfolding transform_at
-transform-was g flags at t le was = transform-cases g at (has flags we_have_a_scale) (has flags we_have_an_x_and_y_scale) (has flags we_have_a_two_by_two) t le was
+transform-was g flags at t le was =
+    transform-cases g at (has flags we_have_a_scale) (has flags we_have_an_x_and_y_scale)
+        (has flags we_have_a_two_by_two) t le was
 
 -- a glyph of the font
 pub record IsKnown (glyphs number glyph : ℕ) : Type 0 where
   pub is : glyph ≡ number
   pub known : number < glyphs
 
-pub glyph-known : (glyphs : ℕ) (g : Stretch) (at number glyph : ℕ) → known_glyph glyphs g at number ≡ Ok glyph → IsKnown glyphs number glyph
+pub glyph-known : (glyphs : ℕ) (g : Stretch) (at number glyph : ℕ) → known_glyph glyphs g at number ≡ Ok glyph
+    → IsKnown glyphs number glyph
 unfolding known_glyph
 glyph-known glyphs g at number glyph was =
     let p = passed-else (nat_lt number glyphs) _ number glyph was in
@@ -108,7 +136,9 @@ glyph-known glyphs g at number glyph was =
 
 -- what is known of a record that was read, with these flags
 pub record IsPartBy (glyphs : ℕ) (g : Stretch) (at flags : ℕ) (r : Record) : Type 0 where
-  pub is : r ≡ record_of (g.start + at) flags (written_component g.bytes at) (written_argument g.bytes flags (at + 4)) (written_argument g.bytes flags (at + 4 + argument_size flags)) (written_transform g.bytes flags (at + 4 + 2 * argument_size flags))
+  pub is : r ≡ record_of (g.start + at) flags (written_component g.bytes at) (written_argument g.bytes flags (at + 4))
+      (written_argument g.bytes flags (at + 4 + argument_size flags))
+      (written_transform g.bytes flags (at + 4 + 2 * argument_size flags))
   pub known : written_component g.bytes at < glyphs
   pub room : at + record_size flags ≤ length g.bytes
   pub unscaled : asks_scaled_offset r ≡ false
@@ -116,18 +146,28 @@ pub record IsPartBy (glyphs : ℕ) (g : Stretch) (at flags : ℕ) (r : Record) :
 abbrev pub IsPart : ℕ → Stretch → ℕ → Record → Type 0
 IsPart glyphs g at r = IsPartBy glyphs g at (written_component_flags g.bytes at) r
 
-part-was : (g : Stretch) (at : ℕ) (part r : Record) → unscaled g at part ≡ Ok r → (asks_scaled_offset part ≡ false) × (part ≡ r)
+part-was : (g : Stretch) (at : ℕ) (part r : Record) → unscaled g at part ≡ Ok r → (asks_scaled_offset part ≡ false)
+    × (part ≡ r)
 unfolding unscaled
 part-was g at part r was = passed (asks_scaled_offset part) _ part r was
 
-part-make : (glyphs : ℕ) (g : Stretch) (at flags number glyph : ℕ) (args : Arguments) (t : Transform) (r : Record) → unscaled g at (record_of (g.start + at) flags glyph args.arg1 args.arg2 t) ≡ Ok r → number ≡ written_component g.bytes at → IsKnown glyphs number glyph → args ≡ written_arguments g.bytes flags (at + 4) → IsField g (at + 4 + 2 * argument_size flags + transform_size flags) t (written_transform g.bytes flags (at + 4 + 2 * argument_size flags)) → IsPartBy glyphs g at flags r
+part-make : (glyphs : ℕ) (g : Stretch) (at flags number glyph : ℕ) (args : Arguments) (t : Transform) (r : Record)
+    → unscaled g at (record_of (g.start + at) flags glyph args.arg1 args.arg2 t) ≡ Ok r
+    → number ≡ written_component g.bytes at → IsKnown glyphs number glyph
+    → args ≡ written_arguments g.bytes flags (at + 4) → IsField g
+    (at + 4 + 2 * argument_size flags + transform_size flags) t
+    (written_transform g.bytes flags (at + 4 + 2 * argument_size flags)) → IsPartBy glyphs g at flags r
 part-make glyphs g at flags number glyph args t r was component known arguments transform =
     let p = part-was g at (record_of (g.start + at) flags glyph args.arg1 args.arg2 t) r was in
     let e1 = known.is in
     let e2 = transform.is in
     let room = transform.room in
     let there = known.known in
-    let is : record_of (g.start + at) flags glyph args.arg1 args.arg2 t ≡ record_of (g.start + at) flags (written_component g.bytes at) (written_argument g.bytes flags (at + 4)) (written_argument g.bytes flags (at + 4 + argument_size flags)) (written_transform g.bytes flags (at + 4 + 2 * argument_size flags)) = rw (e1, component, arguments, e2) refl in
+    let is : record_of (g.start + at) flags glyph args.arg1 args.arg2 t ≡ record_of (g.start + at) flags
+            (written_component g.bytes at) (written_argument g.bytes flags (at + 4))
+            (written_argument g.bytes flags (at + 4 + argument_size flags))
+            (written_transform g.bytes flags (at + 4 + 2 * argument_size flags)) = rw (e1, component, arguments, e2)
+            refl in
     record { is = sym p.1 ∙ is; known = rw (← component) there; room = omega arith; unscaled = rw (← p.1) p.0 }
 
 pub record-was : (glyphs : ℕ) (g : Stretch) (at : ℕ) (r : Record) → record_at glyphs g at ≡ Ok r → IsPart glyphs g at r
@@ -143,7 +183,8 @@ record-was glyphs g at r was =
     let number = word-was g (at + 2) by_number.value by_number.first in
     let known = glyph-known glyphs g at by_number.value by_glyph.value by_glyph.first in
     let t = transform-was g flags (at + 4 + 2 * argument_size flags) by_t.value args.room by_t.first in
-    rw (word-was g at flags by_flags.first).is at (part-make glyphs g at flags by_number.value by_glyph.value by_args.value by_t.value r by_t.rest number.is known args.is t)
+    rw (word-was g at flags by_flags.first).is at (part-make glyphs g at flags by_number.value by_glyph.value
+        by_args.value by_t.value r by_t.rest number.is known args.is t)
 
 -- these are the records up to the last one, and the place behind them
 pub record AreUpTo (g : Stretch) (at : ℕ) (read : Listing Record) : Type 0 where
@@ -161,18 +202,24 @@ pub record IsGoodRecord (glyphs : ℕ) (g : Stretch) (at n allowed : ℕ) : Type
   pub unscaled : asks_scaled_offset (written_record g at) ≡ false
 
 abbrev pub AreGoodRecords : ℕ → Stretch → ℕ → ℕ → Type 0
-AreGoodRecords glyphs g at allowed = (n : ℕ) → GoesOn g at n → IsGoodRecord glyphs g (record_place g.bytes at n) n allowed
+AreGoodRecords glyphs g at allowed =
+    (n : ℕ) → GoesOn g at n → IsGoodRecord glyphs g (record_place g.bytes at n) n allowed
 
-good-first : (glyphs : ℕ) (g : Stretch) (at allowed : ℕ) (r : Record) → IsPart glyphs g at r → IsGoodRecord glyphs g at 0 (suc allowed)
+good-first : (glyphs : ℕ) (g : Stretch) (at allowed : ℕ) (r : Record) → IsPart glyphs g at r
+    → IsGoodRecord glyphs g at 0 (suc allowed)
 good-first glyphs g at allowed r part =
     let is : r ≡ written_record g at = part.is in
     record { few = omega arith; known = part.known; room = part.room; unscaled = rw is at part.unscaled }
 
-good-last : (glyphs : ℕ) (g : Stretch) (at allowed : ℕ) (r : Record) (n : ℕ) → IsPart glyphs g at r → has (written_component_flags g.bytes at) more_components ≡ false → GoesOn g at n → IsGoodRecord glyphs g (record_place g.bytes at n) n (suc allowed)
+good-last : (glyphs : ℕ) (g : Stretch) (at allowed : ℕ) (r : Record) (n : ℕ) → IsPart glyphs g at r
+    → has (written_component_flags g.bytes at) more_components ≡ false → GoesOn g at n
+    → IsGoodRecord glyphs g (record_place g.bytes at n) n (suc allowed)
 good-last glyphs g at allowed r zero part stops goes_on = good-first glyphs g at allowed r part
 good-last glyphs g at allowed r (suc n) part stops goes_on = let more = goes_on.0 in absurd cc
 
-good-more : (glyphs : ℕ) (g : Stretch) (at allowed : ℕ) (r : Record) (n : ℕ) → IsPart glyphs g at r → AreGoodRecords glyphs g (record_end g.bytes at) allowed → GoesOn g at n → IsGoodRecord glyphs g (record_place g.bytes at n) n (suc allowed)
+good-more : (glyphs : ℕ) (g : Stretch) (at allowed : ℕ) (r : Record) (n : ℕ) → IsPart glyphs g at r
+    → AreGoodRecords glyphs g (record_end g.bytes at) allowed → GoesOn g at n
+    → IsGoodRecord glyphs g (record_place g.bytes at n) n (suc allowed)
 good-more glyphs g at allowed r zero part others goes_on = good-first glyphs g at allowed r part
 good-more glyphs g at allowed r (suc n) part others goes_on =
     let good = others n goes_on.1 in
@@ -190,7 +237,8 @@ pub record ArePartsRead (glyphs : ℕ) (g : Stretch) (at allowed : ℕ) (read : 
   pub up_to : AreUpTo g at read
   pub good : AreGoodRecords glyphs g at allowed
 
-pub flags-are : (glyphs : ℕ) (g : Stretch) (at : ℕ) (r : Record) → IsPart glyphs g at r → r.flags ≡ written_component_flags g.bytes at
+pub flags-are : (glyphs : ℕ) (g : Stretch) (at : ℕ) (r : Record) → IsPart glyphs g at r
+    → r.flags ≡ written_component_flags g.bytes at
 flags-are glyphs g at r part = ap (λ (x : Record). x.flags) part.is
 
 glyph-is : (glyphs : ℕ) (g : Stretch) (at : ℕ) (r : Record) → IsPart glyphs g at r → r.glyph < glyphs
@@ -199,11 +247,14 @@ glyph-is glyphs g at r part =
     let known = part.known in
     rw is known
 
-components-more : (glyphs : ℕ) (g : Stretch) (at : ℕ) (r : Record) (rs : List Record) → IsPart glyphs g at r → has r.flags more_components ≡ true → AreComponents g (record_end g.bytes at) rs → AreComponents g at (r ∷ rs)
+components-more : (glyphs : ℕ) (g : Stretch) (at : ℕ) (r : Record) (rs : List Record) → IsPart glyphs g at r
+    → has r.flags more_components ≡ true → AreComponents g (record_end g.bytes at) rs → AreComponents g at (r ∷ rs)
 components-more glyphs g at r [] part goes_on are = absurd are
 components-more glyphs g at r (s ∷ rs) part goes_on are = (part.is, part.room, goes_on, are)
 
-parts-last : (glyphs : ℕ) (g : Stretch) (at allowed : ℕ) (r : Record) → IsPart glyphs g at r → has r.flags more_components ≡ false → ArePartsRead glyphs g at (suc allowed) (record { items = r ∷ []; next = record_end g.bytes at })
+parts-last : (glyphs : ℕ) (g : Stretch) (at allowed : ℕ) (r : Record) → IsPart glyphs g at r
+    → has r.flags more_components ≡ false → ArePartsRead glyphs g at (suc allowed)
+    (record { items = r ∷ []; next = record_end g.bytes at })
 parts-last glyphs g at allowed r part stops =
     let is : r ≡ written_record g at = part.is in
     let flags = flags-are glyphs g at r part in
@@ -219,7 +270,9 @@ parts-last glyphs g at allowed r part stops =
       good = λ n goes_on. good-last glyphs g at allowed r n part stop goes_on;
     }
 
-parts-more : (glyphs : ℕ) (g : Stretch) (at allowed : ℕ) (r : Record) (rest : Listing Record) → IsPart glyphs g at r → has r.flags more_components ≡ true → ArePartsRead glyphs g (record_end g.bytes at) allowed rest → ArePartsRead glyphs g at (suc allowed) (record { items = r ∷ rest.items; next = rest.next })
+parts-more : (glyphs : ℕ) (g : Stretch) (at allowed : ℕ) (r : Record) (rest : Listing Record) → IsPart glyphs g at r
+    → has r.flags more_components ≡ true → ArePartsRead glyphs g (record_end g.bytes at) allowed rest
+    → ArePartsRead glyphs g at (suc allowed) (record { items = r ∷ rest.items; next = rest.next })
 parts-more glyphs g at allowed r rest part goes_on read =
     let few = read.few in
     let is : r ≡ written_record g at = part.is in
@@ -233,11 +286,18 @@ parts-more glyphs g at allowed r rest part goes_on read =
       known = All-cons (λ r. r.glyph < glyphs) r rest.items (glyph-is glyphs g at r part) read.known;
       end = read.end;
       room = read.room;
-      up_to = record { n = suc others.n; goes_on = (more, others.goes_on); stops = others.stops; items = rw (← is) (ap (λ (rs : List Record). r ∷ rs) others.items); next = others.next };
+      up_to = record { n = suc others.n; goes_on = (more, others.goes_on); stops = others.stops;
+          items = rw (← is) (ap (λ (rs : List Record). r ∷ rs) others.items); next = others.next };
       good = λ n goes_on. good-more glyphs g at allowed r n part read.good goes_on;
     }
 
-parts-cases : (glyphs : ℕ) (g : Stretch) (at allowed : ℕ) (r : Record) (rest : Listing Record) (m : Bool) → IsPart glyphs g at r → has r.flags more_components ≡ m → (if m then records_from glyphs g (at + record_size r.flags) allowed else Ok (record { items = []; next = at + record_size r.flags })) ≡ Ok rest → (records_from glyphs g (record_end g.bytes at) allowed ≡ Ok rest → ArePartsRead glyphs g (record_end g.bytes at) allowed rest) → ArePartsRead glyphs g at (suc allowed) (record { items = r ∷ rest.items; next = rest.next })
+parts-cases : (glyphs : ℕ) (g : Stretch) (at allowed : ℕ) (r : Record) (rest : Listing Record) (m : Bool)
+    → IsPart glyphs g at r → has r.flags more_components ≡ m
+    → (if m then records_from glyphs g (at + record_size r.flags) allowed
+    else Ok (record { items = []; next = at + record_size r.flags })) ≡ Ok rest
+    → (records_from glyphs g (record_end g.bytes at) allowed ≡ Ok rest
+    → ArePartsRead glyphs g (record_end g.bytes at) allowed rest)
+    → ArePartsRead glyphs g at (suc allowed) (record { items = r ∷ rest.items; next = rest.next })
 parts-cases glyphs g at allowed r rest true part is came further =
     let flags = flags-are glyphs g at r part in
     parts-more glyphs g at allowed r rest part is (further (rw flags at came))
@@ -247,14 +307,19 @@ parts-cases glyphs g at allowed r rest false part is came further =
     let place : ◌≡◌ {A = Listing Record} (record { items = []; next = record_end g.bytes at }) rest = rw (← flags) e in
     rw (← place) (parts-last glyphs g at allowed r part is)
 
-pub records-were : (glyphs : ℕ) (g : Stretch) (at allowed : ℕ) (read : Listing Record) → records_from glyphs g at allowed ≡ Ok read → ArePartsRead glyphs g at allowed read
+pub records-were : (glyphs : ℕ) (g : Stretch) (at allowed : ℕ) (read : Listing Record)
+    → records_from glyphs g at allowed ≡ Ok read → ArePartsRead glyphs g at allowed read
 unfolding records_from
 records-were glyphs g at zero read was = absurd cc
 records-were glyphs g at (suc allowed) read was =
     let through = came-through (record_at glyphs g at) _ read was in
     let r = through.value in
-    let behind = came-after (r ∷ []) (if has r.flags more_components then records_from glyphs g (at + record_size r.flags) allowed else Ok (record { items = []; next = at + record_size r.flags })) read through.rest in
-    let whole = parts-cases glyphs g at allowed r behind.read (has r.flags more_components) (record-was glyphs g at r through.first) refl behind.was (λ came. records-were glyphs g (record_end g.bytes at) allowed behind.read came) in
+    let behind = came-after (r ∷ []) (if has r.flags more_components
+            then records_from glyphs g (at + record_size r.flags) allowed
+            else Ok (record { items = []; next = at + record_size r.flags })) read through.rest in
+    let whole = parts-cases glyphs g at allowed r behind.read (has r.flags more_components)
+            (record-was glyphs g at r through.first) refl behind.was
+            (λ came. records-were glyphs g (record_end g.bytes at) allowed behind.read came) in
     rw behind.is whole
 
 nothing-there : (bytes : List ℕ) (at : ℕ) → ◌≡◌ {A = List ℕ} [] (slice_range bytes at (at + 0))
@@ -275,7 +340,9 @@ pub record IsProgramBehind (g : Stretch) (next : ℕ) (follows : Bool) (p : Prog
   pub none : follows ≡ false → p.code ≡ []
   pub room : follows ≡ true → next + 2 + unsigned_at g.bytes next 2 ≤ length g.bytes
 
-program-there : (g : Stretch) (next size : ℕ) (code : List ℕ) → size ≡ unsigned_at g.bytes next 2 → length code ≡ size → IsWithin g.bytes code (next + 2) → IsProgramBehind g next true (record { code = code; code_at = g.start + (next + 2) })
+program-there : (g : Stretch) (next size : ℕ) (code : List ℕ) → size ≡ unsigned_at g.bytes next 2 → length code ≡ size
+    → IsWithin g.bytes code (next + 2) → IsProgramBehind g next true
+    (record { code = code; code_at = g.start + (next + 2) })
 program-there g next size code is many within =
     let room = within.room in
     record {
@@ -285,22 +352,28 @@ program-there g next size code is many within =
       room = λ t. rw (← is) (omega arith);
     }
 
-program-cases : (g : Stretch) (next : ℕ) (follows : Bool) (p : Program) → next ≤ length g.bytes → (if follows then (word_in g next >>= λ size. slice_in g (next + 2) size >>= λ code. Ok (record { code = code; code_at = g.start + (next + 2) })) else Ok (record { code = []; code_at = g.start + next })) ≡ Ok p → IsProgramBehind g next follows p
+program-cases : (g : Stretch) (next : ℕ) (follows : Bool) (p : Program) → next ≤ length g.bytes
+    → (if follows then (word_in g next >>= λ size. slice_in g (next + 2) size
+    >>= λ code. Ok (record { code = code; code_at = g.start + (next + 2) }))
+    else Ok (record { code = []; code_at = g.start + next })) ≡ Ok p → IsProgramBehind g next follows p
 program-cases g next true p room was =
     let by_size = came-through (word_in g next) _ p was in
     let by_code = came-through (slice_in g (next + 2) by_size.value) _ p by_size.rest in
     let is : ◌≡◌ {A = Program} (record { code = by_code.value; code_at = g.start + (next + 2) }) p = cc by_code.rest in
     let code = slice-was g (next + 2) by_size.value by_code.value by_code.first in
-    rw (← is) (program-there g next by_size.value by_code.value (word-was g next by_size.value by_size.first).is code.0 code.1)
+    rw (← is) (program-there g next by_size.value by_code.value (word-was g next by_size.value by_size.first).is code.0
+        code.1)
 program-cases g next false p room was =
     let is : ◌≡◌ {A = Program} (record { code = []; code_at = g.start + next }) p = cc in
     rw (← is) (record {
-      read = record { place = next; at = refl; within = record { room = omega arith; is = nothing-there g.bytes next } };
+      read = record { place = next; at = refl; within = record { room = omega arith;
+          is = nothing-there g.bytes next } };
       size = λ t. absurd cc;
       none = λ f. refl;
       room = λ t. absurd cc;
     })
 
-pub program-was : (g : Stretch) (records : Listing Record) (p : Program) → records.next ≤ length g.bytes → program_of g records ≡ Ok p → IsProgramBehind g records.next (has_program records.items) p
+pub program-was : (g : Stretch) (records : Listing Record) (p : Program) → records.next ≤ length g.bytes
+    → program_of g records ≡ Ok p → IsProgramBehind g records.next (has_program records.items) p
 unfolding program_of
 program-was g records p room was = program-cases g records.next (has_program records.items) p room was

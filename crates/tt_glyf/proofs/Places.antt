@@ -15,7 +15,8 @@ pub record IsWithin (bytes code : List ℕ) (at : ℕ) : Type 0 where
 pub length-range : (bytes : List ℕ) (at n : ℕ) → at + n ≤ length bytes → length (slice_range bytes at (at + n)) ≡ n
 length-range bytes at n room = simp (length-take, length-drop) (omega arith)
 
-pub slice-was : (g : Stretch) (at n : ℕ) (code : List ℕ) → slice_in g at n ≡ Ok code → (length code ≡ n) × IsWithin g.bytes code at
+pub slice-was : (g : Stretch) (at n : ℕ) (code : List ℕ) → slice_in g at n ≡ Ok code → (length code ≡ n)
+    × IsWithin g.bytes code at
 unfolding slice_in
 slice-was g at n code was =
     let p = passed-else (nat_le (at + n) (length g.bytes)) _ (slice_range g.bytes at (at + n)) code was in
@@ -34,14 +35,16 @@ inner xs at n size room =
     rw whole at (inner-by xs at n (size - at) (omega arith))
 
 -- a slice of a slice
-pub range-range : (glyf : List ℕ) (start end at n : ℕ) → at + n ≤ end - start → slice_range (slice_range glyf start end) at (at + n) ≡ slice_range glyf (start + at) (start + at + n)
+pub range-range : (glyf : List ℕ) (start end at n : ℕ) → at + n ≤ end - start
+    → slice_range (slice_range glyf start end) at (at + n) ≡ slice_range glyf (start + at) (start + at + n)
 range-range glyf start end at n room =
     let a : at + n - at ≡ n = omega arith in
     let b : start + at + n - (start + at) ≡ n = omega arith in
     rw (a, b, inner (drop start glyf) at n (end - start) room, drop-drop) refl
 
 -- within the bytes of a glyph is within glyf
-pub program-is : (glyf bytes code : List ℕ) (start end at : ℕ) → start ≤ end → end ≤ length glyf → bytes ≡ slice_range glyf start end → IsWithin bytes code at → IsProgram glyf code (start + at)
+pub program-is : (glyf bytes code : List ℕ) (start end at : ℕ) → start ≤ end → end ≤ length glyf
+    → bytes ≡ slice_range glyf start end → IsWithin bytes code at → IsProgram glyf code (start + at)
 program-is glyf bytes code start end at le fits is within =
     let inside = rw is at within in
     let size : length (slice_range glyf start end) ≡ end - start = simp (length-take, length-drop) (omega arith) in

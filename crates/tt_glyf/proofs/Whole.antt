@@ -25,7 +25,8 @@ use Rattle.tt_glyf.proofs.Parts.{AreUpTo, AreGoodRecords, IsProgramBehind}
 abbrev IsBadBehind : Stretch → ℕ → ℕ → Fault → Type 0
 IsBadBehind g at runs f =
     IsCut g (points_end g.bytes at runs) f
-    ⊎ ((LeavesWords (x_deltas g.bytes at runs) ⊎ LeavesWords (y_deltas g.bytes at runs)) × (f ≡ glyph_fault g 0 why.CoordRange))
+    ⊎ ((LeavesWords (x_deltas g.bytes at runs) ⊎ LeavesWords (y_deltas g.bytes at runs))
+        × (f ≡ glyph_fault g 0 why.CoordRange))
 
 -- a program passes the end behind so many records that go on, and one more
 abbrev IsProgramCut : Stretch → ℕ → Fault → Type 0
@@ -34,7 +35,8 @@ IsProgramCut g n f =
     × IsCut g (record_place g.bytes 10 (suc n) + 2 + unsigned_at g.bytes (record_place g.bytes 10 (suc n)) 2) f
 
 -- as many runs cover as many points
-runs-same : (bytes : List ℕ) (at k n : ℕ) → length (written_flags bytes at k) ≡ length (written_flags bytes at n) → k ≡ n
+runs-same : (bytes : List ℕ) (at k n : ℕ) → length (written_flags bytes at k) ≡ length (written_flags bytes at n)
+    → k ≡ n
 runs-same bytes at zero zero same = refl
 runs-same bytes at zero (suc n) same =
     let total = flags-length bytes at n in
@@ -51,7 +53,8 @@ many-deltas : (bytes : List ℕ) (a : Axis) (flags : List ℕ) (at : ℕ) → le
 many-deltas bytes a [] at = refl
 many-deltas bytes a (flag ∷ flags) at = ap suc (many-deltas bytes a flags (written_delta bytes a flag at).next)
 
-no-falling : (g : Stretch) (contours : ℕ) (ends : Listing ℕ) (f : Fault) → EndsRead g.bytes 10 contours 0 ends → ¬ IsFallingEnd g contours f
+no-falling : (g : Stretch) (contours : ℕ) (ends : Listing ℕ) (f : Fault) → EndsRead g.bytes 10 contours 0 ends
+    → ¬ IsFallingEnd g contours f
 no-falling g contours ends f read bad =
     let many = read.many in
     let within = bad.1 in
@@ -72,7 +75,8 @@ no-flag-defect g at n f good bad =
     ]
 
 -- no sum of the deltas along an axis leaves 16 bits
-no-leaving : (bytes : List ℕ) (a : Axis) (flags : List ℕ) (before : Coordinate) (read : Listing ℤ) → before.value ≡ pos 0 → AreRead bytes a flags before read → ¬ LeavesWords (deltas bytes a flags before.next)
+no-leaving : (bytes : List ℕ) (a : Axis) (flags : List ℕ) (before : Coordinate) (read : Listing ℤ)
+    → before.value ≡ pos 0 → AreRead bytes a flags before read → ¬ LeavesWords (deltas bytes a flags before.next)
 no-leaving bytes a flags before read start are bad =
     let many = many-deltas bytes a flags before.next in
     let below = bad.1 in
@@ -80,27 +84,34 @@ no-leaving bytes a flags before read start are bad =
     let leaves = bad.2 in
     absurd (true≢false (sym fits ∙ leaves))
 
-no-coordinate-defect-by : (g : Stretch) (at n : ℕ) (points : List RawPoint) (f : Fault) → (read : PointsRead g.bytes at n points) → ¬ IsBadBehind g at read.runs f
+no-coordinate-defect-by : (g : Stretch) (at n : ℕ) (points : List RawPoint) (f : Fault)
+    → (read : PointsRead g.bytes at n points) → ¬ IsBadBehind g at read.runs f
 no-coordinate-defect-by g at n points f read bad = elim bad [
   | inl short ↦
       let ends = short.0 in
       let room = read.ys.room in
       absurd (omega arith)
   | inr leaves ↦ elim (leaves.0) [
-    | inl along_x ↦ no-leaving g.bytes x_axis (written_flags g.bytes at read.runs) (origin (runs_end g.bytes at read.runs)) _ refl read.xs along_x
-    | inr along_y ↦ no-leaving g.bytes y_axis (written_flags g.bytes at read.runs) (origin (y_place g.bytes at read.runs)) _ refl read.ys along_y
+    | inl along_x ↦ no-leaving g.bytes x_axis (written_flags g.bytes at read.runs)
+        (origin (runs_end g.bytes at read.runs)) _ refl read.xs along_x
+    | inr along_y ↦ no-leaving g.bytes y_axis (written_flags g.bytes at read.runs)
+        (origin (y_place g.bytes at read.runs)) _ refl read.ys along_y
   ]
 ]
 
-no-coordinate-defect : (g : Stretch) (at n : ℕ) (points : List RawPoint) (f : Fault) → PointsRead g.bytes at n points → ¬ IsCoordinateDefect g at n f
+no-coordinate-defect : (g : Stretch) (at n : ℕ) (points : List RawPoint) (f : Fault) → PointsRead g.bytes at n points
+    → ¬ IsCoordinateDefect g at n f
 no-coordinate-defect g at n points f read bad =
     let same : bad.0 ≡ read.runs = runs-same g.bytes at bad.0 read.runs (bad.1 ∙ sym read.covers) in
     no-coordinate-defect-by g at n points f read (subst (λ (k : ℕ). IsBadBehind g at k f) same bad.2)
 
-points-are-written : (g : Stretch) (x_min : ℤ) (contours : ℕ) (s : SimpleGlyph) → 0 < contours → SimpleRead g x_min contours s → length s.points ≡ written_points g.bytes contours
-points-are-written g x_min contours s some read = read.count.is ∙ count-is g.bytes contours (record { items = s.ends; next = size_place contours }) some read.ends
+points-are-written : (g : Stretch) (x_min : ℤ) (contours : ℕ) (s : SimpleGlyph) → 0 < contours
+    → SimpleRead g x_min contours s → length s.points ≡ written_points g.bytes contours
+points-are-written g x_min contours s some read =
+    read.count.is ∙ count-is g.bytes contours (record { items = s.ends; next = size_place contours }) some read.ends
 
-pub simple-whole : (g : Stretch) (x_min : ℤ) (contours : ℕ) (s : SimpleGlyph) (f : Fault) → 0 < contours → SimpleRead g x_min contours s → ¬ IsSimpleDefect g contours f
+pub simple-whole : (g : Stretch) (x_min : ℤ) (contours : ℕ) (s : SimpleGlyph) (f : Fault) → 0 < contours
+    → SimpleRead g x_min contours s → ¬ IsSimpleDefect g contours f
 simple-whole g x_min contours s f some read bad =
     let points = points-are-written g x_min contours s some read in
     let there = rw points at read.points in
@@ -110,23 +121,30 @@ simple-whole g x_min contours s f some read bad =
           let size = read.code_size in
           let room = read.code.room in
           absurd (omega arith)
-      | inr (inl falls) ↦ no-falling g contours (record { items = s.ends; next = size_place contours }) f read.ends falls
+      | inr (inl falls) ↦ no-falling g contours (record { items = s.ends; next = size_place contours }) f read.ends
+          falls
       | inr (inr (inl many)) ↦
           let over = many.1 in
           let few = read.count.few in
           absurd (omega arith)
-      | inr (inr (inr (inl flags))) ↦ no-flag-defect g (flags_place g.bytes contours) (written_points g.bytes contours) f there.good flags
-      | inr (inr (inr (inr coordinates))) ↦ no-coordinate-defect g (flags_place g.bytes contours) (written_points g.bytes contours) s.points f there coordinates
+      | inr (inr (inr (inl flags))) ↦ no-flag-defect g (flags_place g.bytes contours) (written_points g.bytes contours)
+          f there.good flags
+      | inr (inr (inr (inr coordinates))) ↦ no-coordinate-defect g (flags_place g.bytes contours)
+          (written_points g.bytes contours) s.points f there coordinates
     ]
 
 -- the last record is one
-last-same : (g : Stretch) (at k n : ℕ) → GoesOn g at k → has (written_component_flags g.bytes (record_place g.bytes at k)) more_components ≡ false → GoesOn g at n → has (written_component_flags g.bytes (record_place g.bytes at n)) more_components ≡ false → k ≡ n
+last-same : (g : Stretch) (at k n : ℕ) → GoesOn g at k → has
+    (written_component_flags g.bytes (record_place g.bytes at k)) more_components ≡ false → GoesOn g at n
+    → has (written_component_flags g.bytes (record_place g.bytes at n)) more_components ≡ false → k ≡ n
 last-same g at zero zero on_k stops_k on_n stops_n = refl
 last-same g at zero (suc n) on_k stops_k on_n stops_n = absurd (true≢false (sym on_n.0 ∙ stops_k))
 last-same g at (suc k) zero on_k stops_k on_n stops_n = absurd (true≢false (sym on_k.0 ∙ stops_n))
-last-same g at (suc k) (suc n) on_k stops_k on_n stops_n = ap suc (last-same g (record_end g.bytes at) k n on_k.1 stops_k on_n.1 stops_n)
+last-same g at (suc k) (suc n) on_k stops_k on_n stops_n =
+    ap suc (last-same g (record_end g.bytes at) k n on_k.1 stops_k on_n.1 stops_n)
 
-no-records-defect : (glyphs : ℕ) (g : Stretch) (f : Fault) → AreGoodRecords glyphs g 10 component_limit → ¬ IsRecordsDefect glyphs g 10 component_limit f
+no-records-defect : (glyphs : ℕ) (g : Stretch) (f : Fault) → AreGoodRecords glyphs g 10 component_limit
+    → ¬ IsRecordsDefect glyphs g 10 component_limit f
 no-records-defect glyphs g f good bad = elim bad [
   | inl one ↦
       let record_is = good one.0 one.2 in
@@ -146,7 +164,10 @@ no-records-defect glyphs g f good bad = elim bad [
       absurd (omega arith)
 ]
 
-no-program-defect : (g : Stretch) (c : CompositeGlyph) (f : Fault) → AreUpTo g 10 (record { items = c.records; next = records_end g.bytes 10 c.records }) → IsProgramBehind g (records_end g.bytes 10 c.records) (has_program c.records) (record { code = c.code; code_at = c.code_at }) → ¬ IsProgramDefect g 10 f
+no-program-defect : (g : Stretch) (c : CompositeGlyph) (f : Fault)
+    → AreUpTo g 10 (record { items = c.records; next = records_end g.bytes 10 c.records })
+    → IsProgramBehind g (records_end g.bytes 10 c.records) (has_program c.records)
+    (record { code = c.code; code_at = c.code_at }) → ¬ IsProgramDefect g 10 f
 no-program-defect g c f up_to program bad =
     let same : bad.0 ≡ up_to.n = last-same g 10 bad.0 up_to.n bad.1 bad.2 up_to.goes_on up_to.stops in
     let there = subst (λ (n : ℕ). IsProgramCut g n f) same (bad.3, bad.4) in
@@ -157,7 +178,8 @@ no-program-defect g c f up_to program bad =
     let ends = rw next at there.1.0 in
     absurd (omega arith)
 
-pub composite-whole : (glyphs : ℕ) (g : Stretch) (x_min : ℤ) (c : CompositeGlyph) (f : Fault) → CompositeRead glyphs g x_min c → ¬ IsCompositeDefect glyphs g f
+pub composite-whole : (glyphs : ℕ) (g : Stretch) (x_min : ℤ) (c : CompositeGlyph) (f : Fault)
+    → CompositeRead glyphs g x_min c → ¬ IsCompositeDefect glyphs g f
 composite-whole glyphs g x_min c f read bad = elim bad [
   | inl records ↦ no-records-defect glyphs g f read.parts.good records
   | inr program ↦ no-program-defect g c f read.parts.up_to read.program program

@@ -129,7 +129,8 @@ transform_of r = record { xx = r.xx; yx = r.yx; xy = r.xy; yy = r.yy }
 
 -- offsets are to be transformed
 abbrev pub scales_offsets : ℕ → Bool
-scales_offsets flags = has flags scaled_component_offset && not (has flags unscaled_component_offset) && has flags args_are_xy_values
+scales_offsets flags =
+    has flags scaled_component_offset && not (has flags unscaled_component_offset) && has flags args_are_xy_values
 
 abbrev pub has_arguments_zero : Record → Bool
 has_arguments_zero r = int_eq r.arg1 (pos 0) && int_eq r.arg2 (pos 0)
@@ -165,14 +166,16 @@ record_at glyphs g at = do
   glyph ← known_glyph glyphs g at number
   args ← arguments_at g flags (at + 4)
   t ← transform_at g flags (at + 4 + 2 * argument_size flags)
-  unscaled g at (record { at = g.start + at; flags = flags; glyph = glyph; arg1 = args.arg1; arg2 = args.arg2; xx = t.xx; yx = t.yx; xy = t.xy; yy = t.yy })
+  unscaled g at (record { at = g.start + at; flags = flags; glyph = glyph; arg1 = args.arg1; arg2 = args.arg2;
+      xx = t.xx; yx = t.yx; xy = t.xy; yy = t.yy })
 
 -- the records from a place on, of which so many are let pass
 unfoldable pub records_from : ℕ → Stretch → ℕ → ℕ → Result (Listing Record) Fault
 records_from glyphs g at zero = Err (glyph_fault g at why.ComponentCount)
 records_from glyphs g at (suc allowed) = do
   r ← record_at glyphs g at
-  after (r ∷ []) (if has r.flags more_components then records_from glyphs g (at + record_size r.flags) allowed else Ok (record { items = []; next = at + record_size r.flags }))
+  after (r ∷ []) (if has r.flags more_components then records_from glyphs g (at + record_size r.flags) allowed
+      else Ok (record { items = []; next = at + record_size r.flags }))
 
 -- the records stand behind the header, and no more than these are read (profile)
 abbrev pub records_of : ℕ → Stretch → Result (Listing Record) Fault
@@ -191,7 +194,8 @@ pub record Program : Type 0 where
 unfoldable pub program_of : Stretch → Listing Record → Result Program Fault
 program_of g records =
     if has_program records.items
-    then (word_in g records.next >>= λ size. slice_in g (records.next + 2) size >>= λ code. Ok (record { code = code; code_at = g.start + (records.next + 2) }))
+    then (word_in g records.next >>= λ size. slice_in g (records.next + 2) size
+        >>= λ code. Ok (record { code = code; code_at = g.start + (records.next + 2) }))
     else Ok (record { code = []; code_at = g.start + records.next })
 
 -- what a composite glyph says behind its header, in a font of so many glyphs

@@ -21,7 +21,8 @@ IsCut g end fault = (length g.bytes < end) × (fault ≡ short g)
 abbrev pub IsFallingEnd : Stretch → ℕ → Fault → Type 0
 IsFallingEnd g contours fault =
     (i : ℕ) × (i + 1 < contours) × (end_place (i + 1) + 2 ≤ length g.bytes)
-    × (written_end g.bytes (i + 1) < written_end g.bytes i) × (fault ≡ glyph_fault g (end_place (i + 1)) why.ContourOrder)
+    × (written_end g.bytes (i + 1) < written_end g.bytes i)
+        × (fault ≡ glyph_fault g (end_place (i + 1)) why.ContourOrder)
 
 -- how many points there are, by the last contour's end
 abbrev pub written_points : List ℕ → ℕ → ℕ
@@ -54,7 +55,8 @@ abbrev pub IsCoordinateDefect : Stretch → ℕ → ℕ → Fault → Type 0
 IsCoordinateDefect g at points fault =
     (runs : ℕ) × (length (written_flags g.bytes at runs) ≡ points)
     × (IsCut g (points_end g.bytes at runs) fault
-    ⊎ ((LeavesWords (x_deltas g.bytes at runs) ⊎ LeavesWords (y_deltas g.bytes at runs)) × (fault ≡ glyph_fault g 0 why.CoordRange)))
+    ⊎ ((LeavesWords (x_deltas g.bytes at runs) ⊎ LeavesWords (y_deltas g.bytes at runs))
+        × (fault ≡ glyph_fault g 0 why.CoordRange)))
 
 -- a defect of a simple glyph of so many contours
 abbrev pub IsSimpleDefect : Stretch → ℕ → Fault → Type 0
@@ -78,7 +80,8 @@ record_place bytes at (suc n) = record_place bytes (record_end bytes at) n
 -- each of them says that another follows
 abbrev pub GoesOn : Stretch → ℕ → ℕ → Type 0
 GoesOn g at zero = Unit {0}
-GoesOn g at (suc n) = (has (written_component_flags g.bytes at) more_components ≡ true) × GoesOn g (record_end g.bytes at) n
+GoesOn g at (suc n) =
+    (has (written_component_flags g.bytes at) more_components ≡ true) × GoesOn g (record_end g.bytes at) n
 
 -- a record passes the end of the bytes, or names no glyph of the font, or wants its offset transformed
 abbrev pub IsBadRecord : ℕ → Stretch → ℕ → Fault → Type 0
@@ -96,7 +99,8 @@ IsRecordsDefect glyphs g at allowed fault =
 -- the records up to the last one say that a program follows, and it passes the end of the bytes
 abbrev pub IsProgramDefect : Stretch → ℕ → Fault → Type 0
 IsProgramDefect g at fault =
-    (n : ℕ) × GoesOn g at n × (has (written_component_flags g.bytes (record_place g.bytes at n)) more_components ≡ false)
+    (n : ℕ) × GoesOn g at n × (has (written_component_flags g.bytes (record_place g.bytes at n))
+        more_components ≡ false)
     × (has_program (written_records g at (suc n)) ≡ true)
     × IsCut g (record_place g.bytes at (suc n) + 2 + unsigned_at g.bytes (record_place g.bytes at (suc n)) 2) fault
 
@@ -108,7 +112,8 @@ IsCompositeDefect glyphs g fault = IsRecordsDefect glyphs g 10 component_limit f
 abbrev pub IsBadGlyph : ℕ → Stretch → Fault → Type 0
 IsBadGlyph glyphs g fault =
     IsCut g 10 fault
-    ⊎ ((10 ≤ length g.bytes) × (pos 0 <ℤ contour_count g.bytes) × IsSimpleDefect g (unsigned_abs (contour_count g.bytes)) fault)
+    ⊎ ((10 ≤ length g.bytes) × (pos 0 <ℤ contour_count g.bytes)
+        × IsSimpleDefect g (unsigned_abs (contour_count g.bytes)) fault)
     ⊎ ((10 ≤ length g.bytes) × (contour_count g.bytes <ℤ pos 0) × IsCompositeDefect glyphs g fault)
 
 -- loca gives the glyph bytes of glyf

@@ -45,12 +45,14 @@ loca_size format glyphs = entry_size format * (glyphs + 1)
 -- loca, where it is long enough
 unfoldable pub loca_of : List ℕ → Fields → Result Locations Fault
 loca_of loca m =
-    if nat_lt (length loca) (loca_size (loca_format_of m) (glyphs_of m)) then Err (fault_at loca_tag (length loca) why.LocaShort)
+    if nat_lt (length loca) (loca_size (loca_format_of m) (glyphs_of m))
+        then Err (fault_at loca_tag (length loca) why.LocaShort)
     else Ok (loca_with loca m)
 
 -- loca has fewer entries than it needs
 abbrev pub IsLocaDefect : List ℕ → Fields → Fault → Type 0
-IsLocaDefect loca m fault = (length loca < loca_size (loca_format_of m) (glyphs_of m)) × (fault ≡ fault_at loca_tag (length loca) why.LocaShort)
+IsLocaDefect loca m fault =
+    (length loca < loca_size (loca_format_of m) (glyphs_of m)) × (fault ≡ fault_at loca_tag (length loca) why.LocaShort)
 
 -- loca has an entry for each glyph, and one more
 pub record AreLocations (l : Locations) : Type 0 where

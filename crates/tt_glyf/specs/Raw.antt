@@ -27,5 +27,7 @@ pub data GlyphData : Type 0 where
 -- the view of what is read
 abbrev pub glyph_data : Raw → GlyphData
 glyph_data raw.Empty = empty
-glyph_data (raw.Simple x_min points ends code code_at) = simple (record { x_min = x_min; points = points.items; ends = ends.items; code = code.now; code_at = code_at })
-glyph_data (raw.Composite x_min records code code_at) = composite (record { x_min = x_min; records = records.items; code = code.now; code_at = code_at })
+glyph_data (raw.Simple x_min points ends code code_at) =
+    simple (record { x_min = x_min; points = points.items; ends = ends.items; code = code.now; code_at = code_at })
+glyph_data (raw.Composite x_min records code code_at) =
+    composite (record { x_min = x_min; records = records.items; code = code.now; code_at = code_at })

@@ -37,11 +37,14 @@ point_count ends = slice_index ends (length ends - 1) + 1
 
 -- more points are refused at the last contour's end, which stands before this place (profile)
 unfoldable pub points_within : Stretch → Listing ℕ → Result ℕ Fault
-points_within g ends = if nat_lt point_limit (point_count ends.items) then Err (glyph_fault g (ends.next - 2) why.PointLimit) else Ok (point_count ends.items)
+points_within g ends =
+    if nat_lt point_limit (point_count ends.items) then Err (glyph_fault g (ends.next - 2) why.PointLimit)
+        else Ok (point_count ends.items)
 
 -- the points of these flags and coordinates
 abbrev pub points_from : List ℕ → List ℤ → List ℤ → List RawPoint
-points_from (flag ∷ flags) (x ∷ xs) (y ∷ ys) = record { x = x; y = y; on = has flag on_curve_point } ∷ points_from flags xs ys
+points_from (flag ∷ flags) (x ∷ xs) (y ∷ ys) =
+    record { x = x; y = y; on = has flag on_curve_point } ∷ points_from flags xs ys
 points_from flags xs ys = []
 
 -- so many points from a place on: the flags, all x, then all y
@@ -60,4 +63,5 @@ simple_of g x_min contours = do
   size ← word_in g ends.next
   code ← slice_in g (ends.next + 2) size
   points ← points_of g (ends.next + 2 + size) points
-  Ok (simple (record { x_min = x_min; points = points; ends = ends.items; code = code; code_at = g.start + (ends.next + 2) }))
+  Ok (simple (record { x_min = x_min; points = points; ends = ends.items; code = code;
+      code_at = g.start + (ends.next + 2) }))

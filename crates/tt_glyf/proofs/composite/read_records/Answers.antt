@@ -8,8 +8,11 @@ pub loop-i-preserved : goal.loop-i-preserved
 loop-i-preserved c = record {
   same = grind (arith, more);
   room = search rules;
-  arguments = rw c.in_ok-push.ensures.items (All-push HasArguments _ _ c.loop-i.invariant.arguments c.in_ok-part.ensures.arguments);
+  arguments = rw c.in_ok-push.ensures.items (All-push HasArguments _ _ c.loop-i.invariant.arguments
+      c.in_ok-part.ensures.arguments);
 }
 
 pub returns-then-not-has_flag-clause-arguments : goal.returns-then-not-has_flag-clause-arguments
-returns-then-not-has_flag-clause-arguments c = rw c.in_ok-push.ensures.items (All-push HasArguments _ _ c.loop-i.invariant.arguments c.in_ok-part.ensures.arguments)
+returns-then-not-has_flag-clause-arguments c =
+    rw c.in_ok-push.ensures.items (All-push HasArguments _ _ c.loop-i.invariant.arguments
+        c.in_ok-part.ensures.arguments)

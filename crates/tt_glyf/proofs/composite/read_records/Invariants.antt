@@ -8,7 +8,8 @@ use Rattle.tt_glyf.proofs.composite.read_records.Given as goal
 
 abbrev pub invariant-loop-i : goal.invariant-loop-i
 invariant-loop-i l = record {
-  same : after l.records.items (records_from l.glyphs l.glyph l.next (component_limit - l.i)) ≡ records_of l.glyphs l.glyph;
+  same : after l.records.items (records_from l.glyphs l.glyph l.next (component_limit - l.i)) ≡ records_of l.glyphs
+      l.glyph;
   room : l.next ≤ length l.glyph.bytes;
   arguments : All HasArguments l.records.items;
 }
