@@ -18,3 +18,7 @@ one_level s zero r o some = absurd (omega arith)
 one_level s (suc levels) r o some =
     let fewer : suc levels - 1 ≡ levels = omega arith in
     rw fewer refl
+
+-- its component's outline was made, and is placed
+pub one_level_done : (s : Setting) (levels : ℕ) (r : Record) (o component : Shape) → 0 < levels → outline_at s (levels - 1) r.glyph ≡ Ok component → added s levels r o ≡ placed (size_of s) r component o
+one_level_done s levels r o component some made = rw (one_level s levels r o some, made) refl
