@@ -20,9 +20,12 @@ good_subtable table at fits even rises fault (inr (inr (inr falling))) =
     not_both (falls table at i) falling.3 (first_below_none (segment_count table at - 1) (falls table at) i rises (omega (arith, falling.1)))
 
 -- where the records are good, and the chosen subtable is good on Ok, cmap has no defect on Ok
-pub OnOk-HasNo-IsBadCmap : {X : Type 0} (r : Result X Fault) (table : List ℕ) (place : Option ℕ) → place ≡ chosen_subtable table → HasNo (IsBadRecords table) → OnOk r (HasNo (IsBadChoice table place)) → OnOk r (HasNo (IsBadCmap table))
+pub OnOk-HasNo-IsBadCmap : {X : Type 0} (r : Result X Fault) (table : List ℕ) (place : Option ℕ)
+    → place ≡ chosen_subtable table → HasNo (IsBadRecords table) → OnOk r (HasNo (IsBadChoice table place)) → OnOk r (HasNo (IsBadCmap table))
 OnOk-HasNo-IsBadCmap (Err e) table place chosen records choice = tt
 OnOk-HasNo-IsBadCmap (Ok x) table place chosen records choice = λ fault defect. elim defect [
   | inl bad ↦ records fault bad
-  | inr bad ↦ let P : Option ℕ → Type 0 = λ place. IsBadChoice table place fault in choice fault (subst P (sym chosen) bad.1)
+  | inr bad ↦
+      let P : Option ℕ → Type 0 = λ place. IsBadChoice table place fault in
+      choice fault (subst P (sym chosen) bad.1)
 ]

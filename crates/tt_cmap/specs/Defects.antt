@@ -1,4 +1,5 @@
--- OpenType, "cmap: Character to Glyph Index Mapping Table": what stands behind a fault of cmap, apart from the order in which faults are looked for.
+-- OpenType, "cmap: Character to Glyph Index Mapping Table": what stands behind a fault of cmap,
+-- apart from the order in which faults are looked for.
 use Rattle.std.specs.Prelude.{◌≡◌, ℕ, ◌+◌, ◌*◌, ◌%◌, ◌<◌, ◌≤◌, true, List, length, Option, Some, None, ◌⊎◌}
 use Rattle.tt_core.specs.Faults.{Fault}
 use Rattle.tt_core.specs.declared.fault.Why.TheVariants as why

@@ -16,7 +16,8 @@ pub record Lookup : Type 0 where
 -- the lookup by a subtable, whose lists have to fit and whose end codes have to rise
 abbrev pub by_subtable : List ℕ → ℕ → Option ℕ → Result Lookup Fault
 by_subtable table glyphs None = Err (cmap_fault 0 why.NoCmap)
-by_subtable table glyphs (Some at) = segments_of table at >>= λ segments. Ok (record { table = table; at = at; glyphs = glyphs })
+by_subtable table glyphs (Some at) =
+    segments_of table at >>= λ segments. Ok (record { table = table; at = at; glyphs = glyphs })
 
 -- the same behind the records, which have to fit first
 abbrev pub lookup_by : List ℕ → ℕ → Option ℕ → Result Lookup Fault
@@ -32,7 +33,8 @@ glyph_of m c = glyph_in m.table m.at m.glyphs c
 
 -- g is what the least segment that reaches the character says of it, and 0 where no segment does
 pub record FollowsSegments (m : Lookup) (c g : ℕ) : Type 0 where
-  pub by_least : (i : ℕ) → IsLeast (reaches m.table m.at c) (segment_count m.table m.at) i → g ≡ by_segment m.table m.at m.glyphs c i
+  pub by_least : (i : ℕ) → IsLeast (reaches m.table m.at c) (segment_count m.table m.at) i
+      → g ≡ by_segment m.table m.at m.glyphs c i
   pub past_all : ((i : ℕ) → i < segment_count m.table m.at → reaches m.table m.at c i ≡ false) → g ≡ 0
 
 pub glyph_follows_segments : (m : Lookup) (c : ℕ) → FollowsSegments m c (glyph_of m c)

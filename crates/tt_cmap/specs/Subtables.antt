@@ -1,5 +1,5 @@
--- OpenType, "cmap: Character to Glyph Index Mapping Table": version, count of encoding records, and records of platform,
--- encoding and offset. Only subtables of format 4 are looked for (profile).
+-- OpenType, "cmap: Character to Glyph Index Mapping Table": version, count of encoding records, and records of
+-- platform, encoding and offset. Only subtables of format 4 are looked for (profile).
 use Rattle.std.specs.Prelude.{◌≡◌, ℕ, ◌+◌, ◌*◌, ◌<◌, Bool, false, ◌&&◌, ◌==◌, nat_lt, nat_le, if◌then◌else◌, List, [], ◌∷◌, length, codes, Option, Some, None, option_map, Result, Ok, Err, ◌⊎◌, refl}
 use Rattle.std.proofs.Common.{inl, inr}
 use Rattle.tt_core.specs.Faults.{Fault}
@@ -81,15 +81,20 @@ NoneServes table = HasNone Windows table × HasNone Unicode table
 pub chosen_serves : (table : List ℕ) (i : ℕ) → Serves table i → chosen_subtable table ≡ Some (subtable_of table i)
 chosen_serves table i (inl least) = rw (first_below_least (is_wanted Windows table) (record_count table) i least) refl
 chosen_serves table i (inr least) =
-    rw (first_below_nothing (is_wanted Windows table) (record_count table) least.0, first_below_least (is_wanted Unicode table) (record_count table) i least.1) refl
+    let windows = first_below_nothing (is_wanted Windows table) (record_count table) least.0 in
+    let unicode = first_below_least (is_wanted Unicode table) (record_count table) i least.1 in
+    rw (windows, unicode) refl
 
 pub none_chosen : (table : List ℕ) → NoneServes table → chosen_subtable table ≡ None
 none_chosen table none =
-    rw (first_below_nothing (is_wanted Windows table) (record_count table) none.0, first_below_nothing (is_wanted Unicode table) (record_count table) none.1) refl
+    let windows = first_below_nothing (is_wanted Windows table) (record_count table) none.0 in
+    let unicode = first_below_nothing (is_wanted Unicode table) (record_count table) none.1 in
+    rw (windows, unicode) refl
 
 -- worked values: a record of Unicode with a subtable of format 4, and one of Windows with a subtable of any format
 abbrev two_records : ℕ → List ℕ
-two_records format = 0 ∷ 0 ∷ 0 ∷ 2 ∷ 0 ∷ 0 ∷ 0 ∷ 3 ∷ 0 ∷ 0 ∷ 0 ∷ 20 ∷ 0 ∷ 3 ∷ 0 ∷ 1 ∷ 0 ∷ 0 ∷ 0 ∷ 22 ∷ 0 ∷ 4 ∷ 0 ∷ format ∷ []
+two_records format =
+    0 ∷ 0 ∷ 0 ∷ 2 ∷ 0 ∷ 0 ∷ 0 ∷ 3 ∷ 0 ∷ 0 ∷ 0 ∷ 20 ∷ 0 ∷ 3 ∷ 0 ∷ 1 ∷ 0 ∷ 0 ∷ 0 ∷ 22 ∷ 0 ∷ 4 ∷ 0 ∷ format ∷ []
 
 windows_before_unicode : chosen_subtable (two_records 4) ≡ Some 22
 windows_before_unicode = refl

@@ -47,7 +47,8 @@ impl<'a> Cmap<'a> {
         requires glyphs { 0 < glyphs }
         ensures exact { Gives (λ c. c) result (lookup_of table.now glyphs) }
         // The record that serves names the subtable.
-        ensures first { (i : ℕ) → Serves table.now i → Gives (λ c. c) result (lookup_by table.now glyphs (Some (subtable_of table.now i))) }
+        ensures first { (i : ℕ) → Serves table.now i
+            → Gives (λ c. c) result (lookup_by table.now glyphs (Some (subtable_of table.now i))) }
         ensures absent { NoneServes table.now → Gives (λ c. c) result (lookup_by table.now glyphs None) }
         ensures whole { IfOk result (λ c. c.table ≡ table.now) }
         ensures glyphs { IfOk result (λ c. c.glyphs ≡ glyphs) }

@@ -54,7 +54,8 @@ pub fn lay(
     ensures known { IfOk result (λ l. All (λ p. p.0 < glyphs_of metrics.now) l.glyphs.items) }
     ensures pens { IfOk result (λ l. All (λ p. p.1 ≤ l.width) l.glyphs.items) }
     // Memory is taken only for the glyphs of a line that is not refused.
-    ensures memory { IfErr result (λ e. IfNone (job_fault e) (IsOk (placement metrics.now cmap.now text.now ppem margin) × (0 < length (chars text.now)))) }
+    ensures memory { IfErr result (λ e. IfNone (job_fault e)
+        (IsOk (placement metrics.now cmap.now text.now ppem margin) × (0 < length (chars text.now)))) }
     ensures refused { IfTold job_fault result (IsRefusal (extent_of metrics.now ppem margin (text_glyphs cmap.now text.now))) }
 {
     let rise = rise(metrics, ppem);

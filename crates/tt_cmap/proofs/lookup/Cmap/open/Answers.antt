@@ -7,14 +7,20 @@ use Rattle.tt_cmap.proofs.lookup.Cmap.open.Goals as goal
 
 pub returns-clause-first : goal.returns-clause-first
 returns-clause-first c = λ i serves.
-    let P : Option ℕ → Type 0 = λ place. Gives (λ m. m) c.by_subtable.result (lookup_by c.args.table.now c.args.glyphs place) in
-    subst P (c.chosen.ensures.chosen ∙ chosen_serves c.args.table.now i serves) (rw c.in_ok-count.ensures.exact c.by_subtable.ensures.exact)
+    let table = c.args.table.now in
+    let P : Option ℕ → Type 0 = λ place. Gives (λ m. m) c.by_subtable.result (lookup_by table c.args.glyphs place) in
+    let chosen = c.chosen.ensures.chosen ∙ chosen_serves table i serves in
+    subst P chosen (rw c.in_ok-count.ensures.exact c.by_subtable.ensures.exact)
 
 pub returns-clause-absent : goal.returns-clause-absent
 returns-clause-absent c = λ none.
-    let P : Option ℕ → Type 0 = λ place. Gives (λ m. m) c.by_subtable.result (lookup_by c.args.table.now c.args.glyphs place) in
-    subst P (c.chosen.ensures.chosen ∙ none_chosen c.args.table.now none) (rw c.in_ok-count.ensures.exact c.by_subtable.ensures.exact)
+    let table = c.args.table.now in
+    let P : Option ℕ → Type 0 = λ place. Gives (λ m. m) c.by_subtable.result (lookup_by table c.args.glyphs place) in
+    let chosen = c.chosen.ensures.chosen ∙ none_chosen table none in
+    subst P chosen (rw c.in_ok-count.ensures.exact c.by_subtable.ensures.exact)
 
 pub returns-clause-sound : goal.returns-clause-sound
 returns-clause-sound c =
-    OnOk-HasNo-IsBadCmap c.by_subtable.result c.args.table.now c.chosen.result c.chosen.ensures.chosen c.in_ok-count.ensures.sound c.by_subtable.ensures.sound
+    let table = c.args.table.now in
+    let choice = c.by_subtable.ensures.sound in
+    OnOk-HasNo-IsBadCmap c.by_subtable.result table c.chosen.result c.chosen.ensures.chosen c.in_ok-count.ensures.sound choice
