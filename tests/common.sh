@@ -12,18 +12,21 @@ trap 'rm -rf -- "$room"' EXIT
 passed=0
 failed=0
 
-# Leaves the program of tables as $program: that of TT_TABLES=PATH, or our own, which is proved and built here if it lacks or
-# a source is newer.
+# no_source_after PROGRAM: whether a program is there, and no source is newer.
+no_source_after() {
+  local sources=("$root"/crates.txt "$root"/crates/*/{src,specs,proofs})
+  [ -x "$1" ] && [ -z "$(find "${sources[@]}" -newer "$1" -print -quit 2>/dev/null)" ]
+}
+
+# Leaves the program of tables as $program: that of TT_TABLES=PATH, or our own, which is proved and built here if it
+# lacks or a source is newer.
 tables_program() {
   local crate=$root/crates/tt_test_tables
   program=${TT_TABLES:-$crate/out/tt_test_tables}
-  if [ -z "${TT_TABLES:-}" ]; then
-    if [ ! -x "$program" ] ||
-      [ -n "$(find "$root"/crates.txt "$root"/crates/*/{src,specs,proofs} -newer "$program" -print -quit 2>/dev/null)" ]; then
-      echo "tests: proving and building tt_test_tables" >&2
-      (cd -- "$crate" && rt run -- glyphs "$PWD/data/composite_font.ttf") </dev/null >"$room/log" 2>&1 ||
-        tail -n 20 -- "$room/log" >&2
-    fi
+  if [ -z "${TT_TABLES:-}" ] && ! no_source_after "$program"; then
+    echo "tests: proving and building tt_test_tables" >&2
+    (cd -- "$crate" && rt run -- glyphs "$PWD/data/composite_font.ttf") </dev/null >"$room/log" 2>&1 ||
+      tail -n 20 -- "$room/log" >&2
   fi
   if [ ! -x "$program" ]; then
     echo "tests: there is no program $program" >&2
@@ -31,8 +34,8 @@ tables_program() {
   fi
 }
 
-# Leaves our program, or that of TT_RENDER=PATH, as $program. It is started once here, so that the time of building it falls
-# on no case, nor its lines on the case's standard error.
+# Leaves our program, or that of TT_RENDER=PATH, as $program. It is started once here, so that the time of building it
+# falls on no case, nor its lines on the case's standard error.
 render_program() {
   program=${TT_RENDER:-$root/tt_render}
   program=$(readlink -f -- "$program")
@@ -66,8 +69,8 @@ verdict() {
   printf '  %s\n' "$@"
 }
 
-# tried NAME STATUS: compares the run that left $room/status, $room/stdout and $room/stderr with the status and the files
-# $room/wanted_stdout and $room/wanted_stderr.
+# tried NAME STATUS: compares the run that left $room/status, $room/stdout and $room/stderr with the status and the
+# files $room/wanted_stdout and $room/wanted_stderr.
 tried() {
   local part why=()
   local got

@@ -1,4 +1,5 @@
-//! Outlines of worked glyphs. A point's place is worked out by hand: at 64 pixels of 1024 units a unit is 4 units of 26.6.
+//! Outlines of worked glyphs. A point's place is worked out by hand: at 64 pixels of 1024 units a unit is 4 units of
+//! 26.6.
 
 ghost use Rattle.std.specs.Prelude.{◌≤◌, length};
 ghost use Rattle.tt_core.specs.Limits.{font_limit};

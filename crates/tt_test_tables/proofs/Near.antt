@@ -1,5 +1,5 @@
 -- Points within the limit, moved by no more than it, are points that tt_arc takes.
-use Rattle.std.proofs.Common.{◌≡◌, ◌≤◌, ◌+ℤ◌, ℤ, pos, Bool, List, length, All, get_or, unsigned_abs, arith}
+use Rattle.std.proofs.Common.{◌≤◌, ℤ, pos, Bool, List, All, unsigned_abs, arith}
 use Rattle.std.proofs.lemmas.Int.{ints}
 use Rattle.tt_fit.specs.Outline.{IsPoint}
 use Rattle.tt_arc.specs.Chords.{IsNear}

@@ -1,6 +1,6 @@
 //! What tt_glyf reads of each glyph of a font, a line `GLYPH KIND COUNT CONTOURS PROGRAM SUM SUM SUM`: whether it is
-//! empty, simple or composite, its points or components, its contours (-1 of a composite), the bytes of its program, and
-//! three sums in which a wrong coordinate, flag, component or argument shows.
+//! empty, simple or composite, its points or components, its contours (-1 of a composite), the bytes of its program,
+//! and three sums in which a wrong coordinate, flag, component or argument shows.
 
 ghost use Rattle.std.specs.Prelude.{◌<◌};
 

@@ -1,5 +1,5 @@
-//! Prints what the libraries say of glyphs, of edges and pixels, and of outlines, to be compared with what other programs
-//! say:
+//! Prints what the libraries say of glyphs, of edges and pixels, and of outlines, to be compared with what other
+//! programs say:
 //!
 //!     tt_test_tables glyphs FONT
 //!     tt_test_tables pixels
@@ -7,8 +7,8 @@
 //!     tt_test_tables outlines FONT SIZE GLYPH ..
 //!     tt_test_tables outlines FONT SIZE pixels GLYPH WIDTH HEIGHT MARGIN RISE
 //!
-//! `pixels` reads its questions from standard input. The module of each table says what its lines hold. A glyph for which
-//! memory was refused is told on standard error, and asked for again.
+//! `pixels` reads its questions from standard input. The module of each table says what its lines hold. A glyph for
+//! which memory was refused is told on standard error, and asked for again.
 #![tactic(auto)]
 
 mod font;

@@ -1,7 +1,7 @@
-//! The outlines of a font's glyphs at a size, or the picture of one. An outline is a line `GLYPH phantom X Y X Y X Y X Y
-//! ends END .. points X Y ON ..`, in 26.6 pixels, where ON is 1 for a point on the curve and else 0; a glyph that is refused
-//! has the line `GLYPH TABLE+OFFSET: NUMBER NAME`. A picture is a line for each row, with '#' for a black pixel and '.' for
-//! a white one, and its glyph stands with its left phantom point at 0.
+//! The outlines of a font's glyphs at a size, or the picture of one. An outline is a line `GLYPH phantom X Y X Y X Y X
+//! Y ends END .. points X Y ON ..`, in 26.6 pixels, where ON is 1 for a point on the curve and else 0; a glyph that is
+//! refused has the line `GLYPH TABLE+OFFSET: NUMBER NAME`. A picture is a line for each row, with '#' for a black pixel
+//! and '.' for a white one, and its glyph stands with its left phantom point at 0.
 
 ghost use Rattle.std.specs.Prelude.{◌≡◌, ◌<◌, length, All, IfOk};
 ghost use Rattle.tt_fit.specs.Outline.{AreEnds, IsPoint};

@@ -1,12 +1,12 @@
-//! What tt_scan says of outlines. A line of standard input is a question; the frame is in pixels, and the ends of the COUNT
-//! edges in 1/8192 pixel:
+//! What tt_scan says of outlines. A line of standard input is a question; the frame is in pixels, and the ends of the
+//! COUNT edges in 1/8192 pixel:
 //!
 //!     pixels WIDTH HEIGHT MARGIN RISE COUNT AX AY BX BY ..
 //!     edges WIDTH HEIGHT MARGIN RISE COUNT AX AY BX BY ..
 //!
-//! Its answer is a line too. For `pixels` it is the picture from the top, '#' for a black pixel and '.' for a white one,
-//! and '/' after each row. For `edges` it is for each edge `rows FIRST END`, or `rows none`, then for each row of the frame
-//! `|TURN FIRST`, or `|TURN FIRST touch FIRST LAST` where the edge touches centres, and '/' after each edge.
+//! Its answer is a line too. For `pixels` it is the picture from the top, '#' for a black pixel and '.' for a white
+//! one, and '/' after each row. For `edges` it is for each edge `rows FIRST END`, or `rows none`, then for each row of
+//! the frame `|TURN FIRST`, or `|TURN FIRST touch FIRST LAST` where the edge touches centres, and '/' after each edge.
 
 ghost use Rattle.std.specs.Prelude.{◌≡◌, IfOk};
 ghost use Rattle.tt_scan.specs.Winding.{EdgeFits, FrameFits};
