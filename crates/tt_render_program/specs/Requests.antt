@@ -19,7 +19,8 @@ fit_named name = if bytes_eq name (codes "none") then Some fit.None else None
 
 -- what the words of a drawing ask for
 abbrev pub asked : Words → Option Ask
-asked w = option_map (λ f. record { text = w.text.now; ppem = w.size; margin = w.margin; fit = f }) (fit_named w.fit.now)
+asked w =
+    option_map (λ f. record { text = w.text.now; ppem = w.size; margin = w.margin; fit = f }) (fit_named w.fit.now)
 
 -- the path of a request's font
 abbrev pub font_of : Request → List ℕ

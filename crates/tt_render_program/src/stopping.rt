@@ -9,7 +9,7 @@ use std::io::ErrorKind;
 use tt_core::Sink;
 
 /// Why no request is done.
-#[derive(Clone, Copy, Debug, PartialEq, Eq)]
+#[derive(Clone, Copy)]
 pub enum Stop {
     /// Help or the version was asked for, and is printed.
     Shown,
