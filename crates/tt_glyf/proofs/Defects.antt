@@ -19,7 +19,7 @@ use Rattle.tt_glyf.proofs.BadRecords.{composite-broke}
 use Rattle.tt_glyf.proofs.Broken.{cut, simple-broke}
 use Rattle.tt_glyf.proofs.Chains.{came-through, was-err}
 use Rattle.tt_glyf.proofs.Fields.{signed-short}
-use Rattle.tt_glyf.proofs.Glyphs.{written_header, header-was, simple-was, composite-was, AreBytes, bytes-were}
+use Rattle.tt_glyf.proofs.Glyphs.{is-negative, written_header, header-was, simple-was, composite-was, AreBytes, bytes-were}
 use Rattle.tt_glyf.proofs.Whole.{simple-whole, composite-whole}
 
 -- the header
@@ -41,9 +41,6 @@ unfolding header_of
 header-broke g f was = header-broke-cases g (nat_lt (length g.bytes) 10) f refl was
 
 -- the sign of the number of contours
-is-negative : (c : ℤ) → int_lt c (pos 0) ≡ true → c <ℤ pos 0
-is-negative c is = grind (arith, ints)
-
 is-positive : (c : ℤ) → int_lt c (pos 0) ≡ false → (unsigned_abs c == 0) ≡ false → pos 0 <ℤ c
 is-positive c is some = grind (arith, ints, nat_tests)
 

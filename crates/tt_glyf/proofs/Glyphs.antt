@@ -1,6 +1,8 @@
 -- What a glyph that was read is.
-use Rattle.std.proofs.Common.{◌≡◌, ℕ, ◌+◌, ◌<◌, ◌≤◌, min, Bool, true, false, ◌==◌, nat_lt, if◌then◌else◌, List, [], length, Ok, Err, ℤ, pos, unsigned_abs, int_lt, refl, arith, sym, ◌∙◌}
+use Rattle.std.proofs.Common.{◌≡◌, ℕ, ◌+◌, ◌<◌, ◌≤◌, min, Bool, true, false, ◌==◌, nat_lt, if◌then◌else◌, List, [], length, Ok, Err, ℤ, pos, unsigned_abs, int_lt, inl, inr, refl, arith, ap, sym, ◌∙◌}
+use Rattle.std.specs.Prelude.{◌<ℤ◌, ◌⊎◌}
 use Rattle.std.proofs.lemmas.Bool.Decides.{nat_tests}
+use Rattle.std.proofs.lemmas.Int.{ints}
 use Rattle.tt_core.specs.Faults.{Fault}
 use Rattle.tt_core.specs.Limits.{component_limit, point_limit}
 use Rattle.tt_core.specs.Numbers.{unsigned_at}
@@ -11,7 +13,7 @@ use Rattle.tt_glyf.specs.Bytes.{Stretch, stretch_at, Listing, word_in, signed_in
 use Rattle.tt_glyf.specs.Composite.{Program, records_of, has_program, program_of, composite_of}
 use Rattle.tt_glyf.specs.GlyphData.{Header, header_of, described, glyph_in, glyph_data_of}
 use Rattle.tt_glyf.specs.Loca.{GlyphTables, glyph_offset, has_no_bytes, is_out_of_range, bytes_between, glyph_bytes_of}
-use Rattle.tt_glyf.specs.Meaning.{IfSimple, IfComposite, stretch_of, IsProgram, HasProgram, contour_count, written_x_min, size_place, written_size, flags_place, records_end, AreEnds, AreWords, ArePoints, AreComponents, AreRecords, AreCompositeWords}
+use Rattle.tt_glyf.specs.Meaning.{IfEmpty, HasNoOutline, IfSimple, IfComposite, stretch_of, IsProgram, HasProgram, contour_count, written_x_min, size_place, written_size, flags_place, records_end, AreEnds, AreWords, ArePoints, AreComponents, AreRecords, AreCompositeWords}
 use Rattle.tt_glyf.specs.Raw.{SimpleGlyph, CompositeGlyph, GlyphData, empty, simple, composite}
 use Rattle.tt_glyf.specs.Simple.{ends_of, points_within, points_of, simple_of}
 use Rattle.tt_glyf.proofs.Chains.{came-through}
@@ -28,6 +30,7 @@ IsProgramOf g (composite c) = IsProgramRead g (record { code = c.code; code_at =
 
 -- what is said of a glyph, over its own bytes
 pub record IsRead (glyphs : ℕ) (g : Stretch) (d : GlyphData) : Type 0 where
+  pub nothing : IfEmpty d (contour_count g.bytes ≡ pos 0)
   pub few : IfSimple d (λ s. length s.points ≤ point_limit)
   pub ends : IfSimple d (λ s. AreEnds (length s.points) s.ends)
   pub words : IfSimple d (AreWords g)
@@ -37,10 +40,19 @@ pub record IsRead (glyphs : ℕ) (g : Stretch) (d : GlyphData) : Type 0 where
   pub composite_words : IfComposite d (AreCompositeWords g)
   pub program : IsProgramOf g d
 
-nothing-read : (glyphs : ℕ) (g : Stretch) → IsRead glyphs g empty
-nothing-read glyphs g =
-    record { few = tt; ends = tt; words = tt; points = tt; components = tt; records = tt; composite_words = tt;
-        program = tt }
+nothing-read : (glyphs : ℕ) (g : Stretch) → contour_count g.bytes ≡ pos 0 → IsRead glyphs g empty
+nothing-read glyphs g is =
+    record { nothing = is; few = tt; ends = tt; words = tt; points = tt; components = tt; records = tt; composite_words = tt; program = tt }
+
+-- the number of contours and its sign
+pub is-negative : (c : ℤ) → int_lt c (pos 0) ≡ true → c <ℤ pos 0
+is-negative c is = grind (arith, ints)
+
+is-count : (c : ℤ) → int_lt c (pos 0) ≡ false → pos (unsigned_abs c) ≡ c
+is-count c is = grind (arith, ints)
+
+is-none : (c : ℤ) → (unsigned_abs c == 0) ≡ true → c ≡ pos 0
+is-none c is = grind (arith, ints, nat_tests)
 
 -- what was read of a simple glyph of so many contours
 pub record SimpleRead (g : Stretch) (x_min : ℤ) (contours : ℕ) (s : SimpleGlyph) : Type 0 where
@@ -105,14 +117,15 @@ ends-are bytes ends points n contours some read count =
         last = sym count.is }
 
 simple-is : (glyphs : ℕ) (g : Stretch) (contours : ℕ) (s : SimpleGlyph) → 0 < contours
-    → contours ≡ unsigned_abs (contour_count g.bytes) → SimpleRead g (written_x_min g.bytes) contours s
+    → pos contours ≡ contour_count g.bytes → SimpleRead g (written_x_min g.bytes) contours s
     → IsRead glyphs g (simple s)
 simple-is glyphs g contours s some is read =
     let many = read.ends.many in
     record {
+      nothing = tt;
       few = read.count.few;
       ends = ends-are g.bytes s.ends (length s.points) (size_place contours) contours some read.ends read.count;
-      words = record { x_min = read.x_min_is; contours = many ∙ is; ends = λ i below. read.ends.words i (omega arith);
+      words = record { x_min = read.x_min_is; contours = ap pos many ∙ is; ends = λ i below. read.ends.words i (omega arith);
           code_at = rw many read.code_at; code_size = rw many read.code_size };
       points = rw many (points-are g.bytes (flags_place g.bytes contours) (length s.points) s.points read.points);
       components = tt;
@@ -152,33 +165,35 @@ composite-was glyphs g x_min d was =
         code_at = p.code_at }, composite-make glyphs g x_min records p read
         (program-was g records p read.room by_program.first), sym is)
 
-composite-is : (glyphs : ℕ) (g : Stretch) (c : CompositeGlyph) → CompositeRead glyphs g (written_x_min g.bytes) c
+composite-is : (glyphs : ℕ) (g : Stretch) (c : CompositeGlyph) → contour_count g.bytes <ℤ pos 0 → CompositeRead glyphs g (written_x_min g.bytes) c
     → IsRead glyphs g (composite c)
-composite-is glyphs g c read = record {
+composite-is glyphs g c is read = record {
+  nothing = tt;
   few = tt;
   ends = tt;
   words = tt;
   points = tt;
   components = read.parts.are;
   records = record { some = read.parts.some; few = read.parts.few; known = read.parts.known };
-  composite_words = record { x_min = read.x_min_is; follows = read.program.size; none = read.program.none };
+  composite_words = record { contours = is; x_min = read.x_min_is; follows = read.program.size; none = read.program.none };
   program = read.program.read;
 }
 
 described-cases : (glyphs : ℕ) (g : Stretch) (contours : ℕ) (negative none : Bool) (d : GlyphData)
-    → 10 ≤ length g.bytes → contours ≡ unsigned_abs (contour_count g.bytes) → (contours == 0) ≡ none
+    → 10 ≤ length g.bytes → contours ≡ unsigned_abs (contour_count g.bytes) → int_lt (contour_count g.bytes) (pos 0) ≡ negative
+    → (contours == 0) ≡ none
     → (if negative then composite_of glyphs g (written_x_min g.bytes)
     else (if none then Ok empty else simple_of g (written_x_min g.bytes) contours)) ≡ Ok d → IsRead glyphs g d
-described-cases glyphs g contours true none d header count is was =
+described-cases glyphs g contours true none d header count sign is was =
     let read = composite-was glyphs g (written_x_min g.bytes) d was in
-    let whole = composite-is glyphs g read.0 read.1 in
+    let whole = composite-is glyphs g read.0 (is-negative (contour_count g.bytes) sign) read.1 in
     rw read.2 whole
-described-cases glyphs g contours false true d header count is was =
+described-cases glyphs g contours false true d header count sign is was =
     let e : d ≡ empty = cc in
-    rw e (nothing-read glyphs g)
-described-cases glyphs g contours false false d header count is was =
+    rw e (nothing-read glyphs g (is-none (contour_count g.bytes) (rw count at is)))
+described-cases glyphs g contours false false d header count sign is was =
     let read = simple-was g (written_x_min g.bytes) contours d header was in
-    let whole = simple-is glyphs g contours read.0 (grind (arith, nat_tests)) count read.1 in
+    let whole = simple-is glyphs g contours read.0 (grind (arith, nat_tests)) (ap pos count ∙ is-count (contour_count g.bytes) sign) read.1 in
     rw read.2 whole
 
 -- the header that is written
@@ -206,7 +221,7 @@ described-was : (glyphs : ℕ) (g : Stretch) (d : GlyphData) → 10 ≤ length g
 unfolding described
 described-was glyphs g d header was =
     described-cases glyphs g (unsigned_abs (contour_count g.bytes)) (int_lt (contour_count g.bytes) (pos 0))
-        (unsigned_abs (contour_count g.bytes) == 0) d header refl refl was
+        (unsigned_abs (contour_count g.bytes) == 0) d header refl refl refl was
 
 glyph-was : (glyphs : ℕ) (g : Stretch) (d : GlyphData) → glyph_in glyphs g ≡ Ok d → IsRead glyphs g d
 glyph-was glyphs g d was =
@@ -247,6 +262,7 @@ programs-in t g bytes (composite c) b p = program-in t g bytes c.code c.code_at 
 
 -- what is said of the glyph of a number
 pub record IsGlyph (t : GlyphTables) (g : ℕ) (d : GlyphData) : Type 0 where
+  pub nothing : IfEmpty d (HasNoOutline t g)
   pub few : IfSimple d (λ s. length s.points ≤ point_limit)
   pub ends : IfSimple d (λ s. AreEnds (length s.points) s.ends)
   pub words : IfSimple d (AreWords (stretch_of t g))
@@ -257,13 +273,19 @@ pub record IsGlyph (t : GlyphTables) (g : ℕ) (d : GlyphData) : Type 0 where
   pub composite_words : IfComposite d (AreCompositeWords (stretch_of t g))
   pub program : HasProgram t.glyf d
 
+nothing-in : (t : GlyphTables) (g : ℕ) (d : GlyphData) → IfEmpty d (contour_count (bytes_between t g) ≡ pos 0)
+    → IfEmpty d (HasNoOutline t g)
+nothing-in t g empty is = inr is
+nothing-in t g (simple s) is = tt
+nothing-in t g (composite c) is = tt
+
 glyph-make : (t : GlyphTables) (g : ℕ) (bytes : List ℕ) (d : GlyphData) → AreBytes t g bytes
     → IsRead t.glyphs (stretch_at (glyph_offset t g) bytes) d → IsGlyph t g d
 glyph-make t g bytes d b read =
     let program = programs-in t g bytes d b read.program in
     let is = b.is in
     let whole : IsRead t.glyphs (stretch_of t g) d = rw is at read in
-    record { few = whole.few; ends = whole.ends; words = whole.words; points = whole.points;
+    record { nothing = nothing-in t g d whole.nothing; few = whole.few; ends = whole.ends; words = whole.words; points = whole.points;
         components = whole.components; records = whole.records; composite_words = whole.composite_words;
         program = program }
 
@@ -272,7 +294,7 @@ glyph-cases : (t : GlyphTables) (g : ℕ) (none : Bool) (d : GlyphData) → has_
     (stretch_at (glyph_offset t g) bytes))) ≡ Ok d → IsGlyph t g d
 glyph-cases t g true d is was =
     let e : d ≡ empty = cc in
-    rw e (record { few = tt; ends = tt; words = tt; points = tt; components = tt; records = tt; composite_words = tt;
+    rw e (record { nothing = inl is; few = tt; ends = tt; words = tt; points = tt; components = tt; records = tt; composite_words = tt;
         program = tt })
 glyph-cases t g false d is was =
     let by_bytes = came-through (glyph_bytes_of t g) _ d was in

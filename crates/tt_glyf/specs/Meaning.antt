@@ -1,6 +1,6 @@
 -- What a glyph that was read is, said of its bytes as they stand: which words are the ends, which run covers a point, of
 -- which deltas a coordinate is the sum, which records are the components. OpenType, "The 'glyf' table".
-use Rattle.std.specs.Prelude.{◌≡◌, ℕ, zero, ◌+◌, ◌-◌, ◌*◌, ◌^◌, ◌<◌, ◌≤◌, true, false, suc, if◌then◌else◌, ℤ, pos, unsigned_abs, ◌+ℤ◌, ◌≤ℤ◌, ◌<ℤ◌, List, [], ◌∷◌, ◌++◌, length, map, fold, take, replicate, slice_index, slice_range, get_or, All}
+use Rattle.std.specs.Prelude.{◌≡◌, ℕ, zero, ◌+◌, ◌-◌, ◌*◌, ◌^◌, ◌<◌, ◌≤◌, true, false, suc, if◌then◌else◌, ℤ, pos, unsigned_abs, ◌+ℤ◌, ◌≤ℤ◌, ◌<ℤ◌, List, [], ◌∷◌, ◌++◌, length, map, fold, take, replicate, slice_index, slice_range, get_or, All, ◌⊎◌}
 use Rattle.tt_core.specs.Limits.{component_limit}
 use Rattle.tt_core.specs.Numbers.{unsigned_at, signed16}
 use Rattle.tt_glyf.specs.declared.raw.RawPoint.{RawPoint}
@@ -9,8 +9,14 @@ use Rattle.tt_glyf.specs.Bytes.{Stretch, stretch_at}
 use Rattle.tt_glyf.specs.Composite.{Transform, signed8, argument_size, record_size, one_scale, identity, has_program, arg_1_and_2_are_words, args_are_xy_values, we_have_a_scale, we_have_an_x_and_y_scale, we_have_a_two_by_two, more_components}
 use Rattle.tt_glyf.specs.Coordinates.{Axis, Delta, x_axis, y_axis, short_delta}
 use Rattle.tt_glyf.specs.Flags.{Run, has, on_curve_point, repeat_flag}
-use Rattle.tt_glyf.specs.Loca.{GlyphTables, glyph_offset, bytes_between}
+use Rattle.tt_glyf.specs.Loca.{GlyphTables, glyph_offset, has_no_bytes, bytes_between}
 use Rattle.tt_glyf.specs.Raw.{SimpleGlyph, CompositeGlyph, GlyphData, empty, simple, composite}
+
+-- this holds where there is no outline
+abbrev pub IfEmpty : GlyphData → Type 0 → Type 0
+IfEmpty empty P = P
+IfEmpty (simple s) P = Unit {0}
+IfEmpty (composite c) P = Unit {0}
 
 -- this holds of a simple glyph
 abbrev pub IfSimple : GlyphData → (SimpleGlyph → Type 0) → Type 0
@@ -50,6 +56,10 @@ contour_count bytes = signed16 (unsigned_at bytes 0 2)
 abbrev pub written_x_min : List ℕ → ℤ
 written_x_min bytes = signed16 (unsigned_at bytes 2 2)
 
+-- loca gives the glyph no bytes, or the glyph has no contours
+abbrev pub HasNoOutline : GlyphTables → ℕ → Type 0
+HasNoOutline t g = (has_no_bytes t g ≡ true) ⊎ (contour_count (bytes_between t g) ≡ pos 0)
+
 -- where the end of contour i stands, and what stands there
 abbrev pub end_place : ℕ → ℕ
 end_place i = 10 + 2 * i
@@ -70,7 +80,7 @@ flags_place bytes contours = size_place contours + 2 + written_size bytes contou
 -- the words of a simple glyph
 pub record AreWords (g : Stretch) (s : SimpleGlyph) : Type 0 where
   pub x_min : s.x_min ≡ written_x_min g.bytes
-  pub contours : length s.ends ≡ unsigned_abs (contour_count g.bytes)
+  pub contours : pos (length s.ends) ≡ contour_count g.bytes
   pub ends : (i : ℕ) → i < length s.ends → slice_index s.ends i ≡ written_end g.bytes i
   pub code_at : s.code_at ≡ g.start + (size_place (length s.ends) + 2)
   pub code_size : length s.code ≡ written_size g.bytes (length s.ends)
@@ -215,6 +225,7 @@ records_end bytes at (r ∷ rs) = records_end bytes (record_end bytes at) rs
 -- the words of a composite glyph; where a record says so, the size of the program stands behind the records, then the
 -- program
 pub record AreCompositeWords (g : Stretch) (c : CompositeGlyph) : Type 0 where
+  pub contours : contour_count g.bytes <ℤ pos 0
   pub x_min : c.x_min ≡ written_x_min g.bytes
   pub follows : has_program c.records ≡ true → (c.code_at ≡ g.start + (records_end g.bytes 10 c.records + 2))
       × (length c.code ≡ unsigned_at g.bytes (records_end g.bytes 10 c.records) 2)

@@ -7,7 +7,7 @@ ghost use Rattle.tt_core.specs.Outcomes.{Gives};
 ghost use Rattle.tt_glyf.specs.Bytes.{stretch_at};
 ghost use Rattle.tt_glyf.specs.GlyphData.{glyph_in, described, glyph_data_of};
 ghost use Rattle.tt_glyf.specs.Loca.{glyph_tables_of, tables_with, with_glyf, glyph_offset, has_no_bytes, bytes_between, glyph_bytes_of, IsLocaDefect, IsRangeDefect, AreTables};
-ghost use Rattle.tt_glyf.specs.Meaning.{IfSimple, IfComposite, stretch_of, flags_place, HasArguments, HasProgram, AreEnds, AreWords, ArePoints, AreComponents, AreRecords, AreCompositeWords};
+ghost use Rattle.tt_glyf.specs.Meaning.{IfEmpty, HasNoOutline, IfSimple, IfComposite, stretch_of, flags_place, HasArguments, HasProgram, AreEnds, AreWords, ArePoints, AreComponents, AreRecords, AreCompositeWords};
 ghost use Rattle.tt_glyf.specs.Raw.{glyph_data};
 ghost use Rattle.tt_core.specs.Outcomes.{FontGives, IfTold, font_fault};
 ghost use Rattle.tt_glyf.specs.Defects.{IsGlyphDefect};
@@ -116,14 +116,21 @@ impl<'a> Glyf<'a> {
         // On Ok nothing is wrong with the glyph, and a fault tells what is.
         ensures sound { OnOk result (HasNo (IsGlyphDefect self.now g)) }
         ensures fault { IfTold font_fault result (IsGlyphDefect self.now g) }
+        // Without an outline it has no bytes or no contours.
+        ensures empty { IfOk result (λ r. IfEmpty (glyph_data r) (HasNoOutline self.now g)) }
+        // A simple glyph: the words at their places, the contours' ends, and points whose flags are those of
+        // their runs and whose coordinates are the sums of all deltas up to them.
+        ensures words { IfOk result (λ r. IfSimple (glyph_data r) (AreWords (stretch_of self.now g))) }
         ensures few { IfOk result (λ r. IfSimple (glyph_data r) (λ s. length s.points ≤ point_limit)) }
         ensures ends { IfOk result (λ r. IfSimple (glyph_data r) (λ s. AreEnds (length s.points) s.ends)) }
         ensures sums { IfOk result (λ r. IfSimple (glyph_data r) (λ s. ArePoints (bytes_between self.now g) (flags_place (bytes_between self.now g) (length s.ends)) s.points)) }
+        // A composite glyph: the words at their places, and the records as they are written, each of a glyph
+        // of the font, with arguments in their ranges.
+        ensures composite_words { IfOk result (λ r. IfComposite (glyph_data r) (AreCompositeWords (stretch_of self.now g))) }
         ensures components { IfOk result (λ r. IfComposite (glyph_data r) (λ c. AreComponents (stretch_of self.now g) 10 c.records)) }
         ensures records { IfOk result (λ r. IfComposite (glyph_data r) (λ c. AreRecords self.now.glyphs c.records)) }
-        ensures words { IfOk result (λ r. IfSimple (glyph_data r) (AreWords (stretch_of self.now g))) }
-        ensures composite_words { IfOk result (λ r. IfComposite (glyph_data r) (AreCompositeWords (stretch_of self.now g))) }
         ensures arguments { IfOk result (λ r. IfComposite (glyph_data r) (λ c. All HasArguments c.records)) }
+        // The program is the bytes of glyf at its offset.
         ensures program { IfOk result (λ r. HasProgram self.now.glyf (glyph_data r)) }
         ensures limit { length self.now.glyf ≤ font_limit }
     {

@@ -4,7 +4,7 @@ use Rattle.tt_core.specs.Limits.{point_limit}
 use Rattle.tt_glyf.specs.Defects.{IsGlyphDefect}
 use Rattle.tt_glyf.specs.GlyphData.{glyph_data_of}
 use Rattle.tt_glyf.specs.Loca.{bytes_between}
-use Rattle.tt_glyf.specs.Meaning.{IfSimple, IfComposite, stretch_of, flags_place, HasProgram, AreEnds, AreWords, ArePoints, AreComponents, AreRecords, AreCompositeWords}
+use Rattle.tt_glyf.specs.Meaning.{IfEmpty, HasNoOutline, IfSimple, IfComposite, stretch_of, flags_place, HasProgram, AreEnds, AreWords, ArePoints, AreComponents, AreRecords, AreCompositeWords}
 use Rattle.tt_glyf.proofs.Defects.{glyph-broke, glyph-whole}
 use Rattle.tt_glyf.proofs.Glyphs.{glyph-is}
 use Rattle.tt_glyf.proofs.Reading.{if-read, on-read, if-broke}
@@ -71,3 +71,8 @@ returns-clause-fault c =
 
 pub returns-clause-exact : goal.returns-clause-exact
 returns-clause-exact c = c.read_whole.ensures.exact
+
+pub returns-clause-empty : goal.returns-clause-empty
+returns-clause-empty c =
+    if-read c.read_whole.result (glyph_data_of c.args.self.now c.args.g) (λ d. IfEmpty d (HasNoOutline c.args.self.now c.args.g))
+        c.read_whole.ensures.exact (λ d was. (glyph-is c.args.self.now c.args.g d was).nothing)
