@@ -7,7 +7,8 @@ use Rattle.tt_arc.specs.declared.dot.Dot.{Dot}
 use Rattle.tt_fit.specs.Outline.{AreEnds}
 use Rattle.tt_arc.specs.Chords.{contour_edges, contour_start, contour_at}
 
-slice_of_map : {X : Type 0} (f : X → Dot) (ps : List X) (a b : ℕ) → slice_range (map f ps) a b ≡ map f (slice_range ps a b)
+slice_of_map : {X : Type 0} (f : X → Dot) (ps : List X) (a b : ℕ) → slice_range (map f ps) a b
+    ≡ map f (slice_range ps a b)
 slice_of_map f ps a b = rw (drop-map f a ps, take-map f (b - a) (drop a ps)) refl
 
 pub all_of_slice : {X : Type 0} (P : X → Type 0) (ps : List X) (a b : ℕ) → All P ps → All P (slice_range ps a b)
@@ -23,12 +24,15 @@ edges_from ps ends c = flat_map (λ c. contour_edges (contour_at ps ends c)) (ra
 pub none_left : (ps : List Dot) (ends : List ℕ) → edges_from ps ends (length ends) ≡ []
 none_left ps ends = let none : length ends - length ends ≡ 0 = omega arith in rw none refl
 
-pub one_contour_more : {X : Type 0} (f : X → Dot) (ps : List X) (ends : List ℕ) (out new : List Edge) (from i to : ℕ) → i < length ends → from ≡ contour_start ends i → to ≡ slice_index ends i → new ≡ out ++ contour_edges (map f (slice_range ps from to)) → new ++ edges_from (map f ps) ends (i + 1) ≡ out ++ edges_from (map f ps) ends i
+pub one_contour_more : {X : Type 0} (f : X → Dot) (ps : List X) (ends : List ℕ) (out new : List Edge) (from i to : ℕ)
+    → i < length ends → from ≡ contour_start ends i → to ≡ slice_index ends i → new ≡ out ++ contour_edges
+    (map f (slice_range ps from to)) → new ++ edges_from (map f ps) ends (i + 1) ≡ out ++ edges_from (map f ps) ends i
 one_contour_more f ps ends out new from i to below is_from is_to is_new =
     let more : length ends - i ≡ suc (length ends - (i + 1)) = omega arith in
     rw (is_new, more, is_from, is_to, slice_of_map f ps (contour_start ends i) (slice_index ends i), append_assoc) refl
 
 -- a contour begins no later than it ends
-pub start_within : (n : ℕ) (ends : List ℕ) → AreEnds n ends → (c : ℕ) → c < length ends → contour_start ends c ≤ slice_index ends c
+pub start_within : (n : ℕ) (ends : List ℕ) → AreEnds n ends → (c : ℕ) → c < length ends
+    → contour_start ends c ≤ slice_index ends c
 start_within n ends are zero below = omega arith
 start_within n ends are (suc c) below = are.rising c (suc c) (omega arith) below

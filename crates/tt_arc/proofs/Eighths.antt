@@ -22,7 +22,8 @@ by_eighths P a b c d e f g h i (suc (suc (suc (suc (suc (suc (suc (suc (suc k)))
 pub middle_weight : (k : ℕ) → k ≤ 8 → 4 * k * (8 - k) ≤ 64
 middle_weight k le =
     let P : ℕ → Type 0 = λ k. 4 * k * (8 - k) ≤ 64 in
-    by_eighths P (omega arith) (omega arith) (omega arith) (omega arith) (omega arith) (omega arith) (omega arith) (omega arith) (omega arith) k le
+    by_eighths P (omega arith) (omega arith) (omega arith) (omega arith) (omega arith) (omega arith) (omega arith)
+    (omega arith) (omega arith) k le
 
 pub eighth_within : (k : ℕ) (b : Bend) → BendFits b → k ≤ 8 → unsigned_abs (eighth k b) < 2 ^ 30
 eighth_within k b fits le =
@@ -30,9 +31,12 @@ eighth_within k b fits le =
     let q = fits.q in
     let p = fits.p in
     let r = fits.r in
-    by_eighths P (omega (arith, ints)) (omega (arith, ints)) (omega (arith, ints)) (omega (arith, ints)) (omega (arith, ints)) (omega (arith, ints)) (omega (arith, ints)) (omega (arith, ints)) (omega (arith, ints)) k le
+    by_eighths P (omega (arith, ints)) (omega (arith, ints)) (omega (arith, ints)) (omega (arith, ints))
+    (omega (arith, ints)) (omega (arith, ints)) (omega (arith, ints)) (omega (arith, ints))
+    (omega (arith, ints)) k le
 
-pub one_chord_more : (c : Curve) (k : ℕ) → first_chords c (k + 1) ≡ first_chords c k ++ edge_between (chord_end c k) (chord_end c (k + 1)) ∷ []
+pub one_chord_more : (c : Curve) (k : ℕ) → first_chords c (k + 1) ≡ first_chords c k ++ edge_between (chord_end c k)
+    (chord_end c (k + 1)) ∷ []
 unfolding first_chords
 one_chord_more c k = rw add-one refl
 

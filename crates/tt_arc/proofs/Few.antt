@@ -13,7 +13,8 @@ eight_chords : (c : Curve) → length (first_chords c 8) ≡ 8
 unfolding first_chords
 eight_chords c = refl
 
-one_of : (on next : Bool) (line : Edge) (chords : List Edge) → length chords ≡ 8 → length (if on then (if next then line ∷ [] else []) else chords) ≤ 8
+one_of : (on next : Bool) (line : Edge) (chords : List Edge) → length chords ≡ 8
+    → length (if on then (if next then line ∷ [] else []) else chords) ≤ 8
 one_of true true line chords eight = omega arith
 one_of true false line chords eight = omega arith
 one_of false next line chords eight = omega (arith, eight)
@@ -37,7 +38,9 @@ if_any false es n few = omega arith
 few_in_contour : (ps : List Dot) → length (contour_edges ps) ≤ 8 * length ps
 few_in_contour ps = if_any (nat_lt 1 (length ps)) _ (8 * length ps) (few_points ps 0 (length ps))
 
-few_in_contours : (n : ℕ) (ends : List ℕ) (ps : List Dot) → AreEnds n ends → (c m : ℕ) → c + m ≡ length ends → length (flat_map (λ c. contour_edges (contour_at ps ends c)) (range_with_len c m)) ≤ 8 * (n - contour_start ends c)
+few_in_contours : (n : ℕ) (ends : List ℕ) (ps : List Dot) → AreEnds n ends → (c m : ℕ) → c + m ≡ length ends
+    → length (flat_map (λ c. contour_edges (contour_at ps ends c)) (range_with_len c m)) ≤ 8 *
+    (n - contour_start ends c)
 few_in_contours n ends ps are c zero all = omega arith
 few_in_contours n ends ps are c (suc m) all =
     let start = contour_start ends c in
@@ -48,10 +51,12 @@ few_in_contours n ends ps are c (suc m) all =
     let short = length-take (end - start) (drop start ps) in
     let next : contour_start ends (c + 1) ≡ end = rw add-one refl in
     let others = rw next at (few_in_contours n ends ps are (c + 1) m (omega arith)) in
-    let both = length-append (contour_edges (contour_at ps ends c)) (flat_map (λ c. contour_edges (contour_at ps ends c)) (range_with_len (c + 1) m)) in
+    let both = length-append (contour_edges (contour_at ps ends c))
+    (flat_map (λ c. contour_edges (contour_at ps ends c)) (range_with_len (c + 1) m)) in
     omega arith
 
-pub few_edges : (points : List (ℤ × ℤ × Bool)) (ends : List ℕ) (dx dy : ℤ) → AreEnds (length points) ends → length (chord_edges points ends dx dy) ≤ 8 * length points
+pub few_edges : (points : List (ℤ × ℤ × Bool)) (ends : List ℕ) (dx dy : ℤ) → AreEnds (length points) ends
+    → length (chord_edges points ends dx dy) ≤ 8 * length points
 few_edges points ends dx dy are =
     let few = few_in_contours (length points) ends (map (moved dx dy) points) are 0 (length ends) (omega arith) in
     omega arith

@@ -16,7 +16,8 @@ as_any : (es : List Edge) (x y : ℤ) → lies_on_one es x y ≡ list_any (λ e.
 as_any [] x y = refl
 as_any (e ∷ es) x y = ap (λ b. lies_on e x y || b) (as_any es x y)
 
-any_piece : {X A : Type 0} (p : A → Bool) (f : X → List A) (xs : List X) → list_any p (flat_map f xs) ≡ list_any (λ x. list_any p (f x)) xs
+any_piece : {X A : Type 0} (p : A → Bool) (f : X → List A) (xs : List X) → list_any p (flat_map f xs)
+    ≡ list_any (λ x. list_any p (f x)) xs
 any_piece p f [] = refl
 any_piece p f (x ∷ xs) = list_any-append p (f x) (flat_map f xs) ∙ ap (λ b. list_any p (f x) || b) (any_piece p f xs)
 
@@ -35,39 +36,47 @@ there_is q n i below is =
     let at : get_or (range_with_len 0 n) i 0 ≡ i = get_or-range_with_len 0 n i 0 below ∙ omega arith in
     list_any_at q (range_with_len 0 n) i 0 (omega (arith, many)) (rw at is)
 
-found_in_contour : (p : Edge → Bool) (ps : List Dot) → list_any p (contour_edges ps) ≡ true → (i : ℕ) × (1 < length ps) × (i < length ps) × (list_any p (edges_at ps i) ≡ true)
+found_in_contour : (p : Edge → Bool) (ps : List Dot) → list_any p (contour_edges ps) ≡ true → (i : ℕ) × (1 < length ps)
+    × (i < length ps) × (list_any p (edges_at ps i) ≡ true)
 found_in_contour p ps some = elim (cases_lt 1 (length ps)) [
   | inl two ↦
       let all = ap (list_any p) (of_two ps two) in
-      let there = found (λ i. list_any p (edges_at ps i)) (length ps) (sym (any_piece p (edges_at ps) (range_with_len 0 (length ps))) ∙ sym all ∙ some) in
+      let there = found (λ i. list_any p (edges_at ps i)) (length ps)
+      (sym (any_piece p (edges_at ps) (range_with_len 0 (length ps))) ∙ sym all ∙ some) in
       (there.0, two, there.1, there.2)
   | inr few ↦
       let none : list_any p (contour_edges ps) ≡ false = ap (list_any p) (of_fewer ps (omega arith)) in
       absurd (cc)
 ]
 
-there_is_in_contour : (p : Edge → Bool) (ps : List Dot) (i : ℕ) → 1 < length ps → i < length ps → list_any p (edges_at ps i) ≡ true → list_any p (contour_edges ps) ≡ true
+there_is_in_contour : (p : Edge → Bool) (ps : List Dot) (i : ℕ) → 1 < length ps → i < length ps
+    → list_any p (edges_at ps i) ≡ true → list_any p (contour_edges ps) ≡ true
 there_is_in_contour p ps i two below on =
-    ap (list_any p) (of_two ps two) ∙ any_piece p (edges_at ps) (range_with_len 0 (length ps)) ∙ there_is (λ i. list_any p (edges_at ps i)) (length ps) i below on
+    ap (list_any p) (of_two ps two) ∙ any_piece p (edges_at ps) (range_with_len 0 (length ps))
+    ∙ there_is (λ i. list_any p (edges_at ps i)) (length ps) i below on
 
-on_some_point : (points : List (ℤ × ℤ × Bool)) (ends : List ℕ) (dx dy x y : ℤ) → lies_on_one (chord_edges points ends dx dy) x y ≡ true → LiesOnOutline points ends dx dy x y
+on_some_point : (points : List (ℤ × ℤ × Bool)) (ends : List ℕ) (dx dy x y : ℤ)
+    → lies_on_one (chord_edges points ends dx dy) x y ≡ true → LiesOnOutline points ends dx dy x y
 on_some_point points ends dx dy x y on =
     let ps = map (moved dx dy) points in
     let p : Edge → Bool = λ e. lies_on e x y in
     let of : ℕ → List Edge = λ c. contour_edges (contour_at ps ends c) in
-    let some = sym (any_piece p of (range_with_len 0 (length ends))) ∙ sym (as_any (chord_edges points ends dx dy) x y) ∙ on in
+    let some = sym (any_piece p of (range_with_len 0 (length ends))) ∙ sym (as_any (chord_edges points ends dx dy) x y)
+    ∙ on in
     let contour = found (λ c. list_any p (of c)) (length ends) some in
     let point = found_in_contour p (contour_at ps ends contour.0) contour.2 in
     (contour.0, point.0, record { contour = contour.1; two = point.1; point = point.2; on = Any-from_list_any p (edges_at (contour_at ps ends contour.0) point.0) point.3 })
 
-of_some_point : (points : List (ℤ × ℤ × Bool)) (ends : List ℕ) (dx dy x y : ℤ) → LiesOnOutline points ends dx dy x y → lies_on_one (chord_edges points ends dx dy) x y ≡ true
+of_some_point : (points : List (ℤ × ℤ × Bool)) (ends : List ℕ) (dx dy x y : ℤ) → LiesOnOutline points ends dx dy x y
+    → lies_on_one (chord_edges points ends dx dy) x y ≡ true
 of_some_point points ends dx dy x y at =
     let ps = map (moved dx dy) points in
     let p : Edge → Bool = λ e. lies_on e x y in
     let of : ℕ → List Edge = λ c. contour_edges (contour_at ps ends c) in
     let here = list_any-from_Any p (edges_at (contour_at ps ends at.0) at.1) at.2.on in
     let in_contour = there_is_in_contour p (contour_at ps ends at.0) at.1 at.2.two at.2.point here in
-    as_any (chord_edges points ends dx dy) x y ∙ any_piece p of (range_with_len 0 (length ends)) ∙ there_is (λ c. list_any p (of c)) (length ends) at.0 at.2.contour in_contour
+    as_any (chord_edges points ends dx dy) x y ∙ any_piece p of (range_with_len 0 (length ends))
+    ∙ there_is (λ c. list_any p (of c)) (length ends) at.0 at.2.contour in_contour
 
 -- a place lies on an outline where it lies on an edge of a single point
 pub lies_on_outline : OnByPoints

@@ -19,15 +19,19 @@ over y v = if int_lt y v then pos 1 else pos 0
 
 -- what an edge adds from the left less what it adds from the right, by its side s
 abbrev from_left : ℤ → ℤ → ℤ → ℤ → ℤ
-from_left s ay by y = if int_le ay y && int_lt y by && int_lt s (pos 0) then pos 1 else (if int_le by y && int_lt y ay && int_lt (pos 0) s then negsuc 0 else pos 0)
+from_left s ay by y = if int_le ay y && int_lt y by && int_lt s (pos 0) then pos 1 else
+    (if int_le by y && int_lt y ay && int_lt (pos 0) s then negsuc 0 else pos 0)
 
 abbrev from_right : ℤ → ℤ → ℤ → ℤ → ℤ
-from_right s ay by y = if int_le ay y && int_lt y by && int_lt (pos 0) s then negsuc 0 else (if int_le by y && int_lt y ay && int_lt s (pos 0) then pos 1 else pos 0)
+from_right s ay by y = if int_le ay y && int_lt y by && int_lt (pos 0) s then negsuc 0 else
+    (if int_le by y && int_lt y ay && int_lt s (pos 0) then pos 1 else pos 0)
 
-rising : (s ay by y : ℤ) → ay ≤ℤ y → y <ℤ by → is_zero s ≡ false → from_left s ay by y -ℤ from_right s ay by y ≡ over y by -ℤ over y ay
+rising : (s ay by y : ℤ) → ay ≤ℤ y → y <ℤ by → is_zero s ≡ false → from_left s ay by y -ℤ from_right s ay by y
+    ≡ over y by -ℤ over y ay
 rising s ay by y low high off = grind (arith, ints)
 
-falling : (s ay by y : ℤ) → by ≤ℤ y → y <ℤ ay → is_zero s ≡ false → from_left s ay by y -ℤ from_right s ay by y ≡ over y by -ℤ over y ay
+falling : (s ay by y : ℤ) → by ≤ℤ y → y <ℤ ay → is_zero s ≡ false → from_left s ay by y -ℤ from_right s ay by y
+    ≡ over y by -ℤ over y ay
 falling s ay by y low high off = grind (arith, ints)
 
 above : (s ay by y : ℤ) → y <ℤ ay → y <ℤ by → from_left s ay by y -ℤ from_right s ay by y ≡ over y by -ℤ over y ay
@@ -37,13 +41,15 @@ below : (s ay by y : ℤ) → ay ≤ℤ y → by ≤ℤ y → from_left s ay by 
 below s ay by y a b = grind (arith, ints)
 
 -- what both sides differ by, where no place on the edge can be at its height
-between_sides : (s ay by y : ℤ) → (ay ≤ℤ y → y <ℤ by → is_zero s ≡ false) → (by ≤ℤ y → y <ℤ ay → is_zero s ≡ false) → from_left s ay by y -ℤ from_right s ay by y ≡ over y by -ℤ over y ay
+between_sides : (s ay by y : ℤ) → (ay ≤ℤ y → y <ℤ by → is_zero s ≡ false) → (by ≤ℤ y → y <ℤ ay → is_zero s ≡ false)
+    → from_left s ay by y -ℤ from_right s ay by y ≡ over y by -ℤ over y ay
 between_sides s ay by y up down =
     by_lt_z y ay
     (λ a. by_lt_z y by (λ b. above s ay by y a b) (λ b. falling s ay by y b a (down b a)))
     (λ a. by_lt_z y by (λ b. rising s ay by y a b (up a b)) (λ b. below s ay by y a b))
 
-off_side : (zero x_within y_within : Bool) → (zero ≡ true → x_within ≡ true) → y_within ≡ true → (zero && x_within && y_within) ≡ false → zero ≡ false
+off_side : (zero x_within y_within : Bool) → (zero ≡ true → x_within ≡ true) → y_within ≡ true
+    → (zero && x_within && y_within) ≡ false → zero ≡ false
 off_side false x_within y_within on high off = refl
 off_side true x_within y_within on high off = let within = on refl in absurd (grind arith)
 
@@ -55,7 +61,8 @@ rises_off e x y off low high =
     let rises : e.ay <ℤ e.by = omega (arith, ints) in
     let most : y ≤ℤ e.by = omega (arith, ints) in
     let within : is_between e.ay e.by y ≡ true = grind (arith, ints) in
-    off_side (is_zero (side e x y)) (is_between e.ax e.bx x) (is_between e.ay e.by y) (on_rising e x y rises low most) within off
+    off_side (is_zero (side e x y)) (is_between e.ax e.bx x) (is_between e.ay e.by y)
+    (on_rising e x y rises low most) within off
 
 reversed : Edge → Edge
 reversed e = record { ax = e.bx; ay = e.by; bx = e.ax; by = e.ay }
@@ -68,10 +75,12 @@ falls_off e x y off low high =
     let most : y ≤ℤ e.ay = omega (arith, ints) in
     let within : is_between e.ay e.by y ≡ true = grind (arith, ints) in
     let other : side u x y ≡ neg_ℤ (side e x y) = side_reversed e u x y refl refl refl refl in
-    let on : is_zero (side e x y) ≡ true → is_between e.ax e.bx x ≡ true = λ level. between_turned e.ax e.bx x ∙ on_rising u x y rises low most (rw other (zero_negated (side e x y) level)) in
+    let on : is_zero (side e x y) ≡ true → is_between e.ax e.bx x ≡ true = λ level. between_turned e.ax e.bx x
+    ∙ on_rising u x y rises low most (rw other (zero_negated (side e x y) level)) in
     off_side (is_zero (side e x y)) (is_between e.ax e.bx x) (is_between e.ay e.by y) on within off
 
-one_edge : (e : Edge) (x y : ℤ) → lies_on e x y ≡ false → turned e x y -ℤ turned_right e x y ≡ over y e.by -ℤ over y e.ay
+one_edge : (e : Edge) (x y : ℤ) → lies_on e x y ≡ false → turned e x y -ℤ turned_right e x y
+    ≡ over y e.by -ℤ over y e.ay
 one_edge e x y off = between_sides (side e x y) e.ay e.by y (rises_off e x y off) (falls_off e x y off)
 
 -- how often edges come above y, less how often they come below it
@@ -92,7 +101,8 @@ turns-append : (y : ℤ) (es fs : List Edge) → turns y (es ++ fs) ≡ turns y 
 turns-append y [] fs = omega (arith, ints)
 turns-append y (e ∷ es) fs = let more = turns-append y es fs in omega (arith, ints, more)
 
-of_chords : (y : ℤ) (c : Curve) (n : ℕ) → turns y (first_chords c n) ≡ over y (chord_end c n).y -ℤ over y (chord_end c 0).y
+of_chords : (y : ℤ) (c : Curve) (n : ℕ) → turns y (first_chords c n) ≡ over y (chord_end c n).y -ℤ over y
+    (chord_end c 0).y
 unfolding first_chords
 of_chords y c zero = omega (arith, ints)
 of_chords y c (suc k) =
@@ -123,7 +133,8 @@ joint_off : (n p : Dot) → n.on ≡ false → (joint_of n p).y ≡ n.y +ℤ p.y
 joint_off n p off = rw off refl
 
 -- a curve ends where the next point's edges begin
-curve_end : (p after : Dot) (next : Bool) → p.on ≡ false → after.on ≡ next → pos 64 *ℤ (joint_of after p).y ≡ height p after
+curve_end : (p after : Dot) (next : Bool) → p.on ≡ false → after.on ≡ next → pos 64 *ℤ (joint_of after p).y
+    ≡ height p after
 curve_end p after true off on =
     let here = joint_on after p on in
     let there = height_on p after on in
@@ -134,7 +145,8 @@ curve_end p after false off on =
     let other = joint_off p after off in
     omega (arith, ints, here, there, other)
 
-straight : (before p after : Dot) → p.on ≡ true → after.on ≡ true → edges_of before p after ≡ edge_between (spot_of p) (spot_of after) ∷ []
+straight : (before p after : Dot) → p.on ≡ true → after.on ≡ true → edges_of before p after ≡ edge_between (spot_of p)
+    (spot_of after) ∷ []
 unfolding edges_of
 straight before p after on next = rw (on, next) refl
 
@@ -146,7 +158,8 @@ curved : (before p after : Dot) → p.on ≡ false → edges_of before p after �
 unfolding edges_of
 curved before p after off = rw off refl
 
-between : (y a b c d : ℤ) (es fs : List Edge) → es ≡ fs → turns y fs ≡ over y c -ℤ over y d → c ≡ a → d ≡ b → turns y es ≡ over y a -ℤ over y b
+between : (y a b c d : ℤ) (es fs : List Edge) → es ≡ fs → turns y fs ≡ over y c -ℤ over y d → c ≡ a → d ≡ b → turns y es
+    ≡ over y a -ℤ over y b
 between y a b c d es fs same turn is_a is_b = rw (same, ← is_a, ← is_b) turn
 
 one_turn : (y a b : ℤ) → (over y a -ℤ over y b) +ℤ pos 0 ≡ over y a -ℤ over y b
@@ -155,25 +168,33 @@ one_turn y a b = omega (arith, ints)
 no_turn : (y a : ℤ) → pos 0 ≡ over y a -ℤ over y a
 no_turn y a = omega (arith, ints)
 
-of_point_by : (y : ℤ) (before p after : Dot) (on next : Bool) → p.on ≡ on → after.on ≡ next → turns y (edges_of before p after) ≡ over y (height p after) -ℤ over y (height before p)
+of_point_by : (y : ℤ) (before p after : Dot) (on next : Bool) → p.on ≡ on → after.on ≡ next
+    → turns y (edges_of before p after) ≡ over y (height p after) -ℤ over y (height before p)
 of_point_by y before p after true true is_on is_next =
-    between y (height p after) (height before p) (pos 128 *ℤ after.y) (pos 128 *ℤ p.y) (edges_of before p after) (edge_between (spot_of p) (spot_of after) ∷ []) (straight before p after is_on is_next) (one_turn y (pos 128 *ℤ after.y) (pos 128 *ℤ p.y)) (sym (height_on p after is_next)) (sym (height_on before p is_on))
+    between y (height p after) (height before p) (pos 128 *ℤ after.y) (pos 128 *ℤ p.y) (edges_of before p after)
+    (edge_between (spot_of p) (spot_of after) ∷ []) (straight before p after is_on is_next)
+    (one_turn y (pos 128 *ℤ after.y) (pos 128 *ℤ p.y)) (sym (height_on p after is_next))
+    (sym (height_on before p is_on))
 of_point_by y before p after true false is_on is_next =
     let here = height_on before p is_on in
     let there = height_off p after is_next in
     let joint = joint_on p after is_on in
     let same : height before p ≡ height p after = omega (arith, ints, here, there, joint) in
-    between y (height p after) (height before p) (height before p) (height before p) (edges_of before p after) [] (no_edge before p after is_on is_next) (no_turn y (height before p)) same refl
+    between y (height p after) (height before p) (height before p) (height before p) (edges_of before p after) []
+    (no_edge before p after is_on is_next) (no_turn y (height before p)) same refl
 of_point_by y before p after false next is_on is_next =
     let c = curve_of before p after in
     let last = last_eighth (along_y c) ∙ curve_end p after next is_on is_next in
     let first = first_eighth (along_y c) ∙ sym (height_off before p is_on) in
-    between y (height p after) (height before p) (chord_end c 8).y (chord_end c 0).y (edges_of before p after) (first_chords c 8) (curved before p after is_on) (of_chords y c 8) last first
+    between y (height p after) (height before p) (chord_end c 8).y (chord_end c 0).y (edges_of before p after)
+    (first_chords c 8) (curved before p after is_on) (of_chords y c 8) last first
 
-of_point : (y : ℤ) (before p after : Dot) → turns y (edges_of before p after) ≡ over y (height p after) -ℤ over y (height before p)
+of_point : (y : ℤ) (before p after : Dot) → turns y (edges_of before p after) ≡ over y (height p after) -ℤ over y
+    (height before p)
 of_point y before p after = of_point_by y before p after p.on after.on refl refl
 
-along : (y : ℤ) (before p : Dot) (ps : List Dot) (behind : Dot) → turns y (edges_along before p ps behind) ≡ over y (height (last_of p ps) behind) -ℤ over y (height before p)
+along : (y : ℤ) (before p : Dot) (ps : List Dot) (behind : Dot) → turns y (edges_along before p ps behind)
+    ≡ over y (height (last_of p ps) behind) -ℤ over y (height before p)
 along y before p [] behind = of_point y before p behind
 along y before p (q ∷ ps) behind =
     let one = of_point y before p q in

@@ -11,7 +11,10 @@ use Rattle.tt_arc.specs.declared.dot.Dot.{Dot}
 use Rattle.tt_arc.specs.Chords.{chord_end, edge_between, first_chords, edges_of, dot_at, place_before, place_after, edges_at, contour_edges}
 use Rattle.tt_arc.proofs.Eighths.{one_chord_more}
 
-pub one_chord_pushed : (t u v : Edges) (c : Curve) (k : ℕ) (from to : Spot) (e : Edge) → u ≡ record t { edges = t.edges ++ first_chords c k } → from ≡ chord_end c k → to ≡ chord_end c (k + 1) → e ≡ edge_between from to → v ≡ record u { edges = u.edges ++ e ∷ [] } → v ≡ record t { edges = t.edges ++ first_chords c (k + 1) }
+pub one_chord_pushed : (t u v : Edges) (c : Curve) (k : ℕ) (from to : Spot) (e : Edge) → u
+    ≡ record t { edges = t.edges ++ first_chords c k } → from ≡ chord_end c k → to ≡ chord_end c (k + 1) → e
+    ≡ edge_between from to → v ≡ record u { edges = u.edges ++ e ∷ [] } → v
+    ≡ record t { edges = t.edges ++ first_chords c (k + 1) }
 one_chord_pushed t u v c k from to e before is_from is_to is_e after =
     rw (after, before, is_e, is_from, is_to, one_chord_more c k, append_assoc) refl
 
@@ -28,7 +31,8 @@ last_of p (q ∷ ps) = last_of q ps
 abbrev nowhere : Dot
 nowhere = record { x = pos 0; y = pos 0; on = false }
 
-last_is : {X : Type 0} (f : X → Dot) (p : X) (ps : List X) (d : X) → last_of (f p) (map f ps) ≡ f (get_or (p ∷ ps) (length ps) d)
+last_is : {X : Type 0} (f : X → Dot) (p : X) (ps : List X) (d : X) → last_of (f p) (map f ps)
+    ≡ f (get_or (p ∷ ps) (length ps) d)
 last_is f p [] d = refl
 last_is f p (q ∷ ps) d = last_is f q ps d
 
@@ -53,11 +57,13 @@ after_last n i is = grind (arith, is)
 after_inner : (n i : ℕ) → i + 1 < n → place_after n i ≡ i + 1
 after_inner n i below = grind (arith, below)
 
-one_point : (ps : List Dot) (k : ℕ) (before p after : Dot) → before ≡ dot_at ps (place_before (length ps) k) → p ≡ dot_at ps k → after ≡ dot_at ps (place_after (length ps) k) → edges_at ps k ≡ edges_of before p after
+one_point : (ps : List Dot) (k : ℕ) (before p after : Dot) → before ≡ dot_at ps (place_before (length ps) k) → p
+    ≡ dot_at ps k → after ≡ dot_at ps (place_after (length ps) k) → edges_at ps k ≡ edges_of before p after
 one_point ps k before p after is_before is_p is_after = rw (is_before, is_p, is_after) refl
 
 -- the points from a number on, each with its neighbours, as the code walks them
-along_is : (all : List Dot) (k : ℕ) (before p : Dot) (ps : List Dot) (first : Dot) → before ≡ dot_at all (place_before (length all) k) → first ≡ dot_at all 0 → drop k all ≡ p ∷ ps
+along_is : (all : List Dot) (k : ℕ) (before p : Dot) (ps : List Dot) (first : Dot) → before
+    ≡ dot_at all (place_before (length all) k) → first ≡ dot_at all 0 → drop k all ≡ p ∷ ps
     → edges_along before p ps first ≡ flat_map (edges_at all) (range_with_len k (length (p ∷ ps)))
 along_is all k before p [] first is_before is_first from =
     let many : length (drop k all) ≡ 1 = rw from refl in
@@ -99,7 +105,9 @@ contour_whole p q ps =
     along_is (p ∷ q ∷ ps) 0 (last_of q ps) p (q ∷ ps) p last refl refl ∙ sym (of_two (p ∷ q ∷ ps) (omega arith))
 
 -- a contour of two points or more, as the code walks it
-pub contour_is : {X : Type 0} (f : X → Dot) (ps : List X) (d : X) (first before : Dot) → 2 ≤ length ps → first ≡ f (get_or ps 0 d) → before ≡ f (get_or ps (length ps - 1) d) → edges_along before first (map f (rest ps)) first ≡ contour_edges (map f ps)
+pub contour_is : {X : Type 0} (f : X → Dot) (ps : List X) (d : X) (first before : Dot) → 2 ≤ length ps → first
+    ≡ f (get_or ps 0 d) → before ≡ f (get_or ps (length ps - 1) d) → edges_along before first (map f (rest ps)) first
+    ≡ contour_edges (map f ps)
 contour_is f [] d first before two is_first is_before = absurd (omega arith)
 contour_is f (p ∷ []) d first before two is_first is_before = absurd (omega arith)
 contour_is f (p ∷ q ∷ ps) d first before two is_first is_before =
@@ -108,6 +116,9 @@ contour_is f (p ∷ q ∷ ps) d first before two is_first is_before =
     rw (rest_is p (q ∷ ps), is_first, at_last, ← last_is f q ps d) (contour_whole (f p) (f q) (map f ps))
 
 -- one point of a contour done
-pub one_point_more : {X : Type 0} (f : X → Dot) (out new : List Edge) (xs : List X) (i : ℕ) (d : X) (before p after behind : Dot) → i < length xs → after ≡ f (get_or xs i d) → new ≡ out ++ edges_of before p after → new ++ edges_along p after (map f (drop (i + 1) xs)) behind ≡ out ++ edges_along before p (map f (drop i xs)) behind
+pub one_point_more : {X : Type 0} (f : X → Dot) (out new : List Edge) (xs : List X) (i : ℕ) (d : X)
+    (before p after behind : Dot) → i < length xs → after ≡ f (get_or xs i d) → new ≡ out ++ edges_of before p after
+    → new ++ edges_along p after (map f (drop (i + 1) xs)) behind ≡ out ++ edges_along before p
+    (map f (drop i xs)) behind
 one_point_more f out new xs i d before p after behind below is_after is_new =
     rw (is_new, is_after, append_assoc, add-one, drop-cons xs i d below) refl

@@ -1,6 +1,9 @@
--- Apple TrueType Reference Manual, "Digitizing Letterform Designs": a contour is closed and runs from point to point, by
--- straight lines where two points are on the curve, by quadratic curves where a point is off it; midway between two points
--- off the curve a point on it is implied. That a curve is cut into eight chords is profile. Points are in 26.6, edges in
+-- Apple TrueType Reference Manual, "Digitizing Letterform Designs": a contour is closed and runs from point to point,
+-- by
+-- straight lines where two points are on the curve, by quadratic curves where a point is off it; midway between two
+-- points
+-- off the curve a point on it is implied. That a curve is cut into eight chords is profile. Points are in 26.6, edges
+-- in
 -- 1/8192 pixel.
 use Rattle.std.specs.Prelude.{◌≡◌, ℕ, zero, suc, ◌+◌, ◌-◌, ◌*◌, ◌^◌, ◌<◌, ◌≤◌, Bool, true, false, nat_lt, if◌then◌else◌, ℤ, pos, ◌+ℤ◌, ◌*ℤ◌, unsigned_abs, List, [], ◌∷◌, ◌++◌, length, map, take, get_or, refl}
 use Rattle.std.specs.List.{slice_index, slice_range, flat_map, range_with_len}
@@ -23,7 +26,8 @@ spot_of p = record { x = pos 128 *ℤ p.x; y = pos 128 *ℤ p.y }
 abbrev pub edge_between : Spot → Spot → Edge
 edge_between a b = record { ax = a.x; ay = a.y; bx = b.x; by = b.y }
 
--- twice the end that the curve of a point p off the curve has towards a neighbour n: twice n, or where n is off too twice
+-- twice the end that the curve of a point p off the curve has towards a neighbour n: twice n, or where n is off too
+-- twice
 -- the point midway
 abbrev pub joint_of : Dot → Dot → Joint
 joint_of n p = if n.on then record { x = pos 2 *ℤ n.x; y = pos 2 *ℤ n.y } else record { x = n.x +ℤ p.x; y = n.y +ℤ p.y }
@@ -32,7 +36,8 @@ joint_of n p = if n.on then record { x = pos 2 *ℤ n.x; y = pos 2 *ℤ n.y } el
 abbrev pub curve_of : Dot → Dot → Dot → Curve
 curve_of before p after = record { from = joint_of before p; control = p; to = joint_of after p }
 
--- one coordinate of a curve, k eighths along it: 64 times (1 - t) (1 - t) q + 2 t (1 - t) 2 p + t t r at t = k / 8, where q
+-- one coordinate of a curve, k eighths along it: 64 times (1 - t) (1 - t) q + 2 t (1 - t) 2 p + t t r at t = k / 8,
+-- where q
 -- and r are twice the curve's ends
 abbrev pub eighth : ℕ → Bend → ℤ
 eighth k b = (pos ((8 - k) * (8 - k)) *ℤ b.q +ℤ pos (4 * k * (8 - k)) *ℤ b.p) +ℤ pos (k * k) *ℤ b.r
@@ -134,7 +139,8 @@ dot x y on = (pos x, pos y, on)
 edge : ℕ → ℕ → ℕ → ℕ → Edge
 edge ax ay bx by = record { ax = pos ax; ay = pos ay; bx = pos bx; by = pos by }
 
-square_of_four_edges : chord_edges (dot 0 0 true ∷ dot 0 2 true ∷ dot 2 2 true ∷ dot 2 0 true ∷ []) (4 ∷ []) (pos 1) (pos 3) ≡ edge 128 384 128 640 ∷ edge 128 640 384 640 ∷ edge 384 640 384 384 ∷ edge 384 384 128 384 ∷ []
+square_of_four_edges : chord_edges (dot 0 0 true ∷ dot 0 2 true ∷ dot 2 2 true ∷ dot 2 0 true ∷ []) (4 ∷ []) (pos 1)
+    (pos 3) ≡ edge 128 384 128 640 ∷ edge 128 640 384 640 ∷ edge 384 640 384 384 ∷ edge 384 384 128 384 ∷ []
 unfolding edges_of dot edge
 square_of_four_edges = refl
 
@@ -143,12 +149,14 @@ unfolding dot
 a_point_alone_has_no_edge = refl
 
 -- the second contour has no points
-contours_do_not_touch : chord_edges (dot 0 0 true ∷ dot 0 1 true ∷ dot 5 5 true ∷ dot 5 6 true ∷ []) (2 ∷ 2 ∷ 4 ∷ []) (pos 0) (pos 0) ≡ edge 0 0 0 128 ∷ edge 0 128 0 0 ∷ edge 640 640 640 768 ∷ edge 640 768 640 640 ∷ []
+contours_do_not_touch : chord_edges (dot 0 0 true ∷ dot 0 1 true ∷ dot 5 5 true ∷ dot 5 6 true ∷ []) (2 ∷ 2 ∷ 4 ∷ [])
+    (pos 0) (pos 0) ≡ edge 0 0 0 128 ∷ edge 0 128 0 0 ∷ edge 640 640 640 768 ∷ edge 640 768 640 640 ∷ []
 unfolding edges_of dot edge
 contours_do_not_touch = refl
 
 -- the edge before the curve, then its first chord
-first_chord : take 2 (chord_edges (dot 8 8 true ∷ dot 0 0 true ∷ dot 8 0 false ∷ []) (3 ∷ []) (pos 0) (pos 0)) ≡ edge 1024 1024 0 0 ∷ edge 0 0 240 16 ∷ []
+first_chord : take 2 (chord_edges (dot 8 8 true ∷ dot 0 0 true ∷ dot 8 0 false ∷ []) (3 ∷ []) (pos 0) (pos 0))
+    ≡ edge 1024 1024 0 0 ∷ edge 0 0 240 16 ∷ []
 unfolding edges_of first_chords dot edge
 first_chord = refl
 

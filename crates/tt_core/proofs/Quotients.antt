@@ -8,7 +8,8 @@ below_multiple : (a b m : ℕ) → a < b * m → a / b < m
 below_multiple a b m h = grind arith
 
 -- a whole number between -b m and b (m + 1), divided by b
-quotient_within : (a : ℤ) (b m : ℕ) → a <ℤ pos (b * (m + 1)) → neg_ℤ (pos (b * m)) ≤ℤ a → unsigned_abs (int_div_euclid a (pos b)) ≤ m
+quotient_within : (a : ℤ) (b m : ℕ) → a <ℤ pos (b * (m + 1)) → neg_ℤ (pos (b * m)) ≤ℤ a
+    → unsigned_abs (int_div_euclid a (pos b)) ≤ m
 quotient_within (pos a) b m high low =
     let q : a / b < m + 1 = below_multiple a b (m + 1) (omega (arith, ints)) in omega arith
 quotient_within (negsuc a) b m high low =

@@ -1,4 +1,5 @@
--- No part of the standard: readers and writers that remember whether they failed. The bytes that one has left, or holds, are told as std tells
+-- No part of the standard: readers and writers that remember whether they failed. The bytes that one has left, or
+-- holds, are told as std tells
 -- them: None where they are not known.
 use Rattle.std.specs.Prelude.{◌≡◌, ℕ, ◌<◌, Bool, true, Result, Ok, Err, List, length, IfOk}
 use Rattle.tt_core.specs.declared.device.Device.{Device}

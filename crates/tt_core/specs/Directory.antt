@@ -79,7 +79,8 @@ IsDirectoryDefect file fault =
 -- a record names bytes past the end of the file
 abbrev pub RecordPassesEnd : List ℕ → Option ℕ → Fault → Type 0
 RecordPassesEnd file None fault = ⊥
-RecordPassesEnd file (Some i) fault = (length file < record_end file i) × (fault ≡ file_fault (record_place i) why.TableRange)
+RecordPassesEnd file (Some i) fault = (length file < record_end file i)
+    × (fault ≡ file_fault (record_place i) why.TableRange)
 
 -- the first record of the tag does
 abbrev pub PassesEnd : List ℕ → List ℕ → Fault → Type 0
@@ -87,22 +88,27 @@ PassesEnd file tag fault = RecordPassesEnd file (record_of file tag) fault
 
 -- a needed table is missing, or passes the end of the file
 abbrev pub IsTableDefect : List ℕ → List ℕ → Fault → Type 0
-IsTableDefect file tag fault = PassesEnd file tag fault ⊎ ((is_some (record_of file tag) ≡ false) × (fault ≡ fault_at tag 0 why.NoTable))
+IsTableDefect file tag fault = PassesEnd file tag fault ⊎ ((is_some (record_of file tag) ≡ false)
+    × (fault ≡ fault_at tag 0 why.NoTable))
 
 -- a table has a defect: it is missing, or passes the end of the file, or its bytes are bad
 abbrev pub IsDefectIn : List ℕ → List ℕ → (List ℕ → Fault → Type 0) → Fault → Type 0
-IsDefectIn file tag IsBad fault = IsTableDefect file tag fault ⊎ IsOkAnd (needed_table file tag) (λ table. IsBad table fault)
+IsDefectIn file tag IsBad fault = IsTableDefect file tag fault ⊎ IsOkAnd (needed_table file tag)
+    (λ table. IsBad table fault)
 
 -- no fault is a defect of this kind
 abbrev pub HasNo : (Fault → Type 0) → Type 0
 HasNo IsOne = (fault : Fault) → ¬ IsOne fault
 
 -- where the bytes of a table that is there are good on Ok, the table has no defect on Ok
-pub OnOk-HasNo-IsDefectIn : {X : Type 0} (r : Result X Fault) (file tag table : List ℕ) (IsBad : List ℕ → Fault → Type 0) → needed_table file tag ≡ Ok table → HasNo (IsTableDefect file tag) → OnOk r (HasNo (IsBad table)) → OnOk r (HasNo (IsDefectIn file tag IsBad))
+pub OnOk-HasNo-IsDefectIn : {X : Type 0} (r : Result X Fault) (file tag table : List ℕ)
+    (IsBad : List ℕ → Fault → Type 0) → needed_table file tag ≡ Ok table → HasNo (IsTableDefect file tag)
+    → OnOk r (HasNo (IsBad table)) → OnOk r (HasNo (IsDefectIn file tag IsBad))
 OnOk-HasNo-IsDefectIn (Err e) file tag table IsBad there kept good = tt
 OnOk-HasNo-IsDefectIn (Ok x) file tag table IsBad there kept good = λ fault. λ defect. elim defect [
   | inl missing ↦ kept fault missing
-  | inr bad ↦ let P : Result (List ℕ) Fault → Type 0 = λ r. IsOkAnd r (λ t. IsBad t fault) in good fault (subst P there bad)
+  | inr bad ↦ let P : Result (List ℕ) Fault → Type 0 = λ r. IsOkAnd r (λ t. IsBad t fault) in good fault
+      (subst P there bad)
 ]
 
 -- worked values: a file with one table of two bytes

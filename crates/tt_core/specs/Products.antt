@@ -49,13 +49,15 @@ mul_mono (negsuc n) a b low h = absurd (omega (arith, ints))
 pub cancel_le : (d a b : ℤ) → pos 0 <ℤ d → (d *ℤ a) ≤ℤ (d *ℤ b) → a ≤ℤ b
 cancel_le d a b low h =
     let spread = mul_sum d b (pos 1) in
-    let step : b <ℤ a → (d *ℤ (b +ℤ pos 1)) ≤ℤ (d *ℤ a) = λ less. mul_mono d (b +ℤ pos 1) a (omega (arith, ints)) (omega (arith, ints)) in
+    let step : b <ℤ a → (d *ℤ (b +ℤ pos 1)) ≤ℤ (d *ℤ a) = λ less. mul_mono d (b +ℤ pos 1) a (omega (arith, ints))
+    (omega (arith, ints)) in
     by_lt_z b a (λ less. let above = step less in absurd (omega (arith, ints))) (λ h. h)
 
 -- where d goes q times into n, and a rest below d is left: which multiples of d lie above n, and which do not
 pub floor_above : (d q rest n c : ℤ) → pos 0 ≤ℤ rest → rest <ℤ d → d *ℤ q +ℤ rest ≡ n → q <ℤ c → n <ℤ (d *ℤ c)
 floor_above d q rest n c left high is more =
-    let step : (d *ℤ (q +ℤ pos 1)) ≤ℤ (d *ℤ c) = mul_mono d (q +ℤ pos 1) c (omega (arith, ints)) (omega (arith, ints)) in
+    let step : (d *ℤ (q +ℤ pos 1)) ≤ℤ (d *ℤ c) = mul_mono d (q +ℤ pos 1) c (omega (arith, ints))
+    (omega (arith, ints)) in
     let spread = mul_sum d q (pos 1) in
     omega (arith, ints)
 

@@ -12,7 +12,8 @@ abbrev pub first_below : ℕ → (ℕ → Bool) → Option ℕ
 first_below n passes = first_from passes 0 n
 
 -- where i does not pass, the search goes on behind it
-pub first_from_next : (passes : ℕ → Bool) (i n : ℕ) → i < n → passes i ≡ false → first_from passes i (n - i) ≡ first_from passes (i + 1) (n - (i + 1))
+pub first_from_next : (passes : ℕ → Bool) (i n : ℕ) → i < n → passes i ≡ false → first_from passes i (n - i)
+    ≡ first_from passes (i + 1) (n - (i + 1))
 first_from_next passes i n below fails =
     let more : n - i ≡ suc (n - (i + 1)) = omega arith in
     rw (more, fails) refl
@@ -30,10 +31,12 @@ if_none false i others nothing = (refl, nothing)
 
 first_from_none : (passes : ℕ → Bool) (i n k : ℕ) → first_from passes i n ≡ None → k < n → passes (i + k) ≡ false
 first_from_none passes i zero k nothing below = absurd (omega arith)
-first_from_none passes i (suc n) zero nothing below = rw add-zero ((if_none (passes i) i (first_from passes (i + 1) n) nothing).0)
+first_from_none passes i (suc n) zero nothing below = rw add-zero
+    ((if_none (passes i) i (first_from passes (i + 1) n) nothing).0)
 first_from_none passes i (suc n) (suc k) nothing below =
     let later : i + suc k ≡ (i + 1) + k = omega arith in
-    rw later (first_from_none passes (i + 1) n k ((if_none (passes i) i (first_from passes (i + 1) n) nothing).1) (omega arith))
+    rw later (first_from_none passes (i + 1) n k ((if_none (passes i) i (first_from passes (i + 1) n) nothing).1)
+    (omega arith))
 
 -- where nothing is found, nothing passes
 pub first_below_none : (n : ℕ) (passes : ℕ → Bool) (k : ℕ) → first_below n passes ≡ None → k < n → passes k ≡ false
@@ -45,14 +48,16 @@ pub record IsLeast (passes : ℕ → Bool) (n k : ℕ) : Type 0 where
   pub holds : passes k ≡ true
   pub before : (j : ℕ) → j < k → passes j ≡ false
 
-first_from_least : (passes : ℕ → Bool) (i n d : ℕ) → d < n → passes (i + d) ≡ true → ((j : ℕ) → j < d → passes (i + j) ≡ false) → first_from passes i n ≡ Some (i + d)
+first_from_least : (passes : ℕ → Bool) (i n d : ℕ) → d < n → passes (i + d) ≡ true
+    → ((j : ℕ) → j < d → passes (i + j) ≡ false) → first_from passes i n ≡ Some (i + d)
 first_from_least passes i zero d within holds before = absurd (omega arith)
 first_from_least passes i (suc n) zero within holds before =
     let here : passes i ≡ true = rw add-zero at holds in rw (here, add-zero i) refl
 first_from_least passes i (suc n) (suc d) within holds before =
     let here : passes i ≡ false = rw add-zero at (before 0 (omega arith)) in
     let place : i + suc d ≡ (i + 1) + d = omega arith in
-    let later : (j : ℕ) → j < d → passes ((i + 1) + j) ≡ false = λ j below. let same : i + suc j ≡ (i + 1) + j = omega arith in rw same at (before (suc j) (omega arith)) in
+    let later : (j : ℕ) → j < d → passes ((i + 1) + j) ≡ false = λ j below. let same : i + suc j ≡ (i + 1)
+    + j = omega arith in rw same at (before (suc j) (omega arith)) in
     rw (here, place) (first_from_least passes (i + 1) n d (omega arith) (rw place at holds) later)
 
 -- the least number that passes is what is found
@@ -62,13 +67,16 @@ first_below_least passes n k least =
     let before : (j : ℕ) → j < k → passes (0 + j) ≡ false = λ j below. rw zero-add (least.before j below) in
     rw zero-add at (first_from_least passes 0 n k least.within holds before)
 
-first_from_nothing : (passes : ℕ → Bool) (i n : ℕ) → ((j : ℕ) → j < n → passes (i + j) ≡ false) → first_from passes i n ≡ None
+first_from_nothing : (passes : ℕ → Bool) (i n : ℕ) → ((j : ℕ) → j < n → passes (i + j) ≡ false) → first_from passes i n
+    ≡ None
 first_from_nothing passes i zero fails = refl
 first_from_nothing passes i (suc n) fails =
     let here : passes i ≡ false = rw add-zero at (fails 0 (omega arith)) in
-    let later : (j : ℕ) → j < n → passes ((i + 1) + j) ≡ false = λ j below. let same : i + suc j ≡ (i + 1) + j = omega arith in rw same at (fails (suc j) (omega arith)) in
+    let later : (j : ℕ) → j < n → passes ((i + 1) + j) ≡ false = λ j below. let same : i + suc j ≡ (i + 1)
+    + j = omega arith in rw same at (fails (suc j) (omega arith)) in
     rw here (first_from_nothing passes (i + 1) n later)
 
 -- where nothing passes, nothing is found
-pub first_below_nothing : (passes : ℕ → Bool) (n : ℕ) → ((j : ℕ) → j < n → passes j ≡ false) → first_below n passes ≡ None
+pub first_below_nothing : (passes : ℕ → Bool) (n : ℕ) → ((j : ℕ) → j < n → passes j ≡ false) → first_below n passes
+    ≡ None
 first_below_nothing passes n fails = first_from_nothing passes 0 n (λ j below. rw zero-add (fails j below))

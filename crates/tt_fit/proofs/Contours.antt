@@ -14,7 +14,8 @@ places_after lasts = map (λ e. e + 1) lasts
 place-at : (lasts : List ℕ) (i : ℕ) → i < length lasts → slice_index (places_after lasts) i ≡ slice_index lasts i + 1
 place-at lasts i below = get_or-map (λ e. e + 1) lasts i 0 0 below
 
-places-rise : (n : ℕ) (lasts : List ℕ) → EndContours n lasts → (i j : ℕ) → i ≤ j → j < length (places_after lasts) → slice_index (places_after lasts) i ≤ slice_index (places_after lasts) j
+places-rise : (n : ℕ) (lasts : List ℕ) → EndContours n lasts → (i j : ℕ) → i ≤ j → j < length (places_after lasts)
+    → slice_index (places_after lasts) i ≤ slice_index (places_after lasts) j
 places-rise n lasts are i j le below =
     let many = length-map lasts (λ e. e + 1) in
     let at_i = place-at lasts i (omega (arith, many)) in
@@ -51,7 +52,8 @@ joined-length m xs ys = rw (length-append, length-map) refl
 end-before : (m : ℕ) (xs ys : List ℕ) (i : ℕ) → i < length xs → slice_index (xs ++ ends_after m ys) i ≡ slice_index xs i
 end-before m xs ys i below = get_or_append_left xs (ends_after m ys) 0 i below
 
-end-behind : (m : ℕ) (xs ys : List ℕ) (i : ℕ) → length xs ≤ i → i < length xs + length ys → slice_index (xs ++ ends_after m ys) i ≡ m + slice_index ys (i - length xs)
+end-behind : (m : ℕ) (xs ys : List ℕ) (i : ℕ) → length xs ≤ i → i < length xs + length ys
+    → slice_index (xs ++ ends_after m ys) i ≡ m + slice_index ys (i - length xs)
 end-behind m xs ys i above below =
     let right = get_or-append_right xs (ends_after m ys) (length xs) i 0 refl above in
     let moved = get_or-map (λ e. m + e) ys (i - length xs) 0 0 (omega arith) in
@@ -62,7 +64,8 @@ end-past m xs ys i past =
     let many = joined-length m xs ys in
     get_or_past (xs ++ ends_after m ys) i 0 (omega (arith, many))
 
-joined-rise : (m k : ℕ) (xs ys : List ℕ) → AreEnds m xs → AreEnds k ys → (i j : ℕ) → i ≤ j → j < length xs + length ys → slice_index (xs ++ ends_after m ys) i ≤ slice_index (xs ++ ends_after m ys) j
+joined-rise : (m k : ℕ) (xs ys : List ℕ) → AreEnds m xs → AreEnds k ys → (i j : ℕ) → i ≤ j → j < length xs + length ys
+    → slice_index (xs ++ ends_after m ys) i ≤ slice_index (xs ++ ends_after m ys) j
 joined-rise m k xs ys are more i j le below = elim (cases_lt j (length xs)) [
   | inl before ↦
       let at_i = end-before m xs ys i (omega arith) in
@@ -83,7 +86,8 @@ joined-rise m k xs ys are more i j le below = elim (cases_lt j (length xs)) [
       ]
 ]
 
-joined-within : (m k : ℕ) (xs ys : List ℕ) → AreEnds m xs → AreEnds k ys → (i : ℕ) → slice_index (xs ++ ends_after m ys) i ≤ m + k
+joined-within : (m k : ℕ) (xs ys : List ℕ) → AreEnds m xs → AreEnds k ys → (i : ℕ)
+    → slice_index (xs ++ ends_after m ys) i ≤ m + k
 joined-within m k xs ys are more i = elim (cases_lt i (length xs)) [
   | inl before ↦
       let at = end-before m xs ys i before in
@@ -100,7 +104,8 @@ joined-within m k xs ys are more i = elim (cases_lt i (length xs)) [
   ]
 ]
 
-joined-last : (m k : ℕ) (xs ys : List ℕ) → AreEnds m xs → AreEnds k ys → slice_index (xs ++ ends_after m ys) (length xs + length ys - 1) ≡ m + k
+joined-last : (m k : ℕ) (xs ys : List ℕ) → AreEnds m xs → AreEnds k ys → slice_index (xs ++ ends_after m ys)
+    (length xs + length ys - 1) ≡ m + k
 joined-last m k xs [] are more =
     let none : 0 ≡ k = more.last in
     let same : length xs + 0 - 1 ≡ length xs - 1 = omega arith in
@@ -115,7 +120,8 @@ joined-last m k xs (y ∷ ys) are more =
 -- the ends of contours, and those of a component behind them
 pub joined-ends : (m k : ℕ) (xs ys : List ℕ) → AreEnds m xs → AreEnds k ys → AreEnds (m + k) (xs ++ ends_after m ys)
 joined-ends m k xs ys are more = record {
-  rising = λ i j le below. let many = joined-length m xs ys in joined-rise m k xs ys are more i j le (omega (arith, many));
+  rising = λ i j le below. let many = joined-length m xs ys in joined-rise m k xs ys are more i j le
+      (omega (arith, many));
   within = joined-within m k xs ys are more;
   last = rw joined-length (joined-last m k xs ys are more);
 }

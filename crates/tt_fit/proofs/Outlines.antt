@@ -14,20 +14,27 @@ zero-is : IsCoordinate (pos 0)
 zero-is = omega arith
 
 abbrev four : ℤ → ℤ → ℤ → ℤ → PhantomPoints
-four left right ascent descent = record { left = (left, pos 0); right = (right, pos 0); ascent = (pos 0, ascent); descent = (pos 0, descent) }
+four left right ascent descent =
+    record { left = (left, pos 0); right = (right, pos 0); ascent = (pos 0, ascent); descent = (pos 0, descent) }
 
-pub blank-is : (points : List (ℤ × ℤ × Bool)) (ends : List ℕ) (left right ascent descent : ℤ) → points ≡ [] → ends ≡ [] → IsCoordinate left → IsCoordinate right → IsCoordinate ascent → IsCoordinate descent
+pub blank-is : (points : List (ℤ × ℤ × Bool)) (ends : List ℕ) (left right ascent descent : ℤ) → points ≡ [] → ends ≡ []
+    → IsCoordinate left → IsCoordinate right → IsCoordinate ascent → IsCoordinate descent
     → IsOutline (record { points = points; ends = ends; phantom = four left right ascent descent })
 blank-is points ends left right ascent descent no_points no_contours l r a d =
-    rw (no_points, no_contours) (record { few = omega arith; coordinates = All-nil IsPoint; phantom = record { left = (l, zero-is); right = (r, zero-is); ascent = (zero-is, a); descent = (zero-is, d) }; ends = no-ends })
+    rw (no_points, no_contours)
+    (record { few = omega arith; coordinates = All-nil IsPoint; phantom = record { left = (l, zero-is); right = (r, zero-is); ascent = (zero-is, a); descent = (zero-is, d) }; ends = no-ends })
 
-pub scaled-is : (points : List (ℤ × ℤ × Bool)) (ends lasts : List ℕ) (n : ℕ) (phantom : PhantomPoints) → length points ≡ n → n ≤ point_limit → All IsPoint points → EndContours n lasts → ends ≡ map (λ e. e + 1) lasts → ArePhantom phantom
+pub scaled-is : (points : List (ℤ × ℤ × Bool)) (ends lasts : List ℕ) (n : ℕ) (phantom : PhantomPoints) → length points
+    ≡ n → n ≤ point_limit → All IsPoint points → EndContours n lasts → ends ≡ map (λ e. e + 1) lasts
+    → ArePhantom phantom
     → IsOutline (record { points = points; ends = ends; phantom = phantom })
 scaled-is points ends lasts n phantom many few coordinates are is phantoms =
     rw is (record { few = omega (arith, many, few); coordinates = coordinates; phantom = phantoms; ends = rw many (scaled-ends n lasts are) })
 
-pub joined-is : (o component : Shape) (points : List (ℤ × ℤ × Bool)) (ends : List ℕ) (phantom : PhantomPoints) → IsOutline o → IsOutline component
-    → length points ≡ length o.points + length component.points → length points ≤ point_limit → All IsPoint points → ends ≡ o.ends ++ ends_after (length o.points) component.ends → ArePhantom phantom
+pub joined-is : (o component : Shape) (points : List (ℤ × ℤ × Bool)) (ends : List ℕ) (phantom : PhantomPoints)
+    → IsOutline o → IsOutline component
+    → length points ≡ length o.points + length component.points → length points ≤ point_limit → All IsPoint points
+    → ends ≡ o.ends ++ ends_after (length o.points) component.ends → ArePhantom phantom
     → IsOutline (record { points = points; ends = ends; phantom = phantom })
 joined-is o component points ends phantom is more many few coordinates joined phantoms =
     rw joined (record { few = few; coordinates = coordinates; phantom = phantoms; ends = rw many (joined-ends (length o.points) (length component.points) o.ends component.ends is.ends more.ends) })

@@ -24,7 +24,8 @@ abbrev pub grid_magnitude : ℕ → ℕ
 grid_magnitude n = 64 * ((n + 32) / 64)
 
 abbrev pub to_grid : ℤ → ℤ
-to_grid v = if int_lt v (pos 0) then neg_ℤ (pos (grid_magnitude (unsigned_abs v))) else pos (grid_magnitude (unsigned_abs v))
+to_grid v = if int_lt v (pos 0) then neg_ℤ (pos (grid_magnitude (unsigned_abs v))) else pos
+    (grid_magnitude (unsigned_abs v))
 
 -- a point's position under a component's transform, whose numbers are 2.14
 abbrev pub transformed : Record → ℤ × ℤ × Bool → ℤ × ℤ
@@ -67,7 +68,8 @@ placed_point r by p = settled r.at (landed r by p)
 
 -- no more points than a glyph may have
 unfoldable pub within_point_limit : ℕ → List (ℤ × ℤ × Bool) → Result (List (ℤ × ℤ × Bool)) Fault
-within_point_limit at points = if nat_lt point_limit (length points) then Err (glyf_fault at why.PointLimit) else Ok points
+within_point_limit at points = if nat_lt point_limit (length points) then Err
+    (glyf_fault at why.PointLimit) else Ok points
 
 -- the last of the records that use a component's metrics counts (profile)
 abbrev pub phantom_with : Record → Shape → Shape → PhantomPoints
@@ -109,7 +111,8 @@ a_rounded_offset = refl
 
 -- turned by a quarter: x' = -y and y' = x; flagged for offsets, or its point 1 onto point 0
 turned : ℕ → Record
-turned flags = record { at = 32; flags = flags; glyph = 1; arg1 = pos 0; arg2 = pos 1; xx = pos 0; yx = one; xy = neg_ℤ one; yy = pos 0 }
+turned flags = record
+    { at = 32; flags = flags; glyph = 1; arg1 = pos 0; arg2 = pos 1; xx = pos 0; yx = one; xy = neg_ℤ one; yy = pos 0 }
 
 a_quarter_turn : transformed (turned 0x2) (pos 100, pos 7, true) ≡ (neg_ℤ (pos 7), pos 100)
 unfolding turned
@@ -119,18 +122,21 @@ two_points : List (ℤ × ℤ × Bool)
 two_points = (pos 1, pos 2, true) ∷ (pos 100, pos 7, false) ∷ []
 
 phantom_after : ℤ → PhantomPoints
-phantom_after advance = record { left = (pos 0, pos 0); right = (advance, pos 0); ascent = (pos 0, pos 64); descent = (pos 0, pos 0) }
+phantom_after advance =
+    record { left = (pos 0, pos 0); right = (advance, pos 0); ascent = (pos 0, pos 64); descent = (pos 0, pos 0) }
 
 shape_of : List (ℤ × ℤ × Bool) → ℤ → Shape
 shape_of points advance = record { points = points; ends = length points ∷ []; phantom = phantom_after advance }
 
 -- point 1 lands where point 0 of what is assembled so far is
-a_matched_component : placed its_size (turned 0x200) (shape_of two_points (pos 5)) (shape_of ((pos 1000, pos 2000, true) ∷ []) (pos 9))
+a_matched_component : placed its_size (turned 0x200) (shape_of two_points (pos 5))
+    (shape_of ((pos 1000, pos 2000, true) ∷ []) (pos 9))
     ≡ Ok (record { points = (pos 1000, pos 2000, true) ∷ (pos 1005, pos 1901, true) ∷ (pos 1000, pos 2000, false) ∷ []; ends = 1 ∷ 3 ∷ []; phantom = phantom_after (pos 5) })
 unfolding its_size turned two_points shape_of placed shift_of settled within_point_limit
 a_matched_component = refl
 
 -- no point 0 is assembled yet
-an_unmatched_component : placed its_size (turned 0) (shape_of two_points (pos 5)) (shape_of [] (pos 9)) ≡ Err (glyf_fault 32 why.MatchPoint)
+an_unmatched_component : placed its_size (turned 0) (shape_of two_points (pos 5)) (shape_of [] (pos 9))
+    ≡ Err (glyf_fault 32 why.MatchPoint)
 unfolding its_size turned two_points shape_of placed shift_of settled within_point_limit
 an_unmatched_component = refl

@@ -1,4 +1,5 @@
--- OpenType, "The 'glyf' table": the outline of a glyph at a size, its components made first, one record after the other.
+-- OpenType, "The 'glyf' table": the outline of a glyph at a size, its components made first, one record after the
+-- other.
 use Rattle.std.specs.Prelude.{◌≡◌, ℕ, zero, suc, ◌≤◌, true, ℤ, pos, neg_ℤ, ◌+ℤ◌, codes, List, [], ◌∷◌, Result, Ok, Err, refl}
 use Rattle.tt_core.specs.Faults.{Fault}
 use Rattle.tt_core.specs.declared.fault.Why.TheVariants as why
@@ -59,13 +60,15 @@ glyph_program s g code code_at = record { code = code; code_at = code_at; glyph_
 
 -- the outline of a simple glyph, begun without points: its points scaled, and its program over them
 abbrev pub simple_outline : Setting → ℕ → List RawPoint → List ℕ → GlyphProgram → Shape → Result Shape Fault
-simple_outline s g points ends program o = scaled_outline (size_of s) (glyph_offset s.tables g) points ends o >>= finished s.hints program
+simple_outline s g points ends program o = scaled_outline (size_of s) (glyph_offset s.tables g) points ends o >>=
+    finished s.hints program
 
 -- the outline of a glyph, by what a record adds to the outline so far
 abbrev pub made : Setting → (Record → Shape → Result Shape Fault) → ℕ → GlyphData → Result Shape Fault
 made s add g empty = start s (pos 0) g
 made s add g (simple d) = start s d.x_min g >>= simple_outline s g d.points d.ends (glyph_program s g d.code d.code_at)
-made s add g (composite d) = start s d.x_min g >>= joined add d.records >>= finished s.hints (glyph_program s g d.code d.code_at)
+made s add g (composite d) = start s d.x_min g >>= joined add d.records >>= finished s.hints
+    (glyph_program s g d.code d.code_at)
 
 abbrev pub outline_by : Setting → (Record → Shape → Result Shape Fault) → ℕ → Result Shape Fault
 outline_by s add g = glyph_data_of s.tables g >>= made s add g
@@ -97,7 +100,8 @@ abbrev its_setting : List ℕ → Setting
 its_setting third = record {
   tables = record {
     loca = 0 ∷ 0 ∷ 0 ∷ 0 ∷ 0 ∷ 11 ∷ 0 ∷ 22 ∷ [];
-    glyf = 0 ∷ 1 ∷ 0 ∷ 64 ∷ 0 ∷ 0 ∷ 0 ∷ 192 ∷ 0 ∷ 128 ∷ 0 ∷ 3 ∷ 0 ∷ 0 ∷ 0x33 ∷ 0x35 ∷ 0x33 ∷ 0x15 ∷ 0x40 ∷ 0x80 ∷ 0x80 ∷ 0x80 ∷ third;
+    glyf = 0 ∷ 1 ∷ 0 ∷ 64 ∷ 0 ∷ 0 ∷ 0 ∷ 192 ∷ 0 ∷ 128 ∷ 0 ∷ 3 ∷ 0 ∷ 0 ∷ 0x33 ∷ 0x35 ∷ 0x33 ∷ 0x15 ∷ 0x40 ∷ 0x80 ∷ 0x80 ∷
+        0x80 ∷ third;
     format = Short;
     glyphs = 3;
   };
@@ -107,9 +111,11 @@ its_setting third = record {
 }
 
 abbrev its_phantom_points : ℤ → PhantomPoints
-its_phantom_points left = record { left = (left, pos 0); right = (left +ℤ pos 1024, pos 0); ascent = (pos 0, pos 1024); descent = (pos 0, neg_ℤ (pos 256)) }
+its_phantom_points left =
+    record { left = (left, pos 0); right = (left +ℤ pos 1024, pos 0); ascent = (pos 0, pos 1024); descent = (pos 0, neg_ℤ (pos 256)) }
 
-empty_is_blank : fitted_outline (its_setting []) 0 ≡ Ok (record { points = []; ends = []; phantom = its_phantom_points (pos 0) })
+empty_is_blank : fitted_outline (its_setting []) 0 ≡ Ok
+    (record { points = []; ends = []; phantom = its_phantom_points (pos 0) })
 unfolding fitted_outline glyph_data_of blank
 empty_is_blank = refl
 
@@ -118,7 +124,9 @@ square_is_scaled : fitted_outline (its_setting []) 1 ≡ Ok (record {
   ends = 4 ∷ [];
   phantom = its_phantom_points (pos 0);
 })
-unfolding fitted_outline glyph_data_of glyph_bytes_of header_of described simple_of ends_from end_at points_within points_of flags_from run_at coordinates_from coordinate_at within_words delta_at byte_in word_in signed_in slice_in blank scaled_outline settled
+unfolding fitted_outline glyph_data_of glyph_bytes_of header_of described simple_of ends_from end_at points_within
+    points_of flags_from run_at coordinates_from coordinate_at within_words delta_at byte_in word_in signed_in slice_in
+    blank scaled_outline settled
 square_is_scaled = refl
 
 -- two components of glyph 1, the second moved by 64 to the right; the second gives its metrics
@@ -131,7 +139,10 @@ squares_are_joined : fitted_outline (its_setting two_squares) 2 ≡ Ok (record {
   ends = 4 ∷ 8 ∷ [];
   phantom = its_phantom_points (pos 0);
 })
-unfolding fitted_outline added placed shift_of within_point_limit glyph_data_of glyph_bytes_of header_of described composite_of records_from record_at known_glyph arguments_at argument_at transform_at unscaled program_of simple_of ends_from end_at points_within points_of flags_from run_at coordinates_from coordinate_at within_words delta_at byte_in word_in signed_in slice_in blank scaled_outline settled
+unfolding fitted_outline added placed shift_of within_point_limit glyph_data_of glyph_bytes_of header_of described
+    composite_of records_from record_at known_glyph arguments_at argument_at transform_at unscaled program_of simple_of
+    ends_from end_at points_within points_of flags_from run_at coordinates_from coordinate_at within_words delta_at
+    byte_in word_in signed_in slice_in blank scaled_outline settled
 squares_are_joined = refl
 
 -- one component, which is the glyph itself
@@ -139,5 +150,6 @@ abbrev itself : List ℕ
 itself = 255 ∷ 255 ∷ 0 ∷ 64 ∷ 0 ∷ 0 ∷ 1 ∷ 0 ∷ 0 ∷ 128 ∷ 0 ∷ 2 ∷ 0 ∷ 2 ∷ 0 ∷ 0 ∷ []
 
 itself_is_too_deep : fitted_outline (its_setting itself) 2 ≡ Err (fault_at (codes "glyf") 32 why.ComponentDepth)
-unfolding fitted_outline added glyph_data_of glyph_bytes_of header_of described composite_of records_from record_at known_glyph arguments_at argument_at transform_at unscaled program_of byte_in word_in signed_in slice_in blank
+unfolding fitted_outline added glyph_data_of glyph_bytes_of header_of described composite_of records_from record_at
+    known_glyph arguments_at argument_at transform_at unscaled program_of byte_in word_in signed_in slice_in blank
 itself_is_too_deep = refl

@@ -63,30 +63,36 @@ are_positions p = is_position p.left && is_position p.right && is_position p.asc
 
 -- an outline without points, of a glyph that begins at this offset in glyf, with these phantom points
 unfoldable pub blank : ℕ → PhantomPoints → Result Shape Fault
-blank at phantom = if are_positions phantom then Ok (record { points = []; ends = []; phantom = phantom }) else Err (coordinate_fault at)
+blank at phantom = if are_positions phantom then Ok (record { points = []; ends = []; phantom = phantom }) else Err
+    (coordinate_fault at)
 
 -- an outline with these points; each contour's last point is given
 unfoldable pub scaled_outline : Size → ℕ → List RawPoint → List ℕ → Shape → Result Shape Fault
-scaled_outline z at points ends o = each (scaled_point z at) points >>= λ ps. Ok (record o { points = ps; ends = map (λ e. e + 1) ends })
+scaled_outline z at points ends o = each (scaled_point z at) points >>= λ ps. Ok
+    (record o { points = ps; ends = map (λ e. e + 1) ends })
 
 -- worked values: 256 units in an em, at 16 pixels
 its_size : Size
 its_size = record { ppem = 16; units_per_em = 256 }
 
-a_scaled_point : scaled_point its_size 0 (record { x = pos 64; y = neg_ℤ (pos 128); on = true }) ≡ Ok (pos 256, neg_ℤ (pos 512), true)
+a_scaled_point : scaled_point its_size 0 (record { x = pos 64; y = neg_ℤ (pos 128); on = true })
+    ≡ Ok (pos 256, neg_ℤ (pos 512), true)
 unfolding its_size settled
 a_scaled_point = refl
 
 -- 16 units in an em, at 300 pixels: one em is 19200
-a_scaled_point_at_the_limit : scaled_point (record { ppem = 300; units_per_em = 16 }) 22 (record { x = pos 1747; y = pos 0; on = true }) ≡ Ok (pos 2096400, pos 0, true)
+a_scaled_point_at_the_limit : scaled_point (record { ppem = 300; units_per_em = 16 }) 22
+    (record { x = pos 1747; y = pos 0; on = true }) ≡ Ok (pos 2096400, pos 0, true)
 unfolding settled
 a_scaled_point_at_the_limit = refl
 
-a_scaled_point_past_the_limit : scaled_point (record { ppem = 300; units_per_em = 16 }) 22 (record { x = pos 0; y = pos 1748; on = true }) ≡ Err (fault_at (codes "glyf") 22 why.CoordRange)
+a_scaled_point_past_the_limit : scaled_point (record { ppem = 300; units_per_em = 16 }) 22
+    (record { x = pos 0; y = pos 1748; on = true }) ≡ Err (fault_at (codes "glyf") 22 why.CoordRange)
 unfolding settled
 a_scaled_point_past_the_limit = refl
 
 -- the first fault stops the list
-a_list_with_a_fault : each (settled 22) ((pos 1, pos 2, true) ∷ (pos 2097151, neg_ℤ (pos 2097152), true) ∷ []) ≡ Err (coordinate_fault 22)
+a_list_with_a_fault : each (settled 22) ((pos 1, pos 2, true) ∷ (pos 2097151, neg_ℤ (pos 2097152), true) ∷ [])
+    ≡ Err (coordinate_fault 22)
 unfolding settled
 a_list_with_a_fault = refl

@@ -19,7 +19,8 @@ abbrev pub landing_view : landing.Landing → ℤ × ℤ × Bool
 landing_view p = (p.x, p.y, p.on)
 
 abbrev pub phantom_view : phantom.Phantom → PhantomPoints
-phantom_view p = record { left = (p.left, pos 0); right = (p.right, pos 0); ascent = (pos 0, p.ascent); descent = (pos 0, p.descent) }
+phantom_view p = record
+    { left = (p.left, pos 0); right = (p.right, pos 0); ascent = (pos 0, p.ascent); descent = (pos 0, p.descent) }
 
 abbrev pub position_view : position.Position → ℤ × ℤ
 position_view p = (p.x, p.y)

@@ -55,7 +55,8 @@ IsBadHead head fault =
     IsShort head_tag 54 head fault
     ⊎ ((16 ≤ length head) × (is_magic (unsigned_at head 12 4) ≡ false) × (fault ≡ fault_at head_tag 12 why.HeadMagic))
     ⊎ ((20 ≤ length head) × (is_em (unsigned_at head 18 2) ≡ false) × (fault ≡ fault_at head_tag 18 why.EmRange))
-    ⊎ ((52 ≤ length head) × (is_loca_format (unsigned_at head 50 2) ≡ false) × (fault ≡ fault_at head_tag 50 why.LocaFormat))
+    ⊎ ((52 ≤ length head) × (is_loca_format (unsigned_at head 50 2) ≡ false)
+    × (fault ≡ fault_at head_tag 50 why.LocaFormat))
 
 abbrev pub IsHeadDefect : List ℕ → Fault → Type 0
 IsHeadDefect file fault = IsDefectIn file head_tag IsBadHead fault

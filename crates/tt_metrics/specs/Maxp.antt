@@ -19,7 +19,8 @@ is_maxp_version n = n == 0x00010000
 
 -- the version is tested as soon as its four bytes are there
 abbrev pub versioned_maxp : List ℕ → Result (List ℕ) Fault
-versioned_maxp maxp = if is_maxp_version (unsigned_at maxp 0 4) then Ok maxp else Err (fault_at maxp_tag 0 why.MaxpVersion)
+versioned_maxp maxp = if is_maxp_version (unsigned_at maxp 0 4) then Ok maxp else Err
+    (fault_at maxp_tag 0 why.MaxpVersion)
 
 -- numGlyphs at 4, maxTwilightPoints at 16, maxStorage at 18
 abbrev pub maxp_fields : List ℕ → Result Maxp Fault
@@ -38,7 +39,8 @@ maxp_of file = needed_table file maxp_tag >>= maxp_in
 abbrev pub IsBadMaxp : List ℕ → Fault → Type 0
 IsBadMaxp maxp fault =
     IsShort maxp_tag 32 maxp fault
-    ⊎ ((4 ≤ length maxp) × (is_maxp_version (unsigned_at maxp 0 4) ≡ false) × (fault ≡ fault_at maxp_tag 0 why.MaxpVersion))
+    ⊎ ((4 ≤ length maxp) × (is_maxp_version (unsigned_at maxp 0 4) ≡ false)
+    × (fault ≡ fault_at maxp_tag 0 why.MaxpVersion))
     ⊎ ((6 ≤ length maxp) × (unsigned_at maxp 4 2 ≡ 0) × (fault ≡ fault_at maxp_tag 4 why.MetricsShort))
 
 abbrev pub IsMaxpDefect : List ℕ → Fault → Type 0

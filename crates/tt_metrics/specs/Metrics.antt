@@ -1,4 +1,5 @@
--- Apple TrueType Reference Manual, "The 'head' table", "The 'maxp' table", "The 'hhea' table" and "The 'hmtx' table": the
+-- Apple TrueType Reference Manual, "The 'head' table", "The 'maxp' table", "The 'hhea' table" and "The 'hmtx' table":
+-- the
 -- numbers of the four together.
 use Rattle.std.specs.Prelude.{◌≡◌, ℕ, ◌*◌, ◌<◌, ◌≤◌, ℤ, List, length, [], ◌∷◌, Result, Ok, IsOkAnd, ◌⊎◌, negsuc, refl}
 use Rattle.tt_core.specs.Faults.{Fault}

@@ -7,7 +7,8 @@ use Rattle.tt_core.specs.Faults.{fault_at}
 
 -- a table of fewer bytes than are needed is refused at its length
 abbrev pub or_short : List ℕ → ℕ → List ℕ → Result (List ℕ) Fault
-or_short tag least table = if nat_lt (length table) least then Err (fault_at tag (length table) why.MetricsShort) else Ok table
+or_short tag least table = if nat_lt (length table) least then Err (fault_at tag (length table) why.MetricsShort) else
+    Ok table
 
 -- the table has fewer bytes than are needed
 abbrev pub IsShort : List ℕ → ℕ → List ℕ → Fault → Type 0

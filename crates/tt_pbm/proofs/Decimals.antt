@@ -7,7 +7,8 @@ use Rattle.tt_core.specs.Limits.{width_limit}
 pub one_digit : (n : ℕ) → n < 10 → (decimal n ≡ (48 + n) ∷ []) × (length (decimal n) ≡ 1)
 one_digit n small = (decimal_digit n small, ap length (decimal_digit n small))
 
-pub last_digit : (n : ℕ) → 10 ≤ n → n < 2 ^ 32 → (decimal n ≡ decimal (n / 10) ++ ((48 + n % 10) ∷ [])) × (length (decimal n) ≡ length (decimal (n / 10)) + 1)
+pub last_digit : (n : ℕ) → 10 ≤ n → n < 2 ^ 32 → (decimal n ≡ decimal (n / 10) ++ ((48 + n % 10) ∷ []))
+    × (length (decimal n) ≡ length (decimal (n / 10)) + 1)
 last_digit n large fits =
     let step = decimal_step n large (omega arith) in
     (step, ap length step ∙ length_push (decimal (n / 10)) (48 + n % 10))

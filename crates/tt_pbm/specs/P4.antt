@@ -1,5 +1,7 @@
--- Netpbm, "PBM", the format with raster, magic number P4: a header in ASCII, then the rows from the top, 8 pixels a byte,
--- the leftmost pixel in the highest bit, 1 for black. The bits behind a row's last pixel are 0 (profile). The header has
+-- Netpbm, "PBM", the format with raster, magic number P4: a header in ASCII, then the rows from the top, 8 pixels a
+-- byte,
+-- the leftmost pixel in the highest bit, 1 for black. The bits behind a row's last pixel are 0 (profile). The header
+-- has
 -- one line feed, one space and one line feed where the standard lets any white space stand (profile).
 use Rattle.std.specs.Prelude.{◌≡◌, refl, ℕ, zero, suc, ◌+◌, ◌*◌, ◌/◌, ◌%◌, ◌^◌, Bool, true, false, ◌&&◌, nat_lt, nat_le, if◌then◌else◌, take, List, [], ◌∷◌, ◌++◌, map, codes, decimal}
 use Rattle.std.specs.Fmt.{digits}
@@ -27,8 +29,10 @@ weighed true n = omega arith
 weighed false n = omega arith
 
 -- so a byte is the sum of 128 / 2^j over its black columns j
-pub byte_sum : (is_black : ℕ → Bool) → columns 8 is_black ≡ sum_by (λ j. if is_black j then 128 / 2 ^ j else 0) (range_with_len 0 8)
-byte_sum is_black = omega (arith, weighed (is_black 0) 128, weighed (is_black 1) 64, weighed (is_black 2) 32, weighed (is_black 3) 16, weighed (is_black 4) 8, weighed (is_black 5) 4, weighed (is_black 6) 2)
+pub byte_sum : (is_black : ℕ → Bool) → columns 8 is_black ≡ sum_by (λ j. if is_black j then 128 / 2 ^ j else 0)
+    (range_with_len 0 8)
+byte_sum is_black = omega
+    (arith, weighed (is_black 0) 128, weighed (is_black 1) 64, weighed (is_black 2) 32, weighed (is_black 3) 16, weighed (is_black 4) 8, weighed (is_black 5) 4, weighed (is_black 6) 2)
 
 -- column c lies within the width, and is black in row r
 abbrev pub shows : ℕ → (ℕ → ℕ → Bool) → ℕ → ℕ → Bool

@@ -22,7 +22,8 @@ use Rattle.tt_render.specs.Views.{run_fault_of_font, run_fault_of_draw}
 use Rattle.tt_render.proofs.Calls.{IsOfFont, IsRead, font_fails, late_job_fails, memory_fails, known_of, tells_of_known}
 
 -- reading a font refuses no job
-pub reading_job : (e : RunFault) (before after : Option (List ℕ)) (read : Bool) (P : JobFault → Type 0) → ReadFails e before after read → IfJob {V = Unit {0}} (Err e) P
+pub reading_job : (e : RunFault) (before after : Option (List ℕ)) (read : Bool) (P : JobFault → Type 0)
+    → ReadFails e before after read → IfJob {V = Unit {0}} (Err e) P
 reading_job (run.Font f) before after read P fails = tt
 reading_job (run.Job j) before after read P fails = absurd fails
 reading_job run.Read before after read P fails = tt
@@ -30,7 +31,8 @@ reading_job run.FontLarge before after read P fails = tt
 reading_job (run.Write sent) before after read P fails = tt
 reading_job run.Memory before after read P fails = tt
 
-pub reading_large : (e : RunFault) (before after : Option (List ℕ)) (read : Bool) → ReadFails e before after read → IfLarge {V = Unit {0}} (Err e) (IfSome before (λ file. font_limit < length file))
+pub reading_large : (e : RunFault) (before after : Option (List ℕ)) (read : Bool) → ReadFails e before after read
+    → IfLarge {V = Unit {0}} (Err e) (IfSome before (λ file. font_limit < length file))
 reading_large (run.Font f) before after read fails = tt
 reading_large (run.Job j) before after read fails = tt
 reading_large run.Read before after read fails = tt
@@ -39,7 +41,8 @@ reading_large (run.Write sent) before after read fails = tt
 reading_large run.Memory before after read fails = tt
 
 -- and names no defect
-pub reading_defects : (e : RunFault) (before after : Option (List ℕ)) (read : Bool) (IsOne : List ℕ → Fault → Type 0) → ReadFails e before after read → TellsDefectsOf {V = Unit {0}} before IsOne (Err e)
+pub reading_defects : (e : RunFault) (before after : Option (List ℕ)) (read : Bool) (IsOne : List ℕ → Fault → Type 0)
+    → ReadFails e before after read → TellsDefectsOf {V = Unit {0}} before IsOne (Err e)
 reading_defects e None after read IsOne fails = tt
 reading_defects (run.Font f) (Some file) after read IsOne fails = absurd fails
 reading_defects (run.Job j) (Some file) after read IsOne fails = tt
@@ -56,20 +59,32 @@ late_refusal face a fault.EmptyPicture stands = refl
 late_refusal face a fault.PictureLarge stands = refl
 late_refusal face a fault.MarginRange stands = absurd stands
 
-late : (r : Result Face Fault) (a : Ask) (j : JobFault) → IsOkAnd r (λ face. IsExtentRefusal face a j) → needs_font j ≡ true
+late : (r : Result Face Fault) (a : Ask) (j : JobFault) → IsOkAnd r (λ face. IsExtentRefusal face a j) → needs_font j
+    ≡ true
 late (Ok face) a j stands = late_refusal face a j stands
 late (Err f) a j stands = absurd stands
 
 -- a picture was not made of what was read
-pub drawing_fails : (w : Wanted) (made : List ℕ → Result (List ℕ) Refused) → IsOfFont w made → (a : Ask) (d : DrawFault) (before after out : Option (List ℕ)) (file : List ℕ) (read write : Bool) → IsRead before after file read write → IfSome (refusal d) (λ e. made file ≡ Err e) → IfSome (draw_job_fault d) (λ j. IsOkAnd (face_of file) (λ face. IsExtentRefusal face a j)) → CallFails (run_fault_of_draw d) (record { left_before = before; left_after = after; read_failed = read; out_before = out; out_after = out; write_failed = write }) w
-drawing_fails w made of_made a (draw.Font f) before after out file read write r fails extent = font_fails w made of_made f before after out file read write r fails
-drawing_fails w made of_made a (draw.Job j) before after out file read write r fails extent = late_job_fails w made of_made j before after out file read write r fails (late (face_of file) a j extent)
-drawing_fails w made of_made a draw.Memory before after out file read write r fails extent = memory_fails w made of_made before after out file read write r
+pub drawing_fails : (w : Wanted) (made : List ℕ → Result (List ℕ) Refused) → IsOfFont w made → (a : Ask) (d : DrawFault)
+    (before after out : Option (List ℕ)) (file : List ℕ) (read write : Bool) → IsRead before after file read write
+    → IfSome (refusal d) (λ e. made file ≡ Err e) → IfSome (draw_job_fault d)
+    (λ j. IsOkAnd (face_of file) (λ face. IsExtentRefusal face a j)) → CallFails (run_fault_of_draw d)
+    (record { left_before = before; left_after = after; read_failed = read; out_before = out; out_after = out; write_failed = write }) w
+drawing_fails w made of_made a (draw.Font f) before after out file read write r fails extent =
+    font_fails w made of_made f before after out file read write r fails
+drawing_fails w made of_made a (draw.Job j) before after out file read write r fails extent =
+    late_job_fails w made of_made j before after out file read write r fails (late (face_of file) a j extent)
+drawing_fails w made of_made a draw.Memory before after out file read write r fails extent =
+    memory_fails w made of_made before after out file read write r
 
-pub drawing_job : (a : Ask) (d : DrawFault) (before after : Option (List ℕ)) (file : List ℕ) → Consumes before after file → IsAtEnd after → IfSome (draw_job_fault d) (λ j. IsOkAnd (face_of file) (λ face. IsExtentRefusal face a j)) → IfJob {V = Unit {0}} (Err (run_fault_of_draw d)) (IsJobRefusal a before)
+pub drawing_job : (a : Ask) (d : DrawFault) (before after : Option (List ℕ)) (file : List ℕ)
+    → Consumes before after file → IsAtEnd after → IfSome (draw_job_fault d)
+    (λ j. IsOkAnd (face_of file) (λ face. IsExtentRefusal face a j)) → IfJob {V = Unit {0}} (Err (run_fault_of_draw d))
+    (IsJobRefusal a before)
 drawing_job a (draw.Font f) before after file taken end extent = tt
 drawing_job a (draw.Job j) before after file taken end extent =
-    rw (late (face_of file) a j extent) (known_of before after file (λ file. IsOkAnd (face_of file) (λ face. IsExtentRefusal face a j)) taken end extent)
+    rw (late (face_of file) a j extent) (known_of before after file
+    (λ file. IsOkAnd (face_of file) (λ face. IsExtentRefusal face a j)) taken end extent)
 drawing_job a draw.Memory before after file taken end extent = tt
 
 pub drawing_large : (d : DrawFault) (P : Type 0) → IfLarge {V = Unit {0}} (Err (run_fault_of_draw d)) P
@@ -77,15 +92,26 @@ drawing_large (draw.Font f) P = tt
 drawing_large (draw.Job j) P = tt
 drawing_large draw.Memory P = tt
 
-pub drawing_defects : (d : DrawFault) (before after : Option (List ℕ)) (file : List ℕ) (IsOne : List ℕ → Fault → Type 0) → Consumes before after file → IsAtEnd after → IfSome (draw_font_fault d) (IsOne file) → TellsDefectsOf {V = Unit {0}} before IsOne (Err (run_fault_of_draw d))
-drawing_defects (draw.Font f) before after file IsOne taken end stands = tells_of_known IsOne before after file (Err (run.Font f)) taken end stands
-drawing_defects (draw.Job j) before after file IsOne taken end stands = tells_of_known IsOne before after file (Err (run.Job j)) taken end tt
-drawing_defects draw.Memory before after file IsOne taken end stands = tells_of_known IsOne before after file (Err run.Memory) taken end tt
+pub drawing_defects : (d : DrawFault) (before after : Option (List ℕ)) (file : List ℕ) (IsOne : List ℕ → Fault → Type 0)
+    → Consumes before after file → IsAtEnd after → IfSome (draw_font_fault d) (IsOne file)
+    → TellsDefectsOf {V = Unit {0}} before IsOne (Err (run_fault_of_draw d))
+drawing_defects (draw.Font f) before after file IsOne taken end stands = tells_of_known IsOne before after file
+    (Err (run.Font f)) taken end stands
+drawing_defects (draw.Job j) before after file IsOne taken end stands = tells_of_known IsOne before after file
+    (Err (run.Job j)) taken end tt
+drawing_defects draw.Memory before after file IsOne taken end stands = tells_of_known IsOne before after file
+    (Err run.Memory) taken end tt
 
 -- lines were not made of what was read
-pub lines_fail : (w : Wanted) (of : List ℕ → Result (List ℕ) Fault) → IsOfFont w (λ file. as_font (of file)) → (d : FontFault) (before after out : Option (List ℕ)) (file : List ℕ) (read write : Bool) → IsRead before after file read write → IfSome (font_fault d) (λ f. of file ≡ Err f) → CallFails (run_fault_of_font d) (record { left_before = before; left_after = after; read_failed = read; out_before = out; out_after = out; write_failed = write }) w
-lines_fail w of of_made (font_of.Font f) before after out file read write r fails = font_fails w (λ file. as_font (of file)) of_made f before after out file read write r (rw fails refl)
-lines_fail w of of_made font_of.Memory before after out file read write r fails = memory_fails w (λ file. as_font (of file)) of_made before after out file read write r
+pub lines_fail : (w : Wanted) (of : List ℕ → Result (List ℕ) Fault) → IsOfFont w (λ file. as_font (of file))
+    → (d : FontFault) (before after out : Option (List ℕ)) (file : List ℕ) (read write : Bool)
+    → IsRead before after file read write → IfSome (font_fault d) (λ f. of file ≡ Err f)
+    → CallFails (run_fault_of_font d)
+    (record { left_before = before; left_after = after; read_failed = read; out_before = out; out_after = out; write_failed = write }) w
+lines_fail w of of_made (font_of.Font f) before after out file read write r fails = font_fails w
+    (λ file. as_font (of file)) of_made f before after out file read write r (rw fails refl)
+lines_fail w of of_made font_of.Memory before after out file read write r fails = memory_fails w
+    (λ file. as_font (of file)) of_made before after out file read write r
 
 pub lines_job : (d : FontFault) (P : JobFault → Type 0) → IfJob {V = Unit {0}} (Err (run_fault_of_font d)) P
 lines_job (font_of.Font f) P = tt
@@ -95,6 +121,10 @@ pub lines_large : (d : FontFault) (P : Type 0) → IfLarge {V = Unit {0}} (Err (
 lines_large (font_of.Font f) P = tt
 lines_large font_of.Memory P = tt
 
-pub lines_defects : (d : FontFault) (before after : Option (List ℕ)) (file : List ℕ) (IsOne : List ℕ → Fault → Type 0) → Consumes before after file → IsAtEnd after → IfSome (font_fault d) (IsOne file) → TellsDefectsOf {V = Unit {0}} before IsOne (Err (run_fault_of_font d))
-lines_defects (font_of.Font f) before after file IsOne taken end stands = tells_of_known IsOne before after file (Err (run.Font f)) taken end stands
-lines_defects font_of.Memory before after file IsOne taken end stands = tells_of_known IsOne before after file (Err run.Memory) taken end tt
+pub lines_defects : (d : FontFault) (before after : Option (List ℕ)) (file : List ℕ) (IsOne : List ℕ → Fault → Type 0)
+    → Consumes before after file → IsAtEnd after → IfSome (font_fault d) (IsOne file)
+    → TellsDefectsOf {V = Unit {0}} before IsOne (Err (run_fault_of_font d))
+lines_defects (font_of.Font f) before after file IsOne taken end stands = tells_of_known IsOne before after file
+    (Err (run.Font f)) taken end stands
+lines_defects font_of.Memory before after file IsOne taken end stands = tells_of_known IsOne before after file
+    (Err run.Memory) taken end tt

@@ -6,7 +6,8 @@ or_false : (b : Bool) → b ≡ (b || false)
 or_false true = refl
 or_false false = refl
 
-decided : (f : ℕ → Bool) (k c : ℕ) (b : Bool) → (k == c) ≡ b → (nat_lt k (c + 1) && f k) ≡ ((nat_lt k c && f k) || (b && f c))
+decided : (f : ℕ → Bool) (k c : ℕ) (b : Bool) → (k == c) ≡ b → (nat_lt k (c + 1) && f k)
+    ≡ ((nat_lt k c && f k) || (b && f c))
 decided f k c true same =
     let here : k ≡ c = grind (arith, nat_tests) in
     let within : nat_lt c (c + 1) ≡ true = grind (arith, nat_tests) in
@@ -21,5 +22,6 @@ or_or true b c = refl
 or_or false b c = refl
 
 -- the columns below c, and column c
-pub one_more : (f : ℕ → Bool) (old : Bool) (k c : ℕ) → ((old || (nat_lt k c && f k)) || ((k == c) && f c)) ≡ (old || (nat_lt k (c + 1) && f k))
+pub one_more : (f : ℕ → Bool) (old : Bool) (k c : ℕ) → ((old || (nat_lt k c && f k)) || ((k == c) && f c))
+    ≡ (old || (nat_lt k (c + 1) && f k))
 one_more f old k c = rw (decided f k c (k == c) refl) (or_or old (nat_lt k c && f k) ((k == c) && f c))

@@ -18,17 +18,21 @@ failed_first (Err d) k e fails = cc
 abbrev FailsAt : {A B E : Type 0} → (A → Result B E) → List A → A → E → Type 0
 FailsAt f xs d e = (i : ℕ) × (i < length xs) × (f (get_or xs i d) ≡ Err e)
 
-later : {A B E : Type 0} (f : A → Result B E) (x : A) (xs : List A) (d : A) (e : E) → FailsAt f xs d e → FailsAt f (x ∷ xs) d e
+later : {A B E : Type 0} (f : A → Result B E) (x : A) (xs : List A) (d : A) (e : E) → FailsAt f xs d e
+    → FailsAt f (x ∷ xs) d e
 later f x xs d e there = (suc there.0, omega (arith, there.1), there.2)
 
 rest_failed : {B E : Type 0} (y : B) (r : Result (List B) E) (e : E) → (r >>= λ ys. Ok (y ∷ ys)) ≡ Err e → r ≡ Err e
 rest_failed y (Ok ys) e fails = absurd (cc)
 rest_failed y (Err d) e fails = cc
 
-same_err : {B C E : Type 0} (why e : E) → ◌≡◌ {A = Result C E} (Err why) (Err e) → ◌≡◌ {A = Result B E} (Err why) (Err e)
+same_err : {B C E : Type 0} (why e : E) → ◌≡◌ {A = Result C E} (Err why) (Err e) → ◌≡◌ {A = Result B E} (Err why)
+    (Err e)
 same_err why e same = cc
 
-first_or_later : {A B E : Type 0} (f : A → Result B E) (x : A) (xs : List A) (d : A) (e : E) (r : Result B E) → f x ≡ r → (each f xs ≡ Err e → FailsAt f xs d e) → (r >>= λ y. each f xs >>= λ ys. Ok (y ∷ ys)) ≡ Err e → FailsAt f (x ∷ xs) d e
+first_or_later : {A B E : Type 0} (f : A → Result B E) (x : A) (xs : List A) (d : A) (e : E) (r : Result B E) → f x ≡ r
+    → (each f xs ≡ Err e → FailsAt f xs d e) → (r >>= λ y. each f xs >>= λ ys. Ok (y ∷ ys)) ≡ Err e
+    → FailsAt f (x ∷ xs) d e
 first_or_later f x xs d e (Ok y) is others fails = later f x xs d e (others (rest_failed y (each f xs) e fails))
 first_or_later f x xs d e (Err why) is others fails = (zero, omega arith, is ∙ same_err why e fails)
 
@@ -36,18 +40,22 @@ each_failed : {A B E : Type 0} (f : A → Result B E) (xs : List A) (d : A) (e :
 each_failed f [] d e fails = absurd (cc)
 each_failed f (x ∷ xs) d e fails = first_or_later f x xs d e (f x) refl (each_failed f xs d e) fails
 
-first_was : {A B E : Type 0} (f : A → Result B E) (x : A) (e : E) (next : B → Result (List B) E) → f x ≡ Err e → (f x >>= next) ≡ Err e
+first_was : {A B E : Type 0} (f : A → Result B E) (x : A) (e : E) (next : B → Result (List B) E) → f x ≡ Err e
+    → (f x >>= next) ≡ Err e
 first_was f x e next fails = rw fails refl
 
-rest_was : {B E : Type 0} (r : Result B E) (s : Result (List B) E) (ys : List B) → (r >>= λ y. s >>= λ zs. Ok (y ∷ zs)) ≡ Ok ys → (zs : List B) × (s ≡ Ok zs)
+rest_was : {B E : Type 0} (r : Result B E) (s : Result (List B) E) (ys : List B) → (r >>= λ y. s >>= λ zs. Ok (y ∷ zs))
+    ≡ Ok ys → (zs : List B) × (s ≡ Ok zs)
 rest_was (Ok y) (Ok zs) ys done = (zs, refl)
 rest_was (Ok y) (Err e) ys done = absurd (cc)
 rest_was (Err e) s ys done = absurd (cc)
 
 -- where all were made, none has a fault
-each_made : {A B E : Type 0} (f : A → Result B E) (xs : List A) (ys : List B) (d : A) (e : E) (i : ℕ) → each f xs ≡ Ok ys → i < length xs → f (get_or xs i d) ≡ Err e → ⊥
+each_made : {A B E : Type 0} (f : A → Result B E) (xs : List A) (ys : List B) (d : A) (e : E) (i : ℕ) → each f xs
+    ≡ Ok ys → i < length xs → f (get_or xs i d) ≡ Err e → ⊥
 each_made f [] ys d e i made below fails = absurd (omega arith)
-each_made f (x ∷ xs) ys d e zero made below fails = let whole = first_was f x e (λ y. each f xs >>= λ ys. Ok (y ∷ ys)) fails in absurd (cc)
+each_made f (x ∷ xs) ys d e zero made below fails = let whole = first_was f x e
+    (λ y. each f xs >>= λ ys. Ok (y ∷ ys)) fails in absurd (cc)
 each_made f (x ∷ xs) ys d e (suc i) made below fails =
     let rest = rest_was (f x) (each f xs) ys made in each_made f xs rest.0 d e i rest.1 (omega arith) fails
 
@@ -60,13 +68,15 @@ number_at [] i = refl
 number_at (g ∷ gs) zero = refl
 number_at (g ∷ gs) (suc i) = number_at gs i
 
-pub defect_of_line : (s : Setting) (gs : List (ℕ × ℕ)) (e : Fault) → each (glyph_edges s) gs ≡ Err e → IsGlyphDefect s (map (λ g. g.0) gs) e
+pub defect_of_line : (s : Setting) (gs : List (ℕ × ℕ)) (e : Fault) → each (glyph_edges s) gs ≡ Err e → IsGlyphDefect s
+    (map (λ g. g.0) gs) e
 defect_of_line s gs e fails =
     let there = each_failed (glyph_edges s) gs (0, 0) e fails in
     let many = length-map gs (λ (g : ℕ × ℕ). g.0) in
     (there.0, omega (arith, there.1), rw (number_at gs there.0) (glyph_failed s (get_or gs there.0 (0, 0)) e there.2))
 
-pub no_defect_of_line : (s : Setting) (gs : List (ℕ × ℕ)) (tapes : List (List Edge)) → each (glyph_edges s) gs ≡ Ok tapes → HasNo (IsGlyphDefect s (map (λ g. g.0) gs))
+pub no_defect_of_line : (s : Setting) (gs : List (ℕ × ℕ)) (tapes : List (List Edge)) → each (glyph_edges s) gs
+    ≡ Ok tapes → HasNo (IsGlyphDefect s (map (λ g. g.0) gs))
 no_defect_of_line s gs tapes made = λ e there.
     let many = length-map gs (λ (g : ℕ × ℕ). g.0) in
     let below : there.0 < length gs = omega (arith, there.1) in

@@ -9,7 +9,8 @@ or_true true = refl
 or_true false = refl
 
 -- a glyph that one of them has is among them
-pub is_kept : (kept : List Fitted) (i g : ℕ) → i < length kept → ((d : Fitted) → (get_or kept i d).glyph ≡ g) → is_among g (glyphs_kept kept) ≡ true
+pub is_kept : (kept : List Fitted) (i g : ℕ) → i < length kept → ((d : Fitted) → (get_or kept i d).glyph ≡ g)
+    → is_among g (glyphs_kept kept) ≡ true
 is_kept [] i g below same = absurd (omega arith)
 is_kept (k ∷ ks) zero g below same =
     let it : k.glyph ≡ g = same k in

@@ -21,11 +21,13 @@ use Rattle.tt_render.specs.Picture.{no_programs, glyphs_in, setting_in}
 
 -- a defect of the directory, or of a table that every text is looked up in
 abbrev pub IsFaceDefect : List ℕ → Fault → Type 0
-IsFaceDefect file fault = IsDirectoryDefect file fault ⊎ IsMetricsDefect file fault ⊎ IsDefectIn file cmap_tag IsBadCmap fault
+IsFaceDefect file fault = IsDirectoryDefect file fault ⊎ IsMetricsDefect file fault
+    ⊎ IsDefectIn file cmap_tag IsBadCmap fault
 
 -- a defect of loca, or of where glyf stands
 abbrev pub IsGlyphTableDefect : List ℕ → Fields → Fault → Type 0
-IsGlyphTableDefect directory m fault = IsDefectIn directory loca_tag (λ loca. IsLocaDefect loca m) fault ⊎ IsTableDefect directory glyf_tag fault
+IsGlyphTableDefect directory m fault = IsDefectIn directory loca_tag (λ loca. IsLocaDefect loca m) fault
+    ⊎ IsTableDefect directory glyf_tag fault
 
 -- one of some glyphs has no outline but this fault
 abbrev pub IsGlyphDefect : Setting → List ℕ → Fault → Type 0
@@ -33,7 +35,8 @@ IsGlyphDefect s glyphs fault = (i : ℕ) × (i < length glyphs) × (fitted_outli
 
 -- what the font's programs leave is this fault
 abbrev pub IsPreparationDefect : Face → Ask → Fault → Type 0
-IsPreparationDefect face a fault = IsOkAnd (glyphs_in face.directory face.metrics) (λ tables. setting_of face.metrics tables no_programs a.ppem a.fit ≡ Err fault)
+IsPreparationDefect face a fault = IsOkAnd (glyphs_in face.directory face.metrics)
+    (λ tables. setting_of face.metrics tables no_programs a.ppem a.fit ≡ Err fault)
 
 -- a defect of what outlines are made from
 abbrev pub IsSettingDefect : Face → Ask → Fault → Type 0
@@ -41,11 +44,13 @@ IsSettingDefect face a fault = IsGlyphTableDefect face.directory face.metrics fa
 
 -- a defect of what some glyphs are drawn from
 abbrev pub IsLineDefect : Face → Ask → List ℕ → Fault → Type 0
-IsLineDefect face a glyphs fault = IsSettingDefect face a fault ⊎ IsOkAnd (setting_in face a) (λ s. IsGlyphDefect s glyphs fault)
+IsLineDefect face a glyphs fault = IsSettingDefect face a fault ⊎ IsOkAnd (setting_in face a)
+    (λ s. IsGlyphDefect s glyphs fault)
 
 -- a defect of what every text is looked up in, or of what the glyphs of this one are drawn from
 abbrev pub IsRunDefect : Ask → List ℕ → Fault → Type 0
-IsRunDefect a file fault = IsFaceDefect file fault ⊎ IsOkAnd (face_of file) (λ face. IsLineDefect face a (text_glyphs face.lookup a.text) fault)
+IsRunDefect a file fault = IsFaceDefect file fault ⊎ IsOkAnd (face_of file)
+    (λ face. IsLineDefect face a (text_glyphs face.lookup a.text) fault)
 
 -- Ok means that there is no defect, and a fault that an error tells is one
 abbrev pub TellsDefects : {V E : Type 0} → (E → Option Fault) → (Fault → Type 0) → Result V E → Type 0

@@ -19,7 +19,8 @@ code_point c = at_least_four (digits 16 true c)
 
 -- `U+NNNN glyph advance` and a line feed
 abbrev pub line_text : ℕ → ℕ → ℕ → List ℕ
-line_text c glyph advance = codes "U+" ++ (code_point c ++ (codes " " ++ (decimal glyph ++ (codes " " ++ (decimal advance ++ codes "\n")))))
+line_text c glyph advance = codes "U+" ++ (code_point c ++
+    (codes " " ++ (decimal glyph ++ (codes " " ++ (decimal advance ++ codes "\n")))))
 
 abbrev pub map_line : Fields → Lookup → ℕ → List ℕ
 map_line m lookup c = line_text c (glyph_of lookup c) (advance_of m (glyph_of lookup c))

@@ -30,7 +30,8 @@ abbrev pub of_font : (List ℕ → Result (List ℕ) Refused) → List ℕ → R
 of_font made file = if nat_lt font_limit (length file) then Err large else made file
 
 -- what is to be written for a font file, or why nothing is: the job is tested first, then the file's size
-abbrev pub outcome_of : Result (Unit {0}) JobFault → (List ℕ → Result (List ℕ) Refused) → List ℕ → Result (List ℕ) Refused
+abbrev pub outcome_of : Result (Unit {0}) JobFault → (List ℕ → Result (List ℕ) Refused) → List ℕ
+    → Result (List ℕ) Refused
 outcome_of tested made file = as_job tested >>= λ u. of_font made file
 
 -- what stops the making of a picture: nothing is told where memory ran out
@@ -81,25 +82,31 @@ pub record Wanted : Type 0 where
 
 -- a job is refused by what the reader had, or by itself, whatever the reader has, of which then nothing is read
 abbrev pub JobFails : Bool → JobFault → Traffic → Wanted → Type 0
-JobFails true j t w = (w.tested ≡ Ok tt) × IfSome t.left_before (λ file. w.bytes file ≡ Err (job j)) × IsAtEnd t.left_after × Untouched t
-JobFails false j t w = (w.tested ≡ Err j) × ((file : List ℕ) → w.bytes file ≡ Err (job j)) × Keeps t.left_before t.left_after × Untouched t
+JobFails true j t w = (w.tested ≡ Ok tt) × IfSome t.left_before (λ file. w.bytes file ≡ Err (job j))
+    × IsAtEnd t.left_after × Untouched t
+JobFails false j t w = (w.tested ≡ Err j) × ((file : List ℕ) → w.bytes file ≡ Err (job j))
+    × Keeps t.left_before t.left_after × Untouched t
 
 abbrev pub CallFails : RunFault → Traffic → Wanted → Type 0
 CallFails (run.Font f) t w =
     (w.tested ≡ Ok tt) × IfSome t.left_before (λ file. w.bytes file ≡ Err (font f)) × IsAtEnd t.left_after × Untouched t
 CallFails (run.Job j) t w = JobFails (needs_font j) j t w
 CallFails run.Read t w =
-    (w.tested ≡ Ok tt) × (t.read_failed ≡ true) × Advances t.left_before t.left_after × Keeps t.out_before t.out_after × (t.write_failed ≡ false)
+    (w.tested ≡ Ok tt) × (t.read_failed ≡ true) × Advances t.left_before t.left_after × Keeps t.out_before t.out_after
+    × (t.write_failed ≡ false)
 CallFails run.FontLarge t w =
-    (w.tested ≡ Ok tt) × IfSome t.left_before (λ file. w.bytes file ≡ Err large) × Advances t.left_before t.left_after × Untouched t
+    (w.tested ≡ Ok tt) × IfSome t.left_before (λ file. w.bytes file ≡ Err large) × Advances t.left_before t.left_after
+    × Untouched t
 CallFails (run.Write sent) t w =
-    (w.tested ≡ Ok tt) × IfSome t.left_before (WithBytes w.bytes (SendsFirst sent t)) × IsAtEnd t.left_after × (t.read_failed ≡ false) × (t.write_failed ≡ true)
+    (w.tested ≡ Ok tt) × IfSome t.left_before (WithBytes w.bytes (SendsFirst sent t)) × IsAtEnd t.left_after
+    × (t.read_failed ≡ false) × (t.write_failed ≡ true)
 CallFails run.Memory t w = (w.tested ≡ Ok tt) × Advances t.left_before t.left_after × Untouched t
 
 -- a call wrote all of the bytes that are wanted for what the reader had, or failed so
 abbrev pub CallGives : {V : Type 0} → Result V RunFault → Traffic → Wanted → Type 0
 CallGives (Ok v) t w =
-    (w.tested ≡ Ok tt) × IfSome t.left_before (WithBytes w.bytes (SendsAll t)) × IsAtEnd t.left_after × (t.read_failed ≡ false) × (t.write_failed ≡ false)
+    (w.tested ≡ Ok tt) × IfSome t.left_before (WithBytes w.bytes (SendsAll t)) × IsAtEnd t.left_after
+    × (t.read_failed ≡ false) × (t.write_failed ≡ false)
 CallGives (Err e) t w = CallFails e t w
 
 -- this holds of a refusal of the job

@@ -1,4 +1,5 @@
--- The picture of a line of text: each glyph's outline moved to its pen, blackened by the scan converter's rules (OpenType,
+-- The picture of a line of text: each glyph's outline moved to its pen, blackened by the scan converter's rules
+-- (OpenType,
 -- "TrueType Fundamentals"), written as format P4 of Netpbm's PBM. Margins and limits are profile.
 use Rattle.std.specs.Prelude.{ℕ, ◌*◌, ◌≤◌, ◌||◌, nat_lt, if◌then◌else◌, ℤ, pos, ◌-ℤ◌, List, [], ◌∷◌, ◌++◌, length, get_or, chars, Result, Ok, Err}
 use Rattle.tt_arc.specs.Chords.{chord_edges}
@@ -34,7 +35,8 @@ glyphs_in directory m = do
 
 -- what the outlines are made from
 unfoldable pub setting_in : Face → Ask → Result Setting Fault
-setting_in face a = glyphs_in face.directory face.metrics >>= λ tables. setting_of face.metrics tables no_programs a.ppem a.fit
+setting_in face a = glyphs_in face.directory face.metrics >>= λ tables. setting_of face.metrics tables no_programs
+    a.ppem a.fit
 
 -- the x of the first phantom point, which is to stand at the pen
 abbrev pub origin_of : Shape → ℤ

@@ -1,4 +1,5 @@
--- Which pixels of a line are black. OpenType, "TrueType Fundamentals", the scan converter's rules 1 and 2, for each glyph
+-- Which pixels of a line are black. OpenType, "TrueType Fundamentals", the scan converter's rules 1 and 2, for each
+-- glyph
 -- by itself: what one glyph winds round another does not count against.
 use Rattle.std.specs.Prelude.{◌≡◌, ℕ, ◌≤◌, ◌^◌, Bool, false, ◌||◌, ℤ, pos, List, [], ◌∷◌, length, map}
 use Rattle.tt_scan.specs.declared.edge.Edge.{Edge}

@@ -18,7 +18,8 @@ status_of run.Memory = 5
 -- `tt_render: <table>+<offset>: <number> <name>`
 abbrev pub font_line : Fault → List ℕ
 font_line f =
-    codes "tt_render: " ++ (f.table ++ (codes "+" ++ (decimal f.offset ++ (codes ": " ++ (decimal (why_number f.why) ++ (codes " " ++ why_name f.why))))))
+    codes "tt_render: " ++ (f.table ++ (codes "+" ++ (decimal f.offset
+    ++ (codes ": " ++ (decimal (why_number f.why) ++ (codes " " ++ why_name f.why))))))
 
 -- `tt_render: <number> <name>`
 abbrev pub job_line : JobFault → List ℕ
@@ -33,6 +34,7 @@ line_of (run.Write sent) = codes "tt_render: cannot write after " ++ (decimal se
 line_of run.Memory = codes "tt_render: out of memory"
 
 -- a worked value
-an_instruction_outside : line_of (run.Font (fault_at (codes "glyf") 14 why.OffProfile)) ≡ codes "tt_render: glyf+14: 35 OffProfile"
+an_instruction_outside : line_of (run.Font (fault_at (codes "glyf") 14 why.OffProfile))
+    ≡ codes "tt_render: glyf+14: 35 OffProfile"
 unfolding digits why_number why_name
 an_instruction_outside = refl

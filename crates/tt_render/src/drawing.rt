@@ -14,10 +14,10 @@ ghost use Rattle.tt_render.specs.Picture.{drawn, pictured, setting_in, glyphs_in
 ghost use Rattle.tt_render.specs.Views.{picture_bytes};
 
 use crate::bitmap::bitmap;
-use crate::tapes::tapes;
 use crate::face::{Face, open_face};
 use crate::fault::DrawFault;
 use crate::job::Job;
+use crate::tapes::tapes;
 use std::alloc::Global;
 use tt_core::{Fault, FontFault};
 use tt_fit::{Fitter, Programs};

@@ -30,11 +30,7 @@ fn find(kept: &[Fitted], glyph: u16) -> Option<usize>
 }
 
 /// Where the outline of a glyph is kept; it is made if it is not there, and stands behind the others.
-pub(crate) fn keep(
-    kept: &mut Vec<Fitted>,
-    fitter: &Fitter,
-    glyph: u16,
-) -> Result<usize, FontFault>
+pub(crate) fn keep(kept: &mut Vec<Fitted>, fitter: &Fitter, glyph: u16) -> Result<usize, FontFault>
     requires known { glyph < fitter.now.tables.glyphs }
     requires kept { All (IsFitted fitter.now) kept.old.items }
     ensures found { IfOk result (λ i. (i < length kept.new.items) × ((d : Fitted) → (get_or kept.new.items i d).glyph ≡ glyph)) }

@@ -9,9 +9,9 @@ ghost use Rattle.tt_render.specs.Outcome.{CallGives, IfJob, IfLarge};
 ghost use Rattle.tt_render.specs.Picture.{run_wanted};
 ghost use Rattle.tt_render.specs.Views.{picture_bytes};
 
+use crate::drawing::{Picture, draw};
 use crate::fault::RunFault;
 use crate::job::Job;
-use crate::drawing::{Picture, draw};
 use crate::limits::test_job;
 use crate::reading::read_font;
 use std::alloc::Global;

@@ -37,8 +37,8 @@ Tells (Err fault) status e = TellsFault fault status e ⊎ TellsFault run.Memory
 
 -- a call gave some answer, with what its contract says of the devices, and the program told that answer
 pub record Does (wanted : Wanted) (IsDefect : List ℕ → Fault → Type 0) (t : Traffic) (e : Errors) (status : ℕ) : Type 0
-    where
-  pub answer : Result (Unit {0}) RunFault
-  pub outcome : CallGives answer t wanted
-  pub defects : TellsDefectsOf t.left_before IsDefect answer
-  pub told : Tells answer status e
+  where
+    pub answer : Result (Unit {0}) RunFault
+    pub outcome : CallGives answer t wanted
+    pub defects : TellsDefectsOf t.left_before IsDefect answer
+    pub told : Tells answer status e

@@ -4,7 +4,8 @@ use Rattle.std.proofs.lemmas.Int.{ints}
 use Rattle.tt_fit.specs.Outline.{IsPoint}
 use Rattle.tt_arc.specs.Chords.{IsNear}
 
-pub near_of : (dx : ℤ) (ps : List (ℤ × ℤ × Bool)) → unsigned_abs dx ≤ 2097151 → All IsPoint ps → All (IsNear dx (pos 0)) ps
+pub near_of : (dx : ℤ) (ps : List (ℤ × ℤ × Bool)) → unsigned_abs dx ≤ 2097151 → All IsPoint ps
+    → All (IsNear dx (pos 0)) ps
 near_of dx ps small points k d below =
     let p = points k d below in
     record { x = omega (arith, ints, p.0, small); y = omega (arith, ints, p.1) }

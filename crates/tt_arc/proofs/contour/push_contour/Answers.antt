@@ -12,7 +12,9 @@ loop-point-init c =
     let ps = c.args.points.now in
     let f = moved c.args.by.dx c.args.by.dy in
     record {
-      walked = ap (λ es. c.args.tape.now.edges ++ es) (contour_is f ps nowhere c.moved-first.result c.moved-before.result c.if-points-lt2.false c.moved-first.ensures c.moved-before.ensures);
+      walked = ap (λ es. c.args.tape.now.edges ++ es)
+          (contour_is f ps nowhere c.moved-first.result c.moved-before.result c.if-points-lt2.false
+          c.moved-first.ensures c.moved-before.ensures);
       frame = refl;
       crosses = refl;
       rest = all_of_rest (IsNear c.args.by.dx c.args.by.dy) ps c.requires;
@@ -29,7 +31,9 @@ loop-point-preserved c =
     let inv = c.loop-point.invariant in
     let pushed = c.in_ok-push_edges.ensures.exact in
     record {
-      walked = one_point_more f c.loop-point.tape.edges c.push_edges.new.tape.edges xs i nowhere c.loop-point.before c.loop-point.p c.moved-after.result c.moved-first.result c.loop-point-test.true c.moved-after.ensures (rw pushed refl) ∙ inv.walked;
+      walked = one_point_more f c.loop-point.tape.edges c.push_edges.new.tape.edges xs i nowhere c.loop-point.before
+          c.loop-point.p c.moved-after.result c.moved-first.result c.loop-point-test.true c.moved-after.ensures
+          (rw pushed refl) ∙ inv.walked;
       frame = rw pushed inv.frame;
       crosses = rw pushed inv.crosses;
       rest = inv.rest;

@@ -18,12 +18,15 @@ returns-clause-exact c =
     let a : SFits w64 c.weighed.result = search rules in
     let b : SFits w64 c.weighed-2.result = search rules in
     let d : SFits w64 c.weighed-3.result = search rules in
-    let two : SFits w64 (c.weighed.result +ℤ c.weighed-2.result) = omega (arith, ints, c.weighed.ensures.within, c.weighed-2.ensures.within) in
-    let three : SFits w64 ((c.weighed.result +ℤ c.weighed-2.result) +ℤ c.weighed-3.result) = omega (arith, ints, c.weighed.ensures.within, c.weighed-2.ensures.within, c.weighed-3.ensures.within) in
+    let two : SFits w64 (c.weighed.result +ℤ c.weighed-2.result) = omega
+    (arith, ints, c.weighed.ensures.within, c.weighed-2.ensures.within) in
+    let three : SFits w64 ((c.weighed.result +ℤ c.weighed-2.result) +ℤ c.weighed-3.result) = omega
+    (arith, ints, c.weighed.ensures.within, c.weighed-2.ensures.within, c.weighed-3.ensures.within) in
     let is_q = simp to_z-of_z at c.weighed.ensures.exact in
     let is_p = simp to_z-of_z at c.weighed-2.ensures.exact in
     let is_r = simp to_z-of_z at c.weighed-3.ensures.exact in
     simp to_z-of_z (rw (is_q, is_p, is_r) refl)
 
 pub returns-clause-within : goal.returns-clause-within
-returns-clause-within c = rw (returns-clause-exact c) (eighth_within c.args.k c.args.bend c.requires.fits c.requires.place)
+returns-clause-within c = rw (returns-clause-exact c) (eighth_within c.args.k c.args.bend c.requires.fits
+    c.requires.place)

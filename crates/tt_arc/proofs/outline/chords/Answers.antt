@@ -19,4 +19,5 @@ returns-clause-exact c =
 pub returns-clause-few : goal.returns-clause-few
 returns-clause-few c =
     let whole = returns-clause-exact c in
-    rw whole (few_edges c.args.outline.now.points.items c.args.outline.now.ends.items c.args.dx c.args.dy c.requires.ends)
+    rw whole (few_edges c.args.outline.now.points.items c.args.outline.now.ends.items c.args.dx c.args.dy
+    c.requires.ends)

@@ -6,14 +6,16 @@ use Rattle.tt_arc.proofs.outline.push_contours.Goals as goal
 
 pub slice_bounds-push_contour-count : goal.slice_bounds-push_contour-count
 slice_bounds-push_contour-count c =
-    rw c.loop-end.invariant.from (start_within (length c.args.points.now) c.args.ends.now c.requires.ends c.loop-end.end-index c.loop-end-test.true)
+    rw c.loop-end.invariant.from (start_within (length c.args.points.now) c.args.ends.now c.requires.ends
+    c.loop-end.end-index c.loop-end-test.true)
 
 pub slice_bounds-push_contour-start : goal.slice_bounds-push_contour-start
 slice_bounds-push_contour-start c = slice_bounds-push_contour-count c
 
 pub push_contour-requires : goal.push_contour-requires
 push_contour-requires c =
-    all_of_slice (IsNear c.args.by.dx c.args.by.dy) c.args.points.now c.loop-end.from (slice_index c.args.ends.now c.loop-end.end-index) c.requires.near
+    all_of_slice (IsNear c.args.by.dx c.args.by.dy) c.args.points.now c.loop-end.from
+    (slice_index c.args.ends.now c.loop-end.end-index) c.requires.near
 
 pub loop-end-preserved : goal.loop-end-preserved
 loop-end-preserved c =
@@ -21,7 +23,9 @@ loop-end-preserved c =
     let inv = c.loop-end.invariant in
     let pushed = c.in_ok-push_contour.ensures.exact in
     record {
-      walked = one_contour_more (moved c.args.by.dx c.args.by.dy) c.args.points.now c.args.ends.now c.loop-end.tape.edges c.push_contour.new.tape.edges c.loop-end.from i (slice_index c.args.ends.now i) c.loop-end-test.true inv.from refl (rw pushed refl) ∙ inv.walked;
+      walked = one_contour_more (moved c.args.by.dx c.args.by.dy) c.args.points.now c.args.ends.now
+          c.loop-end.tape.edges c.push_contour.new.tape.edges c.loop-end.from i
+          (slice_index c.args.ends.now i) c.loop-end-test.true inv.from refl (rw pushed refl) ∙ inv.walked;
       frame = rw pushed inv.frame;
       crosses = rw pushed inv.crosses;
       from = rw add-one refl;

@@ -11,7 +11,8 @@ returns-clause-exact c =
     let is_v = simp to_z-of_z at c.from.ensures in
     let low : unsigned_abs c.from.result ≤ 2 ^ 31 = omega (arith, ints) in
     let few : unsigned_abs c.from-2.result ≤ 2 ^ 15 = omega (arith, ints) in
-    let product : SFits w64 (c.from.result *ℤ c.from-2.result) = fits_signed_mul w64 c.from.result c.from-2.result (2 ^ 31) (2 ^ 15) low few (omega arith) in
+    let product : SFits w64 (c.from.result *ℤ c.from-2.result) = fits_signed_mul w64 c.from.result c.from-2.result
+    (2 ^ 31) (2 ^ 15) low few (omega arith) in
     let result : SFits w64 c.rq.result = search rules in
     let exact = simp to_z-of_z at c.rq.ensures.exact in
     simp to_z-of_z (rw (exact, is_v, c.from-2.ensures, c.from-3.ensures) refl)

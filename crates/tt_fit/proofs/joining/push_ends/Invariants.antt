@@ -3,4 +3,5 @@ use Rattle.tt_fit.specs.Components.{ends_after}
 use Rattle.tt_fit.proofs.joining.push_ends.Given as goal
 
 abbrev pub invariant-loop-end : goal.invariant-loop-end
-invariant-loop-end l = l.ends.items ++ ends_after l.points (drop l.end-index l.component) ≡ l.fn.ends.items ++ ends_after l.points l.component
+invariant-loop-end l = l.ends.items ++ ends_after l.points (drop l.end-index l.component) ≡ l.fn.ends.items
+    ++ ends_after l.points l.component

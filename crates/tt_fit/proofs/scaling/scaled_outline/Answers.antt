@@ -5,4 +5,6 @@ use Rattle.tt_fit.proofs.scaling.scaled_outline.Goals as goal
 
 pub returns-clause-sound : goal.returns-clause-sound
 returns-clause-sound c =
-    scaled-is c.in_ok-points.points.items c.in_ok-ends.ends.items c.args.last_points.now (length c.args.points.now) (phantom_of c.args.start.phantom) c.in_ok-points.ensures.many c.requires.few c.in_ok-points.ensures.coordinates c.requires.ends c.in_ok-ends.ensures c.requires.start.phantom
+    scaled-is c.in_ok-points.points.items c.in_ok-ends.ends.items c.args.last_points.now (length c.args.points.now)
+    (phantom_of c.args.start.phantom) c.in_ok-points.ensures.many c.requires.few c.in_ok-points.ensures.coordinates
+    c.requires.ends c.in_ok-ends.ensures c.requires.start.phantom

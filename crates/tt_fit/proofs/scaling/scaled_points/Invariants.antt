@@ -7,7 +7,8 @@ use Rattle.tt_fit.proofs.scaling.scaled_points.Given as goal
 
 abbrev pub invariant-loop-point : goal.invariant-loop-point
 invariant-loop-point l = record {
-  so_far : after_each (scaled_point (size_view l.size) l.at) (drop l.point-index l.points) l.scaled.items ≡ each (scaled_point (size_view l.size) l.at) l.points;
+  so_far : after_each (scaled_point (size_view l.size) l.at) (drop l.point-index l.points) l.scaled.items
+      ≡ each (scaled_point (size_view l.size) l.at) l.points;
   many : length l.scaled.items ≡ l.point-index;
   coordinates : All IsPoint l.scaled.items;
 }

@@ -7,4 +7,6 @@ use Rattle.tt_metrics.proofs.hmtx.read_hmtx.Goals as goal
 pub returns-clause-sound : goal.returns-clause-sound
 returns-clause-sound c =
     let there = c.in_ok-needed in
-    OnOk-HasNo-IsDefectIn c.long_enough.result c.args.dir.now hmtx_tag there.field-0.now (IsShort hmtx_tag (4 * c.args.n)) there.ensures.exact there.ensures.sound (rw c.from.ensures at c.long_enough.ensures.sound)
+    OnOk-HasNo-IsDefectIn c.long_enough.result c.args.dir.now hmtx_tag there.field-0.now
+    (IsShort hmtx_tag (4 * c.args.n)) there.ensures.exact there.ensures.sound
+    (rw c.from.ensures at c.long_enough.ensures.sound)

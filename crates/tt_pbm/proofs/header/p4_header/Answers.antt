@@ -18,4 +18,5 @@ pub returns-clause-size : goal.returns-clause-size
 returns-clause-size c = omega (arith, five_digits c.args.w c.requires.columns, five_digits c.args.h (omega arith))
 
 pub returns-clause-exact : goal.returns-clause-exact
-returns-clause-exact c = rw (c.push-5.ensures.bytes, c.push_decimal-2.ensures.bytes, c.push-4.ensures.bytes, c.push_decimal.ensures.bytes, c.push-3.ensures.bytes, c.push-2.ensures.bytes, c.push.ensures.bytes) (simp append_assoc)
+returns-clause-exact c = rw
+    (c.push-5.ensures.bytes, c.push_decimal-2.ensures.bytes, c.push-4.ensures.bytes, c.push_decimal.ensures.bytes, c.push-3.ensures.bytes, c.push-2.ensures.bytes, c.push.ensures.bytes) (simp append_assoc)

@@ -7,7 +7,9 @@ loop-sent-preserved g c =
     let written = g.W.Sink.written in
     record {
       within = search rules;
-      part = appends_more (written c.args.out.now) (written c.loop-sent.out) (written c.write.new.self) c.args.bytes.now c.loop-sent.sent c.in-Ok.n (search rules) c.loop-sent.invariant.part c.in-Ok.ensures.bytes;
+      part = appends_more (written c.args.out.now) (written c.loop-sent.out)
+          (written c.write.new.self) c.args.bytes.now c.loop-sent.sent c.in-Ok.n
+          (search rules) c.loop-sent.invariant.part c.in-Ok.ensures.bytes;
       sound = search rules;
     }
 

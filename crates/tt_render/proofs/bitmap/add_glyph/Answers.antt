@@ -11,10 +11,14 @@ loop-c-preserved c =
     let row : SFits w64 c.from-in-loop-c.result = search rules in
     let tape = c.loop-c.invariant.tape in
     let asked = simp to_z-of_z at c.pixel-black.ensures.black in
-    let black : c.pixel-black.result ≡ is_black c.args.tape.now.edges (column_x c.args.frame.margin (pos c.loop-c.c)) (row_y c.args.frame (pos c.args.r)) = rw (c.from.ensures, c.from-in-loop-c.ensures, tape, c.requires.tape) at asked in
+    let black : c.pixel-black.result ≡ is_black c.args.tape.now.edges (column_x c.args.frame.margin (pos c.loop-c.c))
+    (row_y c.args.frame (pos c.args.r)) = rw (c.from.ensures, c.from-in-loop-c.ensures, tape, c.requires.tape) at
+    asked in
     record {
       end = search rules;
-      bits = λ k. c.mark.ensures.bits k ∙ rw (c.loop-c.invariant.bits k, black) (one_more (λ k. is_black c.args.tape.now.edges (column_x c.args.frame.margin (pos k)) (row_y c.args.frame (pos c.args.r))) (bit c.args.row.now k) k c.loop-c.c);
+      bits = λ k. c.mark.ensures.bits k ∙ rw (c.loop-c.invariant.bits k, black)
+          (one_more (λ k. is_black c.args.tape.now.edges (column_x c.args.frame.margin (pos k))
+          (row_y c.args.frame (pos c.args.r))) (bit c.args.row.now k) k c.loop-c.c);
       room = search rules;
       tape = search rules;
       count =

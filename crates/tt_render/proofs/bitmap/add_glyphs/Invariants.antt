@@ -9,7 +9,8 @@ abbrev pub invariant-loop-i : goal.invariant-loop-i
 invariant-loop-i l = record {
   end : l.i-end ≡ length l.fn.tapes;
   many : length l.tapes ≡ length l.fn.tapes;
-  bits : (k : ℕ) → bit l.row k ≡ (bit l.fn.row k || (nat_lt k l.frame.width && is_black_pixel l.frame (take l.i (edges_in l.fn.tapes)) k l.r));
+  bits : (k : ℕ) → bit l.row k ≡ (bit l.fn.row k || (nat_lt k l.frame.width && is_black_pixel l.frame
+      (take l.i (edges_in l.fn.tapes)) k l.r));
   room : length l.row ≡ length l.fn.row;
   done : AllWithin (TapeFits l.frame ((l.r + 1) * row_crossings)) l.tapes 0 l.i;
   left : AllWithin (TapeFits l.frame (l.r * row_crossings)) l.tapes l.i (length l.fn.tapes);

@@ -11,13 +11,15 @@ loop-r-preserved c =
     let so_far = c.loop-r.invariant in
     let black = is_black_pixel c.args.frame (edges_in c.args.tapes.now) in
     let same = c.make_row.ensures.edges ∙ so_far.edges in
-    let row : c.make_row.new.row ≡ rows c.args.frame.width black (stride c.args.frame.width * c.loop-r.r) (stride c.args.frame.width) = rw so_far.edges at c.make_row.ensures.row in
+    let row : c.make_row.new.row ≡ rows c.args.frame.width black (stride c.args.frame.width * c.loop-r.r)
+    (stride c.args.frame.width) = rw so_far.edges at c.make_row.ensures.row in
     record {
       end = refl;
       room = search rules;
       tapes = c.make_row.ensures.tapes;
       edges = same;
       rows =
-          let items : c.extend_from_slice.new.self.items ≡ c.loop-r.bits.items ++ c.make_row.new.row = grind (arith, common_steps) in
+          let items : c.extend_from_slice.new.self.items ≡ c.loop-r.bits.items ++ c.make_row.new.row = grind
+          (arith, common_steps) in
           rw (items, so_far.rows) (rows_next c.args.frame.width c.loop-r.r black c.make_row.new.row row);
     }

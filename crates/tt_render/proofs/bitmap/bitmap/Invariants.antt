@@ -11,5 +11,6 @@ invariant-loop-r l = record {
   room : vec_len l.row ≡ stride l.frame.width;
   tapes : All (TapeFits l.frame (l.r * row_crossings)) l.tapes;
   edges : edges_in l.tapes ≡ edges_in l.fn.tapes;
-  rows : l.bits.items ≡ rows l.frame.width (is_black_pixel l.frame (edges_in l.fn.tapes)) 0 (stride l.frame.width * l.r);
+  rows : l.bits.items ≡ rows l.frame.width (is_black_pixel l.frame (edges_in l.fn.tapes)) 0
+      (stride l.frame.width * l.r);
 }

@@ -8,7 +8,9 @@ use Rattle.tt_render.proofs.bitmap.make_row.Goals as goal
 pub returns-clause-row : goal.returns-clause-row
 returns-clause-row c =
     let white = c.whiten.ensures in
-    let room : length c.add_glyphs.new.row ≡ stride c.args.frame.width = c.add_glyphs.ensures.room ∙ (ap length white ∙ (length-replicate (length c.args.row.now) 0 ∙ c.requires.room)) in
-    row_is c.args.frame.width c.args.r (is_black_pixel c.args.frame (edges_in c.args.tapes.now)) c.add_glyphs.new.row room
+    let room : length c.add_glyphs.new.row ≡ stride c.args.frame.width = c.add_glyphs.ensures.room
+    ∙ (ap length white ∙ (length-replicate (length c.args.row.now) 0 ∙ c.requires.room)) in
+    row_is c.args.frame.width c.args.r (is_black_pixel c.args.frame (edges_in c.args.tapes.now)) c.add_glyphs.new.row
+    room
     (λ i within. (c.type_inv.row i).fits)
     (λ k. c.add_glyphs.ensures.bits k ∙ rw (white, bit-replicate_zero (length c.args.row.now) k) refl)

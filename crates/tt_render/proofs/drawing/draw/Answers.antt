@@ -6,4 +6,6 @@ use Rattle.tt_render.proofs.drawing.draw.Goals as goal
 
 pub returns-clause-defects : goal.returns-clause-defects
 returns-clause-defects c =
-    no_run_defect (ask_of c.args.job.now) c.args.file.now (face_view c.in_ok-face.face) (map (λ g. g.0) c.in_ok-line.line.glyphs.items) c.in_ok-face.ensures.exact c.in_ok-face.ensures.sound c.in_ok-line.ensures.glyphs c.in_ok-draw_line.ensures.defects
+    no_run_defect (ask_of c.args.job.now) c.args.file.now (face_view c.in_ok-face.face)
+    (map (λ g. g.0) c.in_ok-line.line.glyphs.items) c.in_ok-face.ensures.exact c.in_ok-face.ensures.sound
+    c.in_ok-line.ensures.glyphs c.in_ok-draw_line.ensures.defects

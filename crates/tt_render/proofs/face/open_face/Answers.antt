@@ -12,10 +12,12 @@ returns-clause-sound c =
     λ fault defect. elim defect [
       | inl directory ↦ c.in_ok-dir.ensures.sound fault directory
       | inr others ↦ elim others [
-        | inl metrics ↦ c.in_ok-metrics.ensures.sound fault (let P : List ℕ → Type 0 = λ file. IsMetricsDefect file fault in subst P (sym dir) metrics)
+        | inl metrics ↦ c.in_ok-metrics.ensures.sound fault (let P : List ℕ
+            → Type 0 = λ file. IsMetricsDefect file fault in subst P (sym dir) metrics)
         | inr cmap ↦
             let P : List ℕ → Type 0 = λ file. IsDefectIn file cmap_tag IsBadCmap fault in
-            let good = OnOk-HasNo-IsDefectIn {X = Unit {0}} (Ok tt) c.in_ok-dir.dir cmap_tag there.field-0.now IsBadCmap there.ensures.exact there.ensures.sound c.in_ok-cmap.ensures.sound in
+            let good = OnOk-HasNo-IsDefectIn {X = Unit {0}} (Ok tt) c.in_ok-dir.dir cmap_tag there.field-0.now IsBadCmap
+            there.ensures.exact there.ensures.sound c.in_ok-cmap.ensures.sound in
             good fault (subst P (sym dir) cmap)
       ]
     ]

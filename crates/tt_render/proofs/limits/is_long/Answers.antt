@@ -5,5 +5,6 @@ use Rattle.tt_render.proofs.limits.is_long.Goals as goal
 
 pub returns : goal.returns
 returns c =
-    let all : c.count.result ≡ length (chars c.args.text.now) = count_from_yields_List c.chars.result c.count.result c.count.ensures.ran (YieldsList-from_chars c.args.text.now c.utf8.text c.chars.ensures.rest) in
+    let all : c.count.result ≡ length (chars c.args.text.now) = count_from_yields_List c.chars.result c.count.result
+    c.count.ensures.ran (YieldsList-from_chars c.args.text.now c.utf8.text c.chars.ensures.rest) in
     rw all refl

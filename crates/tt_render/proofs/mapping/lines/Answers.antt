@@ -6,6 +6,7 @@ use Rattle.tt_render.proofs.mapping.lines.Goals as goal
 
 pub returns : goal.returns
 returns c =
-    let e = YieldsList-end (YieldsList-from_chars c.args.text.now c.utf8.text cc) c.loop-c.yielded _ c.loop-c.yielded_by _ _ c.in-None.is c.next.ensures.steps in
+    let e = YieldsList-end (YieldsList-from_chars c.args.text.now c.utf8.text cc) c.loop-c.yielded _ c.loop-c.yielded_by
+    _ _ c.in-None.is c.next.ensures.steps in
     let all : c.loop-c.yielded ≡ chars c.args.text.now = sym (map-id c.loop-c.yielded) ∙ e.0 in
     rw (← all) c.loop-c.invariant

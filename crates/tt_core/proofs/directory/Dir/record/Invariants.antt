@@ -5,4 +5,5 @@ use Rattle.tt_core.proofs.directory.Dir.record.Given as goal
 
 -- the search over all records is the search over those that are left
 abbrev pub invariant-loop-i : goal.invariant-loop-i
-invariant-loop-i l = first_from (has_tag l.self-inside.file.now l.tag) l.i (l.i-end - l.i) ≡ record_of l.self-inside.file.now l.tag
+invariant-loop-i l = first_from (has_tag l.self-inside.file.now l.tag) l.i (l.i-end - l.i)
+    ≡ record_of l.self-inside.file.now l.tag

@@ -9,7 +9,9 @@ pub joined-loop-part-preserved : goal.joined-loop-part-preserved
 joined-loop-part-preserved t c =
     let add = added (hinted_by c.args.self.now (hints_of c.args.hints.now)) c.args.levels in
     record {
-      so_far = one_record_more add c.args.records.now c.loop-part.part-index _ (outline_of c.loop-part.so_far) (outline_of c.in_ok-so_far.so_far) c.loop-part-test.true c.in_ok-so_far.ensures.exact ∙ c.loop-part.invariant.so_far;
+      so_far = one_record_more add c.args.records.now c.loop-part.part-index _ (outline_of c.loop-part.so_far)
+          (outline_of c.in_ok-so_far.so_far) c.loop-part-test.true c.in_ok-so_far.ensures.exact
+          ∙ c.loop-part.invariant.so_far;
       sound = c.in_ok-so_far.ensures.sound;
     }
 
@@ -18,4 +20,5 @@ added-returns-clause-exact t c =
     let s = hinted_by c.args.self.now (hints_of c.args.hints.now) in
     let some : 0 < c.args.levels = omega (arith, c.if-levels-eq0.false) in
     let placed = rw c.size.ensures at c.placed.ensures.exact in
-    rw (one_level_done s c.args.levels c.args.part (outline_of c.args.so_far) (outline_of c.in_ok-component.component) some c.in_ok-component.ensures.exact) placed
+    rw (one_level_done s c.args.levels c.args.part (outline_of c.args.so_far)
+    (outline_of c.in_ok-component.component) some c.in_ok-component.ensures.exact) placed

@@ -15,6 +15,8 @@ decreases-outline l = 3 * l.levels + 2
 
 abbrev pub invariant-joined-loop-part : goal.invariant-joined-loop-part
 invariant-joined-loop-part l = record {
-  so_far : joined (added (hinted_by l.self (hints_of l.hints)) l.levels) (drop l.part-index l.records) (outline_of l.so_far) ≡ joined (added (hinted_by l.self (hints_of l.hints)) l.levels) l.records (outline_of l.fn.start);
+  so_far : joined (added (hinted_by l.self (hints_of l.hints)) l.levels) (drop l.part-index l.records)
+      (outline_of l.so_far) ≡ joined (added (hinted_by l.self (hints_of l.hints)) l.levels) l.records
+      (outline_of l.fn.start);
   sound : IsOutline (outline_of l.so_far);
 }
