@@ -42,7 +42,8 @@ pub record IsRead (glyphs : ℕ) (g : Stretch) (d : GlyphData) : Type 0 where
 
 nothing-read : (glyphs : ℕ) (g : Stretch) → contour_count g.bytes ≡ pos 0 → IsRead glyphs g empty
 nothing-read glyphs g is =
-    record { nothing = is; few = tt; ends = tt; words = tt; points = tt; components = tt; records = tt; composite_words = tt; program = tt }
+    record { nothing = is; few = tt; ends = tt; words = tt; points = tt; components = tt; records = tt;
+        composite_words = tt; program = tt }
 
 -- the number of contours and its sign
 pub is-negative : (c : ℤ) → int_lt c (pos 0) ≡ true → c <ℤ pos 0
@@ -125,7 +126,8 @@ simple-is glyphs g contours s some is read =
       nothing = tt;
       few = read.count.few;
       ends = ends-are g.bytes s.ends (length s.points) (size_place contours) contours some read.ends read.count;
-      words = record { x_min = read.x_min_is; contours = ap pos many ∙ is; ends = λ i below. read.ends.words i (omega arith);
+      words = record { x_min = read.x_min_is; contours = ap pos many ∙ is;
+          ends = λ i below. read.ends.words i (omega arith);
           code_at = rw many read.code_at; code_size = rw many read.code_size };
       points = rw many (points-are g.bytes (flags_place g.bytes contours) (length s.points) s.points read.points);
       components = tt;
@@ -165,7 +167,8 @@ composite-was glyphs g x_min d was =
         code_at = p.code_at }, composite-make glyphs g x_min records p read
         (program-was g records p read.room by_program.first), sym is)
 
-composite-is : (glyphs : ℕ) (g : Stretch) (c : CompositeGlyph) → contour_count g.bytes <ℤ pos 0 → CompositeRead glyphs g (written_x_min g.bytes) c
+composite-is : (glyphs : ℕ) (g : Stretch) (c : CompositeGlyph) → contour_count g.bytes <ℤ pos 0
+    → CompositeRead glyphs g (written_x_min g.bytes) c
     → IsRead glyphs g (composite c)
 composite-is glyphs g c is read = record {
   nothing = tt;
@@ -175,12 +178,14 @@ composite-is glyphs g c is read = record {
   points = tt;
   components = read.parts.are;
   records = record { some = read.parts.some; few = read.parts.few; known = read.parts.known };
-  composite_words = record { contours = is; x_min = read.x_min_is; follows = read.program.size; none = read.program.none };
+  composite_words = record { contours = is; x_min = read.x_min_is; follows = read.program.size;
+      none = read.program.none };
   program = read.program.read;
 }
 
 described-cases : (glyphs : ℕ) (g : Stretch) (contours : ℕ) (negative none : Bool) (d : GlyphData)
-    → 10 ≤ length g.bytes → contours ≡ unsigned_abs (contour_count g.bytes) → int_lt (contour_count g.bytes) (pos 0) ≡ negative
+    → 10 ≤ length g.bytes → contours ≡ unsigned_abs (contour_count g.bytes)
+        → int_lt (contour_count g.bytes) (pos 0) ≡ negative
     → (contours == 0) ≡ none
     → (if negative then composite_of glyphs g (written_x_min g.bytes)
     else (if none then Ok empty else simple_of g (written_x_min g.bytes) contours)) ≡ Ok d → IsRead glyphs g d
@@ -193,7 +198,8 @@ described-cases glyphs g contours false true d header count sign is was =
     rw e (nothing-read glyphs g (is-none (contour_count g.bytes) (rw count at is)))
 described-cases glyphs g contours false false d header count sign is was =
     let read = simple-was g (written_x_min g.bytes) contours d header was in
-    let whole = simple-is glyphs g contours read.0 (grind (arith, nat_tests)) (ap pos count ∙ is-count (contour_count g.bytes) sign) read.1 in
+    let whole = simple-is glyphs g contours read.0 (grind (arith, nat_tests))
+            (ap pos count ∙ is-count (contour_count g.bytes) sign) read.1 in
     rw read.2 whole
 
 -- the header that is written
@@ -285,7 +291,8 @@ glyph-make t g bytes d b read =
     let program = programs-in t g bytes d b read.program in
     let is = b.is in
     let whole : IsRead t.glyphs (stretch_of t g) d = rw is at read in
-    record { nothing = nothing-in t g d whole.nothing; few = whole.few; ends = whole.ends; words = whole.words; points = whole.points;
+    record { nothing = nothing-in t g d whole.nothing; few = whole.few; ends = whole.ends; words = whole.words;
+        points = whole.points;
         components = whole.components; records = whole.records; composite_words = whole.composite_words;
         program = program }
 
@@ -294,7 +301,8 @@ glyph-cases : (t : GlyphTables) (g : ℕ) (none : Bool) (d : GlyphData) → has_
     (stretch_at (glyph_offset t g) bytes))) ≡ Ok d → IsGlyph t g d
 glyph-cases t g true d is was =
     let e : d ≡ empty = cc in
-    rw e (record { nothing = inl is; few = tt; ends = tt; words = tt; points = tt; components = tt; records = tt; composite_words = tt;
+    rw e (record { nothing = inl is; few = tt; ends = tt; words = tt; points = tt; components = tt; records = tt;
+        composite_words = tt;
         program = tt })
 glyph-cases t g false d is was =
     let by_bytes = came-through (glyph_bytes_of t g) _ d was in

@@ -1,5 +1,5 @@
--- OpenType, "The 'glyf' table", "Simple Glyph Description": all deltas along x, then all deltas along y. A coordinate is
--- the sum of all deltas up to it, and has to fit 16 bits.
+-- OpenType, "The 'glyf' table", "Simple Glyph Description": all deltas along x, then all deltas along y. A coordinate
+-- is the sum of all deltas up to it, and has to fit 16 bits.
 use Rattle.std.specs.Prelude.{ℕ, ◌+◌, ◌&&◌, Bool, if◌then◌else◌, ℤ, pos, neg_ℤ, ◌+ℤ◌, int_lt, List, [], ◌∷◌, Result, Ok, Err}
 use Rattle.tt_core.specs.Faults.{Fault}
 use Rattle.tt_core.specs.declared.fault.Why.TheVariants as why

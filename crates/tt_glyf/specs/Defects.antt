@@ -34,7 +34,8 @@ IsManyPoints g contours fault =
     (size_place contours ≤ length g.bytes) × (point_limit < written_points g.bytes contours)
     × (fault ≡ glyph_fault g (end_place (contours - 1)) why.PointLimit)
 
--- the run at a place, where so many points are left, passes the end of the bytes, or copies its flag past the last point
+-- the run at a place, where so many points are left, passes the end of the bytes, or copies its flag past the last
+-- point
 abbrev pub IsBadRun : Stretch → ℕ → ℕ → Fault → Type 0
 IsBadRun g at left fault =
     IsCut g (written_run g.bytes at).next fault

@@ -1,5 +1,5 @@
--- What a glyph that was read is, said of its bytes as they stand: which words are the ends, which run covers a point, of
--- which deltas a coordinate is the sum, which records are the components. OpenType, "The 'glyf' table".
+-- What a glyph that was read is, said of its bytes as they stand: which words are the ends, which run covers a point,
+-- of which deltas a coordinate is the sum, which records are the components. OpenType, "The 'glyf' table".
 use Rattle.std.specs.Prelude.{◌≡◌, ℕ, zero, ◌+◌, ◌-◌, ◌*◌, ◌^◌, ◌<◌, ◌≤◌, true, false, suc, if◌then◌else◌, ℤ, pos, unsigned_abs, ◌+ℤ◌, ◌≤ℤ◌, ◌<ℤ◌, List, [], ◌∷◌, ◌++◌, length, map, fold, take, replicate, slice_index, slice_range, get_or, All, ◌⊎◌}
 use Rattle.tt_core.specs.Limits.{component_limit}
 use Rattle.tt_core.specs.Numbers.{unsigned_at, signed16}
@@ -140,8 +140,8 @@ pub record AreSums (from : ℤ) (values by : List ℤ) : Type 0 where
   pub many : length values ≡ length by
   pub sums : (i : ℕ) → i < length values → get_or values i (pos 0) ≡ fold ◌+ℤ◌ from (take (i + 1) by)
 
--- the points whose flags begin at a place: each has the flag of the run that covers it, and its coordinates are the sums
--- of all deltas up to it; no run and no delta passes the end of the bytes
+-- the points whose flags begin at a place: each has the flag of the run that covers it, and its coordinates are the
+-- sums of all deltas up to it; no run and no delta passes the end of the bytes
 pub record ArePoints (bytes : List ℕ) (at : ℕ) (points : List RawPoint) : Type 0 where
   pub runs : ℕ
   pub on : map (λ p. p.on) points ≡ map (λ flag. has flag on_curve_point) (written_flags bytes at runs)
@@ -192,8 +192,8 @@ written_record g at =
 abbrev pub record_end : List ℕ → ℕ → ℕ
 record_end bytes at = at + record_size (written_component_flags bytes at)
 
--- these are the records from a place on, one behind the other, up to the first without the flag for more; none passes the
--- end of the bytes
+-- these are the records from a place on, one behind the other, up to the first without the flag for more; none passes
+-- the end of the bytes
 abbrev pub AreComponents : Stretch → ℕ → List Record → Type 0
 AreComponents g at [] = ⊥
 AreComponents g at (r ∷ []) =

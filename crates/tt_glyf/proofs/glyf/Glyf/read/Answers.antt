@@ -74,5 +74,6 @@ returns-clause-exact c = c.read_whole.ensures.exact
 
 pub returns-clause-empty : goal.returns-clause-empty
 returns-clause-empty c =
-    if-read c.read_whole.result (glyph_data_of c.args.self.now c.args.g) (λ d. IfEmpty d (HasNoOutline c.args.self.now c.args.g))
+    if-read c.read_whole.result (glyph_data_of c.args.self.now c.args.g)
+        (λ d. IfEmpty d (HasNoOutline c.args.self.now c.args.g))
         c.read_whole.ensures.exact (λ d was. (glyph-is c.args.self.now c.args.g d was).nothing)
