@@ -1,6 +1,6 @@
 -- What a glyph that was read is.
 use Rattle.std.proofs.Common.{◌≡◌, ℕ, ◌+◌, ◌<◌, ◌≤◌, min, Bool, true, false, ◌==◌, nat_lt, if◌then◌else◌, List, [], length, Ok, Err, ℤ, pos, unsigned_abs, int_lt, inl, inr, refl, arith, ap, sym, ◌∙◌}
-use Rattle.std.specs.Prelude.{◌<ℤ◌, ◌⊎◌}
+use Rattle.std.specs.Prelude.{◌<ℤ◌}
 use Rattle.std.proofs.lemmas.Bool.Decides.{nat_tests}
 use Rattle.std.proofs.lemmas.Int.{ints}
 use Rattle.tt_core.specs.Faults.{Fault}
