@@ -7,17 +7,11 @@ use Rattle.tt_core.specs.declared.fault.Why.TheVariants as why
 use Rattle.tt_core.specs.Limits.{point_limit}
 use Rattle.tt_core.specs.Numbers.{rounded_quotient}
 use Rattle.tt_core.specs.Outcomes.{◌>>=◌, each}
-use Rattle.tt_glyf.specs.Composite.{args_are_xy_values, one}
+use Rattle.tt_glyf.specs.Composite.{args_are_xy_values, round_xy_to_grid, use_my_metrics, one}
 use Rattle.tt_glyf.specs.declared.raw.Record.{Record}
 use Rattle.tt_glyf.specs.Flags.{has}
 use Rattle.tt_fit.specs.Outline.{PhantomPoints, Shape}
 use Rattle.tt_fit.specs.Scaling.{Size, scale, glyf_fault, settled}
-
-abbrev pub round_xy_to_grid : ℕ
-round_xy_to_grid = 0x4
-
-abbrev pub use_my_metrics : ℕ
-use_my_metrics = 0x200
 
 -- a distance in 26.6 to whole pixels: the magnitude and half a pixel cut down to a multiple of 64, the sign put back
 abbrev pub grid_magnitude : ℕ → ℕ
