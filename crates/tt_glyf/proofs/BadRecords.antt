@@ -94,7 +94,7 @@ transform-broke : (g : Stretch) (flags at : ℕ) (f : Fault) → transform_at g 
 unfolding transform_at
 transform-broke g flags at f was =
     transform-broke-cases g at (has flags we_have_a_scale) (has flags we_have_an_x_and_y_scale)
-        (has flags we_have_a_two_by_two) f was
+    (has flags we_have_a_two_by_two) f was
 
 unknown-broke : (glyphs : ℕ) (g : Stretch) (at number : ℕ) (f : Fault) → known_glyph glyphs g at number ≡ Err f
     → (glyphs ≤ number) × (f ≡ glyph_fault g at why.ComponentGlyph)
@@ -113,8 +113,8 @@ scaled-broke g at r f was = failed (asks_scaled_offset r) _ r f was
 abbrev record_by : Stretch → ℕ → ℕ → Record
 record_by g at flags =
     record_of (g.start + at) flags (written_component g.bytes at) (written_argument g.bytes flags (at + 4))
-        (written_argument g.bytes flags (at + 4 + argument_size flags))
-        (written_transform g.bytes flags (at + 4 + 2 * argument_size flags))
+    (written_argument g.bytes flags (at + 4 + argument_size flags))
+    (written_transform g.bytes flags (at + 4 + 2 * argument_size flags))
 
 abbrev IsBadBy : ℕ → Stretch → ℕ → ℕ → Fault → Type 0
 IsBadBy glyphs g at flags f =
@@ -129,7 +129,7 @@ scaled-by : (g : Stretch) (at flags number glyph : ℕ) (args : Arguments) (t : 
     → (asks_scaled_offset (record_by g at flags) ≡ true) × (f ≡ glyph_fault g at why.ScaledOffset)
 scaled-by g at flags number glyph args t f e1 e2 e3 e4 was =
     let is : record_of (g.start + at) flags glyph args.arg1 args.arg2 t ≡ record_by g at flags = rw (e1, e2, e3, e4)
-            refl in
+    refl in
     let p = scaled-broke g at (record_of (g.start + at) flags glyph args.arg1 args.arg2 t) f was in
     (sym (ap asks_scaled_offset is) ∙ p.0, p.1)
 
@@ -160,9 +160,9 @@ record-broke glyphs g at f was = elim (was-err (word_in g at) _ f was) [
                               (transform-broke g flags (at + 4 + 2 * argument_size flags) f here))
                           | inr by_t ↦
                               let t = transform-was g flags (at + 4 + 2 * argument_size flags) by_t.value args.room
-                                      by_t.first in
+                              by_t.first in
                               inr (inr (scaled-by g at flags by_number.value by_glyph.value by_args.value by_t.value f
-                                  known.is number.is args.is t.is by_t.rest))
+                              known.is number.is args.is t.is by_t.rest))
                         ]
                   ]
             ]
@@ -199,8 +199,8 @@ records-broke glyphs g at (suc allowed) f was = elim (was-err (record_at glyphs 
       let r = later.value in
       let rest = after-err (r ∷ []) _ f later.rest in
       records-broke-cases glyphs g at allowed r (has r.flags more_components) f
-          (flags-are glyphs g at r (record-was glyphs g at r later.first)) refl rest
-          (λ came. records-broke glyphs g (record_end g.bytes at) allowed f came)
+      (flags-are glyphs g at r (record-was glyphs g at r later.first)) refl rest
+      (λ came. records-broke glyphs g (record_end g.bytes at) allowed f came)
 ]
 
 -- the program
@@ -213,8 +213,11 @@ program-broke-cases : (g : Stretch) (next : ℕ) (follows : Bool) (f : Fault)
     >>= λ code. Ok (record { code = code; code_at = g.start + (next + 2) }))
     else Ok (record { code = []; code_at = g.start + next })) (Err f) → ProgramBroke g next follows f
 program-broke-cases g next true f was = elim (was-err (word_in g next) _ f was) [
-  | inl here ↦ record { says = refl; short = short-further g (next + 2) (next + 2 + unsigned_at g.bytes next 2) f
-      (omega arith) (word-short g next f here) }
+  | inl here ↦ record {
+    says = refl;
+    short = short-further g (next + 2) (next + 2 + unsigned_at g.bytes next 2) f
+        (omega arith) (word-short g next f here);
+  }
   | inr by_size ↦
       let size = word-was g next by_size.value by_size.first in
       elim (was-err (slice_in g (next + 2) by_size.value) _ f by_size.rest) [

@@ -35,7 +35,7 @@ further g end later f le s =
 IsEndDefect : Stretch → ℕ → ℕ → Fault → Type 0
 IsEndDefect g at before f =
     IsCut g (at + 2) f ⊎ ((at + 2 ≤ length g.bytes) × (unsigned_at g.bytes at 2 < before)
-        × (f ≡ glyph_fault g at why.ContourOrder))
+    × (f ≡ glyph_fault g at why.ContourOrder))
 
 end-broke : (g : Stretch) (at before : ℕ) (f : Fault) → end_at g at before ≡ Err f → IsEndDefect g at before f
 unfolding end_at IsEndDefect
@@ -85,7 +85,7 @@ ends-broke g i (suc n) before contours f total last was = elim (was-err (end_at 
 abbrev run_as : List ℕ → ℕ → ℕ → Bool → Run
 run_as bytes at flag repeats =
     if repeats then record { flag = flag; copies = slice_index bytes (at + 1); next = at + 2 }
-        else record { flag = flag; copies = 0; next = at + 1 }
+    else record { flag = flag; copies = 0; next = at + 1 }
 
 abbrev IsBadAs : Stretch → ℕ → ℕ → Run → Fault → Type 0
 IsBadAs g at left r f = IsCut g r.next f ⊎ ((left ≤ r.copies) × (f ≡ glyph_fault g at why.FlagRun))
@@ -100,7 +100,7 @@ run-broke-cases g at left flag true f was = elim (was-err (byte_in g (at + 1)) _
   | inr later ↦
       let byte = byte-was g (at + 1) later.value later.first in
       let p = failed-else (nat_lt later.value left) _ (record { flag = flag; copies = later.value; next = at + 2 }) f
-              later.rest in
+      later.rest in
       let test : nat_lt (slice_index g.bytes (at + 1)) left ≡ false = rw byte.is at p.0 in
       inr (grind (arith, nat_tests), p.1)
 ]
@@ -135,7 +135,7 @@ flags-more g at left r f run bad =
     let total = flags-length g.bytes at is.0 in
     let below = is.1 in
     let count : suc left - length (written_flags g.bytes at (suc is.0)) ≡ left - (written_run g.bytes at).copies -
-            length (written_flags g.bytes (written_run g.bytes at).next is.0) = rw total (omega arith) in
+    length (written_flags g.bytes (written_run g.bytes at).next is.0) = rw total (omega arith) in
     (suc is.0, rw total (omega arith), rw count is.2)
 
 pub flags-broke : (fuel : ℕ) (g : Stretch) (at left : ℕ) (f : Fault) → left ≤ fuel → flags_from fuel g at left ≡ Err f
@@ -145,22 +145,22 @@ flags-broke fuel g at zero f enough was = absurd cc
 flags-broke zero g at (suc left) f enough was = absurd (omega arith)
 flags-broke (suc fuel) g at (suc left) f enough was =
     elim (was-err (run_at g at (suc left)) (λ r. after (replicate (suc r.copies) r.flag)
-        (flags_from fuel g r.next (left - r.copies))) f was) [
-  | inl here ↦ flags-first g at left f (run-broke g at (suc left) f here)
-  | inr later ↦
-      let r = later.value in
-      let rest = after-err (replicate (suc r.copies) r.flag) (flags_from fuel g r.next (left - r.copies)) f
-              later.rest in
-      flags-more g at left r f (run-was g at (suc left) r (omega arith) later.first)
+    (flags_from fuel g r.next (left - r.copies))) f was) [
+      | inl here ↦ flags-first g at left f (run-broke g at (suc left) f here)
+      | inr later ↦
+          let r = later.value in
+          let rest = after-err (replicate (suc r.copies) r.flag) (flags_from fuel g r.next (left - r.copies)) f
+          later.rest in
+          flags-more g at left r f (run-was g at (suc left) r (omega arith) later.first)
           (flags-broke fuel g r.next (left - r.copies) f (omega arith) rest)
-]
+    ]
 
 -- the deltas along an axis
 abbrev delta_as : List ℕ → ℕ → Bool → Bool → Delta
 delta_as bytes at short same =
     if short then record { by = short_delta same (slice_index bytes at); next = at + 1 }
-        else (if same then record { by = pos 0; next = at }
-        else record { by = signed16 (unsigned_at bytes at 2); next = at + 2 })
+    else (if same then record { by = pos 0; next = at }
+    else record { by = signed16 (unsigned_at bytes at 2); next = at + 2 })
 
 delta-broke-cases : (g : Stretch) (at : ℕ) (short same : Bool) (f : Fault)
     → ◌≡◌ {A = Result Delta Fault} (if short then (byte_in g at
@@ -217,8 +217,11 @@ sums-more g a flag flags before c f is bad =
     let there : AreSumsBad g a flags (summed before (written_delta g.bytes a flag before.next)) f = rw is at bad in
     elim there [
       | inl here ↦ inl here
-      | inr leaves ↦ inr (leaves-more before.value (written_delta g.bytes a flag before.next).by
-          (deltas g.bytes a flags (written_delta g.bytes a flag before.next).next) leaves.0, leaves.1)
+      | inr leaves ↦ inr (
+        leaves-more before.value (written_delta g.bytes a flag before.next).by
+            (deltas g.bytes a flags (written_delta g.bytes a flag before.next).next) leaves.0,
+        leaves.1,
+      )
     ]
 
 -- the coordinate of one point
@@ -233,9 +236,9 @@ coordinate-broke g a flag flags before f le was = elim (was-err (delta_at g a fl
   | inr later ↦
       let d = delta-was g a flag before.next later.value le later.first in
       let p = failed-else (is_coordinate (summed before later.value).value) _ (summed before later.value) f
-              later.rest in
+      later.rest in
       let leaves : is_coordinate (summed before (written_delta g.bytes a flag before.next)).value ≡ false = rw d.is at
-              p.0 in
+      p.0 in
       inr ((0, omega arith, leaves), p.1)
 ]
 
@@ -260,7 +263,7 @@ x-broke : (g : Stretch) (at n : ℕ) (flags : Listing ℕ) (f : Fault) → AreCo
 x-broke g at n flags f covered bad =
     let runs = covered.runs in
     let is : AreSumsBad g x_axis (written_flags g.bytes at runs) (origin (runs_end g.bytes at runs)) f = rw
-            (covered.covers, covered.end) at bad in (
+    (covered.covers, covered.end) at bad in (
       runs,
       covered.many,
       elim is [
@@ -277,9 +280,9 @@ y-broke g at n flags xs f covered read bad =
     let runs = covered.runs in
     let next = read.next in
     let at_y : AreSumsBad g y_axis flags.items (origin (deltas_end g.bytes x_axis flags.items flags.next)) f = rw next
-            at bad in
+    at bad in
     let is : AreSumsBad g y_axis (written_flags g.bytes at runs) (origin (y_place g.bytes at runs)) f = rw
-            (covered.covers, covered.end) at at_y in (
+    (covered.covers, covered.end) at at_y in (
       runs,
       covered.many,
       elim is [

@@ -29,7 +29,7 @@ run-cases g at left flag true r some le was =
     let value = byte.is in
     let room = byte.room in
     let p = passed-else (nat_lt through.value left) _ (record { flag = flag; copies = through.value; next = at + 2 }) r
-            through.rest in
+    through.rest in
     let test = p.0 in
     rw (← p.1) (record { same = rw (← value) refl; within = grind (arith, nat_tests); room = omega arith })
 run-cases g at left flag false r some le was =
@@ -49,8 +49,8 @@ pub flags-length : (bytes : List ℕ) (at runs : ℕ) → length (written_flags 
     (written_run bytes at).copies + length (written_flags bytes (written_run bytes at).next runs)
 flags-length bytes at runs =
     length-append (replicate (suc (written_run bytes at).copies) (written_run bytes at).flag) _
-        ∙ ap (λ (n : ℕ). n + length (written_flags bytes (written_run bytes at).next runs))
-        (length-replicate (suc (written_run bytes at).copies) (written_run bytes at).flag)
+    ∙ ap (λ (n : ℕ). n + length (written_flags bytes (written_run bytes at).next runs))
+    (length-replicate (suc (written_run bytes at).copies) (written_run bytes at).flag)
 
 -- a run that is there, and copies no flag past the last point
 pub record IsGoodRun (bytes : List ℕ) (at left : ℕ) : Type 0 where
@@ -61,7 +61,7 @@ pub record IsGoodRun (bytes : List ℕ) (at left : ℕ) : Type 0 where
 abbrev pub AreGoodRuns : List ℕ → ℕ → ℕ → Type 0
 AreGoodRuns bytes at left =
     (k : ℕ) → length (written_flags bytes at k) < left → IsGoodRun bytes (runs_end bytes at k)
-        (left - length (written_flags bytes at k))
+    (left - length (written_flags bytes at k))
 
 -- the flags that were read
 pub record AreCovered (bytes : List ℕ) (at left : ℕ) (read : Listing ℕ) : Type 0 where
@@ -83,7 +83,7 @@ good-more bytes at left (suc k) first others below =
     let total = flags-length bytes at k in
     let within = first.within in
     let count : suc left - length (written_flags bytes at (suc k)) ≡ left - (written_run bytes at).copies - length
-            (written_flags bytes (written_run bytes at).next k) = rw total (omega arith) in
+    (written_flags bytes (written_run bytes at).next k) = rw total (omega arith) in
     rw count (others k (omega arith))
 
 covered-more : (g : Stretch) (at left : ℕ) (r : Run) (rest read : Listing ℕ)
@@ -95,7 +95,7 @@ covered-more g at left r rest read run are whole =
     let within : (written_run g.bytes at).copies < suc left = rw same at run.within in
     let room : (written_run g.bytes at).next ≤ length g.bytes = rw same at run.room in
     let is : AreCovered g.bytes (written_run g.bytes at).next (left - (written_run g.bytes at).copies) rest = rw same
-            at are in
+    at are in
     let many = is.many in
     let total = flags-length g.bytes at is.runs in
     rw (whole, same) (record {
@@ -113,15 +113,21 @@ pub flags-were : (fuel : ℕ) (g : Stretch) (at left : ℕ) (read : Listing ℕ)
 unfolding flags_from
 flags-were fuel g at zero read enough le was =
     let is : read ≡ record { items = []; next = at } = cc in
-    rw is (record { runs = 0; end = refl; covers = refl; many = refl; room = le;
-        good = λ k below. absurd (omega arith) })
+    rw is (record {
+      runs = 0;
+      end = refl;
+      covers = refl;
+      many = refl;
+      room = le;
+      good = λ k below. absurd (omega arith);
+    })
 flags-were zero g at (suc left) read enough le was = absurd (omega arith)
 flags-were (suc fuel) g at (suc left) read enough le was =
     let through = came-through (run_at g at (suc left)) (λ r. after (replicate (suc r.copies) r.flag)
-            (flags_from fuel g r.next (left - r.copies))) read was in
+    (flags_from fuel g r.next (left - r.copies))) read was in
     let r = through.value in
     let behind = came-after (replicate (suc r.copies) r.flag) (flags_from fuel g r.next (left - r.copies)) read
-            through.rest in
+    through.rest in
     let run = run-was g at (suc left) r (omega arith) through.first in
     covered-more g at left r behind.read read run (flags-were fuel g r.next (left - r.copies) behind.read (omega arith)
-        run.room behind.was) behind.is
+    run.room behind.was) behind.is

@@ -53,25 +53,33 @@ positive-is c is = (grind (arith, ints), grind (arith, ints, nat_tests), grind (
 abbrev described_by : ℕ → Stretch → Bool → Bool → Result GlyphData Fault
 described_by glyphs g negative none =
     if negative then composite_of glyphs g (written_x_min g.bytes)
-        else (if none then Ok empty else simple_of g (written_x_min g.bytes) (unsigned_abs (contour_count g.bytes)))
+    else (if none then Ok empty else simple_of g (written_x_min g.bytes) (unsigned_abs (contour_count g.bytes)))
 
 described-broke-cases : (glyphs : ℕ) (g : Stretch) (negative none : Bool) (f : Fault) → 10 ≤ length g.bytes
     → int_lt (contour_count g.bytes) (pos 0) ≡ negative → (unsigned_abs (contour_count g.bytes) == 0) ≡ none
     → described_by glyphs g negative none ≡ Err f → IsBadGlyph glyphs g f
 described-broke-cases glyphs g true none f header negative is was =
-    inr (inr (header, is-negative (contour_count g.bytes) negative, composite-broke glyphs g (written_x_min g.bytes) f
-        was))
+    inr (inr (
+      header,
+      is-negative (contour_count g.bytes) negative,
+      composite-broke glyphs g (written_x_min g.bytes) f
+          was,
+    ))
 described-broke-cases glyphs g false true f header negative is was = absurd cc
 described-broke-cases glyphs g false false f header negative is was =
-    inr (inl (header, is-positive (contour_count g.bytes) negative is, simple-broke g (written_x_min g.bytes)
-        (unsigned_abs (contour_count g.bytes)) f header (grind (arith, nat_tests)) was))
+    inr (inl (
+      header,
+      is-positive (contour_count g.bytes) negative is,
+      simple-broke g (written_x_min g.bytes)
+          (unsigned_abs (contour_count g.bytes)) f header (grind (arith, nat_tests)) was,
+    ))
 
 described-broke : (glyphs : ℕ) (g : Stretch) (f : Fault) → 10 ≤ length g.bytes
     → described glyphs g (written_header g.bytes) ≡ Err f → IsBadGlyph glyphs g f
 unfolding described
 described-broke glyphs g f header was =
     described-broke-cases glyphs g (int_lt (contour_count g.bytes) (pos 0)) (unsigned_abs (contour_count g.bytes) == 0)
-        f header refl refl was
+    f header refl refl was
 
 bytes-broke : (glyphs : ℕ) (g : Stretch) (f : Fault) → glyph_in glyphs g ≡ Err f → IsBadGlyph glyphs g f
 bytes-broke glyphs g f was = elim (was-err (header_of g) (described glyphs g) f was) [
@@ -142,7 +150,7 @@ described-whole-cases glyphs g negative none d f header is_negative is was bad =
   | inr (inl one) ↦
       let sign = positive-is (contour_count g.bytes) one.1 in
       let came : simple_of g (written_x_min g.bytes) (unsigned_abs (contour_count g.bytes)) ≡ Ok d = rw
-              (← is_negative, ← is, sign.0, sign.1) at was in
+      (← is_negative, ← is, sign.0, sign.1) at was in
       let read = simple-was g (written_x_min g.bytes) (unsigned_abs (contour_count g.bytes)) d header came in
       simple-whole g (written_x_min g.bytes) (unsigned_abs (contour_count g.bytes)) read.0 f sign.2 read.1 one.2
   | inr (inr one) ↦
@@ -157,7 +165,7 @@ described-whole : (glyphs : ℕ) (g : Stretch) (d : GlyphData) (f : Fault) → 1
 unfolding described
 described-whole glyphs g d f header was bad =
     described-whole-cases glyphs g (int_lt (contour_count g.bytes) (pos 0)) (unsigned_abs (contour_count g.bytes) == 0)
-        d f header refl refl was bad
+    d f header refl refl was bad
 
 bytes-whole : (glyphs : ℕ) (g : Stretch) (d : GlyphData) (f : Fault) → glyph_in glyphs g ≡ Ok d
     → ¬ IsBadGlyph glyphs g f

@@ -16,8 +16,10 @@ delta-cases : (g : Stretch) (at : ℕ) (short same : Bool) (d : Delta) → at �
     else (if same then Ok (record { by = pos 0; next = at })
     else (signed_in g at >>= λ word. Ok (record { by = word; next = at + 2 })))) ≡ Ok d
     → IsField g d.next d (if short then record { by = short_delta same (slice_index g.bytes at); next = at + 1 }
-    else (if same then record { by = pos 0; next = at } else record { by = signed16 (unsigned_at g.bytes at 2);
-    next = at + 2 }))
+    else (if same then record { by = pos 0; next = at } else record {
+      by = signed16 (unsigned_at g.bytes at 2);
+      next = at + 2;
+    }))
 delta-cases g at true same d le was =
     let through = came-through _ _ _ was in
     let byte = byte-was g at through.value through.first in
@@ -52,7 +54,7 @@ coordinate-was g a flag before c le was =
     let through = came-through (delta_at g a flag before.next) _ c was in
     let d = delta-was g a flag before.next through.value le through.first in
     let p = passed-else (is_coordinate (summed before through.value).value) _ (summed before through.value) c
-            through.rest in
+    through.rest in
     rw (← p.1) (record { is = ap (summed before) d.is; fits = p.0; room = d.room })
 
 -- what was read along an axis
@@ -102,11 +104,16 @@ pub coordinates-were : (g : Stretch) (a : Axis) (flags : List ℕ) (before : Coo
 unfolding coordinates_from
 coordinates-were g a [] before read le was =
     let is : read ≡ record { items = []; next = before.next } = cc in
-    rw is (record { many = refl; next = refl; sums = record { many = refl; sums = λ i below. absurd (omega arith) };
-        fit = λ i below. absurd (omega arith); room = le })
+    rw is (record {
+      many = refl;
+      next = refl;
+      sums = record { many = refl; sums = λ i below. absurd (omega arith) };
+      fit = λ i below. absurd (omega arith);
+      room = le;
+    })
 coordinates-were g a (flag ∷ flags) before read le was =
     let through = came-through _ _ _ was in
     let behind = came-after (through.value.value ∷ []) (coordinates_from g a flags through.value) read through.rest in
     let next = coordinate-was g a flag before through.value le through.first in
     read-more g.bytes a flag flags before through.value behind.read read next.is next.fits
-        (coordinates-were g a flags through.value behind.read next.room behind.was) behind.is
+    (coordinates-were g a flags through.value behind.read next.room behind.was) behind.is

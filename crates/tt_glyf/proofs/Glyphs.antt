@@ -42,8 +42,17 @@ pub record IsRead (glyphs : ℕ) (g : Stretch) (d : GlyphData) : Type 0 where
 
 nothing-read : (glyphs : ℕ) (g : Stretch) → contour_count g.bytes ≡ pos 0 → IsRead glyphs g empty
 nothing-read glyphs g is =
-    record { nothing = is; few = tt; ends = tt; words = tt; points = tt; components = tt; records = tt;
-        composite_words = tt; program = tt }
+    record {
+      nothing = is;
+      few = tt;
+      ends = tt;
+      words = tt;
+      points = tt;
+      components = tt;
+      records = tt;
+      composite_words = tt;
+      program = tt;
+    }
 
 -- the number of contours and its sign
 pub is-negative : (c : ℤ) → int_lt c (pos 0) ≡ true → c <ℤ pos 0
@@ -69,8 +78,13 @@ simple-make : (g : Stretch) (x_min : ℤ) (contours n size : ℕ) (ends : Listin
     (points : List RawPoint) → EndsRead g.bytes 10 contours 0 ends → CountRead ends.items n
     → size ≡ unsigned_at g.bytes ends.next 2 → (length code ≡ size) × IsWithin g.bytes code (ends.next + 2)
     → PointsRead g.bytes (ends.next + 2 + size) n points
-    → SimpleRead g x_min contours (record { x_min = x_min; points = points; ends = ends.items; code = code;
-    code_at = g.start + (ends.next + 2) })
+    → SimpleRead g x_min contours (record {
+      x_min = x_min;
+      points = points;
+      ends = ends.items;
+      code = code;
+      code_at = g.start + (ends.next + 2);
+    })
 simple-make g x_min contours n size ends code points e c s k p =
     let many = p.many in
     let next = e.next in
@@ -99,23 +113,39 @@ simple-was g x_min contours d header was =
     let code = by_code.value in
     let by_points = came-through (points_of g (ends.next + 2 + size) n) _ d by_code.rest in
     let points = by_points.value in
-    let is : simple (record { x_min = x_min; points = points; ends = ends.items; code = code;
-            code_at = g.start + (ends.next + 2) }) ≡ d = cc by_points.rest in
+    let is : simple (record {
+      x_min = x_min;
+      points = points;
+      ends = ends.items;
+      code = code;
+      code_at = g.start + (ends.next + 2);
+    }) ≡ d = cc by_points.rest in
     let k = slice-was g (ends.next + 2) size code by_code.first in
     let room = k.1.room in
-    let many = k.0 in
-    (record { x_min = x_min; points = points; ends = ends.items; code = code;
-        code_at = g.start + (ends.next + 2) }, simple-make g x_min contours n size ends code points
-        (ends-were g 10 contours 0 ends header by_ends.first) (count-was g ends n by_count.first)
-        (word-was g ends.next size by_size.first).is k (points-were g (ends.next + 2 + size) n points (omega arith)
-        by_points.first), sym is)
+    let many = k.0 in (
+      record {
+        x_min = x_min;
+        points = points;
+        ends = ends.items;
+        code = code;
+        code_at = g.start + (ends.next + 2);
+      },
+      simple-make g x_min contours n size ends code points
+          (ends-were g 10 contours 0 ends header by_ends.first) (count-was g ends n by_count.first)
+          (word-was g ends.next size by_size.first).is k (points-were g (ends.next + 2 + size) n points (omega arith)
+          by_points.first),
+      sym is,
+    )
 
 ends-are : (bytes ends : List ℕ) (points n contours : ℕ) → 0 < contours
     → EndsRead bytes 10 contours 0 (record { items = ends; next = n }) → CountRead ends points → AreEnds points ends
 ends-are bytes ends points n contours some read count =
     let many = read.many in
-    record { some = omega arith; rising = λ i j le below. never-falls 0 ends i j read.rise le below;
-        last = sym count.is }
+    record {
+      some = omega arith;
+      rising = λ i j le below. never-falls 0 ends i j read.rise le below;
+      last = sym count.is;
+    }
 
 simple-is : (glyphs : ℕ) (g : Stretch) (contours : ℕ) (s : SimpleGlyph) → 0 < contours
     → pos contours ≡ contour_count g.bytes → SimpleRead g (written_x_min g.bytes) contours s
@@ -126,9 +156,13 @@ simple-is glyphs g contours s some is read =
       nothing = tt;
       few = read.count.few;
       ends = ends-are g.bytes s.ends (length s.points) (size_place contours) contours some read.ends read.count;
-      words = record { x_min = read.x_min_is; contours = ap pos many ∙ is;
-          ends = λ i below. read.ends.words i (omega arith);
-          code_at = rw many read.code_at; code_size = rw many read.code_size };
+      words = record {
+        x_min = read.x_min_is;
+        contours = ap pos many ∙ is;
+        ends = λ i below. read.ends.words i (omega arith);
+        code_at = rw many read.code_at;
+        code_size = rw many read.code_size;
+      };
       points = rw many (points-are g.bytes (flags_place g.bytes contours) (length s.points) s.points read.points);
       components = tt;
       records = tt;
@@ -139,15 +173,21 @@ simple-is glyphs g contours s some is read =
 -- what was read of a composite glyph
 pub record CompositeRead (glyphs : ℕ) (g : Stretch) (x_min : ℤ) (c : CompositeGlyph) : Type 0 where
   pub x_min_is : c.x_min ≡ x_min
-  pub parts : ArePartsRead glyphs g 10 component_limit (record { items = c.records;
-      next = records_end g.bytes 10 c.records })
+  pub parts : ArePartsRead glyphs g 10 component_limit (record {
+    items = c.records;
+    next = records_end g.bytes 10 c.records;
+  })
   pub program : IsProgramBehind g (records_end g.bytes 10 c.records) (has_program c.records)
       (record { code = c.code; code_at = c.code_at })
 
 composite-make : (glyphs : ℕ) (g : Stretch) (x_min : ℤ) (records : Listing Record) (p : Program)
     → ArePartsRead glyphs g 10 component_limit records → IsProgramBehind g records.next (has_program records.items) p
-    → CompositeRead glyphs g x_min (record { x_min = x_min; records = records.items; code = p.code;
-    code_at = p.code_at })
+    → CompositeRead glyphs g x_min (record {
+      x_min = x_min;
+      records = records.items;
+      code = p.code;
+      code_at = p.code_at;
+    })
 composite-make glyphs g x_min records p parts program =
     let end = parts.end in
     record { x_min_is = refl; parts = rw end at parts; program = rw end at program }
@@ -162,10 +202,17 @@ composite-was glyphs g x_min d was =
     let by_program = came-through (program_of g records) _ d by_records.rest in
     let p = by_program.value in
     let is : composite (record { x_min = x_min; records = records.items; code = p.code; code_at = p.code_at }) ≡ d = cc
-            by_program.rest in
-    (record { x_min = x_min; records = records.items; code = p.code;
-        code_at = p.code_at }, composite-make glyphs g x_min records p read
-        (program-was g records p read.room by_program.first), sym is)
+    by_program.rest in (
+      record {
+        x_min = x_min;
+        records = records.items;
+        code = p.code;
+        code_at = p.code_at;
+      },
+      composite-make glyphs g x_min records p read
+          (program-was g records p read.room by_program.first),
+      sym is,
+    )
 
 composite-is : (glyphs : ℕ) (g : Stretch) (c : CompositeGlyph) → contour_count g.bytes <ℤ pos 0
     → CompositeRead glyphs g (written_x_min g.bytes) c
@@ -178,14 +225,18 @@ composite-is glyphs g c is read = record {
   points = tt;
   components = read.parts.are;
   records = record { some = read.parts.some; few = read.parts.few; known = read.parts.known };
-  composite_words = record { contours = is; x_min = read.x_min_is; follows = read.program.size;
-      none = read.program.none };
+  composite_words = record {
+    contours = is;
+    x_min = read.x_min_is;
+    follows = read.program.size;
+    none = read.program.none;
+  };
   program = read.program.read;
 }
 
 described-cases : (glyphs : ℕ) (g : Stretch) (contours : ℕ) (negative none : Bool) (d : GlyphData)
     → 10 ≤ length g.bytes → contours ≡ unsigned_abs (contour_count g.bytes)
-        → int_lt (contour_count g.bytes) (pos 0) ≡ negative
+    → int_lt (contour_count g.bytes) (pos 0) ≡ negative
     → (contours == 0) ≡ none
     → (if negative then composite_of glyphs g (written_x_min g.bytes)
     else (if none then Ok empty else simple_of g (written_x_min g.bytes) contours)) ≡ Ok d → IsRead glyphs g d
@@ -199,7 +250,7 @@ described-cases glyphs g contours false true d header count sign is was =
 described-cases glyphs g contours false false d header count sign is was =
     let read = simple-was g (written_x_min g.bytes) contours d header was in
     let whole = simple-is glyphs g contours read.0 (grind (arith, nat_tests))
-            (ap pos count ∙ is-count (contour_count g.bytes) sign) read.1 in
+    (ap pos count ∙ is-count (contour_count g.bytes) sign) read.1 in
     rw read.2 whole
 
 -- the header that is written
@@ -227,7 +278,7 @@ described-was : (glyphs : ℕ) (g : Stretch) (d : GlyphData) → 10 ≤ length g
 unfolding described
 described-was glyphs g d header was =
     described-cases glyphs g (unsigned_abs (contour_count g.bytes)) (int_lt (contour_count g.bytes) (pos 0))
-        (unsigned_abs (contour_count g.bytes) == 0) d header refl refl refl was
+    (unsigned_abs (contour_count g.bytes) == 0) d header refl refl refl was
 
 glyph-was : (glyphs : ℕ) (g : Stretch) (d : GlyphData) → glyph_in glyphs g ≡ Ok d → IsRead glyphs g d
 glyph-was glyphs g d was =
@@ -257,7 +308,7 @@ program-in : (t : GlyphTables) (g : ℕ) (bytes code : List ℕ) (at : ℕ) → 
     → IsProgram t.glyf code at
 program-in t g bytes code at b p =
     let whole = program-is t.glyf bytes code (glyph_offset t g) (min (glyph_offset t (g + 1)) (length t.glyf)) p.place
-            b.ordered (omega arith) b.is p.within in
+    b.ordered (omega arith) b.is p.within in
     rw p.at whole
 
 programs-in : (t : GlyphTables) (g : ℕ) (bytes : List ℕ) (d : GlyphData) → AreBytes t g bytes
@@ -291,24 +342,39 @@ glyph-make t g bytes d b read =
     let program = programs-in t g bytes d b read.program in
     let is = b.is in
     let whole : IsRead t.glyphs (stretch_of t g) d = rw is at read in
-    record { nothing = nothing-in t g d whole.nothing; few = whole.few; ends = whole.ends; words = whole.words;
-        points = whole.points;
-        components = whole.components; records = whole.records; composite_words = whole.composite_words;
-        program = program }
+    record {
+      nothing = nothing-in t g d whole.nothing;
+      few = whole.few;
+      ends = whole.ends;
+      words = whole.words;
+      points = whole.points;
+      components = whole.components;
+      records = whole.records;
+      composite_words = whole.composite_words;
+      program = program;
+    }
 
 glyph-cases : (t : GlyphTables) (g : ℕ) (none : Bool) (d : GlyphData) → has_no_bytes t g ≡ none
     → (if none then Ok empty else (glyph_bytes_of t g >>= λ bytes. glyph_in t.glyphs
     (stretch_at (glyph_offset t g) bytes))) ≡ Ok d → IsGlyph t g d
 glyph-cases t g true d is was =
     let e : d ≡ empty = cc in
-    rw e (record { nothing = inl is; few = tt; ends = tt; words = tt; points = tt; components = tt; records = tt;
-        composite_words = tt;
-        program = tt })
+    rw e (record {
+      nothing = inl is;
+      few = tt;
+      ends = tt;
+      words = tt;
+      points = tt;
+      components = tt;
+      records = tt;
+      composite_words = tt;
+      program = tt;
+    })
 glyph-cases t g false d is was =
     let by_bytes = came-through (glyph_bytes_of t g) _ d was in
     let bytes = by_bytes.value in
     glyph-make t g bytes d (bytes-were t g bytes is by_bytes.first)
-        (glyph-was t.glyphs (stretch_at (glyph_offset t g) bytes) d by_bytes.rest)
+    (glyph-was t.glyphs (stretch_at (glyph_offset t g) bytes) d by_bytes.rest)
 
 pub glyph-is : (t : GlyphTables) (g : ℕ) (d : GlyphData) → glyph_data_of t g ≡ Ok d → IsGlyph t g d
 unfolding glyph_data_of

@@ -42,9 +42,13 @@ ends-more : (bytes : List ℕ) (at n before e : ℕ) (rest read : Listing ℕ) �
     → EndsRead bytes at (suc n) before read
 ends-more bytes at n before e rest read word le are is =
     let next = are.next in
-    rw is (record { rise = (le, are.rise); many = ap suc are.many;
-        words = λ i below. word-at bytes at e i n rest.items word are.words below; next = omega arith;
-        room = are.room })
+    rw is (record {
+      rise = (le, are.rise);
+      many = ap suc are.many;
+      words = λ i below. word-at bytes at e i n rest.items word are.words below;
+      next = omega arith;
+      room = are.room;
+    })
 
 -- an end that was read
 pub record IsEnd (g : Stretch) (at before e : ℕ) : Type 0 where
@@ -73,7 +77,7 @@ ends-were g at (suc n) before read le was =
     let behind = came-after (through.value ∷ []) (ends_from g (at + 2) n through.value) read through.rest in
     let end = end-was g at before through.value through.first in
     ends-more g.bytes at n before through.value behind.read read end.is end.rises
-        (ends-were g (at + 2) n through.value behind.read end.room behind.was) behind.is
+    (ends-were g (at + 2) n through.value behind.read end.room behind.was) behind.is
 
 -- what rises one by one never falls
 rise-from : (before : ℕ) (es : List ℕ) (j : ℕ) → RiseFrom before es → j < length es → before ≤ slice_index es j

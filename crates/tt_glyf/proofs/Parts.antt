@@ -58,8 +58,12 @@ arguments-were g flags at a was =
     rw (← is) (record { is = rw (← value1, ← value2) refl; room = omega arith })
 
 two_scales-were : (g : Stretch) (at : ℕ) (t : Transform) → two_scales_at g at ≡ Ok t
-    → IsField g (at + 4) t (record { xx = signed16 (unsigned_at g.bytes at 2); yx = pos 0; xy = pos 0;
-    yy = signed16 (unsigned_at g.bytes (at + 2) 2) })
+    → IsField g (at + 4) t (record {
+      xx = signed16 (unsigned_at g.bytes at 2);
+      yx = pos 0;
+      xy = pos 0;
+      yy = signed16 (unsigned_at g.bytes (at + 2) 2);
+    })
 unfolding two_scales_at
 two_scales-were g at t was =
     let by_xx = came-through (signed_in g at) _ t was in
@@ -70,13 +74,16 @@ two_scales-were g at t was =
     let value_xx = xx.is in
     let value_yy = yy.is in
     let is : ◌≡◌ {A = Transform} (record { xx = by_xx.value; yx = pos 0; xy = pos 0; yy = by_yy.value }) t = cc
-            by_yy.rest in
+    by_yy.rest in
     rw (← is) (record { is = rw (← value_xx, ← value_yy) refl; room = omega arith })
 
 two_by_two-was : (g : Stretch) (at : ℕ) (t : Transform) → two_by_two_at g at ≡ Ok t
-    → IsField g (at + 8) t (record { xx = signed16 (unsigned_at g.bytes at 2);
-    yx = signed16 (unsigned_at g.bytes (at + 2) 2); xy = signed16 (unsigned_at g.bytes (at + 4) 2);
-    yy = signed16 (unsigned_at g.bytes (at + 6) 2) })
+    → IsField g (at + 8) t (record {
+      xx = signed16 (unsigned_at g.bytes at 2);
+      yx = signed16 (unsigned_at g.bytes (at + 2) 2);
+      xy = signed16 (unsigned_at g.bytes (at + 4) 2);
+      yy = signed16 (unsigned_at g.bytes (at + 6) 2);
+    })
 unfolding two_by_two_at
 two_by_two-was g at t was =
     let by_xx = came-through (signed_in g at) _ t was in
@@ -93,7 +100,7 @@ two_by_two-was g at t was =
     let value_xy = xy.is in
     let value_yy = yy.is in
     let is : ◌≡◌ {A = Transform} (record { xx = by_xx.value; yx = by_yx.value; xy = by_xy.value; yy = by_yy.value })
-            t = cc by_yy.rest in
+    t = cc by_yy.rest in
     rw (← is) (record { is = rw (← value_xx, ← value_yx, ← value_xy, ← value_yy) refl; room = omega arith })
 
 transform-cases : (g : Stretch) (at : ℕ) (a b c : Bool) (t : Transform) → at ≤ length g.bytes
@@ -101,10 +108,18 @@ transform-cases : (g : Stretch) (at : ℕ) (a b c : Bool) (t : Transform) → at
     else (if b then two_scales_at g at else (if c then two_by_two_at g at else Ok identity))) ≡ Ok t
     → IsField g (at + (if a then 2 else (if b then 4 else (if c then 8 else 0)))) t
     (if a then one_scale (signed16 (unsigned_at g.bytes at 2))
-    else (if b then record { xx = signed16 (unsigned_at g.bytes at 2); yx = pos 0; xy = pos 0;
-    yy = signed16 (unsigned_at g.bytes (at + 2) 2) } else (if c
-    then record { xx = signed16 (unsigned_at g.bytes at 2); yx = signed16 (unsigned_at g.bytes (at + 2) 2);
-    xy = signed16 (unsigned_at g.bytes (at + 4) 2); yy = signed16 (unsigned_at g.bytes (at + 6) 2) } else identity)))
+    else (if b then record {
+      xx = signed16 (unsigned_at g.bytes at 2);
+      yx = pos 0;
+      xy = pos 0;
+      yy = signed16 (unsigned_at g.bytes (at + 2) 2);
+    } else (if c
+    then record {
+      xx = signed16 (unsigned_at g.bytes at 2);
+      yx = signed16 (unsigned_at g.bytes (at + 2) 2);
+      xy = signed16 (unsigned_at g.bytes (at + 4) 2);
+      yy = signed16 (unsigned_at g.bytes (at + 6) 2);
+    } else identity)))
 transform-cases g at true b c t le was =
     let through = came-through (signed_in g at) _ t was in
     let scale = signed-was g at through.value through.first in
@@ -119,7 +134,7 @@ pub transform-was : (g : Stretch) (flags at : ℕ) (t : Transform) → at ≤ le
 unfolding transform_at
 transform-was g flags at t le was =
     transform-cases g at (has flags we_have_a_scale) (has flags we_have_an_x_and_y_scale)
-        (has flags we_have_a_two_by_two) t le was
+    (has flags we_have_a_two_by_two) t le was
 
 -- a glyph of the font
 pub record IsKnown (glyphs number glyph : ℕ) : Type 0 where
@@ -164,10 +179,10 @@ part-make glyphs g at flags number glyph args t r was component known arguments 
     let room = transform.room in
     let there = known.known in
     let is : record_of (g.start + at) flags glyph args.arg1 args.arg2 t ≡ record_of (g.start + at) flags
-            (written_component g.bytes at) (written_argument g.bytes flags (at + 4))
-            (written_argument g.bytes flags (at + 4 + argument_size flags))
-            (written_transform g.bytes flags (at + 4 + 2 * argument_size flags)) = rw (e1, component, arguments, e2)
-            refl in
+    (written_component g.bytes at) (written_argument g.bytes flags (at + 4))
+    (written_argument g.bytes flags (at + 4 + argument_size flags))
+    (written_transform g.bytes flags (at + 4 + 2 * argument_size flags)) = rw (e1, component, arguments, e2)
+    refl in
     record { is = sym p.1 ∙ is; known = rw (← component) there; room = omega arith; unscaled = rw (← p.1) p.0 }
 
 pub record-was : (glyphs : ℕ) (g : Stretch) (at : ℕ) (r : Record) → record_at glyphs g at ≡ Ok r → IsPart glyphs g at r
@@ -184,7 +199,7 @@ record-was glyphs g at r was =
     let known = glyph-known glyphs g at by_number.value by_glyph.value by_glyph.first in
     let t = transform-was g flags (at + 4 + 2 * argument_size flags) by_t.value args.room by_t.first in
     rw (word-was g at flags by_flags.first).is at (part-make glyphs g at flags by_number.value by_glyph.value
-        by_args.value by_t.value r by_t.rest number.is known args.is t)
+    by_args.value by_t.value r by_t.rest number.is known args.is t)
 
 -- these are the records up to the last one, and the place behind them
 pub record AreUpTo (g : Stretch) (at : ℕ) (read : Listing Record) : Type 0 where
@@ -286,8 +301,13 @@ parts-more glyphs g at allowed r rest part goes_on read =
       known = All-cons (λ r. r.glyph < glyphs) r rest.items (glyph-is glyphs g at r part) read.known;
       end = read.end;
       room = read.room;
-      up_to = record { n = suc others.n; goes_on = (more, others.goes_on); stops = others.stops;
-          items = rw (← is) (ap (λ (rs : List Record). r ∷ rs) others.items); next = others.next };
+      up_to = record {
+        n = suc others.n;
+        goes_on = (more, others.goes_on);
+        stops = others.stops;
+        items = rw (← is) (ap (λ (rs : List Record). r ∷ rs) others.items);
+        next = others.next;
+      };
       good = λ n goes_on. good-more glyphs g at allowed r n part read.good goes_on;
     }
 
@@ -315,11 +335,11 @@ records-were glyphs g at (suc allowed) read was =
     let through = came-through (record_at glyphs g at) _ read was in
     let r = through.value in
     let behind = came-after (r ∷ []) (if has r.flags more_components
-            then records_from glyphs g (at + record_size r.flags) allowed
-            else Ok (record { items = []; next = at + record_size r.flags })) read through.rest in
+    then records_from glyphs g (at + record_size r.flags) allowed
+    else Ok (record { items = []; next = at + record_size r.flags })) read through.rest in
     let whole = parts-cases glyphs g at allowed r behind.read (has r.flags more_components)
-            (record-was glyphs g at r through.first) refl behind.was
-            (λ came. records-were glyphs g (record_end g.bytes at) allowed behind.read came) in
+    (record-was glyphs g at r through.first) refl behind.was
+    (λ came. records-were glyphs g (record_end g.bytes at) allowed behind.read came) in
     rw behind.is whole
 
 nothing-there : (bytes : List ℕ) (at : ℕ) → ◌≡◌ {A = List ℕ} [] (slice_range bytes at (at + 0))
@@ -362,12 +382,18 @@ program-cases g next true p room was =
     let is : ◌≡◌ {A = Program} (record { code = by_code.value; code_at = g.start + (next + 2) }) p = cc by_code.rest in
     let code = slice-was g (next + 2) by_size.value by_code.value by_code.first in
     rw (← is) (program-there g next by_size.value by_code.value (word-was g next by_size.value by_size.first).is code.0
-        code.1)
+    code.1)
 program-cases g next false p room was =
     let is : ◌≡◌ {A = Program} (record { code = []; code_at = g.start + next }) p = cc in
     rw (← is) (record {
-      read = record { place = next; at = refl; within = record { room = omega arith;
-          is = nothing-there g.bytes next } };
+      read = record {
+        place = next;
+        at = refl;
+        within = record {
+          room = omega arith;
+          is = nothing-there g.bytes next;
+        };
+      };
       size = λ t. absurd cc;
       none = λ f. refl;
       room = λ t. absurd cc;

@@ -15,7 +15,7 @@ enough zero b g at (suc l) la lb = absurd (omega arith)
 enough (suc a) zero g at (suc l) la lb = absurd (omega arith)
 enough (suc a) (suc b) g at (suc l) la lb =
     chain-same (run_at g at (suc l)) _ _ (λ r. ap (after (replicate (suc r.copies) r.flag))
-        (enough a b g r.next (l - r.copies) (omega arith) (omega arith)))
+    (enough a b g r.next (l - r.copies) (omega arith) (omega arith)))
 
 -- a run, then the runs behind it
 pub turn : (g : Stretch) (before : List ℕ) (at left : ℕ) (r : Run) → 0 < left → r.copies < left

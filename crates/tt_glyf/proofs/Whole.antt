@@ -26,7 +26,7 @@ abbrev IsBadBehind : Stretch → ℕ → ℕ → Fault → Type 0
 IsBadBehind g at runs f =
     IsCut g (points_end g.bytes at runs) f
     ⊎ ((LeavesWords (x_deltas g.bytes at runs) ⊎ LeavesWords (y_deltas g.bytes at runs))
-        × (f ≡ glyph_fault g 0 why.CoordRange))
+    × (f ≡ glyph_fault g 0 why.CoordRange))
 
 -- a program passes the end behind so many records that go on, and one more
 abbrev IsProgramCut : Stretch → ℕ → Fault → Type 0

@@ -166,8 +166,17 @@ record_at glyphs g at = do
   glyph ← known_glyph glyphs g at number
   args ← arguments_at g flags (at + 4)
   t ← transform_at g flags (at + 4 + 2 * argument_size flags)
-  unscaled g at (record { at = g.start + at; flags = flags; glyph = glyph; arg1 = args.arg1; arg2 = args.arg2;
-      xx = t.xx; yx = t.yx; xy = t.xy; yy = t.yy })
+  unscaled g at (record {
+    at = g.start + at;
+    flags = flags;
+    glyph = glyph;
+    arg1 = args.arg1;
+    arg2 = args.arg2;
+    xx = t.xx;
+    yx = t.yx;
+    xy = t.xy;
+    yy = t.yy;
+  })
 
 -- the records from a place on, of which so many are let pass
 unfoldable pub records_from : ℕ → Stretch → ℕ → ℕ → Result (Listing Record) Fault
@@ -195,7 +204,7 @@ unfoldable pub program_of : Stretch → Listing Record → Result Program Fault
 program_of g records =
     if has_program records.items
     then (word_in g records.next >>= λ size. slice_in g (records.next + 2) size
-        >>= λ code. Ok (record { code = code; code_at = g.start + (records.next + 2) }))
+    >>= λ code. Ok (record { code = code; code_at = g.start + (records.next + 2) }))
     else Ok (record { code = []; code_at = g.start + records.next })
 
 -- what a composite glyph says behind its header, in a font of so many glyphs

@@ -31,7 +31,7 @@ short_delta positive byte = if positive then pos byte else neg_ℤ (pos byte)
 unfoldable pub delta_at : Stretch → Axis → ℕ → ℕ → Result Delta Fault
 delta_at g a flag at =
     if has flag a.short then (byte_in g at >>= λ byte. Ok
-        (record { by = short_delta (has flag a.same) byte; next = at + 1 }))
+    (record { by = short_delta (has flag a.same) byte; next = at + 1 }))
     else (if has flag a.same then Ok (record { by = pos 0; next = at })
     else (signed_in g at >>= λ word. Ok (record { by = word; next = at + 2 })))
 

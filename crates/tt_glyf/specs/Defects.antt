@@ -22,7 +22,7 @@ abbrev pub IsFallingEnd : Stretch → ℕ → Fault → Type 0
 IsFallingEnd g contours fault =
     (i : ℕ) × (i + 1 < contours) × (end_place (i + 1) + 2 ≤ length g.bytes)
     × (written_end g.bytes (i + 1) < written_end g.bytes i)
-        × (fault ≡ glyph_fault g (end_place (i + 1)) why.ContourOrder)
+    × (fault ≡ glyph_fault g (end_place (i + 1)) why.ContourOrder)
 
 -- how many points there are, by the last contour's end
 abbrev pub written_points : List ℕ → ℕ → ℕ
@@ -57,7 +57,7 @@ IsCoordinateDefect g at points fault =
     (runs : ℕ) × (length (written_flags g.bytes at runs) ≡ points)
     × (IsCut g (points_end g.bytes at runs) fault
     ⊎ ((LeavesWords (x_deltas g.bytes at runs) ⊎ LeavesWords (y_deltas g.bytes at runs))
-        × (fault ≡ glyph_fault g 0 why.CoordRange)))
+    × (fault ≡ glyph_fault g 0 why.CoordRange)))
 
 -- a defect of a simple glyph of so many contours
 abbrev pub IsSimpleDefect : Stretch → ℕ → Fault → Type 0
@@ -101,7 +101,7 @@ IsRecordsDefect glyphs g at allowed fault =
 abbrev pub IsProgramDefect : Stretch → ℕ → Fault → Type 0
 IsProgramDefect g at fault =
     (n : ℕ) × GoesOn g at n × (has (written_component_flags g.bytes (record_place g.bytes at n))
-        more_components ≡ false)
+    more_components ≡ false)
     × (has_program (written_records g at (suc n)) ≡ true)
     × IsCut g (record_place g.bytes at (suc n) + 2 + unsigned_at g.bytes (record_place g.bytes at (suc n)) 2) fault
 
@@ -114,7 +114,7 @@ abbrev pub IsBadGlyph : ℕ → Stretch → Fault → Type 0
 IsBadGlyph glyphs g fault =
     IsCut g 10 fault
     ⊎ ((10 ≤ length g.bytes) × (pos 0 <ℤ contour_count g.bytes)
-        × IsSimpleDefect g (unsigned_abs (contour_count g.bytes)) fault)
+    × IsSimpleDefect g (unsigned_abs (contour_count g.bytes)) fault)
     ⊎ ((10 ≤ length g.bytes) × (contour_count g.bytes <ℤ pos 0) × IsCompositeDefect glyphs g fault)
 
 -- loca gives the glyph bytes of glyf

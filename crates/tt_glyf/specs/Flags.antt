@@ -54,7 +54,7 @@ run_at g at left = do
   flag ← byte_in g at
   if has flag repeat_flag
       then (byte_in g (at + 1) >>= λ copies. run_within g at left
-          (record { flag = flag; copies = copies; next = at + 2 }))
+      (record { flag = flag; copies = copies; next = at + 2 }))
       else Ok (record { flag = flag; copies = 0; next = at + 1 })
 
 -- the flags of all points that are left, run by run; there are no more runs than points

@@ -45,14 +45,20 @@ glyph_data_of t g =
 square : List ℕ
 square =
     0 ∷ 1 ∷ 0 ∷ 64 ∷ 0 ∷ 0 ∷ 0 ∷ 192 ∷ 0 ∷ 128 ∷ 0 ∷ 3 ∷ 0 ∷ 0 ∷ 0x33 ∷ 0x35 ∷ 0x33 ∷ 0x15 ∷ 0x40 ∷ 0x80 ∷ 0x80 ∷ 0x80
-        ∷ []
+    ∷ []
 
 corner : ℤ → ℤ → RawPoint
 corner x y = record { x = x; y = y; on = true }
 
 square_is_read : glyph_in 3 (stretch_at 0 square) ≡ Ok (simple
-    (record { x_min = pos 64; points = corner (pos 64) (pos 0) ∷ corner (pos 64) (pos 128) ∷ corner (pos 192) (pos 128)
-    ∷ corner (pos 192) (pos 0) ∷ []; ends = 3 ∷ []; code = []; code_at = 14 }))
+    (record {
+      x_min = pos 64;
+      points = corner (pos 64) (pos 0) ∷ corner (pos 64) (pos 128) ∷ corner (pos 192) (pos 128)
+          ∷ corner (pos 192) (pos 0) ∷ [];
+      ends = 3 ∷ [];
+      code = [];
+      code_at = 14;
+    }))
 unfolding square corner header_of described simple_of ends_from end_at points_within points_of flags_from run_at
     coordinates_from coordinate_at within_words delta_at byte_in word_in signed_in slice_in
 square_is_read = refl
@@ -67,11 +73,25 @@ square_cut = refl
 turned : List ℕ
 turned =
     255 ∷ 255 ∷ 0 ∷ 64 ∷ 0 ∷ 0 ∷ 0 ∷ 192 ∷ 0 ∷ 128 ∷ 0 ∷ 0x82 ∷ 0 ∷ 1 ∷ 0x7F ∷ 0 ∷ 0 ∷ 0 ∷ 0x40 ∷ 0 ∷ 0xC0 ∷ 0 ∷ 0 ∷ 0
-        ∷ []
+    ∷ []
 
 turned_is_read : glyph_in 3 (stretch_at 22 turned) ≡ Ok (composite
-    (record { x_min = pos 64; records = record { at = 32; flags = 0x82; glyph = 1; arg1 = pos 127; arg2 = pos 0;
-    xx = pos 0; yx = one; xy = neg_ℤ one; yy = pos 0 } ∷ []; code = []; code_at = 46 }))
+    (record {
+      x_min = pos 64;
+      records = record {
+        at = 32;
+        flags = 0x82;
+        glyph = 1;
+        arg1 = pos 127;
+        arg2 = pos 0;
+        xx = pos 0;
+        yx = one;
+        xy = neg_ℤ one;
+        yy = pos 0;
+      } ∷ [];
+      code = [];
+      code_at = 46;
+    }))
 unfolding turned header_of described composite_of records_from record_at known_glyph arguments_at argument_at
     transform_at two_scales_at two_by_two_at unscaled program_of byte_in word_in signed_in slice_in
 turned_is_read = refl

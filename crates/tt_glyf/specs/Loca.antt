@@ -46,7 +46,7 @@ loca_size format glyphs = entry_size format * (glyphs + 1)
 unfoldable pub loca_of : List ℕ → Fields → Result Locations Fault
 loca_of loca m =
     if nat_lt (length loca) (loca_size (loca_format_of m) (glyphs_of m))
-        then Err (fault_at loca_tag (length loca) why.LocaShort)
+    then Err (fault_at loca_tag (length loca) why.LocaShort)
     else Ok (loca_with loca m)
 
 -- loca has fewer entries than it needs

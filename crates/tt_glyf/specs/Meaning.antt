@@ -89,7 +89,7 @@ pub record AreWords (g : Stretch) (s : SimpleGlyph) : Type 0 where
 abbrev pub written_run : List ℕ → ℕ → Run
 written_run bytes at =
     if has (slice_index bytes at) repeat_flag then record
-        { flag = slice_index bytes at; copies = slice_index bytes (at + 1); next = at + 2 }
+    { flag = slice_index bytes at; copies = slice_index bytes (at + 1); next = at + 2 }
     else record { flag = slice_index bytes at; copies = 0; next = at + 1 }
 
 -- the place behind so many runs
@@ -102,7 +102,7 @@ abbrev pub written_flags : List ℕ → ℕ → ℕ → List ℕ
 written_flags bytes at zero = []
 written_flags bytes at (suc runs) =
     replicate (suc (written_run bytes at).copies) (written_run bytes at).flag ++ written_flags bytes
-        (written_run bytes at).next runs
+    (written_run bytes at).next runs
 
 -- the delta that is written at a place for a point with this flag
 abbrev pub written_delta : List ℕ → Axis → ℕ → ℕ → Delta
@@ -161,18 +161,35 @@ abbrev pub written_transform : List ℕ → ℕ → ℕ → Transform
 written_transform bytes flags at =
     if has flags we_have_a_scale then one_scale (signed16 (unsigned_at bytes at 2))
     else (if has flags we_have_an_x_and_y_scale
-    then record { xx = signed16 (unsigned_at bytes at 2); yx = pos 0; xy = pos 0;
-        yy = signed16 (unsigned_at bytes (at + 2) 2) }
+    then record {
+      xx = signed16 (unsigned_at bytes at 2);
+      yx = pos 0;
+      xy = pos 0;
+      yy = signed16 (unsigned_at bytes (at + 2) 2);
+    }
     else (if has flags we_have_a_two_by_two
-    then record { xx = signed16 (unsigned_at bytes at 2); yx = signed16 (unsigned_at bytes (at + 2) 2);
-        xy = signed16 (unsigned_at bytes (at + 4) 2); yy = signed16 (unsigned_at bytes (at + 6) 2) }
+    then record {
+      xx = signed16 (unsigned_at bytes at 2);
+      yx = signed16 (unsigned_at bytes (at + 2) 2);
+      xy = signed16 (unsigned_at bytes (at + 4) 2);
+      yy = signed16 (unsigned_at bytes (at + 6) 2);
+    }
     else identity))
 
 -- a record of these flags, this component, these arguments and this transform
 abbrev pub record_of : ℕ → ℕ → ℕ → ℤ → ℤ → Transform → Record
 record_of at flags glyph arg1 arg2 t =
-    record { at = at; flags = flags; glyph = glyph; arg1 = arg1; arg2 = arg2; xx = t.xx; yx = t.yx; xy = t.xy;
-        yy = t.yy }
+    record {
+      at = at;
+      flags = flags;
+      glyph = glyph;
+      arg1 = arg1;
+      arg2 = arg2;
+      xx = t.xx;
+      yx = t.yx;
+      xy = t.xy;
+      yy = t.yy;
+    }
 
 abbrev pub written_component_flags : List ℕ → ℕ → ℕ
 written_component_flags bytes at = unsigned_at bytes at 2
@@ -200,7 +217,7 @@ AreComponents g at (r ∷ []) =
     (r ≡ written_record g at) × (record_end g.bytes at ≤ length g.bytes) × (has r.flags more_components ≡ false)
 AreComponents g at (r ∷ s ∷ rs) =
     (r ≡ written_record g at) × (record_end g.bytes at ≤ length g.bytes) × (has r.flags more_components ≡ true)
-        × AreComponents g (record_end g.bytes at) (s ∷ rs)
+    × AreComponents g (record_end g.bytes at) (s ∷ rs)
 
 -- an offset is 16 bits with a sign at most, and the number of a point 16 bits without one
 abbrev pub IsArgument : ℕ → ℤ → Type 0

@@ -39,7 +39,7 @@ point_count ends = slice_index ends (length ends - 1) + 1
 unfoldable pub points_within : Stretch → Listing ℕ → Result ℕ Fault
 points_within g ends =
     if nat_lt point_limit (point_count ends.items) then Err (glyph_fault g (ends.next - 2) why.PointLimit)
-        else Ok (point_count ends.items)
+    else Ok (point_count ends.items)
 
 -- the points of these flags and coordinates
 abbrev pub points_from : List ℕ → List ℤ → List ℤ → List RawPoint
@@ -63,5 +63,10 @@ simple_of g x_min contours = do
   size ← word_in g ends.next
   code ← slice_in g (ends.next + 2) size
   points ← points_of g (ends.next + 2 + size) points
-  Ok (simple (record { x_min = x_min; points = points; ends = ends.items; code = code;
-      code_at = g.start + (ends.next + 2) }))
+  Ok (simple (record {
+    x_min = x_min;
+    points = points;
+    ends = ends.items;
+    code = code;
+    code_at = g.start + (ends.next + 2);
+  }))

@@ -15,4 +15,4 @@ loop-i-preserved c = record {
 pub returns-then-not-has_flag-clause-arguments : goal.returns-then-not-has_flag-clause-arguments
 returns-then-not-has_flag-clause-arguments c =
     rw c.in_ok-push.ensures.items (All-push HasArguments _ _ c.loop-i.invariant.arguments
-        c.in_ok-part.ensures.arguments)
+    c.in_ok-part.ensures.arguments)

@@ -9,12 +9,12 @@ loop-flag-preserved c =
     let fits : SFits w16 c.in_ok-last.last.value = search rules in
     let pushed = simp to_z-of_z at c.in_ok-push.ensures.items in
     let step = turn c.args.glyph.now (axis_of c.args.axis) c.loop-flag.values.items c.args.flags.now
-            c.loop-flag.flag-index (coordinate_of c.loop-flag.last) (coordinate_of c.in_ok-last.last) (omega arith)
-            c.in_ok-last.ensures.exact in
+    c.loop-flag.flag-index (coordinate_of c.loop-flag.last) (coordinate_of c.in_ok-last.last) (omega arith)
+    c.in_ok-last.ensures.exact in
     (cc, omega (arith, c.in_ok-push.ensures.len), c.in_ok-last.ensures.room)
 
 pub returns-clause-exact : goal.returns-clause-exact
 returns-clause-exact c =
     let end = done c.args.glyph.now (axis_of c.args.axis) c.loop-flag.values.items c.args.flags.now
-            c.loop-flag.flag-index (coordinate_of c.loop-flag.last) c.loop-flag-test.false in
+    c.loop-flag.flag-index (coordinate_of c.loop-flag.last) c.loop-flag-test.false in
     cc

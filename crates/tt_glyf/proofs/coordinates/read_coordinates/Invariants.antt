@@ -7,5 +7,5 @@ use Rattle.tt_glyf.proofs.coordinates.read_coordinates.Given as goal
 abbrev pub invariant-loop-flag : goal.invariant-loop-flag
 invariant-loop-flag l =
     (after l.values.items (coordinates_from l.glyph (axis_of l.axis) (drop l.flag-index l.flags)
-        (coordinate_of l.last)) ≡ coordinates_of l.glyph (axis_of l.axis) l.flags l.at)
+    (coordinate_of l.last)) ≡ coordinates_of l.glyph (axis_of l.axis) l.flags l.at)
     × (vec_len l.values ≡ l.flag-index) × (l.last.next ≤ length l.glyph.bytes)
