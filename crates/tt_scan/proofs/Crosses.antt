@@ -11,12 +11,12 @@ use Rattle.tt_scan.proofs.Ranges.{between_turned, between_from}
 use Rattle.tt_scan.proofs.Sides.{on_rising, side_level, side_reversed}
 
 -- the turn of an edge for a point on the side s
-abbrev turned_at : ℤ → ℤ → ℤ → ℤ → ℤ
+abbrev pub turned_at : ℤ → ℤ → ℤ → ℤ → ℤ
 turned_at ay by y s =
     if int_le ay y && int_lt y by && int_lt s (pos 0) then pos 1
     else (if int_le by y && int_lt y ay && int_lt (pos 0) s then negsuc 0 else pos 0)
 
-third_false : (a b c : Bool) → c ≡ false → (a && b && c) ≡ false
+pub third_false : (a b c : Bool) → c ≡ false → (a && b && c) ≡ false
 third_false true true c h = h
 third_false true false c h = refl
 third_false false b c h = refl
@@ -34,7 +34,7 @@ either_zero false z e = refl
 no_turn : (ay by y : ℤ) → is_between ay by y ≡ false → (if int_le ay y && int_lt y by then pos 1 else (if int_le by y && int_lt y ay then negsuc 0 else pos 0)) ≡ pos 0
 no_turn ay by y off = grind (arith, ints)
 
-no_turned : (ay by y s : ℤ) → is_between ay by y ≡ false → turned_at ay by y s ≡ pos 0
+pub no_turned : (ay by y s : ℤ) → is_between ay by y ≡ false → turned_at ay by y s ≡ pos 0
 no_turned ay by y s off = grind (arith, ints)
 
 order_none : (t : Option (ℤ × ℤ)) → t ≡ None → IfSome t (λ t. t.0 ≤ℤ t.1)

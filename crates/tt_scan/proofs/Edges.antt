@@ -1,9 +1,9 @@
 -- The edges of a tape, one more at a time.
-use Rattle.std.proofs.Common.{◌≡◌, ℕ, zero, suc, ◌+◌, ◌<◌, Bool, true, false, ◌||◌, List, [], ◌∷◌, length, take, ℤ, ◌+ℤ◌, refl, arith}
+use Rattle.std.proofs.Common.{◌≡◌, ℕ, zero, suc, ◌+◌, ◌<◌, ◌≤◌, Bool, true, false, ◌||◌, List, [], ◌∷◌, length, take, ℤ, ◌+ℤ◌, if◌then◌else◌, refl, arith}
 use Rattle.std.proofs.lemmas.Int.{ints}
 use Rattle.tt_scan.specs.declared.edge.Edge.{Edge}
 use Rattle.tt_scan.specs.Tape.{edge_at}
-use Rattle.tt_scan.specs.Winding.{winding, turned, lies_on, lies_on_one}
+use Rattle.tt_scan.specs.Winding.{winding, turned, is_between, lies_on, lies_on_one, rows_met}
 
 pub winding_more : (es : List Edge) (i : ℕ) (x y : ℤ) → i < length es → winding (take (i + 1) es) x y ≡ winding (take i es) x y +ℤ turned (edge_at es i) x y
 winding_more [] i x y below = absurd (omega arith)
@@ -38,3 +38,21 @@ pub held : (es : List Edge) (i : ℕ) (x y : ℤ) → i < length es → lies_on 
 held [] i x y below on = absurd (omega arith)
 held (e ∷ es) zero x y below on = rw on refl
 held (e ∷ es) (suc i) x y below on = rw (held es i x y (omega arith) on) (or_true (lies_on e x y))
+
+pub rows_more : (es : List Edge) (i : ℕ) (y : ℤ) → i < length es → rows_met (take (i + 1) es) y ≡ rows_met (take i es) y + (if is_between (edge_at es i).ay (edge_at es i).by y then 1 else 0)
+rows_more [] i y below = absurd (omega arith)
+rows_more (e ∷ es) zero y below = omega arith
+rows_more (e ∷ es) (suc i) y below =
+    let next : suc i + 1 ≡ suc (i + 1) = omega arith in
+    let more = rows_more es i y (omega arith) in
+    rw next (omega arith)
+
+one_or_none : (b : Bool) → (if b then 1 else 0) ≤ 1
+one_or_none true = omega arith
+one_or_none false = omega arith
+
+-- so many edges meet a row at most
+pub rows_few : (es : List Edge) (i : ℕ) (y : ℤ) → rows_met (take i es) y ≤ i
+rows_few es zero y = omega arith
+rows_few [] (suc i) y = omega arith
+rows_few (e ∷ es) (suc i) y = let few = rows_few es i y in let one = one_or_none (is_between e.ay e.by y) in omega arith

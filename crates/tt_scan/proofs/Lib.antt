@@ -1,6 +1,9 @@
 mod Edges
+pub mod Columns
 pub mod Crosses
 pub mod Floors
 pub mod Points
 pub mod Ranges
 pub mod Sides
+pub mod Stretches
+pub mod Visits

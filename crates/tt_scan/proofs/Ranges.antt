@@ -1,7 +1,8 @@
 -- Ranges of numbers, told in other ways.
-use Rattle.std.proofs.Common.{◌≡◌, ◌∙◌, Bool, true, false, ◌&&◌, refl, arith}
-use Rattle.std.specs.Prelude.{ℤ, pos, ◌+ℤ◌, ◌-ℤ◌, ◌*ℤ◌, ◌≤ℤ◌, ◌<ℤ◌, int_lt, int_le}
+use Rattle.std.proofs.Common.{◌≡◌, ◌∙◌, ℕ, ◌<◌, nat_le, nat_lt, Bool, true, false, ◌&&◌, refl, arith}
+use Rattle.std.specs.Prelude.{ℤ, pos, negsuc, unsigned_abs, ◌+ℤ◌, ◌-ℤ◌, ◌*ℤ◌, ◌≤ℤ◌, ◌<ℤ◌, int_lt, int_le}
 use Rattle.std.specs.Int.{int_min, int_max}
+use Rattle.std.proofs.lemmas.Bool.Decides.{nat_tests}
 use Rattle.std.proofs.lemmas.Int.{ints, clamps, by_lt_z}
 use Rattle.tt_scan.specs.declared.edge.Edge.{Edge}
 use Rattle.tt_scan.specs.declared.edge.Frame.{Frame}
@@ -101,3 +102,20 @@ clipped first last height from past k is_from is_past low high =
 pub row_met : (e : Edge) (f : Frame) (top low high row : ℤ) → top ≡ row_y f (pos 0) → low ≡ int_min e.ay e.by → high ≡ int_max e.ay e.by
     → is_between e.ay e.by (row_y f row) ≡ (int_le (top -ℤ high) (pos 8192 *ℤ row) && int_le (pos 8192 *ℤ row) (top -ℤ low))
 row_met e f top low high row is_top is_low is_high = between_down e.ay e.by (row_y f row) (top -ℤ high) (top -ℤ low) (pos 8192 *ℤ row) (omega (arith, ints)) (omega (arith, ints))
+
+-- a column cut to those from 0 up to the width
+pub placed : (at z : ℤ) (width k : ℕ) → z ≡ int_max (pos 0) (int_min at (pos width)) → k < width → int_le at (pos k) ≡ nat_le (unsigned_abs z) k
+placed at z width k is within =
+    by_lt_z at (pos 0)
+    (λ left. let zero : z ≡ pos 0 = omega (arith, ints, clamps) in grind (arith, ints, nat_tests))
+    (λ right. by_lt_z at (pos width)
+    (λ inside. let same : z ≡ at = omega (arith, ints, clamps) in grind (arith, ints, nat_tests))
+    (λ past. let last : z ≡ pos width = omega (arith, ints, clamps) in grind (arith, ints, nat_tests)))
+
+pub placed_past : (at z : ℤ) (width k : ℕ) → z ≡ int_max (negsuc 0) (int_min at (pos width)) → k < width → int_le (pos k) at ≡ nat_lt k (unsigned_abs (z +ℤ pos 1))
+placed_past at z width k is within =
+    by_lt_z at (pos 0)
+    (λ left. let zero : z ≡ negsuc 0 = omega (arith, ints, clamps) in grind (arith, ints, nat_tests))
+    (λ right. by_lt_z at (pos width)
+    (λ inside. let same : z ≡ at = omega (arith, ints, clamps) in grind (arith, ints, nat_tests))
+    (λ past. let last : z ≡ pos width = omega (arith, ints, clamps) in grind (arith, ints, nat_tests)))

@@ -1,3 +1,4 @@
 pub mod Crossing
+pub mod Marks
 pub mod Tape
 pub mod Winding

@@ -2,13 +2,20 @@
 //! converter's rules 1 and 2.
 #![tactic(auto)]
 
+mod bytes;
 mod crossing;
 mod edge;
 pub mod laws;
+mod mark;
 mod pixel;
 mod quotient;
+mod row;
 mod rows;
+mod stretch;
+mod sweep;
 mod tape;
 
 pub use edge::{Cross, Edge, Frame};
+pub use row::row_into;
+pub use sweep::Sweep;
 pub use tape::Tape;

@@ -2,6 +2,7 @@
 //! `cross` alone, and each `cross` is counted.
 
 ghost use Rattle.std.specs.Prelude.{◌≡◌, ℕ, ◌+◌, ◌*◌, ◌^◌, ◌<◌, ◌≤◌, ◌<ℤ◌, ◌≤ℤ◌, pos, length, [], ◌∷◌, ◌++◌, get_or, unsigned_abs, OnOk, OnErr};
+ghost use Rattle.tt_core.specs.Limits.{width_limit};
 ghost use Rattle.tt_scan.specs.Winding.{EdgeFits, FrameFits, row_y};
 ghost use Rattle.tt_scan.specs.Crossing.{IsCross, AreRows};
 ghost use Rattle.tt_scan.specs.Tape.{edge_at};
@@ -52,6 +53,14 @@ impl Tape {
         ensures kept { OnErr result (self.new ≡ self.old) }
     {
         Ok(self.edges.push(edge)?)
+    }
+
+    /// How many columns the picture has.
+    pub fn width(&self) -> u32
+        ensures exact { result ≡ self.now.frame.width }
+        ensures limit { result ≤ width_limit }
+    {
+        self.frame.width
     }
 
     /// How many edges there are.
