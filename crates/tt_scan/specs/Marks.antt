@@ -1,5 +1,5 @@
--- No part of the standard: the marks that the edges of a row leave, and the columns between them. Columns count from the
--- left border here.
+-- No part of the standard: the marks that the edges of a row leave, and the columns between them. Columns count from
+-- the left border here.
 use Rattle.std.specs.Prelude.{◌≡◌, refl, ℕ, Bool, true, false, ◌&&◌, ◌||◌, not, nat_le, nat_lt, if◌then◌else◌, ℤ, pos, negsuc, ◌+ℤ◌, List, [], ◌∷◌}
 use Rattle.tt_scan.specs.Winding.{is_zero}
 use Rattle.tt_scan.specs.declared.mark.Mark.{Mark}
@@ -18,11 +18,12 @@ abbrev pub turns : List Mark → ℕ → ℤ
 turns [] k = pos 0
 turns (m ∷ ms) k = (if nat_le m.column k then turn_of m else pos 0) +ℤ turns ms k
 
--- from a column on, where the sum of the marks passed so far is given: each mark ends a stretch, which is black where the
--- sum isn't 0
+-- from a column on, where the sum of the marks passed so far is given: each mark ends a stretch, which is black where
+-- the sum isn't 0
 abbrev pub stretches : ℕ → ℤ → List Mark → ℕ → Bool
 stretches from sum [] k = nat_le from k && not (is_zero sum)
-stretches from sum (m ∷ ms) k = (nat_le from k && nat_lt k m.column && not (is_zero sum)) || stretches m.column (sum +ℤ turn_of m) ms k
+stretches from sum (m ∷ ms) k =
+    (nat_le from k && nat_lt k m.column && not (is_zero sum)) || stretches m.column (sum +ℤ turn_of m) ms k
 
 -- worked values: an edge rises left of column 1 and one falls left of column 3
 two_marks : List Mark

@@ -1,7 +1,8 @@
 -- No part of the standard: the edges of one glyph, where its picture stands, and how many crossings were asked for.
-use Rattle.std.specs.Prelude.{ℕ, pos, List, get_or}
+use Rattle.std.specs.Prelude.{ℕ, ℤ, pos, List, get_or}
 use Rattle.tt_scan.specs.declared.edge.Edge.{Edge}
 use Rattle.tt_scan.specs.declared.edge.Frame.{Frame}
+use Rattle.tt_scan.specs.Winding.{column_x, row_y}
 
 pub record Edges : Type 0 where
   pub frame : Frame
@@ -11,3 +12,10 @@ pub record Edges : Type 0 where
 -- edge i; past the last one an edge at 0 stands for none
 abbrev pub edge_at : List Edge → ℕ → Edge
 edge_at edges i = get_or edges i (record { ax = pos 0; ay = pos 0; bx = pos 0; by = pos 0 })
+
+-- the centre of pixel k of row r
+abbrev pub centre_x : Edges → ℕ → ℤ
+centre_x t k = column_x t.frame.margin (pos k)
+
+abbrev pub centre_y : Edges → ℤ → ℤ
+centre_y t r = row_y t.frame r

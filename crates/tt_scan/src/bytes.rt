@@ -18,7 +18,8 @@ fn fill_byte(row: &mut [u8], byte: usize, from: usize, to: usize)
     requires within { byte < length row.old }
     requires order { from ≤ to }
     requires fits { to ≤ 8 }
-    ensures bits { (k : ℕ) → bit row.new k ≡ (bit row.old k || (nat_le (8 * byte + from) k && nat_lt k (8 * byte + to))) }
+    ensures bits { (k : ℕ) → bit row.new k ≡ (bit row.old k
+        || (nat_le (8 * byte + from) k && nat_lt k (8 * byte + to))) }
     ensures len { length row.new ≡ length row.old }
 {
     row[byte] |= mask(from, to);

@@ -9,5 +9,6 @@ pub fn black_points()
     // A point lies on a list of edges where it lies on some edge of it.
     ensures on { (es : List Edge) (x y : ℤ) → (lies_on_one es x y ≡ true) ↔ LiesOnSome es x y }
     // A point is black where it lies on some edge, or the turns of all edges do not add up to 0.
-    ensures black { (es : List Edge) (x y : ℤ) → (is_black es x y ≡ true) ↔ (LiesOnSome es x y ⊎ (winding es x y ≢ pos 0)) }
+    ensures black { (es : List Edge) (x y : ℤ) → (is_black es x y ≡ true)
+        ↔ (LiesOnSome es x y ⊎ (winding es x y ≢ pos 0)) }
 {}
