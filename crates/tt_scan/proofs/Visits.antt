@@ -10,7 +10,8 @@ use Rattle.tt_scan.proofs.Crosses.{third_false, no_turned}
 
 pub not_on : (b w : Bool) (e : Edge) (x y : ℤ) → is_between e.ay e.by y ≡ false → b ≡ (b || (w && lies_on e x y))
 not_on true w e x y off = refl
-not_on false true e x y off = rw (third_false (is_zero (side e x y)) (is_between e.ax e.bx x) (is_between e.ay e.by y) off) refl
+not_on false true e x y off =
+    rw (third_false (is_zero (side e x y)) (is_between e.ax e.bx x) (is_between e.ay e.by y) off) refl
 not_on false false e x y off = refl
 
 pub not_turned : (z : ℤ) (e : Edge) (x y : ℤ) → is_between e.ay e.by y ≡ false → z ≡ z +ℤ turned e x y
