@@ -19,7 +19,8 @@ use tt_core::{Sink, Source};
 use tt_pbm::{Cut, write_all_of};
 
 /// Draws a line of text and writes its picture as binary PBM (P4): a pixel is black where its centre lies
-/// on, or inside, the outline of some glyph of the line. Nothing is written before the picture stands.
+/// on, or inside, the chord outline of some glyph of the line, in which each curve is eight chords. Nothing
+/// is written before the picture stands.
 ///
 /// Errors, the first of: Job (SizeRange, MarginRange, TextLong), before the font is read; Read, FontLarge;
 /// Font and Job (EmptyPicture, PictureLarge), in the order in which the bytes are read, the picture's size

@@ -1,4 +1,5 @@
-use Rattle.std.proofs.Common.{◌≡◌, chars, sym, ◌∙◌}
+use Rattle.std.proofs.Common.{arith, ◌≡◌, chars, sym, ◌∙◌}
+use Rattle.std.proofs.lemmas.Grind.{common_steps}
 use Rattle.std.proofs.lemmas.Iterator.{YieldsList-from_chars}
 use Rattle.std.proofs.lemmas.Iterator.Consumers.{YieldsList-end}
 use Rattle.std.proofs.lemmas.List.{map-id}
@@ -10,3 +11,6 @@ returns c =
     _ _ c.in-None.is c.next.ensures.steps in
     let all : c.loop-c.yielded ≡ chars c.args.text.now = sym (map-id c.loop-c.yielded) ∙ e.0 in
     rw (← all) c.loop-c.invariant
+
+pub loop-c-preserved : goal.loop-c-preserved
+loop-c-preserved c = grind (arith, common_steps)
