@@ -1,25 +1,28 @@
 #!/usr/bin/env python3
-"""Makes expected.txt, the checksums of pictures of lines of text, by fontTools and the rules that ../outlines/outlines.py
-states. It shares no code with tt_render.
+"""Makes expected.txt, the checksums of pictures of lines of text, by fontTools and the rules that
+../outlines/outlines.py states. It shares no code with tt_render.
 
   apt-get install fonts-dejavu-core fonts-liberation python3-fonttools
   /usr/bin/python3 tests/real_lines/make_expected.py
 
-The file in the repository was made with fontTools 4.38.0 (Debian's python3-fonttools 4.38.0-1+deb12u1) from the fonts of
-../real_fonts/fonts.txt. To see one picture,
+The file in the repository was made with fontTools 4.38.0 (Debian's python3-fonttools 4.38.0-1+deb12u1) from the fonts
+of ../real_fonts/fonts.txt, which takes a minute and a half. To see one picture,
 
   /usr/bin/python3 tests/real_lines/make_expected.py SIZE MARGIN FONT TEXT >picture.pbm
 
 The rules of a line. The pen of a character is the sum of the advances before it, each scaled and rounded to the nearest
-pixel, from halves to the upper. A glyph's left phantom point stands at its pen. The width is the sum of all advances and
-two margins; the height is the ascent, the descent, each rounded up to a pixel, and two margins. A pixel is black where
-some glyph, by itself, blackens its centre; what lies outside is cut off.
+pixel, from halves to the upper. A glyph's left phantom point stands at its pen. The width is the sum of all advances
+and two margins; the height is the ascent, the descent, each rounded up to a pixel, and two margins. A pixel is black
+where some glyph, by itself, blackens its centre; what lies outside is cut off.
 """
 import hashlib
+import io
 import math
 import pathlib
 import sys
+import unicodedata
 from fractions import Fraction
+from typing import NamedTuple
 
 from fontTools.ttLib import TTFont
 
@@ -29,7 +32,8 @@ from outlines import Outlines, chords, nearest, picture
 
 FOLDER = "/usr/share/fonts/truetype"
 SANS = f"{FOLDER}/dejavu/DejaVuSans.ttf"
-FONTS = SANS, f"{FOLDER}/dejavu/DejaVuSerif.ttf", f"{FOLDER}/liberation/LiberationSans-Regular.ttf"
+SERIF = f"{FOLDER}/dejavu/DejaVuSerif.ttf"
+LIBERATION = f"{FOLDER}/liberation/LiberationSans-Regular.ttf"
 SIZES = 9, 12, 16, 24, 48
 ENGLISH = "The quick brown fox jumps over the lazy dog"
 OTHERS = (
@@ -37,11 +41,69 @@ OTHERS = (
     "Съешь же ещё этих мягких французских булок, да выпей чаю",
     "Příliš žluťoučký kůň úpěl ďábelské ódy",
 )
-# The size, the margin, the font, the text.
-CASES = [(size, 0, font, ENGLISH) for font in FONTS for size in SIZES] + [(16, 2, SANS, text) for text in OTHERS]
+OWN = "-"
+MOST = 4096
+
+
+class Case(NamedTuple):
+    """A line; the text is repeated, with a blank between, to so many characters, and the font's unitsPerEm replaced."""
+
+    size: int
+    margin: int
+    font: str
+    text: str
+    units: int | str = OWN
+    characters: int | str = OWN
+
+    def whole_text(self):
+        return self.text if self.characters == OWN else (f"{self.text} " * self.characters)[: self.characters]
+
+    def opened(self):
+        """Returns the font's path, or a file of it with the other unitsPerEm, which stands at 18 in head."""
+        if self.units == OWN:
+            return self.font
+        data = bytearray(pathlib.Path(self.font).read_bytes())
+        at = TTFont(self.font).reader.tables["head"].offset + 18
+        data[at : at + 2] = self.units.to_bytes(2, "big")
+        return io.BytesIO(data)
+
+
+def distinct(path):
+    """Returns the first 4,096 characters up to U+FFFF, but no controls and blanks, that have glyphs of their own."""
+    font, seen = TTFont(path), {}
+    for code, name in sorted(font.getBestCmap().items()):
+        if code <= 0xFFFF and unicodedata.category(chr(code)) not in ("Cc", "Zs", "Zl", "Zp"):
+            seen.setdefault(name, chr(code))
+    return "".join(list(seen.values())[:MOST])
+
+
+def cases():
+    """Yields lines to be read, and then large ones."""
+    for font in SANS, SERIF, LIBERATION:
+        for size in SIZES:
+            yield Case(size, 0, font, ENGLISH)
+    for text in OTHERS:
+        yield Case(16, 2, SANS, text)
+    # At the largest size. The last has accented letters, which are composites.
+    for font in SANS, SERIF, LIBERATION:
+        yield Case(300, 0, font, ENGLISH)
+    yield Case(300, 64, SANS, OTHERS[2])
+    # The longest text: at the least size, at others that keep the picture within 16,384 columns, of one glyph alone,
+    # and without a glyph that stands twice.
+    yield Case(1, 0, SANS, ENGLISH, characters=MOST)
+    yield Case(4, 0, SERIF, ENGLISH, characters=MOST)
+    yield Case(8, 5, LIBERATION, ENGLISH, characters=MOST)
+    yield Case(6, 0, SANS, "g" * MOST)
+    yield Case(3, 1, SANS, distinct(SANS))
+    # 16,384 columns; 4,096 rows; and both, in letters of 2,200 rows and more.
+    yield Case(300, 54, LIBERATION, ENGLISH, characters=118)
+    yield Case(300, 61, SANS, "g", units=180)
+    yield Case(300, 27, SANS, "ǼQRawŵ", units=177)
+
 
 HEAD = """\
-# Written by make_expected.py: the SHA-256 of the P4 file of a line, the size and the margin in pixels, the font, the text."""
+# Written by make_expected.py: the SHA-256 of the P4 file of a line, the size and the margin in pixels, unitsPerEm and
+# how many characters the text is repeated to (- where the font and the text are as they stand), the font, the text."""
 
 
 def edges_of(outlines, glyph, pen):
@@ -133,15 +195,15 @@ def main():
         sys.stdout.buffer.write(drawn(int(size), int(margin), path, text))
         return
     known = (HERE.parent / "real_fonts/fonts.txt").read_text(encoding="utf-8")
-    for path in FONTS:
-        assert hashlib.md5(pathlib.Path(path).read_bytes()).hexdigest() in known, f"{path} is of another version"
-    for size, _, path, text in CASES:
-        if size <= 16:
-            try_stretches(size, path, text)
     with open(HERE / "expected.txt", "w", encoding="utf-8") as out:
         print(HEAD, file=out)
-        for size, margin, path, text in CASES:
-            print(hashlib.sha256(drawn(size, margin, path, text)).hexdigest(), size, margin, path, text, file=out)
+        for case in cases():
+            assert hashlib.md5(pathlib.Path(case.font).read_bytes()).hexdigest() in known, f"another {case.font}"
+            if case.size <= 16:
+                try_stretches(case.size, case.font, case.text)
+            picture = drawn(case.size, case.margin, case.opened(), case.whole_text())
+            size, margin, font, text, units, characters = case
+            print(hashlib.sha256(picture).hexdigest(), size, margin, units, characters, font, text, file=out)
 
 
 if __name__ == "__main__":
