@@ -1,0 +1,34 @@
+-- Apple TrueType Reference Manual, "Graphics State": the state variables and their defaults.
+use Rattle.std.specs.Prelude.{true, pos, ◌≤ℤ◌}
+use Rattle.tt_state.specs.declared.graphics_state.Axis.TheVariants as axis
+use Rattle.tt_state.specs.declared.graphics_state.Zone.TheVariants as zone
+use Rattle.tt_state.specs.declared.graphics_state.GraphicsState.{GraphicsState}
+use Rattle.tt_state.specs.declared.rounding.Round.TheVariants as round
+
+-- the defaults. The standard gives a control-value cut-in of 17/16 pixel and a minimum distance of one.
+abbrev pub default_state : GraphicsState
+default_state = record {
+  proj = axis.X;
+  free = axis.X;
+  rp0 = pos 0;
+  rp1 = pos 0;
+  rp2 = pos 0;
+  zp0 = zone.Glyph;
+  zp1 = zone.Glyph;
+  zp2 = zone.Glyph;
+  loops = pos 1;
+  round = round.Grid;
+  min_distance = pos 64;
+  cut_in = pos 68;
+  single_width = pos 0;
+  single_cut_in = pos 0;
+  auto_flip = true;
+  delta_base = pos 9;
+  delta_shift = pos 3;
+}
+
+-- what every instruction keeps: the points to loop over are counted, and a delta's step is a power of 2 up to a pixel
+pub record IsGraphicsState (state : GraphicsState) : Type 0 where
+  pub counted : pos 0 ≤ℤ state.loops
+  pub whole : pos 0 ≤ℤ state.delta_shift
+  pub parts : state.delta_shift ≤ℤ pos 6

@@ -1,0 +1,3 @@
+pub mod GraphicsState
+pub mod Rounding
+pub mod Sround

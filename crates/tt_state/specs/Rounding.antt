@@ -1,0 +1,53 @@
+-- Apple TrueType Reference Manual, "Graphics State" (round state) and "Instruction Set" (RTG, RTHG, RTDG, RDTG, RUTG,
+-- ROFF, SROUND). Distances are in 26.6 pixels.
+use Rattle.std.specs.Prelude.{◌≡◌, ℕ, if◌then◌else◌, ℤ, pos, negsuc, ◌+ℤ◌, neg_ℤ, int_lt, refl}
+use Rattle.tt_state.specs.declared.rounding.Round.{Round}
+use Rattle.tt_state.specs.declared.rounding.Round.TheVariants as round
+use Rattle.tt_state.specs.Sround.{cut_to, super_of, rounded_by}
+
+-- a magnitude rounded
+abbrev pub rounded_magnitude : Round → ℤ → ℤ
+rounded_magnitude round.Grid m = cut_to 64 (m +ℤ pos 32)
+rounded_magnitude round.Half m = cut_to 64 m +ℤ pos 32
+rounded_magnitude round.Double m = cut_to 32 (m +ℤ pos 16)
+rounded_magnitude round.Down m = cut_to 64 m
+rounded_magnitude round.Up m = cut_to 64 (m +ℤ pos 63)
+rounded_magnitude round.Off m = m
+rounded_magnitude (round.Super s) m = rounded_by s m
+
+-- a distance rounded: its magnitude is, and it keeps its sign, 0 being positive
+abbrev pub rounded : Round → ℤ → ℤ
+rounded state v =
+    if int_lt v (pos 0) then neg_ℤ (rounded_magnitude state (neg_ℤ v)) else rounded_magnitude state v
+
+-- the state that SROUND sets by a byte
+abbrev pub super_state : ℕ → Round
+super_state byte = round.Super (super_of byte)
+
+-- worked values
+half_a_pixel : rounded round.Grid (pos 32) ≡ pos 64
+half_a_pixel = refl
+
+minus_half_a_pixel : rounded round.Grid (negsuc 31) ≡ negsuc 63
+minus_half_a_pixel = refl
+
+less_than_half : rounded round.Grid (pos 31) ≡ pos 0
+less_than_half = refl
+
+to_a_half : rounded round.Half (pos 64) ≡ pos 96
+to_a_half = refl
+
+minus_one_to_a_half : rounded round.Half (negsuc 0) ≡ negsuc 31
+minus_one_to_a_half = refl
+
+double_grid : rounded round.Double (pos 16) ≡ pos 32
+double_grid = refl
+
+up : rounded round.Up (pos 1) ≡ pos 64
+up = refl
+
+down : rounded round.Down (negsuc 126) ≡ negsuc 63
+down = refl
+
+minus_ten : rounded (super_state 0x59) (negsuc 9) ≡ negsuc 15
+minus_ten = refl

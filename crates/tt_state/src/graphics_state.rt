@@ -1,0 +1,80 @@
+//! The graphics state and its defaults. Apple TrueType Reference Manual, "Graphics State".
+
+ghost use Rattle.std.specs.Prelude.{◌≡◌};
+ghost use Rattle.tt_state.specs.GraphicsState.{default_state, IsGraphicsState};
+
+use crate::rounding::Round;
+
+/// The direction of the projection or the freedom vector. Others are not supported (profile).
+#[derive(Clone, Copy, Debug, PartialEq, Eq)]
+pub enum Axis {
+    X,
+    Y,
+}
+
+/// A set of points: zone 0 has those that programs make up, zone 1 the glyph's.
+#[derive(Clone, Copy, Debug, PartialEq, Eq)]
+pub enum Zone {
+    Twilight,
+    Glyph,
+}
+
+/// The state variables that instructions read and set. Distances are in 26.6 pixels.
+#[derive(Clone, Copy, Debug, PartialEq, Eq)]
+pub struct GraphicsState {
+    /// The projection vector: along it distances are measured.
+    pub proj: Axis,
+    /// The freedom vector: along it points move.
+    pub free: Axis,
+    /// The reference points, by number; tested against their zones where they are used.
+    pub rp0: i32,
+    pub rp1: i32,
+    pub rp2: i32,
+    /// The zone pointers.
+    pub zp0: Zone,
+    pub zp1: Zone,
+    pub zp2: Zone,
+    /// How many points the next instruction that loops works on, at least 0.
+    pub loops: i32,
+    pub round: Round,
+    pub min_distance: i32,
+    /// The control-value cut-in.
+    pub cut_in: i32,
+    /// The single-width value.
+    pub single_width: i32,
+    /// The single-width cut-in.
+    pub single_cut_in: i32,
+    pub auto_flip: bool,
+    /// The size, in pixels per em, from which delta instructions count.
+    pub delta_base: i32,
+    /// Into how many parts a pixel is cut by a delta, as a power of 2 from 0 to 6.
+    pub delta_shift: i32,
+}
+
+impl GraphicsState {
+    /// The defaults, with which a font program starts.
+    pub fn new() -> GraphicsState
+        ensures exact { result ≡ default_state }
+        ensures sound { IsGraphicsState result }
+    {
+        GraphicsState {
+            proj: Axis::X,
+            free: Axis::X,
+            rp0: 0,
+            rp1: 0,
+            rp2: 0,
+            zp0: Zone::Glyph,
+            zp1: Zone::Glyph,
+            zp2: Zone::Glyph,
+            loops: 1,
+            round: Round::Grid,
+            min_distance: 64,
+            cut_in: 68,
+            single_width: 0,
+            single_cut_in: 0,
+            auto_flip: true,
+            delta_base: 9,
+            delta_shift: 3,
+        }
+    }
+}

@@ -1,0 +1,12 @@
+//! The state of the TrueType interpreter: the graphics state, how it rounds, and a point as programs see it.
+#![tactic(auto)]
+
+mod graphics_state;
+mod point;
+mod rounding;
+mod sround;
+
+pub use graphics_state::{Axis, GraphicsState, Zone};
+pub use point::Point;
+pub use rounding::Round;
+pub use sround::Super;

@@ -1,0 +1,67 @@
+//! Rounding by the round state. Apple TrueType Reference Manual, "Graphics State" (round state) and "Instruction Set"
+//! (RTG, RTHG, RTDG, RDTG, RUTG, ROFF, SROUND).
+
+ghost use Rattle.std.specs.Prelude.{◌≡◌, ◌+◌, ◌^◌, ◌<◌, ◌≤◌, pos, ◌+ℤ◌, ◌<ℤ◌, ◌≤ℤ◌, unsigned_abs};
+ghost use Rattle.tt_state.specs.Rounding.{super_state, rounded_magnitude, rounded};
+
+use crate::sround::{Super, cut};
+
+/// The round state: how the instructions that round do it.
+#[derive(Clone, Copy, Debug, PartialEq, Eq)]
+pub enum Round {
+    /// RTG: to the nearest whole pixel.
+    Grid,
+    /// RTHG: to the nearest half between two whole pixels.
+    Half,
+    /// RTDG: to the nearest half of a pixel.
+    Double,
+    /// RDTG: down to a whole pixel.
+    Down,
+    /// RUTG: up to a whole pixel.
+    Up,
+    /// ROFF: not at all.
+    Off,
+    /// SROUND: by a period, a phase and a threshold.
+    Super(Super),
+}
+
+impl Round {
+    /// The state that SROUND sets by the low byte of what it pops.
+    pub fn from_byte(byte: u8) -> Round
+        ensures { result ≡ super_state byte }
+    {
+        Round::Super(Super::from_byte(byte))
+    }
+
+    /// A magnitude rounded.
+    fn rounded_magnitude(&self, m: i64) -> i64
+        requires small { unsigned_abs m < 2 ^ 41 }
+        requires sign { pos 0 ≤ℤ m }
+        ensures exact { result ≡ rounded_magnitude self.now m }
+        ensures low { pos 0 ≤ℤ result }
+        ensures high { result ≤ℤ (m +ℤ pos 256) }
+    {
+        match self {
+            Round::Grid => cut(m + 32, 64),
+            Round::Half => cut(m, 64) + 32,
+            Round::Double => cut(m + 16, 32),
+            Round::Down => cut(m, 64),
+            Round::Up => cut(m + 63, 64),
+            Round::Off => m,
+            Round::Super(state) => state.rounded(m),
+        }
+    }
+
+    /// A distance in 26.6 pixels rounded: its magnitude is, and it keeps its sign.
+    pub fn round(&self, v: i64) -> i64
+        requires { unsigned_abs v < 2 ^ 40 }
+        ensures exact { result ≡ rounded self.now v }
+        ensures bound { unsigned_abs result ≤ unsigned_abs v + 256 }
+    {
+        if v < 0 {
+            -self.rounded_magnitude(-v)
+        } else {
+            self.rounded_magnitude(v)
+        }
+    }
+}
