@@ -1,0 +1,114 @@
+-- Apple TrueType Reference Manual, "Instruction Set" (IF, ELSE, EIF, FDEF, ENDF): IF (58) whose condition is false goes on
+-- behind its ELSE (1B) or EIF (59), an ELSE that is come to behind its EIF, and FDEF behind the first ENDF (2D). The
+-- program is passed over instruction by instruction, and IFs in between are passed over with their EIFs.
+use Rattle.std.specs.Prelude.{◌≡◌, ℕ, zero, suc, ◌+◌, ◌-◌, ◌<◌, ◌==◌, ◌||◌, ◌&&◌, ◌⊎◌, nat_le, Bool, true, false, if◌then◌else◌, List, [], ◌∷◌, length, count_by, Result, Ok, Err, MatchResult, refl}
+use Rattle.tt_core.specs.Outcomes.{◌>>=◌}
+use Rattle.tt_core.specs.declared.fault.Why.{Why}
+use Rattle.tt_core.specs.declared.fault.Why.TheVariants as why
+use Rattle.tt_code.specs.declared.decoding.Halt.{Halt}
+use Rattle.tt_code.specs.declared.skips.Sought.{Sought}
+use Rattle.tt_code.specs.declared.skips.Sought.TheVariants as sought
+use Rattle.tt_code.specs.Decoding.{Instruction, instruction_at}
+
+-- whether an opcode ends a skip, so many inner IFs being open
+abbrev pub ends : Sought → ℕ → ℕ → Bool
+ends sought.ElseOrEif depth op = depth == 0 && (op == 0x1B || op == 0x59)
+ends sought.Eif depth op = depth == 0 && op == 0x59
+ends sought.Endf depth op = op == 0x2D
+
+-- the inner IFs that are open behind an opcode
+abbrev pub depth_after : ℕ → ℕ → ℕ
+depth_after depth op = if op == 0x58 then depth + 1 else (if op == 0x59 then depth - 1 else depth)
+
+-- where a skip that has come to a place goes on; at most so many instructions are left
+abbrev pub skip_from : ℕ → Sought → List ℕ → Halt → ℕ → ℕ → Result ℕ Halt
+skip_from zero sought code lost place depth = Err lost
+skip_from (suc n) sought code lost place depth =
+    if nat_le (length code) place then Err lost else (
+    instruction_at code place >>= λ i.
+    if ends sought depth i.op then Ok (place + i.len)
+    else skip_from n sought code lost (place + i.len) (depth_after depth i.op))
+
+-- a skip that begins at the opcode at a place
+abbrev pub skip_end : Sought → List ℕ → ℕ → Why → Result ℕ Halt
+skip_end sought code at lost = skip_from (length code) sought code (record { at = at; why = lost }) (at + 1) 0
+
+abbrev pub if_end : List ℕ → ℕ → Result ℕ Halt
+if_end code at = skip_end sought.ElseOrEif code at why.IfOpen
+
+abbrev pub else_end : List ℕ → ℕ → Result ℕ Halt
+else_end code at = skip_end sought.Eif code at why.IfOpen
+
+abbrev pub definition_end : List ℕ → ℕ → Result ℕ Halt
+definition_end code at = skip_end sought.Endf code at why.NoEndf
+
+-- The same without a walk: the end of a skip is the least place reached, instruction by instruction, at which a sought
+-- opcode stands and all inner IFs are closed. Opcodes that were passed are listed with the latest first.
+
+-- as many EIFs as IFs were passed
+abbrev pub closed : List ℕ → Bool
+closed passed = count_by (λ op. op == 0x58) passed == count_by (λ op. op == 0x59) passed
+
+-- whether an opcode behind those that were passed is the end
+abbrev pub is_end : Sought → List ℕ → ℕ → Bool
+is_end sought.ElseOrEif passed op = closed passed && (op == 0x1B || op == 0x59)
+is_end sought.Eif passed op = closed passed && op == 0x59
+is_end sought.Endf passed op = op == 0x2D
+
+-- the instruction at a place has an opcode, and the next one stands at another place
+pub record StandsAt (code : List ℕ) (place op next : ℕ) : Type 0 where
+  pub instruction : Instruction
+  pub there : instruction_at code place ≡ Ok instruction
+  pub opcode : instruction.op ≡ op
+  pub behind : place + instruction.len ≡ next
+
+-- instructions with these opcodes lead from one place to another
+abbrev pub Leads : List ℕ → ℕ → List ℕ → ℕ → Type 0
+Leads code from [] to = from ≡ to
+Leads code from (op ∷ before) to = (place : ℕ) × Leads code from before place × StandsAt code place op to
+
+-- none of them is the end
+abbrev pub NoEnd : Sought → List ℕ → Type 0
+NoEnd sought [] = Unit {0}
+NoEnd sought (op ∷ before) = (is_end sought before op ≡ false) × NoEnd sought before
+
+-- the skip comes to a place, and has not ended before
+pub record ComesTo (sought : Sought) (code : List ℕ) (at : ℕ) (passed : List ℕ) (place : ℕ) : Type 0 where
+  pub leads : Leads code (at + 1) passed place
+  pub first : NoEnd sought passed
+
+-- it ends with the instruction before a place
+pub record EndsBefore (sought : Sought) (code : List ℕ) (at next : ℕ) : Type 0 where
+  pub passed : List ℕ
+  pub place : ℕ
+  pub comes : ComesTo sought code at passed place
+  pub op : ℕ
+  pub stands : StandsAt code place op next
+  pub end : is_end sought passed op ≡ true
+
+-- it does not end: it comes to the program's end, or to an instruction whose data passes that
+pub record IsOpen (sought : Sought) (code : List ℕ) (at : ℕ) (lost : Why) (halt : Halt) : Type 0 where
+  pub passed : List ℕ
+  pub place : ℕ
+  pub comes : ComesTo sought code at passed place
+  pub why : ((place ≡ length code) × (halt ≡ record { at = at; why = lost })) ⊎ ((place < length code) × (instruction_at code place ≡ Err halt))
+
+abbrev pub IsSkip : Sought → List ℕ → ℕ → Why → Result ℕ Halt → Type 0
+IsSkip sought code at lost result =
+    MatchResult result (EndsBefore sought code at) (IsOpen sought code at lost)
+
+-- worked values: IF, PUSHB with a byte that looks like EIF, and an inner IF with ELSE and EIF before the ELSE
+to_the_else : if_end (0x58 ∷ 0xB0 ∷ 0x59 ∷ 0x58 ∷ 0x1B ∷ 0x59 ∷ 0x1B ∷ 0x59 ∷ []) 0 ≡ Ok 7
+to_the_else = refl
+
+to_the_eif : else_end (0x1B ∷ 0x58 ∷ 0x59 ∷ 0x59 ∷ []) 0 ≡ Ok 4
+to_the_eif = refl
+
+to_the_endf : definition_end (0x2C ∷ 0xB0 ∷ 0x2D ∷ 0x2D ∷ []) 0 ≡ Ok 4
+to_the_endf = refl
+
+never_closed : if_end (0 ∷ 0x58 ∷ 0x58 ∷ 0x59 ∷ []) 1 ≡ Err (record { at = 1; why = why.IfOpen })
+never_closed = refl
+
+cut_short : definition_end (0x2C ∷ 0xB1 ∷ 0x2D ∷ []) 0 ≡ Err (record { at = 1; why = why.CodeShort })
+cut_short = refl

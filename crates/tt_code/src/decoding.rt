@@ -1,0 +1,103 @@
+//! What stands at a byte of a program. Apple TrueType Reference Manual, "Instruction Set" (pushing data onto the
+//! interpreter stack).
+
+ghost use Rattle.std.specs.Prelude.{◌≡◌, ◌+◌, ◌^◌, ◌<◌, ◌≤◌, length, slice_index, IfOk, IfErr};
+ghost use Rattle.tt_core.specs.Outcomes.{Gives};
+ghost use Rattle.tt_code.specs.Decoding.{Instruction, head_length, data_length, instruction_at};
+ghost use Rattle.tt_code.specs.Views.{instruction_view};
+
+use tt_core::Why;
+
+const NPUSHB: u8 = 0x40;
+
+const NPUSHW: u8 = 0x41;
+
+const PUSHB: u8 = 0xB0;
+
+const PUSHB_LAST: u8 = 0xB7;
+
+const PUSHW: u8 = 0xB8;
+
+const PUSHW_LAST: u8 = 0xBF;
+
+/// Why a program stops, and at which of its bytes.
+#[derive(Clone, Copy, Debug, PartialEq, Eq)]
+pub struct Halt {
+    pub at: usize,
+    pub why: Why,
+}
+
+/// An instruction: its opcode, the data that it pushes, as bytes, and how many bytes of the program it takes.
+#[derive(Clone, Copy, Debug)]
+pub struct Instr<'a> {
+    pub op: u8,
+    pub args: &'a [u8],
+    pub len: usize,
+}
+
+/// The count byte of NPUSHB and NPUSHW; 0 where it would lie past the end, since the instruction is short then.
+fn count(code: &[u8], at: usize) -> usize
+    requires { at < length code.now }
+    ensures exact { result ≡ slice_index code.now (at + 1) }
+    ensures high { result < 256 }
+{
+    if at + 1 < code.len() {
+        usize::from(code[at + 1])
+    } else {
+        0
+    }
+}
+
+/// How many bytes stand before the data.
+fn head_length(op: u8) -> usize
+    ensures exact { result ≡ head_length op }
+    ensures low { 1 ≤ result }
+    ensures high { result ≤ 2 }
+{
+    match op {
+        NPUSHB | NPUSHW => 2,
+        _ => 1,
+    }
+}
+
+/// How many bytes of data an instruction has.
+fn data_length(op: u8, count: usize) -> usize
+    requires { count < 256 }
+    ensures exact { result ≡ data_length op count }
+    ensures high { result ≤ 512 }
+{
+    match op {
+        NPUSHB => count,
+        NPUSHW => 2 * count,
+        PUSHB..=PUSHB_LAST => usize::from(op - PUSHB) + 1,
+        PUSHW..=PUSHW_LAST => 2 * (usize::from(op - PUSHW) + 1),
+        _ => 0,
+    }
+}
+
+/// The instruction at a byte. Error: CodeShort at that byte, where its data passes the end.
+pub fn decode<'a>(code: &'a [u8], at: usize) -> Result<Instr<'a>, Halt>
+    requires { at < length code.now }
+    ensures exact { Gives instruction_view result (instruction_at code.now at) }
+    ensures some { IfOk result (λ i. 1 ≤ i.len) }
+    ensures within { IfOk result (λ i. at + i.len ≤ length code.now) }
+    ensures fits { IfOk result (λ i. at + i.len < 2 ^ 64) }
+    ensures opcode { IfOk result (λ i. i.op ≡ slice_index code.now at) }
+    ensures place { IfErr result (λ h. h.at ≡ at) }
+{
+    let op = code[at];
+    let head = head_length(op);
+    let data = data_length(op, count(code, at));
+    if code.len() - at < head + data {
+        return Err(Halt {
+            at,
+            why: Why::CodeShort,
+        });
+    }
+    let from = at + head;
+    Ok(Instr {
+        op,
+        args: &code[from..from + data],
+        len: head + data,
+    })
+}

@@ -1,0 +1,121 @@
+//! Where a skip ends. Apple TrueType Reference Manual, "Instruction Set" (IF, ELSE, EIF, FDEF, ENDF). A skip goes from
+//! instruction to instruction, so that data which looks like an opcode is passed over.
+
+ghost use Rattle.std.specs.Prelude.{◌≡◌, ◌+◌, ◌^◌, ◌<◌, ◌≤◌, length, IfOk, IfErr};
+ghost use Rattle.tt_core.specs.Outcomes.{Gives};
+ghost use Rattle.tt_code.specs.Skips.{ends, depth_after, skip_end, if_end, else_end, definition_end, IsSkip};
+ghost use Rattle.tt_code.specs.declared.skips.Sought.TheVariants as sought;
+
+use crate::decoding::{Halt, decode};
+use tt_core::Why;
+
+const ELSE: u8 = 0x1B;
+
+const ENDF: u8 = 0x2D;
+
+const IF: u8 = 0x58;
+
+const EIF: u8 = 0x59;
+
+/// What a skip looks for.
+#[derive(Clone, Copy)]
+enum Sought {
+    /// Of an IF whose condition is false: its ELSE or EIF.
+    ElseOrEif,
+    /// Of an ELSE that is come to: its EIF.
+    Eif,
+    /// Of an FDEF: the first ENDF.
+    Endf,
+}
+
+/// Whether an opcode ends a skip, so many inner IFs being open.
+fn is_end(sought: Sought, depth: usize, op: u8) -> bool
+    ensures { result ≡ ends sought depth op }
+{
+    match sought {
+        Sought::ElseOrEif => depth == 0 && (op == ELSE || op == EIF),
+        Sought::Eif => depth == 0 && op == EIF,
+        Sought::Endf => op == ENDF,
+    }
+}
+
+/// How many inner IFs are open behind an opcode.
+fn depth_after(depth: usize, op: u8) -> usize
+    requires { depth + 1 < 2 ^ 64 }
+    ensures exact { result ≡ depth_after depth op }
+    ensures bound { result ≤ depth + 1 }
+{
+    match op {
+        IF => depth + 1,
+        EIF => depth.saturating_sub(1),
+        _ => depth,
+    }
+}
+
+/// The place behind the end of a skip that begins at `at`. Errors: CodeShort where data passes the end, `lost` at `at`
+/// where the program's end is reached.
+fn skip(sought: Sought, code: &[u8], at: usize, lost: Why) -> Result<usize, Halt>
+    requires { at < length code.now }
+    ensures exact { Gives (λ j. j) result (skip_end sought code.now at lost) }
+    ensures after { IfOk result (λ j. at < j) }
+    ensures within { IfOk result (λ j. j ≤ length code.now) }
+    ensures fits { IfOk result (λ j. j < 2 ^ 64) }
+    ensures place { IfErr result (λ h. h.at < length code.now) }
+{
+    let mut place = at + 1;
+    let mut depth = 0;
+    'instructions: while place < code.len() {
+        let i = decode(code, place)?;
+        if is_end(sought, depth, i.op) {
+            return Ok(place + i.len);
+        }
+        depth = depth_after(depth, i.op);
+        place += i.len;
+    }
+    Err(Halt { at, why: lost })
+}
+
+/// Of an IF at `at` whose condition is false: the place behind its ELSE or EIF. Errors: CodeShort at an instruction whose
+/// data passes the end, IfOpen at `at`.
+pub fn skip_if(code: &[u8], at: usize) -> Result<usize, Halt>
+    requires { at < length code.now }
+    ensures exact { Gives (λ j. j) result (if_end code.now at) }
+    // It is the least place that is reached where an ELSE or EIF stands and all inner IFs are closed.
+    ensures least { IsSkip sought.ElseOrEif code.now at Why.IfOpen result }
+    ensures after { IfOk result (λ j. at < j) }
+    ensures within { IfOk result (λ j. j ≤ length code.now) }
+    ensures fits { IfOk result (λ j. j < 2 ^ 64) }
+    ensures place { IfErr result (λ h. h.at < length code.now) }
+{
+    skip(Sought::ElseOrEif, code, at, Why::IfOpen)
+}
+
+/// Of an ELSE at `at` that is come to: the place behind its EIF. Errors: CodeShort at an instruction whose data passes the
+/// end, IfOpen at `at`.
+pub fn skip_else(code: &[u8], at: usize) -> Result<usize, Halt>
+    requires { at < length code.now }
+    ensures exact { Gives (λ j. j) result (else_end code.now at) }
+    // It is the least place that is reached where an EIF stands and all inner IFs are closed.
+    ensures least { IsSkip sought.Eif code.now at Why.IfOpen result }
+    ensures after { IfOk result (λ j. at < j) }
+    ensures within { IfOk result (λ j. j ≤ length code.now) }
+    ensures fits { IfOk result (λ j. j < 2 ^ 64) }
+    ensures place { IfErr result (λ h. h.at < length code.now) }
+{
+    skip(Sought::Eif, code, at, Why::IfOpen)
+}
+
+/// Of an FDEF at `at`: the place behind the first ENDF. Errors: CodeShort at an instruction whose data passes the end,
+/// NoEndf at `at`.
+pub fn skip_def(code: &[u8], at: usize) -> Result<usize, Halt>
+    requires { at < length code.now }
+    ensures exact { Gives (λ j. j) result (definition_end code.now at) }
+    // It is the least place that is reached where an ENDF stands.
+    ensures least { IsSkip sought.Endf code.now at Why.NoEndf result }
+    ensures after { IfOk result (λ j. at < j) }
+    ensures within { IfOk result (λ j. j ≤ length code.now) }
+    ensures fits { IfOk result (λ j. j < 2 ^ 64) }
+    ensures place { IfErr result (λ h. h.at < length code.now) }
+{
+    skip(Sought::Endf, code, at, Why::NoEndf)
+}
