@@ -7,7 +7,7 @@ use Rattle.tt_arc.specs.declared.dot.Dot.{Dot}
 use Rattle.tt_fit.specs.Outline.{AreEnds}
 use Rattle.tt_arc.specs.Chords.{contour_edges, contour_start, contour_at}
 
-slice_of_map : {X : Type 0} (f : X → Dot) (ps : List X) (a b : ℕ) → slice_range (map f ps) a b
+pub slice_of_map : {X : Type 0} (f : X → Dot) (ps : List X) (a b : ℕ) → slice_range (map f ps) a b
     ≡ map f (slice_range ps a b)
 slice_of_map f ps a b = rw (drop-map f a ps, take-map f (b - a) (drop a ps)) refl
 

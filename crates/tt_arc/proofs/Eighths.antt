@@ -7,7 +7,7 @@ use Rattle.tt_arc.specs.declared.curve.Curve.{Curve}
 use Rattle.tt_arc.specs.Chords.{BendFits, eighth, chord_end, edge_between, first_chords}
 
 -- what holds of each eighth holds of all
-by_eighths : (P : ℕ → Type 0) → P 0 → P 1 → P 2 → P 3 → P 4 → P 5 → P 6 → P 7 → P 8 → (k : ℕ) → k ≤ 8 → P k
+pub by_eighths : (P : ℕ → Type 0) → P 0 → P 1 → P 2 → P 3 → P 4 → P 5 → P 6 → P 7 → P 8 → (k : ℕ) → k ≤ 8 → P k
 by_eighths P a b c d e f g h i zero le = a
 by_eighths P a b c d e f g h i (suc zero) le = b
 by_eighths P a b c d e f g h i (suc (suc zero)) le = c

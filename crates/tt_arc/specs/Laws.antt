@@ -1,5 +1,5 @@
 -- What the edges of an outline come to, told of its single points.
-use Rattle.std.specs.Prelude.{◌≡◌, ◌≢◌, ◌↔◌, ◌⊎◌, ℕ, ◌<◌, Bool, true, false, ◌&&◌, if◌then◌else◌, ℤ, pos, negsuc, ◌+ℤ◌, int_lt, int_le, List, [], ◌∷◌, length, map, refl}
+use Rattle.std.specs.Prelude.{◌≡◌, ◌≢◌, ◌↔◌, ◌⊎◌, ℕ, ◌<◌, Bool, true, false, ◌&&◌, if◌then◌else◌, ℤ, pos, negsuc, ◌+ℤ◌, ◌*ℤ◌, int_lt, int_le, List, [], ◌∷◌, length, map, refl}
 use Rattle.std.specs.List.{Any}
 use Rattle.tt_scan.specs.declared.edge.Edge.{Edge}
 use Rattle.tt_scan.specs.Winding.{side, lies_on, lies_on_one, winding, is_black}
@@ -44,6 +44,18 @@ abbrev pub SidesAgree : Type 0
 SidesAgree = (points : List (ℤ × ℤ × Bool)) (ends : List ℕ) (dx dy x y : ℤ)
     → lies_on_one (chord_edges points ends dx dy) x y ≡ false
     → winding (chord_edges points ends dx dy) x y ≡ winding_right (chord_edges points ends dx dy) x y
+
+-- an edge that stands further to the right by so much, and several
+abbrev pub moved_edge : ℤ → Edge → Edge
+moved_edge d e = record { ax = e.ax +ℤ d; ay = e.ay; bx = e.bx +ℤ d; by = e.by }
+
+abbrev pub moved_edges : ℤ → List Edge → List Edge
+moved_edges d es = map (moved_edge d) es
+
+-- an outline that stands k pixels further to the right has its edges there
+abbrev pub OutlineMoved : Type 0
+OutlineMoved = (points : List (ℤ × ℤ × Bool)) (ends : List ℕ) (dx dy k : ℤ)
+    → chord_edges points ends (dx +ℤ pos 64 *ℤ k) dy ≡ moved_edges (pos 8192 *ℤ k) (chord_edges points ends dx dy)
 
 -- worked values: inside a square, upwards on its left, and left of it
 square : List Edge

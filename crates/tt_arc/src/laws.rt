@@ -1,6 +1,6 @@
 //! Laws of the definitions. Each function takes nothing and gives nothing: its clauses hold of all outlines.
 
-ghost use Rattle.tt_arc.specs.Laws.{OnByPoints, BlackByPoints, SidesAgree};
+ghost use Rattle.tt_arc.specs.Laws.{OnByPoints, BlackByPoints, SidesAgree, OutlineMoved};
 
 /// Where a place lies on an outline, and where it is black, told of the outline's single points.
 pub fn outline_points()
@@ -11,4 +11,9 @@ pub fn outline_points()
 /// The winding round a place, counted of the edges on its left or of those on its right.
 pub fn sides_agree()
     ensures { SidesAgree }
+{}
+
+/// The edges of an outline that is moved by whole pixels: they are those of the outline where it stood, moved by as much.
+pub fn outline_moved()
+    ensures { OutlineMoved }
 {}
