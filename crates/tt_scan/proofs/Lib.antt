@@ -2,6 +2,7 @@ mod Edges
 pub mod Columns
 pub mod Crosses
 pub mod Floors
+pub mod Moved
 pub mod Points
 pub mod Ranges
 pub mod Sides

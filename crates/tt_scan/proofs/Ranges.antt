@@ -1,6 +1,6 @@
 -- Ranges of numbers, told in other ways.
-use Rattle.std.proofs.Common.{◌≡◌, ◌∙◌, ℕ, ◌<◌, nat_le, nat_lt, Bool, true, false, ◌&&◌, refl, arith}
-use Rattle.std.specs.Prelude.{ℤ, pos, negsuc, unsigned_abs, ◌+ℤ◌, ◌-ℤ◌, ◌*ℤ◌, ◌≤ℤ◌, ◌<ℤ◌, int_lt, int_le}
+use Rattle.std.proofs.Common.{◌≡◌, ◌∙◌, ℕ, ◌<◌, nat_le, nat_lt, Bool, true, false, ◌&&◌, ◌^◌, SFits, w64, refl, arith}
+use Rattle.std.specs.Prelude.{ℤ, pos, unsigned_abs, ◌+ℤ◌, ◌-ℤ◌, ◌*ℤ◌, ◌≤ℤ◌, ◌<ℤ◌, int_lt, int_le}
 use Rattle.std.specs.Int.{int_min, int_max}
 use Rattle.std.proofs.lemmas.Bool.Decides.{nat_tests}
 use Rattle.std.proofs.lemmas.Int.{ints, clamps, by_lt_z}
@@ -103,19 +103,26 @@ pub row_met : (e : Edge) (f : Frame) (top low high row : ℤ) → top ≡ row_y 
     → is_between e.ay e.by (row_y f row) ≡ (int_le (top -ℤ high) (pos 8192 *ℤ row) && int_le (pos 8192 *ℤ row) (top -ℤ low))
 row_met e f top low high row is_top is_low is_high = between_down e.ay e.by (row_y f row) (top -ℤ high) (top -ℤ low) (pos 8192 *ℤ row) (omega (arith, ints)) (omega (arith, ints))
 
--- a column cut to those from 0 up to the width
-pub placed : (at z : ℤ) (width k : ℕ) → z ≡ int_max (pos 0) (int_min at (pos width)) → k < width → int_le at (pos k) ≡ nat_le (unsigned_abs z) k
-placed at z width k is within =
-    by_lt_z at (pos 0)
-    (λ left. let zero : z ≡ pos 0 = omega (arith, ints, clamps) in grind (arith, ints, nat_tests))
-    (λ right. by_lt_z at (pos width)
-    (λ inside. let same : z ≡ at = omega (arith, ints, clamps) in grind (arith, ints, nat_tests))
-    (λ past. let last : z ≡ pos width = omega (arith, ints, clamps) in grind (arith, ints, nat_tests)))
+-- a column cut to those of a window: to so many from `low` on
 
-pub placed_past : (at z : ℤ) (width k : ℕ) → z ≡ int_max (negsuc 0) (int_min at (pos width)) → k < width → int_le (pos k) at ≡ nat_lt k (unsigned_abs (z +ℤ pos 1))
-placed_past at z width k is within =
-    by_lt_z at (pos 0)
-    (λ left. let zero : z ≡ negsuc 0 = omega (arith, ints, clamps) in grind (arith, ints, nat_tests))
-    (λ right. by_lt_z at (pos width)
+pub placed : (at z low : ℤ) (width k : ℕ) → z ≡ int_max low (int_min at (low +ℤ pos width)) → k < width
+    → int_le at (low +ℤ pos k) ≡ nat_le (unsigned_abs (z -ℤ low)) k
+placed at z low width k is within =
+    by_lt_z at low
+    (λ left. let zero : z -ℤ low ≡ pos 0 = omega (arith, ints, clamps) in rw zero (grind (arith, ints, nat_tests)))
+    (λ right. by_lt_z at (low +ℤ pos width)
     (λ inside. let same : z ≡ at = omega (arith, ints, clamps) in grind (arith, ints, nat_tests))
-    (λ past. let last : z ≡ pos width = omega (arith, ints, clamps) in grind (arith, ints, nat_tests)))
+    (λ past. let last : z -ℤ low ≡ pos width = omega (arith, ints, clamps) in rw last (grind (arith, ints, nat_tests))))
+
+pub placed_past : (at z before : ℤ) (width k : ℕ) → z ≡ int_max before (int_min at (before +ℤ pos width)) → k < width
+    → int_le ((before +ℤ pos 1) +ℤ pos k) at ≡ nat_lt k (unsigned_abs (z -ℤ before))
+placed_past at z before width k is within =
+    by_lt_z before at
+    (λ right. by_lt_z at (before +ℤ pos width)
+    (λ inside. let same : z ≡ at = omega (arith, ints, clamps) in grind (arith, ints, nat_tests))
+    (λ past. let last : z -ℤ before ≡ pos width = omega (arith, ints, clamps) in rw last (grind (arith, ints, nat_tests))))
+    (λ left. let zero : z -ℤ before ≡ pos 0 = omega (arith, ints, clamps) in rw zero (grind (arith, ints, nat_tests)))
+
+-- how far a cut column lies from where the window begins
+pub within_fits : (z low : ℤ) (n : ℕ) → n < 2 ^ 32 → low ≤ℤ z → z ≤ℤ (low +ℤ pos n) → SFits w64 (z -ℤ low)
+within_fits z low n few above below = omega (arith, ints)

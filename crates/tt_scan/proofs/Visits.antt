@@ -1,18 +1,38 @@
--- What an edge does to a row and to its sweep.
-use Rattle.std.proofs.Common.{◌≡◌, ◌≢◌, refl, ◌≤◌, Bool, true, false, ◌&&◌, ◌||◌, arith}
-use Rattle.std.specs.Prelude.{ℤ, pos, negsuc, ◌+ℤ◌, int_lt, unsigned_abs, if◌then◌else◌}
-use Rattle.std.proofs.lemmas.Int.{ints}
+-- What an edge leaves of a row.
+use Rattle.std.proofs.Common.{◌≡◌, ◌∙◌, ◌≢◌, refl, ℕ, ◌+◌, ◌<◌, ◌≤◌, Bool, true, false, ◌&&◌, ◌||◌, List, [], ◌∷◌, ◌++◌, length, drop, get_or, int_le, ◌≤ℤ◌, ◌<ℤ◌, nat_lt, inl, inr, arith}
+use Rattle.std.specs.Prelude.{ℤ, pos, negsuc, ◌+ℤ◌, ◌-ℤ◌, not, int_lt, unsigned_abs, if◌then◌else◌}
+use Rattle.std.proofs.lemmas.Bool.Decides.{nat_tests}
+use Rattle.std.proofs.lemmas.Bool.{cases_lt}
+use Rattle.std.proofs.lemmas.Int.{ints, by_lt_z}
+use Rattle.std.proofs.lemmas.List.{drop_more}
 use Rattle.tt_scan.specs.declared.edge.Edge.{Edge}
+use Rattle.tt_scan.specs.declared.mark.Span.{Span}
+use Rattle.tt_scan.specs.Marks.{covers}
 use Rattle.tt_scan.specs.Winding.{side, is_zero, is_between, lies_on, turned}
 use Rattle.tt_scan.proofs.Crosses.{third_false, no_turned}
 
+-- one span more
+
+or_false : (b : Bool) → (b || false) ≡ b
+or_false true = refl
+or_false false = refl
+
+or_or : (a b c : Bool) → (a || (b || c)) ≡ ((a || b) || c)
+or_or true b c = refl
+or_or false b c = refl
+
+pub covers_more : (ss : List Span) (s : Span) (c : ℤ)
+    → covers (ss ++ s ∷ []) c ≡ (covers ss c || (int_le s.first c && int_le c s.last))
+covers_more [] s c = or_false (int_le s.first c && int_le c s.last)
+covers_more (t ∷ ss) s c =
+    rw (covers_more ss s c) (or_or (int_le t.first c && int_le c t.last) (covers ss c) (int_le s.first c && int_le c s.last))
+
 -- an edge that does not meet the row
 
-pub not_on : (b w : Bool) (e : Edge) (x y : ℤ) → is_between e.ay e.by y ≡ false → b ≡ (b || (w && lies_on e x y))
-not_on true w e x y off = refl
-not_on false true e x y off =
+pub not_on : (b : Bool) (e : Edge) (x y : ℤ) → is_between e.ay e.by y ≡ false → b ≡ (b || lies_on e x y)
+not_on true e x y off = refl
+not_on false e x y off =
     rw (third_false (is_zero (side e x y)) (is_between e.ax e.bx x) (is_between e.ay e.by y) off) refl
-not_on false false e x y off = refl
 
 pub not_turned : (z : ℤ) (e : Edge) (x y : ℤ) → is_between e.ay e.by y ≡ false → z ≡ z +ℤ turned e x y
 not_turned z e x y off = let none : turned e x y ≡ pos 0 = no_turned e.ay e.by y (side e x y) off in omega (arith, ints)
@@ -22,5 +42,42 @@ not_turned z e x y off = let none : turned e x y ≡ pos 0 = no_turned e.ay e.by
 pub sign_is : (t : ℤ) → unsigned_abs t ≤ 1 → t ≢ pos 0 → (if int_lt (pos 0) t then pos 1 else negsuc 0) ≡ t
 sign_is t small some = grind (arith, ints)
 
-pub same_turn : (t u v : ℤ) (a b : Bool) → b ≡ a → u ≡ v → (if a then u else pos 0) ≡ (if b then v else pos 0)
-same_turn t u v a b is same = rw (is, same) refl
+-- the columns up to a mark, where the marks left of them do not add up to 0
+
+some_sum : (sum : ℤ) → sum ≢ pos 0 → is_zero sum ≡ false
+some_sum sum some = grind (arith, ints)
+
+pub stretch_is : (b : Bool) (from to sum c : ℤ) → sum ≢ pos 0
+    → (b || (int_le from c && int_le c (to -ℤ pos 1))) ≡ (b || (int_le from c && int_lt c to && not (is_zero sum)))
+stretch_is true from to sum c some = refl
+stretch_is false from to sum c some = rw (some_sum sum some) (grind (arith, ints))
+
+pub rest_is : (b : Bool) (from last sum c : ℤ) → sum ≢ pos 0 → c ≤ℤ last
+    → (b || (int_le from c && int_le c last)) ≡ (b || (int_le from c && not (is_zero sum)))
+rest_is true from last sum c some within = refl
+rest_is false from last sum c some within = rw (some_sum sum some) (grind (arith, ints))
+
+pub less : (a b : ℤ) → int_lt a b ≡ true → a <ℤ b
+less a b holds = by_lt_z a b (λ under. under) (λ over. absurd (grind (arith, ints)))
+
+-- one span more is painted
+
+both_ways : (row w s t : Bool) → ((row || (w && s)) || (w && t)) ≡ (row || (w && (s || t)))
+both_ways true w s t = refl
+both_ways false true s t = refl
+both_ways false false s t = refl
+
+pub span_more : (old row new w : Bool) (ss : List Span) (i : ℕ) (c : ℤ) (d : Span) → i < length ss
+    → (row || (w && covers (drop i ss) c)) ≡ old
+    → new ≡ (row || (w && (int_le (get_or ss i d).first c && int_le c (get_or ss i d).last)))
+    → (new || (w && covers (drop (i + 1) ss) c)) ≡ old
+span_more old row new w ss i c d within so_far is_new =
+    let left : (row || (w && covers (get_or ss i d ∷ drop (i + 1) ss) c)) ≡ old = rw (drop_more ss i d within) at so_far in
+    rw is_new (both_ways row w (int_le (get_or ss i d).first c && int_le c (get_or ss i d).last) (covers (drop (i + 1) ss) c) ∙ left)
+
+-- what is told of columns within the width alone
+pub within_width : (k width : ℕ) (s t : Bool) → (k < width → s ≡ t) → (nat_lt k width && s) ≡ (nat_lt k width && t)
+within_width k width s t same = elim (cases_lt k width) [
+  | inl inside ↦ rw (same inside) refl
+  | inr outside ↦ let off : nat_lt k width ≡ false = grind (arith, nat_tests) in rw off refl
+]

@@ -1,42 +1,62 @@
--- No part of the standard: the marks that the edges of a row leave, and the columns between them. Columns count from
--- the left border here.
-use Rattle.std.specs.Prelude.{◌≡◌, refl, ℕ, Bool, true, false, ◌&&◌, ◌||◌, not, nat_le, nat_lt, if◌then◌else◌, ℤ, pos, negsuc, ◌+ℤ◌, List, [], ◌∷◌}
+-- No part of the standard: the marks that the edges of a row leave, and the black columns between them.
+use Rattle.std.specs.Prelude.{◌≡◌, refl, ℕ, Bool, true, false, ◌&&◌, ◌||◌, not, int_le, int_lt, if◌then◌else◌, ℤ, pos, negsuc, ◌+ℤ◌, ◌≤ℤ◌, List, [], ◌∷◌}
 use Rattle.tt_scan.specs.Winding.{is_zero}
 use Rattle.tt_scan.specs.declared.mark.Mark.{Mark}
+use Rattle.tt_scan.specs.declared.mark.Span.{Span}
 
--- the marks of a sweep, and for how many it has memory
-pub record Marks : Type 0 where
-  pub marks : List Mark
+-- the black columns of a row, and for the marks of how many edges a sweep has memory
+pub record Swept : Type 0 where
+  pub spans : List Span
   pub room : ℕ
+
+-- a column lies in some span of a list
+abbrev pub covers : List Span → ℤ → Bool
+covers [] c = false
+covers (s ∷ ss) c = (int_le s.first c && int_le c s.last) || covers ss c
 
 -- how an edge turns that left a mark
 abbrev pub turn_of : Mark → ℤ
 turn_of m = if m.rises then pos 1 else negsuc 0
 
 -- what marks add to the winding of a column: the turns of those that stand at it or left of it
-abbrev pub turns : List Mark → ℕ → ℤ
-turns [] k = pos 0
-turns (m ∷ ms) k = (if nat_le m.column k then turn_of m else pos 0) +ℤ turns ms k
+abbrev pub turns : List Mark → ℤ → ℤ
+turns [] c = pos 0
+turns (m ∷ ms) c = (if int_le m.first c then turn_of m else pos 0) +ℤ turns ms c
+
+-- marks in order of their columns, from a column on, and from the first on
+abbrev pub IsRisingFrom : ℤ → List Mark → Type 0
+IsRisingFrom from [] = Unit {0}
+IsRisingFrom from (m ∷ ms) = (from ≤ℤ m.first) × IsRisingFrom m.first ms
+
+abbrev pub IsRising : List Mark → Type 0
+IsRising [] = Unit {0}
+IsRising (m ∷ ms) = IsRisingFrom m.first ms
 
 -- from a column on, where the sum of the marks passed so far is given: each mark ends a stretch, which is black where
 -- the sum isn't 0
-abbrev pub stretches : ℕ → ℤ → List Mark → ℕ → Bool
-stretches from sum [] k = nat_le from k && not (is_zero sum)
-stretches from sum (m ∷ ms) k =
-    (nat_le from k && nat_lt k m.column && not (is_zero sum)) || stretches m.column (sum +ℤ turn_of m) ms k
+abbrev pub stretches : ℤ → ℤ → List Mark → ℤ → Bool
+stretches from sum [] c = int_le from c && not (is_zero sum)
+stretches from sum (m ∷ ms) c =
+    (int_le from c && int_lt c m.first && not (is_zero sum)) || stretches m.first (sum +ℤ turn_of m) ms c
 
--- worked values: an edge rises left of column 1 and one falls left of column 3
+-- worked values: an edge rises left of column -1 and one falls left of column 3
 two_marks : List Mark
-two_marks = record { column = 1; rises = true } ∷ record { column = 3; rises = false } ∷ []
+two_marks = record { first = negsuc 0; rises = true } ∷ record { first = pos 3; rises = false } ∷ []
 
-between_them_is_black : stretches 0 (pos 0) two_marks 2 ≡ true
+between_them_is_black : stretches (pos 0) (pos 0) two_marks (negsuc 0) ≡ true
 unfolding two_marks
 between_them_is_black = refl
 
-right_of_both_is_white : stretches 0 (pos 0) two_marks 3 ≡ false
+right_of_both_is_white : stretches (pos 0) (pos 0) two_marks (pos 3) ≡ false
 unfolding two_marks
 right_of_both_is_white = refl
 
-they_cancel_out : turns two_marks 3 ≡ pos 0
+they_cancel_out : turns two_marks (pos 3) ≡ pos 0
 unfolding two_marks
 they_cancel_out = refl
+
+a_span_holds_its_last_column : covers (record { first = negsuc 1; last = pos 2 } ∷ []) (pos 2) ≡ true
+a_span_holds_its_last_column = refl
+
+and_not_the_next : covers (record { first = negsuc 1; last = pos 2 } ∷ []) (pos 3) ≡ false
+and_not_the_next = refl

@@ -1,7 +1,7 @@
 -- OpenType, "TrueType Fundamentals", the scan converter's rules 1 and 2; Apple TrueType Reference Manual, "Digitizing
 -- Letterform Designs": a point is inside where its winding number is not 0. All numbers here are in 1/8192 pixel, but for
 -- the numbers of columns and rows.
-use Rattle.std.specs.Prelude.{◌≡◌, ℕ, ◌+◌, ◌^◌, ◌<◌, ◌≤◌, Bool, true, false, ◌&&◌, ◌||◌, not, if◌then◌else◌, ℤ, pos, negsuc, ◌+ℤ◌, ◌-ℤ◌, ◌*ℤ◌, int_lt, int_le, unsigned_abs, List, [], ◌∷◌, refl}
+use Rattle.std.specs.Prelude.{◌≡◌, ℕ, ◌+◌, ◌^◌, ◌<◌, ◌≤◌, Bool, true, false, ◌&&◌, ◌||◌, not, if◌then◌else◌, ℤ, pos, negsuc, ◌+ℤ◌, ◌-ℤ◌, ◌*ℤ◌, int_lt, int_le, unsigned_abs, List, [], ◌∷◌, map, refl}
 use Rattle.std.specs.List.{Any}
 use Rattle.tt_core.specs.Limits.{width_limit, height_limit, margin_limit}
 use Rattle.tt_scan.specs.declared.edge.Edge.{Edge}
@@ -79,6 +79,13 @@ abbrev pub rows_met : List Edge → ℤ → ℕ
 rows_met [] y = 0
 rows_met (e ∷ es) y = (if is_between e.ay e.by y then 1 else 0) + rows_met es y
 
+-- an edge, and edges, moved to the right
+abbrev pub moved_edge : ℤ → Edge → Edge
+moved_edge d e = record { ax = e.ax +ℤ d; ay = e.ay; bx = e.bx +ℤ d; by = e.by }
+
+abbrev pub moved_edges : ℤ → List Edge → List Edge
+moved_edges d es = map (moved_edge d) es
+
 -- worked values: a square from (1,1) to (3,3), upwards on its left
 edge : ℤ → ℤ → ℤ → ℤ → Edge
 edge ax ay bx by = record { ax = ax; ay = ay; bx = bx; by = by }
@@ -118,3 +125,12 @@ its_middle_meets_two = refl
 above_it_meets_none : rows_met square (pos 4) ≡ 0
 unfolding square edge
 above_it_meets_none = refl
+
+-- the square three to the right
+moved_its_left_edge_is_black : is_black (moved_edges (pos 3) square) (pos 4) (pos 2) ≡ true
+unfolding square edge
+moved_its_left_edge_is_black = refl
+
+moved_it_leaves_its_place : is_black (moved_edges (pos 3) square) (pos 2) (pos 2) ≡ false
+unfolding square edge
+moved_it_leaves_its_place = refl

@@ -1,8 +1,8 @@
-//! What black comes to, told of single edges.
+//! What black comes to, told of single edges, and of edges elsewhere.
 
-ghost use Rattle.std.specs.Prelude.{◌≡◌, ◌≢◌, ◌↔◌, ◌⊎◌, ℤ, true, pos, List};
+ghost use Rattle.std.specs.Prelude.{◌≡◌, ◌≢◌, ◌↔◌, ◌⊎◌, ℕ, ℤ, true, pos, List, ◌+ℤ◌, ◌*ℤ◌};
 ghost use Rattle.tt_scan.specs.declared.edge.Edge.{Edge};
-ghost use Rattle.tt_scan.specs.Winding.{lies_on_one, winding, is_black, LiesOnSome};
+ghost use Rattle.tt_scan.specs.Winding.{lies_on_one, winding, is_black, LiesOnSome, moved_edges, column_x};
 
 /// Takes nothing and gives nothing: its clauses hold of all edges and points.
 pub fn black_points()
@@ -11,4 +11,10 @@ pub fn black_points()
     // A point is black where it lies on some edge, or the turns of all edges do not add up to 0.
     ensures black { (es : List Edge) (x y : ℤ) → (is_black es x y ≡ true)
         ↔ (LiesOnSome es x y ⊎ (winding es x y ≢ pos 0)) }
+{}
+
+/// Takes nothing and gives nothing: edges moved by `k` pixels to the right blacken the columns `k` further right.
+pub fn moved_edges()
+    ensures { (k : ℤ) (es : List Edge) (m : ℕ) (c y : ℤ)
+        → is_black (moved_edges (pos 8192 *ℤ k) es) (column_x m (c +ℤ k)) y ≡ is_black es (column_x m c) y }
 {}

@@ -3,10 +3,12 @@
 #![tactic(auto)]
 
 mod bytes;
+mod collect;
 mod crossing;
 mod edge;
 pub mod laws;
 mod mark;
+mod paint;
 mod pixel;
 mod quotient;
 mod row;
@@ -16,6 +18,7 @@ mod sweep;
 mod tape;
 
 pub use edge::{Cross, Edge, Frame};
+pub use mark::Span;
 pub use row::row_into;
 pub use sweep::Sweep;
 pub use tape::Tape;

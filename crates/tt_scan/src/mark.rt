@@ -1,12 +1,12 @@
-//! What an edge leaves in the sweep of a row.
+//! What an edge leaves of a row: where it turns, and which columns are black.
 
 ghost use Rattle.std.specs.Prelude.{◌≡◌, ◌≤◌, unsigned_abs};
 ghost use Rattle.tt_scan.specs.Marks.{turn_of};
 
-/// An edge turns left of the centres from this column on, which counts from the left border.
+/// An edge turns left of the centres from this column on.
 #[derive(Clone, Copy)]
 pub(crate) struct Mark {
-    pub(crate) column: usize,
+    pub(crate) first: i64,
     /// The edge rises: it adds 1 to the winding of those centres. Else it falls, and takes 1 away.
     pub(crate) rises: bool,
 }
@@ -19,4 +19,12 @@ impl Mark {
     {
         if self.rises { 1 } else { -1 }
     }
+}
+
+/// Black columns of a row, from the first to the last, both included. Columns count from the left border of the
+/// edges' own picture, and may be negative.
+#[derive(Clone, Copy, Debug, PartialEq, Eq)]
+pub struct Span {
+    pub first: i64,
+    pub last: i64,
 }

@@ -1,72 +1,87 @@
-//! The sweep of a row: the marks of its edges, from the left to the right.
+//! The sweep of a row: its black columns, cut once from the edges of a tape, then painted wherever the glyph stands.
 
-ghost use Rattle.std.specs.Prelude.{◌≡◌, ◌<◌, [], ◌∷◌, ◌++◌, length, IfOk};
-ghost use Rattle.std.specs.List.Sorted.{IsPermutation, IsNonDecreasingBy};
-ghost use Rattle.tt_scan.specs.declared.mark.Mark.{Mark};
+ghost use Rattle.std.specs.Prelude.{◌≡◌, ℕ, ℤ, ◌+◌, ◌-ℤ◌, ◌*◌, ◌^◌, ◌<◌, ◌≤◌, ◌<ℤ◌, ◌≤ℤ◌, ◌&&◌, ◌||◌, ◌↔◌, true, nat_lt, pos, [], length, unsigned_abs, IfOk};
+ghost use Rattle.tt_core.specs.Bits.{bit};
+ghost use Rattle.tt_scan.specs.Marks.{covers};
+ghost use Rattle.tt_scan.specs.Winding.{is_black, column_x, row_y, rows_met};
 
-use crate::mark::Mark;
+use crate::collect::collect;
+use crate::mark::{Mark, Span};
+use crate::paint::paint_spans;
+use crate::stretch::{sort, wind};
+use crate::tape::Tape;
 use std::alloc::{AllocError, Global};
 use std::marker::Model;
 
-/// Memory for the marks of a row.
+/// The black columns of a row, and memory for the rows of a tape.
 #[derive(Drop)]
 pub struct Sweep {
     marks: Vec<Mark>,
+    spans: Vec<Span>,
     room: usize,
 }
 
 impl Model for Sweep {
-    ghost use Rattle.std.specs.Prelude.{◌≤◌};
+    ghost use Rattle.std.specs.Prelude.{◌+◌, ◌*◌, ◌^◌, ◌<◌, ◌≤◌};
     ghost use Rattle.std.specs.Vec.{vec_capacity};
-    ghost use Rattle.tt_scan.specs.Marks.{Marks};
+    ghost use Rattle.tt_scan.specs.Marks.{Swept};
 
-    ghost Value = { Marks };
+    ghost Value = { Swept };
 
-    ghost view = { λ s. record { marks = s.marks.items; room = s.room } };
+    ghost view = { λ s. record { spans = s.spans.items; room = s.room } };
 
-    ghost invariant = { λ s. s.room ≤ vec_capacity s.marks };
+    ghost invariant = { λ s. (s.room < 2 ^ 61) × (s.room ≤ vec_capacity s.marks) × (2 * s.room + 1 ≤ vec_capacity s.spans) };
 }
 
 impl Sweep {
-    /// A sweep with memory for the rows of a tape with at most so many edges.
+    /// A sweep with memory for the rows of a tape with at most so many edges. No column is black yet.
     pub fn new(alloc: Global, most: usize) -> Result<Sweep, AllocError>
-        ensures { IfOk result (λ sweep. sweep ≡ record { marks = []; room = most }) }
+        ensures { IfOk result (λ sweep. sweep ≡ record { spans = []; room = most }) }
     {
+        let marks = Vec::with_capacity(alloc, most)?;
         Ok(Sweep {
-            marks: Vec::with_capacity(alloc, most)?,
+            marks,
+            spans: Vec::with_capacity(alloc, 2 * most + 1)?,
             room: most,
         })
     }
 
-    pub(crate) fn clear(&mut self)
-        ensures { self.new ≡ record self.old { marks = [] } }
+    /// The black columns of a row, whether its picture shows them or not. It takes no memory: the sweep has it.
+    pub fn cut(&mut self, tape: &mut Tape, r: i64)
+        requires row_low { pos 0 ≤ℤ r }
+        requires row_high { r <ℤ pos tape.old.frame.height }
+        requires count { tape.old.crosses + length tape.old.edges ≤ 2 ^ 63 }
+        requires room { length tape.old.edges ≤ self.old.room }
+        ensures black { (c : ℤ) → c <ℤ pos (2 ^ 63) → covers self.new.spans c
+            ≡ is_black tape.old.edges (column_x tape.old.frame.margin c) (row_y tape.old.frame r) }
+        ensures room { self.new.room ≡ self.old.room }
+        ensures tape { tape.new ≡ record tape.old { crosses = tape.new.crosses } }
+        // Each edge is crossed once where it meets the row, and else not at all.
+        ensures crosses { tape.new.crosses ≡ tape.old.crosses + rows_met tape.old.edges (row_y tape.old.frame r) }
     {
         self.marks.clear();
+        self.spans.clear();
+        collect(tape, r, &mut self.marks, &mut self.spans);
+        sort(&mut self.marks);
+        wind(&self.marks, &mut self.spans);
     }
 
-    /// Adds a mark; the memory is there.
-    pub(crate) fn put(&mut self, mark: Mark)
-        requires { length self.old.marks < self.old.room }
-        ensures { self.new ≡ record self.old { marks = self.old.marks ++ mark ∷ [] } }
+    /// Whether there is no span, so that no column is black.
+    pub fn is_blank(&self) -> bool
+        ensures { (result ≡ true) ↔ (self.now.spans ≡ []) }
     {
-        match self.marks.push(mark) {
-            Ok(()) => {}
-            Err(_) => unreachable!(),
-        }
+        self.spans.is_empty()
     }
 
-    /// Orders the marks by column.
-    pub(crate) fn sort(&mut self)
-        ensures permutation { IsPermutation self.old.marks self.new.marks }
-        ensures order { IsNonDecreasingBy (λ (m : Mark). m.column) self.new.marks }
-        ensures room { self.new.room ≡ self.old.room }
+    /// Blackens the pixels of the black columns, moved by `shift` columns to the right, in a row of so many pixels, the
+    /// leftmost in the highest bit of the first byte. All other bits stay as they are.
+    pub fn paint(&self, shift: i64, width: u32, row: &mut [u8])
+        requires shift { unsigned_abs shift < 2 ^ 40 }
+        requires width { width ≤ 8 * length row.old }
+        ensures bits { (k : ℕ) → bit row.new k
+            ≡ (bit row.old k || (nat_lt k width && covers self.now.spans (pos k -ℤ shift))) }
+        ensures len { length row.new ≡ length row.old }
     {
-        self.marks.sort_unstable_by_key(|m| m.column);
-    }
-
-    pub(crate) fn marks(&self) -> &[Mark]
-        ensures { result.now ≡ self.now.marks }
-    {
-        &self.marks
+        paint_spans(&self.spans, shift, width, row);
     }
 }

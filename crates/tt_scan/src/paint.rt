@@ -1,0 +1,73 @@
+//! Painting the black columns of a row into a row of bytes, moved and clipped to it.
+
+ghost use Rattle.std.specs.Prelude.{◌≡◌, ℕ, ◌*◌, ◌^◌, ◌<◌, ◌≤◌, ◌+ℤ◌, ◌-ℤ◌, ◌&&◌, ◌||◌, nat_le, nat_lt, int_le, pos, length, unsigned_abs};
+ghost use Rattle.tt_core.specs.Bits.{bit};
+ghost use Rattle.tt_scan.specs.Marks.{covers};
+
+use crate::bytes::fill;
+use crate::mark::Span;
+
+/// The columns that a row of bytes shows: so many, from a column on.
+#[derive(Clone, Copy)]
+struct Window {
+    low: i64,
+    width: u32,
+}
+
+/// Of the columns that the window shows the first that is not left of a column; `width` where none is.
+fn place(at: i64, window: Window) -> usize
+    requires { unsigned_abs window.low < 2 ^ 41 }
+    ensures { (k : ℕ) → k < window.width → int_le at (window.low +ℤ pos k) ≡ nat_le result k }
+{
+    (at.clamp(window.low, window.low + i64::from(window.width)) - window.low) as usize
+}
+
+/// One past the last of them that is not right of a column; 0 where none is.
+fn past(at: i64, window: Window) -> usize
+    requires { unsigned_abs window.low < 2 ^ 41 }
+    ensures { (k : ℕ) → k < window.width → int_le (window.low +ℤ pos k) at ≡ nat_lt k result }
+{
+    let before = window.low - 1;
+    (at.clamp(before, before + i64::from(window.width)) - before) as usize
+}
+
+/// Blackens the columns from `from` up to `to`, of those of the row.
+fn blacken(row: &mut [u8], width: usize, from: usize, to: usize)
+    requires { width ≤ 8 * length row.old }
+    ensures bits { (k : ℕ) → bit row.new k ≡ (bit row.old k || (nat_lt k width && (nat_le from k && nat_lt k to))) }
+    ensures len { length row.new ≡ length row.old }
+{
+    let end = to.min(width);
+    if from < end {
+        fill(row, from, end);
+    }
+}
+
+/// Blackens the columns of a span, of those that the window shows.
+fn paint_span(span: Span, window: Window, row: &mut [u8])
+    requires low { unsigned_abs window.low < 2 ^ 41 }
+    requires width { window.width ≤ 8 * length row.old }
+    ensures bits { (k : ℕ) → bit row.new k ≡ (bit row.old k || (nat_lt k window.width
+        && (int_le span.first (window.low +ℤ pos k) && int_le (window.low +ℤ pos k) span.last))) }
+    ensures len { length row.new ≡ length row.old }
+{
+    blacken(
+        row,
+        window.width as usize,
+        place(span.first, window),
+        past(span.last, window),
+    );
+}
+
+/// Blackens the columns of all spans, moved by `shift` columns to the right.
+pub(crate) fn paint_spans(spans: &[Span], shift: i64, width: u32, row: &mut [u8])
+    requires shift { unsigned_abs shift < 2 ^ 40 }
+    requires width { width ≤ 8 * length row.old }
+    ensures bits { (k : ℕ) → bit row.new k ≡ (bit row.old k || (nat_lt k width && covers spans.now (pos k -ℤ shift))) }
+    ensures len { length row.new ≡ length row.old }
+{
+    let window = Window { low: -shift, width };
+    for i in 0..spans.len() {
+        paint_span(spans[i], window, row);
+    }
+}
