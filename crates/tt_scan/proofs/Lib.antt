@@ -7,4 +7,5 @@ pub mod Points
 pub mod Ranges
 pub mod Sides
 pub mod Stretches
+pub mod Unmet
 pub mod Visits

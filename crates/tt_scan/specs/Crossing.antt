@@ -1,9 +1,9 @@
 -- No part of the standard: what is asked of an edge at the centre line of a row, and of the rows that it meets.
-use Rattle.std.specs.Prelude.{◌≡◌, ℕ, Bool, false, ◌&&◌, if◌then◌else◌, ℤ, pos, int_lt, int_le, ◌≤ℤ◌, ◌<ℤ◌, Option, Some, None, IfSome}
+use Rattle.std.specs.Prelude.{◌≡◌, ℕ, ◌<◌, Bool, false, ◌&&◌, if◌then◌else◌, ℤ, pos, int_lt, int_le, ◌≤ℤ◌, ◌<ℤ◌, ◌-ℤ◌, List, Option, Some, None, IfSome}
 use Rattle.tt_scan.specs.declared.edge.Cross.{Cross}
 use Rattle.tt_scan.specs.declared.edge.Edge.{Edge}
 use Rattle.tt_scan.specs.declared.edge.Frame.{Frame}
-use Rattle.tt_scan.specs.Winding.{column_x, row_y, is_between, lies_on, edge_turn, turned}
+use Rattle.tt_scan.specs.Winding.{column_x, row_y, is_between, lies_on, edge_turn, turned, rows_met}
 
 -- a column from the first to the last
 abbrev pub spans : Option (ℤ × ℤ) → ℤ → Bool
@@ -25,3 +25,16 @@ pub record AreRows (e : Edge) (f : Frame) (r : ℤ × ℤ) : Type 0 where
   pub low : pos 0 ≤ℤ r.0
   pub order : r.0 ≤ℤ r.1
   pub high : r.1 ≤ℤ pos f.height
+
+-- a row lies from the first of a pair up to the second
+abbrev pub has_row : ℤ × ℤ → ℤ → Bool
+has_row r row = int_le r.0 row && int_lt row r.1
+
+-- the first of the rows whose centre line meets some edge, and one past the last; two equal numbers where none does
+pub record AreAllRows (es : List Edge) (f : Frame) (r : ℤ × ℤ) : Type 0 where
+  pub outside : (row : ℤ) → pos 0 ≤ℤ row → row <ℤ pos f.height → has_row r row ≡ false → rows_met es (row_y f row) ≡ 0
+  pub low : pos 0 ≤ℤ r.0
+  pub order : r.0 ≤ℤ r.1
+  pub high : r.1 ≤ℤ pos f.height
+  pub first : r.0 <ℤ r.1 → 0 < rows_met es (row_y f r.0)
+  pub last : r.0 <ℤ r.1 → 0 < rows_met es (row_y f (r.1 -ℤ pos 1))

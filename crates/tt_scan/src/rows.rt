@@ -1,7 +1,7 @@
 //! The rows of a frame that an edge meets.
 
-ghost use Rattle.std.specs.Prelude.{◌≡◌, ℤ, ◌^◌, ◌<◌, ◌&&◌, pos, int_lt, int_le, ◌<ℤ◌, ◌≤ℤ◌, unsigned_abs};
-ghost use Rattle.tt_scan.specs.Crossing.{AreRows};
+ghost use Rattle.std.specs.Prelude.{◌≡◌, ℤ, ◌^◌, ◌<◌, ◌-ℤ◌, ◌⊎◌, true, ◌&&◌, pos, int_lt, int_le, ◌<ℤ◌, ◌≤ℤ◌, unsigned_abs};
+ghost use Rattle.tt_scan.specs.Crossing.{AreRows, has_row};
 ghost use Rattle.tt_scan.specs.Winding.{EdgeFits, FrameFits};
 
 use crate::crossing::row_height;
@@ -33,5 +33,24 @@ pub(crate) fn row_range(edge: Edge, frame: Frame) -> (i64, i64)
     match pixels_between(top - edge.ay.max(edge.by), top - edge.ay.min(edge.by)) {
         Some((first, last)) => within(first, last, i64::from(frame.height)),
         None => (0, 0),
+    }
+}
+
+/// The rows from the first to the last of two ranges of rows, where an empty one counts for nothing.
+pub(crate) fn joined(all: (i64, i64), more: (i64, i64)) -> (i64, i64)
+    ensures left { (row : ℤ) → has_row all row ≡ true → has_row result row ≡ true }
+    ensures right { (row : ℤ) → has_row more row ≡ true → has_row result row ≡ true }
+    ensures first { ((result.0 ≡ all.0) × (result.0 <ℤ result.1 → all.0 <ℤ all.1))
+        ⊎ ((result.0 ≡ more.0) × (more.0 <ℤ more.1)) }
+    ensures last { ((result.1 ≡ all.1) × (result.0 <ℤ result.1 → all.0 <ℤ all.1))
+        ⊎ ((result.1 ≡ more.1) × (more.0 <ℤ more.1)) }
+    ensures order { all.0 ≤ℤ all.1 → result.0 ≤ℤ result.1 }
+{
+    if more.0 >= more.1 {
+        all
+    } else if all.0 >= all.1 {
+        more
+    } else {
+        (all.0.min(more.0), all.1.max(more.1))
     }
 }

@@ -1,15 +1,15 @@
 //! The edges of one glyph. No other module sees the fields of a tape: an edge is read by `rows_of` and
 //! `cross` alone, and each `cross` is counted.
 
-ghost use Rattle.std.specs.Prelude.{◌≡◌, ℕ, ◌+◌, ◌*◌, ◌^◌, ◌<◌, ◌≤◌, ◌<ℤ◌, ◌≤ℤ◌, pos, length, [], ◌∷◌, ◌++◌, get_or, unsigned_abs, OnOk, OnErr};
+ghost use Rattle.std.specs.Prelude.{◌≡◌, ℕ, ℤ, false, ◌+◌, ◌*◌, ◌^◌, ◌<◌, ◌≤◌, ◌<ℤ◌, ◌≤ℤ◌, pos, length, [], ◌∷◌, ◌++◌, get_or, unsigned_abs, OnOk, OnErr};
 ghost use Rattle.tt_core.specs.Limits.{width_limit};
-ghost use Rattle.tt_scan.specs.Winding.{EdgeFits, FrameFits, row_y};
-ghost use Rattle.tt_scan.specs.Crossing.{IsCross, AreRows};
+ghost use Rattle.tt_scan.specs.Winding.{EdgeFits, FrameFits, is_black, column_x, row_y};
+ghost use Rattle.tt_scan.specs.Crossing.{IsCross, AreRows, AreAllRows, has_row};
 ghost use Rattle.tt_scan.specs.Tape.{edge_at};
 
 use crate::crossing::{crossing, row_height};
 use crate::edge::{Cross, Edge, Frame};
-use crate::rows::row_range;
+use crate::rows::{joined, row_range};
 use std::alloc::{AllocError, Global};
 use std::marker::Model;
 
@@ -19,10 +19,13 @@ pub struct Tape {
     frame: Frame,
     edges: Vec<Edge>,
     crosses: u64,
+    /// The rows of all edges: the first, and one past the last.
+    rows: (i64, i64),
 }
 
 impl Model for Tape {
     ghost use Rattle.std.specs.Prelude.{All};
+    ghost use Rattle.tt_scan.specs.Crossing.{AreAllRows};
     ghost use Rattle.tt_scan.specs.Tape.{Edges};
     ghost use Rattle.tt_scan.specs.Winding.{EdgeFits, FrameFits};
 
@@ -30,7 +33,7 @@ impl Model for Tape {
 
     ghost view = { λ t. record { frame = t.frame; edges = t.edges.items; crosses = t.crosses } };
 
-    ghost invariant = { λ t. FrameFits t.frame × All EdgeFits t.edges.items };
+    ghost invariant = { λ t. FrameFits t.frame × All EdgeFits t.edges.items × AreAllRows t.edges.items t.frame t.rows };
 }
 
 impl Tape {
@@ -43,7 +46,15 @@ impl Tape {
             frame,
             edges: Vec::new(alloc),
             crosses: 0,
+            rows: (0, 0),
         }
+    }
+
+    /// Takes memory for so many more edges. The edges stay as they are, whatever the result.
+    pub fn reserve(&mut self, more: usize) -> Result<(), AllocError>
+        ensures { self.new ≡ self.old }
+    {
+        self.edges.reserve(more)
     }
 
     /// Adds an edge. After an error the tape is as it was.
@@ -52,7 +63,9 @@ impl Tape {
         ensures added { OnOk result (self.new ≡ record self.old { edges = self.old.edges ++ edge ∷ [] }) }
         ensures kept { OnErr result (self.new ≡ self.old) }
     {
-        Ok(self.edges.push(edge)?)
+        self.edges.push(edge)?;
+        self.rows = joined(self.rows, row_range(edge, self.frame));
+        Ok(())
     }
 
     /// How many columns the picture has.
@@ -76,6 +89,16 @@ impl Tape {
         ensures { result ≡ self.now.crosses }
     {
         self.crosses
+    }
+
+    /// The first of the frame's rows whose centre line meets some edge, and one past the last; two equal numbers where
+    /// none does. The other rows are blank.
+    pub fn rows(&self) -> (i64, i64)
+        ensures exact { AreAllRows self.now.edges self.now.frame result }
+        ensures blank { (r c : ℤ) → pos 0 ≤ℤ r → r <ℤ pos self.now.frame.height → has_row result r ≡ false
+            → is_black self.now.edges (column_x self.now.frame.margin c) (row_y self.now.frame r) ≡ false }
+    {
+        self.rows
     }
 
     /// The first of the frame's rows whose centre line meets edge `i`, its ends included, and one past the
