@@ -1,1 +1,2 @@
 pub mod Subtables
+mod Whole

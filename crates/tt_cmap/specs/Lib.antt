@@ -1,4 +1,5 @@
 pub mod Defects
 pub mod Format4
+pub mod Laws
 pub mod Lookup
 pub mod Subtables

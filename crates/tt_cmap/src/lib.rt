@@ -2,6 +2,7 @@
 #![tactic(auto)]
 
 mod format4;
+pub mod laws;
 mod lookup;
 mod subtable;
 

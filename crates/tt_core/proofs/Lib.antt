@@ -1,3 +1,4 @@
 mod Constants
 pub mod Quotients
 mod Text
+pub mod Whole

@@ -100,16 +100,22 @@ IsDefectIn file tag IsBad fault = IsTableDefect file tag fault ⊎ IsOkAnd (need
 abbrev pub HasNo : (Fault → Type 0) → Type 0
 HasNo IsOne = (fault : Fault) → ¬ IsOne fault
 
--- where the bytes of a table that is there are good on Ok, the table has no defect on Ok
-pub OnOk-HasNo-IsDefectIn : {X : Type 0} (r : Result X Fault) (file tag table : List ℕ)
-    (IsBad : List ℕ → Fault → Type 0) → needed_table file tag ≡ Ok table → HasNo (IsTableDefect file tag)
-    → OnOk r (HasNo (IsBad table)) → OnOk r (HasNo (IsDefectIn file tag IsBad))
-OnOk-HasNo-IsDefectIn (Err e) file tag table IsBad there kept good = tt
-OnOk-HasNo-IsDefectIn (Ok x) file tag table IsBad there kept good = λ fault. λ defect. elim defect [
+-- where a table is there, and its bytes are good, the table has no defect
+pub HasNo-IsDefectIn : (file tag table : List ℕ) (IsBad : List ℕ → Fault → Type 0) → needed_table file tag ≡ Ok table
+    → HasNo (IsTableDefect file tag) → HasNo (IsBad table) → HasNo (IsDefectIn file tag IsBad)
+HasNo-IsDefectIn file tag table IsBad there kept good = λ fault. λ defect. elim defect [
   | inl missing ↦ kept fault missing
   | inr bad ↦ let P : Result (List ℕ) Fault → Type 0 = λ r. IsOkAnd r (λ t. IsBad t fault) in good fault
       (subst P there bad)
 ]
+
+-- the same of a call's answer
+pub OnOk-HasNo-IsDefectIn : {X : Type 0} (r : Result X Fault) (file tag table : List ℕ)
+    (IsBad : List ℕ → Fault → Type 0) → needed_table file tag ≡ Ok table → HasNo (IsTableDefect file tag)
+    → OnOk r (HasNo (IsBad table)) → OnOk r (HasNo (IsDefectIn file tag IsBad))
+OnOk-HasNo-IsDefectIn (Err e) file tag table IsBad there kept good = tt
+OnOk-HasNo-IsDefectIn (Ok x) file tag table IsBad there kept good =
+    HasNo-IsDefectIn file tag table IsBad there kept good
 
 -- worked values: a file with one table of two bytes
 abbrev one_table : List ℕ

@@ -1,7 +1,9 @@
 pub mod Bits
+pub mod Chains
 pub mod Device
 pub mod Directory
 pub mod Faults
+pub mod Laws
 pub mod Limits
 pub mod Numbers
 pub mod Outcomes

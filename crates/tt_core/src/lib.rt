@@ -5,6 +5,7 @@ mod device;
 mod directory;
 mod fault;
 mod font_fault;
+pub mod laws;
 mod limits;
 mod number;
 

@@ -4,6 +4,7 @@
 mod head;
 mod hhea;
 mod hmtx;
+pub mod laws;
 mod maxp;
 mod metrics;
 mod table;

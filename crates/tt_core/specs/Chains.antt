@@ -1,0 +1,71 @@
+-- No part of the standard: what a chain of steps says of each step, where it came through and where it broke.
+use Rattle.std.specs.Prelude.{◌≡◌, ℕ, ◌<◌, ◌==◌, nat_lt, Bool, true, false, not, if◌then◌else◌, Result, Ok, Err, ◌⊎◌, refl}
+use Rattle.std.proofs.Common.{inl, inr, arith}
+use Rattle.std.proofs.lemmas.Bool.Decides.{nat_tests}
+use Rattle.tt_core.specs.Outcomes.{◌>>=◌}
+
+-- a chain that came through: its first step did, and then the rest
+pub record CameThrough {A B E : Type 0} (x : Result A E) (f : A → Result B E) (y : B) : Type 0 where
+  pub value : A
+  pub first : x ≡ Ok value
+  pub rest : f value ≡ Ok y
+
+pub came-through : {A B E : Type 0} (x : Result A E) (f : A → Result B E) (y : B) → (x >>= f) ≡ Ok y → CameThrough x f y
+came-through (Ok v) f y was = record { value = v; first = refl; rest = was }
+came-through (Err e) f y was = absurd cc
+
+-- a chain that broke later: its first step came through, and then the rest broke
+pub record BrokeLater {A B E : Type 0} (x : Result A E) (f : A → Result B E) (e : E) : Type 0 where
+  pub value : A
+  pub first : x ≡ Ok value
+  pub rest : f value ≡ Err e
+
+-- where a chain broke
+pub was-err : {A B E : Type 0} (x : Result A E) (f : A → Result B E) (e : E) → (x >>= f) ≡ Err e → (x ≡ Err e)
+    ⊎ BrokeLater x f e
+was-err (Ok v) f e was = inr (record { value = v; first = refl; rest = was })
+was-err (Err d) f e was = inl cc
+
+-- a test that was passed, and what comes behind it
+pub passed-on : {A E : Type 0} (failed : Bool) (e : E) (x : Result A E) (y : A) → (if failed then Err e else x) ≡ Ok y
+    → (failed ≡ false) × (x ≡ Ok y)
+passed-on true e x y was = absurd cc
+passed-on false e x y was = (refl, was)
+
+-- a test that was passed
+pub passed : {A E : Type 0} (failed : Bool) (e : E) (x y : A)
+    → ◌≡◌ {A = Result A E} (if failed then Err e else Ok x) (Ok y) → (failed ≡ false) × (x ≡ y)
+passed true e x y was = absurd cc
+passed false e x y was = (refl, cc)
+
+pub passed-else : {A E : Type 0} (holds : Bool) (e : E) (x y : A)
+    → ◌≡◌ {A = Result A E} (if holds then Ok x else Err e) (Ok y) → (holds ≡ true) × (x ≡ y)
+passed-else true e x y was = (refl, cc)
+passed-else false e x y was = absurd cc
+
+-- a test that was not passed
+pub failed : {A E : Type 0} (holds : Bool) (e : E) (x : A) (f : E)
+    → ◌≡◌ {A = Result A E} (if holds then Err e else Ok x) (Err f) → (holds ≡ true) × (f ≡ e)
+failed true e x f was = (refl, cc)
+failed false e x f was = absurd cc
+
+pub failed-else : {A E : Type 0} (holds : Bool) (e : E) (x : A) (f : E)
+    → ◌≡◌ {A = Result A E} (if holds then Ok x else Err e) (Err f) → (holds ≡ false) × (f ≡ e)
+failed-else true e x f was = absurd cc
+failed-else false e x f was = (refl, cc)
+
+-- a test that holds and one that does not are not the same
+pub not-both : (b : Bool) → b ≡ true → b ≡ false → ⊥
+not-both true holds fails = cc
+not-both false holds fails = cc
+
+pub not-neither : (b : Bool) → not b ≡ false → b ≡ false → ⊥
+not-neither true holds fails = cc
+not-neither false holds fails = cc
+
+-- nor is a test of two numbers, and what it asks
+pub not-below : (a b : ℕ) → nat_lt a b ≡ false → a < b → ⊥
+not-below a b is below = grind (arith, nat_tests)
+
+pub not-zero : (n : ℕ) → (n == 0) ≡ false → n ≡ 0 → ⊥
+not-zero n is zero = grind (arith, nat_tests)
