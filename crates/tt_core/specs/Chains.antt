@@ -1,8 +1,12 @@
--- No part of the standard: what a chain of steps says of each step, where it came through and where it broke.
-use Rattle.std.specs.Prelude.{◌≡◌, ℕ, ◌<◌, ◌==◌, nat_lt, Bool, true, false, not, if◌then◌else◌, Result, Ok, Err, ◌⊎◌, refl}
+-- No part of the standard: what a chain of steps says of each step, where it came through and where it broke, and what
+-- a call's answer says by what its definition gives.
+use Rattle.std.specs.Prelude.{◌≡◌, ℕ, ◌<◌, ◌==◌, nat_lt, Bool, true, false, not, if◌then◌else◌, Result, Ok, Err, OnOk, ◌⊎◌, refl}
 use Rattle.std.proofs.Common.{inl, inr, arith}
 use Rattle.std.proofs.lemmas.Bool.Decides.{nat_tests}
-use Rattle.tt_core.specs.Outcomes.{◌>>=◌}
+use Rattle.tt_core.specs.declared.font_fault.FontFault.{FontFault}
+use Rattle.tt_core.specs.declared.font_fault.FontFault.TheVariants as fault
+use Rattle.tt_core.specs.Faults.{Fault}
+use Rattle.tt_core.specs.Outcomes.{◌>>=◌, FontGives, IfTold, font_fault}
 
 -- a chain that came through: its first step did, and then the rest
 pub record CameThrough {A B E : Type 0} (x : Result A E) (f : A → Result B E) (y : B) : Type 0 where
@@ -69,3 +73,17 @@ not-below a b is below = grind (arith, nat_tests)
 
 pub not-zero : (n : ℕ) → (n == 0) ≡ false → n ≡ 0 → ⊥
 not-zero n is zero = grind (arith, nat_tests)
+
+-- what holds where the definition gives a value holds where the call is Ok
+pub on-given : {X Y : Type 0} (view : X → Y) (result : Result X FontFault) (wanted : Result Y Fault) (Q : Type 0)
+    → FontGives view result wanted → ((y : Y) → wanted ≡ Ok y → Q) → OnOk result Q
+on-given view (Ok x) wanted Q gives holds = holds (view x) gives
+on-given view (Err e) wanted Q gives holds = tt
+
+-- what holds of a fault of the definition holds of the fault that the call tells
+pub if-told : {X Y : Type 0} (view : X → Y) (result : Result X FontFault) (wanted : Result Y Fault)
+    (P : Fault → Type 0) → FontGives view result wanted → ((f : Fault) → wanted ≡ Err f → P f)
+    → IfTold font_fault result P
+if-told view (Ok x) wanted P gives stands = tt
+if-told view (Err (fault.Font f)) wanted P gives stands = stands f gives
+if-told view (Err fault.Memory) wanted P gives stands = tt

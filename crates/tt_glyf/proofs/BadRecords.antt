@@ -2,6 +2,7 @@
 use Rattle.std.proofs.Common.{◌≡◌, ℕ, zero, suc, ◌+◌, ◌*◌, ◌≤◌, Bool, true, false, nat_lt, if◌then◌else◌, [], ◌∷◌, Result, Ok, Err, inl, inr, ℤ, pos, refl, arith, ap, sym, ◌∙◌}
 use Rattle.std.specs.Prelude.{◌⊎◌}
 use Rattle.std.proofs.lemmas.Bool.Decides.{nat_tests}
+use Rattle.tt_core.specs.Chains.{was-err, failed, failed-else}
 use Rattle.tt_core.specs.Faults.{Fault}
 use Rattle.tt_core.specs.declared.fault.Why.TheVariants as why
 use Rattle.tt_core.specs.Limits.{component_limit}
@@ -14,7 +15,7 @@ use Rattle.tt_glyf.specs.Defects.{IsCut, IsBadRecord, IsRecordsDefect, IsProgram
 use Rattle.tt_glyf.specs.Flags.{has}
 use Rattle.tt_glyf.specs.Meaning.{written_argument, written_transform, record_of, written_component_flags, written_component, record_end}
 use Rattle.tt_glyf.proofs.Broken.{cut}
-use Rattle.tt_glyf.proofs.Chains.{was-err, after-err, failed, failed-else}
+use Rattle.tt_glyf.proofs.Chains.{after-err}
 use Rattle.tt_glyf.proofs.Fields.{IsShort, short-further, byte-short, word-was, word-short, signed-short, slice-short}
 use Rattle.tt_glyf.proofs.Parts.{AreUpTo, flags-are, arguments-were, written_arguments, transform-was, glyph-known, record-was, records-were}
 

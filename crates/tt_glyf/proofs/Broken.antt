@@ -3,6 +3,7 @@ use Rattle.std.proofs.Common.{◌≡◌, ℕ, zero, suc, ◌+◌, ◌-◌, ◌<�
 use Rattle.std.specs.Prelude.{◌⊎◌, slice_index}
 use Rattle.std.proofs.Math.ListN.{replicate}
 use Rattle.std.proofs.lemmas.Bool.Decides.{nat_tests}
+use Rattle.tt_core.specs.Chains.{was-err, failed, failed-else}
 use Rattle.tt_core.specs.Faults.{Fault}
 use Rattle.tt_core.specs.declared.fault.Why.TheVariants as why
 use Rattle.tt_core.specs.Limits.{point_limit}
@@ -14,7 +15,7 @@ use Rattle.tt_glyf.specs.Defects.{IsCut, IsFallingEnd, IsManyPoints, written_poi
 use Rattle.tt_glyf.specs.Flags.{Run, has, repeat_flag, run_within, run_at, flags_from}
 use Rattle.tt_glyf.specs.Meaning.{end_place, written_end, size_place, flags_place, written_run, runs_end, written_flags, written_delta, deltas, deltas_end, y_place, points_end}
 use Rattle.tt_glyf.specs.Simple.{rising, end_at, ends_from, ends_of, point_count, points_within, points_of, simple_of}
-use Rattle.tt_glyf.proofs.Chains.{was-err, after-err, failed, failed-else}
+use Rattle.tt_glyf.proofs.Chains.{after-err}
 use Rattle.tt_glyf.proofs.Covers.{IsRead, run-was, flags-length, AreCovered, flags-were}
 use Rattle.tt_glyf.proofs.Deltas.{coordinate-was, AreRead, delta-was, coordinates-were}
 use Rattle.tt_glyf.proofs.Fields.{IsShort, byte-was, byte-short, word-was, word-short, signed-short, slice-short}

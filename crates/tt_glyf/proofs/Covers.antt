@@ -4,11 +4,12 @@ use Rattle.std.specs.Prelude.{slice_index}
 use Rattle.std.proofs.Math.ListN.{replicate}
 use Rattle.std.proofs.lemmas.List.{length-replicate}
 use Rattle.std.proofs.lemmas.Bool.Decides.{nat_tests}
+use Rattle.tt_core.specs.Chains.{came-through, passed-else}
 use Rattle.tt_core.specs.Outcomes.{◌>>=◌}
 use Rattle.tt_glyf.specs.Bytes.{Stretch, Listing, byte_in, after}
 use Rattle.tt_glyf.specs.Flags.{Run, has, repeat_flag, run_within, run_at, flags_from}
 use Rattle.tt_glyf.specs.Meaning.{written_run, runs_end, written_flags}
-use Rattle.tt_glyf.proofs.Chains.{came-through, came-after, passed-else}
+use Rattle.tt_glyf.proofs.Chains.{came-after}
 use Rattle.tt_glyf.proofs.Fields.{byte-was}
 
 -- what is known of a run that was read

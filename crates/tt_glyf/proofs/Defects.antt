@@ -3,6 +3,7 @@ use Rattle.std.proofs.Common.{◌≡◌, ℕ, ◌+◌, ◌<◌, ◌≤◌, Bool,
 use Rattle.std.specs.Prelude.{◌≢◌, ◌⊎◌, ◌||◌, ◌<ℤ◌}
 use Rattle.std.proofs.lemmas.Bool.Decides.{nat_tests}
 use Rattle.std.proofs.lemmas.Int.{ints}
+use Rattle.tt_core.specs.Chains.{came-through, was-err}
 use Rattle.tt_core.specs.Faults.{Fault, fault_at}
 use Rattle.tt_core.specs.declared.fault.Why.TheVariants as why
 use Rattle.tt_core.specs.Directory.{HasNo}
@@ -17,7 +18,6 @@ use Rattle.tt_glyf.specs.Raw.{GlyphData, empty}
 use Rattle.tt_glyf.specs.Simple.{simple_of}
 use Rattle.tt_glyf.proofs.BadRecords.{composite-broke}
 use Rattle.tt_glyf.proofs.Broken.{cut, simple-broke}
-use Rattle.tt_glyf.proofs.Chains.{came-through, was-err}
 use Rattle.tt_glyf.proofs.Fields.{signed-short}
 use Rattle.tt_glyf.proofs.Glyphs.{is-negative, written_header, header-was, simple-was, composite-was, AreBytes, bytes-were}
 use Rattle.tt_glyf.proofs.Whole.{simple-whole, composite-whole}

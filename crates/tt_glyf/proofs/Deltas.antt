@@ -1,13 +1,14 @@
 -- A coordinate is the sum of all deltas up to it.
 use Rattle.std.proofs.Common.{◌≡◌, ℕ, zero, suc, ◌+◌, ◌<◌, ◌≤◌, Bool, true, false, if◌then◌else◌, List, [], ◌∷◌, ◌++◌, length, get_or, take, fold, Ok, ℤ, pos, ◌+ℤ◌, refl, arith, add-one, ap}
 use Rattle.std.specs.Prelude.{slice_index}
+use Rattle.tt_core.specs.Chains.{came-through, passed-else}
 use Rattle.tt_core.specs.Numbers.{unsigned_at, signed16}
 use Rattle.tt_core.specs.Outcomes.{◌>>=◌}
 use Rattle.tt_glyf.specs.Bytes.{Stretch, Listing, byte_in, signed_in}
 use Rattle.tt_glyf.specs.Coordinates.{Axis, Delta, Coordinate, delta_at, summed, is_coordinate, within_words, coordinate_at, coordinates_from, short_delta}
 use Rattle.tt_glyf.specs.Flags.{has}
 use Rattle.tt_glyf.specs.Meaning.{written_delta, deltas, deltas_end, AreSums}
-use Rattle.tt_glyf.proofs.Chains.{came-through, came-after, passed-else}
+use Rattle.tt_glyf.proofs.Chains.{came-after}
 use Rattle.tt_glyf.proofs.Fields.{IsField, byte-was, signed-was}
 
 -- a delta that was read is the one that is written there

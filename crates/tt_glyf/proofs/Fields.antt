@@ -2,10 +2,10 @@
 use Rattle.std.proofs.Common.{◌≡◌, ℕ, ◌+◌, ◌<◌, ◌≤◌, nat_lt, nat_le, length, Ok, Err, ℤ, arith, sym}
 use Rattle.std.specs.Prelude.{slice_index}
 use Rattle.std.proofs.lemmas.Bool.Decides.{nat_tests}
+use Rattle.tt_core.specs.Chains.{passed-else, failed-else}
 use Rattle.tt_core.specs.Faults.{Fault}
 use Rattle.tt_core.specs.Numbers.{unsigned_at, signed16}
 use Rattle.tt_glyf.specs.Bytes.{Stretch, byte_in, word_in, signed_in, slice_in, short}
-use Rattle.tt_glyf.proofs.Chains.{passed-else, failed-else}
 
 pub record IsField {A : Type 0} (g : Stretch) (end : ℕ) (value written : A) : Type 0 where
   pub is : value ≡ written

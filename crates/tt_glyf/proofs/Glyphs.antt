@@ -3,6 +3,7 @@ use Rattle.std.proofs.Common.{◌≡◌, ℕ, ◌+◌, ◌<◌, ◌≤◌, min, 
 use Rattle.std.specs.Prelude.{◌<ℤ◌}
 use Rattle.std.proofs.lemmas.Bool.Decides.{nat_tests}
 use Rattle.std.proofs.lemmas.Int.{ints}
+use Rattle.tt_core.specs.Chains.{came-through}
 use Rattle.tt_core.specs.Faults.{Fault}
 use Rattle.tt_core.specs.Limits.{component_limit, point_limit}
 use Rattle.tt_core.specs.Numbers.{unsigned_at}
@@ -16,7 +17,6 @@ use Rattle.tt_glyf.specs.Loca.{GlyphTables, glyph_offset, has_no_bytes, is_out_o
 use Rattle.tt_glyf.specs.Meaning.{IfEmpty, HasNoOutline, IfSimple, IfComposite, stretch_of, IsProgram, HasProgram, contour_count, written_x_min, size_place, written_size, flags_place, records_end, AreEnds, AreWords, ArePoints, AreComponents, AreRecords, AreCompositeWords}
 use Rattle.tt_glyf.specs.Raw.{SimpleGlyph, CompositeGlyph, GlyphData, empty, simple, composite}
 use Rattle.tt_glyf.specs.Simple.{ends_of, points_within, points_of, simple_of}
-use Rattle.tt_glyf.proofs.Chains.{came-through}
 use Rattle.tt_glyf.proofs.Fields.{IsField, word-was, signed-was}
 use Rattle.tt_glyf.proofs.Outlines.{EndsRead, ends-were, never-falls, CountRead, count-was, PointsRead, points-were, points-are}
 use Rattle.tt_glyf.proofs.Parts.{ArePartsRead, records-were, IsProgramRead, IsProgramBehind, program-was}

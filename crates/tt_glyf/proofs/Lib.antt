@@ -12,6 +12,7 @@ pub mod Covers
 pub mod Defects
 pub mod Whole
 pub mod Outlines
+pub mod Locations
 pub mod Places
 pub mod Glyphs
 pub mod Parts

@@ -2,6 +2,7 @@
 use Rattle.std.proofs.Common.{◌≡◌, ℕ, zero, suc, ◌+◌, ◌*◌, ◌<◌, ◌≤◌, Bool, false, nat_lt, List, [], ◌∷◌, ◌++◌, length, map, Ok, ℤ, refl, arith, ap, sym, ◌∙◌}
 use Rattle.std.specs.Prelude.{slice_index}
 use Rattle.std.proofs.lemmas.Bool.Decides.{nat_tests}
+use Rattle.tt_core.specs.Chains.{came-through, passed}
 use Rattle.tt_core.specs.Limits.{point_limit}
 use Rattle.tt_core.specs.Numbers.{unsigned_at}
 use Rattle.tt_glyf.specs.declared.raw.RawPoint.{RawPoint}
@@ -10,7 +11,7 @@ use Rattle.tt_glyf.specs.Coordinates.{Axis, Coordinate, x_axis, y_axis, origin}
 use Rattle.tt_glyf.specs.Flags.{has, on_curve_point}
 use Rattle.tt_glyf.specs.Meaning.{runs_end, written_flags, deltas_end, y_place, points_end, ArePoints}
 use Rattle.tt_glyf.specs.Simple.{rising, end_at, ends_from, point_count, points_within, points_from, points_of}
-use Rattle.tt_glyf.proofs.Chains.{came-through, came-after, passed}
+use Rattle.tt_glyf.proofs.Chains.{came-after}
 use Rattle.tt_glyf.proofs.Covers.{AreGoodRuns, AreCovered, flags-were}
 use Rattle.tt_glyf.proofs.Deltas.{AreRead, coordinates-were}
 use Rattle.tt_glyf.proofs.Fields.{word-was}

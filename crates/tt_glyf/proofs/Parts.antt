@@ -3,6 +3,7 @@ use Rattle.std.proofs.Common.{◌≡◌, ℕ, zero, suc, ◌+◌, ◌-◌, ◌*�
 use Rattle.std.specs.Prelude.{All, slice_index, slice_range}
 use Rattle.std.proofs.lemmas.List.Elements.{All-cons}
 use Rattle.std.proofs.lemmas.Bool.Decides.{nat_tests}
+use Rattle.tt_core.specs.Chains.{came-through, passed, passed-else}
 use Rattle.tt_core.specs.Numbers.{unsigned_at, signed16}
 use Rattle.tt_core.specs.Outcomes.{◌>>=◌}
 use Rattle.tt_glyf.specs.declared.raw.Record.{Record}
@@ -11,7 +12,7 @@ use Rattle.tt_glyf.specs.Composite.{Arguments, Transform, Program, signed8, argu
 use Rattle.tt_glyf.specs.Defects.{written_records, record_place, GoesOn}
 use Rattle.tt_glyf.specs.Flags.{has}
 use Rattle.tt_glyf.specs.Meaning.{written_argument, written_transform, record_of, written_component_flags, written_component, written_record, record_end, records_end, AreComponents}
-use Rattle.tt_glyf.proofs.Chains.{came-through, came-after, passed, passed-else}
+use Rattle.tt_glyf.proofs.Chains.{came-after}
 use Rattle.tt_glyf.proofs.Fields.{IsField, byte-was, word-was, signed-was}
 use Rattle.tt_glyf.proofs.Places.{IsWithin, slice-was}
 

@@ -3,9 +3,9 @@ use Rattle.std.proofs.Common.{◌≡◌, ℕ, ◌+◌, ◌-◌, ◌≤◌, nat_l
 use Rattle.std.specs.Prelude.{slice_range}
 use Rattle.std.proofs.lemmas.List.{length-drop, length-take, drop-take, take-take, drop-drop}
 use Rattle.std.proofs.lemmas.Bool.Decides.{nat_tests}
+use Rattle.tt_core.specs.Chains.{passed-else}
 use Rattle.tt_glyf.specs.Bytes.{Stretch, slice_in}
 use Rattle.tt_glyf.specs.Meaning.{IsProgram}
-use Rattle.tt_glyf.proofs.Chains.{passed-else}
 
 -- the bytes of a stretch at a place of it
 pub record IsWithin (bytes code : List ℕ) (at : ℕ) : Type 0 where

@@ -1,10 +1,9 @@
 -- What a call that reads a glyph answered, by what the definition gives.
 use Rattle.std.proofs.Common.{◌≡◌, Result, Ok, Err}
-use Rattle.std.specs.Prelude.{IfOk, OnOk}
+use Rattle.std.specs.Prelude.{IfOk}
 use Rattle.tt_core.specs.declared.font_fault.FontFault.{FontFault}
-use Rattle.tt_core.specs.declared.font_fault.FontFault.TheVariants as fault
 use Rattle.tt_core.specs.Faults.{Fault}
-use Rattle.tt_core.specs.Outcomes.{FontGives, IfTold, font_fault}
+use Rattle.tt_core.specs.Outcomes.{FontGives}
 use Rattle.tt_glyf.specs.declared.raw.Raw.{Raw}
 use Rattle.tt_glyf.specs.Raw.{GlyphData, glyph_data}
 
@@ -12,14 +11,3 @@ pub if-read : (result : Result Raw FontFault) (wanted : Result GlyphData Fault) 
     → FontGives glyph_data result wanted → ((d : GlyphData) → wanted ≡ Ok d → P d) → IfOk result (λ r. P (glyph_data r))
 if-read (Ok r) wanted P gives holds = holds (glyph_data r) gives
 if-read (Err e) wanted P gives holds = tt
-
-pub on-read : (result : Result Raw FontFault) (wanted : Result GlyphData Fault) (Q : Type 0)
-    → FontGives glyph_data result wanted → ((d : GlyphData) → wanted ≡ Ok d → Q) → OnOk result Q
-on-read (Ok r) wanted Q gives holds = holds (glyph_data r) gives
-on-read (Err e) wanted Q gives holds = tt
-
-pub if-broke : (result : Result Raw FontFault) (wanted : Result GlyphData Fault) (P : Fault → Type 0)
-    → FontGives glyph_data result wanted → ((f : Fault) → wanted ≡ Err f → P f) → IfTold font_fault result P
-if-broke (Ok r) wanted P gives stands = tt
-if-broke (Err (fault.Font f)) wanted P gives stands = stands f gives
-if-broke (Err fault.Memory) wanted P gives stands = tt

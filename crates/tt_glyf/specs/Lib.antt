@@ -4,6 +4,7 @@ pub mod Coordinates
 pub mod Defects
 pub mod Flags
 pub mod GlyphData
+pub mod Laws
 pub mod Loca
 pub mod Meaning
 pub mod Raw

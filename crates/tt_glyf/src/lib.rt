@@ -9,6 +9,7 @@ mod coordinates;
 mod flags;
 mod glyf;
 mod header;
+pub mod laws;
 mod loca;
 mod raw;
 mod simple;

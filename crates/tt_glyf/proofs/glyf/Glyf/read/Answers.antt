@@ -1,13 +1,15 @@
 use Rattle.std.specs.Prelude.{◌≤◌, length}
+use Rattle.tt_core.specs.Chains.{on-given, if-told}
 use Rattle.tt_core.specs.Directory.{HasNo}
 use Rattle.tt_core.specs.Limits.{point_limit}
 use Rattle.tt_glyf.specs.Defects.{IsGlyphDefect}
 use Rattle.tt_glyf.specs.GlyphData.{glyph_data_of}
 use Rattle.tt_glyf.specs.Loca.{bytes_between}
 use Rattle.tt_glyf.specs.Meaning.{IfEmpty, HasNoOutline, IfSimple, IfComposite, stretch_of, flags_place, HasProgram, AreEnds, AreWords, ArePoints, AreComponents, AreRecords, AreCompositeWords}
+use Rattle.tt_glyf.specs.Raw.{glyph_data}
 use Rattle.tt_glyf.proofs.Defects.{glyph-broke, glyph-whole}
 use Rattle.tt_glyf.proofs.Glyphs.{glyph-is}
-use Rattle.tt_glyf.proofs.Reading.{if-read, on-read, if-broke}
+use Rattle.tt_glyf.proofs.Reading.{if-read}
 use Rattle.tt_glyf.proofs.glyf.Glyf.read.Goals as goal
 
 pub returns-clause-few : goal.returns-clause-few
@@ -60,13 +62,13 @@ returns-clause-program c =
 
 pub returns-clause-sound : goal.returns-clause-sound
 returns-clause-sound c =
-    on-read c.read_whole.result (glyph_data_of c.args.self.now c.args.g)
+    on-given glyph_data c.read_whole.result (glyph_data_of c.args.self.now c.args.g)
     (HasNo (IsGlyphDefect c.args.self.now c.args.g)) c.read_whole.ensures.exact
     (λ d was. glyph-whole c.args.self.now c.args.g d was)
 
 pub returns-clause-fault : goal.returns-clause-fault
 returns-clause-fault c =
-    if-broke c.read_whole.result (glyph_data_of c.args.self.now c.args.g) (IsGlyphDefect c.args.self.now c.args.g)
+    if-told glyph_data c.read_whole.result (glyph_data_of c.args.self.now c.args.g) (IsGlyphDefect c.args.self.now c.args.g)
     c.read_whole.ensures.exact (λ f was. glyph-broke c.args.self.now c.args.g f was)
 
 pub returns-clause-exact : goal.returns-clause-exact
