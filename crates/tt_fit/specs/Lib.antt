@@ -1,5 +1,7 @@
 pub mod Components
+pub mod Defects
 pub mod Fitting
+pub mod Laws
 pub mod Outline
 pub mod Preparation
 pub mod Programs

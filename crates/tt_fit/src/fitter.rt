@@ -1,12 +1,14 @@
 //! The outlines of a font at a size.
 
-ghost use Rattle.std.specs.Prelude.{◌≡◌, ◌<◌, ◌≤◌, IsTrue, IfOk, IfErr, length, All};
+ghost use Rattle.std.specs.Prelude.{◌≡◌, ◌<◌, ◌≤◌, IsTrue, IfOk, IfErr, OnOk, length, All};
+ghost use Rattle.tt_core.specs.Directory.{HasNo};
 ghost use Rattle.tt_core.specs.Limits.{point_limit, size_limit};
-ghost use Rattle.tt_core.specs.Outcomes.{FontGives, Gives};
+ghost use Rattle.tt_core.specs.Outcomes.{FontGives, Gives, IfTold, font_fault};
 ghost use Rattle.tt_glyf.specs.Loca.{glyph_offset};
 ghost use Rattle.tt_glyf.specs.Meaning.{AreEnds as EndContours};
 ghost use Rattle.tt_metrics.specs.Metrics.{loca_format_of, glyphs_of};
 ghost use Rattle.tt_fit.specs.Components.{placed};
+ghost use Rattle.tt_fit.specs.Defects.{IsOutlineDefect};
 ghost use Rattle.tt_fit.specs.Fitting.{IsSetting, hinted_by, size_of, start, glyph_program, simple_outline, joined, added, outline_at, fitted_outline};
 ghost use Rattle.tt_fit.specs.Outline.{outline_of, phantom_of, IsPoint, ArePhantom, AreEnds, IsOutline};
 ghost use Rattle.tt_fit.specs.Preparation.{program_tables, setting_of};
@@ -87,6 +89,9 @@ impl<'a> Fitter<'a> {
     pub fn fitted(&self, g: u16) -> Result<Outline, FontFault>
         requires { g < self.now.tables.glyphs }
         ensures exact { FontGives outline_of result (fitted_outline self.now g) }
+        // On Ok nothing is wrong with the glyph or with a component of it, and a fault tells what is.
+        ensures sound { OnOk result (HasNo (IsOutlineDefect self.now g)) }
+        ensures fault { IfTold font_fault result (IsOutlineDefect self.now g) }
         ensures few { IfOk result (λ o. length o.points.items ≤ point_limit) }
         ensures coordinates { IfOk result (λ o. All IsPoint o.points.items) }
         ensures phantom { IfOk result (λ o. ArePhantom (phantom_of o.phantom)) }

@@ -5,6 +5,7 @@ mod component;
 mod fitter;
 mod hints;
 mod joining;
+pub mod laws;
 mod outline;
 mod places;
 mod programs;

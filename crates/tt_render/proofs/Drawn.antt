@@ -1,10 +1,14 @@
 -- Glyphs that are drawn one after the other: where one fails, that glyph's fault is the answer.
 use Rattle.std.proofs.Common.{◌≡◌, ◌∙◌, ℕ, zero, suc, ◌<◌, List, [], ◌∷◌, length, map, get_or, slice_index, ℤ, pos, unsigned_abs, ◌≤◌, All, Result, Ok, Err, refl, arith}
 use Rattle.std.proofs.lemmas.List.{length-map}
+use Rattle.tt_core.specs.Chains.{came-through}
 use Rattle.tt_core.specs.Faults.{Fault}
 use Rattle.tt_core.specs.Directory.{HasNo}
 use Rattle.tt_core.specs.Outcomes.{◌>>=◌, each}
+use Rattle.tt_fit.specs.Defects.{IsOutlineDefect}
 use Rattle.tt_fit.specs.Fitting.{Setting, fitted_outline}
+use Rattle.tt_fit.specs.Outline.{Shape}
+use Rattle.tt_fit.proofs.Standing.{faults-stand, outlines-whole}
 use Rattle.tt_scan.specs.declared.edge.Edge.{Edge}
 use Rattle.tt_render.specs.Defects.{IsGlyphDefect}
 use Rattle.tt_render.specs.Picture.{glyph_edges, edges_at}
@@ -40,28 +44,25 @@ each_failed : {A B E : Type 0} (f : A → Result B E) (xs : List A) (d : A) (e :
 each_failed f [] d e fails = absurd (cc)
 each_failed f (x ∷ xs) d e fails = first_or_later f x xs d e (f x) refl (each_failed f xs d e) fails
 
-first_was : {A B E : Type 0} (f : A → Result B E) (x : A) (e : E) (next : B → Result (List B) E) → f x ≡ Err e
-    → (f x >>= next) ≡ Err e
-first_was f x e next fails = rw fails refl
+-- where all were made, each was
+each_made : {A B E : Type 0} (f : A → Result B E) (xs : List A) (ys : List B) (d : A) (i : ℕ) → each f xs ≡ Ok ys
+    → i < length xs → (y : B) × (f (get_or xs i d) ≡ Ok y)
+each_made f [] ys d i made below = absurd (omega arith)
+each_made f (x ∷ xs) ys d zero made below =
+    let first = came-through (f x) _ ys made in (first.value, first.first)
+each_made f (x ∷ xs) ys d (suc i) made below =
+    let first = came-through (f x) _ ys made in
+    let rest = came-through (each f xs) _ ys first.rest in
+    each_made f xs rest.value d i rest.first (omega arith)
 
-rest_was : {B E : Type 0} (r : Result B E) (s : Result (List B) E) (ys : List B) → (r >>= λ y. s >>= λ zs. Ok (y ∷ zs))
-    ≡ Ok ys → (zs : List B) × (s ≡ Ok zs)
-rest_was (Ok y) (Ok zs) ys done = (zs, refl)
-rest_was (Ok y) (Err e) ys done = absurd (cc)
-rest_was (Err e) s ys done = absurd (cc)
-
--- where all were made, none has a fault
-each_made : {A B E : Type 0} (f : A → Result B E) (xs : List A) (ys : List B) (d : A) (e : E) (i : ℕ) → each f xs
-    ≡ Ok ys → i < length xs → f (get_or xs i d) ≡ Err e → ⊥
-each_made f [] ys d e i made below fails = absurd (omega arith)
-each_made f (x ∷ xs) ys d e zero made below fails = let whole = first_was f x e
-    (λ y. each f xs >>= λ ys. Ok (y ∷ ys)) fails in absurd (cc)
-each_made f (x ∷ xs) ys d e (suc i) made below fails =
-    let rest = rest_was (f x) (each f xs) ys made in each_made f xs rest.0 d e i rest.1 (omega arith) fails
-
--- a glyph whose edges cannot be had has no outline
+-- a glyph whose edges cannot be had has no outline, and one whose edges were had has one
 glyph_failed : (s : Setting) (g : ℕ × ℕ) (e : Fault) → glyph_edges s g ≡ Err e → fitted_outline s g.0 ≡ Err e
 glyph_failed s g e fails = failed_first (fitted_outline s g.0) (edges_at g.1) e fails
+
+glyph_made : (s : Setting) (g : ℕ × ℕ) (edges : List Edge) → glyph_edges s g ≡ Ok edges
+    → (o : Shape) × (fitted_outline s g.0 ≡ Ok o)
+glyph_made s g edges made =
+    let outline = came-through (fitted_outline s g.0) _ edges made in (outline.value, outline.first)
 
 number_at : (gs : List (ℕ × ℕ)) (i : ℕ) → slice_index (map (λ g. g.0) gs) i ≡ (get_or gs i (0, 0)).0
 number_at [] i = refl
@@ -73,12 +74,17 @@ pub defect_of_line : (s : Setting) (gs : List (ℕ × ℕ)) (e : Fault) → each
 defect_of_line s gs e fails =
     let there = each_failed (glyph_edges s) gs (0, 0) e fails in
     let many = length-map gs (λ (g : ℕ × ℕ). g.0) in
-    (there.0, omega (arith, there.1), rw (number_at gs there.0) (glyph_failed s (get_or gs there.0 (0, 0)) e there.2))
+    let glyph = get_or gs there.0 (0, 0) in
+    let stands = faults-stand s glyph.0 e (glyph_failed s glyph e there.2) in
+    (there.0, omega (arith, there.1), rw (number_at gs there.0) stands)
 
 pub no_defect_of_line : (s : Setting) (gs : List (ℕ × ℕ)) (tapes : List (List Edge)) → each (glyph_edges s) gs
     ≡ Ok tapes → HasNo (IsGlyphDefect s (map (λ g. g.0) gs))
 no_defect_of_line s gs tapes made = λ e there.
     let many = length-map gs (λ (g : ℕ × ℕ). g.0) in
     let below : there.0 < length gs = omega (arith, there.1) in
-    let fails : fitted_outline s (get_or gs there.0 (0, 0)).0 ≡ Err e = rw (number_at gs there.0) at there.2 in
-    each_made (glyph_edges s) gs tapes (0, 0) e there.0 made below (rw fails refl)
+    let glyph = get_or gs there.0 (0, 0) in
+    let drawn = each_made (glyph_edges s) gs tapes (0, 0) there.0 made below in
+    let outline = glyph_made s glyph drawn.0 drawn.1 in
+    let stands : IsOutlineDefect s (get_or gs there.0 (0, 0)).0 e = rw (number_at gs there.0) at there.2 in
+    outlines-whole s glyph.0 outline.0 outline.1 e stands

@@ -7,4 +7,5 @@ mod Sent
 mod Telling
 pub mod Text
 mod Keeping
+mod Whole
 mod Answered

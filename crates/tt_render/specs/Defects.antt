@@ -2,7 +2,8 @@
 use Rattle.std.specs.Prelude.{◌≡◌, ◌<◌, List, ℕ, length, slice_index, Option, Some, None, Result, Ok, Err, IsOkAnd, IfSome, Bool, true, false, ⊤, ◌⊎◌}
 use Rattle.tt_core.specs.Faults.{Fault}
 use Rattle.tt_core.specs.Directory.{HasNo, IsDefectIn, IsTableDefect, IsDirectoryDefect}
-use Rattle.tt_fit.specs.Fitting.{Setting, fitted_outline}
+use Rattle.tt_fit.specs.Defects.{IsOutlineDefect}
+use Rattle.tt_fit.specs.Fitting.{Setting}
 use Rattle.tt_fit.specs.Preparation.{setting_of}
 use Rattle.tt_glyf.specs.Bytes.{glyf_tag}
 use Rattle.tt_glyf.specs.Loca.{loca_tag, IsLocaDefect}
@@ -29,9 +30,9 @@ abbrev pub IsGlyphTableDefect : List ℕ → Fields → Fault → Type 0
 IsGlyphTableDefect directory m fault = IsDefectIn directory loca_tag (λ loca. IsLocaDefect loca m) fault
     ⊎ IsTableDefect directory glyf_tag fault
 
--- one of some glyphs has no outline but this fault
+-- a defect of one of some glyphs, or of a component that is reached from it
 abbrev pub IsGlyphDefect : Setting → List ℕ → Fault → Type 0
-IsGlyphDefect s glyphs fault = (i : ℕ) × (i < length glyphs) × (fitted_outline s (slice_index glyphs i) ≡ Err fault)
+IsGlyphDefect s glyphs fault = (i : ℕ) × (i < length glyphs) × IsOutlineDefect s (slice_index glyphs i) fault
 
 -- what the font's programs leave is this fault
 abbrev pub IsPreparationDefect : Face → Ask → Fault → Type 0

@@ -1,6 +1,7 @@
 pub mod Asked
 pub mod Defects
 pub mod Face
+pub mod Laws
 pub mod MapLines
 pub mod Outcome
 pub mod Outlines

@@ -7,6 +7,7 @@ mod face;
 mod fault;
 mod job;
 mod kept;
+pub mod laws;
 mod limits;
 mod mapping;
 mod reading;

@@ -1,0 +1,204 @@
+-- An outline is refused for a defect that stands, and one that is given has none.
+use Rattle.std.proofs.Common.{◌≡◌, ℕ, zero, suc, List, [], ◌∷◌, take, Some, Result, Ok, Err, inl, inr, ℤ, pos, refl, subst, sym}
+use Rattle.std.specs.Prelude.{◌⊎◌, IsOkAnd}
+use Rattle.std.specs.List.{slice_get}
+use Rattle.tt_core.specs.Chains.{came-through, was-err}
+use Rattle.tt_core.specs.Faults.{Fault}
+use Rattle.tt_core.specs.declared.fault.Why.TheVariants as why
+use Rattle.tt_core.specs.Limits.{level_limit}
+use Rattle.tt_core.specs.Outcomes.{◌>>=◌}
+use Rattle.tt_glyf.specs.declared.raw.RawPoint.{RawPoint}
+use Rattle.tt_glyf.specs.declared.raw.Record.{Record}
+use Rattle.tt_glyf.specs.GlyphData.{glyph_data_of}
+use Rattle.tt_glyf.specs.Loca.{glyph_offset}
+use Rattle.tt_glyf.specs.Raw.{GlyphData, empty, simple, composite}
+use Rattle.tt_glyf.proofs.Defects.{glyph-broke, glyph-whole}
+use Rattle.tt_fit.specs.Components.{placed}
+use Rattle.tt_fit.specs.Defects.{IsStartDefect, IsPlacingDefect, assembled_before, IsRecordsDefect, IsMakingDefect, IsDefectBy, IsBadComponent, IsOutlineDefect}
+use Rattle.tt_fit.specs.Fitting.{Setting, size_of, start, joined, glyph_program, simple_outline, made, outline_by, added, outline_at, fitted_outline}
+use Rattle.tt_fit.specs.Laws.{OutlinesAreWhole, OutlineFaultsStand}
+use Rattle.tt_fit.specs.Outline.{Shape}
+use Rattle.tt_fit.specs.Programs.{Hints, unhinted, GlyphProgram, finished}
+use Rattle.tt_fit.specs.Scaling.{glyf_fault, phantom_points, scaled_outline}
+use Rattle.tt_fit.proofs.Placing.{blank-broke, blank-whole, scaled-broke, scaled-whole, placing-broke, placing-whole}
+
+-- programs refuse no outline
+finished-never : (h : Hints) (p : GlyphProgram) (o : Shape) (f : Fault) → finished h p o ≡ Err f → ⊥
+finished-never unhinted p o f was = cc
+
+finished-was : (h : Hints) (p : GlyphProgram) (o made : Shape) → finished h p o ≡ Ok made → o ≡ made
+finished-was unhinted p o made was = cc
+
+-- what a record adds is refused for a defect of the record, and only then
+abbrev Tells : (Record → Shape → Result Shape Fault) → (Record → Result Shape Fault → Fault → Type 0) → Type 0
+Tells add IsOne = (r : Record) (o : Shape) (f : Fault) → add r o ≡ Err f → IsOne r (Ok o) f
+
+abbrev Spares : (Record → Shape → Result Shape Fault) → (Record → Result Shape Fault → Fault → Type 0) → Type 0
+Spares add IsOne = (r : Record) (o next : Shape) (f : Fault) → add r o ≡ Ok next → IsOne r (Ok o) f → ⊥
+
+-- records that are joined one after the other
+joined-broke : (add : Record → Shape → Result Shape Fault) (rs : List Record) (o : Shape) (f : Fault)
+    → joined add rs o ≡ Err f
+    → (i : ℕ) × (r : Record) × (before : Shape) × (slice_get rs i ≡ Some r) × (joined add (take i rs) o ≡ Ok before)
+    × (add r before ≡ Err f)
+joined-broke add [] o f was = absurd cc
+joined-broke add (r ∷ rs) o f was = elim (was-err (add r o) (joined add rs) f was) [
+  | inl here ↦ (zero, r, o, refl, refl, here)
+  | inr later ↦
+      let there = joined-broke add rs later.value f later.rest in
+      (suc there.0, there.1, there.2, there.3, rw later.first there.4, there.5)
+]
+
+through : (x : Result Shape Fault) (rest : Shape → Result Shape Fault) (o made : Shape) → x ≡ Ok o → rest o ≡ Ok made
+    → (x >>= rest) ≡ Ok made
+through x rest o made first then = rw first then
+
+joined-made : (add : Record → Shape → Result Shape Fault) (rs : List Record) (o all : Shape) (i : ℕ) (r : Record)
+    → joined add rs o ≡ Ok all → slice_get rs i ≡ Some r
+    → (before : Shape) × (next : Shape) × (joined add (take i rs) o ≡ Ok before) × (add r before ≡ Ok next)
+joined-made add [] o all i r was there = absurd cc
+joined-made add (z ∷ rs) o all zero r was there =
+    let first = came-through (add z o) (joined add rs) all was in
+    let same : z ≡ r = cc in
+    (o, first.value, refl, rw (← same) first.first)
+joined-made add (z ∷ rs) o all (suc i) r was there =
+    let first = came-through (add z o) (joined add rs) all was in
+    let later = joined-made add rs first.value all i r first.rest there in
+    (later.0, later.1,
+    through (add z o) (joined add (take i rs)) first.value later.0 first.first later.2,
+    later.3)
+
+records-broke : (add : Record → Shape → Result Shape Fault) (IsOne : Record → Result Shape Fault → Fault → Type 0)
+    → Tells add IsOne → (begun : Result Shape Fault) (o : Shape) (records : List Record) (f : Fault) → begun ≡ Ok o
+    → joined add records o ≡ Err f → IsRecordsDefect add IsOne begun records f
+records-broke add IsOne tells begun o records f begins was =
+    let there = joined-broke add records o f was in
+    let before : assembled_before add begun records there.0 ≡ Ok there.2 = rw begins there.4 in
+    let P : Result Shape Fault → Type 0 = λ x. IsOne there.1 x f in
+    (there.0, there.1, there.3, subst P (sym before) (tells there.1 there.2 f there.5))
+
+records-whole : (add : Record → Shape → Result Shape Fault) (IsOne : Record → Result Shape Fault → Fault → Type 0)
+    → Spares add IsOne → (begun : Result Shape Fault) (o all : Shape) (records : List Record) (f : Fault)
+    → begun ≡ Ok o → joined add records o ≡ Ok all → IsRecordsDefect add IsOne begun records f → ⊥
+records-whole add IsOne spares begun o all records f begins was bad =
+    let came = joined-made add records o all bad.0 bad.1 was bad.2 in
+    let before : assembled_before add begun records bad.0 ≡ Ok came.0 = rw begins came.2 in
+    let P : Result Shape Fault → Type 0 = λ x. IsOne bad.1 x f in
+    spares bad.1 came.0 came.1 f came.3 (subst P before bad.3)
+
+-- a glyph that can be read
+start-broke : (s : Setting) (x_min : ℤ) (g : ℕ) (f : Fault) → start s x_min g ≡ Err f → IsStartDefect s x_min g f
+start-broke s x_min g f was =
+    blank-broke (glyph_offset s.tables g) (phantom_points (size_of s) s.metrics x_min g) f was
+
+start-whole : (s : Setting) (x_min : ℤ) (g : ℕ) (o : Shape) (f : Fault) → start s x_min g ≡ Ok o
+    → IsStartDefect s x_min g f → ⊥
+start-whole s x_min g o f was bad =
+    blank-whole (glyph_offset s.tables g) (phantom_points (size_of s) s.metrics x_min g) o f was bad
+
+making-broke : (s : Setting) (add : Record → Shape → Result Shape Fault)
+    (IsOne : Record → Result Shape Fault → Fault → Type 0) → Tells add IsOne → (g : ℕ) (d : GlyphData) (f : Fault)
+    → made s add g d ≡ Err f → IsMakingDefect s add IsOne g d f
+making-broke s add IsOne tells g empty f was = start-broke s (pos 0) g f was
+making-broke s add IsOne tells g (simple d) f was = elim (was-err (start s d.x_min g) _ f was) [
+  | inl here ↦ inl (start-broke s d.x_min g f here)
+  | inr begun ↦
+      let scaled = scaled_outline (size_of s) (glyph_offset s.tables g) d.points d.ends begun.value in
+      elim (was-err scaled _ f begun.rest) [
+        | inl here ↦ inr (scaled-broke (size_of s) (glyph_offset s.tables g) d.points d.ends begun.value f here)
+        | inr whole ↦ absurd (finished-never s.hints (glyph_program s g d.code d.code_at) whole.value f whole.rest)
+      ]
+]
+making-broke s add IsOne tells g (composite d) f was =
+    elim (was-err (start s d.x_min g >>= joined add d.records) _ f was) [
+      | inl here ↦ elim (was-err (start s d.x_min g) (joined add d.records) f here) [
+        | inl first ↦ inl (start-broke s d.x_min g f first)
+        | inr begun ↦
+            inr (records-broke add IsOne tells (start s d.x_min g) begun.value d.records f begun.first begun.rest)
+      ]
+      | inr whole ↦ absurd (finished-never s.hints (glyph_program s g d.code d.code_at) whole.value f whole.rest)
+    ]
+
+making-whole : (s : Setting) (add : Record → Shape → Result Shape Fault)
+    (IsOne : Record → Result Shape Fault → Fault → Type 0) → Spares add IsOne → (g : ℕ) (d : GlyphData) (o : Shape)
+    (f : Fault) → made s add g d ≡ Ok o → IsMakingDefect s add IsOne g d f → ⊥
+making-whole s add IsOne spares g empty o f was bad = start-whole s (pos 0) g o f was bad
+making-whole s add IsOne spares g (simple d) o f was bad =
+    let begun = came-through (start s d.x_min g) _ o was in
+    let scaled = scaled_outline (size_of s) (glyph_offset s.tables g) d.points d.ends begun.value in
+    let by_points = came-through scaled _ o begun.rest in
+    elim bad [
+      | inl first ↦ start-whole s d.x_min g begun.value f begun.first first
+      | inr point ↦
+          scaled-whole (size_of s) (glyph_offset s.tables g) d.points d.ends begun.value by_points.value f
+          by_points.first point
+    ]
+making-whole s add IsOne spares g (composite d) o f was bad =
+    let by_records = came-through (start s d.x_min g >>= joined add d.records) _ o was in
+    let begun = came-through (start s d.x_min g) (joined add d.records) by_records.value by_records.first in
+    elim bad [
+      | inl first ↦ start-whole s d.x_min g begun.value f begun.first first
+      | inr one ↦
+          records-whole add IsOne spares (start s d.x_min g) begun.value by_records.value d.records f begun.first
+          begun.rest one
+    ]
+
+-- a glyph, by what its records add
+outline-broke : (s : Setting) (add : Record → Shape → Result Shape Fault)
+    (IsOne : Record → Result Shape Fault → Fault → Type 0) → Tells add IsOne → (g : ℕ) (f : Fault)
+    → outline_by s add g ≡ Err f → IsDefectBy s add IsOne g f
+outline-broke s add IsOne tells g f was = elim (was-err (glyph_data_of s.tables g) (made s add g) f was) [
+  | inl here ↦ inl (glyph-broke s.tables g f here)
+  | inr read ↦
+      let P : Result GlyphData Fault → Type 0 = λ x. IsOkAnd x (λ d. IsMakingDefect s add IsOne g d f) in
+      inr (subst P (sym read.first) (making-broke s add IsOne tells g read.value f read.rest))
+]
+
+outline-whole : (s : Setting) (add : Record → Shape → Result Shape Fault)
+    (IsOne : Record → Result Shape Fault → Fault → Type 0) → Spares add IsOne → (g : ℕ) (o : Shape) (f : Fault)
+    → outline_by s add g ≡ Ok o → IsDefectBy s add IsOne g f → ⊥
+outline-whole s add IsOne spares g o f was bad =
+    let read = came-through (glyph_data_of s.tables g) (made s add g) o was in
+    elim bad [
+      | inl unread ↦ glyph-whole s.tables g read.value read.first f unread
+      | inr making ↦
+          let P : Result GlyphData Fault → Type 0 = λ x. IsOkAnd x (λ d. IsMakingDefect s add IsOne g d f) in
+          making-whole s add IsOne spares g read.value o f read.rest (subst P read.first making)
+    ]
+
+-- levels of components
+component-broke : (s : Setting) (levels : ℕ) → Tells (added s levels) (IsBadComponent s levels)
+unfolding added IsBadComponent
+component-broke s zero = λ r o f was. cc
+component-broke s (suc levels) = λ r o f was. elim (was-err (outline_by s (added s levels) r.glyph) _ f was) [
+  | inl here ↦
+      inl (outline-broke s (added s levels) (IsBadComponent s levels) (component-broke s levels) r.glyph f here)
+  | inr component ↦
+      let P : Result Shape Fault → Type 0 = λ x. IsOkAnd x (λ c. IsPlacingDefect (size_of s) r c o f) in
+      inr (subst P (sym component.first) (placing-broke (size_of s) r component.value o f component.rest))
+]
+
+component-whole : (s : Setting) (levels : ℕ) → Spares (added s levels) (IsBadComponent s levels)
+unfolding added IsBadComponent
+component-whole s zero = λ r o next f was bad. cc
+component-whole s (suc levels) = λ r o next f was bad.
+    let component = came-through (outline_by s (added s levels) r.glyph) _ next was in
+    elim bad [
+      | inl own ↦
+          outline-whole s (added s levels) (IsBadComponent s levels) (component-whole s levels) r.glyph
+          component.value f component.first own
+      | inr placing ↦
+          let P : Result Shape Fault → Type 0 = λ x. IsOkAnd x (λ c. IsPlacingDefect (size_of s) r c o f) in
+          placing-whole (size_of s) r component.value o next f component.rest (subst P component.first placing)
+    ]
+
+pub faults-stand : OutlineFaultsStand
+unfolding fitted_outline IsOutlineDefect
+faults-stand s g f was =
+    outline-broke s (added s level_limit) (IsBadComponent s level_limit) (component-broke s level_limit) g f was
+
+pub outlines-whole : OutlinesAreWhole
+unfolding fitted_outline IsOutlineDefect
+outlines-whole s g o was = λ f bad.
+    outline-whole s (added s level_limit) (IsBadComponent s level_limit) (component-whole s level_limit) g o f
+    was bad

@@ -1,0 +1,113 @@
+-- What can be wrong with the outline of a glyph at a size, apart from the order in which it is looked for: each defect
+-- with its fault. OpenType, "The 'glyf' table", "Composite Glyph Description"; the limits are profile.
+use Rattle.std.specs.Prelude.{◌≡◌, ℕ, zero, suc, ◌+◌, ◌<◌, false, ℤ, pos, unsigned_abs, ◌<ℤ◌, ◌≤ℤ◌, Bool, List, length, take, Some, Result, IsOkAnd, ◌⊎◌}
+use Rattle.std.specs.List.{slice_get}
+use Rattle.tt_core.specs.Faults.{Fault}
+use Rattle.tt_core.specs.declared.fault.Why.TheVariants as why
+use Rattle.tt_core.specs.Limits.{coordinate_limit, level_limit, point_limit}
+use Rattle.tt_core.specs.Outcomes.{◌>>=◌}
+use Rattle.tt_glyf.specs.Composite.{args_are_xy_values}
+use Rattle.tt_glyf.specs.declared.raw.RawPoint.{RawPoint}
+use Rattle.tt_glyf.specs.declared.raw.Record.{Record}
+use Rattle.tt_glyf.specs.Defects.{IsGlyphDefect}
+use Rattle.tt_glyf.specs.Flags.{has}
+use Rattle.tt_glyf.specs.GlyphData.{glyph_data_of}
+use Rattle.tt_glyf.specs.Loca.{glyph_offset}
+use Rattle.tt_glyf.specs.Raw.{GlyphData, empty, simple, composite}
+use Rattle.tt_fit.specs.Components.{shift_of, landed}
+use Rattle.tt_fit.specs.Fitting.{Setting, size_of, start, joined, added, outline_at}
+use Rattle.tt_fit.specs.Outline.{PhantomPoints, Shape}
+use Rattle.tt_fit.specs.Scaling.{Size, scale, glyf_fault, coordinate_fault, phantom_points}
+
+-- a coordinate is past the limit
+abbrev pub PassesLimit : ℤ → Type 0
+PassesLimit v = coordinate_limit < unsigned_abs v
+
+-- the x or the y of a place is
+abbrev pub LeavesLimit : ℤ → ℤ → Type 0
+LeavesLimit x y = PassesLimit x ⊎ PassesLimit y
+
+-- a phantom point lies past the limit; the fault is told at this offset in glyf
+abbrev pub IsPhantomDefect : ℕ → PhantomPoints → Fault → Type 0
+IsPhantomDefect at p fault =
+    (LeavesLimit p.left.0 p.left.1 ⊎ LeavesLimit p.right.0 p.right.1 ⊎ LeavesLimit p.ascent.0 p.ascent.1
+    ⊎ LeavesLimit p.descent.0 p.descent.1)
+    × (fault ≡ coordinate_fault at)
+
+-- one of a glyph does, told at the glyph's first byte
+abbrev pub IsStartDefect : Setting → ℤ → ℕ → Fault → Type 0
+IsStartDefect s x_min g fault =
+    IsPhantomDefect (glyph_offset s.tables g) (phantom_points (size_of s) s.metrics x_min g) fault
+
+-- a scaled point does
+abbrev pub IsScaledDefect : Size → ℕ → List RawPoint → Fault → Type 0
+IsScaledDefect z at points fault =
+    (i : ℕ) × (p : RawPoint) × (slice_get points i ≡ Some p) × LeavesLimit (scale z p.x) (scale z p.y)
+    × (fault ≡ coordinate_fault at)
+
+-- no point has this number
+abbrev pub LacksPoint : List (ℤ × ℤ × Bool) → ℤ → Type 0
+LacksPoint points number = (number <ℤ pos 0) ⊎ (pos (length points) ≤ℤ number)
+
+-- a record matches two points, and one of them isn't there: the component's, or that of what is assembled so far
+abbrev pub IsMatchDefect : Record → List (ℤ × ℤ × Bool) → List (ℤ × ℤ × Bool) → Fault → Type 0
+IsMatchDefect r component points fault =
+    (has r.flags args_are_xy_values ≡ false) × (LacksPoint component r.arg2 ⊎ LacksPoint points r.arg1)
+    × (fault ≡ glyf_fault r.at why.MatchPoint)
+
+-- a point of the component, transformed and moved, lies past the limit
+abbrev pub IsLandingDefect : Size → Record → List (ℤ × ℤ × Bool) → List (ℤ × ℤ × Bool) → Fault → Type 0
+IsLandingDefect z r component points fault = IsOkAnd (shift_of z r component points) (λ by.
+    (i : ℕ) × (p : ℤ × ℤ × Bool) × (slice_get component i ≡ Some p)
+    × LeavesLimit (landed r by p).0 (landed r by p).1 × (fault ≡ coordinate_fault r.at))
+
+-- together they are more points than a glyph may have
+abbrev pub IsCountDefect : Record → List (ℤ × ℤ × Bool) → List (ℤ × ℤ × Bool) → Fault → Type 0
+IsCountDefect r component points fault =
+    (point_limit < length points + length component) × (fault ≡ glyf_fault r.at why.PointLimit)
+
+-- a component cannot be placed behind what is assembled so far
+abbrev pub IsPlacingDefect : Size → Record → Shape → Shape → Fault → Type 0
+IsPlacingDefect z r component o fault =
+    IsMatchDefect r component.points o.points fault
+    ⊎ IsLandingDefect z r component.points o.points fault
+    ⊎ IsCountDefect r component.points o.points fault
+
+-- what is assembled before record i
+abbrev pub assembled_before : (Record → Shape → Result Shape Fault) → Result Shape Fault → List Record → ℕ
+    → Result Shape Fault
+assembled_before add begun records i = begun >>= joined add (take i records)
+
+-- one of the records is bad, by what is bad of a record behind what is assembled before it
+abbrev pub IsRecordsDefect : (Record → Shape → Result Shape Fault) → (Record → Result Shape Fault → Fault → Type 0)
+    → Result Shape Fault → List Record → Fault → Type 0
+IsRecordsDefect add IsOne begun records fault =
+    (i : ℕ) × (r : Record) × (slice_get records i ≡ Some r) × IsOne r (assembled_before add begun records i) fault
+
+-- a glyph that can be read has no outline: a phantom point, a point or a record is bad
+abbrev pub IsMakingDefect : Setting → (Record → Shape → Result Shape Fault)
+    → (Record → Result Shape Fault → Fault → Type 0) → ℕ → GlyphData → Fault → Type 0
+IsMakingDefect s add IsOne g empty fault = IsStartDefect s (pos 0) g fault
+IsMakingDefect s add IsOne g (simple d) fault =
+    IsStartDefect s d.x_min g fault ⊎ IsScaledDefect (size_of s) (glyph_offset s.tables g) d.points fault
+IsMakingDefect s add IsOne g (composite d) fault =
+    IsStartDefect s d.x_min g fault ⊎ IsRecordsDefect add IsOne (start s d.x_min g) d.records fault
+
+-- a glyph cannot be read, or has no outline
+abbrev pub IsDefectBy : Setting → (Record → Shape → Result Shape Fault)
+    → (Record → Result Shape Fault → Fault → Type 0) → ℕ → Fault → Type 0
+IsDefectBy s add IsOne g fault =
+    IsGlyphDefect s.tables g fault ⊎ IsOkAnd (glyph_data_of s.tables g) (λ d. IsMakingDefect s add IsOne g d fault)
+
+-- a record is bad where so many levels of components are left: there is none for its component, or the component is
+-- bad, or it cannot be placed
+unfoldable pub IsBadComponent : Setting → ℕ → Record → Result Shape Fault → Fault → Type 0
+IsBadComponent s zero r before fault = fault ≡ glyf_fault r.at why.ComponentDepth
+IsBadComponent s (suc levels) r before fault =
+    IsDefectBy s (added s levels) (IsBadComponent s levels) r.glyph fault
+    ⊎ IsOkAnd before (λ o. IsOkAnd (outline_at s levels r.glyph) (λ component.
+    IsPlacingDefect (size_of s) r component o fault))
+
+-- a defect of a glyph, or of a component that is reached from it
+unfoldable pub IsOutlineDefect : Setting → ℕ → Fault → Type 0
+IsOutlineDefect s g fault = IsDefectBy s (added s level_limit) (IsBadComponent s level_limit) g fault

@@ -1,0 +1,139 @@
+-- A font from which there is something to be written has no defect.
+use Rattle.std.proofs.Common.{◌≡◌, ℕ, nat_lt, List, length, map, Result, Ok, Err, inl, inr, subst, sym, refl}
+use Rattle.std.specs.Prelude.{IsOkAnd, chars}
+use Rattle.tt_cmap.specs.Defects.{IsBadCmap}
+use Rattle.tt_cmap.specs.Laws.{LookupsAreWhole}
+use Rattle.tt_cmap.specs.Lookup.{lookup_of}
+use Rattle.tt_core.specs.declared.fault.JobFault.{JobFault}
+use Rattle.tt_core.specs.Chains.{came-through, passed-on}
+use Rattle.tt_core.specs.Directory.{directory_of, needed_table, HasNo, IsDefectIn, HasNo-IsDefectIn}
+use Rattle.tt_core.specs.Faults.{Fault}
+use Rattle.tt_core.specs.Laws.{DirectoriesAreWhole, DirectoriesAreFiles, TablesAreWhole}
+use Rattle.tt_core.specs.Limits.{font_limit}
+use Rattle.tt_core.specs.Outcomes.{◌>>=◌, each}
+use Rattle.tt_fit.specs.Fitting.{Setting}
+use Rattle.tt_fit.specs.Preparation.{setting_of}
+use Rattle.tt_glyf.specs.Bytes.{glyf_tag}
+use Rattle.tt_glyf.specs.Laws.{LocationsAreWhole}
+use Rattle.tt_glyf.specs.Loca.{GlyphTables, loca_tag, loca_of, with_glyf, IsLocaDefect}
+use Rattle.tt_line.specs.Laws.{PlacesGlyphs}
+use Rattle.tt_line.specs.Layout.{Placement, placement, text_glyphs}
+use Rattle.tt_metrics.specs.Laws.{MetricsAreWhole}
+use Rattle.tt_metrics.specs.Metrics.{Fields, metrics_of, glyphs_of, IsMetricsDefect}
+use Rattle.tt_render.specs.Asked.{Ask, tested, text_tested}
+use Rattle.tt_render.specs.Defects.{IsFaceDefect, IsGlyphTableDefect, IsSettingDefect, IsLineDefect, IsRunDefect}
+use Rattle.tt_render.specs.Face.{Face, cmap_tag, face_of}
+use Rattle.tt_render.specs.Laws.{DrawnFontsAreWhole, MappedFontsAreWhole}
+use Rattle.tt_render.specs.MapLines.{lines_of, map_outcome}
+use Rattle.tt_render.specs.Outcome.{Refused, as_font, as_job, of_font, outcome_of}
+use Rattle.tt_render.specs.Picture.{no_programs, glyphs_in, setting_in, glyph_edges, drawn, pictured, run_outcome}
+use Rattle.tt_render.proofs.Telling.{no_setting_defect, no_line_defect, no_run_defect}
+
+-- what the layers below say of what they give
+pub record FontLaws : Type 0 where
+  pub directories : DirectoriesAreWhole
+  pub files : DirectoriesAreFiles
+  pub tables : TablesAreWhole
+  pub metrics : MetricsAreWhole
+  pub lookups : LookupsAreWhole
+  pub locations : LocationsAreWhole
+  pub places : PlacesGlyphs
+
+face-whole : FontLaws → (file : List ℕ) (face : Face) → face_of file ≡ Ok face → HasNo (IsFaceDefect file)
+unfolding face_of
+face-whole laws file face was =
+    let by_directory = came-through (directory_of file) _ face was in
+    let by_metrics = came-through (metrics_of by_directory.value) _ face by_directory.rest in
+    let by_table = came-through (needed_table by_directory.value cmap_tag) _ face by_metrics.rest in
+    let by_lookup = came-through (lookup_of by_table.value (glyphs_of by_metrics.value)) _ face by_table.rest in
+    let same : by_directory.value ≡ file = laws.files file by_directory.value by_directory.first in
+    let cmap = HasNo-IsDefectIn by_directory.value cmap_tag by_table.value IsBadCmap by_table.first
+    (laws.tables by_directory.value cmap_tag by_table.value by_table.first)
+    (laws.lookups by_table.value (glyphs_of by_metrics.value) by_lookup.value by_lookup.first) in
+    λ fault defect. elim defect [
+      | inl directory ↦ laws.directories file by_directory.value by_directory.first fault directory
+      | inr (inl metrics) ↦
+          let P : List ℕ → Type 0 = λ file. IsMetricsDefect file fault in
+          laws.metrics by_directory.value by_metrics.value by_metrics.first fault (subst P (sym same) metrics)
+      | inr (inr table) ↦
+          let P : List ℕ → Type 0 = λ file. IsDefectIn file cmap_tag IsBadCmap fault in
+          cmap fault (subst P (sym same) table)
+    ]
+
+glyph-tables-whole : FontLaws → (directory : List ℕ) (m : Fields) (t : GlyphTables) → glyphs_in directory m ≡ Ok t
+    → HasNo (IsGlyphTableDefect directory m)
+unfolding glyphs_in
+glyph-tables-whole laws directory m t was =
+    let by_loca = came-through (needed_table directory loca_tag) _ t was in
+    let by_locations = came-through (loca_of by_loca.value m) _ t by_loca.rest in
+    let by_glyf = came-through (needed_table directory glyf_tag) _ t by_locations.rest in
+    let loca = HasNo-IsDefectIn directory loca_tag by_loca.value (λ loca. IsLocaDefect loca m) by_loca.first
+    (laws.tables directory loca_tag by_loca.value by_loca.first)
+    (laws.locations by_loca.value m by_locations.value by_locations.first) in
+    λ fault defect. elim defect [
+      | inl of_loca ↦ loca fault of_loca
+      | inr of_glyf ↦ laws.tables directory glyf_tag by_glyf.value by_glyf.first fault of_glyf
+    ]
+
+setting-whole : FontLaws → (face : Face) (a : Ask) (s : Setting) → setting_in face a ≡ Ok s
+    → HasNo (IsSettingDefect face a)
+unfolding setting_in
+setting-whole laws face a s was =
+    let by_tables = came-through (glyphs_in face.directory face.metrics) _ s was in
+    no_setting_defect face a by_tables.value s by_tables.first
+    (glyph-tables-whole laws face.directory face.metrics by_tables.value by_tables.first) by_tables.rest
+
+line-whole : FontLaws → (face : Face) (a : Ask) (line : Placement) (bytes : List ℕ) → drawn face a line ≡ Ok bytes
+    → HasNo (IsLineDefect face a (map (λ g. g.0) line.glyphs))
+unfolding drawn
+line-whole laws face a line bytes was =
+    let by_setting = came-through (setting_in face a) _ bytes was in
+    let s = by_setting.value in
+    let by_glyphs = came-through (each (glyph_edges s) line.glyphs) _ bytes by_setting.rest in
+    no_line_defect face a s line.glyphs by_glyphs.value by_setting.first
+    (setting-whole laws face a s by_setting.first) by_glyphs.first
+
+-- what was given of a font or of a job was not refused
+of-font : {X : Type 0} (r : Result X Fault) (x : X) → as_font r ≡ Ok x → r ≡ Ok x
+of-font (Ok y) x was = cc
+of-font (Err f) x was = absurd cc
+
+of-job : {X : Type 0} (r : Result X JobFault) (x : X) → as_job r ≡ Ok x → r ≡ Ok x
+of-job (Ok y) x was = cc
+of-job (Err j) x was = absurd cc
+
+picture-whole : FontLaws → (a : Ask) (file bytes : List ℕ) → pictured a file ≡ Ok bytes → HasNo (IsRunDefect a file)
+unfolding pictured
+picture-whole laws a file bytes was =
+    let by_face = came-through (as_font (face_of file)) _ bytes was in
+    let face = by_face.value in
+    let by_line = came-through (as_job (placement face.metrics face.lookup a.text a.ppem a.margin)) _ bytes
+    by_face.rest in
+    let line = by_line.value in
+    let there = of-font (face_of file) face by_face.first in
+    let laid = of-job (placement face.metrics face.lookup a.text a.ppem a.margin) line by_line.first in
+    no_run_defect a file face (map (λ g. g.0) line.glyphs) there (face-whole laws file face there)
+    (laws.places face.metrics face.lookup a.text a.ppem a.margin line laid)
+    (line-whole laws face a line bytes (of-font (drawn face a line) bytes by_line.rest))
+
+-- what was made of a file that is not too large
+made-of : (tests : Result (Unit {0}) JobFault) (made : List ℕ → Result (List ℕ) Refused) (file bytes : List ℕ)
+    → outcome_of tests made file ≡ Ok bytes → made file ≡ Ok bytes
+made-of tests made file bytes was =
+    let by_tests = came-through (as_job tests) _ bytes was in
+    let fits = passed-on (nat_lt font_limit (length file)) _ (made file) bytes by_tests.rest in fits.1
+
+pub drawn-whole : FontLaws → DrawnFontsAreWhole
+unfolding run_outcome
+drawn-whole laws a file bytes was = picture-whole laws a file bytes (made-of (tested a) (pictured a) file bytes was)
+
+lines-whole : FontLaws → (file text bytes : List ℕ) → lines_of file text ≡ Ok bytes → HasNo (IsFaceDefect file)
+unfolding lines_of
+lines-whole laws file text bytes was =
+    let by_face = came-through (face_of file) _ bytes was in face-whole laws file by_face.value by_face.first
+
+pub mapped-whole : FontLaws → MappedFontsAreWhole
+unfolding map_outcome
+mapped-whole laws text file bytes was =
+    lines-whole laws file text bytes
+    (of-font (lines_of file text) bytes (made-of (text_tested text) (λ font. as_font (lines_of font text)) file bytes was))

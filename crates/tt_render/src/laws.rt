@@ -1,0 +1,16 @@
+//! Laws of the definitions. Each function takes nothing and gives nothing: its clauses hold of all jobs and files.
+
+ghost use Rattle.tt_render.specs.Laws.{DrawnFontsAreWhole, MappedFontsAreWhole};
+
+/// Where the definition of what `run` or `map` is to write gives bytes, the font has no defect for it. So there is
+/// none whenever a call wrote, all or a part.
+pub fn fonts_are_whole()
+    ensures run { DrawnFontsAreWhole }
+    ensures map { MappedFontsAreWhole }
+{
+    tt_core::laws::tables_are_whole();
+    tt_metrics::laws::metrics_are_whole();
+    tt_cmap::laws::lookups_are_whole();
+    tt_glyf::laws::locations_are_whole();
+    tt_line::laws::glyphs_are_placed();
+}
