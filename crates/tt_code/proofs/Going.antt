@@ -7,7 +7,8 @@ use Rattle.tt_code.specs.Decoding.{Instruction, instruction_at}
 use Rattle.tt_code.specs.Skips.{ends, depth_after, skip_from}
 
 -- the rest of the skip is the whole, and instructions enough are counted for it
-pub record GoesOn (sought : Sought) (code : List ℕ) (lost : Halt) (whole : Result ℕ Halt) (place depth : ℕ) : Type 0 where
+pub record GoesOn (sought : Sought) (code : List ℕ) (lost : Halt) (whole : Result ℕ Halt) (place depth : ℕ)
+    : Type 0 where
   pub fuel : ℕ
   pub enough : length code ≤ fuel + place
   pub same : skip_from fuel sought code lost place depth ≡ whole
@@ -31,24 +32,24 @@ halted {sought} {code} {lost} {whole} {place} {depth} halt inside on short =
     halted_by on.fuel sought code lost halt whole place depth inside on.enough on.same short
 
 -- at an opcode that ends it
-ended_by : (fuel : ℕ) (sought : Sought) (code : List ℕ) (lost : Halt) (whole : Result ℕ Halt) (place depth : ℕ) (i : Instruction)
-    → place < length code → length code ≤ fuel + place → skip_from fuel sought code lost place depth ≡ whole
-    → instruction_at code place ≡ Ok i → ends sought depth i.op ≡ true → whole ≡ Ok (place + i.len)
+ended_by : (fuel : ℕ) (sought : Sought) (code : List ℕ) (lost : Halt) (whole : Result ℕ Halt) (place depth : ℕ)
+    (i : Instruction) → place < length code → length code ≤ fuel + place
+    → skip_from fuel sought code lost place depth ≡ whole → instruction_at code place ≡ Ok i → ends sought depth i.op ≡ true → whole ≡ Ok (place + i.len)
 ended_by zero sought code lost whole place depth i inside enough same there end = absurd (omega arith)
 ended_by (suc n) sought code lost whole place depth i inside enough same there end =
     let more : nat_le (length code) place ≡ false = within code place inside in
     sym same ∙ rw (more, there, end) refl
 
-pub ended : {sought : Sought} {code : List ℕ} {lost : Halt} {whole : Result ℕ Halt} {place depth : ℕ} (i : Instruction)
-    → place < length code → GoesOn sought code lost whole place depth
+pub ended : {sought : Sought} {code : List ℕ} {lost : Halt} {whole : Result ℕ Halt} {place depth : ℕ}
+    (i : Instruction) → place < length code → GoesOn sought code lost whole place depth
     → instruction_at code place ≡ Ok i → ends sought depth i.op ≡ true → whole ≡ Ok (place + i.len)
 ended {sought} {code} {lost} {whole} {place} {depth} i inside on there end =
     ended_by on.fuel sought code lost whole place depth i inside on.enough on.same there end
 
 -- at any other instruction
-further_by : (fuel : ℕ) (sought : Sought) (code : List ℕ) (lost : Halt) (whole : Result ℕ Halt) (place depth : ℕ) (i : Instruction)
-    → place < length code → length code ≤ fuel + place → skip_from fuel sought code lost place depth ≡ whole
-    → instruction_at code place ≡ Ok i → ends sought depth i.op ≡ false → 1 ≤ i.len
+further_by : (fuel : ℕ) (sought : Sought) (code : List ℕ) (lost : Halt) (whole : Result ℕ Halt) (place depth : ℕ)
+    (i : Instruction) → place < length code → length code ≤ fuel + place
+    → skip_from fuel sought code lost place depth ≡ whole → instruction_at code place ≡ Ok i → ends sought depth i.op ≡ false → 1 ≤ i.len
     → GoesOn sought code lost whole (place + i.len) (depth_after depth i.op)
 further_by zero sought code lost whole place depth i inside enough same there none some = absurd (omega arith)
 further_by (suc n) sought code lost whole place depth i inside enough same there none some =
@@ -59,8 +60,8 @@ further_by (suc n) sought code lost whole place depth i inside enough same there
       same = rw (more, there, none) at same;
     }
 
-pub further : {sought : Sought} {code : List ℕ} {lost : Halt} {whole : Result ℕ Halt} {place depth : ℕ} (i : Instruction)
-    → place < length code → GoesOn sought code lost whole place depth
+pub further : {sought : Sought} {code : List ℕ} {lost : Halt} {whole : Result ℕ Halt} {place depth : ℕ}
+    (i : Instruction) → place < length code → GoesOn sought code lost whole place depth
     → instruction_at code place ≡ Ok i → ends sought depth i.op ≡ false → 1 ≤ i.len
     → GoesOn sought code lost whole (place + i.len) (depth_after depth i.op)
 further {sought} {code} {lost} {whole} {place} {depth} i inside on there none some =

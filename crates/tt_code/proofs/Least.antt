@@ -21,7 +21,8 @@ Counted sought.Endf depth passed = Unit {0}
 none_open : (depth opened shut : ℕ) → depth + shut ≡ opened → (depth == 0) ≡ (opened == shut)
 none_open depth opened shut h = grind (arith, nat_tests)
 
-same_end : (s : Sought) (depth : ℕ) (passed : List ℕ) (op : ℕ) → Counted s depth passed → ends s depth op ≡ is_end s passed op
+same_end : (s : Sought) (depth : ℕ) (passed : List ℕ) (op : ℕ) → Counted s depth passed
+    → ends s depth op ≡ is_end s passed op
 same_end sought.ElseOrEif depth passed op h = rw (none_open depth _ _ h) refl
 same_end sought.Eif depth passed op h = rw (none_open depth _ _ h) refl
 same_end sought.Endf depth passed op h = refl
@@ -75,8 +76,8 @@ lies code at i there =
 
 -- what a skip that has come to a place answers
 ended : (s : Sought) (code : List ℕ) (at : ℕ) (lost : Why) (place depth : ℕ) (passed : List ℕ) (i : Instruction)
-    → ComesTo s code at passed place → Counted s depth passed → instruction_at code place ≡ Ok i → ends s depth i.op ≡ true
-    → EndsBefore s code at (place + i.len)
+    → ComesTo s code at passed place → Counted s depth passed → instruction_at code place ≡ Ok i
+    → ends s depth i.op ≡ true → EndsBefore s code at (place + i.len)
 ended s code at lost place depth passed i comes few there end = record {
   passed = passed;
   place = place;
@@ -87,8 +88,8 @@ ended s code at lost place depth passed i comes few there end = record {
 }
 
 further : (s : Sought) (code : List ℕ) (at : ℕ) (place depth : ℕ) (passed : List ℕ) (i : Instruction)
-    → ComesTo s code at passed place → Counted s depth passed → instruction_at code place ≡ Ok i → ends s depth i.op ≡ false
-    → ComesTo s code at (i.op ∷ passed) (place + i.len)
+    → ComesTo s code at passed place → Counted s depth passed → instruction_at code place ≡ Ok i
+    → ends s depth i.op ≡ false → ComesTo s code at (i.op ∷ passed) (place + i.len)
 further s code at place depth passed i comes few there none = record {
   leads = (place, comes.leads, record { instruction = i; there = there; opcode = refl; behind = refl });
   first = (sym (same_end s depth passed i.op few) ∙ none, comes.first);
@@ -96,7 +97,8 @@ further s code at place depth passed i comes few there none = record {
 
 at_the_end : (s : Sought) (code : List ℕ) (at : ℕ) (lost : Why) (place : ℕ) (passed : List ℕ)
     → ComesTo s code at passed place → place ≡ length code → IsOpen s code at lost (record { at = at; why = lost })
-at_the_end s code at lost place passed comes is = record { passed = passed; place = place; comes = comes; why = inl (is, refl) }
+at_the_end s code at lost place passed comes is =
+    record { passed = passed; place = place; comes = comes; why = inl (is, refl) }
 
 least_from : (fuel : ℕ) (s : Sought) (code : List ℕ) (at : ℕ) (lost : Why) (place depth : ℕ) (passed : List ℕ)
     → length code ≤ fuel + place → place ≤ length code → ComesTo s code at passed place → Counted s depth passed
@@ -115,7 +117,9 @@ least_from (suc n) s code at lost place depth passed enough within comes few =
           r >>= λ i.
           if ends s depth i.op then Ok (place + i.len)
           else skip_from n s code (record { at = at; why = lost }) (place + i.len) (depth_after depth i.op))) [
-            | Err h ↦ λ there. record { passed = passed; place = place; comes = comes; why = inr (grind (arith, nat_tests), there) }
+            | Err h ↦ λ there.
+                let inside : place < length code = grind (arith, nat_tests) in
+                record { passed = passed; place = place; comes = comes; why = inr (inside, there) }
             | Ok i ↦ λ there.
                 elim (ends s depth i.op) as (λ end. ends s depth i.op ≡ end → IsSkip s code at lost (
                 if end then Ok (place + i.len)
@@ -135,7 +139,8 @@ begun sought.ElseOrEif = refl
 begun sought.Eif = refl
 begun sought.Endf = tt
 
-least : (s : Sought) (code : List ℕ) (at : ℕ) (lost : Why) → at < length code → IsSkip s code at lost (skip_end s code at lost)
+least : (s : Sought) (code : List ℕ) (at : ℕ) (lost : Why) → at < length code
+    → IsSkip s code at lost (skip_end s code at lost)
 least s code at lost inside =
     let comes : ComesTo s code at [] (at + 1) = record { leads = refl; first = tt } in
     least_from (length code) s code at lost (at + 1) 0 [] (omega arith) (omega arith) comes (begun s)
@@ -143,5 +148,7 @@ least s code at lost inside =
 -- the same of a call that answers the skip's end
 pub is_skip : (s : Sought) (code : List ℕ) (at : ℕ) (lost : Why) (r : Result ℕ Halt) → at < length code
     → Gives (λ (j : ℕ). j) r (skip_end s code at lost) → IsSkip s code at lost r
-is_skip s code at lost (Ok j) inside given = let P : Result ℕ Halt → Type 0 = IsSkip s code at lost in subst P given (least s code at lost inside)
-is_skip s code at lost (Err h) inside given = let P : Result ℕ Halt → Type 0 = IsSkip s code at lost in subst P given (least s code at lost inside)
+is_skip s code at lost (Ok j) inside given =
+    let P : Result ℕ Halt → Type 0 = IsSkip s code at lost in subst P given (least s code at lost inside)
+is_skip s code at lost (Err h) inside given =
+    let P : Result ℕ Halt → Type 0 = IsSkip s code at lost in subst P given (least s code at lost inside)

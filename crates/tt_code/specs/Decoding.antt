@@ -1,5 +1,5 @@
--- Apple TrueType Reference Manual, "Instruction Set" (pushing data onto the interpreter stack): NPUSHB, NPUSHW, PUSHB and
--- PUSHW are followed by data, every other opcode, also one without a name, is an instruction of one byte.
+-- Apple TrueType Reference Manual, "Instruction Set" (pushing data onto the interpreter stack): NPUSHB, NPUSHW, PUSHB
+-- and PUSHW are followed by data, every other opcode, also one without a name, is an instruction of one byte.
 use Rattle.std.specs.Prelude.{◌≡◌, ℕ, ◌+◌, ◌-◌, ◌*◌, ◌==◌, ◌||◌, ◌&&◌, nat_le, if◌then◌else◌, List, [], ◌∷◌, length, slice_index, slice_range, Result, Ok, Err, refl}
 use Rattle.tt_core.specs.declared.fault.Why.TheVariants as why
 use Rattle.tt_code.specs.declared.decoding.Halt.{Halt}
@@ -29,8 +29,9 @@ short_at at = record { at = at; why = why.CodeShort }
 -- an instruction with so many bytes before its data and in it, where they are all there
 abbrev pub taken : List ℕ → ℕ → ℕ → ℕ → Result Instruction Halt
 taken code at head more =
+    let args = slice_range code (at + head) (at + head + more) in
     if nat_le (at + (head + more)) (length code)
-    then Ok (record { op = slice_index code at; args = slice_range code (at + head) (at + head + more); len = head + more })
+    then Ok (record { op = slice_index code at; args = args; len = head + more })
     else Err (short_at at)
 
 -- the instruction at a byte

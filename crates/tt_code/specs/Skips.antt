@@ -1,5 +1,5 @@
--- Apple TrueType Reference Manual, "Instruction Set" (IF, ELSE, EIF, FDEF, ENDF): IF (58) whose condition is false goes on
--- behind its ELSE (1B) or EIF (59), an ELSE that is come to behind its EIF, and FDEF behind the first ENDF (2D). The
+-- Apple TrueType Reference Manual, "Instruction Set" (IF, ELSE, EIF, FDEF, ENDF): IF (58) whose condition is false goes
+-- on behind its ELSE (1B) or EIF (59), an ELSE that is come to behind its EIF, and FDEF behind the first ENDF (2D). The
 -- program is passed over instruction by instruction, and IFs in between are passed over with their EIFs.
 use Rattle.std.specs.Prelude.{◌≡◌, ℕ, zero, suc, ◌+◌, ◌-◌, ◌<◌, ◌==◌, ◌||◌, ◌&&◌, ◌⊎◌, nat_le, Bool, true, false, if◌then◌else◌, List, [], ◌∷◌, length, count_by, Result, Ok, Err, MatchResult, refl}
 use Rattle.tt_core.specs.Outcomes.{◌>>=◌}
@@ -91,7 +91,8 @@ pub record IsOpen (sought : Sought) (code : List ℕ) (at : ℕ) (lost : Why) (h
   pub passed : List ℕ
   pub place : ℕ
   pub comes : ComesTo sought code at passed place
-  pub why : ((place ≡ length code) × (halt ≡ record { at = at; why = lost })) ⊎ ((place < length code) × (instruction_at code place ≡ Err halt))
+  pub why : ((place ≡ length code) × (halt ≡ record { at = at; why = lost }))
+      ⊎ ((place < length code) × (instruction_at code place ≡ Err halt))
 
 abbrev pub IsSkip : Sought → List ℕ → ℕ → Why → Result ℕ Halt → Type 0
 IsSkip sought code at lost result =

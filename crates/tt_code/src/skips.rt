@@ -75,8 +75,8 @@ fn skip(sought: Sought, code: &[u8], at: usize, lost: Why) -> Result<usize, Halt
     Err(Halt { at, why: lost })
 }
 
-/// Of an IF at `at` whose condition is false: the place behind its ELSE or EIF. Errors: CodeShort at an instruction whose
-/// data passes the end, IfOpen at `at`.
+/// Of an IF at `at` whose condition is false: the place behind its ELSE or EIF. Errors: CodeShort at an instruction
+/// whose data passes the end, IfOpen at `at`.
 pub fn skip_if(code: &[u8], at: usize) -> Result<usize, Halt>
     requires { at < length code.now }
     ensures exact { Gives (λ j. j) result (if_end code.now at) }
@@ -90,8 +90,8 @@ pub fn skip_if(code: &[u8], at: usize) -> Result<usize, Halt>
     skip(Sought::ElseOrEif, code, at, Why::IfOpen)
 }
 
-/// Of an ELSE at `at` that is come to: the place behind its EIF. Errors: CodeShort at an instruction whose data passes the
-/// end, IfOpen at `at`.
+/// Of an ELSE at `at` that is come to: the place behind its EIF. Errors: CodeShort at an instruction whose data passes
+/// the end, IfOpen at `at`.
 pub fn skip_else(code: &[u8], at: usize) -> Result<usize, Halt>
     requires { at < length code.now }
     ensures exact { Gives (λ j. j) result (else_end code.now at) }

@@ -5,8 +5,9 @@ ghost use Rattle.tt_state.specs.Sround.{cut_to, period_of, phase_of, threshold_o
 
 use std::marker::Model;
 
-/// The round state of SROUND, in 26.6 pixels: the distance between the magnitudes that rounding gives, the least of them,
-/// and what is added to a magnitude before it is cut. It is made of SROUND's byte alone, so its period is 32 to 128.
+/// The round state of SROUND, in 26.6 pixels: the distance between the magnitudes that rounding gives, the least of
+/// them, and what is added to a magnitude before it is cut. It is made of SROUND's byte alone, so its period is 32 to
+/// 128.
 #[derive(Clone, Copy, Debug, PartialEq, Eq)]
 pub struct Super {
     period: u32,

@@ -18,7 +18,8 @@ returns-then-is_end-clause-exact c =
 pub instructions-preserved : goal.instructions-preserved
 instructions-preserved c =
     let inside : c.instructions.place < length c.args.code.now = omega arith in
-    let none : ends c.args.sought c.instructions.depth c.in_ok-i.i.op ≡ false = sym c.is_end.ensures ∙ c.if-is_end.false in
+    let none : ends c.args.sought c.instructions.depth c.in_ok-i.i.op ≡ false =
+    sym c.is_end.ensures ∙ c.if-is_end.false in
     let on = further _ inside c.instructions.invariant.goes_on c.in_ok-i.ensures.exact none c.in_ok-i.ensures.some in
     record {
       begun = omega (arith, c.in_ok-i.ensures.some);
