@@ -34,7 +34,8 @@ halted {sought} {code} {lost} {whole} {place} {depth} halt inside on short =
 -- at an opcode that ends it
 ended_by : (fuel : ℕ) (sought : Sought) (code : List ℕ) (lost : Halt) (whole : Result ℕ Halt) (place depth : ℕ)
     (i : Instruction) → place < length code → length code ≤ fuel + place
-    → skip_from fuel sought code lost place depth ≡ whole → instruction_at code place ≡ Ok i → ends sought depth i.op ≡ true → whole ≡ Ok (place + i.len)
+    → skip_from fuel sought code lost place depth ≡ whole
+    → instruction_at code place ≡ Ok i → ends sought depth i.op ≡ true → whole ≡ Ok (place + i.len)
 ended_by zero sought code lost whole place depth i inside enough same there end = absurd (omega arith)
 ended_by (suc n) sought code lost whole place depth i inside enough same there end =
     let more : nat_le (length code) place ≡ false = within code place inside in
@@ -49,7 +50,8 @@ ended {sought} {code} {lost} {whole} {place} {depth} i inside on there end =
 -- at any other instruction
 further_by : (fuel : ℕ) (sought : Sought) (code : List ℕ) (lost : Halt) (whole : Result ℕ Halt) (place depth : ℕ)
     (i : Instruction) → place < length code → length code ≤ fuel + place
-    → skip_from fuel sought code lost place depth ≡ whole → instruction_at code place ≡ Ok i → ends sought depth i.op ≡ false → 1 ≤ i.len
+    → skip_from fuel sought code lost place depth ≡ whole
+    → instruction_at code place ≡ Ok i → ends sought depth i.op ≡ false → 1 ≤ i.len
     → GoesOn sought code lost whole (place + i.len) (depth_after depth i.op)
 further_by zero sought code lost whole place depth i inside enough same there none some = absurd (omega arith)
 further_by (suc n) sought code lost whole place depth i inside enough same there none some =

@@ -1,0 +1,32 @@
+-- Apple TrueType Reference Manual, "Instructing TrueType Glyphs" (zones): the points of both zones and the contours of
+-- the glyph. Coordinates are in 26.6 pixels; their limit is this project's own (profile).
+use Rattle.std.specs.Prelude.{◌≡◌, ℕ, ◌≤◌, List, [], ◌∷◌, length, All, unsigned_abs}
+use Rattle.tt_core.specs.Limits.{coordinate_limit}
+use Rattle.tt_state.specs.declared.point.Point.{Point}
+use Rattle.tt_points.specs.declared.zones.Zones.{Zones}
+
+pub record ZoneLists : Type 0 where
+  pub twilight : List Point
+  pub glyph : List Point
+  pub contours : List (ℕ × ℕ)
+
+abbrev pub zones_view : Zones → ZoneLists
+zones_view z = record { twilight = z.twilight.items; glyph = z.glyph.items; contours = z.contours.items }
+
+-- a point whose coordinates are within the limit
+pub record IsPoint (p : Point) : Type 0 where
+  pub org_x : unsigned_abs p.org_x ≤ coordinate_limit
+  pub org_y : unsigned_abs p.org_y ≤ coordinate_limit
+  pub x : unsigned_abs p.x ≤ coordinate_limit
+  pub y : unsigned_abs p.y ≤ coordinate_limit
+
+-- ranges of points, each from the end of the one before it, the first from a number; perhaps empty
+abbrev pub AreContours : ℕ → List (ℕ × ℕ) → ℕ → Type 0
+AreContours from [] points = from ≤ points
+AreContours from (contour ∷ contours) points =
+    (contour.0 ≡ from) × (from ≤ contour.1) × AreContours contour.1 contours points
+
+pub record IsZones (z : ZoneLists) : Type 0 where
+  pub twilight : All IsPoint z.twilight
+  pub glyph : All IsPoint z.glyph
+  pub contours : AreContours 0 z.contours (length z.glyph)
