@@ -1,10 +1,10 @@
 -- Edges that a row does not meet, and the rows of all edges, one more at a time.
-use Rattle.std.proofs.Common.{◌≡◌, ◌∙◌, sym, ap, ℕ, zero, suc, ◌+◌, ◌<◌, ◌≤◌, Bool, true, false, ◌&&◌, ◌||◌, not, List, [], ◌∷◌, ◌++◌, ℤ, pos, ◌+ℤ◌, ◌-ℤ◌, ◌≤ℤ◌, ◌<ℤ◌, ◌⊎◌, inl, inr, int_le, int_lt, if◌then◌else◌, refl, arith}
+use Rattle.std.proofs.Common.{◌≡◌, ◌∙◌, ℕ, ◌+◌, ◌<◌, Bool, true, false, List, [], ◌∷◌, ◌++◌, ℤ, pos, ◌-ℤ◌, ◌≤ℤ◌, ◌<ℤ◌, ◌⊎◌, inl, inr, if◌then◌else◌, refl, arith}
 use Rattle.std.proofs.lemmas.Int.{ints}
 use Rattle.tt_scan.specs.declared.edge.Edge.{Edge}
 use Rattle.tt_scan.specs.declared.edge.Frame.{Frame}
 use Rattle.tt_scan.specs.Crossing.{AreRows, AreAllRows, has_row}
-use Rattle.tt_scan.specs.Winding.{column_x, row_y, side, is_zero, is_between, lies_on, lies_on_one, turned, winding, is_black, rows_met}
+use Rattle.tt_scan.specs.Winding.{row_y, side, is_zero, is_between, lies_on_one, winding, is_black, rows_met}
 use Rattle.tt_scan.proofs.Crosses.{third_false, no_turned}
 
 -- a row that meets no edge is blank

@@ -17,3 +17,8 @@ returns-clause-black c = λ at below.
     let painted : covers c.wind.new.black.items at ≡ (covers c.collect.new.black.items at || stretches (pos 0) (pos 0) c.sort.new.marks.items at) =
     rw c.deref.ensures.value at (c.wind.ensures.black at below) in
     painted ∙ rw (touched, wound, turned) refl
+
+pub returns-clause-crosses : goal.returns-clause-crosses
+returns-clause-crosses c =
+    let row : SFits w64 c.args.r = c.ranges.r in
+    simp to_z-of_z at c.collect.ensures.crosses

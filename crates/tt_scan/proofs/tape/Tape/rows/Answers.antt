@@ -1,5 +1,4 @@
 use Rattle.tt_scan.proofs.Unmet.{unmet_blank}
-use Rattle.std.specs.Prelude.{◌≡◌}
 use Rattle.tt_scan.specs.Crossing.{AreAllRows}
 use Rattle.tt_scan.specs.Winding.{column_x, row_y}
 use Rattle.tt_scan.proofs.tape.Tape.rows.Goals as goal
