@@ -1,5 +1,6 @@
 mod Edges
 pub mod Columns
+pub mod Counts
 pub mod Crosses
 pub mod Floors
 pub mod Moved
@@ -7,5 +8,6 @@ pub mod Points
 pub mod Ranges
 pub mod Sides
 pub mod Stretches
+pub mod Tables
 pub mod Unmet
 pub mod Visits

@@ -1,4 +1,5 @@
 pub mod Crossing
 pub mod Marks
+pub mod Mets
 pub mod Tape
 pub mod Winding

@@ -15,6 +15,7 @@ mod row;
 mod rows;
 mod stretch;
 mod sweep;
+mod table;
 mod tape;
 
 pub use edge::{Cross, Edge, Frame};

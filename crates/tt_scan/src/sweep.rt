@@ -5,7 +5,6 @@ ghost use Rattle.tt_core.specs.Bits.{bit};
 ghost use Rattle.tt_scan.specs.Marks.{covers};
 ghost use Rattle.tt_scan.specs.Winding.{is_black, column_x, row_y, rows_met};
 
-use crate::collect::collect;
 use crate::mark::{Mark, Span};
 use crate::paint::paint_spans;
 use crate::stretch::{sort, wind};
@@ -61,7 +60,7 @@ impl Sweep {
     {
         self.marks.clear();
         self.spans.clear();
-        collect(tape, r, &mut self.marks, &mut self.spans);
+        tape.collect(r, &mut self.marks, &mut self.spans);
         sort(&mut self.marks);
         wind(&self.marks, &mut self.spans);
     }

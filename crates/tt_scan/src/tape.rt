@@ -1,15 +1,19 @@
 //! The edges of one glyph. No other module sees the fields of a tape: an edge is read by `rows_of` and
 //! `cross` alone, and each `cross` is counted.
 
-ghost use Rattle.std.specs.Prelude.{◌≡◌, ℕ, ℤ, false, ◌+◌, ◌*◌, ◌^◌, ◌<◌, ◌≤◌, ◌<ℤ◌, ◌≤ℤ◌, pos, length, [], ◌∷◌, ◌++◌, get_or, unsigned_abs, OnOk, OnErr};
+ghost use Rattle.std.specs.Prelude.{◌≡◌, ℕ, ℤ, false, int_lt, if◌then◌else◌, vec_capacity, ◌+◌, ◌*◌, ◌^◌, ◌<◌, ◌≤◌, ◌<ℤ◌, ◌≤ℤ◌, pos, length, [], ◌∷◌, ◌++◌, get_or, unsigned_abs, OnOk, OnErr};
 ghost use Rattle.tt_core.specs.Limits.{width_limit};
-ghost use Rattle.tt_scan.specs.Winding.{EdgeFits, FrameFits, is_black, column_x, row_y};
+ghost use Rattle.tt_scan.specs.Winding.{EdgeFits, FrameFits, is_black, column_x, row_y, lies_on_one, winding, rows_met};
+ghost use Rattle.tt_scan.specs.Marks.{covers, turns};
 ghost use Rattle.tt_scan.specs.Crossing.{IsCross, AreRows, AreAllRows, has_row};
 ghost use Rattle.tt_scan.specs.Tape.{edge_at};
 
+use crate::collect::visit_all;
 use crate::crossing::{crossing, row_height};
 use crate::edge::{Cross, Edge, Frame};
+use crate::mark::{Mark, Span};
 use crate::rows::{joined, row_range};
+use crate::table::{Met, Table};
 use std::alloc::{AllocError, Global};
 use std::marker::Model;
 
@@ -21,11 +25,14 @@ pub struct Tape {
     crosses: u64,
     /// The rows of all edges: the first, and one past the last.
     rows: (i64, i64),
+    /// The edges that meet some row.
+    table: Table,
 }
 
 impl Model for Tape {
     ghost use Rattle.std.specs.Prelude.{All};
     ghost use Rattle.tt_scan.specs.Crossing.{AreAllRows};
+    ghost use Rattle.tt_scan.specs.Mets.{AreMet};
     ghost use Rattle.tt_scan.specs.Tape.{Edges};
     ghost use Rattle.tt_scan.specs.Winding.{EdgeFits, FrameFits};
 
@@ -33,7 +40,25 @@ impl Model for Tape {
 
     ghost view = { λ t. record { frame = t.frame; edges = t.edges.items; crosses = t.crosses } };
 
-    ghost invariant = { λ t. FrameFits t.frame × All EdgeFits t.edges.items × AreAllRows t.edges.items t.frame t.rows };
+    ghost invariant = { λ t. FrameFits t.frame × All EdgeFits t.edges.items × AreAllRows t.edges.items t.frame t.rows
+        × AreMet t.edges.items t.frame t.table.met };
+}
+
+/// Adds an edge to those that meet some row, if it does. After an error they are as they were.
+fn add_met(table: &mut Table, rows: (i64, i64), edge: Edge) -> Result<(), AllocError>
+    ensures added { OnOk result (table.new.met ≡ table.old.met ++ (if int_lt rows.0 rows.1
+        then (record { first = rows.0; past = rows.1; edge = edge }) ∷ [] else [])) }
+    ensures kept { OnErr result (table.new.met ≡ table.old.met) }
+{
+    if rows.0 < rows.1 {
+        table.add(Met {
+            first: rows.0,
+            past: rows.1,
+            edge,
+        })
+    } else {
+        Ok(())
+    }
 }
 
 impl Tape {
@@ -47,6 +72,7 @@ impl Tape {
             edges: Vec::new(alloc),
             crosses: 0,
             rows: (0, 0),
+            table: Table::new(alloc),
         }
     }
 
@@ -63,8 +89,11 @@ impl Tape {
         ensures added { OnOk result (self.new ≡ record self.old { edges = self.old.edges ++ edge ∷ [] }) }
         ensures kept { OnErr result (self.new ≡ self.old) }
     {
-        self.edges.push(edge)?;
-        self.rows = joined(self.rows, row_range(edge, self.frame));
+        let rows = row_range(edge, self.frame);
+        self.edges.reserve(1)?;
+        add_met(&mut self.table, rows, edge)?;
+        self.edges.push_reserved(edge);
+        self.rows = joined(self.rows, rows);
         Ok(())
     }
 
@@ -126,5 +155,31 @@ impl Tape {
             self.frame.margin,
             row_height(self.frame, row),
         )
+    }
+
+    /// What the edges that meet a row leave of it. Each of them is crossed once.
+    pub(crate) fn collect(&mut self, r: i64, marks: &mut Vec<Mark>, black: &mut Vec<Span>)
+        requires row_low { pos 0 ≤ℤ r }
+        requires row_high { r <ℤ pos self.old.frame.height }
+        requires count { self.old.crosses + length self.old.edges ≤ 2 ^ 63 }
+        requires none { marks.old.items ≡ [] }
+        requires white { black.old.items ≡ [] }
+        requires room { length self.old.edges ≤ vec_capacity marks.old }
+        requires black_room { length self.old.edges ≤ vec_capacity black.old }
+        ensures black { (c : ℤ) → covers black.new.items c
+            ≡ lies_on_one self.old.edges (column_x self.old.frame.margin c) (row_y self.old.frame r) }
+        ensures turns { (c : ℤ) → turns marks.new.items c
+            ≡ winding self.old.edges (column_x self.old.frame.margin c) (row_y self.old.frame r) }
+        ensures count { length marks.new.items ≤ length self.old.edges }
+        ensures black_count { length black.new.items ≤ length self.old.edges }
+        ensures capacity { vec_capacity marks.new ≡ vec_capacity marks.old }
+        ensures black_capacity { vec_capacity black.new ≡ vec_capacity black.old }
+        ensures tape { self.new ≡ record self.old { crosses = self.new.crosses } }
+        ensures crosses { self.new.crosses ≡ self.old.crosses + rows_met self.old.edges (row_y self.old.frame r) }
+    {
+        let y = row_height(self.frame, r);
+        self.table.seek(r);
+        visit_all(self.table.live(), self.frame.margin, y, marks, black);
+        self.crosses += self.table.live().len() as u64;
     }
 }

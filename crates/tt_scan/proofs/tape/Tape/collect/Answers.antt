@@ -1,0 +1,71 @@
+use Rattle.std.proofs.Common.{◌≡◌, ◌∙◌, SFits, w64, rules, arith}
+use Rattle.std.proofs.lemmas.Int.{to_z-of_z}
+use Rattle.tt_scan.specs.Marks.{covers, turns}
+use Rattle.tt_scan.specs.Mets.{AreMet, edges_of}
+use Rattle.tt_scan.specs.Winding.{column_x, row_y, lies_on_one, winding}
+use Rattle.tt_scan.proofs.Counts.{StandForAll, stand_for_all, few_stand, met_permuted}
+use Rattle.tt_scan.proofs.tape.Tape.collect.Goals as goal
+
+-- the edges that `seek` found stand for all, before and after they were visited
+
+stands : (c : goal.After-visit_all-arg-2-1) → StandForAll c.args.self.now.edges c.args.self.now.frame c.args.r c.live.result.now
+stands c =
+    let row : SFits w64 c.args.r = c.ranges.r in
+    let are : AreMet c.args.self.now.edges c.args.self.now.frame c.self.inside.table.met = rw (← c.self.view_is) c.self.invariant.3 in
+    stand_for_all c.args.self.now.edges c.args.self.now.frame c.self.inside.table.met c.seek.new.self.met c.seek.new.self.live c.live.result.now c.args.r
+    are c.seek.ensures.met (simp to_z-of_z at c.seek.ensures.live) c.live.ensures c.requires.row_low c.requires.row_high
+
+stood : (c : goal.After-self-1) → StandForAll c.args.self.now.edges c.args.self.now.frame c.args.r c.live.result.now
+stood c =
+    let row : SFits w64 c.args.r = c.ranges.r in
+    let are : AreMet c.args.self.now.edges c.args.self.now.frame c.self.inside.table.met = rw (← c.self.view_is) c.self.invariant.3 in
+    stand_for_all c.args.self.now.edges c.args.self.now.frame c.self.inside.table.met c.seek.new.self.met c.seek.new.self.live c.live.result.now c.args.r
+    are c.seek.ensures.met (simp to_z-of_z at c.seek.ensures.live) c.live.ensures c.requires.row_low c.requires.row_high
+
+pub visit_all-requires-clause-fits : goal.visit_all-requires-clause-fits
+visit_all-requires-clause-fits c = (stands c).fits
+
+pub visit_all-requires-clause-room : goal.visit_all-requires-clause-room
+visit_all-requires-clause-room c = omega (arith, few_stand _ _ _ _ (stands c), c.requires.room)
+
+pub visit_all-requires-clause-black_room : goal.visit_all-requires-clause-black_room
+visit_all-requires-clause-black_room c = omega (arith, few_stand _ _ _ _ (stands c), c.requires.black_room)
+
+pub invariant_of-self : goal.invariant_of-self
+invariant_of-self c = (
+  c.self.invariant.0,
+  c.self.invariant.1,
+  c.self.invariant.2,
+  met_permuted c.self.inside.edges.items c.self.inside.frame c.self.inside.table.met c.seek.new.self.met c.self.invariant.3 c.seek.ensures.met,
+)
+
+pub returns-clause-black : goal.returns-clause-black
+returns-clause-black c = λ at.
+    let row : SFits w64 c.args.r = c.ranges.r in
+    let height : SFits w64 c.row_height-y.result = search rules in
+    let is_height : c.row_height-y.result ≡ row_y c.self.inside.frame c.args.r = simp to_z-of_z at c.row_height-y.ensures.exact in
+    let visited : covers c.visit_all.new.black.items at
+    ≡ lies_on_one (edges_of c.live.result.now) (column_x c.args.self.now.frame.margin at) (row_y c.args.self.now.frame c.args.r) =
+    rw (← c.self.view_is) (rw is_height at (simp to_z-of_z at (c.visit_all.ensures.black at))) in
+    visited ∙ (stood c).on (column_x c.args.self.now.frame.margin at)
+
+pub returns-clause-turns : goal.returns-clause-turns
+returns-clause-turns c = λ at.
+    let row : SFits w64 c.args.r = c.ranges.r in
+    let height : SFits w64 c.row_height-y.result = search rules in
+    let is_height : c.row_height-y.result ≡ row_y c.self.inside.frame c.args.r = simp to_z-of_z at c.row_height-y.ensures.exact in
+    let visited : turns c.visit_all.new.marks.items at
+    ≡ winding (edges_of c.live.result.now) (column_x c.args.self.now.frame.margin at) (row_y c.args.self.now.frame c.args.r) =
+    rw (← c.self.view_is) (rw is_height at (simp to_z-of_z at (c.visit_all.ensures.turns at))) in
+    visited ∙ (stood c).turns (column_x c.args.self.now.frame.margin at)
+
+pub returns-clause-count : goal.returns-clause-count
+returns-clause-count c = omega (arith, few_stand _ _ _ _ (stood c), c.visit_all.ensures.count)
+
+pub returns-clause-black_count : goal.returns-clause-black_count
+returns-clause-black_count c = omega (arith, few_stand _ _ _ _ (stood c), c.visit_all.ensures.black_count)
+
+pub returns-clause-crosses : goal.returns-clause-crosses
+returns-clause-crosses c =
+    let count = (stood c).count in
+    rw (c.live-2.ensures, ← c.live.ensures) (grind (arith, c.self.view_is, count))
