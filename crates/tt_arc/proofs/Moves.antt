@@ -4,13 +4,14 @@ use Rattle.std.specs.List.{slice_index, flat_map, range_with_len}
 use Rattle.std.proofs.lemmas.Int.{ints}
 use Rattle.std.proofs.lemmas.List.{map-append}
 use Rattle.tt_scan.specs.declared.edge.Edge.{Edge}
+use Rattle.tt_scan.specs.Winding.{moved_edge, moved_edges}
 use Rattle.tt_arc.specs.declared.curve.Bend.{Bend}
 use Rattle.tt_arc.specs.declared.curve.Curve.{Curve}
 use Rattle.tt_arc.specs.declared.curve.Joint.{Joint}
 use Rattle.tt_arc.specs.declared.curve.Spot.{Spot}
 use Rattle.tt_arc.specs.declared.dot.Dot.{Dot}
 use Rattle.tt_arc.specs.Chords.{moved, spot_of, joint_of, curve_of, eighth, chord_end, edge_between, first_chords, edges_of, contour_edges, contour_start, contour_at, chord_edges}
-use Rattle.tt_arc.specs.Laws.{moved_edge, moved_edges, OutlineMoved}
+use Rattle.tt_arc.specs.Laws.{OutlineMoved}
 use Rattle.tt_arc.proofs.Contours.{slice_of_map}
 use Rattle.tt_arc.proofs.Eighths.{by_eighths}
 use Rattle.tt_arc.proofs.Walks.{edges_along, last_of, contour_whole}

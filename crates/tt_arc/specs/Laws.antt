@@ -2,7 +2,7 @@
 use Rattle.std.specs.Prelude.{◌≡◌, ◌≢◌, ◌↔◌, ◌⊎◌, ℕ, ◌<◌, Bool, true, false, ◌&&◌, if◌then◌else◌, ℤ, pos, negsuc, ◌+ℤ◌, ◌*ℤ◌, int_lt, int_le, List, [], ◌∷◌, length, map, refl}
 use Rattle.std.specs.List.{Any}
 use Rattle.tt_scan.specs.declared.edge.Edge.{Edge}
-use Rattle.tt_scan.specs.Winding.{side, lies_on, lies_on_one, winding, is_black}
+use Rattle.tt_scan.specs.Winding.{side, lies_on, lies_on_one, winding, is_black, moved_edges}
 use Rattle.tt_arc.specs.declared.dot.Dot.{Dot}
 use Rattle.tt_arc.specs.Chords.{moved, edges_of, edges_at, contour_at, chord_edges}
 
@@ -44,13 +44,6 @@ abbrev pub SidesAgree : Type 0
 SidesAgree = (points : List (ℤ × ℤ × Bool)) (ends : List ℕ) (dx dy x y : ℤ)
     → lies_on_one (chord_edges points ends dx dy) x y ≡ false
     → winding (chord_edges points ends dx dy) x y ≡ winding_right (chord_edges points ends dx dy) x y
-
--- an edge that stands further to the right by so much, and several
-abbrev pub moved_edge : ℤ → Edge → Edge
-moved_edge d e = record { ax = e.ax +ℤ d; ay = e.ay; bx = e.bx +ℤ d; by = e.by }
-
-abbrev pub moved_edges : ℤ → List Edge → List Edge
-moved_edges d es = map (moved_edge d) es
 
 -- an outline that stands k pixels further to the right has its edges there
 abbrev pub OutlineMoved : Type 0

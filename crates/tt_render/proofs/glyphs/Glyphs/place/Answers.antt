@@ -1,0 +1,28 @@
+use Rattle.std.proofs.Common.{◌++◌, ◌∷◌, [], ◌∙◌}
+use Rattle.tt_render.proofs.Standings.{adds_at, numbers_stood, number_is, drawn_is, kept_stood}
+use Rattle.tt_render.proofs.glyphs.Glyphs.place.Goals as goal
+
+pub returns-clause-kept : goal.returns-clause-kept
+returns-clause-kept c =
+    let g = c.index_mut.result.now in
+    let at = c.in_ok-at in
+    rw c.in_ok-stand.ensures (kept_stood c.args.fitter.now c.args.frame c.keep.new.self.places.items
+    c.keep.new.self.kept.items at.at g (g.pens ++ c.args.placed.1 ∷ []) at.ensures.kept at.ensures.found.0
+    c.index_mut.ensures.value)
+
+pub returns-clause-numbers : goal.returns-clause-numbers
+returns-clause-numbers c =
+    let g = c.index_mut.result.now in
+    rw c.in_ok-stand.ensures (numbers_stood c.keep.new.self.kept.items c.in_ok-at.at g (g.pens ++ c.args.placed.1 ∷ [])
+    c.index_mut.ensures.value ∙ c.in_ok-at.ensures.numbers)
+
+pub returns-clause-black : goal.returns-clause-black
+returns-clause-black c =
+    let s = c.args.fitter.now in
+    let gs = c.keep.new.self.kept.items in
+    let g = c.index_mut.result.now in
+    let at = c.in_ok-at in
+    let is = c.index_mut.ensures.value in
+    rw c.in_ok-stand.ensures (adds_at s c.args.frame c.args.self.now.kept.items gs at.at g c.args.placed at.ensures.black
+    at.ensures.found.0 is (drawn_is s c.args.frame c.keep.new.self.places.items gs at.at g at.ensures.kept
+    at.ensures.found.0 is) (number_is gs at.at g c.args.placed.0 at.ensures.found.0 is at.ensures.found.1))

@@ -1,0 +1,77 @@
+//! A glyph of a line: made once, however often it stands in the line.
+
+ghost use Rattle.std.specs.Prelude.{◌≡◌, ◌<◌, ◌≤◌, ◌++◌, [], ◌∷◌, IfOk, OnOk, Err};
+ghost use Rattle.tt_core.specs.Outcomes.{IfTold, font_fault};
+ghost use Rattle.tt_fit.specs.Fitting.{fitted_outline};
+ghost use Rattle.tt_fit.specs.Outline.{IsOutline, outline_of};
+ghost use Rattle.tt_scan.specs.Winding.{FrameFits};
+ghost use Rattle.tt_render.specs.Glyphs.{IsDrawn};
+ghost use Rattle.tt_render.specs.Picture.{edges_at};
+ghost use Rattle.tt_render.specs.Pixels.{TapeFits};
+
+use std::alloc::{AllocError, Global};
+use std::marker::Model;
+use tt_arc::chords;
+use tt_core::FontFault;
+use tt_fit::{Fitter, Outline};
+use tt_scan::{Frame, Tape};
+
+/// A glyph by its number in the font, with its edges where its pen is 0.
+#[derive(Drop)]
+pub(crate) struct Glyph {
+    number: u16,
+    tape: Tape,
+    /// Where it stands, in pixels.
+    pens: Vec<u32>,
+}
+
+impl Model for Glyph {
+    ghost use Rattle.tt_render.specs.Glyphs.{Standing};
+
+    ghost Value = { Standing };
+
+    ghost view = { λ g. record { number = g.number; tape = g.tape; pens = g.pens.items } };
+}
+
+impl Glyph {
+    /// A glyph that stands nowhere yet. Errors: those of its outline, Memory.
+    pub(crate) fn new(
+        alloc: Global,
+        fitter: &Fitter,
+        number: u16,
+        frame: Frame,
+    ) -> Result<Glyph, FontFault>
+        requires known { number < fitter.now.tables.glyphs }
+        requires frame { FrameFits frame }
+        ensures number { IfOk result (λ g. g.number ≡ number) }
+        ensures pens { IfOk result (λ g. g.pens ≡ []) }
+        ensures drawn { IfOk result (IsDrawn fitter.now frame) }
+        ensures fault { IfTold font_fault result (λ f. fitted_outline fitter.now number ≡ Err f) }
+    {
+        // The outline is given up once the tape stands.
+        let outline = fitter.fitted(number)?;
+        Ok(Glyph {
+            number,
+            tape: tape_of(alloc, &outline, frame)?,
+            pens: Vec::new(alloc),
+        })
+    }
+
+    /// Has the glyph stand at one more pen.
+    pub(crate) fn stand(&mut self, pen: u32) -> Result<(), AllocError>
+        ensures { OnOk result (self.new ≡ record self.old { pens = self.old.pens ++ pen ∷ [] }) }
+    {
+        Ok(self.pens.push(pen)?)
+    }
+}
+
+/// The edges of an outline whose first phantom point stands at the left end of the line.
+fn tape_of(alloc: Global, outline: &Outline, frame: Frame) -> Result<Tape, AllocError>
+    requires frame { FrameFits frame }
+    requires outline { IsOutline (outline_of outline.now) }
+    ensures exact { IfOk result (λ t. t ≡ record { frame = frame; edges = edges_at 0 (outline_of outline.now); crosses = 0 }) }
+    ensures fits { IfOk result (TapeFits frame 0) }
+{
+    let origin = outline.phantom[0].0;
+    chords(alloc, outline, -i64::from(origin), 0, frame)
+}

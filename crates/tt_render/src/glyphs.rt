@@ -1,0 +1,144 @@
+//! The distinct glyphs of a line.
+
+ghost use Rattle.std.specs.Prelude.{◌≡◌, ◌≢◌, ℕ, ◌+◌, ◌-◌, ◌^◌, ◌<◌, ◌≤◌, ◌++◌, [], ◌∷◌, length, map, set, get_or, slice_index, replicate, All, IfOk, IfSome, IfNone, IsOkAnd, OnOk, Err};
+ghost use Rattle.tt_core.specs.Limits.{text_limit};
+ghost use Rattle.tt_core.specs.Outcomes.{IfTold, each, font_fault};
+ghost use Rattle.tt_fit.specs.Fitting.{fitted_outline};
+ghost use Rattle.tt_scan.specs.Winding.{FrameFits};
+ghost use Rattle.tt_scan.specs.Winding.{is_black, column_x, row_y};
+ghost use Rattle.tt_render.specs.Glyphs.{IsDrawn, AreKept, Adds, Blacken, ArePlaces, numbers_of, stamps_in};
+ghost use Rattle.tt_render.specs.Outlines.{with_glyph, distinct};
+ghost use Rattle.tt_render.specs.Picture.{glyph_edges};
+ghost use Rattle.tt_render.specs.Pixels.{is_black_by};
+
+use crate::glyph::Glyph;
+use std::alloc::{AllocError, Global};
+use tt_core::FontFault;
+use tt_fit::Fitter;
+use tt_scan::Frame;
+
+/// Distinct glyphs, in order of first appearance.
+#[derive(Drop)]
+struct Glyphs {
+    /// For each glyph of the font one more than its place among those kept, or 0.
+    places: Vec<u16>,
+    kept: Vec<Glyph>,
+}
+
+impl Glyphs {
+    /// No glyphs of a font that has so many.
+    fn new(alloc: Global, glyphs: u16) -> Result<Glyphs, AllocError>
+        ensures room { IfOk result (λ g. length g.places.items ≡ glyphs) }
+        ensures places { IfOk result (λ g. ArePlaces g.places.items (numbers_of g.kept.items)) }
+        ensures kept { IfOk result (λ g. g.kept.items ≡ []) }
+    {
+        Ok(Glyphs {
+            places: vec![in alloc; 0u16; usize::from(glyphs)]?,
+            kept: Vec::new(alloc),
+        })
+    }
+
+    /// Where a glyph is kept; None where it is not.
+    fn find(&self, number: u16) -> Option<usize>
+        requires known { number < length self.now.places.items }
+        requires places { ArePlaces self.now.places.items (numbers_of self.now.kept.items) }
+        ensures found { IfSome result (λ i. (i < length self.now.kept.items) × (slice_index (numbers_of self.now.kept.items) i ≡ number)) }
+        ensures absent { IfNone result (All (λ n. n ≢ number) (numbers_of self.now.kept.items)) }
+    {
+        match self.places[usize::from(number)] {
+            0 => None,
+            place => Some(usize::from(place) - 1),
+        }
+    }
+
+    /// Keeps a glyph behind the others.
+    fn add(&mut self, glyph: Glyph, number: u16) -> Result<(), AllocError>
+        requires number { glyph.number ≡ number }
+        requires known { number < length self.old.places.items }
+        requires absent { All (λ n. n ≢ number) (numbers_of self.old.kept.items) }
+        requires few { length self.old.kept.items < text_limit }
+        requires places { ArePlaces self.old.places.items (numbers_of self.old.kept.items) }
+        ensures kept { OnOk result (self.new.kept.items ≡ self.old.kept.items ++ glyph ∷ []) }
+        ensures room { OnOk result (length self.new.places.items ≡ length self.old.places.items) }
+        ensures places { OnOk result (ArePlaces self.new.places.items (numbers_of self.new.kept.items)) }
+    {
+        self.kept.push(glyph)?;
+        self.places[usize::from(number)] = self.kept.len() as u16;
+        Ok(())
+    }
+
+    /// Where a glyph is kept; it is made if it is not there, and stands nowhere yet.
+    fn keep(
+        &mut self,
+        alloc: Global,
+        fitter: &Fitter,
+        number: u16,
+        frame: Frame,
+    ) -> Result<usize, FontFault>
+        requires known { number < fitter.now.tables.glyphs }
+        requires frame { FrameFits frame }
+        requires few { length self.old.kept.items < text_limit }
+        requires kept { AreKept fitter.now frame self.old.places.items self.old.kept.items }
+        ensures found { IfOk result (λ i. (i < length self.new.kept.items) × (slice_index (numbers_of self.new.kept.items) i ≡ number)) }
+        ensures kept { OnOk result (AreKept fitter.now frame self.new.places.items self.new.kept.items) }
+        ensures few { OnOk result (length self.new.kept.items ≤ length self.old.kept.items + 1) }
+        ensures numbers { OnOk result (numbers_of self.new.kept.items ≡ with_glyph (numbers_of self.old.kept.items) number) }
+        ensures black { OnOk result ((c r : ℕ) → is_black_by frame (stamps_in self.new.kept.items) c r ≡ is_black_by frame (stamps_in self.old.kept.items) c r) }
+        ensures fault { IfTold font_fault result (λ f. fitted_outline fitter.now number ≡ Err f) }
+    {
+        if let Some(i) = self.find(number) {
+            return Ok(i);
+        }
+        self.add(Glyph::new(alloc, fitter, number, frame)?, number)?;
+        Ok(self.kept.len() - 1)
+    }
+
+    /// Has a glyph stand at a pen.
+    fn place(
+        &mut self,
+        alloc: Global,
+        fitter: &Fitter,
+        placed: (u16, u32),
+        frame: Frame,
+    ) -> Result<(), FontFault>
+        requires known { placed.0 < fitter.now.tables.glyphs }
+        requires frame { FrameFits frame }
+        requires few { length self.old.kept.items < text_limit }
+        requires kept { AreKept fitter.now frame self.old.places.items self.old.kept.items }
+        ensures kept { OnOk result (AreKept fitter.now frame self.new.places.items self.new.kept.items) }
+        ensures few { OnOk result (length self.new.kept.items ≤ length self.old.kept.items + 1) }
+        ensures numbers { OnOk result (numbers_of self.new.kept.items ≡ with_glyph (numbers_of self.old.kept.items) placed.0) }
+        ensures black { OnOk result (IsOkAnd (glyph_edges fitter.now placed) (Adds frame self.old.kept.items self.new.kept.items)) }
+        ensures fault { IfTold font_fault result (λ f. glyph_edges fitter.now placed ≡ Err f) }
+    {
+        let (number, pen) = placed;
+        let at = self.keep(alloc, fitter, number, frame)?;
+        self.kept[at].stand(pen)?;
+        Ok(())
+    }
+}
+
+/// The glyphs of a line, each once, and each at its pens. Errors: those of their outlines in the order of the line,
+/// Memory.
+pub(crate) fn line_glyphs(
+    alloc: Global,
+    fitter: &Fitter,
+    glyphs: u16,
+    line: &[(u16, u32)],
+    frame: Frame,
+) -> Result<Vec<Glyph>, FontFault>
+    requires glyphs { glyphs ≡ fitter.now.tables.glyphs }
+    requires known { All (λ g. g.0 < glyphs) line.now }
+    requires count { length line.now ≤ text_limit }
+    requires frame { FrameFits frame }
+    ensures drawn { IfOk result (λ v. All (IsDrawn fitter.now frame) v.items) }
+    ensures numbers { IfOk result (λ v. numbers_of v.items ≡ distinct (map (λ g. g.0) line.now)) }
+    ensures black { IfOk result (λ v. IsOkAnd (each (glyph_edges fitter.now) line.now) (Blacken frame v.items)) }
+    ensures fault { IfTold font_fault result (λ f. each (glyph_edges fitter.now) line.now ≡ Err f) }
+{
+    let mut kept = Glyphs::new(alloc, glyphs)?;
+    for placed in line {
+        kept.place(alloc, fitter, *placed, frame)?;
+    }
+    Ok(kept.kept)
+}
