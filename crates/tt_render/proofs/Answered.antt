@@ -1,5 +1,5 @@
 -- What the clauses of a call say where a step of it failed.
-use Rattle.std.proofs.Common.{◌≡◌, ◌<◌, ℕ, Bool, true, false, List, length, Option, Some, None, IfSome, Result, Ok, Err, refl, subst}
+use Rattle.std.proofs.Common.{◌≡◌, ◌<◌, ℕ, Bool, true, List, length, Option, Some, None, IfSome, Result, Ok, Err, refl}
 use Rattle.std.specs.Prelude.{IsOkAnd}
 use Rattle.std.specs.Io.KnownBytes.{Consumes, IsAtEnd}
 use Rattle.tt_core.specs.declared.font_fault.FontFault.{FontFault}
@@ -14,7 +14,7 @@ use Rattle.tt_render.specs.declared.fault.DrawFault.TheVariants as draw
 use Rattle.tt_render.specs.declared.fault.RunFault.{RunFault}
 use Rattle.tt_render.specs.declared.fault.RunFault.TheVariants as run
 use Rattle.tt_render.specs.Asked.{Ask}
-use Rattle.tt_render.specs.Defects.{CallTellsDefects, TellsDefectsOf, IsExtentRefusal, IsJobRefusal, draw_font_fault, draw_job_fault}
+use Rattle.tt_render.specs.Defects.{TellsDefectsOf, IsExtentRefusal, IsJobRefusal, draw_font_fault, draw_job_fault}
 use Rattle.tt_render.specs.Face.{Face, face_of}
 use Rattle.tt_render.specs.Outcome.{Refused, Wanted, as_font, CallFails, IfJob, IfLarge, needs_font, refusal}
 use Rattle.tt_render.specs.Reading.{ReadFails}

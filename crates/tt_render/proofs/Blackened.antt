@@ -1,8 +1,7 @@
--- The glyphs of a line, one more at a time.
-use Rattle.std.proofs.Common.{◌≡◌, ℕ, zero, suc, ◌+◌, ◌<◌, Bool, true, false, ◌&&◌, ◌||◌, List, [], ◌∷◌, length, take, get_or, ℤ, refl, arith}
-use Rattle.tt_scan.specs.declared.edge.Edge.{Edge}
-use Rattle.tt_scan.specs.Winding.{is_black}
-use Rattle.tt_render.specs.Pixels.{some_black}
+-- What a row shows with the glyphs so far, and one glyph more.
+use Rattle.std.proofs.Common.{◌≡◌, ℕ, zero, suc, ◌+◌, ◌<◌, Bool, true, false, ◌&&◌, ◌||◌, List, [], ◌∷◌, length, take, get_or, refl, arith}
+use Rattle.tt_scan.specs.declared.edge.Frame.{Frame}
+use Rattle.tt_render.specs.Pixels.{Stamp, is_black_from, is_black_by}
 
 or_false : (b : Bool) → (b || false) ≡ b
 or_false true = refl
@@ -12,14 +11,16 @@ or_or : (a b c : Bool) → (a || (b || c)) ≡ ((a || b) || c)
 or_or true b c = refl
 or_or false b c = refl
 
-some_more : (gs : List (List Edge)) (i : ℕ) (x y : ℤ) → i < length gs → some_black (take (i + 1) gs) x y
-    ≡ (some_black (take i gs) x y || is_black (get_or gs i []) x y)
-some_more [] i x y below = absurd (omega arith)
-some_more (g ∷ gs) zero x y below = or_false (is_black g x y)
-some_more (g ∷ gs) (suc i) x y below =
+by_one_more : (f : Frame) (gs : List Stamp) (i : ℕ) (d : Stamp) (c r : ℕ) → i < length gs
+    → is_black_by f (take (i + 1) gs) c r
+    ≡ (is_black_by f (take i gs) c r || is_black_from f (get_or gs i d).edges (get_or gs i d).pens c r)
+by_one_more f [] i d c r below = absurd (omega arith)
+by_one_more f (g ∷ gs) zero d c r below = or_false (is_black_from f g.edges g.pens c r)
+by_one_more f (g ∷ gs) (suc i) d c r below =
     let next : suc i + 1 ≡ suc (i + 1) = omega arith in
-    let more = some_more gs i x y (omega arith) in
-    rw (next, more) (or_or (is_black g x y) (some_black (take i gs) x y) (is_black (get_or gs i []) x y))
+    let more = by_one_more f gs i d c r (omega arith) in
+    rw (next, more) (or_or (is_black_from f g.edges g.pens c r) (is_black_by f (take i gs) c r)
+    (is_black_from f (get_or gs i d).edges (get_or gs i d).pens c r))
 
 joined : (old inside some one : Bool) → ((old || (inside && some)) || (inside && one))
     ≡ (old || (inside && (some || one)))
@@ -28,8 +29,10 @@ joined false true some one = refl
 joined false false some one = refl
 
 -- what was in a row with the first i glyphs, and glyph i
-pub one_glyph_more : (gs : List (List Edge)) (i : ℕ) (x y : ℤ) (old inside : Bool) → i < length gs
-    → ((old || (inside && some_black (take i gs) x y)) || (inside && is_black (get_or gs i []) x y))
-    ≡ (old || (inside && some_black (take (i + 1) gs) x y))
-one_glyph_more gs i x y old inside below = rw (some_more gs i x y below)
-    (joined old inside (some_black (take i gs) x y) (is_black (get_or gs i []) x y))
+pub one_glyph_more : (f : Frame) (gs : List Stamp) (i : ℕ) (d : Stamp) (c r : ℕ) (old inside : Bool) → i < length gs
+    → ((old || (inside && is_black_by f (take i gs) c r))
+    || (inside && is_black_from f (get_or gs i d).edges (get_or gs i d).pens c r))
+    ≡ (old || (inside && is_black_by f (take (i + 1) gs) c r))
+one_glyph_more f gs i d c r old inside below = rw (by_one_more f gs i d c r below)
+    (joined old inside (is_black_by f (take i gs) c r)
+    (is_black_from f (get_or gs i d).edges (get_or gs i d).pens c r))

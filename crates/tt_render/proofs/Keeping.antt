@@ -1,26 +1,23 @@
 -- Which glyphs are kept.
-use Rattle.std.proofs.Common.{◌≡◌, ◌≢◌, ℕ, zero, suc, ◌<◌, Bool, true, false, ◌||◌, ◌==◌, List, [], ◌∷◌, length, get_or, All, refl, arith}
+use Rattle.std.proofs.Common.{◌≡◌, ◌≢◌, ℕ, zero, suc, ◌<◌, Bool, true, false, ◌||◌, ◌==◌, List, [], ◌∷◌, length, slice_index, All, refl, arith}
 use Rattle.std.proofs.lemmas.Bool.Decides.{nat_tests}
-use Rattle.tt_render.specs.declared.kept.Fitted.{Fitted}
-use Rattle.tt_render.specs.Outlines.{glyphs_kept, is_among}
+use Rattle.tt_render.specs.Glyphs.{is_among}
 
 or_true : (b : Bool) → (b || true) ≡ true
 or_true true = refl
 or_true false = refl
 
--- a glyph that one of them has is among them
-pub is_kept : (kept : List Fitted) (i g : ℕ) → i < length kept → ((d : Fitted) → (get_or kept i d).glyph ≡ g)
-    → is_among g (glyphs_kept kept) ≡ true
-is_kept [] i g below same = absurd (omega arith)
-is_kept (k ∷ ks) zero g below same =
-    let it : k.glyph ≡ g = same k in
-    let test : (k.glyph == g) ≡ true = grind (arith, nat_tests) in rw test refl
-is_kept (k ∷ ks) (suc i) g below same = rw (is_kept ks i g (omega arith) (λ d. same d)) (or_true (k.glyph == g))
+-- a number that one of them has is among them
+pub is_there : (ns : List ℕ) (i g : ℕ) → i < length ns → slice_index ns i ≡ g → is_among g ns ≡ true
+is_there [] i g below same = absurd (omega arith)
+is_there (n ∷ ns) zero g below same =
+    let test : (n == g) ≡ true = grind (arith, nat_tests) in rw test refl
+is_there (n ∷ ns) (suc i) g below same = rw (is_there ns i g (omega arith) same) (or_true (n == g))
 
--- a glyph that none of them has is not
-pub is_not_kept : (kept : List Fitted) (g : ℕ) → All (λ k. k.glyph ≢ g) kept → is_among g (glyphs_kept kept) ≡ false
-is_not_kept [] g none = refl
-is_not_kept (k ∷ ks) g none =
-    let other : k.glyph ≢ g = none 0 k (omega arith) in
-    let test : (k.glyph == g) ≡ false = grind (arith, nat_tests) in
-    rw (test, is_not_kept ks g (λ i d below. none (suc i) d (omega arith))) refl
+-- a number that none of them has is not
+pub is_not_there : (ns : List ℕ) (g : ℕ) → All (λ n. n ≢ g) ns → is_among g ns ≡ false
+is_not_there [] g none = refl
+is_not_there (n ∷ ns) g none =
+    let other : n ≢ g = none 0 n (omega arith) in
+    let test : (n == g) ≡ false = grind (arith, nat_tests) in
+    rw (test, is_not_there ns g (λ i d below. none (suc i) d (omega arith))) refl

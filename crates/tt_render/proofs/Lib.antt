@@ -1,11 +1,14 @@
-mod Bits
 mod Drawn
-mod Glyphs
+mod Blackened
 pub mod Known
 pub mod Calls
 mod Sent
 mod Telling
 pub mod Text
 mod Keeping
+mod Pens
+pub mod Places
+mod Standings
+mod Alike
 mod Whole
 mod Answered

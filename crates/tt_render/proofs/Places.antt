@@ -14,5 +14,7 @@ behind (Err e) before y = refl
 
 -- what place i makes stands behind the others
 pub one_more_made : {A B E : Type 0} (f : A → Result B E) (xs : List A) (i : ℕ) (d : A) (before : List B) (y : B)
-    → i < length xs → f (get_or xs i d) ≡ Ok y → after_each f (drop (i + 1) xs) (before ++ y ∷ []) ≡ after_each f (drop i xs) before
-one_more_made f xs i d before y below is = rw (add-one, drop-cons xs i d below, is) (behind (each f (drop (suc i) xs)) before y)
+    → i < length xs → f (get_or xs i d) ≡ Ok y → after_each f (drop (i + 1) xs) (before ++ y ∷ []) ≡ after_each f
+    (drop i xs) before
+one_more_made f xs i d before y below is = rw (add-one, drop-cons xs i d below, is)
+    (behind (each f (drop (suc i) xs)) before y)

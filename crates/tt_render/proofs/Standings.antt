@@ -1,5 +1,5 @@
 -- What glyphs blacken at their pens, one glyph or one pen more at a time.
-use Rattle.std.proofs.Common.{◌≡◌, ℕ, ◌*◌, ◌+ℤ◌, ◌*ℤ◌, Ok, ap, zero, suc, ◌+◌, ◌<◌, Bool, true, false, ◌||◌, List, [], ◌∷◌, ◌++◌, length, map, get_or, set, ℤ, pos, ◌-ℤ◌, refl, sym, ◌∙◌, arith}
+use Rattle.std.proofs.Common.{◌≡◌, ℕ, ◌*◌, ◌+ℤ◌, ◌*ℤ◌, Ok, ap, zero, suc, ◌<◌, Bool, true, false, ◌||◌, List, [], ◌∷◌, ◌++◌, length, get_or, set, ℤ, pos, ◌-ℤ◌, refl, sym, ◌∙◌, arith}
 use Rattle.std.specs.Prelude.{IsOkAnd}
 use Rattle.std.proofs.lemmas.Int.{ints}
 use Rattle.std.proofs.lemmas.List.{get_or-map}
@@ -8,15 +8,15 @@ use Rattle.std.proofs.Math.Seq.{map-set_same}
 use Rattle.std.specs.List.{slice_index}
 use Rattle.tt_arc.proofs.Moves.{outline_at}
 use Rattle.tt_arc.specs.Chords.{chord_edges}
-use Rattle.tt_arc.specs.Laws.{moved_edges}
 use Rattle.tt_fit.specs.Fitting.{Setting, fitted_outline}
 use Rattle.tt_fit.specs.Outline.{Shape}
 use Rattle.tt_scan.specs.declared.edge.Edge.{Edge}
 use Rattle.tt_scan.specs.declared.edge.Frame.{Frame}
-use Rattle.tt_scan.specs.Winding.{is_black, column_x, row_y}
+use Rattle.tt_scan.proofs.Moved.{black_in_columns}
+use Rattle.tt_scan.specs.Winding.{is_black, column_x, row_y, moved_edges}
 use Rattle.tt_render.specs.Glyphs.{Standing, IsDrawn, AreKept, Blacken, Adds, stamps_in, numbers_of}
 use Rattle.tt_render.specs.Picture.{origin_of, edges_at, glyph_edges}
-use Rattle.tt_render.specs.Pixels.{is_black_from, is_black_by, is_black_pixel, some_black}
+use Rattle.tt_render.specs.Pixels.{is_black_from, is_black_by, some_black}
 
 or_false : (b : Bool) → (b || false) ≡ b
 or_false true = refl
@@ -38,7 +38,8 @@ pub stands_nowhere : (f : Frame) (gs : List Standing) (g : Standing) (c r : ℕ)
 stands_nowhere f [] g c r none = rw none refl
 stands_nowhere f (h ∷ hs) g c r none = rw (stands_nowhere f hs g c r none) refl
 
-one_pen_more : (f : Frame) (edges : List Edge) (pens : List ℕ) (pen c r : ℕ) → is_black_from f edges (pens ++ pen ∷ []) c r
+one_pen_more : (f : Frame) (edges : List Edge) (pens : List ℕ) (pen c r : ℕ) → is_black_from f edges
+    (pens ++ pen ∷ []) c r
     ≡ (is_black_from f edges pens c r || is_black edges (column_x f.margin (pos c -ℤ pos pen)) (row_y f (pos r)))
 one_pen_more f edges [] pen c r = or_false _
 one_pen_more f edges (p ∷ ps) pen c r =
@@ -47,18 +48,23 @@ one_pen_more f edges (p ∷ ps) pen c r =
     (is_black edges (column_x f.margin (pos c -ℤ pos pen)) (row_y f (pos r))))
 
 -- glyph i stands at one more pen
-pub stands_at : (f : Frame) (gs : List Standing) (i : ℕ) (g : Standing) (pen c r : ℕ) → i < length gs → g ≡ get_or gs i g
+pub stands_at : (f : Frame) (gs : List Standing) (i : ℕ) (g : Standing) (pen c r : ℕ) → i < length gs → g ≡ get_or gs
+    i g
     → is_black_by f (stamps_in (set gs i (record g { pens = g.pens ++ pen ∷ [] }))) c r
-    ≡ (is_black_by f (stamps_in gs) c r || is_black g.tape.edges (column_x f.margin (pos c -ℤ pos pen)) (row_y f (pos r)))
+    ≡ (is_black_by f (stamps_in gs) c r || is_black g.tape.edges (column_x f.margin (pos c -ℤ pos pen))
+    (row_y f (pos r)))
 stands_at f [] i g pen c r below is = absurd (omega arith)
 stands_at f (h ∷ hs) zero g pen c r below is =
     rw (is, one_pen_more f h.tape.edges h.pens pen c r)
-    (or_swap (is_black_from f h.tape.edges h.pens c r) (is_black h.tape.edges (column_x f.margin (pos c -ℤ pos pen)) (row_y f (pos r))) (is_black_by f (stamps_in hs) c r))
+    (or_swap (is_black_from f h.tape.edges h.pens c r) (is_black h.tape.edges (column_x f.margin (pos c -ℤ pos pen))
+    (row_y f (pos r))) (is_black_by f (stamps_in hs) c r))
 stands_at f (h ∷ hs) (suc i) g pen c r below is =
     rw (stands_at f hs i g pen c r (omega arith) is)
-    (or_or (is_black_from f h.tape.edges h.pens c r) (is_black_by f (stamps_in hs) c r) (is_black g.tape.edges (column_x f.margin (pos c -ℤ pos pen)) (row_y f (pos r))))
+    (or_or (is_black_from f h.tape.edges h.pens c r) (is_black_by f (stamps_in hs) c r)
+    (is_black g.tape.edges (column_x f.margin (pos c -ℤ pos pen)) (row_y f (pos r))))
 
-some_more : (gs : List (List Edge)) (g : List Edge) (x y : ℤ) → some_black (gs ++ g ∷ []) x y ≡ (some_black gs x y || is_black g x y)
+some_more : (gs : List (List Edge)) (g : List Edge) (x y : ℤ) → some_black (gs ++ g ∷ []) x y
+    ≡ (some_black gs x y || is_black g x y)
 some_more [] g x y = or_false (is_black g x y)
 some_more (h ∷ hs) g x y = rw (some_more hs g x y) (or_or (is_black h x y) (some_black hs x y) (is_black g x y))
 
@@ -68,15 +74,12 @@ pub one_place_more : (f : Frame) (before after : List Standing) (edges : List (L
 one_place_more f before after edges new black adds = λ c r.
     rw (adds c r, black c r) (sym (some_more edges new (column_x f.margin (pos c)) (row_y f (pos r))))
 
-black_in_columns : (k : ℤ) (es : List Edge) (m : ℕ) (c y : ℤ)
-    → is_black (moved_edges (pos 8192 *ℤ k) es) (column_x m (c +ℤ k)) y ≡ is_black es (column_x m c) y
-black_in_columns k es m c y = ?
-
 -- what an outline blackens from a pen it blackens so far to the left from pen 0
 from_pen : (m : ℕ) (o : Shape) (pen : ℕ) (c y : ℤ) → is_black (edges_at pen o) (column_x m c) y
     ≡ is_black (edges_at 0 o) (column_x m (c -ℤ pos pen)) y
 from_pen m o pen c y =
-    let start : pos (64 * pen) -ℤ origin_of o ≡ (pos (64 * 0) -ℤ origin_of o) +ℤ pos 64 *ℤ pos pen = omega (arith, ints) in
+    let start : pos (64 * pen) -ℤ origin_of o ≡ (pos (64 * 0) -ℤ origin_of o) +ℤ pos 64 *ℤ pos pen = omega
+    (arith, ints) in
     let edges : edges_at pen o ≡ moved_edges (pos 8192 *ℤ pos pen) (edges_at 0 o) =
     ap (λ x. chord_edges o.points o.ends x (pos 0)) start
     ∙ outline_at o.points o.ends (pos (64 * 0) -ℤ origin_of o) (pos 0) (pos pen) in
@@ -115,7 +118,13 @@ pub kept_stood : (s : Setting) (f : Frame) (table : List ℕ) (gs : List Standin
 kept_stood s f table gs i g ps kept below is =
     let drawn = drawn_is s f table gs i g kept below is in
     let stood : Standing = record g { pens = ps } in
-    let here : IsDrawn s f stood = record { shape = drawn.shape; outline = drawn.outline; edges = drawn.edges; fits = drawn.fits } in
+    let here : IsDrawn s f stood = record {
+      shape = drawn.shape;
+      outline = drawn.outline;
+      edges = drawn.edges;
+      fits
+          = drawn.fits;
+    } in
     record {
       room = kept.room;
       places = rw (numbers_stood gs i g ps is) kept.places;

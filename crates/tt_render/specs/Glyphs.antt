@@ -1,6 +1,8 @@
 -- No part of the standard: the distinct glyphs of a line, each with its edges where its pen is 0 and the pens at which
 -- it stands.
-use Rattle.std.specs.Prelude.{◌≡◌, refl, ℕ, ◌<◌, ◌≤◌, ◌-◌, ◌+◌, Bool, true, false, ◌||◌, ◌==◌, if◌then◌else◌, List, [], ◌∷◌, ◌++◌, length, map, slice_index, pos, All, Ok}
+use Rattle.std.specs.Prelude.{◌≡◌, refl, ℕ, ◌<◌, ◌≤◌, ◌-◌, ◌+◌, ◌*◌, Bool, false, ◌||◌, ◌==◌, if◌then◌else◌, List, [], ◌∷◌, ◌++◌, length, map, slice_index, pos, All, Ok}
+use Rattle.tt_core.specs.Bits.{stride}
+use Rattle.tt_pbm.specs.P4.{rows}
 use Rattle.tt_fit.specs.Fitting.{Setting, fitted_outline}
 use Rattle.tt_fit.specs.Outline.{Shape}
 use Rattle.tt_scan.specs.declared.edge.Edge.{Edge}
@@ -27,12 +29,39 @@ stamps_in gs = map stamp_of gs
 abbrev pub numbers_of : List Standing → List ℕ
 numbers_of gs = map (λ g. g.number) gs
 
+-- a glyph stands among some
+abbrev pub is_among : ℕ → List ℕ → Bool
+is_among g [] = false
+is_among g (h ∷ hs) = (h == g) || is_among g hs
+
+-- a glyph behind those before it, unless it is one of them
+abbrev pub with_glyph : List ℕ → ℕ → List ℕ
+with_glyph before g = if is_among g before then before else before ++ g ∷ []
+
+-- the distinct glyphs of some, in order of first appearance, behind those before them
+abbrev pub distinct_after : List ℕ → List ℕ → List ℕ
+distinct_after before [] = before
+distinct_after before (g ∷ gs) = distinct_after (with_glyph before g) gs
+
+abbrev pub distinct : List ℕ → List ℕ
+distinct gs = distinct_after [] gs
+
 -- a glyph has the edges of its outline
 pub record IsDrawn (s : Setting) (f : Frame) (g : Standing) : Type 0 where
   pub shape : Shape
   pub outline : fitted_outline s g.number ≡ Ok shape
   pub edges : g.tape.edges ≡ edges_at 0 shape
   pub fits : TapeFits f 0 g.tape
+
+-- the rows of a picture of some glyphs, one behind the other: so many bytes of them, from a byte on
+abbrev pub rows_by : Frame → List Standing → ℕ → ℕ → List ℕ
+rows_by f gs from len = rows f.width (is_black_by f (stamps_in gs)) from len
+
+abbrev pub row_of : Frame → List Standing → ℕ → List ℕ
+row_of f gs r = rows_by f gs (stride f.width * r) (stride f.width)
+
+abbrev pub all_rows : Frame → List Standing → List ℕ
+all_rows f gs = rows_by f gs 0 (stride f.width * f.height)
 
 -- some glyphs at their pens blacken the pixels that these edges blacken
 abbrev pub Blacken : Frame → List Standing → List (List Edge) → Type 0
@@ -49,8 +78,18 @@ pub record ArePlaces (table numbers : List ℕ) : Type 0 where
   pub found : (n : ℕ) → 0 < slice_index table n → slice_index numbers (slice_index table n - 1) ≡ n
   pub there : (i : ℕ) → i < length numbers → slice_index table (slice_index numbers i) ≡ i + 1
 
+-- a glyph of which so many crossings were asked for at most, on a tape of the frame, with no more edges than a sweep
+-- has memory for
+pub record StandingFits (f : Frame) (asked most : ℕ) (g : Standing) : Type 0 where
+  pub tape : TapeFits f asked g.tape
+  pub room : length g.tape.edges ≤ most
+
 -- what is kept of a line: the places of its glyphs, and these
 pub record AreKept (s : Setting) (f : Frame) (table : List ℕ) (gs : List Standing) : Type 0 where
   pub room : length table ≡ s.tables.glyphs
   pub places : ArePlaces table (numbers_of gs)
   pub drawn : All (IsDrawn s f) gs
+
+-- a worked value
+each_once : distinct (7 ∷ 3 ∷ 7 ∷ 3 ∷ 5 ∷ []) ≡ 7 ∷ 3 ∷ 5 ∷ []
+each_once = refl

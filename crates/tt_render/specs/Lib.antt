@@ -1,10 +1,10 @@
 pub mod Asked
 pub mod Defects
 pub mod Face
+pub mod Glyphs
 pub mod Laws
 pub mod MapLines
 pub mod Outcome
-pub mod Outlines
 pub mod Picture
 pub mod Pixels
 pub mod Reading

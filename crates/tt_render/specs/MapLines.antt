@@ -1,5 +1,5 @@
 -- What `map` writes: for each character its code point, its glyph and the glyph's advance in font units.
-use Rattle.std.specs.Prelude.{ℕ, ◌-◌, List, ◌++◌, length, replicate, flat_map, true, chars, codes, decimal, nat_lt, if◌then◌else◌, Result, Ok, Err, ◌≡◌, refl}
+use Rattle.std.specs.Prelude.{ℕ, ◌-◌, List, ◌++◌, length, replicate, flat_map, true, chars, codes, decimal, Result, Ok, ◌≡◌, refl}
 use Rattle.std.specs.Fmt.{digits}
 use Rattle.tt_core.specs.Faults.{Fault}
 use Rattle.tt_core.specs.Outcomes.{◌>>=◌}

@@ -1,7 +1,7 @@
 -- The picture of a line of text: each glyph's outline moved to its pen, blackened by the scan converter's rules
 -- (OpenType,
 -- "TrueType Fundamentals"), written as format P4 of Netpbm's PBM. Margins and limits are profile.
-use Rattle.std.specs.Prelude.{ℕ, ◌*◌, ◌≤◌, ◌||◌, nat_lt, if◌then◌else◌, ℤ, pos, ◌-ℤ◌, List, [], ◌∷◌, ◌++◌, length, get_or, chars, Result, Ok, Err}
+use Rattle.std.specs.Prelude.{ℕ, ◌*◌, ℤ, pos, ◌-ℤ◌, List, [], Result, Ok}
 use Rattle.tt_arc.specs.Chords.{chord_edges}
 use Rattle.tt_core.specs.Faults.{Fault}
 use Rattle.tt_core.specs.Directory.{needed_table}

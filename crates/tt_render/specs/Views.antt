@@ -1,19 +1,29 @@
 -- How the definitions see the values that the code works with.
-use Rattle.std.specs.Prelude.{ℕ, List, ◌++◌}
+use Rattle.std.specs.Prelude.{◌≡◌, ℕ, ◌≤◌, List, ◌++◌, length, All}
+use Rattle.tt_core.specs.Bits.{stride}
 use Rattle.tt_core.specs.declared.font_fault.FontFault.{FontFault}
 use Rattle.tt_core.specs.declared.font_fault.FontFault.TheVariants as font
 use Rattle.tt_line.specs.declared.fault.LineFault.{LineFault}
 use Rattle.tt_line.specs.declared.fault.LineFault.TheVariants as line
 use Rattle.tt_pbm.specs.P4.{header_bytes}
+use Rattle.tt_scan.specs.Winding.{FrameFits}
 use Rattle.tt_render.specs.declared.drawing.Picture.{Picture}
 use Rattle.tt_render.specs.declared.fault.DrawFault.{DrawFault}
 use Rattle.tt_render.specs.declared.fault.DrawFault.TheVariants as draw
 use Rattle.tt_render.specs.declared.fault.RunFault.{RunFault}
 use Rattle.tt_render.specs.declared.fault.RunFault.TheVariants as run
+use Rattle.tt_render.specs.Glyphs.{StandingFits, all_rows}
 
 -- the bytes of a picture
 abbrev pub picture_bytes : Picture → List ℕ
-picture_bytes p = header_bytes p.header ++ p.rows.items
+picture_bytes p = header_bytes p.header ++ all_rows p.frame p.glyphs.items
+
+-- a picture whose rows can be made without memory
+pub record IsReady (p : Picture) : Type 0 where
+  pub header : p.header.len ≤ 16
+  pub frame : FrameFits p.frame
+  pub glyphs : All (StandingFits p.frame 0 p.sweep.room) p.glyphs.items
+  pub row : length p.row.items ≡ stride p.frame.width
 
 -- what stopped a part of a call stops the call
 abbrev pub run_fault_of_font : FontFault → RunFault

@@ -1,7 +1,7 @@
 //! The picture of a line.
 
 ghost use Rattle.std.specs.Prelude.{◌≡◌, ◌<◌, ◌≤◌, ◌^◌, length, map, unsigned_abs, All, IfOk, IfErr, OnOk, IsOkAnd};
-ghost use Rattle.tt_core.specs.Limits.{font_limit, width_limit, height_limit};
+ghost use Rattle.tt_core.specs.Limits.{font_limit, text_limit, width_limit, height_limit};
 ghost use Rattle.tt_core.specs.Directory.{HasNo};
 ghost use Rattle.tt_core.specs.Outcomes.{Gives, GivesUnless, FontGives, IfTold, font_fault};
 ghost use Rattle.tt_line.specs.Outcome.{placement_of};
@@ -11,26 +11,34 @@ ghost use Rattle.tt_render.specs.Defects.{IsGlyphTableDefect, IsSettingDefect, I
 ghost use Rattle.tt_render.specs.Face.{face_of, face_view};
 ghost use Rattle.tt_render.specs.Outcome.{refusal};
 ghost use Rattle.tt_render.specs.Picture.{drawn, pictured, setting_in, glyphs_in};
-ghost use Rattle.tt_render.specs.Views.{picture_bytes};
+ghost use Rattle.tt_pbm.specs.P4.{header_bytes, p4_header_of};
+ghost use Rattle.tt_render.specs.Pixels.{TapeFits};
+ghost use Rattle.tt_render.specs.Views.{IsReady, picture_bytes};
+ghost use Rattle.tt_scan.specs.Winding.{FrameFits};
 
-use crate::bitmap::bitmap;
 use crate::face::{Face, open_face};
 use crate::fault::DrawFault;
+use crate::glyph::Glyph;
+use crate::glyphs::line_glyphs;
 use crate::job::Job;
-use crate::tapes::tapes;
-use std::alloc::Global;
+use crate::rows::most_edges;
+use std::alloc::{AllocError, Global};
 use tt_core::{Fault, FontFault};
 use tt_fit::{Fitter, Programs};
 use tt_glyf::{Glyf, Loca};
 use tt_line::{Line, lay};
 use tt_pbm::{Header, p4_header};
-use tt_scan::Frame;
+use tt_scan::{Frame, Sweep};
 
-/// A picture that is ready to be written: its header, and its rows one behind the other.
+/// A picture that is ready to be written: its header, and what its rows are made with.
 #[derive(Drop)]
 pub(crate) struct Picture {
     pub(crate) header: Header,
-    pub(crate) rows: Vec<u8>,
+    pub(crate) frame: Frame,
+    pub(crate) glyphs: Vec<Glyph>,
+    pub(crate) sweep: Sweep,
+    /// Memory for one row.
+    pub(crate) row: Vec<u8>,
 }
 
 /// loca and glyf. Errors: NoTable, TableRange, LocaShort.
@@ -73,9 +81,9 @@ fn draw_line(alloc: Global, face: &Face, job: &Job, line: &Line) -> Result<Pictu
     requires height { (1 ≤ line.now.height) × (line.now.height ≤ height_limit) }
     requires rise { unsigned_abs line.now.rise < 2 ^ 20 }
     requires known { All (λ g. g.0 < glyphs_of face.now.metrics) line.now.glyphs.items }
-    requires pens { All (λ g. g.1 ≤ line.now.width) line.now.glyphs.items }
+    requires count { length line.now.glyphs.items ≤ text_limit }
     ensures exact { FontGives picture_bytes result (drawn (face_view face.now) (ask_of job.now) (placement_of line.now)) }
-    ensures header { IfOk result (λ p. p.header.len ≤ 16) }
+    ensures ready { IfOk result IsReady }
     ensures defects { TellsDefects font_fault (IsLineDefect (face_view face.now) (ask_of job.now) (map (λ g. g.0) line.now.glyphs.items)) result }
 {
     let fitter = open_fitter(alloc, face, job)?;
@@ -85,12 +93,26 @@ fn draw_line(alloc: Global, face: &Face, job: &Job, line: &Line) -> Result<Pictu
         margin: job.margin,
         rise: line.rise,
     };
-    let mut kept = Vec::new(alloc);
-    let mut tapes = tapes(alloc, &mut kept, &fitter, &line.glyphs, frame)?;
-    let rows = bitmap(alloc, &mut tapes, frame)?;
+    let glyphs = line_glyphs(alloc, &fitter, face.metrics.glyphs(), &line.glyphs, frame)?;
+    Ok(ready(alloc, frame, glyphs)?)
+}
+
+/// The picture of some glyphs; all the memory is taken that its rows need.
+fn ready(alloc: Global, frame: Frame, glyphs: Vec<Glyph>) -> Result<Picture, AllocError>
+    requires frame { FrameFits frame }
+    requires glyphs { All (λ g. TapeFits frame 0 g.tape) glyphs.items }
+    ensures header { IfOk result (λ p. header_bytes p.header ≡ p4_header_of frame.width frame.height) }
+    ensures frame { IfOk result (λ p. p.frame ≡ frame) }
+    ensures glyphs { IfOk result (λ p. p.glyphs.items ≡ glyphs.items) }
+    ensures ready { IfOk result IsReady }
+{
+    let most = most_edges(&glyphs);
     Ok(Picture {
         header: p4_header(frame.width, frame.height),
-        rows,
+        frame,
+        glyphs,
+        sweep: Sweep::new(alloc, most)?,
+        row: vec![in alloc; 0u8; (frame.width as usize).div_ceil(8)]?,
     })
 }
 
@@ -102,7 +124,7 @@ pub(crate) fn draw(alloc: Global, file: &[u8], job: &Job) -> Result<Picture, Dra
     requires size { length file.now ≤ font_limit }
     requires asked { IsAsked (ask_of job.now) }
     ensures exact { GivesUnless refusal picture_bytes result (pictured (ask_of job.now) file.now) }
-    ensures header { IfOk result (λ p. p.header.len ≤ 16) }
+    ensures ready { IfOk result IsReady }
     ensures defects { TellsDefects draw_font_fault (IsRunDefect (ask_of job.now) file.now) result }
     ensures extent { IfTold draw_job_fault result (λ j. IsOkAnd (face_of file.now) (λ face. IsExtentRefusal face (ask_of job.now) j)) }
 {

@@ -1,20 +1,22 @@
 //! A glyph of a line: made once, however often it stands in the line.
 
-ghost use Rattle.std.specs.Prelude.{◌≡◌, ◌<◌, ◌≤◌, ◌++◌, [], ◌∷◌, IfOk, OnOk, Err};
+ghost use Rattle.std.specs.Prelude.{◌≡◌, ℕ, ℤ, ◌+◌, ◌*◌, ◌<◌, ◌≤◌, ◌&&◌, ◌||◌, false, nat_lt, pos, ◌++◌, [], ◌∷◌, length, IfOk, OnOk, Err};
+ghost use Rattle.tt_core.specs.Bits.{bit};
+ghost use Rattle.tt_core.specs.Limits.{height_limit};
 ghost use Rattle.tt_core.specs.Outcomes.{IfTold, font_fault};
 ghost use Rattle.tt_fit.specs.Fitting.{fitted_outline};
 ghost use Rattle.tt_fit.specs.Outline.{IsOutline, outline_of};
-ghost use Rattle.tt_scan.specs.Winding.{FrameFits};
-ghost use Rattle.tt_render.specs.Glyphs.{IsDrawn};
+ghost use Rattle.tt_scan.specs.Winding.{FrameFits, is_black, column_x, row_y};
+ghost use Rattle.tt_render.specs.Glyphs.{IsDrawn, StandingFits, stamp_of};
 ghost use Rattle.tt_render.specs.Picture.{edges_at};
-ghost use Rattle.tt_render.specs.Pixels.{TapeFits};
+ghost use Rattle.tt_render.specs.Pixels.{TapeFits, is_black_from, covers_from, row_crossings};
 
 use std::alloc::{AllocError, Global};
 use std::marker::Model;
 use tt_arc::chords;
 use tt_core::FontFault;
 use tt_fit::{Fitter, Outline};
-use tt_scan::{Frame, Tape};
+use tt_scan::{Frame, Sweep, Tape};
 
 /// A glyph by its number in the font, with its edges where its pen is 0.
 #[derive(Drop)]
@@ -62,6 +64,53 @@ impl Glyph {
         ensures { OnOk result (self.new ≡ record self.old { pens = self.old.pens ++ pen ∷ [] }) }
     {
         Ok(self.pens.push(pen)?)
+    }
+
+    /// How many edges it has.
+    pub(crate) fn edges(&self) -> usize
+        ensures { result ≡ length self.now.tape.edges }
+    {
+        self.tape.edges()
+    }
+
+    /// Whether a row of the picture is to be looked at.
+    fn meets(&self, r: u32) -> bool
+        requires { r < self.now.tape.frame.height }
+        ensures { result ≡ false → (c : ℤ) → is_black self.now.tape.edges (column_x self.now.tape.frame.margin c) (row_y self.now.tape.frame (pos r)) ≡ false }
+    {
+        let (first, past) = self.tape.rows();
+        let row = i64::from(r);
+        first <= row && row < past
+    }
+
+    /// Blackens the pixels of a row of the picture that the glyph covers at its pens; all others stay as they are.
+    pub(crate) fn add_to_row(&mut self, sweep: &mut Sweep, frame: Frame, r: u32, row: &mut [u8])
+        requires glyph { StandingFits frame (r * row_crossings) sweep.old.room self.old }
+        requires height { frame.height ≤ height_limit }
+        requires within { r < frame.height }
+        requires width { frame.width ≤ 8 * length row.old }
+        ensures bits { (k : ℕ) → bit row.new k ≡ (bit row.old k || (nat_lt k frame.width && is_black_from frame self.old.tape.edges self.old.pens k r)) }
+        ensures len { length row.new ≡ length row.old }
+        ensures glyph { StandingFits frame ((r + 1) * row_crossings) sweep.new.room self.new }
+        ensures stamp { stamp_of self.new ≡ stamp_of self.old }
+        ensures room { sweep.new.room ≡ sweep.old.room }
+    {
+        if !self.meets(r) {
+            return;
+        }
+        sweep.cut(&mut self.tape, i64::from(r));
+        paint_at(sweep, &self.pens, frame.width, row);
+    }
+}
+
+/// Blackens the columns of a sweep's spans from each pen.
+fn paint_at(sweep: &Sweep, pens: &[u32], width: u32, row: &mut [u8])
+    requires width { width ≤ 8 * length row.old }
+    ensures bits { (k : ℕ) → bit row.new k ≡ (bit row.old k || (nat_lt k width && covers_from sweep.now.spans pens.now k)) }
+    ensures len { length row.new ≡ length row.old }
+{
+    for pen in pens {
+        sweep.paint(i64::from(*pen), width, row);
     }
 }
 

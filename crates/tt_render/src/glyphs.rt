@@ -7,7 +7,7 @@ ghost use Rattle.tt_fit.specs.Fitting.{fitted_outline};
 ghost use Rattle.tt_scan.specs.Winding.{FrameFits};
 ghost use Rattle.tt_scan.specs.Winding.{is_black, column_x, row_y};
 ghost use Rattle.tt_render.specs.Glyphs.{IsDrawn, AreKept, Adds, Blacken, ArePlaces, numbers_of, stamps_in};
-ghost use Rattle.tt_render.specs.Outlines.{with_glyph, distinct};
+ghost use Rattle.tt_render.specs.Glyphs.{with_glyph, distinct};
 ghost use Rattle.tt_render.specs.Picture.{glyph_edges};
 ghost use Rattle.tt_render.specs.Pixels.{is_black_by};
 

@@ -1,19 +1,20 @@
 //! A font and a text, from a reader to a writer.
 #![tactic(auto)]
 
-mod bitmap;
 mod drawing;
 mod face;
 mod fault;
+mod glyph;
+mod glyphs;
 mod job;
-mod kept;
 pub mod laws;
 mod limits;
 mod mapping;
 mod reading;
 mod reports;
+mod rows;
 mod running;
-mod tapes;
+mod writing;
 
 pub use fault::RunFault;
 pub use job::Job;

@@ -1,26 +1,24 @@
 //! A line of text drawn, from a reader to a writer.
 
-ghost use Rattle.std.specs.Prelude.{◌≡◌, ◌<◌, ◌≤◌, false, is_err, length, take, IfErr, IfSome, OnOk};
-ghost use Rattle.std.specs.Io.KnownBytes.{Appends};
+ghost use Rattle.std.specs.Prelude.{◌≡◌, ◌<◌, false, length, IfSome};
 ghost use Rattle.tt_core.specs.Limits.{font_limit};
 ghost use Rattle.tt_render.specs.Asked.{ask_of};
 ghost use Rattle.tt_render.specs.Defects.{IsRunDefect, IsJobRefusal, TellsDefectsOf};
 ghost use Rattle.tt_render.specs.Outcome.{CallGives, IfJob, IfLarge};
 ghost use Rattle.tt_render.specs.Picture.{run_wanted};
-ghost use Rattle.tt_render.specs.Views.{picture_bytes};
 
-use crate::drawing::{Picture, draw};
+use crate::drawing::draw;
 use crate::fault::RunFault;
 use crate::job::Job;
 use crate::limits::test_job;
 use crate::reading::read_font;
+use crate::writing::write_picture;
 use std::alloc::Global;
 use tt_core::{Sink, Source};
-use tt_pbm::{Cut, write_all_of};
 
 /// Draws a line of text and writes its picture as binary PBM (P4): a pixel is black where its centre lies
 /// on, or inside, the chord outline of some glyph of the line, in which each curve is eight chords. Nothing
-/// is written before the picture stands.
+/// is written before the edges of all glyphs stand, and from then on no memory is taken.
 ///
 /// Errors, the first of: Job (SizeRange, MarginRange, TextLong), before the font is read; Read, FontLarge;
 /// Font and Job (EmptyPicture, PictureLarge), in the order in which the bytes are read, the picture's size
@@ -47,26 +45,7 @@ pub fn run<R: Source, W: Sink>(
 {
     test_job(job)?;
     let file = read_font(alloc, font)?;
-    let picture = draw(alloc, &file, job)?;
-    write_picture(out, &picture)?;
+    let mut picture = draw(alloc, &file, job)?;
+    write_picture(out, &mut picture)?;
     Ok(())
-}
-
-/// Writes the header, and then the rows.
-fn write_picture<W: Sink>(out: &mut W, picture: &Picture) -> Result<(), Cut>
-    requires out { W.has_failed out.old ≡ false }
-    requires header { picture.now.header.len ≤ 16 }
-    ensures all { OnOk result (Appends (W.written out.old) (W.written out.new) (picture_bytes picture.now)) }
-    ensures part { IfErr result (λ cut. Appends (W.written out.old) (W.written out.new) (take cut.sent (picture_bytes picture.now))) }
-    ensures within { IfErr result (λ cut. cut.sent < length (picture_bytes picture.now)) }
-    ensures failure { W.has_failed out.new ≡ is_err result }
-{
-    let header = &picture.header.bytes[..picture.header.len];
-    write_all_of(out, header)?;
-    match write_all_of(out, &picture.rows) {
-        Ok(()) => Ok(()),
-        Err(cut) => Err(Cut {
-            sent: header.len() as u64 + cut.sent,
-        }),
-    }
 }

@@ -1,5 +1,5 @@
-use Rattle.std.proofs.Common.{◌≡◌, ◌∙◌, ◌<◌, ◌++◌, ◌∷◌, [], length, get_or, add-one, drop-cons, arith}
-use Rattle.tt_render.specs.Glyphs.{Adds, numbers_of}
+use Rattle.std.proofs.Common.{◌∙◌, ◌<◌, ◌++◌, ◌∷◌, [], length, get_or, add-one, drop-cons, arith}
+use Rattle.tt_render.specs.Glyphs.{Adds}
 use Rattle.tt_render.specs.Picture.{glyph_edges}
 use Rattle.tt_render.proofs.Places.{ok_and, one_more_made}
 use Rattle.tt_render.proofs.Standings.{one_place_more}
@@ -21,6 +21,11 @@ loop-placed-preserved c =
       few = omega (arith, so_far.few, one.few);
       kept = one.kept;
       numbers = rw (add-one, one.numbers) numbers;
-      black =
-          (so_far.black.0 ++ made.0 ∷ [], one_more_made make line i (0, 0) so_far.black.0 made.0 below made.1 ∙ so_far.black.1, one_place_more c.args.frame before c.place.new.self.kept.items so_far.black.0 made.0 so_far.black.2 made.2);
+      black = (
+        so_far.black.0 ++ made.0 ∷ [],
+        one_more_made make line i (0, 0) so_far.black.0 made.0 below made.1
+            ∙ so_far.black.1,
+        one_place_more c.args.frame before c.place.new.self.kept.items so_far.black.0 made.0
+            so_far.black.2 made.2,
+      );
     }

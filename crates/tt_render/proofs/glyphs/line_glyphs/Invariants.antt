@@ -2,7 +2,7 @@ use Rattle.std.proofs.Common.{◌≡◌, ◌≤◌, length, drop, map, List}
 use Rattle.tt_core.specs.Outcomes.{each, after_each}
 use Rattle.tt_scan.specs.declared.edge.Edge.{Edge}
 use Rattle.tt_render.specs.Glyphs.{AreKept, Blacken, numbers_of}
-use Rattle.tt_render.specs.Outlines.{distinct, distinct_after}
+use Rattle.tt_render.specs.Glyphs.{distinct, distinct_after}
 use Rattle.tt_render.specs.Picture.{glyph_edges}
 use Rattle.tt_render.proofs.glyphs.line_glyphs.Given as goal
 

@@ -3,7 +3,7 @@ use Rattle.std.proofs.lemmas.Result.{err_from_is_err_and}
 use Rattle.std.specs.Io.KnownBytes.{Appends}
 use Rattle.tt_render.specs.Asked.{ask_of}
 use Rattle.tt_render.specs.Defects.{IsRunDefect}
-use Rattle.tt_render.specs.Picture.{pictured, run_outcome, run_wanted}
+use Rattle.tt_render.specs.Picture.{pictured, run_wanted}
 use Rattle.tt_render.specs.Views.{picture_bytes}
 use Rattle.tt_render.proofs.Answered.{reading_job, reading_large, reading_defects, drawing_fails, drawing_job, drawing_large, drawing_defects}
 use Rattle.tt_render.proofs.Calls.{IsRead, run_is_of_font, run_refused, job_fails, reading_fails, with_bytes, tells_of_known}
