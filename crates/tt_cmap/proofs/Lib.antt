@@ -1,2 +1,1 @@
-pub mod Subtables
-mod Whole
+pub mod Whole

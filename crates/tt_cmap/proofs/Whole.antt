@@ -2,15 +2,14 @@
 use Rattle.std.proofs.Common.{◌≡◌, ℕ, ◌+◌, ◌-◌, ◌*◌, ◌%◌, ◌≤◌, nat_lt, false, List, length, Option, Some, None, Ok, inl, inr, arith, refl}
 use Rattle.std.specs.Prelude.{not, ◌==◌}
 use Rattle.std.proofs.lemmas.Bool.Decides.{nat_tests}
-use Rattle.tt_core.specs.Chains.{came-through, passed-on, not-below}
+use Rattle.tt_core.specs.Chains.{came-through, passed-on, not-below, not-both}
 use Rattle.tt_core.specs.Directory.{HasNo}
-use Rattle.tt_core.specs.Search.{first_below}
+use Rattle.tt_core.specs.Search.{first_below, first_below_none}
 use Rattle.tt_cmap.specs.Defects.{IsBadRecords, IsBadSubtable, IsBadChoice}
 use Rattle.tt_cmap.specs.Format4.{segment_bytes, segment_count, falls, or_falling, segments_of}
 use Rattle.tt_cmap.specs.Laws.{LookupsAreWhole}
 use Rattle.tt_cmap.specs.Lookup.{Lookup, by_subtable, lookup_of}
 use Rattle.tt_cmap.specs.Subtables.{record_count, record_place, records_of, chosen_subtable}
-use Rattle.tt_cmap.proofs.Subtables.{good_subtable}
 
 records-whole : (table : List ℕ) (n : ℕ) → records_of table ≡ Ok n → HasNo (IsBadRecords table)
 unfolding records_of
@@ -32,6 +31,18 @@ none-falls : (table : List ℕ) (at n : ℕ) (found : Option ℕ) → or_falling
 none-falls table at n None was = refl
 none-falls table at n (Some i) was = absurd cc
 
+-- a subtable whose lists fit and in which no end code is found to fall
+good-subtable : (table : List ℕ) (at : ℕ) → at + 16 + 4 * segment_bytes table at ≤ length table
+    → segment_bytes table at % 2 ≡ 0 → first_below (segment_count table at - 1) (falls table at) ≡ None
+    → HasNo (IsBadSubtable table at)
+good-subtable table at fits even rises fault (inl short) = absurd (omega (arith, short.0))
+good-subtable table at fits even rises fault (inr (inl odd)) = absurd (omega (arith, odd.1))
+good-subtable table at fits even rises fault (inr (inr (inl short))) = absurd (omega (arith, short.1))
+good-subtable table at fits even rises fault (inr (inr (inr falling))) =
+    let i = falling.0 in
+    not-both (falls table at i) falling.3
+    (first_below_none (segment_count table at - 1) (falls table at) i rises (omega (arith, falling.1)))
+
 subtable-whole : (table : List ℕ) (at n : ℕ) → segments_of table at ≡ Ok n → HasNo (IsBadSubtable table at)
 unfolding segments_of
 subtable-whole table at n was =
@@ -40,7 +51,7 @@ subtable-whole table at n was =
     let whole = passed-on (not (bytes % 2 == 0)) _ _ n header.1 in
     let lists = passed-on (nat_lt (length table) (at + 16 + 4 * bytes)) _ _ n whole.1 in
     let rises = none-falls table at n (first_below (segment_count table at - 1) (falls table at)) lists.1 in
-    good_subtable table at (at-least (length table) (at + 16 + 4 * bytes) lists.0) (even bytes whole.0) rises
+    good-subtable table at (at-least (length table) (at + 16 + 4 * bytes) lists.0) (even bytes whole.0) rises
 
 choice-whole : (table : List ℕ) (glyphs : ℕ) (place : Option ℕ) (lookup : Lookup) → by_subtable table glyphs place
     ≡ Ok lookup → HasNo (IsBadChoice table place)

@@ -1,8 +1,7 @@
 //! A subtable of format 4. OpenType, "cmap", format 4: segment mapping to delta values.
 
-ghost use Rattle.std.specs.Prelude.{◌≡◌, ◌+◌, ◌-◌, ◌*◌, ◌^◌, ◌<◌, ◌≤◌, true, length, IsTrue, IfOk, IfErr, OnOk, IfSome};
+ghost use Rattle.std.specs.Prelude.{◌≡◌, ◌+◌, ◌-◌, ◌*◌, ◌^◌, ◌<◌, ◌≤◌, true, length, IsTrue, IfOk, IfErr, IfSome};
 ghost use Rattle.tt_core.specs.Limits.{font_limit};
-ghost use Rattle.tt_core.specs.Directory.{HasNo};
 ghost use Rattle.tt_core.specs.Outcomes.{Gives};
 ghost use Rattle.tt_core.specs.Search.{first_below};
 ghost use Rattle.tt_cmap.specs.Format4.{segments_of, segment_bytes, segment_count, end_code, falls, segment_of, or_missing, by_segment, glyph_in};
@@ -29,7 +28,6 @@ pub(crate) fn segments(table: &[u8], at: usize) -> Result<usize, Fault>
     ensures count { IfOk result (λ n. n ≡ segment_count table.now at) }
     ensures even { IfOk result (λ n. 2 * n ≡ segment_bytes table.now at) }
     ensures fit { IfOk result (λ n. at + 16 + 8 * n ≤ length table.now) }
-    ensures sound { OnOk result (HasNo (IsBadSubtable table.now at)) }
     ensures fault { IfErr result (IsBadSubtable table.now at) }
 {
     let short = Fault::new(CMAP, at as u32, Why::CmapShape);

@@ -67,7 +67,6 @@ impl<'a> Cmap<'a> {
         ensures exact { Gives (λ c. c) result (by_subtable table.now glyphs place) }
         ensures whole { IfOk result (λ c. c.table ≡ table.now) }
         ensures glyphs { IfOk result (λ c. c.glyphs ≡ glyphs) }
-        ensures sound { OnOk result (HasNo (IsBadChoice table.now place)) }
         ensures fault { IfErr result (IsBadChoice table.now place) }
     {
         let Some(at) = place else {

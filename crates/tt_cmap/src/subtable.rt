@@ -1,9 +1,8 @@
 //! Which subtable of cmap serves. OpenType, "cmap", encoding records.
 
-ghost use Rattle.std.specs.Prelude.{◌≡◌, ◌*◌, ◌+◌, ◌<◌, ◌≤◌, length, IsTrue, IfOk, IfErr, OnOk, IfSome};
+ghost use Rattle.std.specs.Prelude.{◌≡◌, ◌*◌, ◌+◌, ◌<◌, ◌≤◌, length, IsTrue, IfOk, IfErr, IfSome};
 ghost use Rattle.tt_core.specs.Limits.{font_limit};
 ghost use Rattle.std.specs.Bool.{OnTrue};
-ghost use Rattle.tt_core.specs.Directory.{HasNo};
 ghost use Rattle.tt_core.specs.Outcomes.{Gives};
 ghost use Rattle.tt_cmap.specs.Subtables.{records_of, record_count, record_place, is_for, is_format4, first_subtable, chosen_subtable};
 ghost use Rattle.tt_cmap.specs.Defects.{IsBadRecords};
@@ -28,7 +27,6 @@ pub(crate) fn record_count(table: &[u8]) -> Result<usize, Fault>
     ensures exact { Gives (λ n. n) result (records_of table.now) }
     ensures count { IfOk result (λ n. n ≡ record_count table.now) }
     ensures fit { IfOk result (λ n. record_place n ≤ length table.now) }
-    ensures sound { OnOk result (HasNo (IsBadRecords table.now)) }
     ensures fault { IfErr result (IsBadRecords table.now) }
 {
     let short = Fault::new(CMAP, table.len() as u32, Why::CmapShape);

@@ -6,7 +6,7 @@ use Rattle.std.proofs.lemmas.Bool.Decides.{nat_tests}
 use Rattle.tt_core.specs.declared.font_fault.FontFault.{FontFault}
 use Rattle.tt_core.specs.declared.font_fault.FontFault.TheVariants as fault
 use Rattle.tt_core.specs.Faults.{Fault}
-use Rattle.tt_core.specs.Outcomes.{◌>>=◌, FontGives, IfTold, font_fault}
+use Rattle.tt_core.specs.Outcomes.{◌>>=◌, Gives, FontGives, IfTold, font_fault}
 
 -- a chain that came through: its first step did, and then the rest
 pub record CameThrough {A B E : Type 0} (x : Result A E) (f : A → Result B E) (y : B) : Type 0 where
@@ -75,6 +75,12 @@ pub not-zero : (n : ℕ) → (n == 0) ≡ false → n ≡ 0 → ⊥
 not-zero n is zero = grind (arith, nat_tests)
 
 -- what holds where the definition gives a value holds where the call is Ok
+pub on-gives : {X Y E : Type 0} (view : X → Y) (result : Result X E) (wanted : Result Y E) (Q : Type 0)
+    → Gives view result wanted → ((y : Y) → wanted ≡ Ok y → Q) → OnOk result Q
+on-gives view (Ok x) wanted Q gives holds = holds (view x) gives
+on-gives view (Err e) wanted Q gives holds = tt
+
+-- the same of a call that takes memory
 pub on-given : {X Y : Type 0} (view : X → Y) (result : Result X FontFault) (wanted : Result Y Fault) (Q : Type 0)
     → FontGives view result wanted → ((y : Y) → wanted ≡ Ok y → Q) → OnOk result Q
 on-given view (Ok x) wanted Q gives holds = holds (view x) gives

@@ -1,8 +1,8 @@
 -- Lists that are made one element after the other: which element failed, and that none did.
-use Rattle.std.proofs.Common.{◌≡◌, ℕ, zero, suc, List, [], ◌∷◌, length, Option, Some, Result, Ok, Err, inl, inr, refl, sym, ap}
+use Rattle.std.proofs.Common.{◌≡◌, ℕ, zero, suc, List, [], ◌∷◌, length, Some, Result, Ok, Err, inl, inr, refl, ap}
 use Rattle.std.specs.List.{slice_get}
 use Rattle.tt_core.specs.Chains.{came-through, was-err}
-use Rattle.tt_core.specs.Outcomes.{◌>>=◌, each}
+use Rattle.tt_core.specs.Outcomes.{each}
 
 -- an element has this fault
 abbrev pub FailsAt : {A B E : Type 0} → (A → Result B E) → List A → E → Type 0

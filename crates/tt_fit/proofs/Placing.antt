@@ -1,6 +1,6 @@
 -- A coordinate, a matched point or a number of points is refused for a defect that stands, and only then.
-use Rattle.std.proofs.Common.{◌≡◌, ℕ, ◌+◌, ◌<◌, ◌≤◌, nat_lt, nat_le, Bool, true, false, if◌then◌else◌, List, ◌++◌, length, Option, Some, None, Result, Ok, Err, inl, inr, ℤ, pos, negsuc, unsigned_abs, refl, subst, sym, arith, length-append}
-use Rattle.std.specs.Prelude.{◌&&◌, ◌⊎◌, ◌<ℤ◌, ◌≤ℤ◌, IsOkAnd}
+use Rattle.std.proofs.Common.{◌≡◌, ℕ, ◌+◌, nat_lt, Bool, true, false, if◌then◌else◌, List, ◌++◌, length, Option, Some, None, Result, Ok, Err, inl, inr, ℤ, pos, negsuc, refl, subst, sym, arith, length-append}
+use Rattle.std.specs.Prelude.{◌&&◌, ◌⊎◌, IsOkAnd}
 use Rattle.std.specs.List.{slice_get}
 use Rattle.std.proofs.lemmas.Bool.Decides.{nat_tests}
 use Rattle.std.proofs.lemmas.Int.{ints}
@@ -8,8 +8,8 @@ use Rattle.std.proofs.lemmas.Option.{slice_get_within, slice_get_cases}
 use Rattle.tt_core.specs.Chains.{came-through, was-err, passed, passed-else, failed, failed-else, not-below}
 use Rattle.tt_core.specs.Faults.{Fault}
 use Rattle.tt_core.specs.declared.fault.Why.TheVariants as why
-use Rattle.tt_core.specs.Limits.{coordinate_limit, point_limit}
-use Rattle.tt_core.specs.Outcomes.{◌>>=◌, each}
+use Rattle.tt_core.specs.Limits.{point_limit}
+use Rattle.tt_core.specs.Outcomes.{each}
 use Rattle.tt_glyf.specs.Composite.{args_are_xy_values}
 use Rattle.tt_glyf.specs.declared.raw.RawPoint.{RawPoint}
 use Rattle.tt_glyf.specs.declared.raw.Record.{Record}
@@ -17,7 +17,7 @@ use Rattle.tt_glyf.specs.Flags.{has}
 use Rattle.tt_fit.specs.Components.{offset_of, point_of, matched_by, shift_of, landed, placed_point, within_point_limit, placed}
 use Rattle.tt_fit.specs.Defects.{PassesLimit, LeavesLimit, IsPhantomDefect, IsScaledDefect, LacksPoint, IsMatchDefect, IsLandingDefect, IsCountDefect, IsPlacingDefect}
 use Rattle.tt_fit.specs.Outline.{PhantomPoints, Shape}
-use Rattle.tt_fit.specs.Scaling.{Size, scale, is_coordinate, is_position, are_positions, glyf_fault, coordinate_fault, settled, scaled_position, scaled_point, blank, scaled_outline}
+use Rattle.tt_fit.specs.Scaling.{Size, is_coordinate, is_position, are_positions, glyf_fault, coordinate_fault, settled, scaled_position, scaled_point, blank, scaled_outline}
 use Rattle.tt_fit.proofs.Each.{each-failed, each-made, length-each}
 
 -- coordinates
@@ -77,13 +77,15 @@ all-hold true true true d is = (refl, refl, refl, is)
 pub blank-broke : (at : ℕ) (p : PhantomPoints) (f : Fault) → blank at p ≡ Err f → IsPhantomDefect at p f
 unfolding blank
 blank-broke at p f was =
-    let test = failed-else (are_positions p) _ _ f was in
-    (elim (one-fails (is_position p.left) (is_position p.right) (is_position p.ascent) (is_position p.descent) test.0) [
-      | inl left ↦ inl (leaves p.left.0 p.left.1 left)
-      | inr (inl right) ↦ inr (inl (leaves p.right.0 p.right.1 right))
-      | inr (inr (inl ascent)) ↦ inr (inr (inl (leaves p.ascent.0 p.ascent.1 ascent)))
-      | inr (inr (inr descent)) ↦ inr (inr (inr (leaves p.descent.0 p.descent.1 descent)))
-    ], test.1)
+    let test = failed-else (are_positions p) _ _ f was in (
+      elim (one-fails (is_position p.left) (is_position p.right) (is_position p.ascent) (is_position p.descent) test.0) [
+        | inl left ↦ inl (leaves p.left.0 p.left.1 left)
+        | inr (inl right) ↦ inr (inl (leaves p.right.0 p.right.1 right))
+        | inr (inr (inl ascent)) ↦ inr (inr (inl (leaves p.ascent.0 p.ascent.1 ascent)))
+        | inr (inr (inr descent)) ↦ inr (inr (inr (leaves p.descent.0 p.descent.1 descent)))
+      ],
+      test.1,
+    )
 
 pub blank-whole : (at : ℕ) (p : PhantomPoints) (o : Shape) (f : Fault) → blank at p ≡ Ok o → IsPhantomDefect at p f → ⊥
 unfolding blank
@@ -145,11 +147,14 @@ shift-broke-by : (z : Size) (r : Record) (component points : List (ℤ × ℤ ×
     ≡ Err f → IsMatchDefect r component points f
 shift-broke-by z r component points f true is was = absurd cc
 shift-broke-by z r component points f false is was =
-    let broke = matched-broke r (point_of component r.arg2) (point_of points r.arg1) f was in
-    (is, elim (broke.0) [
-      | inl none ↦ inl (lacks component r.arg2 none)
-      | inr none ↦ inr (lacks points r.arg1 none)
-    ], broke.1)
+    let broke = matched-broke r (point_of component r.arg2) (point_of points r.arg1) f was in (
+      is,
+      elim (broke.0) [
+        | inl none ↦ inl (lacks component r.arg2 none)
+        | inr none ↦ inr (lacks points r.arg1 none)
+      ],
+      broke.1,
+    )
 
 shift-broke : (z : Size) (r : Record) (component points : List (ℤ × ℤ × Bool)) (f : Fault)
     → shift_of z r component points ≡ Err f → IsMatchDefect r component points f

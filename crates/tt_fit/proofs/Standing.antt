@@ -1,25 +1,22 @@
 -- An outline is refused for a defect that stands, and one that is given has none.
 use Rattle.std.proofs.Common.{◌≡◌, ℕ, zero, suc, List, [], ◌∷◌, take, Some, Result, Ok, Err, inl, inr, ℤ, pos, refl, subst, sym}
-use Rattle.std.specs.Prelude.{◌⊎◌, IsOkAnd}
+use Rattle.std.specs.Prelude.{IsOkAnd}
 use Rattle.std.specs.List.{slice_get}
 use Rattle.tt_core.specs.Chains.{came-through, was-err}
 use Rattle.tt_core.specs.Faults.{Fault}
-use Rattle.tt_core.specs.declared.fault.Why.TheVariants as why
 use Rattle.tt_core.specs.Limits.{level_limit}
 use Rattle.tt_core.specs.Outcomes.{◌>>=◌}
-use Rattle.tt_glyf.specs.declared.raw.RawPoint.{RawPoint}
 use Rattle.tt_glyf.specs.declared.raw.Record.{Record}
 use Rattle.tt_glyf.specs.GlyphData.{glyph_data_of}
 use Rattle.tt_glyf.specs.Loca.{glyph_offset}
 use Rattle.tt_glyf.specs.Raw.{GlyphData, empty, simple, composite}
 use Rattle.tt_glyf.proofs.Defects.{glyph-broke, glyph-whole}
-use Rattle.tt_fit.specs.Components.{placed}
 use Rattle.tt_fit.specs.Defects.{IsStartDefect, IsPlacingDefect, assembled_before, IsRecordsDefect, IsMakingDefect, IsDefectBy, IsBadComponent, IsOutlineDefect}
-use Rattle.tt_fit.specs.Fitting.{Setting, size_of, start, joined, glyph_program, simple_outline, made, outline_by, added, outline_at, fitted_outline}
+use Rattle.tt_fit.specs.Fitting.{Setting, size_of, start, joined, glyph_program, made, outline_by, added, fitted_outline}
 use Rattle.tt_fit.specs.Laws.{OutlinesAreWhole, OutlineFaultsStand}
 use Rattle.tt_fit.specs.Outline.{Shape}
 use Rattle.tt_fit.specs.Programs.{Hints, unhinted, GlyphProgram, finished}
-use Rattle.tt_fit.specs.Scaling.{glyf_fault, phantom_points, scaled_outline}
+use Rattle.tt_fit.specs.Scaling.{phantom_points, scaled_outline}
 use Rattle.tt_fit.proofs.Placing.{blank-broke, blank-whole, scaled-broke, scaled-whole, placing-broke, placing-whole}
 
 -- programs refuse no outline
@@ -63,10 +60,12 @@ joined-made add (z ∷ rs) o all zero r was there =
     (o, first.value, refl, rw (← same) first.first)
 joined-made add (z ∷ rs) o all (suc i) r was there =
     let first = came-through (add z o) (joined add rs) all was in
-    let later = joined-made add rs first.value all i r first.rest there in
-    (later.0, later.1,
-    through (add z o) (joined add (take i rs)) first.value later.0 first.first later.2,
-    later.3)
+    let later = joined-made add rs first.value all i r first.rest there in (
+      later.0,
+      later.1,
+      through (add z o) (joined add (take i rs)) first.value later.0 first.first later.2,
+      later.3,
+    )
 
 records-broke : (add : Record → Shape → Result Shape Fault) (IsOne : Record → Result Shape Fault → Fault → Type 0)
     → Tells add IsOne → (begun : Result Shape Fault) (o : Shape) (records : List Record) (f : Fault) → begun ≡ Ok o

@@ -1,5 +1,5 @@
 -- Laws of the definitions: an outline that is given has no defect, and a fault is one.
-use Rattle.std.specs.Prelude.{◌≡◌, ℕ, Result, Ok, Err}
+use Rattle.std.specs.Prelude.{◌≡◌, ℕ, Ok, Err}
 use Rattle.tt_core.specs.Directory.{HasNo}
 use Rattle.tt_core.specs.Faults.{Fault}
 use Rattle.tt_fit.specs.Defects.{IsOutlineDefect}

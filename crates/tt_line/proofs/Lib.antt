@@ -1,3 +1,3 @@
 pub mod Pens
 pub mod Quotients
-mod Texts
+pub mod Texts

@@ -4,9 +4,9 @@ use Rattle.std.specs.Prelude.{not, ◌==◌, IsOkAnd}
 use Rattle.tt_core.specs.Chains.{came-through, passed-on, passed, passed-else, not-both, not-neither, not-below, not-zero}
 use Rattle.tt_core.specs.Directory.{needed_table, HasNo, HasNo-IsDefectIn}
 use Rattle.tt_core.specs.Faults.{Fault}
-use Rattle.tt_core.specs.Laws.{TablesAreWhole}
 use Rattle.tt_core.specs.Numbers.{unsigned_at}
 use Rattle.tt_core.specs.Outcomes.{◌>>=◌}
+use Rattle.tt_core.proofs.Whole.{table-whole}
 use Rattle.tt_metrics.specs.declared.head.Head.{Head}
 use Rattle.tt_metrics.specs.declared.hhea.Hhea.{Hhea}
 use Rattle.tt_metrics.specs.declared.maxp.Maxp.{Maxp}
@@ -71,49 +71,49 @@ hhea-bytes-whole hhea h was =
       | inr none ↦ not-zero (unsigned_at hhea 34 2) pairs.0 none.1
     ]
 
-head-whole : TablesAreWhole → (file : List ℕ) (h : Head) → head_of file ≡ Ok h → HasNo (IsHeadDefect file)
+head-whole : (file : List ℕ) (h : Head) → head_of file ≡ Ok h → HasNo (IsHeadDefect file)
 unfolding head_of
-head-whole law file h was =
+head-whole file h was =
     let by_table = came-through (needed_table file head_tag) head_in h was in
-    HasNo-IsDefectIn file head_tag by_table.value IsBadHead by_table.first (law file head_tag by_table.value by_table.first)
+    HasNo-IsDefectIn file head_tag by_table.value IsBadHead by_table.first (table-whole file head_tag by_table.value by_table.first)
     (head-bytes-whole by_table.value h by_table.rest)
 
-maxp-whole : TablesAreWhole → (file : List ℕ) (m : Maxp) → maxp_of file ≡ Ok m → HasNo (IsMaxpDefect file)
+maxp-whole : (file : List ℕ) (m : Maxp) → maxp_of file ≡ Ok m → HasNo (IsMaxpDefect file)
 unfolding maxp_of
-maxp-whole law file m was =
+maxp-whole file m was =
     let by_table = came-through (needed_table file maxp_tag) maxp_in m was in
-    HasNo-IsDefectIn file maxp_tag by_table.value IsBadMaxp by_table.first (law file maxp_tag by_table.value by_table.first)
+    HasNo-IsDefectIn file maxp_tag by_table.value IsBadMaxp by_table.first (table-whole file maxp_tag by_table.value by_table.first)
     (maxp-bytes-whole by_table.value m by_table.rest)
 
-hhea-whole : TablesAreWhole → (file : List ℕ) (h : Hhea) → hhea_of file ≡ Ok h → HasNo (IsHheaDefect file)
+hhea-whole : (file : List ℕ) (h : Hhea) → hhea_of file ≡ Ok h → HasNo (IsHheaDefect file)
 unfolding hhea_of
-hhea-whole law file h was =
+hhea-whole file h was =
     let by_table = came-through (needed_table file hhea_tag) hhea_in h was in
-    HasNo-IsDefectIn file hhea_tag by_table.value IsBadHhea by_table.first (law file hhea_tag by_table.value by_table.first)
+    HasNo-IsDefectIn file hhea_tag by_table.value IsBadHhea by_table.first (table-whole file hhea_tag by_table.value by_table.first)
     (hhea-bytes-whole by_table.value h by_table.rest)
 
-hmtx-whole : TablesAreWhole → (file : List ℕ) (n : ℕ) (hmtx : List ℕ) → hmtx_of file n ≡ Ok hmtx
+hmtx-whole : (file : List ℕ) (n : ℕ) (hmtx : List ℕ) → hmtx_of file n ≡ Ok hmtx
     → HasNo (IsHmtxDefect file n)
 unfolding hmtx_of
-hmtx-whole law file n hmtx was =
+hmtx-whole file n hmtx was =
     let by_table = came-through (needed_table file hmtx_tag) (or_short hmtx_tag (4 * n)) hmtx was in
     let long = long-enough hmtx_tag (4 * n) by_table.value hmtx by_table.rest in
     HasNo-IsDefectIn file hmtx_tag by_table.value (IsShort hmtx_tag (4 * n)) by_table.first
-    (law file hmtx_tag by_table.value by_table.first)
+    (table-whole file hmtx_tag by_table.value by_table.first)
     (λ fault short. not-below (length by_table.value) (4 * n) long.0 short.0)
 
-pub metrics-whole : TablesAreWhole → MetricsAreWhole
+pub metrics-whole : MetricsAreWhole
 unfolding metrics_of
-metrics-whole law file m was =
+metrics-whole file m was =
     let by_head = came-through (head_of file) _ m was in
     let by_maxp = came-through (maxp_of file) _ m by_head.rest in
     let by_hhea = came-through (hhea_of file) _ m by_maxp.rest in
     let by_hmtx = came-through (hmtx_of file by_hhea.value.long_metrics) _ m by_hhea.rest in
     λ fault defect. elim defect [
-      | inl head ↦ head-whole law file by_head.value by_head.first fault head
-      | inr (inl maxp) ↦ maxp-whole law file by_maxp.value by_maxp.first fault maxp
-      | inr (inr (inl hhea)) ↦ hhea-whole law file by_hhea.value by_hhea.first fault hhea
+      | inl head ↦ head-whole file by_head.value by_head.first fault head
+      | inr (inl maxp) ↦ maxp-whole file by_maxp.value by_maxp.first fault maxp
+      | inr (inr (inl hhea)) ↦ hhea-whole file by_hhea.value by_hhea.first fault hhea
       | inr (inr (inr hmtx)) ↦
           let P : Result Hhea Fault → Type 0 = λ r. IsOkAnd r (λ h. IsHmtxDefect file h.long_metrics fault) in
-          hmtx-whole law file by_hhea.value.long_metrics by_hmtx.value by_hmtx.first fault (subst P by_hhea.first hmtx)
+          hmtx-whole file by_hhea.value.long_metrics by_hmtx.value by_hmtx.first fault (subst P by_hhea.first hmtx)
     ]

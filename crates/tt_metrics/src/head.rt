@@ -1,8 +1,7 @@
 //! The font header. Apple TrueType Reference Manual, "The 'head' table".
 
-ghost use Rattle.std.specs.Prelude.{◌≡◌, ◌≤◌, IsTrue, IfOk, IfErr, OnOk, length};
+ghost use Rattle.std.specs.Prelude.{◌≡◌, ◌≤◌, IsTrue, IfOk, IfErr, length};
 ghost use Rattle.tt_core.specs.Limits.{font_limit};
-ghost use Rattle.tt_core.specs.Directory.{HasNo};
 ghost use Rattle.tt_core.specs.Outcomes.{Gives};
 ghost use Rattle.tt_metrics.specs.Head.{smallest_em, largest_em, head_in, head_of, IsBadHead, IsHeadDefect};
 
@@ -39,7 +38,6 @@ pub(crate) fn read_head(dir: &Dir) -> Result<Head, Fault>
     ensures exact { Gives (λ head. head) result (head_of dir.now) }
     ensures em_low { IfOk result (λ head. smallest_em ≤ head.units_per_em) }
     ensures em_high { IfOk result (λ head. head.units_per_em ≤ largest_em) }
-    ensures sound { OnOk result (HasNo (IsHeadDefect dir.now)) }
     ensures fault { IfErr result (IsHeadDefect dir.now) }
 {
     fields_of(dir.needed(HEAD)?)
@@ -51,7 +49,6 @@ fn fields_of(head: &[u8]) -> Result<Head, Fault>
     ensures exact { Gives (λ head. head) result (head_in head.now) }
     ensures em_low { IfOk result (λ head. smallest_em ≤ head.units_per_em) }
     ensures em_high { IfOk result (λ head. head.units_per_em ≤ largest_em) }
-    ensures sound { OnOk result (HasNo (IsBadHead head.now)) }
     ensures fault { IfErr result (IsBadHead head.now) }
 {
     let head = long_enough(HEAD, 54, head)?;

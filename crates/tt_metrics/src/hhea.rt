@@ -1,8 +1,7 @@
 //! The horizontal header. Apple TrueType Reference Manual, "The 'hhea' table".
 
-ghost use Rattle.std.specs.Prelude.{◌≡◌, ◌≤◌, ◌<◌, IsTrue, IfOk, IfErr, OnOk, length};
+ghost use Rattle.std.specs.Prelude.{◌≡◌, ◌≤◌, ◌<◌, IsTrue, IfOk, IfErr, length};
 ghost use Rattle.tt_core.specs.Limits.{font_limit};
-ghost use Rattle.tt_core.specs.Directory.{HasNo};
 ghost use Rattle.tt_core.specs.Outcomes.{Gives};
 ghost use Rattle.tt_metrics.specs.Hhea.{hhea_in, hhea_of, IsBadHhea, IsHheaDefect};
 
@@ -26,7 +25,6 @@ pub struct Hhea {
 pub(crate) fn read_hhea(dir: &Dir) -> Result<Hhea, Fault>
     ensures exact { Gives (λ hhea. hhea) result (hhea_of dir.now) }
     ensures long_metrics { IfOk result (λ hhea. 0 < hhea.long_metrics) }
-    ensures sound { OnOk result (HasNo (IsHheaDefect dir.now)) }
     ensures fault { IfErr result (IsHheaDefect dir.now) }
 {
     fields_of(dir.needed(HHEA)?)
@@ -37,7 +35,6 @@ fn fields_of(hhea: &[u8]) -> Result<Hhea, Fault>
     requires { length hhea.now ≤ font_limit }
     ensures exact { Gives (λ hhea. hhea) result (hhea_in hhea.now) }
     ensures long_metrics { IfOk result (λ hhea. 0 < hhea.long_metrics) }
-    ensures sound { OnOk result (HasNo (IsBadHhea hhea.now)) }
     ensures fault { IfErr result (IsBadHhea hhea.now) }
 {
     let hhea = long_enough(HHEA, 36, hhea)?;

@@ -1,8 +1,7 @@
 //! The horizontal metrics. Apple TrueType Reference Manual, "The 'hmtx' table".
 
-ghost use Rattle.std.specs.Prelude.{◌≡◌, ◌*◌, ◌<◌, ◌≤◌, length, IsTrue, IfOk, IfErr, OnOk};
+ghost use Rattle.std.specs.Prelude.{◌≡◌, ◌*◌, ◌<◌, ◌≤◌, length, IsTrue, IfOk, IfErr};
 ghost use Rattle.tt_core.specs.Limits.{font_limit};
-ghost use Rattle.tt_core.specs.Directory.{HasNo};
 ghost use Rattle.tt_core.specs.Outcomes.{Gives};
 ghost use Rattle.tt_metrics.specs.Hmtx.{hmtx_of, advance_in, bearing_in, IsHmtxDefect};
 
@@ -17,7 +16,6 @@ pub(crate) fn read_hmtx<'a>(dir: &Dir<'a>, n: u16) -> Result<&'a [u8], Fault>
     ensures exact { Gives (λ hmtx. hmtx.now) result (hmtx_of dir.now n) }
     ensures pairs { IfOk result (λ hmtx. 4 * n ≤ length hmtx.now) }
     ensures size { IfOk result (λ hmtx. length hmtx.now ≤ font_limit) }
-    ensures sound { OnOk result (HasNo (IsHmtxDefect dir.now n)) }
     ensures fault { IfErr result (IsHmtxDefect dir.now n) }
 {
     long_enough(HMTX, 4 * usize::from(n), dir.needed(HMTX)?)

@@ -5,6 +5,4 @@ ghost use Rattle.tt_metrics.specs.Laws.{MetricsAreWhole};
 /// Where the definition gives the metrics of a file, no defect of head, maxp, hhea and hmtx stands.
 pub fn metrics_are_whole()
     ensures { MetricsAreWhole }
-{
-    tt_core::laws::tables_are_whole();
-}
+{}

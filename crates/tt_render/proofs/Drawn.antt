@@ -1,5 +1,5 @@
 -- Glyphs that are drawn one after the other: where one fails, that glyph's fault is the answer.
-use Rattle.std.proofs.Common.{◌≡◌, ◌∙◌, ℕ, zero, suc, ◌<◌, List, [], ◌∷◌, length, map, get_or, slice_index, ℤ, pos, unsigned_abs, ◌≤◌, All, Result, Ok, Err, refl, arith}
+use Rattle.std.proofs.Common.{◌≡◌, ◌∙◌, ℕ, zero, suc, ◌<◌, List, [], ◌∷◌, length, map, get_or, slice_index, Result, Ok, Err, refl, arith}
 use Rattle.std.proofs.lemmas.List.{length-map}
 use Rattle.tt_core.specs.Chains.{came-through}
 use Rattle.tt_core.specs.Faults.{Fault}

@@ -14,7 +14,7 @@ use Rattle.tt_line.specs.Layout.{text_glyphs}
 use Rattle.tt_metrics.specs.Metrics.{Fields}
 use Rattle.tt_scan.specs.declared.edge.Edge.{Edge}
 use Rattle.tt_render.specs.Asked.{Ask}
-use Rattle.tt_render.specs.Defects.{IsFaceDefect, IsGlyphTableDefect, IsSettingDefect, IsGlyphDefect, IsLineDefect, IsRunDefect, TellsDefects}
+use Rattle.tt_render.specs.Defects.{IsFaceDefect, IsGlyphTableDefect, IsSettingDefect, IsGlyphDefect, IsLineDefect, IsRunDefect}
 use Rattle.tt_render.specs.Face.{Face, face_of}
 use Rattle.tt_render.specs.Picture.{no_programs, glyphs_in, setting_in, glyph_edges}
 use Rattle.tt_render.proofs.Drawn.{defect_of_line, no_defect_of_line}

@@ -1,6 +1,5 @@
 -- A font from which there is something to be written has no defect.
-use Rattle.std.proofs.Common.{◌≡◌, ℕ, nat_lt, List, length, map, Result, Ok, Err, inl, inr, subst, sym, refl}
-use Rattle.std.specs.Prelude.{IsOkAnd, chars}
+use Rattle.std.proofs.Common.{◌≡◌, ℕ, nat_lt, List, length, map, Result, Ok, Err, inl, inr, subst, sym}
 use Rattle.tt_cmap.specs.Defects.{IsBadCmap}
 use Rattle.tt_cmap.specs.Laws.{LookupsAreWhole}
 use Rattle.tt_cmap.specs.Lookup.{lookup_of}
@@ -10,14 +9,13 @@ use Rattle.tt_core.specs.Directory.{directory_of, needed_table, HasNo, IsDefectI
 use Rattle.tt_core.specs.Faults.{Fault}
 use Rattle.tt_core.specs.Laws.{DirectoriesAreWhole, DirectoriesAreFiles, TablesAreWhole}
 use Rattle.tt_core.specs.Limits.{font_limit}
-use Rattle.tt_core.specs.Outcomes.{◌>>=◌, each}
+use Rattle.tt_core.specs.Outcomes.{each}
 use Rattle.tt_fit.specs.Fitting.{Setting}
-use Rattle.tt_fit.specs.Preparation.{setting_of}
 use Rattle.tt_glyf.specs.Bytes.{glyf_tag}
 use Rattle.tt_glyf.specs.Laws.{LocationsAreWhole}
-use Rattle.tt_glyf.specs.Loca.{GlyphTables, loca_tag, loca_of, with_glyf, IsLocaDefect}
+use Rattle.tt_glyf.specs.Loca.{GlyphTables, loca_tag, loca_of, IsLocaDefect}
 use Rattle.tt_line.specs.Laws.{PlacesGlyphs}
-use Rattle.tt_line.specs.Layout.{Placement, placement, text_glyphs}
+use Rattle.tt_line.specs.Layout.{Placement, placement}
 use Rattle.tt_metrics.specs.Laws.{MetricsAreWhole}
 use Rattle.tt_metrics.specs.Metrics.{Fields, metrics_of, glyphs_of, IsMetricsDefect}
 use Rattle.tt_render.specs.Asked.{Ask, tested, text_tested}
@@ -25,8 +23,8 @@ use Rattle.tt_render.specs.Defects.{IsFaceDefect, IsGlyphTableDefect, IsSettingD
 use Rattle.tt_render.specs.Face.{Face, cmap_tag, face_of}
 use Rattle.tt_render.specs.Laws.{DrawnFontsAreWhole, MappedFontsAreWhole}
 use Rattle.tt_render.specs.MapLines.{lines_of, map_outcome}
-use Rattle.tt_render.specs.Outcome.{Refused, as_font, as_job, of_font, outcome_of}
-use Rattle.tt_render.specs.Picture.{no_programs, glyphs_in, setting_in, glyph_edges, drawn, pictured, run_outcome}
+use Rattle.tt_render.specs.Outcome.{Refused, as_font, as_job, outcome_of}
+use Rattle.tt_render.specs.Picture.{glyphs_in, setting_in, glyph_edges, drawn, pictured, run_outcome}
 use Rattle.tt_render.proofs.Telling.{no_setting_defect, no_line_defect, no_run_defect}
 
 -- what the layers below say of what they give

@@ -1,5 +1,5 @@
 -- Laws of the definitions: where there are bytes to be written, the font has no defect.
-use Rattle.std.specs.Prelude.{◌≡◌, ℕ, List, Result, Ok}
+use Rattle.std.specs.Prelude.{◌≡◌, ℕ, List, Ok}
 use Rattle.tt_core.specs.Directory.{HasNo}
 use Rattle.tt_render.specs.Asked.{Ask}
 use Rattle.tt_render.specs.Defects.{IsFaceDefect, IsRunDefect}

@@ -1,9 +1,19 @@
 use Rattle.std.proofs.Common.{ℕ, Option, subst, ◌∙◌}
+use Rattle.tt_core.specs.Chains.{on-gives}
+use Rattle.tt_core.specs.Directory.{HasNo}
 use Rattle.tt_core.specs.Outcomes.{Gives}
-use Rattle.tt_cmap.specs.Lookup.{lookup_by}
+use Rattle.tt_cmap.specs.Defects.{IsBadCmap}
+use Rattle.tt_cmap.specs.Lookup.{lookup_by, lookup_of}
 use Rattle.tt_cmap.specs.Subtables.{chosen_serves, none_chosen}
-use Rattle.tt_cmap.proofs.Subtables.{OnOk-HasNo-IsBadCmap}
+use Rattle.tt_cmap.proofs.Whole.{lookup-whole}
 use Rattle.tt_cmap.proofs.lookup.Cmap.open.Goals as goal
+
+pub returns-clause-exact : goal.returns-clause-exact
+unfolding lookup_of
+returns-clause-exact c =
+    let table = c.args.table.now in
+    let P : Option ℕ → Type 0 = λ place. Gives (λ m. m) c.by_subtable.result (lookup_by table c.args.glyphs place) in
+    subst P c.chosen.ensures.chosen (rw c.in_ok-count.ensures.exact c.by_subtable.ensures.exact)
 
 pub returns-clause-first : goal.returns-clause-first
 returns-clause-first c = λ i serves.
@@ -22,5 +32,5 @@ returns-clause-absent c = λ none.
 pub returns-clause-sound : goal.returns-clause-sound
 returns-clause-sound c =
     let table = c.args.table.now in
-    let choice = c.by_subtable.ensures.sound in
-    OnOk-HasNo-IsBadCmap c.by_subtable.result table c.chosen.result c.chosen.ensures.chosen c.in_ok-count.ensures.sound choice
+    on-gives (λ m. m) c.by_subtable.result (lookup_of table c.args.glyphs) (HasNo (IsBadCmap table))
+    (returns-clause-exact c) (lookup-whole table c.args.glyphs)

@@ -1,7 +1,6 @@
-use Rattle.std.proofs.Common.{◌≡◌, arith}
+use Rattle.std.proofs.Common.{arith}
 use Rattle.tt_core.specs.Chains.{on-given, if-told}
 use Rattle.tt_core.specs.Directory.{HasNo}
-use Rattle.tt_core.specs.Outcomes.{FontGives}
 use Rattle.tt_fit.specs.Defects.{IsOutlineDefect}
 use Rattle.tt_fit.specs.Fitting.{fitted_outline}
 use Rattle.tt_fit.specs.Outline.{outline_of}

@@ -1,9 +1,0 @@
-use Rattle.tt_core.specs.Directory.{OnOk-HasNo-IsDefectIn}
-use Rattle.tt_metrics.specs.Maxp.{maxp_tag, IsBadMaxp}
-use Rattle.tt_metrics.proofs.maxp.read_maxp.Goals as goal
-
-pub returns-clause-sound : goal.returns-clause-sound
-returns-clause-sound c =
-    let there = c.in_ok-needed in
-    OnOk-HasNo-IsDefectIn c.fields_of.result c.args.dir.now maxp_tag there.field-0.now IsBadMaxp there.ensures.exact
-    there.ensures.sound c.fields_of.ensures.sound
