@@ -9,6 +9,7 @@ mod Keeping
 mod Pens
 pub mod Places
 mod Standings
+mod Seats
 mod Alike
 mod Whole
 mod Answered
