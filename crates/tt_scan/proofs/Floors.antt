@@ -3,6 +3,7 @@ use Rattle.std.proofs.Common.{◌≡◌, ℕ, ◌/◌, ◌^◌, ◌<◌, ◌≤�
 use Rattle.std.specs.Prelude.{ℤ, pos, negsuc, ◌+ℤ◌, ◌-ℤ◌, ◌*ℤ◌, ◌≤ℤ◌, ◌<ℤ◌, int_lt, unsigned_abs}
 use Rattle.std.specs.Int.{int_div_euclid}
 use Rattle.std.proofs.lemmas.Int.{ints, by_lt_z}
+use lib.Signed.{shr_z}
 use Rattle.tt_core.specs.Products.{mul_sum, floor_above, floor_below}
 use Rattle.tt_scan.specs.Winding.{is_zero}
 
@@ -33,3 +34,16 @@ at_floor d q rest n c low high is =
     (λ more. by_lt_z c q
     (λ less. let under = floor_below d q rest n (c +ℤ pos 1) (omega (arith, ints)) low is (omega (arith, ints)) in let spread = mul_sum d c (pos 1) in grind (arith, ints))
     (λ same. same_floor d q rest n c (omega (arith, ints)) is))
+
+-- a shift by 13 is a floor too
+pub shifted_low : (n : ℤ) → (pos 8192 *ℤ shr_z n 8192) ≤ℤ n
+shifted_low (pos a) = omega (arith, ints)
+shifted_low (negsuc a) = omega (arith, ints)
+
+pub shifted_high : (n : ℤ) → n <ℤ (pos 8192 *ℤ (shr_z n 8192 +ℤ pos 1))
+shifted_high (pos a) = omega (arith, ints)
+shifted_high (negsuc a) = omega (arith, ints)
+
+pub shifted_fits : (n : ℤ) → SFits w64 n → SFits w64 (shr_z n 8192)
+shifted_fits (pos a) f = omega (arith, ints)
+shifted_fits (negsuc a) f = omega (arith, ints)

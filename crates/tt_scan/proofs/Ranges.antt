@@ -50,23 +50,27 @@ between_down a b z low high k is_low is_high =
     between_is a b z ∙ rw (one, two) (and_turned (int_le k high) (int_le low k))
 
 -- whole pixels, from their counts: `first` from the floor of low and all but one more pixel, `last` from the floor of high
-pixel_first : (low first rest k : ℤ) → pos 8192 *ℤ first +ℤ rest ≡ low +ℤ pos 8191 → pos 0 ≤ℤ rest → rest <ℤ pos 8192 → int_le first k ≡ int_le low (pos 8192 *ℤ k)
-pixel_first low first rest k is rest_low rest_high =
+pixel_first : (low first k : ℤ) → (pos 8192 *ℤ first) ≤ℤ (low +ℤ pos 8191) → (low +ℤ pos 8191) <ℤ (pos 8192 *ℤ (first +ℤ pos 1))
+    → int_le first k ≡ int_le low (pos 8192 *ℤ k)
+pixel_first low first k floor next =
     by_lt_z k first
     (λ less. let before : (pos 8192 *ℤ k) <ℤ low = omega (arith, ints) in grind (arith, ints))
     (λ more. let reached : low ≤ℤ (pos 8192 *ℤ k) = omega (arith, ints) in grind (arith, ints))
 
-pixel_last : (high last rest k : ℤ) → pos 8192 *ℤ last +ℤ rest ≡ high → pos 0 ≤ℤ rest → rest <ℤ pos 8192 → int_le k last ≡ int_le (pos 8192 *ℤ k) high
-pixel_last high last rest k is rest_low rest_high =
+pixel_last : (high last k : ℤ) → (pos 8192 *ℤ last) ≤ℤ high → high <ℤ (pos 8192 *ℤ (last +ℤ pos 1))
+    → int_le k last ≡ int_le (pos 8192 *ℤ k) high
+pixel_last high last k floor next =
     by_lt_z last k
     (λ less. let over : high <ℤ (pos 8192 *ℤ k) = omega (arith, ints) in grind (arith, ints))
     (λ more. let within : (pos 8192 *ℤ k) ≤ℤ high = omega (arith, ints) in grind (arith, ints))
 
-pub pixels_are : (low high first one last two k : ℤ) → pos 8192 *ℤ first +ℤ one ≡ low +ℤ pos 8191 → pos 0 ≤ℤ one → one <ℤ pos 8192
-    → pos 8192 *ℤ last +ℤ two ≡ high → pos 0 ≤ℤ two → two <ℤ pos 8192 → (int_le first k && int_le k last) ≡ (int_le low (pos 8192 *ℤ k) && int_le (pos 8192 *ℤ k) high)
-pixels_are low high first one last two k is_first one_low one_high is_last two_low two_high =
-    let left = pixel_first low first one k is_first one_low one_high in
-    let right = pixel_last high last two k is_last two_low two_high in
+pub pixels_in : (low high first last k : ℤ)
+    → (pos 8192 *ℤ first) ≤ℤ (low +ℤ pos 8191) → (low +ℤ pos 8191) <ℤ (pos 8192 *ℤ (first +ℤ pos 1))
+    → (pos 8192 *ℤ last) ≤ℤ high → high <ℤ (pos 8192 *ℤ (last +ℤ pos 1))
+    → (int_le first k && int_le k last) ≡ (int_le low (pos 8192 *ℤ k) && int_le (pos 8192 *ℤ k) high)
+pixels_in low high first last k first_low first_high last_low last_high =
+    let left = pixel_first low first k first_low first_high in
+    let right = pixel_last high last k last_low last_high in
     rw (left, right) refl
 
 pub none_between : (a b k : ℤ) → int_le a b ≡ false → false ≡ (int_le a k && int_le k b)

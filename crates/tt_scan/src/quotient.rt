@@ -27,6 +27,14 @@ pub(crate) fn divided(n: i64, d: i64) -> Quotient
     }
 }
 
+/// How many whole pixels there are in `n`, which is in 1/8192 pixel: the floor.
+pub(crate) fn whole_pixels(n: i64) -> i64
+    ensures low { (pos 8192 *ℤ result) ≤ℤ n }
+    ensures high { n <ℤ (pos 8192 *ℤ (result +ℤ pos 1)) }
+{
+    n >> 13
+}
+
 /// `a * b`, told as a product of whole numbers.
 pub(crate) fn product(a: i64, b: i64) -> i64
     requires left { unsigned_abs a < 2 ^ 31 }
@@ -47,8 +55,8 @@ pub(crate) fn pixels_between(low: i64, high: i64) -> Option<(i64, i64)>
     ensures first { IfSome result (λ t. unsigned_abs t.0 < 2 ^ 24) }
     ensures last { IfSome result (λ t. unsigned_abs t.1 < 2 ^ 24) }
 {
-    let first = divided(low + (PIXEL - 1), PIXEL).whole;
-    let last = divided(high, PIXEL).whole;
+    let first = whole_pixels(low + (PIXEL - 1));
+    let last = whole_pixels(high);
     if first <= last {
         Some((first, last))
     } else {
