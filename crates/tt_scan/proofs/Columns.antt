@@ -35,7 +35,7 @@ mask_bit from to j order fits within = elim (cases_lt (7 - j) (8 - from)) [
 
 -- one byte of a row
 
-or_bit : (a b i : ℕ) → (bit_at (bit_or a b) i == 1) ≡ ((bit_at a i == 1) || (bit_at b i == 1))
+pub or_bit : (a b i : ℕ) → (bit_at (bit_or a b) i == 1) ≡ ((bit_at a i == 1) || (bit_at b i == 1))
 or_bit a b i =
     let both = bit_at_or a b i in let one = bit_at-lt a i in let two = bit_at-lt b i in grind (arith, nat_tests)
 

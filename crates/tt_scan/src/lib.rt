@@ -13,6 +13,7 @@ mod pixel;
 mod quotient;
 mod row;
 mod rows;
+mod stamp;
 mod stretch;
 mod sweep;
 mod table;

@@ -7,6 +7,7 @@ ghost use Rattle.tt_scan.specs.Winding.{is_black, column_x, row_y, rows_met};
 
 use crate::mark::{Mark, Span};
 use crate::paint::paint_spans;
+use crate::stamp::{Stamp, paint_stamp, stamped};
 use crate::stretch::{sort, wind};
 use crate::tape::Tape;
 use std::alloc::{AllocError, Global};
@@ -17,19 +18,23 @@ use std::marker::Model;
 pub struct Sweep {
     marks: Vec<Mark>,
     spans: Vec<Span>,
+    /// The same columns as the spans', where they are few.
+    stamp: Option<Stamp>,
     room: usize,
 }
 
 impl Model for Sweep {
-    ghost use Rattle.std.specs.Prelude.{◌+◌, ◌*◌, ◌^◌, ◌<◌, ◌≤◌};
+    ghost use Rattle.std.specs.Prelude.{IfSome, ◌+◌, ◌*◌, ◌^◌, ◌<◌, ◌≤◌};
     ghost use Rattle.std.specs.Vec.{vec_capacity};
     ghost use Rattle.tt_scan.specs.Marks.{Swept};
+    ghost use Rattle.tt_scan.specs.Stamps.{IsStampOf};
 
     ghost Value = { Swept };
 
     ghost view = { λ s. record { spans = s.spans.items; room = s.room } };
 
-    ghost invariant = { λ s. (s.room < 2 ^ 61) × (s.room ≤ vec_capacity s.marks) × (2 * s.room + 1 ≤ vec_capacity s.spans) };
+    ghost invariant = { λ s. (s.room < 2 ^ 61) × (s.room ≤ vec_capacity s.marks) × (2 * s.room + 1 ≤ vec_capacity s.spans)
+        × IfSome s.stamp (IsStampOf s.spans.items) };
 }
 
 impl Sweep {
@@ -41,6 +46,7 @@ impl Sweep {
         Ok(Sweep {
             marks,
             spans: Vec::with_capacity(alloc, 2 * most + 1)?,
+            stamp: None,
             room: most,
         })
     }
@@ -63,6 +69,7 @@ impl Sweep {
         tape.collect(r, &mut self.marks, &mut self.spans);
         sort(&mut self.marks);
         wind(&self.marks, &mut self.spans);
+        self.stamp = stamped(&self.spans);
     }
 
     /// Whether there is no span, so that no column is black.
@@ -81,6 +88,9 @@ impl Sweep {
             ≡ (bit row.old k || (nat_lt k width && covers self.now.spans (pos k -ℤ shift))) }
         ensures len { length row.new ≡ length row.old }
     {
-        paint_spans(&self.spans, shift, width, row);
+        match self.stamp {
+            Some(stamp) => paint_stamp(stamp, &self.spans, shift, width, row),
+            None => paint_spans(&self.spans, shift, width, row),
+        }
     }
 }

@@ -1,4 +1,4 @@
-use Rattle.std.proofs.Common.{◌≡◌, ◌∙◌, ◌+ℤ◌, ◌-ℤ◌, ◌*ℤ◌, ◌≤ℤ◌, ◌<ℤ◌, pos, SFits, w64, rules, arith}
+use Rattle.std.proofs.Common.{◌∙◌, ◌+ℤ◌, pos, SFits, w64, rules, arith}
 use Rattle.std.proofs.lemmas.Int.{ints, to_z-of_z}
 use Rattle.tt_scan.proofs.Ranges.{pixels_in, none_between}
 use Rattle.tt_scan.proofs.quotient.pixels_between.Goals as goal

@@ -1,5 +1,5 @@
-use Rattle.std.proofs.Common.{SFits, w64, arith}
-use Rattle.std.proofs.lemmas.Int.{ints, to_z-of_z}
+use Rattle.std.proofs.Common.{SFits, w64}
+use Rattle.std.proofs.lemmas.Int.{to_z-of_z}
 use lib.Signed.{shr_z}
 use Rattle.tt_scan.proofs.Floors.{shifted_low, shifted_high, shifted_fits}
 use Rattle.tt_scan.proofs.quotient.whole_pixels.Goals as goal

@@ -1,0 +1,109 @@
+-- The columns of spans as a stamp, and a stamp painted.
+use Rattle.std.proofs.Common.{◌≡◌, ◌∙◌, sym, refl, ℕ, ◌+◌, ◌-◌, ◌<◌, ◌≤◌, Bool, true, false, ◌&&◌, ◌||◌, ◌==◌, nat_le, nat_lt, List, length, take, get_or, bit_or, ℤ, pos, ◌+ℤ◌, ◌-ℤ◌, ◌≤ℤ◌, int_le, unsigned_abs, arith, inl, inr}
+use Rattle.std.specs.Int.{bit_at}
+use Rattle.std.proofs.lemmas.Bool.Decides.{nat_tests}
+use Rattle.std.proofs.lemmas.Bool.{cases_lt}
+use Rattle.std.proofs.lemmas.Int.{ints, by_lt_z}
+use Rattle.std.proofs.lemmas.List.{take_more}
+use Rattle.std.proofs.lemmas.Nat.Bits.{bit_at-lt, bit_at-zero, bit_at_or}
+use Rattle.tt_scan.specs.declared.mark.Span.{Span}
+use Rattle.tt_scan.specs.declared.stamp.Stamp.{Stamp}
+use Rattle.tt_scan.specs.Marks.{covers}
+use Rattle.tt_scan.specs.Stamps.{in_word, shows, IsStampOf}
+use Rattle.tt_scan.proofs.Columns.{or_bit}
+use Rattle.tt_scan.proofs.Visits.{covers_more}
+
+-- nothing yet
+
+none_in : (b : Bool) (n : ℕ) → n ≡ 0 → (b && (n == 1)) ≡ false
+none_in true n none = rw none refl
+none_in false n none = refl
+
+second_false : (a b : Bool) → b ≡ false → (a && b) ≡ false
+second_false true b off = off
+second_false false b off = refl
+
+pub shows_none : (s : Stamp) (c : ℤ) → s.word ≡ 0 → false ≡ shows s c
+shows_none s c none =
+    rw none (sym (second_false (int_le s.low c) (in_word 0 (unsigned_abs (c -ℤ s.low)))
+    (none_in (nat_lt (unsigned_abs (c -ℤ s.low)) 57) (bit_at 0 (63 - unsigned_abs (c -ℤ s.low))) (bit_at-zero (63 - unsigned_abs (c -ℤ s.low))))))
+
+-- one span more
+
+spread_in : (a b c d : Bool) → b ≡ (c || d) → (a && b) ≡ ((a && c) || (a && d))
+spread_in true b c d is = is
+spread_in false b c d is = refl
+
+in_both : (word mask j : ℕ) → in_word (bit_or word mask) j ≡ (in_word word j || in_word mask j)
+in_both word mask j =
+    spread_in (nat_lt j 57) (bit_at (bit_or word mask) (63 - j) == 1) (bit_at word (63 - j) == 1) (bit_at mask (63 - j) == 1) (or_bit word mask (63 - j))
+
+mask_shows : (low first last c : ℤ) (from to mask : ℕ) → pos from ≡ first -ℤ low → pos to ≡ (last +ℤ pos 1) -ℤ low → low ≤ℤ first → last ≤ℤ (low +ℤ pos 56)
+    → ((j : ℕ) → j < 64 → (bit_at mask (63 - j) == 1) ≡ (nat_le from j && nat_lt j to))
+    → (int_le low c && in_word mask (unsigned_abs (c -ℤ low))) ≡ (int_le first c && int_le c last)
+mask_shows low first last c from to mask is_from is_to above below is =
+    by_lt_z c low
+    (λ left.
+    let off : int_le low c ≡ false = grind (arith, ints) in
+    let out : int_le first c ≡ false = grind (arith, ints) in
+    rw (off, out) refl)
+    (λ right.
+    let on : int_le low c ≡ true = grind (arith, ints) in
+    elim (cases_lt (unsigned_abs (c -ℤ low)) 57) [
+      | inl inside ↦
+          let in_it : nat_lt (unsigned_abs (c -ℤ low)) 57 ≡ true = grind (arith, nat_tests) in
+          let columns = is (unsigned_abs (c -ℤ low)) (omega arith) in
+          rw (on, in_it, columns) (grind (arith, ints, nat_tests))
+      | inr past ↦
+          let out : nat_lt (unsigned_abs (c -ℤ low)) 57 ≡ false = grind (arith, nat_tests) in
+          let over : int_le c last ≡ false = grind (arith, ints) in
+          rw (on, out, over) (sym (second_false (int_le first c) false refl))
+    ])
+
+pub shows_more : (s t : Stamp) (span : Span) (from to mask : ℕ) (c : ℤ) → t.low ≡ s.low → t.word ≡ bit_or s.word mask
+    → pos from ≡ span.first -ℤ s.low → pos to ≡ (span.last +ℤ pos 1) -ℤ s.low → s.low ≤ℤ span.first → span.last ≤ℤ (s.low +ℤ pos 56)
+    → ((j : ℕ) → j < 64 → (bit_at mask (63 - j) == 1) ≡ (nat_le from j && nat_lt j to))
+    → shows t c ≡ (shows s c || (int_le span.first c && int_le c span.last))
+shows_more s t span from to mask c low word is_from is_to above below is =
+    rw (low, word, in_both s.word mask (unsigned_abs (c -ℤ s.low)), ← mask_shows s.low span.first span.last c from to mask is_from is_to above below is)
+    (spread_in (int_le s.low c) (in_word s.word (unsigned_abs (c -ℤ s.low)) || in_word mask (unsigned_abs (c -ℤ s.low))) (in_word s.word (unsigned_abs (c -ℤ s.low))) (in_word mask (unsigned_abs (c -ℤ s.low))) refl)
+
+pub free_more : (word mask from to i : ℕ) → to ≤ 57 → ((j : ℕ) → j < 64 → (bit_at mask (63 - j) == 1) ≡ (nat_le from j && nat_lt j to))
+    → i < 7 → bit_at word i ≡ 0 → bit_at (bit_or word mask) i ≡ 0
+free_more word mask from to i short is low free =
+    let at : 63 - (63 - i) ≡ i = omega arith in
+    let off = rw at at (is (63 - i) (omega arith)) in
+    let few = bit_at-lt mask i in
+    let zero : bit_at mask i ≡ 0 = grind (arith, nat_tests) in
+    bit_at_or word mask i ∙ rw (free, zero) refl
+
+pub span_added : (ss : List Span) (i : ℕ) (d : Span) (c : ℤ) (so_far now : Bool) → i < length ss → covers (take i ss) c ≡ so_far
+    → now ≡ (so_far || (int_le (get_or ss i d).first c && int_le c (get_or ss i d).last)) → covers (take (i + 1) ss) c ≡ now
+span_added ss i d c so_far now below is is_now =
+    rw (take_more ss i d below) (covers_more (take i ss) (get_or ss i d) c ∙ rw is (sym is_now))
+
+-- painted at a place
+
+within_row : (word at k width : ℕ) → at + 64 ≤ width → in_word word (k - at) ≡ (nat_lt k width && in_word word (k - at))
+within_row word at k width room = elim (cases_lt k width) [
+  | inl inside ↦ let on : nat_lt k width ≡ true = grind (arith, nat_tests) in rw on refl
+  | inr past ↦
+      let off : nat_lt k width ≡ false = grind (arith, nat_tests) in
+      let out : nat_lt (k - at) 57 ≡ false = grind (arith, nat_tests) in
+      rw (off, out) refl
+]
+
+pub stamp_painted : (ss : List Span) (s : Stamp) (at k width : ℕ) (shift : ℤ) → IsStampOf ss s → pos at ≡ s.low +ℤ shift → at + 64 ≤ width
+    → (nat_le at k && in_word s.word (k - at)) ≡ (nat_lt k width && covers ss (pos k -ℤ shift))
+stamp_painted ss s at k width shift is is_at room =
+    rw (is.shows (pos k -ℤ shift)) (elim (cases_lt k at) [
+      | inl left ↦
+          let off : nat_le at k ≡ false = grind (arith, nat_tests) in
+          let out : int_le s.low (pos k -ℤ shift) ≡ false = grind (arith, ints) in
+          rw (off, out) (sym (second_false (nat_lt k width) false refl))
+      | inr right ↦
+          let on : nat_le at k ≡ true = grind (arith, nat_tests) in
+          let in_it : int_le s.low (pos k -ℤ shift) ≡ true = grind (arith, ints) in
+          let same : unsigned_abs ((pos k -ℤ shift) -ℤ s.low) ≡ k - at = omega (arith, ints) in
+          rw (on, in_it, same) (within_row s.word at k width room)
+    ])

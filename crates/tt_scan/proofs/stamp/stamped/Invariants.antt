@@ -1,0 +1,13 @@
+use Rattle.std.proofs.Common.{◌≡◌, ℕ, ℤ, ◌^◌, ◌<◌, ◌≤◌, take, unsigned_abs}
+use Rattle.std.specs.Int.{bit_at}
+use Rattle.tt_scan.specs.Marks.{covers}
+use Rattle.tt_scan.specs.Stamps.{shows}
+use Rattle.tt_scan.proofs.stamp.stamped.Given as goal
+
+-- the stamp has the spans so far
+abbrev pub invariant-loop-i : goal.invariant-loop-i
+invariant-loop-i l = record {
+  shows : (c : ℤ) → covers (take l.i l.spans) c ≡ shows l.stamp c;
+  free : (i : ℕ) → i < 7 → bit_at l.stamp.word i ≡ 0;
+  low : unsigned_abs l.stamp.low ≤ 2 ^ 40;
+}
