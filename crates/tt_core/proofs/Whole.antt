@@ -2,7 +2,7 @@
 use Rattle.std.proofs.Common.{◌≡◌, ℕ, nat_lt, false, List, length, Option, Some, None, is_some, Ok, inl, inr}
 use Rattle.std.specs.Prelude.{not, ◌⊎◌}
 use Rattle.tt_core.specs.Chains.{came-through, passed-on, not-neither, not-below}
-use Rattle.tt_core.specs.Directory.{is_version, directory_end, directory_of, record_end, record_of, named_by, table_of, or_missing, needed_table, HasNo, IsDirectoryDefect, RecordPassesEnd, IsTableDefect}
+use Rattle.tt_core.specs.Directory.{is_version, directory_end, directory_of, record_end, record_of, named_by, table_of, or_missing, needed_table, HasNo, IsDirectoryDefect, RecordPassesEnd, IsTableDefect, IsDefectIn, HasNo-IsDefectIn}
 use Rattle.tt_core.specs.declared.fault.Why.TheVariants as why
 use Rattle.tt_core.specs.Faults.{Fault, fault_at}
 use Rattle.tt_core.specs.Numbers.{unsigned_at}
@@ -33,7 +33,8 @@ directory-same file directory was =
 
 -- by the record of the table, where there is one
 table-whole-by : (file tag table : List ℕ) (number : Option ℕ) → (named_by file number >>= or_missing tag) ≡ Ok table
-    → (fault : Fault) → RecordPassesEnd file number fault ⊎ ((is_some number ≡ false) × (fault ≡ fault_at tag 0 why.NoTable))
+    → (fault : Fault) → RecordPassesEnd file number fault
+    ⊎ ((is_some number ≡ false) × (fault ≡ fault_at tag 0 why.NoTable))
     → ⊥
 table-whole-by file tag table None was fault defect = cc
 table-whole-by file tag table (Some i) was fault defect =
@@ -47,3 +48,9 @@ table-whole-by file tag table (Some i) was fault defect =
 pub table-whole : (file tag table : List ℕ) → needed_table file tag ≡ Ok table → HasNo (IsTableDefect file tag)
 unfolding needed_table table_of
 table-whole file tag table was = λ fault defect. table-whole-by file tag table (record_of file tag) was fault defect
+
+-- a table that is there and whose bytes are good has no defect
+pub table-good : (file tag table : List ℕ) (IsBad : List ℕ → Fault → Type 0) → needed_table file tag ≡ Ok table
+    → HasNo (IsBad table) → HasNo (IsDefectIn file tag IsBad)
+table-good file tag table IsBad there good =
+    HasNo-IsDefectIn file tag table IsBad there (table-whole file tag table there) good

@@ -77,8 +77,10 @@ all-hold true true true d is = (refl, refl, refl, is)
 pub blank-broke : (at : ℕ) (p : PhantomPoints) (f : Fault) → blank at p ≡ Err f → IsPhantomDefect at p f
 unfolding blank
 blank-broke at p f was =
-    let test = failed-else (are_positions p) _ _ f was in (
-      elim (one-fails (is_position p.left) (is_position p.right) (is_position p.ascent) (is_position p.descent) test.0) [
+    let test = failed-else (are_positions p) _ _ f was in
+    let one = one-fails (is_position p.left) (is_position p.right) (is_position p.ascent) (is_position p.descent)
+    test.0 in (
+      elim one [
         | inl left ↦ inl (leaves p.left.0 p.left.1 left)
         | inr (inl right) ↦ inr (inl (leaves p.right.0 p.right.1 right))
         | inr (inr (inl ascent)) ↦ inr (inr (inl (leaves p.ascent.0 p.ascent.1 ascent)))

@@ -1,9 +1,18 @@
--- A loca that is given is long enough.
-use Rattle.std.proofs.Common.{nat_lt, length}
+-- A loca that is long enough is given, and one that is given is long enough.
+use Rattle.std.proofs.Common.{◌≡◌, ℕ, ◌≤◌, nat_lt, false, List, length, Ok, refl, arith}
+use Rattle.std.proofs.lemmas.Bool.Decides.{nat_tests}
 use Rattle.tt_core.specs.Chains.{passed, not-below}
-use Rattle.tt_metrics.specs.Metrics.{loca_format_of, glyphs_of}
+use Rattle.tt_metrics.specs.Metrics.{Fields, loca_format_of, glyphs_of}
 use Rattle.tt_glyf.specs.Laws.{LocationsAreWhole}
 use Rattle.tt_glyf.specs.Loca.{loca_with, loca_size, loca_of}
+
+long-enough : (a b : ℕ) → b ≤ a → nat_lt a b ≡ false
+long-enough a b room = grind (arith, nat_tests)
+
+pub locations-given : (loca : List ℕ) (m : Fields) → loca_size (loca_format_of m) (glyphs_of m) ≤ length loca
+    → loca_of loca m ≡ Ok (loca_with loca m)
+unfolding loca_of
+locations-given loca m room = rw (long-enough (length loca) (loca_size (loca_format_of m) (glyphs_of m)) room) refl
 
 pub locations-whole : LocationsAreWhole
 unfolding loca_of

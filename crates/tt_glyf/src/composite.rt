@@ -23,7 +23,6 @@ struct RecordList {
 }
 
 /// Errors: GlyphShort, ComponentCount, ComponentGlyph, ScaledOffset, Memory.
-#[tactic(auto, using(crate::proofs::Components::more, crate::proofs::Components::last, crate::proofs::Components::breaks, crate::proofs::Components::over))]
 fn read_records(alloc: Global, glyph: &GlyphBytes, glyphs: u16) -> Result<RecordList, FontFault>
     requires { 10 ≤ length glyph.now.bytes }
     ensures exact { FontGives records_listing result (records_of glyphs glyph.now) }

@@ -2,11 +2,11 @@
 use Rattle.std.proofs.Common.{◌≡◌, ℕ, ◌*◌, nat_lt, false, List, length, Result, Ok, inl, inr, subst, sym}
 use Rattle.std.specs.Prelude.{not, ◌==◌, IsOkAnd}
 use Rattle.tt_core.specs.Chains.{came-through, passed-on, passed, passed-else, not-both, not-neither, not-below, not-zero}
-use Rattle.tt_core.specs.Directory.{needed_table, HasNo, HasNo-IsDefectIn}
+use Rattle.tt_core.specs.Directory.{needed_table, HasNo}
 use Rattle.tt_core.specs.Faults.{Fault}
 use Rattle.tt_core.specs.Numbers.{unsigned_at}
 use Rattle.tt_core.specs.Outcomes.{◌>>=◌}
-use Rattle.tt_core.proofs.Whole.{table-whole}
+use Rattle.tt_core.proofs.Whole.{table-good}
 use Rattle.tt_metrics.specs.declared.head.Head.{Head}
 use Rattle.tt_metrics.specs.declared.hhea.Hhea.{Hhea}
 use Rattle.tt_metrics.specs.declared.maxp.Maxp.{Maxp}
@@ -44,7 +44,8 @@ maxp-bytes-whole : (maxp : List ℕ) (m : Maxp) → maxp_in maxp ≡ Ok m → Ha
 unfolding maxp_in
 maxp-bytes-whole maxp m was =
     let read = came-through (or_short maxp_tag 4 maxp >>= versioned_maxp >>= or_short maxp_tag 32) maxp_fields m was in
-    let whole = came-through (or_short maxp_tag 4 maxp >>= versioned_maxp) (or_short maxp_tag 32) read.value read.first in
+    let whole = came-through (or_short maxp_tag 4 maxp >>= versioned_maxp) (or_short maxp_tag 32) read.value
+    read.first in
     let word = came-through (or_short maxp_tag 4 maxp) versioned_maxp whole.value whole.first in
     let begins = long-enough maxp_tag 4 maxp word.value word.first in
     let versioned : versioned_maxp maxp ≡ Ok whole.value = rw begins.1 at word.rest in
@@ -75,21 +76,21 @@ head-whole : (file : List ℕ) (h : Head) → head_of file ≡ Ok h → HasNo (I
 unfolding head_of
 head-whole file h was =
     let by_table = came-through (needed_table file head_tag) head_in h was in
-    HasNo-IsDefectIn file head_tag by_table.value IsBadHead by_table.first (table-whole file head_tag by_table.value by_table.first)
+    table-good file head_tag by_table.value IsBadHead by_table.first
     (head-bytes-whole by_table.value h by_table.rest)
 
 maxp-whole : (file : List ℕ) (m : Maxp) → maxp_of file ≡ Ok m → HasNo (IsMaxpDefect file)
 unfolding maxp_of
 maxp-whole file m was =
     let by_table = came-through (needed_table file maxp_tag) maxp_in m was in
-    HasNo-IsDefectIn file maxp_tag by_table.value IsBadMaxp by_table.first (table-whole file maxp_tag by_table.value by_table.first)
+    table-good file maxp_tag by_table.value IsBadMaxp by_table.first
     (maxp-bytes-whole by_table.value m by_table.rest)
 
 hhea-whole : (file : List ℕ) (h : Hhea) → hhea_of file ≡ Ok h → HasNo (IsHheaDefect file)
 unfolding hhea_of
 hhea-whole file h was =
     let by_table = came-through (needed_table file hhea_tag) hhea_in h was in
-    HasNo-IsDefectIn file hhea_tag by_table.value IsBadHhea by_table.first (table-whole file hhea_tag by_table.value by_table.first)
+    table-good file hhea_tag by_table.value IsBadHhea by_table.first
     (hhea-bytes-whole by_table.value h by_table.rest)
 
 hmtx-whole : (file : List ℕ) (n : ℕ) (hmtx : List ℕ) → hmtx_of file n ≡ Ok hmtx
@@ -98,8 +99,7 @@ unfolding hmtx_of
 hmtx-whole file n hmtx was =
     let by_table = came-through (needed_table file hmtx_tag) (or_short hmtx_tag (4 * n)) hmtx was in
     let long = long-enough hmtx_tag (4 * n) by_table.value hmtx by_table.rest in
-    HasNo-IsDefectIn file hmtx_tag by_table.value (IsShort hmtx_tag (4 * n)) by_table.first
-    (table-whole file hmtx_tag by_table.value by_table.first)
+    table-good file hmtx_tag by_table.value (IsShort hmtx_tag (4 * n)) by_table.first
     (λ fault short. not-below (length by_table.value) (4 * n) long.0 short.0)
 
 pub metrics-whole : MetricsAreWhole

@@ -134,4 +134,5 @@ pub mapped-whole : FontLaws → MappedFontsAreWhole
 unfolding map_outcome
 mapped-whole laws text file bytes was =
     lines-whole laws file text bytes
-    (of-font (lines_of file text) bytes (made-of (text_tested text) (λ font. as_font (lines_of font text)) file bytes was))
+    (of-font (lines_of file text) bytes
+    (made-of (text_tested text) (λ font. as_font (lines_of font text)) file bytes was))

@@ -68,8 +68,8 @@ returns-clause-sound c =
 
 pub returns-clause-fault : goal.returns-clause-fault
 returns-clause-fault c =
-    if-told glyph_data c.read_whole.result (glyph_data_of c.args.self.now c.args.g) (IsGlyphDefect c.args.self.now c.args.g)
-    c.read_whole.ensures.exact (λ f was. glyph-broke c.args.self.now c.args.g f was)
+    if-told glyph_data c.read_whole.result (glyph_data_of c.args.self.now c.args.g)
+    (IsGlyphDefect c.args.self.now c.args.g) c.read_whole.ensures.exact (λ f was. glyph-broke c.args.self.now c.args.g f was)
 
 pub returns-clause-exact : goal.returns-clause-exact
 returns-clause-exact c = c.read_whole.ensures.exact

@@ -1,6 +1,8 @@
-use Rattle.std.proofs.Common.{arith}
+use Rattle.std.proofs.Common.{◌≤◌, length, refl, arith}
 use Rattle.std.proofs.lemmas.Bool.Decides.{nat_tests}
-use Rattle.tt_glyf.specs.Loca.{loca_of}
+use Rattle.tt_metrics.specs.Metrics.{loca_format_of, glyphs_of}
+use Rattle.tt_glyf.specs.Loca.{loca_size, loca_of}
+use Rattle.tt_glyf.proofs.Locations.{locations-given, locations-whole}
 use Rattle.tt_glyf.proofs.loca.Loca.open.Goals as goal
 
 pub returns-then-loca-entry_size-clause-exact : goal.returns-then-loca-entry_size-clause-exact
@@ -24,3 +26,17 @@ returns-then-loca-entry_size-clause-fault c =
       c.glyphs-glyphs.ensures.exact,
       c.entry_size.ensures.exact,
     )
+
+pub returns-clause-whole : goal.returns-clause-whole
+returns-clause-whole c = rw (c.loca_format-format.ensures, c.glyphs-glyphs.ensures.exact) refl
+
+pub returns-clause-exact : goal.returns-clause-exact
+returns-clause-exact c =
+    let m = c.args.metrics.now in
+    let room : loca_size (loca_format_of m) (glyphs_of m) ≤ length c.args.loca.now =
+    rw (c.from.ensures, c.entry_size.ensures.exact, c.loca_format-format.ensures, c.glyphs-glyphs.ensures.exact)
+    at c.if-loca-entry_size.false in
+    rw (c.loca_format-format.ensures, c.glyphs-glyphs.ensures.exact) (locations-given c.args.loca.now m room)
+
+pub returns-clause-sound : goal.returns-clause-sound
+returns-clause-sound c = locations-whole c.args.loca.now c.args.metrics.now _ (returns-clause-exact c)
