@@ -1,4 +1,5 @@
 mod Constants
+pub mod Each
 pub mod Quotients
 mod Text
 pub mod Whole

@@ -1,5 +1,4 @@
 pub mod Contours
-pub mod Each
 pub mod Levels
 pub mod Lists
 pub mod Outlines

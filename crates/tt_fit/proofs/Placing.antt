@@ -10,6 +10,7 @@ use Rattle.tt_core.specs.Faults.{Fault}
 use Rattle.tt_core.specs.declared.fault.Why.TheVariants as why
 use Rattle.tt_core.specs.Limits.{point_limit}
 use Rattle.tt_core.specs.Outcomes.{each}
+use Rattle.tt_core.proofs.Each.{each-failed, each-made, length-each}
 use Rattle.tt_glyf.specs.Composite.{args_are_xy_values}
 use Rattle.tt_glyf.specs.declared.raw.RawPoint.{RawPoint}
 use Rattle.tt_glyf.specs.declared.raw.Record.{Record}
@@ -18,7 +19,6 @@ use Rattle.tt_fit.specs.Components.{offset_of, point_of, matched_by, shift_of, l
 use Rattle.tt_fit.specs.Defects.{PassesLimit, LeavesLimit, IsPhantomDefect, IsScaledDefect, LacksPoint, IsMatchDefect, IsLandingDefect, IsCountDefect, IsPlacingDefect}
 use Rattle.tt_fit.specs.Outline.{PhantomPoints, Shape}
 use Rattle.tt_fit.specs.Scaling.{Size, is_coordinate, is_position, are_positions, glyf_fault, coordinate_fault, settled, scaled_position, scaled_point, blank, scaled_outline}
-use Rattle.tt_fit.proofs.Each.{each-failed, each-made, length-each}
 
 -- coordinates
 passes : (v : ℤ) → is_coordinate v ≡ false → PassesLimit v
