@@ -87,6 +87,7 @@ pub(crate) struct Writer {
     len: usize,
     room: usize,
     step: usize,
+    calls: u32,
     failed: bool,
     ghost within: { len ≤ 64 },
 }
@@ -102,12 +103,18 @@ impl Writer {
             len: 0,
             room,
             step,
+            calls: 0,
             failed: false,
         }
     }
 
     pub(crate) fn held(&self) -> &[u8] {
         &self.held[..self.len]
+    }
+
+    /// How often it was written to.
+    pub(crate) fn calls(&self) -> u32 {
+        self.calls
     }
 }
 
@@ -120,6 +127,7 @@ impl Sink for Writer {
     ghost has_failed = { has_writer_failed };
 
     fn write(&mut self, buf: &[u8]) -> Result<usize, IoFailed> {
+        self.calls = self.calls.saturating_add(1);
         let left = self.room.min(ROOM).saturating_sub(self.len);
         let n = self.step.min(buf.len()).min(left);
         if n == 0 && !buf.is_empty() {

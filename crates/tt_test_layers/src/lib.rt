@@ -20,4 +20,6 @@ mod number_tests;
 #[cfg(test)]
 mod run_tests;
 #[cfg(test)]
+mod scan_tests;
+#[cfg(test)]
 mod test_font;

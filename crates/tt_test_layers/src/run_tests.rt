@@ -56,6 +56,25 @@ fn a_cut_picture_tells_how_many_bytes_went_out(rt: HostRuntime) {
 }
 
 #[test]
+fn a_picture_cut_in_its_rows_tells_the_sum_of_all_writes(rt: HostRuntime) {
+    let mut font = Reader::new(&TEST_FONT, 1000, 0);
+    let mut out = Writer::new(9, 1000);
+    let answer = run(rt.alloc(), &mut font, &mut out, &job("A", 16, 0));
+    assert_eq!(rt; answer, Err(RunFault::Write { sent: 9 }));
+    assert!(rt; out.held() == b"P4\n4 4\n\x00\x00");
+}
+
+#[test]
+fn the_header_and_each_row_are_one_write(rt: HostRuntime) {
+    let mut font = Reader::new(&TEST_FONT, 1000, 0);
+    let mut out = Writer::new(64, 1000);
+    let answer = run(rt.alloc(), &mut font, &mut out, &job("A", 16, 0));
+    assert_eq!(rt; answer, Ok(()));
+    assert!(rt; out.held() == PICTURE);
+    assert_eq!(rt; out.calls(), 5);
+}
+
+#[test]
 fn a_job_out_of_its_limits_is_refused_before_the_font_is_read(rt: HostRuntime) {
     for (ppem, margin, fault) in [
         (0, 0, JobFault::SizeRange),
