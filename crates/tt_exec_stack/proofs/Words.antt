@@ -1,0 +1,26 @@
+-- Words of a list of bytes, two by two.
+use Rattle.std.proofs.Common.{◌≡◌, ℕ, zero, suc, ◌+◌, ◌*◌, ◌<◌, ◌≤◌, ℤ, List, [], ◌∷◌, length, get_or, drop, Result, Ok, refl, arith}
+use Rattle.tt_core.specs.Numbers.{signed16}
+use Rattle.tt_core.specs.Outcomes.{◌>>=◌}
+use Rattle.tt_exec_stack.specs.Stack.{pushed}
+use Rattle.tt_exec_stack.specs.Pushing.{pushed_words}
+
+-- the word at a place, and what is behind it
+pub next_word : (bytes : List ℕ) (at high low : ℕ) (s t : List ℤ) → at + 1 < length bytes → high ≡ get_or bytes at 0
+    → low ≡ get_or bytes (suc at) 0 → pushed (signed16 (high * 256 + low)) s ≡ Ok t
+    → pushed_words (drop at bytes) s ≡ pushed_words (drop (suc (suc at)) bytes) t
+next_word [] at high low s t within above below put = absurd (omega arith)
+next_word (b ∷ []) at high low s t within above below put = absurd (omega arith)
+next_word (b ∷ c ∷ bytes) zero high low s t within above below put =
+    let word = rw (above, below) at put in
+    rw word refl
+next_word (b ∷ c ∷ bytes) (suc at) high low s t within above below put =
+    next_word (c ∷ bytes) at high low s t (omega arith) above below put
+
+-- no word is left
+pub no_word : (bytes : List ℕ) (at : ℕ) (s : List ℤ) → length bytes ≤ at + 1 → pushed_words (drop at bytes) s ≡ Ok s
+no_word [] zero s past = refl
+no_word [] (suc at) s past = refl
+no_word (b ∷ []) zero s past = refl
+no_word (b ∷ c ∷ bytes) zero s past = absurd (omega arith)
+no_word (b ∷ bytes) (suc at) s past = no_word bytes at s (omega arith)

@@ -1,0 +1,6 @@
+pub mod Arithmetic
+pub mod Logic
+pub mod Managing
+pub mod Pushing
+pub mod Size
+pub mod Stack

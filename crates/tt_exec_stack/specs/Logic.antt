@@ -1,0 +1,94 @@
+-- Apple TrueType Reference Manual, "Instruction set": logical functions. 1 is pushed for true and 0 for false; of a
+-- popped value, 0 is false and any other is true. The top of the stack stands first.
+use Rattle.std.specs.Prelude.{◌≡◌, ℤ, pos, neg_ℤ, int_lt, int_le, Bool, true, false, not, ◌&&◌, ◌||◌, List, [], ◌∷◌, Result, Ok, Err, refl}
+use Rattle.std.specs.Int.{int_div_euclid, int_rem_euclid}
+use Rattle.std.specs.Ordering.{int_eq}
+use Rattle.tt_core.specs.declared.fault.Why.{Why}
+use Rattle.tt_core.specs.declared.fault.Why.TheVariants as why
+use Rattle.tt_state.specs.declared.rounding.Round.{Round}
+use Rattle.tt_state.specs.declared.rounding.Round.TheVariants as round
+use Rattle.tt_state.specs.Rounding.{rounded}
+use Rattle.tt_exec_stack.specs.declared.logic.Logic.{Logic}
+use Rattle.tt_exec_stack.specs.declared.logic.Logic.TheVariants as op
+use Rattle.tt_exec_stack.specs.Stack.{pushed}
+
+abbrev pub truth : Bool → ℤ
+truth true = pos 1
+truth false = pos 0
+
+abbrev pub is_true : ℤ → Bool
+is_true v = not (int_eq v (pos 0))
+
+abbrev pub lt : List ℤ → Result (List ℤ) Why
+lt (b ∷ a ∷ s) = pushed (truth (int_lt a b)) s
+lt _ = Err why.StackShort
+
+abbrev pub lteq : List ℤ → Result (List ℤ) Why
+lteq (b ∷ a ∷ s) = pushed (truth (int_le a b)) s
+lteq _ = Err why.StackShort
+
+abbrev pub gt : List ℤ → Result (List ℤ) Why
+gt (b ∷ a ∷ s) = pushed (truth (int_lt b a)) s
+gt _ = Err why.StackShort
+
+abbrev pub gteq : List ℤ → Result (List ℤ) Why
+gteq (b ∷ a ∷ s) = pushed (truth (int_le b a)) s
+gteq _ = Err why.StackShort
+
+abbrev pub eq : List ℤ → Result (List ℤ) Why
+eq (b ∷ a ∷ s) = pushed (truth (int_eq a b)) s
+eq _ = Err why.StackShort
+
+abbrev pub neq : List ℤ → Result (List ℤ) Why
+neq (b ∷ a ∷ s) = pushed (truth (not (int_eq a b))) s
+neq _ = Err why.StackShort
+
+-- a distance in 26.6 that lies in an odd pixel
+abbrev pub is_odd : ℤ → Bool
+is_odd v = int_eq (int_rem_euclid (int_div_euclid v (pos 64)) (pos 2)) (pos 1)
+
+abbrev pub odd : Round → List ℤ → Result (List ℤ) Why
+odd round (e ∷ s) = pushed (truth (is_odd (rounded round e))) s
+odd round [] = Err why.StackShort
+
+abbrev pub even : Round → List ℤ → Result (List ℤ) Why
+even round (e ∷ s) = pushed (truth (not (is_odd (rounded round e)))) s
+even round [] = Err why.StackShort
+
+abbrev pub and : List ℤ → Result (List ℤ) Why
+and (b ∷ a ∷ s) = pushed (truth (is_true a && is_true b)) s
+and _ = Err why.StackShort
+
+abbrev pub or : List ℤ → Result (List ℤ) Why
+or (b ∷ a ∷ s) = pushed (truth (is_true a || is_true b)) s
+or _ = Err why.StackShort
+
+abbrev pub negated : List ℤ → Result (List ℤ) Why
+negated (e ∷ s) = pushed (truth (not (is_true e))) s
+negated [] = Err why.StackShort
+
+abbrev pub decided : Logic → Round → List ℤ → Result (List ℤ) Why
+decided op.Lt round s = lt s
+decided op.Lteq round s = lteq s
+decided op.Gt round s = gt s
+decided op.Gteq round s = gteq s
+decided op.Eq round s = eq s
+decided op.Neq round s = neq s
+decided op.Odd round s = odd round s
+decided op.Even round s = even round s
+decided op.And round s = and s
+decided op.Or round s = or s
+decided op.Not round s = negated s
+
+-- worked values: the second entry is compared with the top
+one_is_less_than_two : lt (pos 2 ∷ pos 1 ∷ []) ≡ Ok (pos 1 ∷ [])
+unfolding pushed
+one_is_less_than_two = refl
+
+minus_five_is_true : and (neg_ℤ (pos 5) ∷ pos 1 ∷ []) ≡ Ok (pos 1 ∷ [])
+unfolding pushed
+minus_five_is_true = refl
+
+half_a_pixel_is_odd : odd round.Grid (pos 32 ∷ []) ≡ Ok (pos 1 ∷ [])
+unfolding pushed
+half_a_pixel_is_odd = refl

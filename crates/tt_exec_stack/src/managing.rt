@@ -1,0 +1,113 @@
+//! Managing the stack. Apple TrueType Reference Manual, "Instruction set".
+
+ghost use Rattle.tt_exec_stack.specs.Stack.{Does};
+ghost use Rattle.tt_exec_stack.specs.Managing as is;
+
+use crate::stack::Stack;
+use tt_core::Why;
+
+/// The instructions that manage the stack.
+#[derive(Clone, Copy)]
+pub enum Managing {
+    Dup,
+    Pop,
+    Clear,
+    Swap,
+    Depth,
+    Cindex,
+    Mindex,
+    Roll,
+}
+
+/// DUP[], 0x20: e -> e, e.
+fn dup(stack: &mut Stack) -> Result<(), Why>
+    ensures { Does (is.dup stack.old) stack.new result }
+{
+    let e = stack.pop()?;
+    stack.put(e);
+    stack.push(i64::from(e))
+}
+
+/// POP[], 0x21: e -> nothing.
+fn pop(stack: &mut Stack) -> Result<(), Why>
+    ensures { Does (is.pop stack.old) stack.new result }
+{
+    stack.pop()?;
+    Ok(())
+}
+
+/// CLEAR[], 0x22: all entries -> nothing.
+fn clear(stack: &mut Stack) -> Result<(), Why>
+    ensures { Does (is.clear stack.old) stack.new result }
+{
+    stack.clear();
+    Ok(())
+}
+
+/// SWAP[], 0x23: a, b -> b, a.
+fn swap(stack: &mut Stack) -> Result<(), Why>
+    ensures { Does (is.swap stack.old) stack.new result }
+{
+    let b = stack.pop()?;
+    let a = stack.pop()?;
+    stack.put(b);
+    stack.put(a);
+    Ok(())
+}
+
+/// DEPTH[], 0x24: -> how many entries there were.
+fn depth(stack: &mut Stack) -> Result<(), Why>
+    ensures { Does (is.depth stack.old) stack.new result }
+{
+    let depth = stack.len();
+    stack.push(depth as i64)
+}
+
+/// CINDEX[], 0x25: k -> a copy of the k-th entry.
+fn cindex(stack: &mut Stack) -> Result<(), Why>
+    ensures { Does (is.cindex stack.old) stack.new result }
+{
+    let k = stack.pop()?;
+    let e = stack.kth(k)?;
+    stack.push(i64::from(e))
+}
+
+/// MINDEX[], 0x26: k -> the k-th entry, which is no longer where it was.
+fn mindex(stack: &mut Stack) -> Result<(), Why>
+    ensures { Does (is.mindex stack.old) stack.new result }
+{
+    let k = stack.pop()?;
+    let e = stack.kth(k)?;
+    stack.remove(k as usize);
+    stack.put(e);
+    Ok(())
+}
+
+/// ROLL[], 0x8A: a, b, c -> b, c, a.
+fn roll(stack: &mut Stack) -> Result<(), Why>
+    ensures { Does (is.roll stack.old) stack.new result }
+{
+    let c = stack.pop()?;
+    let b = stack.pop()?;
+    let a = stack.pop()?;
+    stack.put(b);
+    stack.put(c);
+    stack.put(a);
+    Ok(())
+}
+
+/// Errors: StackShort; StackFull; of CINDEX and MINDEX also BadArgument.
+pub fn manage(op: Managing, stack: &mut Stack) -> Result<(), Why>
+    ensures { Does (is.managed op stack.old) stack.new result }
+{
+    match op {
+        Managing::Dup => dup(stack),
+        Managing::Pop => pop(stack),
+        Managing::Clear => clear(stack),
+        Managing::Swap => swap(stack),
+        Managing::Depth => depth(stack),
+        Managing::Cindex => cindex(stack),
+        Managing::Mindex => mindex(stack),
+        Managing::Roll => roll(stack),
+    }
+}

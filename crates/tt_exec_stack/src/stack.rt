@@ -1,0 +1,122 @@
+//! The interpreter's stack. Apple TrueType Reference Manual, "Instructing TrueType Glyphs".
+
+ghost use Rattle.std.specs.Prelude.{◌≡◌, ◌-◌, ◌<◌, ◌≤◌, [], ◌∷◌, length, reverse, take, drop, ◌++◌, pos, IfOk, OnOk};
+ghost use Rattle.tt_core.specs.declared.fault.Why.TheVariants.{StackShort};
+ghost use Rattle.tt_core.specs.Outcomes.{Gives};
+ghost use Rattle.tt_exec_stack.specs.Stack.{stack_limit, Does, Pops, kth, pushed};
+
+use std::alloc::{AllocError, Global};
+use std::marker::Model;
+use tt_core::Why;
+
+/// Entries of the stack (profile).
+pub const STACK_LIMIT: usize = 8192;
+
+/// Numbers of 32 bits, and memory for as many as there may be. A clause sees it as a list, the top first.
+#[derive(Drop)]
+pub struct Stack {
+    items: Vec<i32>,
+}
+
+impl Model for Stack {
+    ghost use Rattle.std.specs.Prelude.{ℤ, List, ◌≤◌, reverse};
+    ghost use Rattle.std.specs.Vec.{vec_len, vec_capacity};
+    ghost use Rattle.tt_exec_stack.specs.Stack.{stack_limit};
+
+    ghost Value = { List ℤ };
+
+    ghost view = { λ s. reverse s.items.items };
+
+    ghost invariant = { λ s. (vec_len s.items ≤ stack_limit) × (stack_limit ≤ vec_capacity s.items) };
+}
+
+impl Stack {
+    /// An empty stack, with all its memory.
+    pub fn new(alloc: Global) -> Result<Stack, AllocError>
+        ensures { IfOk result (λ s. s ≡ []) }
+    {
+        Ok(Stack {
+            items: Vec::with_capacity(alloc, STACK_LIMIT)?,
+        })
+    }
+
+    /// The entries, the top last.
+    pub fn items(&self) -> &[i32]
+        ensures exact { reverse result.now ≡ self.now }
+        ensures limit { length result.now ≤ stack_limit }
+    {
+        &self.items
+    }
+
+    pub fn clear(&mut self)
+        ensures { self.new ≡ [] }
+    {
+        self.items.clear();
+    }
+
+    /// How many entries there are.
+    pub fn len(&self) -> usize
+        ensures exact { result ≡ length self.now }
+        ensures limit { result ≤ stack_limit }
+    {
+        self.items.len()
+    }
+
+    /// Takes the top entry. Error: StackShort.
+    pub fn pop(&mut self) -> Result<i32, Why>
+        ensures exact { Pops self.old result self.new }
+        ensures room { OnOk result (length self.new < stack_limit) }
+    {
+        self.items.pop().ok_or(Why::StackShort)
+    }
+
+    /// Puts a number on top. Errors: ValueRange outside 32 bits, StackFull.
+    #[tactic(auto, unfolding(crate::specs::Stack::pushed))]
+    pub fn push(&mut self, value: i64) -> Result<(), Why>
+        ensures { Does (pushed value self.old) self.new result }
+    {
+        let Ok(value) = i32::try_from(value) else {
+            return Err(Why::ValueRange);
+        };
+        if self.items.len() == STACK_LIMIT {
+            return Err(Why::StackFull);
+        }
+        self.put(value);
+        Ok(())
+    }
+
+    /// The k-th entry from the top; the top is the first. Errors: BadArgument where k is below 1, StackShort.
+    pub(crate) fn kth(&self, k: i32) -> Result<i32, Why>
+        ensures exact { Gives (λ e. e) result (kth k self.now) }
+    {
+        if k < 1 {
+            return Err(Why::BadArgument);
+        }
+        let k = k as usize;
+        if self.items.len() < k {
+            return Err(Why::StackShort);
+        }
+        Ok(self.items[self.items.len() - k])
+    }
+
+    /// Takes the k-th entry from the top; it is there.
+    pub(crate) fn remove(&mut self, k: usize) -> i32
+        requires low { 0 < k }
+        requires high { k ≤ length self.old }
+        ensures { self.new ≡ take (k - 1) self.old ++ drop k self.old }
+    {
+        let at = self.items.len() - k;
+        self.items.remove(at)
+    }
+
+    /// Puts a number on top; there is room for it.
+    pub(crate) fn put(&mut self, value: i32)
+        requires { length self.old < stack_limit }
+        ensures { self.new ≡ value ∷ self.old }
+    {
+        match self.items.push(value) {
+            Ok(()) => {}
+            Err(_) => unreachable!(),
+        }
+    }
+}
