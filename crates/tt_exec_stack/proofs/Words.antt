@@ -1,7 +1,6 @@
 -- Words of a list of bytes, two by two.
-use Rattle.std.proofs.Common.{◌≡◌, ℕ, zero, suc, ◌+◌, ◌*◌, ◌<◌, ◌≤◌, ℤ, List, [], ◌∷◌, length, get_or, drop, Result, Ok, refl, arith}
+use Rattle.std.proofs.Common.{◌≡◌, ℕ, zero, suc, ◌+◌, ◌*◌, ◌<◌, ◌≤◌, ℤ, List, [], ◌∷◌, length, get_or, drop, Ok, refl, arith}
 use Rattle.tt_core.specs.Numbers.{signed16}
-use Rattle.tt_core.specs.Outcomes.{◌>>=◌}
 use Rattle.tt_exec_stack.specs.Stack.{pushed}
 use Rattle.tt_exec_stack.specs.Pushing.{pushed_words}
 

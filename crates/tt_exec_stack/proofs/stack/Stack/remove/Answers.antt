@@ -1,4 +1,4 @@
-use Rattle.std.proofs.Common.{◌≡◌, ◌≤◌, length, vec_len, ap, ◌∙◌, sym, arith}
+use Rattle.std.proofs.Common.{◌≡◌, ◌≤◌, length, vec_len, ap, arith}
 use Rattle.std.proofs.lemmas.List.{length-reverse}
 use Rattle.tt_exec_stack.proofs.Entries.{removed}
 use Rattle.tt_exec_stack.proofs.stack.Stack.remove.Goals as goal
