@@ -1,0 +1,10 @@
+use Rattle.std.proofs.Common.{◌≡◌, arith}
+use Rattle.tt_exec.specs.States.{state_of}
+use Rattle.tt_exec.proofs.Steps.{one_more}
+use Rattle.tt_exec.proofs.interpreter.Interpreter.go.Goals as goal
+
+pub steps-preserved : goal.steps-preserved
+steps-preserved c = record {
+  few = omega arith;
+  leads = one_more c.steps.n _ (state_of c.steps.self) (state_of c.step.new.self) c.steps.invariant.leads c.in_ok-step.ensures;
+}

@@ -1,0 +1,14 @@
+use Rattle.std.proofs.Common.{◌≤◌, ◌-◌}
+use Rattle.tt_exec.specs.Runs.{Leads, step_limit}
+use Rattle.tt_exec.specs.States.{state_of}
+use Rattle.tt_exec.proofs.interpreter.Interpreter.go.Given as goal
+
+-- the steps that were made lead here
+abbrev pub invariant-steps : goal.invariant-steps
+invariant-steps l = record {
+  few : l.n ≤ step_limit;
+  leads : Leads l.n (state_of l.fn.self) (state_of l.self);
+}
+
+abbrev pub decreases-steps : goal.decreases-steps
+decreases-steps l = 1000000 - l.n

@@ -1,0 +1,70 @@
+-- Apple TrueType Reference Manual, "Instruction set": defining and using functions. A state's place is behind the
+-- instruction, which stands at a place of its own. The top of the stack stands first.
+use Rattle.std.specs.Prelude.{◌≡◌, ℕ, ◌+◌, ◌-◌, ◌==◌, nat_lt, ℤ, pos, int_le, int_lt, unsigned_abs, Bool, true, false, ◌&&◌, if◌then◌else◌, List, [], ◌∷◌, length, Option, Some, None, Result, Ok, Err}
+use Rattle.tt_core.specs.Faults.{Fault}
+use Rattle.tt_core.specs.Outcomes.{◌>>=◌}
+use Rattle.tt_core.specs.declared.fault.Why.TheVariants as why
+use Rattle.tt_code.specs.declared.decoding.Halt.{Halt}
+use Rattle.tt_code.specs.Skips.{definition_end}
+use Rattle.tt_exec.specs.declared.interpreter.Kind.{Kind}
+use Rattle.tt_exec.specs.declared.interpreter.Kind.TheVariants as kind
+use Rattle.tt_exec.specs.Calls.{call_limit}
+use Rattle.tt_exec.specs.Flow.{goes_to}
+use Rattle.tt_exec.specs.MachineState.{Function, Frame, MachineState, fault_in}
+use Rattle.tt_exec.specs.Numbered.{is_number, function_at, with_function}
+
+-- functions are defined by the font program and by the control value program, outside calls (profile)
+abbrev pub may_define : Kind → List Frame → Bool
+may_define kind.Font [] = true
+may_define kind.ControlValue [] = true
+may_define _ _ = false
+
+-- the definition of function n, whose skip ends so
+abbrev pub defined : ℕ → ℕ → MachineState → Result ℕ Halt → Result MachineState Fault
+defined at n m (Ok place) =
+    let f : Function = record { program = m.frame.program; start = at + 1 } in
+    Ok (goes_to place (record m { functions = with_function n f m.functions }))
+defined at n m (Err halt) = Err (fault_in m.frame halt.at halt.why)
+
+abbrev pub define : ℕ → ℕ → MachineState → Result MachineState Fault
+define at n m = defined at n m (definition_end m.frame.program.bytes at)
+
+abbrev pub fdef_from : List ℤ → ℕ → MachineState → Result MachineState Fault
+fdef_from (n ∷ s) at m =
+    if is_number n then define at (unsigned_abs n) (record m { stack = s })
+    else Err (fault_in m.frame at why.BadArgument)
+fdef_from [] at m = Err (fault_in m.frame at why.StackShort)
+
+abbrev pub fdef : ℕ → MachineState → Result MachineState Fault
+fdef at m =
+    if may_define m.kind m.callers then fdef_from m.stack at m else Err (fault_in m.frame at why.DefinitionPlace)
+
+-- ENDF begins the next round of a LOOPCALL, or goes on behind the call
+abbrev pub endf : List Frame → ℕ → MachineState → Result MachineState Fault
+endf [] at m = Err (fault_in m.frame at why.DefinitionPlace)
+endf (caller ∷ callers) at m =
+    if m.frame.left == 0 then Ok (record m { frame = caller; callers = callers })
+    else Ok (record m { frame = record m.frame { place = m.frame.start; left = m.frame.left - 1 } })
+
+-- a function is called, and again so often; it goes on in the program where it was defined
+abbrev pub called : ℕ → ℕ → MachineState → Option Function → Result MachineState Fault
+called at again m (Some f) =
+    if nat_lt (length m.callers) call_limit then Ok (record m {
+      frame = record { program = f.program; place = f.start; start = f.start; left = again };
+      callers = m.frame ∷ m.callers;
+    }) else Err (fault_in m.frame at why.CallDepth)
+called at again m None = Err (fault_in m.frame at why.NoFunction)
+
+abbrev pub call : List ℤ → ℕ → MachineState → Result MachineState Fault
+call (n ∷ s) at m = called at 0 (record m { stack = s }) (function_at n m.functions)
+call [] at m = Err (fault_in m.frame at why.StackShort)
+
+-- a count below 1 calls nothing
+abbrev pub called_often : ℕ → ℤ → MachineState → Option Function → Result MachineState Fault
+called_often at count m (Some f) =
+    if int_lt count (pos 1) then Ok m else called at (unsigned_abs count - 1) m (Some f)
+called_often at count m None = Err (fault_in m.frame at why.NoFunction)
+
+abbrev pub loopcall : List ℤ → ℕ → MachineState → Result MachineState Fault
+loopcall (n ∷ count ∷ s) at m = called_often at count (record m { stack = s }) (function_at n m.functions)
+loopcall _ at m = Err (fault_in m.frame at why.StackShort)

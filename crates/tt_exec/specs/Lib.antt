@@ -1,0 +1,12 @@
+pub mod Calls
+pub mod Flags
+pub mod Flow
+pub mod Functions
+pub mod MachineState
+pub mod Numbered
+pub mod Opcodes
+pub mod Parts
+pub mod Runs
+pub mod States
+pub mod Step
+pub mod Views

@@ -1,0 +1,46 @@
+-- Apple TrueType Reference Manual, "Instructing TrueType Glyphs" and "Graphics State": what the interpreter holds.
+use Rattle.std.specs.Prelude.{ℕ, ◌+◌, ℤ, Bool, List}
+use Rattle.tt_core.specs.Faults.{Fault, fault_at}
+use Rattle.tt_core.specs.declared.fault.Why.{Why}
+use Rattle.tt_state.specs.declared.graphics_state.GraphicsState.{GraphicsState}
+use Rattle.tt_points.specs.Zones.{ZoneLists}
+use Rattle.tt_exec.specs.declared.interpreter.Kind.{Kind}
+
+-- a program: its table, the offset of its first byte there, and its bytes
+pub record Program : Type 0 where
+  pub table : List ℕ
+  pub base : ℕ
+  pub bytes : List ℕ
+
+-- a function: the program that defines it, and where it starts there
+pub record Function : Type 0 where
+  pub program : Program
+  pub start : ℕ
+
+-- an open call, or the program that is run: the place of its next instruction, where it began, and how often it is to
+-- begin again
+pub record Frame : Type 0 where
+  pub program : Program
+  pub place : ℕ
+  pub start : ℕ
+  pub left : ℕ
+
+-- The stack has its top first, the callers the innermost first. Functions are listed by their numbers.
+pub record MachineState : Type 0 where
+  pub stack : List ℤ
+  pub frame : Frame
+  pub callers : List Frame
+  pub functions : List (ℕ × Function)
+  pub storage : List ℤ
+  pub control_values : List ℤ
+  pub graphics : GraphicsState
+  pub zones : ZoneLists
+  pub skip_glyphs : Bool
+  pub default_state : Bool
+  pub ppem : ℕ
+  pub units_per_em : ℕ
+  pub kind : Kind
+
+-- a fault at a place: it names the table of the program that holds the instruction, and the offset there
+abbrev pub fault_in : Frame → ℕ → Why → Fault
+fault_in frame at why = fault_at frame.program.table (frame.program.base + at) why

@@ -1,0 +1,82 @@
+-- Apple TrueType Reference Manual, "Instruction set": one step, the instruction at the state's place. Each family's
+-- definitions stand in a file of their own; this one has them work on a whole state.
+use Rattle.std.specs.Prelude.{◌≡◌, ℕ, ◌+◌, nat_le, ℤ, Bool, true, false, ◌==◌, List, [], ◌∷◌, length, if◌then◌else◌, Result, Ok, Err}
+use Rattle.tt_core.specs.Faults.{Fault}
+use Rattle.tt_core.specs.declared.fault.Why.{Why}
+use Rattle.tt_core.specs.declared.fault.Why.TheVariants as why
+use Rattle.tt_code.specs.declared.decoding.Halt.{Halt}
+use Rattle.tt_code.specs.Decoding.{Instruction, instruction_at}
+use Rattle.tt_state.specs.declared.graphics_state.GraphicsState.{GraphicsState}
+use Rattle.tt_exec_stack.specs.Arithmetic.{computed}
+use Rattle.tt_exec_stack.specs.Logic.{decided}
+use Rattle.tt_exec_stack.specs.Managing.{managed}
+use Rattle.tt_exec_stack.specs.Places.{kept}
+use Rattle.tt_exec_stack.specs.Pushing.{pushed_bytes, pushed_words}
+use Rattle.tt_exec_stack.specs.Queries.{told}
+use Rattle.tt_exec_stack.specs.Settings.{adjusted}
+use Rattle.tt_exec_stack.specs.Vectors.{turned}
+use Rattle.tt_exec.specs.declared.opcode.Operation.{Operation}
+use Rattle.tt_exec.specs.declared.opcode.Operation.TheVariants as op
+use Rattle.tt_exec.specs.Flags.{instctrl}
+use Rattle.tt_exec.specs.Flow.{goes_to, if_from, else_from, jmpr, jrot, jrof}
+use Rattle.tt_exec.specs.Functions.{fdef, endf, call, loopcall}
+use Rattle.tt_exec.specs.MachineState.{MachineState, fault_in}
+use Rattle.tt_exec.specs.Opcodes.{operation_of}
+
+-- what an instruction leaves of the stack; of the stack and the graphics state; of the stack, the storage and the control
+-- values; or its refusal at its place
+abbrev pub on_stack : ℕ → MachineState → Result (List ℤ) Why → Result MachineState Fault
+on_stack at m (Ok s) = Ok (record m { stack = s })
+on_stack at m (Err why) = Err (fault_in m.frame at why)
+
+abbrev pub on_graphics : ℕ → MachineState → Result (List ℤ × GraphicsState) Why → Result MachineState Fault
+on_graphics at m (Ok t) = Ok (record m { stack = t.0; graphics = t.1 })
+on_graphics at m (Err why) = Err (fault_in m.frame at why)
+
+abbrev pub on_places : ℕ → MachineState → Result (List ℤ × List ℤ × List ℤ) Why → Result MachineState Fault
+on_places at m (Ok t) = Ok (record m { stack = t.0; storage = t.1; control_values = t.2 })
+on_places at m (Err why) = Err (fault_in m.frame at why)
+
+-- an operation with its data, at a place; the state's place is behind it
+abbrev pub operate : Operation → List ℕ → ℕ → MachineState → Result MachineState Fault
+operate op.PushBytes args at m = on_stack at m (pushed_bytes args m.stack)
+operate op.PushWords args at m = on_stack at m (pushed_words args m.stack)
+operate (op.Vectors o) args at m = on_graphics at m (turned o m.stack m.graphics)
+operate (op.Setting o) args at m = on_graphics at m (adjusted o m.ppem m.units_per_em m.stack m.graphics)
+operate (op.Managing o) args at m = on_stack at m (managed o m.stack)
+operate (op.Logic o) args at m = on_stack at m (decided o m.graphics.round m.stack)
+operate (op.Arithmetic o) args at m = on_stack at m (computed o m.graphics.round m.stack)
+operate (op.Places o) args at m = on_places at m (kept o m.ppem m.units_per_em m.stack m.storage m.control_values)
+operate (op.Query o) args at m = on_stack at m (told o m.ppem m.stack)
+operate op.Instctrl args at m = instctrl m.stack at m
+operate op.If args at m = if_from m.stack at m
+operate op.Else args at m = else_from at m
+operate op.Eif args at m = Ok m
+operate op.Jmpr args at m = jmpr m.stack at m
+operate op.Jrot args at m = jrot m.stack at m
+operate op.Jrof args at m = jrof m.stack at m
+operate op.Fdef args at m = fdef at m
+operate op.Endf args at m = endf m.callers at m
+operate op.Call args at m = call m.stack at m
+operate op.Loopcall args at m = loopcall m.stack at m
+operate (op.OnPoints o) args at m = Err (fault_in m.frame at why.BadOpcode)
+operate op.OffProfile args at m = Err (fault_in m.frame at why.OffProfile)
+operate op.Unnamed args at m = Err (fault_in m.frame at why.BadOpcode)
+
+-- what stands at the state's place is done, or data there passes the end
+abbrev pub done : MachineState → Result Instruction Halt → Result MachineState Fault
+done m (Ok i) = operate (operation_of i.op) i.args m.frame.place (goes_to (m.frame.place + i.len) m)
+done m (Err halt) = Err (fault_in m.frame halt.at halt.why)
+
+-- The program's end inside a call is no instruction.
+abbrev pub step : MachineState → Result MachineState Fault
+step m =
+    if nat_le (length m.frame.program.bytes) m.frame.place then Err (fault_in m.frame m.frame.place why.CodeShort)
+    else done m (instruction_at m.frame.program.bytes m.frame.place)
+
+-- a program ends at its end, where no call is open
+abbrev pub no_call : MachineState → Bool
+no_call m = length m.callers == 0
+
+abbrev pub is_ended : MachineState → Bool
+is_ended m = if no_call m then m.frame.place == length m.frame.program.bytes else false

@@ -1,0 +1,73 @@
+//! The calls that are open. Apple TrueType Reference Manual, "Instruction set" (defining and using functions).
+
+ghost use Rattle.std.specs.Prelude.{◌≡◌, ◌<◌, ◌≤◌, ◌==◌, [], ◌∷◌, length, MatchOption};
+ghost use Rattle.tt_exec.specs.Calls.{call_limit};
+ghost use Rattle.tt_exec.specs.Views.{frame_of};
+
+use crate::program::Frame;
+use smallvec::SmallVec;
+use std::alloc::Global;
+use std::marker::Model;
+
+/// Calls that may be open (profile).
+pub(crate) const CALL_LIMIT: usize = 64;
+
+/// What waits for the innermost call, with room for as many as there may be. A clause sees it as a list, the innermost
+/// first.
+#[derive(Drop)]
+pub(crate) struct Callers<'a> {
+    frames: SmallVec<Frame<'a>, CALL_LIMIT>,
+}
+
+impl<'a> Model for Callers<'a> {
+    ghost use Rattle.std.specs.Prelude.{◌≡◌, ◌≤◌, List, length, map, reverse};
+    ghost use Rattle.tt_exec.specs.Calls.{call_limit};
+    ghost use Rattle.tt_exec.specs.MachineState.{Frame};
+    ghost use Rattle.tt_exec.specs.Views.{frame_of};
+
+    ghost Value = { List Frame };
+
+    ghost view = { λ c. reverse (map frame_of c.frames.items) };
+
+    ghost invariant = { λ c. (length c.frames.items ≤ call_limit) × (c.frames.capacity ≡ call_limit) };
+}
+
+impl<'a> Callers<'a> {
+    /// None is open.
+    pub(crate) fn new(alloc: Global) -> Callers<'a>
+        ensures { result ≡ [] }
+    {
+        Callers {
+            frames: SmallVec::new(alloc),
+        }
+    }
+
+    pub(crate) fn clear(&mut self)
+        ensures { self.new ≡ [] }
+    {
+        self.frames.clear();
+    }
+
+    /// How many there are.
+    pub(crate) fn len(&self) -> usize
+        ensures exact { result ≡ length self.now }
+        ensures limit { result ≤ call_limit }
+    {
+        self.frames.len()
+    }
+
+    /// Takes the innermost.
+    pub(crate) fn pop(&mut self) -> Option<Frame<'a>>
+        ensures { MatchOption result (self.old ≡ []) (λ f. self.old ≡ frame_of f ∷ self.new) }
+    {
+        self.frames.pop()
+    }
+
+    /// One more waits; there is room for it.
+    pub(crate) fn push(&mut self, frame: Frame<'a>)
+        requires { length self.old < call_limit }
+        ensures { self.new ≡ frame_of frame.entry ∷ self.old }
+    {
+        self.frames.push_reserved(frame);
+    }
+}

@@ -1,0 +1,132 @@
+//! Managing the flow of control. Apple TrueType Reference Manual, "Instruction set". An instruction stands at `at`, and
+//! the frame's place is behind it.
+
+ghost use Rattle.std.specs.Prelude.{◌≡◌, ◌<◌, length};
+ghost use Rattle.tt_exec_stack.specs.Stack.{Does};
+ghost use Rattle.tt_exec.specs.Flow as flow;
+ghost use Rattle.tt_exec.specs.Flags as flags;
+ghost use Rattle.tt_exec.specs.States.{state_of};
+
+use crate::interpreter::{Interpreter, Kind};
+use tt_code::{skip_else, skip_if};
+use tt_core::{Fault, Why};
+
+impl Interpreter<'_> {
+    /// Takes the top of the stack. Error: StackShort.
+    pub(crate) fn popped(&mut self, at: usize) -> Result<i32, Fault>
+        requires { at < length self.old.frame.code.bytes.now }
+        ensures { flow.TakesTop at (state_of self.old) result (state_of self.new) }
+    {
+        match self.stack.pop() {
+            Ok(value) => Ok(value),
+            Err(why) => Err(self.fault(at, why)),
+        }
+    }
+
+    /// IF[], 0x58: e -> nothing; goes on behind its ELSE or EIF where e is 0.
+    pub(crate) fn if_true(&mut self, at: usize) -> Result<(), Fault>
+        requires { at < length self.old.frame.code.bytes.now }
+        ensures { Does (flow.if_from self.old.stack at (state_of self.old)) (state_of self.new) result }
+    {
+        if self.popped(at)? != 0 {
+            return Ok(());
+        }
+        match skip_if(self.frame.code.bytes, at) {
+            Ok(place) => {
+                self.frame.place = place;
+                Ok(())
+            }
+            Err(halt) => Err(self.fault(halt.at, halt.why)),
+        }
+    }
+
+    /// ELSE[], 0x1B: come to behind the part of a true IF, goes on behind the EIF.
+    pub(crate) fn if_false(&mut self, at: usize) -> Result<(), Fault>
+        requires { at < length self.old.frame.code.bytes.now }
+        ensures { Does (flow.else_from at (state_of self.old)) (state_of self.new) result }
+    {
+        match skip_else(self.frame.code.bytes, at) {
+            Ok(place) => {
+                self.frame.place = place;
+                Ok(())
+            }
+            Err(halt) => Err(self.fault(halt.at, halt.why)),
+        }
+    }
+
+    /// Error: JumpRange.
+    fn jump(&mut self, at: usize, offset: i32) -> Result<(), Fault>
+        requires { at < length self.old.frame.code.bytes.now }
+        ensures { Does (flow.jumped at offset (state_of self.old)) (state_of self.new) result }
+    {
+        let target = at as i128 + i128::from(offset);
+        if target < 0 || target > self.frame.code.bytes.len() as i128 {
+            return Err(self.fault(at, Why::JumpRange));
+        }
+        self.frame.place = target as usize;
+        Ok(())
+    }
+
+    /// JMPR[], 0x1C: offset -> nothing; goes on at this opcode's place and the offset.
+    pub(crate) fn jmpr(&mut self, at: usize) -> Result<(), Fault>
+        requires { at < length self.old.frame.code.bytes.now }
+        ensures { Does (flow.jmpr self.old.stack at (state_of self.old)) (state_of self.new) result }
+    {
+        let offset = self.popped(at)?;
+        self.jump(at, offset)
+    }
+
+    /// JROT[], 0x78: offset, e -> nothing; jumps where e is not 0.
+    pub(crate) fn jrot(&mut self, at: usize) -> Result<(), Fault>
+        requires { at < length self.old.frame.code.bytes.now }
+        ensures { Does (flow.jrot self.old.stack at (state_of self.old)) (state_of self.new) result }
+    {
+        let condition = self.popped(at)?;
+        let offset = self.popped(at)?;
+        if condition != 0 {
+            self.jump(at, offset)
+        } else {
+            Ok(())
+        }
+    }
+
+    /// JROF[], 0x79: offset, e -> nothing; jumps where e is 0.
+    pub(crate) fn jrof(&mut self, at: usize) -> Result<(), Fault>
+        requires { at < length self.old.frame.code.bytes.now }
+        ensures { Does (flow.jrof self.old.stack at (state_of self.old)) (state_of self.new) result }
+    {
+        let condition = self.popped(at)?;
+        let offset = self.popped(at)?;
+        if condition != 0 {
+            Ok(())
+        } else {
+            self.jump(at, offset)
+        }
+    }
+
+    fn set_flag(&mut self, selector: i32, on: bool)
+        ensures { state_of self.new ≡ flags.flagged self.old.kind selector on (state_of self.old) }
+    {
+        match self.kind {
+            Kind::ControlValue => {
+                if selector == 1 {
+                    self.skip_glyphs = on;
+                } else if selector == 2 {
+                    self.default_state = on;
+                }
+            }
+            Kind::Font | Kind::Glyph => {}
+        }
+    }
+
+    /// INSTCTRL[], 0x8E: value, selector -> nothing; the control value program sets a flag.
+    pub(crate) fn instctrl(&mut self, at: usize) -> Result<(), Fault>
+        requires { at < length self.old.frame.code.bytes.now }
+        ensures { Does (flags.instctrl self.old.stack at (state_of self.old)) (state_of self.new) result }
+    {
+        let selector = self.popped(at)?;
+        let value = self.popped(at)?;
+        self.set_flag(selector, value != 0);
+        Ok(())
+    }
+}

@@ -1,0 +1,124 @@
+//! Defining and using functions. Apple TrueType Reference Manual, "Instruction set". An instruction stands at `at`, and
+//! the frame's place is behind it.
+
+ghost use Rattle.std.specs.Prelude.{◌≡◌, ◌+◌, ◌<◌, ◌≤◌, ◌^◌, length};
+ghost use Rattle.tt_core.specs.Outcomes.{Leaves};
+ghost use Rattle.tt_exec_stack.specs.Stack.{Does};
+ghost use Rattle.tt_exec.specs.Functions as is;
+ghost use Rattle.tt_exec.specs.Views.{function_of};
+ghost use Rattle.tt_exec.specs.States.{state_of};
+ghost use Rattle.std.specs.Prelude.{Some};
+
+use crate::callers::CALL_LIMIT;
+use crate::interpreter::{Interpreter, Kind};
+use crate::program::{Body, Frame};
+use tt_code::skip_def;
+use tt_core::{Fault, FontFault, Why};
+
+impl<'a> Interpreter<'a> {
+    fn may_define(&self) -> bool
+        ensures { result ≡ is.may_define self.now.kind self.now.callers }
+    {
+        match self.kind {
+            Kind::Font | Kind::ControlValue => self.callers.len() == 0,
+            Kind::Glyph => false,
+        }
+    }
+
+    /// Defines a function that starts behind the FDEF at `at`. Errors: CodeShort, NoEndf; Memory.
+    fn define(&mut self, at: usize, n: u16) -> Result<(), FontFault>
+        requires { at < length self.old.frame.code.bytes.now }
+        ensures { Leaves result (state_of self.new) (is.define at n (state_of self.old)) }
+    {
+        match skip_def(self.frame.code.bytes, at) {
+            Ok(place) => {
+                let code = self.frame.code;
+                self.functions.set(n, Body { code, start: at + 1 })?;
+                self.frame.place = place;
+                Ok(())
+            }
+            Err(halt) => Err(FontFault::Font(self.fault(halt.at, halt.why))),
+        }
+    }
+
+    /// FDEF[], 0x2C: n -> nothing; function n starts behind it, and the program goes on behind its ENDF. Errors:
+    /// DefinitionPlace outside fpgm and prep and in calls; StackShort; BadArgument of a number that is not 0 to 65535;
+    /// CodeShort, NoEndf; Memory.
+    pub(crate) fn fdef(&mut self, at: usize) -> Result<(), FontFault>
+        requires { at < length self.old.frame.code.bytes.now }
+        ensures { Leaves result (state_of self.new) (is.fdef at (state_of self.old)) }
+    {
+        if !self.may_define() {
+            return Err(FontFault::Font(self.fault(at, Why::DefinitionPlace)));
+        }
+        let n = self.popped(at)?;
+        match u16::try_from(n) {
+            Ok(n) => self.define(at, n),
+            Err(_) => Err(FontFault::Font(self.fault(at, Why::BadArgument))),
+        }
+    }
+
+    /// ENDF[], 0x2D: ends a call, or begins the next round of a LOOPCALL. Error: DefinitionPlace outside calls.
+    pub(crate) fn endf(&mut self, at: usize) -> Result<(), Fault>
+        requires { at < length self.old.frame.code.bytes.now }
+        ensures { Does (is.endf self.old.callers at (state_of self.old)) (state_of self.new) result }
+    {
+        if self.frame.left > 0 && self.callers.len() > 0 {
+            self.frame.place = self.frame.start;
+            self.frame.left -= 1;
+            return Ok(());
+        }
+        let Some(caller) = self.callers.pop() else {
+            return Err(self.fault(at, Why::DefinitionPlace));
+        };
+        self.frame = caller;
+        Ok(())
+    }
+
+    /// Calls a function, and again so often. Error: CallDepth.
+    fn enter(&mut self, at: usize, body: Body<'a>, again: u32) -> Result<(), Fault>
+        requires { at < length self.old.frame.code.bytes.now }
+        ensures { Does (is.called at again (state_of self.old) (Some (function_of body.entry))) (state_of self.new) result }
+    {
+        if self.callers.len() >= CALL_LIMIT {
+            return Err(self.fault(at, Why::CallDepth));
+        }
+        self.callers.push(self.frame);
+        self.frame = Frame {
+            code: body.code,
+            place: body.start,
+            start: body.start,
+            left: again,
+        };
+        Ok(())
+    }
+
+    /// CALL[], 0x2B: n -> nothing; goes on in function n, behind whose ENDF it comes back. Errors: NoFunction, CallDepth.
+    pub(crate) fn call(&mut self, at: usize) -> Result<(), Fault>
+        requires { at < length self.old.frame.code.bytes.now }
+        ensures { Does (is.call self.old.stack at (state_of self.old)) (state_of self.new) result }
+    {
+        let n = self.popped(at)?;
+        match self.functions.get(n) {
+            Some(body) => self.enter(at, body, 0),
+            None => Err(self.fault(at, Why::NoFunction)),
+        }
+    }
+
+    /// LOOPCALL[], 0x2A: count, n -> nothing; calls function n so often, which may be never. Errors: NoFunction whatever
+    /// the count is, CallDepth.
+    pub(crate) fn loopcall(&mut self, at: usize) -> Result<(), Fault>
+        requires { at < length self.old.frame.code.bytes.now }
+        ensures { Does (is.loopcall self.old.stack at (state_of self.old)) (state_of self.new) result }
+    {
+        let n = self.popped(at)?;
+        let count = self.popped(at)?;
+        let Some(body) = self.functions.get(n) else {
+            return Err(self.fault(at, Why::NoFunction));
+        };
+        if count < 1 {
+            return Ok(());
+        }
+        self.enter(at, body, (count - 1) as u32)
+    }
+}

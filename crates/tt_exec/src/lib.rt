@@ -1,0 +1,18 @@
+//! The bytecode machine: it runs the programs of a font. Apple TrueType Reference Manual, "Instructing TrueType Glyphs"
+//! and "Instruction set".
+#![tactic(auto)]
+
+mod bodies;
+mod callers;
+mod families;
+mod flow;
+mod functions;
+mod interpreter;
+mod opcode;
+mod parts;
+mod points;
+mod program;
+mod stepping;
+
+pub use parts::Parts;
+pub use program::{Body, Code};

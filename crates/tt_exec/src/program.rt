@@ -1,0 +1,50 @@
+//! Programs and the functions that they define. Apple TrueType Reference Manual, "Instructing TrueType Glyphs" and
+//! "Instruction set" (defining and using functions).
+
+ghost use Rattle.std.specs.Prelude.{◌≡◌, ◌+◌, ◌^◌, ◌<◌, ◌≤◌, length, IsTrue};
+ghost use Rattle.tt_core.specs.Faults.{is_ascii};
+
+/// A program: its table, the offset of its first byte there, and its bytes.
+#[derive(Clone, Copy)]
+pub struct Code<'a> {
+    pub table: [u8; 4],
+    pub base: u32,
+    pub bytes: &'a [u8],
+    pub ghost ascii: { IsTrue (is_ascii table) },
+    pub ghost fits: { base + length bytes.now < 2 ^ 32 },
+}
+
+/// A function: the program that defines it, and the place there behind its FDEF.
+#[derive(Clone, Copy)]
+pub struct Body<'a> {
+    pub code: Code<'a>,
+    pub start: usize,
+    pub ghost within: { start ≤ length code.bytes.now },
+}
+
+/// Where a program or a call stands: its program, the place of the next instruction, where it began, and how often it is
+/// to begin again.
+#[derive(Clone, Copy)]
+pub(crate) struct Frame<'a> {
+    pub(crate) code: Code<'a>,
+    pub(crate) place: usize,
+    pub(crate) start: usize,
+    pub(crate) left: u32,
+    ghost place_within: { place ≤ length code.bytes.now },
+    ghost start_within: { start ≤ length code.bytes.now },
+}
+
+impl Default for Frame<'_> {
+    fn default() -> Self {
+        Frame {
+            code: Code {
+                table: *b"none",
+                base: 0,
+                bytes: &[],
+            },
+            place: 0,
+            start: 0,
+            left: 0,
+        }
+    }
+}
