@@ -1,5 +1,5 @@
 -- Functions by number, seen without addresses.
-use Rattle.std.proofs.Common.{◌≡◌, ℕ, ◌<◌, ℤ, pos, negsuc, unsigned_abs, int_le, Bool, true, List, [], ◌∷◌, map, ap, refl, arith}
+use Rattle.std.proofs.Common.{◌≡◌, ℕ, ◌<◌, ℤ, pos, negsuc, unsigned_abs, int_le, true, List, [], ◌∷◌, map, refl, arith}
 use Rattle.std.proofs.lemmas.Bool.Decides.{nat_tests}
 use Rattle.std.proofs.lemmas.Int.{ints}
 use Rattle.std.proofs.lemmas.Map.Made.{lookup-map_values}
@@ -11,7 +11,6 @@ use Rattle.std.specs.Ordering.{nat_cmp, match_ordering}
 use Rattle.std.specs.declared.cmp.Ordering.{Ordering}
 use Rattle.std.specs.declared.cmp.Ordering.TheVariants.{Less, Equal, Greater}
 use Rattle.tt_exec.specs.declared.program.Body.{Body}
-use Rattle.tt_exec.specs.MachineState.{Function}
 use Rattle.tt_exec.specs.Numbered.{function_at}
 use Rattle.tt_exec.specs.Views.{entry_of, function_of}
 

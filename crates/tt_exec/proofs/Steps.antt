@@ -1,5 +1,5 @@
 -- Steps that lead on.
-use Rattle.std.proofs.Common.{◌≡◌, ℕ, suc, ◌+◌, add-one, Result, Ok}
+use Rattle.std.proofs.Common.{◌≡◌, ℕ, ◌+◌, add-one, Ok}
 use Rattle.tt_exec.specs.MachineState.{MachineState}
 use Rattle.tt_exec.specs.Runs.{Leads}
 use Rattle.tt_exec.specs.Step.{step}

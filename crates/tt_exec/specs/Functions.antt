@@ -1,8 +1,7 @@
 -- Apple TrueType Reference Manual, "Instruction set": defining and using functions. A state's place is behind the
 -- instruction, which stands at a place of its own. The top of the stack stands first.
-use Rattle.std.specs.Prelude.{◌≡◌, ℕ, ◌+◌, ◌-◌, ◌==◌, nat_lt, ℤ, pos, int_le, int_lt, unsigned_abs, Bool, true, false, ◌&&◌, if◌then◌else◌, List, [], ◌∷◌, length, Option, Some, None, Result, Ok, Err}
+use Rattle.std.specs.Prelude.{ℕ, ◌+◌, ◌-◌, ◌==◌, nat_lt, ℤ, pos, int_lt, unsigned_abs, Bool, true, false, if◌then◌else◌, List, [], ◌∷◌, length, Option, Some, None, Result, Ok, Err}
 use Rattle.tt_core.specs.Faults.{Fault}
-use Rattle.tt_core.specs.Outcomes.{◌>>=◌}
 use Rattle.tt_core.specs.declared.fault.Why.TheVariants as why
 use Rattle.tt_code.specs.declared.decoding.Halt.{Halt}
 use Rattle.tt_code.specs.Skips.{definition_end}

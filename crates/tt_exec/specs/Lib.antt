@@ -3,8 +3,10 @@ pub mod Flags
 pub mod Flow
 pub mod Functions
 pub mod MachineState
+pub mod Machines
 pub mod Numbered
 pub mod Opcodes
+pub mod Outcomes
 pub mod Parts
 pub mod Runs
 pub mod States

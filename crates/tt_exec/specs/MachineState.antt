@@ -44,3 +44,8 @@ pub record MachineState : Type 0 where
 -- a fault at a place: it names the table of the program that holds the instruction, and the offset there
 abbrev pub fault_in : Frame → ℕ → Why → Fault
 fault_in frame at why = fault_at frame.program.table (frame.program.base + at) why
+
+-- what a machine holds, and whether a run of it failed
+pub record Held : Type 0 where
+  pub state : MachineState
+  pub failed : Bool

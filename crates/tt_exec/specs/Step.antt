@@ -1,6 +1,6 @@
 -- Apple TrueType Reference Manual, "Instruction set": one step, the instruction at the state's place. Each family's
 -- definitions stand in a file of their own; this one has them work on a whole state.
-use Rattle.std.specs.Prelude.{◌≡◌, ℕ, ◌+◌, nat_le, ℤ, Bool, true, false, ◌==◌, List, [], ◌∷◌, length, if◌then◌else◌, Result, Ok, Err}
+use Rattle.std.specs.Prelude.{ℕ, ◌+◌, nat_le, ℤ, Bool, false, ◌==◌, List, length, if◌then◌else◌, Result, Ok, Err}
 use Rattle.tt_core.specs.Faults.{Fault}
 use Rattle.tt_core.specs.declared.fault.Why.{Why}
 use Rattle.tt_core.specs.declared.fault.Why.TheVariants as why

@@ -18,7 +18,10 @@ ghost use Rattle.tt_exec.specs.States.{state_of};
 
 use crate::interpreter::Interpreter;
 use tt_core::Fault;
-use tt_exec_stack::{Arithmetic, Logic, Managing, Places, Query, Setting, Vectors, adjust, compute, decide, keep, manage, push_bytes, push_words, tell, turn};
+use tt_exec_stack::{
+    Arithmetic, Logic, Managing, Places, Query, Setting, Vectors, adjust, compute, decide, keep,
+    manage, push_bytes, push_words, tell, turn,
+};
 
 impl Interpreter<'_> {
     pub(crate) fn push_bytes(&mut self, args: &[u8], at: usize) -> Result<(), Fault>
@@ -97,7 +100,13 @@ impl Interpreter<'_> {
         requires { at ≤ length self.old.frame.code.bytes.now }
         ensures { Does (let m = state_of self.old in on_places at m (kept op m.ppem m.units_per_em m.stack m.storage m.control_values)) (state_of self.new) result }
     {
-        match keep(op, self.size, &mut self.stack, &mut self.storage, &mut self.cvt) {
+        match keep(
+            op,
+            self.size,
+            &mut self.stack,
+            &mut self.storage,
+            &mut self.cvt,
+        ) {
             Ok(()) => Ok(()),
             Err(why) => Err(self.fault(at, why)),
         }

@@ -33,7 +33,13 @@ impl<'a> Interpreter<'a> {
         match skip_def(self.frame.code.bytes, at) {
             Ok(place) => {
                 let code = self.frame.code;
-                self.functions.set(n, Body { code, start: at + 1 })?;
+                self.functions.set(
+                    n,
+                    Body {
+                        code,
+                        start: at + 1,
+                    },
+                )?;
                 self.frame.place = place;
                 Ok(())
             }

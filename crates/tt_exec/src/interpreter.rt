@@ -1,13 +1,20 @@
 //! What a machine holds while a program runs. Apple TrueType Reference Manual, "Instructing TrueType Glyphs".
 
-ghost use Rattle.std.specs.Prelude.{◌≡◌, ◌≤◌, length};
+ghost use Rattle.std.specs.Prelude.{◌≡◌, ◌<◌, ◌≤◌, length};
+ghost use Rattle.tt_core.specs.Limits.{size_limit};
+ghost use Rattle.tt_state.specs.GraphicsState.{IsGraphicsState};
+ghost use Rattle.tt_points.specs.Zones.{zones_view, IsZones};
+ghost use Rattle.tt_exec.specs.Machines.{begun, parts_in};
 ghost use Rattle.tt_exec.specs.MachineState.{fault_in};
-ghost use Rattle.tt_exec.specs.Views.{frame_of};
+ghost use Rattle.tt_exec.specs.Parts.{parts_of};
+ghost use Rattle.tt_exec.specs.States.{state_of};
+ghost use Rattle.tt_exec.specs.Views.{frame_of, program_of};
 
 use crate::bodies::Bodies;
 use crate::callers::Callers;
+use crate::parts::Parts;
 use crate::points::Points;
-use crate::program::Frame;
+use crate::program::{Code, Frame};
 use tt_core::{Fault, Why};
 use tt_exec_stack::{Graphics, Size, Stack};
 
@@ -39,7 +46,38 @@ pub(crate) struct Interpreter<'a> {
     pub(crate) kind: Kind,
 }
 
-impl Interpreter<'_> {
+impl<'a> Interpreter<'a> {
+    /// Begins a run of a program.
+    pub(crate) fn begin(&mut self, code: Code<'a>, kind: Kind)
+        ensures { state_of self.new ≡ begun kind (program_of code.entry) (state_of self.old) }
+    {
+        self.stack.clear();
+        self.callers.clear();
+        self.frame = Frame::of(code);
+        self.kind = kind;
+    }
+
+    /// What is kept between runs.
+    pub(crate) fn into_parts(self) -> Parts<'a>
+        ensures exact { parts_of result ≡ parts_in (state_of self.entry) }
+        ensures size { result.ppem ≤ size_limit }
+        ensures units { 0 < result.em }
+        ensures zones { IsZones (zones_view result.zones) }
+        ensures graphics { IsGraphicsState result.state }
+    {
+        Parts {
+            em: self.size.units_per_em,
+            ppem: self.size.ppem,
+            cvt: self.cvt,
+            storage: self.storage,
+            zones: self.points.into_zones(),
+            functions: self.functions.into_map(),
+            state: self.graphics.state(),
+            skip_glyphs: self.skip_glyphs,
+            default_state: self.default_state,
+        }
+    }
+
     /// A fault at a place of the program that holds the instruction.
     pub(crate) fn fault(&self, at: usize, why: Why) -> Fault
         requires { at ≤ length self.now.frame.code.bytes.now }

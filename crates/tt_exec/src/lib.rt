@@ -5,14 +5,19 @@
 mod bodies;
 mod callers;
 mod families;
+mod fault;
 mod flow;
 mod functions;
 mod interpreter;
+pub mod laws;
+mod machine;
 mod opcode;
 mod parts;
 mod points;
 mod program;
 mod stepping;
 
+pub use fault::ExecFault;
+pub use machine::Machine;
 pub use parts::Parts;
 pub use program::{Body, Code};

@@ -34,17 +34,36 @@ pub(crate) struct Frame<'a> {
     ghost start_within: { start ≤ length code.bytes.now },
 }
 
-impl Default for Frame<'_> {
-    fn default() -> Self {
+impl<'a> Frame<'a> {
+    ghost use Rattle.tt_exec.specs.Machines.{no_program, start_of};
+    ghost use Rattle.tt_exec.specs.Views.{frame_of, program_of};
+
+    /// The start of a program.
+    pub(crate) fn of(code: Code<'a>) -> Frame<'a>
+        ensures { frame_of result ≡ start_of (program_of code.entry) }
+    {
         Frame {
-            code: Code {
-                table: *b"none",
-                base: 0,
-                bytes: &[],
-            },
+            code,
             place: 0,
             start: 0,
             left: 0,
         }
+    }
+
+    /// No program has been run yet.
+    pub(crate) fn idle() -> Frame<'a>
+        ensures { frame_of result ≡ start_of no_program }
+    {
+        Frame::of(Code {
+            table: *b"none",
+            base: 0,
+            bytes: &[],
+        })
+    }
+}
+
+impl Default for Frame<'_> {
+    fn default() -> Self {
+        Frame::idle()
     }
 }

@@ -1,4 +1,4 @@
-use Rattle.std.proofs.Common.{◌≡◌, ◌<◌, pos, SFits, w32, rules, arith}
+use Rattle.std.proofs.Common.{◌≡◌, ◌<◌, pos, SFits, w32, rules}
 use Rattle.std.proofs.lemmas.Int.{to_z-of_z}
 use Rattle.tt_exec.proofs.Entries.{as_number, found_at}
 use Rattle.tt_exec.proofs.bodies.Bodies.get.Goals as goal

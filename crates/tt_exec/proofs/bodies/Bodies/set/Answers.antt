@@ -1,4 +1,3 @@
-use Rattle.std.proofs.Common.{◌≡◌, rules, arith}
 use Rattle.tt_exec.proofs.Entries.{inserted}
 use Rattle.tt_exec.proofs.bodies.Bodies.set.Goals as goal
 

@@ -1,4 +1,4 @@
-use Rattle.std.proofs.Common.{◌≡◌, arith}
+use Rattle.std.proofs.Common.{arith}
 use Rattle.tt_exec.specs.States.{state_of}
 use Rattle.tt_exec.proofs.Steps.{one_more}
 use Rattle.tt_exec.proofs.interpreter.Interpreter.go.Goals as goal

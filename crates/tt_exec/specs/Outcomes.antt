@@ -1,0 +1,11 @@
+-- No part of the standard: a run from any state ends or halts, and has but one outcome.
+use Rattle.std.specs.Prelude.{◌≡◌, ℕ, ◌⊎◌}
+use Rattle.tt_core.specs.Faults.{Fault}
+use Rattle.tt_exec.specs.MachineState.{MachineState}
+use Rattle.tt_exec.specs.Runs.{Ends, Halts}
+
+pub record HasOneOutcome (s : MachineState) : Type 0 where
+  pub some : ((n : ℕ) × (t : MachineState) × Ends s n t) ⊎ ((fault : Fault) × Halts s fault)
+  pub one_end : (n m : ℕ) (t u : MachineState) → Ends s n t → Ends s m u → (n ≡ m) × (t ≡ u)
+  pub one_fault : (f g : Fault) → Halts s f → Halts s g → f ≡ g
+  pub never_both : (n : ℕ) (t : MachineState) (fault : Fault) → Ends s n t → Halts s fault → ⊥

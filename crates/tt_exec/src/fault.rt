@@ -1,0 +1,28 @@
+//! Why a run gives nothing.
+
+use tt_core::{Fault, FontFault};
+
+/// Why a run gives nothing.
+#[derive(Clone, Copy, Debug, PartialEq, Eq)]
+pub enum ExecFault {
+    /// The program has this defect. Its table and offset are those of the program that holds the instruction.
+    Font(Fault),
+    /// Memory ran out.
+    Memory,
+    /// An earlier run had a defect or no memory.
+    Failed,
+}
+
+impl From<FontFault> for ExecFault {
+    ghost use Rattle.std.specs.Prelude.{◌≡◌};
+    ghost use Rattle.tt_exec.specs.Machines.{exec_fault};
+
+    ghost from_gives = { λ f e. e ≡ exec_fault f };
+
+    fn from(fault: FontFault) -> ExecFault {
+        match fault {
+            FontFault::Font(fault) => ExecFault::Font(fault),
+            FontFault::Memory => ExecFault::Memory,
+        }
+    }
+}

@@ -1,0 +1,122 @@
+//! A machine and its runs. Apple TrueType Reference Manual, "Instructing TrueType Glyphs".
+
+ghost use Rattle.std.specs.Prelude.{◌≡◌, ◌<◌, ◌≤◌, length, reverse, true, false, IfOk, IfSome, MatchOption};
+ghost use Rattle.tt_core.specs.Limits.{size_limit};
+ghost use Rattle.tt_state.specs.GraphicsState.{IsGraphicsState};
+ghost use Rattle.tt_points.specs.Zones.{zones_view, IsZones};
+ghost use Rattle.tt_exec_stack.specs.Stack.{stack_limit};
+ghost use Rattle.tt_exec.specs.Machines.{fresh, kind_of, parts_in, RunGives};
+ghost use Rattle.tt_exec.specs.Parts.{parts_of};
+ghost use Rattle.tt_exec.specs.Views.{program_of};
+
+use crate::bodies::Bodies;
+use crate::callers::Callers;
+use crate::fault::ExecFault;
+use crate::interpreter::{Interpreter, Kind};
+use crate::parts::Parts;
+use crate::points::Points;
+use crate::program::{Code, Frame};
+use std::alloc::{AllocError, Global};
+use std::marker::Model;
+use tt_exec_stack::{Graphics, Size, Stack};
+
+/// A machine, which runs programs one behind the other. A clause sees what it holds, and whether a run failed.
+#[derive(Drop)]
+pub struct Machine<'a> {
+    interpreter: Interpreter<'a>,
+    failed: bool,
+}
+
+impl<'a> Model for Machine<'a> {
+    ghost use Rattle.tt_exec.specs.MachineState.{Held};
+
+    ghost Value = { Held };
+
+    ghost use Rattle.tt_exec.specs.States.{state_of};
+
+    ghost view = { λ m. record { state = state_of m.interpreter; failed = m.failed } };
+}
+
+/// Which program stands in a table.
+fn kind_of(table: [u8; 4]) -> Kind
+    ensures { result ≡ kind_of table }
+{
+    if &table[..] == &b"fpgm"[..] {
+        Kind::Font
+    } else if &table[..] == &b"prep"[..] {
+        Kind::ControlValue
+    } else {
+        Kind::Glyph
+    }
+}
+
+impl<'a> Machine<'a> {
+    /// A machine of these parts. It takes memory for the whole stack.
+    pub fn new(alloc: Global, parts: Parts<'a>) -> Result<Machine<'a>, AllocError>
+        requires size { parts.ppem ≤ size_limit }
+        requires units { 0 < parts.em }
+        requires zones { IsZones (zones_view parts.zones) }
+        requires graphics { IsGraphicsState parts.state }
+        ensures { IfOk result (λ m. m ≡ record { state = fresh (parts_of parts.entry); failed = false }) }
+    {
+        let interpreter = Interpreter {
+            stack: Stack::new(alloc)?,
+            frame: Frame::idle(),
+            callers: Callers::new(alloc),
+            functions: Bodies::new(parts.functions),
+            storage: parts.storage,
+            cvt: parts.cvt,
+            graphics: Graphics::new(parts.state),
+            points: Points::new(parts.zones),
+            skip_glyphs: parts.skip_glyphs,
+            default_state: parts.default_state,
+            size: Size::new(parts.ppem, parts.em),
+            kind: Kind::Glyph,
+        };
+        Ok(Machine {
+            interpreter,
+            failed: false,
+        })
+    }
+
+    /// Runs a program from its first byte, with an empty stack and everything else as it is, and tells the steps that
+    /// were made. Where functions may be defined and flags set goes by the program's table. Errors: Font with a defect
+    /// of the program, Memory; from then on Failed.
+    pub fn run(&mut self, code: Code<'a>) -> Result<u32, ExecFault>
+        ensures { RunGives (program_of code.entry) self.old result self.new }
+    {
+        if self.failed {
+            return Err(ExecFault::Failed);
+        }
+        self.interpreter.begin(code, kind_of(code.table));
+        match self.interpreter.go() {
+            Ok(steps) => Ok(steps),
+            Err(fault) => {
+                self.failed = true;
+                Err(ExecFault::from(fault))
+            }
+        }
+    }
+
+    /// The stack, the top last. After a defect nothing is promised of it.
+    pub fn stack(&self) -> &[i32]
+        ensures exact { reverse result.now ≡ self.now.state.stack }
+        ensures limit { length result.now ≤ stack_limit }
+    {
+        self.interpreter.stack.items()
+    }
+
+    /// What the machine is made of, as its runs left it; None after Font or Memory.
+    pub fn into_parts(self) -> Option<Parts<'a>>
+        ensures exact { MatchOption result (self.entry.failed ≡ true) (λ p. (self.entry.failed ≡ false) × (parts_of p ≡ parts_in self.entry.state)) }
+        ensures size { IfSome result (λ p. p.ppem ≤ size_limit) }
+        ensures units { IfSome result (λ p. 0 < p.em) }
+        ensures zones { IfSome result (λ p. IsZones (zones_view p.zones)) }
+        ensures graphics { IfSome result (λ p. IsGraphicsState p.state) }
+    {
+        if self.failed {
+            return None;
+        }
+        Some(self.interpreter.into_parts())
+    }
+}
