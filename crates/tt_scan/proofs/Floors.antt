@@ -1,21 +1,23 @@
 -- Floors of quotients: how large one is, and which multiples of the divisor lie below the number that was divided.
-use Rattle.std.proofs.Common.{◌≡◌, ℕ, ◌/◌, ◌^◌, ◌<◌, ◌≤◌, ap, ◌&&◌, SFits, w64, arith}
-use Rattle.std.specs.Prelude.{ℤ, pos, negsuc, ◌+ℤ◌, ◌-ℤ◌, ◌*ℤ◌, ◌≤ℤ◌, ◌<ℤ◌, int_lt, unsigned_abs}
-use Rattle.std.specs.Int.{int_div_euclid}
+use Rattle.std.proofs.Common.{◌≡◌, refl, ℕ, zero, suc, ◌/◌, ◌^◌, ◌≤◌, ap, ◌&&◌, SFits, w64, arith}
+use Rattle.std.specs.Prelude.{ℤ, pos, negsuc, ◌+ℤ◌, ◌-ℤ◌, ◌*ℤ◌, ◌≤ℤ◌, ◌<ℤ◌, neg_ℤ, int_lt, unsigned_abs}
+use Rattle.std.specs.Prelude.{int_div}
 use Rattle.std.proofs.lemmas.Int.{ints, by_lt_z}
 use lib.Signed.{shr_z}
 use Rattle.tt_core.specs.Products.{mul_sum, floor_above, floor_below}
 use Rattle.tt_scan.specs.Winding.{is_zero}
 
-half_below : (a b : ℕ) → a < 2 ^ 63 → 2 ≤ b → a / b < 2 ^ 62
+unsigned_abs-neg : (n : ℕ) → unsigned_abs (neg_ℤ (pos n)) ≡ n
+unsigned_abs-neg zero = refl
+unsigned_abs-neg (suc n) = refl
+
+half_below : (a b : ℕ) → a ≤ 2 ^ 63 → 2 ≤ b → a / b ≤ 2 ^ 62
 half_below a b h p = grind arith
 
-pub floor_small : (n d : ℤ) → SFits w64 n → pos 2 ≤ℤ d → unsigned_abs (int_div_euclid n d) ≤ 2 ^ 62
-floor_small (pos a) (pos b) f h =
-    let q : a / b < 2 ^ 62 = half_below a b (omega (arith, ints)) (omega (arith, ints)) in omega arith
-floor_small (negsuc a) (pos b) f h =
-    let q : a / b < 2 ^ 62 = half_below a b (omega (arith, ints)) (omega (arith, ints)) in omega arith
-floor_small n (negsuc b) f h = absurd (omega (arith, ints))
+pub quotient_small : (n d : ℤ) → SFits w64 n → pos 2 ≤ℤ d → unsigned_abs (int_div n d) ≤ 2 ^ 62
+quotient_small (pos a) (pos b) f h = half_below a b (omega (arith, ints)) (omega (arith, ints))
+quotient_small (negsuc a) (pos b) f h = rw (unsigned_abs-neg (suc a / b)) (half_below (suc a) b (omega (arith, ints)) (omega (arith, ints)))
+quotient_small n (negsuc b) f h = absurd (omega (arith, ints))
 
 -- d goes q times into n, and the rest is left: n less c times d is below 0, and is 0
 pub below_floor : (d q rest n c : ℤ) → pos 0 ≤ℤ rest → rest <ℤ d → d *ℤ q +ℤ rest ≡ n → int_lt (n -ℤ d *ℤ c) (pos 0) ≡ int_lt q c

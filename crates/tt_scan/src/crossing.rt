@@ -16,7 +16,7 @@
 //! the edge, and it adds `turn` to the winding number there. The lower end counts, the upper does not, so that a joint of
 //! two edges counts once. `touch` serves rule 2, a centre on the contour is black: both ends count.
 
-ghost use Rattle.std.specs.Prelude.{◌≡◌, ℤ, ◌^◌, ◌<◌, ◌≤◌, ◌&&◌, pos, int_lt, ◌-ℤ◌, ◌<ℤ◌, ◌≤ℤ◌, unsigned_abs, IfSome};
+ghost use Rattle.std.specs.Prelude.{◌≡◌, ℤ, ◌+◌, ◌^◌, ◌<◌, ◌≤◌, ◌&&◌, pos, int_lt, ◌-ℤ◌, ◌<ℤ◌, ◌≤ℤ◌, unsigned_abs, IfSome};
 ghost use Rattle.tt_core.specs.Limits.{margin_limit};
 ghost use Rattle.tt_scan.specs.Crossing.{spans, IsCross};
 ghost use Rattle.tt_scan.specs.Winding.{EdgeFits, FrameFits, column_x, row_y, side, is_zero};
@@ -58,7 +58,7 @@ fn standing(edge: Edge, margin: u32, y: i64) -> Quotient
     requires high { y ≤ℤ edge.by }
     ensures on { (c : ℤ) → is_zero (side edge (column_x margin c) y) ≡ (is_zero result.rest && is_zero (result.whole -ℤ c)) }
     ensures right { (c : ℤ) → int_lt (side edge (column_x margin c) y) (pos 0) ≡ int_lt result.whole c }
-    ensures small { unsigned_abs result.whole ≤ 2 ^ 62 }
+    ensures small { unsigned_abs result.whole ≤ 2 ^ 62 + 1 }
 {
     let run = edge.bx - edge.ax;
     let rise = edge.by - edge.ay;

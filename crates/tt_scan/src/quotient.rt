@@ -1,6 +1,6 @@
 //! Floor division. Its numbers may be negative.
 
-ghost use Rattle.std.specs.Prelude.{◌≡◌, ℤ, ◌^◌, ◌<◌, ◌≤◌, ◌&&◌, pos, int_le, ◌+ℤ◌, ◌*ℤ◌, ◌<ℤ◌, ◌≤ℤ◌, unsigned_abs, IfSome};
+ghost use Rattle.std.specs.Prelude.{◌≡◌, ℤ, ◌+◌, ◌^◌, ◌<◌, ◌≤◌, ◌&&◌, pos, int_le, ◌+ℤ◌, ◌*ℤ◌, ◌<ℤ◌, ◌≤ℤ◌, unsigned_abs, IfSome};
 ghost use Rattle.tt_scan.specs.Crossing.{spans};
 
 /// A pixel, in 1/8192 pixel.
@@ -13,17 +13,35 @@ pub(crate) struct Quotient {
     pub(crate) rest: i64,
 }
 
+/// `n / d` without its fraction, and what is left of `n`, with its sign.
+fn truncated(n: i64, d: i64) -> Quotient
+    requires divisor { pos 2 ≤ℤ d }
+    ensures exact { d *ℤ result.whole +ℤ result.rest ≡ n }
+    ensures near { unsigned_abs result.rest < unsigned_abs d }
+    ensures small { unsigned_abs result.whole ≤ 2 ^ 62 }
+{
+    Quotient {
+        whole: n / d,
+        rest: n % d,
+    }
+}
+
 /// The floor of `n / d`, and what is left of `n`.
 pub(crate) fn divided(n: i64, d: i64) -> Quotient
-    requires positive { pos 0 <ℤ d }
+    requires divisor { pos 2 ≤ℤ d }
     ensures exact { d *ℤ result.whole +ℤ result.rest ≡ n }
     ensures low { pos 0 ≤ℤ result.rest }
     ensures high { result.rest <ℤ d }
-    ensures small { pos 2 ≤ℤ d → unsigned_abs result.whole ≤ 2 ^ 62 }
+    ensures small { unsigned_abs result.whole ≤ 2 ^ 62 + 1 }
 {
-    Quotient {
-        whole: n.div_euclid(d),
-        rest: n.rem_euclid(d),
+    let cut = truncated(n, d);
+    if cut.rest < 0 {
+        Quotient {
+            whole: cut.whole - 1,
+            rest: cut.rest + d,
+        }
+    } else {
+        cut
     }
 }
 

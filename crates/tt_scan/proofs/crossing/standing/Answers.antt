@@ -24,7 +24,7 @@ divided-requires c =
     let by : SFits w64 c.args.edge.by = search rules in
     let rise : SFits w64 (c.args.edge.by -ℤ c.args.edge.ay) = omega (arith, ints) in
     let divisor : SFits w64 (pos 8192 *ℤ (c.args.edge.by -ℤ c.args.edge.ay)) = omega (arith, ints) in
-    record { positive = simp to_z-of_z (omega (arith, ints)) }
+    record { divisor = simp to_z-of_z (omega (arith, ints)) }
 
 -- what was divided, and by what
 abbrev number : goal.After-divided → ℤ
@@ -67,10 +67,4 @@ returns-clause-right c = λ k.
     rw p.0 (below_floor (divisor c) c.divided.result.whole c.divided.result.rest (number c) k c.divided.ensures.low p.2 p.1)
 
 pub returns-clause-small : goal.returns-clause-small
-returns-clause-small c =
-    let ay : SFits w64 c.args.edge.ay = search rules in
-    let by : SFits w64 c.args.edge.by = search rules in
-    let rise : SFits w64 (c.args.edge.by -ℤ c.args.edge.ay) = omega (arith, ints) in
-    let divisor : SFits w64 (pos 8192 *ℤ (c.args.edge.by -ℤ c.args.edge.ay)) = omega (arith, ints) in
-    let small = simp to_z-of_z at c.divided.ensures.small in
-    small (omega (arith, ints))
+returns-clause-small c = c.divided.ensures.small
