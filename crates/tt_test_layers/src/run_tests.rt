@@ -61,7 +61,7 @@ fn a_picture_cut_in_its_rows_tells_the_sum_of_all_writes(rt: HostRuntime) {
     let mut out = Writer::new(9, 1000);
     let answer = run(rt.alloc(), &mut font, &mut out, &job("A", 16, 0));
     assert_eq!(rt; answer, Err(RunFault::Write { sent: 9 }));
-    assert!(rt; out.held() == b"P4\n4 4\n\x00\x00");
+    assert!(rt; out.held() == &PICTURE[..9]);
 }
 
 #[test]
