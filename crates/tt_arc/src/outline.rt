@@ -1,6 +1,7 @@
 //! The edges of an outline, put on a tape.
 
-ghost use Rattle.std.specs.Prelude.{◌≡◌, ◌*◌, ◌≤◌, ◌++◌, length, map, All, IfOk, OnOk};
+ghost use Rattle.std.specs.Prelude.{◌≡◌, ◌*◌, ◌≤◌, ◌++◌, length, map, if◌then◌else◌, All, IfOk, OnOk};
+ghost use Rattle.std.specs.List.{sum_by};
 ghost use Rattle.tt_fit.specs.Outline.{AreEnds};
 ghost use Rattle.tt_scan.specs.Winding.{FrameFits};
 ghost use Rattle.tt_arc.specs.Chords.{IsNear, moved, outline_edges, chord_edges};
@@ -32,6 +33,17 @@ fn push_contours(
     Ok(())
 }
 
+/// How many edges some points have at most: one where the point is on the curve, and else eight.
+fn most_edges(points: &[(i32, i32, bool)]) -> usize
+    ensures { result ≡ sum_by (λ p. if p.2 then 1 else 8) points.now }
+{
+    let mut most = 0;
+    for point in points {
+        most += if point.2 { 1 } else { 8 };
+    }
+    most
+}
+
 /// The edges of an outline that is moved by `dx` and `dy`, in 26.6: the straight lines of its closed
 /// contours, and each curve as eight chords (profile). A contour of one point has none. Apple TrueType
 /// Reference Manual, "Digitizing Letterform Designs". Error: memory ran out.
@@ -49,6 +61,8 @@ pub fn chords(
     ensures few { IfOk result (λ t. length t.edges ≤ 8 * length outline.now.points.items) }
 {
     let mut tape = Tape::new(alloc, frame);
+    // Memory is taken once.
+    tape.reserve(most_edges(&outline.points))?;
     push_contours(&mut tape, &outline.points, &outline.ends, Shift { dx, dy })?;
     Ok(tape)
 }

@@ -7,14 +7,14 @@ pub push_contours-requires-clause-near : goal.push_contours-requires-clause-near
 push_contours-requires-clause-near c =
     let dx : SFits w64 c.args.dx = c.ranges.dx in
     let dy : SFits w64 c.args.dy = c.ranges.dy in
-    rw c.deref.ensures.value (simp to_z-of_z c.requires.near)
+    rw c.deref-2.ensures.value (simp to_z-of_z c.requires.near)
 
 pub returns-clause-exact : goal.returns-clause-exact
 returns-clause-exact c =
     let dx : SFits w64 c.args.dx = c.ranges.dx in
     let dy : SFits w64 c.args.dy = c.ranges.dy in
     let pushed = simp to_z-of_z at c.in_ok-push_contours.ensures.exact in
-    rw (pushed, c.new-tape.ensures, c.deref.ensures.value, c.deref-2.ensures.value) refl
+    rw (pushed, c.reserve.ensures, c.new-tape.ensures, c.deref-2.ensures.value, c.deref-3.ensures.value) refl
 
 pub returns-clause-few : goal.returns-clause-few
 returns-clause-few c =
