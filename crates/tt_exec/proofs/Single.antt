@@ -123,7 +123,11 @@ here false (Err fault) n s t ended made few leads next = inr (
 
 some_outcome : (k n : ℕ) (s t : MachineState) → n + k ≡ step_limit → Leads n s t → Outcome s
 some_outcome zero n s t count leads = last (is_ended t) n s t refl (omega arith) leads
-some_outcome (suc k) n s t count leads = here (is_ended t) (step t) n s t refl refl (omega arith) leads (λ v made. some_outcome k (n + 1) s v (omega arith) (one_more n s t v leads made))
+some_outcome (suc k) n s t count leads =
+    let few : n < step_limit = omega arith in
+    let rest : n + 1 + k ≡ step_limit = omega arith in
+    here (is_ended t) (step t) n s t refl refl few leads
+    (λ v made. some_outcome k (n + 1) s v rest (one_more n s t v leads made))
 
 pub outcome : (s : MachineState) → HasOneOutcome s
 outcome s = record {

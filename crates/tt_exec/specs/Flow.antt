@@ -21,7 +21,8 @@ skipped m (Err halt) = Err (fault_in m.frame halt.at halt.why)
 abbrev pub jumped : ℕ → ℤ → MachineState → Result MachineState Fault
 jumped at offset m =
     let target = pos at +ℤ offset in
-    if int_le (pos 0) target && int_le target (pos (length m.frame.program.bytes)) then Ok (goes_to (unsigned_abs target) m)
+    if int_le (pos 0) target && int_le target (pos (length m.frame.program.bytes))
+    then Ok (goes_to (unsigned_abs target) m)
     else Err (fault_in m.frame at why.JumpRange)
 
 -- IF goes on behind it where the condition is not 0, else behind its ELSE or EIF

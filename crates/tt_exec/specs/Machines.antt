@@ -1,5 +1,5 @@
 -- Apple TrueType Reference Manual, "Instructing TrueType Glyphs": the runs of a machine, one behind the other.
-use Rattle.std.specs.Prelude.{◌≡◌, ℕ, true, false, if◌then◌else◌, List, [], codes, Result, Ok, Err}
+use Rattle.std.specs.Prelude.{◌≡◌, ℕ, Option, Some, None, true, false, if◌then◌else◌, List, [], codes, Result, Ok, Err}
 use Rattle.std.specs.Str.{bytes_eq}
 use Rattle.tt_core.specs.declared.font_fault.FontFault.{FontFault}
 use Rattle.tt_core.specs.declared.font_fault.FontFault.TheVariants as font
@@ -53,7 +53,8 @@ parts_in m = record {
 -- which program stands in a table
 abbrev pub kind_of : List ℕ → Kind
 kind_of table =
-    if bytes_eq table (codes "fpgm") then kind.Font else (if bytes_eq table (codes "prep") then kind.ControlValue else kind.Glyph)
+    if bytes_eq table (codes "fpgm") then kind.Font else (
+    if bytes_eq table (codes "prep") then kind.ControlValue else kind.Glyph)
 
 -- a run begins at the program's first byte, with an empty stack and no open call; all else is as it was
 abbrev pub begun : Kind → Program → MachineState → MachineState
@@ -73,3 +74,8 @@ RunGives p old (Ok n) new = (old.failed ≡ false) × (new.failed ≡ false) × 
 RunGives p old (Err (exec.Font f)) new = (old.failed ≡ false) × (new.failed ≡ true) × Halts (run_from p old.state) f
 RunGives p old (Err exec.Memory) new = (old.failed ≡ false) × (new.failed ≡ true)
 RunGives p old (Err exec.Failed) new = (old.failed ≡ true) × (new ≡ old)
+
+-- the parts of a machine, or None after a run that failed
+abbrev pub GivesParts : Held → Option Parts → Type 0
+GivesParts m (Some p) = (m.failed ≡ false) × (p ≡ parts_in m.state)
+GivesParts m None = m.failed ≡ true

@@ -1,5 +1,5 @@
--- Apple TrueType Reference Manual, "Instruction set": the instruction of each opcode. Eight opcodes' worth of
--- instructions on lines off the axes and definitions of instructions are not supported (profile).
+-- Apple TrueType Reference Manual, "Instruction set": the instruction of each opcode. Vectors off the axes,
+-- crossings of lines and definitions of instructions are not supported (profile).
 use Rattle.std.specs.Prelude.{◌≡◌, ℕ, ◌==◌, nat_lt, true, false, if◌then◌else◌, List, [], ◌∷◌, refl}
 use Rattle.tt_state.specs.declared.graphics_state.Axis.TheVariants as axis
 use Rattle.tt_state.specs.declared.rounding.Round.TheVariants as round

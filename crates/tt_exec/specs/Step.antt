@@ -23,8 +23,8 @@ use Rattle.tt_exec.specs.Functions.{fdef, endf, call, loopcall}
 use Rattle.tt_exec.specs.MachineState.{MachineState, fault_in}
 use Rattle.tt_exec.specs.Opcodes.{operation_of}
 
--- what an instruction leaves of the stack; of the stack and the graphics state; of the stack, the storage and the control
--- values; or its refusal at its place
+-- what an instruction leaves of the stack; of the stack and the graphics state; of the stack, the storage and the
+-- control values; or its refusal at its place
 abbrev pub on_stack : ℕ → MachineState → Result (List ℤ) Why → Result MachineState Fault
 on_stack at m (Ok s) = Ok (record m { stack = s })
 on_stack at m (Err why) = Err (fault_in m.frame at why)

@@ -1,5 +1,5 @@
-//! The functions that programs define, by number. Apple TrueType Reference Manual, "Instruction set" (defining and using
-//! functions).
+//! The functions that programs define, by number. Apple TrueType Reference Manual, "Instruction set" (defining and
+//! using functions).
 
 ghost use Rattle.std.specs.Prelude.{◌≡◌, map, OnOk, OnErr};
 ghost use Rattle.std.specs.Option.{option_map};

@@ -84,7 +84,7 @@ impl<'a> Interpreter<'a> {
     /// Calls a function, and again so often. Error: CallDepth.
     fn enter(&mut self, at: usize, body: Body<'a>, again: u32) -> Result<(), Fault>
         requires { at < length self.old.frame.code.bytes.now }
-        ensures { Does (is.called at again (state_of self.old) (Some (function_of body.entry))) (state_of self.new) result }
+        ensures { let f = function_of body.entry in Does (is.called at again (state_of self.old) (Some f)) (state_of self.new) result }
     {
         if self.callers.len() >= CALL_LIMIT {
             return Err(self.fault(at, Why::CallDepth));
@@ -99,7 +99,7 @@ impl<'a> Interpreter<'a> {
         Ok(())
     }
 
-    /// CALL[], 0x2B: n -> nothing; goes on in function n, behind whose ENDF it comes back. Errors: NoFunction, CallDepth.
+    /// CALL[], 0x2B: n -> nothing; goes on in function n, whose ENDF comes back. Errors: NoFunction, CallDepth.
     pub(crate) fn call(&mut self, at: usize) -> Result<(), Fault>
         requires { at < length self.old.frame.code.bytes.now }
         ensures { Does (is.call self.old.stack at (state_of self.old)) (state_of self.new) result }
@@ -111,8 +111,8 @@ impl<'a> Interpreter<'a> {
         }
     }
 
-    /// LOOPCALL[], 0x2A: count, n -> nothing; calls function n so often, which may be never. Errors: NoFunction whatever
-    /// the count is, CallDepth.
+    /// LOOPCALL[], 0x2A: count, n -> nothing; calls function n so often, perhaps never. Errors: NoFunction whatever the
+    /// count is, CallDepth.
     pub(crate) fn loopcall(&mut self, at: usize) -> Result<(), Fault>
         requires { at < length self.old.frame.code.bytes.now }
         ensures { Does (is.loopcall self.old.stack at (state_of self.old)) (state_of self.new) result }

@@ -1,11 +1,12 @@
 //! A machine and its runs. Apple TrueType Reference Manual, "Instructing TrueType Glyphs".
 
-ghost use Rattle.std.specs.Prelude.{◌≡◌, ◌<◌, ◌≤◌, length, reverse, true, false, IfOk, IfSome, MatchOption};
+ghost use Rattle.std.specs.Prelude.{◌≡◌, ◌<◌, ◌≤◌, length, reverse, true, false, IfOk, IfSome};
+ghost use Rattle.std.specs.Option.{option_map};
 ghost use Rattle.tt_core.specs.Limits.{size_limit};
 ghost use Rattle.tt_state.specs.GraphicsState.{IsGraphicsState};
 ghost use Rattle.tt_points.specs.Zones.{zones_view, IsZones};
 ghost use Rattle.tt_exec_stack.specs.Stack.{stack_limit};
-ghost use Rattle.tt_exec.specs.Machines.{fresh, kind_of, parts_in, RunGives};
+ghost use Rattle.tt_exec.specs.Machines.{fresh, kind_of, GivesParts, RunGives};
 ghost use Rattle.tt_exec.specs.Parts.{parts_of};
 ghost use Rattle.tt_exec.specs.Views.{program_of};
 
@@ -108,7 +109,7 @@ impl<'a> Machine<'a> {
 
     /// What the machine is made of, as its runs left it; None after Font or Memory.
     pub fn into_parts(self) -> Option<Parts<'a>>
-        ensures exact { MatchOption result (self.entry.failed ≡ true) (λ p. (self.entry.failed ≡ false) × (parts_of p ≡ parts_in self.entry.state)) }
+        ensures exact { GivesParts self.entry (option_map parts_of result) }
         ensures size { IfSome result (λ p. p.ppem ≤ size_limit) }
         ensures units { IfSome result (λ p. 0 < p.em) }
         ensures zones { IfSome result (λ p. IsZones (zones_view p.zones)) }

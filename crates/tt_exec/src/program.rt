@@ -22,8 +22,8 @@ pub struct Body<'a> {
     pub ghost within: { start ≤ length code.bytes.now },
 }
 
-/// Where a program or a call stands: its program, the place of the next instruction, where it began, and how often it is
-/// to begin again.
+/// Where a program or a call stands: its program, the place of the next instruction, where it began, and how often it
+/// is to begin again.
 #[derive(Clone, Copy)]
 pub(crate) struct Frame<'a> {
     pub(crate) code: Code<'a>,

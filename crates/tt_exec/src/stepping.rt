@@ -1,6 +1,6 @@
 //! One step, and a whole run. Apple TrueType Reference Manual, "Instructing TrueType Glyphs".
 
-ghost use Rattle.std.specs.Prelude.{◌≡◌, ◌<◌, ◌≤◌, length, IfSome, MatchResult};
+ghost use Rattle.std.specs.Prelude.{◌≡◌, ◌<◌, ◌≤◌, length, IfErr, IfOk, IfSome};
 ghost use Rattle.tt_core.specs.Outcomes.{Leaves, font_fault};
 ghost use Rattle.tt_exec.specs.Runs.{Ends, Halts};
 ghost use Rattle.tt_exec.specs.States.{state_of};
@@ -48,8 +48,8 @@ impl Interpreter<'_> {
         }
     }
 
-    /// Does the instruction at the frame's place. Errors: CodeShort where its data passes the program's end or the place
-    /// is that end; those of the instruction.
+    /// Does the instruction at the frame's place. Errors: CodeShort where its data passes the program's end or the
+    /// place is that end; those of the instruction.
     fn step(&mut self) -> Result<(), FontFault>
         ensures { Leaves result (state_of self.new) (is.step (state_of self.old)) }
     {
@@ -75,7 +75,8 @@ impl Interpreter<'_> {
 
     /// Runs on to the program's end, and tells the steps. Errors: StepLimit; those of a step.
     pub(crate) fn go(&mut self) -> Result<u32, FontFault>
-        ensures { MatchResult result (λ n. Ends (state_of self.old) n (state_of self.new)) (λ e. IfSome (font_fault e) (Halts (state_of self.old))) }
+        ensures ends { IfOk result (λ n. Ends (state_of self.old) n (state_of self.new)) }
+        ensures halts { IfErr result (λ e. IfSome (font_fault e) (Halts (state_of self.old))) }
     {
         let mut n = 0;
         'steps: while !self.is_ended() {

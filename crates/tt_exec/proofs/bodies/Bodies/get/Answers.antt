@@ -9,4 +9,5 @@ returns c =
     let fits = simp to_z-of_z at c.in-Ok.ensures in
     let few : c.in-Ok.n < 65536 = search rules in
     let is : c.args.n ≡ pos c.in-Ok.n = as_number c.args.n c.in-Ok.n fits.0 fits.1 in
-    rw (c.copied.ensures, c.get.ensures.value, ← c.self.view_is) (found_at c.self.inside.by_number.entries c.args.n c.in-Ok.n is few)
+    let found = found_at c.self.inside.by_number.entries c.args.n c.in-Ok.n is few in
+    rw (c.copied.ensures, c.get.ensures.value, ← c.self.view_is) found

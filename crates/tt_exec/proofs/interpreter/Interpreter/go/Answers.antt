@@ -6,5 +6,7 @@ use Rattle.tt_exec.proofs.interpreter.Interpreter.go.Goals as goal
 pub steps-preserved : goal.steps-preserved
 steps-preserved c = record {
   few = omega arith;
-  leads = one_more c.steps.n _ (state_of c.steps.self) (state_of c.step.new.self) c.steps.invariant.leads c.in_ok-step.ensures;
+  leads =
+      one_more c.steps.n _ (state_of c.steps.self) (state_of c.step.new.self)
+      c.steps.invariant.leads c.in_ok-step.ensures;
 }
