@@ -8,7 +8,8 @@ use Rattle.std.proofs.Math.Seq.{take-append_seam, drop-append-add}
 turned : (front rest : List ℤ) (x : ℤ) → reverse (front ++ x ∷ rest) ≡ reverse rest ++ (x ∷ reverse front)
 turned front rest x =
     let one : reverse (x ∷ rest) ≡ reverse rest ++ x ∷ [] = reverse-append (x ∷ []) rest in
-    reverse-append front (x ∷ rest) ∙ ap (λ (l : List ℤ). l ++ reverse front) one ∙ append_assoc (reverse rest) (x ∷ []) (reverse front)
+    let two = ap (λ (l : List ℤ). l ++ reverse front) one in
+    reverse-append front (x ∷ rest) ∙ two ∙ append_assoc (reverse rest) (x ∷ []) (reverse front)
 
 without : (front rest : List ℤ) (x : ℤ) → reverse (front ++ rest)
     ≡ take (length rest) (reverse (front ++ x ∷ rest)) ++ drop (length rest + 1) (reverse (front ++ x ∷ rest))

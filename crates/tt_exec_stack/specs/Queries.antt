@@ -1,5 +1,5 @@
--- Apple TrueType Reference Manual, "Instruction set": reading data, the size and the engine. The top of the stack stands
--- first.
+-- Apple TrueType Reference Manual, "Instruction set": reading data, the size and the engine. The top of the stack
+-- stands first.
 use Rattle.std.specs.Prelude.{◌≡◌, ℕ, ℤ, pos, neg_ℤ, if◌then◌else◌, List, [], ◌∷◌, Result, Ok, Err, refl}
 use Rattle.std.specs.Int.{int_rem_euclid}
 use Rattle.std.specs.Ordering.{int_eq}
@@ -18,7 +18,8 @@ mps ppem s = pushed (pos ppem) s
 
 -- version 35 where bit 0 of the selector is set (profile)
 abbrev pub getinfo : List ℤ → Result (List ℤ) Why
-getinfo (selector ∷ s) = if int_eq (int_rem_euclid selector (pos 2)) (pos 1) then pushed (pos 35) s else pushed (pos 0) s
+getinfo (selector ∷ s) =
+    if int_eq (int_rem_euclid selector (pos 2)) (pos 1) then pushed (pos 35) s else pushed (pos 0) s
 getinfo [] = Err why.StackShort
 
 abbrev pub told : Query → ℕ → List ℤ → Result (List ℤ) Why

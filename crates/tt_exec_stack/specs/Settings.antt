@@ -32,7 +32,8 @@ srp2 (p ∷ s) g = Ok (s, record g { rp2 = p })
 srp2 [] g = Err why.StackShort
 
 abbrev pub zone : ℤ → Result Zone Why
-zone n = if int_eq n (pos 0) then Ok zones.Twilight else (if int_eq n (pos 1) then Ok zones.Glyph else Err why.ZoneRange)
+zone n =
+    if int_eq n (pos 0) then Ok zones.Twilight else (if int_eq n (pos 1) then Ok zones.Glyph else Err why.ZoneRange)
 
 abbrev pub szp0 : List ℤ → GraphicsState → Set
 szp0 (n ∷ s) g = zone n >>= λ z. Ok (s, record g { zp0 = z })
@@ -86,7 +87,8 @@ sdb (n ∷ s) g = Ok (s, record g { delta_base = n })
 sdb [] g = Err why.StackShort
 
 abbrev pub sds : List ℤ → GraphicsState → Set
-sds (n ∷ s) g = if int_lt n (pos 0) || int_lt (pos 6) n then Err why.BadArgument else Ok (s, record g { delta_shift = n })
+sds (n ∷ s) g =
+    if int_lt n (pos 0) || int_lt (pos 6) n then Err why.BadArgument else Ok (s, record g { delta_shift = n })
 sds [] g = Err why.StackShort
 
 -- SCANCTRL, SCANTYPE, SANGW and AA

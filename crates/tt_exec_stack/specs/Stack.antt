@@ -15,7 +15,9 @@ is_value v = int_le (negsuc (2 ^ 31 - 1)) v && int_le v (pos (2 ^ 31 - 1))
 
 -- a number put on top
 unfoldable pub pushed : ℤ → List ℤ → Result (List ℤ) Why
-pushed v s = if is_value v then (if nat_lt (length s) stack_limit then Ok (v ∷ s) else Err why.StackFull) else Err why.ValueRange
+pushed v s =
+    if is_value v then (if nat_lt (length s) stack_limit then Ok (v ∷ s) else Err why.StackFull)
+    else Err why.ValueRange
 
 -- the k-th entry from the top; the top is the first
 abbrev pub kth : ℤ → List ℤ → Result ℤ Why

@@ -15,7 +15,8 @@ use Rattle.tt_exec_stack.specs.Stack.{pushed}
 -- the axis of a unit vector, in 2.14
 abbrev pub axis_of : ℤ → ℤ → Result Axis Why
 axis_of x y =
-    if int_eq x (pos 16384) && int_eq y (pos 0) then Ok axis.X else (if int_eq x (pos 0) && int_eq y (pos 16384) then Ok axis.Y else Err why.OffProfile)
+    if int_eq x (pos 16384) && int_eq y (pos 0) then Ok axis.X else (
+    if int_eq x (pos 0) && int_eq y (pos 16384) then Ok axis.Y else Err why.OffProfile)
 
 -- the vector along an axis, its x first
 abbrev pub vector_pushed : Axis → List ℤ → Result (List ℤ) Why

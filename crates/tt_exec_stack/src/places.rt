@@ -89,7 +89,8 @@ pub fn keep(
     storage: &mut [i32],
     cvt: &mut [i32],
 ) -> Result<(), Why>
-    ensures { Does (is.kept op size.ppem size.units_per_em stack.old storage.old cvt.old) (stack.new, storage.new, cvt.new) result }
+    ensures { let given = is.kept op size.ppem size.units_per_em stack.old storage.old cvt.old in
+        Does given (stack.new, storage.new, cvt.new) result }
 {
     match op {
         Places::Ws => ws(stack, storage),

@@ -296,7 +296,8 @@ pub fn adjust(
     stack: &mut Stack,
     graphics: &mut Graphics,
 ) -> Result<(), Why>
-    ensures { Does (is.adjusted op size.ppem size.units_per_em stack.old graphics.old) (stack.new, graphics.new) result }
+    ensures { let given = is.adjusted op size.ppem size.units_per_em stack.old graphics.old in
+        Does given (stack.new, graphics.new) result }
 {
     match op {
         Setting::Srp0 => srp0(stack, graphics),

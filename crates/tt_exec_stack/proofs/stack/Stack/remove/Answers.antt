@@ -10,4 +10,5 @@ returns c =
     let seen = ap (length {A = _}) c.self.view_is in
     let turned = length-reverse items.items in
     let high : c.args.k ≤ vec_len items = omega (arith, c.requires.high, seen, turned, many) in
-    rw (← c.self.view_is, c.remove.ensures.items, c.len.ensures) (removed items.items (vec_len items) c.args.k many c.requires.low high)
+    let left = removed items.items (vec_len items) c.args.k many c.requires.low high in
+    rw (← c.self.view_is, c.remove.ensures.items, c.len.ensures) left
