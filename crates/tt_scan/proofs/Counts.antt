@@ -46,13 +46,6 @@ pub met_pushed : (es : List Edge) (f : Frame) (ms new : List Met) (e : Edge) (q 
     → AreRows e f q → new ≡ ms ++ (if int_lt q.0 q.1 then (record { first = q.0; past = q.1; edge = e }) ∷ [] else []) → AreMet (es ++ e ∷ []) f new
 met_pushed es f ms new e q are fits one is = pushed_at (int_lt q.0 q.1) es f ms new e q refl are fits one is
 
-pub met_none : (f : Frame) → AreMet [] f []
-met_none f = record {
-  rows = λ k d below. absurd (omega arith);
-  fits = λ k d below. absurd (omega arith);
-  sums = λ g none. refl;
-}
-
 pub met_permuted : (es : List Edge) (f : Frame) (ms ns : List Met) → AreMet es f ms → IsPermutation ms ns → AreMet es f ns
 met_permuted es f ms ns are same = record {
   rows = All-permutation (λ (m : Met). AreRows m.edge f (m.first, m.past)) ms ns same are.rows;

@@ -5,7 +5,7 @@ use Rattle.std.proofs.lemmas.Bool.Decides.{nat_tests}
 use Rattle.std.proofs.lemmas.Bool.{cases_lt}
 use Rattle.std.proofs.lemmas.Int.{ints, by_lt_z}
 use Rattle.std.proofs.lemmas.List.{take_more}
-use Rattle.std.proofs.lemmas.Nat.Bits.{bit_at-lt, bit_at-zero, bit_at_or}
+use Rattle.std.proofs.lemmas.Nat.Bits.{bit_at-lt, bit_at_or}
 use Rattle.tt_scan.specs.declared.mark.Span.{Span}
 use Rattle.tt_scan.specs.declared.stamp.Stamp.{Stamp}
 use Rattle.tt_scan.specs.Marks.{covers}
@@ -13,20 +13,9 @@ use Rattle.tt_scan.specs.Stamps.{in_word, shows, IsStampOf}
 use Rattle.tt_scan.proofs.Columns.{or_bit}
 use Rattle.tt_scan.proofs.Visits.{covers_more}
 
--- nothing yet
-
-none_in : (b : Bool) (n : ℕ) → n ≡ 0 → (b && (n == 1)) ≡ false
-none_in true n none = rw none refl
-none_in false n none = refl
-
 second_false : (a b : Bool) → b ≡ false → (a && b) ≡ false
 second_false true b off = off
 second_false false b off = refl
-
-pub shows_none : (s : Stamp) (c : ℤ) → s.word ≡ 0 → false ≡ shows s c
-shows_none s c none =
-    rw none (sym (second_false (int_le s.low c) (in_word 0 (unsigned_abs (c -ℤ s.low)))
-    (none_in (nat_lt (unsigned_abs (c -ℤ s.low)) 57) (bit_at 0 (63 - unsigned_abs (c -ℤ s.low))) (bit_at-zero (63 - unsigned_abs (c -ℤ s.low))))))
 
 -- one span more
 

@@ -46,16 +46,6 @@ not_in : (a b : Bool) → (a ≡ true → b ≡ true) → b ≡ false → a ≡ 
 not_in true b f off = absurd (let one = f refl in cc)
 not_in false b f off = refl
 
-pub no_rows : (f : Frame) → AreAllRows [] f (pos 0, pos 0)
-no_rows f = record {
-  outside = λ row low high out. refl;
-  low = omega (arith, ints);
-  order = omega (arith, ints);
-  high = omega (arith, ints);
-  first = λ some. absurd (omega (arith, ints));
-  last = λ some. absurd (omega (arith, ints));
-}
-
 module _ (es : List Edge) (e : Edge) (f : Frame) (a q r : ℤ × ℤ) (all : AreAllRows es f a) (one : AreRows e f q) where
   met_at : (row : ℤ) → pos 0 ≤ℤ row → row <ℤ pos f.height → has_row q row ≡ true → 0 < rows_met (es ++ e ∷ []) (row_y f row)
   met_at row low high in_it =

@@ -1,15 +1,13 @@
 -- What an edge leaves of a row.
 use Rattle.std.proofs.Common.{◌≡◌, ◌∙◌, ◌≢◌, ◌↔◌, ◌==◌, ap, refl, ℕ, ◌+◌, ◌<◌, ◌≤◌, Bool, true, false, ◌&&◌, ◌||◌, List, [], ◌∷◌, ◌++◌, length, drop, get_or, int_le, ◌≤ℤ◌, ◌<ℤ◌, nat_lt, inl, inr, arith}
-use Rattle.std.specs.Prelude.{ℤ, pos, negsuc, ◌+ℤ◌, ◌-ℤ◌, not, int_lt, unsigned_abs, if◌then◌else◌}
+use Rattle.std.specs.Prelude.{ℤ, pos, negsuc, ◌-ℤ◌, not, int_lt, unsigned_abs, if◌then◌else◌}
 use Rattle.std.proofs.lemmas.Bool.Decides.{nat_tests}
 use Rattle.std.proofs.lemmas.Bool.{cases_lt}
 use Rattle.std.proofs.lemmas.Int.{ints, by_lt_z}
 use Rattle.std.proofs.lemmas.List.{drop_more}
-use Rattle.tt_scan.specs.declared.edge.Edge.{Edge}
 use Rattle.tt_scan.specs.declared.mark.Span.{Span}
 use Rattle.tt_scan.specs.Marks.{covers}
-use Rattle.tt_scan.specs.Winding.{side, is_zero, is_between, lies_on, turned}
-use Rattle.tt_scan.proofs.Crosses.{third_false, no_turned}
+use Rattle.tt_scan.specs.Winding.{is_zero}
 
 -- one span more
 
@@ -26,16 +24,6 @@ pub covers_more : (ss : List Span) (s : Span) (c : ℤ)
 covers_more [] s c = or_false (int_le s.first c && int_le c s.last)
 covers_more (t ∷ ss) s c =
     rw (covers_more ss s c) (or_or (int_le t.first c && int_le c t.last) (covers ss c) (int_le s.first c && int_le c s.last))
-
--- an edge that does not meet the row
-
-pub not_on : (b : Bool) (e : Edge) (x y : ℤ) → is_between e.ay e.by y ≡ false → b ≡ (b || lies_on e x y)
-not_on true e x y off = refl
-not_on false e x y off =
-    rw (third_false (is_zero (side e x y)) (is_between e.ax e.bx x) (is_between e.ay e.by y) off) refl
-
-pub not_turned : (z : ℤ) (e : Edge) (x y : ℤ) → is_between e.ay e.by y ≡ false → z ≡ z +ℤ turned e x y
-not_turned z e x y off = let none : turned e x y ≡ pos 0 = no_turned e.ay e.by y (side e x y) off in omega (arith, ints)
 
 -- a turn as a mark
 
