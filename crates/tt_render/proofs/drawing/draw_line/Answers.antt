@@ -42,7 +42,7 @@ returns-clause-exact c =
     let its_frame : p.frame ≡ frame = simp to_z-of_z at ready.frame in
     let bytes : picture_bytes p ≡ picture frame made.0 = rw (its_frame, ready.glyphs)
     (same_picture frame glyphs made.0 (header_bytes p.header) ready.header made.2) in
-    rw (there, made.1) (ap Ok (sym bytes))
+    rw (there, made.1) (ap Ok {x = picture frame made.0} {y = picture_bytes p} (sym bytes))
 
 pub returns-clause-defects : goal.returns-clause-defects
 returns-clause-defects c =
