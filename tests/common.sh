@@ -18,15 +18,14 @@ no_source_after() {
   [ -x "$1" ] && [ -z "$(find "${sources[@]}" -newer "$1" -print -quit 2>/dev/null)" ]
 }
 
-# Leaves the program of tables as $program: that of TT_TABLES=PATH, or our own, which is proved and built here if it
-# lacks or a source is newer.
-tables_program() {
-  local crate=$root/crates/tt_test_tables
-  program=${TT_TABLES:-$crate/out/tt_test_tables}
-  if [ -z "${TT_TABLES:-}" ] && ! no_source_after "$program"; then
-    echo "tests: proving and building tt_test_tables" >&2
-    (cd -- "$crate" && rt run -- glyphs "$PWD/data/composite_font.ttf") </dev/null >"$room/log" 2>&1 ||
-      tail -n 20 -- "$room/log" >&2
+# test_program NAME PATH WORD..: leaves a program for tests as $program: that of PATH, or where this is empty our own,
+# which is proved and built here if it lacks or a source is newer. `rt run` starts it too, with the words.
+test_program() {
+  local crate=$root/crates/$1
+  program=${2:-$crate/out/$1}
+  if [ -z "$2" ] && ! no_source_after "$program"; then
+    echo "tests: proving and building $1" >&2
+    (cd -- "$crate" && rt run -- "${@:3}") </dev/null >"$room/log" 2>&1 || tail -n 20 -- "$room/log" >&2
   fi
   if [ ! -x "$program" ]; then
     echo "tests: there is no program $program" >&2
@@ -45,12 +44,13 @@ render_program() {
   fi
 }
 
-# A script that asks the program of tables says `asks=tables` before it sources this file.
-if [ "${asks:-render}" = tables ]; then
-  tables_program
-else
-  render_program
-fi
+# A script that asks the program of tables, or the one that runs the bytecode machine, says `asks=tables` or
+# `asks=machine` before it sources this file.
+case ${asks:-render} in
+  tables) test_program tt_test_tables "${TT_TABLES:-}" glyphs "$root/crates/tt_test_tables/data/composite_font.ttf" ;;
+  machine) test_program tt_test_machine "${TT_MACHINE:-}" ;;
+  *) render_program ;;
+esac
 
 # bytes HEX: prints the bytes that hexadecimal digits name.
 bytes() {
