@@ -1,4 +1,5 @@
 pub mod Calls
+pub mod Examples
 pub mod Flags
 pub mod Flow
 pub mod Functions

@@ -1,0 +1,68 @@
+-- Worked programs: the stack that so many steps leave, the top first, or the fault. Apple TrueType Reference Manual,
+-- "Instruction set".
+use Rattle.std.specs.Prelude.{◌≡◌, ℕ, zero, suc, ℤ, pos, negsuc, false, List, [], ◌∷◌, codes, Result, Ok, Err, refl}
+use Rattle.tt_core.specs.Faults.{Fault, fault_at}
+use Rattle.tt_core.specs.Outcomes.{◌>>=◌}
+use Rattle.tt_core.specs.declared.fault.Why.TheVariants as why
+use Rattle.tt_state.specs.GraphicsState.{default_state}
+use Rattle.tt_exec_stack.specs.Stack.{pushed}
+use Rattle.tt_exec.specs.Machines.{fresh, run_from}
+use Rattle.tt_exec.specs.MachineState.{MachineState}
+use Rattle.tt_exec.specs.Parts.{Parts}
+use Rattle.tt_exec.specs.Step.{step}
+
+-- the state that so many steps lead to
+abbrev after : ℕ → MachineState → Result MachineState Fault
+after zero m = Ok m
+after (suc n) m = step m >>= λ t. after n t
+
+its_parts : Parts
+its_parts = record {
+  units_per_em = 1024;
+  ppem = 16;
+  control_values = [];
+  storage = pos 0 ∷ [];
+  zones = record { twilight = []; glyph = []; contours = [] };
+  functions = [];
+  graphics = default_state;
+  skip_glyphs = false;
+  default_state = false;
+}
+
+-- steps of a font program, and then steps of a control value program
+abbrev stack_after : ℕ → List ℕ → ℕ → List ℕ → Result (List ℤ) Fault
+stack_after n font m control =
+    after n (run_from (record { table = codes "fpgm"; base = 0; bytes = font }) (fresh its_parts)) >>= λ s.
+    after m (run_from (record { table = codes "prep"; base = 40; bytes = control }) s) >>= λ t. Ok t.stack
+
+-- PUSHB 2, 3; SUB
+two_less_three : stack_after 0 [] 2 (0xB1 ∷ 2 ∷ 3 ∷ 0x61 ∷ []) ≡ Ok (negsuc 0 ∷ [])
+unfolding its_parts pushed
+two_less_three = refl
+
+-- PUSHB 0; IF; ELSE; PUSHB 5; EIF: the skip is no step
+else_part : stack_after 0 [] 4 (0xB0 ∷ 0 ∷ 0x58 ∷ 0x1B ∷ 0xB0 ∷ 5 ∷ 0x59 ∷ []) ≡ Ok (pos 5 ∷ [])
+unfolding its_parts pushed
+else_part = refl
+
+-- PUSHB 2; JMPR: the length is 3, so one place further is none of the program's
+past_the_end : stack_after 0 [] 2 (0xB0 ∷ 2 ∷ 0x1C ∷ []) ≡ Err (fault_at (codes "prep") 42 why.JumpRange)
+unfolding its_parts pushed
+past_the_end = refl
+
+-- function 7 adds 1, and is called three times on 0
+called_three_times : stack_after 2 (0xB0 ∷ 7 ∷ 0x2C ∷ 0xB0 ∷ 1 ∷ 0x60 ∷ 0x2D ∷ []) 11 (0xB2 ∷ 0 ∷ 3 ∷ 7 ∷ 0x2A ∷ [])
+    ≡ Ok (pos 3 ∷ [])
+unfolding its_parts pushed
+called_three_times = refl
+
+-- a fault in a function is told in the font program that defined it
+in_its_own_table : stack_after 2 (0xB0 ∷ 0 ∷ 0x2C ∷ 0x06 ∷ 0x2D ∷ []) 3 (0xB0 ∷ 0 ∷ 0x2B ∷ [])
+    ≡ Err (fault_at (codes "fpgm") 3 why.OffProfile)
+unfolding its_parts pushed
+in_its_own_table = refl
+
+-- a count of 0 calls nothing, but the function has to be there
+never_called : stack_after 0 [] 2 (0xB1 ∷ 0 ∷ 7 ∷ 0x2A ∷ []) ≡ Err (fault_at (codes "prep") 43 why.NoFunction)
+unfolding its_parts pushed
+never_called = refl
