@@ -14,6 +14,8 @@ mod glyf_tests;
 #[cfg(test)]
 mod line_tests;
 #[cfg(test)]
+mod machine_tests;
+#[cfg(test)]
 mod map_tests;
 #[cfg(test)]
 mod number_tests;
