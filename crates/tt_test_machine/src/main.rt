@@ -11,8 +11,8 @@
 //! default one, and the functions are those that the font program defines, run with the same parts.
 //!
 //! The answer of a question is a line too: the fault, or what the run leaves, with a semicolon between the parts: the
-//! number of steps, the stack from the bottom, the fields of the graphics state, of each list the places and values that
-//! changed, the functions as NUMBER TABLE START, and the two flags of INSTCTRL.
+//! number of steps, the stack from the bottom, the fields of the graphics state, of each list the places and values
+//! that changed, the functions as NUMBER TABLE START, and the two flags of INSTCTRL.
 #![tactic(auto)]
 
 ghost use Rattle.std.specs.Prelude.{◌<◌, ◌≤◌};
