@@ -44,10 +44,15 @@ render_program() {
   fi
 }
 
+# Leaves the program of tables as $program: that of TT_TABLES=PATH, or our own.
+tables_program() {
+  test_program tt_test_tables "${TT_TABLES:-}" glyphs "$root/crates/tt_test_tables/data/composite_font.ttf"
+}
+
 # A script that asks the program of tables, or the one that runs the bytecode machine, says `asks=tables` or
 # `asks=machine` before it sources this file.
 case ${asks:-render} in
-  tables) test_program tt_test_tables "${TT_TABLES:-}" glyphs "$root/crates/tt_test_tables/data/composite_font.ttf" ;;
+  tables) tables_program ;;
   machine) test_program tt_test_machine "${TT_MACHINE:-}" ;;
   *) render_program ;;
 esac
