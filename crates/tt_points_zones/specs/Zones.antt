@@ -3,7 +3,7 @@
 use Rattle.std.specs.Prelude.{◌≡◌, ℕ, ◌≤◌, List, [], ◌∷◌, length, All, unsigned_abs}
 use Rattle.tt_core.specs.Limits.{coordinate_limit}
 use Rattle.tt_state.specs.declared.point.Point.{Point}
-use Rattle.tt_points.specs.declared.zones.Zones.{Zones}
+use Rattle.tt_points_zones.specs.declared.zones.Zones.{Zones}
 
 pub record ZoneLists : Type 0 where
   pub twilight : List Point

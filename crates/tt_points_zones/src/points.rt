@@ -1,0 +1,106 @@
+//! A point along an axis. Apple TrueType Reference Manual, "Instructing TrueType Glyphs" (touched points) and "Graphics
+//! State" (vectors). Coordinates are in 26.6 pixels.
+
+ghost use Rattle.std.specs.Prelude.{◌≡◌, ◌≤◌, ◌<◌, ◌^◌, unsigned_abs, IfOk};
+ghost use Rattle.tt_core.specs.Limits.{coordinate_limit};
+ghost use Rattle.tt_core.specs.Outcomes.{Gives};
+ghost use Rattle.tt_points_zones.specs.Points as is;
+ghost use Rattle.tt_points_zones.specs.Zones.{IsPoint};
+
+use tt_core::Why;
+use tt_state::{Axis, GraphicsState, Point};
+
+/// A coordinate is at most this in magnitude, in 26.6 pixels (profile).
+const COORDINATE_LIMIT: i64 = 2_097_151;
+
+/// Where a point stands along an axis.
+pub fn cur(p: Point, axis: Axis) -> i32
+    requires { IsPoint p }
+    ensures exact { result ≡ is.cur axis p }
+    ensures bound { unsigned_abs result ≤ coordinate_limit }
+{
+    match axis {
+        Axis::X => p.x,
+        Axis::Y => p.y,
+    }
+}
+
+/// Where a point stood along an axis before the program.
+pub fn org(p: Point, axis: Axis) -> i32
+    requires { IsPoint p }
+    ensures exact { result ≡ is.org axis p }
+    ensures bound { unsigned_abs result ≤ coordinate_limit }
+{
+    match axis {
+        Axis::X => p.org_x,
+        Axis::Y => p.org_y,
+    }
+}
+
+pub fn is_touched(p: Point, axis: Axis) -> bool
+    ensures { result ≡ is.is_touched axis p }
+{
+    match axis {
+        Axis::X => p.touched_x,
+        Axis::Y => p.touched_y,
+    }
+}
+
+/// The point put to a coordinate.
+fn put(p: Point, axis: Axis, v: i32) -> Point
+    requires point { IsPoint p }
+    requires limit { unsigned_abs v ≤ coordinate_limit }
+    ensures exact { result ≡ is.put axis v p }
+    ensures sound { IsPoint result }
+{
+    match axis {
+        Axis::X => Point { x: v, ..p },
+        Axis::Y => Point { y: v, ..p },
+    }
+}
+
+fn touch(p: Point, axis: Axis) -> Point
+    requires { IsPoint p }
+    ensures exact { result ≡ is.touch axis p }
+    ensures sound { IsPoint result }
+{
+    match axis {
+        Axis::X => Point { touched_x: true, ..p },
+        Axis::Y => Point { touched_y: true, ..p },
+    }
+}
+
+/// The point further by `d` along an axis, as touched as it was. Error: ValueRange past the limit of coordinates.
+pub fn shifted(p: Point, axis: Axis, d: i64) -> Result<Point, Why>
+    requires point { IsPoint p }
+    requires small { unsigned_abs d < 2 ^ 40 }
+    ensures exact { Gives (λ q. q) result (is.shifted axis d p) }
+    ensures sound { IfOk result IsPoint }
+{
+    let to = i64::from(cur(p, axis)) + d;
+    if to < -COORDINATE_LIMIT || to > COORDINATE_LIMIT {
+        return Err(Why::ValueRange);
+    }
+    Ok(put(p, axis, to as i32))
+}
+
+/// The point moved by `d` along an axis, and touched. Error: ValueRange past the limit of coordinates.
+pub fn moved(p: Point, axis: Axis, d: i64) -> Result<Point, Why>
+    requires point { IsPoint p }
+    requires small { unsigned_abs d < 2 ^ 40 }
+    ensures exact { Gives (λ q. q) result (is.moved axis d p) }
+    ensures sound { IfOk result IsPoint }
+{
+    Ok(touch(shifted(p, axis, d)?, axis))
+}
+
+/// The axis along which points move. Error: Perpendicular where the vectors differ.
+pub fn direction(state: &GraphicsState) -> Result<Axis, Why>
+    ensures { Gives (λ axis. axis) result (is.direction state.now) }
+{
+    match (state.proj, state.free) {
+        (Axis::X, Axis::X) => Ok(Axis::X),
+        (Axis::Y, Axis::Y) => Ok(Axis::Y),
+        _ => Err(Why::Perpendicular),
+    }
+}
