@@ -41,12 +41,12 @@ abbrev pub is_coordinate : ℤ → Bool
 is_coordinate v = nat_le (unsigned_abs v) coordinate_limit
 
 -- a point put further by a distance, which leaves it as touched as it was
-unfoldable pub shifted : Axis → ℤ → Point → Result Point Why
+abbrev pub shifted : Axis → ℤ → Point → Result Point Why
 shifted axis d p =
     if is_coordinate (cur axis p +ℤ d) then Ok (put axis (cur axis p +ℤ d) p) else Err why.ValueRange
 
 -- a point moved by a distance, perhaps 0, and touched
-unfoldable pub moved : Axis → ℤ → Point → Result Point Why
+abbrev pub moved : Axis → ℤ → Point → Result Point Why
 moved axis d p = shifted axis d p >>= λ q. Ok (touch axis q)
 
 -- Points move along the projection vector; where the freedom vector is another, they are refused (profile).
@@ -85,11 +85,9 @@ abbrev a_point : Point
 a_point = record { org_x = pos 0; org_y = pos 0; x = pos 10; y = pos 20; touched_x = false; touched_y = false; on = true }
 
 moved_along_y : moved axis.Y (pos 5) a_point ≡ Ok (record a_point { y = pos 25; touched_y = true })
-unfolding moved shifted
 moved_along_y = refl
 
 past_the_limit : moved axis.X (pos 2097142) a_point ≡ Err why.ValueRange
-unfolding moved shifted
 past_the_limit = refl
 
 no_point_minus_one : point_at (negsuc 0) (a_point ∷ []) ≡ Err why.PointRange

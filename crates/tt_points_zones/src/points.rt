@@ -1,7 +1,7 @@
 //! A point along an axis. Apple TrueType Reference Manual, "Instructing TrueType Glyphs" (touched points) and "Graphics
 //! State" (vectors). Coordinates are in 26.6 pixels.
 
-ghost use Rattle.std.specs.Prelude.{◌≡◌, ◌≤◌, ◌<◌, ◌^◌, unsigned_abs, IfOk};
+ghost use Rattle.std.specs.Prelude.{◌≡◌, ◌+ℤ◌, ◌≤◌, ◌<◌, ◌^◌, unsigned_abs, IfOk};
 ghost use Rattle.tt_core.specs.Limits.{coordinate_limit};
 ghost use Rattle.tt_core.specs.Outcomes.{Gives};
 ghost use Rattle.tt_points_zones.specs.Points as is;
@@ -46,16 +46,22 @@ pub fn is_touched(p: Point, axis: Axis) -> bool
     }
 }
 
+fn is_coordinate(v: i64) -> bool
+    ensures { result ≡ is.is_coordinate v }
+{
+    -COORDINATE_LIMIT <= v && v <= COORDINATE_LIMIT
+}
+
 /// The point put to a coordinate.
-fn put(p: Point, axis: Axis, v: i32) -> Point
+fn put(p: Point, axis: Axis, v: i64) -> Point
     requires point { IsPoint p }
     requires limit { unsigned_abs v ≤ coordinate_limit }
     ensures exact { result ≡ is.put axis v p }
     ensures sound { IsPoint result }
 {
     match axis {
-        Axis::X => Point { x: v, ..p },
-        Axis::Y => Point { y: v, ..p },
+        Axis::X => Point { x: v as i32, ..p },
+        Axis::Y => Point { y: v as i32, ..p },
     }
 }
 
@@ -65,9 +71,24 @@ fn touch(p: Point, axis: Axis) -> Point
     ensures sound { IsPoint result }
 {
     match axis {
-        Axis::X => Point { touched_x: true, ..p },
-        Axis::Y => Point { touched_y: true, ..p },
+        Axis::X => Point {
+            touched_x: true,
+            ..p
+        },
+        Axis::Y => Point {
+            touched_y: true,
+            ..p
+        },
     }
+}
+
+/// Where a point stands that goes further by `d`.
+fn further(p: Point, axis: Axis, d: i64) -> i64
+    requires point { IsPoint p }
+    requires small { unsigned_abs d < 2 ^ 40 }
+    ensures { result ≡ is.cur axis p +ℤ d }
+{
+    i64::from(cur(p, axis)) + d
 }
 
 /// The point further by `d` along an axis, as touched as it was. Error: ValueRange past the limit of coordinates.
@@ -77,11 +98,11 @@ pub fn shifted(p: Point, axis: Axis, d: i64) -> Result<Point, Why>
     ensures exact { Gives (λ q. q) result (is.shifted axis d p) }
     ensures sound { IfOk result IsPoint }
 {
-    let to = i64::from(cur(p, axis)) + d;
-    if to < -COORDINATE_LIMIT || to > COORDINATE_LIMIT {
+    let to = further(p, axis, d);
+    if !is_coordinate(to) {
         return Err(Why::ValueRange);
     }
-    Ok(put(p, axis, to as i32))
+    Ok(put(p, axis, to))
 }
 
 /// The point moved by `d` along an axis, and touched. Error: ValueRange past the limit of coordinates.

@@ -1,9 +1,10 @@
 //! The zones. Apple TrueType Reference Manual, "Instructing TrueType Glyphs" (zones) and "Graphics State" (zone
 //! pointers).
 
-ghost use Rattle.std.specs.Prelude.{◌≡◌, IfOk};
+ghost use Rattle.std.specs.Prelude.{◌≡◌, ◌<◌, ◌≤ℤ◌, pos, unsigned_abs, length, slice_set, All, IfOk};
 ghost use Rattle.tt_core.specs.Outcomes.{Gives};
-ghost use Rattle.tt_points_zones.specs.Points.{HasPoint, point_in, with_point};
+ghost use Rattle.tt_points_zones.specs.Points.{HasPoint, points_in, point_in, with_point};
+ghost use Rattle.tt_points_zones.specs.Points as is;
 ghost use Rattle.tt_points_zones.specs.Zones.{IsPoint, IsZones, zones_view};
 
 use std::alloc::AllocError;
@@ -31,6 +32,17 @@ impl Zones {
         })
     }
 
+    fn points(&self, zone: Zone) -> &[Point]
+        requires { IsZones (zones_view self.now) }
+        ensures exact { result.now ≡ points_in zone (zones_view self.now) }
+        ensures sound { All IsPoint result.now }
+    {
+        match zone {
+            Zone::Twilight => &self.twilight,
+            Zone::Glyph => &self.glyph,
+        }
+    }
+
     /// The point with a number in a zone. Error: PointRange.
     pub fn point(&self, zone: Zone, n: i32) -> Result<Point, Why>
         requires { IsZones (zones_view self.now) }
@@ -38,14 +50,7 @@ impl Zones {
         ensures sound { IfOk result IsPoint }
         ensures there { IfOk result (λ p. HasPoint zone n (zones_view self.now)) }
     {
-        let points = match zone {
-            Zone::Twilight => &self.twilight,
-            Zone::Glyph => &self.glyph,
-        };
-        if n < 0 || n as usize >= points.len() {
-            return Err(Why::PointRange);
-        }
-        Ok(points[n as usize])
+        point_at(self.points(zone), n)
     }
 
     /// Puts another point in the place of one.
@@ -57,8 +62,34 @@ impl Zones {
         ensures sound { IsZones (zones_view self.new) }
     {
         match zone {
-            Zone::Twilight => self.twilight[n as usize] = p,
-            Zone::Glyph => self.glyph[n as usize] = p,
+            Zone::Twilight => set_at(&mut self.twilight, n, p),
+            Zone::Glyph => set_at(&mut self.glyph, n, p),
         }
     }
+}
+
+/// The point with a number. Error: PointRange.
+fn point_at(points: &[Point], n: i32) -> Result<Point, Why>
+    requires { All IsPoint points.now }
+    ensures exact { Gives (λ p. p) result (is.point_at n points.now) }
+    ensures sound { IfOk result IsPoint }
+    ensures sign { IfOk result (λ p. pos 0 ≤ℤ n) }
+    ensures within { IfOk result (λ p. unsigned_abs n < length points.now) }
+{
+    if n < 0 || n as usize >= points.len() {
+        return Err(Why::PointRange);
+    }
+    Ok(points[n as usize])
+}
+
+fn set_at(points: &mut [Point], n: i32, p: Point)
+    requires points { All IsPoint points.old }
+    requires sign { pos 0 ≤ℤ n }
+    requires within { unsigned_abs n < length points.old }
+    requires point { IsPoint p }
+    ensures exact { points.new ≡ slice_set points.old (unsigned_abs n) p }
+    ensures sound { All IsPoint points.new }
+    ensures count { length points.new ≡ length points.old }
+{
+    points[n as usize] = p;
 }
