@@ -1,3 +1,2 @@
 pub mod Appended
 pub mod Decimals
-pub mod Setting
