@@ -1,6 +1,6 @@
 -- Apple TrueType Reference Manual, "Instructing TrueType Glyphs": the interpreter's stack is a list of numbers of 32
 -- bits, here with the top first.
-use Rattle.std.specs.Prelude.{◌≡◌, ℕ, ◌-◌, ◌^◌, ℤ, pos, negsuc, neg_ℤ, int_lt, int_le, unsigned_abs, slice_get, Bool, ◌&&◌, nat_lt, if◌then◌else◌, List, [], ◌∷◌, length, Result, Ok, Err, refl}
+use Rattle.std.specs.Prelude.{◌≡◌, ℕ, ◌-◌, ◌^◌, ℤ, pos, negsuc, neg_ℤ, int_lt, int_le, unsigned_abs, slice_get, Bool, ◌&&◌, nat_lt, if◌then◌else◌, List, [], ◌∷◌, length, take, reverse, Result, Ok, Err, refl}
 use Rattle.std.specs.Option.{ok_or}
 use Rattle.tt_core.specs.declared.fault.Why.{Why}
 use Rattle.tt_core.specs.declared.fault.Why.TheVariants as why
@@ -22,6 +22,10 @@ pushed v s =
 -- the k-th entry from the top; the top is the first
 abbrev pub kth : ℤ → List ℤ → Result ℤ Why
 kth k s = if int_lt k (pos 1) then Err why.BadArgument else ok_or (slice_get s (unsigned_abs k - 1)) why.StackShort
+
+-- so many entries from the top, the top last
+abbrev pub top : ℕ → List ℤ → Result (List ℤ) Why
+top n s = if nat_lt (length s) n then Err why.StackShort else Ok (reverse (take n s))
 
 -- the top entry that a call took, or that there is none
 abbrev pub Pops : List ℤ → Result ℤ Why → List ℤ → Type 0

@@ -3,7 +3,7 @@
 ghost use Rattle.std.specs.Prelude.{◌≡◌, ◌-◌, ◌<◌, ◌≤◌, [], ◌∷◌, length, reverse, take, drop, ◌++◌, pos, IfOk, OnOk};
 ghost use Rattle.tt_core.specs.declared.fault.Why.TheVariants.{StackShort};
 ghost use Rattle.tt_core.specs.Outcomes.{Gives};
-ghost use Rattle.tt_exec_stack.specs.Stack.{stack_limit, Does, Pops, kth, pushed};
+ghost use Rattle.tt_exec_stack.specs.Stack.{stack_limit, Does, Pops, kth, pushed, top};
 
 use std::alloc::{AllocError, Global};
 use std::marker::Model;
@@ -118,5 +118,24 @@ impl Stack {
             Ok(()) => {}
             Err(_) => unreachable!(),
         }
+    }
+
+    /// The top entries, the top last. Error: StackShort where there are fewer.
+    pub fn top(&self, n: usize) -> Result<&[i32], Why>
+        ensures { Gives (λ xs. xs.now) result (top n self.now) }
+    {
+        let Some(from) = self.items.len().checked_sub(n) else {
+            return Err(Why::StackShort);
+        };
+        Ok(&self.items[from..])
+    }
+
+    /// Takes so many entries from the top; they are there.
+    pub fn discard(&mut self, n: usize)
+        requires { n ≤ length self.old }
+        ensures { self.new ≡ drop n self.old }
+    {
+        let left = self.items.len() - n;
+        self.items.truncate(left);
     }
 }
