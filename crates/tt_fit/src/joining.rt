@@ -29,6 +29,7 @@ fn push_placed(
     ensures many { OnOk result (length points.new.items ≡ length points.old.items + length component.now) }
     ensures coordinates { OnOk result (All IsPoint points.new.items) }
 {
+    points.reserve(component.len())?;
     for point in component {
         points.push(placed_point(part, by, *point)?)?;
     }

@@ -88,7 +88,7 @@ fn scaled_points(
     ensures many { IfOk result (λ v. length v.items ≡ length points.now) }
     ensures coordinates { IfOk result (λ v. All IsPoint v.items) }
 {
-    let mut scaled = Vec::new(alloc);
+    let mut scaled = Vec::with_capacity(alloc, points.len())?;
     for point in points {
         scaled.push(scaled_point(size, at, *point)?)?;
     }

@@ -138,7 +138,7 @@ pub(crate) fn read_coordinates(
     ensures many { IfOk result (λ c. vec_len c.values ≡ length flags.now) }
     ensures room { IfOk result (λ c. c.next ≤ length glyph.now.bytes) }
 {
-    let mut values = Vec::new(alloc);
+    let mut values = Vec::with_capacity(alloc, flags.len())?;
     let mut last = Coordinate { value: 0, next: at };
     for flag in flags {
         last = coordinate_at(glyph, axis, *flag, last)?;

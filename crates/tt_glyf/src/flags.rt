@@ -58,6 +58,9 @@ pub(crate) fn has_flag(flags: u8, flag: PointFlags) -> bool
     PointFlags::from_bits_retain(flags).contains(flag)
 }
 
+/// A flag and its count, two bytes, stand for at most 256 points.
+const POINTS_A_BYTE: usize = 128;
+
 /// A flag byte, how many further points it stands for, and the place behind it.
 #[derive(Clone, Copy)]
 struct Run {
@@ -123,7 +126,7 @@ pub(crate) fn read_flags(
     ensures many { IfOk result (λ f. vec_len f.flags ≡ points) }
     ensures room { IfOk result (λ f. f.next ≤ length glyph.now.bytes) }
 {
-    let mut flags = Vec::new(alloc);
+    let mut flags = Vec::with_capacity(alloc, points.min(glyph.len() * POINTS_A_BYTE))?;
     let mut next = at;
     let mut left = points;
     while left > 0 {

@@ -56,7 +56,7 @@ fn read_ends(alloc: Global, glyph: &GlyphBytes, contours: usize) -> Result<EndLi
     ensures next { IfOk result (λ e. e.next ≡ 10 + 2 * contours) }
     ensures room { IfOk result (λ e. e.next ≤ length glyph.now.bytes) }
 {
-    let mut ends = Vec::new(alloc);
+    let mut ends = Vec::with_capacity(alloc, contours.min(glyph.len() / 2))?;
     let mut before = 0;
     for i in 0..contours {
         before = end_at(glyph, 10 + 2 * i, before)?;
@@ -95,7 +95,7 @@ fn assembled(
     requires ys { length ys.now ≡ length flags.now }
     ensures exact { IfOk result (λ p. p.items ≡ points_from flags.now xs.now ys.now) }
 {
-    let mut points = Vec::new(alloc);
+    let mut points = Vec::with_capacity(alloc, flags.len())?;
     for i in 0..flags.len() {
         let point = RawPoint {
             x: xs[i],
