@@ -1,11 +1,11 @@
 -- What a reader has left, over several calls.
-use Rattle.std.proofs.Common.{◌≡◌, ℕ, ◌<◌, List, [], ◌++◌, length, take, Option, Some, None, IfSome, sym, arith, append_assoc, length-append}
+use Rattle.std.proofs.Common.{◌≡◌, ℕ, ◌+◌, ◌<◌, List, [], ◌++◌, length, take, drop, Option, Some, None, IfSome, Result, Ok, Err, ◌≤◌, drop_at, sym, ap, subst, ◌∙◌, arith, append_assoc, length-append}
+use Rattle.std.proofs.Math.Seq.{take-add}
+use Rattle.std.proofs.lemmas.List.{take-append-le}
+use Rattle.std.specs.Io.{ReadsAtMost}
 use Rattle.std.proofs.lemmas.Grind.{common_steps}
-use Rattle.std.specs.Io.KnownBytes.{Consumes, IsAtEnd, Keeps}
-
-pub consumes_nothing : (a : Option (List ℕ)) → Consumes a a []
-consumes_nothing None = tt
-consumes_nothing (Some xs) = grind (arith, common_steps)
+use Rattle.std.specs.Io.KnownBytes.{Consumes, IsAtEnd, Keeps, ReadConsumes}
+use Rattle.std.specs.Prelude.{IfOk}
 
 pub consumes_more : (a b c : Option (List ℕ)) (front piece : List ℕ) → Consumes a b front → Consumes b c piece
     → Consumes a c (front ++ piece)
@@ -14,13 +14,6 @@ consumes_more (Some xs) None c front piece first next = absurd first
 consumes_more (Some xs) (Some ys) None front piece first next = absurd next
 consumes_more (Some xs) (Some ys) (Some zs) front piece first next = rw (first, next)
     (sym (append_assoc front piece zs))
-
--- a failed read takes nothing
-pub consumes_kept : (a b c : Option (List ℕ)) (front : List ℕ) → Consumes a b front → Keeps b c → Consumes a c front
-consumes_kept None b c front first kept = tt
-consumes_kept (Some xs) None c front first kept = absurd first
-consumes_kept (Some xs) (Some ys) None front first kept = absurd kept
-consumes_kept (Some xs) (Some ys) (Some zs) front first kept = rw kept first
 
 -- what was consumed is no longer than what was there
 pub consumes_larger : (a b : Option (List ℕ)) (bytes : List ℕ) (limit : ℕ) → Consumes a b bytes → limit < length bytes
@@ -35,11 +28,19 @@ pub consumes_all : (xs : List ℕ) (b : Option (List ℕ)) (bytes : List ℕ) �
 consumes_all xs None bytes taken end = absurd taken
 consumes_all xs (Some ys) bytes taken end = grind (arith, common_steps)
 
--- an empty read takes nothing
-pub consumes_empty : (a b c : Option (List ℕ)) (front buffer : List ℕ) (n : ℕ) → n ≡ 0 → Consumes a b front
-    → Consumes b c (take n buffer) → Consumes a c front
-consumes_empty None b c front buffer n empty first next = tt
-consumes_empty (Some xs) None c front buffer n empty first next = absurd first
-consumes_empty (Some xs) (Some ys) None front buffer n empty first next = absurd next
-consumes_empty (Some xs) (Some ys) (Some zs) front buffer n empty first next = let same : ys ≡ zs = rw empty at next in
-    rw (← same) first
+-- what was read behind a filled front makes it longer
+pub consumes_filled : (a b c : Option (List ℕ)) (old new : List ℕ) (filled n : ℕ) → take filled new ≡ take filled old
+    → Consumes a b (take filled old) → Consumes b c (take n (drop filled new)) → Consumes a c (take (filled + n) new)
+consumes_filled a b c old new filled n front first next =
+    let both : take (filled + n) new ≡ take filled old ++ take n (drop filled new) =
+        take-add filled n new ∙ ap (λ xs. xs ++ take n (drop filled new)) front in
+    subst (Consumes a c) (sym both) (consumes_more a b c (take filled old) (take n (drop filled new)) first next)
+
+-- what was read into a part of a buffer stands behind the front
+pub consumes_in_place : {E : Type 0} (a b : Option (List ℕ)) (r : Result ℕ E) (front part rest : List ℕ) (filled : ℕ)
+    → length front ≡ filled → ReadsAtMost r part → ReadConsumes a b r part
+    → IfOk r (λ n. Consumes a b (take n (drop filled (front ++ (part ++ rest)))))
+consumes_in_place a b (Ok n) front part rest filled long fits read =
+    subst (Consumes a b) (sym (ap (take n) (drop_at front (part ++ rest) filled long) ∙ take-append-le n part rest fits.0))
+    read.0
+consumes_in_place a b (Err e) front part rest filled long fits read = tt

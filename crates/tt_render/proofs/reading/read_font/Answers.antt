@@ -1,62 +1,36 @@
-use Rattle.std.proofs.Common.{◌≡◌, ◌<◌, ◌++◌, length, take, rules, arith, length-append}
-use Rattle.std.proofs.lemmas.Grind.{common_steps}
-use Rattle.std.proofs.lemmas.Result.{err_from_is_err_and}
+use Rattle.std.proofs.Common.{◌≡◌, ◌+◌, ◌<◌, ◌∙◌, ◌++◌, length, take, drop, sym, rules, arith, length-take-le, take_at}
+use Rattle.std.proofs.lemmas.List.{places}
 use Rattle.tt_core.specs.Limits.{font_limit}
-use Rattle.tt_render.proofs.Known.{consumes_nothing, consumes_more, consumes_kept, consumes_larger, consumes_empty}
+use Rattle.tt_render.proofs.Known.{consumes_filled, consumes_larger}
 use Rattle.tt_render.proofs.reading.read_font.Goals as goal
 
-pub pieces-init : goal.pieces-init
-pieces-init g c = record {
-  room = search rules;
-  within = search rules;
-  known = rw c.new-file.ensures.items (consumes_nothing (g.R.Source.left c.args.font.now));
-  sound = c.requires;
-}
-
-pub returns-in-Ok-eq0 : goal.returns-in-Ok-eq0
-returns-in-Ok-eq0 g c =
+pub returns-then-filled-gt-FONT_LIMIT : goal.returns-then-filled-gt-FONT_LIMIT
+returns-then-filled-gt-FONT_LIMIT g c =
     let left = g.R.Source.left in
-    let read = c.in-Ok-eq0 in
-    let all = consumes_empty (left c.args.font.now) (left c.pieces.font)
-    (left c.read.new.self) c.pieces.file.items c.read.new.buf read.field-0 read.field-0-test
-    c.pieces.invariant.known read.ensures.bytes.0 in
-    (all, read.ensures.bytes.1 read.field-0-test (search rules), search rules, search rules)
-
-pub returns-then-n-len : goal.returns-then-n-len
-returns-then-n-len g c =
-    let left = g.R.Source.left in
-    let piece = take c.in-Ok.n c.read.new.buf in
-    let known = consumes_more (left c.args.font.now) (left c.pieces.font)
-    (left c.read.new.self) c.pieces.file.items piece c.pieces.invariant.known c.in-Ok.ensures.bytes.0 in
-    let large : font_limit < length (c.pieces.file.items ++ piece) = let taken = c.in-Ok.ensures.bound in
-    simp length-append (omega (arith, c.pieces.file.ok.0)) in
-    (consumes_larger (left c.args.font.now) (left c.read.new.self) (c.pieces.file.items ++ piece) font_limit known large, (c.pieces.file.items ++ piece, known), search rules)
+    let buf = c.read_behind.new.buf in
+    let filled = c.pieces.filled + c.in-Ok.n in
+    let front = rw c.deref_mut.ensures.value at c.read_behind.ensures.front in
+    let known = consumes_filled (left c.args.font.now) (left c.pieces.font) (left c.read_behind.new.font)
+    c.pieces.file.items buf c.pieces.filled c.in-Ok.n (front ∙ c.make_room.ensures.front)
+    c.pieces.invariant.bytes c.in-Ok.ensures.bytes in
+    let long = length-take-le filled buf c.in-Ok.ensures.bound in
+    let large : font_limit < length (take filled buf) = omega (arith, long, c.if-filled-gt-FONT_LIMIT.true) in
+    (consumes_larger (left c.args.font.now) (left c.read_behind.new.font) (take filled buf) font_limit known large, (take filled buf, known), search rules)
 
 pub pieces-preserved : goal.pieces-preserved
 pieces-preserved g c =
     let left = g.R.Source.left in
-    let piece = take c.in-Ok.n c.read.new.buf in
-    let known = consumes_more (left c.args.font.now) (left c.pieces.font)
-    (left c.read.new.self) c.pieces.file.items piece c.pieces.invariant.known c.in-Ok.ensures.bytes.0 in
+    let buf = c.read_behind.new.buf in
+    let front = rw c.deref_mut.ensures.value at c.read_behind.ensures.front in
+    let known = consumes_filled (left c.args.font.now) (left c.pieces.font) (left c.read_behind.new.font)
+    c.pieces.file.items buf c.pieces.filled c.in-Ok.n (front ∙ c.make_room.ensures.front)
+    c.pieces.invariant.bytes c.in-Ok.ensures.bytes in
+    let long : length buf ≡ c.make_room.new.file.len = search (rules, places) in
+    let whole : take c.make_room.new.file.len (buf ++ drop (length buf) c.make_room.new.file.items) ≡ buf = take_at buf _ c.make_room.new.file.len long in
     record {
-      room = search rules;
       within = search rules;
-      known = let items : c.extend_from_slice.new.self.items ≡ c.pieces.file.items ++ piece = grind
-          (arith, common_steps) in rw items known;
+      known = search rules;
+      limit = search rules;
+      bytes = rw whole known;
       sound = search rules;
     }
-
-pub returns-in_err-extend_from_slice-in-Ok : goal.returns-in_err-extend_from_slice-in-Ok
-returns-in_err-extend_from_slice-in-Ok g c =
-    let left = g.R.Source.left in
-    let piece = take c.in-Ok.n c.read.new.buf in
-    let known = consumes_more (left c.args.font.now) (left c.pieces.font)
-    (left c.read.new.self) c.pieces.file.items piece c.pieces.invariant.known c.in-Ok.ensures.bytes.0 in
-    let residual = c.from_residual-in_err-extend_from_slice-in-Ok in
-    let p = err_from_is_err_and residual.result residual.ensures.1 in
-    rw (p.1, p.2) ((c.pieces.file.items ++ piece, known), search rules)
-
-pub returns-in-Err : goal.returns-in-Err
-returns-in-Err g c =
-    let left = g.R.Source.left in
-    ((c.pieces.file.items, consumes_kept (left c.args.font.now) (left c.pieces.font) (left c.read.new.self) c.pieces.file.items c.pieces.invariant.known c.in-Err.ensures.bytes), c.in-Err.ensures.failure)
