@@ -7,6 +7,7 @@ pub mod MachineState
 pub mod Machines
 pub mod Numbered
 pub mod Opcodes
+pub mod Operation
 pub mod Outcomes
 pub mod Parts
 pub mod Runs

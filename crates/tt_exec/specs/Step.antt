@@ -15,13 +15,13 @@ use Rattle.tt_exec_stack.specs.Pushing.{pushed_bytes, pushed_words}
 use Rattle.tt_exec_stack.specs.Queries.{told}
 use Rattle.tt_exec_stack.specs.Settings.{adjusted}
 use Rattle.tt_exec_stack.specs.Vectors.{turned}
-use Rattle.tt_exec.specs.declared.opcode.Operation.{Operation}
-use Rattle.tt_exec.specs.declared.opcode.Operation.TheVariants as op
 use Rattle.tt_exec.specs.Flags.{instctrl}
 use Rattle.tt_exec.specs.Flow.{goes_to, if_from, else_from, jmpr, jrot, jrof}
 use Rattle.tt_exec.specs.Functions.{fdef, endf, call, loopcall}
 use Rattle.tt_exec.specs.MachineState.{MachineState, fault_in}
 use Rattle.tt_exec.specs.Opcodes.{operation_of}
+use Rattle.tt_exec.specs.Operation.{Operation}
+use Rattle.tt_exec.specs.Operation as op
 
 -- what an instruction leaves of the stack; of the stack and the graphics state; of the stack, the storage and the
 -- control values; or its refusal at its place
@@ -39,29 +39,29 @@ on_places at m (Err why) = Err (fault_in m.frame at why)
 
 -- an operation with its data, at a place; the state's place is behind it
 abbrev pub operate : Operation → List ℕ → ℕ → MachineState → Result MachineState Fault
-operate op.PushBytes args at m = on_stack at m (pushed_bytes args m.stack)
-operate op.PushWords args at m = on_stack at m (pushed_words args m.stack)
-operate (op.Vectors o) args at m = on_graphics at m (turned o m.stack m.graphics)
-operate (op.Setting o) args at m = on_graphics at m (adjusted o m.ppem m.units_per_em m.stack m.graphics)
-operate (op.Managing o) args at m = on_stack at m (managed o m.stack)
-operate (op.Logic o) args at m = on_stack at m (decided o m.graphics.round m.stack)
-operate (op.Arithmetic o) args at m = on_stack at m (computed o m.graphics.round m.stack)
-operate (op.Places o) args at m = on_places at m (kept o m.ppem m.units_per_em m.stack m.storage m.control_values)
-operate (op.Query o) args at m = on_stack at m (told o m.ppem m.stack)
-operate op.Instctrl args at m = instctrl m.stack at m
-operate op.If args at m = if_from m.stack at m
-operate op.Else args at m = else_from at m
-operate op.Eif args at m = Ok m
-operate op.Jmpr args at m = jmpr m.stack at m
-operate op.Jrot args at m = jrot m.stack at m
-operate op.Jrof args at m = jrof m.stack at m
-operate op.Fdef args at m = fdef at m
-operate op.Endf args at m = endf m.callers at m
-operate op.Call args at m = call m.stack at m
-operate op.Loopcall args at m = loopcall m.stack at m
-operate (op.OnPoints o) args at m = Err (fault_in m.frame at why.BadOpcode)
-operate op.OffProfile args at m = Err (fault_in m.frame at why.OffProfile)
-operate op.Unnamed args at m = Err (fault_in m.frame at why.BadOpcode)
+operate op.push_bytes args at m = on_stack at m (pushed_bytes args m.stack)
+operate op.push_words args at m = on_stack at m (pushed_words args m.stack)
+operate (op.turn o) args at m = on_graphics at m (turned o m.stack m.graphics)
+operate (op.adjust o) args at m = on_graphics at m (adjusted o m.ppem m.units_per_em m.stack m.graphics)
+operate (op.manage o) args at m = on_stack at m (managed o m.stack)
+operate (op.decide o) args at m = on_stack at m (decided o m.graphics.round m.stack)
+operate (op.compute o) args at m = on_stack at m (computed o m.graphics.round m.stack)
+operate (op.keep o) args at m = on_places at m (kept o m.ppem m.units_per_em m.stack m.storage m.control_values)
+operate (op.tell o) args at m = on_stack at m (told o m.ppem m.stack)
+operate op.instctrl args at m = instctrl m.stack at m
+operate op.if_true args at m = if_from m.stack at m
+operate op.if_false args at m = else_from at m
+operate op.eif args at m = Ok m
+operate op.jmpr args at m = jmpr m.stack at m
+operate op.jrot args at m = jrot m.stack at m
+operate op.jrof args at m = jrof m.stack at m
+operate op.fdef args at m = fdef at m
+operate op.endf args at m = endf m.callers at m
+operate op.call args at m = call m.stack at m
+operate op.loopcall args at m = loopcall m.stack at m
+operate (op.on_points o) args at m = Err (fault_in m.frame at why.BadOpcode)
+operate op.off_profile args at m = Err (fault_in m.frame at why.OffProfile)
+operate op.unnamed args at m = Err (fault_in m.frame at why.BadOpcode)
 
 -- what stands at the state's place is done, or data there passes the end
 abbrev pub done : MachineState → Result Instruction Halt → Result MachineState Fault

@@ -4,7 +4,7 @@
 
 ghost use Rattle.std.specs.Prelude.{◌≤◌, [], length};
 ghost use Rattle.tt_exec_stack.specs.Stack.{Does};
-ghost use Rattle.tt_exec.specs.declared.opcode.Operation.TheVariants as operation;
+ghost use Rattle.tt_exec.specs.Operation as operation;
 ghost use Rattle.tt_exec.specs.States.{state_of};
 ghost use Rattle.tt_exec.specs.Step.{operate};
 
@@ -16,9 +16,10 @@ use tt_exec_stack::{
 };
 
 impl Interpreter<'_> {
+    #[inline(always)]
     pub(crate) fn push_bytes(&mut self, args: &[u8], at: usize) -> Result<(), Fault>
         requires { at ≤ length self.old.frame.code.bytes.now }
-        ensures { Does (operate operation.PushBytes args.now at (state_of self.old)) (state_of self.new) result }
+        ensures { Does (operate operation.push_bytes args.now at (state_of self.old)) (state_of self.new) result }
     {
         match push_bytes(args, &mut self.stack) {
             Ok(()) => Ok(()),
@@ -26,9 +27,10 @@ impl Interpreter<'_> {
         }
     }
 
+    #[inline(always)]
     pub(crate) fn push_words(&mut self, args: &[u8], at: usize) -> Result<(), Fault>
         requires { at ≤ length self.old.frame.code.bytes.now }
-        ensures { Does (operate operation.PushWords args.now at (state_of self.old)) (state_of self.new) result }
+        ensures { Does (operate operation.push_words args.now at (state_of self.old)) (state_of self.new) result }
     {
         match push_words(args, &mut self.stack) {
             Ok(()) => Ok(()),
@@ -36,9 +38,10 @@ impl Interpreter<'_> {
         }
     }
 
+    #[inline(always)]
     pub(crate) fn turn(&mut self, op: Vectors, at: usize) -> Result<(), Fault>
         requires { at ≤ length self.old.frame.code.bytes.now }
-        ensures { Does (operate (operation.Vectors op) [] at (state_of self.old)) (state_of self.new) result }
+        ensures { Does (operate (operation.turn op) [] at (state_of self.old)) (state_of self.new) result }
     {
         match turn(op, &mut self.stack, &mut self.graphics) {
             Ok(()) => Ok(()),
@@ -46,9 +49,10 @@ impl Interpreter<'_> {
         }
     }
 
+    #[inline(always)]
     pub(crate) fn adjust(&mut self, op: Setting, at: usize) -> Result<(), Fault>
         requires { at ≤ length self.old.frame.code.bytes.now }
-        ensures { Does (operate (operation.Setting op) [] at (state_of self.old)) (state_of self.new) result }
+        ensures { Does (operate (operation.adjust op) [] at (state_of self.old)) (state_of self.new) result }
     {
         match adjust(op, self.size, &mut self.stack, &mut self.graphics) {
             Ok(()) => Ok(()),
@@ -56,9 +60,10 @@ impl Interpreter<'_> {
         }
     }
 
+    #[inline(always)]
     pub(crate) fn manage(&mut self, op: Managing, at: usize) -> Result<(), Fault>
         requires { at ≤ length self.old.frame.code.bytes.now }
-        ensures { Does (operate (operation.Managing op) [] at (state_of self.old)) (state_of self.new) result }
+        ensures { Does (operate (operation.manage op) [] at (state_of self.old)) (state_of self.new) result }
     {
         match manage(op, &mut self.stack) {
             Ok(()) => Ok(()),
@@ -66,9 +71,10 @@ impl Interpreter<'_> {
         }
     }
 
+    #[inline(always)]
     pub(crate) fn decide(&mut self, op: Logic, at: usize) -> Result<(), Fault>
         requires { at ≤ length self.old.frame.code.bytes.now }
-        ensures { Does (operate (operation.Logic op) [] at (state_of self.old)) (state_of self.new) result }
+        ensures { Does (operate (operation.decide op) [] at (state_of self.old)) (state_of self.new) result }
     {
         let round = self.graphics.state().round;
         match decide(op, round, &mut self.stack) {
@@ -77,9 +83,10 @@ impl Interpreter<'_> {
         }
     }
 
+    #[inline(always)]
     pub(crate) fn compute(&mut self, op: Arithmetic, at: usize) -> Result<(), Fault>
         requires { at ≤ length self.old.frame.code.bytes.now }
-        ensures { Does (operate (operation.Arithmetic op) [] at (state_of self.old)) (state_of self.new) result }
+        ensures { Does (operate (operation.compute op) [] at (state_of self.old)) (state_of self.new) result }
     {
         let round = self.graphics.state().round;
         match compute(op, round, &mut self.stack) {
@@ -88,9 +95,10 @@ impl Interpreter<'_> {
         }
     }
 
+    #[inline(always)]
     pub(crate) fn keep(&mut self, op: Places, at: usize) -> Result<(), Fault>
         requires { at ≤ length self.old.frame.code.bytes.now }
-        ensures { Does (operate (operation.Places op) [] at (state_of self.old)) (state_of self.new) result }
+        ensures { Does (operate (operation.keep op) [] at (state_of self.old)) (state_of self.new) result }
     {
         match keep(
             op,
@@ -104,9 +112,10 @@ impl Interpreter<'_> {
         }
     }
 
+    #[inline(always)]
     pub(crate) fn tell(&mut self, op: Query, at: usize) -> Result<(), Fault>
         requires { at ≤ length self.old.frame.code.bytes.now }
-        ensures { Does (operate (operation.Query op) [] at (state_of self.old)) (state_of self.new) result }
+        ensures { Does (operate (operation.tell op) [] at (state_of self.old)) (state_of self.new) result }
     {
         match tell(op, self.size, &mut self.stack) {
             Ok(()) => Ok(()),

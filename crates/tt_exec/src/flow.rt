@@ -59,8 +59,8 @@ impl Interpreter<'_> {
         requires { at < length self.old.frame.code.bytes.now }
         ensures { Does (flow.jumped at offset (state_of self.old)) (state_of self.new) result }
     {
-        let target = at as i128 + i128::from(offset);
-        if target < 0 || target > self.frame.code.bytes.len() as i128 {
+        let target = at as i64 + i64::from(offset);
+        if target < 0 || target > self.frame.code.bytes.len() as i64 {
             return Err(self.fault(at, Why::JumpRange));
         }
         self.frame.place = target as usize;

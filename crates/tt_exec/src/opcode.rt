@@ -1,201 +1,199 @@
-//! Which instruction an opcode is. Apple TrueType Reference Manual, "Instruction set".
+//! The instruction of each opcode, done. Apple TrueType Reference Manual, "Instruction set". Each function has a part of
+//! the opcodes, and hands the others on. An instruction stands at `at`, and the frame's place is behind it.
 
-ghost use Rattle.std.specs.Prelude.{◌≡◌};
+ghost use Rattle.std.specs.Prelude.{◌≡◌, ◌<◌, length};
+ghost use Rattle.tt_core.specs.Outcomes.{Leaves};
+ghost use Rattle.tt_core.specs.declared.font_fault.FontFault.TheVariants as font;
+ghost use Rattle.tt_exec.specs.MachineState.{fault_in};
 ghost use Rattle.tt_exec.specs.Opcodes as table;
+ghost use Rattle.tt_exec.specs.States.{state_of};
+ghost use Rattle.tt_exec.specs.Step as is;
+ghost use Rattle.tt_exec.specs.Views.{frame_of};
+ghost use Rattle.std.specs.Prelude.{Err};
 
+use crate::interpreter::Interpreter;
+use tt_core::{FontFault, Why};
 use tt_exec_stack::{Arithmetic, Logic, Managing, Places, Query, Setting, Vectors};
 use tt_state::{Axis, Round};
 
-/// An instruction, by the family whose file has it.
-#[derive(Clone, Copy)]
-pub(crate) enum Operation {
-    PushBytes,
-    PushWords,
-    Vectors(Vectors),
-    Setting(Setting),
-    Managing(Managing),
-    Logic(Logic),
-    Arithmetic(Arithmetic),
-    Places(Places),
-    Query(Query),
-    Instctrl,
-    If,
-    Else,
-    Eif,
-    Jmpr,
-    Jrot,
-    Jrof,
-    Fdef,
-    Endf,
-    Call,
-    Loopcall,
-    /// An instruction that works on points, which is not built yet.
-    OnPoints(u8),
-    /// An instruction that is not supported: SPVTL, SFVTL, ISECT, ALIGNPTS, DEBUG, S45ROUND, SDPVTL, IDEF (profile).
-    OffProfile,
-    Unnamed,
-}
-
-/// The instruction of an opcode.
-pub(crate) fn operation_of(op: u8) -> Operation
-    ensures { result ≡ table.operation_of op }
-{
-    match op {
-        0x00..=0x1F => opcodes_00(op),
-        0x20..=0x3F => opcodes_20(op),
-        0x40..=0x5F => opcodes_40(op),
-        0x60..=0x7F => opcodes_60(op),
-        0x80..=0xAF => opcodes_80(op),
-        0xB0..=0xB7 => Operation::PushBytes,
-        0xB8..=0xBF => Operation::PushWords,
-        _ => Operation::OnPoints(op),
+impl Interpreter<'_> {
+    /// An instruction that is none, or not supported.
+    #[cold]
+    fn refuse(&self, at: usize, why: Why) -> Result<(), FontFault>
+        requires { at < length self.now.frame.code.bytes.now }
+        ensures { result ≡ Err (font.Font (fault_in (frame_of self.now.frame) at why)) }
+    {
+        Err(FontFault::Font(self.fault(at, why)))
     }
-}
 
-/// 0x00 to 0x1F.
-fn opcodes_00(op: u8) -> Operation
-    ensures { result ≡ table.named op table.opcodes_00 }
-{
-    match op {
-        0x00 => Operation::Vectors(Vectors::Svtca(Axis::Y)),
-        0x01 => Operation::Vectors(Vectors::Svtca(Axis::X)),
-        0x02 => Operation::Vectors(Vectors::Spvtca(Axis::Y)),
-        0x03 => Operation::Vectors(Vectors::Spvtca(Axis::X)),
-        0x04 => Operation::Vectors(Vectors::Sfvtca(Axis::Y)),
-        0x05 => Operation::Vectors(Vectors::Sfvtca(Axis::X)),
-        0x06..=0x09 => Operation::OffProfile,
-        0x0A => Operation::Vectors(Vectors::Spvfs),
-        0x0B => Operation::Vectors(Vectors::Sfvfs),
-        0x0C => Operation::Vectors(Vectors::Gpv),
-        0x0D => Operation::Vectors(Vectors::Gfv),
-        0x0E => Operation::Vectors(Vectors::Sfvtpv),
-        0x0F => Operation::OffProfile,
-        0x10 => Operation::Setting(Setting::Srp0),
-        0x11 => Operation::Setting(Setting::Srp1),
-        0x12 => Operation::Setting(Setting::Srp2),
-        0x13 => Operation::Setting(Setting::Szp0),
-        0x14 => Operation::Setting(Setting::Szp1),
-        0x15 => Operation::Setting(Setting::Szp2),
-        0x16 => Operation::Setting(Setting::Szps),
-        0x17 => Operation::Setting(Setting::Sloop),
-        0x18 => Operation::Setting(Setting::RoundTo(Round::Grid)),
-        0x19 => Operation::Setting(Setting::RoundTo(Round::Half)),
-        0x1A => Operation::Setting(Setting::Smd),
-        0x1B => Operation::Else,
-        0x1C => Operation::Jmpr,
-        0x1D => Operation::Setting(Setting::Scvtci),
-        0x1E => Operation::Setting(Setting::Sswci),
-        0x1F => Operation::Setting(Setting::Ssw),
-        _ => Operation::Unnamed,
+    /// Any opcode: 0x00 to 0x1F, and the others handed on.
+    #[inline(always)]
+    pub(crate) fn operate(&mut self, op: u8, args: &[u8], at: usize) -> Result<(), FontFault>
+        requires { at < length self.old.frame.code.bytes.now }
+        ensures { Leaves result (state_of self.new) (is.operate (table.operation_of op) args.now at (state_of self.old)) }
+    {
+        match op {
+            0x00 => Ok(self.turn(Vectors::Svtca(Axis::Y), at)?),
+            0x01 => Ok(self.turn(Vectors::Svtca(Axis::X), at)?),
+            0x02 => Ok(self.turn(Vectors::Spvtca(Axis::Y), at)?),
+            0x03 => Ok(self.turn(Vectors::Spvtca(Axis::X), at)?),
+            0x04 => Ok(self.turn(Vectors::Sfvtca(Axis::Y), at)?),
+            0x05 => Ok(self.turn(Vectors::Sfvtca(Axis::X), at)?),
+            0x06..=0x09 => self.refuse(at, Why::OffProfile),
+            0x0A => Ok(self.turn(Vectors::Spvfs, at)?),
+            0x0B => Ok(self.turn(Vectors::Sfvfs, at)?),
+            0x0C => Ok(self.turn(Vectors::Gpv, at)?),
+            0x0D => Ok(self.turn(Vectors::Gfv, at)?),
+            0x0E => Ok(self.turn(Vectors::Sfvtpv, at)?),
+            0x0F => self.refuse(at, Why::OffProfile),
+            0x10 => Ok(self.adjust(Setting::Srp0, at)?),
+            0x11 => Ok(self.adjust(Setting::Srp1, at)?),
+            0x12 => Ok(self.adjust(Setting::Srp2, at)?),
+            0x13 => Ok(self.adjust(Setting::Szp0, at)?),
+            0x14 => Ok(self.adjust(Setting::Szp1, at)?),
+            0x15 => Ok(self.adjust(Setting::Szp2, at)?),
+            0x16 => Ok(self.adjust(Setting::Szps, at)?),
+            0x17 => Ok(self.adjust(Setting::Sloop, at)?),
+            0x18 => Ok(self.adjust(Setting::RoundTo(Round::Grid), at)?),
+            0x19 => Ok(self.adjust(Setting::RoundTo(Round::Half), at)?),
+            0x1A => Ok(self.adjust(Setting::Smd, at)?),
+            0x1B => Ok(self.if_false(at)?),
+            0x1C => Ok(self.jmpr(at)?),
+            0x1D => Ok(self.adjust(Setting::Scvtci, at)?),
+            0x1E => Ok(self.adjust(Setting::Sswci, at)?),
+            0x1F => Ok(self.adjust(Setting::Ssw, at)?),
+            _ => self.operate_20(op, args, at),
+        }
     }
-}
 
-/// 0x20 to 0x3F.
-fn opcodes_20(op: u8) -> Operation
-    ensures { result ≡ table.named op table.opcodes_20 }
-{
-    match op {
-        0x20 => Operation::Managing(Managing::Dup),
-        0x21 => Operation::Managing(Managing::Pop),
-        0x22 => Operation::Managing(Managing::Clear),
-        0x23 => Operation::Managing(Managing::Swap),
-        0x24 => Operation::Managing(Managing::Depth),
-        0x25 => Operation::Managing(Managing::Cindex),
-        0x26 => Operation::Managing(Managing::Mindex),
-        0x27 => Operation::OffProfile,
-        0x29 => Operation::OnPoints(op),
-        0x2A => Operation::Loopcall,
-        0x2B => Operation::Call,
-        0x2C => Operation::Fdef,
-        0x2D => Operation::Endf,
-        0x2E..=0x3C => Operation::OnPoints(op),
-        0x3D => Operation::Setting(Setting::RoundTo(Round::Double)),
-        0x3E | 0x3F => Operation::OnPoints(op),
-        _ => Operation::Unnamed,
+    /// 0x20 and above.
+    #[inline(always)]
+    fn operate_20(&mut self, op: u8, args: &[u8], at: usize) -> Result<(), FontFault>
+        requires { at < length self.old.frame.code.bytes.now }
+        ensures { Leaves result (state_of self.new) (is.operate (table.from_20 op) args.now at (state_of self.old)) }
+    {
+        match op {
+            0x20 => Ok(self.manage(Managing::Dup, at)?),
+            0x21 => Ok(self.manage(Managing::Pop, at)?),
+            0x22 => Ok(self.manage(Managing::Clear, at)?),
+            0x23 => Ok(self.manage(Managing::Swap, at)?),
+            0x24 => Ok(self.manage(Managing::Depth, at)?),
+            0x25 => Ok(self.manage(Managing::Cindex, at)?),
+            0x26 => Ok(self.manage(Managing::Mindex, at)?),
+            0x27 => self.refuse(at, Why::OffProfile),
+            0x29 => self.refuse(at, Why::BadOpcode),
+            0x2A => Ok(self.loopcall(at)?),
+            0x2B => Ok(self.call(at)?),
+            0x2C => self.fdef(at),
+            0x2D => Ok(self.endf(at)?),
+            0x2E..=0x3C => self.refuse(at, Why::BadOpcode),
+            0x3D => Ok(self.adjust(Setting::RoundTo(Round::Double), at)?),
+            0x3E | 0x3F => self.refuse(at, Why::BadOpcode),
+            _ => self.operate_40(op, args, at),
+        }
     }
-}
 
-/// 0x40 to 0x5F.
-fn opcodes_40(op: u8) -> Operation
-    ensures { result ≡ table.named op table.opcodes_40 }
-{
-    match op {
-        0x40 => Operation::PushBytes,
-        0x41 => Operation::PushWords,
-        0x42 => Operation::Places(Places::Ws),
-        0x43 => Operation::Places(Places::Rs),
-        0x44 => Operation::Places(Places::Wcvtp),
-        0x45 => Operation::Places(Places::Rcvt),
-        0x46..=0x4A => Operation::OnPoints(op),
-        0x4B => Operation::Query(Query::Mppem),
-        0x4C => Operation::Query(Query::Mps),
-        0x4D => Operation::Setting(Setting::Flip(true)),
-        0x4E => Operation::Setting(Setting::Flip(false)),
-        0x4F => Operation::OffProfile,
-        0x50 => Operation::Logic(Logic::Lt),
-        0x51 => Operation::Logic(Logic::Lteq),
-        0x52 => Operation::Logic(Logic::Gt),
-        0x53 => Operation::Logic(Logic::Gteq),
-        0x54 => Operation::Logic(Logic::Eq),
-        0x55 => Operation::Logic(Logic::Neq),
-        0x56 => Operation::Logic(Logic::Odd),
-        0x57 => Operation::Logic(Logic::Even),
-        0x58 => Operation::If,
-        0x59 => Operation::Eif,
-        0x5A => Operation::Logic(Logic::And),
-        0x5B => Operation::Logic(Logic::Or),
-        0x5C => Operation::Logic(Logic::Not),
-        0x5D => Operation::OnPoints(op),
-        0x5E => Operation::Setting(Setting::Sdb),
-        0x5F => Operation::Setting(Setting::Sds),
-        _ => Operation::Unnamed,
+    /// 0x40 and above.
+    #[inline(always)]
+    fn operate_40(&mut self, op: u8, args: &[u8], at: usize) -> Result<(), FontFault>
+        requires { at < length self.old.frame.code.bytes.now }
+        ensures { Leaves result (state_of self.new) (is.operate (table.from_40 op) args.now at (state_of self.old)) }
+    {
+        match op {
+            0x40 => Ok(self.push_bytes(args, at)?),
+            0x41 => Ok(self.push_words(args, at)?),
+            0x42 => Ok(self.keep(Places::Ws, at)?),
+            0x43 => Ok(self.keep(Places::Rs, at)?),
+            0x44 => Ok(self.keep(Places::Wcvtp, at)?),
+            0x45 => Ok(self.keep(Places::Rcvt, at)?),
+            0x46..=0x4A => self.refuse(at, Why::BadOpcode),
+            0x4B => Ok(self.tell(Query::Mppem, at)?),
+            0x4C => Ok(self.tell(Query::Mps, at)?),
+            0x4D => Ok(self.adjust(Setting::Flip(true), at)?),
+            0x4E => Ok(self.adjust(Setting::Flip(false), at)?),
+            0x4F => self.refuse(at, Why::OffProfile),
+            0x50 => Ok(self.decide(Logic::Lt, at)?),
+            0x51 => Ok(self.decide(Logic::Lteq, at)?),
+            0x52 => Ok(self.decide(Logic::Gt, at)?),
+            0x53 => Ok(self.decide(Logic::Gteq, at)?),
+            0x54 => Ok(self.decide(Logic::Eq, at)?),
+            0x55 => Ok(self.decide(Logic::Neq, at)?),
+            0x56 => Ok(self.decide(Logic::Odd, at)?),
+            0x57 => Ok(self.decide(Logic::Even, at)?),
+            0x58 => Ok(self.if_true(at)?),
+            0x59 => Ok(()),
+            0x5A => Ok(self.decide(Logic::And, at)?),
+            0x5B => Ok(self.decide(Logic::Or, at)?),
+            0x5C => Ok(self.decide(Logic::Not, at)?),
+            0x5D => self.refuse(at, Why::BadOpcode),
+            0x5E => Ok(self.adjust(Setting::Sdb, at)?),
+            0x5F => Ok(self.adjust(Setting::Sds, at)?),
+            _ => self.operate_60(op, args, at),
+        }
     }
-}
 
-/// 0x60 to 0x7F.
-fn opcodes_60(op: u8) -> Operation
-    ensures { result ≡ table.named op table.opcodes_60 }
-{
-    match op {
-        0x60 => Operation::Arithmetic(Arithmetic::Add),
-        0x61 => Operation::Arithmetic(Arithmetic::Sub),
-        0x62 => Operation::Arithmetic(Arithmetic::Div),
-        0x63 => Operation::Arithmetic(Arithmetic::Mul),
-        0x64 => Operation::Arithmetic(Arithmetic::Abs),
-        0x65 => Operation::Arithmetic(Arithmetic::Neg),
-        0x66 => Operation::Arithmetic(Arithmetic::Floor),
-        0x67 => Operation::Arithmetic(Arithmetic::Ceiling),
-        0x68..=0x6B => Operation::Arithmetic(Arithmetic::Round),
-        0x6C..=0x6F => Operation::Arithmetic(Arithmetic::Nround),
-        0x70 => Operation::Places(Places::Wcvtf),
-        0x71..=0x75 => Operation::OnPoints(op),
-        0x76 => Operation::Setting(Setting::Sround),
-        0x77 => Operation::OffProfile,
-        0x78 => Operation::Jrot,
-        0x79 => Operation::Jrof,
-        0x7A => Operation::Setting(Setting::RoundTo(Round::Off)),
-        0x7C => Operation::Setting(Setting::RoundTo(Round::Up)),
-        0x7D => Operation::Setting(Setting::RoundTo(Round::Down)),
-        0x7E | 0x7F => Operation::Setting(Setting::Ignored),
-        _ => Operation::Unnamed,
+    /// 0x60 and above.
+    #[inline(always)]
+    fn operate_60(&mut self, op: u8, args: &[u8], at: usize) -> Result<(), FontFault>
+        requires { at < length self.old.frame.code.bytes.now }
+        ensures { Leaves result (state_of self.new) (is.operate (table.from_60 op) args.now at (state_of self.old)) }
+    {
+        match op {
+            0x60 => Ok(self.compute(Arithmetic::Add, at)?),
+            0x61 => Ok(self.compute(Arithmetic::Sub, at)?),
+            0x62 => Ok(self.compute(Arithmetic::Div, at)?),
+            0x63 => Ok(self.compute(Arithmetic::Mul, at)?),
+            0x64 => Ok(self.compute(Arithmetic::Abs, at)?),
+            0x65 => Ok(self.compute(Arithmetic::Neg, at)?),
+            0x66 => Ok(self.compute(Arithmetic::Floor, at)?),
+            0x67 => Ok(self.compute(Arithmetic::Ceiling, at)?),
+            0x68..=0x6B => Ok(self.compute(Arithmetic::Round, at)?),
+            0x6C..=0x6F => Ok(self.compute(Arithmetic::Nround, at)?),
+            0x70 => Ok(self.keep(Places::Wcvtf, at)?),
+            0x71..=0x75 => self.refuse(at, Why::BadOpcode),
+            0x76 => Ok(self.adjust(Setting::Sround, at)?),
+            0x77 => self.refuse(at, Why::OffProfile),
+            0x78 => Ok(self.jrot(at)?),
+            0x79 => Ok(self.jrof(at)?),
+            0x7A => Ok(self.adjust(Setting::RoundTo(Round::Off), at)?),
+            0x7C => Ok(self.adjust(Setting::RoundTo(Round::Up), at)?),
+            0x7D => Ok(self.adjust(Setting::RoundTo(Round::Down), at)?),
+            0x7E | 0x7F => Ok(self.adjust(Setting::Ignored, at)?),
+            _ => self.operate_80(op, args, at),
+        }
     }
-}
 
-/// 0x80 to 0xAF.
-fn opcodes_80(op: u8) -> Operation
-    ensures { result ≡ table.named op table.opcodes_80 }
-{
-    match op {
-        0x80..=0x82 => Operation::OnPoints(op),
-        0x85 => Operation::Setting(Setting::Ignored),
-        0x86 | 0x87 => Operation::OffProfile,
-        0x88 => Operation::Query(Query::Getinfo),
-        0x89 => Operation::OffProfile,
-        0x8A => Operation::Managing(Managing::Roll),
-        0x8B => Operation::Arithmetic(Arithmetic::Max),
-        0x8C => Operation::Arithmetic(Arithmetic::Min),
-        0x8D => Operation::Setting(Setting::Ignored),
-        0x8E => Operation::Instctrl,
-        _ => Operation::Unnamed,
+    /// 0x80 and above.
+    #[inline(always)]
+    fn operate_80(&mut self, op: u8, args: &[u8], at: usize) -> Result<(), FontFault>
+        requires { at < length self.old.frame.code.bytes.now }
+        ensures { Leaves result (state_of self.new) (is.operate (table.from_80 op) args.now at (state_of self.old)) }
+    {
+        match op {
+            0x80..=0x82 => self.refuse(at, Why::BadOpcode),
+            0x85 => Ok(self.adjust(Setting::Ignored, at)?),
+            0x86 | 0x87 => self.refuse(at, Why::OffProfile),
+            0x88 => Ok(self.tell(Query::Getinfo, at)?),
+            0x89 => self.refuse(at, Why::OffProfile),
+            0x8A => Ok(self.manage(Managing::Roll, at)?),
+            0x8B => Ok(self.compute(Arithmetic::Max, at)?),
+            0x8C => Ok(self.compute(Arithmetic::Min, at)?),
+            0x8D => Ok(self.adjust(Setting::Ignored, at)?),
+            0x8E => Ok(self.instctrl(at)?),
+            _ => self.operate_b0(op, args, at),
+        }
+    }
+
+    /// 0xB0 and above.
+    #[inline(always)]
+    fn operate_b0(&mut self, op: u8, args: &[u8], at: usize) -> Result<(), FontFault>
+        requires { at < length self.old.frame.code.bytes.now }
+        ensures { Leaves result (state_of self.new) (is.operate (table.from_b0 op) args.now at (state_of self.old)) }
+    {
+        match op {
+            0xB0..=0xB7 => Ok(self.push_bytes(args, at)?),
+            0xB8..=0xBF => Ok(self.push_words(args, at)?),
+            _ => self.refuse(at, Why::BadOpcode),
+        }
     }
 }

@@ -177,6 +177,7 @@ fn min(stack: &mut Stack) -> Result<(), Why>
 }
 
 /// Errors: StackShort; DivZero; ValueRange outside 32 bits.
+#[inline(always)]
 pub fn compute(op: Arithmetic, round_state: Round, stack: &mut Stack) -> Result<(), Why>
     ensures { Does (is.computed op round_state stack.old) stack.new result }
 {

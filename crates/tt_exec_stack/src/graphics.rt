@@ -31,6 +31,7 @@ impl Graphics {
         Graphics { state }
     }
 
+    #[inline(always)]
     pub fn state(&self) -> GraphicsState
         ensures exact { result ≡ self.now }
         ensures sound { IsGraphicsState result }
@@ -38,6 +39,7 @@ impl Graphics {
         self.state
     }
 
+    #[inline(always)]
     pub fn set(&mut self, state: GraphicsState)
         requires { IsGraphicsState state }
         ensures { self.new ≡ state }

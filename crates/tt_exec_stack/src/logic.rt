@@ -136,6 +136,7 @@ fn not(stack: &mut Stack) -> Result<(), Why>
 }
 
 /// Error: StackShort.
+#[inline(always)]
 pub fn decide(op: Logic, round: Round, stack: &mut Stack) -> Result<(), Why>
     ensures { Does (is.decided op round stack.old) stack.new result }
 {

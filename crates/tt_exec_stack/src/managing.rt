@@ -97,6 +97,7 @@ fn roll(stack: &mut Stack) -> Result<(), Why>
 }
 
 /// Errors: StackShort; StackFull; of CINDEX and MINDEX also BadArgument.
+#[inline(always)]
 pub fn manage(op: Managing, stack: &mut Stack) -> Result<(), Why>
     ensures { Does (is.managed op stack.old) stack.new result }
 {

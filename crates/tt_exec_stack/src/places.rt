@@ -82,6 +82,7 @@ fn rcvt(stack: &mut Stack, cvt: &[i32]) -> Result<(), Why>
 }
 
 /// Errors: StackShort; CvtRange; StorageRange; ValueRange of WCVTF.
+#[inline(always)]
 pub fn keep(
     op: Places,
     size: Size,

@@ -9,6 +9,7 @@ use crate::stack::Stack;
 use tt_core::Why;
 
 /// NPUSHB[], 0x40, and PUSHB[n], 0xB0 to 0xB7: -> bytes, in order. Error: StackFull.
+#[inline(always)]
 pub fn push_bytes(bytes: &[u8], stack: &mut Stack) -> Result<(), Why>
     ensures { Does (pushed_bytes bytes.now stack.old) stack.new result }
 {
@@ -26,6 +27,7 @@ fn push_word(high: u8, low: u8, stack: &mut Stack) -> Result<(), Why>
 }
 
 /// NPUSHW[], 0x41, and PUSHW[n], 0xB8 to 0xBF: -> signed words, in order. Error: StackFull.
+#[inline(always)]
 pub fn push_words(bytes: &[u8], stack: &mut Stack) -> Result<(), Why>
     ensures { Does (pushed_words bytes.now stack.old) stack.new result }
 {

@@ -43,6 +43,7 @@ fn getinfo(stack: &mut Stack) -> Result<(), Why>
 }
 
 /// Errors: StackShort; StackFull.
+#[inline(always)]
 pub fn tell(op: Query, size: Size, stack: &mut Stack) -> Result<(), Why>
     ensures { Does (is.told op size.ppem stack.old) stack.new result }
 {

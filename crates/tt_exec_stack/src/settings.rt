@@ -290,6 +290,7 @@ fn ignored(stack: &mut Stack) -> Result<(), Why>
 }
 
 /// Errors: StackShort; BadArgument of SLOOP and SDS; ZoneRange; ValueRange of SSW.
+#[inline(always)]
 pub fn adjust(
     op: Setting,
     size: Size,

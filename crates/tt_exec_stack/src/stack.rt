@@ -48,6 +48,7 @@ impl Stack {
         &self.items
     }
 
+    #[inline(always)]
     pub fn clear(&mut self)
         ensures { self.new ≡ [] }
     {
@@ -55,6 +56,7 @@ impl Stack {
     }
 
     /// How many entries there are.
+    #[inline(always)]
     pub fn len(&self) -> usize
         ensures exact { result ≡ length self.now }
         ensures limit { result ≤ stack_limit }
@@ -63,6 +65,7 @@ impl Stack {
     }
 
     /// Takes the top entry. Error: StackShort.
+    #[inline(always)]
     pub fn pop(&mut self) -> Result<i32, Why>
         ensures exact { Pops self.old result self.new }
         ensures room { OnOk result (length self.new < stack_limit) }
@@ -71,6 +74,7 @@ impl Stack {
     }
 
     /// Puts a number on top. Errors: ValueRange outside 32 bits, StackFull.
+    #[inline(always)]
     #[tactic(auto, unfolding(crate::specs::Stack::pushed))]
     pub fn push(&mut self, value: i64) -> Result<(), Why>
         ensures { Does (pushed value self.old) self.new result }
@@ -110,14 +114,12 @@ impl Stack {
     }
 
     /// Puts a number on top; there is room for it.
+    #[inline(always)]
     pub(crate) fn put(&mut self, value: i32)
         requires { length self.old < stack_limit }
         ensures { self.new ≡ value ∷ self.old }
     {
-        match self.items.push(value) {
-            Ok(()) => {}
-            Err(_) => unreachable!(),
-        }
+        self.items.push_reserved(value);
     }
 
     /// The top entries, the top last. Error: StackShort where there are fewer.

@@ -126,6 +126,7 @@ fn sfvtpv(graphics: &mut Graphics)
 }
 
 /// Errors: StackShort; OffProfile of a vector off the axes; StackFull.
+#[inline(always)]
 pub fn turn(op: Vectors, stack: &mut Stack, graphics: &mut Graphics) -> Result<(), Why>
     ensures { Does (is.turned op stack.old graphics.old) (stack.new, graphics.new) result }
 {

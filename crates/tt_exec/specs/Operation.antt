@@ -1,0 +1,28 @@
+-- No part of the standard: an instruction, by the family whose file defines it. Each family's variants are in the
+-- manual's names.
+use Rattle.std.specs.Prelude.{ℕ}
+use Rattle.tt_exec_stack.specs.declared.arithmetic.Arithmetic.{Arithmetic}
+use Rattle.tt_exec_stack.specs.declared.logic.Logic.{Logic}
+use Rattle.tt_exec_stack.specs.declared.managing.Managing.{Managing}
+use Rattle.tt_exec_stack.specs.declared.places.Places.{Places}
+use Rattle.tt_exec_stack.specs.declared.queries.Query.{Query}
+use Rattle.tt_exec_stack.specs.declared.settings.Setting.{Setting}
+use Rattle.tt_exec_stack.specs.declared.vectors.Vectors.{Vectors}
+
+pub data Operation : Type 0 where
+  push_bytes push_words : Operation
+  turn : Vectors → Operation
+  adjust : Setting → Operation
+  manage : Managing → Operation
+  decide : Logic → Operation
+  compute : Arithmetic → Operation
+  keep : Places → Operation
+  tell : Query → Operation
+  instctrl : Operation
+  if_true if_false eif jmpr jrot jrof : Operation
+  fdef endf call loopcall : Operation
+  -- an instruction that works on points, which is not built yet
+  on_points : ℕ → Operation
+  -- SPVTL, SFVTL, ISECT, ALIGNPTS, DEBUG, S45ROUND, SDPVTL, IDEF, which are not supported (profile)
+  off_profile : Operation
+  unnamed : Operation
