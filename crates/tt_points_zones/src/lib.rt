@@ -4,5 +4,5 @@
 mod points;
 mod zones;
 
-pub use points::{cur, direction, is_touched, moved, org, shifted};
+pub use points::{cur, direction, is_coordinate, is_touched, moved, org, put, shifted};
 pub use zones::Zones;

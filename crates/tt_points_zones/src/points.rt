@@ -46,14 +46,15 @@ pub fn is_touched(p: Point, axis: Axis) -> bool
     }
 }
 
-fn is_coordinate(v: i64) -> bool
+/// Whether a coordinate is within the limit.
+pub fn is_coordinate(v: i64) -> bool
     ensures { result ≡ is.is_coordinate v }
 {
     -COORDINATE_LIMIT <= v && v <= COORDINATE_LIMIT
 }
 
-/// The point put to a coordinate.
-fn put(p: Point, axis: Axis, v: i64) -> Point
+/// The point put to a coordinate, as touched as it was.
+pub fn put(p: Point, axis: Axis, v: i64) -> Point
     requires point { IsPoint p }
     requires limit { unsigned_abs v ≤ coordinate_limit }
     ensures exact { result ≡ is.put axis v p }
