@@ -1,0 +1,115 @@
+-- What is swept up to the next touched point, and to the end where there is none.
+use Rattle.std.proofs.Common.{◌≡◌, ℕ, suc, ◌+◌, ◌<◌, true, List, [], ◌∷◌, ◌++◌, length, map, take, drop, get_or, Some, None, Ok, Err, ap, sym, refl, arith, append_assoc}
+use Rattle.std.proofs.lemmas.List.{append-nil, take_all, drop_all, drop_more, take-append-drop, length-map, length-take}
+use Rattle.tt_core.specs.declared.fault.Why.{Why}
+use Rattle.tt_state.specs.declared.graphics_state.Axis.{Axis}
+use Rattle.tt_state.specs.declared.point.Point.{Point}
+use Rattle.tt_points_zones.specs.Points.{is_touched}
+use Rattle.tt_points_zones.specs.Zones.{IsPoint}
+use Rattle.tt_points_iup.specs.Interpolation.{interpolated, first_touched, limited}
+use Rattle.tt_points_iup.specs.Sweeps.{swept, IsRun}
+use Rattle.tt_points_iup.proofs.Limits.{limited_before, whole_ok}
+use Rattle.tt_points_iup.proofs.Touches.{none_touched, first_behind}
+
+run_last : (axis : Axis) (before first : Point) (us : List Point) → first_touched axis us ≡ None
+    → swept axis before first us ≡ map (interpolated axis before first) us
+run_last axis before first [] none = refl
+run_last axis before first (u ∷ us) none =
+    let parts = none_touched axis u us none in
+    rw (parts.head, parts.rest, run_last axis before first us parts.rest) refl
+
+run_to : (axis : Axis) (before first : Point) (us : List Point) (t : Point) (vs : List Point)
+    → first_touched axis us ≡ None
+    → is_touched axis t ≡ true
+    → swept axis before first (us ++ t ∷ vs) ≡ map (interpolated axis before t) us ++ t ∷ swept axis t first vs
+run_to axis before first [] t vs none here = rw here refl
+run_to axis before first (u ∷ us) t vs none here =
+    let parts = none_touched axis u us none in
+    let next : first_touched axis (us ++ t ∷ vs) ≡ Some t = rw (first_behind axis us (t ∷ vs) parts.rest, here) refl in
+    rw (parts.head, next, run_to axis before first us t vs parts.rest here) refl
+
+-- a list at one of its points
+at_point : (ps : List Point) (n : ℕ) (d : Point) → n < length ps → take n ps ++ get_or ps n d ∷ drop (n + 1) ps ≡ ps
+at_point ps n d inside = rw (← drop_more ps n d inside) (take-append-drop n ps)
+
+one_past : (part : List Point) (t : Point) (vs : List Point)
+    → take (suc (length part)) (part ++ t ∷ vs) ≡ part ++ t ∷ []
+one_past [] t vs = refl
+one_past (p ∷ part) t vs = rw (one_past part t vs) refl
+
+behind_it : (part : List Point) (t : Point) (vs : List Point) → drop (suc (length part)) (part ++ t ∷ vs) ≡ vs
+behind_it [] t vs = refl
+behind_it (p ∷ part) t vs = behind_it part t vs
+
+past_at : (m : ℕ) (part : List Point) (t : Point) (vs : List Point) → m ≡ suc (length part)
+    → (take m (part ++ t ∷ vs) ≡ part ++ t ∷ []) × (drop m (part ++ t ∷ vs) ≡ vs)
+past_at m part t vs e = (rw e (one_past part t vs), rw e (behind_it part t vs))
+
+pub run_ends : (axis : Axis) (before first : Point) (old new : List Point) (n : ℕ) → 0 < length old → n ≡ length old
+    → first_touched axis (take n old) ≡ None → limited axis (map (interpolated axis before first) old) ≡ Ok new
+    → IsPoint before → IsRun axis before first old new (record { len = n; last = before })
+run_ends axis before first old new n some long none made sound =
+    let f = interpolated axis before first in
+    let is : map f old ≡ new = whole_ok axis (map f old) new made in
+    let whole = take_all n old (omega arith) in
+    let untouched : first_touched axis old ≡ None = rw whole at none in
+    let same : length new ≡ length old = rw (← is) (length-map old f) in
+    let all = take_all n new (omega arith) in
+    let past = drop_all n old (omega arith) in
+    let gone = drop_all n new (omega arith) in
+    record {
+      more = omega arith;
+      bound = omega arith;
+      so_far = rw (all, past, append-nil new, run_last axis before first old untouched) (sym is);
+      rest = rw (past, gone) refl;
+      last = sound;
+    }
+
+pub run_ends_outside : (axis : Axis) (before first : Point) (old : List Point) (n : ℕ) (fault : Why) → n ≡ length old
+    → first_touched axis (take n old) ≡ None → limited axis (map (interpolated axis before first) old) ≡ Err fault
+    → limited axis (swept axis before first old) ≡ Err fault
+run_ends_outside axis before first old n fault long none bad =
+    let whole = take_all n old (omega arith) in
+    let untouched : first_touched axis old ≡ None = rw whole at none in
+    rw (run_last axis before first old untouched) bad
+
+-- what is swept up to a touched point
+to_point : (axis : Axis) (before first : Point) (old : List Point) (n : ℕ) (d : Point) → n < length old
+    → first_touched axis (take n old) ≡ None → is_touched axis (get_or old n d) ≡ true
+    → swept axis before first old ≡ map (interpolated axis before (get_or old n d)) (take n old)
+    ++ get_or old n d ∷ swept axis (get_or old n d) first (drop (n + 1) old)
+to_point axis before first old n d inside none here =
+    let run = run_to axis before first (take n old) (get_or old n d) (drop (n + 1) old) none here in
+    rw (at_point old n d inside) at run
+
+pub run_goes : (axis : Axis) (before first : Point) (old part : List Point) (n : ℕ) (d : Point) → n < length old
+    → first_touched axis (take n old) ≡ None → is_touched axis (get_or old n d) ≡ true
+    → limited axis (map (interpolated axis before (get_or old n d)) (take n old)) ≡ Ok part → IsPoint (get_or old n d)
+    → IsRun axis before first old (part ++ drop n old) (record { len = n + 1; last = get_or old n d })
+run_goes axis before first old part n d inside none here made sound =
+    let t = get_or old n d in
+    let f = interpolated axis before t in
+    let is : map f (take n old) ≡ part = whole_ok axis (map f (take n old)) part made in
+    let long : length part ≡ n = rw (← is, length-map (take n old) f) (omega (arith, length-take n old)) in
+    let next : n + 1 ≡ suc (length part) = omega arith in
+    let vs = drop (n + 1) old in
+    let split : part ++ drop n old ≡ part ++ t ∷ vs = ap (λ (l : List Point). part ++ l) (drop_more old n d inside) in
+    let past = past_at (n + 1) part t vs next in
+    let run = to_point axis before first old n d inside none here in
+    let made_so = append_assoc part (t ∷ []) (swept axis t first (drop (n + 1) old)) in
+    record {
+      more = omega arith;
+      bound = omega arith;
+      so_far = rw (split, past.0, run, is) made_so;
+      rest = rw split (past.1);
+      last = sound;
+    }
+
+pub run_goes_outside : (axis : Axis) (before first : Point) (old : List Point) (n : ℕ) (d : Point) (fault : Why)
+    → n < length old → first_touched axis (take n old) ≡ None → is_touched axis (get_or old n d) ≡ true
+    → limited axis (map (interpolated axis before (get_or old n d)) (take n old)) ≡ Err fault
+    → limited axis (swept axis before first old) ≡ Err fault
+run_goes_outside axis before first old n d fault inside none here bad =
+    rw (to_point axis before first old n d inside none here) (limited_before axis
+    (map (interpolated axis before (get_or old n d)) (take n old))
+    (get_or old n d ∷ swept axis (get_or old n d) first (drop (n + 1) old)) fault bad)

@@ -1,0 +1,8 @@
+use Rattle.std.proofs.Common.{◌∙◌, sym}
+use Rattle.tt_points_iup.proofs.Touches.{none_more}
+use Rattle.tt_points_iup.proofs.search.untouched.Goals as goal
+
+pub loop-i-preserved : goal.loop-i-preserved
+loop-i-preserved c =
+    none_more c.args.axis c.args.points.now c.loop-i.i _ c.loop-i-test.true c.loop-i.invariant
+    (sym c.read.ensures ∙ c.if-read.false)

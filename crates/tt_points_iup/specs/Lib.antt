@@ -1,0 +1,4 @@
+pub mod Interpolation
+pub mod Places
+pub mod Sweeps
+pub mod Neighbours

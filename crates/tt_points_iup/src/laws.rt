@@ -1,0 +1,25 @@
+//! What the interpolation of a contour comes to, told of single points by their numbers.
+
+ghost use Rattle.std.specs.Prelude.{◌≡◌, ℕ, ◌<◌, true, false, List, length, get_or};
+ghost use Rattle.tt_state.specs.declared.graphics_state.Axis.{Axis};
+ghost use Rattle.tt_state.specs.declared.point.Point.{Point};
+ghost use Rattle.tt_points_zones.specs.Points.{is_touched};
+ghost use Rattle.tt_points_iup.specs.Interpolation as is;
+ghost use Rattle.tt_points_iup.specs.Neighbours.{round_from, IsNextTouched, IsLastTouched};
+
+/// Takes nothing and gives nothing: its clauses hold of all contours.
+pub fn point_by_point()
+    ensures many { (axis : Axis) (ps : List Point) → length (is.contour axis ps) ≡ length ps }
+    // A touched point stays.
+    ensures touched { (axis : Axis) (ps : List Point) (d : Point) (i : ℕ) → i < length ps
+        → is_touched axis (get_or ps i d) ≡ true → get_or (is.contour axis ps) i d ≡ get_or ps i d }
+    // An untouched point goes by the nearest touched ones before it and behind it, round the contour, as they were.
+    ensures between { (axis : Axis) (ps : List Point) (d : Point) (i before after : ℕ) → i < length ps
+        → is_touched axis (get_or ps i d) ≡ false → IsLastTouched axis ps d i before → IsNextTouched axis ps d i after
+        → get_or (is.contour axis ps) i d
+        ≡ is.interpolated axis (get_or ps (round_from (length ps) i before) d)
+        (get_or ps (round_from (length ps) i after) d) (get_or ps i d) }
+    // Without a touched point nothing moves.
+    ensures alone { (axis : Axis) (ps : List Point) (d : Point)
+        → ((i : ℕ) → i < length ps → is_touched axis (get_or ps i d) ≡ false) → is.contour axis ps ≡ ps }
+{}
