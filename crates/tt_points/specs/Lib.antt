@@ -1,1 +1,5 @@
-pub mod Zones
+pub mod Distances
+pub mod Measuring
+pub mod Moving
+pub mod Twilight
+pub mod ControlValues

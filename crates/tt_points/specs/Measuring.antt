@@ -1,0 +1,80 @@
+-- Apple TrueType Reference Manual, "Instruction Set" (GC, SCFS, MD, UTP): coordinates read and set, and a touch undone.
+-- Coordinates are in 26.6 pixels.
+use Rattle.std.specs.Prelude.{◌≡◌, ℕ, ℤ, pos, ◌-ℤ◌, true, false, if◌then◌else◌, [], ◌∷◌, Result, Ok, Err, refl}
+use Rattle.tt_core.specs.Outcomes.{◌>>=◌}
+use Rattle.tt_core.specs.declared.fault.Why.{Why}
+use Rattle.tt_core.specs.declared.fault.Why.TheVariants as why
+use Rattle.tt_state.specs.declared.graphics_state.Axis.{Axis}
+use Rattle.tt_state.specs.declared.graphics_state.Axis.TheVariants as axis
+use Rattle.tt_state.specs.declared.graphics_state.Zone.TheVariants as zone
+use Rattle.tt_state.specs.declared.graphics_state.GraphicsState.{GraphicsState}
+use Rattle.tt_state.specs.declared.point.Point.{Point}
+use Rattle.tt_state.specs.GraphicsState.{default_state}
+use Rattle.tt_points_zones.specs.Zones.{ZoneLists}
+use Rattle.tt_points_zones.specs.Points.{cur, org, direction, moved, point_in, with_point}
+use Rattle.tt_points.specs.Distances.{has_bit}
+use Rattle.tt_points.specs.Twilight.{settled_in, origin}
+
+-- along the projection vector: the current coordinate, or the original one
+unfoldable pub gc : ℕ → ℤ → ZoneLists → GraphicsState → Result ℤ Why
+gc op p z g = point_in g.zp2 p z >>= λ q. Ok (if has_bit op 1 then org g.proj q else cur g.proj q)
+
+-- from p1 to p2: the distance between their current places, or between their original ones, which are those of 0x4A
+-- (profile)
+unfoldable pub md : ℕ → ℤ → ℤ → ZoneLists → GraphicsState → Result ℤ Why
+md op p2 p1 z g = point_in g.zp1 p1 z >>= λ a. point_in g.zp0 p2 z >>= λ b.
+    Ok (if has_bit op 1 then cur g.proj b -ℤ cur g.proj a else org g.proj b -ℤ org g.proj a)
+
+-- moved to a coordinate
+unfoldable pub scfs : ℤ → ℤ → ZoneLists → GraphicsState → Result ZoneLists Why
+scfs p v z g = point_in g.zp2 p z >>= λ q. direction g >>= λ axis. moved axis (v -ℤ cur axis q) q >>= λ m.
+    Ok (with_point g.zp2 p (settled_in g.zp2 m) z)
+
+abbrev pub untouched : Axis → Point → Point
+untouched axis.X p = record p { touched_x = false }
+untouched axis.Y p = record p { touched_y = false }
+
+-- along the freedom vector
+unfoldable pub utp : ℤ → ZoneLists → GraphicsState → Result ZoneLists Why
+utp p z g = point_in g.zp0 p z >>= λ q. Ok (with_point g.zp0 p (untouched g.free q) z)
+
+-- worked values: a point moved from 0 to 10 along x, and one from 100 to 210
+abbrev from_to : ℤ → ℤ → Point
+from_to org x = record origin { org_x = org; x = x; touched_x = true; touched_y = true }
+
+abbrev two_points : ZoneLists
+two_points = record {
+  twilight = from_to (pos 0) (pos 10) ∷ [];
+  glyph = from_to (pos 0) (pos 10) ∷ from_to (pos 100) (pos 210) ∷ [];
+  contours = [];
+}
+
+its_coordinate : gc 0x46 (pos 1) two_points default_state ≡ Ok (pos 210)
+unfolding gc
+its_coordinate = refl
+
+its_original_coordinate : gc 0x47 (pos 1) two_points default_state ≡ Ok (pos 100)
+unfolding gc
+its_original_coordinate = refl
+
+now_apart : md 0x49 (pos 1) (pos 0) two_points default_state ≡ Ok (pos 200)
+unfolding md
+now_apart = refl
+
+once_apart : md 0x4A (pos 1) (pos 0) two_points default_state ≡ Ok (pos 100)
+unfolding md
+once_apart = refl
+
+no_twilight_point : gc 0x46 (pos 1) two_points (record default_state { zp2 = zone.Twilight }) ≡ Err why.PointRange
+unfolding gc
+no_twilight_point = refl
+
+settled_there : scfs (pos 0) (pos 30) two_points (record default_state { zp2 = zone.Twilight })
+    ≡ Ok (record two_points { twilight = from_to (pos 30) (pos 30) ∷ [] })
+unfolding scfs
+settled_there = refl
+
+untouched_along_y : utp (pos 0) two_points (record default_state { zp0 = zone.Twilight; free = axis.Y })
+    ≡ Ok (record two_points { twilight = record (from_to (pos 0) (pos 10)) { touched_y = false } ∷ [] })
+unfolding utp
+untouched_along_y = refl

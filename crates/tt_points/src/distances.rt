@@ -1,0 +1,139 @@
+//! What becomes of a distance that an instruction keeps. Apple TrueType Reference Manual, "Graphics State" (round
+//! state, minimum distance, single width, auto flip, control value cut-in). Distances are in 26.6 pixels.
+
+ghost use Rattle.std.specs.Prelude.{◌≡◌, ◌<◌, ◌≤◌, ◌^◌, pos, ◌≤ℤ◌, unsigned_abs};
+ghost use Rattle.tt_points.specs.Distances as is;
+
+use tt_state::GraphicsState;
+
+/// A distance in 26.6 pixels.
+#[derive(Clone, Copy)]
+pub(crate) struct Distance(pub(crate) i64);
+
+impl Distance {
+    pub(crate) fn new(d: i32) -> Distance
+        ensures exact { result.0 ≡ d }
+        ensures bound { unsigned_abs result.0 < 2 ^ 32 }
+    {
+        Distance(i64::from(d))
+    }
+}
+
+/// An opcode that has the bit of this value.
+pub(crate) fn has_bit(op: u8, bit: u8) -> bool
+    requires { 0 < bit }
+    ensures { result ≡ is.has_bit op bit }
+{
+    op / bit % 2 == 1
+}
+
+fn magnitude(d: i64) -> i64
+    requires { unsigned_abs d < 2 ^ 33 }
+    ensures exact { result ≡ is.magnitude d }
+    ensures bound { unsigned_abs result ≤ unsigned_abs d }
+{
+    d.abs()
+}
+
+/// A magnitude with the sign of a distance, 0 being positive.
+fn signed(d: i64, m: i64) -> i64
+    requires { unsigned_abs m < 2 ^ 33 }
+    ensures exact { result ≡ is.signed d m }
+    ensures bound { unsigned_abs result ≤ unsigned_abs m }
+{
+    if d < 0 { -m } else { m }
+}
+
+/// How far two numbers lie from one another.
+fn apart(a: i64, b: i64) -> i64
+    requires a { unsigned_abs a < 2 ^ 32 }
+    requires b { unsigned_abs b < 2 ^ 32 }
+    ensures { result ≡ is.apart a b }
+{
+    magnitude(a - b)
+}
+
+/// A distance that is near the single width becomes it.
+#[tactic(auto, unfolding(crate::specs::Distances::single_width))]
+pub(crate) fn single_width(state: &GraphicsState, d: i64) -> i64
+    requires { unsigned_abs d < 2 ^ 32 }
+    ensures exact { result ≡ is.single_width state.now d }
+    ensures bound { unsigned_abs result < 2 ^ 32 }
+{
+    let width = magnitude(i64::from(state.single_width));
+    if apart(magnitude(d), width) < i64::from(state.single_cut_in) {
+        signed(d, width)
+    } else {
+        d
+    }
+}
+
+/// The distance `e` made at least the minimum, on the side where the distance `d` is.
+fn at_least_minimum(state: &GraphicsState, d: i64, e: i64) -> i64
+    requires { unsigned_abs e < 2 ^ 33 }
+    ensures exact { result ≡ is.at_least_minimum state.now d e }
+    ensures bound { unsigned_abs result < 2 ^ 33 }
+{
+    let min = i64::from(state.min_distance);
+    if d < 0 { e.min(-min) } else { e.max(min) }
+}
+
+/// A distance rounded where the opcode has bit 4.
+pub(crate) fn rounded_by(op: u8, state: &GraphicsState, e: i64) -> i64
+    requires { unsigned_abs e < 2 ^ 32 }
+    ensures exact { result ≡ is.rounded_by op state.now e }
+    ensures bound { unsigned_abs result < 2 ^ 33 }
+{
+    if has_bit(op, 4) {
+        state.round.round(e)
+    } else {
+        e
+    }
+}
+
+/// A distance made at least the minimum where the opcode has bit 8.
+pub(crate) fn spaced_by(op: u8, state: &GraphicsState, d: i64, e: i64) -> i64
+    requires { unsigned_abs e < 2 ^ 33 }
+    ensures exact { result ≡ is.spaced_by op state.now d e }
+    ensures bound { unsigned_abs result < 2 ^ 33 }
+{
+    if has_bit(op, 8) {
+        at_least_minimum(state, d, e)
+    } else {
+        e
+    }
+}
+
+/// Two distances of different signs.
+fn is_opposite(d: i64, c: i64) -> bool
+    ensures { result ≡ is.is_opposite d c }
+{
+    (d < 0 && c > 0) || (d > 0 && c < 0)
+}
+
+/// Auto flip: a control value gets the sign of the distance that was measured.
+pub(crate) fn flipped(state: &GraphicsState, d: i64, c: i64) -> i64
+    requires { unsigned_abs c < 2 ^ 32 }
+    ensures exact { result ≡ is.flipped state.now d c }
+    ensures bound { unsigned_abs result < 2 ^ 32 }
+{
+    if state.auto_flip && is_opposite(d, c) {
+        -c
+    } else {
+        c
+    }
+}
+
+/// The control value, or what was measured where that is further away than the cut-in.
+pub(crate) fn cut_in(state: &GraphicsState, d: i64, c: i64) -> i64
+    requires d { unsigned_abs d < 2 ^ 32 }
+    requires c { unsigned_abs c < 2 ^ 32 }
+    ensures exact { result ≡ is.cut_in state.now d c }
+    ensures bound { unsigned_abs result < 2 ^ 32 }
+{
+    if apart(c, d) > i64::from(state.cut_in) {
+        d
+    } else {
+        c
+    }
+}

@@ -1,0 +1,117 @@
+//! Coordinates read and set, and a touch undone. Apple TrueType Reference Manual, "Instruction Set". Coordinates are in
+//! 26.6 pixels.
+
+ghost use Rattle.std.specs.Prelude.{◌≡◌, ◌-ℤ◌, ◌<◌, ◌≤◌, ◌^◌, unsigned_abs};
+ghost use Rattle.tt_core.specs.Limits.{coordinate_limit};
+ghost use Rattle.tt_core.specs.Outcomes.{Gives};
+ghost use Rattle.tt_points_zones.specs.Points as point;
+ghost use Rattle.tt_points_zones.specs.Zones.{IsPoint, IsZones, zones_view};
+ghost use Rattle.tt_points.specs.Measuring as is;
+
+use crate::distances::has_bit;
+use crate::twilight::settled_in;
+use tt_core::Why;
+use tt_points_zones::{Zones, cur, direction, moved, org};
+use tt_state::{Axis, GraphicsState, Point};
+
+/// GC[a], 0x46 and 0x47: p -> the current coordinate, the original one, of point p of zone pointer 2. Error:
+/// PointRange.
+#[tactic(auto, unfolding(crate::specs::Measuring::gc))]
+pub fn gc(zones: &Zones, state: &GraphicsState, op: u8, p: i32) -> Result<i32, Why>
+    requires { IsZones (zones_view zones.now) }
+    ensures { Gives (λ c. c) result (is.gc op p (zones_view zones.now) state.now) }
+{
+    let q = zones.point(state.zp2, p)?;
+    if has_bit(op, 1) {
+        Ok(org(q, state.proj))
+    } else {
+        Ok(cur(q, state.proj))
+    }
+}
+
+fn current_distance(b: Point, a: Point, axis: Axis) -> i32
+    requires b { IsPoint b }
+    requires a { IsPoint a }
+    ensures exact { result ≡ point.cur axis b -ℤ point.cur axis a }
+    ensures bound { unsigned_abs result ≤ 2 ^ 22 }
+{
+    cur(b, axis) - cur(a, axis)
+}
+
+fn original_distance(b: Point, a: Point, axis: Axis) -> i32
+    requires b { IsPoint b }
+    requires a { IsPoint a }
+    ensures exact { result ≡ point.org axis b -ℤ point.org axis a }
+    ensures bound { unsigned_abs result ≤ 2 ^ 22 }
+{
+    org(b, axis) - org(a, axis)
+}
+
+/// MD[a], 0x49 and 0x4A: p2, p1 -> the distance from point p1 of zone pointer 1 to point p2 of zone pointer 0, between
+/// their current places, between their original ones (profile). Error: PointRange.
+#[tactic(auto, unfolding(crate::specs::Measuring::md))]
+pub fn md(zones: &Zones, state: &GraphicsState, op: u8, p2: i32, p1: i32) -> Result<i32, Why>
+    requires { IsZones (zones_view zones.now) }
+    ensures { Gives (λ d. d) result (is.md op p2 p1 (zones_view zones.now) state.now) }
+{
+    let a = zones.point(state.zp1, p1)?;
+    let b = zones.point(state.zp0, p2)?;
+    if has_bit(op, 1) {
+        Ok(current_distance(b, a, state.proj))
+    } else {
+        Ok(original_distance(b, a, state.proj))
+    }
+}
+
+/// How far a point is from a coordinate.
+fn short_of(v: i32, q: Point, axis: Axis) -> i64
+    requires { IsPoint q }
+    ensures exact { result ≡ v -ℤ point.cur axis q }
+    ensures bound { unsigned_abs result < 2 ^ 33 }
+{
+    i64::from(v) - i64::from(cur(q, axis))
+}
+
+/// SCFS[], 0x48: p, v -> point p of zone pointer 2 moved to the coordinate v. In the twilight zone it is as if it had
+/// always been there (profile). Errors: PointRange, Perpendicular, ValueRange.
+#[tactic(auto, unfolding(crate::specs::Measuring::scfs))]
+pub fn scfs(zones: &mut Zones, state: &GraphicsState, p: i32, v: i32) -> Result<(), Why>
+    requires { IsZones (zones_view zones.old) }
+    ensures exact { Gives (λ u. zones_view zones.new) result (is.scfs p v (zones_view zones.old) state.now) }
+    ensures zones { IsZones (zones_view zones.new) }
+{
+    let q = zones.point(state.zp2, p)?;
+    let axis = direction(state)?;
+    let m = moved(q, axis, short_of(v, q, axis))?;
+    zones.set(state.zp2, p, settled_in(state.zp2, m));
+    Ok(())
+}
+
+fn untouched(p: Point, axis: Axis) -> Point
+    requires { IsPoint p }
+    ensures exact { result ≡ is.untouched axis p }
+    ensures sound { IsPoint result }
+{
+    match axis {
+        Axis::X => Point {
+            touched_x: false,
+            ..p
+        },
+        Axis::Y => Point {
+            touched_y: false,
+            ..p
+        },
+    }
+}
+
+/// UTP[], 0x29: p -> point p of zone pointer 0 is untouched along the freedom vector. Error: PointRange.
+#[tactic(auto, unfolding(crate::specs::Measuring::utp))]
+pub fn utp(zones: &mut Zones, state: &GraphicsState, p: i32) -> Result<(), Why>
+    requires { IsZones (zones_view zones.old) }
+    ensures exact { Gives (λ u. zones_view zones.new) result (is.utp p (zones_view zones.old) state.now) }
+    ensures zones { IsZones (zones_view zones.new) }
+{
+    let q = zones.point(state.zp0, p)?;
+    zones.set(state.zp0, p, untouched(q, state.free));
+    Ok(())
+}

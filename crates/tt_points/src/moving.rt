@@ -1,0 +1,205 @@
+//! Points moved along the projection vector, without a control value. Apple TrueType Reference Manual, "Instruction
+//! Set". Coordinates are in 26.6 pixels.
+
+ghost use Rattle.std.specs.Prelude.{◌≡◌, ◌-ℤ◌, ◌<◌, ◌≤◌, ◌^◌, unsigned_abs, IfOk};
+ghost use Rattle.tt_core.specs.Outcomes.{Gives};
+ghost use Rattle.tt_state.specs.GraphicsState.{IsGraphicsState};
+ghost use Rattle.tt_state.specs.Rounding.{rounded};
+ghost use Rattle.tt_points_zones.specs.Points as point;
+ghost use Rattle.tt_points_zones.specs.Zones.{IsPoint, IsZones, zones_view};
+ghost use Rattle.tt_points.specs.Moving as is;
+
+use crate::distances::{Distance, has_bit, rounded_by, single_width, spaced_by};
+use crate::twilight::make;
+use tt_core::Why;
+use tt_points_zones::{Zones, cur, direction, moved, org};
+use tt_state::{Axis, GraphicsState, Point};
+
+/// The original distance of a point from another.
+#[tactic(auto, unfolding(crate::specs::Moving::original_distance))]
+pub(crate) fn original_distance(q: Point, r: Point, axis: Axis) -> Distance
+    requires q { IsPoint q }
+    requires r { IsPoint r }
+    ensures exact { result.0 ≡ is.original_distance axis q r }
+    ensures bound { unsigned_abs result.0 < 2 ^ 23 }
+{
+    Distance(i64::from(org(q, axis)) - i64::from(org(r, axis)))
+}
+
+fn current_distance(q: Point, r: Point, axis: Axis) -> i64
+    requires q { IsPoint q }
+    requires r { IsPoint r }
+    ensures exact { result ≡ point.cur axis q -ℤ point.cur axis r }
+    ensures bound { unsigned_abs result < 2 ^ 23 }
+{
+    i64::from(cur(q, axis)) - i64::from(cur(r, axis))
+}
+
+/// How much the distance of a point from another is short of `d`.
+fn short_of(d: Distance, q: Point, r: Point, axis: Axis) -> i64
+    requires q { IsPoint q }
+    requires r { IsPoint r }
+    requires small { unsigned_abs d.0 < 2 ^ 33 }
+    ensures exact { result ≡ d.0 -ℤ (point.cur axis q -ℤ point.cur axis r) }
+    ensures bound { unsigned_abs result < 2 ^ 34 }
+{
+    d.0 - current_distance(q, r, axis)
+}
+
+/// A point moved so that its distance from another is `d`. Error: ValueRange.
+#[tactic(auto, unfolding(crate::specs::Moving::kept))]
+pub(crate) fn kept(q: Point, axis: Axis, d: Distance, r: Point) -> Result<Point, Why>
+    requires q { IsPoint q }
+    requires r { IsPoint r }
+    requires small { unsigned_abs d.0 < 2 ^ 33 }
+    ensures exact { Gives (λ p. p) result (is.kept axis d.0 q r) }
+    ensures sound { IfOk result IsPoint }
+{
+    moved(q, axis, short_of(d, q, r, axis))
+}
+
+/// The reference points behind a move that kept a distance.
+pub(crate) fn refer(state: &mut GraphicsState, rp0: bool, p: i32)
+    requires { IsGraphicsState state.old }
+    ensures exact { state.new ≡ is.referred rp0 p state.old }
+    ensures state { IsGraphicsState state.new }
+{
+    state.rp1 = state.rp0;
+    state.rp2 = p;
+    if rp0 {
+        state.rp0 = p;
+    }
+}
+
+/// How far a coordinate is from where it is rounded to.
+fn to_rounded(state: &GraphicsState, at: Distance) -> i64
+    requires { unsigned_abs at.0 < 2 ^ 22 }
+    ensures exact { result ≡ rounded state.now.round at.0 -ℤ at.0 }
+    ensures bound { unsigned_abs result < 2 ^ 33 }
+{
+    state.round.round(at.0) - at.0
+}
+
+/// How far a point is moved that is touched where it is, or rounded, which bit 1 of the opcode says.
+#[tactic(auto, unfolding(crate::specs::Moving::mdap_distance))]
+fn mdap_distance(op: u8, state: &GraphicsState, q: Point, axis: Axis) -> i64
+    requires { IsPoint q }
+    ensures exact { result ≡ is.mdap_distance op state.now (point.cur axis q) }
+    ensures bound { unsigned_abs result < 2 ^ 33 }
+{
+    if has_bit(op, 1) {
+        to_rounded(state, Distance(i64::from(cur(q, axis))))
+    } else {
+        0
+    }
+}
+
+/// MDAP[r], 0x2E and 0x2F: p -> point p of zone pointer 0 is touched where it is, rounded. It becomes reference points 0
+/// and 1. Errors: PointRange, Perpendicular, ValueRange.
+#[tactic(auto, unfolding(crate::specs::Moving::mdap))]
+pub fn mdap(zones: &mut Zones, state: &mut GraphicsState, op: u8, p: i32) -> Result<(), Why>
+    requires zones { IsZones (zones_view zones.old) }
+    requires state { IsGraphicsState state.old }
+    ensures exact { Gives (λ u. (zones_view zones.new, state.new)) result
+        (is.mdap op p (zones_view zones.old) state.old) }
+    ensures zones { IsZones (zones_view zones.new) }
+    ensures state { IsGraphicsState state.new }
+{
+    let q = zones.point(state.zp0, p)?;
+    let axis = direction(state)?;
+    let q = moved(q, axis, mdap_distance(op, state, q, axis))?;
+    zones.set(state.zp0, p, q);
+    state.rp0 = p;
+    state.rp1 = p;
+    Ok(())
+}
+
+/// Point `p` of zone pointer 1 moved to the distance `d` from reference point 0. Errors: PointRange, ValueRange.
+#[tactic(auto, unfolding(crate::specs::Moving::kept_from))]
+fn keep_from(
+    zones: &mut Zones,
+    state: &GraphicsState,
+    p: i32,
+    axis: Axis,
+    d: Distance,
+) -> Result<(), Why>
+    requires zones { IsZones (zones_view zones.old) }
+    requires small { unsigned_abs d.0 < 2 ^ 33 }
+    ensures exact { Gives (λ u. zones_view zones.new) result
+        (is.kept_from axis p d.0 (zones_view zones.old) state.now) }
+    ensures zones { IsZones (zones_view zones.new) }
+{
+    let q = zones.point(state.zp1, p)?;
+    let r = zones.point(state.zp0, state.rp0)?;
+    zones.set(state.zp1, p, kept(q, axis, d, r)?);
+    Ok(())
+}
+
+/// MSIRP[a], 0x3A and 0x3B: p, d -> point p of zone pointer 1 is moved to the distance d from reference point 0, of
+/// zone pointer 0; a twilight point is placed there first (profile). Reference point 1 becomes reference point 0, and p
+/// reference point 2; 0x3B makes it reference point 0. Errors: PointRange, Perpendicular, ValueRange.
+#[tactic(auto, unfolding(crate::specs::Moving::msirp))]
+pub fn msirp(
+    zones: &mut Zones,
+    state: &mut GraphicsState,
+    op: u8,
+    p: i32,
+    d: i32,
+) -> Result<(), Why>
+    requires zones { IsZones (zones_view zones.old) }
+    requires state { IsGraphicsState state.old }
+    ensures exact { Gives (λ u. (zones_view zones.new, state.new)) result
+        (is.msirp op p d (zones_view zones.old) state.old) }
+    ensures zones { IsZones (zones_view zones.new) }
+    ensures state { IsGraphicsState state.new }
+{
+    zones.point(state.zp1, p)?;
+    let r = zones.point(state.zp0, state.rp0)?;
+    let axis = direction(state)?;
+    let d = Distance::new(d);
+    make(zones, state.zp1, p, axis, d, r)?;
+    keep_from(zones, state, p, axis, d)?;
+    refer(state, has_bit(op, 1), p);
+    Ok(())
+}
+
+/// What MDRP keeps of an original distance, behind the single width.
+fn mdrp_kept(op: u8, state: &GraphicsState, d: i64) -> i64
+    requires { unsigned_abs d < 2 ^ 32 }
+    ensures exact { result ≡ is.mdrp_kept op state.now d }
+    ensures bound { unsigned_abs result < 2 ^ 33 }
+{
+    spaced_by(op, state, d, rounded_by(op, state, d))
+}
+
+/// What MDRP keeps of an original distance.
+#[tactic(auto, unfolding(crate::specs::Moving::mdrp_distance))]
+fn mdrp_distance(op: u8, state: &GraphicsState, d: Distance) -> Distance
+    requires { unsigned_abs d.0 < 2 ^ 23 }
+    ensures exact { result.0 ≡ is.mdrp_distance op state.now d.0 }
+    ensures bound { unsigned_abs result.0 < 2 ^ 33 }
+{
+    Distance(mdrp_kept(op, state, single_width(state, d.0)))
+}
+
+/// MDRP[abcde], 0xC0 to 0xDF: p -> point p of zone pointer 1 is moved to its original distance from reference point 0,
+/// of zone pointer 0; bit 4 of the opcode rounds it, bit 8 keeps the minimum distance. Reference point 1 becomes
+/// reference point 0, and p reference point 2; bit 16 makes it reference point 0. Errors: PointRange, Perpendicular,
+/// ValueRange.
+#[tactic(auto, unfolding(crate::specs::Moving::mdrp))]
+pub fn mdrp(zones: &mut Zones, state: &mut GraphicsState, op: u8, p: i32) -> Result<(), Why>
+    requires zones { IsZones (zones_view zones.old) }
+    requires state { IsGraphicsState state.old }
+    ensures exact { Gives (λ u. (zones_view zones.new, state.new)) result
+        (is.mdrp op p (zones_view zones.old) state.old) }
+    ensures zones { IsZones (zones_view zones.new) }
+    ensures state { IsGraphicsState state.new }
+{
+    let q = zones.point(state.zp1, p)?;
+    let r = zones.point(state.zp0, state.rp0)?;
+    let axis = direction(state)?;
+    let d = mdrp_distance(op, state, original_distance(q, r, axis));
+    zones.set(state.zp1, p, kept(q, axis, d, r)?);
+    refer(state, has_bit(op, 16), p);
+    Ok(())
+}

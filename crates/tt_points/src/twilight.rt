@@ -1,0 +1,88 @@
+//! The points of the twilight zone. Apple TrueType Reference Manual, "Instructing TrueType Glyphs" (zones).
+
+ghost use Rattle.std.specs.Prelude.{◌≡◌, ◌<◌, ◌^◌, unsigned_abs, IfOk};
+ghost use Rattle.tt_core.specs.Outcomes.{Gives};
+ghost use Rattle.tt_points_zones.specs.Zones.{IsPoint, IsZones, zones_view};
+ghost use Rattle.tt_points.specs.Twilight as is;
+
+use crate::distances::Distance;
+use tt_core::Why;
+use tt_points_zones::{Zones, shifted};
+use tt_state::{Axis, Point, Zone};
+
+/// The place where a point stands becomes its original one.
+fn settled(p: Point) -> Point
+    requires { IsPoint p }
+    ensures exact { result ≡ is.settled p }
+    ensures sound { IsPoint result }
+{
+    Point {
+        org_x: p.x,
+        org_y: p.y,
+        ..p
+    }
+}
+
+/// The same of a twilight point; a glyph's point stays.
+pub(crate) fn settled_in(zone: Zone, p: Point) -> Point
+    requires { IsPoint p }
+    ensures exact { result ≡ is.settled_in zone p }
+    ensures sound { IsPoint result }
+{
+    match zone {
+        Zone::Twilight => settled(p),
+        Zone::Glyph => p,
+    }
+}
+
+/// A point that stands where another originally stood.
+fn at_original(p: Point, r: Point) -> Point
+    requires p { IsPoint p }
+    requires r { IsPoint r }
+    ensures exact { result ≡ record p { x = r.org_x; y = r.org_y } }
+    ensures sound { IsPoint result }
+{
+    Point {
+        x: r.org_x,
+        y: r.org_y,
+        ..p
+    }
+}
+
+/// A point put where another originally stood, and further by `d`; that is its original place. Error: ValueRange.
+#[tactic(auto, unfolding(crate::specs::Twilight::placed))]
+pub(crate) fn placed(p: Point, axis: Axis, d: Distance, r: Point) -> Result<Point, Why>
+    requires p { IsPoint p }
+    requires r { IsPoint r }
+    requires small { unsigned_abs d.0 < 2 ^ 40 }
+    ensures exact { Gives (λ q. q) result (is.placed axis d.0 r p) }
+    ensures sound { IfOk result IsPoint }
+{
+    Ok(settled(shifted(at_original(p, r), axis, d.0)?))
+}
+
+/// Places a twilight point so, by its number; glyph points stay. Errors: PointRange, ValueRange.
+#[tactic(auto, unfolding(crate::specs::Twilight::made))]
+pub(crate) fn make(
+    zones: &mut Zones,
+    zone: Zone,
+    p: i32,
+    axis: Axis,
+    d: Distance,
+    r: Point,
+) -> Result<(), Why>
+    requires zones { IsZones (zones_view zones.old) }
+    requires r { IsPoint r }
+    requires small { unsigned_abs d.0 < 2 ^ 40 }
+    ensures exact { Gives (λ u. zones_view zones.new) result (is.made zone axis p d.0 r (zones_view zones.old)) }
+    ensures zones { IsZones (zones_view zones.new) }
+{
+    match zone {
+        Zone::Twilight => {
+            let q = zones.point(Zone::Twilight, p)?;
+            zones.set(Zone::Twilight, p, placed(q, axis, d, r)?);
+            Ok(())
+        }
+        Zone::Glyph => Ok(()),
+    }
+}
