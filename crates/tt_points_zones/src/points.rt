@@ -86,7 +86,7 @@ fn touch(p: Point, axis: Axis) -> Point
 /// Where a point stands that goes further by `d`.
 fn further(p: Point, axis: Axis, d: i64) -> i64
     requires point { IsPoint p }
-    requires small { unsigned_abs d < 2 ^ 40 }
+    requires small { unsigned_abs d < 2 ^ 60 }
     ensures { result ≡ is.cur axis p +ℤ d }
 {
     i64::from(cur(p, axis)) + d
@@ -95,7 +95,7 @@ fn further(p: Point, axis: Axis, d: i64) -> i64
 /// The point further by `d` along an axis, as touched as it was. Error: ValueRange past the limit of coordinates.
 pub fn shifted(p: Point, axis: Axis, d: i64) -> Result<Point, Why>
     requires point { IsPoint p }
-    requires small { unsigned_abs d < 2 ^ 40 }
+    requires small { unsigned_abs d < 2 ^ 60 }
     ensures exact { Gives (λ q. q) result (is.shifted axis d p) }
     ensures sound { IfOk result IsPoint }
 {
@@ -109,7 +109,7 @@ pub fn shifted(p: Point, axis: Axis, d: i64) -> Result<Point, Why>
 /// The point moved by `d` along an axis, and touched. Error: ValueRange past the limit of coordinates.
 pub fn moved(p: Point, axis: Axis, d: i64) -> Result<Point, Why>
     requires point { IsPoint p }
-    requires small { unsigned_abs d < 2 ^ 40 }
+    requires small { unsigned_abs d < 2 ^ 60 }
     ensures exact { Gives (λ q. q) result (is.moved axis d p) }
     ensures sound { IfOk result IsPoint }
 {
