@@ -1,0 +1,4 @@
+pub mod Contours
+pub mod Kept
+pub mod Ranges
+pub mod Turns

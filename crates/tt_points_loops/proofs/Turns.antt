@@ -1,0 +1,51 @@
+-- Pairs of a list, and items taken in turn, the last of a list first.
+use Rattle.std.proofs.Common.{◌≡◌, ℕ, zero, suc, ◌+◌, ◌*◌, ◌/◌, ◌<◌, ℤ, pos, List, [], ◌∷◌, length, take, get_or, reverse, Result, Ok, Err, ◌∙◌, sym, refl, arith}
+use Rattle.std.proofs.lemmas.List.{reverse-append, take_more}
+use Rattle.tt_core.specs.Outcomes.{◌>>=◌}
+use Rattle.tt_core.specs.declared.fault.Why.{Why}
+use Rattle.tt_points_zones.specs.Zones.{ZoneLists}
+use Rattle.tt_points_loops.specs.Deltas.{pairs_of}
+use Rattle.tt_points_loops.specs.Series.{one_by_one}
+
+-- what is left to do, with the last of what is left taken first
+taken : {N : Type 0} (step : N → ZoneLists → Result ZoneLists Why) (xs : List N) (i : ℕ) (d : N) (z : ZoneLists)
+    → i < length xs → one_by_one step (reverse (take (i + 1) xs)) z
+    ≡ (step (get_or xs i d) z >>= λ w. one_by_one step (reverse (take i xs)) w)
+taken step xs i d z within =
+    rw (take_more xs i d within, reverse-append (take i xs) (get_or xs i d ∷ [])) refl
+
+-- the same, where the step came through
+pub went_on : {N : Type 0} (step : N → ZoneLists → Result ZoneLists Why) (xs : List N) (left i : ℕ) (d : N)
+    (z w : ZoneLists) (whole : Result ZoneLists Why) → left ≡ i + 1 → i < length xs
+    → one_by_one step (reverse (take left xs)) z ≡ whole → step (get_or xs i d) z ≡ Ok w
+    → one_by_one step (reverse (take i xs)) w ≡ whole
+went_on step xs left i d z w whole next within so_far came =
+    let one : one_by_one step (reverse (take (i + 1) xs)) z ≡ one_by_one step (reverse (take i xs)) w =
+    taken step xs i d z within ∙ rw came refl in
+    sym one ∙ rw next at so_far
+
+-- the same, where it was refused
+pub broke_off : {N : Type 0} (step : N → ZoneLists → Result ZoneLists Why) (xs : List N) (left i : ℕ) (d : N)
+    (z : ZoneLists) (e : Why) (whole : Result ZoneLists Why) → left ≡ i + 1 → i < length xs
+    → one_by_one step (reverse (take left xs)) z ≡ whole → step (get_or xs i d) z ≡ Err e → whole ≡ Err e
+broke_off step xs left i d z e whole next within so_far came =
+    let one : one_by_one step (reverse (take (i + 1) xs)) z ≡ Err e = taken step xs i d z within ∙ rw came refl in
+    sym (rw next at so_far) ∙ one
+
+-- how many pairs there are, and which
+pub pairs_count : (xs : List ℤ) → length (pairs_of xs) ≡ length xs / 2
+pairs_count [] = refl
+pairs_count (a ∷ []) = refl
+pairs_count (a ∷ b ∷ xs) =
+    let rest = pairs_count xs in
+    rw rest (omega arith)
+
+pub pair_at : (xs : List ℤ) (i : ℕ) → 2 * i + 1 < length xs
+    → get_or (pairs_of xs) i (pos 0, pos 0) ≡ (get_or xs (2 * i) (pos 0), get_or xs (2 * i + 1) (pos 0))
+pair_at [] i there = absurd (omega arith)
+pair_at (a ∷ []) i there = absurd (omega arith)
+pair_at (a ∷ b ∷ xs) zero there = refl
+pair_at (a ∷ b ∷ xs) (suc i) there =
+    let even : 2 * suc i ≡ suc (suc (2 * i)) = omega arith in
+    let odd : suc (suc (2 * i)) + 1 ≡ suc (suc (2 * i + 1)) = omega arith in
+    rw even (rw odd (pair_at xs i (omega arith)))

@@ -1,0 +1,13 @@
+use Rattle.std.proofs.Common.{◌≡◌, All}
+use Rattle.tt_points_loops.specs.Series.{each_from_to}
+use Rattle.tt_points_loops.specs.Shifting.{follow_but}
+use Rattle.tt_points_zones.specs.Zones.{IsPoint}
+use Rattle.tt_points_loops.proofs.shifting.follow_all.Given as goal
+
+-- what is left to do, done to what there is, is the whole
+abbrev pub invariant-loop-i : goal.invariant-loop-i
+invariant-loop-i l = record {
+  same : each_from_to l.i l.past (follow_but l.by.but l.by.touch l.state l.by.reference) 0 l.points
+      ≡ each_from_to l.first l.past (follow_but l.by.but l.by.touch l.state l.by.reference) 0 l.fn.points;
+  sound : All IsPoint l.points;
+}

@@ -1,0 +1,65 @@
+-- Apple TrueType Reference Manual, "Instruction set": managing outlines (FLIPPT, FLIPRGON, FLIPRGOFF). They work on the
+-- glyph's points, wherever the zone pointers point (profile).
+use Rattle.std.specs.Prelude.{◌≡◌, ◌+◌, ℤ, pos, negsuc, unsigned_abs, Bool, true, false, not, List, [], ◌∷◌, Result, Ok, Err, refl}
+use Rattle.tt_core.specs.Outcomes.{◌>>=◌}
+use Rattle.tt_core.specs.declared.fault.Why.{Why}
+use Rattle.tt_core.specs.declared.fault.Why.TheVariants as why
+use Rattle.tt_state.specs.GraphicsState.{default_state}
+use Rattle.tt_state.specs.declared.graphics_state.GraphicsState.{GraphicsState}
+use Rattle.tt_state.specs.declared.graphics_state.Zone.TheVariants as zone
+use Rattle.tt_state.specs.declared.point.Point.{Point}
+use Rattle.tt_points_zones.specs.Points.{point_in, with_point}
+use Rattle.tt_points_zones.specs.Zones.{ZoneLists}
+use Rattle.tt_points_loops.specs.Series.{each_from_to, looped}
+
+abbrev pub flipped : Point → Point
+flipped p = record p { on = not p.on }
+
+abbrev pub flip : ℤ → ZoneLists → Result ZoneLists Why
+flip n z = point_in zone.Glyph n z >>= λ p. Ok (with_point zone.Glyph n (flipped p) z)
+
+-- FLIPPT: points on the curve are off it, and the other way
+abbrev pub flippt : List ℤ → ZoneLists → GraphicsState → Result (ZoneLists × GraphicsState) Why
+flippt points z g = looped flip points z g
+
+abbrev pub put_on : Bool → Point → Point
+put_on on p = record p { on = on }
+
+-- the points of a range, on the curve or off it; both its ends are points, in whatever order
+abbrev pub flip_range : Bool → ℤ → ℤ → ZoneLists → Result ZoneLists Why
+flip_range on low high z =
+    point_in zone.Glyph high z >>= λ last. point_in zone.Glyph low z >>= λ first.
+    each_from_to (unsigned_abs low) (unsigned_abs high + 1) (λ i p. Ok (put_on on p)) 0 z.glyph >>= λ ps.
+    Ok (record z { glyph = ps })
+
+abbrev pub fliprgon : ℤ → ℤ → ZoneLists → Result ZoneLists Why
+fliprgon low high z = flip_range true low high z
+
+abbrev pub fliprgoff : ℤ → ℤ → ZoneLists → Result ZoneLists Why
+fliprgoff low high z = flip_range false low high z
+
+-- worked values
+abbrev point : Bool → Point
+point on = record { org_x = pos 0; org_y = pos 0; x = pos 0; y = pos 0; touched_x = false; touched_y = false; on = on }
+
+abbrev glyph : List Point → ZoneLists
+glyph ps = record { twilight = []; glyph = ps; contours = [] }
+
+twice_the_same : flippt (pos 0 ∷ pos 1 ∷ pos 1 ∷ []) (glyph (point true ∷ point true ∷ []))
+    (record default_state { loops = pos 3 }) ≡ Ok (glyph (point false ∷ point true ∷ []), default_state)
+twice_the_same = refl
+
+glyph_points_whatever_zp0 : flippt (pos 0 ∷ []) (glyph (point true ∷ [])) (record default_state { zp0 = zone.Twilight })
+    ≡ Ok (glyph (point false ∷ []), record default_state { zp0 = zone.Twilight })
+glyph_points_whatever_zp0 = refl
+
+both_ends : fliprgon (pos 1) (pos 2) (glyph (point false ∷ point false ∷ point false ∷ point false ∷ []))
+    ≡ Ok (glyph (point false ∷ point true ∷ point true ∷ point false ∷ []))
+both_ends = refl
+
+none_between : fliprgoff (pos 1) (pos 0) (glyph (point true ∷ point true ∷ []))
+    ≡ Ok (glyph (point true ∷ point true ∷ []))
+none_between = refl
+
+no_end : fliprgon (negsuc 0) (pos 0) (glyph (point true ∷ [])) ≡ Err why.PointRange
+no_end = refl

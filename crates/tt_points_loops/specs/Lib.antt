@@ -1,0 +1,5 @@
+pub mod Series
+pub mod Flipping
+pub mod Moving
+pub mod Shifting
+pub mod Deltas

@@ -1,0 +1,28 @@
+-- Apple TrueType Reference Manual, "Graphics State" (loop): an instruction that works on several points, one by one.
+use Rattle.std.specs.Prelude.{ℕ, suc, nat_le, nat_lt, ℤ, pos, ◌&&◌, if◌then◌else◌, List, [], ◌∷◌, reverse, Result, Ok}
+use Rattle.tt_core.specs.Outcomes.{◌>>=◌}
+use Rattle.tt_core.specs.declared.fault.Why.{Why}
+use Rattle.tt_state.specs.declared.graphics_state.GraphicsState.{GraphicsState}
+use Rattle.tt_state.specs.declared.point.Point.{Point}
+use Rattle.tt_points_zones.specs.Zones.{ZoneLists}
+
+-- what is done with each of some items in turn: an earlier one is done where a later one is refused
+abbrev pub one_by_one : {N : Type 0} → (N → ZoneLists → Result ZoneLists Why) → List N → ZoneLists → Result ZoneLists Why
+one_by_one step [] z = Ok z
+one_by_one step (n ∷ ns) z = step n z >>= λ w. one_by_one step ns w
+
+-- the loop variable, set back by each instruction that obeys it
+abbrev pub set_back : GraphicsState → GraphicsState
+set_back g = record g { loops = pos 1 }
+
+-- what is done with each point that is popped; the last of the list is popped first
+abbrev pub looped : (ℤ → ZoneLists → Result ZoneLists Why) → List ℤ → ZoneLists → GraphicsState
+    → Result (ZoneLists × GraphicsState) Why
+looped step points z g = one_by_one step (reverse points) z >>= λ w. Ok (w, set_back g)
+
+-- what is done with each point whose number is at least one and below another; the first of the list has this number
+abbrev pub each_from_to : ℕ → ℕ → (ℕ → Point → Result Point Why) → ℕ → List Point → Result (List Point) Why
+each_from_to low past move i [] = Ok []
+each_from_to low past move i (p ∷ ps) =
+    (if nat_le low i && nat_lt i past then move i p else Ok p) >>= λ q.
+    each_from_to low past move (suc i) ps >>= λ qs. Ok (q ∷ qs)

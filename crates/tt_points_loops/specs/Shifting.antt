@@ -1,0 +1,146 @@
+-- Apple TrueType Reference Manual, "Instruction set": managing outlines (SHP, SHC, SHZ): points follow a reference point.
+-- Distances are in 26.6 pixels.
+use Rattle.std.specs.Prelude.{◌≡◌, ℕ, ◌%◌, ◌-◌, ◌==◌, ℤ, pos, negsuc, ◌-ℤ◌, int_lt, unsigned_abs, slice_get, Bool, true, false, if◌then◌else◌, List, [], ◌∷◌, length, Option, Some, None, Result, Ok, Err, refl}
+use Rattle.std.specs.Option.{ok_or}
+use Rattle.std.specs.Ordering.{int_eq}
+use Rattle.tt_core.specs.Outcomes.{◌>>=◌}
+use Rattle.tt_core.specs.declared.fault.Why.{Why}
+use Rattle.tt_core.specs.declared.fault.Why.TheVariants as why
+use Rattle.tt_state.specs.GraphicsState.{default_state}
+use Rattle.tt_state.specs.declared.graphics_state.Axis.{Axis}
+use Rattle.tt_state.specs.declared.graphics_state.Axis.TheVariants as axis
+use Rattle.tt_state.specs.declared.graphics_state.GraphicsState.{GraphicsState}
+use Rattle.tt_state.specs.declared.graphics_state.Zone.{Zone}
+use Rattle.tt_state.specs.declared.graphics_state.Zone.TheVariants as zone
+use Rattle.tt_state.specs.declared.point.Point.{Point}
+use Rattle.tt_points_zones.specs.Points.{cur, org, shifted, moved, direction, points_in, point_in, with_point}
+use Rattle.tt_points_zones.specs.Zones.{ZoneLists}
+use Rattle.tt_points_loops.specs.Series.{each_from_to, looped}
+
+-- the reference point: rp1 in zp0 by the opcode's last bit, else rp2 in zp1
+abbrev pub reference_zone : ℕ → GraphicsState → Zone
+reference_zone op g = if op % 2 == 0 then g.zp1 else g.zp0
+
+abbrev pub reference_number : ℕ → GraphicsState → ℤ
+reference_number op g = if op % 2 == 0 then g.rp2 else g.rp1
+
+abbrev pub reference : ℕ → GraphicsState → ZoneLists → Result Point Why
+reference op g z = point_in (reference_zone op g) (reference_number op g) z
+
+-- how far a point stands from where it stood
+abbrev pub offset : Axis → Point → ℤ
+offset axis r = cur axis r -ℤ org axis r
+
+-- a point moved as far as a reference point, or only put there, as touched as it was
+abbrev pub moved_as : Axis → Point → Point → Result Point Why
+moved_as axis r p = moved axis (offset axis r) p
+
+abbrev pub shifted_as : Axis → Point → Point → Result Point Why
+shifted_as axis r p = shifted axis (offset axis r) p
+
+abbrev pub follow : Bool → GraphicsState → Point → Point → Result Point Why
+follow touch g r p = direction g >>= λ axis. if touch then moved_as axis r p else shifted_as axis r p
+
+-- SHP: points of zp2 are moved as far as the reference point stood from its place before the first of them was moved
+abbrev pub shift : GraphicsState → Result Point Why → ℤ → ZoneLists → Result ZoneLists Why
+shift g before n z =
+    point_in g.zp2 n z >>= λ p. before >>= λ r. follow true g r p >>= λ q. Ok (with_point g.zp2 n q z)
+
+abbrev pub shp : ℕ → List ℤ → ZoneLists → GraphicsState → Result (ZoneLists × GraphicsState) Why
+shp op points z g = looped (shift g (reference op g z)) points z g
+
+-- the number of the reference point, where it is a point of this zone
+abbrev pub number_in : Zone → Zone → ℤ → Option ℕ
+number_in zone.Twilight zone.Twilight n = Some (unsigned_abs n)
+number_in zone.Glyph zone.Glyph n = Some (unsigned_abs n)
+number_in zone.Twilight zone.Glyph n = None
+number_in zone.Glyph zone.Twilight n = None
+
+abbrev pub is_but : Option ℕ → ℕ → Bool
+is_but None i = false
+is_but (Some n) i = n == i
+
+-- a point that follows the reference point, unless it is that point
+abbrev pub follow_but : Option ℕ → Bool → GraphicsState → Point → ℕ → Point → Result Point Why
+follow_but but touch g r i p = if is_but but i then Ok p else follow touch g r p
+
+abbrev pub with_points : Zone → List Point → ZoneLists → ZoneLists
+with_points zone.Twilight ps z = record z { twilight = ps }
+with_points zone.Glyph ps z = record z { glyph = ps }
+
+-- what is done with each point of a range of a zone
+abbrev pub follow_in : Zone → ℕ → ℕ → (ℕ → Point → Result Point Why) → ZoneLists → Result ZoneLists Why
+follow_in zone first past move z =
+    each_from_to first past move 0 (points_in zone z) >>= λ ps. Ok (with_points zone ps z)
+
+-- the points of a range of a zone, but the reference point
+abbrev pub shift_range : Bool → ℕ → Zone → ℕ × ℕ → ZoneLists → GraphicsState → Result ZoneLists Why
+shift_range touch op zone range z g =
+    reference op g z >>= λ r.
+    follow_in zone range.0 range.1
+    (follow_but (number_in zone (reference_zone op g) (reference_number op g)) touch g r) z
+
+abbrev pub contour_at : ℤ → List (ℕ × ℕ) → Result (ℕ × ℕ) Why
+contour_at c contours =
+    if int_lt c (pos 0) then Err why.ContourRange else ok_or (slice_get contours (unsigned_abs c)) why.ContourRange
+
+-- the points of a contour; the twilight zone is contour 0 (profile)
+abbrev pub contour_in : Zone → ℤ → ZoneLists → Result (ℕ × ℕ) Why
+contour_in zone.Twilight c z = if int_eq c (pos 0) then Ok (0, length z.twilight) else Err why.ContourRange
+contour_in zone.Glyph c z = contour_at c z.contours
+
+-- SHC: the points of a contour of zp2
+abbrev pub shc : ℕ → ℤ → ZoneLists → GraphicsState → Result ZoneLists Why
+shc op c z g = contour_in g.zp2 c z >>= λ range. shift_range true op g.zp2 range z g
+
+-- where the last contour ends; the points behind it are phantom points
+abbrev pub end_of : Option (ℕ × ℕ) → ℕ
+end_of None = 0
+end_of (Some contour) = contour.1
+
+abbrev pub contours_end : List (ℕ × ℕ) → ℕ
+contours_end contours = end_of (slice_get contours (length contours - 1))
+
+abbrev pub zone_of : ℤ → Result Zone Why
+zone_of e = if int_eq e (pos 0) then Ok zone.Twilight else (if int_eq e (pos 1) then Ok zone.Glyph else Err why.ZoneRange)
+
+abbrev pub outline_in : Zone → ZoneLists → ℕ × ℕ
+outline_in zone.Twilight z = (0, length z.twilight)
+outline_in zone.Glyph z = (0, contours_end z.contours)
+
+-- SHZ: the points of a zone but phantom points, none of them touched by it
+abbrev pub shz : ℕ → ℤ → ZoneLists → GraphicsState → Result ZoneLists Why
+shz op e z g = zone_of e >>= λ zone. shift_range false op zone (outline_in zone z) z g
+
+-- worked values, along x
+abbrev point : ℤ → ℤ → Point
+point org x = record { org_x = org; org_y = pos 0; x = x; y = pos 0; touched_x = false; touched_y = false; on = true }
+
+abbrev moved_to : ℤ → ℤ → Point
+moved_to org x = record (point org x) { touched_x = true }
+
+abbrev glyph : List Point → ZoneLists
+glyph ps = record { twilight = []; glyph = ps; contours = (0, 2) ∷ [] }
+
+-- rp2 itself is among the points: it is moved, and the next point by no more than before
+taken_once : shp 0x32 (pos 1 ∷ pos 0 ∷ []) (glyph (point (pos 5) (pos 7) ∷ point (pos 1) (pos 2) ∷ [])) default_state
+    ≡ Ok (glyph (moved_to (pos 5) (pos 9) ∷ moved_to (pos 1) (pos 4) ∷ []), default_state)
+taken_once = refl
+
+all_but_the_reference : shc 0x34 (pos 0) (glyph (point (pos 5) (pos 7) ∷ point (pos 1) (pos 2) ∷ point (pos 1) (pos 2) ∷ [])) default_state
+    ≡ Ok (glyph (point (pos 5) (pos 7) ∷ moved_to (pos 1) (pos 4) ∷ point (pos 1) (pos 2) ∷ []))
+all_but_the_reference = refl
+
+untouched : shz 0x37 (pos 1) (glyph (point (pos 5) (pos 7) ∷ point (pos 1) (pos 2) ∷ point (pos 1) (pos 2) ∷ [])) default_state
+    ≡ Ok (glyph (point (pos 5) (pos 7) ∷ point (pos 1) (pos 4) ∷ point (pos 1) (pos 2) ∷ []))
+untouched = refl
+
+no_contour_one : shc 0x34 (pos 1) (glyph []) (record default_state { rp2 = negsuc 0 }) ≡ Err why.ContourRange
+no_contour_one = refl
+
+no_reference : shz 0x36 (pos 0) (glyph []) (record default_state { rp2 = negsuc 0 }) ≡ Err why.PointRange
+no_reference = refl
+
+nothing_to_move : shc 0x34 (pos 0) (glyph (point (pos 5) (pos 7) ∷ [])) (record default_state { zp2 = zone.Twilight; free = axis.Y })
+    ≡ Ok (glyph (point (pos 5) (pos 7) ∷ []))
+nothing_to_move = refl

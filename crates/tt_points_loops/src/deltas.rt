@@ -1,0 +1,152 @@
+//! Exceptions at single sizes: DELTAP1 to DELTAP3, and what they share with DELTAC1 to DELTAC3. Apple TrueType Reference
+//! Manual, "Instruction set": managing exceptions. Distances are in 26.6 pixels, sizes in pixels per em.
+
+ghost use Rattle.std.specs.Prelude.{◌≡◌, Some, get_or, ◌*◌, ◌+◌, ◌<◌, ◌≤◌, pos, ◌*ℤ◌, ◌≤ℤ◌, unsigned_abs, IfOk, IfSome, length};
+ghost use Rattle.tt_core.specs.Outcomes.{Gives};
+ghost use Rattle.tt_points_loops.specs.Deltas as is;
+ghost use Rattle.tt_points_zones.specs.Zones.{IsZones, zones_view};
+ghost use Rattle.tt_state.specs.GraphicsState.{IsGraphicsState};
+
+use tt_core::Why;
+use tt_points_zones::{Zones, direction, moved};
+use tt_state::GraphicsState;
+
+/// How far behind the delta base the sizes of an instruction begin.
+fn sizes_passed(op: u8) -> i64
+    ensures exact { result ≡ is.sizes_passed op }
+    ensures low { pos 0 ≤ℤ result }
+    ensures high { result ≤ℤ pos 32 }
+{
+    match op {
+        0x71 | 0x74 => 16,
+        0x72 | 0x75 => 32,
+        _ => 0,
+    }
+}
+
+/// Bits 7 to 4 of an argument: the size.
+fn size_of(op: u8, argument: u8, state: &GraphicsState) -> i64
+    ensures { result ≡ is.size_of op argument state.now }
+{
+    i64::from(state.delta_base) + sizes_passed(op) + i64::from(argument / 16)
+}
+
+/// Bits 3 to 0: 0 to 7 are -8 to -1 steps, 8 to 15 are 1 to 8.
+fn steps_of(argument: u8) -> i32
+    ensures exact { result ≡ is.steps_of argument }
+    ensures bound { unsigned_abs result ≤ 8 }
+{
+    let low = i32::from(argument % 16);
+    if low < 8 { low - 8 } else { low - 7 }
+}
+
+/// One step.
+fn step_of(state: &GraphicsState) -> i32
+    requires { IsGraphicsState state.now }
+    ensures exact { result ≡ is.step_of state.now }
+    ensures low { pos 1 ≤ℤ result }
+    ensures high { result ≤ℤ pos 64 }
+{
+    match state.delta_shift {
+        0 => 64,
+        1 => 32,
+        2 => 16,
+        3 => 8,
+        4 => 4,
+        5 => 2,
+        _ => 1,
+    }
+}
+
+fn product(steps: i32, step: i32) -> i32
+    requires steps { unsigned_abs steps ≤ 8 }
+    requires low { pos 1 ≤ℤ step }
+    requires high { step ≤ℤ pos 64 }
+    ensures exact { result ≡ steps *ℤ step }
+    ensures bound { unsigned_abs result ≤ 512 }
+{
+    steps * step
+}
+
+/// The exception of a byte at its size.
+fn exception(argument: u8, state: &GraphicsState) -> i32
+    requires { IsGraphicsState state.now }
+    ensures exact { result ≡ is.steps_of argument *ℤ is.step_of state.now }
+    ensures bound { unsigned_abs result ≤ 512 }
+{
+    product(steps_of(argument), step_of(state))
+}
+
+/// What DELTAP1 to DELTAP3 (0x5D, 0x71, 0x72) and DELTAC1 to DELTAC3 (0x73 to 0x75) make of an argument: a distance of at
+/// most 512 in 26.6 pixels, at most 8 steps to either side and never 0; None where the argument is for another size than
+/// `ppem`. Error: BadArgument where it is no byte.
+pub fn delta_of(op: u8, argument: i32, ppem: u32, state: &GraphicsState) -> Result<Option<i32>, Why>
+    requires { IsGraphicsState state.now }
+    ensures exact { Gives (λ d. d) result (is.delta_of op argument ppem state.now) }
+    ensures bound { IfOk result (λ d. IfSome d (λ by. unsigned_abs by ≤ 512)) }
+{
+    let Ok(argument) = u8::try_from(argument) else {
+        return Err(Why::BadArgument);
+    };
+    if size_of(op, argument, state) != i64::from(ppem) {
+        return Ok(None);
+    }
+    Ok(Some(exception(argument, state)))
+}
+
+/// A point of zp0 is moved by an exception.
+fn move_by(zones: &mut Zones, state: &GraphicsState, d: i32, n: i32) -> Result<(), Why>
+    requires zones { IsZones (zones_view zones.old) }
+    ensures exact { Gives (λ u. zones_view zones.new) result (is.move_by (Some d) state.now n (zones_view zones.old)) }
+    ensures zones { IsZones (zones_view zones.new) }
+{
+    let p = zones.point(state.zp0, n)?;
+    let axis = direction(state)?;
+    let q = moved(p, axis, i64::from(d))?;
+    zones.set(state.zp0, n, q);
+    Ok(())
+}
+
+/// Pair `i` of arguments and points.
+fn except(
+    zones: &mut Zones,
+    state: &GraphicsState,
+    op: u8,
+    ppem: u32,
+    pairs: &[i32],
+    i: usize,
+) -> Result<(), Why>
+    requires zones { IsZones (zones_view zones.old) }
+    requires state { IsGraphicsState state.now }
+    requires there { 2 * i + 1 < length pairs.now }
+    ensures exact { Gives (λ u. zones_view zones.new) result
+        (is.except op ppem state.now (get_or pairs.now (2 * i) (pos 0), get_or pairs.now (2 * i + 1) (pos 0)) (zones_view zones.old)) }
+    ensures zones { IsZones (zones_view zones.new) }
+{
+    match delta_of(op, pairs[2 * i], ppem, state)? {
+        Some(d) => move_by(zones, state, d, pairs[2 * i + 1]),
+        None => Ok(()),
+    }
+}
+
+/// DELTAP1[], 0x5D, DELTAP2[], 0x71, and DELTAP3[], 0x72: pairs of an argument and a point of zp0 -> each point is moved by
+/// the exception that its argument is at `ppem` pixels per em, if it is one. The last pair comes first. Errors:
+/// BadArgument, PointRange, Perpendicular, ValueRange.
+pub fn deltap(
+    zones: &mut Zones,
+    state: &GraphicsState,
+    op: u8,
+    ppem: u32,
+    pairs: &[i32],
+) -> Result<(), Why>
+    requires zones { IsZones (zones_view zones.old) }
+    requires state { IsGraphicsState state.now }
+    ensures exact { Gives (λ u. zones_view zones.new) result
+        (is.deltap op ppem pairs.now (zones_view zones.old) state.now) }
+    ensures zones { IsZones (zones_view zones.new) }
+{
+    for i in (0..pairs.len() / 2).rev() {
+        except(zones, state, op, ppem, pairs, i)?;
+    }
+    Ok(())
+}

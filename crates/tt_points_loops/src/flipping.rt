@@ -1,0 +1,100 @@
+//! Points on the curve and off it: FLIPPT, FLIPRGON, FLIPRGOFF. Apple TrueType Reference Manual, "Instruction set":
+//! managing outlines. They work on the glyph's points, wherever the zone pointers point (profile).
+
+ghost use Rattle.std.specs.Prelude.{◌≡◌, ◌≤◌, Ok, All, length, reverse};
+ghost use Rattle.tt_core.specs.Outcomes.{Gives};
+ghost use Rattle.tt_points_loops.specs.Flipping as is;
+ghost use Rattle.tt_points_loops.specs.Series.{each_from_to, one_by_one};
+ghost use Rattle.tt_points_zones.specs.Zones.{IsPoint, IsZones, zones_view};
+ghost use Rattle.tt_state.specs.GraphicsState.{IsGraphicsState};
+
+use tt_core::Why;
+use tt_points_zones::Zones;
+use tt_state::{GraphicsState, Point, Zone};
+
+/// One point on the curve is off it, or the other way.
+fn flip(zones: &mut Zones, n: i32) -> Result<(), Why>
+    requires { IsZones (zones_view zones.old) }
+    ensures exact { Gives (λ u. zones_view zones.new) result (is.flip n (zones_view zones.old)) }
+    ensures zones { IsZones (zones_view zones.new) }
+{
+    let p = zones.point(Zone::Glyph, n)?;
+    zones.set(Zone::Glyph, n, Point { on: !p.on, ..p });
+    Ok(())
+}
+
+fn flip_all(zones: &mut Zones, points: &[i32]) -> Result<(), Why>
+    requires { IsZones (zones_view zones.old) }
+    ensures exact { Gives (λ u. zones_view zones.new) result
+        (one_by_one is.flip (reverse points.now) (zones_view zones.old)) }
+    ensures zones { IsZones (zones_view zones.new) }
+{
+    for i in (0..points.len()).rev() {
+        flip(zones, points[i])?;
+    }
+    Ok(())
+}
+
+/// FLIPPT[], 0x80: loop points -> each is off the curve where it was on it, and the other way. Error: PointRange.
+pub fn flippt(zones: &mut Zones, state: &mut GraphicsState, points: &[i32]) -> Result<(), Why>
+    requires zones { IsZones (zones_view zones.old) }
+    requires state { IsGraphicsState state.old }
+    ensures exact { Gives (λ u. (zones_view zones.new, state.new)) result
+        (is.flippt points.now (zones_view zones.old) state.old) }
+    ensures zones { IsZones (zones_view zones.new) }
+    ensures state { IsGraphicsState state.new }
+{
+    flip_all(zones, points)?;
+    state.loops = 1;
+    Ok(())
+}
+
+fn put_on(p: Point, on: bool) -> Point
+    requires { IsPoint p }
+    ensures exact { result ≡ is.put_on on p }
+    ensures sound { IsPoint result }
+{
+    Point { on, ..p }
+}
+
+fn put_all_on(points: &mut [Point], low: usize, past: usize, on: bool)
+    requires points { All IsPoint points.old }
+    requires past { past ≤ length points.old }
+    ensures exact { each_from_to low past (λ i p. Ok (is.put_on on p)) 0 points.old ≡ Ok points.new }
+    ensures sound { All IsPoint points.new }
+    ensures count { length points.new ≡ length points.old }
+{
+    for i in low..past {
+        points[i] = put_on(points[i], on);
+    }
+}
+
+/// Both ends are points, in whatever order. Error: PointRange.
+fn flip_range(zones: &mut Zones, low: i32, high: i32, on: bool) -> Result<(), Why>
+    requires { IsZones (zones_view zones.old) }
+    ensures exact { Gives (λ u. zones_view zones.new) result (is.flip_range on low high (zones_view zones.old)) }
+    ensures zones { IsZones (zones_view zones.new) }
+{
+    zones.point(Zone::Glyph, high)?;
+    zones.point(Zone::Glyph, low)?;
+    put_all_on(&mut zones.glyph, low as usize, high as usize + 1, on);
+    Ok(())
+}
+
+/// FLIPRGON[], 0x81: low, high -> the points of the range are on the curve. Error: PointRange.
+pub fn fliprgon(zones: &mut Zones, low: i32, high: i32) -> Result<(), Why>
+    requires { IsZones (zones_view zones.old) }
+    ensures exact { Gives (λ u. zones_view zones.new) result (is.fliprgon low high (zones_view zones.old)) }
+    ensures zones { IsZones (zones_view zones.new) }
+{
+    flip_range(zones, low, high, true)
+}
+
+/// FLIPRGOFF[], 0x82: low, high -> the points of the range are off the curve. Error: PointRange.
+pub fn fliprgoff(zones: &mut Zones, low: i32, high: i32) -> Result<(), Why>
+    requires { IsZones (zones_view zones.old) }
+    ensures exact { Gives (λ u. zones_view zones.new) result (is.fliprgoff low high (zones_view zones.old)) }
+    ensures zones { IsZones (zones_view zones.new) }
+{
+    flip_range(zones, low, high, false)
+}

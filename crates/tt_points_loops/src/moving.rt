@@ -1,0 +1,285 @@
+//! Points moved one by one: ALIGNRP, IP, SHPIX. Apple TrueType Reference Manual, "Instruction set": managing outlines.
+//! Distances are in 26.6 pixels.
+
+ghost use Rattle.std.specs.Prelude.{◌≡◌, ◌^◌, ◌<◌, ◌≤◌, reverse, unsigned_abs, IfOk, ◌-ℤ◌, ◌*ℤ◌, ◌+ℤ◌};
+ghost use Rattle.tt_core.specs.Outcomes.{Gives};
+ghost use Rattle.tt_points_loops.specs.Moving as is;
+ghost use Rattle.tt_points_loops.specs.Series.{one_by_one};
+ghost use Rattle.tt_points_zones.specs.Points as point;
+ghost use Rattle.tt_points_zones.specs.Points.{cur, org};
+ghost use Rattle.tt_points_zones.specs.Zones.{IsPoint, IsZones, zones_view};
+ghost use Rattle.tt_state.specs.GraphicsState.{IsGraphicsState};
+
+use tt_core::{Why, rq};
+use tt_points_zones::{Zones, cur, direction, moved, org};
+use tt_state::{Axis, GraphicsState, Point};
+
+/// A distance between two points along an axis.
+#[derive(Clone, Copy)]
+struct Distance(i64);
+
+fn between(from: i32, to: i32) -> Distance
+    requires from { unsigned_abs from < 2 ^ 21 }
+    requires to { unsigned_abs to < 2 ^ 21 }
+    ensures exact { result.0 ≡ to -ℤ from }
+    ensures bound { unsigned_abs result.0 < 2 ^ 22 }
+{
+    Distance(i64::from(to) - i64::from(from))
+}
+
+/// Between where two points stand.
+fn distance_now(a: Point, b: Point, axis: Axis) -> Distance
+    requires a { IsPoint a }
+    requires b { IsPoint b }
+    ensures exact { result.0 ≡ cur axis b -ℤ cur axis a }
+    ensures bound { unsigned_abs result.0 < 2 ^ 22 }
+{
+    between(cur(a, axis), cur(b, axis))
+}
+
+/// Between where two points stood before the program.
+fn distance_before(a: Point, b: Point, axis: Axis) -> Distance
+    requires a { IsPoint a }
+    requires b { IsPoint b }
+    ensures exact { result.0 ≡ org axis b -ℤ org axis a }
+    ensures bound { unsigned_abs result.0 < 2 ^ 22 }
+{
+    between(org(a, axis), org(b, axis))
+}
+
+/// Errors: ValueRange.
+fn moved_by(p: Point, axis: Axis, by: Distance) -> Result<Point, Why>
+    requires point { IsPoint p }
+    requires small { unsigned_abs by.0 < 2 ^ 60 }
+    ensures exact { Gives (λ q. q) result (point.moved axis by.0 p) }
+    ensures sound { IfOk result IsPoint }
+{
+    moved(p, axis, by.0)
+}
+
+/// A point of zp1 is moved to rp0.
+fn align(zones: &mut Zones, state: &GraphicsState, n: i32) -> Result<(), Why>
+    requires { IsZones (zones_view zones.old) }
+    ensures exact { Gives (λ u. zones_view zones.new) result (is.align state.now n (zones_view zones.old)) }
+    ensures zones { IsZones (zones_view zones.new) }
+{
+    let p = zones.point(state.zp1, n)?;
+    let reference = zones.point(state.zp0, state.rp0)?;
+    let axis = direction(state)?;
+    let moved = moved_by(p, axis, distance_now(p, reference, axis))?;
+    zones.set(state.zp1, n, moved);
+    Ok(())
+}
+
+fn align_all(zones: &mut Zones, state: &GraphicsState, points: &[i32]) -> Result<(), Why>
+    requires { IsZones (zones_view zones.old) }
+    ensures exact { Gives (λ u. zones_view zones.new) result
+        (one_by_one (is.align state.now) (reverse points.now) (zones_view zones.old)) }
+    ensures zones { IsZones (zones_view zones.new) }
+{
+    for i in (0..points.len()).rev() {
+        align(zones, state, points[i])?;
+    }
+    Ok(())
+}
+
+/// ALIGNRP[], 0x3C: loop points of zp1 -> each is moved to the coordinate of rp0, in zp0. Errors: PointRange,
+/// Perpendicular, ValueRange.
+pub fn alignrp(zones: &mut Zones, state: &mut GraphicsState, points: &[i32]) -> Result<(), Why>
+    requires zones { IsZones (zones_view zones.old) }
+    requires state { IsGraphicsState state.old }
+    ensures exact { Gives (λ u. (zones_view zones.new, state.new)) result
+        (is.alignrp points.now (zones_view zones.old) state.old) }
+    ensures zones { IsZones (zones_view zones.new) }
+    ensures state { IsGraphicsState state.new }
+{
+    align_all(zones, state, points)?;
+    state.loops = 1;
+    Ok(())
+}
+
+/// `a * b`.
+fn product(a: Distance, b: Distance) -> i64
+    requires a { unsigned_abs a.0 < 2 ^ 22 }
+    requires b { unsigned_abs b.0 < 2 ^ 22 }
+    ensures exact { result ≡ a.0 *ℤ b.0 }
+    ensures bound { unsigned_abs result < 2 ^ 44 }
+{
+    a.0 * b.0
+}
+
+/// A distance in the proportion in which a range was stretched; the same where the range was 0.
+fn stretched(o: Distance, range: Distance, now: Distance) -> Distance
+    requires o { unsigned_abs o.0 < 2 ^ 22 }
+    requires range { unsigned_abs range.0 < 2 ^ 22 }
+    requires now { unsigned_abs now.0 < 2 ^ 22 }
+    ensures exact { result.0 ≡ is.stretched o.0 range.0 now.0 }
+    ensures bound { unsigned_abs result.0 < 2 ^ 44 }
+{
+    if range.0 == 0 {
+        return o;
+    }
+    Distance(rq(product(o, now), range.0))
+}
+
+fn sum(a: i32, b: Distance) -> Distance
+    requires a { unsigned_abs a < 2 ^ 21 }
+    requires b { unsigned_abs b.0 < 2 ^ 44 }
+    ensures exact { result.0 ≡ a +ℤ b.0 }
+    ensures bound { unsigned_abs result.0 < 2 ^ 45 }
+{
+    Distance(i64::from(a) + b.0)
+}
+
+fn difference(a: Distance, b: i32) -> Distance
+    requires a { unsigned_abs a.0 < 2 ^ 45 }
+    requires b { unsigned_abs b < 2 ^ 21 }
+    ensures exact { result.0 ≡ a.0 -ℤ b }
+    ensures bound { unsigned_abs result.0 < 2 ^ 46 }
+{
+    Distance(a.0 - i64::from(b))
+}
+
+/// Where a point stands that keeps its place between two others.
+fn interpolated(p: Point, a: Point, b: Point, axis: Axis) -> Distance
+    requires p { IsPoint p }
+    requires a { IsPoint a }
+    requires b { IsPoint b }
+    ensures exact { result.0 ≡ is.interpolated axis a b p }
+    ensures bound { unsigned_abs result.0 < 2 ^ 45 }
+{
+    let from_a = stretched(
+        distance_before(a, p, axis),
+        distance_before(a, b, axis),
+        distance_now(a, b, axis),
+    );
+    sum(cur(a, axis), from_a)
+}
+
+/// The point moved along an axis to where it keeps its place between two others.
+fn moved_between(p: Point, a: Point, b: Point, axis: Axis) -> Result<Point, Why>
+    requires p { IsPoint p }
+    requires a { IsPoint a }
+    requires b { IsPoint b }
+    ensures exact { Gives (λ q. q) result (point.moved axis (is.interpolated axis a b p -ℤ cur axis p) p) }
+    ensures sound { IfOk result IsPoint }
+{
+    moved_by(
+        p,
+        axis,
+        difference(interpolated(p, a, b, axis), cur(p, axis)),
+    )
+}
+
+/// The same along the vectors. Errors: Perpendicular, ValueRange.
+fn kept_between(p: Point, a: Point, b: Point, state: &GraphicsState) -> Result<Point, Why>
+    requires p { IsPoint p }
+    requires a { IsPoint a }
+    requires b { IsPoint b }
+    ensures exact { Gives (λ q. q) result (is.kept_between state.now a b p) }
+    ensures sound { IfOk result IsPoint }
+{
+    moved_between(p, a, b, direction(state)?)
+}
+
+/// The point moved to where it keeps its place between rp1 and rp2. Errors: PointRange, Perpendicular, ValueRange.
+fn in_between(zones: &Zones, state: &GraphicsState, p: Point) -> Result<Point, Why>
+    requires zones { IsZones (zones_view zones.now) }
+    requires point { IsPoint p }
+    ensures exact { Gives (λ q. q) result (is.in_between state.now (zones_view zones.now) p) }
+    ensures sound { IfOk result IsPoint }
+{
+    let a = zones.point(state.zp0, state.rp1)?;
+    let b = zones.point(state.zp1, state.rp2)?;
+    kept_between(p, a, b, state)
+}
+
+/// A point of zp2 keeps its place between rp1 and rp2.
+fn interpolate(zones: &mut Zones, state: &GraphicsState, n: i32) -> Result<(), Why>
+    requires { IsZones (zones_view zones.old) }
+    ensures exact { Gives (λ u. zones_view zones.new) result (is.interpolate state.now n (zones_view zones.old)) }
+    ensures zones { IsZones (zones_view zones.new) }
+{
+    let p = zones.point(state.zp2, n)?;
+    let q = in_between(zones, state, p)?;
+    zones.set(state.zp2, n, q);
+    Ok(())
+}
+
+fn interpolate_all(zones: &mut Zones, state: &GraphicsState, points: &[i32]) -> Result<(), Why>
+    requires { IsZones (zones_view zones.old) }
+    ensures exact { Gives (λ u. zones_view zones.new) result
+        (one_by_one (is.interpolate state.now) (reverse points.now) (zones_view zones.old)) }
+    ensures zones { IsZones (zones_view zones.new) }
+{
+    for i in (0..points.len()).rev() {
+        interpolate(zones, state, points[i])?;
+    }
+    Ok(())
+}
+
+/// IP[], 0x39: loop points of zp2 -> each is moved to where it keeps its place between rp1, in zp0, and rp2, in zp1.
+/// Errors: PointRange, Perpendicular, ValueRange.
+pub fn ip(zones: &mut Zones, state: &mut GraphicsState, points: &[i32]) -> Result<(), Why>
+    requires zones { IsZones (zones_view zones.old) }
+    requires state { IsGraphicsState state.old }
+    ensures exact { Gives (λ u. (zones_view zones.new, state.new)) result
+        (is.ip points.now (zones_view zones.old) state.old) }
+    ensures zones { IsZones (zones_view zones.new) }
+    ensures state { IsGraphicsState state.new }
+{
+    interpolate_all(zones, state, points)?;
+    state.loops = 1;
+    Ok(())
+}
+
+/// A point of zp2 is moved along the freedom vector.
+fn push(zones: &mut Zones, state: &GraphicsState, by: Distance, n: i32) -> Result<(), Why>
+    requires zones { IsZones (zones_view zones.old) }
+    requires small { unsigned_abs by.0 < 2 ^ 60 }
+    ensures exact { Gives (λ u. zones_view zones.new) result (is.push by.0 state.now n (zones_view zones.old)) }
+    ensures zones { IsZones (zones_view zones.new) }
+{
+    let p = zones.point(state.zp2, n)?;
+    let moved = moved_by(p, state.free, by)?;
+    zones.set(state.zp2, n, moved);
+    Ok(())
+}
+
+fn push_all(
+    zones: &mut Zones,
+    state: &GraphicsState,
+    by: Distance,
+    points: &[i32],
+) -> Result<(), Why>
+    requires zones { IsZones (zones_view zones.old) }
+    requires small { unsigned_abs by.0 < 2 ^ 60 }
+    ensures exact { Gives (λ u. zones_view zones.new) result
+        (one_by_one (is.push by.0 state.now) (reverse points.now) (zones_view zones.old)) }
+    ensures zones { IsZones (zones_view zones.new) }
+{
+    for i in (0..points.len()).rev() {
+        push(zones, state, by, points[i])?;
+    }
+    Ok(())
+}
+
+/// SHPIX[], 0x38: loop points of zp2, amount -> each is moved by the amount along the freedom vector. Errors:
+/// PointRange, ValueRange.
+pub fn shpix(
+    zones: &mut Zones,
+    state: &mut GraphicsState,
+    points: &[i32],
+    amount: i32,
+) -> Result<(), Why>
+    requires zones { IsZones (zones_view zones.old) }
+    requires state { IsGraphicsState state.old }
+    ensures exact { Gives (λ u. (zones_view zones.new, state.new)) result
+        (is.shpix points.now amount (zones_view zones.old) state.old) }
+    ensures zones { IsZones (zones_view zones.new) }
+    ensures state { IsGraphicsState state.new }
+{
+    push_all(zones, state, Distance(i64::from(amount)), points)?;
+    state.loops = 1;
+    Ok(())
+}

@@ -1,0 +1,370 @@
+//! Points that follow a reference point: SHP, SHC, SHZ. Apple TrueType Reference Manual, "Instruction set": managing
+//! outlines. Distances are in 26.6 pixels.
+
+ghost use Rattle.std.specs.Prelude.{◌≡◌, ℕ, ◌<◌, ◌≤◌, ◌^◌, ◌-ℤ◌, ◌≤ℤ◌, pos, All, IfOk, length, reverse, unsigned_abs};
+ghost use Rattle.tt_core.specs.Outcomes.{Gives};
+ghost use Rattle.tt_points_loops.specs.Series.{each_from_to, one_by_one};
+ghost use Rattle.tt_points_loops.specs.Shifting as is;
+ghost use Rattle.tt_points_zones.specs.Points.{cur, org, points_in};
+ghost use Rattle.tt_points_zones.specs.Zones.{AreContours, IsPoint, IsZones, zones_view};
+ghost use Rattle.tt_state.specs.GraphicsState.{IsGraphicsState};
+ghost use Rattle.tt_state.specs.declared.graphics_state.Zone.TheVariants as zone;
+
+use tt_core::Why;
+use tt_points_zones::{Zones, cur, direction, moved, org, shifted};
+use tt_state::{Axis, GraphicsState, Point, Zone};
+
+fn reference_zone(state: &GraphicsState, op: u8) -> Zone
+    ensures { result ≡ is.reference_zone op state.now }
+{
+    if op % 2 == 0 { state.zp1 } else { state.zp0 }
+}
+
+fn reference_number(state: &GraphicsState, op: u8) -> i32
+    ensures { result ≡ is.reference_number op state.now }
+{
+    if op % 2 == 0 { state.rp2 } else { state.rp1 }
+}
+
+/// The reference point: rp1 in zp0 by the opcode's last bit, else rp2 in zp1. Error: PointRange.
+fn reference(zones: &Zones, state: &GraphicsState, op: u8) -> Result<Point, Why>
+    requires { IsZones (zones_view zones.now) }
+    ensures exact { Gives (λ p. p) result (is.reference op state.now (zones_view zones.now)) }
+    ensures sound { IfOk result IsPoint }
+    ensures sign { IfOk result (λ p. pos 0 ≤ℤ is.reference_number op state.now) }
+{
+    zones.point(reference_zone(state, op), reference_number(state, op))
+}
+
+fn difference(to: i32, from: i32) -> i64
+    requires to { unsigned_abs to < 2 ^ 21 }
+    requires from { unsigned_abs from < 2 ^ 21 }
+    ensures exact { result ≡ to -ℤ from }
+    ensures bound { unsigned_abs result < 2 ^ 22 }
+{
+    i64::from(to) - i64::from(from)
+}
+
+/// How far a point stands from where it stood.
+fn offset(r: Point, axis: Axis) -> i64
+    requires { IsPoint r }
+    ensures exact { result ≡ is.offset axis r }
+    ensures bound { unsigned_abs result < 2 ^ 22 }
+{
+    difference(cur(r, axis), org(r, axis))
+}
+
+/// The point moved as far as a reference point.
+fn moved_as(p: Point, r: Point, axis: Axis) -> Result<Point, Why>
+    requires p { IsPoint p }
+    requires r { IsPoint r }
+    ensures exact { Gives (λ q. q) result (is.moved_as axis r p) }
+    ensures sound { IfOk result IsPoint }
+{
+    moved(p, axis, offset(r, axis))
+}
+
+/// The same, as touched as it was.
+fn shifted_as(p: Point, r: Point, axis: Axis) -> Result<Point, Why>
+    requires p { IsPoint p }
+    requires r { IsPoint r }
+    ensures exact { Gives (λ q. q) result (is.shifted_as axis r p) }
+    ensures sound { IfOk result IsPoint }
+{
+    shifted(p, axis, offset(r, axis))
+}
+
+/// The point that follows a reference point, touched by it or not. Errors: Perpendicular, ValueRange.
+fn follow(p: Point, r: Point, touch: bool, state: &GraphicsState) -> Result<Point, Why>
+    requires p { IsPoint p }
+    requires r { IsPoint r }
+    ensures exact { Gives (λ q. q) result (is.follow touch state.now r p) }
+    ensures sound { IfOk result IsPoint }
+{
+    let axis = direction(state)?;
+    if touch {
+        moved_as(p, r, axis)
+    } else {
+        shifted_as(p, r, axis)
+    }
+}
+
+/// A point of zp2 follows a reference point as that stood before the first of them was moved.
+fn shift(
+    zones: &mut Zones,
+    state: &GraphicsState,
+    before: Result<Point, Why>,
+    n: i32,
+) -> Result<(), Why>
+    requires zones { IsZones (zones_view zones.old) }
+    requires before { IfOk before IsPoint }
+    ensures exact { Gives (λ u. zones_view zones.new) result (is.shift state.now before n (zones_view zones.old)) }
+    ensures zones { IsZones (zones_view zones.new) }
+{
+    let p = zones.point(state.zp2, n)?;
+    let q = follow(p, before?, true, state)?;
+    zones.set(state.zp2, n, q);
+    Ok(())
+}
+
+fn shift_all(
+    zones: &mut Zones,
+    state: &GraphicsState,
+    before: Result<Point, Why>,
+    points: &[i32],
+) -> Result<(), Why>
+    requires zones { IsZones (zones_view zones.old) }
+    requires before { IfOk before IsPoint }
+    ensures exact { Gives (λ u. zones_view zones.new) result
+        (one_by_one (is.shift state.now before) (reverse points.now) (zones_view zones.old)) }
+    ensures zones { IsZones (zones_view zones.new) }
+{
+    for i in (0..points.len()).rev() {
+        shift(zones, state, before, points[i])?;
+    }
+    Ok(())
+}
+
+/// SHP[a], 0x32 and 0x33: loop points of zp2 -> each is moved as far as the reference point stands from its original:
+/// rp2 in zp1, or rp1 in zp0. Errors: PointRange, Perpendicular, ValueRange.
+pub fn shp(zones: &mut Zones, state: &mut GraphicsState, op: u8, points: &[i32]) -> Result<(), Why>
+    requires zones { IsZones (zones_view zones.old) }
+    requires state { IsGraphicsState state.old }
+    ensures exact { Gives (λ u. (zones_view zones.new, state.new)) result
+        (is.shp op points.now (zones_view zones.old) state.old) }
+    ensures zones { IsZones (zones_view zones.new) }
+    ensures state { IsGraphicsState state.new }
+{
+    let before = reference(zones, state, op);
+    shift_all(zones, state, before, points)?;
+    state.loops = 1;
+    Ok(())
+}
+
+/// The number of a point of one zone, where that is the other zone.
+fn number_in(zone: Zone, of: Zone, n: i32) -> Option<usize>
+    requires { pos 0 ≤ℤ n }
+    ensures { result ≡ is.number_in zone of n }
+{
+    match (zone, of) {
+        (Zone::Twilight, Zone::Twilight) | (Zone::Glyph, Zone::Glyph) => Some(n as usize),
+        _ => None,
+    }
+}
+
+/// Points follow a reference point, which is perhaps one of their zone.
+#[derive(Clone, Copy)]
+struct Leader {
+    reference: Point,
+    /// The reference point's number, where it is one of the zone.
+    but: Option<usize>,
+    touch: bool,
+}
+
+/// Point `i`, unless it is the reference point. Errors: Perpendicular, ValueRange.
+fn follow_but(p: Point, i: usize, by: Leader, state: &GraphicsState) -> Result<Point, Why>
+    requires p { IsPoint p }
+    requires reference { IsPoint by.reference }
+    ensures exact { Gives (λ q. q) result (is.follow_but by.but by.touch state.now by.reference i p) }
+    ensures sound { IfOk result IsPoint }
+{
+    if by.but == Some(i) {
+        return Ok(p);
+    }
+    follow(p, by.reference, by.touch, state)
+}
+
+/// The points of a range, but the reference point. Errors: Perpendicular, ValueRange.
+fn follow_all(
+    points: &mut [Point],
+    first: usize,
+    past: usize,
+    by: Leader,
+    state: &GraphicsState,
+) -> Result<(), Why>
+    requires points { All IsPoint points.old }
+    requires reference { IsPoint by.reference }
+    requires past { past ≤ length points.old }
+    ensures exact { Gives (λ u. points.new) result
+        (each_from_to first past (is.follow_but by.but by.touch state.now by.reference) 0 points.old) }
+    ensures sound { All IsPoint points.new }
+    ensures count { length points.new ≡ length points.old }
+{
+    for i in first..past {
+        points[i] = follow_but(points[i], i, by, state)?;
+    }
+    Ok(())
+}
+
+fn follow_twilight(
+    zones: &mut Zones,
+    first: usize,
+    past: usize,
+    by: Leader,
+    state: &GraphicsState,
+) -> Result<(), Why>
+    requires zones { IsZones (zones_view zones.old) }
+    requires reference { IsPoint by.reference }
+    requires past { past ≤ length (zones_view zones.old).twilight }
+    ensures exact { Gives (λ u. zones_view zones.new) result
+        (is.follow_in zone.Twilight first past (is.follow_but by.but by.touch state.now by.reference) (zones_view zones.old)) }
+    ensures zones { IsZones (zones_view zones.new) }
+{
+    follow_all(&mut zones.twilight, first, past, by, state)?;
+    Ok(())
+}
+
+fn follow_glyph(
+    zones: &mut Zones,
+    first: usize,
+    past: usize,
+    by: Leader,
+    state: &GraphicsState,
+) -> Result<(), Why>
+    requires zones { IsZones (zones_view zones.old) }
+    requires reference { IsPoint by.reference }
+    requires past { past ≤ length (zones_view zones.old).glyph }
+    ensures exact { Gives (λ u. zones_view zones.new) result
+        (is.follow_in zone.Glyph first past (is.follow_but by.but by.touch state.now by.reference) (zones_view zones.old)) }
+    ensures zones { IsZones (zones_view zones.new) }
+{
+    follow_all(&mut zones.glyph, first, past, by, state)?;
+    Ok(())
+}
+
+/// A range of points of a zone.
+#[derive(Clone, Copy)]
+struct Range {
+    zone: Zone,
+    first: usize,
+    past: usize,
+}
+
+/// The points of a range, but the reference point. Errors: PointRange, Perpendicular, ValueRange.
+fn shift_range(
+    zones: &mut Zones,
+    state: &GraphicsState,
+    op: u8,
+    range: Range,
+    touch: bool,
+) -> Result<(), Why>
+    requires zones { IsZones (zones_view zones.old) }
+    requires past { range.past ≤ length (points_in range.zone (zones_view zones.old)) }
+    ensures exact { Gives (λ u. zones_view zones.new) result
+        (is.shift_range touch op range.zone (range.first, range.past) (zones_view zones.old) state.now) }
+    ensures zones { IsZones (zones_view zones.new) }
+{
+    let reference = reference(zones, state, op)?;
+    let but = number_in(
+        range.zone,
+        reference_zone(state, op),
+        reference_number(state, op),
+    );
+    let by = Leader {
+        reference,
+        but,
+        touch,
+    };
+    match range.zone {
+        Zone::Twilight => follow_twilight(zones, range.first, range.past, by, state),
+        Zone::Glyph => follow_glyph(zones, range.first, range.past, by, state),
+    }
+}
+
+/// A contour of the glyph. Error: ContourRange.
+fn contour_at(contours: &[(u32, u32)], c: i32) -> Result<(usize, usize), Why>
+    ensures exact { Gives (λ r. r) result (is.contour_at c contours.now) }
+    ensures past { (n : ℕ) → AreContours 0 contours.now n → IfOk result (λ r. r.1 ≤ n) }
+{
+    if c < 0 || c as usize >= contours.len() {
+        return Err(Why::ContourRange);
+    }
+    let (first, past) = contours[c as usize];
+    Ok((first as usize, past as usize))
+}
+
+/// A contour of a zone. The twilight zone is contour 0 (profile). Error: ContourRange.
+fn contour_in(zones: &Zones, zone: Zone, c: i32) -> Result<Range, Why>
+    requires { IsZones (zones_view zones.now) }
+    ensures exact { Gives (λ r. (r.first, r.past)) result (is.contour_in zone c (zones_view zones.now)) }
+    ensures zone { IfOk result (λ r. r.zone ≡ zone) }
+    ensures past { IfOk result (λ r. r.past ≤ length (points_in zone (zones_view zones.now))) }
+{
+    match zone {
+        Zone::Glyph => {
+            let (first, past) = contour_at(&zones.contours, c)?;
+            Ok(Range { zone, first, past })
+        }
+        Zone::Twilight if c == 0 => Ok(Range {
+            zone,
+            first: 0,
+            past: zones.twilight.len(),
+        }),
+        Zone::Twilight => Err(Why::ContourRange),
+    }
+}
+
+/// SHC[a], 0x34 and 0x35: contour of zp2 -> its points are moved as far as the reference point stands from its original,
+/// all but the reference point: rp2 in zp1, or rp1 in zp0. Errors: ContourRange, PointRange, Perpendicular, ValueRange.
+pub fn shc(zones: &mut Zones, state: &GraphicsState, op: u8, contour: i32) -> Result<(), Why>
+    requires zones { IsZones (zones_view zones.old) }
+    requires state { IsGraphicsState state.now }
+    ensures exact { Gives (λ u. zones_view zones.new) result (is.shc op contour (zones_view zones.old) state.now) }
+    ensures zones { IsZones (zones_view zones.new) }
+{
+    let range = contour_in(zones, state.zp2, contour)?;
+    shift_range(zones, state, op, range, true)
+}
+
+/// Where the last contour ends; the points behind it are phantom points.
+fn contours_end(contours: &[(u32, u32)]) -> usize
+    ensures exact { result ≡ is.contours_end contours.now }
+    ensures past { (n : ℕ) → AreContours 0 contours.now n → result ≤ n }
+{
+    match contours.last() {
+        Some(contour) => contour.1 as usize,
+        None => 0,
+    }
+}
+
+fn zone_of(e: i32) -> Result<Zone, Why>
+    ensures { Gives (λ zone. zone) result (is.zone_of e) }
+{
+    match e {
+        0 => Ok(Zone::Twilight),
+        1 => Ok(Zone::Glyph),
+        _ => Err(Why::ZoneRange),
+    }
+}
+
+/// The points of a zone but phantom points.
+fn outline_in(zones: &Zones, zone: Zone) -> Range
+    requires { IsZones (zones_view zones.now) }
+    ensures exact { (result.first, result.past) ≡ is.outline_in zone (zones_view zones.now) }
+    ensures zone { result.zone ≡ zone }
+    ensures past { result.past ≤ length (points_in zone (zones_view zones.now)) }
+{
+    let past = match zone {
+        Zone::Twilight => zones.twilight.len(),
+        Zone::Glyph => contours_end(&zones.contours),
+    };
+    Range {
+        zone,
+        first: 0,
+        past,
+    }
+}
+
+/// SHZ[a], 0x36 and 0x37: zone -> its points but phantom points go as far as the reference point stands from its
+/// original, all but the reference point: rp2 in zp1, or rp1 in zp0. None is touched by it. Errors: ZoneRange,
+/// PointRange, Perpendicular, ValueRange.
+pub fn shz(zones: &mut Zones, state: &GraphicsState, op: u8, zone: i32) -> Result<(), Why>
+    requires zones { IsZones (zones_view zones.old) }
+    requires state { IsGraphicsState state.now }
+    ensures exact { Gives (λ u. zones_view zones.new) result (is.shz op zone (zones_view zones.old) state.now) }
+    ensures zones { IsZones (zones_view zones.new) }
+{
+    let zone = zone_of(zone)?;
+    let outline = outline_in(zones, zone);
+    shift_range(zones, state, op, outline, false)
+}
