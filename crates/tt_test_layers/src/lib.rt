@@ -25,3 +25,5 @@ mod run_tests;
 mod scan_tests;
 #[cfg(test)]
 mod test_font;
+#[cfg(test)]
+mod trials;
