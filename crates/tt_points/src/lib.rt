@@ -1,4 +1,5 @@
-//! The points that TrueType programs move.
+//! The points that TrueType programs move. Instructions on single points stand here, those on several in the crates
+//! tt_points_loops and tt_points_iup.
 #![tactic(auto)]
 
 mod control_values;
@@ -10,4 +11,8 @@ mod twilight;
 pub use control_values::{miap, mirp};
 pub use measuring::{gc, md, scfs, utp};
 pub use moving::{mdap, mdrp, msirp};
+pub use tt_points_iup::iup;
+pub use tt_points_loops::{
+    alignrp, delta_of, deltap, flippt, fliprgoff, fliprgon, ip, shc, shp, shpix, shz,
+};
 pub use tt_points_zones::Zones;

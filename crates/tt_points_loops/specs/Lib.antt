@@ -3,3 +3,4 @@ pub mod Flipping
 pub mod Moving
 pub mod Shifting
 pub mod Deltas
+pub mod Turns

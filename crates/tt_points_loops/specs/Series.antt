@@ -7,9 +7,9 @@ use Rattle.tt_state.specs.declared.point.Point.{Point}
 use Rattle.tt_points_zones.specs.Zones.{ZoneLists}
 
 -- what is done with each of some items in turn: an earlier one is done where a later one is refused
-abbrev pub one_by_one : {N : Type 0} → (N → ZoneLists → Result ZoneLists Why) → List N → ZoneLists → Result ZoneLists Why
-one_by_one step [] z = Ok z
-one_by_one step (n ∷ ns) z = step n z >>= λ w. one_by_one step ns w
+abbrev pub one_by_one : {N S : Type 0} → (N → S → Result S Why) → List N → S → Result S Why
+one_by_one step [] s = Ok s
+one_by_one step (n ∷ ns) s = step n s >>= λ t. one_by_one step ns t
 
 -- the loop variable, set back by each instruction that obeys it
 abbrev pub set_back : GraphicsState → GraphicsState

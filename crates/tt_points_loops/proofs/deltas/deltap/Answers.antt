@@ -2,7 +2,7 @@ use Rattle.std.proofs.Common.{◌≡◌, ◌+◌, ◌*◌, ◌-◌, ◌/◌, ◌
 use Rattle.std.proofs.lemmas.Result.{err_from_is_err_and}
 use Rattle.tt_points_zones.specs.Zones.{zones_view}
 use Rattle.tt_points_loops.specs.Deltas.{except, pairs_of}
-use Rattle.tt_points_loops.proofs.Turns.{went_on, broke_off, pairs_count, pair_at}
+use Rattle.tt_points_loops.specs.Turns.{went_on, broke_off, pairs_count, pair_at}
 use Rattle.tt_points_loops.proofs.deltas.deltap.Goals as goal
 
 pub loop-i-init : goal.loop-i-init

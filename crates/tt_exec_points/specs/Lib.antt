@@ -1,0 +1,5 @@
+pub mod Popping
+pub mod Single
+pub mod Several
+pub mod ControlValues
+pub mod OnPoints

@@ -1,0 +1,54 @@
+-- Apple TrueType Reference Manual, "Instruction Set": the instructions on one point, with the stack, which has its top
+-- first. What each does to its points stands in the crate tt_points, by the same names.
+use Rattle.std.specs.Prelude.{ℕ, ℤ, List, [], ◌∷◌, length, get_or, pos, Result, Ok, Err}
+use Rattle.tt_core.specs.Outcomes.{◌>>=◌}
+use Rattle.tt_core.specs.declared.fault.Why.{Why}
+use Rattle.tt_core.specs.declared.fault.Why.TheVariants as why
+use Rattle.tt_state.specs.declared.graphics_state.GraphicsState.{GraphicsState}
+use Rattle.tt_exec_stack.specs.Places.{place}
+use Rattle.tt_exec_stack.specs.Stack.{pushed}
+use Rattle.tt_points.specs.ControlValues as by_value
+use Rattle.tt_points.specs.Measuring as measuring
+use Rattle.tt_points.specs.Moving as moving
+use Rattle.tt_points_zones.specs.Zones.{ZoneLists}
+use Rattle.tt_exec_points.specs.Popping.{Left, behind, behind_move}
+
+abbrev pub mdap : ℕ → List ℤ → ZoneLists → GraphicsState → Left
+mdap op (p ∷ s) z g = behind s (moving.mdap op p z g)
+mdap op [] z g = Err why.StackShort
+
+abbrev pub mdrp : ℕ → List ℤ → ZoneLists → GraphicsState → Left
+mdrp op (p ∷ s) z g = behind s (moving.mdrp op p z g)
+mdrp op [] z g = Err why.StackShort
+
+abbrev pub msirp : ℕ → List ℤ → ZoneLists → GraphicsState → Left
+msirp op (d ∷ p ∷ s) z g = behind s (moving.msirp op p d z g)
+msirp op _ z g = Err why.StackShort
+
+-- the control value with a number
+abbrev pub control_value : ℤ → List ℤ → Result ℤ Why
+control_value n cvt = place n (length cvt) why.CvtRange >>= λ i. Ok (get_or cvt i (pos 0))
+
+abbrev pub miap : ℕ → List ℤ → List ℤ → ZoneLists → GraphicsState → Left
+miap op cvt (n ∷ p ∷ s) z g = control_value n cvt >>= λ c. behind s (by_value.miap op p c z g)
+miap op cvt _ z g = Err why.StackShort
+
+abbrev pub mirp : ℕ → List ℤ → List ℤ → ZoneLists → GraphicsState → Left
+mirp op cvt (n ∷ p ∷ s) z g = control_value n cvt >>= λ c. behind s (by_value.mirp op p c z g)
+mirp op cvt _ z g = Err why.StackShort
+
+abbrev pub scfs : List ℤ → ZoneLists → GraphicsState → Left
+scfs (v ∷ p ∷ s) z g = behind_move s g (measuring.scfs p v z g)
+scfs _ z g = Err why.StackShort
+
+abbrev pub utp : List ℤ → ZoneLists → GraphicsState → Left
+utp (p ∷ s) z g = behind_move s g (measuring.utp p z g)
+utp [] z g = Err why.StackShort
+
+abbrev pub gc : ℕ → List ℤ → ZoneLists → GraphicsState → Result (List ℤ) Why
+gc op (p ∷ s) z g = measuring.gc op p z g >>= λ c. pushed c s
+gc op [] z g = Err why.StackShort
+
+abbrev pub md : ℕ → List ℤ → ZoneLists → GraphicsState → Result (List ℤ) Why
+md op (p1 ∷ p2 ∷ s) z g = measuring.md op p2 p1 z g >>= λ d. pushed d s
+md op _ z g = Err why.StackShort

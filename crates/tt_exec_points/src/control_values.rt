@@ -1,0 +1,77 @@
+//! DELTAC1 to DELTAC3: exceptions for control values. Apple TrueType Reference Manual, "Instruction set".
+
+ghost use Rattle.std.specs.Prelude.{◌+◌, ◌*◌, ◌<◌, pos, length, get_or};
+ghost use Rattle.tt_core.specs.Outcomes.{Gives};
+ghost use Rattle.tt_exec_points.specs.ControlValues as is;
+ghost use Rattle.tt_state.specs.GraphicsState.{IsGraphicsState};
+
+use crate::several::pairs_counted;
+use tt_core::Why;
+use tt_exec_stack::{Graphics, Stack};
+use tt_points::delta_of;
+use tt_state::GraphicsState;
+
+/// A control value changed by an exception, if there is one. Errors: CvtRange, ValueRange.
+fn change_by(d: Option<i32>, n: i32, cvt: &mut [i32]) -> Result<(), Why>
+    ensures { Gives (λ u. cvt.new) result (is.change_by d n cvt.old) }
+{
+    let Some(d) = d else {
+        return Ok(());
+    };
+    if n < 0 || n as usize >= cvt.len() {
+        return Err(Why::CvtRange);
+    }
+    match i32::try_from(i64::from(cvt[n as usize]) + i64::from(d)) {
+        Ok(value) => {
+            cvt[n as usize] = value;
+            Ok(())
+        }
+        Err(_) => Err(Why::ValueRange),
+    }
+}
+
+/// Pair `i` of arguments and control values.
+fn change(
+    op: u8,
+    ppem: u32,
+    state: &GraphicsState,
+    pairs: &[i32],
+    i: usize,
+    cvt: &mut [i32],
+) -> Result<(), Why>
+    requires state { IsGraphicsState state.now }
+    requires there { 2 * i + 1 < length pairs.now }
+    ensures { let pair = (get_or pairs.now (2 * i) (pos 0), get_or pairs.now (2 * i + 1) (pos 0)) in
+        Gives (λ u. cvt.new) result (is.change op ppem state.now pair cvt.old) }
+{
+    let d = delta_of(op, pairs[2 * i], ppem, state)?;
+    change_by(d, pairs[2 * i + 1], cvt)
+}
+
+/// Every pair, the last first.
+fn change_all(
+    op: u8,
+    ppem: u32,
+    state: &GraphicsState,
+    pairs: &[i32],
+    cvt: &mut [i32],
+) -> Result<(), Why>
+    requires { IsGraphicsState state.now }
+    ensures { Gives (λ u. cvt.new) result (is.changes op ppem state.now (is.popped pairs.now) cvt.old) }
+{
+    for i in (0..pairs.len() / 2).rev() {
+        change(op, ppem, state, pairs, i, cvt)?;
+    }
+    Ok(())
+}
+
+/// DELTAC1[] to DELTAC3[], 0x73 to 0x75: n pairs of an argument and a control value's number, n -> .
+pub(crate) fn deltac(op: u8, ppem: u32, stack: &mut Stack, graphics: &Graphics, cvt: &mut [i32]) -> Result<(), Why>
+    ensures { Gives (λ u. (stack.new, cvt.new)) result (is.deltac op ppem stack.old graphics.now cvt.old) }
+{
+    let many = pairs_counted(stack)?;
+    let pairs = stack.top(many)?;
+    change_all(op, ppem, &graphics.state(), pairs, cvt)?;
+    stack.discard(many);
+    Ok(())
+}

@@ -1,0 +1,39 @@
+//! The zones of a machine. Apple TrueType Reference Manual, "Instructing TrueType Glyphs" (zones).
+
+ghost use Rattle.std.specs.Prelude.{◌≡◌};
+ghost use Rattle.tt_points_zones.specs.Zones.{zones_view, IsZones};
+
+use std::marker::Model;
+use tt_points::Zones;
+
+/// Zones as instructions leave them. A clause sees them as their lists.
+#[derive(Drop)]
+pub struct Points {
+    pub(crate) zones: Zones,
+}
+
+impl Model for Points {
+    ghost use Rattle.tt_points_zones.specs.Zones.{ZoneLists, zones_view, IsZones};
+
+    ghost Value = { ZoneLists };
+
+    ghost view = { λ p. zones_view p.zones };
+
+    ghost invariant = { λ p. IsZones (zones_view p.zones) };
+}
+
+impl Points {
+    pub fn new(zones: Zones) -> Points
+        requires { IsZones (zones_view zones) }
+        ensures { result ≡ zones_view zones }
+    {
+        Points { zones }
+    }
+
+    pub fn into_zones(self) -> Zones
+        ensures exact { zones_view result ≡ self }
+        ensures sound { IsZones (zones_view result) }
+    {
+        self.zones
+    }
+}

@@ -1,0 +1,120 @@
+//! The instructions on one point. What each does to it stands in the crate tt_points, by the same name. Apple TrueType
+//! Reference Manual, "Instruction set".
+
+ghost use Rattle.tt_core.specs.Outcomes.{Gives};
+ghost use Rattle.tt_exec_points.specs.Single as is;
+
+use crate::points::Points;
+use tt_core::Why;
+use tt_exec_stack::{Graphics, Stack};
+use tt_points::{gc, md, mdap, mdrp, miap, mirp, msirp, scfs, utp};
+
+/// The control value with a number. Error: CvtRange.
+fn control_value(n: i32, cvt: &[i32]) -> Result<i32, Why>
+    ensures { Gives (λ c. c) result (is.control_value n cvt.now) }
+{
+    if n < 0 || n as usize >= cvt.len() {
+        return Err(Why::CvtRange);
+    }
+    Ok(cvt[n as usize])
+}
+
+impl Points {
+    /// MDAP[r], 0x2E, 0x2F: p -> . Errors: PointRange, Perpendicular, ValueRange.
+    pub(crate) fn mdap(&mut self, op: u8, stack: &mut Stack, graphics: &mut Graphics) -> Result<(), Why>
+        ensures { Gives (λ u. (stack.new, self.new, graphics.new)) result (is.mdap op stack.old self.old graphics.old) }
+    {
+        let p = stack.pop()?;
+        let mut state = graphics.state();
+        mdap(&mut self.zones, &mut state, op, p)?;
+        graphics.set(state);
+        Ok(())
+    }
+
+    /// MDRP[abcde], 0xC0 to 0xDF: p -> . Errors: PointRange, Perpendicular, ValueRange.
+    pub(crate) fn mdrp(&mut self, op: u8, stack: &mut Stack, graphics: &mut Graphics) -> Result<(), Why>
+        ensures { Gives (λ u. (stack.new, self.new, graphics.new)) result (is.mdrp op stack.old self.old graphics.old) }
+    {
+        let p = stack.pop()?;
+        let mut state = graphics.state();
+        mdrp(&mut self.zones, &mut state, op, p)?;
+        graphics.set(state);
+        Ok(())
+    }
+
+    /// MSIRP[a], 0x3A, 0x3B: p, d -> . Errors: PointRange, Perpendicular, ValueRange.
+    pub(crate) fn msirp(&mut self, op: u8, stack: &mut Stack, graphics: &mut Graphics) -> Result<(), Why>
+        ensures { Gives (λ u. (stack.new, self.new, graphics.new)) result (is.msirp op stack.old self.old graphics.old) }
+    {
+        let d = stack.pop()?;
+        let p = stack.pop()?;
+        let mut state = graphics.state();
+        msirp(&mut self.zones, &mut state, op, p, d)?;
+        graphics.set(state);
+        Ok(())
+    }
+
+    /// MIAP[r], 0x3E, 0x3F: p, n -> . Errors: CvtRange, PointRange, Perpendicular, ValueRange.
+    pub(crate) fn miap(&mut self, op: u8, cvt: &[i32], stack: &mut Stack, graphics: &mut Graphics) -> Result<(), Why>
+        ensures { let given = is.miap op cvt.now stack.old self.old graphics.old in
+            Gives (λ u. (stack.new, self.new, graphics.new)) result given }
+    {
+        let n = stack.pop()?;
+        let p = stack.pop()?;
+        let c = control_value(n, cvt)?;
+        let mut state = graphics.state();
+        miap(&mut self.zones, &mut state, op, p, c)?;
+        graphics.set(state);
+        Ok(())
+    }
+
+    /// MIRP[abcde], 0xE0 to 0xFF: p, n -> . Errors: CvtRange, PointRange, Perpendicular, ValueRange.
+    pub(crate) fn mirp(&mut self, op: u8, cvt: &[i32], stack: &mut Stack, graphics: &mut Graphics) -> Result<(), Why>
+        ensures { let given = is.mirp op cvt.now stack.old self.old graphics.old in
+            Gives (λ u. (stack.new, self.new, graphics.new)) result given }
+    {
+        let n = stack.pop()?;
+        let p = stack.pop()?;
+        let c = control_value(n, cvt)?;
+        let mut state = graphics.state();
+        mirp(&mut self.zones, &mut state, op, p, c)?;
+        graphics.set(state);
+        Ok(())
+    }
+
+    /// SCFS[], 0x48: p, v -> . Errors: PointRange, Perpendicular, ValueRange.
+    pub(crate) fn scfs(&mut self, stack: &mut Stack, graphics: &Graphics) -> Result<(), Why>
+        ensures { Gives (λ u. (stack.new, self.new, graphics.now)) result (is.scfs stack.old self.old graphics.now) }
+    {
+        let v = stack.pop()?;
+        let p = stack.pop()?;
+        scfs(&mut self.zones, &graphics.state(), p, v)
+    }
+
+    /// UTP[], 0x29: p -> . Error: PointRange.
+    pub(crate) fn utp(&mut self, stack: &mut Stack, graphics: &Graphics) -> Result<(), Why>
+        ensures { Gives (λ u. (stack.new, self.new, graphics.now)) result (is.utp stack.old self.old graphics.now) }
+    {
+        let p = stack.pop()?;
+        utp(&mut self.zones, &graphics.state(), p)
+    }
+
+    /// GC[a], 0x46, 0x47: p -> c. Errors: PointRange, StackFull.
+    pub(crate) fn gc(&self, op: u8, stack: &mut Stack, graphics: &Graphics) -> Result<(), Why>
+        ensures { Gives (λ u. stack.new) result (is.gc op stack.old self.now graphics.now) }
+    {
+        let p = stack.pop()?;
+        let value = gc(&self.zones, &graphics.state(), op, p)?;
+        stack.push(i64::from(value))
+    }
+
+    /// MD[a], 0x49, 0x4A: p2, p1 -> d. Errors: PointRange, StackFull.
+    pub(crate) fn md(&self, op: u8, stack: &mut Stack, graphics: &Graphics) -> Result<(), Why>
+        ensures { Gives (λ u. stack.new) result (is.md op stack.old self.now graphics.now) }
+    {
+        let p1 = stack.pop()?;
+        let p2 = stack.pop()?;
+        let value = md(&self.zones, &graphics.state(), op, p2, p1)?;
+        stack.push(i64::from(value))
+    }
+}
