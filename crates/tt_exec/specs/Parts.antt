@@ -1,7 +1,7 @@
 -- No part of the standard: what a machine is made of and keeps between runs, as contracts see it.
 use Rattle.std.specs.Prelude.{ℕ, ℤ, Bool, List, map}
 use Rattle.tt_state.specs.declared.graphics_state.GraphicsState.{GraphicsState}
-use Rattle.tt_points.specs.Zones.{ZoneLists, zones_view}
+use Rattle.tt_points_zones.specs.Zones.{ZoneLists, zones_view}
 use Rattle.tt_exec.specs.declared.parts.Parts as declared
 use Rattle.tt_exec.specs.MachineState.{Function}
 use Rattle.tt_exec.specs.Views.{entry_of}

@@ -3,7 +3,7 @@
 ghost use Rattle.std.specs.Prelude.{◌≡◌, ◌<◌, ◌≤◌, length};
 ghost use Rattle.tt_core.specs.Limits.{size_limit};
 ghost use Rattle.tt_state.specs.GraphicsState.{IsGraphicsState};
-ghost use Rattle.tt_points.specs.Zones.{zones_view, IsZones};
+ghost use Rattle.tt_points_zones.specs.Zones.{zones_view, IsZones};
 ghost use Rattle.tt_exec.specs.Machines.{begun, parts_in};
 ghost use Rattle.tt_exec.specs.MachineState.{fault_in};
 ghost use Rattle.tt_exec.specs.Parts.{parts_of};

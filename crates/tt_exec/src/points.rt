@@ -1,7 +1,7 @@
 //! The zones of a machine. Apple TrueType Reference Manual, "Instructing TrueType Glyphs" (zones).
 
 ghost use Rattle.std.specs.Prelude.{◌≡◌};
-ghost use Rattle.tt_points.specs.Zones.{zones_view, IsZones};
+ghost use Rattle.tt_points_zones.specs.Zones.{zones_view, IsZones};
 
 use std::marker::Model;
 use tt_points::Zones;
@@ -13,7 +13,7 @@ pub(crate) struct Points {
 }
 
 impl Model for Points {
-    ghost use Rattle.tt_points.specs.Zones.{ZoneLists, zones_view, IsZones};
+    ghost use Rattle.tt_points_zones.specs.Zones.{ZoneLists, zones_view, IsZones};
 
     ghost Value = { ZoneLists };
 

@@ -1,7 +1,7 @@
 //! Rounding, and runs one behind the other on one machine. What single runs answer is tried by tt_test_machine.
 
 ghost use Rattle.std.specs.Prelude.{◌≡◌, ◌≤◌, IfOk, length};
-ghost use Rattle.tt_points.specs.Zones.{IsZones, zones_view};
+ghost use Rattle.tt_points_zones.specs.Zones.{IsZones, zones_view};
 
 use std::alloc::{AllocError, Global};
 use std::collections::BTreeMap;

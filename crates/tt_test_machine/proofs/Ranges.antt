@@ -1,7 +1,7 @@
 -- Contours as they are read: each range of points that may follow them makes contours of the whole.
 use Rattle.std.proofs.Common.{◌≡◌, ℕ, List, [], ◌∷◌, ◌++◌, ◌≤◌, subst}
 use Rattle.std.proofs.lemmas.List.{append-nil, append_assoc}
-use Rattle.tt_points.specs.Zones.{AreContours}
+use Rattle.tt_points_zones.specs.Zones.{AreContours}
 
 pub record Begins (contours : List (ℕ × ℕ)) (from points : ℕ) : Type 0 where
   pub within : from ≤ points

@@ -18,7 +18,7 @@
 ghost use Rattle.std.specs.Prelude.{◌<◌, ◌≤◌};
 ghost use Rattle.tt_core.specs.Limits.{size_limit};
 ghost use Rattle.tt_state.specs.GraphicsState.{IsGraphicsState};
-ghost use Rattle.tt_points.specs.Zones.{IsZones, zones_view};
+ghost use Rattle.tt_points_zones.specs.Zones.{IsZones, zones_view};
 
 mod parts;
 mod telling;

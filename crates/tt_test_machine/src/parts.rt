@@ -4,7 +4,7 @@ ghost use Rattle.std.specs.Prelude.{◌<◌, ◌≤◌, ◌^◌, All, length, un
 ghost use Rattle.tt_core.specs.Faults.{is_ascii};
 ghost use Rattle.tt_core.specs.Limits.{coordinate_limit, size_limit};
 ghost use Rattle.tt_state.specs.GraphicsState.{IsGraphicsState};
-ghost use Rattle.tt_points.specs.Zones.{AreContours, IsPoint, IsZones, zones_view};
+ghost use Rattle.tt_points_zones.specs.Zones.{AreContours, IsPoint, IsZones, zones_view};
 
 use crate::words::Words;
 use anyhow::{Result, bail};
