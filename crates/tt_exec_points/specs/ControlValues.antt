@@ -12,11 +12,15 @@ use Rattle.tt_points_loops.specs.Deltas.{delta_of, pairs_of}
 use Rattle.tt_points_loops.specs.Series.{one_by_one}
 use Rattle.tt_exec_points.specs.Popping.{counted}
 
+-- a number that fits 32 bits
+abbrev pub value_of : ℤ → Result ℤ Why
+value_of v = if is_value v then Ok v else Err why.ValueRange
+
 -- a control value changed by an exception, if there is one
 abbrev pub change_by : Option ℤ → ℤ → List ℤ → Result (List ℤ) Why
 change_by None n cvt = Ok cvt
 change_by (Some d) n cvt = place n (length cvt) why.CvtRange >>= λ i.
-    if is_value (get_or cvt i (pos 0) +ℤ d) then Ok (slice_set cvt i (get_or cvt i (pos 0) +ℤ d)) else Err why.ValueRange
+    value_of (get_or cvt i (pos 0) +ℤ d) >>= λ v. Ok (slice_set cvt i v)
 
 -- a pair of an argument and a number
 abbrev pub change : ℕ → ℕ → GraphicsState → ℤ × ℤ → List ℤ → Result (List ℤ) Why

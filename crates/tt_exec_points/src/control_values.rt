@@ -1,6 +1,6 @@
 //! DELTAC1 to DELTAC3: exceptions for control values. Apple TrueType Reference Manual, "Instruction set".
 
-ghost use Rattle.std.specs.Prelude.{◌+◌, ◌*◌, ◌<◌, pos, length, get_or};
+ghost use Rattle.std.specs.Prelude.{◌+◌, ◌+ℤ◌, ◌*◌, ◌<◌, pos, length, get_or};
 ghost use Rattle.tt_core.specs.Outcomes.{Gives};
 ghost use Rattle.tt_exec_points.specs.ControlValues as is;
 ghost use Rattle.tt_state.specs.GraphicsState.{IsGraphicsState};
@@ -10,6 +10,13 @@ use tt_core::Why;
 use tt_exec_stack::{Graphics, Stack};
 use tt_points::delta_of;
 use tt_state::GraphicsState;
+
+/// A sum that fits 32 bits. Error: ValueRange.
+fn sum(a: i32, b: i32) -> Result<i32, Why>
+    ensures { Gives (λ v. v) result (is.value_of (a +ℤ b)) }
+{
+    i32::try_from(i64::from(a) + i64::from(b)).map_err(|_| Why::ValueRange)
+}
 
 /// A control value changed by an exception, if there is one. Errors: CvtRange, ValueRange.
 fn change_by(d: Option<i32>, n: i32, cvt: &mut [i32]) -> Result<(), Why>
@@ -21,13 +28,8 @@ fn change_by(d: Option<i32>, n: i32, cvt: &mut [i32]) -> Result<(), Why>
     if n < 0 || n as usize >= cvt.len() {
         return Err(Why::CvtRange);
     }
-    match i32::try_from(i64::from(cvt[n as usize]) + i64::from(d)) {
-        Ok(value) => {
-            cvt[n as usize] = value;
-            Ok(())
-        }
-        Err(_) => Err(Why::ValueRange),
-    }
+    cvt[n as usize] = sum(cvt[n as usize], d)?;
+    Ok(())
 }
 
 /// Pair `i` of arguments and control values.
