@@ -52,6 +52,8 @@ impl<'a> GlyphBytes<'a> {
         (self.start + at) as u32
     }
 
+    #[cold]
+    #[inline(never)]
     pub(crate) fn fault(&self, at: usize, why: Why) -> Fault
         requires { at ≤ length self.now.bytes }
         ensures exact { result ≡ glyph_fault self.now at why }
@@ -60,6 +62,8 @@ impl<'a> GlyphBytes<'a> {
     }
 
     /// The bytes end too early.
+    #[cold]
+    #[inline(never)]
     pub(crate) fn short(&self) -> Fault
         ensures exact { result ≡ short self.now }
     {
@@ -67,6 +71,7 @@ impl<'a> GlyphBytes<'a> {
     }
 
     /// Error: GlyphShort.
+    #[inline(always)]
     #[tactic(auto, unfolding(crate::specs::Bytes::byte_in))]
     pub(crate) fn byte(&self, at: usize) -> Result<u8, Fault>
         ensures exact { Gives (λ n. n) result (byte_in self.now at) }
@@ -81,6 +86,7 @@ impl<'a> GlyphBytes<'a> {
     }
 
     /// Error: GlyphShort.
+    #[inline(always)]
     #[tactic(auto, unfolding(crate::specs::Bytes::word_in))]
     pub(crate) fn word(&self, at: usize) -> Result<u16, Fault>
         ensures exact { Gives (λ n. n) result (word_in self.now at) }
@@ -94,6 +100,7 @@ impl<'a> GlyphBytes<'a> {
     }
 
     /// Error: GlyphShort.
+    #[inline(always)]
     #[tactic(auto, unfolding(crate::specs::Bytes::signed_in))]
     pub(crate) fn signed(&self, at: usize) -> Result<i16, Fault>
         ensures exact { Gives (λ n. n) result (signed_in self.now at) }

@@ -25,6 +25,7 @@ struct Delta {
     next: usize,
 }
 
+#[inline(always)]
 fn short(positive: bool, byte: u8) -> i32
     ensures exact { result ≡ short_delta positive byte }
     ensures bound { unsigned_abs result ≤ 255 }
@@ -37,6 +38,7 @@ fn short(positive: bool, byte: u8) -> i32
 }
 
 /// Error: GlyphShort.
+#[inline(always)]
 #[tactic(auto, unfolding(crate::specs::Coordinates::delta_at))]
 fn delta_at(glyph: &GlyphBytes, axis: Axis, flag: u8, at: usize) -> Result<Delta, Fault>
     requires { at ≤ length glyph.now.bytes }
@@ -76,6 +78,7 @@ struct Coordinate {
     next: usize,
 }
 
+#[inline(always)]
 fn summed(before: Coordinate, delta: Delta) -> Sum
     requires { unsigned_abs delta.by ≤ 32768 }
     ensures { sum_of result ≡ summed (coordinate_of before) (delta_of delta) }
@@ -87,6 +90,7 @@ fn summed(before: Coordinate, delta: Delta) -> Sum
 }
 
 /// Error: CoordRange, at the glyph's first byte.
+#[inline(always)]
 #[tactic(auto, unfolding(crate::specs::Coordinates::within_words))]
 fn within_words(glyph: &GlyphBytes, sum: Sum) -> Result<Coordinate, Fault>
     ensures exact { Gives coordinate_of result (within_words glyph.now (sum_of sum)) }
@@ -102,6 +106,7 @@ fn within_words(glyph: &GlyphBytes, sum: Sum) -> Result<Coordinate, Fault>
 }
 
 /// The coordinate behind another. Errors: GlyphShort, CoordRange.
+#[inline(always)]
 #[tactic(auto, unfolding(crate::specs::Coordinates::coordinate_at))]
 fn coordinate_at(
     glyph: &GlyphBytes,

@@ -52,6 +52,7 @@ impl Flags for PointFlags {
 }
 
 /// Whether a flag byte has one of the flags.
+#[inline(always)]
 pub(crate) fn has_flag(flags: u8, flag: PointFlags) -> bool
     ensures { result ≡ has flags flag.0 }
 {
@@ -70,6 +71,7 @@ struct Run {
 }
 
 /// Errors: GlyphShort, FlagRun.
+#[inline(always)]
 #[tactic(auto, unfolding(crate::specs::Flags::run_at))]
 fn run_at(glyph: &GlyphBytes, at: usize, left: usize) -> Result<Run, Fault>
     requires { 0 < left }
@@ -96,11 +98,16 @@ fn run_at(glyph: &GlyphBytes, at: usize, left: usize) -> Result<Run, Fault>
     })
 }
 
+#[inline(always)]
 fn push_copies(flags: &mut Vec<u8>, flag: u8, n: usize) -> Result<(), AllocError>
     requires { vec_len flags.old + n < 2 ^ 32 }
     ensures pushed { OnOk result (flags.new.items ≡ flags.old.items ++ replicate n flag) }
     ensures grown { OnOk result (vec_len flags.new ≡ vec_len flags.old + n) }
 {
+    if n == 1 {
+        flags.push(flag)?;
+        return Ok(());
+    }
     flags.resize(flags.len() + n, flag)?;
     Ok(())
 }

@@ -27,6 +27,7 @@ const Y_AXIS: Axis = Axis {
 };
 
 /// The end of a contour, not below the one before it. Errors: GlyphShort, ContourOrder.
+#[inline(always)]
 #[tactic(auto, unfolding(crate::specs::Simple::end_at))]
 fn end_at(glyph: &GlyphBytes, at: usize, before: u16) -> Result<u16, Fault>
     ensures exact { Gives (λ e. e) result (end_at glyph.now at before) }

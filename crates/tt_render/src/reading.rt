@@ -11,7 +11,7 @@ use std::alloc::{AllocError, Global};
 use tt_core::{FONT_LIMIT, IoFailed, Source};
 
 /// How much is asked for at a time, in bytes.
-const PIECE: usize = 65_536;
+const PIECE: usize = 131_072;
 
 /// Makes the vector longer than its filled front, by zeros, so that the next read finds room in it. The memory doubles,
 /// up to the byte that passes the limit: so the last growth begins at half of it. Error: Memory.
