@@ -1,10 +1,10 @@
 -- What a reader has left, over several calls.
-use Rattle.std.proofs.Common.{◌≡◌, ℕ, ◌+◌, ◌<◌, List, [], ◌++◌, length, take, drop, Option, Some, None, IfSome, Result, Ok, Err, ◌≤◌, drop_at, sym, ap, subst, ◌∙◌, arith, append_assoc, length-append}
+use Rattle.std.proofs.Common.{◌≡◌, ℕ, ◌+◌, ◌<◌, List, ◌++◌, length, take, drop, Option, Some, None, IfSome, Result, Ok, Err, drop_at, sym, ap, subst, ◌∙◌, arith, append_assoc, length-append}
 use Rattle.std.proofs.Math.Seq.{take-add}
 use Rattle.std.proofs.lemmas.List.{take-append-le}
 use Rattle.std.specs.Io.{ReadsAtMost}
 use Rattle.std.proofs.lemmas.Grind.{common_steps}
-use Rattle.std.specs.Io.KnownBytes.{Consumes, IsAtEnd, Keeps, ReadConsumes}
+use Rattle.std.specs.Io.KnownBytes.{Consumes, IsAtEnd, ReadConsumes}
 use Rattle.std.specs.Prelude.{IfOk}
 
 pub consumes_more : (a b c : Option (List ℕ)) (front piece : List ℕ) → Consumes a b front → Consumes b c piece
@@ -33,7 +33,7 @@ pub consumes_filled : (a b c : Option (List ℕ)) (old new : List ℕ) (filled n
     → Consumes a b (take filled old) → Consumes b c (take n (drop filled new)) → Consumes a c (take (filled + n) new)
 consumes_filled a b c old new filled n front first next =
     let both : take (filled + n) new ≡ take filled old ++ take n (drop filled new) =
-        take-add filled n new ∙ ap (λ xs. xs ++ take n (drop filled new)) front in
+    take-add filled n new ∙ ap (λ xs. xs ++ take n (drop filled new)) front in
     subst (Consumes a c) (sym both) (consumes_more a b c (take filled old) (take n (drop filled new)) first next)
 
 -- what was read into a part of a buffer stands behind the front

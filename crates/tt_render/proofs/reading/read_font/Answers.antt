@@ -1,4 +1,4 @@
-use Rattle.std.proofs.Common.{◌≡◌, ◌+◌, ◌<◌, ◌∙◌, ◌++◌, length, take, drop, sym, rules, arith, length-take-le, take_at}
+use Rattle.std.proofs.Common.{◌≡◌, ◌+◌, ◌<◌, ◌∙◌, ◌++◌, length, take, drop, rules, arith, length-take-le, take_at}
 use Rattle.std.proofs.lemmas.List.{places}
 use Rattle.tt_core.specs.Limits.{font_limit}
 use Rattle.tt_render.proofs.Known.{consumes_filled, consumes_larger}
@@ -15,7 +15,9 @@ returns-then-filled-gt-FONT_LIMIT g c =
     c.pieces.invariant.bytes c.in-Ok.ensures.bytes in
     let long = length-take-le filled buf c.in-Ok.ensures.bound in
     let large : font_limit < length (take filled buf) = omega (arith, long, c.if-filled-gt-FONT_LIMIT.true) in
-    (consumes_larger (left c.args.font.now) (left c.read_behind.new.font) (take filled buf) font_limit known large, (take filled buf, known), search rules)
+    let larger = consumes_larger (left c.args.font.now) (left c.read_behind.new.font) (take filled buf) font_limit known
+    large in
+    (larger, (take filled buf, known), search rules)
 
 pub pieces-preserved : goal.pieces-preserved
 pieces-preserved g c =
@@ -26,7 +28,8 @@ pieces-preserved g c =
     c.pieces.file.items buf c.pieces.filled c.in-Ok.n (front ∙ c.make_room.ensures.front)
     c.pieces.invariant.bytes c.in-Ok.ensures.bytes in
     let long : length buf ≡ c.make_room.new.file.len = search (rules, places) in
-    let whole : take c.make_room.new.file.len (buf ++ drop (length buf) c.make_room.new.file.items) ≡ buf = take_at buf _ c.make_room.new.file.len long in
+    let whole : take c.make_room.new.file.len (buf ++ drop (length buf) c.make_room.new.file.items) ≡ buf =
+    take_at buf _ c.make_room.new.file.len long in
     record {
       within = search rules;
       known = search rules;
