@@ -5,13 +5,14 @@
 -- off the curve a point on it is implied. That a curve is cut into eight chords is profile. Points are in 26.6, edges
 -- in
 -- 1/8192 pixel.
-use Rattle.std.specs.Prelude.{◌≡◌, ℕ, zero, suc, ◌+◌, ◌-◌, ◌*◌, ◌^◌, ◌<◌, ◌≤◌, Bool, true, false, nat_lt, if◌then◌else◌, ℤ, pos, ◌+ℤ◌, ◌*ℤ◌, unsigned_abs, List, [], ◌∷◌, ◌++◌, length, map, take, get_or, refl}
+use Rattle.std.specs.Prelude.{◌≡◌, ℕ, zero, suc, ◌+◌, ◌-◌, ◌*◌, ◌^◌, ◌<◌, ◌≤◌, Bool, true, false, nat_lt, if◌then◌else◌, ℤ, pos, ◌+ℤ◌, ◌-ℤ◌, ◌*ℤ◌, unsigned_abs, List, [], ◌∷◌, ◌++◌, length, map, take, get_or, refl}
 use Rattle.std.specs.List.{slice_index, slice_range, flat_map, range_with_len}
 use Rattle.tt_scan.specs.declared.edge.Edge.{Edge}
 use Rattle.tt_arc.specs.declared.curve.Bend.{Bend}
 use Rattle.tt_arc.specs.declared.curve.Curve.{Curve}
 use Rattle.tt_arc.specs.declared.curve.Joint.{Joint}
 use Rattle.tt_arc.specs.declared.curve.Spot.{Spot}
+use Rattle.tt_arc.specs.declared.curve.Stride.{Stride}
 use Rattle.tt_arc.specs.declared.dot.Dot.{Dot}
 
 -- a point moved by dx and dy
@@ -126,6 +127,13 @@ pub record BendFits (b : Bend) : Type 0 where
   pub q : unsigned_abs b.q + 2 ≤ 2 ^ 24
   pub p : unsigned_abs b.p < 2 ^ 23
   pub r : unsigned_abs b.r + 2 ≤ 2 ^ 24
+
+-- one coordinate of a curve, k eighths along it, and how far it is to the next eighth
+pub record IsStride (b : Bend) (k : ℕ) (s : Stride) : Type 0 where
+  pub at : s.at ≡ eighth k b
+  pub step : k < 8 → s.at +ℤ s.step ≡ eighth (k + 1) b
+  pub turn : s.turn ≡ (pos 2 *ℤ (b.q +ℤ b.r)) -ℤ (pos 8 *ℤ b.p)
+  pub small : unsigned_abs s.step ≤ 2 ^ 29 + 2 ^ 27 * k
 
 -- a place in 1/8192 pixel that the program takes
 pub record SpotFits (s : Spot) : Type 0 where

@@ -8,6 +8,7 @@ use crate::dot::{Dot, Shift, moved};
 use std::alloc::AllocError;
 use tt_scan::Tape;
 
+#[inline(always)]
 fn spot_of(p: Dot) -> Spot
     requires { DotFits p }
     ensures exact { result ≡ spot_of p }

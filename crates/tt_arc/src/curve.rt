@@ -1,9 +1,9 @@
 //! The curve of a point off the curve, cut into eight chords. Apple TrueType Reference Manual, "Digitizing Letterform
 //! Designs".
 
-ghost use Rattle.std.specs.Prelude.{◌≡◌, ◌+◌, ◌*◌, ◌^◌, ◌<◌, ◌≤◌, ◌++◌, pos, ◌*ℤ◌, unsigned_abs, OnOk};
+ghost use Rattle.std.specs.Prelude.{◌≡◌, ◌^◌, ◌<◌, ◌≤◌, ◌++◌, ◌+ℤ◌, unsigned_abs, OnOk};
 ghost use Rattle.tt_scan.specs.Winding.{EdgeFits};
-ghost use Rattle.tt_arc.specs.Chords.{DotFits, JointFits, CurveFits, BendFits, SpotFits, joint_of, curve_of, eighth, chord_end, edge_between, first_chords};
+ghost use Rattle.tt_arc.specs.Chords.{DotFits, JointFits, CurveFits, BendFits, SpotFits, IsStride, along_x, along_y, joint_of, curve_of, edge_between, first_chords};
 
 use crate::dot::Dot;
 use std::alloc::AllocError;
@@ -39,6 +39,7 @@ struct Bend {
     r: i64,
 }
 
+#[inline(always)]
 fn joint_of(neighbour: Dot, p: Dot) -> Joint
     requires neighbour { DotFits neighbour }
     requires point { DotFits p }
@@ -59,6 +60,7 @@ fn joint_of(neighbour: Dot, p: Dot) -> Joint
 }
 
 /// The curve of a point off the curve, between its neighbours.
+#[inline(always)]
 pub(crate) fn curve_of(before: Dot, p: Dot, after: Dot) -> Curve
     requires before { DotFits before }
     requires point { DotFits p }
@@ -73,52 +75,77 @@ pub(crate) fn curve_of(before: Dot, p: Dot, after: Dot) -> Curve
     }
 }
 
-fn weighed(weight: u32, z: i64) -> i64
-    requires weight { weight ≤ 64 }
-    requires z { unsigned_abs z < 2 ^ 24 }
-    ensures exact { result ≡ pos weight *ℤ z }
-    ensures within { unsigned_abs result < 2 ^ 30 }
-{
-    i64::from(weight) * z
+/// Where a chord ends along one axis, how far it is from there to the end of the next chord, and how much further to
+/// the end of the one after it: that is the same all along a curve.
+#[derive(Clone, Copy)]
+struct Stride {
+    at: i64,
+    step: i64,
+    turn: i64,
 }
 
-fn eighth(k: u32, bend: Bend) -> i64
-    requires place { k ≤ 8 }
-    requires fits { BendFits bend }
-    ensures exact { result ≡ eighth k bend }
-    ensures within { unsigned_abs result < 2 ^ 30 }
+#[inline(always)]
+fn along_x(curve: Curve) -> Bend
+    ensures { result ≡ along_x curve }
 {
-    let left = 8 - k;
-    weighed(left * left, bend.q) + weighed(4 * k * left, bend.p) + weighed(k * k, bend.r)
-}
-
-fn chord_end(curve: Curve, k: u32) -> Spot
-    requires place { k ≤ 8 }
-    requires fits { CurveFits curve }
-    ensures exact { result ≡ chord_end curve k }
-    ensures fits { SpotFits result }
-{
-    let Curve { from, control, to } = curve;
-    Spot {
-        x: eighth(
-            k,
-            Bend {
-                q: from.x,
-                p: control.x,
-                r: to.x,
-            },
-        ),
-        y: eighth(
-            k,
-            Bend {
-                q: from.y,
-                p: control.y,
-                r: to.y,
-            },
-        ),
+    Bend {
+        q: curve.from.x,
+        p: curve.control.x,
+        r: curve.to.x,
     }
 }
 
+#[inline(always)]
+fn along_y(curve: Curve) -> Bend
+    ensures { result ≡ along_y curve }
+{
+    Bend {
+        q: curve.from.y,
+        p: curve.control.y,
+        r: curve.to.y,
+    }
+}
+
+/// The coordinate of a curve's beginning.
+#[inline(always)]
+fn begin(bend: Bend) -> Stride
+    requires { BendFits bend }
+    ensures { IsStride bend 0 result }
+{
+    let Bend { q, p, r } = bend;
+    Stride {
+        at: 64 * q,
+        step: 28 * p - 15 * q + r,
+        turn: 2 * (q + r) - 8 * p,
+    }
+}
+
+/// One chord on.
+#[inline(always)]
+fn next(s: Stride) -> Stride
+    requires at { unsigned_abs s.at < 2 ^ 30 }
+    requires step { unsigned_abs s.step < 2 ^ 31 }
+    requires turn { unsigned_abs s.turn ≤ 2 ^ 27 }
+    ensures at { result.at ≡ s.at +ℤ s.step }
+    ensures step { result.step ≡ s.step +ℤ s.turn }
+    ensures turn { result.turn ≡ s.turn }
+{
+    Stride {
+        at: s.at + s.step,
+        step: s.step + s.turn,
+        turn: s.turn,
+    }
+}
+
+/// Where a chord ends.
+#[inline(always)]
+fn place(x: Stride, y: Stride) -> Spot
+    ensures { result ≡ record { x = x.at; y = y.at } }
+{
+    Spot { x: x.at, y: y.at }
+}
+
+#[inline(always)]
 pub(crate) fn edge_between(a: Spot, b: Spot) -> Edge
     requires a { SpotFits a }
     requires b { SpotFits b }
@@ -139,9 +166,13 @@ pub(crate) fn push_chords(tape: &mut Tape, curve: Curve) -> Result<(), AllocErro
     requires { CurveFits curve }
     ensures exact { OnOk result (tape.new ≡ record tape.old { edges = tape.old.edges ++ first_chords curve 8 }) }
 {
-    let mut from = chord_end(curve, 0);
-    for k in 0..8 {
-        let to = chord_end(curve, k + 1);
+    let mut x = begin(along_x(curve));
+    let mut y = begin(along_y(curve));
+    let mut from = place(x, y);
+    for k in 0..8u32 {
+        x = next(x);
+        y = next(y);
+        let to = place(x, y);
         tape.push(edge_between(from, to))?;
         from = to;
     }

@@ -19,6 +19,7 @@ pub(crate) struct Shift {
     pub(crate) dy: i64,
 }
 
+#[inline(always)]
 pub(crate) fn moved(point: (i32, i32, bool), by: Shift) -> Dot
     requires { IsNear by.dx by.dy point }
     ensures { result ≡ moved by.dx by.dy point }

@@ -43,12 +43,6 @@ and_turned true false = refl
 and_turned false true = refl
 and_turned false false = refl
 
-pub between_down : (a b z low high k : ℤ) → int_max a b -ℤ z ≡ k -ℤ low → int_min a b -ℤ z ≡ k -ℤ high → is_between a b z ≡ (int_le low k && int_le k high)
-between_down a b z low high k is_low is_high =
-    let one = shifted (int_min a b) z k high is_high in
-    let two = shifted z (int_max a b) low k (omega (arith, ints)) in
-    between_is a b z ∙ rw (one, two) (and_turned (int_le k high) (int_le low k))
-
 -- whole pixels, from their counts: `first` from the floor of low and all but one more pixel, `last` from the floor of high
 pixel_first : (low first k : ℤ) → (pos 8192 *ℤ first) ≤ℤ (low +ℤ pos 8191) → (low +ℤ pos 8191) <ℤ (pos 8192 *ℤ (first +ℤ pos 1))
     → int_le first k ≡ int_le low (pos 8192 *ℤ k)
@@ -102,10 +96,12 @@ pub clipped : (first last height from past k : ℤ) → from ≡ int_max (pos 0)
 clipped first last height from past k is_from is_past low high =
     rw (clipped_first first height from k is_from low high) (same_after (int_le from k) (int_le k last) (int_lt k past) (λ reached. clipped_last last height from past k is_past high (omega (arith, ints))))
 
--- the rows whose centre line meets an edge, by how far they lie below the highest centres
-pub row_met : (e : Edge) (f : Frame) (top low high row : ℤ) → top ≡ row_y f (pos 0) → low ≡ int_min e.ay e.by → high ≡ int_max e.ay e.by
-    → is_between e.ay e.by (row_y f row) ≡ (int_le (top -ℤ high) (pos 8192 *ℤ row) && int_le (pos 8192 *ℤ row) (top -ℤ low))
-row_met e f top low high row is_top is_low is_high = between_down e.ay e.by (row_y f row) (top -ℤ high) (top -ℤ low) (pos 8192 *ℤ row) (omega (arith, ints)) (omega (arith, ints))
+-- the same lines counted upwards and downwards
+pub downwards : (top low high row : ℤ) → (int_le low (top -ℤ row) && int_le (top -ℤ row) high) ≡ (int_le (top -ℤ high) row && int_le row (top -ℤ low))
+downwards top low high row =
+    let one = shifted low (top -ℤ row) row (top -ℤ low) (omega (arith, ints)) in
+    let two = shifted (top -ℤ row) high (top -ℤ high) row (omega (arith, ints)) in
+    rw (one, two) (and_turned (int_le row (top -ℤ low)) (int_le (top -ℤ high) row))
 
 -- a column cut to those of a window: to so many from `low` on
 

@@ -11,6 +11,7 @@ use Rattle.tt_scan.specs.declared.stamp.Stamp.{Stamp}
 use Rattle.tt_scan.specs.Marks.{covers}
 use Rattle.tt_scan.specs.Stamps.{in_word, shows, IsStampOf}
 use Rattle.tt_scan.proofs.Columns.{or_bit}
+use Rattle.tt_scan.proofs.Words.{past_last}
 use Rattle.tt_scan.proofs.Visits.{covers_more}
 
 second_false : (a b : Bool) → b ≡ false → (a && b) ≡ false
@@ -58,7 +59,7 @@ shows_more s t span from to mask c low word is_from is_to above below is =
     (spread_in (int_le s.low c) (in_word s.word (unsigned_abs (c -ℤ s.low)) || in_word mask (unsigned_abs (c -ℤ s.low))) (in_word s.word (unsigned_abs (c -ℤ s.low))) (in_word mask (unsigned_abs (c -ℤ s.low))) refl)
 
 pub free_more : (word mask from to i : ℕ) → to ≤ 57 → ((j : ℕ) → j < 64 → (bit_at mask (63 - j) == 1) ≡ (nat_le from j && nat_lt j to))
-    → i < 7 → bit_at word i ≡ 0 → bit_at (bit_or word mask) i ≡ 0
+    → i < 64 - to → bit_at word i ≡ 0 → bit_at (bit_or word mask) i ≡ 0
 free_more word mask from to i short is low free =
     let at : 63 - (63 - i) ≡ i = omega arith in
     let off = rw at at (is (63 - i) (omega arith)) in
@@ -73,16 +74,17 @@ span_added ss i d c so_far now below is is_now =
 
 -- painted at a place
 
-within_row : (word at k width : ℕ) → at + 64 ≤ width → in_word word (k - at) ≡ (nat_lt k width && in_word word (k - at))
-within_row word at k width room = elim (cases_lt k width) [
+within_row : (word columns at k width : ℕ) → columns ≤ 57 → ((b : ℕ) → b < 64 - columns → bit_at word b ≡ 0) → at + columns ≤ width
+    → in_word word (k - at) ≡ (nat_lt k width && in_word word (k - at))
+within_row word columns at k width few free room = elim (cases_lt k width) [
   | inl inside ↦ let on : nat_lt k width ≡ true = grind (arith, nat_tests) in rw on refl
   | inr past ↦
       let off : nat_lt k width ≡ false = grind (arith, nat_tests) in
-      let out : nat_lt (k - at) 57 ≡ false = grind (arith, nat_tests) in
+      let out = past_last word columns (k - at) few free (omega arith) in
       rw (off, out) refl
 ]
 
-pub stamp_painted : (ss : List Span) (s : Stamp) (at k width : ℕ) (shift : ℤ) → IsStampOf ss s → pos at ≡ s.low +ℤ shift → at + 64 ≤ width
+pub stamp_painted : (ss : List Span) (s : Stamp) (at k width : ℕ) (shift : ℤ) → IsStampOf ss s → pos at ≡ s.low +ℤ shift → at + s.columns ≤ width
     → (nat_le at k && in_word s.word (k - at)) ≡ (nat_lt k width && covers ss (pos k -ℤ shift))
 stamp_painted ss s at k width shift is is_at room =
     rw (is.shows (pos k -ℤ shift)) (elim (cases_lt k at) [
@@ -94,5 +96,5 @@ stamp_painted ss s at k width shift is is_at room =
           let on : nat_le at k ≡ true = grind (arith, nat_tests) in
           let in_it : int_le s.low (pos k -ℤ shift) ≡ true = grind (arith, ints) in
           let same : unsigned_abs ((pos k -ℤ shift) -ℤ s.low) ≡ k - at = omega (arith, ints) in
-          rw (on, in_it, same) (within_row s.word at k width room)
+          rw (on, in_it, same) (within_row s.word s.columns at k width is.narrow is.free room)
     ])

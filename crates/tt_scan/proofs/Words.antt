@@ -125,12 +125,21 @@ word_begin false s at k = elim (cases_lt k at) [
   | inr right ↦ let off : nat_lt k (8 * (at / 8 + 0)) ≡ false = grind (arith, nat_tests) in rw off refl
 ]
 
-pub word_end : (old row : Bool) (word at i k : ℕ) → 8 ≤ i
+-- a word has no columns past its last
+
+pub past_last : (word columns j : ℕ) → columns ≤ 57 → ((b : ℕ) → b < 64 - columns → bit_at word b ≡ 0) → columns ≤ j → in_word word j ≡ false
+past_last word columns j few free past = elim (cases_lt j 57) [
+  | inl inside ↦ let none = free (63 - j) (omega arith) in
+      let on : nat_lt j 57 ≡ true = grind (arith, nat_tests) in rw (none, on) refl
+  | inr out ↦ let off : nat_lt j 57 ≡ false = grind (arith, nat_tests) in rw off refl
+]
+
+pub word_end : (old row : Bool) (word columns at i k : ℕ) → columns ≤ 57 → ((b : ℕ) → b < 64 - columns → bit_at word b ≡ 0) → (at % 8 + columns + 7) / 8 ≤ i
     → row ≡ (old || (nat_lt k (8 * (at / 8 + i)) && (nat_le at k && in_word word (k - at)))) → row ≡ (old || (nat_le at k && in_word word (k - at)))
-word_end old row word at i k done is = elim (cases_lt k (8 * (at / 8 + i))) [
+word_end old row word columns at i k few free done is = elim (cases_lt k (8 * (at / 8 + i))) [
   | inl inside ↦ let on : nat_lt k (8 * (at / 8 + i)) ≡ true = grind (arith, nat_tests) in rw on at is
   | inr past ↦
       let off : nat_lt k (8 * (at / 8 + i)) ≡ false = grind (arith, nat_tests) in
-      let out : nat_lt (k - at) 57 ≡ false = grind (arith, nat_tests) in
+      let out = past_last word columns (k - at) few free (omega arith) in
       is ∙ rw (off, out) (grind (arith, nat_tests))
 ]

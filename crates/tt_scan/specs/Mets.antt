@@ -1,5 +1,5 @@
 -- No part of the standard: the edges of a tape that meet some row of the frame, and those of them that meet one row.
-use Rattle.std.specs.Prelude.{◌≡◌, ℕ, ◌<◌, ◌≤◌, Bool, false, ℤ, pos, ◌<ℤ◌, ◌≤ℤ◌, List, map, length, take, get_or, filter, sum_by, All, int_lt}
+use Rattle.std.specs.Prelude.{◌≡◌, ℕ, ◌<◌, ◌≤◌, Bool, false, ℤ, pos, ◌<ℤ◌, ◌≤ℤ◌, List, map, length, get_or, sum_by, All}
 use Rattle.tt_scan.specs.declared.edge.Edge.{Edge}
 use Rattle.tt_scan.specs.declared.edge.Frame.{Frame}
 use Rattle.tt_scan.specs.declared.table.Met.{Met}
@@ -17,15 +17,18 @@ meets_row r m = has_row (m.first, m.past) r
 abbrev pub edges_of : List Met → List Edge
 edges_of ms = map (λ m. m.edge) ms
 
--- by their first rows
-abbrev pub IsInOrder : List Met → Type 0
-IsInOrder ms = (i j : ℕ) (d : Met) → i ≤ j → j < length ms → (get_or ms i d).first ≤ℤ (get_or ms j d).first
+-- from the first edge on that begins below a row, edges stand in order of their first rows
+abbrev pub IsInOrder : List Met → ℤ → Type 0
+IsInOrder ms row = (i j : ℕ) (d : Met) → i ≤ j → j < length ms → row <ℤ (get_or ms i d).first
+    → (get_or ms i d).first ≤ℤ (get_or ms j d).first
 
--- those before `next` begin at a row or above it, and the live ones are those of them that don't end above it
-pub record AreLive (ms live : List Met) (next : ℕ) (row : ℤ) : Type 0 where
-  pub is : live ≡ filter (λ m. int_lt row m.past) (take next ms)
+-- those before `next` begin at a row or above it; of these end above it those before `from` and no others
+pub record AreCut (ms : List Met) (from next : ℕ) (row : ℤ) : Type 0 where
+  pub order : from ≤ next
   pub within : next ≤ length ms
-  pub passed : All (λ m. m.first ≤ℤ row) (take next ms)
+  pub begun : (i : ℕ) (d : Met) → i < next → (get_or ms i d).first ≤ℤ row
+  pub ended : (i : ℕ) (d : Met) → i < from → (get_or ms i d).past ≤ℤ row
+  pub live : (i : ℕ) (d : Met) → from ≤ i → i < next → row <ℤ (get_or ms i d).past
 
 -- no row of the frame meets an edge
 abbrev pub IsUnmet : Frame → Edge → Type 0

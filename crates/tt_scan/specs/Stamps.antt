@@ -16,12 +16,13 @@ shows s c = int_le s.low c && in_word s.word (unsigned_abs (c -ℤ s.low))
 -- a stamp has the columns that spans cover
 pub record IsStampOf (ss : List Span) (s : Stamp) : Type 0 where
   pub shows : (c : ℤ) → covers ss c ≡ shows s c
-  pub free : (i : ℕ) → i < 7 → bit_at s.word i ≡ 0
+  pub narrow : s.columns ≤ 57
+  pub free : (i : ℕ) → i < 64 - s.columns → bit_at s.word i ≡ 0
   pub low : unsigned_abs s.low ≤ 2 ^ 40
 
 -- worked values
-its_first_column : shows (record { low = negsuc 2; word = 2 ^ 63 }) (negsuc 2) ≡ true
+its_first_column : shows (record { low = negsuc 2; columns = 1; word = 2 ^ 63 }) (negsuc 2) ≡ true
 its_first_column = refl
 
-left_of_it : shows (record { low = negsuc 2; word = 2 ^ 63 }) (negsuc 3) ≡ false
+left_of_it : shows (record { low = negsuc 2; columns = 1; word = 2 ^ 63 }) (negsuc 3) ≡ false
 left_of_it = refl

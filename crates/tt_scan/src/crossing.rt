@@ -25,7 +25,7 @@ use crate::edge::{Cross, Edge, Frame};
 use crate::quotient::{PIXEL, Quotient, divided, pixels_between, product};
 
 /// From a border of a pixel to its centre, in 1/8192 pixel.
-const HALF: i64 = PIXEL / 2;
+pub(crate) const HALF: i64 = PIXEL / 2;
 
 /// Where the centres of a row stand, in 1/8192 pixel.
 pub(crate) fn row_height(frame: Frame, row: i64) -> i64
@@ -39,6 +39,7 @@ pub(crate) fn row_height(frame: Frame, row: i64) -> i64
 }
 
 /// How far a place stands right of the centres of column 0. Both are in 1/8192 pixel.
+#[inline(always)]
 fn from_centre(x: i64, margin: u32) -> i64
     requires place { unsigned_abs x < 2 ^ 30 }
     requires margin { margin ≤ margin_limit }
@@ -50,6 +51,7 @@ fn from_centre(x: i64, margin: u32) -> i64
 
 /// The last column whose centre is not right of a rising edge, at a height between its ends; no rest is left where the
 /// edge stands on that centre.
+#[inline(always)]
 fn standing(edge: Edge, margin: u32, y: i64) -> Quotient
     requires edge { EdgeFits edge }
     requires margin { margin ≤ margin_limit }
@@ -67,6 +69,7 @@ fn standing(edge: Edge, margin: u32, y: i64) -> Quotient
 }
 
 /// That column as the columns which the edge touches.
+#[inline(always)]
 fn touched(at: Quotient) -> Option<(i64, i64)>
     ensures exact { (c : ℤ) → spans result c ≡ (is_zero at.rest && is_zero (at.whole -ℤ c)) }
     ensures order { IfSome result (λ t. t.0 ≤ℤ t.1) }
@@ -79,6 +82,7 @@ fn touched(at: Quotient) -> Option<(i64, i64)>
 }
 
 /// What an edge does at a height that it does not reach.
+#[inline(always)]
 fn apart() -> Cross
     ensures touch { result.touch ≡ None }
     ensures turn { result.turn ≡ pos 0 }
@@ -92,6 +96,7 @@ fn apart() -> Cross
 }
 
 /// What an edge with a below b does at a height.
+#[inline(always)]
 fn rising(edge: Edge, margin: u32, y: i64) -> Cross
     requires edge { EdgeFits edge }
     requires margin { margin ≤ margin_limit }
@@ -120,6 +125,7 @@ fn rising(edge: Edge, margin: u32, y: i64) -> Cross
 }
 
 /// What an edge with a above b does at a height: what it does from b to a, but it turns the other way.
+#[inline(always)]
 fn falling(edge: Edge, margin: u32, y: i64) -> Cross
     requires edge { EdgeFits edge }
     requires margin { margin ≤ margin_limit }
@@ -142,6 +148,7 @@ fn falling(edge: Edge, margin: u32, y: i64) -> Cross
 }
 
 /// What an edge with a and b at one height does at a height; they may be one point.
+#[inline(always)]
 fn flat(edge: Edge, margin: u32, y: i64) -> Cross
     requires edge { EdgeFits edge }
     requires margin { margin ≤ margin_limit }
@@ -162,6 +169,7 @@ fn flat(edge: Edge, margin: u32, y: i64) -> Cross
 }
 
 /// What an edge does at a height.
+#[inline(always)]
 pub(crate) fn crossing(edge: Edge, margin: u32, y: i64) -> Cross
     requires edge { EdgeFits edge }
     requires margin { margin ≤ margin_limit }

@@ -13,6 +13,7 @@ pub(crate) struct Mark {
 
 impl Mark {
     /// How the edge turns.
+    #[inline(always)]
     pub(crate) fn turn(self) -> i64
         ensures exact { result ≡ turn_of self }
         ensures small { unsigned_abs result ≤ 1 }

@@ -14,6 +14,7 @@ pub(crate) struct Quotient {
 }
 
 /// `n / d` without its fraction, and what is left of `n`, with its sign.
+#[inline(always)]
 fn truncated(n: i64, d: i64) -> Quotient
     requires divisor { pos 2 ≤ℤ d }
     ensures exact { d *ℤ result.whole +ℤ result.rest ≡ n }
@@ -27,6 +28,7 @@ fn truncated(n: i64, d: i64) -> Quotient
 }
 
 /// The floor of `n / d`, and what is left of `n`.
+#[inline(always)]
 pub(crate) fn divided(n: i64, d: i64) -> Quotient
     requires divisor { pos 2 ≤ℤ d }
     ensures exact { d *ℤ result.whole +ℤ result.rest ≡ n }
@@ -46,6 +48,7 @@ pub(crate) fn divided(n: i64, d: i64) -> Quotient
 }
 
 /// How many whole pixels there are in `n`, which is in 1/8192 pixel: the floor.
+#[inline(always)]
 pub(crate) fn whole_pixels(n: i64) -> i64
     ensures low { (pos 8192 *ℤ result) ≤ℤ n }
     ensures high { n <ℤ (pos 8192 *ℤ (result +ℤ pos 1)) }
@@ -54,6 +57,7 @@ pub(crate) fn whole_pixels(n: i64) -> i64
 }
 
 /// `a * b`, told as a product of whole numbers.
+#[inline(always)]
 pub(crate) fn product(a: i64, b: i64) -> i64
     requires left { unsigned_abs a < 2 ^ 31 }
     requires right { unsigned_abs b < 2 ^ 31 }
@@ -65,6 +69,7 @@ pub(crate) fn product(a: i64, b: i64) -> i64
 
 /// The first and the last of the whole numbers of pixels from `low` to `high`, which are in 1/8192 pixel; None where
 /// there is none.
+#[inline(always)]
 pub(crate) fn pixels_between(low: i64, high: i64) -> Option<(i64, i64)>
     requires low { unsigned_abs low < 2 ^ 36 }
     requires high { unsigned_abs high < 2 ^ 36 }

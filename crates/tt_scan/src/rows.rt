@@ -1,17 +1,18 @@
 //! The rows of a frame that an edge meets.
 
-ghost use Rattle.std.specs.Prelude.{◌≡◌, ℤ, ◌^◌, ◌<◌, ◌-ℤ◌, ◌⊎◌, true, ◌&&◌, pos, int_lt, int_le, ◌<ℤ◌, ◌≤ℤ◌, unsigned_abs};
-ghost use Rattle.tt_scan.specs.Crossing.{AreRows, has_row};
-ghost use Rattle.tt_scan.specs.Winding.{EdgeFits, FrameFits};
+ghost use Rattle.std.specs.Prelude.{◌≡◌, ℤ, ◌^◌, ◌<◌, ◌+ℤ◌, ◌*ℤ◌, ◌-ℤ◌, ◌⊎◌, true, ◌&&◌, pos, int_lt, int_le, ◌<ℤ◌, ◌≤ℤ◌, unsigned_abs, IfSome};
+ghost use Rattle.tt_scan.specs.Crossing.{AreRows, has_row, spans};
+ghost use Rattle.tt_scan.specs.Winding.{EdgeFits, FrameFits, is_between};
 
-use crate::crossing::row_height;
+use crate::crossing::HALF;
 use crate::edge::{Edge, Frame};
 use crate::quotient::pixels_between;
 
 /// Of the rows from `first` to `last` those of a frame of so many rows: the first of them, and one past the last.
+#[inline(always)]
 fn within(first: i64, last: i64, height: i64) -> (i64, i64)
-    requires first { unsigned_abs first < 2 ^ 24 }
-    requires last { unsigned_abs last < 2 ^ 24 }
+    requires first { unsigned_abs first < 2 ^ 25 }
+    requires last { unsigned_abs last < 2 ^ 25 }
     requires height { pos 0 ≤ℤ height }
     ensures met { (k : ℤ) → pos 0 ≤ℤ k → k <ℤ height → (int_le first k && int_le k last) ≡ (int_le result.0 k && int_lt k result.1) }
     ensures low { pos 0 ≤ℤ result.0 }
@@ -22,21 +23,48 @@ fn within(first: i64, last: i64, height: i64) -> (i64, i64)
     (from, (last + 1).clamp(from, height))
 }
 
+/// The centre lines that meet an edge, from the lowest to the highest: line k runs half a pixel below k pixels over the
+/// base line. None where the edge lies between two of them.
+#[inline(always)]
+fn lines_met(edge: Edge) -> Option<(i64, i64)>
+    requires { EdgeFits edge }
+    ensures exact { (k : ℤ) → spans result k ≡ is_between edge.ay edge.by (pos 8192 *ℤ k -ℤ pos 4096) }
+    ensures low { IfSome result (λ t. unsigned_abs t.0 < 2 ^ 24) }
+    ensures high { IfSome result (λ t. unsigned_abs t.1 < 2 ^ 24) }
+{
+    pixels_between(edge.ay.min(edge.by) + HALF, edge.ay.max(edge.by) + HALF)
+}
+
+/// The centre line of row 0.
+#[inline(always)]
+fn top_line(frame: Frame) -> i64
+    requires { FrameFits frame }
+    ensures exact { result ≡ frame.rise +ℤ pos frame.margin }
+    ensures small { unsigned_abs result < 2 ^ 21 }
+{
+    i64::from(frame.rise) + i64::from(frame.margin)
+}
+
 /// The first of the frame's rows whose centre line meets the edge, its ends included, and one past the last; two equal
 /// numbers where none does.
+#[inline(always)]
 pub(crate) fn row_range(edge: Edge, frame: Frame) -> (i64, i64)
     requires edge { EdgeFits edge }
     requires frame { FrameFits frame }
     ensures { AreRows edge frame result }
 {
-    let top = row_height(frame, 0);
-    match pixels_between(top - edge.ay.max(edge.by), top - edge.ay.min(edge.by)) {
-        Some((first, last)) => within(first, last, i64::from(frame.height)),
+    match lines_met(edge) {
+        Some((low, high)) => {
+            // Rows count downwards.
+            let top = top_line(frame);
+            within(top - high, top - low, i64::from(frame.height))
+        }
         None => (0, 0),
     }
 }
 
 /// The rows from the first to the last of two ranges of rows, where an empty one counts for nothing.
+#[inline(always)]
 pub(crate) fn joined(all: (i64, i64), more: (i64, i64)) -> (i64, i64)
     ensures left { (row : ℤ) → has_row all row ≡ true → has_row result row ≡ true }
     ensures right { (row : ℤ) → has_row more row ≡ true → has_row result row ≡ true }

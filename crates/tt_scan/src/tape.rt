@@ -45,6 +45,7 @@ impl Model for Tape {
 }
 
 /// Adds an edge to those that meet some row, if it does. After an error they are as they were.
+#[inline(always)]
 fn add_met(table: &mut Table, rows: (i64, i64), edge: Edge) -> Result<(), AllocError>
     ensures added { OnOk result (table.new.met ≡ table.old.met ++ (if int_lt rows.0 rows.1
         then (record { first = rows.0; past = rows.1; edge = edge }) ∷ [] else [])) }
@@ -84,16 +85,17 @@ impl Tape {
     }
 
     /// Adds an edge. After an error the tape is as it was.
+    #[inline(always)]
     pub fn push(&mut self, edge: Edge) -> Result<(), AllocError>
         requires { EdgeFits edge }
         ensures added { OnOk result (self.new ≡ record self.old { edges = self.old.edges ++ edge ∷ [] }) }
         ensures kept { OnErr result (self.new ≡ self.old) }
     {
-        let rows = row_range(edge, self.frame);
         self.edges.reserve(1)?;
+        let rows = row_range(edge, self.frame);
         add_met(&mut self.table, rows, edge)?;
-        self.edges.push_reserved(edge);
         self.rows = joined(self.rows, rows);
+        self.edges.push_reserved(edge);
         Ok(())
     }
 

@@ -1,4 +1,4 @@
-use Rattle.std.proofs.Common.{◌≡◌, ℕ, ℤ, ◌^◌, ◌<◌, ◌≤◌, take, unsigned_abs}
+use Rattle.std.proofs.Common.{◌≡◌, ℕ, ℤ, ◌-◌, ◌^◌, ◌<◌, ◌≤◌, take, unsigned_abs}
 use Rattle.std.specs.Int.{bit_at}
 use Rattle.tt_scan.specs.Marks.{covers}
 use Rattle.tt_scan.specs.Stamps.{shows}
@@ -8,6 +8,7 @@ use Rattle.tt_scan.proofs.stamp.stamped.Given as goal
 abbrev pub invariant-loop-i : goal.invariant-loop-i
 invariant-loop-i l = record {
   shows : (c : ℤ) → covers (take l.i l.spans) c ≡ shows l.stamp c;
-  free : (i : ℕ) → i < 7 → bit_at l.stamp.word i ≡ 0;
+  narrow : l.stamp.columns ≤ 57;
+  free : (i : ℕ) → i < 64 - l.stamp.columns → bit_at l.stamp.word i ≡ 0;
   low : unsigned_abs l.stamp.low ≤ 2 ^ 40;
 }

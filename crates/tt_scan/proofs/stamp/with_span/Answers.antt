@@ -17,8 +17,9 @@ returns-clause-free c = λ i few.
     let past : SFits w64 (c.args.span.last +ℤ pos 1) = omega (arith, ints, above, order, below, c.requires.low) in
     let to : SFits w64 ((c.args.span.last +ℤ pos 1) -ℤ c.args.stamp.low) = omega (arith, ints, above, order, below, c.requires.low) in
     let is = simp to_z-of_z at c.ones.ensures in
+    let most = simp to_z-of_z at c.max.ensures in
     free_more c.args.stamp.word c.ones.result (unsigned_abs (c.args.span.first -ℤ c.args.stamp.low)) (unsigned_abs ((c.args.span.last +ℤ pos 1) -ℤ c.args.stamp.low)) i
-    (omega (arith, ints)) is few (c.requires.free i few)
+    (omega (arith, ints)) is (omega (arith, few, most)) (c.requires.free i (omega (arith, few, most)))
 
 pub returns-clause-shows : goal.returns-clause-shows
 returns-clause-shows c = λ at.
@@ -33,6 +34,6 @@ returns-clause-shows c = λ at.
     let past : SFits w64 (c.args.span.last +ℤ pos 1) = omega (arith, ints, above, order, below, c.requires.low) in
     let to : SFits w64 ((c.args.span.last +ℤ pos 1) -ℤ c.args.stamp.low) = omega (arith, ints, above, order, below, c.requires.low) in
     let is = simp to_z-of_z at c.ones.ensures in
-    simp to_z-of_z (shows_more c.args.stamp (record { low = c.args.stamp.low; word = bit_or c.args.stamp.word c.ones.result }) c.args.span
+    simp to_z-of_z (shows_more c.args.stamp (record { low = c.args.stamp.low; columns = c.max.result; word = bit_or c.args.stamp.word c.ones.result }) c.args.span
     (unsigned_abs (c.args.span.first -ℤ c.args.stamp.low)) (unsigned_abs ((c.args.span.last +ℤ pos 1) -ℤ c.args.stamp.low)) c.ones.result at
     refl refl (omega (arith, ints)) (omega (arith, ints)) above below is)
