@@ -55,8 +55,13 @@ round_at ps i j k d inside is once = others_at ps i j k d (nat_lt (i + k) (lengt
 
 many_others : (ps : List Point) (i : ℕ) → i < length ps → length (others ps i) + 1 ≡ length ps
 many_others ps i inside =
-    omega (arith, length-append (drop (i + 1) ps) (take i ps), length-drop (i + 1) ps, length-take-le i ps (omega
-    arith))
+    omega (
+      arith,
+      length-append (drop (i + 1) ps) (take i ps),
+      length-drop (i + 1) ps,
+      length-take-le i ps (omega
+          arith),
+    )
 
 -- the first touched one of a list, and the last one
 first_at : (axis : Axis) (qs : List Point) (k : ℕ) (d : Point) → k < length qs → is_touched axis (get_or qs k d) ≡ true

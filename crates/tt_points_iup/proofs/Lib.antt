@@ -6,3 +6,4 @@ pub mod Swept
 pub mod Contours
 pub mod Ranges
 pub mod ByNumber
+pub mod Whole
