@@ -12,6 +12,8 @@ mod fit_tests;
 #[cfg(test)]
 mod glyf_tests;
 #[cfg(test)]
+mod iup_tests;
+#[cfg(test)]
 mod line_tests;
 #[cfg(test)]
 mod machine_tests;
