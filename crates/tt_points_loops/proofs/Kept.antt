@@ -8,5 +8,6 @@ pub glyph_kept : (z : ZoneLists) (ps : List Point) → IsZones z → All IsPoint
 glyph_kept z ps is sound same =
     record { twilight = is.twilight; glyph = sound; contours = subst (AreContours 0 z.contours) (sym same) is.contours }
 
-pub twilight_kept : (z : ZoneLists) (ps : List Point) → IsZones z → All IsPoint ps → IsZones (record z { twilight = ps })
+pub twilight_kept : (z : ZoneLists) (ps : List Point) → IsZones z → All IsPoint ps
+    → IsZones (record z { twilight = ps })
 twilight_kept z ps is sound = record { twilight = sound; glyph = is.glyph; contours = is.contours }

@@ -49,7 +49,8 @@ behind move low past at (p ∷ ps) below =
     rw (same, rest) refl
 
 -- no point is in an empty range
-pub none_left : (move : Move) (low past at : ℕ) (ps : List Point) → past ≤ low → each_from_to low past move at ps ≡ Ok ps
+pub none_left : (move : Move) (low past at : ℕ) (ps : List Point) → past ≤ low
+    → each_from_to low past move at ps ≡ Ok ps
 none_left move low past at [] empty = refl
 none_left move low past at (p ∷ ps) empty =
     passed_by move low past at p ps (in_none low past at empty) ∙ rw (none_left move low past (suc at) ps empty) refl
@@ -66,7 +67,8 @@ first_of move low past at zero (p ∷ ps) d is some there =
     let next : (q : Point) → (each_from_to low past move (suc at) ps >>= λ qs. Ok (q ∷ qs))
     ≡ each_from_to (suc low) past move at (q ∷ ps) =
     λ q. rw rest (sym (passed_by move (suc low) past at q ps (before (suc low) past at (omega arith)))) in
-    all ∙ same_after (move at p) _ _ next ∙ ap (λ i. move i p >>= λ q. each_from_to (suc low) past move at (q ∷ ps)) here
+    all ∙ same_after (move at p) _ _ next
+    ∙ ap (λ i. move i p >>= λ q. each_from_to (suc low) past move at (q ∷ ps)) here
 first_of move low past at (suc k) (p ∷ ps) d is some there =
     let all = passed_by move low past at p ps (before low past at (omega arith)) in
     let on = first_of move low past (suc at) k ps d (omega arith) some (omega arith) in
@@ -74,7 +76,8 @@ first_of move low past at (suc k) (p ∷ ps) d is some there =
     ≡ each_from_to (suc low) past move at (p ∷ set ps k q) =
     λ q. sym (passed_by move (suc low) past at p (set ps k q) (before (suc low) past at (omega arith))) in
     all ∙ ap (λ r. r >>= λ qs. Ok (p ∷ qs)) on
-    ∙ in_turn (move low (get_or ps k d)) (λ q. each_from_to (suc low) past move (suc at) (set ps k q)) (λ qs. Ok (p ∷ qs))
+    ∙ in_turn (move low (get_or ps k d)) (λ q. each_from_to (suc low) past move (suc at) (set ps k q))
+    (λ qs. Ok (p ∷ qs))
     ∙ same_after (move low (get_or ps k d)) _ _ next
 
 -- what is left to do, where the step came through

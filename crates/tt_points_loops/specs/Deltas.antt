@@ -69,15 +69,18 @@ past_a_byte : delta_of 0x5D (pos 256) 1 default_state ≡ Err why.BadArgument
 past_a_byte = refl
 
 abbrev point : ℤ → Bool → Point
-point x touched = record { org_x = pos 0; org_y = pos 0; x = x; y = pos 0; touched_x = touched; touched_y = false; on = true }
+point x touched =
+    record { org_x = pos 0; org_y = pos 0; x = x; y = pos 0; touched_x = touched; touched_y = false; on = true }
 
 abbrev glyph : List Point → ZoneLists
 glyph ps = record { twilight = []; glyph = ps; contours = [] }
 
-a_point_at_its_size : deltap 0x5D 16 (pos 0x7F ∷ pos 0 ∷ pos 0x6F ∷ pos 9 ∷ []) (glyph (point (pos 1) false ∷ [])) default_state
+a_point_at_its_size : deltap 0x5D 16 (pos 0x7F ∷ pos 0 ∷ pos 0x6F ∷ pos 9 ∷ [])
+    (glyph (point (pos 1) false ∷ [])) default_state
     ≡ Ok (glyph (point (pos 65) true ∷ []))
 a_point_at_its_size = refl
 
-last_pair_first : deltap 0x5D 16 (pos 256 ∷ pos 0 ∷ pos 0x7F ∷ pos 1 ∷ []) (glyph (point (pos 1) false ∷ [])) default_state
+last_pair_first : deltap 0x5D 16 (pos 256 ∷ pos 0 ∷ pos 0x7F ∷ pos 1 ∷ [])
+    (glyph (point (pos 1) false ∷ [])) default_state
     ≡ Err why.PointRange
 last_pair_first = refl

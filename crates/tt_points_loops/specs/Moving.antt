@@ -66,11 +66,13 @@ glyph ps = record { twilight = []; glyph = ps; contours = [] }
 abbrev between : GraphicsState
 between = record default_state { rp1 = pos 0; rp2 = pos 1 }
 
-in_proportion : ip (pos 2 ∷ []) (glyph (point (pos 0) (pos 10) ∷ point (pos 100) (pos 210) ∷ point (pos 25) (pos 25) ∷ [])) between
+in_proportion : ip (pos 2 ∷ [])
+    (glyph (point (pos 0) (pos 10) ∷ point (pos 100) (pos 210) ∷ point (pos 25) (pos 25) ∷ [])) between
     ≡ Ok (glyph (point (pos 0) (pos 10) ∷ point (pos 100) (pos 210) ∷ moved_to (pos 25) (pos 60) ∷ []), between)
 in_proportion = refl
 
-no_range : ip (pos 2 ∷ []) (glyph (point (pos 0) (pos 10) ∷ point (pos 0) (pos 210) ∷ point (pos 25) (pos 25) ∷ [])) between
+no_range : ip (pos 2 ∷ [])
+    (glyph (point (pos 0) (pos 10) ∷ point (pos 0) (pos 210) ∷ point (pos 25) (pos 25) ∷ [])) between
     ≡ Ok (glyph (point (pos 0) (pos 10) ∷ point (pos 0) (pos 210) ∷ moved_to (pos 25) (pos 35) ∷ []), between)
 no_range = refl
 
@@ -87,5 +89,6 @@ no_point_no_refusal : alignrp [] (glyph []) (record default_state { free = axis.
 no_point_no_refusal = refl
 
 along_the_freedom_vector : shpix (pos 0 ∷ []) (negsuc 2) (glyph (point (pos 5) (pos 7) ∷ []))
-    (record default_state { proj = axis.Y }) ≡ Ok (glyph (moved_to (pos 5) (pos 4) ∷ []), record default_state { proj = axis.Y })
+    (record default_state { proj = axis.Y })
+    ≡ Ok (glyph (moved_to (pos 5) (pos 4) ∷ []), record default_state { proj = axis.Y })
 along_the_freedom_vector = refl

@@ -1,5 +1,5 @@
--- Apple TrueType Reference Manual, "Instruction set": managing outlines (SHP, SHC, SHZ): points follow a reference point.
--- Distances are in 26.6 pixels.
+-- Apple TrueType Reference Manual, "Instruction set": managing outlines (SHP, SHC, SHZ): points follow a reference
+-- point. Distances are in 26.6 pixels.
 use Rattle.std.specs.Prelude.{◌≡◌, ℕ, ◌%◌, ◌-◌, ◌==◌, ℤ, pos, negsuc, ◌-ℤ◌, int_lt, unsigned_abs, slice_get, Bool, true, false, if◌then◌else◌, List, [], ◌∷◌, length, Option, Some, None, Result, Ok, Err, refl}
 use Rattle.std.specs.Option.{ok_or}
 use Rattle.std.specs.Ordering.{int_eq}
@@ -102,7 +102,8 @@ abbrev pub contours_end : List (ℕ × ℕ) → ℕ
 contours_end contours = end_of (slice_get contours (length contours - 1))
 
 abbrev pub zone_of : ℤ → Result Zone Why
-zone_of e = if int_eq e (pos 0) then Ok zone.Twilight else (if int_eq e (pos 1) then Ok zone.Glyph else Err why.ZoneRange)
+zone_of e =
+    if int_eq e (pos 0) then Ok zone.Twilight else (if int_eq e (pos 1) then Ok zone.Glyph else Err why.ZoneRange)
 
 abbrev pub outline_in : Zone → ZoneLists → ℕ × ℕ
 outline_in zone.Twilight z = (0, length z.twilight)
@@ -127,11 +128,13 @@ taken_once : shp 0x32 (pos 1 ∷ pos 0 ∷ []) (glyph (point (pos 5) (pos 7) ∷
     ≡ Ok (glyph (moved_to (pos 5) (pos 9) ∷ moved_to (pos 1) (pos 4) ∷ []), default_state)
 taken_once = refl
 
-all_but_the_reference : shc 0x34 (pos 0) (glyph (point (pos 5) (pos 7) ∷ point (pos 1) (pos 2) ∷ point (pos 1) (pos 2) ∷ [])) default_state
+all_but_the_reference : shc 0x34 (pos 0)
+    (glyph (point (pos 5) (pos 7) ∷ point (pos 1) (pos 2) ∷ point (pos 1) (pos 2) ∷ [])) default_state
     ≡ Ok (glyph (point (pos 5) (pos 7) ∷ moved_to (pos 1) (pos 4) ∷ point (pos 1) (pos 2) ∷ []))
 all_but_the_reference = refl
 
-untouched : shz 0x37 (pos 1) (glyph (point (pos 5) (pos 7) ∷ point (pos 1) (pos 2) ∷ point (pos 1) (pos 2) ∷ [])) default_state
+untouched : shz 0x37 (pos 1)
+    (glyph (point (pos 5) (pos 7) ∷ point (pos 1) (pos 2) ∷ point (pos 1) (pos 2) ∷ [])) default_state
     ≡ Ok (glyph (point (pos 5) (pos 7) ∷ point (pos 1) (pos 4) ∷ point (pos 1) (pos 2) ∷ []))
 untouched = refl
 
@@ -141,6 +144,7 @@ no_contour_one = refl
 no_reference : shz 0x36 (pos 0) (glyph []) (record default_state { rp2 = negsuc 0 }) ≡ Err why.PointRange
 no_reference = refl
 
-nothing_to_move : shc 0x34 (pos 0) (glyph (point (pos 5) (pos 7) ∷ [])) (record default_state { zp2 = zone.Twilight; free = axis.Y })
+nothing_to_move : shc 0x34 (pos 0) (glyph (point (pos 5) (pos 7) ∷ []))
+    (record default_state { zp2 = zone.Twilight; free = axis.Y })
     ≡ Ok (glyph (point (pos 5) (pos 7) ∷ []))
 nothing_to_move = refl

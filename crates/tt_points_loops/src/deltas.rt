@@ -1,5 +1,5 @@
-//! Exceptions at single sizes: DELTAP1 to DELTAP3, and what they share with DELTAC1 to DELTAC3. Apple TrueType Reference
-//! Manual, "Instruction set": managing exceptions. Distances are in 26.6 pixels, sizes in pixels per em.
+//! Exceptions at single sizes: DELTAP1 to DELTAP3, and what they share with DELTAC1 to DELTAC3. Apple TrueType
+//! Reference Manual, "Instruction set": managing exceptions. Distances are in 26.6 pixels, sizes in pixels per em.
 
 ghost use Rattle.std.specs.Prelude.{◌≡◌, Some, get_or, ◌*◌, ◌+◌, ◌<◌, ◌≤◌, pos, ◌*ℤ◌, ◌≤ℤ◌, unsigned_abs, IfOk, IfSome, length};
 ghost use Rattle.tt_core.specs.Outcomes.{Gives};
@@ -77,9 +77,9 @@ fn exception(argument: u8, state: &GraphicsState) -> i32
     product(steps_of(argument), step_of(state))
 }
 
-/// What DELTAP1 to DELTAP3 (0x5D, 0x71, 0x72) and DELTAC1 to DELTAC3 (0x73 to 0x75) make of an argument: a distance of at
-/// most 512 in 26.6 pixels, at most 8 steps to either side and never 0; None where the argument is for another size than
-/// `ppem`. Error: BadArgument where it is no byte.
+/// What DELTAP1 to DELTAP3 (0x5D, 0x71, 0x72) and DELTAC1 to DELTAC3 (0x73 to 0x75) make of an argument: a distance in
+/// 26.6 pixels of 1 to 8 steps to either side; None where the argument is for another size than `ppem`. Error:
+/// BadArgument where it is no byte.
 pub fn delta_of(op: u8, argument: i32, ppem: u32, state: &GraphicsState) -> Result<Option<i32>, Why>
     requires { IsGraphicsState state.now }
     ensures exact { Gives (λ d. d) result (is.delta_of op argument ppem state.now) }
@@ -120,7 +120,8 @@ fn except(
     requires state { IsGraphicsState state.now }
     requires there { 2 * i + 1 < length pairs.now }
     ensures exact { Gives (λ u. zones_view zones.new) result
-        (is.except op ppem state.now (get_or pairs.now (2 * i) (pos 0), get_or pairs.now (2 * i + 1) (pos 0)) (zones_view zones.old)) }
+        (is.except op ppem state.now (get_or pairs.now (2 * i) (pos 0), get_or pairs.now (2 * i + 1) (pos 0))
+        (zones_view zones.old)) }
     ensures zones { IsZones (zones_view zones.new) }
 {
     match delta_of(op, pairs[2 * i], ppem, state)? {
@@ -129,8 +130,8 @@ fn except(
     }
 }
 
-/// DELTAP1[], 0x5D, DELTAP2[], 0x71, and DELTAP3[], 0x72: pairs of an argument and a point of zp0 -> each point is moved by
-/// the exception that its argument is at `ppem` pixels per em, if it is one. The last pair comes first. Errors:
+/// DELTAP1[], 0x5D, DELTAP2[], 0x71, and DELTAP3[], 0x72: pairs of an argument and a point of zp0 -> each point is
+/// moved by the exception that its argument is at `ppem` pixels per em, if it is one. The last pair comes first. Errors:
 /// BadArgument, PointRange, Perpendicular, ValueRange.
 pub fn deltap(
     zones: &mut Zones,

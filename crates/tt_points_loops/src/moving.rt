@@ -57,6 +57,16 @@ fn moved_by(p: Point, axis: Axis, by: Distance) -> Result<Point, Why>
     moved(p, axis, by.0)
 }
 
+/// The point moved to where another stands.
+fn aligned(p: Point, r: Point, axis: Axis) -> Result<Point, Why>
+    requires p { IsPoint p }
+    requires r { IsPoint r }
+    ensures exact { Gives (λ q. q) result (point.moved axis (cur axis r -ℤ cur axis p) p) }
+    ensures sound { IfOk result IsPoint }
+{
+    moved_by(p, axis, distance_now(p, r, axis))
+}
+
 /// A point of zp1 is moved to rp0.
 fn align(zones: &mut Zones, state: &GraphicsState, n: i32) -> Result<(), Why>
     requires { IsZones (zones_view zones.old) }
@@ -66,7 +76,7 @@ fn align(zones: &mut Zones, state: &GraphicsState, n: i32) -> Result<(), Why>
     let p = zones.point(state.zp1, n)?;
     let reference = zones.point(state.zp0, state.rp0)?;
     let axis = direction(state)?;
-    let moved = moved_by(p, axis, distance_now(p, reference, axis))?;
+    let moved = aligned(p, reference, axis)?;
     zones.set(state.zp1, n, moved);
     Ok(())
 }
@@ -233,6 +243,16 @@ pub fn ip(zones: &mut Zones, state: &mut GraphicsState, points: &[i32]) -> Resul
     Ok(())
 }
 
+/// The point moved along the freedom vector.
+fn pushed(p: Point, by: Distance, state: &GraphicsState) -> Result<Point, Why>
+    requires point { IsPoint p }
+    requires small { unsigned_abs by.0 < 2 ^ 60 }
+    ensures exact { Gives (λ q. q) result (point.moved state.now.free by.0 p) }
+    ensures sound { IfOk result IsPoint }
+{
+    moved_by(p, state.free, by)
+}
+
 /// A point of zp2 is moved along the freedom vector.
 fn push(zones: &mut Zones, state: &GraphicsState, by: Distance, n: i32) -> Result<(), Why>
     requires zones { IsZones (zones_view zones.old) }
@@ -241,7 +261,7 @@ fn push(zones: &mut Zones, state: &GraphicsState, by: Distance, n: i32) -> Resul
     ensures zones { IsZones (zones_view zones.new) }
 {
     let p = zones.point(state.zp2, n)?;
-    let moved = moved_by(p, state.free, by)?;
+    let moved = pushed(p, by, state)?;
     zones.set(state.zp2, n, moved);
     Ok(())
 }

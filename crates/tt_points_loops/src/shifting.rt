@@ -207,7 +207,8 @@ fn follow_twilight(
     requires reference { IsPoint by.reference }
     requires past { past ≤ length (zones_view zones.old).twilight }
     ensures exact { Gives (λ u. zones_view zones.new) result
-        (is.follow_in zone.Twilight first past (is.follow_but by.but by.touch state.now by.reference) (zones_view zones.old)) }
+        (is.follow_in zone.Twilight first past (is.follow_but by.but by.touch state.now by.reference)
+        (zones_view zones.old)) }
     ensures zones { IsZones (zones_view zones.new) }
 {
     follow_all(&mut zones.twilight, first, past, by, state)?;
@@ -225,7 +226,8 @@ fn follow_glyph(
     requires reference { IsPoint by.reference }
     requires past { past ≤ length (zones_view zones.old).glyph }
     ensures exact { Gives (λ u. zones_view zones.new) result
-        (is.follow_in zone.Glyph first past (is.follow_but by.but by.touch state.now by.reference) (zones_view zones.old)) }
+        (is.follow_in zone.Glyph first past (is.follow_but by.but by.touch state.now by.reference)
+        (zones_view zones.old)) }
     ensures zones { IsZones (zones_view zones.new) }
 {
     follow_all(&mut zones.glyph, first, past, by, state)?;
@@ -304,8 +306,9 @@ fn contour_in(zones: &Zones, zone: Zone, c: i32) -> Result<Range, Why>
     }
 }
 
-/// SHC[a], 0x34 and 0x35: contour of zp2 -> its points are moved as far as the reference point stands from its original,
-/// all but the reference point: rp2 in zp1, or rp1 in zp0. Errors: ContourRange, PointRange, Perpendicular, ValueRange.
+/// SHC[a], 0x34 and 0x35: contour of zp2 -> its points are moved as far as the reference point stands from its
+/// original, all but the reference point: rp2 in zp1, or rp1 in zp0. Errors: ContourRange, PointRange,
+/// Perpendicular, ValueRange.
 pub fn shc(zones: &mut Zones, state: &GraphicsState, op: u8, contour: i32) -> Result<(), Why>
     requires zones { IsZones (zones_view zones.old) }
     requires state { IsGraphicsState state.now }

@@ -7,8 +7,9 @@ use Rattle.tt_points_loops.proofs.deltas.deltap.Goals as goal
 
 pub loop-i-init : goal.loop-i-init
 loop-i-init c =
-    let few : length (pairs_of c.args.pairs.now) ≤ length c.args.pairs.now / 2 = omega (arith, pairs_count c.args.pairs.now) in
-    record { same = rw (take_all (length c.args.pairs.now / 2) (pairs_of c.args.pairs.now) few) refl; zones = c.requires.zones }
+    let pairs = c.args.pairs.now in
+    let few : length (pairs_of c.args.pairs.now) ≤ length c.args.pairs.now / 2 = omega (arith, pairs_count pairs) in
+    record { same = rw (take_all (length pairs / 2) (pairs_of pairs) few) refl; zones = c.requires.zones }
 
 pub loop-i-preserved : goal.loop-i-preserved
 loop-i-preserved c =
@@ -17,11 +18,12 @@ loop-i-preserved c =
     let left : c.loop-i.i ≡ c.loop-i.i - 1 + 1 = omega arith in
     let there : c.loop-i.i - 1 < length (pairs_of c.args.pairs.now) = omega (arith, pairs_count c.args.pairs.now) in
     let inside : 2 * (c.loop-i.i - 1) + 1 < length c.args.pairs.now = omega arith in
-    let came : except c.args.op c.args.ppem c.args.state.now (get_or (pairs_of pairs) i (pos 0, pos 0)) (zones_view c.loop-i.zones)
-    ≡ Ok (zones_view c.except.new.zones) =
+    let step = except c.args.op c.args.ppem c.args.state.now in
+    let came : step (get_or (pairs_of pairs) i (pos 0, pos 0)) (zones_view c.loop-i.zones)
+        ≡ Ok (zones_view c.except.new.zones) =
     rw (pair_at pairs i inside) c.in_ok-except.ensures.exact in
     record {
-      same = went_on (except c.args.op c.args.ppem c.args.state.now) (pairs_of pairs) c.loop-i.i i (pos 0, pos 0) _ _ _
+      same = went_on step (pairs_of pairs) c.loop-i.i i (pos 0, pos 0) _ _ _
           left there c.loop-i.invariant.same came;
       zones = c.in_ok-except.ensures.zones;
     }
@@ -33,11 +35,11 @@ returns-in_err-except-clause-exact c =
     let left : c.loop-i.i ≡ c.loop-i.i - 1 + 1 = omega arith in
     let there : c.loop-i.i - 1 < length (pairs_of c.args.pairs.now) = omega (arith, pairs_count c.args.pairs.now) in
     let inside : 2 * (c.loop-i.i - 1) + 1 < length c.args.pairs.now = omega arith in
-    let came : except c.args.op c.args.ppem c.args.state.now (get_or (pairs_of pairs) i (pos 0, pos 0)) (zones_view c.loop-i.zones)
-    ≡ Err _ =
+    let step = except c.args.op c.args.ppem c.args.state.now in
+    let came : step (get_or (pairs_of pairs) i (pos 0, pos 0)) (zones_view c.loop-i.zones) ≡ Err _ =
     rw (pair_at pairs i inside) c.in_err-except.ensures.exact in
     let e = err_from_is_err_and c.from_residual.result c.from_residual.ensures.1 in
-    let whole = broke_off (except c.args.op c.args.ppem c.args.state.now) (pairs_of pairs) c.loop-i.i i (pos 0, pos 0) _ _ _
+    let whole = broke_off step (pairs_of pairs) c.loop-i.i i (pos 0, pos 0) _ _ _
     left there c.loop-i.invariant.same came in
     rw (e.1, e.2) whole
 

@@ -8,7 +8,8 @@ use Rattle.tt_points_loops.proofs.Ranges.{none_left, further}
 use Rattle.tt_points_loops.proofs.flipping.put_all_on.Goals as goal
 
 pub returns-clause-exact : goal.returns-clause-exact
-returns-clause-exact c = sym c.loop-i.invariant.same ∙ none_left _ c.loop-i.i c.args.past 0 c.loop-i.points (omega arith)
+returns-clause-exact c =
+    sym c.loop-i.invariant.same ∙ none_left _ c.loop-i.i c.args.past 0 c.loop-i.points (omega arith)
 
 pub loop-i-preserved : goal.loop-i-preserved
 loop-i-preserved c =

@@ -16,5 +16,6 @@ returns-clause-exact c =
 pub returns-clause-bound : goal.returns-clause-bound
 returns-clause-bound c =
     let exact = returns-clause-exact c in
-    let small = mul-lt (unsigned_abs c.args.a.0) (unsigned_abs c.args.b.0) (2 ^ 22) (2 ^ 22) c.requires.a c.requires.b in
+    let small = mul-lt (unsigned_abs c.args.a.0) (unsigned_abs c.args.b.0) (2 ^ 22) (2 ^ 22) c.requires.a
+    c.requires.b in
     rw exact (omega (arith, unsigned_abs-mul c.args.a.0 c.args.b.0, small))

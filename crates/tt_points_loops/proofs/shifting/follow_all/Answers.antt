@@ -6,7 +6,8 @@ use Rattle.tt_points_loops.proofs.Ranges.{none_left, further, refused}
 use Rattle.tt_points_loops.proofs.shifting.follow_all.Goals as goal
 
 pub returns-clause-exact : goal.returns-clause-exact
-returns-clause-exact c = sym c.loop-i.invariant.same ∙ none_left _ c.loop-i.i c.args.past 0 c.loop-i.points (omega arith)
+returns-clause-exact c =
+    sym c.loop-i.invariant.same ∙ none_left _ c.loop-i.i c.args.past 0 c.loop-i.points (omega arith)
 
 pub returns-in_err-points-clause-exact : goal.returns-in_err-points-clause-exact
 returns-in_err-points-clause-exact c =
