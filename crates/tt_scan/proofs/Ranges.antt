@@ -4,9 +4,7 @@ use Rattle.std.specs.Prelude.{ℤ, pos, unsigned_abs, ◌+ℤ◌, ◌-ℤ◌, �
 use Rattle.std.specs.Int.{int_min, int_max}
 use Rattle.std.proofs.lemmas.Bool.Decides.{nat_tests}
 use Rattle.std.proofs.lemmas.Int.{ints, clamps, by_lt_z}
-use Rattle.tt_scan.specs.declared.edge.Edge.{Edge}
-use Rattle.tt_scan.specs.declared.edge.Frame.{Frame}
-use Rattle.tt_scan.specs.Winding.{is_between, row_y}
+use Rattle.tt_scan.specs.Winding.{is_between}
 
 pub between_turned : (a b z : ℤ) → is_between a b z ≡ is_between b a z
 between_turned a b z = grind (arith, ints)

@@ -18,3 +18,11 @@ returns-clause-bits c = λ k.
     let limit : width ≤ width_limit = rw (c.width.ensures.exact, c.cut.ensures.tape) at c.width.ensures.limit in
     let black = simp to_z-of_z at (c.cut.ensures.black (pos k)) in
     painted ∙ ap (λ (b : Bool). bit c.args.row.now k || b) (within_width k width _ (is_black c.args.tape.now.edges (centre_x c.args.tape.now k) (centre_y c.args.tape.now c.args.r)) (λ inside. black (omega (arith, ints, limit))))
+
+pub cut-requires-clause-count : goal.cut-requires-clause-count
+cut-requires-clause-count c = c.requires.count
+
+pub returns-clause-crosses : goal.returns-clause-crosses
+returns-clause-crosses c =
+    let row : SFits w64 c.args.r = c.ranges.r in
+    simp to_z-of_z at c.cut.ensures.crosses
