@@ -29,13 +29,16 @@ msirp op _ z g = Err why.StackShort
 abbrev pub control_value : ℤ → List ℤ → Result ℤ Why
 control_value n cvt = place n (length cvt) why.CvtRange >>= λ i. Ok (get_or cvt i (pos 0))
 
+-- a point's number under that of a control value, this value, and what is left
+abbrev pub point_and_value : List ℤ → List ℤ → Result (ℤ × ℤ × List ℤ) Why
+point_and_value (n ∷ p ∷ s) cvt = control_value n cvt >>= λ c. Ok (p, c, s)
+point_and_value _ cvt = Err why.StackShort
+
 abbrev pub miap : ℕ → List ℤ → List ℤ → ZoneLists → GraphicsState → Left
-miap op cvt (n ∷ p ∷ s) z g = control_value n cvt >>= λ c. behind s (by_value.miap op p c z g)
-miap op cvt _ z g = Err why.StackShort
+miap op cvt s z g = point_and_value s cvt >>= λ t. behind t.2 (by_value.miap op t.0 t.1 z g)
 
 abbrev pub mirp : ℕ → List ℤ → List ℤ → ZoneLists → GraphicsState → Left
-mirp op cvt (n ∷ p ∷ s) z g = control_value n cvt >>= λ c. behind s (by_value.mirp op p c z g)
-mirp op cvt _ z g = Err why.StackShort
+mirp op cvt s z g = point_and_value s cvt >>= λ t. behind t.2 (by_value.mirp op t.0 t.1 z g)
 
 abbrev pub scfs : List ℤ → ZoneLists → GraphicsState → Left
 scfs (v ∷ p ∷ s) z g = behind_move s g (measuring.scfs p v z g)

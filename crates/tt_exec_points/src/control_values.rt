@@ -43,8 +43,8 @@ fn change(
 ) -> Result<(), Why>
     requires state { IsGraphicsState state.now }
     requires there { 2 * i + 1 < length pairs.now }
-    ensures { let pair = (get_or pairs.now (2 * i) (pos 0), get_or pairs.now (2 * i + 1) (pos 0)) in
-        Gives (λ u. cvt.new) result (is.change op ppem state.now pair cvt.old) }
+    ensures { Gives (λ u. cvt.new) result (is.change op ppem state.now
+        (get_or pairs.now (2 * i) (pos 0), get_or pairs.now (2 * i + 1) (pos 0)) cvt.old) }
 {
     let d = delta_of(op, pairs[2 * i], ppem, state)?;
     change_by(d, pairs[2 * i + 1], cvt)

@@ -1,5 +1,6 @@
 //! The instructions on points, by their opcodes. Apple TrueType Reference Manual, "Instruction set".
 
+ghost use Rattle.std.specs.Prelude.{◌≡◌};
 ghost use Rattle.tt_core.specs.Outcomes.{Gives};
 ghost use Rattle.tt_exec_points.specs.OnPoints as is;
 
@@ -62,6 +63,18 @@ fn on_several(
     }
 }
 
+fn is_deltac(op: u8) -> bool
+    ensures { result ≡ is.is_deltac op }
+{
+    matches!(op, 0x73..=0x75)
+}
+
+fn is_several(op: u8) -> bool
+    ensures { result ≡ is.is_several op }
+{
+    matches!(op, 0x30..=0x39 | 0x3C | 0x5D | 0x71 | 0x72 | 0x80..=0x82)
+}
+
 /// Does an instruction on points, or DELTAC. Errors: StackShort; those of the instruction; BadOpcode for any other
 /// opcode.
 pub fn on_points(
@@ -75,11 +88,12 @@ pub fn on_points(
     ensures { let given = is.on_points op size.ppem stack.old points.old graphics.old cvt.old in
         Gives (λ u. (stack.new, points.new, graphics.new, cvt.new)) result given }
 {
-    match op {
-        0x73..=0x75 => deltac(op, size.ppem, stack, graphics, cvt),
-        0x30..=0x39 | 0x3C | 0x5D | 0x71 | 0x72 | 0x80..=0x82 => {
-            on_several(op, size.ppem, stack, points, graphics)
-        }
-        _ => on_point(op, cvt, stack, points, graphics),
+    if is_deltac(op) {
+        deltac(op, size.ppem, stack, graphics, cvt)?;
+    } else if is_several(op) {
+        on_several(op, size.ppem, stack, points, graphics)?;
+    } else {
+        on_point(op, cvt, stack, points, graphics)?;
     }
+    Ok(())
 }

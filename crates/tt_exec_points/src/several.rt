@@ -123,7 +123,8 @@ impl Points {
         ensures { Gives (λ u. (stack.new, self.new, graphics.now)) result (is.shz op stack.old self.old graphics.now) }
     {
         let zone = stack.pop()?;
-        shz(&mut self.zones, &graphics.state(), op, zone)
+        shz(&mut self.zones, &graphics.state(), op, zone)?;
+        Ok(())
     }
 
     /// DELTAP1[] to DELTAP3[], 0x5D, 0x71, 0x72: n pairs of an argument and a point, n -> .

@@ -19,6 +19,16 @@ fn control_value(n: i32, cvt: &[i32]) -> Result<i32, Why>
     Ok(cvt[n as usize])
 }
 
+/// A point's number, and the control value with the number on top. Errors: StackShort, CvtRange.
+fn point_and_value(stack: &mut Stack, cvt: &[i32]) -> Result<(i32, i32), Why>
+    ensures { Gives (λ t. (t.0, t.1, stack.new)) result (is.point_and_value stack.old cvt.now) }
+{
+    let n = stack.pop()?;
+    let p = stack.pop()?;
+    let c = control_value(n, cvt)?;
+    Ok((p, c))
+}
+
 impl Points {
     /// MDAP[r], 0x2E, 0x2F: p -> . Errors: PointRange, Perpendicular, ValueRange.
     pub(crate) fn mdap(&mut self, op: u8, stack: &mut Stack, graphics: &mut Graphics) -> Result<(), Why>
@@ -59,9 +69,7 @@ impl Points {
         ensures { let given = is.miap op cvt.now stack.old self.old graphics.old in
             Gives (λ u. (stack.new, self.new, graphics.new)) result given }
     {
-        let n = stack.pop()?;
-        let p = stack.pop()?;
-        let c = control_value(n, cvt)?;
+        let (p, c) = point_and_value(stack, cvt)?;
         let mut state = graphics.state();
         miap(&mut self.zones, &mut state, op, p, c)?;
         graphics.set(state);
@@ -73,9 +81,7 @@ impl Points {
         ensures { let given = is.mirp op cvt.now stack.old self.old graphics.old in
             Gives (λ u. (stack.new, self.new, graphics.new)) result given }
     {
-        let n = stack.pop()?;
-        let p = stack.pop()?;
-        let c = control_value(n, cvt)?;
+        let (p, c) = point_and_value(stack, cvt)?;
         let mut state = graphics.state();
         mirp(&mut self.zones, &mut state, op, p, c)?;
         graphics.set(state);
