@@ -1,6 +1,6 @@
 -- Apple TrueType Reference Manual, "Instruction Set" (pushing data onto the interpreter stack): NPUSHB, NPUSHW, PUSHB
 -- and PUSHW are followed by data, every other opcode, also one without a name, is an instruction of one byte.
-use Rattle.std.specs.Prelude.{◌≡◌, ℕ, ◌+◌, ◌-◌, ◌*◌, ◌==◌, ◌||◌, ◌&&◌, nat_le, if◌then◌else◌, List, [], ◌∷◌, length, slice_index, slice_range, Result, Ok, Err, refl}
+use Rattle.std.specs.Prelude.{◌≡◌, ℕ, ◌+◌, ◌-◌, ◌*◌, ◌==◌, ◌||◌, ◌&&◌, nat_le, Bool, if◌then◌else◌, List, [], ◌∷◌, length, slice_index, slice_range, Result, Ok, Err, refl}
 use Rattle.tt_core.specs.declared.fault.Why.TheVariants as why
 use Rattle.tt_code.specs.declared.decoding.Halt.{Halt}
 
@@ -21,6 +21,10 @@ data_length op count =
     if op == 0x41 then 2 * count else (
     if nat_le 0xB0 op && nat_le op 0xB7 then op - 0xAF else (
     if nat_le 0xB8 op && nat_le op 0xBF then 2 * (op - 0xB7) else 0)))
+
+-- data stands behind it, be it a count of 0
+abbrev pub takes_data : ℕ → Bool
+takes_data op = op == 0x40 || op == 0x41 || (nat_le 0xB0 op && nat_le op 0xBF)
 
 -- the program is stopped at a place because the data there passes its end
 abbrev pub short_at : ℕ → Halt

@@ -1,9 +1,9 @@
 //! What stands at a byte of a program. Apple TrueType Reference Manual, "Instruction Set" (pushing data onto the
 //! interpreter stack).
 
-ghost use Rattle.std.specs.Prelude.{◌≡◌, ℕ, ◌+◌, ◌^◌, ◌<◌, ◌≤◌, false, length, slice_index, IfOk, IfErr};
+ghost use Rattle.std.specs.Prelude.{◌≡◌, ◌+◌, ◌^◌, ◌<◌, ◌≤◌, [], length, slice_index, true, false, Ok, IfOk, IfErr, IfNone, IfSome};
 ghost use Rattle.tt_core.specs.Outcomes.{Gives};
-ghost use Rattle.tt_code.specs.Decoding.{Instruction, head_length, data_length, instruction_at};
+ghost use Rattle.tt_code.specs.Decoding.{Instruction, head_length, data_length, instruction_at, takes_data};
 ghost use Rattle.tt_code.specs.Views.{instruction_view};
 
 use tt_core::Why;
@@ -75,20 +75,23 @@ fn data_length(op: u8, count: usize) -> usize
     }
 }
 
-/// Whether data stands behind an opcode.
+/// The opcode at a byte, where no data stands behind it.
 #[inline(always)]
-fn has_data(op: u8) -> bool
-    ensures head { result ≡ false → head_length op ≡ 1 }
-    ensures plain { result ≡ false → (count : ℕ) → data_length op count ≡ 0 }
+pub fn plain_opcode(code: &[u8], at: usize) -> Option<u8>
+    requires { at < length code.now }
+    ensures none { IfNone result (takes_data (slice_index code.now at) ≡ true) }
+    ensures plain { IfSome result (λ op. takes_data op ≡ false) }
+    ensures some { IfSome result (λ op. instruction_at code.now at ≡ Ok (record { op = op; args = []; len = 1 })) }
 {
+    let op = code[at];
     match op {
-        NPUSHB | NPUSHW | PUSHB..=PUSHW_LAST => true,
-        _ => false,
+        NPUSHB | NPUSHW | PUSHB..=PUSHW_LAST => None,
+        _ => Some(op),
     }
 }
 
-/// An instruction with data. Error: CodeShort at its opcode, where the data passes the end.
-fn decode_data<'a>(code: &'a [u8], at: usize) -> Result<Instr<'a>, Halt>
+/// The instruction at a byte. Error: CodeShort at that byte, where its data passes the end.
+pub fn decode<'a>(code: &'a [u8], at: usize) -> Result<Instr<'a>, Halt>
     requires { at < length code.now }
     ensures exact { Gives instruction_view result (instruction_at code.now at) }
     ensures some { IfOk result (λ i. 1 ≤ i.len) }
@@ -111,27 +114,5 @@ fn decode_data<'a>(code: &'a [u8], at: usize) -> Result<Instr<'a>, Halt>
         op,
         args: &code[from..from + data],
         len: head + data,
-    })
-}
-
-/// The instruction at a byte. Error: CodeShort at that byte, where its data passes the end.
-#[inline(always)]
-pub fn decode<'a>(code: &'a [u8], at: usize) -> Result<Instr<'a>, Halt>
-    requires { at < length code.now }
-    ensures exact { Gives instruction_view result (instruction_at code.now at) }
-    ensures some { IfOk result (λ i. 1 ≤ i.len) }
-    ensures within { IfOk result (λ i. at + i.len ≤ length code.now) }
-    ensures fits { IfOk result (λ i. at + i.len < 2 ^ 64) }
-    ensures opcode { IfOk result (λ i. i.op ≡ slice_index code.now at) }
-    ensures place { IfErr result (λ h. h.at ≡ at) }
-{
-    let op = code[at];
-    if has_data(op) {
-        return decode_data(code, at);
-    }
-    Ok(Instr {
-        op,
-        args: &[],
-        len: 1,
     })
 }

@@ -4,5 +4,5 @@
 mod decoding;
 mod skips;
 
-pub use decoding::{Halt, Instr, decode};
+pub use decoding::{Halt, Instr, decode, plain_opcode};
 pub use skips::{skip_def, skip_else, skip_if};

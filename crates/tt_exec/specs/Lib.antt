@@ -5,6 +5,7 @@ pub mod Flow
 pub mod Functions
 pub mod MachineState
 pub mod Machines
+pub mod Moving
 pub mod Numbered
 pub mod Opcodes
 pub mod Operation

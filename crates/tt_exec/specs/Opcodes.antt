@@ -13,10 +13,10 @@ use Rattle.tt_exec_stack.specs.declared.vectors.Vectors.TheVariants as vectors
 use Rattle.tt_exec.specs.Operation.{Operation}
 use Rattle.tt_exec.specs.Operation as op
 
--- the instruction that a table has for an opcode, or else this one
-abbrev pub named : ℕ → List (ℕ × Operation) → Operation → Operation
-named opcode [] other = other
-named opcode (e ∷ es) other = if opcode == e.0 then e.1 else named opcode es other
+-- the instruction that a table has for an opcode
+abbrev pub named : ℕ → List (ℕ × Operation) → Operation
+named opcode [] = op.unnamed
+named opcode (e ∷ es) = if opcode == e.0 then e.1 else named opcode es
 
 -- 0x00 to 0x1F
 abbrev pub opcodes_00 : List (ℕ × Operation)
@@ -94,8 +94,6 @@ opcodes_20 =
 -- 0x40 to 0x5F
 abbrev pub opcodes_40 : List (ℕ × Operation)
 opcodes_40 =
-    (0x40, op.push_bytes) ∷
-    (0x41, op.push_words) ∷
     (0x42, op.keep places.Ws) ∷
     (0x43, op.keep places.Rs) ∷
     (0x44, op.keep places.Wcvtp) ∷
@@ -164,7 +162,7 @@ opcodes_60 =
     (0x7F, op.adjust setting.Ignored) ∷
     []
 
--- 0x80 to 0xAF
+-- 0x80 to 0xBF
 abbrev pub opcodes_80 : List (ℕ × Operation)
 opcodes_80 =
     (0x80, op.on_points 0x80) ∷
@@ -182,34 +180,21 @@ opcodes_80 =
     (0x8E, op.instctrl) ∷
     []
 
--- PUSHB from 0xB0, PUSHW from 0xB8, MDRP and MIRP from 0xC0
-abbrev pub from_b0 : ℕ → Operation
-from_b0 opcode =
-    if nat_lt opcode 0xB0 then op.unnamed else (
-    if nat_lt opcode 0xB8 then op.push_bytes else (
-    if nat_lt opcode 0xC0 then op.push_words else op.on_points opcode))
-
-abbrev pub from_80 : ℕ → Operation
-from_80 opcode = named opcode opcodes_80 (from_b0 opcode)
-
-abbrev pub from_60 : ℕ → Operation
-from_60 opcode = named opcode opcodes_60 (from_80 opcode)
-
-abbrev pub from_40 : ℕ → Operation
-from_40 opcode = named opcode opcodes_40 (from_60 opcode)
-
-abbrev pub from_20 : ℕ → Operation
-from_20 opcode = named opcode opcodes_20 (from_40 opcode)
-
+-- MDRP from 0xC0, MIRP from 0xE0. The opcodes that push data are in none of these tables.
 abbrev pub operation_of : ℕ → Operation
-operation_of opcode = named opcode opcodes_00 (from_20 opcode)
+operation_of opcode =
+    if nat_lt opcode 0x20 then named opcode opcodes_00 else (
+    if nat_lt opcode 0x40 then named opcode opcodes_20 else (
+    if nat_lt opcode 0x60 then named opcode opcodes_40 else (
+    if nat_lt opcode 0x80 then named opcode opcodes_60 else (
+    if nat_lt opcode 0xC0 then named opcode opcodes_80 else op.on_points opcode))))
 
 -- worked values
 a_sum : operation_of 0x60 ≡ op.compute arithmetic.Add
 a_sum = refl
 
-a_push : operation_of 0xB7 ≡ op.push_bytes
-a_push = refl
+a_move : operation_of 0xC0 ≡ op.on_points 0xC0
+a_move = refl
 
 no_instruction : operation_of 0x28 ≡ op.unnamed
 no_instruction = refl

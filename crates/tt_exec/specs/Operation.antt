@@ -10,7 +10,6 @@ use Rattle.tt_exec_stack.specs.declared.settings.Setting.{Setting}
 use Rattle.tt_exec_stack.specs.declared.vectors.Vectors.{Vectors}
 
 pub data Operation : Type 0 where
-  push_bytes push_words : Operation
   turn : Vectors → Operation
   adjust : Setting → Operation
   manage : Managing → Operation
@@ -21,7 +20,7 @@ pub data Operation : Type 0 where
   instctrl : Operation
   if_true if_false eif jmpr jrot jrof : Operation
   fdef endf call loopcall : Operation
-  -- an instruction that works on points, which is not built yet
+  -- an instruction that works on points, by its opcode
   on_points : ℕ → Operation
   -- SPVTL, SFVTL, ISECT, ALIGNPTS, DEBUG, S45ROUND, SDPVTL, IDEF, which are not supported (profile)
   off_profile : Operation

@@ -1,11 +1,11 @@
 -- Apple TrueType Reference Manual, "Instruction set": one step, the instruction at the state's place. Each family's
 -- definitions stand in a file of their own; this one has them work on a whole state.
-use Rattle.std.specs.Prelude.{ℕ, ◌+◌, nat_le, ℤ, Bool, false, ◌==◌, List, length, if◌then◌else◌, Result, Ok, Err}
+use Rattle.std.specs.Prelude.{ℕ, ◌+◌, nat_le, ℤ, Bool, false, ◌==◌, ◌||◌, List, length, if◌then◌else◌, Result, Ok, Err}
 use Rattle.tt_core.specs.Faults.{Fault}
 use Rattle.tt_core.specs.declared.fault.Why.{Why}
 use Rattle.tt_core.specs.declared.fault.Why.TheVariants as why
 use Rattle.tt_code.specs.declared.decoding.Halt.{Halt}
-use Rattle.tt_code.specs.Decoding.{Instruction, instruction_at}
+use Rattle.tt_code.specs.Decoding.{Instruction, instruction_at, takes_data}
 use Rattle.tt_state.specs.declared.graphics_state.GraphicsState.{GraphicsState}
 use Rattle.tt_exec_stack.specs.Arithmetic.{computed}
 use Rattle.tt_exec_stack.specs.Logic.{decided}
@@ -19,6 +19,7 @@ use Rattle.tt_exec.specs.Flags.{instctrl}
 use Rattle.tt_exec.specs.Flow.{goes_to, if_from, else_from, jmpr, jrot, jrof}
 use Rattle.tt_exec.specs.Functions.{fdef, endf, call, loopcall}
 use Rattle.tt_exec.specs.MachineState.{MachineState, fault_in}
+use Rattle.tt_exec.specs.Moving.{on_points}
 use Rattle.tt_exec.specs.Opcodes.{operation_of}
 use Rattle.tt_exec.specs.Operation.{Operation}
 use Rattle.tt_exec.specs.Operation as op
@@ -37,35 +38,44 @@ abbrev pub on_places : ℕ → MachineState → Result (List ℤ × List ℤ × 
 on_places at m (Ok t) = Ok (record m { stack = t.0; storage = t.1; control_values = t.2 })
 on_places at m (Err why) = Err (fault_in m.frame at why)
 
--- an operation with its data, at a place; the state's place is behind it
-abbrev pub operate : Operation → List ℕ → ℕ → MachineState → Result MachineState Fault
-operate op.push_bytes args at m = on_stack at m (pushed_bytes args m.stack)
-operate op.push_words args at m = on_stack at m (pushed_words args m.stack)
-operate (op.turn o) args at m = on_graphics at m (turned o m.stack m.graphics)
-operate (op.adjust o) args at m = on_graphics at m (adjusted o m.ppem m.units_per_em m.stack m.graphics)
-operate (op.manage o) args at m = on_stack at m (managed o m.stack)
-operate (op.decide o) args at m = on_stack at m (decided o m.graphics.round m.stack)
-operate (op.compute o) args at m = on_stack at m (computed o m.graphics.round m.stack)
-operate (op.keep o) args at m = on_places at m (kept o m.ppem m.units_per_em m.stack m.storage m.control_values)
-operate (op.tell o) args at m = on_stack at m (told o m.ppem m.stack)
-operate op.instctrl args at m = instctrl m.stack at m
-operate op.if_true args at m = if_from m.stack at m
-operate op.if_false args at m = else_from at m
-operate op.eif args at m = Ok m
-operate op.jmpr args at m = jmpr m.stack at m
-operate op.jrot args at m = jrot m.stack at m
-operate op.jrof args at m = jrof m.stack at m
-operate op.fdef args at m = fdef at m
-operate op.endf args at m = endf m.callers at m
-operate op.call args at m = call m.stack at m
-operate op.loopcall args at m = loopcall m.stack at m
-operate (op.on_points o) args at m = Err (fault_in m.frame at why.BadOpcode)
-operate op.off_profile args at m = Err (fault_in m.frame at why.OffProfile)
-operate op.unnamed args at m = Err (fault_in m.frame at why.BadOpcode)
+-- NPUSHW and PUSHW push words
+abbrev pub pushes_words : ℕ → Bool
+pushes_words opcode = opcode == 0x41 || nat_le 0xB8 opcode
+
+-- an opcode's data pushed
+abbrev pub push : ℕ → List ℕ → ℕ → MachineState → Result MachineState Fault
+push opcode args at m = on_stack at m (if pushes_words opcode then pushed_words args m.stack else pushed_bytes args m.stack)
+
+-- an operation that stands at a place; the state's place is behind it
+abbrev pub operate : Operation → ℕ → MachineState → Result MachineState Fault
+operate (op.turn o) at m = on_graphics at m (turned o m.stack m.graphics)
+operate (op.adjust o) at m = on_graphics at m (adjusted o m.ppem m.units_per_em m.stack m.graphics)
+operate (op.manage o) at m = on_stack at m (managed o m.stack)
+operate (op.decide o) at m = on_stack at m (decided o m.graphics.round m.stack)
+operate (op.compute o) at m = on_stack at m (computed o m.graphics.round m.stack)
+operate (op.keep o) at m = on_places at m (kept o m.ppem m.units_per_em m.stack m.storage m.control_values)
+operate (op.tell o) at m = on_stack at m (told o m.ppem m.stack)
+operate op.instctrl at m = instctrl m.stack at m
+operate op.if_true at m = if_from m.stack at m
+operate op.if_false at m = else_from at m
+operate op.eif at m = Ok m
+operate op.jmpr at m = jmpr m.stack at m
+operate op.jrot at m = jrot m.stack at m
+operate op.jrof at m = jrof m.stack at m
+operate op.fdef at m = fdef at m
+operate op.endf at m = endf m.callers at m
+operate op.call at m = call m.stack at m
+operate op.loopcall at m = loopcall m.stack at m
+operate (op.on_points o) at m = on_points o at m
+operate op.off_profile at m = Err (fault_in m.frame at why.OffProfile)
+operate op.unnamed at m = Err (fault_in m.frame at why.BadOpcode)
 
 -- what stands at the state's place is done, or data there passes the end
 abbrev pub done : MachineState → Result Instruction Halt → Result MachineState Fault
-done m (Ok i) = operate (operation_of i.op) i.args m.frame.place (goes_to (m.frame.place + i.len) m)
+done m (Ok i) =
+    let behind = goes_to (m.frame.place + i.len) m in
+    if takes_data i.op then push i.op i.args m.frame.place behind
+    else operate (operation_of i.op) m.frame.place behind
 done m (Err halt) = Err (fault_in m.frame halt.at halt.why)
 
 -- The program's end inside a call is no instruction.

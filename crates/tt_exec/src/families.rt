@@ -2,46 +2,41 @@
 //! stands in the crate tt_exec_stack, by the same names. An instruction stands at `at`. Apple TrueType Reference Manual,
 //! "Instruction set".
 
-ghost use Rattle.std.specs.Prelude.{◌≤◌, [], length};
+ghost use Rattle.std.specs.Prelude.{◌≤◌, length};
+ghost use Rattle.tt_core.specs.Outcomes.{Leaves};
 ghost use Rattle.tt_exec_stack.specs.Stack.{Does};
 ghost use Rattle.tt_exec.specs.Operation as operation;
 ghost use Rattle.tt_exec.specs.States.{state_of};
-ghost use Rattle.tt_exec.specs.Step.{operate};
+ghost use Rattle.tt_exec.specs.Step as is;
 
 use crate::interpreter::Interpreter;
-use tt_core::Fault;
+use tt_core::{Fault, FontFault};
 use tt_exec_stack::{
     Arithmetic, Logic, Managing, Places, Query, Setting, Vectors, adjust, compute, decide, keep,
     manage, push_bytes, push_words, tell, turn,
 };
 
 impl Interpreter<'_> {
+    /// NPUSHB[], NPUSHW[], PUSHB[n] and PUSHW[n].
     #[inline(always)]
-    pub(crate) fn push_bytes(&mut self, args: &[u8], at: usize) -> Result<(), Fault>
+    pub(crate) fn push(&mut self, op: u8, args: &[u8], at: usize) -> Result<(), FontFault>
         requires { at ≤ length self.old.frame.code.bytes.now }
-        ensures { Does (operate operation.push_bytes args.now at (state_of self.old)) (state_of self.new) result }
+        ensures { Leaves result (state_of self.new) (is.push op args.now at (state_of self.old)) }
     {
-        match push_bytes(args, &mut self.stack) {
+        let pushed = match op {
+            0x41 | 0xB8..=0xFF => push_words(args, &mut self.stack),
+            _ => push_bytes(args, &mut self.stack),
+        };
+        match pushed {
             Ok(()) => Ok(()),
-            Err(why) => Err(self.fault(at, why)),
-        }
-    }
-
-    #[inline(always)]
-    pub(crate) fn push_words(&mut self, args: &[u8], at: usize) -> Result<(), Fault>
-        requires { at ≤ length self.old.frame.code.bytes.now }
-        ensures { Does (operate operation.push_words args.now at (state_of self.old)) (state_of self.new) result }
-    {
-        match push_words(args, &mut self.stack) {
-            Ok(()) => Ok(()),
-            Err(why) => Err(self.fault(at, why)),
+            Err(why) => Err(FontFault::Font(self.fault(at, why))),
         }
     }
 
     #[inline(always)]
     pub(crate) fn turn(&mut self, op: Vectors, at: usize) -> Result<(), Fault>
         requires { at ≤ length self.old.frame.code.bytes.now }
-        ensures { Does (operate (operation.turn op) [] at (state_of self.old)) (state_of self.new) result }
+        ensures { Does (is.operate (operation.turn op) at (state_of self.old)) (state_of self.new) result }
     {
         match turn(op, &mut self.stack, &mut self.graphics) {
             Ok(()) => Ok(()),
@@ -52,7 +47,7 @@ impl Interpreter<'_> {
     #[inline(always)]
     pub(crate) fn adjust(&mut self, op: Setting, at: usize) -> Result<(), Fault>
         requires { at ≤ length self.old.frame.code.bytes.now }
-        ensures { Does (operate (operation.adjust op) [] at (state_of self.old)) (state_of self.new) result }
+        ensures { Does (is.operate (operation.adjust op) at (state_of self.old)) (state_of self.new) result }
     {
         match adjust(op, self.size, &mut self.stack, &mut self.graphics) {
             Ok(()) => Ok(()),
@@ -63,7 +58,7 @@ impl Interpreter<'_> {
     #[inline(always)]
     pub(crate) fn manage(&mut self, op: Managing, at: usize) -> Result<(), Fault>
         requires { at ≤ length self.old.frame.code.bytes.now }
-        ensures { Does (operate (operation.manage op) [] at (state_of self.old)) (state_of self.new) result }
+        ensures { Does (is.operate (operation.manage op) at (state_of self.old)) (state_of self.new) result }
     {
         match manage(op, &mut self.stack) {
             Ok(()) => Ok(()),
@@ -74,7 +69,7 @@ impl Interpreter<'_> {
     #[inline(always)]
     pub(crate) fn decide(&mut self, op: Logic, at: usize) -> Result<(), Fault>
         requires { at ≤ length self.old.frame.code.bytes.now }
-        ensures { Does (operate (operation.decide op) [] at (state_of self.old)) (state_of self.new) result }
+        ensures { Does (is.operate (operation.decide op) at (state_of self.old)) (state_of self.new) result }
     {
         let round = self.graphics.state().round;
         match decide(op, round, &mut self.stack) {
@@ -86,7 +81,7 @@ impl Interpreter<'_> {
     #[inline(always)]
     pub(crate) fn compute(&mut self, op: Arithmetic, at: usize) -> Result<(), Fault>
         requires { at ≤ length self.old.frame.code.bytes.now }
-        ensures { Does (operate (operation.compute op) [] at (state_of self.old)) (state_of self.new) result }
+        ensures { Does (is.operate (operation.compute op) at (state_of self.old)) (state_of self.new) result }
     {
         let round = self.graphics.state().round;
         match compute(op, round, &mut self.stack) {
@@ -98,7 +93,7 @@ impl Interpreter<'_> {
     #[inline(always)]
     pub(crate) fn keep(&mut self, op: Places, at: usize) -> Result<(), Fault>
         requires { at ≤ length self.old.frame.code.bytes.now }
-        ensures { Does (operate (operation.keep op) [] at (state_of self.old)) (state_of self.new) result }
+        ensures { Does (is.operate (operation.keep op) at (state_of self.old)) (state_of self.new) result }
     {
         match keep(
             op,
@@ -115,7 +110,7 @@ impl Interpreter<'_> {
     #[inline(always)]
     pub(crate) fn tell(&mut self, op: Query, at: usize) -> Result<(), Fault>
         requires { at ≤ length self.old.frame.code.bytes.now }
-        ensures { Does (operate (operation.tell op) [] at (state_of self.old)) (state_of self.new) result }
+        ensures { Does (is.operate (operation.tell op) at (state_of self.old)) (state_of self.new) result }
     {
         match tell(op, self.size, &mut self.stack) {
             Ok(()) => Ok(()),

@@ -79,8 +79,7 @@ impl<'a> Interpreter<'a> {
     }
 
     /// A fault at a place of the program that holds the instruction.
-    #[cold]
-    #[inline(never)]
+    #[inline(always)]
     pub(crate) fn fault(&self, at: usize, why: Why) -> Fault
         requires { at ≤ length self.now.frame.code.bytes.now }
         ensures { result ≡ fault_in (frame_of self.now.frame) at why }

@@ -11,6 +11,7 @@ mod functions;
 mod interpreter;
 pub mod laws;
 mod machine;
+mod moving;
 mod opcode;
 mod parts;
 mod points;

@@ -1,15 +1,15 @@
-//! The instruction of each opcode, done. Apple TrueType Reference Manual, "Instruction set". Each function has a part of
-//! the opcodes, and hands the others on. An instruction stands at `at`, and the frame's place is behind it.
+//! The instruction of each opcode, done. Apple TrueType Reference Manual, "Instruction set". An instruction stands at
+//! `at`, and the frame's place is behind it.
 
-ghost use Rattle.std.specs.Prelude.{◌≡◌, ◌<◌, length};
+ghost use Rattle.std.specs.Prelude.{◌≡◌, ◌<◌, length, Err};
 ghost use Rattle.tt_core.specs.Outcomes.{Leaves};
 ghost use Rattle.tt_core.specs.declared.font_fault.FontFault.TheVariants as font;
 ghost use Rattle.tt_exec.specs.MachineState.{fault_in};
 ghost use Rattle.tt_exec.specs.Opcodes as table;
+ghost use Rattle.tt_exec.specs.Operation as operation;
 ghost use Rattle.tt_exec.specs.States.{state_of};
 ghost use Rattle.tt_exec.specs.Step as is;
 ghost use Rattle.tt_exec.specs.Views.{frame_of};
-ghost use Rattle.std.specs.Prelude.{Err};
 
 use crate::interpreter::Interpreter;
 use tt_core::{FontFault, Why};
@@ -26,11 +26,10 @@ impl Interpreter<'_> {
         Err(FontFault::Font(self.fault(at, why)))
     }
 
-    /// Any opcode: 0x00 to 0x1F, and the others handed on.
-    #[inline(always)]
-    pub(crate) fn operate(&mut self, op: u8, args: &[u8], at: usize) -> Result<(), FontFault>
+    /// 0x00 to 0x1F.
+    fn operate_00(&mut self, op: u8, at: usize) -> Result<(), FontFault>
         requires { at < length self.old.frame.code.bytes.now }
-        ensures { Leaves result (state_of self.new) (is.operate (table.operation_of op) args.now at (state_of self.old)) }
+        ensures { Leaves result (state_of self.new) (is.operate (table.named op table.opcodes_00) at (state_of self.old)) }
     {
         match op {
             0x00 => Ok(self.turn(Vectors::Svtca(Axis::Y), at)?),
@@ -39,7 +38,10 @@ impl Interpreter<'_> {
             0x03 => Ok(self.turn(Vectors::Spvtca(Axis::X), at)?),
             0x04 => Ok(self.turn(Vectors::Sfvtca(Axis::Y), at)?),
             0x05 => Ok(self.turn(Vectors::Sfvtca(Axis::X), at)?),
-            0x06..=0x09 => self.refuse(at, Why::OffProfile),
+            0x06 => self.refuse(at, Why::OffProfile),
+            0x07 => self.refuse(at, Why::OffProfile),
+            0x08 => self.refuse(at, Why::OffProfile),
+            0x09 => self.refuse(at, Why::OffProfile),
             0x0A => Ok(self.turn(Vectors::Spvfs, at)?),
             0x0B => Ok(self.turn(Vectors::Sfvfs, at)?),
             0x0C => Ok(self.turn(Vectors::Gpv, at)?),
@@ -62,15 +64,14 @@ impl Interpreter<'_> {
             0x1D => Ok(self.adjust(Setting::Scvtci, at)?),
             0x1E => Ok(self.adjust(Setting::Sswci, at)?),
             0x1F => Ok(self.adjust(Setting::Ssw, at)?),
-            _ => self.operate_20(op, args, at),
+            _ => self.refuse(at, Why::BadOpcode),
         }
     }
 
-    /// 0x20 and above.
-    #[inline(always)]
-    fn operate_20(&mut self, op: u8, args: &[u8], at: usize) -> Result<(), FontFault>
+    /// 0x20 to 0x3F.
+    fn operate_20(&mut self, op: u8, at: usize) -> Result<(), FontFault>
         requires { at < length self.old.frame.code.bytes.now }
-        ensures { Leaves result (state_of self.new) (is.operate (table.from_20 op) args.now at (state_of self.old)) }
+        ensures { Leaves result (state_of self.new) (is.operate (table.named op table.opcodes_20) at (state_of self.old)) }
     {
         match op {
             0x20 => Ok(self.manage(Managing::Dup, at)?),
@@ -81,32 +82,48 @@ impl Interpreter<'_> {
             0x25 => Ok(self.manage(Managing::Cindex, at)?),
             0x26 => Ok(self.manage(Managing::Mindex, at)?),
             0x27 => self.refuse(at, Why::OffProfile),
-            0x29 => self.refuse(at, Why::BadOpcode),
+            0x29 => Ok(self.on_points(0x29, at)?),
             0x2A => Ok(self.loopcall(at)?),
             0x2B => Ok(self.call(at)?),
             0x2C => self.fdef(at),
             0x2D => Ok(self.endf(at)?),
-            0x2E..=0x3C => self.refuse(at, Why::BadOpcode),
+            0x2E => Ok(self.on_points(0x2E, at)?),
+            0x2F => Ok(self.on_points(0x2F, at)?),
+            0x30 => Ok(self.on_points(0x30, at)?),
+            0x31 => Ok(self.on_points(0x31, at)?),
+            0x32 => Ok(self.on_points(0x32, at)?),
+            0x33 => Ok(self.on_points(0x33, at)?),
+            0x34 => Ok(self.on_points(0x34, at)?),
+            0x35 => Ok(self.on_points(0x35, at)?),
+            0x36 => Ok(self.on_points(0x36, at)?),
+            0x37 => Ok(self.on_points(0x37, at)?),
+            0x38 => Ok(self.on_points(0x38, at)?),
+            0x39 => Ok(self.on_points(0x39, at)?),
+            0x3A => Ok(self.on_points(0x3A, at)?),
+            0x3B => Ok(self.on_points(0x3B, at)?),
+            0x3C => Ok(self.on_points(0x3C, at)?),
             0x3D => Ok(self.adjust(Setting::RoundTo(Round::Double), at)?),
-            0x3E | 0x3F => self.refuse(at, Why::BadOpcode),
-            _ => self.operate_40(op, args, at),
+            0x3E => Ok(self.on_points(0x3E, at)?),
+            0x3F => Ok(self.on_points(0x3F, at)?),
+            _ => self.refuse(at, Why::BadOpcode),
         }
     }
 
-    /// 0x40 and above.
-    #[inline(always)]
-    fn operate_40(&mut self, op: u8, args: &[u8], at: usize) -> Result<(), FontFault>
+    /// 0x40 to 0x5F.
+    fn operate_40(&mut self, op: u8, at: usize) -> Result<(), FontFault>
         requires { at < length self.old.frame.code.bytes.now }
-        ensures { Leaves result (state_of self.new) (is.operate (table.from_40 op) args.now at (state_of self.old)) }
+        ensures { Leaves result (state_of self.new) (is.operate (table.named op table.opcodes_40) at (state_of self.old)) }
     {
         match op {
-            0x40 => Ok(self.push_bytes(args, at)?),
-            0x41 => Ok(self.push_words(args, at)?),
             0x42 => Ok(self.keep(Places::Ws, at)?),
             0x43 => Ok(self.keep(Places::Rs, at)?),
             0x44 => Ok(self.keep(Places::Wcvtp, at)?),
             0x45 => Ok(self.keep(Places::Rcvt, at)?),
-            0x46..=0x4A => self.refuse(at, Why::BadOpcode),
+            0x46 => Ok(self.on_points(0x46, at)?),
+            0x47 => Ok(self.on_points(0x47, at)?),
+            0x48 => Ok(self.on_points(0x48, at)?),
+            0x49 => Ok(self.on_points(0x49, at)?),
+            0x4A => Ok(self.on_points(0x4A, at)?),
             0x4B => Ok(self.tell(Query::Mppem, at)?),
             0x4C => Ok(self.tell(Query::Mps, at)?),
             0x4D => Ok(self.adjust(Setting::Flip(true), at)?),
@@ -125,18 +142,17 @@ impl Interpreter<'_> {
             0x5A => Ok(self.decide(Logic::And, at)?),
             0x5B => Ok(self.decide(Logic::Or, at)?),
             0x5C => Ok(self.decide(Logic::Not, at)?),
-            0x5D => self.refuse(at, Why::BadOpcode),
+            0x5D => Ok(self.on_points(0x5D, at)?),
             0x5E => Ok(self.adjust(Setting::Sdb, at)?),
             0x5F => Ok(self.adjust(Setting::Sds, at)?),
-            _ => self.operate_60(op, args, at),
+            _ => self.refuse(at, Why::BadOpcode),
         }
     }
 
-    /// 0x60 and above.
-    #[inline(always)]
-    fn operate_60(&mut self, op: u8, args: &[u8], at: usize) -> Result<(), FontFault>
+    /// 0x60 to 0x7F.
+    fn operate_60(&mut self, op: u8, at: usize) -> Result<(), FontFault>
         requires { at < length self.old.frame.code.bytes.now }
-        ensures { Leaves result (state_of self.new) (is.operate (table.from_60 op) args.now at (state_of self.old)) }
+        ensures { Leaves result (state_of self.new) (is.operate (table.named op table.opcodes_60) at (state_of self.old)) }
     {
         match op {
             0x60 => Ok(self.compute(Arithmetic::Add, at)?),
@@ -147,10 +163,20 @@ impl Interpreter<'_> {
             0x65 => Ok(self.compute(Arithmetic::Neg, at)?),
             0x66 => Ok(self.compute(Arithmetic::Floor, at)?),
             0x67 => Ok(self.compute(Arithmetic::Ceiling, at)?),
-            0x68..=0x6B => Ok(self.compute(Arithmetic::Round, at)?),
-            0x6C..=0x6F => Ok(self.compute(Arithmetic::Nround, at)?),
+            0x68 => Ok(self.compute(Arithmetic::Round, at)?),
+            0x69 => Ok(self.compute(Arithmetic::Round, at)?),
+            0x6A => Ok(self.compute(Arithmetic::Round, at)?),
+            0x6B => Ok(self.compute(Arithmetic::Round, at)?),
+            0x6C => Ok(self.compute(Arithmetic::Nround, at)?),
+            0x6D => Ok(self.compute(Arithmetic::Nround, at)?),
+            0x6E => Ok(self.compute(Arithmetic::Nround, at)?),
+            0x6F => Ok(self.compute(Arithmetic::Nround, at)?),
             0x70 => Ok(self.keep(Places::Wcvtf, at)?),
-            0x71..=0x75 => self.refuse(at, Why::BadOpcode),
+            0x71 => Ok(self.on_points(0x71, at)?),
+            0x72 => Ok(self.on_points(0x72, at)?),
+            0x73 => Ok(self.on_points(0x73, at)?),
+            0x74 => Ok(self.on_points(0x74, at)?),
+            0x75 => Ok(self.on_points(0x75, at)?),
             0x76 => Ok(self.adjust(Setting::Sround, at)?),
             0x77 => self.refuse(at, Why::OffProfile),
             0x78 => Ok(self.jrot(at)?),
@@ -158,21 +184,24 @@ impl Interpreter<'_> {
             0x7A => Ok(self.adjust(Setting::RoundTo(Round::Off), at)?),
             0x7C => Ok(self.adjust(Setting::RoundTo(Round::Up), at)?),
             0x7D => Ok(self.adjust(Setting::RoundTo(Round::Down), at)?),
-            0x7E | 0x7F => Ok(self.adjust(Setting::Ignored, at)?),
-            _ => self.operate_80(op, args, at),
+            0x7E => Ok(self.adjust(Setting::Ignored, at)?),
+            0x7F => Ok(self.adjust(Setting::Ignored, at)?),
+            _ => self.refuse(at, Why::BadOpcode),
         }
     }
 
-    /// 0x80 and above.
-    #[inline(always)]
-    fn operate_80(&mut self, op: u8, args: &[u8], at: usize) -> Result<(), FontFault>
+    /// 0x80 to 0xBF.
+    fn operate_80(&mut self, op: u8, at: usize) -> Result<(), FontFault>
         requires { at < length self.old.frame.code.bytes.now }
-        ensures { Leaves result (state_of self.new) (is.operate (table.from_80 op) args.now at (state_of self.old)) }
+        ensures { Leaves result (state_of self.new) (is.operate (table.named op table.opcodes_80) at (state_of self.old)) }
     {
         match op {
-            0x80..=0x82 => self.refuse(at, Why::BadOpcode),
+            0x80 => Ok(self.on_points(0x80, at)?),
+            0x81 => Ok(self.on_points(0x81, at)?),
+            0x82 => Ok(self.on_points(0x82, at)?),
             0x85 => Ok(self.adjust(Setting::Ignored, at)?),
-            0x86 | 0x87 => self.refuse(at, Why::OffProfile),
+            0x86 => self.refuse(at, Why::OffProfile),
+            0x87 => self.refuse(at, Why::OffProfile),
             0x88 => Ok(self.tell(Query::Getinfo, at)?),
             0x89 => self.refuse(at, Why::OffProfile),
             0x8A => Ok(self.manage(Managing::Roll, at)?),
@@ -180,20 +209,31 @@ impl Interpreter<'_> {
             0x8C => Ok(self.compute(Arithmetic::Min, at)?),
             0x8D => Ok(self.adjust(Setting::Ignored, at)?),
             0x8E => Ok(self.instctrl(at)?),
-            _ => self.operate_b0(op, args, at),
+            _ => self.refuse(at, Why::BadOpcode),
         }
     }
 
-    /// 0xB0 and above.
-    #[inline(always)]
-    fn operate_b0(&mut self, op: u8, args: &[u8], at: usize) -> Result<(), FontFault>
+    /// 0xC0 to 0xFF: MDRP and MIRP.
+    fn operate_c0(&mut self, op: u8, at: usize) -> Result<(), FontFault>
         requires { at < length self.old.frame.code.bytes.now }
-        ensures { Leaves result (state_of self.new) (is.operate (table.from_b0 op) args.now at (state_of self.old)) }
+        ensures { Leaves result (state_of self.new) (is.operate (operation.on_points op) at (state_of self.old)) }
+    {
+        Ok(self.on_points(op, at)?)
+    }
+
+    /// Does the instruction of an opcode that has no data.
+    #[inline(always)]
+    pub(crate) fn operate(&mut self, op: u8, at: usize) -> Result<(), FontFault>
+        requires { at < length self.old.frame.code.bytes.now }
+        ensures { Leaves result (state_of self.new) (is.operate (table.operation_of op) at (state_of self.old)) }
     {
         match op {
-            0xB0..=0xB7 => Ok(self.push_bytes(args, at)?),
-            0xB8..=0xBF => Ok(self.push_words(args, at)?),
-            _ => self.refuse(at, Why::BadOpcode),
+            0x00..=0x1F => self.operate_00(op, at),
+            0x20..=0x3F => self.operate_20(op, at),
+            0x40..=0x5F => self.operate_40(op, at),
+            0x60..=0x7F => self.operate_60(op, at),
+            0x80..=0xBF => self.operate_80(op, at),
+            _ => self.operate_c0(op, at),
         }
     }
 }

@@ -7,7 +7,7 @@ ghost use Rattle.tt_exec.specs.States.{state_of};
 ghost use Rattle.tt_exec.specs.Step as is;
 
 use crate::interpreter::Interpreter;
-use tt_code::decode;
+use tt_code::{decode, plain_opcode};
 use tt_core::{FontFault, Why};
 
 /// Steps of a run (profile).
@@ -25,10 +25,14 @@ impl Interpreter<'_> {
         if at >= bytes.len() {
             return Err(FontFault::Font(self.fault(at, Why::CodeShort)));
         }
+        if let Some(op) = plain_opcode(bytes, at) {
+            self.frame.place = at + 1;
+            return self.operate(op, at);
+        }
         match decode(bytes, at) {
             Ok(i) => {
                 self.frame.place = at + i.len;
-                self.operate(i.op, i.args, at)
+                self.push(i.op, i.args, at)
             }
             Err(halt) => Err(FontFault::Font(self.fault(halt.at, halt.why))),
         }

@@ -110,7 +110,7 @@ outline_in zone.Twilight z = (0, length z.twilight)
 outline_in zone.Glyph z = (0, contours_end z.contours)
 
 -- SHZ: the points of a zone but phantom points, none of them touched by it
-abbrev pub shz : ℕ → ℤ → ZoneLists → GraphicsState → Result ZoneLists Why
+unfoldable pub shz : ℕ → ℤ → ZoneLists → GraphicsState → Result ZoneLists Why
 shz op e z g = zone_of e >>= λ zone. shift_range false op zone (outline_in zone z) z g
 
 -- worked values, along x
@@ -136,12 +136,14 @@ all_but_the_reference = refl
 untouched : shz 0x37 (pos 1)
     (glyph (point (pos 5) (pos 7) ∷ point (pos 1) (pos 2) ∷ point (pos 1) (pos 2) ∷ [])) default_state
     ≡ Ok (glyph (point (pos 5) (pos 7) ∷ point (pos 1) (pos 4) ∷ point (pos 1) (pos 2) ∷ []))
+unfolding shz
 untouched = refl
 
 no_contour_one : shc 0x34 (pos 1) (glyph []) (record default_state { rp2 = negsuc 0 }) ≡ Err why.ContourRange
 no_contour_one = refl
 
 no_reference : shz 0x36 (pos 0) (glyph []) (record default_state { rp2 = negsuc 0 }) ≡ Err why.PointRange
+unfolding shz
 no_reference = refl
 
 nothing_to_move : shc 0x34 (pos 0) (glyph (point (pos 5) (pos 7) ∷ []))

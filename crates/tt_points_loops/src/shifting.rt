@@ -361,6 +361,7 @@ fn outline_in(zones: &Zones, zone: Zone) -> Range
 /// SHZ[a], 0x36 and 0x37: zone -> its points but phantom points go as far as the reference point stands from its
 /// original, all but the reference point: rp2 in zp1, or rp1 in zp0. None is touched by it. Errors: ZoneRange,
 /// PointRange, Perpendicular, ValueRange.
+#[tactic(auto, unfolding(crate::specs::Shifting::shz))]
 pub fn shz(zones: &mut Zones, state: &GraphicsState, op: u8, zone: i32) -> Result<(), Why>
     requires zones { IsZones (zones_view zones.old) }
     requires state { IsGraphicsState state.now }
