@@ -12,11 +12,9 @@ import sys
 
 HEAD = """\
 # Runs of the bytecode machine; the answers are values by another program, an independent model of the instruction set
-# that was written from the rules alone. Made by make_cases.py. A run is a line NAME|KIND|QUESTION|ANSWER, where NAME
-# has the opcode under test, and KIND is `points` where the program, or a function that it calls, has an instruction
-# that moves or reads points. The words of question and answer stand at the head of
-# crates/tt_test_machine/src/main.rt. A line `font BASE CODE` is the font program whose functions the runs behind it
-# have.
+# that was written from the rules alone. Made by make_cases.py. A run is a line NAME|QUESTION|ANSWER, where NAME has
+# the opcode under test. The words of question and answer stand at the head of crates/tt_test_machine/src/main.rt. A
+# line `font BASE CODE` is the font program whose functions the runs behind it have.
 """
 
 
@@ -89,47 +87,12 @@ def answer(case):
     return "; ".join(parts)
 
 
-POINTS = {
-    0x29, *range(0x2E, 0x3D), 0x3E, 0x3F, *range(0x46, 0x4B), 0x5D, *range(0x71, 0x76), 0x80, 0x81, 0x82,
-    *range(0xC0, 0x100),
-}
-
-
-def opcodes(code):
-    """The opcodes of a program, instruction by instruction."""
-    at = 0
-    while at < len(code):
-        op = code[at]
-        yield op
-        count = code[at + 1] if op in (0x40, 0x41) and at + 1 < len(code) else 0
-        if op == 0x40:
-            at += 2 + count
-        elif op == 0x41:
-            at += 2 + 2 * count
-        elif 0xB0 <= op <= 0xB7:
-            at += 2 + op - 0xB0
-        elif 0xB8 <= op <= 0xBF:
-            at += 3 + 2 * (op - 0xB8)
-        else:
-            at += 1
-
-
-def kind(case):
-    """Whether a point instruction is met. One of the font program's functions has one: it shows in what is left."""
-    want = case["want"]
-    if any(op in POINTS for op in opcodes(bytes.fromhex(case["code"]))):
-        return "points"
-    if "fault" in want:
-        return "points" if want["fault"][0] == "fpgm" != case["table"] else "other"
-    return "points" if any(want[zone] != case[zone] for zone in ("twilight", "glyph")) else "other"
-
-
 def main():
     runs = json.load(open(sys.argv[1]))
     print(HEAD, end="")
     print(f"font {runs['fpgm_base']} {runs['fpgm']}")
     for case in runs["cases"]:
-        print(f"{case['name'].replace(' #', '_')}|{kind(case)}|{question(case)}|{answer(case)}")
+        print(f"{case['name'].replace(' #', '_')}|{question(case)}|{answer(case)}")
 
 
 main()

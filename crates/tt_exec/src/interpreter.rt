@@ -13,9 +13,9 @@ ghost use Rattle.tt_exec.specs.Views.{frame_of, program_of};
 use crate::bodies::Bodies;
 use crate::callers::Callers;
 use crate::parts::Parts;
-use crate::points::Points;
 use crate::program::{Code, Frame};
 use tt_core::{Fault, Why};
+use tt_exec_points::Points;
 use tt_exec_stack::{Graphics, Size, Stack};
 
 /// Which program is run: it says where functions may be defined and flags set.

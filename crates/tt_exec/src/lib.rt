@@ -14,7 +14,6 @@ mod machine;
 mod moving;
 mod opcode;
 mod parts;
-mod points;
 mod program;
 mod stepping;
 

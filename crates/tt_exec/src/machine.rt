@@ -15,10 +15,10 @@ use crate::callers::Callers;
 use crate::fault::ExecFault;
 use crate::interpreter::{Interpreter, Kind};
 use crate::parts::Parts;
-use crate::points::Points;
 use crate::program::{Code, Frame};
 use std::alloc::{AllocError, Global};
 use std::marker::Model;
+use tt_exec_points::Points;
 use tt_exec_stack::{Graphics, Size, Stack};
 
 /// A machine, which runs programs one behind the other. A clause sees what it holds, and whether a run failed.

@@ -1,5 +1,6 @@
-//! The instructions that work on points. Apple TrueType Reference Manual, "Instruction set". An instruction stands at
-//! `at`, and the frame's place is behind it.
+//! The instructions on points, and those that change control values by exceptions: what each does stands in the crate
+//! tt_exec_points. An instruction stands at `at`, and the frame's place is behind it. Apple TrueType Reference Manual,
+//! "Instruction set".
 
 ghost use Rattle.std.specs.Prelude.{◌<◌, length};
 ghost use Rattle.tt_exec_stack.specs.Stack.{Does};
@@ -7,15 +8,27 @@ ghost use Rattle.tt_exec.specs.Moving as is;
 ghost use Rattle.tt_exec.specs.States.{state_of};
 
 use crate::interpreter::Interpreter;
-use tt_core::{Fault, Why};
+use tt_core::Fault;
+use tt_exec_points::on_points;
 
 impl Interpreter<'_> {
-    /// The instructions on points and DELTAC[], by their opcodes, which are not built yet.
+    /// The instruction of an opcode that works on points, or DELTAC[].
+    #[tactic(auto, unfolding(crate::specs::Moving::on_points))]
     #[inline(never)]
-    pub(crate) fn on_points(&mut self, _op: u8, at: usize) -> Result<(), Fault>
+    pub(crate) fn on_points(&mut self, op: u8, at: usize) -> Result<(), Fault>
         requires { at < length self.old.frame.code.bytes.now }
-        ensures { Does (is.on_points _op at (state_of self.old)) (state_of self.new) result }
+        ensures { Does (is.on_points op at (state_of self.old)) (state_of self.new) result }
     {
-        Err(self.fault(at, Why::BadOpcode))
+        match on_points(
+            op,
+            self.size,
+            &mut self.stack,
+            &mut self.points,
+            &mut self.graphics,
+            &mut self.cvt,
+        ) {
+            Ok(()) => Ok(()),
+            Err(why) => Err(self.fault(at, why)),
+        }
     }
 }
