@@ -3,21 +3,21 @@
 //! "Instruction set".
 
 ghost use Rattle.std.specs.Prelude.{◌<◌, length};
-ghost use Rattle.tt_exec_stack.specs.Stack.{Does};
+ghost use Rattle.tt_core.specs.Outcomes.{Leaves};
 ghost use Rattle.tt_exec.specs.Moving as is;
 ghost use Rattle.tt_exec.specs.States.{state_of};
 
 use crate::interpreter::Interpreter;
-use tt_core::Fault;
+use tt_core::FontFault;
 use tt_exec_points::on_points;
 
 impl Interpreter<'_> {
     /// The instruction of an opcode that works on points, or DELTAC[].
+    #[inline(always)]
     #[tactic(auto, unfolding(crate::specs::Moving::on_points))]
-    #[inline(never)]
-    pub(crate) fn on_points(&mut self, op: u8, at: usize) -> Result<(), Fault>
+    pub(crate) fn on_points(&mut self, op: u8, at: usize) -> Result<(), FontFault>
         requires { at < length self.old.frame.code.bytes.now }
-        ensures { Does (is.on_points op at (state_of self.old)) (state_of self.new) result }
+        ensures { Leaves result (state_of self.new) (is.on_points op at (state_of self.old)) }
     {
         match on_points(
             op,
@@ -28,7 +28,7 @@ impl Interpreter<'_> {
             &mut self.cvt,
         ) {
             Ok(()) => Ok(()),
-            Err(why) => Err(self.fault(at, why)),
+            Err(why) => Err(FontFault::Font(self.fault(at, why))),
         }
     }
 }

@@ -6,7 +6,6 @@ ghost use Rattle.tt_core.specs.Outcomes.{Leaves};
 ghost use Rattle.tt_core.specs.declared.font_fault.FontFault.TheVariants as font;
 ghost use Rattle.tt_exec.specs.MachineState.{fault_in};
 ghost use Rattle.tt_exec.specs.Opcodes as table;
-ghost use Rattle.tt_exec.specs.Operation as operation;
 ghost use Rattle.tt_exec.specs.States.{state_of};
 ghost use Rattle.tt_exec.specs.Step as is;
 ghost use Rattle.tt_exec.specs.Views.{frame_of};
@@ -82,29 +81,29 @@ impl Interpreter<'_> {
             0x25 => Ok(self.manage(Managing::Cindex, at)?),
             0x26 => Ok(self.manage(Managing::Mindex, at)?),
             0x27 => self.refuse(at, Why::OffProfile),
-            0x29 => Ok(self.on_points(0x29, at)?),
+            0x29 => self.on_points(0x29, at),
             0x2A => Ok(self.loopcall(at)?),
             0x2B => Ok(self.call(at)?),
             0x2C => self.fdef(at),
             0x2D => Ok(self.endf(at)?),
-            0x2E => Ok(self.on_points(0x2E, at)?),
-            0x2F => Ok(self.on_points(0x2F, at)?),
-            0x30 => Ok(self.on_points(0x30, at)?),
-            0x31 => Ok(self.on_points(0x31, at)?),
-            0x32 => Ok(self.on_points(0x32, at)?),
-            0x33 => Ok(self.on_points(0x33, at)?),
-            0x34 => Ok(self.on_points(0x34, at)?),
-            0x35 => Ok(self.on_points(0x35, at)?),
-            0x36 => Ok(self.on_points(0x36, at)?),
-            0x37 => Ok(self.on_points(0x37, at)?),
-            0x38 => Ok(self.on_points(0x38, at)?),
-            0x39 => Ok(self.on_points(0x39, at)?),
-            0x3A => Ok(self.on_points(0x3A, at)?),
-            0x3B => Ok(self.on_points(0x3B, at)?),
-            0x3C => Ok(self.on_points(0x3C, at)?),
+            0x2E => self.on_points(0x2E, at),
+            0x2F => self.on_points(0x2F, at),
+            0x30 => self.on_points(0x30, at),
+            0x31 => self.on_points(0x31, at),
+            0x32 => self.on_points(0x32, at),
+            0x33 => self.on_points(0x33, at),
+            0x34 => self.on_points(0x34, at),
+            0x35 => self.on_points(0x35, at),
+            0x36 => self.on_points(0x36, at),
+            0x37 => self.on_points(0x37, at),
+            0x38 => self.on_points(0x38, at),
+            0x39 => self.on_points(0x39, at),
+            0x3A => self.on_points(0x3A, at),
+            0x3B => self.on_points(0x3B, at),
+            0x3C => self.on_points(0x3C, at),
             0x3D => Ok(self.adjust(Setting::RoundTo(Round::Double), at)?),
-            0x3E => Ok(self.on_points(0x3E, at)?),
-            0x3F => Ok(self.on_points(0x3F, at)?),
+            0x3E => self.on_points(0x3E, at),
+            0x3F => self.on_points(0x3F, at),
             _ => self.refuse(at, Why::BadOpcode),
         }
     }
@@ -119,11 +118,11 @@ impl Interpreter<'_> {
             0x43 => Ok(self.keep(Places::Rs, at)?),
             0x44 => Ok(self.keep(Places::Wcvtp, at)?),
             0x45 => Ok(self.keep(Places::Rcvt, at)?),
-            0x46 => Ok(self.on_points(0x46, at)?),
-            0x47 => Ok(self.on_points(0x47, at)?),
-            0x48 => Ok(self.on_points(0x48, at)?),
-            0x49 => Ok(self.on_points(0x49, at)?),
-            0x4A => Ok(self.on_points(0x4A, at)?),
+            0x46 => self.on_points(0x46, at),
+            0x47 => self.on_points(0x47, at),
+            0x48 => self.on_points(0x48, at),
+            0x49 => self.on_points(0x49, at),
+            0x4A => self.on_points(0x4A, at),
             0x4B => Ok(self.tell(Query::Mppem, at)?),
             0x4C => Ok(self.tell(Query::Mps, at)?),
             0x4D => Ok(self.adjust(Setting::Flip(true), at)?),
@@ -142,7 +141,7 @@ impl Interpreter<'_> {
             0x5A => Ok(self.decide(Logic::And, at)?),
             0x5B => Ok(self.decide(Logic::Or, at)?),
             0x5C => Ok(self.decide(Logic::Not, at)?),
-            0x5D => Ok(self.on_points(0x5D, at)?),
+            0x5D => self.on_points(0x5D, at),
             0x5E => Ok(self.adjust(Setting::Sdb, at)?),
             0x5F => Ok(self.adjust(Setting::Sds, at)?),
             _ => self.refuse(at, Why::BadOpcode),
@@ -172,11 +171,11 @@ impl Interpreter<'_> {
             0x6E => Ok(self.compute(Arithmetic::Nround, at)?),
             0x6F => Ok(self.compute(Arithmetic::Nround, at)?),
             0x70 => Ok(self.keep(Places::Wcvtf, at)?),
-            0x71 => Ok(self.on_points(0x71, at)?),
-            0x72 => Ok(self.on_points(0x72, at)?),
-            0x73 => Ok(self.on_points(0x73, at)?),
-            0x74 => Ok(self.on_points(0x74, at)?),
-            0x75 => Ok(self.on_points(0x75, at)?),
+            0x71 => self.on_points(0x71, at),
+            0x72 => self.on_points(0x72, at),
+            0x73 => self.on_points(0x73, at),
+            0x74 => self.on_points(0x74, at),
+            0x75 => self.on_points(0x75, at),
             0x76 => Ok(self.adjust(Setting::Sround, at)?),
             0x77 => self.refuse(at, Why::OffProfile),
             0x78 => Ok(self.jrot(at)?),
@@ -196,9 +195,9 @@ impl Interpreter<'_> {
         ensures { Leaves result (state_of self.new) (is.operate (table.named op table.opcodes_80) at (state_of self.old)) }
     {
         match op {
-            0x80 => Ok(self.on_points(0x80, at)?),
-            0x81 => Ok(self.on_points(0x81, at)?),
-            0x82 => Ok(self.on_points(0x82, at)?),
+            0x80 => self.on_points(0x80, at),
+            0x81 => self.on_points(0x81, at),
+            0x82 => self.on_points(0x82, at),
             0x85 => Ok(self.adjust(Setting::Ignored, at)?),
             0x86 => self.refuse(at, Why::OffProfile),
             0x87 => self.refuse(at, Why::OffProfile),
@@ -213,14 +212,6 @@ impl Interpreter<'_> {
         }
     }
 
-    /// 0xC0 to 0xFF: MDRP and MIRP.
-    fn operate_c0(&mut self, op: u8, at: usize) -> Result<(), FontFault>
-        requires { at < length self.old.frame.code.bytes.now }
-        ensures { Leaves result (state_of self.new) (is.operate (operation.on_points op) at (state_of self.old)) }
-    {
-        Ok(self.on_points(op, at)?)
-    }
-
     /// Does the instruction of an opcode that has no data.
     #[inline(always)]
     pub(crate) fn operate(&mut self, op: u8, at: usize) -> Result<(), FontFault>
@@ -233,7 +224,7 @@ impl Interpreter<'_> {
             0x40..=0x5F => self.operate_40(op, at),
             0x60..=0x7F => self.operate_60(op, at),
             0x80..=0xBF => self.operate_80(op, at),
-            _ => self.operate_c0(op, at),
+            _ => self.on_points(op, at),
         }
     }
 }
