@@ -26,6 +26,7 @@ impl Interpreter<'_> {
     }
 
     /// 0x00 to 0x1F.
+    #[inline(always)]
     fn operate_00(&mut self, op: u8, at: usize) -> Result<(), FontFault>
         requires { at < length self.old.frame.code.bytes.now }
         ensures { Leaves result (state_of self.new) (is.operate (table.named op table.opcodes_00) at (state_of self.old)) }
@@ -68,6 +69,7 @@ impl Interpreter<'_> {
     }
 
     /// 0x20 to 0x3F.
+    #[inline(always)]
     fn operate_20(&mut self, op: u8, at: usize) -> Result<(), FontFault>
         requires { at < length self.old.frame.code.bytes.now }
         ensures { Leaves result (state_of self.new) (is.operate (table.named op table.opcodes_20) at (state_of self.old)) }
@@ -109,6 +111,7 @@ impl Interpreter<'_> {
     }
 
     /// 0x40 to 0x5F.
+    #[inline(always)]
     fn operate_40(&mut self, op: u8, at: usize) -> Result<(), FontFault>
         requires { at < length self.old.frame.code.bytes.now }
         ensures { Leaves result (state_of self.new) (is.operate (table.named op table.opcodes_40) at (state_of self.old)) }
@@ -149,6 +152,7 @@ impl Interpreter<'_> {
     }
 
     /// 0x60 to 0x7F.
+    #[inline(always)]
     fn operate_60(&mut self, op: u8, at: usize) -> Result<(), FontFault>
         requires { at < length self.old.frame.code.bytes.now }
         ensures { Leaves result (state_of self.new) (is.operate (table.named op table.opcodes_60) at (state_of self.old)) }
@@ -190,6 +194,7 @@ impl Interpreter<'_> {
     }
 
     /// 0x80 to 0xBF.
+    #[inline(always)]
     fn operate_80(&mut self, op: u8, at: usize) -> Result<(), FontFault>
         requires { at < length self.old.frame.code.bytes.now }
         ensures { Leaves result (state_of self.new) (is.operate (table.named op table.opcodes_80) at (state_of self.old)) }
