@@ -44,7 +44,8 @@ pushes_words opcode = opcode == 0x41 || nat_le 0xB8 opcode
 
 -- an opcode's data pushed
 abbrev pub push : ℕ → List ℕ → ℕ → MachineState → Result MachineState Fault
-push opcode args at m = on_stack at m (if pushes_words opcode then pushed_words args m.stack else pushed_bytes args m.stack)
+push opcode args at m =
+    on_stack at m (if pushes_words opcode then pushed_words args m.stack else pushed_bytes args m.stack)
 
 -- an operation that stands at a place; the state's place is behind it
 abbrev pub operate : Operation → ℕ → MachineState → Result MachineState Fault

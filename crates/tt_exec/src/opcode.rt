@@ -29,7 +29,8 @@ impl Interpreter<'_> {
     #[inline(always)]
     fn operate_00(&mut self, op: u8, at: usize) -> Result<(), FontFault>
         requires { at < length self.old.frame.code.bytes.now }
-        ensures { Leaves result (state_of self.new) (is.operate (table.named op table.opcodes_00) at (state_of self.old)) }
+        ensures { let given = is.operate (table.named op table.opcodes_00) at (state_of self.old) in
+            Leaves result (state_of self.new) given }
     {
         match op {
             0x00 => Ok(self.turn(Vectors::Svtca(Axis::Y), at)?),
@@ -72,7 +73,8 @@ impl Interpreter<'_> {
     #[inline(always)]
     fn operate_20(&mut self, op: u8, at: usize) -> Result<(), FontFault>
         requires { at < length self.old.frame.code.bytes.now }
-        ensures { Leaves result (state_of self.new) (is.operate (table.named op table.opcodes_20) at (state_of self.old)) }
+        ensures { let given = is.operate (table.named op table.opcodes_20) at (state_of self.old) in
+            Leaves result (state_of self.new) given }
     {
         match op {
             0x20 => Ok(self.manage(Managing::Dup, at)?),
@@ -114,7 +116,8 @@ impl Interpreter<'_> {
     #[inline(always)]
     fn operate_40(&mut self, op: u8, at: usize) -> Result<(), FontFault>
         requires { at < length self.old.frame.code.bytes.now }
-        ensures { Leaves result (state_of self.new) (is.operate (table.named op table.opcodes_40) at (state_of self.old)) }
+        ensures { let given = is.operate (table.named op table.opcodes_40) at (state_of self.old) in
+            Leaves result (state_of self.new) given }
     {
         match op {
             0x42 => Ok(self.keep(Places::Ws, at)?),
@@ -155,7 +158,8 @@ impl Interpreter<'_> {
     #[inline(always)]
     fn operate_60(&mut self, op: u8, at: usize) -> Result<(), FontFault>
         requires { at < length self.old.frame.code.bytes.now }
-        ensures { Leaves result (state_of self.new) (is.operate (table.named op table.opcodes_60) at (state_of self.old)) }
+        ensures { let given = is.operate (table.named op table.opcodes_60) at (state_of self.old) in
+            Leaves result (state_of self.new) given }
     {
         match op {
             0x60 => Ok(self.compute(Arithmetic::Add, at)?),
@@ -197,7 +201,8 @@ impl Interpreter<'_> {
     #[inline(always)]
     fn operate_80(&mut self, op: u8, at: usize) -> Result<(), FontFault>
         requires { at < length self.old.frame.code.bytes.now }
-        ensures { Leaves result (state_of self.new) (is.operate (table.named op table.opcodes_80) at (state_of self.old)) }
+        ensures { let given = is.operate (table.named op table.opcodes_80) at (state_of self.old) in
+            Leaves result (state_of self.new) given }
     {
         match op {
             0x80 => self.on_points(0x80, at),

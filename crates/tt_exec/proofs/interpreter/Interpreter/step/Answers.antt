@@ -6,6 +6,7 @@ use Rattle.tt_exec.proofs.interpreter.Interpreter.step.Goals as goal
 pub returns-in-Ok : goal.returns-in-Ok
 returns-in-Ok c =
     let frame = c.args.self.now.frame in
-    let within : nat_le (length frame.code.bytes.now) frame.place ≡ false = grind (arith, nat_tests, c.if-at-bytes.false) in
+    let within : nat_le (length frame.code.bytes.now) frame.place ≡ false =
+    grind (arith, nat_tests, c.if-at-bytes.false) in
     let more : takes_data c.in-Ok.i.op ≡ true = rw c.in-Ok.ensures.opcode c.in_default.ensures.none in
     rw (within, c.in-Ok.ensures.exact, more) c.push.ensures
