@@ -1,5 +1,5 @@
--- Apple TrueType Reference Manual, "Instruction Set": the instructions that move or measure points, by their opcodes, and
--- those that change control values by exceptions.
+-- Apple TrueType Reference Manual, "Instruction Set": the instructions that move or measure points, by their opcodes,
+-- and those that change control values by exceptions.
 use Rattle.std.specs.Prelude.{ℕ, ◌+◌, ◌==◌, nat_le, nat_lt, ℤ, Bool, ◌&&◌, ◌||◌, if◌then◌else◌, List, Result, Ok, Err}
 use Rattle.tt_core.specs.Outcomes.{◌>>=◌}
 use Rattle.tt_core.specs.declared.fault.Why.{Why}

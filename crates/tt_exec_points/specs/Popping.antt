@@ -1,5 +1,5 @@
--- Apple TrueType Reference Manual, "Instructing TrueType Glyphs": what an instruction on points takes from the stack and
--- what it leaves. The stack has its top first.
+-- Apple TrueType Reference Manual, "Instructing TrueType Glyphs": what an instruction on points takes from the stack
+-- and what it leaves. The stack has its top first.
 use Rattle.std.specs.Prelude.{◌≡◌, ℕ, ◌*◌, ℤ, pos, negsuc, int_lt, unsigned_abs, if◌then◌else◌, List, [], ◌∷◌, drop, Result, Ok, Err, refl}
 use Rattle.tt_core.specs.Outcomes.{◌>>=◌}
 use Rattle.tt_core.specs.declared.fault.Why.{Why}

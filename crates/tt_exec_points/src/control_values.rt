@@ -68,7 +68,13 @@ fn change_all(
 }
 
 /// DELTAC1[] to DELTAC3[], 0x73 to 0x75: n pairs of an argument and a control value's number, n -> .
-pub(crate) fn deltac(op: u8, ppem: u32, stack: &mut Stack, graphics: &Graphics, cvt: &mut [i32]) -> Result<(), Why>
+pub(crate) fn deltac(
+    op: u8,
+    ppem: u32,
+    stack: &mut Stack,
+    graphics: &Graphics,
+    cvt: &mut [i32],
+) -> Result<(), Why>
     ensures { Gives (λ u. (stack.new, cvt.new)) result (is.deltac op ppem stack.old graphics.now cvt.old) }
 {
     let many = pairs_counted(stack)?;

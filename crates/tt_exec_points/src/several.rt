@@ -1,5 +1,5 @@
-//! The instructions on several points. What each does to them stands in the crates tt_points_loops and tt_points_iup, by
-//! the same name. Apple TrueType Reference Manual, "Instruction set".
+//! The instructions on several points. What each does to them stands in the crates tt_points_loops and tt_points_iup,
+//! by the same name. Apple TrueType Reference Manual, "Instruction set".
 
 ghost use Rattle.std.specs.Prelude.{◌≤◌, length, unsigned_abs, IfOk};
 ghost use Rattle.std.specs.Prelude.{◌≡◌};
@@ -53,7 +53,12 @@ impl Points {
     }
 
     /// SHP[a], 0x32, 0x33: as many points as the loop says -> .
-    pub(crate) fn shp(&mut self, op: u8, stack: &mut Stack, graphics: &mut Graphics) -> Result<(), Why>
+    pub(crate) fn shp(
+        &mut self,
+        op: u8,
+        stack: &mut Stack,
+        graphics: &mut Graphics,
+    ) -> Result<(), Why>
         ensures { Gives (λ u. (stack.new, self.new, graphics.new)) result (is.shp op stack.old self.old graphics.old) }
     {
         let mut state = graphics.state();
@@ -128,7 +133,13 @@ impl Points {
     }
 
     /// DELTAP1[] to DELTAP3[], 0x5D, 0x71, 0x72: n pairs of an argument and a point, n -> .
-    pub(crate) fn deltap(&mut self, op: u8, ppem: u32, stack: &mut Stack, graphics: &Graphics) -> Result<(), Why>
+    pub(crate) fn deltap(
+        &mut self,
+        op: u8,
+        ppem: u32,
+        stack: &mut Stack,
+        graphics: &Graphics,
+    ) -> Result<(), Why>
         ensures { Gives (λ u. (stack.new, self.new, graphics.now)) result (is.deltap op ppem stack.old self.old graphics.now) }
     {
         let many = pairs_counted(stack)?;

@@ -31,7 +31,12 @@ fn point_and_value(stack: &mut Stack, cvt: &[i32]) -> Result<(i32, i32), Why>
 
 impl Points {
     /// MDAP[r], 0x2E, 0x2F: p -> . Errors: PointRange, Perpendicular, ValueRange.
-    pub(crate) fn mdap(&mut self, op: u8, stack: &mut Stack, graphics: &mut Graphics) -> Result<(), Why>
+    pub(crate) fn mdap(
+        &mut self,
+        op: u8,
+        stack: &mut Stack,
+        graphics: &mut Graphics,
+    ) -> Result<(), Why>
         ensures { Gives (λ u. (stack.new, self.new, graphics.new)) result (is.mdap op stack.old self.old graphics.old) }
     {
         let p = stack.pop()?;
@@ -42,7 +47,12 @@ impl Points {
     }
 
     /// MDRP[abcde], 0xC0 to 0xDF: p -> . Errors: PointRange, Perpendicular, ValueRange.
-    pub(crate) fn mdrp(&mut self, op: u8, stack: &mut Stack, graphics: &mut Graphics) -> Result<(), Why>
+    pub(crate) fn mdrp(
+        &mut self,
+        op: u8,
+        stack: &mut Stack,
+        graphics: &mut Graphics,
+    ) -> Result<(), Why>
         ensures { Gives (λ u. (stack.new, self.new, graphics.new)) result (is.mdrp op stack.old self.old graphics.old) }
     {
         let p = stack.pop()?;
@@ -53,7 +63,12 @@ impl Points {
     }
 
     /// MSIRP[a], 0x3A, 0x3B: p, d -> . Errors: PointRange, Perpendicular, ValueRange.
-    pub(crate) fn msirp(&mut self, op: u8, stack: &mut Stack, graphics: &mut Graphics) -> Result<(), Why>
+    pub(crate) fn msirp(
+        &mut self,
+        op: u8,
+        stack: &mut Stack,
+        graphics: &mut Graphics,
+    ) -> Result<(), Why>
         ensures { Gives (λ u. (stack.new, self.new, graphics.new)) result (is.msirp op stack.old self.old graphics.old) }
     {
         let d = stack.pop()?;
@@ -65,7 +80,13 @@ impl Points {
     }
 
     /// MIAP[r], 0x3E, 0x3F: p, n -> . Errors: CvtRange, PointRange, Perpendicular, ValueRange.
-    pub(crate) fn miap(&mut self, op: u8, cvt: &[i32], stack: &mut Stack, graphics: &mut Graphics) -> Result<(), Why>
+    pub(crate) fn miap(
+        &mut self,
+        op: u8,
+        cvt: &[i32],
+        stack: &mut Stack,
+        graphics: &mut Graphics,
+    ) -> Result<(), Why>
         ensures { let given = is.miap op cvt.now stack.old self.old graphics.old in
             Gives (λ u. (stack.new, self.new, graphics.new)) result given }
     {
@@ -77,7 +98,13 @@ impl Points {
     }
 
     /// MIRP[abcde], 0xE0 to 0xFF: p, n -> . Errors: CvtRange, PointRange, Perpendicular, ValueRange.
-    pub(crate) fn mirp(&mut self, op: u8, cvt: &[i32], stack: &mut Stack, graphics: &mut Graphics) -> Result<(), Why>
+    pub(crate) fn mirp(
+        &mut self,
+        op: u8,
+        cvt: &[i32],
+        stack: &mut Stack,
+        graphics: &mut Graphics,
+    ) -> Result<(), Why>
         ensures { let given = is.mirp op cvt.now stack.old self.old graphics.old in
             Gives (λ u. (stack.new, self.new, graphics.new)) result given }
     {

@@ -1,5 +1,5 @@
--- Apple TrueType Reference Manual, "Instructing TrueType Glyphs" (zones, touched points) and "Graphics State" (vectors):
--- a point by its number in a zone, its coordinates along an axis, and how it is moved. Coordinates are in 26.6 pixels.
+-- Apple TrueType Reference Manual, "Instructing TrueType Glyphs" (zones, touched points) and "Graphics State"
+-- (vectors): a point by its number in a zone, its coordinates along an axis, and how it is moved. Coordinates are in 26.6 pixels.
 use Rattle.std.specs.Prelude.{◌≡◌, ℕ, ◌≤◌, ◌<◌, nat_le, ℤ, pos, negsuc, ◌+ℤ◌, ◌≤ℤ◌, int_lt, unsigned_abs, slice_get, Bool, true, false, if◌then◌else◌, List, [], ◌∷◌, length, slice_set, Result, Ok, Err, refl}
 use Rattle.std.specs.Option.{ok_or}
 use Rattle.tt_core.specs.Limits.{coordinate_limit}
