@@ -20,7 +20,7 @@ loop-i-preserved c =
     let inside : 2 * (c.loop-i.i - 1) + 1 < length c.args.pairs.now = omega arith in
     let step = except c.args.op c.args.ppem c.args.state.now in
     let came : step (get_or (pairs_of pairs) i (pos 0, pos 0)) (zones_view c.loop-i.zones)
-        ≡ Ok (zones_view c.except.new.zones) =
+    ≡ Ok (zones_view c.except.new.zones) =
     rw (pair_at pairs i inside) c.in_ok-except.ensures.exact in
     record {
       same = went_on step (pairs_of pairs) c.loop-i.i i (pos 0, pos 0) _ _ _
