@@ -7,6 +7,7 @@ use tt_core::Device;
 use tt_render::{Job, RunFault, map, run};
 
 /// How a font is read and what is written is held.
+#[derive(Clone, Copy)]
 pub(crate) struct Trial {
     /// How many bytes a call reads at most.
     pub(crate) read_step: usize,
