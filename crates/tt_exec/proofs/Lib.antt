@@ -1,3 +1,4 @@
+pub mod Computed
 pub mod Entries
 pub mod Single
 pub mod Steps

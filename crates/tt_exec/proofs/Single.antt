@@ -1,14 +1,14 @@
 -- A run has exactly one outcome.
-use Rattle.std.proofs.Common.{◌≡◌, ℕ, zero, suc, ◌+◌, ◌-◌, ◌<◌, ◌≤◌, ◌⊎◌, inl, inr, Bool, true, false, nat_le, length, Result, Ok, Err, sym, ◌∙◌, refl, arith}
-use Rattle.std.proofs.lemmas.Bool.Decides.{nat_tests}
+use Rattle.std.proofs.Common.{◌≡◌, ℕ, zero, suc, ◌+◌, ◌-◌, ◌<◌, ◌≤◌, ◌⊎◌, inl, inr, Bool, true, false, Result, Ok, Err, sym, ◌∙◌, refl, arith}
 use Rattle.std.proofs.lemmas.Bool.{cases_order}
 use Rattle.tt_core.specs.Faults.{Fault}
 use Rattle.tt_core.specs.declared.fault.Why.TheVariants as why
 use Rattle.tt_exec.specs.MachineState.{MachineState, fault_in}
 use Rattle.tt_exec.specs.Outcomes.{HasOneOutcome}
-use Rattle.tt_exec.specs.Runs.{Leads, Ends, IsStuck, IsOver, Halts, step_limit}
+use Rattle.tt_exec.specs.Runs.{Leads, Ends, Halts, step_limit}
 use Rattle.tt_exec.specs.Step.{step, is_ended}
-use Rattle.tt_exec.proofs.Steps.{one_more}
+use Rattle.tt_exec.proofs.Computed.{end_is, fault_is}
+use Rattle.tt_exec.proofs.Steps.{HasStep, Stops, end_has_none, one_more}
 
 -- the same number of steps leads to the same state
 same_state : (n : ℕ) (s t u : MachineState) → Leads n s t → Leads n s u → t ≡ u
@@ -16,9 +16,6 @@ same_state zero s t u p q = sym p ∙ q
 same_state (suc n) s t u (m, to_m, made) (m', to_m', made') =
     let same = same_state n s m m' to_m to_m' in
     cc
-
-abbrev HasStep : MachineState → Type 0
-HasStep t = (v : MachineState) × (step t ≡ Ok v)
 
 -- what a longer run passes has a step
 passed : (p n k : ℕ) (s t u : MachineState) → p ≡ suc (n + k) → Leads n s t → Leads p s u → HasStep t
@@ -29,19 +26,8 @@ passed (suc q) n zero s t u e here (m, to_m, made) =
     (u, rw same at made)
 passed (suc q) n (suc k) s t u e here (m, to_m, made) = passed q n k s t m (omega arith) here to_m
 
--- the program's end has no step
-at_end : (t : MachineState) → is_ended t ≡ true → nat_le (length t.frame.program.bytes) t.frame.place ≡ true
-at_end t ended = grind (arith, nat_tests)
-
-end_has_none : (t : MachineState) → is_ended t ≡ true → HasStep t → ⊥
-end_has_none t ended (v, made) = let past = at_end t ended in let none = rw past at made in cc
-
 apart : (n m : ℕ) (s t u : MachineState) → n < m → Leads n s t → Leads m s u → HasStep t
 apart n m s t u less here far = passed m n (m - suc n) s t u (omega arith) here far
-
--- why a run halts after so many steps
-abbrev Stops : ℕ → MachineState → Fault → Type 0
-Stops n t fault = IsStuck n t fault ⊎ IsOver n t fault
 
 few_steps : (n : ℕ) (t : MachineState) (fault : Fault) → Stops n t fault → n ≤ step_limit
 few_steps n t fault (inl stuck) = let few = stuck.few in omega arith
@@ -135,4 +121,6 @@ outcome s = record {
   one_end = λ n m t u e d. one_end s n m t u (cases_order n m) e d;
   one_fault = λ f g h i. one_fault s f g h i (cases_order h.n i.n);
   never_both = λ n t fault e h. never_both s n t fault e h (cases_order n h.n);
+  end_is = λ n t e. end_is s n t e;
+  fault_is = λ fault h. fault_is s fault h;
 }

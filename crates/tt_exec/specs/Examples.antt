@@ -9,6 +9,7 @@ use Rattle.tt_exec_stack.specs.Stack.{pushed}
 use Rattle.tt_exec.specs.Machines.{fresh, run_from}
 use Rattle.tt_exec.specs.MachineState.{MachineState}
 use Rattle.tt_exec.specs.Parts.{Parts}
+use Rattle.tt_exec.specs.Runs.{run_within}
 use Rattle.tt_exec.specs.Step.{step}
 
 -- the state that so many steps lead to
@@ -66,3 +67,18 @@ in_its_own_table = refl
 never_called : stack_after 0 [] 2 (0xB1 ∷ 0 ∷ 7 ∷ 0x2A ∷ []) ≡ Err (fault_at (codes "prep") 43 why.NoFunction)
 unfolding its_parts pushed
 never_called = refl
+
+-- the stack at a program's end, where so many steps are left
+abbrev stack_within : ℕ → List ℕ → Result (List ℤ) Fault
+stack_within n bytes =
+    run_within n (run_from (record { table = codes "prep"; base = 40; bytes = bytes }) (fresh its_parts)) >>= λ t.
+    Ok t.stack
+
+-- PUSHB 2, 3; SUB
+two_steps_of_two : stack_within 2 (0xB1 ∷ 2 ∷ 3 ∷ 0x61 ∷ []) ≡ Ok (negsuc 0 ∷ [])
+unfolding its_parts pushed run_within
+two_steps_of_two = refl
+
+one_step_of_two : stack_within 1 (0xB1 ∷ 2 ∷ 3 ∷ 0x61 ∷ []) ≡ Err (fault_at (codes "prep") 43 why.StepLimit)
+unfolding its_parts pushed run_within
+one_step_of_two = refl

@@ -1,6 +1,7 @@
 -- Apple TrueType Reference Manual, "Instructing TrueType Glyphs": the runs of a machine, one behind the other.
 use Rattle.std.specs.Prelude.{◌≡◌, ℕ, Option, Some, None, true, false, if◌then◌else◌, List, [], codes, Result, Ok, Err}
 use Rattle.std.specs.Str.{bytes_eq}
+use Rattle.tt_core.specs.Faults.{Fault}
 use Rattle.tt_core.specs.declared.font_fault.FontFault.{FontFault}
 use Rattle.tt_core.specs.declared.font_fault.FontFault.TheVariants as font
 use Rattle.tt_exec.specs.declared.fault.ExecFault.{ExecFault}
@@ -74,6 +75,14 @@ RunGives p old (Ok n) new = (old.failed ≡ false) × (new.failed ≡ false) × 
 RunGives p old (Err (exec.Font f)) new = (old.failed ≡ false) × (new.failed ≡ true) × Halts (run_from p old.state) f
 RunGives p old (Err exec.Memory) new = (old.failed ≡ false) × (new.failed ≡ true)
 RunGives p old (Err exec.Failed) new = (old.failed ≡ true) × (new ≡ old)
+
+-- the same by what a run computes: at its end the state that it gives, and else the fault, unless memory ran out or the
+-- machine had failed
+abbrev pub OutcomeIs : Result MachineState Fault → Result ℕ ExecFault → Held → Type 0
+OutcomeIs outcome (Ok n) new = outcome ≡ Ok new.state
+OutcomeIs outcome (Err (exec.Font f)) new = outcome ≡ Err f
+OutcomeIs outcome (Err exec.Memory) new = Unit {0}
+OutcomeIs outcome (Err exec.Failed) new = Unit {0}
 
 -- the parts of a machine, or None after a run that failed
 abbrev pub GivesParts : Held → Option Parts → Type 0

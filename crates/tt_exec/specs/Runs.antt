@@ -1,7 +1,8 @@
 -- Apple TrueType Reference Manual, "Instructing TrueType Glyphs": a run goes step by step until the program ends, or
 -- stops at a fault.
-use Rattle.std.specs.Prelude.{◌≡◌, ℕ, zero, suc, ◌<◌, ◌≤◌, ◌⊎◌, true, false, Ok, Err}
+use Rattle.std.specs.Prelude.{◌≡◌, ℕ, zero, suc, ◌<◌, ◌≤◌, ◌⊎◌, true, false, if◌then◌else◌, Result, Ok, Err}
 use Rattle.tt_core.specs.Faults.{Fault}
+use Rattle.tt_core.specs.Outcomes.{◌>>=◌}
 use Rattle.tt_core.specs.declared.fault.Why.TheVariants as why
 use Rattle.tt_exec.specs.MachineState.{MachineState, fault_in}
 use Rattle.tt_exec.specs.Step.{step, is_ended}
@@ -38,3 +39,11 @@ pub record Halts (s : MachineState) (fault : Fault) : Type 0 where
   pub leads : Leads n s t
   pub goes_on : is_ended t ≡ false
   pub why : IsStuck n t fault ⊎ IsOver n t fault
+
+-- the state at the program's end, or the fault that the run halts with, where so many steps are left
+unfoldable pub run_within : ℕ → MachineState → Result MachineState Fault
+run_within zero s = if is_ended s then Ok s else Err (fault_in s.frame s.frame.place why.StepLimit)
+run_within (suc n) s = if is_ended s then Ok s else (step s >>= λ t. run_within n t)
+
+unfoldable pub run_outcome : MachineState → Result MachineState Fault
+run_outcome s = run_within step_limit s

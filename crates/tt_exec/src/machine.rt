@@ -6,8 +6,9 @@ ghost use Rattle.tt_core.specs.Limits.{size_limit};
 ghost use Rattle.tt_state.specs.GraphicsState.{IsGraphicsState};
 ghost use Rattle.tt_points_zones.specs.Zones.{zones_view, IsZones};
 ghost use Rattle.tt_exec_stack.specs.Stack.{stack_limit};
-ghost use Rattle.tt_exec.specs.Machines.{fresh, kind_of, GivesParts, RunGives};
+ghost use Rattle.tt_exec.specs.Machines.{fresh, kind_of, run_from, GivesParts, OutcomeIs, RunGives};
 ghost use Rattle.tt_exec.specs.Parts.{parts_of};
+ghost use Rattle.tt_exec.specs.Runs.{run_outcome};
 ghost use Rattle.tt_exec.specs.Views.{program_of};
 
 use crate::bodies::Bodies;
@@ -84,7 +85,9 @@ impl<'a> Machine<'a> {
     /// were made. Where functions may be defined and flags set goes by the program's table. Errors: Font with a defect
     /// of the program, Memory; from then on Failed.
     pub fn run(&mut self, code: Code<'a>) -> Result<u32, ExecFault>
-        ensures { RunGives (program_of code.entry) self.old result self.new }
+        ensures exact { RunGives (program_of code.entry) self.old result self.new }
+        // The same by the function that computes a run.
+        ensures outcome { OutcomeIs (run_outcome (run_from (program_of code.entry) self.old.state)) result self.new }
     {
         if self.failed {
             return Err(ExecFault::Failed);
