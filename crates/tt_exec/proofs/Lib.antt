@@ -1,4 +1,5 @@
 pub mod Computed
 pub mod Entries
 pub mod Single
+pub mod Sizes
 pub mod Steps

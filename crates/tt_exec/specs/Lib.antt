@@ -12,6 +12,7 @@ pub mod Operation
 pub mod Outcomes
 pub mod Parts
 pub mod Runs
+pub mod Sizes
 pub mod States
 pub mod Step
 pub mod Views

@@ -1,9 +1,23 @@
 //! Laws of runs. Apple TrueType Reference Manual, "Instructing TrueType Glyphs".
 
+ghost use Rattle.std.specs.Prelude.{ℕ};
+ghost use Rattle.tt_points_zones.specs.Zones.{SameShape};
 ghost use Rattle.tt_exec.specs.MachineState.{MachineState};
 ghost use Rattle.tt_exec.specs.Outcomes.{HasOneOutcome};
+ghost use Rattle.tt_exec.specs.Runs.{Ends};
+ghost use Rattle.tt_exec.specs.Sizes.{HasContours, SameSizes};
 
 /// A run from any state either ends, after one number of steps and at one state, or halts with one fault, never both.
 pub fn one_outcome()
     ensures { (state : MachineState) → HasOneOutcome state }
 {}
+
+/// A run makes and drops no point, no place of the storage area and no control value, and the contours stay.
+pub fn sizes_are_kept()
+    ensures shape { (old new : MachineState) (n : ℕ) → HasContours old.zones → Ends old n new
+        → SameShape old.zones new.zones }
+    ensures sizes { (old new : MachineState) (n : ℕ) → HasContours old.zones → Ends old n new → SameSizes old new }
+{
+    tt_exec_points::laws::sizes_are_kept();
+    tt_exec_stack::laws::sizes_are_kept();
+}

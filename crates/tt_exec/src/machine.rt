@@ -4,17 +4,19 @@ ghost use Rattle.std.specs.Prelude.{◌≡◌, ◌<◌, ◌≤◌, length, rever
 ghost use Rattle.std.specs.Option.{option_map};
 ghost use Rattle.tt_core.specs.Limits.{size_limit};
 ghost use Rattle.tt_state.specs.GraphicsState.{IsGraphicsState};
-ghost use Rattle.tt_points_zones.specs.Zones.{zones_view, IsZones};
+ghost use Rattle.tt_points_zones.specs.Zones.{zones_view, IsZones, SameShape};
 ghost use Rattle.tt_exec_stack.specs.Stack.{stack_limit};
 ghost use Rattle.tt_exec.specs.Machines.{fresh, kind_of, run_from, GivesParts, OutcomeIs, RunGives};
 ghost use Rattle.tt_exec.specs.Parts.{parts_of};
 ghost use Rattle.tt_exec.specs.Runs.{run_outcome};
+ghost use Rattle.tt_exec.specs.Sizes.{SameSizes};
 ghost use Rattle.tt_exec.specs.Views.{program_of};
 
 use crate::bodies::Bodies;
 use crate::callers::Callers;
 use crate::fault::ExecFault;
 use crate::interpreter::{Interpreter, Kind};
+use crate::laws;
 use crate::parts::Parts;
 use crate::program::{Code, Frame};
 use std::alloc::{AllocError, Global};
@@ -88,10 +90,15 @@ impl<'a> Machine<'a> {
         ensures exact { RunGives (program_of code.entry) self.old result self.new }
         // The same by the function that computes a run.
         ensures outcome { OutcomeIs (run_outcome (run_from (program_of code.entry) self.old.state)) result self.new }
+        // No point, place of the storage area or control value is made or dropped, and the contours stay.
+        ensures shape { IfOk result (λ n. SameShape self.old.state.zones self.new.state.zones) }
+        ensures sizes { IfOk result (λ n. SameSizes self.old.state self.new.state) }
     {
         if self.failed {
             return Err(ExecFault::Failed);
         }
+        laws::sizes_are_kept();
+        self.interpreter.points.are_sound();
         self.interpreter.begin(code, kind_of(code.table));
         match self.interpreter.go() {
             Ok(steps) => Ok(steps),

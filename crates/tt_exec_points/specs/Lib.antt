@@ -3,3 +3,4 @@ pub mod Single
 pub mod Several
 pub mod ControlValues
 pub mod OnPoints
+pub mod Shapes

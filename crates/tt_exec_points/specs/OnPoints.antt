@@ -1,6 +1,6 @@
 -- Apple TrueType Reference Manual, "Instruction Set": the instructions that move or measure points, by their opcodes,
 -- and those that change control values by exceptions.
-use Rattle.std.specs.Prelude.{ℕ, ◌+◌, ◌==◌, nat_le, nat_lt, ℤ, Bool, ◌&&◌, ◌||◌, if◌then◌else◌, List, Result, Ok, Err}
+use Rattle.std.specs.Prelude.{ℕ, ◌+◌, ◌==◌, nat_le, ℤ, Bool, ◌&&◌, ◌||◌, if◌then◌else◌, List, Result, Ok, Err}
 use Rattle.tt_core.specs.Outcomes.{◌>>=◌}
 use Rattle.tt_core.specs.declared.fault.Why.{Why}
 use Rattle.tt_core.specs.declared.fault.Why.TheVariants as why

@@ -1,8 +1,7 @@
 -- Apple TrueType Reference Manual, "Instruction Set": the instructions on several points, with the stack, which has its
 -- top first. What each does to its points stands in the crates tt_points_loops and tt_points_iup, by the same names.
-use Rattle.std.specs.Prelude.{ℕ, ℤ, List, [], ◌∷◌, Result, Ok, Err}
+use Rattle.std.specs.Prelude.{ℕ, ℤ, List, [], ◌∷◌, Err}
 use Rattle.tt_core.specs.Outcomes.{◌>>=◌}
-use Rattle.tt_core.specs.declared.fault.Why.{Why}
 use Rattle.tt_core.specs.declared.fault.Why.TheVariants as why
 use Rattle.tt_state.specs.declared.graphics_state.GraphicsState.{GraphicsState}
 use Rattle.tt_points_loops.specs.Deltas as deltas

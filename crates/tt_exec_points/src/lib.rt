@@ -3,6 +3,7 @@
 
 mod control_values;
 mod dispatch;
+pub mod laws;
 mod points;
 mod several;
 mod single;

@@ -30,6 +30,14 @@ impl Points {
         Points { zones }
     }
 
+    /// Does nothing: its clause tells what holds of all points that a machine has.
+    #[inline(always)]
+    pub fn are_sound(&self)
+        ensures { IsZones self.now }
+    {
+        let _ = &self.zones;
+    }
+
     pub fn into_zones(self) -> Zones
         ensures exact { zones_view result ≡ self }
         ensures sound { IsZones (zones_view result) }

@@ -1,3 +1,4 @@
 pub mod Entries
 pub mod Words
 pub mod Tops
+pub mod Sizes

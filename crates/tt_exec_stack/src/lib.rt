@@ -4,6 +4,7 @@
 
 mod arithmetic;
 mod graphics;
+pub mod laws;
 mod logic;
 mod managing;
 mod places;

@@ -3,3 +3,4 @@ pub mod Measuring
 pub mod Moving
 pub mod Twilight
 pub mod ControlValues
+pub mod Shapes

@@ -4,6 +4,7 @@
 
 mod control_values;
 mod distances;
+pub mod laws;
 mod measuring;
 mod moving;
 mod twilight;

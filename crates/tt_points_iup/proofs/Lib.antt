@@ -7,3 +7,4 @@ pub mod Contours
 pub mod Ranges
 pub mod ByNumber
 pub mod Whole
+pub mod Shapes

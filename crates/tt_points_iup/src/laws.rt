@@ -4,6 +4,7 @@ ghost use Rattle.std.specs.Prelude.{◌≡◌, ℕ, ◌<◌, true, false, List, 
 ghost use Rattle.tt_state.specs.declared.graphics_state.Axis.{Axis};
 ghost use Rattle.tt_state.specs.declared.point.Point.{Point};
 ghost use Rattle.tt_points_zones.specs.Points.{is_touched};
+ghost use Rattle.tt_points_zones.specs.Zones.{ZoneLists, AreContours, KeepsShape};
 ghost use Rattle.tt_points_iup.specs.Interpolation as is;
 ghost use Rattle.tt_points_iup.specs.Neighbours.{round_from, IsNextTouched, IsLastTouched};
 
@@ -22,4 +23,9 @@ pub fn point_by_point()
     // Without a touched point nothing moves.
     ensures alone { (axis : Axis) (ps : List Point) (d : Point)
         → ((i : ℕ) → i < length ps → is_touched axis (get_or ps i d) ≡ false) → is.contour axis ps ≡ ps }
+{}
+
+/// Takes nothing and gives nothing: no point is made or dropped where the contours are those of the glyph's points.
+pub fn shape_is_kept()
+    ensures { (axis : Axis) (z : ZoneLists) → AreContours 0 z.contours (length z.glyph) → KeepsShape z (is.iup axis z) }
 {}

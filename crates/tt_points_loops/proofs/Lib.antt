@@ -1,3 +1,4 @@
 pub mod Contours
 pub mod Kept
 pub mod Ranges
+pub mod Shapes

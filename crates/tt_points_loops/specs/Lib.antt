@@ -4,3 +4,4 @@ pub mod Moving
 pub mod Shifting
 pub mod Deltas
 pub mod Turns
+pub mod Shapes

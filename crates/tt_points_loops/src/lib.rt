@@ -3,6 +3,7 @@
 
 mod deltas;
 mod flipping;
+pub mod laws;
 mod moving;
 mod shifting;
 

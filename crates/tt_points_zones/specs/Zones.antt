@@ -1,6 +1,6 @@
 -- Apple TrueType Reference Manual, "Instructing TrueType Glyphs" (zones): the points of both zones and the contours of
 -- the glyph. Coordinates are in 26.6 pixels; their limit is this project's own (profile).
-use Rattle.std.specs.Prelude.{◌≡◌, ℕ, ◌≤◌, List, [], ◌∷◌, length, All, unsigned_abs}
+use Rattle.std.specs.Prelude.{◌≡◌, ℕ, ◌≤◌, List, [], ◌∷◌, length, All, unsigned_abs, Result, IfOk}
 use Rattle.tt_core.specs.Limits.{coordinate_limit}
 use Rattle.tt_state.specs.declared.point.Point.{Point}
 use Rattle.tt_points_zones.specs.declared.zones.Zones.{Zones}
@@ -30,3 +30,16 @@ pub record IsZones (z : ZoneLists) : Type 0 where
   pub twilight : All IsPoint z.twilight
   pub glyph : All IsPoint z.glyph
   pub contours : AreContours 0 z.contours (length z.glyph)
+
+-- zones with as many points as others, and with the same contours
+pub record SameShape (old new : ZoneLists) : Type 0 where
+  pub twilight : length new.twilight ≡ length old.twilight
+  pub glyph : length new.glyph ≡ length old.glyph
+  pub contours : new.contours ≡ old.contours
+
+-- what gives zones, alone or before something else, keeps their shape
+abbrev pub KeepsShape : {E : Type 0} → ZoneLists → Result ZoneLists E → Type 0
+KeepsShape z given = IfOk given (SameShape z)
+
+abbrev pub KeepsShapeBefore : {A E : Type 0} → ZoneLists → Result (ZoneLists × A) E → Type 0
+KeepsShapeBefore z given = IfOk given (λ t. SameShape z t.0)

@@ -1,0 +1,5 @@
+use Rattle.tt_points_loops.proofs.Shapes.{shape_kept}
+use Rattle.tt_points_loops.proofs.laws.shape_is_kept.Goals as goal
+
+pub returns : goal.returns
+returns c = shape_kept
