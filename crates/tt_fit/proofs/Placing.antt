@@ -15,16 +15,16 @@ use Rattle.tt_glyf.specs.Composite.{args_are_xy_values}
 use Rattle.tt_glyf.specs.declared.raw.RawPoint.{RawPoint}
 use Rattle.tt_glyf.specs.declared.raw.Record.{Record}
 use Rattle.tt_glyf.specs.Flags.{has}
-use Rattle.tt_fit.specs.Components.{offset_of, point_of, matched_by, shift_of, landed, placed_point, within_point_limit, placed}
+use Rattle.tt_fit.specs.Components.{offset_of, point_of, matched_by, shift_of, landed, placed_point, within_point_limit, behind, placed}
 use Rattle.tt_fit.specs.Defects.{PassesLimit, LeavesLimit, IsPhantomDefect, IsScaledDefect, LacksPoint, IsMatchDefect, IsLandingDefect, IsCountDefect, IsPlacingDefect}
 use Rattle.tt_fit.specs.Outline.{PhantomPoints, Shape}
 use Rattle.tt_fit.specs.Scaling.{Size, is_coordinate, is_position, are_positions, glyf_fault, coordinate_fault, settled, scaled_position, scaled_point, blank, scaled_outline}
 
 -- coordinates
-passes : (v : ℤ) → is_coordinate v ≡ false → PassesLimit v
+pub passes : (v : ℤ) → is_coordinate v ≡ false → PassesLimit v
 passes v is = grind (arith, nat_tests)
 
-fits : (v : ℤ) → is_coordinate v ≡ true → PassesLimit v → ⊥
+pub fits : (v : ℤ) → is_coordinate v ≡ true → PassesLimit v → ⊥
 fits v is passes = grind (arith, nat_tests)
 
 either-fails : (a b : Bool) → (a && b) ≡ false → (a ≡ false) ⊎ (b ≡ false)
@@ -61,46 +61,52 @@ settled-stays at p q was =
     let test = passed-else (is_coordinate p.0 && is_coordinate p.1) _ p q was in stays p.0 p.1 test.0
 
 -- the phantom points
-one-fails : (a b c d : Bool) → (a && b && c && d) ≡ false
+pub one-fails : (a b c d : Bool) → (a && b && c && d) ≡ false
     → (a ≡ false) ⊎ (b ≡ false) ⊎ (c ≡ false) ⊎ (d ≡ false)
 one-fails false b c d is = inl refl
 one-fails true false c d is = inr (inl refl)
 one-fails true true false d is = inr (inr (inl refl))
 one-fails true true true d is = inr (inr (inr is))
 
-all-hold : (a b c d : Bool) → (a && b && c && d) ≡ true → (a ≡ true) × (b ≡ true) × (c ≡ true) × (d ≡ true)
+pub all-hold : (a b c d : Bool) → (a && b && c && d) ≡ true → (a ≡ true) × (b ≡ true) × (c ≡ true) × (d ≡ true)
 all-hold false b c d is = absurd cc
 all-hold true false c d is = absurd cc
 all-hold true true false d is = absurd cc
 all-hold true true true d is = (refl, refl, refl, is)
 
-pub blank-broke : (at : ℕ) (p : PhantomPoints) (f : Fault) → blank at p ≡ Err f → IsPhantomDefect at p f
-unfolding blank
-blank-broke at p f was =
-    let test = failed-else (are_positions p) _ _ f was in
-    let one = one-fails (is_position p.left) (is_position p.right) (is_position p.ascent) (is_position p.descent)
-    test.0 in (
-      elim one [
-        | inl left ↦ inl (leaves p.left.0 p.left.1 left)
-        | inr (inl right) ↦ inr (inl (leaves p.right.0 p.right.1 right))
-        | inr (inr (inl ascent)) ↦ inr (inr (inl (leaves p.ascent.0 p.ascent.1 ascent)))
-        | inr (inr (inr descent)) ↦ inr (inr (inr (leaves p.descent.0 p.descent.1 descent)))
-      ],
-      test.1,
-    )
+abbrev OneLeaves : PhantomPoints → Type 0
+OneLeaves p = LeavesLimit p.left.0 p.left.1 ⊎ LeavesLimit p.right.0 p.right.1 ⊎ LeavesLimit p.ascent.0 p.ascent.1
+    ⊎ LeavesLimit p.descent.0 p.descent.1
 
-pub blank-whole : (at : ℕ) (p : PhantomPoints) (o : Shape) (f : Fault) → blank at p ≡ Ok o → IsPhantomDefect at p f → ⊥
-unfolding blank
-blank-whole at p o f was bad =
-    let test = passed-else (are_positions p) _ _ o was in
-    let hold = all-hold (is_position p.left) (is_position p.right) (is_position p.ascent) (is_position p.descent)
-    test.0 in
-    elim (bad.0) [
+phantom-leaves : (p : PhantomPoints) → are_positions p ≡ false → OneLeaves p
+phantom-leaves p is =
+    let one = one-fails (is_position p.left) (is_position p.right) (is_position p.ascent) (is_position p.descent) is in
+    elim one [
+      | inl left ↦ inl (leaves p.left.0 p.left.1 left)
+      | inr (inl right) ↦ inr (inl (leaves p.right.0 p.right.1 right))
+      | inr (inr (inl ascent)) ↦ inr (inr (inl (leaves p.ascent.0 p.ascent.1 ascent)))
+      | inr (inr (inr descent)) ↦ inr (inr (inr (leaves p.descent.0 p.descent.1 descent)))
+    ]
+
+phantom-stays : (p : PhantomPoints) → are_positions p ≡ true → OneLeaves p → ⊥
+phantom-stays p is past =
+    let hold = all-hold (is_position p.left) (is_position p.right) (is_position p.ascent) (is_position p.descent) is in
+    elim past [
       | inl left ↦ stays p.left.0 p.left.1 hold.0 left
       | inr (inl right) ↦ stays p.right.0 p.right.1 hold.1 right
       | inr (inr (inl ascent)) ↦ stays p.ascent.0 p.ascent.1 hold.2 ascent
       | inr (inr (inr descent)) ↦ stays p.descent.0 p.descent.1 hold.3 descent
     ]
+
+pub blank-broke : (at : ℕ) (p : PhantomPoints) (f : Fault) → blank at p ≡ Err f → IsPhantomDefect at p f
+unfolding blank
+blank-broke at p f was =
+    let test = failed-else (are_positions p) _ _ f was in (phantom-leaves p test.0, test.1)
+
+pub blank-whole : (at : ℕ) (p : PhantomPoints) (o : Shape) (f : Fault) → blank at p ≡ Ok o → IsPhantomDefect at p f → ⊥
+unfolding blank
+blank-whole at p o f was bad =
+    let test = passed-else (are_positions p) _ _ o was in phantom-stays p test.0 bad.0
 
 -- the points of a simple glyph
 pub scaled-broke : (z : Size) (at : ℕ) (points : List RawPoint) (ends : List ℕ) (o : Shape) (f : Fault)
@@ -233,7 +239,7 @@ landing-whole z r component points all by f shifted was bad =
 
 pub placing-broke : (z : Size) (r : Record) (component o : Shape) (f : Fault) → placed z r component o ≡ Err f
     → IsPlacingDefect z r component o f
-unfolding placed
+unfolding placed behind
 placing-broke z r component o f was = elim (was-err (shift_of z r component.points o.points) _ f was) [
   | inl here ↦ inl (shift-broke z r component.points o.points f here)
   | inr moved ↦ elim (was-err (each (placed_point r moved.value) component.points) _ f moved.rest) [
@@ -249,7 +255,7 @@ placing-broke z r component o f was = elim (was-err (shift_of z r component.poin
 
 pub placing-whole : (z : Size) (r : Record) (component o made : Shape) (f : Fault) → placed z r component o ≡ Ok made
     → IsPlacingDefect z r component o f → ⊥
-unfolding placed
+unfolding placed behind
 placing-whole z r component o made f was bad =
     let moved = came-through (shift_of z r component.points o.points) _ made was in
     let all = came-through (each (placed_point r moved.value) component.points) _ made moved.rest in

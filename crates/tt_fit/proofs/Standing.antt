@@ -11,20 +11,14 @@ use Rattle.tt_glyf.specs.GlyphData.{glyph_data_of}
 use Rattle.tt_glyf.specs.Loca.{glyph_offset}
 use Rattle.tt_glyf.specs.Raw.{GlyphData, empty, simple, composite}
 use Rattle.tt_glyf.proofs.Defects.{glyph-broke, glyph-whole}
-use Rattle.tt_fit.specs.Defects.{IsStartDefect, IsPlacingDefect, assembled_before, IsRecordsDefect, IsMakingDefect, IsDefectBy, IsBadComponent, IsOutlineDefect}
+use Rattle.tt_fit.specs.Defects.{IsStartDefect, IsPlacingDefect, assembled_before, IsRecordsDefect, IsFinishingDefect, IsMakingDefect, IsDefectBy, IsBadComponent, IsOutlineDefect}
 use Rattle.tt_fit.specs.Fitting.{Setting, size_of, start, joined, glyph_program, made, outline_by, added, fitted_outline}
 use Rattle.tt_fit.specs.Laws.{OutlinesAreWhole, OutlineFaultsStand}
 use Rattle.tt_fit.specs.Outline.{Shape}
-use Rattle.tt_fit.specs.Programs.{Hints, unhinted, GlyphProgram, finished}
+use Rattle.tt_fit.specs.Programs.{finished}
 use Rattle.tt_fit.specs.Scaling.{phantom_points, scaled_outline}
+use Rattle.tt_fit.proofs.Finishing.{finished-broke, finished-whole}
 use Rattle.tt_fit.proofs.Placing.{blank-broke, blank-whole, scaled-broke, scaled-whole, placing-broke, placing-whole}
-
--- programs refuse no outline
-finished-never : (h : Hints) (p : GlyphProgram) (o : Shape) (f : Fault) → finished h p o ≡ Err f → ⊥
-finished-never unhinted p o f was = cc
-
-finished-was : (h : Hints) (p : GlyphProgram) (o made : Shape) → finished h p o ≡ Ok made → o ≡ made
-finished-was unhinted p o made was = cc
 
 -- what a record adds is refused for a defect of the record, and only then
 abbrev Tells : (Record → Shape → Result Shape Fault) → (Record → Result Shape Fault → Fault → Type 0) → Type 0
@@ -95,6 +89,21 @@ start-whole : (s : Setting) (x_min : ℤ) (g : ℕ) (o : Shape) (f : Fault) → 
 start-whole s x_min g o f was bad =
     blank-whole (glyph_offset s.tables g) (phantom_points (size_of s) s.metrics x_min g) o f was bad
 
+-- the program of a glyph, over the points that are made for it
+abbrev IsFinishingOf : Setting → ℕ → List ℕ → ℕ → Fault → Result Shape Fault → Type 0
+IsFinishingOf s g code code_at f x = IsOkAnd x (λ o. IsFinishingDefect s.hints (glyph_program s g code code_at) o f)
+
+finishing-broke : (s : Setting) (g : ℕ) (code : List ℕ) (code_at : ℕ) (x : Result Shape Fault) (o : Shape) (f : Fault)
+    → x ≡ Ok o → finished s.hints (glyph_program s g code code_at) o ≡ Err f → IsFinishingOf s g code code_at f x
+finishing-broke s g code code_at x o f made was =
+    subst (IsFinishingOf s g code code_at f) (sym made) (finished-broke s.hints (glyph_program s g code code_at) o f was)
+
+finishing-whole : (s : Setting) (g : ℕ) (code : List ℕ) (code_at : ℕ) (x : Result Shape Fault) (o all : Shape)
+    (f : Fault) → x ≡ Ok o → finished s.hints (glyph_program s g code code_at) o ≡ Ok all
+    → IsFinishingOf s g code code_at f x → ⊥
+finishing-whole s g code code_at x o all f made was bad =
+    finished-whole s.hints (glyph_program s g code code_at) o all f was (subst (IsFinishingOf s g code code_at f) made bad)
+
 making-broke : (s : Setting) (add : Record → Shape → Result Shape Fault)
     (IsOne : Record → Result Shape Fault → Fault → Type 0) → Tells add IsOne → (g : ℕ) (d : GlyphData) (f : Fault)
     → made s add g d ≡ Err f → IsMakingDefect s add IsOne g d f
@@ -102,20 +111,25 @@ making-broke s add IsOne tells g empty f was = start-broke s (pos 0) g f was
 making-broke s add IsOne tells g (simple d) f was = elim (was-err (start s d.x_min g) _ f was) [
   | inl here ↦ inl (start-broke s d.x_min g f here)
   | inr begun ↦
-      let scaled = scaled_outline (size_of s) (glyph_offset s.tables g) d.points d.ends begun.value in
-      elim (was-err scaled _ f begun.rest) [
-        | inl here ↦ inr (scaled-broke (size_of s) (glyph_offset s.tables g) d.points d.ends begun.value f here)
-        | inr whole ↦ absurd (finished-never s.hints (glyph_program s g d.code d.code_at) whole.value f whole.rest)
+      let scale = scaled_outline (size_of s) (glyph_offset s.tables g) d.points d.ends in
+      elim (was-err (scale begun.value) _ f begun.rest) [
+        | inl here ↦ inr
+            (inl (scaled-broke (size_of s) (glyph_offset s.tables g) d.points d.ends begun.value f here))
+        | inr whole ↦
+            let both = through (start s d.x_min g) scale begun.value whole.value begun.first whole.first in
+            inr (inr (finishing-broke s g d.code d.code_at (start s d.x_min g >>= scale) whole.value f both whole.rest))
       ]
 ]
 making-broke s add IsOne tells g (composite d) f was =
     elim (was-err (start s d.x_min g >>= joined add d.records) _ f was) [
       | inl here ↦ elim (was-err (start s d.x_min g) (joined add d.records) f here) [
         | inl first ↦ inl (start-broke s d.x_min g f first)
-        | inr begun ↦
-            inr (records-broke add IsOne tells (start s d.x_min g) begun.value d.records f begun.first begun.rest)
+        | inr begun ↦ inr
+            (inl (records-broke add IsOne tells (start s d.x_min g) begun.value d.records f begun.first begun.rest))
       ]
-      | inr whole ↦ absurd (finished-never s.hints (glyph_program s g d.code d.code_at) whole.value f whole.rest)
+      | inr whole ↦
+          let all = start s d.x_min g >>= joined add d.records in
+          inr (inr (finishing-broke s g d.code d.code_at all whole.value f whole.first whole.rest))
     ]
 
 making-whole : (s : Setting) (add : Record → Shape → Result Shape Fault)
@@ -124,22 +138,29 @@ making-whole : (s : Setting) (add : Record → Shape → Result Shape Fault)
 making-whole s add IsOne spares g empty o f was bad = start-whole s (pos 0) g o f was bad
 making-whole s add IsOne spares g (simple d) o f was bad =
     let begun = came-through (start s d.x_min g) _ o was in
-    let scaled = scaled_outline (size_of s) (glyph_offset s.tables g) d.points d.ends begun.value in
-    let by_points = came-through scaled _ o begun.rest in
+    let scale = scaled_outline (size_of s) (glyph_offset s.tables g) d.points d.ends in
+    let by_points = came-through (scale begun.value) _ o begun.rest in
     elim bad [
       | inl first ↦ start-whole s d.x_min g begun.value f begun.first first
-      | inr point ↦
+      | inr (inl point) ↦
           scaled-whole (size_of s) (glyph_offset s.tables g) d.points d.ends begun.value by_points.value f
           by_points.first point
+      | inr (inr program) ↦
+          let both = through (start s d.x_min g) scale begun.value by_points.value begun.first by_points.first in
+          finishing-whole s g d.code d.code_at (start s d.x_min g >>= scale) by_points.value o f both
+          by_points.rest program
     ]
 making-whole s add IsOne spares g (composite d) o f was bad =
     let by_records = came-through (start s d.x_min g >>= joined add d.records) _ o was in
     let begun = came-through (start s d.x_min g) (joined add d.records) by_records.value by_records.first in
     elim bad [
       | inl first ↦ start-whole s d.x_min g begun.value f begun.first first
-      | inr one ↦
+      | inr (inl one) ↦
           records-whole add IsOne spares (start s d.x_min g) begun.value by_records.value d.records f begun.first
           begun.rest one
+      | inr (inr program) ↦
+          let all = start s d.x_min g >>= joined add d.records in
+          finishing-whole s g d.code d.code_at all by_records.value o f by_records.first by_records.rest program
     ]
 
 -- a glyph, by what its records add

@@ -1,6 +1,6 @@
 -- OpenType, "The 'glyf' table", "Composite Glyph Description": a component is transformed, moved by an offset or by
 -- what matches two points, and joined with what is assembled so far.
-use Rattle.std.specs.Prelude.{◌≡◌, ℕ, ◌+◌, ◌*◌, ◌/◌, Bool, true, false, nat_lt, if◌then◌else◌, ℤ, pos, negsuc, neg_ℤ, unsigned_abs, int_lt, ◌+ℤ◌, ◌-ℤ◌, ◌*ℤ◌, List, [], ◌∷◌, ◌++◌, length, map, Option, Some, None, Result, Ok, Err, refl}
+use Rattle.std.specs.Prelude.{◌≡◌, ℕ, ◌+◌, Bool, true, false, nat_lt, if◌then◌else◌, ℤ, pos, negsuc, neg_ℤ, ◌+ℤ◌, ◌-ℤ◌, ◌*ℤ◌, List, [], ◌∷◌, ◌++◌, length, map, Option, Some, None, Result, Ok, Err, refl}
 use Rattle.std.specs.List.{slice_get}
 use Rattle.tt_core.specs.Faults.{Fault}
 use Rattle.tt_core.specs.declared.fault.Why.TheVariants as why
@@ -11,15 +11,7 @@ use Rattle.tt_glyf.specs.Composite.{args_are_xy_values, round_xy_to_grid, use_my
 use Rattle.tt_glyf.specs.declared.raw.Record.{Record}
 use Rattle.tt_glyf.specs.Flags.{has}
 use Rattle.tt_fit.specs.Outline.{PhantomPoints, Shape}
-use Rattle.tt_fit.specs.Scaling.{Size, scale, glyf_fault, settled}
-
--- a distance in 26.6 to whole pixels: the magnitude and half a pixel cut down to a multiple of 64, the sign put back
-abbrev pub grid_magnitude : ℕ → ℕ
-grid_magnitude n = 64 * ((n + 32) / 64)
-
-abbrev pub to_grid : ℤ → ℤ
-to_grid v = if int_lt v (pos 0) then neg_ℤ (pos (grid_magnitude (unsigned_abs v))) else pos
-    (grid_magnitude (unsigned_abs v))
+use Rattle.tt_fit.specs.Scaling.{Size, scale, to_grid, glyf_fault, settled}
 
 -- a point's position under a component's transform, whose numbers are 2.14
 abbrev pub transformed : Record → ℤ × ℤ × Bool → ℤ × ℤ
@@ -73,13 +65,16 @@ phantom_with r component o = if has r.flags use_my_metrics then component.phanto
 abbrev pub ends_after : ℕ → List ℕ → List ℕ
 ends_after points ends = map (λ e. points + e) ends
 
--- a component placed behind what is assembled so far
-unfoldable pub placed : Size → Record → Shape → Shape → Result Shape Fault
-placed z r component o = do
-  by ← shift_of z r component.points o.points
+-- a component moved so far, behind what is assembled before it
+unfoldable pub behind : Record → ℤ × ℤ → Shape → Shape → Result Shape Fault
+behind r by component o = do
   landed ← each (placed_point r by) component.points
   points ← within_point_limit r.at (o.points ++ landed)
   Ok (record { points = points; ends = o.ends ++ ends_after (length o.points) component.ends; phantom = phantom_with r component o })
+
+-- a component placed behind what is assembled so far
+unfoldable pub placed : Size → Record → Shape → Shape → Result Shape Fault
+placed z r component o = shift_of z r component.points o.points >>= λ by. behind r by component o
 
 -- worked values: 256 units in an em, at 16 pixels
 its_size : Size
@@ -88,12 +83,6 @@ its_size = record { ppem = 16; units_per_em = 256 }
 -- moved by 10 and -10 units without a transform
 moved : ℕ → Record
 moved flags = record { at = 32; flags = flags; glyph = 1; arg1 = pos 10; arg2 = neg_ℤ (pos 10); xx = one; yx = pos 0; xy = pos 0; yy = one }
-
-half_a_pixel_goes_outward : to_grid (pos 32) ≡ pos 64
-half_a_pixel_goes_outward = refl
-
-minus_half_a_pixel_goes_outward : to_grid (neg_ℤ (pos 32)) ≡ neg_ℤ (pos 64)
-minus_half_a_pixel_goes_outward = refl
 
 an_offset : offset_of its_size (moved 0x2) ≡ (pos 40, neg_ℤ (pos 40))
 unfolding its_size moved
@@ -126,11 +115,11 @@ shape_of points advance = record { points = points; ends = length points ∷ [];
 a_matched_component : placed its_size (turned 0x200) (shape_of two_points (pos 5))
     (shape_of ((pos 1000, pos 2000, true) ∷ []) (pos 9))
     ≡ Ok (record { points = (pos 1000, pos 2000, true) ∷ (pos 1005, pos 1901, true) ∷ (pos 1000, pos 2000, false) ∷ []; ends = 1 ∷ 3 ∷ []; phantom = phantom_after (pos 5) })
-unfolding its_size turned two_points shape_of placed shift_of settled within_point_limit
+unfolding its_size turned two_points shape_of placed behind shift_of settled within_point_limit
 a_matched_component = refl
 
 -- no point 0 is assembled yet
 an_unmatched_component : placed its_size (turned 0) (shape_of two_points (pos 5)) (shape_of [] (pos 9))
     ≡ Err (glyf_fault 32 why.MatchPoint)
-unfolding its_size turned two_points shape_of placed shift_of settled within_point_limit
+unfolding its_size turned two_points shape_of placed behind shift_of settled within_point_limit
 an_unmatched_component = refl

@@ -1,6 +1,6 @@
 -- What can be wrong with the outline of a glyph at a size, apart from the order in which it is looked for: each defect
 -- with its fault. OpenType, "The 'glyf' table", "Composite Glyph Description"; the limits are profile.
-use Rattle.std.specs.Prelude.{◌≡◌, ℕ, zero, suc, ◌+◌, ◌<◌, false, ℤ, pos, unsigned_abs, ◌<ℤ◌, ◌≤ℤ◌, Bool, List, length, take, Some, Result, IsOkAnd, ◌⊎◌}
+use Rattle.std.specs.Prelude.{◌≡◌, ℕ, zero, suc, ◌+◌, ◌<◌, Bool, true, false, ℤ, pos, unsigned_abs, ◌<ℤ◌, ◌≤ℤ◌, List, length, take, Some, Result, Err, IsOkAnd, ◌⊎◌}
 use Rattle.std.specs.List.{slice_get}
 use Rattle.tt_core.specs.Faults.{Fault}
 use Rattle.tt_core.specs.declared.fault.Why.TheVariants as why
@@ -14,10 +14,13 @@ use Rattle.tt_glyf.specs.Flags.{has}
 use Rattle.tt_glyf.specs.GlyphData.{glyph_data_of}
 use Rattle.tt_glyf.specs.Loca.{glyph_offset}
 use Rattle.tt_glyf.specs.Raw.{GlyphData, empty, simple, composite}
+use Rattle.tt_exec.specs.Parts.{Parts}
 use Rattle.tt_fit.specs.Components.{shift_of, landed}
-use Rattle.tt_fit.specs.Fitting.{Setting, size_of, start, joined, added, outline_at}
+use Rattle.tt_fit.specs.Fitting.{Setting, size_of, start, glyph_program, joined, added, outline_at}
+use Rattle.tt_fit.specs.GlyphZone.{GlyphProgram, program_in_glyf, on_grid, on_grid_at, parts_with}
 use Rattle.tt_fit.specs.Outline.{PhantomPoints, Shape}
-use Rattle.tt_fit.specs.Scaling.{Size, scale, glyf_fault, coordinate_fault, phantom_points}
+use Rattle.tt_fit.specs.Programs.{Hints, unhinted, hinted, is_run, run_of}
+use Rattle.tt_fit.specs.Scaling.{Size, scale, glyf_fault, coordinate_fault, phantom_points, scaled_outline}
 
 -- a coordinate is past the limit
 abbrev pub PassesLimit : ℤ → Type 0
@@ -84,14 +87,34 @@ abbrev pub IsRecordsDefect : (Record → Shape → Result Shape Fault) → (Reco
 IsRecordsDefect add IsOne begun records fault =
     (i : ℕ) × (r : Record) × (slice_get records i ≡ Some r) × IsOne r (assembled_before add begun records i) fault
 
--- a glyph that can be read has no outline: a phantom point, a point or a record is bad
+-- the end of an advance, the ascent or the descent leaves the limit when it goes to the grid
+abbrev pub IsGridDefect : ℕ → PhantomPoints → Fault → Type 0
+IsGridDefect at p fault =
+    (PassesLimit p.left.0 ⊎ PassesLimit p.right.0 ⊎ PassesLimit p.ascent.1 ⊎ PassesLimit p.descent.1)
+    × (fault ≡ coordinate_fault at)
+
+-- a glyph's program is run, and a phantom point leaves the limit on the grid, or the program has a fault
+abbrev pub IsProgramDefect : Parts → GlyphProgram → Shape → Fault → Type 0
+IsProgramDefect parts p o fault = (is_run parts p ≡ true) × (IsGridDefect p.glyph_at (on_grid o.phantom) fault
+    ⊎ IsOkAnd (on_grid_at p.glyph_at o.phantom) (λ grid.
+    run_of (program_in_glyf p) (parts_with parts o grid) ≡ Err fault))
+
+abbrev pub IsFinishingDefect : Hints → GlyphProgram → Shape → Fault → Type 0
+IsFinishingDefect unhinted p o fault = ⊥
+IsFinishingDefect (hinted parts) p o fault = IsProgramDefect parts p o fault
+
+-- a glyph that can be read has no outline: a phantom point, a point or a record is bad, or its program
 abbrev pub IsMakingDefect : Setting → (Record → Shape → Result Shape Fault)
     → (Record → Result Shape Fault → Fault → Type 0) → ℕ → GlyphData → Fault → Type 0
 IsMakingDefect s add IsOne g empty fault = IsStartDefect s (pos 0) g fault
 IsMakingDefect s add IsOne g (simple d) fault =
     IsStartDefect s d.x_min g fault ⊎ IsScaledDefect (size_of s) (glyph_offset s.tables g) d.points fault
+    ⊎ IsOkAnd (start s d.x_min g >>= scaled_outline (size_of s) (glyph_offset s.tables g) d.points d.ends) (λ o.
+    IsFinishingDefect s.hints (glyph_program s g d.code d.code_at) o fault)
 IsMakingDefect s add IsOne g (composite d) fault =
     IsStartDefect s d.x_min g fault ⊎ IsRecordsDefect add IsOne (start s d.x_min g) d.records fault
+    ⊎ IsOkAnd (start s d.x_min g >>= joined add d.records) (λ o.
+    IsFinishingDefect s.hints (glyph_program s g d.code d.code_at) o fault)
 
 -- a glyph cannot be read, or has no outline
 abbrev pub IsDefectBy : Setting → (Record → Shape → Result Shape Fault)

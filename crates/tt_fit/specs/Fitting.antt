@@ -18,9 +18,10 @@ use Rattle.tt_glyf.specs.Simple.{end_at, ends_from, points_within, points_of, si
 use Rattle.tt_metrics.specs.declared.head.LocaFormat.TheVariants.{Short}
 use Rattle.tt_glyf.specs.Raw.{GlyphData, empty, simple, composite}
 use Rattle.tt_metrics.specs.Metrics.{Fields, units_per_em_of, loca_format_of, glyphs_of}
-use Rattle.tt_fit.specs.Components.{placed, shift_of, within_point_limit}
+use Rattle.tt_fit.specs.Components.{placed, behind, shift_of, within_point_limit}
 use Rattle.tt_fit.specs.Outline.{PhantomPoints, Shape}
-use Rattle.tt_fit.specs.Programs.{Hints, unhinted, AreHints, GlyphProgram, finished}
+use Rattle.tt_fit.specs.GlyphZone.{GlyphProgram}
+use Rattle.tt_fit.specs.Programs.{Hints, unhinted, AreHints, finished}
 use Rattle.tt_fit.specs.Scaling.{Size, glyf_fault, phantom_points, blank, scaled_outline, settled}
 
 -- what outlines are made from: the glyph data and the metrics of a font, the pixels per em, and what its programs leave
@@ -139,7 +140,7 @@ squares_are_joined : fitted_outline (its_setting two_squares) 2 ≡ Ok (record {
   ends = 4 ∷ 8 ∷ [];
   phantom = its_phantom_points (pos 0);
 })
-unfolding fitted_outline added placed shift_of within_point_limit glyph_data_of glyph_bytes_of header_of described
+unfolding fitted_outline added placed behind shift_of within_point_limit glyph_data_of glyph_bytes_of header_of described
     composite_of records_from record_at known_glyph arguments_at argument_at transform_at unscaled program_of simple_of
     ends_from end_at points_within points_of flags_from run_at coordinates_from coordinate_at within_words delta_at
     byte_in word_in signed_in slice_in blank scaled_outline settled

@@ -1,6 +1,7 @@
 pub mod Components
 pub mod Defects
 pub mod Fitting
+pub mod GlyphZone
 pub mod Laws
 pub mod Outline
 pub mod Preparation

@@ -1,15 +1,25 @@
 -- Apple TrueType Reference Manual, "Instructing TrueType Glyphs": what the font program and the control value program
--- leave before the first glyph. Without programs they are not looked at (profile).
-use Rattle.std.specs.Prelude.{ℕ, List, Result, Ok}
+-- leave before the first glyph. Without programs they are not looked at. That a control value program begins with
+-- nothing of the font program but its functions, and what is kept of it, is this project's own choice (profile).
+use Rattle.std.specs.Prelude.{◌≡◌, ℕ, ◌*◌, ◌/◌, true, false, if◌then◌else◌, ℤ, pos, negsuc, List, [], ◌∷◌, length, map, replicate, codes, Result, Ok, refl}
+use Rattle.std.specs.List.{range_with_len}
 use Rattle.tt_core.specs.Faults.{Fault}
+use Rattle.tt_core.specs.Numbers.{unsigned_at, signed16}
 use Rattle.tt_core.specs.Outcomes.{◌>>=◌}
+use Rattle.tt_exec.specs.MachineState.{Program}
+use Rattle.tt_exec.specs.Parts.{Parts}
 use Rattle.tt_glyf.specs.Loca.{GlyphTables}
-use Rattle.tt_metrics.specs.Metrics.{Fields}
+use Rattle.tt_metrics.specs.Metrics.{Fields, storage_of, twilight_of, units_per_em_of}
+use Rattle.tt_state.specs.declared.graphics_state.GraphicsState.{GraphicsState}
+use Rattle.tt_state.specs.declared.point.Point.{Point}
+use Rattle.tt_state.specs.GraphicsState.{default_state}
 use Rattle.tt_fit.specs.declared.programs.Fit.{Fit}
 use Rattle.tt_fit.specs.declared.programs.Fit.TheVariants as fit
 use Rattle.tt_fit.specs.declared.programs.Programs as declared
 use Rattle.tt_fit.specs.Fitting.{Setting}
-use Rattle.tt_fit.specs.Programs.{Hints, unhinted}
+use Rattle.tt_fit.specs.GlyphZone.{untouched}
+use Rattle.tt_fit.specs.Programs.{Hints, unhinted, hinted, run_of}
+use Rattle.tt_fit.specs.Scaling.{Size, scale}
 
 -- the control values, the font program and the control value program
 pub record ProgramTables : Type 0 where
@@ -20,12 +30,80 @@ pub record ProgramTables : Type 0 where
 abbrev pub program_tables : declared.Programs → ProgramTables
 program_tables p = record { cvt = p.cvt.now; fpgm = p.fpgm.now; prep = p.prep.now }
 
+-- a control value is a signed word in font units; an odd last byte is ignored
+abbrev pub control_value : Size → List ℕ → ℕ → ℤ
+control_value z cvt i = scale z (signed16 (unsigned_at cvt (2 * i) 2))
+
+abbrev pub control_values : Size → List ℕ → List ℤ
+control_values z cvt = map (control_value z cvt) (range_with_len 0 (length cvt / 2))
+
+-- a point of the twilight zone before a program sets it
+abbrev pub origin : Point
+origin = untouched (pos 0, pos 0) (pos 0, pos 0) true
+
+-- what the font program and the control value program begin with; both have no glyph
+abbrev pub begun_parts : Fields → List ℕ → ℕ → Parts
+begun_parts m cvt ppem = record {
+  units_per_em = units_per_em_of m;
+  ppem = ppem;
+  control_values = control_values (record { ppem = ppem; units_per_em = units_per_em_of m }) cvt;
+  storage = replicate (storage_of m) (pos 0);
+  zones = record { twilight = replicate (twilight_of m) origin; glyph = []; contours = [] };
+  functions = [];
+  graphics = default_state;
+  skip_glyphs = false;
+  default_state = false;
+}
+
+abbrev pub font_program : List ℕ → Program
+font_program fpgm = record { table = codes "fpgm"; base = 0; bytes = fpgm }
+
+abbrev pub control_value_program : List ℕ → Program
+control_value_program prep = record { table = codes "prep"; base = 0; bytes = prep }
+
+-- the vectors, the reference points, the zone pointers and the loop as they are by default
+abbrev pub pointers_set_back : GraphicsState → GraphicsState
+pointers_set_back g = record g {
+  proj = default_state.proj;
+  free = default_state.free;
+  rp0 = default_state.rp0;
+  rp1 = default_state.rp1;
+  rp2 = default_state.rp2;
+  zp0 = default_state.zp0;
+  zp1 = default_state.zp1;
+  zp2 = default_state.zp2;
+  loops = default_state.loops;
+}
+
+-- the graphics state in which the programs of glyphs begin; the control value program can ask for the defaults
+abbrev pub glyph_graphics : Parts → GraphicsState
+glyph_graphics parts = if parts.default_state then default_state else pointers_set_back parts.graphics
+
+-- what the control value program leaves to the glyphs
+abbrev pub left_to_glyphs : Parts → Parts
+left_to_glyphs parts = record parts { graphics = glyph_graphics parts }
+
+-- what the control value program begins with: of the font program only the functions are kept
+abbrev pub with_functions : Parts → Parts → Parts
+with_functions parts font = record parts { functions = font.functions }
+
 -- what the two programs leave at a size, or their first fault
-abbrev pub prepared : Fields → ProgramTables → ℕ → Fit → Result Hints Fault
+unfoldable pub hinted_by_programs : Parts → ProgramTables → Result Hints Fault
+hinted_by_programs parts programs = run_of (font_program programs.fpgm) parts >>= λ font.
+    run_of (control_value_program programs.prep) (with_functions parts font) >>= λ left. Ok
+    (hinted (left_to_glyphs left))
+
+unfoldable pub prepared : Fields → ProgramTables → ℕ → Fit → Result Hints Fault
 prepared m programs ppem fit.None = Ok unhinted
+prepared m programs ppem fit.Full = hinted_by_programs (begun_parts m programs.cvt ppem) programs
 
 -- what the outlines of a font at a size are made from
 unfoldable pub setting_of : Fields → GlyphTables → ProgramTables → ℕ → Fit → Result Setting Fault
 setting_of m tables programs ppem fit = do
   hints ← prepared m programs ppem fit
   Ok (record { tables = tables; metrics = m; ppem = ppem; hints = hints })
+
+-- worked value: 1024 units in an em, at 16 pixels, a control value of 100 and one of -1, and half of a third
+two_control_values : control_values (record { ppem = 16; units_per_em = 1024 }) (0 ∷ 100 ∷ 255 ∷ 255 ∷ 9 ∷ [])
+    ≡ pos 100 ∷ negsuc 0 ∷ []
+two_control_values = refl

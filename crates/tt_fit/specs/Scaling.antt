@@ -11,6 +11,8 @@ use Rattle.tt_core.specs.Outcomes.{◌>>=◌, each}
 use Rattle.tt_glyf.specs.Bytes.{glyf_tag}
 use Rattle.tt_glyf.specs.declared.raw.RawPoint.{RawPoint}
 use Rattle.tt_metrics.specs.Metrics.{Fields, ascent_of, descent_of, advance_of, left_side_bearing_of}
+use Rattle.tt_state.specs.declared.rounding.Round.TheVariants as round
+use Rattle.tt_state.specs.Rounding.{rounded}
 use Rattle.tt_fit.specs.Outline.{PhantomPoints, Shape}
 
 -- pixels per em, and font units in an em
@@ -21,6 +23,10 @@ pub record Size : Type 0 where
 -- font units as 26.6 pixels
 abbrev pub scale : Size → ℤ → ℤ
 scale z v = scaled v z.ppem z.units_per_em
+
+-- a distance to whole pixels
+abbrev pub to_grid : ℤ → ℤ
+to_grid v = rounded round.Grid v
 
 -- the same as IsCoordinate, as a test
 abbrev pub is_coordinate : ℤ → Bool

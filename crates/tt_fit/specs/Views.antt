@@ -1,15 +1,17 @@
 -- How the definitions see the values that the code works with.
 use Rattle.std.specs.Prelude.{Bool, ℤ, pos}
+use Rattle.tt_exec.specs.Parts.{parts_of}
 use Rattle.tt_fit.specs.declared.places.Position as position
 use Rattle.tt_fit.specs.declared.places.Shift as shift
 use Rattle.tt_fit.specs.declared.hints.Hints as hints
 use Rattle.tt_fit.specs.declared.hints.Hints.TheVariants as hinting
-use Rattle.tt_fit.specs.declared.hints.Program as program
+use Rattle.tt_fit.specs.declared.glyph_zone.Program as program
 use Rattle.tt_fit.specs.declared.scaling.Landing as landing
 use Rattle.tt_fit.specs.declared.scaling.Phantom as phantom
 use Rattle.tt_fit.specs.declared.size.Size as size
 use Rattle.tt_fit.specs.Outline.{PhantomPoints}
-use Rattle.tt_fit.specs.Programs.{Hints, unhinted, GlyphProgram}
+use Rattle.tt_fit.specs.GlyphZone.{GlyphProgram}
+use Rattle.tt_fit.specs.Programs.{Hints, unhinted, hinted}
 use Rattle.tt_fit.specs.Scaling.{Size}
 
 abbrev pub size_view : size.Size → Size
@@ -32,4 +34,5 @@ abbrev pub program_view : program.Program → GlyphProgram
 program_view p = record { code = p.code.now; code_at = p.code_at; glyph_at = p.glyph_at }
 
 abbrev pub hints_of : hints.Hints → Hints
-hints_of (hinting.Off bytes) = unhinted
+hints_of hinting.Off = unhinted
+hints_of (hinting.Left parts) = hinted (parts_of parts)

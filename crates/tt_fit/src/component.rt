@@ -4,7 +4,8 @@ ghost use Rattle.std.specs.Prelude.{◌≡◌, ◌<◌, ◌≤◌, ◌^◌, ◌+
 ghost use Rattle.tt_core.specs.Numbers.{rounded_quotient};
 ghost use Rattle.tt_core.specs.Outcomes.{Gives};
 ghost use Rattle.tt_glyf.specs.Composite.{one};
-ghost use Rattle.tt_fit.specs.Components.{to_grid, transformed, offset_along, offset_of, point_of, onto, matched_by, shift_of, landed, placed_point};
+ghost use Rattle.tt_glyf.specs.Meaning.{HasArguments};
+ghost use Rattle.tt_fit.specs.Components.{transformed, offset_along, offset_of, point_of, onto, matched_by, shift_of, landed, placed_point};
 ghost use Rattle.tt_fit.specs.Outline.{IsPoint};
 ghost use Rattle.tt_fit.specs.Views.{size_view, landing_view, position_view, shift_view};
 
@@ -13,6 +14,7 @@ use crate::scaling::{Landing, glyf_fault, settled};
 use crate::size::Size;
 use tt_core::{Fault, Why, rq};
 use tt_glyf::{ComponentFlags, Record};
+use tt_state::Round;
 
 /// One, in a transform.
 const ONE: i64 = 16384;
@@ -56,34 +58,23 @@ fn transformed(part: Record, point: (i32, i32, bool)) -> Position
     }
 }
 
-/// The nearest whole pixel.
-fn to_grid(v: i64) -> i64
-    requires { unsigned_abs v < 2 ^ 46 }
-    ensures exact { result ≡ to_grid v }
-    ensures bound { unsigned_abs result < 2 ^ 47 }
-{
-    let magnitude = (v.unsigned_abs() + 32) / 64 * 64;
-    if v < 0 {
-        -(magnitude as i64)
-    } else {
-        magnitude as i64
-    }
-}
-
 /// An argument as an offset.
 fn offset_along(size: Size, part: Record, v: i32) -> i64
+    requires { unsigned_abs v ≤ 2 ^ 15 }
     ensures exact { result ≡ offset_along (size_view size) part v }
     ensures bound { unsigned_abs result < 2 ^ 47 }
 {
     let offset = size.scaled(v);
     if part.has(ComponentFlags::ROUND_XY_TO_GRID) {
-        to_grid(offset)
+        Round::Grid.round(offset)
     } else {
         offset
     }
 }
 
 fn offset_of(size: Size, part: Record) -> Shift
+    requires x { unsigned_abs part.arg1 ≤ 2 ^ 15 }
+    requires y { unsigned_abs part.arg2 ≤ 2 ^ 15 }
     ensures { shift_view result ≡ offset_of (size_view size) part }
 {
     Shift {
@@ -120,6 +111,7 @@ pub(crate) fn shift_of(
     component: &[(i32, i32, bool)],
     points: &[(i32, i32, bool)],
 ) -> Result<Shift, Fault>
+    requires { HasArguments part }
     ensures exact { Gives shift_view result (shift_of (size_view size) part component.now points.now) }
 {
     if part.has(ComponentFlags::ARGS_ARE_XY_VALUES) {

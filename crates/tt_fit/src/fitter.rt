@@ -1,11 +1,11 @@
 //! The outlines of a font at a size.
 
-ghost use Rattle.std.specs.Prelude.{◌≡◌, ◌<◌, ◌≤◌, IsTrue, IfOk, IfErr, OnOk, length, All};
+ghost use Rattle.std.specs.Prelude.{◌≡◌, ◌+◌, ◌<◌, ◌≤◌, ◌^◌, IsTrue, IfOk, IfErr, OnOk, length, All};
 ghost use Rattle.tt_core.specs.Directory.{HasNo};
-ghost use Rattle.tt_core.specs.Limits.{point_limit, size_limit};
+ghost use Rattle.tt_core.specs.Limits.{font_limit, point_limit, size_limit};
 ghost use Rattle.tt_core.specs.Outcomes.{FontGives, Gives, IfTold, font_fault};
 ghost use Rattle.tt_glyf.specs.Loca.{glyph_offset};
-ghost use Rattle.tt_glyf.specs.Meaning.{AreEnds as EndContours};
+ghost use Rattle.tt_glyf.specs.Meaning.{AreEnds as EndContours, HasArguments};
 ghost use Rattle.tt_metrics.specs.Metrics.{loca_format_of, glyphs_of};
 ghost use Rattle.tt_fit.specs.Components.{placed};
 ghost use Rattle.tt_fit.specs.Defects.{IsOutlineDefect};
@@ -15,14 +15,16 @@ ghost use Rattle.tt_fit.specs.Preparation.{program_tables, setting_of};
 ghost use Rattle.tt_fit.specs.Programs.{AreHints};
 ghost use Rattle.tt_fit.specs.Views.{hints_of, size_view, program_view};
 
-use crate::hints::{Hints, Program, finished};
+use crate::glyph_zone::Program;
+use crate::hints::{Hints, finished};
 use crate::joining::placed;
 use crate::outline::Outline;
+use crate::preparation::prepared;
 use crate::programs::{Fit, Programs};
 use crate::scaling::{blank, glyf_fault, phantom_points, scaled_outline};
 use crate::size::Size;
 use std::alloc::Global;
-use std::marker::{Model, PhantomData};
+use std::marker::Model;
 use tt_core::{Fault, FontFault, LEVEL_LIMIT, Why};
 use tt_glyf::{Glyf, Raw, RawPoint, Record};
 use tt_metrics::Metrics;
@@ -50,8 +52,9 @@ impl<'a> Model for Fitter<'a> {
 }
 
 impl<'a> Fitter<'a> {
-    /// Takes the metrics and the glyph data of a font, and its programs, which are not looked at with
-    /// `Fit::None`. Error: Memory.
+    /// Takes the metrics and the glyph data of a font, and its programs. With `Fit::Full` the font program and the
+    /// control value program are run at this size, in pixels per em; with `Fit::None` they are not looked at. Errors:
+    /// those of the two programs, Memory.
     #[tactic(auto, unfolding(crate::specs::Preparation::setting_of))]
     pub fn new(
         alloc: Global,
@@ -65,15 +68,15 @@ impl<'a> Fitter<'a> {
         requires high { ppem ≤ size_limit }
         requires format { glyf.format ≡ loca_format_of metrics.now }
         requires glyphs { glyf.glyphs ≡ glyphs_of metrics.now }
+        requires fpgm { length programs.fpgm.now ≤ font_limit }
+        requires prep { length programs.prep.now ≤ font_limit }
         ensures exact { FontGives (λ f. f) result (setting_of metrics.now glyf.entry (program_tables programs.entry) ppem fit) }
         ensures setting { IfOk result IsSetting }
         ensures tables { IfOk result (λ f. f.tables ≡ glyf.entry) }
         ensures metrics { IfOk result (λ f. f.metrics ≡ metrics.now) }
         ensures ppem { IfOk result (λ f. f.ppem ≡ ppem) }
     {
-        let hints = match fit {
-            Fit::None => Hints::Off(PhantomData),
-        };
+        let hints = prepared(alloc, metrics, programs, Size::of(metrics, ppem), fit)?;
         Ok(Fitter {
             alloc,
             metrics: metrics.copy(),
@@ -83,8 +86,8 @@ impl<'a> Fitter<'a> {
         })
     }
 
-    /// The outline of a glyph, in 26.6 pixels. Errors: those of reading a glyph, CoordRange,
-    /// ComponentDepth, MatchPoint, PointLimit, Memory.
+    /// The outline of a glyph, in 26.6 pixels. Errors: those of reading a glyph, CoordRange, ComponentDepth,
+    /// MatchPoint, PointLimit, those of the programs of the glyph and its components, Memory.
     #[tactic(auto, unfolding(crate::specs::Fitting::fitted_outline))]
     pub fn fitted(&self, g: u16) -> Result<Outline, FontFault>
         requires { g < self.now.tables.glyphs }
@@ -104,10 +107,7 @@ impl<'a> Fitter<'a> {
     fn size(&self) -> Size
         ensures { size_view result ≡ size_of self.now }
     {
-        Size {
-            ppem: self.ppem,
-            units_per_em: self.metrics.units_per_em(),
-        }
+        Size::of(&self.metrics, self.ppem)
     }
 
     /// An outline without points. Error: CoordRange.
@@ -121,7 +121,8 @@ impl<'a> Fitter<'a> {
     }
 
     fn program<'b>(&self, g: u16, code: &'b [u8], code_at: u32) -> Program<'b>
-        requires { g < self.now.tables.glyphs }
+        requires known { g < self.now.tables.glyphs }
+        requires fits { code_at + length code.now < 2 ^ 32 }
         ensures { program_view result ≡ glyph_program self.now g code.now code_at }
     {
         Program {
@@ -134,11 +135,11 @@ impl<'a> Fitter<'a> {
     /// The outline of a simple glyph, begun without points. Errors: CoordRange, Memory.
     fn simple(
         &self,
-        hints: &Hints,
+        hints: &Hints<'a>,
         g: u16,
         points: &[RawPoint],
         last_points: &[u16],
-        program: Program,
+        program: Program<'a>,
         start: Outline,
     ) -> Result<Outline, FontFault>
         requires hints { AreHints (hints_of hints.now) }
@@ -156,7 +157,7 @@ impl<'a> Fitter<'a> {
 
     /// The outline of a glyph, where so many levels of components are left.
     #[cycle(fitting)]
-    fn outline(&self, hints: &Hints, levels: u32, g: u16) -> Result<Outline, FontFault>
+    fn outline(&self, hints: &Hints<'a>, levels: u32, g: u16) -> Result<Outline, FontFault>
         requires hints { AreHints (hints_of hints.now) }
         requires known { g < self.now.tables.glyphs }
         ensures exact { FontGives outline_of result (outline_at (hinted_by self.now (hints_of hints.now)) levels g) }
@@ -192,13 +193,14 @@ impl<'a> Fitter<'a> {
     #[cycle(fitting)]
     fn joined(
         &self,
-        hints: &Hints,
+        hints: &Hints<'a>,
         levels: u32,
         records: &[Record],
         start: Outline,
     ) -> Result<Outline, FontFault>
         requires hints { AreHints (hints_of hints.now) }
         requires known { All (λ r. r.glyph < self.now.tables.glyphs) records.now }
+        requires arguments { All HasArguments records.now }
         requires start { IsOutline (outline_of start) }
         ensures exact { FontGives outline_of result (joined (added (hinted_by self.now (hints_of hints.now)) levels) records.now (outline_of start)) }
         ensures sound { IfOk result (λ o. IsOutline (outline_of o)) }
@@ -215,13 +217,14 @@ impl<'a> Fitter<'a> {
     #[tactic(auto, using(crate::proofs::Levels::one_level), unfolding(crate::specs::Fitting::added))]
     fn added(
         &self,
-        hints: &Hints,
+        hints: &Hints<'a>,
         levels: u32,
         part: Record,
         so_far: Outline,
     ) -> Result<Outline, FontFault>
         requires hints { AreHints (hints_of hints.now) }
         requires known { part.glyph < self.now.tables.glyphs }
+        requires arguments { HasArguments part }
         requires so_far { IsOutline (outline_of so_far) }
         ensures exact { FontGives outline_of result (added (hinted_by self.now (hints_of hints.now)) levels part (outline_of so_far)) }
         ensures sound { IfOk result (λ o. IsOutline (outline_of o)) }

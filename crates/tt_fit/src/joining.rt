@@ -3,7 +3,8 @@
 ghost use Rattle.std.specs.Prelude.{◌≡◌, ◌+◌, ◌<◌, ◌≤◌, ◌++◌, length, All, IsTrue, IfOk, OnOk};
 ghost use Rattle.tt_core.specs.Limits.{point_limit};
 ghost use Rattle.tt_core.specs.Outcomes.{after_each, FontGives, Leaves};
-ghost use Rattle.tt_fit.specs.Components.{placed_point, ends_after, placed};
+ghost use Rattle.tt_glyf.specs.Meaning.{HasArguments};
+ghost use Rattle.tt_fit.specs.Components.{placed_point, ends_after, behind, placed};
 ghost use Rattle.tt_fit.specs.Outline.{outline_of, IsPoint, IsOutline};
 ghost use Rattle.tt_fit.specs.Views.{size_view, shift_view};
 
@@ -48,17 +49,17 @@ fn push_ends(ends: &mut Vec<u32>, points: u32, component: &[u32]) -> Result<(), 
     Ok(())
 }
 
-/// A component placed behind what is assembled so far. Errors: MatchPoint, CoordRange, PointLimit, Memory.
-#[tactic(auto, unfolding(crate::specs::Components::placed, crate::specs::Components::within_point_limit))]
-pub(crate) fn placed(
-    size: Size,
+/// A component moved so far, behind what is assembled before it. Errors: CoordRange, PointLimit, Memory.
+#[tactic(auto, unfolding(crate::specs::Components::behind, crate::specs::Components::within_point_limit))]
+fn behind(
     part: Record,
+    by: Shift,
     component: &Outline,
     so_far: Outline,
 ) -> Result<Outline, FontFault>
     requires component { IsOutline (outline_of component.now) }
     requires so_far { IsOutline (outline_of so_far) }
-    ensures exact { FontGives outline_of result (placed (size_view size) part (outline_of component.now) (outline_of so_far)) }
+    ensures exact { FontGives outline_of result (behind part (shift_view by) (outline_of component.now) (outline_of so_far)) }
     ensures sound { IfOk result (λ o. IsOutline (outline_of o)) }
 {
     let Outline {
@@ -67,7 +68,6 @@ pub(crate) fn placed(
         phantom,
     } = so_far;
     let before = points.len();
-    let by = shift_of(size, part, &component.points, &points)?;
     push_placed(&mut points, part, by, &component.points)?;
     if points.len() > POINT_LIMIT {
         return Err(FontFault::Font(glyf_fault(part.at, Why::PointLimit)));
@@ -83,4 +83,22 @@ pub(crate) fn placed(
         ends,
         phantom,
     })
+}
+
+/// A component placed behind what is assembled so far. Errors: MatchPoint, CoordRange, PointLimit, Memory.
+#[tactic(auto, unfolding(crate::specs::Components::placed))]
+pub(crate) fn placed(
+    size: Size,
+    part: Record,
+    component: &Outline,
+    so_far: Outline,
+) -> Result<Outline, FontFault>
+    requires arguments { HasArguments part }
+    requires component { IsOutline (outline_of component.now) }
+    requires so_far { IsOutline (outline_of so_far) }
+    ensures exact { FontGives outline_of result (placed (size_view size) part (outline_of component.now) (outline_of so_far)) }
+    ensures sound { IfOk result (λ o. IsOutline (outline_of o)) }
+{
+    let by = shift_of(size, part, &component.points, &so_far.points)?;
+    behind(part, by, component, so_far)
 }

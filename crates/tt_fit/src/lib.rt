@@ -3,11 +3,13 @@
 
 mod component;
 mod fitter;
+mod glyph_zone;
 mod hints;
 mod joining;
 pub mod laws;
 mod outline;
 mod places;
+mod preparation;
 mod programs;
 mod scaling;
 mod size;

@@ -3,6 +3,8 @@
 /// How outlines are fitted to the grid.
 #[derive(Clone, Copy, Debug, PartialEq, Eq)]
 pub enum Fit {
+    /// By the font's programs.
+    Full,
     /// Not at all: no program is run, and points are scaled only.
     None,
 }

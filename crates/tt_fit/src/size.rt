@@ -1,10 +1,12 @@
 //! The size that outlines are made for.
 
-ghost use Rattle.std.specs.Prelude.{◌≡◌, ◌<◌, ◌≤◌, ◌^◌, unsigned_abs};
+ghost use Rattle.std.specs.Prelude.{◌≡◌, ◌<◌, ◌≤◌, ◌*◌, ◌^◌, unsigned_abs};
 ghost use Rattle.tt_core.specs.Limits.{size_limit};
 ghost use Rattle.tt_core.specs.Numbers.{scaled};
+ghost use Rattle.tt_metrics.specs.Metrics.{units_per_em_of};
 
 use tt_core::scale;
+use tt_metrics::Metrics;
 
 /// Pixels per em, and font units in an em.
 #[derive(Clone, Copy)]
@@ -16,10 +18,23 @@ pub(crate) struct Size {
 }
 
 impl Size {
+    /// The size at which a font is asked for.
+    pub(crate) fn of(metrics: &Metrics, ppem: u32) -> Size
+        requires { ppem ≤ size_limit }
+        ensures ppem { result.ppem ≡ ppem }
+        ensures units { result.units_per_em ≡ units_per_em_of metrics.now }
+    {
+        Size {
+            ppem,
+            units_per_em: metrics.units_per_em(),
+        }
+    }
+
     /// A distance in font units as 26.6.
     pub(crate) fn scaled(self, v: i32) -> i64
         ensures exact { result ≡ scaled v self.ppem self.units_per_em }
         ensures bound { unsigned_abs result < 2 ^ 46 }
+        ensures close { unsigned_abs result ≤ unsigned_abs v * 19200 }
     {
         scale(v, self.ppem, self.units_per_em)
     }

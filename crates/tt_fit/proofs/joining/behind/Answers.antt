@@ -1,8 +1,8 @@
 use Rattle.std.proofs.Common.{rules}
 use Rattle.tt_fit.specs.Outline.{outline_of, phantom_of, ArePhantom}
 use Rattle.tt_fit.proofs.Outlines.{joined-is}
-use Rattle.tt_fit.proofs.joining.placed.Goals as goal
-use Rattle.tt_fit.proofs.joining.placed.Goals.{then-has, else-has}
+use Rattle.tt_fit.proofs.joining.behind.Goals as goal
+use Rattle.tt_fit.proofs.joining.behind.Goals.{then-has, else-has}
 
 pub returns-clause-sound : goal.returns-clause-sound
 returns-clause-sound c =

@@ -1,0 +1,103 @@
+-- Apple TrueType Reference Manual, "Instructing TrueType Glyphs" (zones, phantom points): the points that a glyph's
+-- program works on, and the outline that they make.
+use Rattle.std.specs.Prelude.{◌≡◌, ℕ, Bool, ◌&&◌, true, false, if◌then◌else◌, ℤ, pos, negsuc, List, [], ◌∷◌, ◌++◌, length, map, take, drop, Result, Ok, Err, refl}
+use Rattle.tt_core.specs.Faults.{Fault}
+use Rattle.tt_exec.specs.MachineState.{Program}
+use Rattle.tt_exec.specs.Parts.{Parts}
+use Rattle.tt_glyf.specs.Bytes.{glyf_tag}
+use Rattle.tt_points_zones.specs.Zones.{ZoneLists}
+use Rattle.tt_state.specs.declared.point.Point.{Point}
+use Rattle.tt_fit.specs.Outline.{PhantomPoints, phantom_of, Shape}
+use Rattle.tt_fit.specs.Scaling.{to_grid, is_coordinate, coordinate_fault}
+
+-- a glyph's program, its offset in glyf, and the glyph's first byte there
+pub record GlyphProgram : Type 0 where
+  pub code : List ℕ
+  pub code_at : ℕ
+  pub glyph_at : ℕ
+
+abbrev pub program_in_glyf : GlyphProgram → Program
+program_in_glyf p = record { table = glyf_tag; base = p.code_at; bytes = p.code }
+
+-- the ends of the advance go to the grid along x, the ascent and the descent along y
+abbrev pub on_grid : PhantomPoints → PhantomPoints
+on_grid p = record {
+  left = (to_grid p.left.0, p.left.1);
+  right = (to_grid p.right.0, p.right.1);
+  ascent = (p.ascent.0, to_grid p.ascent.1);
+  descent = (p.descent.0, to_grid p.descent.1);
+}
+
+-- what was rounded is within the limit of a coordinate
+abbrev pub are_on_grid : PhantomPoints → Bool
+are_on_grid p =
+    is_coordinate p.left.0 && is_coordinate p.right.0 && is_coordinate p.ascent.1 && is_coordinate p.descent.1
+
+-- those of a glyph that begins at this offset in glyf
+unfoldable pub on_grid_at : ℕ → PhantomPoints → Result PhantomPoints Fault
+on_grid_at at p = if are_on_grid (on_grid p) then Ok (on_grid p) else Err (coordinate_fault at)
+
+-- a point that nothing has touched: where it was, and where it is
+abbrev pub untouched : ℤ × ℤ → ℤ × ℤ → Bool → Point
+untouched org now on =
+    record { org_x = org.0; org_y = org.1; x = now.0; y = now.1; touched_x = false; touched_y = false; on = on }
+
+abbrev pub outline_point : ℤ × ℤ × Bool → Point
+outline_point p = untouched (p.0, p.1) (p.0, p.1) p.2
+
+-- the phantom points as they were, and as they are
+abbrev pub phantom_zone : PhantomPoints → PhantomPoints → List Point
+phantom_zone was now =
+    untouched was.left now.left true ∷ untouched was.right now.right true ∷ untouched was.ascent now.ascent true
+    ∷ untouched was.descent now.descent true ∷ []
+
+-- the points of the outline, and the phantom points behind them
+abbrev pub glyph_zone : Shape → PhantomPoints → List Point
+glyph_zone o grid = map outline_point o.points ++ phantom_zone o.phantom grid
+
+-- each contour from the end of the one before it, the first from this number
+abbrev pub contours_from : ℕ → List ℕ → List (ℕ × ℕ)
+contours_from first [] = []
+contours_from first (end ∷ ends) = (first, end) ∷ contours_from end ends
+
+abbrev pub zones_of : List Point → Shape → PhantomPoints → ZoneLists
+zones_of twilight o grid =
+    record { twilight = twilight; glyph = glyph_zone o grid; contours = contours_from 0 o.ends }
+
+-- what a machine is made of when a glyph's program begins
+abbrev pub parts_with : Parts → Shape → PhantomPoints → Parts
+parts_with parts o grid = record parts { zones = zones_of parts.zones.twilight o grid }
+
+abbrev pub place_of : Point → ℤ × ℤ
+place_of p = (p.x, p.y)
+
+abbrev pub seen : Point → ℤ × ℤ × Bool
+seen p = (p.x, p.y, p.on)
+
+-- the outline whose points stand in the glyph zone, the phantom points behind them
+abbrev pub left_outline : Shape → List Point → Shape
+left_outline o zone = record {
+  points = map seen (take (length o.points) zone);
+  ends = o.ends;
+  phantom = phantom_of (map place_of (drop (length o.points) zone));
+}
+
+-- worked values: two points of one contour, whose advance ends at 100
+abbrev its_phantom : PhantomPoints
+its_phantom =
+    record { left = (pos 0, pos 0); right = (pos 100, pos 0); ascent = (pos 0, pos 70); descent = (pos 0, negsuc 32) }
+
+abbrev its_shape : Shape
+its_shape =
+    record { points = (pos 5, pos 6, true) ∷ (pos 7, pos 8, false) ∷ []; ends = 2 ∷ []; phantom = its_phantom }
+
+the_advance_is_whole : on_grid_at 0 its_phantom ≡ Ok
+    (record { left = (pos 0, pos 0); right = (pos 128, pos 0); ascent = (pos 0, pos 64); descent = (pos 0, negsuc 63) })
+unfolding on_grid_at
+the_advance_is_whole = refl
+
+untouched_points_stay : left_outline its_shape (glyph_zone its_shape its_phantom) ≡ its_shape
+untouched_points_stay = refl
+
+an_empty_contour : contours_from 0 (3 ∷ 3 ∷ 7 ∷ []) ≡ (0, 3) ∷ (3, 3) ∷ (3, 7) ∷ []
+an_empty_contour = refl
