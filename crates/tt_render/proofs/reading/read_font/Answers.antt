@@ -1,4 +1,5 @@
 use Rattle.std.proofs.Common.{◌≡◌, ◌+◌, ◌<◌, ◌∙◌, ◌++◌, length, take, drop, rules, arith, length-take-le, take_at}
+use Rattle.std.proofs.lemmas.Grind.{common_steps}
 use Rattle.std.proofs.lemmas.List.{places}
 use Rattle.tt_core.specs.Limits.{font_limit}
 use Rattle.tt_render.proofs.Known.{consumes_filled, consumes_larger}
@@ -37,3 +38,6 @@ pieces-preserved g c =
       bytes = rw whole known;
       sound = search rules;
     }
+
+pub returns-in-Ok-eq0 : goal.returns-in-Ok-eq0
+returns-in-Ok-eq0 g c = grind (arith, common_steps)

@@ -1,4 +1,4 @@
-use Rattle.std.proofs.Common.{arith}
+use Rattle.std.proofs.Common.{rules, arith}
 use Rattle.tt_exec.specs.States.{state_of}
 use Rattle.tt_exec.proofs.Steps.{one_more}
 use Rattle.tt_exec.proofs.interpreter.Interpreter.go.Goals as goal
@@ -10,3 +10,9 @@ steps-preserved c = record {
       one_more c.steps.n _ (state_of c.steps.self) (state_of c.step.new.self)
       c.steps.invariant.leads c.in_ok-step.ensures;
 }
+
+pub steps-init : goal.steps-init
+steps-init c = search rules
+
+pub returns-clause-ends : goal.returns-clause-ends
+returns-clause-ends c = search rules

@@ -1,4 +1,4 @@
-use Rattle.std.proofs.Common.{◌≡◌, sym, refl}
+use Rattle.std.proofs.Common.{◌≡◌, sym, refl, rules}
 use Rattle.tt_exec.specs.Machines.{run_from}
 use Rattle.tt_exec.specs.Sizes.{HasContours}
 use Rattle.tt_exec.specs.States.{state_of}
@@ -35,3 +35,6 @@ returns-in-Ok-clause-sizes c =
     c.sizes_are_kept.ensures.sizes (run_from (program_of c.args.code) c.args.self.now.state)
     (state_of c.go.new.self) c.in-Ok.steps has (rw from at c.in-Ok.ensures.ends) in
     record { storage = same.storage; control_values = same.control_values }
+
+pub returns-in-Err-clause-exact : goal.returns-in-Err-clause-exact
+returns-in-Err-clause-exact c = search rules
