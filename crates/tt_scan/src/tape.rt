@@ -12,7 +12,7 @@ use crate::collect::visit_all;
 use crate::crossing::{crossing, row_height};
 use crate::edge::{Cross, Edge, Frame};
 use crate::mark::{Mark, Span};
-use crate::rows::{joined, row_range};
+use crate::rows::{join, row_range};
 use crate::table::{Met, Table};
 use std::alloc::{AllocError, Global};
 use std::marker::Model;
@@ -94,7 +94,7 @@ impl Tape {
         self.edges.reserve(1)?;
         let rows = row_range(edge, self.frame);
         add_met(&mut self.table, rows, edge)?;
-        self.rows = joined(self.rows, rows);
+        join(&mut self.rows, rows);
         self.edges.push_reserved(edge);
         Ok(())
     }

@@ -11,9 +11,9 @@ invariant_of-self-2 c =
     rw c.reserve.ensures.items at c.push_reserved.ensures.items in (
       c.self.invariant.0,
       rw items (All-push EdgeFits c.self.inside.edges.items c.args.edge c.self.invariant.1 c.requires),
-      rw items (rows_joined c.self.inside.edges.items c.args.edge c.self.inside.frame c.self.inside.rows c.row_range-rows.result c.joined-self-inside.result
+      rw items (rows_joined c.self.inside.edges.items c.args.edge c.self.inside.frame c.self.inside.rows c.row_range-rows.result c.join.new.all
           c.self.invariant.2 c.row_range-rows.ensures
-          c.joined-self-inside.ensures.left c.joined-self-inside.ensures.right c.joined-self-inside.ensures.first c.joined-self-inside.ensures.last c.joined-self-inside.ensures.order),
+          c.join.ensures.left c.join.ensures.right c.join.ensures.first c.join.ensures.last c.join.ensures.order),
       rw items (met_pushed c.self.inside.edges.items c.self.inside.frame c.self.inside.table.met c.add_met.new.table.met c.args.edge c.row_range-rows.result
           c.self.invariant.3 c.requires c.row_range-rows.ensures c.in_ok-add_met.ensures.added),
     )
