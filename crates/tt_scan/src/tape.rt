@@ -83,7 +83,9 @@ impl Tape {
     pub fn reserve(&mut self, more: usize) -> Result<(), AllocError>
         ensures { self.new ≡ self.old }
     {
-        self.edges.reserve(more)
+        self.edges.reserve(more)?;
+        // Each of them may meet a row.
+        self.table.reserve(more)
     }
 
     /// Adds an edge. After an error the tape is as it was.

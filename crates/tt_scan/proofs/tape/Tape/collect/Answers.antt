@@ -29,6 +29,13 @@ stood c =
 pub visit_all-requires-clause-places : goal.visit_all-requires-clause-places
 visit_all-requires-clause-places c = rw c.deref.ensures.value (rw (← c.self.view_is) at (stands c).places)
 
+pub visit_all-requires-clause-met : goal.visit_all-requires-clause-met
+visit_all-requires-clause-met c =
+    let row : SFits w64 c.args.r = c.ranges.r in
+    let height : SFits w64 c.row_height-y.result = search rules in
+    let is_height : c.row_height-y.result ≡ row_y c.self.inside.frame c.args.r = simp to_z-of_z at c.row_height-y.ensures.exact in
+    simp to_z-of_z (rw (c.deref.ensures.value, is_height) (rw (← c.self.view_is) at (stands c).met))
+
 pub visit_all-requires-clause-room : goal.visit_all-requires-clause-room
 visit_all-requires-clause-room c = omega (arith, few_stand _ _ _ _ (stands c), c.requires.room)
 
