@@ -30,7 +30,7 @@ covers_more (t ∷ ss) s c =
 pub sign_is : (sum c f first sign t : ℤ) → f ≡ first → sign ≡ t → unsigned_abs t ≤ 1 → t ≢ pos 0
     → sum +ℤ (if int_le f c then turn_of (record { first = f; sign = sign }) else pos 0) ≡ sum +ℤ (if int_le first c then t else pos 0)
 sign_is sum c f first sign t at is small some =
-    let one : (if int_lt (pos 0) t then pos 1 else negsuc 0) ≡ t = grind (arith, ints) in
+    let one : (if int_le (pos 0) t then pos 1 else negsuc 0) ≡ t = grind (arith, ints) in
     rw (at, is, one) refl
 
 -- the columns up to a mark, where the marks left of them do not add up to 0

@@ -16,7 +16,7 @@ covers (s ∷ ss) c = (int_le s.first c && int_le c s.last) || covers ss c
 
 -- how an edge turns that left a mark
 abbrev pub turn_of : Mark → ℤ
-turn_of m = if int_lt (pos 0) m.sign then pos 1 else negsuc 0
+turn_of m = if int_le (pos 0) m.sign then pos 1 else negsuc 0
 
 -- what marks add to the winding of a column: the turns of those that stand at it or left of it
 abbrev pub turns : List Mark → ℤ → ℤ
