@@ -1,5 +1,5 @@
 -- What an edge does at a height, for each kind of edge.
-use Rattle.std.proofs.Common.{◌≡◌, ℕ, ap, sym, ◌∙◌, Bool, true, false, ◌&&◌, Option, Some, None, refl, arith, ◌⊎◌, inl, inr}
+use Rattle.std.proofs.Common.{◌≡◌, ℕ, ap, sym, ◌∙◌, Bool, true, false, ◌&&◌, Option, Some, None, refl, arith}
 use Rattle.std.specs.Prelude.{ℤ, pos, negsuc, ◌+ℤ◌, ◌-ℤ◌, ◌*ℤ◌, neg_ℤ, ◌≤ℤ◌, ◌<ℤ◌, int_lt, int_le, if◌then◌else◌, IfSome}
 use Rattle.std.specs.Int.{int_min, int_max}
 use Rattle.std.proofs.lemmas.Int.{ints}
@@ -41,12 +41,22 @@ order_none : (t : Option (ℤ × ℤ)) → t ≡ None → IfSome t (λ t. t.0 �
 order_none None e = tt
 order_none (Some t) e = absurd (cc)
 
-pub outside : (ay by y : ℤ) → ay <ℤ by → (y <ℤ ay) ⊎ (by <ℤ y) → is_between ay by y ≡ false
-outside ay by y rises (inl below) = grind (arith, ints)
-outside ay by y rises (inr above) = grind (arith, ints)
+-- an edge that holds it
 
-pub off_level : (ay by y : ℤ) → ay ≡ by → ¬ (y ≡ ay) → is_between ay by y ≡ false
-off_level ay by y level off = grind (arith, ints)
+pub from_lower : (ay by y : ℤ) → ay <ℤ by → is_between ay by y ≡ true → ay ≤ℤ y
+from_lower ay by y rises on = grind (arith, ints)
+
+pub to_upper : (ay by y : ℤ) → ay <ℤ by → is_between ay by y ≡ true → y ≤ℤ by
+to_upper ay by y rises on = grind (arith, ints)
+
+pub from_lower_turned : (ay by y : ℤ) → by <ℤ ay → is_between ay by y ≡ true → by ≤ℤ y
+from_lower_turned ay by y falls on = grind (arith, ints)
+
+pub to_upper_turned : (ay by y : ℤ) → by <ℤ ay → is_between ay by y ≡ true → y ≤ℤ ay
+to_upper_turned ay by y falls on = grind (arith, ints)
+
+pub level_here : (ay by y : ℤ) → ay ≡ by → is_between ay by y ≡ true → y ≡ ay
+level_here ay by y level on = grind (arith, ints)
 
 pub apart_cross : (e : Edge) (m : ℕ) (y : ℤ) (r : Cross) → is_between e.ay e.by y ≡ false → r.touch ≡ None → r.turn ≡ pos 0 → r.first ≡ pos 0 → IsCross e m y r
 apart_cross e m y r off none turn first = record {

@@ -1,12 +1,12 @@
 -- What an edge leaves of a row.
 use Rattle.std.proofs.Common.{◌≡◌, ◌∙◌, ◌≢◌, ◌↔◌, ◌==◌, ap, refl, ℕ, ◌+◌, ◌<◌, ◌≤◌, Bool, true, false, ◌&&◌, ◌||◌, List, [], ◌∷◌, ◌++◌, length, drop, get_or, int_le, ◌≤ℤ◌, ◌<ℤ◌, nat_lt, inl, inr, arith}
-use Rattle.std.specs.Prelude.{ℤ, pos, negsuc, ◌-ℤ◌, not, int_lt, unsigned_abs, if◌then◌else◌}
+use Rattle.std.specs.Prelude.{ℤ, pos, negsuc, ◌+ℤ◌, ◌-ℤ◌, not, int_lt, unsigned_abs, if◌then◌else◌}
 use Rattle.std.proofs.lemmas.Bool.Decides.{nat_tests}
 use Rattle.std.proofs.lemmas.Bool.{cases_lt}
 use Rattle.std.proofs.lemmas.Int.{ints, by_lt_z}
 use Rattle.std.proofs.lemmas.List.{drop_more}
 use Rattle.tt_scan.specs.declared.mark.Span.{Span}
-use Rattle.tt_scan.specs.Marks.{covers}
+use Rattle.tt_scan.specs.Marks.{covers, turn_of}
 use Rattle.tt_scan.specs.Winding.{is_zero}
 
 -- one span more
@@ -27,8 +27,11 @@ covers_more (t ∷ ss) s c =
 
 -- a turn as a mark
 
-pub sign_is : (t : ℤ) → unsigned_abs t ≤ 1 → t ≢ pos 0 → (if int_lt (pos 0) t then pos 1 else negsuc 0) ≡ t
-sign_is t small some = grind (arith, ints)
+pub sign_is : (sum c f first sign t : ℤ) → f ≡ first → sign ≡ t → unsigned_abs t ≤ 1 → t ≢ pos 0
+    → sum +ℤ (if int_le f c then turn_of (record { first = f; sign = sign }) else pos 0) ≡ sum +ℤ (if int_le first c then t else pos 0)
+sign_is sum c f first sign t at is small some =
+    let one : (if int_le (pos 0) t then pos 1 else negsuc 0) ≡ t = grind (arith, ints) in
+    rw (at, is, one) refl
 
 -- the columns up to a mark, where the marks left of them do not add up to 0
 

@@ -16,7 +16,7 @@ covers (s ∷ ss) c = (int_le s.first c && int_le c s.last) || covers ss c
 
 -- how an edge turns that left a mark
 abbrev pub turn_of : Mark → ℤ
-turn_of m = if m.rises then pos 1 else negsuc 0
+turn_of m = if int_le (pos 0) m.sign then pos 1 else negsuc 0
 
 -- what marks add to the winding of a column: the turns of those that stand at it or left of it
 abbrev pub turns : List Mark → ℤ → ℤ
@@ -41,7 +41,7 @@ stretches from sum (m ∷ ms) c =
 
 -- worked values: an edge rises left of column -1 and one falls left of column 3
 two_marks : List Mark
-two_marks = record { first = negsuc 0; rises = true } ∷ record { first = pos 3; rises = false } ∷ []
+two_marks = record { first = negsuc 0; sign = pos 1 } ∷ record { first = pos 3; sign = negsuc 0 } ∷ []
 
 between_them_is_black : stretches (pos 0) (pos 0) two_marks (negsuc 0) ≡ true
 unfolding two_marks

@@ -4,7 +4,8 @@ use Rattle.tt_scan.specs.declared.edge.Edge.{Edge}
 use Rattle.tt_scan.specs.declared.edge.Frame.{Frame}
 use Rattle.tt_scan.specs.declared.table.Met.{Met}
 use Rattle.tt_scan.specs.Crossing.{AreRows, has_row}
-use Rattle.tt_scan.specs.Winding.{EdgeFits, row_y, is_between}
+use Rattle.tt_scan.specs.Tape.{edge_at}
+use Rattle.tt_scan.specs.Winding.{row_y, is_between}
 
 pub record Mets : Type 0 where
   pub met : List Met
@@ -14,8 +15,12 @@ pub record Mets : Type 0 where
 abbrev pub meets_row : ℤ → Met → Bool
 meets_row r m = has_row (m.first, m.past) r
 
-abbrev pub edges_of : List Met → List Edge
-edges_of ms = map (λ m. m.edge) ms
+-- the edge itself, of those of a tape
+abbrev pub edge_of : List Edge → Met → Edge
+edge_of es m = edge_at es m.place
+
+abbrev pub edges_of : List Edge → List Met → List Edge
+edges_of es ms = map (λ m. edge_of es m) ms
 
 -- from the first edge on that begins below a row, edges stand in order of their first rows
 abbrev pub IsInOrder : List Met → ℤ → Type 0
@@ -36,6 +41,6 @@ IsUnmet f e = (row : ℤ) → pos 0 ≤ℤ row → row <ℤ pos f.height → is_
 
 -- the edges that meet some row, each with its rows: whatever is counted of those alone comes to the same over all edges
 pub record AreMet (es : List Edge) (f : Frame) (ms : List Met) : Type 0 where
-  pub rows : All (λ m. AreRows m.edge f (m.first, m.past)) ms
-  pub fits : All (λ m. EdgeFits m.edge) ms
-  pub sums : (g : Edge → ℕ) → ((e : Edge) → IsUnmet f e → g e ≡ 0) → sum_by (λ m. g m.edge) ms ≡ sum_by g es
+  pub places : All (λ m. m.place < length es) ms
+  pub rows : All (λ m. AreRows (edge_of es m) f (m.first, m.past)) ms
+  pub sums : (g : Edge → ℕ) → ((e : Edge) → IsUnmet f e → g e ≡ 0) → sum_by (λ m. g (edge_of es m)) ms ≡ sum_by g es

@@ -16,10 +16,10 @@
 //! the edge, and it adds `turn` to the winding number there. The lower end counts, the upper does not, so that a joint of
 //! two edges counts once. `touch` serves rule 2, a centre on the contour is black: both ends count.
 
-ghost use Rattle.std.specs.Prelude.{◌≡◌, ℤ, ◌+◌, ◌^◌, ◌<◌, ◌≤◌, ◌&&◌, pos, int_lt, ◌-ℤ◌, ◌<ℤ◌, ◌≤ℤ◌, unsigned_abs, IfSome};
+ghost use Rattle.std.specs.Prelude.{◌≡◌, true, ℤ, ◌+◌, ◌^◌, ◌<◌, ◌≤◌, ◌&&◌, pos, int_lt, ◌-ℤ◌, ◌<ℤ◌, ◌≤ℤ◌, unsigned_abs, IfSome};
 ghost use Rattle.tt_core.specs.Limits.{margin_limit};
 ghost use Rattle.tt_scan.specs.Crossing.{spans, IsCross};
-ghost use Rattle.tt_scan.specs.Winding.{EdgeFits, FrameFits, column_x, row_y, side, is_zero};
+ghost use Rattle.tt_scan.specs.Winding.{EdgeFits, FrameFits, column_x, row_y, side, is_between, is_zero};
 
 use crate::edge::{Cross, Edge, Frame};
 use crate::quotient::{PIXEL, Quotient, divided, pixels_between, product};
@@ -95,18 +95,17 @@ fn apart() -> Cross
     }
 }
 
-/// What an edge with a below b does at a height.
+/// What an edge with a below b does at a height from a to b.
 #[inline(always)]
 fn rising(edge: Edge, margin: u32, y: i64) -> Cross
     requires edge { EdgeFits edge }
     requires margin { margin ≤ margin_limit }
     requires rises { edge.ay <ℤ edge.by }
+    requires low { edge.ay ≤ℤ y }
+    requires high { y ≤ℤ edge.by }
     ensures exact { IsCross edge margin y result }
     ensures bound { unsigned_abs result.turn ≤ 1 }
 {
-    if y < edge.ay || edge.by < y {
-        return apart();
-    }
     let at = standing(edge, margin, y);
     let touch = touched(at);
     if y < edge.by {
@@ -124,12 +123,14 @@ fn rising(edge: Edge, margin: u32, y: i64) -> Cross
     }
 }
 
-/// What an edge with a above b does at a height: what it does from b to a, but it turns the other way.
+/// What an edge with a above b does at a height from b to a: what it does from b to a, but it turns the other way.
 #[inline(always)]
 fn falling(edge: Edge, margin: u32, y: i64) -> Cross
     requires edge { EdgeFits edge }
     requires margin { margin ≤ margin_limit }
     requires falls { edge.by <ℤ edge.ay }
+    requires low { edge.by ≤ℤ y }
+    requires high { y ≤ℤ edge.ay }
     ensures exact { IsCross edge margin y result }
     ensures bound { unsigned_abs result.turn ≤ 1 }
 {
@@ -147,18 +148,16 @@ fn falling(edge: Edge, margin: u32, y: i64) -> Cross
     }
 }
 
-/// What an edge with a and b at one height does at a height; they may be one point.
+/// What an edge with a and b at one height does there; they may be one point.
 #[inline(always)]
 fn flat(edge: Edge, margin: u32, y: i64) -> Cross
     requires edge { EdgeFits edge }
     requires margin { margin ≤ margin_limit }
     requires level { edge.ay ≡ edge.by }
+    requires here { y ≡ edge.ay }
     ensures exact { IsCross edge margin y result }
     ensures bound { unsigned_abs result.turn ≤ 1 }
 {
-    if y != edge.ay {
-        return apart();
-    }
     let left = from_centre(edge.ax.min(edge.bx), margin);
     let right = from_centre(edge.ax.max(edge.bx), margin);
     Cross {
@@ -168,12 +167,12 @@ fn flat(edge: Edge, margin: u32, y: i64) -> Cross
     }
 }
 
-/// What an edge does at a height.
+/// What an edge does at a height that it reaches.
 #[inline(always)]
-pub(crate) fn crossing(edge: Edge, margin: u32, y: i64) -> Cross
+pub(crate) fn crossing_met(edge: Edge, margin: u32, y: i64) -> Cross
     requires edge { EdgeFits edge }
     requires margin { margin ≤ margin_limit }
-    requires height { unsigned_abs y < 2 ^ 35 }
+    requires met { is_between edge.ay edge.by y ≡ true }
     ensures exact { IsCross edge margin y result }
     ensures bound { unsigned_abs result.turn ≤ 1 }
 {
@@ -183,5 +182,27 @@ pub(crate) fn crossing(edge: Edge, margin: u32, y: i64) -> Cross
         falling(edge, margin, y)
     } else {
         flat(edge, margin, y)
+    }
+}
+
+/// Whether an edge reaches a height, its ends included.
+#[inline(always)]
+fn reaches(edge: Edge, y: i64) -> bool
+    ensures { result ≡ is_between edge.ay edge.by y }
+{
+    (edge.ay <= y && y <= edge.by) || (edge.by <= y && y <= edge.ay)
+}
+
+/// What an edge does at a height.
+pub(crate) fn crossing(edge: Edge, margin: u32, y: i64) -> Cross
+    requires edge { EdgeFits edge }
+    requires margin { margin ≤ margin_limit }
+    ensures exact { IsCross edge margin y result }
+    ensures bound { unsigned_abs result.turn ≤ 1 }
+{
+    if reaches(edge, y) {
+        crossing_met(edge, margin, y)
+    } else {
+        apart()
     }
 }

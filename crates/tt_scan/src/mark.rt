@@ -7,8 +7,8 @@ ghost use Rattle.tt_scan.specs.Marks.{turn_of};
 #[derive(Clone, Copy)]
 pub(crate) struct Mark {
     pub(crate) first: i64,
-    /// The edge rises: it adds 1 to the winding of those centres. Else it falls, and takes 1 away.
-    pub(crate) rises: bool,
+    /// Not below 0 where the edge rises: it adds 1 to the winding of those centres. Else it falls, and takes 1 away.
+    pub(crate) sign: i64,
 }
 
 impl Mark {
@@ -18,7 +18,7 @@ impl Mark {
         ensures exact { result ≡ turn_of self }
         ensures small { unsigned_abs result ≤ 1 }
     {
-        if self.rises { 1 } else { -1 }
+        if self.sign >= 0 { 1 } else { -1 }
     }
 }
 

@@ -63,9 +63,26 @@ pub(crate) fn row_range(edge: Edge, frame: Frame) -> (i64, i64)
     }
 }
 
+/// Adds a range of rows: all are then those from the first to the last of both, where an empty one counts for nothing.
+#[inline(always)]
+pub(crate) fn join(all: &mut (i64, i64), more: (i64, i64))
+    ensures left { (row : ℤ) → has_row all.old row ≡ true → has_row all.new row ≡ true }
+    ensures right { (row : ℤ) → has_row more row ≡ true → has_row all.new row ≡ true }
+    ensures first { ((all.new.0 ≡ all.old.0) × (all.new.0 <ℤ all.new.1 → all.old.0 <ℤ all.old.1))
+        ⊎ ((all.new.0 ≡ more.0) × (more.0 <ℤ more.1)) }
+    ensures last { ((all.new.1 ≡ all.old.1) × (all.new.0 <ℤ all.new.1 → all.old.0 <ℤ all.old.1))
+        ⊎ ((all.new.1 ≡ more.1) × (more.0 <ℤ more.1)) }
+    ensures order { all.old.0 ≤ℤ all.old.1 → all.new.0 ≤ℤ all.new.1 }
+{
+    // Most edges meet no row.
+    if more.0 < more.1 {
+        *all = joined(*all, more);
+    }
+}
+
 /// The rows from the first to the last of two ranges of rows, where an empty one counts for nothing.
 #[inline(always)]
-pub(crate) fn joined(all: (i64, i64), more: (i64, i64)) -> (i64, i64)
+fn joined(all: (i64, i64), more: (i64, i64)) -> (i64, i64)
     ensures left { (row : ℤ) → has_row all row ≡ true → has_row result row ≡ true }
     ensures right { (row : ℤ) → has_row more row ≡ true → has_row result row ≡ true }
     ensures first { ((result.0 ≡ all.0) × (result.0 <ℤ result.1 → all.0 <ℤ all.1))

@@ -87,16 +87,19 @@ fn with_span(stamp: Stamp, span: Span) -> Option<Stamp>
     })
 }
 
-/// The first column of all spans, if it isn't far off.
+/// The first column of the first span or of the last, if it isn't far off. Mostly no span begins left of it: stretches
+/// stand in order, and few columns are touched.
 #[inline(always)]
 fn lowest(spans: &[Span]) -> i64
     ensures small { unsigned_abs result ≤ 2 ^ 40 }
 {
-    let mut low = i64::MAX;
-    for span in spans {
-        low = low.min(span.first);
+    if spans.is_empty() {
+        return 0;
     }
-    low.clamp(-(1 << 40), 1 << 40)
+    spans[0]
+        .first
+        .min(spans[spans.len() - 1].first)
+        .clamp(-(1 << 40), 1 << 40)
 }
 
 /// The columns of all spans as a stamp, where one has room for them.

@@ -12,7 +12,7 @@ use crate::collect::visit_all;
 use crate::crossing::{crossing, row_height};
 use crate::edge::{Cross, Edge, Frame};
 use crate::mark::{Mark, Span};
-use crate::rows::{joined, row_range};
+use crate::rows::{join, row_range};
 use crate::table::{Met, Table};
 use std::alloc::{AllocError, Global};
 use std::marker::Model;
@@ -46,16 +46,18 @@ impl Model for Tape {
 
 /// Adds an edge to those that meet some row, if it does. After an error they are as they were.
 #[inline(always)]
-fn add_met(table: &mut Table, rows: (i64, i64), edge: Edge) -> Result<(), AllocError>
+fn add_met(table: &mut Table, rows: (i64, i64), place: usize) -> Result<(), AllocError>
+    requires low { pos 0 ≤ℤ rows.0 }
+    requires high { rows.1 <ℤ pos (2 ^ 31) }
     ensures added { OnOk result (table.new.met ≡ table.old.met ++ (if int_lt rows.0 rows.1
-        then (record { first = rows.0; past = rows.1; edge = edge }) ∷ [] else [])) }
+        then (record { first = rows.0; past = rows.1; place = place }) ∷ [] else [])) }
     ensures kept { OnErr result (table.new.met ≡ table.old.met) }
 {
     if rows.0 < rows.1 {
         table.add(Met {
-            first: rows.0,
-            past: rows.1,
-            edge,
+            first: rows.0 as i32,
+            past: rows.1 as i32,
+            place,
         })
     } else {
         Ok(())
@@ -81,7 +83,9 @@ impl Tape {
     pub fn reserve(&mut self, more: usize) -> Result<(), AllocError>
         ensures { self.new ≡ self.old }
     {
-        self.edges.reserve(more)
+        self.edges.reserve(more)?;
+        // Each of them may meet a row.
+        self.table.reserve(more)
     }
 
     /// Adds an edge. After an error the tape is as it was.
@@ -93,8 +97,8 @@ impl Tape {
     {
         self.edges.reserve(1)?;
         let rows = row_range(edge, self.frame);
-        add_met(&mut self.table, rows, edge)?;
-        self.rows = joined(self.rows, rows);
+        add_met(&mut self.table, rows, self.edges.len())?;
+        join(&mut self.rows, rows);
         self.edges.push_reserved(edge);
         Ok(())
     }
@@ -180,8 +184,15 @@ impl Tape {
         ensures crosses { self.new.crosses ≡ self.old.crosses + rows_met self.old.edges (row_y self.old.frame r) }
     {
         let y = row_height(self.frame, r);
-        self.table.seek(r);
-        visit_all(self.table.live(), self.frame.margin, y, marks, black);
+        self.table.seek(r as i32);
+        visit_all(
+            &self.edges,
+            self.table.live(),
+            self.frame.margin,
+            y,
+            marks,
+            black,
+        );
         self.crosses += self.table.live().len() as u64;
     }
 }

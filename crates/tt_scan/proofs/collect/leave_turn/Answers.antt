@@ -1,4 +1,4 @@
-use Rattle.std.proofs.Common.{◌≢◌, ◌∙◌, ap, ◌+ℤ◌, SFits, w8, w64, of_z, pos, rules, refl, ℤ}
+use Rattle.std.proofs.Common.{◌≡◌, ◌≢◌, ◌∙◌, ap, SFits, to_z, w8, w64, of_z, pos, rules, refl}
 use Rattle.std.proofs.lemmas.Int.{to_z-of_z}
 use Rattle.tt_scan.specs.Marks.{turns}
 use Rattle.tt_scan.proofs.Stretches.{turns_more}
@@ -10,5 +10,9 @@ returns-then-cross-ne0-clause-turns c = λ at.
     let first : SFits w64 c.args.cross.first = search rules in
     let turn : SFits w8 c.args.cross.turn = search rules in
     let some : c.args.cross.turn ≢ pos 0 = λ same. c.if-cross-ne0.true (ap (of_z w8) same) in
-    let sign = sign_is c.args.cross.turn c.requires.bound some in
-    rw c.push_reserved.ensures.items (turns_more c.args.marks.now.items _ at ∙ ap (λ (z : ℤ). turns c.args.marks.now.items at +ℤ z) (simp to_z-of_z (rw sign refl)))
+    let whole : SFits w64 c.from.result = search rules in
+    let is : c.from.result ≡ c.args.cross.turn = simp to_z-of_z at c.from.ensures in
+    let at_first : to_z w64 (of_z w64 c.args.cross.first) ≡ c.args.cross.first = simp to_z-of_z refl in
+    let at_sign : to_z w64 (of_z w64 c.from.result) ≡ c.args.cross.turn = simp to_z-of_z is in
+    rw c.push_reserved.ensures.items (turns_more c.args.marks.now.items _ at
+    ∙ sign_is (turns c.args.marks.now.items at) at _ _ _ _ at_first at_sign c.requires.bound some)

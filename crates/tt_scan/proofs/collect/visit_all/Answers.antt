@@ -11,10 +11,10 @@ loop-i-preserved c =
     record {
       black = λ at.
           let x = column_x c.args.margin at in
-          rw (c.visit.ensures.black at, c.loop-i.invariant.black at) (sym (on_more c.args.met.now c.loop-i.i _ x y c.loop-i-test.true));
+          rw (c.visit.ensures.black at, c.loop-i.invariant.black at) (sym (on_more c.args.edges.now c.args.met.now c.loop-i.i _ x y c.loop-i-test.true));
       turns = λ at.
           let x = column_x c.args.margin at in
-          rw (c.visit.ensures.turns at, c.loop-i.invariant.turns at) (sym (turns_more_met c.args.met.now c.loop-i.i _ x y c.loop-i-test.true));
+          rw (c.visit.ensures.turns at, c.loop-i.invariant.turns at) (sym (turns_more_met c.args.edges.now c.args.met.now c.loop-i.i _ x y c.loop-i-test.true));
       count = search rules;
       black_count = search rules;
       capacity = search rules;

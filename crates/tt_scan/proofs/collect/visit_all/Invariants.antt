@@ -7,8 +7,8 @@ use Rattle.tt_scan.proofs.collect.visit_all.Given as goal
 -- what all edges so far leave
 abbrev pub invariant-loop-i : goal.invariant-loop-i
 invariant-loop-i l = record {
-  black : (c : ℤ) → covers l.black.items c ≡ lies_on_one (edges_of (take l.i l.met)) (column_x l.margin c) l.y;
-  turns : (c : ℤ) → turns l.marks.items c ≡ winding (edges_of (take l.i l.met)) (column_x l.margin c) l.y;
+  black : (c : ℤ) → covers l.black.items c ≡ lies_on_one (edges_of l.edges (take l.i l.met)) (column_x l.margin c) l.y;
+  turns : (c : ℤ) → turns l.marks.items c ≡ winding (edges_of l.edges (take l.i l.met)) (column_x l.margin c) l.y;
   count : length l.marks.items ≤ l.i;
   black_count : length l.black.items ≤ l.i;
   capacity : vec_capacity l.marks ≡ vec_capacity l.fn.marks;

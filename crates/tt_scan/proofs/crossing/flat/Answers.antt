@@ -1,12 +1,7 @@
-use Rattle.std.proofs.Common.{◌≡◌, ap, SFits, w64, of_z, refl, rules, arith}
+use Rattle.std.proofs.Common.{SFits, w64, refl, rules, arith}
 use Rattle.std.proofs.lemmas.Int.{ints, clamps, to_z-of_z}
-use Rattle.tt_scan.proofs.Crosses.{apart_cross, level_cross, off_level}
+use Rattle.tt_scan.proofs.Crosses.{level_cross}
 use Rattle.tt_scan.proofs.crossing.flat.Goals as goal
-
-pub returns-then-y-edge-clause-exact : goal.returns-then-y-edge-clause-exact
-returns-then-y-edge-clause-exact c =
-    let off = off_level c.args.edge.ay c.args.edge.by c.args.y c.requires.level (λ same. c.if-y-edge.true (ap (of_z w64) same)) in
-    apart_cross c.args.edge c.args.margin c.args.y c.apart.result off c.apart.ensures.touch c.apart.ensures.turn c.apart.ensures.first
 
 pub from_centre-right-requires-clause-place : goal.from_centre-right-requires-clause-place
 from_centre-right-requires-clause-place c =
@@ -31,5 +26,4 @@ returns-clause-exact c =
     let is_low = simp to_z-of_z at c.from_centre-left.ensures.exact in
     let is_high = simp to_z-of_z at c.from_centre-right.ensures.exact in
     let touch = simp to_z-of_z at c.pixels_between.ensures.exact in
-    let here : c.args.y ≡ c.args.edge.ay = omega (arith, ints) in
-    level_cross c.args.edge c.args.margin c.args.y c.from_centre-left.result c.from_centre-right.result _ c.requires.level here (rw (is_low, is_min) refl) (rw (is_high, is_max) refl) touch c.pixels_between.ensures.order refl refl
+    level_cross c.args.edge c.args.margin c.args.y c.from_centre-left.result c.from_centre-right.result _ c.requires.level c.requires.here (rw (is_low, is_min) refl) (rw (is_high, is_max) refl) touch c.pixels_between.ensures.order refl refl

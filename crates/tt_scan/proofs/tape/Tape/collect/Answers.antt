@@ -1,8 +1,8 @@
-use Rattle.std.proofs.Common.{◌≡◌, ◌∙◌, SFits, w64, rules, arith}
-use Rattle.std.proofs.lemmas.Int.{to_z-of_z}
+use Rattle.std.proofs.Common.{◌≡◌, ◌∙◌, SFits, w32, w64, rules, arith}
+use Rattle.std.proofs.lemmas.Int.{ints, to_z-of_z}
 use Rattle.tt_scan.specs.Marks.{covers, turns}
 use Rattle.tt_scan.specs.Mets.{AreMet, edges_of}
-use Rattle.tt_scan.specs.Winding.{column_x, row_y, lies_on_one, winding}
+use Rattle.tt_scan.specs.Winding.{FrameFits, column_x, row_y, lies_on_one, winding}
 use Rattle.tt_scan.proofs.Counts.{StandForAll, stand_for_all, few_stand, met_permuted}
 use Rattle.tt_scan.proofs.tape.Tape.collect.Goals as goal
 
@@ -11,6 +11,8 @@ use Rattle.tt_scan.proofs.tape.Tape.collect.Goals as goal
 stands : (c : goal.After-visit_all-arg-2-1) → StandForAll c.args.self.now.edges c.args.self.now.frame c.args.r c.live.result.now
 stands c =
     let row : SFits w64 c.args.r = c.ranges.r in
+    let frame : FrameFits c.args.self.now.frame = rw (← c.self.view_is) c.self.invariant.0 in
+    let short : SFits w32 c.args.r = omega (arith, ints, frame.height_high, c.requires.row_low, c.requires.row_high) in
     let are : AreMet c.args.self.now.edges c.args.self.now.frame c.self.inside.table.met = rw (← c.self.view_is) c.self.invariant.3 in
     stand_for_all c.args.self.now.edges c.args.self.now.frame c.self.inside.table.met c.seek.new.self.met c.seek.new.self.live c.live.result.now c.args.r
     are c.seek.ensures.met (simp to_z-of_z at c.seek.ensures.live) c.live.ensures c.requires.row_low c.requires.row_high
@@ -18,12 +20,21 @@ stands c =
 stood : (c : goal.After-self-1) → StandForAll c.args.self.now.edges c.args.self.now.frame c.args.r c.live.result.now
 stood c =
     let row : SFits w64 c.args.r = c.ranges.r in
+    let frame : FrameFits c.args.self.now.frame = rw (← c.self.view_is) c.self.invariant.0 in
+    let short : SFits w32 c.args.r = omega (arith, ints, frame.height_high, c.requires.row_low, c.requires.row_high) in
     let are : AreMet c.args.self.now.edges c.args.self.now.frame c.self.inside.table.met = rw (← c.self.view_is) c.self.invariant.3 in
     stand_for_all c.args.self.now.edges c.args.self.now.frame c.self.inside.table.met c.seek.new.self.met c.seek.new.self.live c.live.result.now c.args.r
     are c.seek.ensures.met (simp to_z-of_z at c.seek.ensures.live) c.live.ensures c.requires.row_low c.requires.row_high
 
-pub visit_all-requires-clause-fits : goal.visit_all-requires-clause-fits
-visit_all-requires-clause-fits c = (stands c).fits
+pub visit_all-requires-clause-places : goal.visit_all-requires-clause-places
+visit_all-requires-clause-places c = rw c.deref.ensures.value (rw (← c.self.view_is) at (stands c).places)
+
+pub visit_all-requires-clause-met : goal.visit_all-requires-clause-met
+visit_all-requires-clause-met c =
+    let row : SFits w64 c.args.r = c.ranges.r in
+    let height : SFits w64 c.row_height-y.result = search rules in
+    let is_height : c.row_height-y.result ≡ row_y c.self.inside.frame c.args.r = simp to_z-of_z at c.row_height-y.ensures.exact in
+    simp to_z-of_z (rw (c.deref.ensures.value, is_height) (rw (← c.self.view_is) at (stands c).met))
 
 pub visit_all-requires-clause-room : goal.visit_all-requires-clause-room
 visit_all-requires-clause-room c = omega (arith, few_stand _ _ _ _ (stands c), c.requires.room)
@@ -45,8 +56,8 @@ returns-clause-black c = λ at.
     let height : SFits w64 c.row_height-y.result = search rules in
     let is_height : c.row_height-y.result ≡ row_y c.self.inside.frame c.args.r = simp to_z-of_z at c.row_height-y.ensures.exact in
     let visited : covers c.visit_all.new.black.items at
-    ≡ lies_on_one (edges_of c.live.result.now) (column_x c.args.self.now.frame.margin at) (row_y c.args.self.now.frame c.args.r) =
-    rw (← c.self.view_is) (rw is_height at (simp to_z-of_z at (c.visit_all.ensures.black at))) in
+    ≡ lies_on_one (edges_of c.args.self.now.edges c.live.result.now) (column_x c.args.self.now.frame.margin at) (row_y c.args.self.now.frame c.args.r) =
+    rw (← c.self.view_is) (rw (is_height, c.deref.ensures.value) at (simp to_z-of_z at (c.visit_all.ensures.black at))) in
     visited ∙ (stood c).on (column_x c.args.self.now.frame.margin at)
 
 pub returns-clause-turns : goal.returns-clause-turns
@@ -55,8 +66,8 @@ returns-clause-turns c = λ at.
     let height : SFits w64 c.row_height-y.result = search rules in
     let is_height : c.row_height-y.result ≡ row_y c.self.inside.frame c.args.r = simp to_z-of_z at c.row_height-y.ensures.exact in
     let visited : turns c.visit_all.new.marks.items at
-    ≡ winding (edges_of c.live.result.now) (column_x c.args.self.now.frame.margin at) (row_y c.args.self.now.frame c.args.r) =
-    rw (← c.self.view_is) (rw is_height at (simp to_z-of_z at (c.visit_all.ensures.turns at))) in
+    ≡ winding (edges_of c.args.self.now.edges c.live.result.now) (column_x c.args.self.now.frame.margin at) (row_y c.args.self.now.frame c.args.r) =
+    rw (← c.self.view_is) (rw (is_height, c.deref.ensures.value) at (simp to_z-of_z at (c.visit_all.ensures.turns at))) in
     visited ∙ (stood c).turns (column_x c.args.self.now.frame.margin at)
 
 pub returns-clause-count : goal.returns-clause-count

@@ -1,4 +1,4 @@
-use Rattle.std.proofs.Common.{◌≡◌, ◌++◌, ◌∷◌, [], arith}
+use Rattle.std.proofs.Common.{◌≡◌, length, ◌++◌, ◌∷◌, [], arith}
 use Rattle.std.proofs.lemmas.List.Elements.{All-push}
 use Rattle.tt_scan.specs.Winding.{EdgeFits}
 use Rattle.tt_scan.proofs.Counts.{met_pushed}
@@ -8,14 +8,15 @@ use Rattle.tt_scan.proofs.tape.Tape.push.Goals as goal
 pub invariant_of-self-2 : goal.invariant_of-self-2
 invariant_of-self-2 c =
     let items : c.push_reserved.new.self.items ≡ c.self.inside.edges.items ++ c.args.edge ∷ [] =
-    rw c.reserve.ensures.items at c.push_reserved.ensures.items in (
+    rw c.reserve.ensures.items at c.push_reserved.ensures.items in
+    let place : c.len.result ≡ length c.self.inside.edges.items = grind (arith, c.len.ensures, c.reserve.ensures) in (
       c.self.invariant.0,
       rw items (All-push EdgeFits c.self.inside.edges.items c.args.edge c.self.invariant.1 c.requires),
-      rw items (rows_joined c.self.inside.edges.items c.args.edge c.self.inside.frame c.self.inside.rows c.row_range-rows.result c.joined-self-inside.result
+      rw items (rows_joined c.self.inside.edges.items c.args.edge c.self.inside.frame c.self.inside.rows c.row_range-rows.result c.join.new.all
           c.self.invariant.2 c.row_range-rows.ensures
-          c.joined-self-inside.ensures.left c.joined-self-inside.ensures.right c.joined-self-inside.ensures.first c.joined-self-inside.ensures.last c.joined-self-inside.ensures.order),
+          c.join.ensures.left c.join.ensures.right c.join.ensures.first c.join.ensures.last c.join.ensures.order),
       rw items (met_pushed c.self.inside.edges.items c.self.inside.frame c.self.inside.table.met c.add_met.new.table.met c.args.edge c.row_range-rows.result
-          c.self.invariant.3 c.requires c.row_range-rows.ensures c.in_ok-add_met.ensures.added),
+          c.self.invariant.3 c.row_range-rows.ensures (rw place at c.in_ok-add_met.ensures.added)),
     )
 
 pub returns-clause-added : goal.returns-clause-added
