@@ -85,7 +85,8 @@ on_graphics_kept at m (Ok t) = same m
 on_graphics_kept at m (Err why) = tt
 
 on_places_kept : (at : ℕ) (m : MachineState) (r : Result (List ℤ × List ℤ × List ℤ) Why)
-    → IfOk r (λ t. (length t.1 ≡ length m.storage) × (length t.2 ≡ length m.control_values)) → Keeps m (on_places at m r)
+    → IfOk r (λ t. (length t.1 ≡ length m.storage) × (length t.2 ≡ length m.control_values))
+    → Keeps m (on_places at m r)
 on_places_kept at m (Ok t) (s, v) = (same_zones m.zones, s, v)
 on_places_kept at m (Err why) long = tt
 
@@ -104,7 +105,8 @@ flagged_kept : (k : Kind) (selector : ℤ) (on : Bool) (m : MachineState) → Ke
 flagged_kept kind.Font selector on m = same m
 flagged_kept kind.Glyph selector on m = same m
 flagged_kept kind.ControlValue selector on m =
-    either (Kept m) (int_eq selector (pos 1)) _ _ (same m) (either (Kept m) (int_eq selector (pos 2)) _ _ (same m) (same m))
+    either (Kept m) (int_eq selector (pos 1)) _ _ (same m)
+    (either (Kept m) (int_eq selector (pos 2)) _ _ (same m) (same m))
 
 instctrl_kept : (s : List ℤ) (at : ℕ) (m : MachineState) → Keeps m (instctrl s at m)
 instctrl_kept (selector ∷ value ∷ s) at m = flagged_kept m.kind selector (is_true value) (record m { stack = s })

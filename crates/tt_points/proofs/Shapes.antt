@@ -44,7 +44,8 @@ put_one zone.Twilight n p z =
 put_one zone.Glyph n p z = record { twilight = refl; glyph = length-set z.glyph (unsigned_abs n) p; contours = refl }
 
 -- one point in the place of another, alone and with a graphics state
-put : (zone : Zone) (n : ℤ) (z : ZoneLists) (r : Result Point Why) → KeepsShape z (r >>= λ q. Ok (with_point zone n q z))
+put : (zone : Zone) (n : ℤ) (z : ZoneLists) (r : Result Point Why)
+    → KeepsShape z (r >>= λ q. Ok (with_point zone n q z))
 put zone n z (Ok q) = put_one zone n q z
 put zone n z (Err why) = tt
 

@@ -11,7 +11,8 @@ use Rattle.tt_points_iup.specs.Interpolation.{contour, contours, within, limited
 use Rattle.tt_points_iup.proofs.ByNumber.{many}
 use Rattle.tt_points_iup.proofs.Ranges.{inside_of}
 
-part_count : (ps : List Point) (low past : ℕ) → low ≤ past → past ≤ length ps → length (slice_range ps low past) ≡ past - low
+part_count : (ps : List Point) (low past : ℕ) → low ≤ past → past ≤ length ps
+    → length (slice_range ps low past) ≡ past - low
 part_count ps low past order bound =
     let behind = length-drop low ps in
     length-take-le (past - low) (drop low ps) (omega (arith, behind))

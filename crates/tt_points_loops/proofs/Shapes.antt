@@ -52,12 +52,13 @@ put_all zone.Twilight ps z many = record { twilight = many; glyph = refl; contou
 put_all zone.Glyph ps z many = record { twilight = refl; glyph = many; contours = refl }
 
 -- one point in the place of another
-put : (zone : Zone) (n : ℤ) (z : ZoneLists) (r : Result Point Why) → KeepsShape z (r >>= λ q. Ok (with_point zone n q z))
+put : (zone : Zone) (n : ℤ) (z : ZoneLists) (r : Result Point Why)
+    → KeepsShape z (r >>= λ q. Ok (with_point zone n q z))
 put zone n z (Ok q) = put_one zone n q z
 put zone n z (Err why) = tt
 
-series : {N : Type 0} (step : N → ZoneLists → Result ZoneLists Why) → ((n : N) (z : ZoneLists) → KeepsShape z (step n z))
-    → (ns : List N) (z : ZoneLists) → KeepsShape z (one_by_one step ns z)
+series : {N : Type 0} (step : N → ZoneLists → Result ZoneLists Why)
+    → ((n : N) (z : ZoneLists) → KeepsShape z (step n z)) → (ns : List N) (z : ZoneLists) → KeepsShape z (one_by_one step ns z)
 series step kept [] z = same z
 series step kept (n ∷ ns) z =
     through (SameShape z) (SameShape z) (step n z) (one_by_one step ns) (kept n z)
@@ -74,20 +75,22 @@ count : (low past : ℕ) (move : ℕ → Point → Result Point Why) (i : ℕ) (
 count low past move i [] = refl
 count low past move i (p ∷ ps) =
     behind (λ qs. length qs ≡ suc (length ps)) (if nat_le low i && nat_lt i past then move i p else Ok p) _
-    (λ q. through (λ qs. length qs ≡ length ps) (λ qs. length qs ≡ suc (length ps)) (each_from_to low past move (suc i) ps)
-    (λ qs. Ok (q ∷ qs)) (count low past move (suc i) ps) (λ qs many. ap suc many))
+    (λ q. through (λ qs. length qs ≡ length ps) (λ qs. length qs ≡ suc (length ps))
+    (each_from_to low past move (suc i) ps) (λ qs. Ok (q ∷ qs)) (count low past move (suc i) ps)
+    (λ qs many. ap suc many))
 
 range : (zone : Zone) (first past : ℕ) (move : ℕ → Point → Result Point Why) (z : ZoneLists)
     → KeepsShape z (follow_in zone first past move z)
 range zone first past move z =
-    through (λ qs. length qs ≡ length (points_in zone z)) (SameShape z) (each_from_to first past move 0 (points_in zone z))
-    (λ ps. Ok (with_points zone ps z)) (count first past move 0 (points_in zone z)) (λ ps many. put_all zone ps z many)
+    let ps = points_in zone z in
+    through (λ qs. length qs ≡ length ps) (SameShape z) (each_from_to first past move 0 ps)
+    (λ qs. Ok (with_points zone qs z)) (count first past move 0 ps) (λ qs many. put_all zone qs z many)
 
 shifted_range : (touch : Bool) (op : ℕ) (zone : Zone) (r : ℕ × ℕ) (z : ZoneLists) (g : GraphicsState)
     → KeepsShape z (shift_range touch op zone r z g)
 shifted_range touch op zone r z g =
-    behind (SameShape z) (reference op g z) _
-    (λ p. range zone (r.0) (r.1) (follow_but (number_in zone (reference_zone op g) (reference_number op g)) touch g p) z)
+    let but = number_in zone (reference_zone op g) (reference_number op g) in
+    behind (SameShape z) (reference op g z) _ (λ p. range zone (r.0) (r.1) (follow_but but touch g p) z)
 
 flipped_range : (on : Bool) (low high : ℤ) (z : ZoneLists) → KeepsShape z (flip_range on low high z)
 flipped_range on low high z =
