@@ -1,12 +1,14 @@
 -- The defects that the steps of a drawing tell, joined.
 use Rattle.std.proofs.Common.{◌≡◌, ℕ, List, map, Result, Ok, Err, inl, inr, subst}
 use Rattle.std.specs.Prelude.{IsOkAnd, IfSome, OnOk}
+use Rattle.tt_core.specs.Chains.{came-through, was-err}
 use Rattle.tt_core.specs.Faults.{Fault}
 use Rattle.tt_core.specs.Directory.{HasNo, IsDefectIn, IsTableDefect}
 use Rattle.tt_core.specs.declared.font_fault.FontFault.{FontFault}
-use Rattle.tt_core.specs.declared.font_fault.FontFault.TheVariants as fit
+use Rattle.tt_core.specs.declared.font_fault.FontFault.TheVariants as fault
 use Rattle.tt_fit.specs.Fitting.{Setting}
-use Rattle.tt_fit.specs.Preparation.{setting_of}
+use Rattle.tt_fit.specs.declared.programs.Fit.{Fit}
+use Rattle.tt_fit.specs.Preparation.{ProgramTables, prepared, setting_of}
 use Rattle.tt_core.specs.Outcomes.{FontGives, each, font_fault}
 use Rattle.tt_glyf.specs.Bytes.{glyf_tag}
 use Rattle.tt_glyf.specs.Loca.{GlyphTables, loca_tag, IsLocaDefect}
@@ -14,9 +16,10 @@ use Rattle.tt_line.specs.Layout.{text_glyphs}
 use Rattle.tt_metrics.specs.Metrics.{Fields}
 use Rattle.tt_scan.specs.declared.edge.Edge.{Edge}
 use Rattle.tt_render.specs.Asked.{Ask}
-use Rattle.tt_render.specs.Defects.{IsFaceDefect, IsGlyphTableDefect, IsSettingDefect, IsGlyphDefect, IsLineDefect, IsRunDefect}
+use Rattle.tt_render.specs.Defects.{IsFaceDefect, IsGlyphTableDefect, IsProgramTableDefect, IsSettingDefect, IsGlyphDefect, IsLineDefect, IsRunDefect}
 use Rattle.tt_render.specs.Face.{Face, face_of}
-use Rattle.tt_render.specs.Picture.{no_programs, glyphs_in, setting_in, glyph_edges}
+use Rattle.tt_render.specs.Picture.{setting_in, glyph_edges}
+use Rattle.tt_render.specs.Programs.{programs_in}
 use Rattle.tt_render.proofs.Drawn.{defect_of_line, no_defect_of_line}
 
 pub no_glyph_table_defect : {X : Type 0} (r : Result X Fault) (directory : List ℕ) (m : Fields)
@@ -28,31 +31,51 @@ no_glyph_table_defect (Ok x) directory m loca glyf = λ fault defect. elim defec
   | inr of_glyf ↦ glyf fault of_glyf
 ]
 
--- a fault of preparing the programs is one of what outlines are made from
-pub preparing_tells : (face : Face) (a : Ask) (tables : GlyphTables) → glyphs_in face.directory face.metrics ≡ Ok tables
-    → (e : FontFault) → FontGives {X = Setting} (λ f. f) (Err e)
-    (setting_of face.metrics tables no_programs a.ppem a.fit) → IfSome (font_fault e) (IsSettingDefect face a)
-preparing_tells face a tables there (fit.Font f) fails = inr (rw there fails)
-preparing_tells face a tables there fit.Memory fails = tt
+-- what is made from what the programs leave has their fault
+preparation-fault : (m : Fields) (tables : GlyphTables) (programs : ProgramTables) (ppem : ℕ) (how : Fit) (f : Fault)
+    → setting_of m tables programs ppem how ≡ Err f → prepared m programs ppem how ≡ Err f
+unfolding setting_of
+preparation-fault m tables programs ppem how f fails = elim (was-err (prepared m programs ppem how) _ f fails) [
+  | inl preparing ↦ preparing
+  | inr later ↦ let never = later.rest in absurd (cc)
+]
 
-pub no_setting_defect : (face : Face) (a : Ask) (tables : GlyphTables) (s : Setting)
-    → glyphs_in face.directory face.metrics ≡ Ok tables → HasNo (IsGlyphTableDefect face.directory face.metrics)
-    → setting_of face.metrics tables no_programs a.ppem a.fit ≡ Ok s → HasNo (IsSettingDefect face a)
-no_setting_defect face a tables s there good made = λ fault defect. elim defect [
+-- a fault of preparing the programs is one of what outlines are made from
+pub preparing_tells : (face : Face) (a : Ask) (tables : GlyphTables) (programs : ProgramTables)
+    → programs_in face.directory a.fit ≡ Ok programs → (e : FontFault) → FontGives {X = Setting} (λ f. f) (Err e)
+    (setting_of face.metrics tables programs a.ppem a.fit) → IfSome (font_fault e) (IsSettingDefect face a)
+preparing_tells face a tables programs there (fault.Font f) fails =
+    inr (inr (rw there (preparation-fault face.metrics tables programs a.ppem a.fit f fails)))
+preparing_tells face a tables programs there fault.Memory fails = tt
+
+-- what is made from what the programs leave is made without a fault of theirs
+prepared-without-fault : (m : Fields) (tables : GlyphTables) (programs : ProgramTables) (ppem : ℕ) (how : Fit)
+    (s : Setting) (f : Fault) → setting_of m tables programs ppem how ≡ Ok s → prepared m programs ppem how ≡ Err f → ⊥
+unfolding setting_of
+prepared-without-fault m tables programs ppem how s f made fails =
+    let by_hints = came-through (prepared m programs ppem how) _ s made in
+    let first = by_hints.first in
+    absurd (cc)
+
+pub no_setting_defect : (face : Face) (a : Ask) (tables : GlyphTables) (programs : ProgramTables) (s : Setting)
+    → HasNo (IsGlyphTableDefect face.directory face.metrics) → HasNo (IsProgramTableDefect face.directory a.fit)
+    → programs_in face.directory a.fit ≡ Ok programs → setting_of face.metrics tables programs a.ppem a.fit ≡ Ok s
+    → HasNo (IsSettingDefect face a)
+no_setting_defect face a tables programs s good kept there made = λ fault defect. elim defect [
   | inl of_tables ↦ good fault of_tables
-  | inr preparing ↦
-      let P : Result GlyphTables Fault → Type 0 = λ r. IsOkAnd r
-      (λ t. setting_of face.metrics t no_programs a.ppem a.fit ≡ Err fault) in
-      let fails : setting_of face.metrics tables no_programs a.ppem a.fit ≡ Err fault = subst P there preparing in
-      absurd (cc)
+  | inr (inl of_programs) ↦ kept fault of_programs
+  | inr (inr preparing) ↦
+      let P : Result ProgramTables Fault → Type 0 = λ r. IsOkAnd r
+      (λ t. prepared face.metrics t a.ppem a.fit ≡ Err fault) in
+      prepared-without-fault face.metrics tables programs a.ppem a.fit s fault made (subst P there preparing)
 ]
 
 -- a glyph's fault is one of the line
 pub glyph_tells : {X : Type 0} (view : X → List (List Edge)) (face : Face) (a : Ask) (s : Setting) (gs : List (ℕ × ℕ))
     → setting_in face a ≡ Ok s → (e : FontFault) → FontGives view (Err e) (each (glyph_edges s) gs)
     → IfSome (font_fault e) (IsLineDefect face a (map (λ g. g.0) gs))
-glyph_tells view face a s gs there (fit.Font f) fails = inr (rw there (defect_of_line s gs f fails))
-glyph_tells view face a s gs there fit.Memory fails = tt
+glyph_tells view face a s gs there (fault.Font f) fails = inr (rw there (defect_of_line s gs f fails))
+glyph_tells view face a s gs there fault.Memory fails = tt
 
 pub no_line_defect : (face : Face) (a : Ask) (s : Setting) (gs : List (ℕ × ℕ)) (tapes : List (List Edge))
     → setting_in face a ≡ Ok s → HasNo (IsSettingDefect face a) → each (glyph_edges s) gs ≡ Ok tapes
@@ -67,8 +90,8 @@ no_line_defect face a s gs tapes there good made = λ fault defect. elim defect 
 -- what stopped the making of the setting is a defect of the line
 pub setting_tells : (face : Face) (a : Ask) (gs : List ℕ) (e : FontFault) → IfSome (font_fault e)
     (IsSettingDefect face a) → IfSome (font_fault e) (IsLineDefect face a gs)
-setting_tells face a gs (fit.Font f) stands = inl stands
-setting_tells face a gs fit.Memory stands = tt
+setting_tells face a gs (fault.Font f) stands = inl stands
+setting_tells face a gs fault.Memory stands = tt
 
 -- what is told of the line is told of the font
 pub no_run_defect : (a : Ask) (file : List ℕ) (face : Face) (gs : List ℕ) → face_of file ≡ Ok face

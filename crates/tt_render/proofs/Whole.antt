@@ -1,16 +1,19 @@
 -- A font from which there is something to be written has no defect.
-use Rattle.std.proofs.Common.{◌≡◌, ℕ, nat_lt, List, length, map, Result, Ok, Err, inl, inr, subst, sym}
+use Rattle.std.proofs.Common.{◌≡◌, ℕ, nat_lt, List, length, map, Option, Some, None, Result, Ok, Err, inl, inr, subst, sym}
 use Rattle.tt_cmap.specs.Defects.{IsBadCmap}
 use Rattle.tt_cmap.specs.Laws.{LookupsAreWhole}
 use Rattle.tt_cmap.specs.Lookup.{lookup_of}
 use Rattle.tt_core.specs.declared.fault.JobFault.{JobFault}
-use Rattle.tt_core.specs.Chains.{came-through, passed-on}
-use Rattle.tt_core.specs.Directory.{directory_of, needed_table, HasNo, IsDefectIn, HasNo-IsDefectIn}
+use Rattle.tt_core.specs.Chains.{came-through, passed-on, not-below}
+use Rattle.tt_core.specs.Directory.{directory_of, record_end, record_of, named_by, table_of, needed_table, HasNo, RecordPassesEnd, PassesEnd, IsDefectIn, HasNo-IsDefectIn}
 use Rattle.tt_core.specs.Faults.{Fault}
 use Rattle.tt_core.specs.Laws.{DirectoriesAreWhole, DirectoriesAreFiles, TablesAreWhole}
 use Rattle.tt_core.specs.Limits.{font_limit}
-use Rattle.tt_core.specs.Outcomes.{each}
+use Rattle.tt_core.specs.Outcomes.{◌>>=◌, each}
+use Rattle.tt_fit.specs.declared.programs.Fit.{Fit}
+use Rattle.tt_fit.specs.declared.programs.Fit.TheVariants as fit
 use Rattle.tt_fit.specs.Fitting.{Setting}
+use Rattle.tt_fit.specs.Preparation.{ProgramTables}
 use Rattle.tt_glyf.specs.Bytes.{glyf_tag}
 use Rattle.tt_glyf.specs.Laws.{LocationsAreWhole}
 use Rattle.tt_glyf.specs.Loca.{GlyphTables, loca_tag, loca_of, IsLocaDefect}
@@ -19,12 +22,13 @@ use Rattle.tt_line.specs.Layout.{Placement, placement}
 use Rattle.tt_metrics.specs.Laws.{MetricsAreWhole}
 use Rattle.tt_metrics.specs.Metrics.{Fields, metrics_of, glyphs_of, IsMetricsDefect}
 use Rattle.tt_render.specs.Asked.{Ask, tested, text_tested}
-use Rattle.tt_render.specs.Defects.{IsFaceDefect, IsGlyphTableDefect, IsSettingDefect, IsLineDefect, IsRunDefect}
+use Rattle.tt_render.specs.Defects.{IsFaceDefect, IsGlyphTableDefect, HasProgramPastEnd, IsProgramTableDefect, IsSettingDefect, IsLineDefect, IsRunDefect}
 use Rattle.tt_render.specs.Face.{Face, cmap_tag, face_of}
 use Rattle.tt_render.specs.Laws.{DrawnFontsAreWhole, MappedFontsAreWhole}
 use Rattle.tt_render.specs.MapLines.{lines_of, map_outcome}
 use Rattle.tt_render.specs.Outcome.{Refused, as_font, as_job, outcome_of}
 use Rattle.tt_render.specs.Picture.{glyphs_in, setting_in, glyph_edges, drawn, pictured, run_outcome}
+use Rattle.tt_render.specs.Programs.{cvt_tag, fpgm_tag, prep_tag, or_empty, optional_table, all_programs_in, programs_in}
 use Rattle.tt_render.proofs.Telling.{no_setting_defect, no_line_defect, no_run_defect}
 
 -- what the layers below say of what they give
@@ -73,13 +77,47 @@ glyph-tables-whole laws directory m t was =
       | inr of_glyf ↦ laws.tables directory glyf_tag by_glyf.value by_glyf.first fault of_glyf
     ]
 
+-- by the record of the table, where there is one
+optional-whole-by : (file table : List ℕ) (number : Option ℕ)
+    → (named_by file number >>= λ t. Ok (or_empty t)) ≡ Ok table → (fault : Fault) → RecordPassesEnd file number fault → ⊥
+optional-whole-by file table None was fault passes = absurd passes
+optional-whole-by file table (Some i) was fault passes =
+    let by_record = came-through (named_by file (Some i)) _ table was in
+    let fits = passed-on (nat_lt (length file) (record_end file i)) _ _ by_record.value by_record.first in
+    not-below (length file) (record_end file i) fits.0 passes.0
+
+optional-whole : (file tag table : List ℕ) → optional_table file tag ≡ Ok table → HasNo (PassesEnd file tag)
+unfolding optional_table table_of
+optional-whole file tag table was = λ fault passes. optional-whole-by file table (record_of file tag) was fault passes
+
+all-programs-whole : (directory : List ℕ) (programs : ProgramTables) → all_programs_in directory ≡ Ok programs
+    → HasNo (HasProgramPastEnd directory)
+unfolding all_programs_in
+all-programs-whole directory programs was =
+    let by_cvt = came-through (optional_table directory cvt_tag) _ programs was in
+    let by_fpgm = came-through (optional_table directory fpgm_tag) _ programs by_cvt.rest in
+    let by_prep = came-through (optional_table directory prep_tag) _ programs by_fpgm.rest in
+    λ fault defect. elim defect [
+      | inl of_cvt ↦ optional-whole directory cvt_tag by_cvt.value by_cvt.first fault of_cvt
+      | inr (inl of_fpgm) ↦ optional-whole directory fpgm_tag by_fpgm.value by_fpgm.first fault of_fpgm
+      | inr (inr of_prep) ↦ optional-whole directory prep_tag by_prep.value by_prep.first fault of_prep
+    ]
+
+programs-whole : (directory : List ℕ) (how : Fit) (programs : ProgramTables) → programs_in directory how ≡ Ok programs
+    → HasNo (IsProgramTableDefect directory how)
+unfolding programs_in
+programs-whole directory fit.None programs was = λ fault defect. absurd defect
+programs-whole directory fit.Full programs was = all-programs-whole directory programs was
+
 setting-whole : FontLaws → (face : Face) (a : Ask) (s : Setting) → setting_in face a ≡ Ok s
     → HasNo (IsSettingDefect face a)
 unfolding setting_in
 setting-whole laws face a s was =
     let by_tables = came-through (glyphs_in face.directory face.metrics) _ s was in
-    no_setting_defect face a by_tables.value s by_tables.first
-    (glyph-tables-whole laws face.directory face.metrics by_tables.value by_tables.first) by_tables.rest
+    let by_programs = came-through (programs_in face.directory a.fit) _ s by_tables.rest in
+    no_setting_defect face a by_tables.value by_programs.value s
+    (glyph-tables-whole laws face.directory face.metrics by_tables.value by_tables.first)
+    (programs-whole face.directory a.fit by_programs.value by_programs.first) by_programs.first by_programs.rest
 
 line-whole : FontLaws → (face : Face) (a : Ask) (line : Placement) (bytes : List ℕ) → drawn face a line ≡ Ok bytes
     → HasNo (IsLineDefect face a (map (λ g. g.0) line.glyphs))

@@ -1,10 +1,12 @@
 -- The defects that a call can meet in a font.
 use Rattle.std.specs.Prelude.{◌≡◌, ◌<◌, List, ℕ, length, slice_index, Option, Some, None, Result, Ok, Err, IsOkAnd, IfSome, Bool, true, false, ⊤, ◌⊎◌}
 use Rattle.tt_core.specs.Faults.{Fault}
-use Rattle.tt_core.specs.Directory.{HasNo, IsDefectIn, IsTableDefect, IsDirectoryDefect}
+use Rattle.tt_core.specs.Directory.{HasNo, IsDefectIn, PassesEnd, IsTableDefect, IsDirectoryDefect}
+use Rattle.tt_fit.specs.declared.programs.Fit.{Fit}
+use Rattle.tt_fit.specs.declared.programs.Fit.TheVariants as fit
 use Rattle.tt_fit.specs.Defects.{IsOutlineDefect}
 use Rattle.tt_fit.specs.Fitting.{Setting}
-use Rattle.tt_fit.specs.Preparation.{setting_of}
+use Rattle.tt_fit.specs.Preparation.{prepared}
 use Rattle.tt_glyf.specs.Bytes.{glyf_tag}
 use Rattle.tt_glyf.specs.Loca.{loca_tag, IsLocaDefect}
 use Rattle.tt_line.specs.Layout.{text_glyphs, extent_of, IsRefusal}
@@ -18,7 +20,8 @@ use Rattle.tt_render.specs.declared.fault.RunFault.{RunFault}
 use Rattle.tt_render.specs.declared.fault.RunFault.TheVariants as run
 use Rattle.tt_render.specs.Face.{Face, face_of, cmap_tag}
 use Rattle.tt_render.specs.Outcome.{needs_font}
-use Rattle.tt_render.specs.Picture.{no_programs, glyphs_in, setting_in}
+use Rattle.tt_render.specs.Picture.{setting_in}
+use Rattle.tt_render.specs.Programs.{cvt_tag, fpgm_tag, prep_tag, programs_in}
 
 -- a defect of the directory, or of a table that every text is looked up in
 abbrev pub IsFaceDefect : List ℕ → Fault → Type 0
@@ -34,14 +37,25 @@ IsGlyphTableDefect directory m fault = IsDefectIn directory loca_tag (λ loca. I
 abbrev pub IsGlyphDefect : Setting → List ℕ → Fault → Type 0
 IsGlyphDefect s glyphs fault = (i : ℕ) × (i < length glyphs) × IsOutlineDefect s (slice_index glyphs i) fault
 
--- what the font's programs leave is this fault
+-- the control values, the font program or the control value program pass the end of the file
+abbrev pub HasProgramPastEnd : List ℕ → Fault → Type 0
+HasProgramPastEnd directory fault = PassesEnd directory cvt_tag fault ⊎ PassesEnd directory fpgm_tag fault
+    ⊎ PassesEnd directory prep_tag fault
+
+-- a defect of where the programs stand; without fitting none is looked at
+abbrev pub IsProgramTableDefect : List ℕ → Fit → Fault → Type 0
+IsProgramTableDefect directory fit.None fault = ⊥
+IsProgramTableDefect directory fit.Full fault = HasProgramPastEnd directory fault
+
+-- what the font program and the control value program leave at the size is this fault
 abbrev pub IsPreparationDefect : Face → Ask → Fault → Type 0
-IsPreparationDefect face a fault = IsOkAnd (glyphs_in face.directory face.metrics)
-    (λ tables. setting_of face.metrics tables no_programs a.ppem a.fit ≡ Err fault)
+IsPreparationDefect face a fault = IsOkAnd (programs_in face.directory a.fit)
+    (λ programs. prepared face.metrics programs a.ppem a.fit ≡ Err fault)
 
 -- a defect of what outlines are made from
 abbrev pub IsSettingDefect : Face → Ask → Fault → Type 0
-IsSettingDefect face a fault = IsGlyphTableDefect face.directory face.metrics fault ⊎ IsPreparationDefect face a fault
+IsSettingDefect face a fault = IsGlyphTableDefect face.directory face.metrics fault
+    ⊎ IsProgramTableDefect face.directory a.fit fault ⊎ IsPreparationDefect face a fault
 
 -- a defect of what some glyphs are drawn from
 abbrev pub IsLineDefect : Face → Ask → List ℕ → Fault → Type 0

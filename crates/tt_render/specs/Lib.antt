@@ -7,6 +7,7 @@ pub mod MapLines
 pub mod Outcome
 pub mod Picture
 pub mod Pixels
+pub mod Programs
 pub mod Reading
 pub mod Report
 pub mod Views

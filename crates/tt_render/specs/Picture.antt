@@ -1,14 +1,14 @@
 -- The picture of a line of text: each glyph's outline moved to its pen, blackened by the scan converter's rules
 -- (OpenType,
 -- "TrueType Fundamentals"), written as format P4 of Netpbm's PBM. Margins and limits are profile.
-use Rattle.std.specs.Prelude.{ℕ, ◌*◌, ℤ, pos, ◌-ℤ◌, List, [], Result, Ok}
+use Rattle.std.specs.Prelude.{ℕ, ◌*◌, ℤ, pos, ◌-ℤ◌, List, Result, Ok}
 use Rattle.tt_arc.specs.Chords.{chord_edges}
 use Rattle.tt_core.specs.Faults.{Fault}
 use Rattle.tt_core.specs.Directory.{needed_table}
 use Rattle.tt_core.specs.Outcomes.{◌>>=◌, each}
 use Rattle.tt_fit.specs.Fitting.{Setting, fitted_outline}
 use Rattle.tt_fit.specs.Outline.{Shape}
-use Rattle.tt_fit.specs.Preparation.{ProgramTables, setting_of}
+use Rattle.tt_fit.specs.Preparation.{setting_of}
 use Rattle.tt_glyf.specs.Bytes.{glyf_tag}
 use Rattle.tt_glyf.specs.Loca.{GlyphTables, loca_tag, loca_of, with_glyf}
 use Rattle.tt_line.specs.Layout.{Placement, placement}
@@ -20,10 +20,7 @@ use Rattle.tt_render.specs.Asked.{Ask, tested}
 use Rattle.tt_render.specs.Face.{Face, face_of}
 use Rattle.tt_render.specs.Outcome.{Refused, Wanted, as_font, as_job, outcome_of}
 use Rattle.tt_render.specs.Pixels.{is_black_pixel}
-
--- the tables of a font's programs; without fitting they are not looked at
-abbrev pub no_programs : ProgramTables
-no_programs = record { cvt = []; fpgm = []; prep = [] }
+use Rattle.tt_render.specs.Programs.{programs_in}
 
 -- loca and glyf; a loca that is too short comes before a glyf that is not there
 unfoldable pub glyphs_in : List ℕ → Fields → Result GlyphTables Fault
@@ -33,10 +30,12 @@ glyphs_in directory m = do
   glyf ← needed_table directory glyf_tag
   Ok (with_glyf locations glyf)
 
--- what the outlines are made from
+-- what the outlines are made from: the glyph data, and what the font's programs leave at the size
 unfoldable pub setting_in : Face → Ask → Result Setting Fault
-setting_in face a = glyphs_in face.directory face.metrics >>= λ tables. setting_of face.metrics tables no_programs
-    a.ppem a.fit
+setting_in face a = do
+  tables ← glyphs_in face.directory face.metrics
+  programs ← programs_in face.directory a.fit
+  setting_of face.metrics tables programs a.ppem a.fit
 
 -- the x of the first phantom point, which is to stand at the pen
 abbrev pub origin_of : Shape → ℤ

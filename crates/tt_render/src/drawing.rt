@@ -21,10 +21,11 @@ use crate::fault::DrawFault;
 use crate::glyph::Glyph;
 use crate::glyphs::line_glyphs;
 use crate::job::Job;
+use crate::programs::open_programs;
 use crate::rows::most_edges;
 use std::alloc::{AllocError, Global};
 use tt_core::{Fault, FontFault};
-use tt_fit::{Fitter, Programs};
+use tt_fit::Fitter;
 use tt_glyf::{Glyf, Loca};
 use tt_line::{Line, lay};
 use tt_pbm::{Header, p4_header};
@@ -55,7 +56,8 @@ fn open_glyf<'a>(face: &Face<'a>) -> Result<Glyf<'a>, Fault>
     Ok(Glyf::of(loca, face.dir.needed(*b"glyf")?))
 }
 
-/// What makes the outlines of a job. Errors: those of loca and glyf, Memory.
+/// What makes the outlines of a job. Errors, the first of: those of loca and glyf; TableRange of the control values and
+/// the two programs; those of running the two. Memory comes where a growth was refused.
 #[tactic(auto, unfolding(crate::specs::Picture::setting_in))]
 fn open_fitter<'a>(alloc: Global, face: &Face<'a>, job: &Job) -> Result<Fitter<'a>, FontFault>
     requires { IsAsked (ask_of job.now) }
@@ -64,16 +66,12 @@ fn open_fitter<'a>(alloc: Global, face: &Face<'a>, job: &Job) -> Result<Fitter<'
     ensures defects { TellsDefects font_fault (IsSettingDefect (face_view face.now) (ask_of job.now)) result }
 {
     let glyf = open_glyf(face)?;
-    let programs = Programs {
-        cvt: &[],
-        fpgm: &[],
-        prep: &[],
-    };
+    let programs = open_programs(&face.dir, job.fit)?;
     Ok(Fitter::new(alloc, &face.metrics, glyf, programs, job.ppem, job.fit)?)
 }
 
-/// The picture of a line that is laid out. Errors: those of loca and glyf, of the glyphs in the order of
-/// the line, Memory.
+/// The picture of a line that is laid out. Errors: those of loca and glyf, of the programs, of the glyphs in the order
+/// of the line, Memory.
 #[tactic(auto, unfolding(crate::specs::Picture::drawn))]
 fn draw_line(alloc: Global, face: &Face, job: &Job, line: &Line) -> Result<Picture, FontFault>
     requires asked { IsAsked (ask_of job.now) }
@@ -117,8 +115,8 @@ fn ready(alloc: Global, frame: Frame, glyphs: Vec<Glyph>) -> Result<Picture, All
 }
 
 /// The picture of a job by a font file. Errors, the first of: those of the tables that every text is
-/// looked up in; EmptyPicture, PictureLarge; those of loca and glyf; those of the glyphs in the order of
-/// the text. Memory comes where a growth was refused.
+/// looked up in; EmptyPicture, PictureLarge; those of loca and glyf; those of the programs; those of the glyphs in the
+/// order of the text. Memory comes where a growth was refused.
 #[tactic(auto, unfolding(crate::specs::Picture::pictured))]
 pub(crate) fn draw(alloc: Global, file: &[u8], job: &Job) -> Result<Picture, DrawFault>
     requires size { length file.now ≤ font_limit }

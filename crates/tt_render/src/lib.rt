@@ -10,6 +10,7 @@ mod job;
 pub mod laws;
 mod limits;
 mod mapping;
+mod programs;
 mod reading;
 mod reports;
 mod rows;

@@ -5,9 +5,9 @@ use std::alloc::{AllocError, Global};
 use tt_render_program::{Request, Words, job_of};
 
 /// The words of `--fit`.
-static FITS: [&str; 1] = ["none"];
+static FITS: [&str; 2] = ["full", "none"];
 
-/// `tt_render map FONT TEXT` and `tt_render draw --size N [--margin N] [--fit none] FONT TEXT`.
+/// `tt_render map FONT TEXT` and `tt_render draw --size N [--margin N] [--fit full|none] FONT TEXT`.
 pub(crate) fn command<'a>(alloc: Global) -> Result<Command<'a>, AllocError> {
     Command::new(alloc, "tt_render")
         .bin_name("tt_render")?
@@ -76,8 +76,8 @@ fn fit<'a>(alloc: Global) -> Arg<'a> {
         .long("fit")
         .value_name("HOW")
         .value_parser(FITS.as_slice())
-        .default_value("none")
-        .help("none: outlines are scaled only; a later version will run the fonts' programs")
+        .default_value("full")
+        .help("full: by the font's programs; none: scaled points only")
 }
 
 /// What a command line asks for.

@@ -1,5 +1,5 @@
 -- No part of the standard: what the program's command lines ask for.
-use Rattle.std.specs.Prelude.{ℕ, List, codes, Option, Some, None, option_map, Result, if◌then◌else◌}
+use Rattle.std.specs.Prelude.{ℕ, List, codes, Option, Some, None, option_map, if◌then◌else◌}
 use Rattle.std.specs.Str.{bytes_eq}
 use Rattle.tt_core.specs.Faults.{Fault}
 use Rattle.tt_fit.specs.declared.programs.Fit.{Fit}
@@ -15,7 +15,9 @@ use Rattle.tt_render_program.specs.declared.request.Words.{Words}
 
 -- the ways to fit by their names
 abbrev pub fit_named : List ℕ → Option Fit
-fit_named name = if bytes_eq name (codes "none") then Some fit.None else None
+fit_named name =
+    if bytes_eq name (codes "full") then Some fit.Full
+    else (if bytes_eq name (codes "none") then Some fit.None else None)
 
 -- what the words of a drawing ask for
 abbrev pub asked : Words → Option Ask

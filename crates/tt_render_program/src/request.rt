@@ -41,6 +41,7 @@ pub fn job_of<'a>(words: &Words<'a>) -> Option<Job<'a>>
     ensures { option_map ask_of result ≡ asked words.now }
 {
     let fit = match words.fit {
+        "full" => Fit::Full,
         "none" => Fit::None,
         _ => return None,
     };
