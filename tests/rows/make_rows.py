@@ -1,5 +1,6 @@
 #!/usr/bin/env python3
-"""Makes map.txt and draw.txt of cases.txt, which stands beside this file and says in its head what a case is.
+"""Makes map.txt, draw.txt and fitted.txt of cases.txt, which stands beside this file and says at its head what a case
+is.
 
   python3 tests/rows/make_rows.py
 
@@ -12,16 +13,22 @@ import pathlib
 
 HERE = pathlib.Path(__file__).parent
 HEAD = """\
-# Cases of `{}`, made by make_rows.py of cases.txt and run by the script beside it. A first line names the test font, in
-# hexadecimal. Then one case a line:
+# Cases of `{}`, made by make_rows.py of cases.txt and run by the script beside it. A first line
+# names the test font, in hexadecimal. Then one case a line:
 #   NAME FONT TEXT {}STATUS STDOUT STDERR
 # FONT is `whole` for the test font, `cut:N` for its first N bytes, or else hexadecimal. TEXT and STDOUT are bytes in
 # hexadecimal, where XX*N stands for N times the byte XX. STDERR is the rest of the line, a line on standard error. A
 # field that is `-` is empty.{}
 """
 
-# What a command's cases have between text and status, and what the head says of it.
-MORE = {"map": ("", ""), "draw": ("SIZE MARGIN ", " SIZE and MARGIN are in pixels, and no program of a font is run.")}
+# Of each file the command of its cases, what they have between text and status, and what its head says of it.
+HEADS = {
+    "map": ("map", "", ""),
+    "draw": ("draw --fit none", "SIZE MARGIN ", " SIZE and MARGIN are in pixels."),
+    "fitted": ("draw", "SIZE MARGIN ", " SIZE and MARGIN are in pixels."),
+}
+# The files in which each question stands.
+FILES = {"map": ["map"], "draw": ["draw", "fitted"], "unfitted": ["draw"], "fitted": ["fitted"]}
 
 
 def two(number):
@@ -122,8 +129,8 @@ def paragraphs():
 def asked(lines):
     """Yields each question of a case: the command, its words, the lines of its answer."""
     for at, words in enumerate(lines):
-        if words[0] in MORE:
-            end = next((k for k in range(at + 1, len(lines)) if lines[k][0] in MORE), len(lines))
+        if words[0] in FILES:
+            end = next((k for k in range(at + 1, len(lines)) if lines[k][0] in FILES), len(lines))
             yield words[0], words[1:], lines[at + 1 : end]
 
 
@@ -137,7 +144,7 @@ def answer(command, lines):
 
 
 def main():
-    base, whole, made = Font(), b"", {"map": [], "draw": []}
+    base, whole, made = Font(), b"", {table: [] for table in HEADS}
     for lines in paragraphs():
         kind, name = lines[0][0], lines[0][1]
         if kind == "font":
@@ -148,10 +155,11 @@ def main():
             for size in range(int(lines[0][1]), int(lines[0][3]) + 1):
                 line = " ".join(lines[1][2:]).replace("SIZE", str(size))
                 made["map"].append(f"cut_to_{size}_bytes cut:{size} 41 {lines[1][1]} - {line}")
-                made["draw"].append(f"cut_to_{size}_bytes cut:{size} 41 16 0 {lines[1][1]} - {line}")
+                for table in FILES["draw"]:
+                    made[table].append(f"cut_to_{size}_bytes cut:{size} 41 16 0 {lines[1][1]} - {line}")
         else:
             font = Font(base)
-            first = next(at for at, words in enumerate(lines) if words[0] in MORE)
+            first = next(at for at, words in enumerate(lines) if words[0] in FILES)
             cut = None
             for words in lines[1:first]:
                 if words[0] == "cut":
@@ -163,10 +171,11 @@ def main():
             for command, words, lines in asked(lines):
                 status, stdout, line = answer(command, lines)
                 fields = [name, place, hexadecimal(text_of(words[0])), *words[1:], status, hexadecimal(stdout), line]
-                made[command].append(" ".join(fields))
-    for command, lines in made.items():
-        text = HEAD.format(command, *MORE[command]) + f"font {whole.hex()}\n" + "\n".join(lines) + "\n"
-        (HERE / f"{command}.txt").write_text(text, encoding="utf-8")
+                for table in FILES[command]:
+                    made[table].append(" ".join(fields))
+    for table, lines in made.items():
+        text = HEAD.format(*HEADS[table]) + f"font {whole.hex()}\n" + "\n".join(lines) + "\n"
+        (HERE / f"{table}.txt").write_text(text, encoding="utf-8")
 
 
 main()

@@ -3,12 +3,13 @@
 //!
 //!     tt_test_tables glyphs FONT
 //!     tt_test_tables pixels
-//!     tt_test_tables outlines FONT SIZE all
-//!     tt_test_tables outlines FONT SIZE GLYPH ..
-//!     tt_test_tables outlines FONT SIZE pixels GLYPH WIDTH HEIGHT MARGIN RISE
+//!     tt_test_tables outlines FONT SIZE FIT all
+//!     tt_test_tables outlines FONT SIZE FIT GLYPH ..
+//!     tt_test_tables outlines FONT SIZE FIT pixels GLYPH WIDTH HEIGHT MARGIN RISE
 //!
-//! `pixels` reads its questions from standard input. The module of each table says what its lines hold. A glyph for
-//! which memory was refused is told on standard error, and asked for again.
+//! FIT is `full`, and the font's programs are run, or `none`. `pixels` reads its questions from standard input. The
+//! module of each table says what its lines hold. A glyph for which memory was refused is told on standard error, and
+//! asked for again.
 #![tactic(auto)]
 
 mod font;

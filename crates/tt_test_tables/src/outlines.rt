@@ -1,13 +1,14 @@
-//! The outlines of a font's glyphs at a size, or the picture of one. An outline is a line `GLYPH phantom X Y X Y X Y X
-//! Y ends END .. points X Y ON ..`, in 26.6 pixels, where ON is 1 for a point on the curve and else 0; a glyph that is
-//! refused has the line `GLYPH TABLE+OFFSET: NUMBER NAME`. A picture is a line for each row, with '#' for a black pixel
-//! and '.' for a white one, and its glyph stands with its left phantom point at 0.
+//! The outlines of a font's glyphs at a size, fitted by the font's programs or scaled only, or the picture of one. An
+//! outline is a line `GLYPH phantom X Y X Y X Y X Y ends END .. points X Y ON ..`, in 26.6 pixels, where ON is 1 for a
+//! point on the curve and else 0; a glyph that is refused has the line `GLYPH TABLE+OFFSET: NUMBER NAME`. A picture is
+//! a line for each row, with '#' for a black pixel and '.' for a white one, and its glyph stands with its left phantom
+//! point at 0.
 
 ghost use Rattle.std.specs.Prelude.{◌≡◌, ◌<◌, length, All, IfOk};
 ghost use Rattle.tt_fit.specs.Outline.{AreEnds, IsPoint};
 ghost use Rattle.tt_scan.specs.Winding.{FrameFits};
 
-use crate::font::{Refusal, defect_of, failed, tables_of, tell};
+use crate::font::{Refusal, defect_of, failed, programs_of, tables_of, tell};
 use crate::pixels::print_pixels;
 use crate::words::Words;
 use anyhow::{Result, bail};
@@ -26,15 +27,20 @@ const NO_PROGRAMS: Programs<'static> = Programs {
     prep: &[],
 };
 
-/// Prints what the words ask of a font: the size first.
+/// Prints what the words ask of a font: first the size and how outlines are fitted.
 pub(crate) fn print_table<R: Print + Eprint + AllocGlobal>(
     rt: &R,
     font: &[u8],
     words: &mut Words,
 ) -> Result<()> {
     let size = words.number(1, SIZE)? as u32;
+    let fit = words.fit()?;
     let (metrics, glyphs) = tables_of(font)?;
-    match Fitter::new(rt.alloc(), &metrics, glyphs, NO_PROGRAMS, size, Fit::None) {
+    let programs = match fit {
+        Fit::Full => programs_of(font)?,
+        Fit::None => NO_PROGRAMS,
+    };
+    match Fitter::new(rt.alloc(), &metrics, glyphs, programs, size, fit) {
         Ok(fitter) => print_glyphs(rt, &fitter, metrics.glyphs(), words),
         Err(fault) => Err(failed(fault)),
     }

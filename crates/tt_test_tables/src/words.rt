@@ -7,6 +7,7 @@ use anyhow::{Context, Result, bail};
 use std::slice;
 use std::str::SplitAsciiWhitespace;
 use tt_core::{HEIGHT_LIMIT, MARGIN_LIMIT, WIDTH_LIMIT};
+use tt_fit::Fit;
 use tt_scan::Frame;
 
 const WIDTH: i64 = WIDTH_LIMIT as i64;
@@ -59,6 +60,15 @@ impl<'a> Words<'a> {
             bail!("{number} is not from {low} to {high}");
         }
         Ok(number)
+    }
+
+    /// The next word, how outlines are fitted.
+    pub(crate) fn fit(&mut self) -> Result<Fit> {
+        match self.word()? {
+            "full" => Ok(Fit::Full),
+            "none" => Ok(Fit::None),
+            word => bail!("{word} is no way to fit"),
+        }
     }
 
     /// The next four words, a frame in pixels.

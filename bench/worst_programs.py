@@ -1,0 +1,90 @@
+#!/usr/bin/env python3
+"""Writes a font whose glyph A costs as much as programs may: each run of one makes at most 1,000,000 steps, a composite
+has at most 32 records, components lie at most four deep, and a glyph has at most 16,384 points.
+
+    bench/worst_programs.py endless FONT   32 records at each of four depths; all programs are endless
+    bench/worst_programs.py one FONT       32 records; each program makes 999,978 steps, as in the next two
+    bench/worst_programs.py two FONT       32 records at each of two depths
+    bench/worst_programs.py four FONT      32 records at each of four depths: 33,825 composites, and 16,384 glyphs of a
+                                           point in them; the others are empty
+    bench/worst_programs.py points FONT    one glyph of 16,384 points; nearly each step interpolates them all
+    bench/worst_programs.py skips FONT     one glyph; each fifth step skips 65,000 bytes of its program
+
+To be drawn by `tt_render draw --size 16 FONT A`.
+"""
+import sys
+from pathlib import Path
+
+sys.path.insert(0, str(Path(__file__).resolve().parent.parent / "tests" / "outlines"))
+import small_fonts as small
+
+PROGRAM = 0x100
+# PUSHW -3, JMPR
+ENDLESS = bytes.fromhex("B8FFFD 1C")
+
+
+def rounds(count):
+    """Six steps a round, and two more: PUSHW count; then PUSHB 1, SUB, DUP, PUSHW -8, SWAP, JROT; and POP."""
+    return b"\xb8" + small.words(count) + bytes.fromhex("B001 61 20 B8FFF8 23 78 21")
+
+
+def long_program():
+    """999,978 steps: five times 32,767 rounds, and 2,826."""
+    return rounds(32767) * 5 + rounds(2826)
+
+
+def simple_with(code, points):
+    """A glyph of so many points, in one contour, and a program."""
+    glyph = small.dots(points)
+    return glyph[:12] + small.words(len(code)) + code + glyph[14:]
+
+
+def composite_of(glyphs, code):
+    """A composite of these glyphs, and a program."""
+    records = [small.record(small.OFFSETS | PROGRAM, glyph, 0, 0) for glyph in glyphs]
+    return small.composite(*records) + small.words(len(code)) + code
+
+
+def tree(depths, code):
+    """Glyph 1 is the composite; each depth below it is a glyph behind glyph 2."""
+    inner = [composite_of([it + 3] * 32, code) for it in range(1, depths)]
+    return [b"", composite_of([3] * 32, code), b"", *inner, simple_with(code, 1)]
+
+
+def whole_tree(code):
+    """As that of four depths, but with a point in no more than 16,384 of its leaves: in 16 of the second depth."""
+    empty = [composite_of([it] * 32, code) for it in (0, 3, 4)]
+    dotted = [composite_of([it] * 32, code) for it in (6, 7)]
+    mixed = composite_of([4] * 16 + [8] * 16, code)
+    # Glyphs 3, 4 and 5 stand at the depths 3, 2 and 1; so do 7, 8 and 9, of which 8 has points, and 6 is a point.
+    return [b"", composite_of([5] * 31 + [9], code), b"", *empty, simple_with(code, 1), *dotted, mixed]
+
+
+def points_program():
+    """SVTCA x, MDAP 0, then IUP x 65,000 times and back by a jump, 15 times round: 975,000 steps of IUP."""
+    turn = b"\x31" * 65000
+    # The way back is -65,000, for which a word is too short: -32,500 and -32,507, and an ADD.
+    back = bytes.fromhex("B001 61 20") + b"\xb9" + small.words(-32500, -32511) + bytes.fromhex("60 23 78")
+    return bytes.fromhex("01 B00F B000 2E") + turn + back + b"\x21"
+
+
+def skips_program():
+    """PUSHB 0, IF, 65,000 bytes that are skipped, EIF, and back, without end."""
+    back = b"\xb9" + small.words(-32500, -32510) + bytes.fromhex("60 1C")
+    return bytes.fromhex("B000 58") + b"\x4f" * 65000 + b"\x59" + back
+
+
+def main():
+    glyphs = {
+        "endless": lambda: tree(4, ENDLESS),
+        "one": lambda: tree(1, long_program()),
+        "two": lambda: tree(2, long_program()),
+        "four": lambda: whole_tree(long_program()),
+        "points": lambda: [b"", simple_with(points_program(), 16384), b""],
+        "skips": lambda: [b"", simple_with(skips_program(), 1), b""],
+    }[sys.argv[1]]()
+    metrics = [(0, 0), (256, 0)] + [(0, 0)] * (len(glyphs) - 2)
+    Path(sys.argv[2]).write_bytes(small.font(glyphs, metrics))
+
+
+main()

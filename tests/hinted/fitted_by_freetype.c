@@ -1,0 +1,96 @@
+/* Prints glyphs as FreeType's bytecode interpreter fits them, for black and white and without its later ways (version
+   35), at 9, 12, 16 and 40 pixels per em:
+
+     fitted_by_freetype FONT GLYPH ..
+     fitted_by_freetype FONT all
+
+   A line is `GLYPH ENDS`, where ENDS are one past the last point of each contour, with commas, and for each size
+   `ADVANCE X Y`: the distance of the first two phantom points, which FreeType rounds to a pixel, and the points, in
+   1/64 pixel, counted from the left phantom point. X and Y are the difference of each point from the one before, +N, -N
+   or `.` for none, and along x >N, <N or `:` where the point is off the curve; both are `-` where there is no point. A
+   glyph that FreeType refuses has no line. */
+#include <stdio.h>
+#include <stdlib.h>
+#include <string.h>
+
+#include <ft2build.h>
+#include FT_FREETYPE_H
+#include FT_MODULE_H
+#include FT_OUTLINE_H
+
+enum { SIZES = 4 };
+
+static const int sizes[SIZES] = {9, 12, 16, 40};
+
+/* Faults of programs are told, and the advance is that of the phantom points, whatever the table hdmx has. */
+static const FT_Int32 how = FT_LOAD_TARGET_MONO | FT_LOAD_NO_AUTOHINT | FT_LOAD_NO_BITMAP | FT_LOAD_PEDANTIC |
+                            FT_LOAD_COMPUTE_METRICS;
+
+static void need(FT_Error error, const char *what) {
+  if (!error) return;
+  fprintf(stderr, "fitted_by_freetype: %s: error %d\n", what, error);
+  exit(1);
+}
+
+static void print_ends(const FT_Outline *outline) {
+  for (int i = 0; i < outline->n_contours; i++) printf("%s%d", i ? "," : " ", outline->contours[i] + 1);
+  if (outline->n_contours == 0) printf(" -");
+}
+
+/* The signs are those of a difference above, below and of 0. */
+static void print_difference(long by, const char *signs) {
+  if (by == 0)
+    printf("%c", signs[2]);
+  else
+    printf("%c%ld", signs[by < 0], labs(by));
+}
+
+static void print_points(const FT_Outline *outline) {
+  long x = 0, y = 0;
+  if (outline->n_points == 0) {
+    printf(" - -");
+    return;
+  }
+  printf(" ");
+  for (int i = 0; i < outline->n_points; i++) {
+    print_difference(outline->points[i].x - x, FT_CURVE_TAG(outline->tags[i]) == FT_CURVE_TAG_ON ? "+-." : "><:");
+    x = outline->points[i].x;
+  }
+  printf(" ");
+  for (int i = 0; i < outline->n_points; i++) {
+    print_difference(outline->points[i].y - y, "+-.");
+    y = outline->points[i].y;
+  }
+}
+
+/* The same face is open once for each size, so that its programs are run for each size once. */
+static void print_glyph(FT_Face *faces, long glyph) {
+  for (int i = 0; i < SIZES; i++)
+    if (FT_Load_Glyph(faces[i], glyph, how)) return;
+  printf("%ld", glyph);
+  print_ends(&faces[0]->glyph->outline);
+  for (int i = 0; i < SIZES; i++) {
+    printf(" %ld", faces[i]->glyph->metrics.horiAdvance);
+    print_points(&faces[i]->glyph->outline);
+  }
+  printf("\n");
+}
+
+int main(int count, char **words) {
+  FT_Library library;
+  FT_Face faces[SIZES];
+  FT_UInt version = 35;
+
+  if (count < 3) need(1, "a word is missing");
+  need(FT_Init_FreeType(&library), "start");
+  need(FT_Property_Set(library, "truetype", "interpreter-version", &version), "version 35");
+  for (int i = 0; i < SIZES; i++) {
+    need(FT_New_Face(library, words[1], 0, &faces[i]), words[1]);
+    need(FT_Set_Pixel_Sizes(faces[i], 0, sizes[i]), "a size");
+  }
+  if (strcmp(words[2], "all") == 0)
+    for (long glyph = 0; glyph < faces[0]->num_glyphs; glyph++) print_glyph(faces, glyph);
+  else
+    for (int i = 2; i < count; i++) print_glyph(faces, atol(words[i]));
+  return 0;
+}
