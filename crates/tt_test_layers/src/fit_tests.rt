@@ -1,7 +1,7 @@
 //! Outlines of worked glyphs. A point's place is worked out by hand: at 64 pixels of 1024 units a unit is 4 units of
 //! 26.6.
 
-ghost use Rattle.std.specs.Prelude.{◌≤◌, length};
+ghost use Rattle.std.specs.Prelude.{◌<◌, ◌≤◌, length};
 ghost use Rattle.tt_core.specs.Limits.{font_limit};
 
 use crate::defects::defect_of;
@@ -131,4 +131,76 @@ fn a_glyph_in_itself_is_too_deep(rt: HostRuntime) {
         }
         Ok(_) => panic!(rt; "a fault"),
     }
+}
+
+/// Function 0 shifts four points by a number of 26.6.
+const FPGM: [u8; 8] = [0xB0, 0x00, 0x2C, 0xB0, 0x04, 0x17, 0x38, 0x2D];
+
+/// Control value 0 becomes a pixel, and storage place 0 becomes 1.
+const PREP: [u8; 8] = [0xB1, 0x00, 0x40, 0x44, 0xB1, 0x00, 0x01, 0x42];
+
+const PROGRAMS: Programs<'static> = Programs {
+    cvt: &[0x00, 0x00],
+    fpgm: &FPGM,
+    prep: &PREP,
+};
+
+/// Glyph 1 is the square, and glyph 2 a composite of it.
+const LOCA_WITH_PROGRAMS: [u8; 8] = [0x00, 0x00, 0x00, 0x00, 0x00, 0x11, 0x00, 0x20];
+
+#[rattlefmt::skip]
+const GLYF_WITH_PROGRAMS: [u8; 64] = [
+    // the square; function 0 shifts its points by control value 0
+    0x00, 0x01, 0x00, 0x40, 0x00, 0x00, 0x00, 0xC0, 0x00, 0x80, 0x00, 0x03, 0x00, 0x0B,
+    0xB3, 0x00, 0x01, 0x02, 0x03, 0xB0, 0x00, 0x45, 0xB0, 0x00, 0x2B,
+    0x33, 0x35, 0x33, 0x15, 0x40, 0x80, 0x80, 0x80, 0x00,
+    // glyph 1, with offsets 0 and 0, its metrics, and a program
+    0xFF, 0xFF, 0x00, 0x40, 0x00, 0x00, 0x00, 0xC0, 0x00, 0x80, 0x03, 0x02, 0x00, 0x01, 0x00, 0x00,
+    // the same along y
+    0x00, 0x0C, 0x00, 0xB3, 0x00, 0x01, 0x02, 0x03, 0xB0, 0x00, 0x45, 0xB0, 0x00, 0x2B,
+];
+
+const RIGHT: [(i32, i32, bool); 4] = [
+    (320, 0, true),
+    (320, 512, true),
+    (832, 512, true),
+    (832, 0, true),
+];
+
+const RIGHT_AND_UP: [(i32, i32, bool); 4] = [
+    (320, 64, true),
+    (320, 576, true),
+    (832, 576, true),
+    (832, 64, true),
+];
+
+/// Whether the glyph is made with these points, or memory is wanted.
+fn is_made(rt: &impl Abort, fitter: &Fitter, g: u16, points: &[(i32, i32, bool)]) -> bool
+    requires { g < fitter.now.tables.glyphs }
+{
+    match fitter.fitted(g) {
+        Ok(outline) => {
+            assert!(rt; outline.points.as_slice() == points);
+            assert!(rt; outline.ends.as_slice() == [4].as_slice());
+            assert!(rt; outline.phantom == [(0, 0), (1024, 0), (0, 1024), (0, 0)]);
+            true
+        }
+        Err(FontFault::Memory) => false,
+        Err(_) => panic!(rt; "the glyph has no defect"),
+    }
+}
+
+#[test]
+fn programs_of_glyphs_and_composites_are_run(rt: HostRuntime) -> Result<(), FontFault> {
+    let dir = Dir::open(&TEST_FONT)?;
+    let metrics = Metrics::open(&dir)?;
+    assert!(rt; metrics.glyphs() > 2);
+    let tables = Glyf::open(&LOCA_WITH_PROGRAMS, &GLYF_WITH_PROGRAMS, &metrics)?;
+    let fitter = Fitter::new(rt.alloc(), &metrics, tables, PROGRAMS, 64, Fit::Full)?;
+    let square = is_made(&rt, &fitter, 1, &RIGHT);
+    let composite = is_made(&rt, &fitter, 2, &RIGHT_AND_UP);
+    // What was made, or failed for want of memory, leaves the fitter as it was.
+    let again = is_made(&rt, &fitter, 1, &RIGHT);
+    assert!(rt; square || composite || again);
+    Ok(())
 }
