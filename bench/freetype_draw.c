@@ -12,6 +12,13 @@
 #include FT_OUTLINE_H
 #include FT_TRUETYPE_TABLES_H
 
+/* With -DFITTED glyphs are fitted by the font's programs. */
+#ifdef FITTED
+#define FITTING FT_LOAD_NO_AUTOHINT
+#else
+#define FITTING FT_LOAD_NO_HINTING
+#endif
+
 static const char *const name = "freetype_draw";
 
 static void need(FT_Error error, const char *what) {
@@ -59,7 +66,7 @@ static void add(struct picture *to, const FT_Bitmap *from, long column, long row
 static void draw(FT_Face face, FT_UInt glyph, struct picture *to, long left) {
   FT_GlyphSlot slot = face->glyph;
 
-  need(FT_Load_Glyph(face, glyph, FT_LOAD_NO_HINTING | FT_LOAD_TARGET_MONO | FT_LOAD_NO_BITMAP), "a glyph is refused");
+  need(FT_Load_Glyph(face, glyph, FITTING | FT_LOAD_TARGET_MONO | FT_LOAD_NO_BITMAP), "a glyph is refused");
   if (slot->format != FT_GLYPH_FORMAT_OUTLINE) stop("a glyph has no outline");
   slot->outline.flags |= FT_OUTLINE_IGNORE_DROPOUTS;
   need(FT_Render_Glyph(slot, FT_RENDER_MODE_MONO), "a glyph is not rendered");
