@@ -7,7 +7,7 @@ ghost use Rattle.tt_core.specs.Limits.{font_limit};
 ghost use Rattle.tt_core.specs.Outcomes.{FontGives};
 ghost use Rattle.tt_exec.specs.Parts.{parts_of};
 ghost use Rattle.tt_exec.specs.Views.{program_of};
-ghost use Rattle.tt_fit.specs.Preparation.{program_tables, control_value, control_values, origin, begun_parts, left_to_glyphs, pointers_set_back, hinted_by_programs, prepared_by, prepared};
+ghost use Rattle.tt_fit.specs.Preparation.{program_tables, control_value, control_values, origin, begun_parts, left_to_glyphs, pointers_set_back, hinted_by_programs, never_given_up, prepared_by, prepared};
 ghost use Rattle.tt_fit.specs.Programs.{AreHints, AreParts};
 ghost use Rattle.tt_fit.specs.Scaling.{scale};
 ghost use Rattle.tt_fit.specs.declared.programs.Fit.TheVariants as fit;
@@ -164,6 +164,17 @@ fn hinted<'a>(
     Ok(Hints::Left(left_to_glyphs(left)))
 }
 
+fn never_given_up<'a>(hints: Hints<'a>) -> GlyphHints<'a>
+    requires { AreHints (hints_of hints) }
+    ensures exact { glyph_hints_view result ≡ never_given_up (hints_of hints.entry) }
+    ensures sound { AreHints (hints_of result.hints) }
+{
+    GlyphHints {
+        hints,
+        fallback: Fallback::Never,
+    }
+}
+
 /// What both programs leave, or the first one's fault, which gives them up for every glyph. Error: Memory.
 fn hinted_or_kept<'a>(
     alloc: Global,
@@ -208,14 +219,8 @@ pub(crate) fn prepared<'a>(
     ensures sound { IfOk result (λ p. AreHints (hints_of p.hints)) }
 {
     match fit {
-        Fit::Full => Ok(GlyphHints {
-            hints: hinted(alloc, metrics, programs, size)?,
-            fallback: Fallback::Never,
-        }),
-        Fit::None => Ok(GlyphHints {
-            hints: Hints::Off,
-            fallback: Fallback::Never,
-        }),
+        Fit::Full => Ok(never_given_up(hinted(alloc, metrics, programs, size)?)),
+        Fit::None => Ok(never_given_up(Hints::Off)),
         Fit::Fallback => hinted_or_kept(alloc, metrics, programs, size),
     }
 }
