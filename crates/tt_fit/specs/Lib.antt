@@ -1,5 +1,6 @@
 pub mod Components
 pub mod Defects
+pub mod Fallback
 pub mod Fitting
 pub mod GlyphZone
 pub mod Laws
