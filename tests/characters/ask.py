@@ -12,7 +12,7 @@ import subprocess
 import sys
 
 import generated
-from plain import Characters
+from plain import Characters, Refused
 
 HERE = pathlib.Path(__file__).parent
 SURROGATES = range(0xD800, 0xE000)
@@ -20,6 +20,16 @@ SURROGATES = range(0xD800, 0xE000)
 PLANE_0 = [it for it in range(1, 0x10000) if it not in SURROGATES]
 PLANE_1 = list(range(0x10000, 0x20000))
 MOST = 4096
+# Cases of ../rows whose cmaps are damaged.
+DAMAGED = (
+    "test_font",
+    "a_0_in_the_glyph_array_stays_0",
+    "three_segments_with_one_end_code",
+    "groups_before_segments",
+    "five_groups_with_gaps",
+    "groups_for_unicode_first_of_both",
+    "records_of_groups_out_of_the_table",
+)
 
 
 def answers(program, font, characters):
@@ -89,6 +99,28 @@ def ask_generated(program, room):
         compare(name, room, characters, whole(program, room, characters), known.line)
 
 
+def damaged(cmap):
+    """Yields the cmap cut at every length, and with each byte in turn 00, FF, and its lowest bit turned."""
+    for at, byte in enumerate(cmap):
+        yield f"cut to {at} bytes", cmap[:at]
+        for other in sorted({0, 0xFF, byte ^ 1} - {byte}):
+            yield f"with {other:02X} at {at}", cmap[:at] + bytes([other]) + cmap[at + 1 :]
+
+
+def ask_damaged(program, room):
+    fonts = dict(rows())
+    for name in DAMAGED:
+        for damage, cmap in damaged(Characters(fonts[name]).cmap):
+            room.write_bytes(generated.with_cmap(fonts[name], cmap))
+            try:
+                line = Characters(room.read_bytes()).line
+            except Refused as it:
+                refused = f"status 1: tt_render: {it}"
+                line = lambda _: refused
+            characters = list(map(ord, "@ABCDKM\u0141\uFFFF😀😁"))
+            compare(f"{name} {damage}", room, characters, whole(program, room, characters), line)
+
+
 def fonttools():
     """Yields each font of fonttools.txt with its sum and the glyphs that fontTools read."""
     path, sum, glyphs = None, None, {}
@@ -119,7 +151,7 @@ def ask_real(program, room):
 
 def main():
     program, part, room = sys.argv[1:]
-    ask = {"worked": ask_worked, "generated": ask_generated, "real": ask_real}
+    ask = {"worked": ask_worked, "damaged": ask_damaged, "generated": ask_generated, "real": ask_real}
     ask[part](program, pathlib.Path(room))
 
 
