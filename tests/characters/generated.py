@@ -1,4 +1,4 @@
-"""Fonts with many segments or groups, made of the test font of ../rows: only cmap and the number of glyphs are others."""
+"""Fonts with many segments or groups, made of the test font of ../rows: cmap and the number of glyphs are others."""
 import random
 
 from plain import number
@@ -15,8 +15,8 @@ def four(*numbers):
 
 
 def with_cmap(font, cmap):
-    """Returns the font with that cmap, put behind all else, and with GLYPHS glyphs, all but two without metrics of their
-    own."""
+    """Returns the font with that cmap, put behind all else, and with GLYPHS glyphs, of which three have metrics of
+    their own."""
     font = bytearray(font)
     for at in range(12, 12 + 16 * number(font, 4, 2), 16):
         if font[at : at + 4] == b"cmap":

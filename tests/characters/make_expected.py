@@ -17,6 +17,10 @@ HERE = pathlib.Path(__file__).parent
 sys.path.insert(0, str(HERE.parent / "real_fonts"))
 from make_expected import chosen
 
+HEAD = """\
+# Written by make_expected.py: a font's MD5 sum, the font, and the format of the subtable that serves;
+# then from which character to which one the glyphs rise by one, and the first of these glyphs."""
+
 
 def runs(glyphs):
     """Yields the first and the last character and the first glyph of each run in which both rise by one."""
@@ -35,8 +39,7 @@ def runs(glyphs):
 def main():
     fonts = (HERE.parent / "real_fonts/fonts.txt").read_text(encoding="utf-8").splitlines()
     with open(HERE / "fonttools.txt", "w", encoding="utf-8") as out:
-        print("# Written by make_expected.py: a font's MD5 sum, the font, and the format of the subtable that serves;", file=out)
-        print("# then from which character to which one the glyphs rise by one, and the first of these glyphs.", file=out)
+        print(HEAD, file=out)
         for line in fonts:
             if line.startswith("#"):
                 continue

@@ -8,9 +8,9 @@ end is not before the character. It is 0 where there is none, where that one sta
 number is not below maxp's number of glyphs. A subtable's own length is not looked at: the end of cmap is the bound.
 
 Refused are, in this order: a header or records that do not fit, at the end of cmap; that none is chosen, at 0; of a
-subtable of format 4 its first 14 bytes that do not fit, at its beginning, half a segment, at its count, and lists that do
-not fit, at its beginning; of format 12 its 16 bytes or groups that do not fit, at its beginning; and of either the first
-end below the one before, there.
+subtable of format 4 its first 14 bytes that do not fit, at its beginning, half a segment, at its count, and lists that
+do not fit, at its beginning; of format 12 its 16 bytes or groups that do not fit, at its beginning; and of either the
+first end below the one before, there.
 """
 
 class Refused(Exception):

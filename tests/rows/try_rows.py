@@ -1,7 +1,7 @@
 #!/usr/bin/env python3
-"""Draws each picture of draw.txt again, by fontTools and the rules that ../outlines/outlines.py states, and looks up each
-answer of map.txt and each refusal of its cmap again, by the plain search of ../characters/plain.py. Neither shares code
-with tt_render. Says where an answer is another.
+"""Draws each picture of draw.txt again, by fontTools and the rules that ../outlines/outlines.py states, and looks up
+each answer of map.txt and each refusal of its cmap again, by the plain search of ../characters/plain.py. Neither shares
+code with tt_render. Says where an answer is another.
 
   apt-get install python3-fonttools
   /usr/bin/python3 tests/rows/try_rows.py
