@@ -9,9 +9,9 @@ use Rattle.tt_fit.specs.declared.programs.Fit.{Fit}
 use Rattle.tt_fit.specs.declared.programs.Fit.TheVariants as fit
 use Rattle.tt_fit.specs.Fallback.{Fallback, never, where_refused, everywhere, is_program_fault}
 use Rattle.tt_fit.specs.Fitting.{Setting, hinted_by, outline_at, fitted_outline, unfitted_fault}
-use Rattle.tt_fit.specs.Laws.{FallbackFits, FallbackScales, FallbackRefuses, FallbackKeeps, OthersNeverFallBack, outline_with}
+use Rattle.tt_fit.specs.Laws.{FallbackFits, FallbackScales, FallbackRefuses, FallbackKeeps, OthersNeverFallBack}
 use Rattle.tt_fit.specs.Outline.{Shape}
-use Rattle.tt_fit.specs.Preparation.{ProgramTables, begun_parts, hinted_by_programs, prepared_by, prepared, setting_of}
+use Rattle.tt_fit.specs.Preparation.{begun_parts, hinted_by_programs, prepared_by, prepared, setting_of}
 use Rattle.tt_fit.specs.Programs.{Hints, unhinted}
 
 -- for no glyph
