@@ -53,6 +53,13 @@ pub made-unfitted : (s : Setting) (g : ℕ) (f : Fault) → unfitted_fault s g �
 unfolding fitted_outline
 made-unfitted s g f some = rw some refl
 
+-- an outline by programs is the answer
+pub made-by-programs : (s : Setting) (g : ℕ) (hints : Hints) (o : Shape) → s.fallback ≡ where_refused
+    → s.hints ≡ hints → outline_at (hinted_by s hints) level_limit g ≡ Ok o → fitted_outline s g ≡ Ok o
+made-by-programs s g hints o is same made =
+    let by_own : outline_at (hinted_by s s.hints) level_limit g ≡ Ok o = rw same made in
+    made-fitted s g (fitted-where-made s g o is by_own) ∙ by_own
+
 -- what outlines are made from, by what the two programs leave
 abbrev setting_with : Fields → GlyphTables → ℕ → Hints → Fallback → Setting
 setting_with m tables ppem hints fallback =
