@@ -1,0 +1,113 @@
+"""Fonts that are cut or changed; see the script `run` beside this file, which starts it."""
+import os
+from concurrent.futures import ProcessPoolExecutor
+from itertools import chain
+
+from asking import FITS, NOTHING, answer_of_program, asked, question, report, rows, why_wrong, words_of
+
+# So many answers of damaged fonts at the least; fewer would be a script that asks too little.
+LEAST = 90_000
+# One in so many answers is compared with that of tt_render itself; the number has no factor in common with the number
+# of questions to a font.
+EACH = 1103
+
+
+def fonts():
+    """Returns a row of each font that is not cut, the test font first; where there is one, a row with a picture."""
+    found = {}
+    for row in rows():
+        if row.name.startswith("cut_to_") or len(row.text) > 16 or not 0 < row.shape[0] <= 300 or not row.font:
+            continue
+        if row.font not in found or row.kind != "map" and found[row.font].kind == "map":
+            found[row.font] = row
+    return list(found.values())
+
+
+def damages(font):
+    """Yields each damage: the length that is left, and the changes."""
+    for size in range(len(font)):
+        yield size, ()
+    for at, byte in enumerate(font):
+        for other in sorted({0x00, 0xFF, byte ^ 1} - {byte}):
+            yield len(font), ((at, other),)
+
+
+def damaged(font, size, changes):
+    data = bytearray(font[:size])
+    for at, byte in changes:
+        data[at] = byte
+    return bytes(data)
+
+
+def wrong_cut(size, answer):
+    """Says whether an answer to the test font cut to a size is another than the directory's refusal."""
+    place = f"file+{size}: 2 DirShort" if size < 124 else f"file+{44 if size < 246 else 108}: 4 TableRange"
+    return answer != f"1 {NOTHING}|tt_render: {place}|"
+
+
+def one_font(number, row):
+    """Asks about the damages of a row's font; returns how many answers pass, the failures, and those to be asked again."""
+    kinds = ("map", *FITS)
+    cases = [(size, changes, kind) for size, changes in damages(row.font) for kind in kinds]
+    lines = [f"font {words_of(row.font)}"]
+    lines += [question(kind, row.text, row.shape, size, changes) for size, changes, kind in cases]
+    answers, wrong = asked(lines)
+    passed, failures, again = 0, [], []
+    for at, ((size, changes, kind), answer) in enumerate(zip(cases, answers)):
+        data = damaged(row.font, size, changes)
+        why = why_wrong(data, kind, answer)
+        if not why and number == 0 and not changes and wrong_cut(size, answer):
+            why = "is not the refusal of the directory"
+        if why:
+            failures.append(f"{row.name}, {kind} of {size} bytes with {changes or 'no change'}: '{answer}' {why}")
+        else:
+            passed += 1
+        if (at + 101 * number) % EACH == 0:
+            again.append((kind, data, row.text, row.shape, answer))
+    if wrong or len(answers) != len(cases):
+        at = min(len(answers), len(cases) - 1)
+        failures.append(f"{row.name}: {wrong or 'too few or too many answers'}, at '{lines[at + 1]}'")
+    return passed, failures, again
+
+
+def whole_rows():
+    """Asks each row over memory; returns how many answers are the row's, and the failures."""
+    wanted = list(rows())
+    answers, wrong = asked([line for row in wanted for line in (f"font {words_of(row.font)}", row.question())])
+    failures = [f"rows: {wrong}"] if wrong else []
+    for row, answer in zip(wanted, answers + [""] * len(wanted)):
+        if answer != row.answer():
+            failures.append(f"{row.name}, {row.kind}: '{answer}' over memory, and not '{row.answer()}'")
+    return len(wanted) - len(failures), failures
+
+
+def same_as_program(cases):
+    """Compares some answers with those of tt_render itself."""
+    failures = []
+    for kind, data, text, shape, answer in cases:
+        other = answer_of_program(kind, data, text, shape)
+        if other != answer:
+            failures.append(f"tt_render, {kind} of {data.hex()}: '{other}', and over memory '{answer}'")
+    return len(cases) - len(failures), failures
+
+
+def main():
+    passed, failures = whole_rows()
+    cases = fonts()
+    with ProcessPoolExecutor(max_workers=os.cpu_count()) as pool:
+        ended = list(pool.map(one_font, range(len(cases)), cases))
+        answers = sum(it[0] + len(it[1]) for it in ended)
+        again = list(chain.from_iterable(it[2] for it in ended))
+        pieces = [again[at :: os.cpu_count()] for at in range(os.cpu_count())]
+        ended += pool.map(same_as_program, pieces)
+    for it in ended:
+        passed += it[0]
+        failures += it[1]
+    print(f"damaged fonts: {len(cases)} fonts, {answers} answers, {len(again)} of them asked of tt_render too")
+    if answers < LEAST or len(again) < LEAST // EACH:
+        failures.append(f"only {answers} answers, and {len(again)} of tt_render")
+    report("damaged fonts", passed, failures)
+
+
+if __name__ == "__main__":
+    main()
