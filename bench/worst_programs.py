@@ -79,9 +79,9 @@ def skips_program():
 
 
 def functions():
-    """Defines the functions 0 to 65,535, all empty: PUSHW, FDEF, ENDF; above 32,767 the number is a sum."""
+    """Defines the functions 0 to 65,534, all empty: PUSHW, FDEF, ENDF; above 32,767 the number is a sum."""
     low = b"".join(b"\xb8" + small.words(it) + b"\x2c\x2d" for it in range(32768))
-    return low + b"".join(b"\xb9" + small.words(32767, it) + b"\x60\x2c\x2d" for it in range(1, 32769))
+    return low + b"".join(b"\xb9" + small.words(32767, it) + b"\x60\x2c\x2d" for it in range(1, 32768))
 
 
 def large_tables(glyphs):
