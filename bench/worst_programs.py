@@ -9,9 +9,9 @@ has at most 32 records, components lie at most four deep, and a glyph has at mos
                                            point in them; the others are empty
     bench/worst_programs.py points FONT    one glyph of 16,384 points; nearly each step interpolates them all
     bench/worst_programs.py skips FONT     one glyph; each fifth step skips 65,000 bytes of its program
-    bench/worst_programs.py copy FONT      one glyph with a program of one byte, in a font of 64 MiB whose control values,
-                                           storage, twilight points and functions are as many as fit: what is copied
-                                           for each run
+    bench/worst_programs.py copy FONT      one glyph with a program of one byte, in a font of 64 MiB whose control
+                                           values, storage, twilight points and functions, which each run gets a copy
+                                           of, are as many as may be
     bench/worst_programs.py copies FONT    the same, and 32 records: 33 runs; at four depths they would be 50,209
 
 To be drawn by `tt_render draw --size 16 FONT A`.

@@ -47,21 +47,21 @@ REFUSALS = {
         for number, name in enumerate(
             (
                 "StepLimit StackFull StackShort CallDepth BadOpcode OffProfile JumpRange CodeShort NoFunction "
-                "DefinitionPlace IfOpen NoEndf PointRange ContourRange ZoneRange CvtRange StorageRange DivZero ValueRange "
-                "Perpendicular BadArgument"
+                "DefinitionPlace IfOpen NoEndf PointRange ContourRange ZoneRange CvtRange StorageRange DivZero "
+                "ValueRange Perpendicular BadArgument"
             ).split(),
             30,
         )
     },
 }
-JOB_REFUSALS = {60: "SizeRange", 61: "TextLong", 62: "EmptyPicture", 63: "PictureLarge", 64: "MarginRange"}
 # The numbers whose place is one alone, whatever the font.
 PLACES = {1: 0, 3: 0, 5: 12, 6: 18, 7: 50, 8: 0, 10: 0}
 
 ANSWER = re.compile(r"([0-9]) ([0-9]+) ([0-9]+)\|(.*)")
-FONT_LINE = re.compile(r"tt_render: ([ -~]{4})\+(0|[1-9][0-9]*): ([1-9][0-9]*) ([A-Za-z]+)\|")
+FAULT = r"([ -~]{4})\+(0|[1-9][0-9]*): ([1-9][0-9]*) ([A-Za-z]+)\|"
+FONT_LINE = re.compile("tt_render: " + FAULT)
+UNFITTED_LINE = re.compile("tt_render: glyph (?:0|[1-9][0-9]*) unfitted: " + FAULT)
 JOB_LINE = re.compile(r"tt_render: ([1-9][0-9]*) ([A-Za-z]+)\|")
-UNFITTED_LINE = re.compile(r"tt_render: glyph (0|[1-9][0-9]*) unfitted: ([ -~]{4})\+(0|[1-9][0-9]*): ([1-9][0-9]*) ([A-Za-z]+)\|")
 
 
 def sum_of(data):
@@ -123,11 +123,17 @@ def is_place(font, table, offset, number, tables=None):
     return offset <= length
 
 
-def why_not_font(font, line, numbers, tables=None):
-    """Says what is wrong with the line of a font's refusal, or returns None."""
-    found = FONT_LINE.fullmatch(line)
+# The numbers of a program's refusals.
+OF_PROGRAMS = range(30, 51)
+# The numbers of refusals that may come, by the word of the question, which is `map` or a way to fit.
+NUMBERS = {"map": range(1, 12), **{fit: [*range(1, 24)] for fit in FITS}}
+NUMBERS["full"] += OF_PROGRAMS
+
+
+def why_no_fault(font, found, numbers, tables):
+    """Says what is wrong with a fault that was found in a line, or returns None."""
     if not found:
-        return "is no refusal of a font"
+        return "has a line of another form"
     table, offset, number, name = found[1], int(found[2]), int(found[3]), found[4]
     if number not in numbers:
         return "has a number that cannot come here"
@@ -140,11 +146,17 @@ def why_not_font(font, line, numbers, tables=None):
     return None
 
 
-# The numbers that may come, by the word of the question, which is `map` or a way to fit.
-NUMBERS = {
-    "map": range(1, 12),
-    **{fit: [*range(1, 24), *(range(30, 51) if fit == "full" else ())] for fit in FITS},
-}
+def why_no_picture(font, kind, count, lines, tables):
+    """Says what is wrong with an answer of status 0, or returns None."""
+    if kind != "map" and count == 0:
+        return "is a picture without a byte"
+    if kind == "fallback":
+        for line in lines.split("|")[:-1]:
+            why = why_no_fault(font, UNFITTED_LINE.fullmatch(line + "|"), OF_PROGRAMS, tables)
+            if why:
+                return why
+        return None
+    return "has a line" if lines else None
 
 
 def why_wrong(font, kind, answer, tables=None):
@@ -153,17 +165,15 @@ def why_wrong(font, kind, answer, tables=None):
     found = ANSWER.fullmatch(answer)
     if not found:
         return "is no answer"
-    status, count, line = int(found[1]), int(found[2]), found[4]
+    status, count, lines = int(found[1]), int(found[2]), found[4]
     if status == 0:
-        if kind == "fallback":
-            line = UNFITTED_LINE.sub("", line)
-        return "has a line" if line else "is a picture without a byte" if count == 0 and kind != "map" else None
+        return why_no_picture(font, kind, count, lines, tables)
     if not answer.startswith(f"{status} {NOTHING}|"):
         return "is a refusal, and bytes were written"
     if status == 1:
-        return why_not_font(font, line, NUMBERS[kind], tables)
+        return why_no_fault(font, FONT_LINE.fullmatch(lines), NUMBERS[kind], tables)
     if status == 2 and kind != "map":
-        found = JOB_LINE.fullmatch(line)
+        found = JOB_LINE.fullmatch(lines)
         if found and (int(found[1]), found[2]) in ((62, "EmptyPicture"), (63, "PictureLarge")):
             return None
     return "has a status or a line that cannot come here"
@@ -249,7 +259,9 @@ def answer_of_program(kind, font, text, shape):
     with tempfile.NamedTemporaryFile() as file:
         file.write(font)
         file.flush()
-        words = ["map"] if kind == "map" else ["draw", "--size", str(shape[0]), "--margin", str(shape[1]), "--fit", kind]
+        words = ["map"]
+        if kind != "map":
+            words = ["draw", "--size", str(shape[0]), "--margin", str(shape[1]), "--fit", kind]
         ended = subprocess.run(
             [os.environ["TT_RENDER"], *words, file.name, "--", text.decode()],
             stdin=subprocess.DEVNULL,

@@ -46,7 +46,8 @@ def wrong_cut(size, answer):
 
 
 def one_font(number, row):
-    """Asks about the damages of a row's font; returns how many answers pass, the failures, and those to be asked again."""
+    """Asks about the damages of a row's font; returns how many answers pass, the failures, and what tt_render is to be
+    asked too."""
     kinds = ("map", *FITS)
     cases = [(size, changes, kind) for size, changes in damages(row.font) for kind in kinds]
     lines = [f"font {words_of(row.font)}"]
@@ -81,6 +82,46 @@ def whole_rows():
     return len(wanted) - len(failures), failures
 
 
+# Answers to the test font, and others that are not to pass.
+GOOD = [
+    ("map", "0 13 1|"),
+    ("none", "0 11 1|"),
+    ("full", f"1 {NOTHING}|tt_render: glyf+14: 35 OffProfile|"),
+    ("none", f"1 {NOTHING}|tt_render: glyf+22: 14 GlyphShort|"),
+    ("map", f"1 {NOTHING}|tt_render: file+44: 4 TableRange|"),
+    ("full", f"2 {NOTHING}|tt_render: 63 PictureLarge|"),
+]
+BAD = [
+    ("none", "0 0 1|"),
+    ("full", "0 11 1|tt_render: glyf+14: 35 OffProfile|"),
+    ("full", "1 11 1|tt_render: glyf+14: 35 OffProfile|"),
+    ("none", f"1 {NOTHING}|tt_render: glyf+14: 35 OffProfile|"),
+    ("map", f"1 {NOTHING}|tt_render: glyf+22: 14 GlyphShort|"),
+    ("full", f"1 {NOTHING}|tt_render: glyf+23: 14 GlyphShort|"),
+    ("full", f"1 {NOTHING}|tt_render: glyf+14: 34 OffProfile|"),
+    ("full", f"1 {NOTHING}|tt_render: loca+2: 35 OffProfile|"),
+    ("full", f"1 {NOTHING}|tt_render: gly\x01+14: 35 OffProfile|"),
+    ("full", f"1 {NOTHING}|tt_render: glyf+014: 35 OffProfile|"),
+    ("full", f"1 {NOTHING}|tt_render: glyf+14: 35 OffProfile|tt_render: glyf+14: 35 OffProfile|"),
+    ("full", f"1 {NOTHING}|"),
+    ("full", f"1 {NOTHING}|tt_render: file+45: 4 TableRange|"),
+    ("full", f"1 {NOTHING}|tt_render: glyf+14: 24 NotYet|"),
+    ("map", f"2 {NOTHING}|tt_render: 63 PictureLarge|"),
+    ("full", f"2 {NOTHING}|tt_render: 60 SizeRange|"),
+    ("full", f"3 {NOTHING}|tt_render: cannot read the font|"),
+    ("full", f"4 {NOTHING}|tt_render: cannot write after 0 bytes|"),
+    ("full", f"5 {NOTHING}|tt_render: out of memory|"),
+    ("full", ""),
+]
+
+
+def judged(font):
+    """Tries the judge itself; returns how many answers it judged well, and the failures."""
+    wrong = [f"the judge refuses '{answer}'" for kind, answer in GOOD if why_wrong(font, kind, answer)]
+    wrong += [f"the judge passes '{answer}'" for kind, answer in BAD if not why_wrong(font, kind, answer)]
+    return len(GOOD) + len(BAD) - len(wrong), wrong
+
+
 def same_as_program(cases):
     """Compares some answers with those of tt_render itself."""
     failures = []
@@ -94,12 +135,13 @@ def same_as_program(cases):
 def main():
     passed, failures = whole_rows()
     cases = fonts()
+    ended = [judged(cases[0].font)]
     with ProcessPoolExecutor(max_workers=os.cpu_count()) as pool:
-        ended = list(pool.map(one_font, range(len(cases)), cases))
-        answers = sum(it[0] + len(it[1]) for it in ended)
-        again = list(chain.from_iterable(it[2] for it in ended))
+        by_font = list(pool.map(one_font, range(len(cases)), cases))
+        answers = sum(it[0] + len(it[1]) for it in by_font)
+        again = list(chain.from_iterable(it[2] for it in by_font))
         pieces = [again[at :: os.cpu_count()] for at in range(os.cpu_count())]
-        ended += pool.map(same_as_program, pieces)
+        ended += [*by_font, *pool.map(same_as_program, pieces)]
     for it in ended:
         passed += it[0]
         failures += it[1]

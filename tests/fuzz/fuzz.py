@@ -20,14 +20,17 @@ FONTS = [
 # Directory, lengths and the other tables stay whole.
 CHANGED = {"glyf": 45, "fpgm": 15, "prep": 15, "cvt ": 8, "loca": 7, "maxp": 10}
 # Instructions that lead somewhere else, or are worth more where a wrong number meets them.
-OPCODES = bytes.fromhex("1C 78 79 2A 2B 2C 2D 17 58 1B 59 20 21 22 23 25 26 40 41 B0 B8 B9 42 43 44 45 60 61 62 63 8E 5D 73")
-# Pieces of programs: endless, until the stack is full, until a product is too great; a loop of 32,767; function 0 so
-# often; a function within itself; all points by IUP; control value 0 and storage 0 written; exceptions; twilight points.
+OPCODES = bytes.fromhex("1C78792A2B2C2D17581B59 202122232526 4041B0B8B9 42434445 60616263 8E5D73")
+# Pieces of programs.
 PIECES = [
     bytes.fromhex(piece)
     for piece in (
-        "B8FFFD1C", "20B8FFFC1C", "B87FFF206320B8FFFA1C", "B87FFF17", "B97FFF00002A", "B0002CB0002B2D", "3031B8FFFB1C",
-        "B1007F44", "B1007F42", "B27F7F015D", "B27F7F0173", "B00016B100003F", "B0041304B00010",
+        # endless, until the stack is full, until a product is too great, and interpolation without end
+        *("B8FFFD1C", "20B8FFFC1C", "B87FFF206320B8FFFA1C", "3031B8FFFB1C"),
+        # 32,767 points, as many calls, and a function within itself
+        *("B87FFF17", "B97FFF00002A", "B0002CB0002B2D"),
+        # a control value and storage, exceptions, twilight points
+        *("B1007F44", "B1007F42", "B27F7F015D", "B27F7F0173", "B00016B100003F", "B0041304B00010"),
     )
 ]
 LETTERS = [*map(chr, range(33, 127)), *map(chr, range(0xC0, 0x180)), *map(chr, range(0x391, 0x3CA))]
