@@ -179,6 +179,21 @@ def why_wrong(font, kind, answer, tables=None):
     return "has a status or a line that cannot come here"
 
 
+def why_not_alike(answers):
+    """Says what is wrong with the answers to a font and a text, by their kinds, or returns None. What `map` refuses, and
+    a picture's size, are refused alike by all; and what is refused without programs is refused with them, but for
+    coordinates, which programs may bring back."""
+    without = answers["none"]
+    alike = without.startswith("2 ")
+    if "map" in answers and answers["map"].startswith("1 "):
+        without, alike = answers["map"], True
+    if not without.startswith("0 ") and "23 CoordRange" not in without:
+        for kind, answer in answers.items():
+            if kind != "map" and (answer != without if alike else not answer.startswith("1 ")):
+                return f"has '{answer}' as {kind}, and '{without}'"
+    return None
+
+
 class Row(NamedTuple):
     """A row of tests/rows. Its kind is `map` or the way to fit, its shape the size and the margin."""
 

@@ -3,7 +3,7 @@ import os
 from concurrent.futures import ProcessPoolExecutor
 from itertools import chain
 
-from asking import FITS, NOTHING, answer_of_program, asked, question, report, rows, why_wrong, words_of
+from asking import FITS, NOTHING, answer_of_program, asked, question, report, rows, why_not_alike, why_wrong, words_of
 
 # So many answers of damaged fonts at the least; fewer would be a script that asks too little.
 LEAST = 90_000
@@ -65,6 +65,11 @@ def one_font(number, row):
             passed += 1
         if (at + 101 * number) % EACH == 0:
             again.append((kind, data, row.text, row.shape, answer))
+    for at in range(0, len(answers) - len(kinds) + 1, len(kinds)):
+        why = why_not_alike(dict(zip(kinds, answers[at:])))
+        if why:
+            size, changes, _ = cases[at]
+            failures.append(f"{row.name}, {size} bytes with {changes or 'no change'}, {why}")
     if wrong or len(answers) != len(cases):
         at = min(len(answers), len(cases) - 1)
         failures.append(f"{row.name}: {wrong or 'too few or too many answers'}, at '{lines[at + 1]}'")
@@ -115,11 +120,25 @@ BAD = [
 ]
 
 
+# Answers to one font beside each other, and whether they pass.
+REFUSED = f"1 {NOTHING}|tt_render: glyf+22: 14 GlyphShort|"
+ALIKE = [
+    ({"map": "0 13 1|", "none": "0 11 1|", "full": REFUSED}, True),
+    ({"map": "0 13 1|", "none": REFUSED, "full": REFUSED.replace("14 GlyphShort", "35 OffProfile")}, True),
+    ({"none": REFUSED.replace("14 GlyphShort", "23 CoordRange"), "full": "0 11 1|"}, True),
+    ({"map": "0 13 1|", "none": REFUSED, "full": "0 11 1|"}, False),
+    ({"map": REFUSED, "none": REFUSED, "full": "0 11 1|"}, False),
+    ({"map": REFUSED, "none": "0 11 1|", "full": REFUSED}, False),
+    ({"none": f"2 {NOTHING}|tt_render: 63 PictureLarge|", "full": REFUSED}, False),
+]
+
+
 def judged(font):
     """Tries the judge itself; returns how many answers it judged well, and the failures."""
     wrong = [f"the judge refuses '{answer}'" for kind, answer in GOOD if why_wrong(font, kind, answer)]
     wrong += [f"the judge passes '{answer}'" for kind, answer in BAD if not why_wrong(font, kind, answer)]
-    return len(GOOD) + len(BAD) - len(wrong), wrong
+    wrong += [f"the judge of {answers}" for answers, good in ALIKE if bool(why_not_alike(answers)) == good]
+    return len(GOOD) + len(BAD) + len(ALIKE) - len(wrong), wrong
 
 
 def same_as_program(cases):

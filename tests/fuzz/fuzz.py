@@ -10,7 +10,7 @@ from concurrent.futures import ProcessPoolExecutor
 from pathlib import Path
 
 sys.path.insert(0, str(Path(__file__).resolve().parent.parent / "damaged"))
-from asking import FITS, ROOT, question, report, tables_of, why_wrong
+from asking import FITS, ROOT, question, report, tables_of, why_not_alike, why_wrong
 
 FONTS = [
     line.split()[-1]
@@ -221,6 +221,7 @@ def work(seed, first, step, seconds, only):
     while time.monotonic() < end and len(failures) < 20:
         case = Case(fonts, seed, number)
         data = case.changed()
+        answers = {}
         for kind in case.kinds:
             began = time.monotonic()
             answer, why = program.ask(case.font, case.question(kind))
@@ -231,11 +232,15 @@ def work(seed, first, step, seconds, only):
                 failures.append(f"{told} of seed {seed}: '{answer}' {why}: {case.told(kind)}")
                 counts["wrong"] += 1
                 continue
+            answers[kind] = answer
             counts[kind, " ".join(answer.split("|")[1].split()[-2:]) if answer[0] != "0" else "drawn"] += 1
             slowest = max(slowest, (took, told))
             held = program.memory()
             if held > most[0]:
                 most = (held, told)
+        why = len(answers) == len(case.kinds) and why_not_alike(answers)
+        if why:
+            failures.append(f"case {number} of seed {seed} {why}: {case.told('full')}")
         if only:
             break
         number += step
