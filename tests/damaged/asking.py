@@ -180,8 +180,8 @@ def why_wrong(font, kind, answer, tables=None):
 
 
 def why_not_alike(answers):
-    """Says what is wrong with the answers to a font and a text, by their kinds, or returns None. What `map` refuses, and
-    a picture's size, are refused alike by all; and what is refused without programs is refused with them, but for
+    """Says what is wrong with the answers to a font and a text, by their kinds, or returns None. What `map` refuses,
+    and a picture's size, are refused alike by all; and what is refused without programs is refused with them, but for
     coordinates, which programs may bring back."""
     without = answers["none"]
     alike = without.startswith("2 ")

@@ -3,7 +3,20 @@ import os
 from concurrent.futures import ProcessPoolExecutor
 from itertools import chain
 
-from asking import FITS, NOTHING, answer_of_program, asked, question, report, rows, why_not_alike, why_wrong, words_of
+from asking import (
+    FITS,
+    NOTHING,
+    answer_of,
+    answer_of_program,
+    asked,
+    question,
+    report,
+    rows,
+    why_not_alike,
+    why_wrong,
+    words_of,
+)
+from face import mapped
 
 # So many answers of damaged fonts at the least; fewer would be a script that asks too little.
 LEAST = 90_000
@@ -59,6 +72,9 @@ def one_font(number, row):
         why = why_wrong(data, kind, answer)
         if not why and number == 0 and not changes and wrong_cut(size, answer):
             why = "is not the refusal of the directory"
+        if not why and kind == "map":
+            want = answer_of(*mapped(data, row.text))
+            why = f"is not '{want}'" if answer != want else None
         if why:
             failures.append(f"{row.name}, {kind} of {size} bytes with {changes or 'no change'}: '{answer}' {why}")
         else:
