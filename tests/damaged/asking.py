@@ -182,7 +182,16 @@ def why_wrong(font, kind, answer, tables=None):
 def why_not_alike(answers):
     """Says what is wrong with the answers to a font and a text, by their kinds, or returns None. What `map` refuses,
     and a picture's size, are refused alike by all; and what is refused without programs is refused with them, but for
-    coordinates, which programs may bring back."""
+    coordinates, which programs may bring back. The way to fit that falls back does so where a program is refused."""
+    if "fallback" in answers:
+        full, fallback = answers["full"], answers["fallback"]
+        # What a program does is not refused: a glyph is drawn without it, or refused for another reason.
+        if not re.search(r": (3[0-9]|4[0-9]|50) ", full):
+            wrong = fallback != full
+        else:
+            wrong = not fallback.startswith("0 ") and not re.search(r": (1?[0-9]|2[0-3]) ", fallback)
+        if wrong:
+            return f"has '{fallback}' as fallback, and '{full}'"
     without = answers["none"]
     alike = without.startswith("2 ")
     if "map" in answers and answers["map"].startswith("1 "):

@@ -138,14 +138,22 @@ BAD = [
 
 # Answers to one font beside each other, and whether they pass.
 REFUSED = f"1 {NOTHING}|tt_render: glyf+22: 14 GlyphShort|"
+OFF_PROFILE = f"1 {NOTHING}|tt_render: glyf+14: 35 OffProfile|"
+UNFITTED = "tt_render: glyph 1 unfitted: glyf+14: 35 OffProfile|"
 ALIKE = [
     ({"map": "0 13 1|", "none": "0 11 1|", "full": REFUSED}, True),
-    ({"map": "0 13 1|", "none": REFUSED, "full": REFUSED.replace("14 GlyphShort", "35 OffProfile")}, True),
+    ({"map": "0 13 1|", "none": REFUSED, "full": OFF_PROFILE}, True),
     ({"none": REFUSED.replace("14 GlyphShort", "23 CoordRange"), "full": "0 11 1|"}, True),
     ({"map": "0 13 1|", "none": REFUSED, "full": "0 11 1|"}, False),
     ({"map": REFUSED, "none": REFUSED, "full": "0 11 1|"}, False),
     ({"map": REFUSED, "none": "0 11 1|", "full": REFUSED}, False),
     ({"none": f"2 {NOTHING}|tt_render: 63 PictureLarge|", "full": REFUSED}, False),
+    ({"none": "0 11 1|", "full": "0 11 2|", "fallback": "0 11 2|"}, True),
+    ({"none": "0 11 1|", "full": "0 11 2|", "fallback": "0 11 1|"}, False),
+    ({"none": "0 11 1|", "full": OFF_PROFILE, "fallback": f"0 11 1|{UNFITTED}"}, True),
+    ({"none": "0 11 1|", "full": OFF_PROFILE, "fallback": OFF_PROFILE}, False),
+    ({"none": REFUSED, "full": OFF_PROFILE, "fallback": REFUSED}, True),
+    ({"none": REFUSED, "full": REFUSED, "fallback": "0 11 1|"}, False),
 ]
 
 
