@@ -1,14 +1,20 @@
 -- A cmap that gives a lookup has no defect.
-use Rattle.std.proofs.Common.{◌≡◌, ℕ, ◌+◌, ◌-◌, ◌*◌, ◌%◌, ◌≤◌, nat_lt, false, List, length, Option, Some, None, Ok, inl, inr, arith, refl}
+use Rattle.std.proofs.Common.{◌≡◌, ℕ, ◌+◌, ◌-◌, ◌*◌, ◌%◌, ◌≤◌, nat_lt, false, List, length, Option, Some, None, Result, Ok, inl, inr, arith, refl, sym}
 use Rattle.std.specs.Prelude.{not, ◌==◌}
 use Rattle.std.proofs.lemmas.Bool.Decides.{nat_tests}
-use Rattle.tt_core.specs.Chains.{came-through, passed-on, not-below, not-both}
+use Rattle.tt_core.specs.Chains.{came-through, passed, passed-on, not-below, not-both}
 use Rattle.tt_core.specs.Directory.{HasNo}
-use Rattle.tt_core.specs.Search.{first_below, first_below_none}
-use Rattle.tt_cmap.specs.Defects.{IsBadRecords, IsBadSubtable, IsBadChoice}
-use Rattle.tt_cmap.specs.Format4.{segment_bytes, segment_count, falls, or_falling, segments_of}
+use Rattle.tt_core.specs.Faults.{Fault}
+use Rattle.tt_core.specs.Search.{first_below_none}
+use Rattle.tt_cmap.specs.declared.records.Format.{Format}
+use Rattle.tt_cmap.specs.declared.records.Format.TheVariants as format
+use Rattle.tt_cmap.specs.declared.records.Place.{Place}
+use Rattle.tt_cmap.specs.Defects.{IsBadRecords, IsBadShape, IsBadSegmentMap, IsBadGroupMap, IsFalling, IsBadSubtable, IsBadChoice}
+use Rattle.tt_cmap.specs.Format4.{SegmentMap, segment_bytes, segments_at}
+use Rattle.tt_cmap.specs.Format12.{GroupMap, group_count, groups_at}
 use Rattle.tt_cmap.specs.Laws.{LookupsAreWhole}
 use Rattle.tt_cmap.specs.Lookup.{Lookup, by_subtable, lookup_of}
+use Rattle.tt_cmap.specs.Ranges.{Subtable, segments, groups, read_as, subtable_with, subtable_at, range_count, falls, falling_range, or_falling}
 use Rattle.tt_cmap.specs.Subtables.{record_count, record_place, records_of, chosen_subtable}
 
 records-whole : (table : List ℕ) (n : ℕ) → records_of table ≡ Ok n → HasNo (IsBadRecords table)
@@ -27,38 +33,107 @@ at-least a b is = grind (arith, nat_tests)
 even : (n : ℕ) → not (n % 2 == 0) ≡ false → n % 2 ≡ 0
 even n is = grind (arith, nat_tests)
 
-none-falls : (table : List ℕ) (at n : ℕ) (found : Option ℕ) → or_falling table at found ≡ Ok n → found ≡ None
-none-falls table at n None was = refl
-none-falls table at n (Some i) was = absurd cc
+segments-whole : (table : List ℕ) (at : ℕ) (m : SegmentMap) → segments_at table at ≡ Ok m
+    → HasNo (IsBadSegmentMap (record { table = table; at = at }))
+unfolding segments_at
+segments-whole table at m was =
+    let it : SegmentMap = record { table = table; at = at } in
+    let header = passed-on (nat_lt (length table) (at + 14)) _ _ m was in
+    let halves = passed-on (not (segment_bytes it % 2 == 0)) _ _ m header.1 in
+    let lists = passed-on (nat_lt (length table) (at + 16 + 4 * segment_bytes it)) _ _ m halves.1 in
+    let fits = at-least (length table) (at + 16 + 4 * segment_bytes it) lists.0 in
+    let whole = even (segment_bytes it) halves.0 in
+    λ fault bad. elim bad [
+      | inl short ↦ omega (arith, fits, short.0)
+      | inr other ↦ elim other [
+        | inl odd ↦ omega (arith, whole, odd.1)
+        | inr short ↦ omega (arith, fits, short.1)
+      ]
+    ]
 
--- a subtable whose lists fit and in which no end code is found to fall
-good-subtable : (table : List ℕ) (at : ℕ) → at + 16 + 4 * segment_bytes table at ≤ length table
-    → segment_bytes table at % 2 ≡ 0 → first_below (segment_count table at - 1) (falls table at) ≡ None
-    → HasNo (IsBadSubtable table at)
-good-subtable table at fits even rises fault (inl short) = absurd (omega (arith, short.0))
-good-subtable table at fits even rises fault (inr (inl odd)) = absurd (omega (arith, odd.1))
-good-subtable table at fits even rises fault (inr (inr (inl short))) = absurd (omega (arith, short.1))
-good-subtable table at fits even rises fault (inr (inr (inr falling))) =
+groups-whole : (table : List ℕ) (at : ℕ) (m : GroupMap) → groups_at table at ≡ Ok m
+    → HasNo (IsBadGroupMap (record { table = table; at = at }))
+unfolding groups_at
+groups-whole table at m was =
+    let it : GroupMap = record { table = table; at = at } in
+    let header = passed-on (nat_lt (length table) (at + 16)) _ _ m was in
+    let lists = passed-on (nat_lt (length table) (at + 16 + 12 * group_count it)) _ _ m header.1 in
+    λ fault bad. elim (bad.0) [
+      | inl short ↦ not-below (length table) (at + 16) header.0 short
+      | inr short ↦ not-below (length table) (at + 16 + 12 * group_count it) lists.0 short
+    ]
+
+-- a subtable whose shape is good
+pub record IsShaped (f : Format) (table : List ℕ) (at : ℕ) (s : Subtable) : Type 0 where
+  pub same : s ≡ read_as f table at
+  pub shape : HasNo (IsBadShape f table at)
+
+segments-same : (table : List ℕ) (at : ℕ) (m : SegmentMap) → segments_at table at ≡ Ok m
+    → m ≡ record { table = table; at = at }
+unfolding segments_at
+segments-same table at m was =
+    let it : SegmentMap = record { table = table; at = at } in
+    let header = passed-on (nat_lt (length table) (at + 14)) _ _ m was in
+    let halves = passed-on (not (segment_bytes it % 2 == 0)) _ _ m header.1 in
+    let lists = passed (nat_lt (length table) (at + 16 + 4 * segment_bytes it)) _ it m halves.1 in
+    sym lists.1
+
+groups-same : (table : List ℕ) (at : ℕ) (m : GroupMap) → groups_at table at ≡ Ok m
+    → m ≡ record { table = table; at = at }
+unfolding groups_at
+groups-same table at m was =
+    let it : GroupMap = record { table = table; at = at } in
+    let header = passed-on (nat_lt (length table) (at + 16)) _ _ m was in
+    let lists = passed (nat_lt (length table) (at + 16 + 12 * group_count it)) _ it m header.1 in
+    sym lists.1
+
+is-segments : (m it : SegmentMap) (s : Subtable) → ◌≡◌ {A = Result Subtable Fault} (Ok (segments m)) (Ok s) → m ≡ it
+    → s ≡ segments it
+is-segments m it s was same = cc
+
+is-groups : (m it : GroupMap) (s : Subtable) → ◌≡◌ {A = Result Subtable Fault} (Ok (groups m)) (Ok s) → m ≡ it
+    → s ≡ groups it
+is-groups m it s was same = cc
+
+with-shaped : (f : Format) (table : List ℕ) (at : ℕ) (s : Subtable) → subtable_with f table at ≡ Ok s
+    → IsShaped f table at s
+with-shaped format.Segments table at s was =
+    let by_map = came-through (segments_at table at) _ s was in
+    let same = segments-same table at by_map.value by_map.first in
+    record { same = is-segments by_map.value (record { table = table; at = at }) s by_map.rest same; shape = segments-whole table at by_map.value by_map.first }
+with-shaped format.Groups table at s was =
+    let by_map = came-through (groups_at table at) _ s was in
+    let same = groups-same table at by_map.value by_map.first in
+    record { same = is-groups by_map.value (record { table = table; at = at }) s by_map.rest same; shape = groups-whole table at by_map.value by_map.first }
+
+-- in which no end falls
+none-falls : (s t : Subtable) (found : Option ℕ) → or_falling s found ≡ Ok t → found ≡ None
+none-falls s t None was = refl
+none-falls s t (Some i) was = absurd cc
+
+rising : (s : Subtable) → falling_range s ≡ None → HasNo (IsFalling s)
+rising s rises = λ fault falling.
     let i = falling.0 in
-    not-both (falls table at i) falling.3
-    (first_below_none (segment_count table at - 1) (falls table at) i rises (omega (arith, falling.1)))
+    not-both (falls s i) falling.3
+    (first_below_none (range_count s - 1) (falls s) i rises (omega (arith, falling.1)))
 
-subtable-whole : (table : List ℕ) (at n : ℕ) → segments_of table at ≡ Ok n → HasNo (IsBadSubtable table at)
-unfolding segments_of
-subtable-whole table at n was =
-    let bytes = segment_bytes table at in
-    let header = passed-on (nat_lt (length table) (at + 14)) _ _ n was in
-    let whole = passed-on (not (bytes % 2 == 0)) _ _ n header.1 in
-    let lists = passed-on (nat_lt (length table) (at + 16 + 4 * bytes)) _ _ n whole.1 in
-    let rises = none-falls table at n (first_below (segment_count table at - 1) (falls table at)) lists.1 in
-    good-subtable table at (at-least (length table) (at + 16 + 4 * bytes) lists.0) (even bytes whole.0) rises
+subtable-whole : (table : List ℕ) (p : Place) (s : Subtable) → subtable_at table p ≡ Ok s
+    → HasNo (IsBadSubtable table p)
+subtable-whole table p s was =
+    let by_shape = came-through (subtable_with p.format table p.at) _ s was in
+    let shaped = with-shaped p.format table p.at by_shape.value by_shape.first in
+    let rises = none-falls by_shape.value s (falling_range by_shape.value) by_shape.rest in
+    λ fault bad. elim bad [
+      | inl shape ↦ shaped.shape fault shape
+      | inr falling ↦ rising by_shape.value rises fault (rw shaped.same falling)
+    ]
 
-choice-whole : (table : List ℕ) (glyphs : ℕ) (place : Option ℕ) (lookup : Lookup) → by_subtable table glyphs place
+choice-whole : (table : List ℕ) (glyphs : ℕ) (place : Option Place) (lookup : Lookup) → by_subtable table glyphs place
     ≡ Ok lookup → HasNo (IsBadChoice table place)
 choice-whole table glyphs None lookup was = absurd cc
-choice-whole table glyphs (Some at) lookup was =
-    let by_segments = came-through (segments_of table at) _ lookup was in
-    subtable-whole table at by_segments.value by_segments.first
+choice-whole table glyphs (Some p) lookup was =
+    let by_subtable = came-through (subtable_at table p) _ lookup was in
+    subtable-whole table p by_subtable.value by_subtable.first
 
 pub lookup-whole : LookupsAreWhole
 unfolding lookup_of

@@ -3,31 +3,55 @@
 use Rattle.std.specs.Prelude.{◌≡◌, ℕ, ◌+◌, ◌*◌, ◌%◌, ◌<◌, ◌≤◌, true, List, length, Option, Some, None, ◌⊎◌}
 use Rattle.tt_core.specs.Faults.{Fault}
 use Rattle.tt_core.specs.declared.fault.Why.TheVariants as why
-use Rattle.tt_cmap.specs.Format4.{segment_bytes, segment_count, end_place, falls}
+use Rattle.tt_cmap.specs.declared.records.Format.{Format}
+use Rattle.tt_cmap.specs.declared.records.Format.TheVariants as format
+use Rattle.tt_cmap.specs.declared.records.Place.{Place}
+use Rattle.tt_cmap.specs.Format4.{SegmentMap, segment_bytes}
+use Rattle.tt_cmap.specs.Format12.{GroupMap, group_count}
+use Rattle.tt_cmap.specs.Ranges.{Subtable, segments, groups, read_as, table_of, range_count, range_end_place, falls}
 use Rattle.tt_cmap.specs.Subtables.{cmap_fault, record_count, record_place, chosen_subtable}
 
 -- the header or the records do not fit
 abbrev pub IsBadRecords : List ℕ → Fault → Type 0
 IsBadRecords table fault = ((length table < 4) ⊎ (length table < record_place (record_count table))) × (fault ≡ cmap_fault (length table) why.CmapShape)
 
--- some segment ends before the one before it
-abbrev pub IsFalling : List ℕ → ℕ → Fault → Type 0
-IsFalling table at fault =
-    (i : ℕ) × (i + 1 < segment_count table at) × (end_place at (i + 1) + 2 ≤ length table) × (falls table at i ≡ true)
-    × (fault ≡ cmap_fault (end_place at (i + 1)) why.CmapShape)
+-- a subtable of format 4 does not fit, or has half a segment
+abbrev pub IsBadSegmentMap : SegmentMap → Fault → Type 0
+IsBadSegmentMap m fault =
+    ((length m.table < m.at + 14) × (fault ≡ cmap_fault m.at why.CmapShape))
+    ⊎ ((m.at + 14 ≤ length m.table) × (segment_bytes m % 2 ≡ 1) × (fault ≡ cmap_fault (m.at + 6) why.CmapShape))
+    ⊎ ((m.at + 14 ≤ length m.table) × (length m.table < m.at + 16 + 4 * segment_bytes m) × (fault ≡ cmap_fault m.at why.CmapShape))
 
--- the subtable does not fit, has half a segment, or its end codes fall
-abbrev pub IsBadSubtable : List ℕ → ℕ → Fault → Type 0
-IsBadSubtable table at fault =
-    ((length table < at + 14) × (fault ≡ cmap_fault at why.CmapShape))
-    ⊎ ((at + 14 ≤ length table) × (segment_bytes table at % 2 ≡ 1) × (fault ≡ cmap_fault (at + 6) why.CmapShape))
-    ⊎ ((at + 14 ≤ length table) × (length table < at + 16 + 4 * segment_bytes table at) × (fault ≡ cmap_fault at why.CmapShape))
-    ⊎ IsFalling table at fault
+-- a subtable of format 12 does not fit
+abbrev pub IsBadGroupMap : GroupMap → Fault → Type 0
+IsBadGroupMap m fault =
+    ((length m.table < m.at + 16) ⊎ (length m.table < m.at + 16 + 12 * group_count m)) × (fault ≡ cmap_fault m.at why.CmapShape)
+
+-- the bytes of a range's last character
+abbrev pub range_end_size : Subtable → ℕ
+range_end_size (segments m) = 2
+range_end_size (groups m) = 4
+
+-- some range ends before the one before it
+abbrev pub IsFalling : Subtable → Fault → Type 0
+IsFalling s fault =
+    (i : ℕ) × (i + 1 < range_count s) × (range_end_place s (i + 1) + range_end_size s ≤ length (table_of s)) × (falls s i ≡ true)
+    × (fault ≡ cmap_fault (range_end_place s (i + 1)) why.CmapShape)
+
+-- the subtable of a format at a place does not fit, or has half a segment
+abbrev pub IsBadShape : Format → List ℕ → ℕ → Fault → Type 0
+IsBadShape format.Segments table at fault = IsBadSegmentMap (record { table = table; at = at }) fault
+IsBadShape format.Groups table at fault = IsBadGroupMap (record { table = table; at = at }) fault
+
+-- the subtable has a bad shape, or its ends fall
+abbrev pub IsBadSubtable : List ℕ → Place → Fault → Type 0
+IsBadSubtable table p fault =
+    IsBadShape p.format table p.at fault ⊎ IsFalling (read_as p.format table p.at) fault
 
 -- no subtable can be used, or the chosen one is bad
-abbrev pub IsBadChoice : List ℕ → Option ℕ → Fault → Type 0
+abbrev pub IsBadChoice : List ℕ → Option Place → Fault → Type 0
 IsBadChoice table None fault = fault ≡ cmap_fault 0 why.NoCmap
-IsBadChoice table (Some at) fault = IsBadSubtable table at fault
+IsBadChoice table (Some place) fault = IsBadSubtable table place fault
 
 abbrev pub IsBadCmap : List ℕ → Fault → Type 0
 IsBadCmap table fault =

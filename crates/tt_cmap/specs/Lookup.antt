@@ -4,24 +4,25 @@ use Rattle.tt_core.specs.Faults.{Fault}
 use Rattle.tt_core.specs.declared.fault.Why.TheVariants as why
 use Rattle.tt_core.specs.Outcomes.{◌>>=◌}
 use Rattle.tt_core.specs.Search.{IsLeast, first_below_least, first_below_nothing}
-use Rattle.tt_cmap.specs.Format4.{segment_count, segments_of, reaches, by_segment, glyph_in}
-use Rattle.tt_cmap.specs.Subtables.{cmap_fault, records_of, chosen_subtable}
+use Rattle.tt_cmap.specs.declared.records.Format.TheVariants.{Segments, Groups}
+use Rattle.tt_cmap.specs.declared.records.Place.{Place}
+use Rattle.tt_cmap.specs.Ranges.{Subtable, segments, groups, subtable_at, range_count, reaches, by_range, glyph_in}
+use Rattle.tt_cmap.specs.Subtables.{cmap_fault, records_of, place_of, chosen_subtable}
 
--- the bytes of cmap, where the subtable that serves begins in them, and how many glyphs the font has
+-- the subtable that serves, and how many glyphs the font has
 pub record Lookup : Type 0 where
-  pub table : List ℕ
-  pub at : ℕ
+  pub subtable : Subtable
   pub glyphs : ℕ
 
--- the lookup by a subtable, whose lists have to fit and whose end codes have to rise
-abbrev pub by_subtable : List ℕ → ℕ → Option ℕ → Result Lookup Fault
+-- the lookup by a subtable, which has to fit and whose ranges have to end in rising order
+abbrev pub by_subtable : List ℕ → ℕ → Option Place → Result Lookup Fault
 by_subtable table glyphs None = Err (cmap_fault 0 why.NoCmap)
-by_subtable table glyphs (Some at) =
-    segments_of table at >>= λ segments. Ok (record { table = table; at = at; glyphs = glyphs })
+by_subtable table glyphs (Some place) =
+    subtable_at table place >>= λ subtable. Ok (record { subtable = subtable; glyphs = glyphs })
 
 -- the same behind the records, which have to fit first
-abbrev pub lookup_by : List ℕ → ℕ → Option ℕ → Result Lookup Fault
-lookup_by table glyphs subtable = records_of table >>= λ count. by_subtable table glyphs subtable
+abbrev pub lookup_by : List ℕ → ℕ → Option Place → Result Lookup Fault
+lookup_by table glyphs place = records_of table >>= λ count. by_subtable table glyphs place
 
 -- the lookup by the subtable that serves, or cmap's first fault
 unfoldable pub lookup_of : List ℕ → ℕ → Result Lookup Fault
@@ -29,18 +30,18 @@ lookup_of table glyphs = lookup_by table glyphs (chosen_subtable table)
 
 -- the glyph of a character
 abbrev pub glyph_of : Lookup → ℕ → ℕ
-glyph_of m c = glyph_in m.table m.at m.glyphs c
+glyph_of m c = glyph_in m.subtable m.glyphs c
 
--- g is what the least segment that reaches the character says of it, and 0 where no segment does
-pub record FollowsSegments (m : Lookup) (c g : ℕ) : Type 0 where
-  pub by_least : (i : ℕ) → IsLeast (reaches m.table m.at c) (segment_count m.table m.at) i
-      → g ≡ by_segment m.table m.at m.glyphs c i
-  pub past_all : ((i : ℕ) → i < segment_count m.table m.at → reaches m.table m.at c i ≡ false) → g ≡ 0
+-- g is what the least range that reaches the character says of it, and 0 where no range does
+pub record FollowsRanges (m : Lookup) (c g : ℕ) : Type 0 where
+  pub by_least : (i : ℕ) → IsLeast (reaches m.subtable c) (range_count m.subtable) i
+      → g ≡ by_range m.subtable m.glyphs c i
+  pub past_all : ((i : ℕ) → i < range_count m.subtable → reaches m.subtable c i ≡ false) → g ≡ 0
 
-pub glyph_follows_segments : (m : Lookup) (c : ℕ) → FollowsSegments m c (glyph_of m c)
-glyph_follows_segments m c = record {
-  by_least = λ i least. rw (first_below_least (reaches m.table m.at c) (segment_count m.table m.at) i least) refl;
-  past_all = λ fails. rw (first_below_nothing (reaches m.table m.at c) (segment_count m.table m.at) fails) refl;
+pub glyph_follows_ranges : (m : Lookup) (c : ℕ) → FollowsRanges m c (glyph_of m c)
+glyph_follows_ranges m c = record {
+  by_least = λ i least. rw (first_below_least (reaches m.subtable c) (range_count m.subtable) i least) refl;
+  past_all = λ fails. rw (first_below_nothing (reaches m.subtable c) (range_count m.subtable) fails) refl;
 }
 
 -- worked values: two segments, 0041 to 0042 by a delta of -64, and the last one
@@ -49,23 +50,50 @@ two_segments =
     0 ∷ 0 ∷ 0 ∷ 1 ∷ 0 ∷ 3 ∷ 0 ∷ 1 ∷ 0 ∷ 0 ∷ 0 ∷ 12 ∷ 0 ∷ 4 ∷ 0 ∷ 32 ∷ 0 ∷ 0 ∷ 0 ∷ 4 ∷ 0 ∷ 4 ∷ 0 ∷ 1 ∷ 0 ∷ 0
     ∷ 0 ∷ 66 ∷ 255 ∷ 255 ∷ 0 ∷ 0 ∷ 0 ∷ 65 ∷ 255 ∷ 255 ∷ 255 ∷ 192 ∷ 0 ∷ 1 ∷ 0 ∷ 0 ∷ 0 ∷ 0 ∷ []
 
-its_subtable : chosen_subtable two_segments ≡ Some 12
+abbrev by_segments : ℕ → Lookup
+by_segments glyphs = record { subtable = segments (record { table = two_segments; at = 12 }); glyphs = glyphs }
+
+its_subtable : chosen_subtable two_segments ≡ Some (place_of Segments 12)
 its_subtable = refl
 
-its_first_letter : glyph_of (record { table = two_segments; at = 12; glyphs = 3 }) 65 ≡ 1
+its_first_letter : glyph_of (by_segments 3) 65 ≡ 1
 its_first_letter = refl
 
-its_second_letter : glyph_of (record { table = two_segments; at = 12; glyphs = 3 }) 66 ≡ 2
+its_second_letter : glyph_of (by_segments 3) 66 ≡ 2
 its_second_letter = refl
 
-a_glyph_that_the_font_lacks : glyph_of (record { table = two_segments; at = 12; glyphs = 2 }) 66 ≡ 0
+a_glyph_that_the_font_lacks : glyph_of (by_segments 2) 66 ≡ 0
 a_glyph_that_the_font_lacks = refl
 
-before_a_segment : glyph_of (record { table = two_segments; at = 12; glyphs = 3 }) 64 ≡ 0
+before_a_segment : glyph_of (by_segments 3) 64 ≡ 0
 before_a_segment = refl
 
-by_the_last_segment : glyph_of (record { table = two_segments; at = 12; glyphs = 3 }) 65535 ≡ 0
+by_the_last_segment : glyph_of (by_segments 3) 65535 ≡ 0
 by_the_last_segment = refl
 
-past_the_last_segment : glyph_of (record { table = two_segments; at = 12; glyphs = 3 }) 65536 ≡ 0
+past_the_last_segment : glyph_of (by_segments 3) 65536 ≡ 0
 past_the_last_segment = refl
+
+-- one group, 0001F600 to 0001F602 from glyph 1 on
+abbrev one_group : List ℕ
+one_group =
+    0 ∷ 0 ∷ 0 ∷ 1 ∷ 0 ∷ 3 ∷ 0 ∷ 10 ∷ 0 ∷ 0 ∷ 0 ∷ 12 ∷ 0 ∷ 12 ∷ 0 ∷ 0 ∷ 0 ∷ 0 ∷ 0 ∷ 28 ∷ 0 ∷ 0 ∷ 0 ∷ 0 ∷ 0 ∷ 0 ∷ 0 ∷ 1
+    ∷ 0 ∷ 1 ∷ 246 ∷ 0 ∷ 0 ∷ 1 ∷ 246 ∷ 2 ∷ 0 ∷ 0 ∷ 0 ∷ 1 ∷ []
+
+abbrev by_groups : Lookup
+by_groups = record { subtable = groups (record { table = one_group; at = 12 }); glyphs = 3 }
+
+its_groups : chosen_subtable one_group ≡ Some (place_of Groups 12)
+its_groups = refl
+
+the_second_of_a_group : glyph_of by_groups 128513 ≡ 2
+the_second_of_a_group = refl
+
+the_third_that_the_font_lacks : glyph_of by_groups 128514 ≡ 0
+the_third_that_the_font_lacks = refl
+
+before_a_group : glyph_of by_groups 65 ≡ 0
+before_a_group = refl
+
+past_the_last_group : glyph_of by_groups 128515 ≡ 0
+past_the_last_group = refl

@@ -1,5 +1,5 @@
 -- OpenType, "cmap: Character to Glyph Index Mapping Table": version, count of encoding records, and records of
--- platform, encoding and offset. Only subtables of format 4 are looked for (profile).
+-- platform, encoding and offset. Only subtables of formats 12 and 4 are looked for, those of format 12 first (profile).
 use Rattle.std.specs.Prelude.{◌≡◌, ℕ, ◌+◌, ◌*◌, ◌<◌, Bool, false, ◌&&◌, ◌==◌, nat_lt, nat_le, if◌then◌else◌, List, [], ◌∷◌, length, codes, Option, Some, None, option_map, Result, Ok, Err, ◌⊎◌, refl}
 use Rattle.std.proofs.Common.{inl, inr}
 use Rattle.tt_core.specs.Faults.{Fault}
@@ -8,8 +8,11 @@ use Rattle.tt_core.specs.declared.fault.Why.TheVariants as why
 use Rattle.tt_core.specs.Faults.{fault_at}
 use Rattle.tt_core.specs.Numbers.{unsigned_at}
 use Rattle.tt_core.specs.Search.{first_below, IsLeast, first_below_least, first_below_nothing}
-use Rattle.tt_cmap.specs.declared.subtable.Platform.{Platform}
-use Rattle.tt_cmap.specs.declared.subtable.Platform.TheVariants.{Windows, Unicode}
+use Rattle.tt_cmap.specs.declared.records.Format.{Format}
+use Rattle.tt_cmap.specs.declared.records.Format.TheVariants.{Segments, Groups}
+use Rattle.tt_cmap.specs.declared.records.Place.{Place}
+use Rattle.tt_cmap.specs.declared.records.Platform.{Platform}
+use Rattle.tt_cmap.specs.declared.records.Platform.TheVariants.{Windows, Unicode}
 
 -- a fault of cmap
 abbrev pub cmap_fault : ℕ → Why → Fault
@@ -39,65 +42,110 @@ records_of table =
     else (if nat_lt (length table) (record_place (record_count table)) then Err (cmap_fault (length table) why.CmapShape)
     else Ok (record_count table))
 
--- record i is for the platform
-abbrev pub is_for : Platform → List ℕ → ℕ → Bool
-is_for Windows table i = (platform_of table i == 3) && (encoding_of table i == 1)
-is_for Unicode table i = platform_of table i == 0
+-- segment mapping to delta values has the number 4, segmented coverage 12
+abbrev pub format_number : Format → ℕ
+format_number Segments = 4
+format_number Groups = 12
 
--- its subtable has room for a format word, and that word is 4
-abbrev pub is_format4 : List ℕ → ℕ → Bool
-is_format4 table at = nat_le (at + 2) (length table) && (unsigned_at table at 2 == 4)
+-- Windows' encoding that goes with it: Unicode's Basic Multilingual Plane, or its full repertoire
+abbrev pub windows_encoding : Format → ℕ
+windows_encoding Segments = 1
+windows_encoding Groups = 10
 
--- it is for the platform, and its subtable has format 4
-abbrev pub is_wanted : Platform → List ℕ → ℕ → Bool
-is_wanted platform table i = is_for platform table i && is_format4 table (subtable_of table i)
+-- record i is for the platform, whose encoding goes with the format
+abbrev pub is_for : Platform → Format → List ℕ → ℕ → Bool
+is_for Windows format table i = (platform_of table i == 3) && (encoding_of table i == windows_encoding format)
+is_for Unicode format table i = platform_of table i == 0
 
--- the subtable of the first record of the platform whose subtable has format 4
-abbrev pub first_subtable : Platform → List ℕ → Option ℕ
-first_subtable platform table = option_map (subtable_of table) (first_below (record_count table) (is_wanted platform table))
+-- the subtable has room for a format word, and that word says this format
+abbrev pub has_format : Format → List ℕ → ℕ → Bool
+has_format format table at = nat_le (at + 2) (length table) && (unsigned_at table at 2 == format_number format)
+
+-- the record is for the platform, and its subtable has the format
+abbrev pub is_wanted : Platform → Format → List ℕ → ℕ → Bool
+is_wanted platform format table i = is_for platform format table i && has_format format table (subtable_of table i)
+
+-- the subtable of the first record of the platform whose subtable has the format
+abbrev pub first_subtable : Platform → Format → List ℕ → Option ℕ
+first_subtable platform format table =
+    option_map (subtable_of table) (first_below (record_count table) (is_wanted platform format table))
+
+-- a subtable by its format and the place where it begins
+abbrev pub place_of : Format → ℕ → Place
+place_of format at = record { format = format; at = at }
 
 -- the first of two, where it is there
-abbrev pub or_else : Option ℕ → Option ℕ → Option ℕ
+abbrev pub or_else : {A : Type 0} → Option A → Option A → Option A
 or_else None other = other
 or_else (Some x) other = Some x
 
--- the subtable that serves: Windows' first, then Unicode's
-abbrev pub chosen_subtable : List ℕ → Option ℕ
-chosen_subtable table = or_else (first_subtable Windows table) (first_subtable Unicode table)
+-- the first subtable of a format: Windows' before Unicode's
+abbrev pub first_of : Format → List ℕ → Option Place
+first_of format table =
+    option_map (place_of format) (or_else (first_subtable Windows format table) (first_subtable Unicode format table))
 
--- no record of the platform has a subtable of format 4
-abbrev pub HasNone : Platform → List ℕ → Type 0
-HasNone platform table = (i : ℕ) → i < record_count table → is_wanted platform table i ≡ false
+-- the subtable that serves: one of format 12 before one of format 4
+abbrev pub chosen_subtable : List ℕ → Option Place
+chosen_subtable table = or_else (first_of Groups table) (first_of Segments table)
 
--- record i serves: the least of Windows, and where Windows has none, the least of Unicode
-abbrev pub Serves : List ℕ → ℕ → Type 0
-Serves table i =
-    IsLeast (is_wanted Windows table) (record_count table) i
-    ⊎ (HasNone Windows table × IsLeast (is_wanted Unicode table) (record_count table) i)
+-- no record of the platform has a subtable of the format
+abbrev pub HasNone : Platform → Format → List ℕ → Type 0
+HasNone platform format table = (i : ℕ) → i < record_count table → is_wanted platform format table i ≡ false
+
+-- record i is the first of a format: the least of Windows, and where Windows has none, the least of Unicode
+abbrev pub IsFirst : Format → List ℕ → ℕ → Type 0
+IsFirst format table i =
+    IsLeast (is_wanted Windows format table) (record_count table) i
+    ⊎ (HasNone Windows format table × IsLeast (is_wanted Unicode format table) (record_count table) i)
+
+abbrev pub HasNoFirst : Format → List ℕ → Type 0
+HasNoFirst format table = HasNone Windows format table × HasNone Unicode format table
+
+-- record i serves with a subtable of the format: of format 12, and where there is none, of format 4
+abbrev pub Serves : Format → List ℕ → ℕ → Type 0
+Serves Groups table i = IsFirst Groups table i
+Serves Segments table i = HasNoFirst Groups table × IsFirst Segments table i
 
 abbrev pub NoneServes : List ℕ → Type 0
-NoneServes table = HasNone Windows table × HasNone Unicode table
+NoneServes table = HasNoFirst Groups table × HasNoFirst Segments table
 
-pub chosen_serves : (table : List ℕ) (i : ℕ) → Serves table i → chosen_subtable table ≡ Some (subtable_of table i)
-chosen_serves table i (inl least) = rw (first_below_least (is_wanted Windows table) (record_count table) i least) refl
-chosen_serves table i (inr least) =
-    let windows = first_below_nothing (is_wanted Windows table) (record_count table) least.0 in
-    let unicode = first_below_least (is_wanted Unicode table) (record_count table) i least.1 in
+is_first_of : (format : Format) (table : List ℕ) (i : ℕ) → IsFirst format table i → first_of format table
+    ≡ Some (place_of format (subtable_of table i))
+is_first_of format table i (inl least) =
+    rw (first_below_least (is_wanted Windows format table) (record_count table) i least) refl
+is_first_of format table i (inr least) =
+    let windows = first_below_nothing (is_wanted Windows format table) (record_count table) least.0 in
+    let unicode = first_below_least (is_wanted Unicode format table) (record_count table) i least.1 in
     rw (windows, unicode) refl
+
+none_of : (format : Format) (table : List ℕ) → HasNoFirst format table → first_of format table ≡ None
+none_of format table none =
+    let windows = first_below_nothing (is_wanted Windows format table) (record_count table) none.0 in
+    let unicode = first_below_nothing (is_wanted Unicode format table) (record_count table) none.1 in
+    rw (windows, unicode) refl
+
+pub chosen_serves : (format : Format) (table : List ℕ) (i : ℕ) → Serves format table i → chosen_subtable table
+    ≡ Some (place_of format (subtable_of table i))
+chosen_serves Groups table i first = rw (is_first_of Groups table i first) refl
+chosen_serves Segments table i first = rw (none_of Groups table first.0, is_first_of Segments table i first.1) refl
 
 pub none_chosen : (table : List ℕ) → NoneServes table → chosen_subtable table ≡ None
-none_chosen table none =
-    let windows = first_below_nothing (is_wanted Windows table) (record_count table) none.0 in
-    let unicode = first_below_nothing (is_wanted Unicode table) (record_count table) none.1 in
-    rw (windows, unicode) refl
+none_chosen table none = rw (none_of Groups table none.0, none_of Segments table none.1) refl
 
--- worked values: a record of Unicode with a subtable of format 4, and one of Windows with a subtable of any format
-abbrev two_records : ℕ → List ℕ
-two_records format =
-    0 ∷ 0 ∷ 0 ∷ 2 ∷ 0 ∷ 0 ∷ 0 ∷ 3 ∷ 0 ∷ 0 ∷ 0 ∷ 20 ∷ 0 ∷ 3 ∷ 0 ∷ 1 ∷ 0 ∷ 0 ∷ 0 ∷ 22 ∷ 0 ∷ 4 ∷ 0 ∷ format ∷ []
+-- worked values: a record of Unicode with a subtable of format 4, and one of Windows, by its encoding, with a subtable
+-- of any format
+abbrev two_records : ℕ → ℕ → List ℕ
+two_records encoding format =
+    0 ∷ 0 ∷ 0 ∷ 2 ∷ 0 ∷ 0 ∷ 0 ∷ 3 ∷ 0 ∷ 0 ∷ 0 ∷ 20 ∷ 0 ∷ 3 ∷ 0 ∷ encoding ∷ 0 ∷ 0 ∷ 0 ∷ 22 ∷ 0 ∷ 4 ∷ 0 ∷ format ∷ []
 
-windows_before_unicode : chosen_subtable (two_records 4) ≡ Some 22
+windows_before_unicode : chosen_subtable (two_records 1 4) ≡ Some (place_of Segments 22)
 windows_before_unicode = refl
 
-another_format : chosen_subtable (two_records 6) ≡ Some 20
+another_format : chosen_subtable (two_records 1 6) ≡ Some (place_of Segments 20)
 another_format = refl
+
+groups_before_segments : chosen_subtable (two_records 10 12) ≡ Some (place_of Groups 22)
+groups_before_segments = refl
+
+groups_of_another_encoding : chosen_subtable (two_records 1 12) ≡ Some (place_of Segments 20)
+groups_of_another_encoding = refl

@@ -1,9 +1,11 @@
 //! From a character to its glyph. OpenType, "cmap: Character to Glyph Index Mapping Table".
 #![tactic(auto)]
 
+mod format12;
 mod format4;
 pub mod laws;
 mod lookup;
-mod subtable;
+mod ranges;
+mod records;
 
 pub use lookup::Cmap;

@@ -4,53 +4,50 @@ ghost use Rattle.std.specs.Prelude.{◌≡◌, ◌<◌, ◌≤◌, ℕ, length, 
 ghost use Rattle.tt_core.specs.Limits.{font_limit};
 ghost use Rattle.tt_core.specs.Directory.{HasNo};
 ghost use Rattle.tt_core.specs.Outcomes.{Gives};
-ghost use Rattle.tt_cmap.specs.Lookup.{lookup_of, lookup_by, by_subtable, glyph_of, FollowsSegments};
-ghost use Rattle.tt_cmap.specs.Subtables.{subtable_of, Serves, NoneServes};
+ghost use Rattle.tt_cmap.specs.declared.records.Format.{Format};
+ghost use Rattle.tt_cmap.specs.Lookup.{lookup_of, lookup_by, by_subtable, glyph_of, FollowsRanges};
+ghost use Rattle.tt_cmap.specs.Ranges.{table_of, IfSegments};
+ghost use Rattle.tt_cmap.specs.Subtables.{subtable_of, place_of, Serves, NoneServes};
 ghost use Rattle.tt_cmap.specs.Defects.{IsBadCmap, IsBadChoice};
 
-use crate::format4::{glyph, segments};
-use crate::subtable::{CMAP, chosen, record_count};
+use crate::ranges::Subtable;
+use crate::records::{CMAP, Place, chosen, record_count};
 use std::marker::Model;
 use tt_core::{Fault, Why};
 
-/// A character map. A clause sees it as the table's bytes, the place of the subtable that serves, and the
-/// number of glyphs.
+/// A character map. A clause sees it as the subtable that serves and the number of glyphs.
 #[derive(Drop)]
 pub struct Cmap<'a> {
-    table: &'a [u8],
-    at: usize,
-    segments: usize,
+    subtable: Subtable<'a>,
     glyphs: u16,
 }
 
 impl<'a> Model for Cmap<'a> {
-    ghost use Rattle.std.specs.Prelude.{◌≡◌, ◌+◌, ◌*◌, ◌<◌, ◌≤◌, length};
-    ghost use Rattle.tt_core.specs.Limits.{font_limit};
-    ghost use Rattle.tt_cmap.specs.Format4.{segment_bytes, segment_count};
+    ghost use Rattle.std.specs.Prelude.{◌≡◌, ◌<◌, None};
     ghost use Rattle.tt_cmap.specs.Lookup.{Lookup};
+    ghost use Rattle.tt_cmap.specs.Ranges.{falling_range, subtable_view};
 
     ghost Value = { Lookup };
 
-    ghost view = { λ c. record { table = c.table.now; at = c.at; glyphs = c.glyphs } };
+    ghost view = { λ c. record { subtable = subtable_view c.subtable; glyphs = c.glyphs } };
 
-    ghost invariant = { λ c. (c.segments ≡ segment_count c.table.now c.at)
-        × (2 * c.segments ≡ segment_bytes c.table.now c.at) × (c.at + 16 + 8 * c.segments ≤ length c.table.now)
-        × (length c.table.now ≤ font_limit) × (0 < c.glyphs) };
+    ghost invariant = { λ c. (falling_range (subtable_view c.subtable) ≡ None) × (0 < c.glyphs) };
 }
 
 impl<'a> Cmap<'a> {
-    /// Chooses the first record of platform 3 and encoding 1 with a subtable of format 4, else the
-    /// first of platform 0 with one (profile). Errors: CmapShape, NoCmap.
+    /// Chooses the first record of platform 3 and encoding 10 with a subtable of format 12, else the first of
+    /// platform 0 with one; else the first of platform 3 and encoding 1 with a subtable of format 4, else the first of
+    /// platform 0 with one (profile). Errors: CmapShape, NoCmap.
     #[tactic(auto, unfolding(crate::specs::Lookup::lookup_of))]
     pub fn open(table: &'a [u8], glyphs: u16) -> Result<Cmap<'a>, Fault>
         requires size { length table.now ≤ font_limit }
         requires glyphs { 0 < glyphs }
         ensures exact { Gives (λ c. c) result (lookup_of table.now glyphs) }
         // The record that serves names the subtable.
-        ensures first { (i : ℕ) → Serves table.now i
-            → Gives (λ c. c) result (lookup_by table.now glyphs (Some (subtable_of table.now i))) }
+        ensures first { (format : Format) (i : ℕ) → Serves format table.now i
+            → Gives (λ c. c) result (lookup_by table.now glyphs (Some (place_of format (subtable_of table.now i)))) }
         ensures absent { NoneServes table.now → Gives (λ c. c) result (lookup_by table.now glyphs None) }
-        ensures whole { IfOk result (λ c. c.table ≡ table.now) }
+        ensures whole { IfOk result (λ c. table_of c.subtable ≡ table.now) }
         ensures glyphs { IfOk result (λ c. c.glyphs ≡ glyphs) }
         ensures sound { OnOk result (HasNo (IsBadCmap table.now)) }
         ensures fault { IfErr result (IsBadCmap table.now) }
@@ -60,23 +57,20 @@ impl<'a> Cmap<'a> {
     }
 
     /// The map by the subtable that begins at a place. Errors: NoCmap, CmapShape.
-    fn by_subtable(table: &'a [u8], glyphs: u16, place: Option<usize>) -> Result<Cmap<'a>, Fault>
+    fn by_subtable(table: &'a [u8], glyphs: u16, place: Option<Place>) -> Result<Cmap<'a>, Fault>
         requires size { length table.now ≤ font_limit }
-        requires within { IfSome place (λ at. at ≤ length table.now) }
+        requires within { IfSome place (λ p. p.at ≤ length table.now) }
         requires glyphs { 0 < glyphs }
         ensures exact { Gives (λ c. c) result (by_subtable table.now glyphs place) }
-        ensures whole { IfOk result (λ c. c.table ≡ table.now) }
+        ensures whole { IfOk result (λ c. table_of c.subtable ≡ table.now) }
         ensures glyphs { IfOk result (λ c. c.glyphs ≡ glyphs) }
         ensures fault { IfErr result (IsBadChoice table.now place) }
     {
-        let Some(at) = place else {
+        let Some(place) = place else {
             return Err(Fault::new(CMAP, 0, Why::NoCmap));
         };
-        let segments = segments(table, at)?;
         Ok(Cmap {
-            table,
-            at,
-            segments,
+            subtable: Subtable::open(table, place)?,
             glyphs,
         })
     }
@@ -84,11 +78,11 @@ impl<'a> Cmap<'a> {
     /// The glyph of a character: 0 where the map has none, or one that the font lacks (profile).
     pub fn glyph(&self, c: char) -> u16
         ensures meaning { result ≡ glyph_of self.now c }
-        ensures segments { FollowsSegments self.now c result }
+        ensures ranges { FollowsRanges self.now c result }
         // Segments end at U+FFFF.
-        ensures beyond { 0xFFFF < c → result ≡ 0 }
+        ensures beyond { IfSegments self.now.subtable (0xFFFF < c → result ≡ 0) }
         ensures below { result < self.now.glyphs }
     {
-        glyph(self.table, self.at, self.segments, self.glyphs, c as usize)
+        self.subtable.glyph(self.glyphs, c as usize)
     }
 }

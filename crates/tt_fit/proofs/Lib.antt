@@ -1,4 +1,5 @@
 pub mod Contours
+pub mod Falling
 pub mod Finishing
 pub mod Levels
 pub mod Lists

@@ -12,7 +12,7 @@ use Rattle.tt_glyf.specs.Loca.{glyph_offset}
 use Rattle.tt_glyf.specs.Raw.{GlyphData, empty, simple, composite}
 use Rattle.tt_glyf.proofs.Defects.{glyph-broke, glyph-whole}
 use Rattle.tt_fit.specs.Defects.{IsStartDefect, IsPlacingDefect, assembled_before, IsRecordsDefect, IsFinishingDefect, IsMakingDefect, IsDefectBy, IsBadComponent, IsOutlineDefect}
-use Rattle.tt_fit.specs.Fitting.{Setting, size_of, start, joined, glyph_program, made, outline_by, added, fitted_outline}
+use Rattle.tt_fit.specs.Fitting.{Setting, size_of, start, joined, glyph_program, made, outline_by, added, glyph_setting, fitted_outline}
 use Rattle.tt_fit.specs.Laws.{OutlinesAreWhole, OutlineFaultsStand}
 use Rattle.tt_fit.specs.Outline.{Shape}
 use Rattle.tt_fit.specs.Programs.{finished}
@@ -215,10 +215,12 @@ component-whole s (suc levels) = λ r o next f was bad.
 pub faults-stand : OutlineFaultsStand
 unfolding fitted_outline IsOutlineDefect
 faults-stand s g f was =
-    outline-broke s (added s level_limit) (IsBadComponent s level_limit) (component-broke s level_limit) g f was
+    let t = glyph_setting s g in
+    outline-broke t (added t level_limit) (IsBadComponent t level_limit) (component-broke t level_limit) g f was
 
 pub outlines-whole : OutlinesAreWhole
 unfolding fitted_outline IsOutlineDefect
 outlines-whole s g o was = λ f bad.
-    outline-whole s (added s level_limit) (IsBadComponent s level_limit) (component-whole s level_limit) g o f
+    let t = glyph_setting s g in
+    outline-whole t (added t level_limit) (IsBadComponent t level_limit) (component-whole t level_limit) g o f
     was bad

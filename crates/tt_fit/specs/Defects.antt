@@ -16,7 +16,7 @@ use Rattle.tt_glyf.specs.Loca.{glyph_offset}
 use Rattle.tt_glyf.specs.Raw.{GlyphData, empty, simple, composite}
 use Rattle.tt_exec.specs.Parts.{Parts}
 use Rattle.tt_fit.specs.Components.{shift_of, landed}
-use Rattle.tt_fit.specs.Fitting.{Setting, size_of, start, glyph_program, joined, added, outline_at}
+use Rattle.tt_fit.specs.Fitting.{Setting, size_of, start, glyph_program, joined, added, outline_at, glyph_setting}
 use Rattle.tt_fit.specs.GlyphZone.{GlyphProgram, program_in_glyf, on_grid, on_grid_at, parts_with}
 use Rattle.tt_fit.specs.Outline.{PhantomPoints, Shape}
 use Rattle.tt_fit.specs.Programs.{Hints, unhinted, hinted, is_run, run_of}
@@ -132,5 +132,9 @@ IsBadComponent s (suc levels) r before fault =
     IsPlacingDefect (size_of s) r component o fault))
 
 -- a defect of a glyph, or of a component that is reached from it
+abbrev pub IsDefectAt : Setting → ℕ → ℕ → Fault → Type 0
+IsDefectAt s levels g fault = IsDefectBy s (added s levels) (IsBadComponent s levels) g fault
+
+-- one of a character's glyph, as it is made: where programs are given up for it, a defect that stands without them
 unfoldable pub IsOutlineDefect : Setting → ℕ → Fault → Type 0
-IsOutlineDefect s g fault = IsDefectBy s (added s level_limit) (IsBadComponent s level_limit) g fault
+IsOutlineDefect s g fault = IsDefectAt (glyph_setting s g) level_limit g fault

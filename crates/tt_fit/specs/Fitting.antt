@@ -1,6 +1,6 @@
 -- OpenType, "The 'glyf' table": the outline of a glyph at a size, its components made first, one record after the
 -- other.
-use Rattle.std.specs.Prelude.{◌≡◌, ℕ, zero, suc, ◌≤◌, true, ℤ, pos, neg_ℤ, ◌+ℤ◌, codes, List, [], ◌∷◌, Result, Ok, Err, refl}
+use Rattle.std.specs.Prelude.{◌≡◌, ℕ, zero, suc, ◌≤◌, true, ℤ, pos, neg_ℤ, ◌+ℤ◌, codes, List, [], ◌∷◌, Option, Result, Ok, Err, refl}
 use Rattle.tt_core.specs.Faults.{Fault}
 use Rattle.tt_core.specs.declared.fault.Why.TheVariants as why
 use Rattle.tt_core.specs.Faults.{fault_at}
@@ -19,17 +19,20 @@ use Rattle.tt_metrics.specs.declared.head.LocaFormat.TheVariants.{Short}
 use Rattle.tt_glyf.specs.Raw.{GlyphData, empty, simple, composite}
 use Rattle.tt_metrics.specs.Metrics.{Fields, units_per_em_of, loca_format_of, glyphs_of}
 use Rattle.tt_fit.specs.Components.{placed, behind, shift_of, within_point_limit}
+use Rattle.tt_fit.specs.Fallback.{Fallback, never, unfitted_by, hints_kept}
 use Rattle.tt_fit.specs.Outline.{PhantomPoints, Shape}
 use Rattle.tt_fit.specs.GlyphZone.{GlyphProgram}
 use Rattle.tt_fit.specs.Programs.{Hints, unhinted, AreHints, finished}
 use Rattle.tt_fit.specs.Scaling.{Size, glyf_fault, phantom_points, blank, scaled_outline, settled}
 
--- what outlines are made from: the glyph data and the metrics of a font, the pixels per em, and what its programs leave
+-- what outlines are made from: the glyph data and the metrics of a font, the pixels per em, what its programs leave,
+-- and for which glyphs that is given up
 pub record Setting : Type 0 where
   pub tables : GlyphTables
   pub metrics : Fields
   pub ppem : ℕ
   pub hints : Hints
+  pub fallback : Fallback
 
 -- the glyph data is that of the metrics, the size is one that is supported, and what the programs leave is what they
 -- can leave
@@ -40,9 +43,9 @@ pub record IsSetting (s : Setting) : Type 0 where
   pub high : s.ppem ≤ size_limit
   pub hints : AreHints s.hints
 
--- the same, but for what the programs leave
+-- the same, but for what the programs leave, which is given up for no glyph
 abbrev pub hinted_by : Setting → Hints → Setting
-hinted_by s hints = record s { hints = hints }
+hinted_by s hints = record s { hints = hints; fallback = never }
 
 abbrev pub size_of : Setting → Size
 size_of s = record { ppem = s.ppem; units_per_em = units_per_em_of s.metrics }
@@ -83,9 +86,17 @@ added s (suc levels) r o = outline_by s (added s levels) r.glyph >>= λ componen
 abbrev pub outline_at : Setting → ℕ → ℕ → Result Shape Fault
 outline_at s levels g = outline_by s (added s levels) g
 
+-- the fault for which a character's glyph is made with its scaled points, its components too
+unfoldable pub unfitted_fault : Setting → ℕ → Option Fault
+unfitted_fault s g = unfitted_by s.fallback (outline_at (hinted_by s s.hints) level_limit g)
+
+-- what a character's glyph is made from
+abbrev pub glyph_setting : Setting → ℕ → Setting
+glyph_setting s g = hinted_by s (hints_kept (unfitted_fault s g) s.hints)
+
 -- the outline of a character's glyph, or the fault that comes first
 unfoldable pub fitted_outline : Setting → ℕ → Result Shape Fault
-fitted_outline s g = outline_at s level_limit g
+fitted_outline s g = outline_at (glyph_setting s g) level_limit g
 
 -- worked values: three glyphs at 16 pixels, 256 units in an em, each 256 wide; the bearing of glyph 1 alone is 64
 abbrev its_metrics : Fields
@@ -109,6 +120,7 @@ its_setting third = record {
   metrics = its_metrics;
   ppem = 16;
   hints = unhinted;
+  fallback = never;
 }
 
 abbrev its_phantom_points : ℤ → PhantomPoints
@@ -117,7 +129,7 @@ its_phantom_points left =
 
 empty_is_blank : fitted_outline (its_setting []) 0 ≡ Ok
     (record { points = []; ends = []; phantom = its_phantom_points (pos 0) })
-unfolding fitted_outline glyph_data_of blank
+unfolding fitted_outline unfitted_fault glyph_data_of blank
 empty_is_blank = refl
 
 square_is_scaled : fitted_outline (its_setting []) 1 ≡ Ok (record {
@@ -125,7 +137,7 @@ square_is_scaled : fitted_outline (its_setting []) 1 ≡ Ok (record {
   ends = 4 ∷ [];
   phantom = its_phantom_points (pos 0);
 })
-unfolding fitted_outline glyph_data_of glyph_bytes_of header_of described simple_of ends_from end_at points_within
+unfolding fitted_outline unfitted_fault glyph_data_of glyph_bytes_of header_of described simple_of ends_from end_at points_within
     points_of flags_from run_at coordinates_from coordinate_at within_words delta_at byte_in word_in signed_in slice_in
     blank scaled_outline settled
 square_is_scaled = refl
@@ -140,7 +152,7 @@ squares_are_joined : fitted_outline (its_setting two_squares) 2 ≡ Ok (record {
   ends = 4 ∷ 8 ∷ [];
   phantom = its_phantom_points (pos 0);
 })
-unfolding fitted_outline added placed behind shift_of within_point_limit glyph_data_of glyph_bytes_of header_of described
+unfolding fitted_outline unfitted_fault added placed behind shift_of within_point_limit glyph_data_of glyph_bytes_of header_of described
     composite_of records_from record_at known_glyph arguments_at argument_at transform_at unscaled program_of simple_of
     ends_from end_at points_within points_of flags_from run_at coordinates_from coordinate_at within_words delta_at
     byte_in word_in signed_in slice_in blank scaled_outline settled
@@ -151,6 +163,6 @@ abbrev itself : List ℕ
 itself = 255 ∷ 255 ∷ 0 ∷ 64 ∷ 0 ∷ 0 ∷ 1 ∷ 0 ∷ 0 ∷ 128 ∷ 0 ∷ 2 ∷ 0 ∷ 2 ∷ 0 ∷ 0 ∷ []
 
 itself_is_too_deep : fitted_outline (its_setting itself) 2 ≡ Err (fault_at (codes "glyf") 32 why.ComponentDepth)
-unfolding fitted_outline added glyph_data_of glyph_bytes_of header_of described composite_of records_from record_at
+unfolding fitted_outline unfitted_fault added glyph_data_of glyph_bytes_of header_of described composite_of records_from record_at
     known_glyph arguments_at argument_at transform_at unscaled program_of byte_in word_in signed_in slice_in blank
 itself_is_too_deep = refl

@@ -1,10 +1,12 @@
 pub mod Components
 pub mod Defects
+pub mod Fallback
 pub mod Fitting
 pub mod GlyphZone
 pub mod Laws
 pub mod Outline
 pub mod Preparation
 pub mod Programs
+pub mod Refusals
 pub mod Scaling
 pub mod Views

@@ -1,7 +1,7 @@
 -- Apple TrueType Reference Manual, "Instructing TrueType Glyphs": what the font program and the control value program
 -- leave before the first glyph. Without programs they are not looked at. That a control value program begins with
 -- nothing of the font program but its functions, and what is kept of it, is this project's own choice (profile).
-use Rattle.std.specs.Prelude.{◌≡◌, ℕ, ◌*◌, ◌/◌, true, false, if◌then◌else◌, ℤ, pos, negsuc, List, [], ◌∷◌, length, map, replicate, codes, Result, Ok, refl}
+use Rattle.std.specs.Prelude.{◌≡◌, ℕ, ◌*◌, ◌/◌, true, false, if◌then◌else◌, ℤ, pos, negsuc, List, [], ◌∷◌, length, map, replicate, codes, Result, Ok, Err, refl}
 use Rattle.std.specs.List.{range_with_len}
 use Rattle.tt_core.specs.Faults.{Fault}
 use Rattle.tt_core.specs.Numbers.{unsigned_at, signed16}
@@ -16,6 +16,7 @@ use Rattle.tt_state.specs.GraphicsState.{default_state}
 use Rattle.tt_fit.specs.declared.programs.Fit.{Fit}
 use Rattle.tt_fit.specs.declared.programs.Fit.TheVariants as fit
 use Rattle.tt_fit.specs.declared.programs.Programs as declared
+use Rattle.tt_fit.specs.Fallback.{Fallback, never, where_refused, everywhere}
 use Rattle.tt_fit.specs.Fitting.{Setting}
 use Rattle.tt_fit.specs.GlyphZone.{untouched}
 use Rattle.tt_fit.specs.Programs.{Hints, unhinted, hinted, run_of}
@@ -93,15 +94,32 @@ hinted_by_programs parts programs = run_of (font_program programs.fpgm) parts >>
     run_of (control_value_program programs.prep) (with_functions parts font) >>= λ left. Ok
     (hinted (left_to_glyphs left))
 
-unfoldable pub prepared : Fields → ProgramTables → ℕ → Fit → Result Hints Fault
-prepared m programs ppem fit.None = Ok unhinted
-prepared m programs ppem fit.Full = hinted_by_programs (begun_parts m programs.cvt ppem) programs
+-- what the glyphs get, and for which of them it is given up
+pub record GlyphHints : Type 0 where
+  pub hints : Hints
+  pub fallback : Fallback
+
+abbrev pub never_given_up : Hints → GlyphHints
+never_given_up hints = record { hints = hints; fallback = never }
+
+-- a fault of the two programs is kept, and gives them up for every glyph
+abbrev pub or_kept : Result Hints Fault → GlyphHints
+or_kept (Ok hints) = record { hints = hints; fallback = where_refused }
+or_kept (Err fault) = record { hints = unhinted; fallback = everywhere fault }
+
+abbrev pub prepared_by : Fit → Result Hints Fault → Result GlyphHints Fault
+prepared_by fit.None by_programs = Ok (never_given_up unhinted)
+prepared_by fit.Full by_programs = by_programs >>= λ hints. Ok (never_given_up hints)
+prepared_by fit.Fallback by_programs = Ok (or_kept by_programs)
+
+unfoldable pub prepared : Fields → ProgramTables → ℕ → Fit → Result GlyphHints Fault
+prepared m programs ppem fit = prepared_by fit (hinted_by_programs (begun_parts m programs.cvt ppem) programs)
 
 -- what the outlines of a font at a size are made from
 unfoldable pub setting_of : Fields → GlyphTables → ProgramTables → ℕ → Fit → Result Setting Fault
 setting_of m tables programs ppem fit = do
-  hints ← prepared m programs ppem fit
-  Ok (record { tables = tables; metrics = m; ppem = ppem; hints = hints })
+  p ← prepared m programs ppem fit
+  Ok (record { tables = tables; metrics = m; ppem = ppem; hints = p.hints; fallback = p.fallback })
 
 -- worked value: 1024 units in an em, at 16 pixels, a control value of 100 and one of -1, and half of a third
 two_control_values : control_values (record { ppem = 16; units_per_em = 1024 }) (0 ∷ 100 ∷ 255 ∷ 255 ∷ 9 ∷ [])

@@ -5,11 +5,16 @@ use Rattle.tt_fit.specs.declared.places.Position as position
 use Rattle.tt_fit.specs.declared.places.Shift as shift
 use Rattle.tt_fit.specs.declared.hints.Hints as hints
 use Rattle.tt_fit.specs.declared.hints.Hints.TheVariants as hinting
+use Rattle.tt_fit.specs.declared.fallback.Fallback as fallback
+use Rattle.tt_fit.specs.declared.fallback.Fallback.TheVariants as falling
+use Rattle.tt_fit.specs.declared.preparation.GlyphHints as glyph_hints
 use Rattle.tt_fit.specs.declared.glyph_zone.Program as program
 use Rattle.tt_fit.specs.declared.scaling.Landing as landing
 use Rattle.tt_fit.specs.declared.scaling.Phantom as phantom
 use Rattle.tt_fit.specs.declared.size.Size as size
+use Rattle.tt_fit.specs.Fallback.{Fallback, never, where_refused, everywhere}
 use Rattle.tt_fit.specs.Outline.{PhantomPoints}
+use Rattle.tt_fit.specs.Preparation.{GlyphHints}
 use Rattle.tt_fit.specs.GlyphZone.{GlyphProgram}
 use Rattle.tt_fit.specs.Programs.{Hints, unhinted, hinted}
 use Rattle.tt_fit.specs.Scaling.{Size}
@@ -36,3 +41,11 @@ program_view p = record { code = p.code.now; code_at = p.code_at; glyph_at = p.g
 abbrev pub hints_of : hints.Hints → Hints
 hints_of hinting.Off = unhinted
 hints_of (hinting.Left parts) = hinted (parts_of parts)
+
+abbrev pub fallback_of : fallback.Fallback → Fallback
+fallback_of falling.Never = never
+fallback_of falling.WhereRefused = where_refused
+fallback_of (falling.Everywhere fault) = everywhere fault
+
+abbrev pub glyph_hints_view : glyph_hints.GlyphHints → GlyphHints
+glyph_hints_view p = record { hints = hints_of p.hints; fallback = fallback_of p.fallback }

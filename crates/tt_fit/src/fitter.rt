@@ -2,24 +2,26 @@
 
 ghost use Rattle.std.specs.Prelude.{◌≡◌, ◌+◌, ◌<◌, ◌≤◌, ◌^◌, IsTrue, IfOk, IfErr, OnOk, length, All};
 ghost use Rattle.tt_core.specs.Directory.{HasNo};
-ghost use Rattle.tt_core.specs.Limits.{font_limit, point_limit, size_limit};
+ghost use Rattle.tt_core.specs.Limits.{font_limit, level_limit, point_limit, size_limit};
 ghost use Rattle.tt_core.specs.Outcomes.{FontGives, Gives, IfTold, font_fault};
 ghost use Rattle.tt_glyf.specs.Loca.{glyph_offset};
 ghost use Rattle.tt_glyf.specs.Meaning.{AreEnds as EndContours, HasArguments};
 ghost use Rattle.tt_metrics.specs.Metrics.{loca_format_of, glyphs_of};
 ghost use Rattle.tt_fit.specs.Components.{placed};
 ghost use Rattle.tt_fit.specs.Defects.{IsOutlineDefect};
-ghost use Rattle.tt_fit.specs.Fitting.{IsSetting, hinted_by, size_of, start, glyph_program, simple_outline, joined, added, outline_at, fitted_outline};
+ghost use Rattle.tt_fit.specs.Fallback.{never, where_refused};
+ghost use Rattle.tt_fit.specs.Fitting.{IsSetting, hinted_by, size_of, start, glyph_program, simple_outline, joined, added, outline_at, unfitted_fault, fitted_outline};
 ghost use Rattle.tt_fit.specs.Outline.{outline_of, phantom_of, IsPoint, ArePhantom, AreEnds, IsOutline};
 ghost use Rattle.tt_fit.specs.Preparation.{program_tables, setting_of};
 ghost use Rattle.tt_fit.specs.Programs.{AreHints};
 ghost use Rattle.tt_fit.specs.Views.{hints_of, size_view, program_view};
 
+use crate::fallback::{Fallback, is_program_fault, told};
 use crate::glyph_zone::Program;
 use crate::hints::{Hints, finished};
 use crate::joining::placed;
 use crate::outline::Outline;
-use crate::preparation::prepared;
+use crate::preparation::{GlyphHints, prepared};
 use crate::programs::{Fit, Programs};
 use crate::scaling::{blank, glyf_fault, phantom_points, scaled_outline};
 use crate::size::Size;
@@ -30,7 +32,7 @@ use tt_glyf::{Glyf, Raw, RawPoint, Record};
 use tt_metrics::Metrics;
 
 /// Makes the outlines of a font at a size. A clause sees it as the glyph data, the metrics, the size,
-/// and what the font's programs left.
+/// what the font's programs left, and for which glyphs that is given up.
 #[derive(Drop)]
 pub struct Fitter<'a> {
     alloc: Global,
@@ -38,23 +40,24 @@ pub struct Fitter<'a> {
     glyf: Glyf<'a>,
     ppem: u32,
     hints: Hints<'a>,
+    fallback: Fallback,
 }
 
 impl<'a> Model for Fitter<'a> {
     ghost use Rattle.tt_fit.specs.Fitting.{Setting, IsSetting};
-    ghost use Rattle.tt_fit.specs.Views.{hints_of};
+    ghost use Rattle.tt_fit.specs.Views.{hints_of, fallback_of};
 
     ghost Value = { Setting };
 
-    ghost view = { λ f. record { tables = f.glyf; metrics = f.metrics; ppem = f.ppem; hints = hints_of f.hints } };
+    ghost view = { λ f. record { tables = f.glyf; metrics = f.metrics; ppem = f.ppem; hints = hints_of f.hints; fallback = fallback_of f.fallback } };
 
-    ghost invariant = { λ f. IsSetting (record { tables = f.glyf; metrics = f.metrics; ppem = f.ppem; hints = hints_of f.hints }) };
+    ghost invariant = { λ f. IsSetting (record { tables = f.glyf; metrics = f.metrics; ppem = f.ppem; hints = hints_of f.hints; fallback = fallback_of f.fallback }) };
 }
 
 impl<'a> Fitter<'a> {
     /// Takes the metrics and the glyph data of a font, and its programs. With `Fit::Full` the font program and the
     /// control value program are run at this size, in pixels per em; with `Fit::None` they are not looked at. Errors:
-    /// those of the two programs, Memory.
+    /// those of the two programs, Memory. With `Fit::Fallback` a fault of the two is kept, and no glyph is fitted.
     #[tactic(auto, unfolding(crate::specs::Preparation::setting_of))]
     pub fn new(
         alloc: Global,
@@ -76,22 +79,25 @@ impl<'a> Fitter<'a> {
         ensures metrics { IfOk result (λ f. f.metrics ≡ metrics.now) }
         ensures ppem { IfOk result (λ f. f.ppem ≡ ppem) }
     {
-        let hints = prepared(alloc, metrics, programs, Size::of(metrics, ppem), fit)?;
+        let size = Size::of(metrics, ppem);
+        let GlyphHints { hints, fallback } = prepared(alloc, metrics, programs, size, fit)?;
         Ok(Fitter {
             alloc,
             metrics: metrics.copy(),
             glyf,
             ppem,
             hints,
+            fallback,
         })
     }
 
     /// The outline of a glyph, in 26.6 pixels. Errors: those of reading a glyph, CoordRange, ComponentDepth,
-    /// MatchPoint, PointLimit, those of the programs of the glyph and its components, Memory.
-    #[tactic(auto, unfolding(crate::specs::Fitting::fitted_outline))]
+    /// MatchPoint, PointLimit, those of the programs of the glyph and its components, Memory. With `Fit::Fallback` a
+    /// program's fault is told with the outline, which then is made with its scaled points, components included.
     pub fn fitted(&self, g: u16) -> Result<Outline, FontFault>
         requires { g < self.now.tables.glyphs }
         ensures exact { FontGives outline_of result (fitted_outline self.now g) }
+        ensures unfitted { IfOk result (λ o. o.unfitted ≡ unfitted_fault self.now g) }
         // On Ok nothing is wrong with the glyph or with a component of it, and a fault tells what is.
         ensures sound { OnOk result (HasNo (IsOutlineDefect self.now g)) }
         ensures fault { IfTold font_fault result (IsOutlineDefect self.now g) }
@@ -101,7 +107,71 @@ impl<'a> Fitter<'a> {
         ensures ends { IfOk result (λ o. AreEnds (length o.points.items) o.ends.items) }
         ensures outline { IfOk result (λ o. IsOutline (outline_of o)) }
     {
-        self.outline(&self.hints, LEVEL_LIMIT, g)
+        self.made_by_fallback(g)
+    }
+
+    /// The outline of a glyph, with the fault of a program for which it is made without.
+    #[tactic(auto, unfolding(crate::specs::Fitting::fitted_outline, crate::specs::Fitting::unfitted_fault))]
+    fn made_by_fallback(&self, g: u16) -> Result<Outline, FontFault>
+        requires { g < self.now.tables.glyphs }
+        ensures exact { FontGives outline_of result (fitted_outline self.now g) }
+        ensures unfitted { IfOk result (λ o. o.unfitted ≡ unfitted_fault self.now g) }
+        ensures sound { IfOk result (λ o. IsOutline (outline_of o)) }
+    {
+        match self.fallback {
+            Fallback::Never => self.made(&self.hints, g, None),
+            Fallback::WhereRefused => self.made_or_unfitted(g),
+            Fallback::Everywhere(fault) => self.made(&Hints::Off, g, Some(fault)),
+        }
+    }
+
+    /// The outline of a glyph with its program, or, where one is refused, without.
+    #[tactic(auto, unfolding(crate::specs::Fitting::fitted_outline, crate::specs::Fitting::unfitted_fault))]
+    fn made_or_unfitted(&self, g: u16) -> Result<Outline, FontFault>
+        requires known { g < self.now.tables.glyphs }
+        requires fallback { self.now.fallback ≡ where_refused }
+        ensures exact { FontGives outline_of result (fitted_outline self.now g) }
+        ensures unfitted { IfOk result (λ o. o.unfitted ≡ unfitted_fault self.now g) }
+        ensures sound { IfOk result (λ o. IsOutline (outline_of o)) }
+    {
+        match self.made(&self.hints, g, None) {
+            Ok(outline) => Ok(outline),
+            Err(refusal) => match told(refusal) {
+                Some(fault) => self.refused(g, fault),
+                None => Err(FontFault::Memory),
+            },
+        }
+    }
+
+    /// The outline of a glyph that has this fault with its program.
+    #[tactic(auto, unfolding(crate::specs::Fitting::fitted_outline, crate::specs::Fitting::unfitted_fault))]
+    fn refused(&self, g: u16, fault: Fault) -> Result<Outline, FontFault>
+        requires known { g < self.now.tables.glyphs }
+        requires fallback { self.now.fallback ≡ where_refused }
+        requires fault { outline_at (hinted_by self.now self.now.hints) level_limit g ≡ Err fault }
+        ensures exact { FontGives outline_of result (fitted_outline self.now g) }
+        ensures unfitted { IfOk result (λ o. o.unfitted ≡ unfitted_fault self.now g) }
+        ensures sound { IfOk result (λ o. IsOutline (outline_of o)) }
+    {
+        if !is_program_fault(fault) {
+            return Err(FontFault::Font(fault));
+        }
+        self.made(&Hints::Off, g, Some(fault))
+    }
+
+    /// The outline of a glyph by what the programs leave, with the fault for which they are given up.
+    fn made(&self, hints: &Hints<'a>, g: u16, unfitted: Option<Fault>) -> Result<Outline, FontFault>
+        requires hints { AreHints (hints_of hints.now) }
+        requires known { g < self.now.tables.glyphs }
+        ensures exact { FontGives outline_of result (outline_at (hinted_by self.now (hints_of hints.now)) level_limit g) }
+        ensures unfitted { IfOk result (λ o. o.unfitted ≡ unfitted) }
+        ensures sound { IfOk result (λ o. IsOutline (outline_of o)) }
+    {
+        let outline = self.outline(hints, LEVEL_LIMIT, g)?;
+        Ok(Outline {
+            unfitted,
+            ..outline
+        })
     }
 
     fn size(&self) -> Size

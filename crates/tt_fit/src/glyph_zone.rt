@@ -214,5 +214,6 @@ pub(crate) fn left_outline(
         points,
         ends: outline.ends,
         phantom: seen_phantom(phantom),
+        unfitted: None,
     })
 }

@@ -66,6 +66,7 @@ fn behind(
         mut points,
         mut ends,
         phantom,
+        ..
     } = so_far;
     let before = points.len();
     push_placed(&mut points, part, by, &component.points)?;
@@ -82,6 +83,7 @@ fn behind(
         points,
         ends,
         phantom,
+        unfitted: None,
     })
 }
 

@@ -2,6 +2,7 @@
 #![tactic(auto)]
 
 mod component;
+mod fallback;
 mod fitter;
 mod glyph_zone;
 mod hints;

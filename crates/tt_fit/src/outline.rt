@@ -1,5 +1,7 @@
 //! The outline of a glyph at a size.
 
+use tt_core::Fault;
+
 /// An outline, in 26.6 pixels.
 #[derive(Drop)]
 pub struct Outline {
@@ -9,4 +11,6 @@ pub struct Outline {
     pub ends: Vec<u32>,
     /// The left and right ends of the advance, the ascent and the descent.
     pub phantom: [(i32, i32); 4],
+    /// With `Fit::Fallback`, the fault of a program for which the points are scaled only.
+    pub unfitted: Option<Fault>,
 }

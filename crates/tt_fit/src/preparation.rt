@@ -7,14 +7,16 @@ ghost use Rattle.tt_core.specs.Limits.{font_limit};
 ghost use Rattle.tt_core.specs.Outcomes.{FontGives};
 ghost use Rattle.tt_exec.specs.Parts.{parts_of};
 ghost use Rattle.tt_exec.specs.Views.{program_of};
-ghost use Rattle.tt_fit.specs.Preparation.{program_tables, control_value, control_values, origin, begun_parts, left_to_glyphs, pointers_set_back, hinted_by_programs, prepared};
+ghost use Rattle.tt_fit.specs.Preparation.{program_tables, control_value, control_values, origin, begun_parts, left_to_glyphs, pointers_set_back, hinted_by_programs, never_given_up, prepared_by, prepared};
 ghost use Rattle.tt_fit.specs.Programs.{AreHints, AreParts};
 ghost use Rattle.tt_fit.specs.Scaling.{scale};
-ghost use Rattle.tt_fit.specs.Views.{hints_of, size_view};
+ghost use Rattle.tt_fit.specs.declared.programs.Fit.TheVariants as fit;
+ghost use Rattle.tt_fit.specs.Views.{hints_of, glyph_hints_view, size_view};
 ghost use Rattle.tt_metrics.specs.Metrics.{units_per_em_of};
 ghost use Rattle.tt_points_zones.specs.Zones.{zones_view, IsZones};
 ghost use Rattle.tt_state.specs.GraphicsState.{IsGraphicsState};
 
+use crate::fallback::{Fallback, told};
 use crate::glyph_zone::untouched;
 use crate::hints::{Hints, run};
 use crate::programs::{Fit, Programs};
@@ -26,6 +28,13 @@ use tt_exec::{Code, Parts};
 use tt_metrics::Metrics;
 use tt_points_zones::Zones;
 use tt_state::GraphicsState;
+
+/// What the glyphs get, and for which of them it is given up.
+#[derive(Drop)]
+pub(crate) struct GlyphHints<'a> {
+    pub(crate) hints: Hints<'a>,
+    pub(crate) fallback: Fallback,
+}
 
 /// A control value in 26.6 pixels.
 fn control_value(size: Size, cvt: &[u8], i: usize) -> i32
@@ -155,7 +164,46 @@ fn hinted<'a>(
     Ok(Hints::Left(left_to_glyphs(left)))
 }
 
-/// What the programs leave to the glyphs at a size. Errors: those of the programs, Memory.
+fn never_given_up<'a>(hints: Hints<'a>) -> GlyphHints<'a>
+    requires { AreHints (hints_of hints) }
+    ensures exact { glyph_hints_view result ≡ never_given_up (hints_of hints.entry) }
+    ensures sound { AreHints (hints_of result.hints) }
+{
+    GlyphHints {
+        hints,
+        fallback: Fallback::Never,
+    }
+}
+
+/// What both programs leave, or the first one's fault, which gives them up for every glyph. Error: Memory.
+fn hinted_or_kept<'a>(
+    alloc: Global,
+    metrics: &Metrics,
+    programs: Programs<'a>,
+    size: Size,
+) -> Result<GlyphHints<'a>, FontFault>
+    requires units { size.units_per_em ≡ units_per_em_of metrics.now }
+    requires fpgm { length programs.fpgm.now ≤ font_limit }
+    requires prep { length programs.prep.now ≤ font_limit }
+    ensures exact { FontGives glyph_hints_view result (prepared_by fit.Fallback (hinted_by_programs (begun_parts metrics.now programs.entry.cvt.now size.ppem) (program_tables programs.entry))) }
+    ensures sound { IfOk result (λ p. AreHints (hints_of p.hints)) }
+{
+    match hinted(alloc, metrics, programs, size) {
+        Ok(hints) => Ok(GlyphHints {
+            hints,
+            fallback: Fallback::WhereRefused,
+        }),
+        Err(refusal) => match told(refusal) {
+            Some(fault) => Ok(GlyphHints {
+                hints: Hints::Off,
+                fallback: Fallback::Everywhere(fault),
+            }),
+            None => Err(FontFault::Memory),
+        },
+    }
+}
+
+/// What the programs leave to the glyphs at a size. Errors: those of the programs, unless they are kept; Memory.
 #[tactic(auto, unfolding(crate::specs::Preparation::prepared))]
 pub(crate) fn prepared<'a>(
     alloc: Global,
@@ -163,15 +211,16 @@ pub(crate) fn prepared<'a>(
     programs: Programs<'a>,
     size: Size,
     fit: Fit,
-) -> Result<Hints<'a>, FontFault>
+) -> Result<GlyphHints<'a>, FontFault>
     requires units { size.units_per_em ≡ units_per_em_of metrics.now }
     requires fpgm { length programs.fpgm.now ≤ font_limit }
     requires prep { length programs.prep.now ≤ font_limit }
-    ensures exact { FontGives hints_of result (prepared metrics.now (program_tables programs.entry) size.ppem fit) }
-    ensures sound { IfOk result (λ h. AreHints (hints_of h)) }
+    ensures exact { FontGives glyph_hints_view result (prepared metrics.now (program_tables programs.entry) size.ppem fit) }
+    ensures sound { IfOk result (λ p. AreHints (hints_of p.hints)) }
 {
     match fit {
-        Fit::Full => hinted(alloc, metrics, programs, size),
-        Fit::None => Ok(Hints::Off),
+        Fit::Full => Ok(never_given_up(hinted(alloc, metrics, programs, size)?)),
+        Fit::None => Ok(never_given_up(Hints::Off)),
+        Fit::Fallback => hinted_or_kept(alloc, metrics, programs, size),
     }
 }

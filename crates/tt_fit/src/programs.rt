@@ -7,6 +7,8 @@ pub enum Fit {
     Full,
     /// Not at all: no program is run, and points are scaled only.
     None,
+    /// By the font's programs; a glyph for which one of them is refused, not at all.
+    Fallback,
 }
 
 /// The tables with a font's programs, each empty where the font has none.

@@ -158,6 +158,7 @@ pub(crate) fn blank(alloc: Global, at: u32, phantom: Phantom) -> Result<Outline,
         points: Vec::new(alloc),
         ends: Vec::new(alloc),
         phantom: [(left, 0), (right, 0), (0, ascent), (0, descent)],
+        unfitted: None,
     })
 }
 
@@ -184,5 +185,6 @@ pub(crate) fn scaled_outline(
         points,
         ends,
         phantom,
+        unfitted: None,
     })
 }

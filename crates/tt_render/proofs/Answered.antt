@@ -41,15 +41,15 @@ reading_large (run.Write sent) before after read fails = tt
 reading_large run.Memory before after read fails = tt
 
 -- and names no defect
-pub reading_defects : (e : RunFault) (before after : Option (List ℕ)) (read : Bool) (IsOne : List ℕ → Fault → Type 0)
-    → ReadFails e before after read → TellsDefectsOf {V = Unit {0}} before IsOne (Err e)
-reading_defects e None after read IsOne fails = tt
-reading_defects (run.Font f) (Some file) after read IsOne fails = absurd fails
-reading_defects (run.Job j) (Some file) after read IsOne fails = tt
-reading_defects run.Read (Some file) after read IsOne fails = tt
-reading_defects run.FontLarge (Some file) after read IsOne fails = tt
-reading_defects (run.Write sent) (Some file) after read IsOne fails = absurd fails
-reading_defects run.Memory (Some file) after read IsOne fails = tt
+pub reading_defects : (V : Type 0) (e : RunFault) (before after : Option (List ℕ)) (read : Bool) (IsOne : List ℕ → Fault → Type 0)
+    → ReadFails e before after read → TellsDefectsOf {V = V} before IsOne (Err e)
+reading_defects V e None after read IsOne fails = tt
+reading_defects V (run.Font f) (Some file) after read IsOne fails = absurd fails
+reading_defects V (run.Job j) (Some file) after read IsOne fails = tt
+reading_defects V run.Read (Some file) after read IsOne fails = tt
+reading_defects V run.FontLarge (Some file) after read IsOne fails = tt
+reading_defects V (run.Write sent) (Some file) after read IsOne fails = absurd fails
+reading_defects V run.Memory (Some file) after read IsOne fails = tt
 
 -- a refused extent is known once the font is
 late_refusal : (face : Face) (a : Ask) (j : JobFault) → IsExtentRefusal face a j → needs_font j ≡ true
@@ -92,14 +92,14 @@ drawing_large (draw.Font f) P = tt
 drawing_large (draw.Job j) P = tt
 drawing_large draw.Memory P = tt
 
-pub drawing_defects : (d : DrawFault) (before after : Option (List ℕ)) (file : List ℕ) (IsOne : List ℕ → Fault → Type 0)
+pub drawing_defects : (V : Type 0) (d : DrawFault) (before after : Option (List ℕ)) (file : List ℕ) (IsOne : List ℕ → Fault → Type 0)
     → Consumes before after file → IsAtEnd after → IfSome (draw_font_fault d) (IsOne file)
-    → TellsDefectsOf {V = Unit {0}} before IsOne (Err (run_fault_of_draw d))
-drawing_defects (draw.Font f) before after file IsOne taken end stands = tells_of_known IsOne before after file
+    → TellsDefectsOf {V = V} before IsOne (Err (run_fault_of_draw d))
+drawing_defects V (draw.Font f) before after file IsOne taken end stands = tells_of_known IsOne before after file
     (Err (run.Font f)) taken end stands
-drawing_defects (draw.Job j) before after file IsOne taken end stands = tells_of_known IsOne before after file
+drawing_defects V (draw.Job j) before after file IsOne taken end stands = tells_of_known IsOne before after file
     (Err (run.Job j)) taken end tt
-drawing_defects draw.Memory before after file IsOne taken end stands = tells_of_known IsOne before after file
+drawing_defects V draw.Memory before after file IsOne taken end stands = tells_of_known IsOne before after file
     (Err run.Memory) taken end tt
 
 -- lines were not made of what was read

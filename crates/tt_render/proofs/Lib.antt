@@ -11,5 +11,6 @@ pub mod Places
 mod Standings
 mod Seats
 mod Alike
+mod Listing
 mod Whole
 mod Answered

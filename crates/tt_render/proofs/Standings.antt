@@ -120,10 +120,10 @@ kept_stood s f table gs i g ps kept below is =
     let stood : Standing = record g { pens = ps } in
     let here : IsDrawn s f stood = record {
       shape = drawn.shape;
+      unfitted = drawn.unfitted;
       outline = drawn.outline;
       edges = drawn.edges;
-      fits
-          = drawn.fits;
+      fits = drawn.fits;
     } in
     record {
       room = kept.room;

@@ -108,6 +108,7 @@ programs-whole : (directory : List ℕ) (how : Fit) (programs : ProgramTables) �
 unfolding programs_in
 programs-whole directory fit.None programs was = λ fault defect. absurd defect
 programs-whole directory fit.Full programs was = all-programs-whole directory programs was
+programs-whole directory fit.Fallback programs was = all-programs-whole directory programs was
 
 setting-whole : FontLaws → (face : Face) (a : Ask) (s : Setting) → setting_in face a ≡ Ok s
     → HasNo (IsSettingDefect face a)
@@ -130,11 +131,11 @@ line-whole laws face a line bytes was =
     (setting-whole laws face a s by_setting.first) by_glyphs.first
 
 -- what was given of a font or of a job was not refused
-of-font : {X : Type 0} (r : Result X Fault) (x : X) → as_font r ≡ Ok x → r ≡ Ok x
+pub of-font : {X : Type 0} (r : Result X Fault) (x : X) → as_font r ≡ Ok x → r ≡ Ok x
 of-font (Ok y) x was = cc
 of-font (Err f) x was = absurd cc
 
-of-job : {X : Type 0} (r : Result X JobFault) (x : X) → as_job r ≡ Ok x → r ≡ Ok x
+pub of-job : {X : Type 0} (r : Result X JobFault) (x : X) → as_job r ≡ Ok x → r ≡ Ok x
 of-job (Ok y) x was = cc
 of-job (Err j) x was = absurd cc
 

@@ -1,9 +1,10 @@
 -- No part of the standard: the distinct glyphs of a line, each with its edges where its pen is 0 and the pens at which
 -- it stands.
-use Rattle.std.specs.Prelude.{◌≡◌, refl, ℕ, ◌<◌, ◌≤◌, ◌-◌, ◌+◌, ◌*◌, Bool, false, ◌||◌, ◌==◌, if◌then◌else◌, List, [], ◌∷◌, ◌++◌, length, map, slice_index, pos, All, Ok}
+use Rattle.std.specs.Prelude.{◌≡◌, refl, ℕ, ◌<◌, ◌≤◌, ◌-◌, ◌+◌, ◌*◌, Bool, false, ◌||◌, ◌==◌, if◌then◌else◌, List, [], ◌∷◌, ◌++◌, length, map, slice_index, pos, All, Option, Ok}
 use Rattle.tt_core.specs.Bits.{stride}
+use Rattle.tt_core.specs.Faults.{Fault}
 use Rattle.tt_pbm.specs.P4.{rows}
-use Rattle.tt_fit.specs.Fitting.{Setting, fitted_outline}
+use Rattle.tt_fit.specs.Fitting.{Setting, fitted_outline, unfitted_fault}
 use Rattle.tt_fit.specs.Outline.{Shape}
 use Rattle.tt_scan.specs.declared.edge.Edge.{Edge}
 use Rattle.tt_scan.specs.declared.edge.Frame.{Frame}
@@ -12,11 +13,13 @@ use Rattle.tt_scan.specs.Winding.{is_black, column_x, row_y}
 use Rattle.tt_render.specs.Picture.{edges_at}
 use Rattle.tt_render.specs.Pixels.{Stamp, TapeFits, is_black_by, is_black_pixel}
 
--- a glyph by its number in the font, with its edges where its pen is 0, and its pens
+-- a glyph by its number in the font, with its edges where its pen is 0, its pens, and the fault for which it is not
+-- fitted
 pub record Standing : Type 0 where
   pub number : ℕ
   pub tape : Edges
   pub pens : List ℕ
+  pub unfitted : Option Fault
 
 -- what it blackens a picture with
 abbrev pub stamp_of : Standing → Stamp
@@ -46,9 +49,10 @@ distinct_after before (g ∷ gs) = distinct_after (with_glyph before g) gs
 abbrev pub distinct : List ℕ → List ℕ
 distinct gs = distinct_after [] gs
 
--- a glyph has the edges of its outline
+-- a glyph has the edges of its outline, and the fault for which that is not fitted
 pub record IsDrawn (s : Setting) (f : Frame) (g : Standing) : Type 0 where
   pub shape : Shape
+  pub unfitted : g.unfitted ≡ unfitted_fault s g.number
   pub outline : fitted_outline s g.number ≡ Ok shape
   pub edges : g.tape.edges ≡ edges_at 0 shape
   pub fits : TapeFits f 0 g.tape

@@ -10,4 +10,5 @@ pub mod Pixels
 pub mod Programs
 pub mod Reading
 pub mod Report
+pub mod Unfitted
 pub mod Views

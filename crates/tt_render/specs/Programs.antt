@@ -42,6 +42,7 @@ all_programs_in directory = do
 unfoldable pub programs_in : List ℕ → Fit → Result ProgramTables Fault
 programs_in directory fit.None = Ok no_programs
 programs_in directory fit.Full = all_programs_in directory
+programs_in directory fit.Fallback = all_programs_in directory
 
 -- worked values: a file with two bytes of control values, and no program
 abbrev two_bytes : List ℕ

@@ -1,6 +1,6 @@
 //! The picture of a line.
 
-ghost use Rattle.std.specs.Prelude.{◌≡◌, ◌<◌, ◌≤◌, ◌^◌, length, map, unsigned_abs, All, IfOk, IfErr, OnOk, IsOkAnd};
+ghost use Rattle.std.specs.Prelude.{◌≡◌, ◌<◌, ◌≤◌, ◌^◌, length, map, unsigned_abs, All, Ok, IfOk, IfErr, OnOk, IsOkAnd};
 ghost use Rattle.tt_core.specs.Limits.{font_limit, text_limit, width_limit, height_limit};
 ghost use Rattle.tt_core.specs.Directory.{HasNo};
 ghost use Rattle.tt_core.specs.Outcomes.{Gives, GivesUnless, FontGives, IfTold, font_fault};
@@ -13,6 +13,7 @@ ghost use Rattle.tt_render.specs.Outcome.{refusal};
 ghost use Rattle.tt_render.specs.Picture.{drawn, pictured, setting_in, glyphs_in};
 ghost use Rattle.tt_pbm.specs.P4.{header_bytes, p4_header_of};
 ghost use Rattle.tt_render.specs.Pixels.{TapeFits};
+ghost use Rattle.tt_render.specs.Unfitted.{line_report, report_of, unfitted_standing, ListsOnce};
 ghost use Rattle.tt_render.specs.Views.{IsReady, picture_bytes};
 ghost use Rattle.tt_scan.specs.Winding.{FrameFits};
 
@@ -23,6 +24,7 @@ use crate::glyphs::line_glyphs;
 use crate::job::Job;
 use crate::programs::open_programs;
 use crate::rows::most_edges;
+use crate::unfitted::{Report, report_on};
 use std::alloc::{AllocError, Global};
 use tt_core::{Fault, FontFault};
 use tt_fit::Fitter;
@@ -31,7 +33,7 @@ use tt_line::{Line, lay};
 use tt_pbm::{Header, p4_header};
 use tt_scan::{Frame, Sweep};
 
-/// A picture that is ready to be written: its header, and what its rows are made with.
+/// A picture that is ready to be written: its header, what its rows are made with, and what there is to report of it.
 #[derive(Drop)]
 pub(crate) struct Picture {
     pub(crate) header: Header,
@@ -40,6 +42,7 @@ pub(crate) struct Picture {
     pub(crate) sweep: Sweep,
     /// Memory for one row.
     pub(crate) row: Vec<u8>,
+    pub(crate) report: Report,
 }
 
 /// loca and glyf. Errors: NoTable, TableRange, LocaShort.
@@ -72,7 +75,7 @@ fn open_fitter<'a>(alloc: Global, face: &Face<'a>, job: &Job) -> Result<Fitter<'
 
 /// The picture of a line that is laid out. Errors: those of loca and glyf, of the programs, of the glyphs in the order
 /// of the line, Memory.
-#[tactic(auto, unfolding(crate::specs::Picture::drawn))]
+#[tactic(auto, unfolding(crate::specs::Picture::drawn, crate::specs::Unfitted::line_report))]
 fn draw_line(alloc: Global, face: &Face, job: &Job, line: &Line) -> Result<Picture, FontFault>
     requires asked { IsAsked (ask_of job.now) }
     requires width { (1 ≤ line.now.width) × (line.now.width ≤ width_limit) }
@@ -82,6 +85,8 @@ fn draw_line(alloc: Global, face: &Face, job: &Job, line: &Line) -> Result<Pictu
     requires count { length line.now.glyphs.items ≤ text_limit }
     ensures exact { FontGives picture_bytes result (drawn (face_view face.now) (ask_of job.now) (placement_of line.now)) }
     ensures ready { IfOk result IsReady }
+    ensures report { IfOk result (λ p. line_report (face_view face.now) (ask_of job.now) (placement_of line.now) ≡ Ok p.report.unfitted.items) }
+    ensures once { IfOk result (λ p. ListsOnce p.report.unfitted.items) }
     ensures defects { TellsDefects font_fault (IsLineDefect (face_view face.now) (ask_of job.now) (map (λ g. g.0) line.now.glyphs.items)) result }
 {
     let fitter = open_fitter(alloc, face, job)?;
@@ -102,27 +107,32 @@ fn ready(alloc: Global, frame: Frame, glyphs: Vec<Glyph>) -> Result<Picture, All
     ensures header { IfOk result (λ p. header_bytes p.header ≡ p4_header_of frame.width frame.height) }
     ensures frame { IfOk result (λ p. p.frame ≡ frame) }
     ensures glyphs { IfOk result (λ p. p.glyphs.items ≡ glyphs.items) }
+    ensures report { IfOk result (λ p. p.report.unfitted.items ≡ unfitted_standing glyphs.items) }
     ensures ready { IfOk result IsReady }
 {
     let most = most_edges(&glyphs);
+    let report = report_on(alloc, &glyphs)?;
     Ok(Picture {
         header: p4_header(frame.width, frame.height),
         frame,
         glyphs,
         sweep: Sweep::new(alloc, most)?,
         row: vec![in alloc; 0u8; (frame.width as usize).div_ceil(8)]?,
+        report,
     })
 }
 
 /// The picture of a job by a font file. Errors, the first of: those of the tables that every text is
 /// looked up in; EmptyPicture, PictureLarge; those of loca and glyf; those of the programs; those of the glyphs in the
 /// order of the text. Memory comes where a growth was refused.
-#[tactic(auto, unfolding(crate::specs::Picture::pictured))]
+#[tactic(auto, unfolding(crate::specs::Picture::pictured, crate::specs::Unfitted::report_of))]
 pub(crate) fn draw(alloc: Global, file: &[u8], job: &Job) -> Result<Picture, DrawFault>
     requires size { length file.now ≤ font_limit }
     requires asked { IsAsked (ask_of job.now) }
     ensures exact { GivesUnless refusal picture_bytes result (pictured (ask_of job.now) file.now) }
     ensures ready { IfOk result IsReady }
+    ensures report { IfOk result (λ p. report_of (ask_of job.now) file.now ≡ Ok p.report.unfitted.items) }
+    ensures once { IfOk result (λ p. ListsOnce p.report.unfitted.items) }
     ensures defects { TellsDefects draw_font_fault (IsRunDefect (ask_of job.now) file.now) result }
     ensures extent { IfTold draw_job_fault result (λ j. IsOkAnd (face_of file.now) (λ face. IsExtentRefusal face (ask_of job.now) j)) }
 {

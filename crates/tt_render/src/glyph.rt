@@ -1,6 +1,6 @@
 //! A glyph of a line: made once, however often it stands in the line.
 
-ghost use Rattle.std.specs.Prelude.{◌≡◌, ℕ, ℤ, ◌+◌, ◌*◌, ◌<◌, ◌≤◌, ◌&&◌, ◌||◌, false, nat_lt, pos, ◌++◌, [], ◌∷◌, length, IfOk, OnOk, Err};
+ghost use Rattle.std.specs.Prelude.{◌≡◌, ℕ, ℤ, ◌+◌, ◌*◌, ◌<◌, ◌≤◌, ◌&&◌, ◌||◌, false, nat_lt, pos, ◌++◌, [], ◌∷◌, length, IfOk, IfSome, IfNone, OnOk, Some, None, Err};
 ghost use Rattle.tt_core.specs.Bits.{bit};
 ghost use Rattle.tt_core.specs.Limits.{height_limit};
 ghost use Rattle.tt_core.specs.Outcomes.{IfTold, font_fault};
@@ -11,10 +11,11 @@ ghost use Rattle.tt_render.specs.Glyphs.{IsDrawn, StandingFits, stamp_of};
 ghost use Rattle.tt_render.specs.Picture.{edges_at};
 ghost use Rattle.tt_render.specs.Pixels.{TapeFits, is_black_from, covers_from, row_crossings};
 
+use crate::unfitted::Unfitted;
 use std::alloc::{AllocError, Global};
 use std::marker::Model;
 use tt_arc::chords;
-use tt_core::FontFault;
+use tt_core::{Fault, FontFault};
 use tt_fit::{Fitter, Outline};
 use tt_scan::{Frame, Sweep, Tape};
 
@@ -25,6 +26,8 @@ pub(crate) struct Glyph {
     tape: Tape,
     /// Where it stands, in pixels.
     pens: Vec<u32>,
+    /// The fault for which its outline is not fitted.
+    unfitted: Option<Fault>,
 }
 
 impl Model for Glyph {
@@ -32,7 +35,7 @@ impl Model for Glyph {
 
     ghost Value = { Standing };
 
-    ghost view = { λ g. record { number = g.number; tape = g.tape; pens = g.pens.items } };
+    ghost view = { λ g. record { number = g.number; tape = g.tape; pens = g.pens.items; unfitted = g.unfitted } };
 }
 
 impl Glyph {
@@ -56,7 +59,22 @@ impl Glyph {
             number,
             tape: tape_of(alloc, &outline, frame)?,
             pens: Vec::new(alloc),
+            unfitted: outline.unfitted,
         })
+    }
+
+    /// What there is to report of the glyph, if its outline is not fitted.
+    pub(crate) fn unfitted(&self) -> Option<Unfitted>
+        ensures none { IfNone result (self.now.unfitted ≡ None) }
+        ensures some { IfSome result (λ u. (self.now.unfitted ≡ Some u.fault) × (u.glyph ≡ self.now.number)) }
+    {
+        match self.unfitted {
+            Some(fault) => Some(Unfitted {
+                glyph: self.number,
+                fault,
+            }),
+            None => None,
+        }
     }
 
     /// Has the glyph stand at one more pen.

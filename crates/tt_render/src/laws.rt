@@ -1,6 +1,6 @@
 //! Laws of the definitions. Each function takes nothing and gives nothing: its clauses hold of all jobs and files.
 
-ghost use Rattle.tt_render.specs.Laws.{DrawnFontsAreWhole, MappedFontsAreWhole};
+ghost use Rattle.tt_render.specs.Laws.{DrawnFontsAreWhole, MappedFontsAreWhole, OthersListNothing};
 
 /// Where the definition of what `run` or `map` is to write gives bytes, the font has no defect for it. So there is
 /// none whenever a call wrote, all or a part.
@@ -13,4 +13,11 @@ pub fn fonts_are_whole()
     tt_cmap::laws::lookups_are_whole();
     tt_glyf::laws::locations_are_whole();
     tt_line::laws::glyphs_are_placed();
+}
+
+/// Where the definition of what `run` is to report gives a list, it is empty unless the job's fit is `Fit::Fallback`.
+pub fn others_list_nothing()
+    ensures { OthersListNothing }
+{
+    tt_fit::laws::glyphs_fall_back();
 }

@@ -15,10 +15,12 @@ mod reading;
 mod reports;
 mod rows;
 mod running;
+mod unfitted;
 mod writing;
 
 pub use fault::RunFault;
 pub use job::Job;
 pub use mapping::map;
-pub use reports::{line, status};
+pub use reports::{line, status, unfitted_line};
 pub use running::run;
+pub use unfitted::{Report, Unfitted};

@@ -50,7 +50,7 @@ pub(crate) fn open_programs<'a>(dir: &Dir<'a>, fit: Fit) -> Result<Programs<'a>,
     ensures fault { IfErr result (IsProgramTableDefect dir.now fit) }
 {
     match fit {
-        Fit::Full => all_programs(dir),
+        Fit::Full | Fit::Fallback => all_programs(dir),
         Fit::None => Ok(Programs {
             cvt: &[],
             fpgm: &[],

@@ -1,9 +1,10 @@
-//! What the program says of a fault.
+//! What the program says of a fault, and of a glyph that is not fitted.
 
 ghost use Rattle.std.specs.Prelude.{◌≡◌, string_bytes, IfOk};
-ghost use Rattle.tt_render.specs.Report.{status_of, line_of, font_line};
+ghost use Rattle.tt_render.specs.Report.{status_of, line_of, font_line, unfitted_line_of};
 
 use crate::fault::RunFault;
+use crate::unfitted::Unfitted;
 use std::alloc::{AllocError, Global};
 use tt_core::Fault;
 
@@ -50,4 +51,17 @@ fn font_line(alloc: Global, fault: Fault) -> Result<String, AllocError>
     let number = fault.why.number();
     let name = fault.why.name();
     format!(in alloc; "tt_render: {table}+{offset}: {number} {name}")
+}
+
+/// The program's line on standard error for a glyph that is not fitted, without the line feed.
+pub fn unfitted_line(alloc: Global, unfitted: &Unfitted) -> Result<String, AllocError>
+    ensures { IfOk result (λ text. string_bytes text ≡ unfitted_line_of unfitted.now) }
+{
+    let glyph = unfitted.glyph;
+    let fault = unfitted.fault;
+    let table = fault.tag();
+    let offset = fault.offset;
+    let number = fault.why.number();
+    let name = fault.why.name();
+    format!(in alloc; "tt_render: glyph {glyph} unfitted: {table}+{offset}: {number} {name}")
 }

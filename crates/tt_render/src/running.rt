@@ -1,24 +1,27 @@
 //! A line of text drawn, from a reader to a writer.
 
-ghost use Rattle.std.specs.Prelude.{◌≡◌, ◌<◌, false, length, IfSome};
+ghost use Rattle.std.specs.Prelude.{◌≡◌, ◌<◌, false, length, Ok, IfOk, IfSome};
 ghost use Rattle.tt_core.specs.Limits.{font_limit};
 ghost use Rattle.tt_render.specs.Asked.{ask_of};
 ghost use Rattle.tt_render.specs.Defects.{IsRunDefect, IsJobRefusal, TellsDefectsOf};
 ghost use Rattle.tt_render.specs.Outcome.{CallGives, IfJob, IfLarge};
 ghost use Rattle.tt_render.specs.Picture.{run_wanted};
+ghost use Rattle.tt_render.specs.Unfitted.{report_of, ListsOnce};
 
-use crate::drawing::draw;
+use crate::drawing::{Picture, draw};
 use crate::fault::RunFault;
 use crate::job::Job;
 use crate::limits::test_job;
 use crate::reading::read_font;
+use crate::unfitted::Report;
 use crate::writing::write_picture;
 use std::alloc::Global;
 use tt_core::{Sink, Source};
 
 /// Draws a line of text and writes its picture as binary PBM (P4): a pixel is black where its centre lies
 /// on, or inside, the chord outline of some glyph of the line, in which each curve is eight chords. Nothing
-/// is written before the edges of all glyphs stand, and from then on no memory is taken.
+/// is written before the edges of all glyphs stand, and from then on no memory is taken. The report stands by then: it
+/// tells which glyphs are not fitted though their fitting was asked for.
 ///
 /// Errors, the first of: Job (SizeRange, MarginRange, TextLong), before the font is read; Read, FontLarge;
 /// Font and Job (EmptyPicture, PictureLarge), in the order in which the bytes are read, the picture's size
@@ -28,7 +31,7 @@ pub fn run<R: Source, W: Sink>(
     font: &mut R,
     out: &mut W,
     job: &Job,
-) -> Result<(), RunFault>
+) -> Result<Report, RunFault>
     requires font { R.has_failed font.old ≡ false }
     requires out { W.has_failed out.old ≡ false }
     ensures outcome { CallGives result (record {
@@ -39,6 +42,10 @@ pub fn run<R: Source, W: Sink>(
       out_after = W.written out.new;
       write_failed = W.has_failed out.new;
     }) (run_wanted (ask_of job.now)) }
+    // With fallback each glyph of the text that is not fitted is listed once, in order of first appearance, with its
+    // fault; with the other ways of fitting none is.
+    ensures report { IfOk result (λ r. IfSome (R.left font.old) (λ file. report_of (ask_of job.now) file ≡ Ok r.unfitted.items)) }
+    ensures once { IfOk result (λ r. ListsOnce r.unfitted.items) }
     ensures defects { TellsDefectsOf (R.left font.old) (IsRunDefect (ask_of job.now)) result }
     ensures job { IfJob result (IsJobRefusal (ask_of job.now) (R.left font.old)) }
     ensures large { IfLarge result (IfSome (R.left font.old) (λ file. font_limit < length file)) }
@@ -47,5 +54,6 @@ pub fn run<R: Source, W: Sink>(
     let file = read_font(alloc, font)?;
     let mut picture = draw(alloc, &file, job)?;
     write_picture(out, &mut picture)?;
-    Ok(())
+    let Picture { report, .. } = picture;
+    Ok(report)
 }

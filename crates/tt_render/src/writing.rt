@@ -23,6 +23,7 @@ pub(crate) fn write_picture<W: Sink>(out: &mut W, picture: &mut Picture) -> Resu
     ensures part { IfErr result (λ cut. Appends (W.written out.old) (W.written out.new) (take cut.sent (picture_bytes picture.old))) }
     ensures within { IfErr result (λ cut. cut.sent < length (picture_bytes picture.old)) }
     ensures failure { W.has_failed out.new ≡ is_err result }
+    ensures report { picture.new.report ≡ picture.old.report }
 {
     let header = &picture.header.bytes[..picture.header.len];
     write_all_of(out, header)?;

@@ -5,9 +5,9 @@ use std::alloc::{AllocError, Global};
 use tt_render_program::{Request, Words, job_of};
 
 /// The words of `--fit`.
-static FITS: [&str; 2] = ["full", "none"];
+static FITS: [&str; 3] = ["full", "none", "fallback"];
 
-/// `tt_render map FONT TEXT` and `tt_render draw --size N [--margin N] [--fit full|none] FONT TEXT`.
+/// `tt_render map FONT TEXT` and `tt_render draw --size N [--margin N] [--fit full|none|fallback] FONT TEXT`.
 pub(crate) fn command<'a>(alloc: Global) -> Result<Command<'a>, AllocError> {
     Command::new(alloc, "tt_render")
         .bin_name("tt_render")?
@@ -77,7 +77,7 @@ fn fit<'a>(alloc: Global) -> Arg<'a> {
         .value_name("HOW")
         .value_parser(FITS.as_slice())
         .default_value("full")
-        .help("full: by the font's programs; none: scaled points only")
+        .help("full: by the font's programs; none: scaled points only; fallback: full where that serves")
 }
 
 /// What a command line asks for.

@@ -1,1 +1,3 @@
+mod Both
+mod Reports
 pub mod Statuses

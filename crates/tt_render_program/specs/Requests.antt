@@ -1,23 +1,27 @@
--- No part of the standard: what the program's command lines ask for.
-use Rattle.std.specs.Prelude.{ℕ, List, codes, Option, Some, None, option_map, if◌then◌else◌}
+-- No part of the standard: what the program's command lines ask for, and what is done for them.
+use Rattle.std.specs.Prelude.{◌≡◌, ℕ, List, [], codes, Option, Some, None, IfSome, option_map, if◌then◌else◌, Ok, ⊤}
 use Rattle.std.specs.Str.{bytes_eq}
-use Rattle.tt_core.specs.Faults.{Fault}
 use Rattle.tt_fit.specs.declared.programs.Fit.{Fit}
 use Rattle.tt_fit.specs.declared.programs.Fit.TheVariants as fit
 use Rattle.tt_render.specs.Asked.{Ask, ask_of}
 use Rattle.tt_render.specs.Defects.{IsFaceDefect, IsRunDefect}
 use Rattle.tt_render.specs.MapLines.{map_wanted}
-use Rattle.tt_render.specs.Outcome.{Wanted}
+use Rattle.tt_render.specs.Outcome.{Traffic}
 use Rattle.tt_render.specs.Picture.{run_wanted}
+use Rattle.tt_render.specs.Unfitted.{ListsOnce, report_of}
+use Rattle.tt_render.specs.declared.unfitted.Report.{Report}
+use Rattle.tt_render.specs.declared.unfitted.Unfitted.{Unfitted}
 use Rattle.tt_render_program.specs.declared.request.Request.{Request}
 use Rattle.tt_render_program.specs.declared.request.Request.TheVariants.{Map, Draw}
 use Rattle.tt_render_program.specs.declared.request.Words.{Words}
+use Rattle.tt_render_program.specs.Telling.{Does, Errors}
 
 -- the ways to fit by their names
 abbrev pub fit_named : List ℕ → Option Fit
 fit_named name =
     if bytes_eq name (codes "full") then Some fit.Full
-    else (if bytes_eq name (codes "none") then Some fit.None else None)
+    else (if bytes_eq name (codes "none") then Some fit.None
+    else (if bytes_eq name (codes "fallback") then Some fit.Fallback else None))
 
 -- what the words of a drawing ask for
 abbrev pub asked : Words → Option Ask
@@ -29,12 +33,15 @@ abbrev pub font_of : Request → List ℕ
 font_of (Map font text) = font.now
 font_of (Draw font job) = font.now
 
--- what a request wants to be written for a font file, and the tests that it passes before the font is read
-abbrev pub wanted : Request → Wanted
-wanted (Map font text) = map_wanted text.now
-wanted (Draw font job) = run_wanted (ask_of job)
+-- the glyphs that a picture of a text by a font file lists as not fitted
+abbrev pub IsListed : Ask → Option (List ℕ) → List Unfitted → Type 0
+IsListed a left entries = IfSome left (λ file. report_of a file ≡ Ok entries) × ListsOnce entries
 
--- the defects of a font file for which a request is refused
-abbrev pub IsDefectFor : Request → List ℕ → Fault → Type 0
-IsDefectFor (Map font text) file fault = IsFaceDefect file fault
-IsDefectFor (Draw font job) file fault = IsRunDefect (ask_of job) file fault
+-- a request is done and told: what it wants to be written for a font file, what it lists, and for which defects of the
+-- file it is refused
+abbrev pub Performs : Request → Traffic → Errors → ℕ → Type 0
+Performs (Map font text) t e status =
+    Does {V = Unit {0}} (λ v. []) (map_wanted text.now) (λ entries. ⊤) IsFaceDefect t e status
+Performs (Draw font job) t e status =
+    Does {V = Report} (λ r. r.unfitted.items) (run_wanted (ask_of job)) (IsListed (ask_of job) t.left_before)
+    (IsRunDefect (ask_of job)) t e status

@@ -1,15 +1,15 @@
 //! A request done, over its font and the standard streams.
 
 ghost use Rattle.std.specs.Prelude.{◌≡◌, ◌≤◌, false};
-ghost use Rattle.tt_render_program.specs.Requests.{wanted, IsDefectFor};
-ghost use Rattle.tt_render_program.specs.Telling.{Does};
+ghost use Rattle.tt_render_program.specs.Requests.{Performs};
 
 use crate::request::Request;
-use crate::telling::tell;
+use crate::telling::{tell, tell_picture};
 use std::alloc::Global;
 use tt_core::{Sink, Source};
 
-/// Does what a request asks for, and tells a fault on standard error; answers the exit status.
+/// Does what a request asks for, and tells on standard error a fault, or which glyphs are not fitted though that was
+/// asked for; answers the exit status.
 pub fn perform<R: Source, W: Sink, E: Sink>(
     alloc: Global,
     request: &Request,
@@ -21,8 +21,8 @@ pub fn perform<R: Source, W: Sink, E: Sink>(
     requires out { W.has_failed out.old ≡ false }
     requires error { E.has_failed error.old ≡ false }
     ensures range { result ≤ 5 }
-    // Some answer stands for what went through the devices, and the status and the line are told of that answer.
-    ensures outcome { Does (wanted request.now) (IsDefectFor request.now) (record {
+    // Some answer stands for what went through the devices, and the status and the lines are told of that answer.
+    ensures outcome { Performs request.now (record {
       left_before = R.left font.old;
       left_after = R.left font.new;
       read_failed = R.has_failed font.new;
@@ -42,7 +42,7 @@ pub fn perform<R: Source, W: Sink, E: Sink>(
         }
         Request::Draw { job, .. } => {
             let drawn = tt_render::run(alloc, font, out, job);
-            tell(alloc, &drawn, error)
+            tell_picture(alloc, &drawn, error)
         }
     }
 }

@@ -43,6 +43,7 @@ pub fn job_of<'a>(words: &Words<'a>) -> Option<Job<'a>>
     let fit = match words.fit {
         "full" => Fit::Full,
         "none" => Fit::None,
+        "fallback" => Fit::Fallback,
         _ => return None,
     };
     Some(Job {

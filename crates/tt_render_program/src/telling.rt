@@ -1,22 +1,22 @@
 //! What is told of an answer: the exit status, and a line on standard error.
 
-ghost use Rattle.std.specs.Prelude.{◌≡◌, ◌≤◌, ◌++◌, false, codes, string_bytes, IfOk};
+ghost use Rattle.std.specs.Prelude.{◌≡◌, ◌≤◌, ◌++◌, [], false, codes, string_bytes, IfOk};
 ghost use Rattle.tt_render.specs.Report.{line_of};
-ghost use Rattle.tt_render_program.specs.Telling.{Prints, Tells};
+ghost use Rattle.tt_render_program.specs.Telling.{Prints, Tells, TellsFailure, TellsReport, report_lines};
 
 use std::alloc::{AllocError, Global};
 use tt_core::Sink;
 use tt_pbm::write_all_of;
-use tt_render::{RunFault, line, status};
+use tt_render::{Report, RunFault, Unfitted, line, status, unfitted_line};
 
 /// The line for want of memory, which takes none.
 const NO_MEMORY: &str = "tt_render: out of memory\n";
 
-/// Tells an answer on standard error; answers the exit status.
+/// Tells the answer of `map` on standard error; answers the exit status.
 pub(crate) fn tell<E: Sink>(alloc: Global, answer: &Result<(), RunFault>, error: &mut E) -> u8
     requires { E.has_failed error.old ≡ false }
     ensures range { result ≤ 5 }
-    ensures told { Tells answer.now result (record {
+    ensures told { Tells (λ v. []) answer.now result (record {
       before = E.written error.old;
       after = E.written error.new;
       failed = E.has_failed error.new;
@@ -28,12 +28,69 @@ pub(crate) fn tell<E: Sink>(alloc: Global, answer: &Result<(), RunFault>, error:
     }
 }
 
+/// Tells the answer of `run` on standard error, and which glyphs are not fitted; answers the exit status.
+pub(crate) fn tell_picture<E: Sink>(
+    alloc: Global,
+    answer: &Result<Report, RunFault>,
+    error: &mut E,
+) -> u8
+    requires { E.has_failed error.old ≡ false }
+    ensures range { result ≤ 5 }
+    ensures told { Tells (λ r. r.unfitted.items) answer.now result (record {
+      before = E.written error.old;
+      after = E.written error.new;
+      failed = E.has_failed error.new;
+    }) }
+{
+    match answer {
+        Ok(report) => tell_report(alloc, &report.unfitted, error),
+        Err(fault) => tell_fault(alloc, fault, error),
+    }
+}
+
+/// Tells which glyphs are not fitted, or want of memory where that is refused for their lines.
+fn tell_report<E: Sink>(alloc: Global, unfitted: &[Unfitted], error: &mut E) -> u8
+    requires { E.has_failed error.old ≡ false }
+    ensures range { result ≤ 5 }
+    ensures told { TellsReport unfitted.now result (record {
+      before = E.written error.old;
+      after = E.written error.new;
+      failed = E.has_failed error.new;
+    }) }
+{
+    if unfitted.is_empty() {
+        return 0;
+    }
+    match report_lines(alloc, unfitted) {
+        Ok(text) => {
+            print(error, &text);
+            0
+        }
+        Err(AllocError) => {
+            print(error, NO_MEMORY);
+            status(&RunFault::Memory)
+        }
+    }
+}
+
+/// A line for each glyph that is not fitted, with its line feed.
+fn report_lines(alloc: Global, unfitted: &[Unfitted]) -> Result<String, AllocError>
+    ensures { IfOk result (λ text. string_bytes text ≡ report_lines unfitted.now) }
+{
+    let mut text = String::new(alloc);
+    for entry in unfitted {
+        text.push_str(&unfitted_line(alloc, entry)?)?;
+        text.push_str("\n")?;
+    }
+    Ok(text)
+}
+
 /// Tells a fault, or want of memory where that is refused for the fault's line.
 #[tactic(auto, using(crate::proofs::Statuses::status_within))]
 fn tell_fault<E: Sink>(alloc: Global, fault: &RunFault, error: &mut E) -> u8
     requires { E.has_failed error.old ≡ false }
     ensures range { result ≤ 5 }
-    ensures told { Tells (Err fault.now) result (record {
+    ensures told { TellsFailure fault.now result (record {
       before = E.written error.old;
       after = E.written error.new;
       failed = E.has_failed error.new;

@@ -1,4 +1,4 @@
-use Rattle.std.proofs.Common.{◌≡◌, List, ap, sym, Ok, SFits, w32, arith}
+use Rattle.std.proofs.Common.{◌≡◌, List, ap, sym, refl, map, Ok, SFits, w32, arith}
 use Rattle.std.proofs.lemmas.Int.{ints, to_z-of_z}
 use Rattle.std.proofs.lemmas.Result.{err_from_is_err_and}
 use Rattle.tt_core.specs.Outcomes.{each}
@@ -9,8 +9,10 @@ use Rattle.tt_render.specs.Asked.{ask_of}
 use Rattle.tt_render.specs.Face.{face_view}
 use Rattle.tt_render.specs.Glyphs.{Blacken}
 use Rattle.tt_render.specs.Picture.{drawn, frame_of, glyph_edges, picture}
+use Rattle.tt_render.specs.Unfitted.{line_report}
 use Rattle.tt_render.specs.Views.{picture_bytes}
 use Rattle.tt_render.proofs.Alike.{same_picture}
+use Rattle.tt_render.proofs.Listing.{of_line, lists_once}
 use Rattle.tt_render.proofs.Places.{ok_and}
 use Rattle.tt_render.proofs.Telling.{glyph_tells, no_line_defect}
 use Rattle.tt_render.proofs.drawing.draw_line.Goals as goal
@@ -52,3 +54,24 @@ returns-clause-defects c =
     let made = ok_and (each (glyph_edges s) gs) _ black in
     no_line_defect (face_view c.args.face.now) (ask_of c.args.job.now) s gs made.0 c.in_ok-fitter.ensures.exact
     c.in_ok-fitter.ensures.defects made.1
+
+pub returns-clause-report : goal.returns-clause-report
+unfolding line_report
+returns-clause-report c =
+    let s = c.in_ok-fitter.fitter in
+    let there = c.in_ok-fitter.ensures.exact in
+    let glyphs = c.in_ok-glyphs.glyphs.items in
+    let numbers = rw c.deref.ensures.value at c.in_ok-glyphs.ensures.numbers in
+    let entries = of_line s _ glyphs c.args.line.now.glyphs.items c.in_ok-ready.field-0.report.unfitted.items
+    c.in_ok-glyphs.ensures.drawn numbers c.in_ok-ready.ensures.report in
+    rw (there, entries) refl
+
+pub returns-clause-once : goal.returns-clause-once
+returns-clause-once c =
+    let s = c.in_ok-fitter.fitter in
+    let glyphs = c.in_ok-glyphs.glyphs.items in
+    let line = c.args.line.now.glyphs.items in
+    let numbers = rw c.deref.ensures.value at c.in_ok-glyphs.ensures.numbers in
+    let entries = of_line s _ glyphs line c.in_ok-ready.field-0.report.unfitted.items
+    c.in_ok-glyphs.ensures.drawn numbers c.in_ok-ready.ensures.report in
+    rw entries (lists_once s (map (λ g. g.0) line))

@@ -42,7 +42,7 @@ pub returns-in_err-file-clause-defects : goal.returns-in_err-file-clause-defects
 returns-in_err-file-clause-defects g c =
     let left = g.R.Source.left in
     let p = err_from_is_err_and c.from_residual-in_err-file.result c.from_residual-in_err-file.ensures.1 in
-    rw (p.1, p.2) (reading_defects c.in_err-file.field-0.0 (left c.args.font.now) (left c.read_font.new.font)
+    rw (p.1, p.2) (reading_defects _ c.in_err-file.field-0.0 (left c.args.font.now) (left c.read_font.new.font)
     (g.R.Source.has_failed c.read_font.new.font) IsFaceDefect c.in_err-file.ensures)
 
 pub returns-in_err-file-clause-text : goal.returns-in_err-file-clause-text

@@ -39,7 +39,7 @@ pub returns-in_err-file-clause-defects : goal.returns-in_err-file-clause-defects
 returns-in_err-file-clause-defects g c =
     let left = g.R.Source.left in
     let p = err_from_is_err_and c.from_residual-in_err-file.result c.from_residual-in_err-file.ensures.1 in
-    rw (p.1, p.2) (reading_defects c.in_err-file.field-0.0 (left c.args.font.now) (left c.read_font.new.font)
+    rw (p.1, p.2) (reading_defects _ c.in_err-file.field-0.0 (left c.args.font.now) (left c.read_font.new.font)
     (g.R.Source.has_failed c.read_font.new.font) (IsRunDefect (ask_of c.args.job.now)) c.in_err-file.ensures)
 
 pub returns-in_err-file-clause-job : goal.returns-in_err-file-clause-job
@@ -78,7 +78,7 @@ returns-in_err-picture-clause-defects g c =
     let file = c.in_ok-file in
     let p = err_from_is_err_and c.from_residual-in_err-picture.result c.from_residual-in_err-picture.ensures.1 in
     let tells = rw c.deref.ensures.value at c.in_err-picture.ensures.defects in
-    rw (p.1, p.2) (drawing_defects c.in_err-picture.field-0.0 (left c.args.font.now)
+    rw (p.1, p.2) (drawing_defects _ c.in_err-picture.field-0.0 (left c.args.font.now)
     (left c.read_font.new.font) file.file.items (IsRunDefect (ask_of c.args.job.now)) file.ensures.0 file.ensures.1
     tells)
 
@@ -140,5 +140,5 @@ returns-clause-defects g c =
     let left = g.R.Source.left in
     let file = c.in_ok-file in
     let tells = rw c.deref.ensures.value at c.in_ok-picture.ensures.defects in
-    tells_of_known {V = Unit {0}} (IsRunDefect (ask_of c.args.job.now)) (left c.args.font.now)
-    (left c.read_font.new.font) file.file.items (Ok tt) file.ensures.0 file.ensures.1 tells
+    tells_of_known (IsRunDefect (ask_of c.args.job.now)) (left c.args.font.now)
+    (left c.read_font.new.font) file.file.items _ file.ensures.0 file.ensures.1 tells

@@ -1,3 +1,4 @@
+use Rattle.tt_render_program.proofs.Both.{both_hold}
 use Rattle.tt_render_program.proofs.performing.perform.Goals as goal
 
 pub returns-in-Draw-clause-outcome : goal.returns-in-Draw-clause-outcome
@@ -6,6 +7,7 @@ returns-in-Draw-clause-outcome g c =
     (record {
       answer = c.run-drawn.result;
       outcome = c.run-drawn.ensures.outcome;
+      listed = both_hold c.run-drawn.result _ _ c.run-drawn.ensures.report c.run-drawn.ensures.once;
       defects = c.run-drawn.ensures.defects;
-      told = c.tell-in-Draw.ensures.told;
+      told = c.tell_picture.ensures.told;
     })

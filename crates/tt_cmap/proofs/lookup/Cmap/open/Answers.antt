@@ -1,7 +1,8 @@
-use Rattle.std.proofs.Common.{ℕ, Option, subst, ◌∙◌}
+use Rattle.std.proofs.Common.{Option, subst, ◌∙◌}
 use Rattle.tt_core.specs.Chains.{on-gives}
 use Rattle.tt_core.specs.Directory.{HasNo}
 use Rattle.tt_core.specs.Outcomes.{Gives}
+use Rattle.tt_cmap.specs.declared.records.Place.{Place}
 use Rattle.tt_cmap.specs.Defects.{IsBadCmap}
 use Rattle.tt_cmap.specs.Lookup.{lookup_by, lookup_of}
 use Rattle.tt_cmap.specs.Subtables.{chosen_serves, none_chosen}
@@ -12,20 +13,20 @@ pub returns-clause-exact : goal.returns-clause-exact
 unfolding lookup_of
 returns-clause-exact c =
     let table = c.args.table.now in
-    let P : Option ℕ → Type 0 = λ place. Gives (λ m. m) c.by_subtable.result (lookup_by table c.args.glyphs place) in
+    let P : Option Place → Type 0 = λ place. Gives (λ m. m) c.by_subtable.result (lookup_by table c.args.glyphs place) in
     subst P c.chosen.ensures.chosen (rw c.in_ok-count.ensures.exact c.by_subtable.ensures.exact)
 
 pub returns-clause-first : goal.returns-clause-first
-returns-clause-first c = λ i serves.
+returns-clause-first c = λ format i serves.
     let table = c.args.table.now in
-    let P : Option ℕ → Type 0 = λ place. Gives (λ m. m) c.by_subtable.result (lookup_by table c.args.glyphs place) in
-    let chosen = c.chosen.ensures.chosen ∙ chosen_serves table i serves in
+    let P : Option Place → Type 0 = λ place. Gives (λ m. m) c.by_subtable.result (lookup_by table c.args.glyphs place) in
+    let chosen = c.chosen.ensures.chosen ∙ chosen_serves format table i serves in
     subst P chosen (rw c.in_ok-count.ensures.exact c.by_subtable.ensures.exact)
 
 pub returns-clause-absent : goal.returns-clause-absent
 returns-clause-absent c = λ none.
     let table = c.args.table.now in
-    let P : Option ℕ → Type 0 = λ place. Gives (λ m. m) c.by_subtable.result (lookup_by table c.args.glyphs place) in
+    let P : Option Place → Type 0 = λ place. Gives (λ m. m) c.by_subtable.result (lookup_by table c.args.glyphs place) in
     let chosen = c.chosen.ensures.chosen ∙ none_chosen table none in
     subst P chosen (rw c.in_ok-count.ensures.exact c.by_subtable.ensures.exact)
 

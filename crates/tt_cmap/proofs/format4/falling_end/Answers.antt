@@ -1,7 +1,0 @@
-use Rattle.std.proofs.Common.{arith}
-use Rattle.std.proofs.lemmas.Grind.{common_steps}
-use Rattle.tt_core.specs.Search.{first_from_next}
-use Rattle.tt_cmap.proofs.format4.falling_end.Goals as goal
-
-pub loop-i-preserved : goal.loop-i-preserved
-loop-i-preserved c = grind (arith, common_steps, first_from_next)

@@ -1,0 +1,92 @@
+-- OpenType, "cmap": what formats 4 and 12 have in common. A subtable has ranges of characters, segments or groups, in
+-- the order of their last characters; the first that reaches a character tells its glyph.
+use Rattle.std.specs.Prelude.{ℕ, ◌+◌, ◌-◌, Bool, nat_lt, nat_le, List, Option, Some, None, Result, Ok, Err, ⊤}
+use Rattle.tt_core.specs.Faults.{Fault}
+use Rattle.tt_core.specs.declared.fault.Why.TheVariants as why
+use Rattle.tt_core.specs.Outcomes.{◌>>=◌}
+use Rattle.tt_core.specs.Search.{first_below}
+use Rattle.tt_cmap.specs.declared.records.Format.{Format}
+use Rattle.tt_cmap.specs.declared.records.Format.TheVariants as format
+use Rattle.tt_cmap.specs.declared.records.Place.{Place}
+use Rattle.tt_cmap.specs.declared.ranges.Subtable as ranges
+use Rattle.tt_cmap.specs.declared.ranges.Subtable.TheVariants as by
+use Rattle.tt_cmap.specs.Format4.{SegmentMap, segment_count, segments_at, end_code, end_code_place, by_segment}
+use Rattle.tt_cmap.specs.Format12.{GroupMap, group_count, groups_at, end_char_code, end_char_code_place, by_group}
+use Rattle.tt_cmap.specs.Subtables.{cmap_fault}
+
+pub data Subtable : Type 0 where
+  segments : SegmentMap → Subtable
+  groups : GroupMap → Subtable
+
+abbrev pub table_of : Subtable → List ℕ
+table_of (segments m) = m.table
+table_of (groups m) = m.table
+
+abbrev pub range_count : Subtable → ℕ
+range_count (segments m) = segment_count m
+range_count (groups m) = group_count m
+
+-- the last character of range i, and where it stands
+abbrev pub range_end : Subtable → ℕ → ℕ
+range_end (segments m) i = end_code m i
+range_end (groups m) i = end_char_code m i
+
+abbrev pub range_end_place : Subtable → ℕ → ℕ
+range_end_place (segments m) i = end_code_place m i
+range_end_place (groups m) i = end_char_code_place m i
+
+-- range i + 1 ends before range i
+abbrev pub falls : Subtable → ℕ → Bool
+falls s i = nat_lt (range_end s (i + 1)) (range_end s i)
+
+-- the first range that the next one ends before
+abbrev pub falling_range : Subtable → Option ℕ
+falling_range s = first_below (range_count s - 1) (falls s)
+
+abbrev pub or_falling : Subtable → Option ℕ → Result Subtable Fault
+or_falling s None = Ok s
+or_falling s (Some i) = Err (cmap_fault (range_end_place s (i + 1)) why.CmapShape)
+
+-- a subtable as bytes of a format at a place
+abbrev pub read_as : Format → List ℕ → ℕ → Subtable
+read_as format.Segments table at = segments (record { table = table; at = at })
+read_as format.Groups table at = groups (record { table = table; at = at })
+
+-- the subtable of a format at a place, which has to fit
+abbrev pub subtable_with : Format → List ℕ → ℕ → Result Subtable Fault
+subtable_with format.Segments table at = segments_at table at >>= λ m. Ok (segments m)
+subtable_with format.Groups table at = groups_at table at >>= λ m. Ok (groups m)
+
+-- and whose ranges have to end in rising order
+abbrev pub subtable_at : List ℕ → Place → Result Subtable Fault
+subtable_at table p = subtable_with p.format table p.at >>= λ s. or_falling s (falling_range s)
+
+-- range i ends at the character, or behind it
+abbrev pub reaches : Subtable → ℕ → ℕ → Bool
+reaches s c i = nat_le c (range_end s i)
+
+abbrev pub range_of : Subtable → ℕ → Option ℕ
+range_of s c = first_below (range_count s) (reaches s c)
+
+-- the glyph of a character by range i, whose end is not before it
+abbrev pub by_range : Subtable → ℕ → ℕ → ℕ → ℕ
+by_range (segments m) glyphs c i = by_segment m glyphs c i
+by_range (groups m) glyphs c i = by_group m glyphs c i
+
+abbrev pub by_found : Subtable → ℕ → ℕ → Option ℕ → ℕ
+by_found s glyphs c None = 0
+by_found s glyphs c (Some i) = by_range s glyphs c i
+
+-- the glyph of a character: by the first range that ends at it or behind it, and 0 where there is none
+abbrev pub glyph_in : Subtable → ℕ → ℕ → ℕ
+glyph_in s glyphs c = by_found s glyphs c (range_of s c)
+
+-- this holds of a subtable of format 4
+abbrev pub IfSegments : Subtable → Type 0 → Type 0
+IfSegments (segments m) P = P
+IfSegments (groups m) P = ⊤
+
+-- how the definitions see what the code works with
+abbrev pub subtable_view : ranges.Subtable → Subtable
+subtable_view (by.Segments m) = segments m
+subtable_view (by.Groups m) = groups m

@@ -1,0 +1,58 @@
+-- No part of the standard: for which glyphs a font's programs are given up, so that they are made with their scaled
+-- points (profile).
+use Rattle.std.specs.Prelude.{◌≡◌, Bool, true, false, ◌&&◌, nat_le, if◌then◌else◌, codes, Option, Some, None, Result, Ok, Err, refl}
+use Rattle.tt_core.specs.declared.fault.Why.TheVariants as why
+use Rattle.tt_core.specs.Faults.{Fault, fault_at, why_number}
+use Rattle.tt_fit.specs.Outline.{Shape}
+use Rattle.tt_fit.specs.Programs.{Hints, unhinted}
+
+-- a fault of a program; the numbers below are those of the font's tables
+unfoldable pub is_program_fault : Fault → Bool
+is_program_fault fault = nat_le 30 (why_number fault.why) && nat_le (why_number fault.why) 50
+
+-- programs are given up for no glyph, for each whose own or whose component's program is refused, or, by a fault of
+-- the font program or the control value program, for every glyph
+pub data Fallback : Type 0 where
+  never : Fallback
+  where_refused : Fallback
+  everywhere : Fault → Fallback
+
+-- the fault for which they are, by what the outline with them is
+abbrev pub unfitted_by : Fallback → Result Shape Fault → Option Fault
+unfitted_by never by_programs = None
+unfitted_by where_refused (Ok o) = None
+unfitted_by where_refused (Err fault) = if is_program_fault fault then Some fault else None
+unfitted_by (everywhere fault) by_programs = Some fault
+
+-- what a glyph is made with, where they are given up for this fault, or for none
+abbrev pub hints_kept : Option Fault → Hints → Hints
+hints_kept None hints = hints
+hints_kept (Some fault) hints = unhinted
+
+-- worked values: the last fault of a table, the first and the last one of a program
+coordinate_is_of_a_table : is_program_fault (fault_at (codes "glyf") 0 why.CoordRange) ≡ false
+unfolding is_program_fault why_number
+coordinate_is_of_a_table = refl
+
+steps_are_of_a_program : is_program_fault (fault_at (codes "prep") 3 why.StepLimit) ≡ true
+unfolding is_program_fault why_number
+steps_are_of_a_program = refl
+
+argument_is_of_a_program : is_program_fault (fault_at (codes "glyf") 14 why.BadArgument) ≡ true
+unfolding is_program_fault why_number
+argument_is_of_a_program = refl
+
+-- a glyph whose program is refused, and one whose bytes end too early
+abbrev refused : Fault
+refused = fault_at (codes "glyf") 14 why.OffProfile
+
+abbrev short : Fault
+short = fault_at (codes "glyf") 21 why.GlyphShort
+
+refused_is_unfitted : unfitted_by where_refused (Err refused) ≡ Some refused
+unfolding is_program_fault why_number
+refused_is_unfitted = refl
+
+short_is_no_reason : unfitted_by where_refused (Err short) ≡ None
+unfolding is_program_fault why_number
+short_is_no_reason = refl

@@ -1,0 +1,37 @@
+//! For which glyphs the font's programs are given up.
+
+ghost use Rattle.std.specs.Prelude.{◌≡◌};
+ghost use Rattle.tt_core.specs.Outcomes.{font_fault};
+ghost use Rattle.tt_fit.specs.Fallback.{is_program_fault};
+
+use tt_core::{Fault, FontFault};
+
+/// For which glyphs the font's programs are given up, and points are scaled only.
+#[derive(Clone, Copy)]
+pub(crate) enum Fallback {
+    /// For none.
+    Never,
+    /// For each whose own or whose component's program is refused.
+    WhereRefused,
+    /// For every one, by this fault of the font program or the control value program.
+    Everywhere(Fault),
+}
+
+/// What is wrong with the font, where memory did not run out.
+pub(crate) fn told(refusal: FontFault) -> Option<Fault>
+    ensures { result ≡ font_fault refusal }
+{
+    match refusal {
+        FontFault::Font(fault) => Some(fault),
+        FontFault::Memory => None,
+    }
+}
+
+/// Whether it is a program that is at fault, and not a table of the font.
+#[tactic(auto, unfolding(crate::specs::Fallback::is_program_fault))]
+pub(crate) fn is_program_fault(fault: Fault) -> bool
+    ensures { result ≡ is_program_fault fault }
+{
+    let number = fault.why.number();
+    number <= 50 && 30 <= number
+}
