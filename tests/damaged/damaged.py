@@ -19,10 +19,10 @@ from asking import (
 from face import mapped
 
 # So many answers of damaged fonts at the least; fewer would be a script that asks too little.
-LEAST = 90_000
+LEAST = 300_000
 # One in so many answers is compared with that of tt_render itself; the number has no factor in common with the number
 # of questions to a font.
-EACH = 1103
+EACH = 2503
 
 
 def fonts():
