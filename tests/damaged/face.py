@@ -1,5 +1,6 @@
-"""What `map` answers, by the rules alone: the directory, head, maxp, hhea and hmtx of OpenType, with the refusals in the
-order in which the bytes are read, and behind them cmap by ../characters/plain.py. They share no code with tt_render."""
+"""What `map` answers, by the rules alone: the directory, head, maxp, hhea and hmtx of OpenType, with the refusals in
+the order in which the bytes are read, and behind them cmap by ../characters/plain.py. It shares no code with
+tt_render."""
 import sys
 from pathlib import Path
 
