@@ -9,6 +9,10 @@ has at most 32 records, components lie at most four deep, and a glyph has at mos
                                            point in them; the others are empty
     bench/worst_programs.py points FONT    one glyph of 16,384 points; nearly each step interpolates them all
     bench/worst_programs.py skips FONT     one glyph; each fifth step skips 65,000 bytes of its program
+    bench/worst_programs.py copy FONT      one glyph with a program of one byte, in a font of 64 MiB whose control
+                                           values, storage, twilight points and functions, which each run gets a copy
+                                           of, are as many as may be
+    bench/worst_programs.py copies FONT    the same, and 32 records: 33 runs; at four depths they would be 50,209
 
 To be drawn by `tt_render draw --size 16 FONT A`.
 """
@@ -74,6 +78,18 @@ def skips_program():
     return bytes.fromhex("B000 58") + b"\x4f" * 65000 + b"\x59" + back
 
 
+def functions():
+    """Defines the functions 0 to 65,534, all empty: PUSHW, FDEF, ENDF; above 32,767 the number is a sum."""
+    low = b"".join(b"\xb8" + small.words(it) + b"\x2c\x2d" for it in range(32768))
+    return low + b"".join(b"\xb9" + small.words(32767, it) + b"\x60\x2c\x2d" for it in range(1, 32768))
+
+
+def large_tables(glyphs):
+    """The tables of which each run gets a copy; the font is not larger than 64 MiB."""
+    maxp = small.words(1, 0, glyphs, 0, 0, 0, 0, 0, 65535, 65535, 0, 0, 64, 0, 0, 0)
+    return {"cvt ": bytes([0, 64]) * 33_300_000, "fpgm": functions(), "maxp": maxp}
+
+
 def main():
     glyphs = {
         "endless": lambda: tree(4, ENDLESS),
@@ -82,9 +98,12 @@ def main():
         "four": lambda: whole_tree(long_program()),
         "points": lambda: [b"", simple_with(points_program(), 16384), b""],
         "skips": lambda: [b"", simple_with(skips_program(), 1), b""],
+        "copy": lambda: [b"", simple_with(b"\x01", 1), b""],
+        "copies": lambda: tree(1, b"\x01"),
     }[sys.argv[1]]()
     metrics = [(0, 0), (256, 0)] + [(0, 0)] * (len(glyphs) - 2)
-    Path(sys.argv[2]).write_bytes(small.font(glyphs, metrics))
+    others = large_tables(len(glyphs)) if sys.argv[1].startswith("cop") else {}
+    Path(sys.argv[2]).write_bytes(small.font(glyphs, metrics, others=others))
 
 
 main()

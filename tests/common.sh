@@ -6,6 +6,10 @@ trap 'echo "tests: ${BASH_SOURCE[0]##*/}, line $LINENO: a command of the script 
 
 root=$(cd -- "$(dirname -- "${BASH_SOURCE[0]}")/.." && pwd)
 
+# Each way to fit.
+fits=(full none fallback)
+export TT_FITS=${fits[*]}
+
 room=$(mktemp -d)
 trap 'rm -rf -- "$room"' EXIT
 
@@ -49,11 +53,12 @@ tables_program() {
   test_program tt_test_tables "${TT_TABLES:-}" glyphs "$root/crates/tt_test_tables/data/composite_font.ttf"
 }
 
-# A script that asks the program of tables, or the one that runs the bytecode machine, says `asks=tables` or
-# `asks=machine` before it sources this file.
+# A script that asks the program of tables, the one that runs the bytecode machine, or the one that does over memory
+# what ours does, says `asks=tables`, `asks=machine` or `asks=fonts` before it sources this file.
 case ${asks:-render} in
   tables) tables_program ;;
   machine) test_program tt_test_machine "${TT_MACHINE:-}" ;;
+  fonts) test_program tt_test_fonts "${TT_FONTS:-}" ;;
   *) render_program ;;
 esac
 

@@ -70,8 +70,8 @@ def composite(*records, x_min=0):
     return words(-1, x_min, 0, 0, 0) + b"".join(more) + records[-1]
 
 
-def font(glyphs, metrics, em=1024, ascent=256, descent=0, long_metrics=None):
-    """A font of glyphs, from glyph 0 on, and their advances and left side bearings."""
+def font(glyphs, metrics, em=1024, ascent=256, descent=0, long_metrics=None, others=()):
+    """A font of glyphs, from glyph 0 on, and their advances and left side bearings; others are tables by their tags."""
     long_metrics = len(metrics) if long_metrics is None else long_metrics
     places, glyf = [0], b""
     for glyph in glyphs:
@@ -87,9 +87,10 @@ def font(glyphs, metrics, em=1024, ascent=256, descent=0, long_metrics=None):
         "loca": words(*places),
         "maxp": words(1, 0, len(glyphs), 0, 0, 0, 0, 0, 4, 4, 0, 0, 64, 0, 0, 0),
     }
+    tables.update(others)
     directory = words(1, 0, len(tables), 64, 2, 48)
     data, start = b"", 12 + 16 * len(tables)
-    for tag, table in tables.items():
+    for tag, table in sorted(tables.items()):
         directory += tag.encode() + struct.pack(">III", 0, start + len(data), len(table))
         data += padded(table, 4)
     return directory + data

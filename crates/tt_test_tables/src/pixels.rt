@@ -6,14 +6,14 @@
 //!
 //! Its answer is a line too. For `pixels` it is the picture from the top, '#' for a black pixel and '.' for a white
 //! one, and '/' after each row. For `edges` it is for each edge `rows FIRST END`, or `rows none`, then for each row of
-//! the frame `|TURN FIRST`, or `|TURN FIRST touch FIRST LAST` where the edge touches centres, and '/' after each edge.
+//! the frame `|TURN FIRST`, or `|TURN FIRST touch FIRST LAST` where the edge touches centres, and '/' after each edge. An
+//! edge for which memory was refused is told on standard error, and put on the tape again.
 
 ghost use Rattle.std.specs.Prelude.{◌≡◌, IfOk};
 ghost use Rattle.tt_scan.specs.Winding.{EdgeFits, FrameFits};
 
 use crate::words::Words;
 use anyhow::{Context, Result, bail};
-use std::alloc::Global;
 use std::io::{self, BufRead, BufReader, BufWriter, Write};
 use tt_scan::{Edge, Frame, Tape};
 
@@ -25,24 +25,24 @@ const MOST_CROSSES: u64 = 1 << 40;
 /// The ends of an edge stay less than this from 0.
 const REACH: i64 = 1 << 30;
 
-pub(crate) fn answer_all<R: Print + Input + AllocGlobal>(rt: &R) -> Result<()> {
+pub(crate) fn answer_all<R: Print + Eprint + Input + AllocGlobal>(rt: &R) -> Result<()> {
     let input = BufReader::new(rt.alloc(), rt.reader())?;
     let mut out = BufWriter::new(rt.alloc(), io::writer(rt))?;
     let mut number = 0u64;
     for line in input.lines(rt.alloc()) {
         let line = line?;
         number = number.wrapping_add(1);
-        answer(rt.alloc(), &mut out, line.as_str()).context(format_args!("line {number}"))?;
+        answer(rt, &mut out, line.as_str()).context(format_args!("line {number}"))?;
     }
     out.flush()?;
     Ok(())
 }
 
-fn answer<W: Write>(alloc: Global, out: &mut W, line: &str) -> Result<()> {
+fn answer<R: Eprint + AllocGlobal, W: Write>(rt: &R, out: &mut W, line: &str) -> Result<()> {
     let mut words = Words::Line(line.split_ascii_whitespace());
     let what = words.word()?;
     let frame = words.frame()?;
-    let mut tape = tape_in(alloc, &mut words, frame)?;
+    let mut tape = tape_in(rt, &mut words, frame)?;
     words.end()?;
     match what {
         "pixels" => print_pixels(out, &mut tape, frame, "/")?,
@@ -64,15 +64,27 @@ fn edge_in(words: &mut Words) -> Result<Edge>
     })
 }
 
-fn tape_in(alloc: Global, words: &mut Words, frame: Frame) -> Result<Tape>
+fn tape_in<R: Eprint + AllocGlobal>(rt: &R, words: &mut Words, frame: Frame) -> Result<Tape>
     requires { FrameFits frame }
     ensures { IfOk result (λ t. t.frame ≡ frame) }
 {
-    let mut tape = Tape::new(alloc, frame);
+    let mut tape = Tape::new(rt.alloc(), frame);
     for _ in 0..words.number(0, MOST_EDGES as i64)? {
-        tape.push(edge_in(words)?)?;
+        push_twice(rt, &mut tape, edge_in(words)?)?;
     }
     Ok(tape)
+}
+
+/// Puts an edge on a tape, and once more where memory was refused.
+fn push_twice<R: Eprint>(rt: &R, tape: &mut Tape, edge: Edge) -> Result<()>
+    requires { EdgeFits edge }
+    ensures { tape.new.frame ≡ tape.old.frame }
+{
+    if tape.push(edge).is_err() {
+        let _ = eprintln!(rt; "an edge: out of memory");
+        tape.push(edge)?;
+    }
+    Ok(())
 }
 
 /// Prints a picture from the top, with `end` after each row.

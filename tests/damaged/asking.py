@@ -1,0 +1,306 @@
+"""What the scripts of damaged/, devices/ and fuzz/ share: questions to tt_test_fonts, and the judge of its answers."""
+import os
+import re
+import struct
+import subprocess
+import sys
+import tempfile
+from pathlib import Path
+from typing import NamedTuple
+
+ROOT = Path(__file__).resolve().parent.parent.parent
+ROWS = ROOT / "tests" / "rows"
+
+# Each way to fit, as ../common.sh names them; `draw` is asked with all of them.
+FITS = os.environ["TT_FITS"].split()
+
+FACE = ("head", "maxp", "hhea", "hmtx", "cmap")
+GLYPHS = ("loca", "glyf")
+PROGRAMS = ("fpgm", "prep", "glyf")
+# Each number of a font's refusals: its name, and the tables at which it may stand.
+REFUSALS = {
+    1: ("BadVersion", ["file"]),
+    2: ("DirShort", ["file"]),
+    3: ("NoTable", [*FACE, *GLYPHS]),
+    4: ("TableRange", ["file"]),
+    5: ("HeadMagic", ["head"]),
+    6: ("EmRange", ["head"]),
+    7: ("LocaFormat", ["head"]),
+    8: ("MaxpVersion", ["maxp"]),
+    9: ("MetricsShort", ["head", "maxp", "hhea", "hmtx"]),
+    10: ("NoCmap", ["cmap"]),
+    11: ("CmapShape", ["cmap"]),
+    12: ("LocaShort", ["loca"]),
+    13: ("GlyphRange", ["loca"]),
+    **{
+        number: (name, ["glyf"])
+        for number, name in enumerate(
+            (
+                "GlyphShort ContourOrder FlagRun ComponentDepth ComponentCount ComponentGlyph MatchPoint ScaledOffset "
+                "PointLimit CoordRange"
+            ).split(),
+            14,
+        )
+    },
+    **{
+        number: (name, PROGRAMS)
+        for number, name in enumerate(
+            (
+                "StepLimit StackFull StackShort CallDepth BadOpcode OffProfile JumpRange CodeShort NoFunction "
+                "DefinitionPlace IfOpen NoEndf PointRange ContourRange ZoneRange CvtRange StorageRange DivZero "
+                "ValueRange Perpendicular BadArgument"
+            ).split(),
+            30,
+        )
+    },
+}
+# The numbers whose place is one alone, whatever the font.
+PLACES = {1: 0, 3: 0, 5: 12, 6: 18, 7: 50, 8: 0, 10: 0}
+
+ANSWER = re.compile(r"([0-9]) ([0-9]+) ([0-9]+)\|(.*)")
+FAULT = r"([ -~]{4})\+(0|[1-9][0-9]*): ([1-9][0-9]*) ([A-Za-z]+)\|"
+FONT_LINE = re.compile("tt_render: " + FAULT)
+UNFITTED_LINE = re.compile("tt_render: glyph (?:0|[1-9][0-9]*) unfitted: " + FAULT)
+JOB_LINE = re.compile(r"tt_render: ([1-9][0-9]*) ([A-Za-z]+)\|")
+
+
+def sum_of(data):
+    """Returns the sum by FNV-1a of 64 bits, as tt_test_fonts does."""
+    total = 0xCBF29CE484222325
+    for byte in data:
+        total = (total ^ byte) * 0x100000001B3 % 2**64
+    return total
+
+
+NOTHING = f"0 {sum_of(b'')}"
+
+
+def answer_of(status, stdout, stderr):
+    """Returns the answer that tells of these bytes."""
+    return f"{status} {len(stdout)} {sum_of(stdout)}|{stderr.decode().replace(chr(10), '|')}"
+
+
+def words_of(data):
+    return data.hex() or "-"
+
+
+def tables_of(font):
+    """Returns place and length of each table, by the first record of its tag, as far as the directory goes."""
+    tables = {}
+    if len(font) >= 6:
+        for at in range(12, min(12 + 16 * int.from_bytes(font[4:6], "big"), len(font) - 15), 16):
+            tag, _, place, length = struct.unpack_from(">4s3I", font, at)
+            tables.setdefault(tag.decode("latin-1"), (place, length))
+    return tables
+
+
+def entries_of_loca(font, tables):
+    """Returns the offsets that loca has."""
+    head, loca = tables["head"][0], tables["loca"]
+    data = font[loca[0] : loca[0] + loca[1]]
+    if font[head + 51] == 0:
+        return {2 * it[0] for it in struct.iter_unpack(">H", data[: len(data) // 2 * 2])}
+    return {it[0] for it in struct.iter_unpack(">I", data[: len(data) // 4 * 4])}
+
+
+def is_place(font, table, offset, number, tables=None):
+    """Tells whether such a refusal may stand at such a place of the font."""
+    if number in PLACES:
+        return offset == PLACES[number]
+    if number == 2:
+        return offset == len(font)
+    if number == 4:
+        return offset >= 12 and (offset - 12) % 16 == 0 and offset + 16 <= len(font)
+    tables = tables or tables_of(font)
+    length = tables.get(table, (0, 0))[1]
+    if number == 9:
+        return offset == length or (table, offset) in (("hhea", 34), ("maxp", 4))
+    if number == 12:
+        return offset == length
+    if number == 23 and offset > length:
+        # A glyph without an outline begins where its entry says, and that may be anywhere.
+        return offset in entries_of_loca(font, tables)
+    return offset <= length
+
+
+# The numbers of a program's refusals.
+OF_PROGRAMS = range(30, 51)
+# The numbers of refusals that may come, by the word of the question, which is `map` or a way to fit.
+NUMBERS = {"map": range(1, 12), **{fit: [*range(1, 24)] for fit in FITS}}
+NUMBERS["full"] += OF_PROGRAMS
+
+
+def why_no_fault(font, found, numbers, tables):
+    """Says what is wrong with a fault that was found in a line, or returns None."""
+    if not found:
+        return "has a line of another form"
+    table, offset, number, name = found[1], int(found[2]), int(found[3]), found[4]
+    if number not in numbers:
+        return "has a number that cannot come here"
+    if REFUSALS[number][0] != name:
+        return f"has a number whose name is {REFUSALS[number][0]}"
+    if table not in REFUSALS[number][1]:
+        return "names a table that has no such refusal"
+    if not is_place(font, table, offset, number, tables):
+        return "has an offset that cannot be"
+    return None
+
+
+def why_no_picture(font, kind, count, lines, tables):
+    """Says what is wrong with an answer of status 0, or returns None."""
+    if kind != "map" and count == 0:
+        return "is a picture without a byte"
+    if kind == "fallback":
+        for line in lines.split("|")[:-1]:
+            why = why_no_fault(font, UNFITTED_LINE.fullmatch(line + "|"), OF_PROGRAMS, tables)
+            if why:
+                return why
+        return None
+    return "has a line" if lines else None
+
+
+def why_wrong(font, kind, answer, tables=None):
+    """Says what is wrong with an answer, or returns None. Kind is `map` or the way to fit. The font's bytes are those
+    that were read, and its tables may be given where they are known. The devices do not fail, and memory is there."""
+    found = ANSWER.fullmatch(answer)
+    if not found:
+        return "is no answer"
+    status, count, lines = int(found[1]), int(found[2]), found[4]
+    if status == 0:
+        return why_no_picture(font, kind, count, lines, tables)
+    if not answer.startswith(f"{status} {NOTHING}|"):
+        return "is a refusal, and bytes were written"
+    if status == 1:
+        return why_no_fault(font, FONT_LINE.fullmatch(lines), NUMBERS[kind], tables)
+    if status == 2 and kind != "map":
+        found = JOB_LINE.fullmatch(lines)
+        if found and (int(found[1]), found[2]) in ((62, "EmptyPicture"), (63, "PictureLarge")):
+            return None
+    return "has a status or a line that cannot come here"
+
+
+def why_not_alike(answers):
+    """Says what is wrong with the answers to a font and a text, by their kinds, or returns None. What `map` refuses,
+    and a picture's size, are refused alike by all; and what is refused without programs is refused with them, but for
+    coordinates, which programs may bring back. The way to fit that falls back does so where a program is refused."""
+    if "fallback" in answers:
+        full, fallback = answers["full"], answers["fallback"]
+        # What a program does is not refused: a glyph is drawn without it, or refused for another reason.
+        if not re.search(r": (3[0-9]|4[0-9]|50) ", full):
+            wrong = fallback != full
+        else:
+            wrong = not fallback.startswith("0 ") and not re.search(r": (1?[0-9]|2[0-3]) ", fallback)
+        if wrong:
+            return f"has '{fallback}' as fallback, and '{full}'"
+    without = answers["none"]
+    alike = without.startswith("2 ")
+    if "map" in answers and answers["map"].startswith("1 "):
+        without, alike = answers["map"], True
+    if not without.startswith("0 ") and "23 CoordRange" not in without:
+        for kind, answer in answers.items():
+            if kind != "map" and (answer != without if alike else not answer.startswith("1 ")):
+                return f"has '{answer}' as {kind}, and '{without}'"
+    return None
+
+
+class Row(NamedTuple):
+    """A row of tests/rows. Its kind is `map` or the way to fit, its shape the size and the margin."""
+
+    name: str
+    kind: str
+    font: bytes
+    text: bytes
+    shape: tuple
+    status: int
+    stdout: bytes
+    stderr: bytes
+
+    def answer(self):
+        return answer_of(self.status, self.stdout, self.stderr)
+
+    def question(self):
+        return question(self.kind, self.text, self.shape, len(self.font))
+
+
+# The kind of the rows of each file.
+KINDS = {"map": "map", "draw": "none", "fitted": "full"}
+
+
+def field(word):
+    """Returns the bytes of a field of a row."""
+    digits, _, times = word.partition("*")
+    return b"" if word == "-" else bytes.fromhex(digits) * int(times or 1)
+
+
+def rows():
+    """Yields the rows of tests/rows."""
+    for table, kind in KINDS.items():
+        whole = b""
+        for line in (ROWS / f"{table}.txt").read_text(encoding="utf-8").split("\n"):
+            words = line.split(" ")
+            if words[0] == "font":
+                whole = bytes.fromhex(words[1])
+            elif line and words[0] != "#":
+                name, font, text, *rest = words
+                if font.startswith("cut:"):
+                    font = whole[: int(font[4:])]
+                else:
+                    font = whole if font == "whole" else field(font)
+                # Of `map` neither is asked, and these are for other questions.
+                shape = (16, 0) if kind == "map" else (int(rest.pop(0)), int(rest.pop(0)))
+                stderr = " ".join(rest[2:])
+                stderr = b"" if stderr == "-" else stderr.encode() + b"\n"
+                yield Row(name, kind, font, field(text), shape, int(rest[0]), field(rest[1]), stderr)
+
+
+def question(kind, text, shape, size, changes=()):
+    """Returns the question of a text; kind is `map` or the way to fit."""
+    words = ["map", words_of(text)] if kind == "map" else ["draw", words_of(text), *map(str, shape), kind]
+    return " ".join([*words, str(size), *(f"{at} {byte}" for at, byte in changes)])
+
+
+def asked(lines, seconds=900):
+    """Asks tt_test_fonts these lines; returns its answers, and what went wrong, or None."""
+    with tempfile.TemporaryFile() as questions:
+        questions.write("\n".join(lines).encode() + b"\n")
+        questions.seek(0)
+        try:
+            ended = subprocess.run(
+                [os.environ["TT_FONTS"]],
+                stdin=questions,
+                stdout=subprocess.PIPE,
+                stderr=subprocess.PIPE,
+                timeout=seconds,
+            )
+        except subprocess.TimeoutExpired as late:
+            return (late.stdout or b"").decode().split("\n")[:-1], f"no end after {seconds} seconds"
+    wrong = None if ended.returncode == 0 else f"status {ended.returncode}: {ended.stderr.decode()}"
+    return ended.stdout.decode().split("\n")[:-1], wrong
+
+
+def answer_of_program(kind, font, text, shape):
+    """Returns what tt_render itself answers."""
+    with tempfile.NamedTemporaryFile() as file:
+        file.write(font)
+        file.flush()
+        words = ["map"]
+        if kind != "map":
+            words = ["draw", "--size", str(shape[0]), "--margin", str(shape[1]), "--fit", kind]
+        ended = subprocess.run(
+            [os.environ["TT_RENDER"], *words, file.name, "--", text.decode()],
+            stdin=subprocess.DEVNULL,
+            stdout=subprocess.PIPE,
+            stderr=subprocess.PIPE,
+            timeout=60,
+        )
+    return answer_of(ended.returncode, ended.stdout, ended.stderr)
+
+
+def report(name, passed, failures):
+    """Prints the failures and the script's last line, and ends with its status."""
+    for line in failures[:50]:
+        print(f"FAILED {line}")
+    if len(failures) > 50:
+        print(f"and {len(failures) - 50} more")
+    print(f"{name}: {passed} passed, {len(failures)} failed")
+    sys.exit(bool(failures))
