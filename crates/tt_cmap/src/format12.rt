@@ -10,14 +10,14 @@ ghost use Rattle.tt_cmap.specs.Format12.{groups_at, group_count, group_place, en
 use crate::format4::known;
 use crate::records::CMAP;
 use std::marker::Model;
-use tt_core::{Fault, Why, u32_at};
+use tt_core::{Fault, Why};
 
 fn long(table: &[u8], at: usize) -> usize
     requires { at + 4 ≤ length table.now }
     ensures exact { result ≡ unsigned_at table.now at 4 }
     ensures bound { result < 2 ^ 32 }
 {
-    u32_at(table, at).unwrap() as usize
+    u32::from_be_bytes([table[at], table[at + 1], table[at + 2], table[at + 3]]) as usize
 }
 
 /// A subtable whose groups fit. A clause sees it as the bytes of cmap and where it begins.

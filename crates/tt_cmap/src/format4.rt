@@ -16,7 +16,7 @@ fn word(table: &[u8], at: usize) -> usize
     ensures exact { result ≡ unsigned_at table.now at 2 }
     ensures bound { result < 65536 }
 {
-    usize::from(u16_at(table, at).unwrap())
+    usize::from(u16::from_be_bytes([table[at], table[at + 1]]))
 }
 
 /// A glyph number that the font has, and 0 for any other (profile).

@@ -1,2 +1,3 @@
+pub mod Ascii
 pub mod P4
 pub mod Rows

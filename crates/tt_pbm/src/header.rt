@@ -1,8 +1,10 @@
 //! The header of a picture. Netpbm, "PBM", format P4.
 
-ghost use Rattle.std.specs.Prelude.{◌≡◌, ◌+◌, ◌<◌, ◌≤◌, ◌++◌, [], ◌∷◌, length, take, decimal};
+ghost use Rattle.std.specs.Prelude.{◌≡◌, ◌≤◌, take};
 ghost use Rattle.tt_core.specs.Limits.{width_limit, height_limit};
-ghost use Rattle.tt_pbm.specs.P4.{p4_header_of, header_bytes};
+ghost use Rattle.tt_pbm.specs.P4.{p4_header_of};
+
+use crate::ascii::Ascii;
 
 /// Room for a header: two numbers of at most 5 digits, and 5 bytes round them.
 const ROOM: usize = 16;
@@ -14,30 +16,6 @@ pub struct Header {
     pub len: usize,
 }
 
-impl Header {
-    fn push(&mut self, byte: u8)
-        requires { self.old.len < ROOM }
-        ensures bytes { header_bytes self.new ≡ header_bytes self.old ++ byte ∷ [] }
-        ensures len { self.new.len ≡ self.old.len + 1 }
-    {
-        self.bytes[self.len] = byte;
-        self.len += 1;
-    }
-
-    fn push_decimal(&mut self, n: u32)
-        requires { self.old.len + length (decimal n) ≤ ROOM }
-        ensures bytes { header_bytes self.new ≡ header_bytes self.old ++ decimal n }
-        ensures len { self.new.len ≡ self.old.len + length (decimal n) }
-    {
-        if n < 10 {
-            self.push(b'0' + n as u8);
-        } else {
-            self.push_decimal(n / 10);
-            self.push(b'0' + (n % 10) as u8);
-        }
-    }
-}
-
 /// The header of a picture of `w` columns and `h` rows.
 pub fn p4_header(w: u32, h: u32) -> Header
     requires some_columns { 1 ≤ w }
@@ -47,16 +25,19 @@ pub fn p4_header(w: u32, h: u32) -> Header
     ensures exact { take result.len result.bytes ≡ p4_header_of w h }
     ensures size { result.len ≤ 16 }
 {
-    let mut header = Header {
-        bytes: [0; ROOM],
-        len: 0,
-    };
-    header.push(b'P');
-    header.push(b'4');
-    header.push(b'\n');
-    header.push_decimal(w);
-    header.push(b' ');
-    header.push_decimal(h);
-    header.push(b'\n');
-    header
+    let mut text = Ascii::new();
+    text.push(b'\n');
+    text.push_decimal(h as u16);
+    text.push(b' ');
+    text.push_decimal(w as u16);
+    text.push(b'\n');
+    text.push(b'4');
+    text.push(b'P');
+    let text = text.as_bytes();
+    let mut bytes = [0; ROOM];
+    bytes[..text.len()].copy_from_slice(text);
+    Header {
+        bytes,
+        len: text.len(),
+    }
 }

@@ -1,12 +1,14 @@
 //! Each character's glyph and advance, from a reader to the lines of a writer.
 
-ghost use Rattle.std.specs.Prelude.{◌≡◌, ◌<◌, ◌≤◌, ◌++◌, false, length, chars, string_bytes, IfOk, IfSome, OnOk};
+ghost use Rattle.std.specs.Fmt.{digit_glyph};
+ghost use Rattle.std.specs.Prelude.{◌≡◌, ◌+◌, ◌^◌, ◌<◌, ◌≤◌, ◌∷◌, ◌++◌, true, false, length, chars, IfOk, IfSome};
 ghost use Rattle.tt_core.specs.declared.fault.JobFault.TheVariants.{TextLong};
 ghost use Rattle.tt_core.specs.Limits.{font_limit, text_limit};
 ghost use Rattle.tt_core.specs.Outcomes.{FontGives, font_fault};
 ghost use Rattle.tt_metrics.specs.Metrics.{glyphs_of};
+ghost use Rattle.tt_pbm.specs.Ascii.{ascii_text};
 ghost use Rattle.tt_render.specs.Defects.{IsFaceDefect, TellsDefects, TellsDefectsOf};
-ghost use Rattle.tt_render.specs.MapLines.{line_text, lines_of, map_lines, map_wanted};
+ghost use Rattle.tt_render.specs.MapLines.{code_point, line_text, lines_of, map_lines, map_wanted};
 ghost use Rattle.tt_render.specs.Outcome.{CallGives, IfJob, IfLarge};
 
 use crate::face::open_face;
@@ -17,7 +19,7 @@ use std::alloc::{AllocError, Global};
 use tt_cmap::Cmap;
 use tt_core::{FontFault, Sink, Source};
 use tt_metrics::Metrics;
-use tt_pbm::write_all_of;
+use tt_pbm::{Ascii, write_all_of};
 
 /// Writes a line `U+NNNN glyph advance` for each character of the text: the code point in capital
 /// hexadecimal, the glyph's number and its advance in font units. Nothing is written before all lines
@@ -48,36 +50,80 @@ pub fn map<R: Source, W: Sink>(
     test_text(text)?;
     let file = read_font(alloc, font)?;
     let lines = lines_by(alloc, &file, text)?;
-    write_all_of(out, lines.as_bytes())?;
+    write_all_of(out, &lines)?;
     Ok(())
 }
 
 /// The lines by the tables of a font file.
 #[tactic(auto, unfolding(crate::specs::MapLines::lines_of))]
-fn lines_by(alloc: Global, file: &[u8], text: &str) -> Result<String, FontFault>
+fn lines_by(alloc: Global, file: &[u8], text: &str) -> Result<Vec<u8>, FontFault>
     requires { length file.now ≤ font_limit }
-    ensures exact { FontGives string_bytes result (lines_of file.now text.now) }
+    ensures exact { FontGives (λ lines. lines.items) result (lines_of file.now text.now) }
     ensures defects { TellsDefects font_fault (IsFaceDefect file.now) result }
 {
     let face = open_face(file)?;
     Ok(lines(alloc, &face.metrics, &face.cmap, text)?)
 }
 
-fn lines(alloc: Global, metrics: &Metrics, cmap: &Cmap, text: &str) -> Result<String, AllocError>
+fn lines(alloc: Global, metrics: &Metrics, cmap: &Cmap, text: &str) -> Result<Vec<u8>, AllocError>
     requires { cmap.now.glyphs ≡ glyphs_of metrics.now }
-    ensures { IfOk result (λ lines. string_bytes lines ≡ map_lines metrics.now cmap.now text.now) }
+    ensures { IfOk result (λ lines. lines.items ≡ map_lines metrics.now cmap.now text.now) }
 {
-    let mut lines = String::new(alloc);
+    let mut lines = Vec::new(alloc);
     for c in text.chars() {
         let glyph = cmap.glyph(c);
-        add_line(&mut lines, c, glyph, metrics.advance(glyph))?;
+        let line = line(c, glyph, metrics.advance(glyph));
+        lines.extend_from_slice(line.as_bytes())?;
     }
     Ok(lines)
 }
 
-fn add_line(lines: &mut String, c: char, glyph: u16, advance: u16) -> Result<(), AllocError>
-    ensures { OnOk result (string_bytes lines.new ≡ string_bytes lines.old ++ line_text c glyph advance) }
+/// The line of a character, made from its end.
+fn line(c: char, glyph: u16, advance: u16) -> Ascii
+    ensures text { ascii_text result ≡ line_text c glyph advance }
+    ensures within { result.at ≤ 24 }
 {
-    let code = c as u32;
-    write!(lines, "U+{code:04X} {glyph} {advance}\n")
+    let mut line = Ascii::new();
+    line.push(b'\n');
+    line.push_decimal(advance);
+    line.push(b' ');
+    line.push_decimal(glyph);
+    line.push(b' ');
+    push_code_point(&mut line, c as u32);
+    line.push(b'+');
+    line.push(b'U');
+    line
+}
+
+/// Puts a code point before a text, with at least four digits.
+fn push_code_point(line: &mut Ascii, code: u32)
+    requires code { code < 2 ^ 24 }
+    requires room { 6 ≤ line.old.at }
+    requires within { line.old.at ≤ 24 }
+    ensures text { ascii_text line.new ≡ code_point code ++ ascii_text line.old }
+    ensures room { line.old.at ≤ line.new.at + 6 }
+    ensures within { line.new.at ≤ line.old.at }
+{
+    push_digit(line, code % 16);
+    push_digit(line, code / 16 % 16);
+    push_digit(line, code / 256 % 16);
+    push_digit(line, code / 4096 % 16);
+    if code >= 0x1_0000 {
+        push_digit(line, code / 0x1_0000 % 16);
+        if code >= 0x10_0000 {
+            push_digit(line, code / 0x10_0000);
+        }
+    }
+}
+
+/// Puts a capital hexadecimal digit before a text.
+fn push_digit(line: &mut Ascii, digit: u32)
+    requires digit { digit < 16 }
+    requires room { 0 < line.old.at }
+    requires within { line.old.at ≤ 24 }
+    ensures text { ascii_text line.new ≡ digit_glyph true digit ∷ ascii_text line.old }
+    ensures room { line.new.at + 1 ≡ line.old.at }
+{
+    let first = if digit < 10 { b'0' } else { b'A' - 10 };
+    line.push(first + digit as u8);
 }

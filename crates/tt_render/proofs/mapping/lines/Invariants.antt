@@ -1,7 +1,7 @@
-use Rattle.std.proofs.Common.{◌≡◌, string_bytes, flat_map}
+use Rattle.std.proofs.Common.{◌≡◌, flat_map}
 use Rattle.tt_render.specs.MapLines.{map_line}
 use Rattle.tt_render.proofs.mapping.lines.Given as goal
 
 -- the lines of the characters so far
 abbrev pub invariant-loop-c : goal.invariant-loop-c
-invariant-loop-c l = string_bytes l.lines ≡ flat_map (map_line l.metrics l.cmap) l.yielded
+invariant-loop-c l = l.lines.items ≡ flat_map (map_line l.metrics l.cmap) l.yielded

@@ -1,4 +1,4 @@
-use Rattle.std.proofs.Common.{◌≡◌, ◌<◌, List, ℕ, length, take, string_bytes, Result, Ok, refl}
+use Rattle.std.proofs.Common.{◌≡◌, ◌<◌, List, ℕ, length, take, Result, Ok, refl}
 use Rattle.std.proofs.lemmas.Result.{err_from_is_err_and}
 use Rattle.std.specs.Io.KnownBytes.{Appends}
 use Rattle.tt_render.specs.Defects.{IsFaceDefect}
@@ -102,12 +102,12 @@ returns-in_err-write_all_of-clause-outcome g c =
     let text = c.args.text.now in
     let of_font = map_is_of_font text c.in_ok-test_text.ensures.exact in
     let file = c.in_ok-file in
-    let bytes = string_bytes c.in_ok-lines.lines in
+    let bytes = c.in_ok-lines.lines.items in
     let cut = c.in_err-write_all_of in
     let lines_are = rw c.deref.ensures.value at c.in_ok-lines.ensures.exact in
     let is_made : made text file.file.items ≡ Ok bytes = rw lines_are refl in
-    let within = rw c.as_bytes.ensures.value at cut.ensures.within in
-    let part = rw c.as_bytes.ensures.value at cut.ensures.part in
+    let within = rw c.deref-2.ensures.value at cut.ensures.within in
+    let part = rw c.deref-2.ensures.value at cut.ensures.part in
     let Q : List ℕ → Type 0 = λ bs. (cut.field-0.0.sent < length bs) × Appends (written c.args.out.now)
     (written c.write_all_of.new.out) (take cut.field-0.0.sent bs) in
     let p = err_from_is_err_and c.from_residual-in_err-write_all_of.result c.from_residual-in_err-write_all_of.ensures.1
@@ -132,10 +132,10 @@ returns-clause-outcome g c =
     let text = c.args.text.now in
     let of_font = map_is_of_font text c.in_ok-test_text.ensures.exact in
     let file = c.in_ok-file in
-    let bytes = string_bytes c.in_ok-lines.lines in
+    let bytes = c.in_ok-lines.lines.items in
     let lines_are = rw c.deref.ensures.value at c.in_ok-lines.ensures.exact in
     let is_made : made text file.file.items ≡ Ok bytes = rw lines_are refl in
-    let all = rw c.as_bytes.ensures.value at c.in_ok-write_all_of.ensures.all in
+    let all = rw c.deref-2.ensures.value at c.in_ok-write_all_of.ensures.all in
     let Q : List ℕ → Type 0 = Appends (written c.args.out.now) (written c.write_all_of.new.out) in
     (of_font.tested, with_bytes (map_wanted text) (made text) of_font Q (left c.args.font.now) (left c.read_font.new.font) file.file.items bytes file.ensures.0 file.ensures.1 file.ensures.2 is_made all, file.ensures.1, file.ensures.3, c.in_ok-write_all_of.ensures.failure)
 
