@@ -27,11 +27,14 @@ FONTS = [
 
 
 def chosen(tables):
-    """Returns the subtable that tt_render reads: format 4 alone counts, first for Windows, else for Unicode."""
-    short = [it for it in tables if it.format == 4]
-    windows = [it for it in short if (it.platformID, it.platEncID) == (3, 1)]
-    unicode = [it for it in short if it.platformID == 0]
-    return (windows + unicode)[0]
+    """Returns the subtable that tt_render reads: format 12 before 4, and of either first Windows', then Unicode's."""
+    for format, encoding in ((12, 10), (4, 1)):
+        served = [it for it in tables if it.format == format]
+        windows = [it for it in served if (it.platformID, it.platEncID) == (3, encoding)]
+        unicode = [it for it in served if it.platformID == 0]
+        if windows or unicode:
+            return (windows + unicode)[0]
+    raise ValueError("no subtable serves")
 
 
 def lines(font, text):
@@ -60,4 +63,5 @@ def main():
                     print(f"text {number}", *lines(font, text), sep="\n", file=it)
 
 
-main()
+if __name__ == "__main__":
+    main()
