@@ -9,9 +9,9 @@ use Rattle.tt_fit.specs.declared.programs.Fit.{Fit}
 use Rattle.tt_fit.specs.declared.programs.Fit.TheVariants as fit
 use Rattle.tt_fit.specs.Fallback.{Fallback, never, where_refused, everywhere, is_program_fault}
 use Rattle.tt_fit.specs.Fitting.{Setting, hinted_by, outline_at, fitted_outline, unfitted_fault}
-use Rattle.tt_fit.specs.Laws.{FallbackFits, FallbackScales, FallbackRefuses, FallbackKeeps, OthersNeverFallBack, outline_with}
+use Rattle.tt_fit.specs.Laws.{FallbackFits, FallbackScales, FallbackRefuses, FallbackKeeps, OthersNeverFallBack}
 use Rattle.tt_fit.specs.Outline.{Shape}
-use Rattle.tt_fit.specs.Preparation.{ProgramTables, begun_parts, hinted_by_programs, prepared_by, prepared, setting_of}
+use Rattle.tt_fit.specs.Preparation.{begun_parts, hinted_by_programs, prepared_by, prepared, setting_of}
 use Rattle.tt_fit.specs.Programs.{Hints, unhinted}
 
 -- for no glyph
@@ -52,6 +52,13 @@ pub made-unfitted : (s : Setting) (g : ℕ) (f : Fault) → unfitted_fault s g �
     → fitted_outline s g ≡ outline_at (hinted_by s unhinted) level_limit g
 unfolding fitted_outline
 made-unfitted s g f some = rw some refl
+
+-- an outline by programs is the answer
+pub made-by-programs : (s : Setting) (g : ℕ) (hints : Hints) (o : Shape) → s.fallback ≡ where_refused
+    → s.hints ≡ hints → outline_at (hinted_by s hints) level_limit g ≡ Ok o → fitted_outline s g ≡ Ok o
+made-by-programs s g hints o is same made =
+    let by_own : outline_at (hinted_by s s.hints) level_limit g ≡ Ok o = rw same made in
+    made-fitted s g (fitted-where-made s g o is by_own) ∙ by_own
 
 -- what outlines are made from, by what the two programs leave
 abbrev setting_with : Fields → GlyphTables → ℕ → Hints → Fallback → Setting

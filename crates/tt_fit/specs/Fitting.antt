@@ -1,6 +1,6 @@
 -- OpenType, "The 'glyf' table": the outline of a glyph at a size, its components made first, one record after the
 -- other.
-use Rattle.std.specs.Prelude.{◌≡◌, ℕ, zero, suc, ◌≤◌, true, ℤ, pos, neg_ℤ, ◌+ℤ◌, codes, List, [], ◌∷◌, Option, Some, Result, Ok, Err, refl}
+use Rattle.std.specs.Prelude.{◌≡◌, ℕ, zero, suc, ◌≤◌, true, ℤ, pos, neg_ℤ, ◌+ℤ◌, codes, List, [], ◌∷◌, Option, Result, Ok, Err, refl}
 use Rattle.tt_core.specs.Faults.{Fault}
 use Rattle.tt_core.specs.declared.fault.Why.TheVariants as why
 use Rattle.tt_core.specs.Faults.{fault_at}
@@ -19,7 +19,7 @@ use Rattle.tt_metrics.specs.declared.head.LocaFormat.TheVariants.{Short}
 use Rattle.tt_glyf.specs.Raw.{GlyphData, empty, simple, composite}
 use Rattle.tt_metrics.specs.Metrics.{Fields, units_per_em_of, loca_format_of, glyphs_of}
 use Rattle.tt_fit.specs.Components.{placed, behind, shift_of, within_point_limit}
-use Rattle.tt_fit.specs.Fallback.{Fallback, never, everywhere, unfitted_by, hints_kept}
+use Rattle.tt_fit.specs.Fallback.{Fallback, never, unfitted_by, hints_kept}
 use Rattle.tt_fit.specs.Outline.{PhantomPoints, Shape}
 use Rattle.tt_fit.specs.GlyphZone.{GlyphProgram}
 use Rattle.tt_fit.specs.Programs.{Hints, unhinted, AreHints, finished}
@@ -141,21 +141,6 @@ unfolding fitted_outline unfitted_fault glyph_data_of glyph_bytes_of header_of d
     points_of flags_from run_at coordinates_from coordinate_at within_words delta_at byte_in word_in signed_in slice_in
     blank scaled_outline settled
 square_is_scaled = refl
-
--- it is, and made known, where a fault of the font program gave up all programs
-abbrev kept_fault : Fault
-kept_fault = fault_at (codes "fpgm") 0 why.OffProfile
-
-abbrev its_fallback : Setting
-its_fallback = record (its_setting []) { fallback = everywhere kept_fault }
-
-square_is_unfitted : unfitted_fault its_fallback 1 ≡ Some kept_fault
-unfolding unfitted_fault
-square_is_unfitted = refl
-
-fallback_is_scaled : fitted_outline its_fallback 1 ≡ fitted_outline (its_setting []) 1
-unfolding fitted_outline unfitted_fault
-fallback_is_scaled = refl
 
 -- two components of glyph 1, the second moved by 64 to the right; the second gives its metrics
 abbrev two_squares : List ℕ

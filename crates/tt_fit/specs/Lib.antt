@@ -7,5 +7,6 @@ pub mod Laws
 pub mod Outline
 pub mod Preparation
 pub mod Programs
+pub mod Refusals
 pub mod Scaling
 pub mod Views

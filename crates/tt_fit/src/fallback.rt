@@ -33,5 +33,5 @@ pub(crate) fn is_program_fault(fault: Fault) -> bool
     ensures { result ≡ is_program_fault fault }
 {
     let number = fault.why.number();
-    30 <= number && number <= 50
+    number <= 50 && 30 <= number
 }

@@ -160,12 +160,7 @@ impl<'a> Fitter<'a> {
     }
 
     /// The outline of a glyph by what the programs leave, with the fault for which they are given up.
-    fn made(
-        &self,
-        hints: &Hints<'a>,
-        g: u16,
-        unfitted: Option<Fault>,
-    ) -> Result<Outline, FontFault>
+    fn made(&self, hints: &Hints<'a>, g: u16, unfitted: Option<Fault>) -> Result<Outline, FontFault>
         requires hints { AreHints (hints_of hints.now) }
         requires known { g < self.now.tables.glyphs }
         ensures exact { FontGives outline_of result (outline_at (hinted_by self.now (hints_of hints.now)) level_limit g) }

@@ -1,19 +1,23 @@
 -- The lines of a report, one more at a time, and how a report is told.
-use Rattle.std.proofs.Common.{◌≡◌, ℕ, ◌+◌, ◌<◌, false, ◌==◌, List, [], ◌∷◌, ◌++◌, length, drop, drop-cons, get_or, codes, append_assoc, add-one, inl, inr, ◌∙◌}
+use Rattle.std.proofs.Common.{◌≡◌, ℕ, ◌+◌, ◌<◌, false, ◌==◌, List, [], ◌∷◌, ◌++◌, length, drop, drop-cons, get_or, codes, append_assoc, add-one, Result, Ok, Err, inl, inr, ◌∙◌}
+use Rattle.std.specs.Prelude.{◌⊎◌, IfOk, IfErr}
 use Rattle.tt_render.specs.declared.fault.RunFault.TheVariants as run
 use Rattle.tt_render.specs.declared.unfitted.Unfitted.{Unfitted}
 use Rattle.tt_render.specs.Report.{unfitted_line_of}
 use Rattle.tt_render_program.specs.Telling.{Errors, Prints, TellsFault, TellsReport, report_lines}
 
-pub told : (us : List Unfitted) (status : ℕ) (e : Errors) → (length us == 0) ≡ false → status ≡ 0
-    → Prints e (report_lines us) → TellsReport us status e
-told [] status e some zero prints = absurd cc
-told (u ∷ us) status e some zero prints = inl (zero, prints)
+-- a text was told, or want of memory for it
+pub text_told : {S E : Type 0} (r : Result S E) (bytes : S → List ℕ) (line : List ℕ) (status_then status : ℕ)
+    (e : Errors) → IfOk r (λ t. bytes t ≡ line) → IfOk r (λ t. (status ≡ status_then) × Prints e (bytes t))
+    → IfErr r (λ x. TellsFault run.Memory status e)
+    → ((status ≡ status_then) × Prints e line) ⊎ TellsFault run.Memory status e
+text_told (Ok t) bytes line status_then status e same told refused = inl (told.0, rw same at told.1)
+text_told (Err x) bytes line status_then status e same told refused = inr refused
 
-pub not_told : (us : List Unfitted) (status : ℕ) (e : Errors) → (length us == 0) ≡ false
-    → TellsFault run.Memory status e → TellsReport us status e
-not_told [] status e some memory = absurd cc
-not_told (u ∷ us) status e some memory = inr memory
+pub report_told : (us : List Unfitted) (status : ℕ) (e : Errors) → (length us == 0) ≡ false
+    → ((status ≡ 0) × Prints e (report_lines us)) ⊎ TellsFault run.Memory status e → TellsReport us status e
+report_told [] status e some told = absurd cc
+report_told (u ∷ us) status e some told = told
 
 put_together : (before line feed behind : List ℕ) → ((before ++ line) ++ feed) ++ behind
     ≡ before ++ (line ++ (feed ++ behind))

@@ -54,7 +54,7 @@ Tells entries (Err fault) status e = TellsFailure fault status e
 
 -- a call gave some answer, with what its contract says of the devices, and the program told that answer
 pub record Does {V : Type 0} (entries : V → List Unfitted) (wanted : Wanted) (IsListed : List Unfitted → Type 0)
-  (IsDefect : List ℕ → Fault → Type 0) (t : Traffic) (e : Errors) (status : ℕ) : Type 0
+    (IsDefect : List ℕ → Fault → Type 0) (t : Traffic) (e : Errors) (status : ℕ) : Type 0
   where
     pub answer : Result V RunFault
     pub outcome : CallGives answer t wanted

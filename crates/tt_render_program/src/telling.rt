@@ -1,8 +1,9 @@
 //! What is told of an answer: the exit status, and a line on standard error.
 
-ghost use Rattle.std.specs.Prelude.{◌≡◌, ◌≤◌, ◌++◌, [], false, codes, string_bytes, IfOk};
+ghost use Rattle.std.specs.Prelude.{◌≡◌, ◌≤◌, ◌++◌, [], false, codes, string_bytes, IfOk, IfErr};
+ghost use Rattle.tt_render.specs.declared.fault.RunFault.TheVariants.{Memory};
 ghost use Rattle.tt_render.specs.Report.{line_of};
-ghost use Rattle.tt_render_program.specs.Telling.{Prints, Tells, TellsFailure, TellsReport, report_lines};
+ghost use Rattle.tt_render_program.specs.Telling.{Prints, Tells, TellsFailure, TellsFault, TellsReport, report_lines};
 
 use std::alloc::{AllocError, Global};
 use tt_core::Sink;
@@ -61,10 +62,29 @@ fn tell_report<E: Sink>(alloc: Global, unfitted: &[Unfitted], error: &mut E) -> 
     if unfitted.is_empty() {
         return 0;
     }
-    match report_lines(alloc, unfitted) {
+    tell_text(report_lines(alloc, unfitted), 0, error)
+}
+
+/// Tells a text with a status, or want of memory where that was refused for the text.
+fn tell_text<E: Sink>(text: Result<String, AllocError>, status_then: u8, error: &mut E) -> u8
+    requires status { status_then ≤ 5 }
+    requires error { E.has_failed error.old ≡ false }
+    ensures range { result ≤ 5 }
+    ensures told { IfOk text (λ t. (result ≡ status_then) × Prints (record {
+      before = E.written error.old;
+      after = E.written error.new;
+      failed = E.has_failed error.new;
+    }) (string_bytes t)) }
+    ensures refused { IfErr text (λ e. TellsFault Memory result (record {
+      before = E.written error.old;
+      after = E.written error.new;
+      failed = E.has_failed error.new;
+    })) }
+{
+    match text {
         Ok(text) => {
             print(error, &text);
-            0
+            status_then
         }
         Err(AllocError) => {
             print(error, NO_MEMORY);
@@ -96,16 +116,7 @@ fn tell_fault<E: Sink>(alloc: Global, fault: &RunFault, error: &mut E) -> u8
       failed = E.has_failed error.new;
     }) }
 {
-    match ended_line(alloc, fault) {
-        Ok(text) => {
-            print(error, &text);
-            status(fault)
-        }
-        Err(AllocError) => {
-            print(error, NO_MEMORY);
-            status(&RunFault::Memory)
-        }
-    }
+    tell_text(ended_line(alloc, fault), status(fault), error)
 }
 
 /// The line of a fault, with its line feed.

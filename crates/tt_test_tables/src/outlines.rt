@@ -37,7 +37,7 @@ pub(crate) fn print_table<R: Print + Eprint + AllocGlobal>(
     let fit = words.fit()?;
     let (metrics, glyphs) = tables_of(font)?;
     let programs = match fit {
-        Fit::Full => programs_of(font)?,
+        Fit::Full | Fit::Fallback => programs_of(font)?,
         Fit::None => NO_PROGRAMS,
     };
     match Fitter::new(rt.alloc(), &metrics, glyphs, programs, size, fit) {

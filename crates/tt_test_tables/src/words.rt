@@ -67,6 +67,7 @@ impl<'a> Words<'a> {
         match self.word()? {
             "full" => Ok(Fit::Full),
             "none" => Ok(Fit::None),
+            "fallback" => Ok(Fit::Fallback),
             word => bail!("{word} is no way to fit"),
         }
     }

@@ -1,14 +1,12 @@
-use Rattle.std.proofs.Common.{refl}
-use Rattle.tt_render_program.proofs.Reports.{told, not_told}
+use Rattle.std.proofs.Common.{string_bytes}
+use Rattle.tt_render_program.specs.Telling.{report_lines}
+use Rattle.tt_render_program.proofs.Reports.{text_told, report_told}
 use Rattle.tt_render_program.proofs.telling.tell_report.Goals as goal
 
-pub returns-in-Ok-clause-told : goal.returns-in-Ok-clause-told
-returns-in-Ok-clause-told g c =
+pub returns-clause-told : goal.returns-clause-told
+returns-clause-told g c =
     let some = rw c.is_empty.ensures at c.if-is_empty.false in
-    let lines = rw (c.deref.ensures, c.in-Ok.ensures) at c.print.ensures in
-    told c.args.unfitted.now 0 _ some refl lines
-
-pub returns-in-Err-clause-told : goal.returns-in-Err-clause-told
-returns-in-Err-clause-told g c =
-    let some = rw c.is_empty.ensures at c.if-is_empty.false in
-    not_told c.args.unfitted.now c.status.result _ some (c.status.ensures, c.print-in-Err.ensures)
+    let us = c.args.unfitted.now in
+    report_told us c.tell_text.result _ some
+    (text_told c.report_lines.result string_bytes (report_lines us) 0 c.tell_text.result _ c.report_lines.ensures
+    c.tell_text.ensures.told c.tell_text.ensures.refused)

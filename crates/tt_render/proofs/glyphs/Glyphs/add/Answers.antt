@@ -1,7 +1,7 @@
-use Rattle.std.proofs.Common.{rules, ◌≡◌, refl, ℕ, ◌+◌, [], ◌∷◌, ◌++◌, length, map, set, arith}
+use Rattle.std.proofs.Common.{rules, ◌≡◌, refl, ◌+◌, [], ◌∷◌, ◌++◌, length}
 use Rattle.std.proofs.lemmas.List.{map-append, length-map}
 use Rattle.tt_render.proofs.Seats.{places_more}
-use Rattle.tt_render.specs.Glyphs.{ArePlaces, numbers_of}
+use Rattle.tt_render.specs.Glyphs.{numbers_of}
 use Rattle.tt_render.proofs.glyphs.Glyphs.add.Goals as goal
 
 -- src/glyphs.rt:55:5
