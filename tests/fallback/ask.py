@@ -7,6 +7,7 @@ two blanks, which say what was other; and a table, whose lines begin with `|`.
 import os
 import subprocess
 import sys
+import zlib
 from concurrent.futures import ThreadPoolExecutor
 from typing import NamedTuple
 
@@ -85,7 +86,8 @@ class Asked:
 
 
 def short(answer):
-    return f"status {answer.status}, {len(answer.stdout)} bytes and {answer.stderr[:3]} of {len(answer.stderr)} lines"
+    picture = f"{len(answer.stdout)} bytes of the sum {zlib.crc32(answer.stdout):08X}"
+    return f"status {answer.status}, {picture} and {answer.stderr[:3]} of {len(answer.stderr)} lines"
 
 
 def piece(answer, margin):
