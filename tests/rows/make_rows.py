@@ -1,12 +1,16 @@
 #!/usr/bin/env python3
-"""Makes map.txt, draw.txt and fitted.txt of cases.txt, which stands beside this file and says at its head what a case
-is.
+"""Makes map.txt, draw.txt, fitted.txt and fallback.txt of cases.txt, which stands beside this file and says at its head
+what a case is.
 
   python3 tests/rows/make_rows.py
 
 A font is put together from the test font's tables and what a case changes of them. The tables stand in the order of
-their tags, each at a multiple of four bytes. A glyph of an odd number of bytes gets a zero, loca follows, and a left side
-bearing is the xMin of its glyph where none is named.
+their tags, each at a multiple of four bytes. A glyph of an odd number of bytes gets a zero, loca follows, and a left
+side bearing is the xMin of its glyph where none is named.
+
+With fallback a glyph whose program is refused, and no other, is drawn without programs and told, by a line for each
+distinct glyph. So the answer to `fallback` follows from those to `fitted` and `unfitted` where the text is one
+character repeated, and a case need not say it; of another text it must.
 """
 import ast
 import pathlib
@@ -17,18 +21,28 @@ HEAD = """\
 # names the test font, in hexadecimal. Then one case a line:
 #   NAME FONT TEXT {}STATUS STDOUT STDERR
 # FONT is `whole` for the test font, `cut:N` for its first N bytes, or else hexadecimal. TEXT and STDOUT are bytes in
-# hexadecimal, where XX*N stands for N times the byte XX. STDERR is the rest of the line, a line on standard error. A
-# field that is `-` is empty.{}
+# hexadecimal, where XX*N stands for N times the byte XX. STDERR is the rest of
+# the line, {} on standard error. A field that is `-` is empty.{}
 """
 
 # Of each file the command of its cases, what they have between text and status, and what its head says of it.
+A_LINE, LINES = "a line", "lines, ` | ` between them,"
 HEADS = {
-    "map": ("map", "", ""),
-    "draw": ("draw --fit none", "SIZE MARGIN ", " SIZE and MARGIN are in pixels."),
-    "fitted": ("draw", "SIZE MARGIN ", " SIZE and MARGIN are in pixels."),
+    "map": ("map", "", A_LINE, ""),
+    "draw": ("draw --fit none", "SIZE MARGIN ", A_LINE, " SIZE and MARGIN are in pixels."),
+    "fitted": ("draw", "SIZE MARGIN ", A_LINE, " SIZE and MARGIN are in pixels."),
+    "fallback": ("draw --fit fallback", "SIZE MARGIN ", LINES, " SIZE and MARGIN are in pixels."),
 }
 # The files in which each question stands.
-FILES = {"map": ["map"], "draw": ["draw", "fitted"], "unfitted": ["draw"], "fitted": ["fitted"]}
+FILES = {
+    "map": ["map"],
+    "draw": ["draw", "fitted", "fallback"],
+    "unfitted": ["draw"],
+    "fitted": ["fitted"],
+    "fallback": ["fallback"],
+}
+# Of the letters of a test font whose cmap is its own.
+GLYPHS = {'"A"': 1, '"B"': 2, '"AA"': 1}
 
 
 def two(number):
@@ -135,12 +149,26 @@ def asked(lines):
 
 
 def answer(command, lines):
-    """Returns the status, standard output and the line on standard error."""
+    """Returns the status, standard output and the lines on standard error."""
     if lines and lines[0][0] == "refused":
         return lines[0][1], b"", " ".join(lines[0][2:])
     if command == "map":
         return "0", "".join(" ".join(words[1:]) + "\n" for words in lines).encode(), "-"
-    return "0", picture([words[0] for words in lines]), "-"
+    told = " | ".join(" ".join(words[1:]) for words in lines if words[0] == "told")
+    return "0", picture([words[0] for words in lines if words[0] != "told"]), told or "-"
+
+
+def fallen_back(questions):
+    """Yields the questions of `fallback` that a case leaves out, with the answers that follow from its others."""
+    known = {(command, *words): lines for command, words, lines in questions}
+    for command, words, lines in questions:
+        if command != "fitted" or ("fallback", *words) in known:
+            continue
+        if lines[0][0] == "refused" and 30 <= int(lines[0][4]) <= 50:
+            fault = " ".join(lines[0][3:])
+            told = f"told tt_render: glyph {GLYPHS[words[0]]} unfitted: {fault}"
+            lines = [*known["unfitted", *words], told.split()]
+        yield "fallback", words, lines
 
 
 def main():
@@ -168,7 +196,8 @@ def main():
                     font.change(words[0], words[1:])
             file = font.file()
             place = f"cut:{cut}" if cut is not None else "whole" if file == whole else file.hex()
-            for command, words, lines in asked(lines):
+            questions = list(asked(lines))
+            for command, words, lines in [*questions, *fallen_back(questions)]:
                 status, stdout, line = answer(command, lines)
                 fields = [name, place, hexadecimal(text_of(words[0])), *words[1:], status, hexadecimal(stdout), line]
                 for table in FILES[command]:

@@ -1,7 +1,8 @@
 #!/usr/bin/env python3
 """Draws each picture of draw.txt again, by fontTools and the rules that ../outlines/outlines.py states, and looks up
 each answer of map.txt and each refusal of its cmap again, by the plain search of ../characters/plain.py. Neither shares
-code with tt_render. Says where an answer is another.
+code with tt_render. The pictures of fallback.txt with lines beside them are put together: of a glyph that is told by
+fontTools, and of another one from the picture in fitted.txt. Says where an answer is another.
 
   apt-get install python3-fonttools
   /usr/bin/python3 tests/rows/try_rows.py
@@ -43,6 +44,39 @@ def looked_up(font, text):
     return ["".join(f"{known.line(ord(it))}\n" for it in text).encode().hex(), "-"]
 
 
+def rows_of(picture):
+    """Returns the rows of a P4 file, as strings of 0 and 1."""
+    _, size, body = picture.split(b"\n", 2)
+    width, height = map(int, size.split())
+    stride = (width + 7) // 8
+    return ["".join(f"{it:08b}" for it in body[r * stride : (r + 1) * stride])[:width] for r in range(height)]
+
+
+def put_together(words, font, text, fitted):
+    """Returns the rows of a text, none of whose glyphs has ink outside its own columns."""
+    told = {int(it.split()[2]) for it in " ".join(words[7:]).split(" | ")}
+    known, size = Characters(font), words[3]
+    pictures = []
+    for it in text:
+        if int(known.line(ord(it)).split()[1]) in told:
+            pictures.append(drawn(int(size), 0, io.BytesIO(font), it))
+        else:
+            pictures.append(fitted[font, it, size])
+    return ["".join(parts) for parts in zip(*map(rows_of, pictures))]
+
+
+def other_fallen_back():
+    """Returns how many pictures of fallback.txt were put together, and the names of those that are others."""
+    fitted = {(font, text, it[3]): bytes.fromhex(it[6]) for it, font, text in cases("fitted.txt") if it[5] == "0"}
+    # fontTools does not open a font whose glyf ends within a glyph.
+    pictures = [it for it in cases("fallback.txt") if it[0][5] == "0" and it[0][7] != "-" and "short" not in it[0][0]]
+    return len(pictures), [
+        words[0]
+        for words, font, text in pictures
+        if put_together(words, font, text, fitted) != rows_of(bytes.fromhex(words[6]))
+    ]
+
+
 def told(count, what, others):
     print(f"{count} {what}; other ones: {' '.join(others) or 'none'}")
     return bool(others)
@@ -56,6 +90,8 @@ def main():
         if drawn(int(words[3]), int(words[4]), io.BytesIO(font), text) != bytes.fromhex(words[6])
     ]
     failed = told(len(pictures), "pictures drawn again", others)
+    count, others = other_fallen_back()
+    failed |= told(count, "pictures with glyphs drawn without programs put together", others)
     answers = [it for it in cases("map.txt") if it[0][3] == "0" or it[0][6].startswith("cmap+")]
     others = [words[0] for words, font, text in answers if looked_up(font, text) != words[4:]]
     sys.exit(told(len(answers), "answers and refusals of cmap looked up again", others) | failed)

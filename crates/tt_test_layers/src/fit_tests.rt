@@ -174,12 +174,27 @@ const RIGHT_AND_UP: [(i32, i32, bool); 4] = [
     (832, 64, true),
 ];
 
-/// Whether the glyph is made with these points, or memory is wanted.
-fn is_made(rt: &impl Abort, fitter: &Fitter, g: u16, points: &[(i32, i32, bool)]) -> bool
+/// The square where no program is run.
+const SCALED: [(i32, i32, bool); 4] = [
+    (256, 0, true),
+    (256, 512, true),
+    (768, 512, true),
+    (768, 0, true),
+];
+
+/// Whether the glyph is made with these points and so told, or memory is wanted.
+fn is_made(
+    rt: &impl Abort,
+    fitter: &Fitter,
+    g: u16,
+    points: &[(i32, i32, bool)],
+    unfitted: Option<Fault>,
+) -> bool
     requires { g < fitter.now.tables.glyphs }
 {
     match fitter.fitted(g) {
         Ok(outline) => {
+            assert_eq!(rt; outline.unfitted, unfitted);
             assert!(rt; outline.points.as_slice() == points);
             assert!(rt; outline.ends.as_slice() == [4].as_slice());
             assert!(rt; outline.phantom == [(0, 0), (1024, 0), (0, 1024), (0, 0)]);
@@ -197,10 +212,29 @@ fn programs_of_glyphs_and_composites_are_run(rt: HostRuntime) -> Result<(), Font
     assert!(rt; metrics.glyphs() > 2);
     let tables = Glyf::open(&LOCA_WITH_PROGRAMS, &GLYF_WITH_PROGRAMS, &metrics)?;
     let fitter = Fitter::new(rt.alloc(), &metrics, tables, PROGRAMS, 64, Fit::Full)?;
-    let square = is_made(&rt, &fitter, 1, &RIGHT);
-    let composite = is_made(&rt, &fitter, 2, &RIGHT_AND_UP);
+    let square = is_made(&rt, &fitter, 1, &RIGHT, None);
+    let composite = is_made(&rt, &fitter, 2, &RIGHT_AND_UP, None);
     // What was made, or failed for want of memory, leaves the fitter as it was.
-    let again = is_made(&rt, &fitter, 1, &RIGHT);
+    let again = is_made(&rt, &fitter, 1, &RIGHT, None);
+    assert!(rt; square || composite || again);
+    Ok(())
+}
+
+#[test]
+fn a_composite_whose_program_is_refused_is_scaled(rt: HostRuntime) -> Result<(), FontFault> {
+    let mut bytes = GLYF_WITH_PROGRAMS;
+    // the first instruction of the composite is not supported
+    bytes[52] = 0x06;
+    let dir = Dir::open(&TEST_FONT)?;
+    let metrics = Metrics::open(&dir)?;
+    assert!(rt; metrics.glyphs() > 2);
+    let tables = Glyf::open(&LOCA_WITH_PROGRAMS, &bytes, &metrics)?;
+    let fitter = Fitter::new(rt.alloc(), &metrics, tables, PROGRAMS, 64, Fit::Fallback)?;
+    let fault = Fault::new(*b"glyf", 52, Why::OffProfile);
+    let composite = is_made(&rt, &fitter, 2, &SCALED, Some(fault));
+    let square = is_made(&rt, &fitter, 1, &RIGHT, None);
+    // What was made, or failed for want of memory, leaves the fitter as it was.
+    let again = is_made(&rt, &fitter, 2, &SCALED, Some(fault));
     assert!(rt; square || composite || again);
     Ok(())
 }

@@ -27,7 +27,7 @@ fn a_byte_at_a_time_gives_the_same_picture(rt: HostRuntime) {
             ..WHOLE
         };
         let (answer, out) = trial.run(rt.alloc(), &TEST_FONT, &job("A", 16, 0));
-        assert_eq!(rt; answer, Ok(()));
+        assert_eq!(rt; answer, Ok(0));
         assert!(rt; out.held() == PICTURE, "at {step} bytes a call");
     }
 }
@@ -65,7 +65,7 @@ fn a_cut_picture_tells_how_many_bytes_went_out(rt: HostRuntime) {
 #[test]
 fn the_header_and_each_row_are_one_write(rt: HostRuntime) {
     let (answer, out) = WHOLE.run(rt.alloc(), &TEST_FONT, &job("A", 16, 0));
-    assert_eq!(rt; answer, Ok(()));
+    assert_eq!(rt; answer, Ok(0));
     assert!(rt; out.held() == PICTURE);
     assert_eq!(rt; out.calls(), 5);
 }

@@ -4,7 +4,7 @@
 use crate::devices::{Endless, Reader, Writer};
 use std::alloc::Global;
 use tt_core::Device;
-use tt_render::{Job, RunFault, map, run};
+use tt_render::{Job, Report, RunFault, map, run};
 
 /// How a font is read and what is written is held.
 #[derive(Clone, Copy)]
@@ -41,25 +41,33 @@ impl Trial {
         (answer, out)
     }
 
-    /// What `run` answers, and what it wrote.
+    /// What `run` answers, of its report how many glyphs are not fitted, and what it wrote.
     pub(crate) fn run(
         &self,
         alloc: Global,
         font: &[u8],
         job: &Job<'_>,
-    ) -> (Result<(), RunFault>, Writer) {
+    ) -> (Result<usize, RunFault>, Writer) {
         let mut font = Reader::new(font, self.read_step, self.fails_at);
         let mut out = Writer::new(self.room, self.write_step);
         let answer = run(alloc, &mut font, &mut out, job);
-        (answer, out)
+        (counted(answer), out)
+    }
+}
+
+/// An answer with the count of glyphs in place of the report.
+fn counted(answer: Result<Report, RunFault>) -> Result<usize, RunFault> {
+    match answer {
+        Ok(report) => Ok(report.unfitted.len()),
+        Err(fault) => Err(fault),
     }
 }
 
 /// What `run` answers to a font without end, and what it wrote.
-pub(crate) fn run_endless(alloc: Global, job: &Job<'_>) -> (Result<(), RunFault>, Writer) {
+pub(crate) fn run_endless(alloc: Global, job: &Job<'_>) -> (Result<usize, RunFault>, Writer) {
     let mut out = Writer::new(64, 1000);
     let answer = run(alloc, &mut Endless, &mut out, job);
-    (answer, out)
+    (counted(answer), out)
 }
 
 /// The same of `map`.
