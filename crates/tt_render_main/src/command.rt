@@ -77,7 +77,9 @@ fn fit<'a>(alloc: Global) -> Arg<'a> {
         .value_name("HOW")
         .value_parser(FITS.as_slice())
         .default_value("full")
-        .help("full: by the font's programs; none: scaled points only; fallback: full where that serves")
+        .help(
+            "full: by the font's programs; none: scaled points only; fallback: full where that serves",
+        )
 }
 
 /// What a command line asks for.
