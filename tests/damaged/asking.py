@@ -223,7 +223,7 @@ class Row(NamedTuple):
 
 
 # The kind of the rows of each file.
-KINDS = {"map": "map", "draw": "none", "fitted": "full"}
+KINDS = {"map": "map", "draw": "none", "fitted": "full", "fallback": "fallback"}
 
 
 def field(word):
@@ -248,7 +248,7 @@ def rows():
                     font = whole if font == "whole" else field(font)
                 # Of `map` neither is asked, and these are for other questions.
                 shape = (16, 0) if kind == "map" else (int(rest.pop(0)), int(rest.pop(0)))
-                stderr = " ".join(rest[2:])
+                stderr = " ".join(rest[2:]).replace(" | ", "\n")
                 stderr = b"" if stderr == "-" else stderr.encode() + b"\n"
                 yield Row(name, kind, font, field(text), shape, int(rest[0]), field(rest[1]), stderr)
 
