@@ -1,3 +1,2 @@
-pub mod Ascii
 pub mod P4
 pub mod Rows

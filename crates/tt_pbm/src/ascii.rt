@@ -1,22 +1,32 @@
 //! A short text of ASCII, made from its end: a number's last digit is the first that a division gives.
 
-ghost use Rattle.std.specs.Prelude.{◌≡◌, ◌+◌, ◌<◌, ◌≤◌, ◌++◌, [], ◌∷◌, length, decimal};
-ghost use Rattle.tt_pbm.specs.Ascii.{ascii_text};
+ghost use Rattle.std.specs.Prelude.{◌≡◌, ◌+◌, ◌≤◌, ◌<◌, ◌++◌, [], ◌∷◌, length, decimal};
+
+use std::marker::Model;
 
 /// The most bytes of a text.
 const ROOM: usize = 24;
 
-/// The bytes from `at` on are the text.
-#[derive(Clone, Copy)]
+/// A text of at most 24 bytes.
+#[derive(Drop)]
 pub struct Ascii {
-    pub bytes: [u8; ROOM],
-    pub at: usize,
+    bytes: [u8; ROOM],
+    at: usize,
+}
+
+impl Model for Ascii {
+    ghost use Rattle.std.specs.Prelude.{ℕ, List, drop, ◌≤◌};
+
+    ghost Value = { List ℕ };
+
+    ghost view = { λ t. drop t.at t.bytes };
+
+    ghost invariant = { λ t. t.at ≤ 24 };
 }
 
 impl Ascii {
     pub fn new() -> Ascii
-        ensures text { ascii_text result ≡ [] }
-        ensures room { result.at ≡ 24 }
+        ensures text { result ≡ [] }
     {
         Ascii {
             bytes: [0; ROOM],
@@ -25,19 +35,15 @@ impl Ascii {
     }
 
     pub fn as_bytes(&self) -> &[u8]
-        requires { self.now.at ≤ 24 }
-        ensures exact { result.now ≡ ascii_text self.now }
-        ensures len { length result.now + self.now.at ≡ 24 }
+        ensures exact { result.now ≡ self.now }
     {
         &self.bytes[self.at..]
     }
 
     /// Puts a byte before the text.
     pub fn push(&mut self, byte: u8)
-        requires room { 0 < self.old.at }
-        requires within { self.old.at ≤ 24 }
-        ensures text { ascii_text self.new ≡ byte ∷ ascii_text self.old }
-        ensures room { self.new.at + 1 ≡ self.old.at }
+        requires room { length self.old < 24 }
+        ensures text { self.new ≡ byte ∷ self.old }
     {
         self.at -= 1;
         self.bytes[self.at] = byte;
@@ -45,11 +51,9 @@ impl Ascii {
 
     /// Puts a number before the text.
     pub fn push_decimal(&mut self, n: u16)
-        requires room { 5 ≤ self.old.at }
-        requires within { self.old.at ≤ 24 }
-        ensures text { ascii_text self.new ≡ decimal n ++ ascii_text self.old }
-        ensures room { self.old.at ≤ self.new.at + 5 }
-        ensures within { self.new.at ≤ self.old.at }
+        requires room { length self.old + 5 ≤ 24 }
+        ensures text { self.new ≡ decimal n ++ self.old }
+        ensures len { length self.new ≤ length self.old + 5 }
     {
         let mut rest = n;
         while rest >= 10 {

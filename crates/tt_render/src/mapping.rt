@@ -6,7 +6,6 @@ ghost use Rattle.tt_core.specs.declared.fault.JobFault.TheVariants.{TextLong};
 ghost use Rattle.tt_core.specs.Limits.{font_limit, text_limit};
 ghost use Rattle.tt_core.specs.Outcomes.{FontGives, font_fault};
 ghost use Rattle.tt_metrics.specs.Metrics.{glyphs_of};
-ghost use Rattle.tt_pbm.specs.Ascii.{ascii_text};
 ghost use Rattle.tt_render.specs.Defects.{IsFaceDefect, TellsDefects, TellsDefectsOf};
 ghost use Rattle.tt_render.specs.MapLines.{code_point, line_text, lines_of, map_lines, map_wanted};
 ghost use Rattle.tt_render.specs.Outcome.{CallGives, IfJob, IfLarge};
@@ -80,8 +79,7 @@ fn lines(alloc: Global, metrics: &Metrics, cmap: &Cmap, text: &str) -> Result<Ve
 
 /// The line of a character, made from its end.
 fn line(c: char, glyph: u16, advance: u16) -> Ascii
-    ensures text { ascii_text result ≡ line_text c glyph advance }
-    ensures within { result.at ≤ 24 }
+    ensures { result ≡ line_text c glyph advance }
 {
     let mut line = Ascii::new();
     line.push(b'\n');
@@ -98,11 +96,9 @@ fn line(c: char, glyph: u16, advance: u16) -> Ascii
 /// Puts a code point before a text, with at least four digits.
 fn push_code_point(line: &mut Ascii, code: u32)
     requires code { code < 2 ^ 24 }
-    requires room { 6 ≤ line.old.at }
-    requires within { line.old.at ≤ 24 }
-    ensures text { ascii_text line.new ≡ code_point code ++ ascii_text line.old }
-    ensures room { line.old.at ≤ line.new.at + 6 }
-    ensures within { line.new.at ≤ line.old.at }
+    requires room { length line.old + 6 ≤ 24 }
+    ensures text { line.new ≡ code_point code ++ line.old }
+    ensures len { length line.new ≤ length line.old + 6 }
 {
     push_digit(line, code % 16);
     push_digit(line, code / 16 % 16);
@@ -119,10 +115,8 @@ fn push_code_point(line: &mut Ascii, code: u32)
 /// Puts a capital hexadecimal digit before a text.
 fn push_digit(line: &mut Ascii, digit: u32)
     requires digit { digit < 16 }
-    requires room { 0 < line.old.at }
-    requires within { line.old.at ≤ 24 }
-    ensures text { ascii_text line.new ≡ digit_glyph true digit ∷ ascii_text line.old }
-    ensures room { line.new.at + 1 ≡ line.old.at }
+    requires room { length line.old < 24 }
+    ensures text { line.new ≡ digit_glyph true digit ∷ line.old }
 {
     let first = if digit < 10 { b'0' } else { b'A' - 10 };
     line.push(first + digit as u8);

@@ -1,8 +1,9 @@
-use Rattle.tt_pbm.proofs.Decimals.{IsPart}
+use Rattle.std.proofs.Common.{◌≡◌, ◌++◌, decimal}
 use Rattle.tt_pbm.proofs.ascii.Ascii.push_decimal.Given as goal
 
+-- the digits so far stand before the text: with those of the rest it is the whole
 abbrev pub invariant-loop-rest : goal.invariant-loop-rest
-invariant-loop-rest l = IsPart l.n l.fn.self l.rest l.self
+invariant-loop-rest l = decimal l.rest ++ l.self ≡ decimal l.n ++ l.fn.self
 
 abbrev pub decreases-loop-rest : goal.decreases-loop-rest
 decreases-loop-rest l = l.rest
