@@ -1,4 +1,5 @@
 pub mod Interpolation
+pub mod Readings
 pub mod Places
 pub mod Sweeps
 pub mod Neighbours

@@ -1,9 +1,10 @@
 //! Once round a contour, from each touched point to the next one.
 
-ghost use Rattle.std.specs.Prelude.{◌≡◌, ◌<◌, length, map, Err, All, IfOk, IfErr};
+ghost use Rattle.std.specs.Prelude.{◌≡◌, ◌+◌, ◌*◌, ◌^◌, ◌<◌, ◌≤◌, length, map, Err, All, IfOk, IfErr};
 ghost use Rattle.tt_core.specs.Outcomes.{Gives};
 ghost use Rattle.tt_points_zones.specs.Zones.{IsPoint};
 ghost use Rattle.tt_points_iup.specs.Interpolation as is;
+ghost use Rattle.tt_points_iup.specs.Readings.{of_contour};
 ghost use Rattle.tt_points_iup.specs.Sweeps.{swept, IsRun};
 
 use crate::place::interpolated;
@@ -46,7 +47,9 @@ fn next_run(
     requires points { All IsPoint points.old }
     requires before { IsPoint before }
     requires first { IsPoint first }
+    requires room { reads.old + length points.old < 2 ^ 64 }
     ensures run { IfOk result (IsRun axis before first points.old points.new) }
+    ensures count { IfOk result (λ run. reads.new ≡ reads.old + run.len) }
     ensures fault { IfErr result (λ why. is.limited axis (swept axis before first points.old) ≡ Err why) }
     ensures sound { All IsPoint points.new }
 {
@@ -71,7 +74,9 @@ fn sweep(
     requires points { All IsPoint points.old }
     requires last { IsPoint last }
     requires first { IsPoint first }
+    requires room { reads.old + length points.old < 2 ^ 64 }
     ensures exact { Gives (λ u. points.new) result (is.limited axis (swept axis last first points.old)) }
+    ensures count { IfOk result (λ u. reads.new ≡ reads.old + length points.old) }
     ensures sound { All IsPoint points.new }
 {
     let mut start = 0;
@@ -86,8 +91,11 @@ fn sweep(
 
 /// Interpolates the points of a contour. Error: ValueRange.
 pub(crate) fn contour(points: &mut [Point], axis: Axis, reads: &mut u64) -> Result<(), Why>
-    requires { All IsPoint points.old }
+    requires points { All IsPoint points.old }
+    requires room { reads.old + 3 * length points.old < 2 ^ 64 }
     ensures exact { Gives (λ u. points.new) result (is.limited axis (is.contour axis points.old)) }
+    ensures count { IfOk result (λ u. reads.new ≡ reads.old + of_contour axis points.old) }
+    ensures few { IfOk result (λ u. reads.new ≤ reads.old + 3 * length points.old) }
     ensures sound { All IsPoint points.new }
 {
     let Some(first) = first_touched(points, axis, reads) else {

@@ -1,9 +1,10 @@
 //! IUP over a whole glyph.
 
-ghost use Rattle.std.specs.Prelude.{◌≡◌, length, All, IfOk};
+ghost use Rattle.std.specs.Prelude.{◌≡◌, ◌+◌, ◌*◌, ◌^◌, ◌<◌, ◌≤◌, length, All, IfOk};
 ghost use Rattle.tt_core.specs.Outcomes.{Gives};
 ghost use Rattle.tt_points_zones.specs.Zones.{IsPoint, IsZones, AreContours, zones_view};
 ghost use Rattle.tt_points_iup.specs.Interpolation as is;
+ghost use Rattle.tt_points_iup.specs.Readings.{of_contours};
 
 use crate::contour::contour;
 use tt_core::Why;
@@ -19,7 +20,10 @@ fn contours(
 ) -> Result<(), Why>
     requires ranges { AreContours 0 contours.now (length points.old) }
     requires points { All IsPoint points.old }
+    requires room { reads.old + 3 * length points.old < 2 ^ 64 }
     ensures exact { Gives (λ u. points.new) result (is.limited axis (is.contours axis 0 contours.now points.old)) }
+    ensures count { IfOk result (λ u. reads.new ≡ reads.old + of_contours axis contours.now points.old) }
+    ensures few { IfOk result (λ u. reads.new ≤ reads.old + 3 * length points.old) }
     ensures sound { All IsPoint points.new }
 {
     let mut start = 0;
@@ -32,11 +36,12 @@ fn contours(
 }
 
 /// Does what `iup` does, and answers how often it read whether a point is touched: at most three times for each point.
-/// The answer itself is told by no clause.
 pub fn interpolate(zones: &mut Zones, axis: Axis) -> Result<u64, Why>
     requires { IsZones (zones_view zones.old) }
     ensures exact { Gives (λ u. zones_view zones.new) result (is.iup axis (zones_view zones.old)) }
     ensures zones { IsZones (zones_view zones.new) }
+    ensures count { IfOk result (λ n. n ≡ of_contours axis zones.old.contours.items zones.old.glyph.items) }
+    ensures few { IfOk result (λ n. n ≤ 3 * length zones.old.glyph.items) }
 {
     let mut reads = 0;
     contours(&mut zones.glyph, &zones.contours, axis, &mut reads)?;

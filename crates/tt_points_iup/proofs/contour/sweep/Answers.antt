@@ -19,6 +19,17 @@ returns-in_err-run-clause-exact c =
     let p = err_from_is_err_and c.from_residual.result c.from_residual.ensures.1 in
     rw (p.1, p.2) whole
 
+pub next_run-requires-clause-room : goal.next_run-requires-clause-room
+next_run-requires-clause-room c =
+    let start = c.loop-start.start in
+    let now = c.loop-start.points in
+    let left = length-drop start now in
+    rw (take_rest now start) (omega
+    (arith, left, c.requires.room, c.loop-start.invariant.read, c.loop-start.invariant.place, c.loop-start.auto.points))
+
+pub returns-clause-count : goal.returns-clause-count
+returns-clause-count c = omega (arith, c.loop-start.invariant.read, c.loop-start.invariant.place, c.loop-start-test.false)
+
 pub loop-start-preserved : goal.loop-start-preserved
 loop-start-preserved c =
     let start = c.loop-start.start in
@@ -43,6 +54,7 @@ loop-start-preserved c =
       sound = rw written (All-append IsPoint (take start now) part (All-take IsPoint start now
           c.loop-start.invariant.sound)
           c.in_ok-run.ensures.sound);
+      read = omega (arith, c.loop-start.invariant.read, c.in_ok-run.ensures.count);
     }
 
 pub returns-clause-exact : goal.returns-clause-exact

@@ -1,4 +1,4 @@
-use Rattle.std.proofs.Common.{◌≡◌, ◌-◌, ◌≤◌, ◌++◌, length, take, drop, All}
+use Rattle.std.proofs.Common.{◌≡◌, ◌+◌, ◌-◌, ◌≤◌, ◌++◌, length, take, drop, All}
 use Rattle.tt_points_zones.specs.Zones.{IsPoint}
 use Rattle.tt_points_iup.specs.Sweeps.{swept}
 use Rattle.tt_points_iup.proofs.contour.sweep.Given as goal
@@ -12,6 +12,7 @@ invariant-loop-start l = record {
   rest : drop l.start l.points ≡ drop l.start l.fn.points;
   before : IsPoint l.before;
   sound : All IsPoint l.points;
+  read : l.reads ≡ l.fn.reads + l.start;
 }
 
 abbrev pub decreases-loop-start : goal.decreases-loop-start

@@ -1,5 +1,5 @@
 use Rattle.std.proofs.Common.{◌∙◌, length-drop, ◌≡◌, ◌+◌, ◌-◌, ◌≤◌, length, take, drop, get_or, arith, rules}
-use Rattle.std.proofs.lemmas.List.{drop_more, length-take-le}
+use Rattle.std.proofs.lemmas.List.{drop_all, drop_more, length-take-le}
 use Rattle.std.proofs.lemmas.Result.{err_from_is_err_and}
 use Rattle.tt_points_iup.specs.Interpolation as is
 use Rattle.tt_points_iup.proofs.Limits.{limited_ok, whole_ok}
@@ -50,8 +50,10 @@ loop-range-preserved c =
     let bound = next.bound in
     let room : range.1 - start ≤ length (drop start now) =
     omega (arith, bound, c.loop-range.auto.points, length-drop start now) in
-    let long : length part ≡ range.1 - start =
-    c.contour.auto.points ∙ length-take-le (range.1 - start) (drop start now) room in
+    let taken = length-take-le (range.1 - start) (drop start now) room in
+    let long : length part ≡ range.1 - start = c.contour.auto.points ∙ taken in
+    let counted = rw c.loop-range.invariant.rest at c.in_ok-contour.ensures.count in
+    let left = rw (drop_more ranges i (0, 0) c.loop-range-test.true, next.from) at c.loop-range.invariant.read in
     let made = after_contour c.args.axis (is.contours c.args.axis 0 ranges old) now old part start range (drop (i +
     1) ranges)
     next c.loop-range.auto.points (record { so_far = so_far; rest = c.loop-range.invariant.rest }) is_part long in
@@ -60,6 +62,8 @@ loop-range-preserved c =
       so_far = made.so_far;
       rest = made.rest;
       sound = put_sound start _ now part c.loop-range.invariant.sound c.in_ok-contour.ensures.sound;
+      read = omega (arith, counted, left);
+      few = omega (arith, c.loop-range.invariant.few, c.in_ok-contour.ensures.few, taken, order);
     }
 
 pub returns-clause-exact : goal.returns-clause-exact
@@ -73,3 +77,28 @@ returns-clause-exact c =
           c.loop-range.invariant.rest;
     }) in
     rw (← is) (limited_ok c.args.axis c.loop-range.points c.loop-range.invariant.sound)
+
+pub contour-requires-clause-room : goal.contour-requires-clause-room
+contour-requires-clause-room c =
+    let start = c.loop-range.start in
+    let now = c.loop-range.points in
+    let next = next_range start c.args.contours.now c.loop-range.range-index (length c.args.points.now)
+    c.loop-range-test.true c.loop-range.invariant.place in
+    let range = get_or c.args.contours.now c.loop-range.range-index (0, 0) in
+    let order = next.order in
+    let bound = next.bound in
+    let room : range.1 - start ≤ length (drop start now) =
+    omega (arith, bound, c.loop-range.auto.points, length-drop start now) in
+    let taken = length-take-le (range.1 - start) (drop start now) room in
+    omega (arith, taken, order, bound, c.loop-range.invariant.few, c.requires.room)
+
+pub returns-clause-count : goal.returns-clause-count
+returns-clause-count c =
+    let left = rw (drop_all c.loop-range.range-index c.args.contours.now c.loop-range-test.false) at
+    c.loop-range.invariant.read in
+    omega (arith, left)
+
+pub returns-clause-few : goal.returns-clause-few
+returns-clause-few c =
+    let inside = inside_of c.loop-range.start _ _ c.loop-range.invariant.place in
+    omega (arith, c.loop-range.invariant.few, inside)

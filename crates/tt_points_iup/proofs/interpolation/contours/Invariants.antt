@@ -1,6 +1,7 @@
-use Rattle.std.proofs.Common.{◌≡◌, ◌++◌, length, take, drop, All}
+use Rattle.std.proofs.Common.{◌≡◌, ◌+◌, ◌*◌, ◌≤◌, ◌++◌, length, take, drop, All}
 use Rattle.tt_points_zones.specs.Zones.{IsPoint, AreContours}
 use Rattle.tt_points_iup.specs.Interpolation as is
+use Rattle.tt_points_iup.specs.Readings.{of_contours}
 use Rattle.tt_points_iup.proofs.interpolation.contours.Given as goal
 
 -- the contours so far, and what is made of the others, are what is made of all
@@ -11,4 +12,7 @@ invariant-loop-range l = record {
       ≡ is.contours l.axis 0 l.contours l.fn.points;
   rest : drop l.start l.points ≡ drop l.start l.fn.points;
   sound : All IsPoint l.points;
+  read : l.reads + of_contours l.axis (drop l.range-index l.contours) l.fn.points
+      ≡ l.fn.reads + of_contours l.axis l.contours l.fn.points;
+  few : l.reads ≤ l.fn.reads + 3 * l.start;
 }
