@@ -121,6 +121,13 @@ placed_past at z before width k is within =
     (λ past. let last : z -ℤ before ≡ pos width = omega (arith, ints, clamps) in rw last (grind (arith, ints, nat_tests))))
     (λ left. let zero : z -ℤ before ≡ pos 0 = omega (arith, ints, clamps) in rw zero (grind (arith, ints, nat_tests)))
 
+-- the column before a window
+pub before_fits : (low : ℤ) → unsigned_abs low < 2 ^ 41 → SFits w64 (low -ℤ pos 1)
+before_fits low small = omega (arith, ints)
+
+pub one_after : (low : ℤ) → (low -ℤ pos 1) +ℤ pos 1 ≡ low
+one_after low = omega (arith, ints)
+
 -- how far a cut column lies from where the window begins
 pub within_fits : (z low : ℤ) (n : ℕ) → n < 2 ^ 32 → low ≤ℤ z → z ≤ℤ (low +ℤ pos n) → SFits w64 (z -ℤ low)
 within_fits z low n few above below = omega (arith, ints)

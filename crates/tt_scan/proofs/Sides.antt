@@ -1,11 +1,31 @@
 -- On which side of an edge the centre of a column lies.
-use Rattle.std.proofs.Common.{◌≡◌, ℕ, ap, ◌∙◌, true, refl, arith}
+use Rattle.std.proofs.Common.{◌≡◌, ℕ, ◌^◌, ◌<◌, ap, ◌∙◌, true, refl, unsigned_abs, SFits, w64, arith}
 use Rattle.std.specs.Prelude.{ℤ, pos, ◌+ℤ◌, ◌-ℤ◌, ◌*ℤ◌, neg_ℤ, ◌≤ℤ◌, ◌<ℤ◌}
 use Rattle.std.proofs.lemmas.Int.{ints, by_lt_z}
 use lib.IntN.{*ℤ_comm}
 use Rattle.tt_core.specs.Products.{mul_diff, neg_mul, mul_neg, mul_assoc_z, mul_mono, cancel_le}
 use Rattle.tt_scan.specs.declared.edge.Edge.{Edge}
-use Rattle.tt_scan.specs.Winding.{column_x, side, is_zero, is_between}
+use Rattle.tt_scan.specs.Winding.{EdgeFits, column_x, side, is_zero, is_between}
+
+-- what is computed of a rising edge at a height of its range fits
+pub record Computed (e : Edge) (y : ℤ) : Type 0 where
+  pub run : SFits w64 (e.bx -ℤ e.ax)
+  pub rise : SFits w64 (e.by -ℤ e.ay)
+  pub height : SFits w64 (y -ℤ e.ay)
+  pub divisor : SFits w64 (pos 8192 *ℤ (e.by -ℤ e.ay))
+  pub above : pos 2 ≤ℤ (pos 8192 *ℤ (e.by -ℤ e.ay))
+
+pub computed : (e : Edge) (y : ℤ) → EdgeFits e → e.ay <ℤ e.by → e.ay ≤ℤ y → y ≤ℤ e.by → Computed e y
+computed e y fits rises low high = record {
+  run = omega (arith, ints);
+  rise = omega (arith, ints);
+  height = omega (arith, ints);
+  divisor = omega (arith, ints);
+  above = omega (arith, ints);
+}
+
+pub sum_fits : (a b : ℤ) → unsigned_abs a < 2 ^ 62 → unsigned_abs b < 2 ^ 62 → SFits w64 (a +ℤ b)
+sum_fits a b left right = omega (arith, ints)
 
 -- what is left of a number after the column's multiples of a divisor
 side_is : (run h rise at c : ℤ) → run *ℤ h -ℤ rise *ℤ (pos 8192 *ℤ c -ℤ at) ≡ (run *ℤ h +ℤ rise *ℤ at) -ℤ (pos 8192 *ℤ rise) *ℤ c

@@ -1,5 +1,5 @@
 -- The columns of spans as a stamp, and a stamp painted.
-use Rattle.std.proofs.Common.{◌≡◌, ◌∙◌, sym, refl, ℕ, ◌+◌, ◌-◌, ◌<◌, ◌≤◌, Bool, true, false, ◌&&◌, ◌||◌, ◌==◌, nat_le, nat_lt, List, length, take, get_or, bit_or, ℤ, pos, ◌+ℤ◌, ◌-ℤ◌, ◌≤ℤ◌, int_le, unsigned_abs, arith, inl, inr}
+use Rattle.std.proofs.Common.{◌≡◌, ◌∙◌, sym, refl, ℕ, ◌+◌, ◌-◌, ◌<◌, ◌≤◌, Bool, true, false, ◌&&◌, ◌||◌, ◌==◌, nat_le, nat_lt, List, length, take, get_or, bit_or, ℤ, pos, ◌+ℤ◌, ◌-ℤ◌, ◌≤ℤ◌, ◌^◌, int_le, int_lt, unsigned_abs, SFits, w64, arith, inl, inr}
 use Rattle.std.specs.Int.{bit_at}
 use Rattle.std.proofs.lemmas.Bool.Decides.{nat_tests}
 use Rattle.std.proofs.lemmas.Bool.{cases_lt}
@@ -11,8 +11,40 @@ use Rattle.tt_scan.specs.declared.stamp.Stamp.{Stamp}
 use Rattle.tt_scan.specs.Marks.{covers}
 use Rattle.tt_scan.specs.Stamps.{in_word, shows, IsStampOf}
 use Rattle.tt_scan.proofs.Columns.{or_bit}
+use Rattle.tt_scan.proofs.Tables.{reached}
 use Rattle.tt_scan.proofs.Words.{past_last}
 use Rattle.tt_scan.proofs.Visits.{covers_more}
+
+-- a span from a stamp's first column on, up to its last
+pub record Spanned (low first last : ℤ) : Type 0 where
+  pub above : low ≤ℤ first
+  pub below : last ≤ℤ (low +ℤ pos 56)
+  pub from : SFits w64 (first -ℤ low)
+  pub past : SFits w64 (last +ℤ pos 1)
+  pub to : SFits w64 ((last +ℤ pos 1) -ℤ low)
+  pub is_from : pos (unsigned_abs (first -ℤ low)) ≡ first -ℤ low
+  pub is_to : pos (unsigned_abs ((last +ℤ pos 1) -ℤ low)) ≡ (last +ℤ pos 1) -ℤ low
+  pub fits : unsigned_abs ((last +ℤ pos 1) -ℤ low) ≤ 57
+
+pub end_fits : (low : ℤ) → unsigned_abs low ≤ 2 ^ 40 → SFits w64 (low +ℤ pos 56)
+end_fits low small = omega (arith, ints)
+
+pub spanned : (low first last : ℤ) → unsigned_abs low ≤ 2 ^ 40 → int_lt first low ≡ false → int_lt last first ≡ false → int_lt (low +ℤ pos 56) last ≡ false
+    → Spanned low first last
+spanned low first last small one two three =
+    let above = reached first low one in
+    let along = reached last first two in
+    let below = reached (low +ℤ pos 56) last three in
+    record {
+      above = above;
+      below = below;
+      from = omega (arith, ints);
+      past = omega (arith, ints);
+      to = omega (arith, ints);
+      is_from = omega (arith, ints);
+      is_to = omega (arith, ints);
+      fits = omega (arith, ints);
+    }
 
 second_false : (a b : Bool) → b ≡ false → (a && b) ≡ false
 second_false true b off = off

@@ -1,30 +1,32 @@
-use Rattle.std.proofs.Common.{◌≡◌, ◌+ℤ◌, ◌-ℤ◌, ◌*ℤ◌, ◌<ℤ◌, pos, ℤ, SFits, w64, refl, rules, arith}
-use Rattle.std.proofs.lemmas.Int.{ints, to_z-of_z}
+use Rattle.std.proofs.Common.{◌≡◌, ◌+ℤ◌, ◌-ℤ◌, ◌*ℤ◌, ◌<ℤ◌, pos, ℤ, SFits, w64, refl, rules}
+use Rattle.std.proofs.lemmas.Int.{to_z-of_z}
 use Rattle.tt_scan.specs.Winding.{column_x, side}
 use Rattle.tt_scan.proofs.Floors.{at_floor, below_floor}
-use Rattle.tt_scan.proofs.Sides.{side_at}
+use Rattle.tt_scan.proofs.Sides.{Computed, computed, sum_fits, side_at}
 use Rattle.tt_scan.proofs.crossing.standing.Goals as goal
 
 pub overflow_add-sum : goal.overflow_add-sum
 overflow_add-sum c =
     let one : SFits w64 c.product.result = search rules in
     let two : SFits w64 c.product-2.result = search rules in
-    simp to_z-of_z (omega (arith, ints, c.product.ensures.bound, c.product-2.ensures.bound))
+    simp to_z-of_z (sum_fits c.product.result c.product-2.result c.product.ensures.bound c.product-2.ensures.bound)
 
 pub overflow_mul-rise : goal.overflow_mul-rise
 overflow_mul-rise c =
     let ay : SFits w64 c.args.edge.ay = search rules in
     let by : SFits w64 c.args.edge.by = search rules in
-    let rise : SFits w64 (c.args.edge.by -ℤ c.args.edge.ay) = omega (arith, ints) in
-    simp to_z-of_z (omega (arith, ints))
+    let p : Computed c.args.edge c.args.y = computed c.args.edge c.args.y c.requires.edge c.requires.rises c.requires.low c.requires.high in
+    let rise : SFits w64 (c.args.edge.by -ℤ c.args.edge.ay) = p.rise in
+    simp to_z-of_z p.divisor
 
 pub divided-requires : goal.divided-requires
 divided-requires c =
     let ay : SFits w64 c.args.edge.ay = search rules in
     let by : SFits w64 c.args.edge.by = search rules in
-    let rise : SFits w64 (c.args.edge.by -ℤ c.args.edge.ay) = omega (arith, ints) in
-    let divisor : SFits w64 (pos 8192 *ℤ (c.args.edge.by -ℤ c.args.edge.ay)) = omega (arith, ints) in
-    record { divisor = simp to_z-of_z (omega (arith, ints)) }
+    let p : Computed c.args.edge c.args.y = computed c.args.edge c.args.y c.requires.edge c.requires.rises c.requires.low c.requires.high in
+    let rise : SFits w64 (c.args.edge.by -ℤ c.args.edge.ay) = p.rise in
+    let divisor : SFits w64 (pos 8192 *ℤ (c.args.edge.by -ℤ c.args.edge.ay)) = p.divisor in
+    record { divisor = simp to_z-of_z p.above }
 
 -- what was divided, and by what
 abbrev number : goal.After-divided → ℤ
@@ -40,14 +42,15 @@ parts c k =
     let bx : SFits w64 c.args.edge.bx = search rules in
     let by : SFits w64 c.args.edge.by = search rules in
     let y : SFits w64 c.args.y = c.ranges.y in
-    let run : SFits w64 (c.args.edge.bx -ℤ c.args.edge.ax) = omega (arith, ints) in
-    let rise : SFits w64 (c.args.edge.by -ℤ c.args.edge.ay) = omega (arith, ints) in
-    let height : SFits w64 (c.args.y -ℤ c.args.edge.ay) = omega (arith, ints) in
+    let p : Computed c.args.edge c.args.y = computed c.args.edge c.args.y c.requires.edge c.requires.rises c.requires.low c.requires.high in
+    let run : SFits w64 (c.args.edge.bx -ℤ c.args.edge.ax) = p.run in
+    let rise : SFits w64 (c.args.edge.by -ℤ c.args.edge.ay) = p.rise in
+    let height : SFits w64 (c.args.y -ℤ c.args.edge.ay) = p.height in
     let far : SFits w64 c.from_centre.result = search rules in
     let one : SFits w64 c.product.result = search rules in
     let two : SFits w64 c.product-2.result = search rules in
-    let sum : SFits w64 (c.product.result +ℤ c.product-2.result) = omega (arith, ints, c.product.ensures.bound, c.product-2.ensures.bound) in
-    let divisor : SFits w64 (pos 8192 *ℤ (c.args.edge.by -ℤ c.args.edge.ay)) = omega (arith, ints) in
+    let sum : SFits w64 (c.product.result +ℤ c.product-2.result) = sum_fits c.product.result c.product-2.result c.product.ensures.bound c.product-2.ensures.bound in
+    let divisor : SFits w64 (pos 8192 *ℤ (c.args.edge.by -ℤ c.args.edge.ay)) = p.divisor in
     let at = simp to_z-of_z at c.from_centre.ensures.exact in
     let left = simp to_z-of_z at c.product.ensures.exact in
     let right = simp to_z-of_z at c.product-2.ensures.exact in (

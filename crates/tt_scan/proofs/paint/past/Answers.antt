@@ -1,14 +1,14 @@
 use Rattle.std.proofs.Common.{◌≡◌, ◌+ℤ◌, ◌-ℤ◌, pos, SFits, w64, rules, arith}
 use Rattle.std.specs.Int.{int_min, int_max}
 use Rattle.std.proofs.lemmas.Int.{ints, to_z-of_z}
-use Rattle.tt_scan.proofs.Ranges.{placed_past, within_fits}
+use Rattle.tt_scan.proofs.Ranges.{before_fits, one_after, placed_past, within_fits}
 use Rattle.tt_scan.proofs.paint.past.Goals as goal
 
 pub returns : goal.returns
 returns c = λ k within.
     let at : SFits w64 c.args.at = c.ranges.at in
     let low : SFits w64 c.args.window.low = search rules in
-    let before : SFits w64 (c.args.window.low -ℤ pos 1) = omega (arith, ints, c.requires) in
+    let before : SFits w64 (c.args.window.low -ℤ pos 1) = before_fits c.args.window.low c.requires in
     let width : SFits w64 c.from.result = search rules in
     let small : SFits w64 ((c.args.window.low -ℤ pos 1) +ℤ c.from.result) = omega (arith, ints, c.requires, c.from.ensures) in
     let column : SFits w64 c.clamp.result = search rules in
@@ -17,5 +17,5 @@ returns c = λ k within.
     let above = simp to_z-of_z at c.clamp.ensures.lower_bound in
     let below = rw c.from.ensures at (simp to_z-of_z at c.clamp.ensures.upper_bound) in
     let far : SFits w64 (c.clamp.result -ℤ (c.args.window.low -ℤ pos 1)) = within_fits c.clamp.result (c.args.window.low -ℤ pos 1) c.args.window.width (search rules) above below in
-    let one : (c.args.window.low -ℤ pos 1) +ℤ pos 1 ≡ c.args.window.low = omega (arith, ints) in
+    let one : (c.args.window.low -ℤ pos 1) +ℤ pos 1 ≡ c.args.window.low = one_after c.args.window.low in
     simp to_z-of_z (rw one at (placed_past c.args.at c.clamp.result (c.args.window.low -ℤ pos 1) c.args.window.width k is within))

@@ -1,31 +1,17 @@
-use Rattle.std.proofs.Common.{◌≤◌, length, refl, arith}
-use Rattle.std.proofs.lemmas.Bool.Decides.{nat_tests}
+use Rattle.std.proofs.Common.{◌<◌, ◌≤◌, length, refl}
 use Rattle.tt_metrics.specs.Metrics.{loca_format_of, glyphs_of}
-use Rattle.tt_glyf.specs.Loca.{loca_size, loca_of}
-use Rattle.tt_glyf.proofs.Locations.{locations-given, locations-whole}
+use Rattle.tt_glyf.specs.Loca.{loca_size}
+use Rattle.tt_glyf.proofs.Locations.{locations-refused, locations-given, locations-whole}
 use Rattle.tt_glyf.proofs.loca.Loca.open.Goals as goal
 
+short : (c : goal.After-new) → length c.args.loca.now < loca_size (loca_format_of c.args.metrics.now) (glyphs_of c.args.metrics.now)
+short c = rw (c.from.ensures, c.entry_size.ensures.exact, c.loca_format-format.ensures, c.glyphs-glyphs.ensures.exact) at c.if-loca-entry_size.true
+
 pub returns-then-loca-entry_size-clause-exact : goal.returns-then-loca-entry_size-clause-exact
-unfolding loca_of
-returns-then-loca-entry_size-clause-exact c =
-    grind (
-      arith,
-      nat_tests,
-      c.new.ensures,
-      c.loca_format-format.ensures,
-      c.glyphs-glyphs.ensures.exact,
-      c.entry_size.ensures.exact,
-    )
+returns-then-loca-entry_size-clause-exact c = rw c.new.ensures (locations-refused c.args.loca.now c.args.metrics.now (short c))
 
 pub returns-then-loca-entry_size-clause-fault : goal.returns-then-loca-entry_size-clause-fault
-returns-then-loca-entry_size-clause-fault c =
-    grind (
-      arith,
-      c.new.ensures,
-      c.loca_format-format.ensures,
-      c.glyphs-glyphs.ensures.exact,
-      c.entry_size.ensures.exact,
-    )
+returns-then-loca-entry_size-clause-fault c = (short c, c.new.ensures)
 
 pub returns-clause-whole : goal.returns-clause-whole
 returns-clause-whole c = rw (c.loca_format-format.ensures, c.glyphs-glyphs.ensures.exact) refl

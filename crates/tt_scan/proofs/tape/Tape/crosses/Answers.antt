@@ -1,5 +1,5 @@
-use Rattle.std.proofs.Common.{arith}
+use Rattle.std.proofs.Common.{refl}
 use Rattle.tt_scan.proofs.tape.Tape.crosses.Goals as goal
 
 pub returns : goal.returns
-returns c = grind (arith, c.self.view_is)
+returns c = rw (← c.self.view_is) refl

@@ -1,4 +1,4 @@
-use Rattle.std.proofs.Common.{◌≡◌, length, ◌++◌, ◌∷◌, [], arith}
+use Rattle.std.proofs.Common.{◌≡◌, length, ◌++◌, ◌∷◌, [], refl, arith}
 use Rattle.std.proofs.lemmas.List.Elements.{All-push}
 use Rattle.tt_scan.specs.Winding.{EdgeFits}
 use Rattle.tt_scan.proofs.Counts.{met_pushed}
@@ -20,4 +20,4 @@ invariant_of-self-2 c =
     )
 
 pub returns-clause-added : goal.returns-clause-added
-returns-clause-added c = grind (arith, c.self.view_is, c.push_reserved.ensures, c.reserve.ensures)
+returns-clause-added c = rw (c.push_reserved.ensures.items, c.reserve.ensures.items, ← c.self.view_is) refl
