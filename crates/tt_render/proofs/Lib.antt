@@ -14,3 +14,4 @@ mod Alike
 mod Listing
 mod Whole
 mod Answered
+mod Stopped

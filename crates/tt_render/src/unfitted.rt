@@ -1,6 +1,6 @@
 //! The glyphs of a line that are drawn with their scaled points.
 
-ghost use Rattle.std.specs.Prelude.{◌≡◌, map, All, IfOk};
+ghost use Rattle.std.specs.Prelude.{◌≡◌, IfOk};
 ghost use Rattle.tt_render.specs.Unfitted.{unfitted_standing};
 
 use crate::glyph::Glyph;
