@@ -1,3 +1,4 @@
+pub mod Behind
 pub mod Entries
 pub mod Words
 pub mod Tops

@@ -1,8 +1,16 @@
--- Words of a list of bytes, two by two.
-use Rattle.std.proofs.Common.{◌≡◌, ℕ, zero, suc, ◌+◌, ◌*◌, ◌<◌, ◌≤◌, ℤ, List, [], ◌∷◌, length, get_or, drop, Ok, refl, arith}
+-- Bytes of a list, one by one, and its words, two by two.
+use Rattle.std.proofs.Common.{◌≡◌, ℕ, zero, suc, ◌+◌, ◌*◌, ◌<◌, ◌≤◌, ℤ, pos, List, [], ◌∷◌, length, get_or, drop, Ok, refl, arith}
 use Rattle.tt_core.specs.Numbers.{signed16}
 use Rattle.tt_exec_stack.specs.Stack.{pushed}
-use Rattle.tt_exec_stack.specs.Pushing.{pushed_words}
+use Rattle.tt_core.specs.Outcomes.{◌>>=◌}
+use Rattle.tt_exec_stack.specs.Pushing.{pushed_bytes, pushed_words}
+
+-- the byte at a place, and what is behind it
+pub next_byte : (bytes : List ℕ) (at byte : ℕ) (s : List ℤ) → at < length bytes → byte ≡ get_or bytes at 0
+    → pushed_bytes (drop at bytes) s ≡ (pushed (pos byte) s >>= λ t. pushed_bytes (drop (suc at) bytes) t)
+next_byte [] at byte s within is = absurd (omega arith)
+next_byte (b ∷ bytes) zero byte s within is = rw is refl
+next_byte (b ∷ bytes) (suc at) byte s within is = next_byte bytes at byte s (omega arith) is
 
 -- the word at a place, and what is behind it
 pub next_word : (bytes : List ℕ) (at high low : ℕ) (s t : List ℤ) → at + 1 < length bytes → high ≡ get_or bytes at 0
