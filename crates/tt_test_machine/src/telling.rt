@@ -87,13 +87,12 @@ fn print_state<W: Write>(out: &mut W, state: &GraphicsState) -> Result<()> {
 }
 
 fn print_round<W: Write>(out: &mut W, round: &Round) -> Result<()> {
-    match round {
-        Round::Super(state) => {
-            let (period, phase, threshold) = (state.period(), state.phase(), state.threshold());
-            write!(out, "Super({period},{phase},{threshold})")?;
-        }
-        other => write!(out, "{other:?}")?,
+    if let Round::Super(state) = round {
+        let (period, phase, threshold) = (state.period(), state.phase(), state.threshold());
+        write!(out, "Super({period},{phase},{threshold})")?;
+        return Ok(());
     }
+    write!(out, "{round:?}")?;
     Ok(())
 }
 

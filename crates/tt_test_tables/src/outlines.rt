@@ -106,13 +106,12 @@ fn fitted_twice<R: Eprint>(rt: &R, fitter: &Fitter, g: u16) -> Result<Outline, F
     ensures coordinates { IfOk result (λ o. All IsPoint o.points.items) }
     ensures ends { IfOk result (λ o. AreEnds (length o.points.items) o.ends.items) }
 {
-    match fitter.fitted(g) {
-        Err(FontFault::Memory) => {
-            tell(rt, g);
-            fitter.fitted(g)
-        }
-        first => first,
+    let first = fitter.fitted(g);
+    if let Err(FontFault::Memory) = first {
+        tell(rt, g);
+        return fitter.fitted(g);
     }
+    first
 }
 
 fn print_refusal<W: Write>(out: &mut W, g: u16, fault: FontFault) -> Result<()> {
