@@ -31,8 +31,10 @@ pub record Spanned (low first last : ℤ) : Type 0 where
   pub fits : unsigned_abs ((last +ℤ pos 1) -ℤ low) ≤ 57
 
 pub spanned : (low first last : ℤ) → SFits w64 low → SFits w64 first → SFits w64 last → unsigned_abs low ≤ 2 ^ 40
-    → int_lt (to_z w64 (of_z w64 first)) (to_z w64 (of_z w64 low)) ≡ false → int_lt (to_z w64 (of_z w64 last)) (to_z w64 (of_z w64 first)) ≡ false
-    → int_lt (to_z w64 (of_z w64 (to_z w64 (of_z w64 low) +ℤ pos 56))) (to_z w64 (of_z w64 last)) ≡ false → Spanned low first last
+    → int_lt (to_z w64 (of_z w64 first)) (to_z w64 (of_z w64 low)) ≡ false
+    → int_lt (to_z w64 (of_z w64 last)) (to_z w64 (of_z w64 first)) ≡ false
+    → int_lt (to_z w64 (of_z w64 (to_z w64 (of_z w64 low) +ℤ pos 56))) (to_z w64 (of_z w64 last)) ≡ false
+    → Spanned low first last
 spanned low first last low_fits first_fits last_fits small one two three =
     let end : SFits w64 (low +ℤ pos 56) = omega (arith, ints) in
     let above = reached first low (simp to_z-of_z at one) in
