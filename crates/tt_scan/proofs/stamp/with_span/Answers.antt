@@ -32,6 +32,6 @@ returns-clause-shows c = λ at.
     spanned c.args.stamp.low c.args.span.first c.args.span.last (search rules) (search rules) (search rules)
     c.requires.low c.if-span-stamp.false c.if-span.false c.if-stamp-span.false in
     let is = simp (s.is_low, s.is_first, s.is_last, s.from, s.past, s.to) at c.ones.ensures in
-    simp (s.is_low, s.is_first, s.is_last) (shows_more c.args.stamp (record { low = c.args.stamp.low; columns = c.max.result; word = bit_or c.args.stamp.word c.ones.result }) c.args.span
+    simp s.is_low (shows_more c.args.stamp (record { low = c.args.stamp.low; columns = c.max.result; word = bit_or c.args.stamp.word c.ones.result }) c.args.span
     (unsigned_abs (c.args.span.first -ℤ c.args.stamp.low)) (unsigned_abs ((c.args.span.last +ℤ pos 1) -ℤ c.args.stamp.low)) c.ones.result at
     refl refl s.is_from s.is_to s.above s.below is)
