@@ -1,9 +1,9 @@
 -- The columns of spans as a stamp, and a stamp painted.
-use Rattle.std.proofs.Common.{◌≡◌, ◌∙◌, sym, refl, ℕ, ◌+◌, ◌-◌, ◌<◌, ◌≤◌, Bool, true, false, ◌&&◌, ◌||◌, ◌==◌, nat_le, nat_lt, List, length, take, get_or, bit_or, ℤ, pos, ◌+ℤ◌, ◌-ℤ◌, ◌≤ℤ◌, ◌^◌, int_le, int_lt, unsigned_abs, SFits, w64, arith, inl, inr}
+use Rattle.std.proofs.Common.{◌≡◌, ◌∙◌, sym, refl, ℕ, ◌+◌, ◌-◌, ◌<◌, ◌≤◌, Bool, true, false, ◌&&◌, ◌||◌, ◌==◌, nat_le, nat_lt, List, length, take, get_or, bit_or, ℤ, pos, ◌+ℤ◌, ◌-ℤ◌, ◌≤ℤ◌, ◌^◌, int_le, int_lt, unsigned_abs, SFits, w64, to_z, of_z, arith, inl, inr}
 use Rattle.std.specs.Int.{bit_at}
 use Rattle.std.proofs.lemmas.Bool.Decides.{nat_tests}
 use Rattle.std.proofs.lemmas.Bool.{cases_lt}
-use Rattle.std.proofs.lemmas.Int.{ints, by_lt_z}
+use Rattle.std.proofs.lemmas.Int.{ints, by_lt_z, to_z-of_z}
 use Rattle.std.proofs.lemmas.List.{take_more}
 use Rattle.std.proofs.lemmas.Nat.Bits.{bit_at-lt, bit_at_or}
 use Rattle.tt_scan.specs.declared.mark.Span.{Span}
@@ -15,35 +15,44 @@ use Rattle.tt_scan.proofs.Tables.{reached}
 use Rattle.tt_scan.proofs.Words.{past_last}
 use Rattle.tt_scan.proofs.Visits.{covers_more}
 
--- a span from a stamp's first column on, up to its last
+-- a span from a stamp's first column on, up to its last; what the code computes of it fits
 pub record Spanned (low first last : ℤ) : Type 0 where
+  pub is_low : to_z w64 (of_z w64 low) ≡ low
+  pub is_first : to_z w64 (of_z w64 first) ≡ first
+  pub is_last : to_z w64 (of_z w64 last) ≡ last
+  pub from : to_z w64 (of_z w64 (first -ℤ low)) ≡ first -ℤ low
+  pub past : to_z w64 (of_z w64 (last +ℤ pos 1)) ≡ last +ℤ pos 1
+  pub to : to_z w64 (of_z w64 ((last +ℤ pos 1) -ℤ low)) ≡ (last +ℤ pos 1) -ℤ low
   pub above : low ≤ℤ first
   pub below : last ≤ℤ (low +ℤ pos 56)
-  pub from : SFits w64 (first -ℤ low)
-  pub past : SFits w64 (last +ℤ pos 1)
-  pub to : SFits w64 ((last +ℤ pos 1) -ℤ low)
   pub is_from : pos (unsigned_abs (first -ℤ low)) ≡ first -ℤ low
   pub is_to : pos (unsigned_abs ((last +ℤ pos 1) -ℤ low)) ≡ (last +ℤ pos 1) -ℤ low
+  pub order : unsigned_abs (first -ℤ low) ≤ unsigned_abs ((last +ℤ pos 1) -ℤ low)
   pub fits : unsigned_abs ((last +ℤ pos 1) -ℤ low) ≤ 57
 
-pub end_fits : (low : ℤ) → unsigned_abs low ≤ 2 ^ 40 → SFits w64 (low +ℤ pos 56)
-end_fits low small = omega (arith, ints)
-
-pub spanned : (low first last : ℤ) → unsigned_abs low ≤ 2 ^ 40 → int_lt first low ≡ false → int_lt last first ≡ false → int_lt (low +ℤ pos 56) last ≡ false
+pub spanned : (low first last : ℤ) → SFits w64 low → SFits w64 first → SFits w64 last → unsigned_abs low ≤ 2 ^ 40
+    → int_lt (to_z w64 (of_z w64 first)) (to_z w64 (of_z w64 low)) ≡ false
+    → int_lt (to_z w64 (of_z w64 last)) (to_z w64 (of_z w64 first)) ≡ false
+    → int_lt (to_z w64 (of_z w64 (to_z w64 (of_z w64 low) +ℤ pos 56))) (to_z w64 (of_z w64 last)) ≡ false
     → Spanned low first last
-spanned low first last small one two three =
-    let above = reached first low one in
-    let along = reached last first two in
-    let below = reached (low +ℤ pos 56) last three in
+spanned low first last low_fits first_fits last_fits small one two three =
+    let end : SFits w64 (low +ℤ pos 56) = omega (arith, ints) in
+    let above = reached first low (simp to_z-of_z at one) in
+    let along = reached last first (simp to_z-of_z at two) in
+    let below = reached (low +ℤ pos 56) last (simp to_z-of_z at three) in
     record {
+      is_low = to_z-of_z w64 low low_fits;
+      is_first = to_z-of_z w64 first first_fits;
+      is_last = to_z-of_z w64 last last_fits;
+      from = to_z-of_z w64 (first -ℤ low) (omega (arith, ints, above, along, below));
+      past = to_z-of_z w64 (last +ℤ pos 1) (omega (arith, ints, above, along, below));
+      to = to_z-of_z w64 ((last +ℤ pos 1) -ℤ low) (omega (arith, ints, above, along, below));
       above = above;
       below = below;
-      from = omega (arith, ints);
-      past = omega (arith, ints);
-      to = omega (arith, ints);
-      is_from = omega (arith, ints);
-      is_to = omega (arith, ints);
-      fits = omega (arith, ints);
+      is_from = omega (arith, ints, above);
+      is_to = omega (arith, ints, above, along);
+      order = omega (arith, ints, above, along);
+      fits = omega (arith, ints, above, along, below);
     }
 
 second_false : (a b : Bool) → b ≡ false → (a && b) ≡ false

@@ -15,7 +15,8 @@ pub overflow_mul-rise : goal.overflow_mul-rise
 overflow_mul-rise c =
     let ay : SFits w64 c.args.edge.ay = search rules in
     let by : SFits w64 c.args.edge.by = search rules in
-    let p : Computed c.args.edge c.args.y = computed c.args.edge c.args.y c.requires.edge c.requires.rises c.requires.low c.requires.high in
+    let p : Computed c.args.edge c.args.y =
+    computed c.args.edge c.args.y c.requires.edge c.requires.rises c.requires.low c.requires.high in
     let rise : SFits w64 (c.args.edge.by -ℤ c.args.edge.ay) = p.rise in
     simp to_z-of_z p.divisor
 
@@ -23,7 +24,8 @@ pub divided-requires : goal.divided-requires
 divided-requires c =
     let ay : SFits w64 c.args.edge.ay = search rules in
     let by : SFits w64 c.args.edge.by = search rules in
-    let p : Computed c.args.edge c.args.y = computed c.args.edge c.args.y c.requires.edge c.requires.rises c.requires.low c.requires.high in
+    let p : Computed c.args.edge c.args.y =
+    computed c.args.edge c.args.y c.requires.edge c.requires.rises c.requires.low c.requires.high in
     let rise : SFits w64 (c.args.edge.by -ℤ c.args.edge.ay) = p.rise in
     let divisor : SFits w64 (pos 8192 *ℤ (c.args.edge.by -ℤ c.args.edge.ay)) = p.divisor in
     record { divisor = simp to_z-of_z p.above }
@@ -42,7 +44,8 @@ parts c k =
     let bx : SFits w64 c.args.edge.bx = search rules in
     let by : SFits w64 c.args.edge.by = search rules in
     let y : SFits w64 c.args.y = c.ranges.y in
-    let p : Computed c.args.edge c.args.y = computed c.args.edge c.args.y c.requires.edge c.requires.rises c.requires.low c.requires.high in
+    let p : Computed c.args.edge c.args.y =
+    computed c.args.edge c.args.y c.requires.edge c.requires.rises c.requires.low c.requires.high in
     let run : SFits w64 (c.args.edge.bx -ℤ c.args.edge.ax) = p.run in
     let rise : SFits w64 (c.args.edge.by -ℤ c.args.edge.ay) = p.rise in
     let height : SFits w64 (c.args.y -ℤ c.args.edge.ay) = p.height in

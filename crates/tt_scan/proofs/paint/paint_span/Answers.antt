@@ -12,4 +12,5 @@ returns-clause-bits c = λ k.
     let from = simp to_z-of_z at c.place.ensures in
     let past = simp to_z-of_z at c.past.ensures in
     c.blacken.ensures.bits k
-    ∙ ap (λ (b : Bool). bit c.args.row.now k || b) (within_width k c.args.window.width _ _ (λ inside. rw (from k inside, past k inside) refl))
+    ∙ ap (λ (b : Bool). bit c.args.row.now k || b)
+    (within_width k c.args.window.width _ _ (λ inside. rw (from k inside, past k inside) refl))

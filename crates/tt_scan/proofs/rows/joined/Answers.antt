@@ -8,7 +8,8 @@ below : (a b : ℤ) → int_le b a ≡ false → a <ℤ b
 below a b out = by_lt_z a b (λ under. under) (λ over. absurd (grind (arith, ints)))
 
 -- a row of a range is one of a longer range
-longer : (a b low high row : ℤ) → low ≤ℤ a → b ≤ℤ high → (int_le a row && int_lt row b) ≡ true → (int_le low row && int_lt row high) ≡ true
+longer : (a b low high row : ℤ) → low ≤ℤ a → b ≤ℤ high → (int_le a row && int_lt row b) ≡ true
+    → (int_le low row && int_lt row high) ≡ true
 longer a b low high row from to within = grind (arith, ints)
 
 lesser : (a b : ℤ) → (int_min a b ≡ a) ⊎ (int_min a b ≡ b)
@@ -42,14 +43,16 @@ returns-else-all-clause-left c = λ row within.
     let low : SFits w64 c.min.result = search rules in
     let high : SFits w64 c.max.result = search rules in
     let k = known c in
-    simp to_z-of_z (longer c.args.all.0 c.args.all.1 c.min.result c.max.result row (rw k.low (omega (arith, ints, clamps))) (rw k.high (omega (arith, ints, clamps))) within)
+    simp to_z-of_z (longer c.args.all.0 c.args.all.1 c.min.result c.max.result row
+    (rw k.low (omega (arith, ints, clamps))) (rw k.high (omega (arith, ints, clamps))) within)
 
 pub returns-else-all-clause-right : goal.returns-else-all-clause-right
 returns-else-all-clause-right c = λ row within.
     let low : SFits w64 c.min.result = search rules in
     let high : SFits w64 c.max.result = search rules in
     let k = known c in
-    simp to_z-of_z (longer c.args.more.0 c.args.more.1 c.min.result c.max.result row (rw k.low (omega (arith, ints, clamps))) (rw k.high (omega (arith, ints, clamps))) within)
+    simp to_z-of_z (longer c.args.more.0 c.args.more.1 c.min.result c.max.result row
+    (rw k.low (omega (arith, ints, clamps))) (rw k.high (omega (arith, ints, clamps))) within)
 
 pub returns-else-all-clause-first : goal.returns-else-all-clause-first
 returns-else-all-clause-first c =

@@ -4,8 +4,11 @@ use Rattle.tt_glyf.specs.Loca.{loca_size}
 use Rattle.tt_glyf.proofs.Locations.{locations-refused, locations-given, locations-whole}
 use Rattle.tt_glyf.proofs.loca.Loca.open.Goals as goal
 
-short : (c : goal.After-new) → length c.args.loca.now < loca_size (loca_format_of c.args.metrics.now) (glyphs_of c.args.metrics.now)
-short c = rw (c.from.ensures, c.entry_size.ensures.exact, c.loca_format-format.ensures, c.glyphs-glyphs.ensures.exact) at c.if-loca-entry_size.true
+short : (c : goal.After-new)
+    → length c.args.loca.now < loca_size (loca_format_of c.args.metrics.now) (glyphs_of c.args.metrics.now)
+short c =
+    rw (c.from.ensures, c.entry_size.ensures.exact, c.loca_format-format.ensures, c.glyphs-glyphs.ensures.exact)
+    at c.if-loca-entry_size.true
 
 pub returns-then-loca-entry_size-clause-exact : goal.returns-then-loca-entry_size-clause-exact
 returns-then-loca-entry_size-clause-exact c = rw c.new.ensures (locations-refused c.args.loca.now c.args.metrics.now (short c))
