@@ -1,5 +1,5 @@
 -- The top of a stack, in the list that has its top last.
-use Rattle.std.proofs.Common.{◌≡◌, ℕ, ◌+◌, ◌-◌, ◌<◌, ◌≤◌, ℤ, false, nat_lt, List, [], ◌∷◌, ◌++◌, length, take, drop, reverse, ap, ◌∙◌, sym, subst, length-drop, Ok, refl, arith}
+use Rattle.std.proofs.Common.{◌≡◌, ℕ, ◌-◌, ◌≤◌, ℤ, false, nat_lt, List, ◌++◌, length, take, drop, reverse, ap, ◌∙◌, sym, subst, length-drop, Ok, refl, arith}
 use Rattle.std.proofs.lemmas.Bool.Decides.{nat_tests}
 use Rattle.std.proofs.lemmas.List.{reverse-append, reverse-reverse, length-reverse, take-append-drop, take_all}
 use Rattle.std.proofs.Math.Seq.{take-append_seam, drop-append_seam}

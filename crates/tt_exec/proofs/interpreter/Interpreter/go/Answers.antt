@@ -1,4 +1,4 @@
-use Rattle.std.proofs.Common.{rules, arith}
+use Rattle.std.proofs.Common.{rules, refl, arith}
 use Rattle.tt_exec.specs.States.{state_of}
 use Rattle.tt_exec.proofs.Steps.{one_more}
 use Rattle.tt_exec.proofs.interpreter.Interpreter.go.Goals as goal
@@ -12,7 +12,7 @@ steps-preserved c = record {
 }
 
 pub steps-init : goal.steps-init
-steps-init c = search rules
+steps-init c = record { few = omega arith; leads = refl }
 
 pub returns-clause-ends : goal.returns-clause-ends
 returns-clause-ends c = search rules

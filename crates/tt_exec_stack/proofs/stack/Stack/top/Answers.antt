@@ -1,4 +1,4 @@
-use Rattle.std.proofs.Common.{◌≡◌, ◌-◌, ◌≤◌, length, vec_len, ap, ◌∙◌, arith}
+use Rattle.std.proofs.Common.{◌≡◌, ◌-◌, ◌≤◌, length, ap, ◌∙◌, arith}
 use Rattle.tt_exec_stack.proofs.Tops.{top_given}
 use Rattle.tt_exec_stack.proofs.stack.Stack.top.Goals as goal
 

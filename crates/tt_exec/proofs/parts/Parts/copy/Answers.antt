@@ -1,0 +1,18 @@
+use Rattle.std.proofs.Common.{◌≡◌, List, [], ◌∷◌, refl}
+use Rattle.std.proofs.lemmas.Map.Entries.{entries_from_clone}
+use Rattle.std.specs.List.{AllZip}
+use Rattle.tt_exec.proofs.parts.Parts.copy.Goals as goal
+
+same_items : {X : Type 0} (C : X → X → Type 0) → ((x y : X) → C x y → y ≡ x) → (xs ys : List X) → AllZip C xs ys
+    → ys ≡ xs
+same_items C same [] [] all = refl
+same_items C same [] (y ∷ ys) all = absurd all
+same_items C same (x ∷ xs) [] all = absurd all
+same_items C same (x ∷ xs) (y ∷ ys) (one, all) = rw (same x y one, same_items C same xs ys all) refl
+
+pub returns : goal.returns
+returns c =
+    let cvt = same_items _ (λ x y same. same) c.args.self.now.cvt.items _ c.in_ok-clone.ensures.cases.0 in
+    let storage = same_items _ (λ x y same. same) c.args.self.now.storage.items _ c.in_ok-clone-2.ensures.cases.0 in
+    let functions = entries_from_clone _ _ (λ x y same. same) (λ v w same. same) _ _ c.in_ok-clone-3.ensures.cases in
+    rw (cvt, storage, c.in_ok-copy.ensures, functions) refl

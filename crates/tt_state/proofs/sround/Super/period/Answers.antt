@@ -1,0 +1,5 @@
+use Rattle.std.proofs.Common.{rules}
+use Rattle.tt_state.proofs.sround.Super.period.Goals as goal
+
+pub returns : goal.returns
+returns c = search rules
