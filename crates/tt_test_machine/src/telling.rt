@@ -119,7 +119,9 @@ fn print_moved<W: Write>(out: &mut W, before: &[Point], after: &[Point]) -> Resu
 
 fn print_point<W: Write>(out: &mut W, point: &Point) -> Result<()> {
     let (org_x, org_y, x, y) = (point.org_x, point.org_y, point.x, point.y);
-    let flags = u8::from(point.touched_x) + 2 * u8::from(point.touched_y) + 4 * u8::from(point.on);
+    let flags = u8::from(point.touched_x)
+        | u8::from(point.touched_y) << 1
+        | u8::from(point.on) << 2;
     write!(out, " {org_x} {org_y} {x} {y} {flags}")?;
     Ok(())
 }
