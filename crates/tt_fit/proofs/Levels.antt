@@ -1,10 +1,12 @@
--- One record more, and one level of components.
+-- One record more, one level of components, and a simple glyph.
 use Rattle.std.proofs.Common.{◌≡◌, ℕ, zero, suc, ◌+◌, ◌-◌, ◌<◌, List, length, drop, get_or, Result, Ok, refl, arith, add-one, drop-cons}
 use Rattle.tt_core.specs.Faults.{Fault}
 use Rattle.tt_core.specs.Outcomes.{◌>>=◌}
 use Rattle.tt_glyf.specs.declared.raw.Record.{Record}
 use Rattle.tt_fit.specs.Components.{placed}
-use Rattle.tt_fit.specs.Fitting.{Setting, size_of, joined, added, outline_at}
+use Rattle.tt_glyf.specs.GlyphData.{glyph_data_of}
+use Rattle.tt_glyf.specs.Raw.{SimpleGlyph, simple}
+use Rattle.tt_fit.specs.Fitting.{Setting, size_of, start, glyph_program, simple_outline, joined, added, outline_at}
 use Rattle.tt_fit.specs.Outline.{Shape}
 
 pub one_record_more : (add : Record → Shape → Result Shape Fault) (rs : List Record) (i : ℕ) (d : Record)
@@ -25,3 +27,9 @@ one_level s (suc levels) r o some =
 pub one_level_done : (s : Setting) (levels : ℕ) (r : Record) (o component : Shape) → 0 < levels
     → outline_at s (levels - 1) r.glyph ≡ Ok component → added s levels r o ≡ placed (size_of s) r component o
 one_level_done s levels r o component some made = rw (one_level s levels r o some, made) refl
+
+-- a simple glyph that was read, and begun without points
+pub simple_made : (s : Setting) (levels g : ℕ) (d : SimpleGlyph) (o : Shape) → glyph_data_of s.tables g ≡ Ok (simple d)
+    → start s d.x_min g ≡ Ok o
+    → outline_at s levels g ≡ simple_outline s g d.points d.ends (glyph_program s g d.code d.code_at) o
+simple_made s levels g d o read begun = rw (read, begun) refl

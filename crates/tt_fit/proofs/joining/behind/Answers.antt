@@ -1,5 +1,6 @@
-use Rattle.std.proofs.Common.{rules}
+use Rattle.std.proofs.Common.{rules, arith}
 use Rattle.tt_fit.specs.Outline.{outline_of, phantom_of, ArePhantom}
+use Rattle.tt_fit.specs.Components.{behind, within_point_limit}
 use Rattle.tt_fit.proofs.Outlines.{joined-is}
 use Rattle.tt_fit.proofs.joining.behind.Goals as goal
 use Rattle.tt_fit.proofs.joining.behind.Goals.{then-has, else-has}
@@ -14,3 +15,19 @@ returns-clause-sound c =
     joined-is (outline_of c.args.so_far) (outline_of c.args.component.now) c.push_placed.new.points.items
     c.push_ends.new.ends.items (phantom_of c.if-has.phantom) c.requires.so_far c.requires.component (search rules)
     (search rules) c.in_ok-push_placed.ensures.coordinates (search rules) phantoms
+
+pub returns-clause-exact : goal.returns-clause-exact
+unfolding behind within_point_limit
+returns-clause-exact c =
+    grind (
+      arith,
+      c.in_ok-push_placed.ensures.exact,
+      c.in_ok-push_ends.ensures,
+      c.if-len-gt-POINT_LIMIT.false,
+      c.len.ensures,
+      c.len-before.ensures,
+      c.has.ensures,
+      c.if-has.branch,
+      c.deref-2.ensures.value,
+      c.deref.ensures.value,
+    )
