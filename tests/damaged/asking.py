@@ -5,6 +5,7 @@ import struct
 import subprocess
 import sys
 import tempfile
+from contextlib import contextmanager
 from pathlib import Path
 from typing import NamedTuple
 
@@ -278,16 +279,28 @@ def asked(lines, seconds=900):
     return ended.stdout.decode().split("\n")[:-1], wrong
 
 
-def answer_of_program(kind, font, text, shape):
-    """Returns what tt_render itself answers."""
+@contextmanager
+def font_in_file(font):
+    """Yields a file that holds the font's bytes."""
     with tempfile.NamedTemporaryFile() as file:
         file.write(font)
         file.flush()
-        words = ["map"]
-        if kind != "map":
-            words = ["draw", "--size", str(shape[0]), "--margin", str(shape[1]), "--fit", kind]
+        yield file
+
+
+def words_of_program(kind, font, text, shape):
+    """Returns the words that start tt_render; font is a file's name."""
+    words = ["map"]
+    if kind != "map":
+        words = ["draw", "--size", str(shape[0]), "--margin", str(shape[1]), "--fit", kind]
+    return [os.environ["TT_RENDER"], *words, font, "--", text.decode()]
+
+
+def answer_of_program(kind, font, text, shape):
+    """Returns what tt_render itself answers."""
+    with font_in_file(font) as file:
         ended = subprocess.run(
-            [os.environ["TT_RENDER"], *words, file.name, "--", text.decode()],
+            words_of_program(kind, file.name, text, shape),
             stdin=subprocess.DEVNULL,
             stdout=subprocess.PIPE,
             stderr=subprocess.PIPE,

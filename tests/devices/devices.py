@@ -1,9 +1,11 @@
 """Devices that move little, or fail; see the script `run` beside this file, which starts it."""
+import socket
+import subprocess
 import sys
 from pathlib import Path
 
 sys.path.insert(0, str(Path(__file__).resolve().parent.parent / "damaged"))
-from asking import NOTHING, asked, report, rows, sum_of, words_of
+from asking import NOTHING, asked, font_in_file, report, rows, sum_of, words_of, words_of_program
 
 # More than any reader or writer moves here.
 ALL = 1 << 40
@@ -41,18 +43,52 @@ def readers(font, answer):
         yield f"{step} {reads + 1} 1 {ALL} fails", answer
 
 
+def whole_rows():
+    """Yields the rows whose font is not cut: one that is says no more here than a whole one."""
+    return (row for row in rows() if not row.name.startswith("cut_to_"))
+
+
 def cases():
     """Yields each case: its name, the lines that are asked, and the answer."""
-    for row in rows():
-        # A font that is cut says no more here than a whole one.
-        if row.name.startswith("cut_to_"):
-            continue
-        pairs = [] if row.stderr in BEFORE_READING else [*readers(row.font, row.answer())]
+    for row in whole_rows():
+        if row.stderr in BEFORE_READING:
+            pairs = [(f"1 1 {ALL} {ALL} fails", row.answer())]
+        else:
+            pairs = [*readers(row.font, row.answer())]
         if row.status == 0 and len(row.stdout) <= LONGEST:
             pairs += writers(row.stdout, row.answer())
         for number, (devices, want) in enumerate(pairs):
             lines = [] if number else [f"font {words_of(row.font)}"]
             yield f"{row.name}, {row.kind}, devices {devices}", [*lines, f"devices {devices}", row.question()], want
+
+
+def writes_of(row):
+    """Returns what tt_render hands over in each of its writes, by a socket that keeps them apart."""
+    ours, theirs = socket.socketpair(socket.AF_UNIX, socket.SOCK_SEQPACKET)
+    with ours, theirs, font_in_file(row.font) as file:
+        words = words_of_program(row.kind, file.name, row.text, row.shape)
+        with subprocess.Popen(words, stdin=subprocess.DEVNULL, stdout=theirs, stderr=subprocess.DEVNULL):
+            theirs.close()
+            return [*iter(lambda: ours.recv(2 * LONGEST), b"")]
+
+
+def wanted_writes(stdout):
+    """Returns the header of a picture, and each of its rows."""
+    magic, size, pixels = stdout.split(b"\n", 2)
+    width, height = map(int, size.split())
+    each = (width + 7) // 8
+    return [b"%s\n%s\n" % (magic, size), *(pixels[row * each : (row + 1) * each] for row in range(height))]
+
+
+def try_writes():
+    """Tries that the header and each row are one write; returns how many pictures are so written, and the failures."""
+    drawn = [row for row in whole_rows() if row.kind != "map" and row.status == 0 and len(row.stdout) <= LONGEST]
+    wrong = [f"{row.name}: not one write for the header and each row" for row in drawn if not is_by_rows(row)]
+    return len(drawn) - len(wrong), wrong
+
+
+def is_by_rows(row):
+    return writes_of(row) == wanted_writes(row.stdout)
 
 
 def main():
@@ -68,7 +104,8 @@ def main():
             failures.append(f"{name}: '{answer}', and not '{want}'")
     if len(wanted) < LEAST:
         failures.append(f"only {len(wanted)} cases")
-    report("devices", len(wanted) - len(failures), failures)
+    passed, unlike = try_writes()
+    report("devices", len(wanted) - len(failures) + passed, failures + unlike)
 
 
 if __name__ == "__main__":
