@@ -1,4 +1,4 @@
-//! Rounding, and runs one behind the other on one machine. What single runs answer is tried by tt_test_machine.
+//! Rounding, and runs one behind the other on one machine. What single runs answer is tried by tests/machine.
 
 ghost use Rattle.std.specs.Prelude.{◌≡◌, ◌≤◌, IfOk, length};
 ghost use Rattle.tt_points_zones.specs.Zones.{IsZones, zones_view};
