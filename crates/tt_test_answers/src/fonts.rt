@@ -1,6 +1,6 @@
 //! What the program does, without its command line, over readers and writers in memory, and as often as it is asked:
-//! for tests with fonts that are damaged and devices that fail. A line of standard input is a question, or says
-//! of what and how those behind it are asked:
+//! for tests with fonts that are damaged and devices that fail. A line of standard input is a question, or says of what
+//! and how those behind it are asked:
 //!
 //!     font HEX
 //!     file PATH
@@ -30,7 +30,7 @@ use std::alloc::Global;
 use std::io::Write;
 use std::{fs, str};
 
-/// Answers them, of the font that is asked of.
+/// What answers them: it keeps the font and the devices.
 #[derive(Drop)]
 pub(crate) struct Fonts {
     asked: Asked,

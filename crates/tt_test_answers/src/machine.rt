@@ -32,7 +32,7 @@ use std::collections::BTreeMap;
 use std::io::Write;
 use tt_exec::{Body, Code, Machine, Parts};
 
-/// Answers them, with the functions of the font program.
+/// What answers them: it keeps the font program.
 #[derive(Drop)]
 pub(crate) struct Runs {
     font: Program,

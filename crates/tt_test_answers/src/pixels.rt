@@ -24,7 +24,7 @@ const MOST_CROSSES: u64 = 1 << 40;
 /// The ends of an edge stay less than this from 0.
 const REACH: i64 = 1 << 30;
 
-/// Answers them.
+/// What answers them.
 #[derive(Clone, Copy)]
 pub(crate) struct Pixels;
 
