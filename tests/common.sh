@@ -22,14 +22,14 @@ no_source_after() {
   [ -x "$1" ] && [ -z "$(find "${sources[@]}" -newer "$1" -print -quit 2>/dev/null)" ]
 }
 
-# test_program NAME PATH WORD..: leaves a program for tests as $program: that of PATH, or where this is empty our own,
-# which is proved and built here if it lacks or a source is newer. `rt run` starts it too, with the words.
-test_program() {
-  local crate=$root/crates/$1
-  program=${2:-$crate/out/$1}
-  if [ -z "$2" ] && ! no_source_after "$program"; then
-    echo "tests: proving and building $1" >&2
-    (cd -- "$crate" && rt run -- "${@:3}") </dev/null >"$room/log" 2>&1 || tail -n 20 -- "$room/log" >&2
+# Leaves the program for tests, tt_test_answers, as $program: that of TT_ANSWERS=PATH, or our own, which is proved and
+# built here if it lacks or a source is newer; `rt run` starts it too.
+answers_program() {
+  local crate=$root/crates/tt_test_answers
+  program=${TT_ANSWERS:-$crate/out/tt_test_answers}
+  if [ -z "${TT_ANSWERS:-}" ] && ! no_source_after "$program"; then
+    echo "tests: proving and building tt_test_answers" >&2
+    (cd -- "$crate" && rt run -- fonts) </dev/null >"$room/log" 2>&1 || tail -n 20 -- "$room/log" >&2
   fi
   if [ ! -x "$program" ]; then
     echo "tests: there is no program $program" >&2
@@ -48,17 +48,9 @@ render_program() {
   fi
 }
 
-# Leaves the program of tables as $program: that of TT_TABLES=PATH, or our own.
-tables_program() {
-  test_program tt_test_tables "${TT_TABLES:-}" glyphs "$root/crates/tt_test_tables/data/composite_font.ttf"
-}
-
-# A script that asks the program of tables, the one that runs the bytecode machine, or the one that does over memory
-# what ours does, says `asks=tables`, `asks=machine` or `asks=fonts` before it sources this file.
+# A script that asks the program for tests says `asks=answers` before it sources this file.
 case ${asks:-render} in
-  tables) tables_program ;;
-  machine) test_program tt_test_machine "${TT_MACHINE:-}" ;;
-  fonts) test_program tt_test_fonts "${TT_FONTS:-}" ;;
+  answers) answers_program ;;
   *) render_program ;;
 esac
 

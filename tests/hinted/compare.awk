@@ -1,4 +1,4 @@
-# Compares outlines with FreeType's. Files are told apart by what=answers, lines of `tt_test_tables outlines` with the
+# Compares outlines with FreeType's. Files are told apart by what=answers, lines of `tt_test_answers outlines` with the
 # size in front; what=listed, lines SIZE GLYPH MOST of the differences that are known; and what=table, lines of
 # fitted_by_freetype.c, which says what they hold. For each glyph and size of the table prints a line, SIZE GLYPH and
 # the greatest difference of a coordinate in 1/64 pixel, or `other` and why the two can't be compared; `known` stands

@@ -40,7 +40,7 @@ logging.disable(logging.WARNING)
 
 
 def line(outlines, glyph):
-    """Returns what tt_test_tables prints of a glyph, behind its number."""
+    """Returns what tt_test_answers prints of a glyph, behind its number."""
     try:
         points, ends, phantom = outlines.outline(glyph)
     except Refused as why:

@@ -3,8 +3,8 @@
  *
  *   plain SEED CASES ANSWERS
  *
- * Both files are written, a line a case, in the form that crates/tt_test_tables/src/pixels.rt tells. All lengths are in
- * 1/8192 pixel; a centre is that of a pixel, in column c and row r, rows counted from the top. The definitions:
+ * Both files are written, a line a case, in the form that crates/tt_test_answers/src/pixels.rt tells. All lengths are
+ * in 1/8192 pixel; a centre is that of a pixel, in column c and row r, rows counted from the top. The definitions:
  *
  *   a point is right of an edge from a to b where side(e, p) is below 0, and left of it where it is above 0;
  *   a point lies on an edge where side(e, p) is 0 and the point is in the box of a and b, whose border counts;

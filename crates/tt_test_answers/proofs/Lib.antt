@@ -1,0 +1,2 @@
+pub mod Near
+mod Ranges

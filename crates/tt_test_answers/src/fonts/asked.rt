@@ -1,0 +1,85 @@
+//! Of what questions are asked, and their answers.
+
+use super::devices::{Given, Manner, Written};
+use super::reading::{change_in, size_in};
+use crate::words::Words;
+use anyhow::{Result, bail};
+use std::alloc::Global;
+use tt_core::Device;
+use tt_render::Job;
+use tt_render_program::{Request, perform};
+
+/// The font, and how it is read and the answer is taken.
+#[derive(Drop)]
+pub(crate) struct Asked {
+    pub(crate) font: Vec<u8>,
+    pub(crate) manner: Manner,
+}
+
+impl Asked {
+    pub(crate) fn new(alloc: Global) -> Asked {
+        Asked {
+            font: Vec::new(alloc),
+            manner: Manner::whole(),
+        }
+    }
+
+    /// The font's first bytes, with those changes that the words are.
+    pub(crate) fn changed(&self, alloc: Global, words: &mut Words) -> Result<Vec<u8>> {
+        let mut font = Vec::new(alloc);
+        let Some(front) = self.font.get(..size_in(words)?) else {
+            bail!("the font is not so long");
+        };
+        font.extend_from_slice(front)?;
+        for _ in 0..u64::MAX {
+            let Some((at, byte)) = change_in(words)? else {
+                break;
+            };
+            match font.get_mut(at) {
+                Some(place) => *place = byte,
+                None => bail!("there is no place {at}"),
+            }
+        }
+        Ok(font)
+    }
+
+    /// Prints the lines of a text; answers the exit status.
+    pub(crate) fn map(
+        &self,
+        alloc: Global,
+        font: &[u8],
+        text: &str,
+        written: &mut Written,
+        errors: &mut Vec<u8>,
+    ) -> u8 {
+        let request = Request::Map { font: "", text };
+        self.done(alloc, &request, font, written, errors)
+    }
+
+    /// Draws a text; answers the exit status.
+    pub(crate) fn draw(
+        &self,
+        alloc: Global,
+        font: &[u8],
+        job: Job<'_>,
+        written: &mut Written,
+        errors: &mut Vec<u8>,
+    ) -> u8 {
+        let request = Request::Draw { font: "", job };
+        self.done(alloc, &request, font, written, errors)
+    }
+
+    fn done(
+        &self,
+        alloc: Global,
+        request: &Request,
+        font: &[u8],
+        written: &mut Written,
+        errors: &mut Vec<u8>,
+    ) -> u8 {
+        let mut font = Device::new(Given::new(font, self.manner));
+        let mut out = Device::new(written);
+        let mut errors = Device::new(errors);
+        perform(alloc, request, &mut font, &mut out, &mut errors)
+    }
+}

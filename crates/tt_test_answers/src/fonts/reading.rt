@@ -1,0 +1,55 @@
+//! What the words of a line say.
+
+use super::devices::Manner;
+use crate::words::Words;
+use anyhow::{Context, Result, bail};
+use tt_render::Job;
+use tt_render_program::job_of;
+
+/// The next word, a number of bytes.
+pub(crate) fn size_in(words: &mut Words) -> Result<usize> {
+    let size: usize = words.word()?.parse()?;
+    Ok(size)
+}
+
+/// The next two words, a place and what its byte becomes; None at the end.
+pub(crate) fn change_in(words: &mut Words) -> Result<Option<(usize, u8)>> {
+    let Some(at) = words.next() else {
+        return Ok(None);
+    };
+    let at: usize = at.parse()?;
+    let byte: u8 = words.word()?.parse()?;
+    Ok(Some((at, byte)))
+}
+
+/// The next five words, how a font is read and how what is written is taken.
+pub(crate) fn manner_in(words: &mut Words) -> Result<Manner> {
+    Ok(Manner {
+        read_step: size_in(words)?,
+        fails_at: size_in(words)?,
+        write_step: size_in(words)?,
+        room: size_in(words)?,
+        takes_nothing: match words.word()? {
+            "fails" => false,
+            "nothing" => true,
+            _ => bail!("no such end"),
+        },
+    })
+}
+
+/// The next three words, how a text is drawn.
+pub(crate) fn job_in<'a, 'b>(words: &mut Words<'a>, text: &'b str) -> Result<Job<'b>>
+where
+    'a: 'b,
+{
+    let size: u32 = words.word()?.parse()?;
+    let margin: u32 = words.word()?.parse()?;
+    let fit = words.word()?;
+    job_of(&tt_render_program::Words {
+        text,
+        size,
+        margin,
+        fit,
+    })
+    .context("no such way to fit")
+}

@@ -1,0 +1,104 @@
+//! What runs of the bytecode machine leave. A line of standard input is a question, or a font program, whose functions
+//! the questions behind it have:
+//!
+//!     TABLE BASE CODE EM PPEM CVT STORAGE TWILIGHT GLYPH ENDS
+//!     font BASE CODE
+//!
+//! The program of TABLE (fpgm, prep or glyf) begins at the offset BASE there; CODE is its bytes in hexadecimal, or `-`.
+//! The five lists are the control values, the storage, the points of both zones, and for each contour one past its last
+//! point; each begins with its count. A point is `OX OY X Y FLAGS`, its original and its current place in 26.6 pixels,
+//! and the sum of 1 if it is touched along x, 2 if along y, and 4 if it is on the curve. The graphics state is the
+//! default one, and the functions are those that the font program defines, run with the same parts.
+//!
+//! The answer of a question is a line too: the fault, or what the run leaves, with a semicolon between the parts: the
+//! number of steps, the stack from the bottom, the fields of the graphics state, of each list the places and values
+//! that changed, the functions as NUMBER TABLE START, and the two flags of INSTCTRL.
+
+ghost use Rattle.std.specs.Prelude.{◌<◌, ◌≤◌};
+ghost use Rattle.tt_core.specs.Limits.{size_limit};
+ghost use Rattle.tt_state.specs.GraphicsState.{IsGraphicsState};
+ghost use Rattle.tt_points_zones.specs.Zones.{IsZones, zones_view};
+
+mod parts;
+mod telling;
+
+use self::parts::{Program, parts_in, program_in};
+use self::telling::print_run;
+use crate::lines::Answers;
+use crate::words::Words;
+use anyhow::{Result, bail};
+use std::alloc::Global;
+use std::collections::BTreeMap;
+use std::io::Write;
+use tt_exec::{Body, Code, Machine, Parts};
+
+/// What answers them: it keeps the font program.
+#[derive(Drop)]
+pub(crate) struct Runs {
+    font: Program,
+}
+
+impl Runs {
+    pub(crate) fn new(alloc: Global) -> Runs {
+        Runs {
+            font: Program::empty(alloc),
+        }
+    }
+}
+
+impl Answers for Runs {
+    fn take<W: Write>(&mut self, rt: &HostRuntime, out: &mut W, words: &mut Words) -> Result<()> {
+        let alloc = rt.alloc();
+        let table = match words.word()? {
+            "font" => {
+                self.font = program_in(alloc, words)?;
+                return words.end();
+            }
+            "fpgm" => *b"fpgm",
+            "prep" => *b"prep",
+            "glyf" => *b"glyf",
+            _ => bail!("no such question"),
+        };
+        let program = program_in(alloc, words)?;
+        let font = self.font.code(*b"fpgm");
+        answer(alloc, out, font, program.code(table), words)?;
+        writeln!(out)?;
+        Ok(())
+    }
+}
+
+/// Runs a program on the parts that the words are.
+fn answer<'a, W: Write>(
+    alloc: Global,
+    out: &mut W,
+    font: Code<'a>,
+    code: Code<'a>,
+    words: &mut Words,
+) -> Result<()> {
+    let mut parts = parts_in(alloc, words)?;
+    words.end()?;
+    let before = parts.copy()?;
+    parts.functions = functions_of(alloc, parts.copy()?, font)?;
+    print_run(out, Machine::new(alloc, parts)?, code, &before)
+}
+
+/// The functions that the font program defines.
+fn functions_of<'a>(
+    alloc: Global,
+    parts: Parts<'a>,
+    font: Code<'a>,
+) -> Result<BTreeMap<u16, Body<'a>>>
+    requires size { parts.ppem ≤ size_limit }
+    requires units { 0 < parts.em }
+    requires zones { IsZones (zones_view parts.zones) }
+    requires state { IsGraphicsState parts.state }
+{
+    let mut machine = Machine::new(alloc, parts)?;
+    if machine.run(font).is_err() {
+        bail!("the font program stops");
+    }
+    match machine.into_parts() {
+        Some(parts) => Ok(parts.functions),
+        None => bail!("the font program leaves no parts"),
+    }
+}

@@ -1,9 +1,0 @@
-use Rattle.tt_test_machine.proofs.functions_of.Goals as goal
-
-pub new-requires : goal.new-requires
-new-requires c = record {
-  size = c.requires.size;
-  units = c.requires.units;
-  zones = c.requires.zones;
-  graphics = c.requires.state;
-}

@@ -1,6 +1,0 @@
-use Rattle.std.proofs.Common.{arith}
-use Rattle.std.proofs.lemmas.Int.{ints}
-use Rattle.tt_test_machine.proofs.parts.coordinate_in.Goals as goal
-
-pub returns : goal.returns
-returns c = omega (arith, ints, c.in_ok-number.ensures.low, c.in_ok-number.ensures.high)
