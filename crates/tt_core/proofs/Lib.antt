@@ -1,6 +1,6 @@
 mod Constants
 pub mod Each
-mod Numbers
+pub mod Numbers
 pub mod Quotients
 mod Text
 pub mod Whole
