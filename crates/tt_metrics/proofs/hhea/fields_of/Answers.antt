@@ -9,7 +9,8 @@ pub returns-clause-exact : goal.returns-clause-exact
 unfolding hhea_in
 returns-clause-exact c =
     let hhea = c.in_ok-hhea.hhea.now in
-    let long = number_told hhea 34 2 c.unwrap-long_metrics.result (sym c.u16_at.ensures ∙ c.unwrap-long_metrics.ensures) in
+    let long = number_told hhea 34 2 c.unwrap-long_metrics.result
+    (sym c.u16_at.ensures ∙ c.unwrap-long_metrics.ensures) in
     let some : (c.unwrap-long_metrics.result == 0) ≡ false = search rules in
     let ascent = signed_told hhea 4 c.unwrap.result (sym c.i16_at.ensures ∙ c.unwrap.ensures) in
     let descent = signed_told hhea 6 c.unwrap-2.result (sym c.i16_at-2.ensures ∙ c.unwrap-2.ensures) in
