@@ -1,5 +1,7 @@
-use Rattle.std.proofs.Common.{◌^◌, ◌≤◌, ◌*ℤ◌, SFits, w64, w32, unsigned_abs, refl, rules, arith}
-use Rattle.std.proofs.lemmas.Int.{ints, to_z-of_z, fits_signed_mul}
+use Rattle.std.proofs.Common.{◌≡◌, false, ◌^◌, ◌≤◌, ◌*◌, ℤ, pos, ◌<ℤ◌, ◌*ℤ◌, SFits, w64, w32, unsigned_abs, refl, rules, arith}
+use Rattle.std.specs.Prelude.{int_lt}
+use Rattle.std.proofs.lemmas.Int.{ints, to_z-of_z, fits_signed_mul, unsigned_abs-mul}
+use Rattle.tt_core.proofs.Quotients.{nearest_within}
 use Rattle.tt_core.proofs.number.scale.Goals as goal
 
 pub returns-clause-exact : goal.returns-clause-exact
@@ -16,3 +18,12 @@ returns-clause-exact c =
     let result : SFits w64 c.rq.result = search rules in
     let exact = simp to_z-of_z at c.rq.ensures.exact in
     simp to_z-of_z (rw (exact, is_v, c.from-2.ensures, c.from-3.ensures) refl)
+
+pub returns-clause-bound : goal.returns-clause-bound
+returns-clause-bound c =
+    let exact = returns-clause-exact c in
+    let size : ℤ = pos (c.args.ppem * 64) in
+    let above : pos 0 <ℤ pos c.args.em = search rules in
+    let within = nearest_within (c.args.v *ℤ size) (pos c.args.em) above in
+    let not_below : int_lt (pos c.args.em) (pos 0) ≡ false = search rules in
+    rw (exact, not_below) (rw (unsigned_abs-mul c.args.v size) at within)

@@ -1,6 +1,6 @@
 use Rattle.std.proofs.Common.{arith}
-use Rattle.std.proofs.lemmas.Grind.{common_steps}
+use Rattle.tt_core.proofs.Numbers.{number_read}
 use Rattle.tt_core.proofs.number.u16_at.Goals as goal
 
 pub returns : goal.returns
-returns c = grind (arith, common_steps)
+returns c = number_read c.args.b.now c.args.at 2 c.read_u16.result c.read_u16.ensures (omega arith)

@@ -1,5 +1,10 @@
-use Rattle.std.proofs.Common.{rules}
+use Rattle.std.proofs.Common.{◌≡◌, SFits, w16, refl, rules}
+use Rattle.std.proofs.lemmas.Int.{to_z-of_z}
+use Rattle.tt_metrics.specs.Hmtx.{bearing_place}
 use Rattle.tt_metrics.proofs.hmtx.bearing_at.Goals as goal
 
 pub returns : goal.returns
-returns c = search rules
+returns c =
+    let fits : SFits w16 c.unwrap_or.result = search rules in
+    let place : c.if-g-n.place ≡ bearing_place c.args.n c.args.g = search rules in
+    simp to_z-of_z (rw (c.unwrap_or.ensures, c.i16_at.ensures, place) refl)

@@ -1,5 +1,5 @@
-use Rattle.std.proofs.Common.{rules}
+use Rattle.std.proofs.Common.{refl}
 use Rattle.tt_metrics.proofs.metrics.Metrics.copy.Goals as goal
 
 pub returns : goal.returns
-returns c = search rules
+returns c = rw (← c.self.view_is) refl

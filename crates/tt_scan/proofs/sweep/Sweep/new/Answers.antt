@@ -1,5 +1,5 @@
-use Rattle.std.proofs.Common.{arith}
+use Rattle.std.proofs.Common.{refl}
 use Rattle.tt_scan.proofs.sweep.Sweep.new.Goals as goal
 
 pub returns : goal.returns
-returns c = grind (arith, c.in_ok-with_capacity.ensures.items)
+returns c = rw c.in_ok-with_capacity.ensures.items refl

@@ -1,5 +1,5 @@
-use Rattle.std.proofs.Common.{arith}
+use Rattle.std.proofs.Common.{refl}
 use Rattle.tt_scan.proofs.tape.Tape.new.Goals as goal
 
 pub returns : goal.returns
-returns c = grind (arith, c.new.ensures)
+returns c = rw c.new.ensures.items refl

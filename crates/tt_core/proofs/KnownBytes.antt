@@ -1,0 +1,15 @@
+-- What a read or a write does to known bytes that calls before it kept.
+use Rattle.std.proofs.Common.{ℕ, List, Option, Some, None}
+use Rattle.std.specs.Io.KnownBytes.{Keeps, Appends, Consumes}
+
+pub kept_appends : (a b c : Option (List ℕ)) (bs : List ℕ) → Keeps a b → Appends b c bs → Appends a c bs
+kept_appends None b c bs kept more = tt
+kept_appends (Some xs) None c bs kept more = absurd kept
+kept_appends (Some xs) (Some ys) None bs kept more = more
+kept_appends (Some xs) (Some ys) (Some zs) bs kept more = cc
+
+pub kept_consumes : (a b c : Option (List ℕ)) (bs : List ℕ) → Keeps a b → Consumes b c bs → Consumes a c bs
+kept_consumes None b c bs kept less = tt
+kept_consumes (Some xs) None c bs kept less = absurd kept
+kept_consumes (Some xs) (Some ys) None bs kept less = less
+kept_consumes (Some xs) (Some ys) (Some zs) bs kept less = cc
