@@ -1,7 +1,7 @@
 mod Constants
 pub mod Each
+mod KnownBytes
 pub mod Numbers
 pub mod Quotients
 mod Text
 pub mod Whole
-mod KnownBytes
