@@ -13,8 +13,8 @@ loop-placed-preserved c =
     let line = c.args.line.now in
     let make = glyph_edges c.args.fitter.now in
     let below : i < length line = c.loop-placed-test.true in
-    let made = made_at c.args.fitter.now c.args.frame before c.place.new.self.kept.items (get_or line i (0, 0)) one.black
-    refl in
+    let made = made_at c.args.fitter.now c.args.frame before c.place.new.self.kept.items (get_or line i (0, 0))
+    one.black refl in
     let whole = drop-cons line i (0, 0) below in
     let numbers = rw whole at so_far.numbers in
     record {
