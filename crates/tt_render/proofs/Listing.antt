@@ -1,5 +1,5 @@
 -- The glyphs that are not fitted, each once: what a search of the kept glyphs lists, and that none is listed twice.
-use Rattle.std.proofs.Common.{◌≡◌, ◌≢◌, ℕ, Bool, true, false, not, ◌&&◌, ◌||◌, ◌==◌, List, [], ◌∷◌, ◌++◌, map, Option, Some, None, Result, Ok, All, refl, ap, ◌∙◌, arith}
+use Rattle.std.proofs.Common.{◌≡◌, ◌≢◌, ℕ, ◌+◌, ◌<◌, Bool, true, false, not, ◌&&◌, ◌||◌, ◌==◌, List, [], ◌∷◌, ◌++◌, length, map, drop, get_or, Option, Some, None, Result, Ok, All, refl, ap, ◌∙◌, arith, append_assoc, add-one, drop-cons}
 use Rattle.std.proofs.lemmas.Bool.Decides.{nat_tests}
 use Rattle.std.proofs.lemmas.List.Elements.{All-head, All-tail}
 use Rattle.tt_core.specs.Faults.{Fault}
@@ -97,6 +97,25 @@ among_once s (g ∷ gs) differ =
 -- no glyph of some is listed twice
 pub lists_once : (s : Setting) (gs : List ℕ) → ListsOnce (unfitted_among s (distinct gs))
 lists_once s gs = among_once s (distinct gs) (distinct_differ [] gs refl)
+
+-- the glyphs from one on are that one and those behind it
+from_one : (gs : List Standing) (i : ℕ) (g : Standing) → i < length gs → g ≡ get_or gs i g → drop i gs
+    ≡ g ∷ drop (i + 1) gs
+from_one gs i g below is =
+    let whole : drop i gs ≡ get_or gs i g ∷ drop (i + 1) gs = rw add-one (drop-cons gs i g below) in rw (← is) at whole
+
+-- one more glyph is listed behind those before it, or is not
+pub one_listed : (gs : List Standing) (i : ℕ) (g : Standing) (before : List Unfitted) (u : Unfitted) → i < length gs
+    → g ≡ get_or gs i g → g.unfitted ≡ Some u.fault → u.glyph ≡ g.number
+    → (before ++ u ∷ []) ++ unfitted_standing (drop (i + 1) gs) ≡ before ++ unfitted_standing (drop i gs)
+one_listed gs i g before u below is stands number =
+    rw (from_one gs i g below is, stands, ← number)
+    (append_assoc before (u ∷ []) (unfitted_standing (drop (i + 1) gs)))
+
+pub none_more : (gs : List Standing) (i : ℕ) (g : Standing) (before : List Unfitted) → i < length gs
+    → g ≡ get_or gs i g → g.unfitted ≡ None
+    → before ++ unfitted_standing (drop (i + 1) gs) ≡ before ++ unfitted_standing (drop i gs)
+none_more gs i g before below is stands = rw (from_one gs i g below is, stands) refl
 
 -- what is listed of the glyphs that are kept of a line is what the definition lists of the line
 pub of_line : (s : Setting) (f : Frame) (gs : List Standing) (line : List (ℕ × ℕ)) (entries : List Unfitted)

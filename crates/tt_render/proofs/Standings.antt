@@ -17,6 +17,7 @@ use Rattle.tt_scan.specs.Winding.{is_black, column_x, row_y, moved_edges}
 use Rattle.tt_render.specs.Glyphs.{Standing, IsDrawn, AreKept, Blacken, Adds, stamps_in, numbers_of}
 use Rattle.tt_render.specs.Picture.{origin_of, edges_at, glyph_edges}
 use Rattle.tt_render.specs.Pixels.{is_black_from, is_black_by, some_black}
+use Rattle.tt_render.proofs.Places.{ok_and}
 
 or_false : (b : Bool) → (b || false) ≡ b
 or_false true = refl
@@ -130,3 +131,11 @@ kept_stood s f table gs i g ps kept below is =
       places = rw (numbers_stood gs i g ps is) kept.places;
       drawn = All-set (IsDrawn s f) gs i stood here kept.drawn;
     }
+
+-- what a place adds, at whatever pen that was asked for
+pub made_at : {pen : ℕ} (s : Setting) (f : Frame) (before after : List Standing) (g : ℕ × ℕ)
+    → IsOkAnd (glyph_edges s (g.0, pen)) (Adds f before after) → g ≡ (g.0, pen)
+    → (new : List Edge) × (glyph_edges s g ≡ Ok new) × Adds f before after new
+made_at {pen} s f before after g black is =
+    let same : g.1 ≡ pen = ap (λ (g : ℕ × ℕ). g.1) is in
+    rw same (ok_and (glyph_edges s (g.0, pen)) (Adds f before after) black)

@@ -31,6 +31,20 @@ no_glyph_table_defect (Ok x) directory m loca glyf = λ fault defect. elim defec
   | inr of_glyf ↦ glyf fault of_glyf
 ]
 
+-- what was told of a setting, where the way to fit is the one that is asked for
+pub failed_by : {fit : Fit} (m : Fields) (tables : GlyphTables) (programs : ProgramTables) (ppem : ℕ) (asked : Fit)
+    (e : FontFault) → FontGives {X = Setting} (λ f. f) (Err e) (setting_of m tables programs ppem fit) → fit ≡ asked
+    → FontGives {X = Setting} (λ f. f) (Err e) (setting_of m tables programs ppem asked)
+failed_by m tables programs ppem asked e fails same =
+    let P : Fit → Type 0 = λ fit. FontGives {X = Setting} (λ f. f) (Err e) (setting_of m tables programs ppem fit) in
+    subst P same fails
+
+pub made_by : {fit : Fit} (m : Fields) (tables : GlyphTables) (programs : ProgramTables) (ppem : ℕ) (asked : Fit)
+    (s : Setting) → setting_of m tables programs ppem fit ≡ Ok s → fit ≡ asked
+    → setting_of m tables programs ppem asked ≡ Ok s
+made_by m tables programs ppem asked s made same =
+    let P : Fit → Type 0 = λ fit. setting_of m tables programs ppem fit ≡ Ok s in subst P same made
+
 -- what is made from what the programs leave has their fault
 preparation-fault : (m : Fields) (tables : GlyphTables) (programs : ProgramTables) (ppem : ℕ) (how : Fit) (f : Fault)
     → setting_of m tables programs ppem how ≡ Err f → prepared m programs ppem how ≡ Err f

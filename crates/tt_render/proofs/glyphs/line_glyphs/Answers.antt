@@ -1,8 +1,7 @@
-use Rattle.std.proofs.Common.{◌∙◌, ◌<◌, ◌++◌, ◌∷◌, [], length, get_or, add-one, drop-cons, arith}
-use Rattle.tt_render.specs.Glyphs.{Adds}
+use Rattle.std.proofs.Common.{◌∙◌, ◌<◌, ◌++◌, ◌∷◌, [], length, get_or, add-one, drop-cons, refl, arith}
 use Rattle.tt_render.specs.Picture.{glyph_edges}
-use Rattle.tt_render.proofs.Places.{ok_and, one_more_made}
-use Rattle.tt_render.proofs.Standings.{one_place_more}
+use Rattle.tt_render.proofs.Places.{one_more_made}
+use Rattle.tt_render.proofs.Standings.{made_at, one_place_more}
 use Rattle.tt_render.proofs.glyphs.line_glyphs.Goals as goal
 
 pub loop-placed-preserved : goal.loop-placed-preserved
@@ -14,7 +13,8 @@ loop-placed-preserved c =
     let line = c.args.line.now in
     let make = glyph_edges c.args.fitter.now in
     let below : i < length line = c.loop-placed-test.true in
-    let made = ok_and (make (get_or line i (0, 0))) (Adds c.args.frame before c.place.new.self.kept.items) one.black in
+    let made = made_at c.args.fitter.now c.args.frame before c.place.new.self.kept.items (get_or line i (0, 0))
+    one.black refl in
     let whole = drop-cons line i (0, 0) below in
     let numbers = rw whole at so_far.numbers in
     record {

@@ -1,8 +1,8 @@
-use Rattle.std.proofs.Common.{arith, ◌≡◌, chars, sym, ◌∙◌}
-use Rattle.std.proofs.lemmas.Grind.{common_steps}
+use Rattle.std.proofs.Common.{◌≡◌, [], chars, sym, ◌∙◌}
 use Rattle.std.proofs.lemmas.Iterator.{YieldsList-from_chars}
 use Rattle.std.proofs.lemmas.Iterator.Consumers.{YieldsList-end}
-use Rattle.std.proofs.lemmas.List.{map-id}
+use Rattle.std.proofs.lemmas.List.{flat_map_more, map-id}
+use Rattle.tt_render.specs.MapLines.{map_line}
 use Rattle.tt_render.proofs.mapping.lines.Goals as goal
 
 pub returns : goal.returns
@@ -13,4 +13,8 @@ returns c =
     rw (← all) c.loop-c.invariant
 
 pub loop-c-preserved : goal.loop-c-preserved
-loop-c-preserved c = grind (arith, common_steps)
+loop-c-preserved c =
+    let line = map_line c.args.metrics.now c.args.cmap.now in
+    rw (c.in_ok-extend_from_slice.ensures.items, c.as_bytes.ensures.exact, c.line-line.ensures)
+    (rw (c.advance.ensures, c.glyph-glyph.ensures.meaning, c.loop-c.invariant)
+    (flat_map_more line [] c.loop-c.yielded c.in-Some.c))
