@@ -4,8 +4,8 @@
   apt-get install python3-fonttools
   /usr/bin/python3 tests/glyphs/make_worked.py
 
-Made with fontTools 4.38.0 (Debian's python3-fonttools 4.38.0-1+deb12u1). Taken is each font that some case draws without a
-refusal, under the name of the first.
+Made with fontTools 4.38.0 (Debian's python3-fonttools 4.38.0-1+deb12u1). Taken is each font that some case draws and that
+none is refused a glyph of, under the name of the first.
 """
 import io
 import logging
@@ -27,14 +27,18 @@ HEAD = """\
 
 def fonts():
     """Returns the name of each font, by its bytes."""
-    found = {}
+    found, refused = {}, set()
     for line in (HERE.parent / "rows/draw.txt").read_text(encoding="utf-8").split("\n"):
         words = line.split()
         if line.startswith("font "):
             whole = bytes.fromhex(words[1])
-        elif len(words) > 6 and words[5] == "0":
-            found.setdefault(whole if words[1] == "whole" else bytes.fromhex(words[1]), words[0])
-    return found
+        elif len(words) > 6 and words[0] != "#" and not words[1].startswith("cut:"):
+            font = whole if words[1] == "whole" else bytes.fromhex(words[1])
+            if words[5] == "0":
+                found.setdefault(font, words[0])
+            elif " glyf+" in line:
+                refused.add(font)
+    return {font: name for font, name in found.items() if font not in refused}
 
 
 def main():
