@@ -65,6 +65,7 @@ def cases():
 def writes_of(row):
     """Returns what tt_render hands over in each of its writes, by a socket that keeps them apart."""
     ours, theirs = socket.socketpair(socket.AF_UNIX, socket.SOCK_SEQPACKET)
+    ours.settimeout(60)
     with ours, theirs, font_in_file(row.font) as file:
         words = words_of_program(row.kind, file.name, row.text, row.shape)
         with subprocess.Popen(words, stdin=subprocess.DEVNULL, stdout=theirs, stderr=subprocess.DEVNULL):
