@@ -4,14 +4,14 @@ use Rattle.std.specs.List.{flat_map, range_with_len}
 use Rattle.std.proofs.lemmas.Bool.{lt-ltb}
 use Rattle.std.proofs.lemmas.List.{take_all}
 use Rattle.tt_scan.specs.declared.edge.Edge.{Edge}
-use Rattle.tt_scan.specs.Tape.{Edges}
+use Rattle.tt_scan.specs.Tape.{Tape}
 use Rattle.tt_arc.specs.declared.curve.Curve.{Curve}
 use Rattle.tt_arc.specs.declared.curve.Spot.{Spot}
 use Rattle.tt_arc.specs.declared.dot.Dot.{Dot}
 use Rattle.tt_arc.specs.Chords.{chord_end, edge_between, first_chords, edges_of, dot_at, place_before, place_after, edges_at, contour_edges}
 use Rattle.tt_arc.proofs.Eighths.{one_chord_more}
 
-pub one_chord_pushed : (t u v : Edges) (c : Curve) (k : ℕ) (from to : Spot) (e : Edge) → u
+pub one_chord_pushed : (t u v : Tape) (c : Curve) (k : ℕ) (from to : Spot) (e : Edge) → u
     ≡ record t { edges = t.edges ++ first_chords c k } → from ≡ chord_end c k → to ≡ chord_end c (k + 1) → e
     ≡ edge_between from to → v ≡ record u { edges = u.edges ++ e ∷ [] } → v
     ≡ record t { edges = t.edges ++ first_chords c (k + 1) }

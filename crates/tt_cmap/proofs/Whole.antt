@@ -9,11 +9,11 @@ use Rattle.tt_core.specs.Search.{first_below_none}
 use Rattle.tt_cmap.specs.declared.records.Format.{Format}
 use Rattle.tt_cmap.specs.declared.records.Format.TheVariants as format
 use Rattle.tt_cmap.specs.declared.records.Place.{Place}
-use Rattle.tt_cmap.specs.Defects.{IsBadRecords, IsBadShape, IsBadSegmentMap, IsBadGroupMap, IsFalling, IsBadSubtable, IsBadChoice}
-use Rattle.tt_cmap.specs.Format4.{SegmentMap, segment_bytes, segments_at}
-use Rattle.tt_cmap.specs.Format12.{GroupMap, group_count, groups_at}
+use Rattle.tt_cmap.specs.Defects.{IsBadRecords, IsBadShape, IsBadFormat4, IsBadFormat12, IsFalling, IsBadSubtable, IsBadChoice}
+use Rattle.tt_cmap.specs.Format4.{Format4, segment_bytes, segments_at}
+use Rattle.tt_cmap.specs.Format12.{Format12, group_count, groups_at}
 use Rattle.tt_cmap.specs.Laws.{LookupsAreWhole}
-use Rattle.tt_cmap.specs.Lookup.{Lookup, by_subtable, lookup_of}
+use Rattle.tt_cmap.specs.Lookup.{Cmap, by_subtable, lookup_of}
 use Rattle.tt_cmap.specs.Ranges.{Subtable, segments, groups, read_as, subtable_with, subtable_at, range_count, falls, falling_range, or_falling}
 use Rattle.tt_cmap.specs.Subtables.{record_count, record_place, records_of, chosen_subtable}
 
@@ -33,11 +33,11 @@ at-least a b is = grind (arith, nat_tests)
 even : (n : ℕ) → not (n % 2 == 0) ≡ false → n % 2 ≡ 0
 even n is = grind (arith, nat_tests)
 
-segments-whole : (table : List ℕ) (at : ℕ) (m : SegmentMap) → segments_at table at ≡ Ok m
-    → HasNo (IsBadSegmentMap (record { table = table; at = at }))
+segments-whole : (table : List ℕ) (at : ℕ) (m : Format4) → segments_at table at ≡ Ok m
+    → HasNo (IsBadFormat4 (record { table = table; at = at }))
 unfolding segments_at
 segments-whole table at m was =
-    let it : SegmentMap = record { table = table; at = at } in
+    let it : Format4 = record { table = table; at = at } in
     let header = passed-on (nat_lt (length table) (at + 14)) _ _ m was in
     let halves = passed-on (not (segment_bytes it % 2 == 0)) _ _ m header.1 in
     let lists = passed-on (nat_lt (length table) (at + 16 + 4 * segment_bytes it)) _ _ m halves.1 in
@@ -51,11 +51,11 @@ segments-whole table at m was =
       ]
     ]
 
-groups-whole : (table : List ℕ) (at : ℕ) (m : GroupMap) → groups_at table at ≡ Ok m
-    → HasNo (IsBadGroupMap (record { table = table; at = at }))
+groups-whole : (table : List ℕ) (at : ℕ) (m : Format12) → groups_at table at ≡ Ok m
+    → HasNo (IsBadFormat12 (record { table = table; at = at }))
 unfolding groups_at
 groups-whole table at m was =
-    let it : GroupMap = record { table = table; at = at } in
+    let it : Format12 = record { table = table; at = at } in
     let header = passed-on (nat_lt (length table) (at + 16)) _ _ m was in
     let lists = passed-on (nat_lt (length table) (at + 16 + 12 * group_count it)) _ _ m header.1 in
     λ fault bad. elim (bad.0) [
@@ -68,30 +68,30 @@ pub record IsShaped (f : Format) (table : List ℕ) (at : ℕ) (s : Subtable) : 
   pub same : s ≡ read_as f table at
   pub shape : HasNo (IsBadShape f table at)
 
-segments-same : (table : List ℕ) (at : ℕ) (m : SegmentMap) → segments_at table at ≡ Ok m
+segments-same : (table : List ℕ) (at : ℕ) (m : Format4) → segments_at table at ≡ Ok m
     → m ≡ record { table = table; at = at }
 unfolding segments_at
 segments-same table at m was =
-    let it : SegmentMap = record { table = table; at = at } in
+    let it : Format4 = record { table = table; at = at } in
     let header = passed-on (nat_lt (length table) (at + 14)) _ _ m was in
     let halves = passed-on (not (segment_bytes it % 2 == 0)) _ _ m header.1 in
     let lists = passed (nat_lt (length table) (at + 16 + 4 * segment_bytes it)) _ it m halves.1 in
     sym lists.1
 
-groups-same : (table : List ℕ) (at : ℕ) (m : GroupMap) → groups_at table at ≡ Ok m
+groups-same : (table : List ℕ) (at : ℕ) (m : Format12) → groups_at table at ≡ Ok m
     → m ≡ record { table = table; at = at }
 unfolding groups_at
 groups-same table at m was =
-    let it : GroupMap = record { table = table; at = at } in
+    let it : Format12 = record { table = table; at = at } in
     let header = passed-on (nat_lt (length table) (at + 16)) _ _ m was in
     let lists = passed (nat_lt (length table) (at + 16 + 12 * group_count it)) _ it m header.1 in
     sym lists.1
 
-is-segments : (m it : SegmentMap) (s : Subtable) → ◌≡◌ {A = Result Subtable Fault} (Ok (segments m)) (Ok s) → m ≡ it
+is-segments : (m it : Format4) (s : Subtable) → ◌≡◌ {A = Result Subtable Fault} (Ok (segments m)) (Ok s) → m ≡ it
     → s ≡ segments it
 is-segments m it s was same = cc
 
-is-groups : (m it : GroupMap) (s : Subtable) → ◌≡◌ {A = Result Subtable Fault} (Ok (groups m)) (Ok s) → m ≡ it
+is-groups : (m it : Format12) (s : Subtable) → ◌≡◌ {A = Result Subtable Fault} (Ok (groups m)) (Ok s) → m ≡ it
     → s ≡ groups it
 is-groups m it s was same = cc
 
@@ -128,7 +128,7 @@ subtable-whole table p s was =
       | inr falling ↦ rising by_shape.value rises fault (rw shaped.same falling)
     ]
 
-choice-whole : (table : List ℕ) (glyphs : ℕ) (place : Option Place) (lookup : Lookup) → by_subtable table glyphs place
+choice-whole : (table : List ℕ) (glyphs : ℕ) (place : Option Place) (lookup : Cmap) → by_subtable table glyphs place
     ≡ Ok lookup → HasNo (IsBadChoice table place)
 choice-whole table glyphs None lookup was = absurd cc
 choice-whole table glyphs (Some p) lookup was =

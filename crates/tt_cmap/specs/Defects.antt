@@ -6,8 +6,8 @@ use Rattle.tt_core.specs.declared.fault.Why.TheVariants as why
 use Rattle.tt_cmap.specs.declared.records.Format.{Format}
 use Rattle.tt_cmap.specs.declared.records.Format.TheVariants as format
 use Rattle.tt_cmap.specs.declared.records.Place.{Place}
-use Rattle.tt_cmap.specs.Format4.{SegmentMap, segment_bytes}
-use Rattle.tt_cmap.specs.Format12.{GroupMap, group_count}
+use Rattle.tt_cmap.specs.Format4.{Format4, segment_bytes}
+use Rattle.tt_cmap.specs.Format12.{Format12, group_count}
 use Rattle.tt_cmap.specs.Ranges.{Subtable, segments, groups, read_as, table_of, range_count, range_end_place, falls}
 use Rattle.tt_cmap.specs.Subtables.{cmap_fault, record_count, record_place, chosen_subtable}
 
@@ -16,15 +16,15 @@ abbrev pub IsBadRecords : List ℕ → Fault → Type 0
 IsBadRecords table fault = ((length table < 4) ⊎ (length table < record_place (record_count table))) × (fault ≡ cmap_fault (length table) why.CmapShape)
 
 -- a subtable of format 4 does not fit, or has half a segment
-abbrev pub IsBadSegmentMap : SegmentMap → Fault → Type 0
-IsBadSegmentMap m fault =
+abbrev pub IsBadFormat4 : Format4 → Fault → Type 0
+IsBadFormat4 m fault =
     ((length m.table < m.at + 14) × (fault ≡ cmap_fault m.at why.CmapShape))
     ⊎ ((m.at + 14 ≤ length m.table) × (segment_bytes m % 2 ≡ 1) × (fault ≡ cmap_fault (m.at + 6) why.CmapShape))
     ⊎ ((m.at + 14 ≤ length m.table) × (length m.table < m.at + 16 + 4 * segment_bytes m) × (fault ≡ cmap_fault m.at why.CmapShape))
 
 -- a subtable of format 12 does not fit
-abbrev pub IsBadGroupMap : GroupMap → Fault → Type 0
-IsBadGroupMap m fault =
+abbrev pub IsBadFormat12 : Format12 → Fault → Type 0
+IsBadFormat12 m fault =
     ((length m.table < m.at + 16) ⊎ (length m.table < m.at + 16 + 12 * group_count m)) × (fault ≡ cmap_fault m.at why.CmapShape)
 
 -- the bytes of a range's last character
@@ -40,8 +40,8 @@ IsFalling s fault =
 
 -- the subtable of a format at a place does not fit, or has half a segment
 abbrev pub IsBadShape : Format → List ℕ → ℕ → Fault → Type 0
-IsBadShape format.Segments table at fault = IsBadSegmentMap (record { table = table; at = at }) fault
-IsBadShape format.Groups table at fault = IsBadGroupMap (record { table = table; at = at }) fault
+IsBadShape format.Segments table at fault = IsBadFormat4 (record { table = table; at = at }) fault
+IsBadShape format.Groups table at fault = IsBadFormat12 (record { table = table; at = at }) fault
 
 -- the subtable has a bad shape, or its ends fall
 abbrev pub IsBadSubtable : List ℕ → Place → Fault → Type 0

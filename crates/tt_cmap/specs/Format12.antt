@@ -9,44 +9,44 @@ use Rattle.tt_cmap.specs.Format4.{or_missing}
 use Rattle.tt_cmap.specs.Subtables.{cmap_fault}
 
 -- a subtable of format 12: the bytes of cmap, and where it begins in them
-pub record GroupMap : Type 0 where
+pub record Format12 : Type 0 where
   pub table : List ℕ
   pub at : ℕ
 
-abbrev pub group_count : GroupMap → ℕ
+abbrev pub group_count : Format12 → ℕ
 group_count m = unsigned_at m.table (m.at + 12) 4
 
 -- a group is three words: its first and its last character, and the glyph of its first
-abbrev pub group_place : GroupMap → ℕ → ℕ
+abbrev pub group_place : Format12 → ℕ → ℕ
 group_place m i = m.at + 16 + 12 * i
 
-abbrev pub start_char_code : GroupMap → ℕ → ℕ
+abbrev pub start_char_code : Format12 → ℕ → ℕ
 start_char_code m i = unsigned_at m.table (group_place m i) 4
 
-abbrev pub end_char_code_place : GroupMap → ℕ → ℕ
+abbrev pub end_char_code_place : Format12 → ℕ → ℕ
 end_char_code_place m i = group_place m i + 4
 
-abbrev pub end_char_code : GroupMap → ℕ → ℕ
+abbrev pub end_char_code : Format12 → ℕ → ℕ
 end_char_code m i = unsigned_at m.table (end_char_code_place m i) 4
 
-abbrev pub start_glyph_id : GroupMap → ℕ → ℕ
+abbrev pub start_glyph_id : Format12 → ℕ → ℕ
 start_glyph_id m i = unsigned_at m.table (group_place m i + 8) 4
 
 -- the subtable at a place, whose groups have to fit
-unfoldable pub groups_at : List ℕ → ℕ → Result GroupMap Fault
+unfoldable pub groups_at : List ℕ → ℕ → Result Format12 Fault
 groups_at table at =
-    let m : GroupMap = record { table = table; at = at } in
+    let m : Format12 = record { table = table; at = at } in
     if nat_lt (length table) (at + 16) then Err (cmap_fault at why.CmapShape)
     else (if nat_lt (length table) (at + 16 + 12 * group_count m) then Err (cmap_fault at why.CmapShape)
     else Ok m)
 
 -- its groups fit into a cmap of a lawful font
-pub record IsGroupMap (m : GroupMap) : Type 0 where
+pub record IsFormat12 (m : Format12) : Type 0 where
   pub fits : m.at + 16 + 12 * group_count m ≤ length m.table
   pub size : length m.table ≤ font_limit
 
 -- the glyph of a character by group i, whose end is not before it: glyphs of a group follow each other
-abbrev pub by_group : GroupMap → ℕ → ℕ → ℕ → ℕ
+abbrev pub by_group : Format12 → ℕ → ℕ → ℕ → ℕ
 by_group m glyphs c i =
     if nat_lt c (start_char_code m i) then 0
     else or_missing glyphs (start_glyph_id m i + (c - start_char_code m i))

@@ -8,48 +8,48 @@ use Rattle.tt_core.specs.Numbers.{unsigned_at, number_at}
 use Rattle.tt_cmap.specs.Subtables.{cmap_fault}
 
 -- a subtable of format 4: the bytes of cmap, and where it begins in them
-pub record SegmentMap : Type 0 where
+pub record Format4 : Type 0 where
   pub table : List ℕ
   pub at : ℕ
 
 -- twice the number of segments
-abbrev pub segment_bytes : SegmentMap → ℕ
+abbrev pub segment_bytes : Format4 → ℕ
 segment_bytes m = unsigned_at m.table (m.at + 6) 2
 
-abbrev pub segment_count : SegmentMap → ℕ
+abbrev pub segment_count : Format4 → ℕ
 segment_count m = segment_bytes m / 2
 
 -- where the last character of segment i stands
-abbrev pub end_code_place : SegmentMap → ℕ → ℕ
+abbrev pub end_code_place : Format4 → ℕ → ℕ
 end_code_place m i = m.at + 14 + 2 * i
 
-abbrev pub end_code : SegmentMap → ℕ → ℕ
+abbrev pub end_code : Format4 → ℕ → ℕ
 end_code m i = unsigned_at m.table (end_code_place m i) 2
 
 -- startCode, idDelta and idRangeOffset are three more lists behind a word of padding, each as long as the first
-abbrev pub start_code : SegmentMap → ℕ → ℕ
+abbrev pub start_code : Format4 → ℕ → ℕ
 start_code m i = unsigned_at m.table (m.at + 16 + segment_bytes m + 2 * i) 2
 
-abbrev pub id_delta : SegmentMap → ℕ → ℕ
+abbrev pub id_delta : Format4 → ℕ → ℕ
 id_delta m i = unsigned_at m.table (m.at + 16 + 2 * segment_bytes m + 2 * i) 2
 
-abbrev pub id_range_offset_place : SegmentMap → ℕ → ℕ
+abbrev pub id_range_offset_place : Format4 → ℕ → ℕ
 id_range_offset_place m i = m.at + 16 + 3 * segment_bytes m + 2 * i
 
-abbrev pub id_range_offset : SegmentMap → ℕ → ℕ
+abbrev pub id_range_offset : Format4 → ℕ → ℕ
 id_range_offset m i = unsigned_at m.table (id_range_offset_place m i) 2
 
 -- the subtable at a place, whose four lists have to fit
-unfoldable pub segments_at : List ℕ → ℕ → Result SegmentMap Fault
+unfoldable pub segments_at : List ℕ → ℕ → Result Format4 Fault
 segments_at table at =
-    let m : SegmentMap = record { table = table; at = at } in
+    let m : Format4 = record { table = table; at = at } in
     if nat_lt (length table) (at + 14) then Err (cmap_fault at why.CmapShape)
     else (if not (segment_bytes m % 2 == 0) then Err (cmap_fault (at + 6) why.CmapShape)
     else (if nat_lt (length table) (at + 16 + 4 * segment_bytes m) then Err (cmap_fault at why.CmapShape)
     else Ok m))
 
 -- its four lists fit into a cmap of a lawful font
-pub record IsSegmentMap (m : SegmentMap) : Type 0 where
+pub record IsFormat4 (m : Format4) : Type 0 where
   pub even : segment_bytes m % 2 ≡ 0
   pub fits : m.at + 16 + 4 * segment_bytes m ≤ length m.table
   pub size : length m.table ≤ font_limit
@@ -64,11 +64,11 @@ by_array glyphs delta None = 0
 by_array glyphs delta (Some word) = if word == 0 then 0 else or_missing glyphs ((word + delta) % 65536)
 
 -- where the array has the glyph of c, for a segment whose range offset is not 0
-abbrev pub array_place : SegmentMap → ℕ → ℕ → ℕ
+abbrev pub array_place : Format4 → ℕ → ℕ → ℕ
 array_place m i c = id_range_offset_place m i + id_range_offset m i + 2 * (c - start_code m i)
 
 -- the glyph of a character by segment i, whose end is not before it
-abbrev pub by_segment : SegmentMap → ℕ → ℕ → ℕ → ℕ
+abbrev pub by_segment : Format4 → ℕ → ℕ → ℕ → ℕ
 by_segment m glyphs c i =
     if nat_lt c (start_code m i) then 0
     else (if id_range_offset m i == 0 then or_missing glyphs ((c + id_delta m i) % 65536)

@@ -10,35 +10,35 @@ use Rattle.tt_cmap.specs.Ranges.{Subtable, segments, groups, subtable_at, range_
 use Rattle.tt_cmap.specs.Subtables.{cmap_fault, records_of, place_of, chosen_subtable}
 
 -- the subtable that serves, and how many glyphs the font has
-pub record Lookup : Type 0 where
+pub record Cmap : Type 0 where
   pub subtable : Subtable
   pub glyphs : ℕ
 
 -- the lookup by a subtable, which has to fit and whose ranges have to end in rising order
-abbrev pub by_subtable : List ℕ → ℕ → Option Place → Result Lookup Fault
+abbrev pub by_subtable : List ℕ → ℕ → Option Place → Result Cmap Fault
 by_subtable table glyphs None = Err (cmap_fault 0 why.NoCmap)
 by_subtable table glyphs (Some place) =
     subtable_at table place >>= λ subtable. Ok (record { subtable = subtable; glyphs = glyphs })
 
 -- the same behind the records, which have to fit first
-abbrev pub lookup_by : List ℕ → ℕ → Option Place → Result Lookup Fault
+abbrev pub lookup_by : List ℕ → ℕ → Option Place → Result Cmap Fault
 lookup_by table glyphs place = records_of table >>= λ count. by_subtable table glyphs place
 
 -- the lookup by the subtable that serves, or cmap's first fault
-unfoldable pub lookup_of : List ℕ → ℕ → Result Lookup Fault
+unfoldable pub lookup_of : List ℕ → ℕ → Result Cmap Fault
 lookup_of table glyphs = lookup_by table glyphs (chosen_subtable table)
 
 -- the glyph of a character
-abbrev pub glyph_of : Lookup → ℕ → ℕ
+abbrev pub glyph_of : Cmap → ℕ → ℕ
 glyph_of m c = glyph_in m.subtable m.glyphs c
 
 -- g is what the least range that reaches the character says of it, and 0 where no range does
-pub record FollowsRanges (m : Lookup) (c g : ℕ) : Type 0 where
+pub record FollowsRanges (m : Cmap) (c g : ℕ) : Type 0 where
   pub by_least : (i : ℕ) → IsLeast (reaches m.subtable c) (range_count m.subtable) i
       → g ≡ by_range m.subtable m.glyphs c i
   pub past_all : ((i : ℕ) → i < range_count m.subtable → reaches m.subtable c i ≡ false) → g ≡ 0
 
-pub glyph_follows_ranges : (m : Lookup) (c : ℕ) → FollowsRanges m c (glyph_of m c)
+pub glyph_follows_ranges : (m : Cmap) (c : ℕ) → FollowsRanges m c (glyph_of m c)
 glyph_follows_ranges m c = record {
   by_least = λ i least. rw (first_below_least (reaches m.subtable c) (range_count m.subtable) i least) refl;
   past_all = λ fails. rw (first_below_nothing (reaches m.subtable c) (range_count m.subtable) fails) refl;
@@ -50,7 +50,7 @@ two_segments =
     0 ∷ 0 ∷ 0 ∷ 1 ∷ 0 ∷ 3 ∷ 0 ∷ 1 ∷ 0 ∷ 0 ∷ 0 ∷ 12 ∷ 0 ∷ 4 ∷ 0 ∷ 32 ∷ 0 ∷ 0 ∷ 0 ∷ 4 ∷ 0 ∷ 4 ∷ 0 ∷ 1 ∷ 0 ∷ 0
     ∷ 0 ∷ 66 ∷ 255 ∷ 255 ∷ 0 ∷ 0 ∷ 0 ∷ 65 ∷ 255 ∷ 255 ∷ 255 ∷ 192 ∷ 0 ∷ 1 ∷ 0 ∷ 0 ∷ 0 ∷ 0 ∷ []
 
-abbrev by_segments : ℕ → Lookup
+abbrev by_segments : ℕ → Cmap
 by_segments glyphs = record { subtable = segments (record { table = two_segments; at = 12 }); glyphs = glyphs }
 
 its_subtable : chosen_subtable two_segments ≡ Some (place_of Segments 12)
@@ -80,7 +80,7 @@ one_group =
     0 ∷ 0 ∷ 0 ∷ 1 ∷ 0 ∷ 3 ∷ 0 ∷ 10 ∷ 0 ∷ 0 ∷ 0 ∷ 12 ∷ 0 ∷ 12 ∷ 0 ∷ 0 ∷ 0 ∷ 0 ∷ 0 ∷ 28 ∷ 0 ∷ 0 ∷ 0 ∷ 0 ∷ 0 ∷ 0 ∷ 0 ∷ 1
     ∷ 0 ∷ 1 ∷ 246 ∷ 0 ∷ 0 ∷ 1 ∷ 246 ∷ 2 ∷ 0 ∷ 0 ∷ 0 ∷ 1 ∷ []
 
-abbrev by_groups : Lookup
+abbrev by_groups : Cmap
 by_groups = record { subtable = groups (record { table = one_group; at = 12 }); glyphs = 3 }
 
 its_groups : chosen_subtable one_group ≡ Some (place_of Groups 12)

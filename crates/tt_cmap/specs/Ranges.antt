@@ -10,13 +10,13 @@ use Rattle.tt_cmap.specs.declared.records.Format.TheVariants as format
 use Rattle.tt_cmap.specs.declared.records.Place.{Place}
 use Rattle.tt_cmap.specs.declared.ranges.Subtable as ranges
 use Rattle.tt_cmap.specs.declared.ranges.Subtable.TheVariants as by
-use Rattle.tt_cmap.specs.Format4.{SegmentMap, segment_count, segments_at, end_code, end_code_place, by_segment}
-use Rattle.tt_cmap.specs.Format12.{GroupMap, group_count, groups_at, end_char_code, end_char_code_place, by_group}
+use Rattle.tt_cmap.specs.Format4.{Format4, segment_count, segments_at, end_code, end_code_place, by_segment}
+use Rattle.tt_cmap.specs.Format12.{Format12, group_count, groups_at, end_char_code, end_char_code_place, by_group}
 use Rattle.tt_cmap.specs.Subtables.{cmap_fault}
 
 pub data Subtable : Type 0 where
-  segments : SegmentMap → Subtable
-  groups : GroupMap → Subtable
+  segments : Format4 → Subtable
+  groups : Format12 → Subtable
 
 abbrev pub table_of : Subtable → List ℕ
 table_of (segments m) = m.table

@@ -4,7 +4,7 @@ ghost use Rattle.std.specs.Prelude.{◌≡◌, ◌+◌, ◌*◌, ◌^◌, ◌<�
 ghost use Rattle.tt_core.specs.Limits.{font_limit};
 ghost use Rattle.tt_core.specs.Numbers.{unsigned_at};
 ghost use Rattle.tt_core.specs.Outcomes.{Gives};
-ghost use Rattle.tt_cmap.specs.Defects.{IsBadGroupMap};
+ghost use Rattle.tt_cmap.specs.Defects.{IsBadFormat12};
 ghost use Rattle.tt_cmap.specs.Format12.{groups_at, group_count, group_place, end_char_code, end_char_code_place, by_group};
 
 use crate::format4::known;
@@ -30,13 +30,14 @@ pub(crate) struct Format12<'a> {
 
 impl<'a> Model for Format12<'a> {
     ghost use Rattle.std.specs.Prelude.{◌≡◌};
-    ghost use Rattle.tt_cmap.specs.Format12.{IsGroupMap, GroupMap, group_count};
+    ghost use Rattle.tt_cmap.specs.Format12.{IsFormat12, group_count};
+    ghost use Rattle.tt_cmap.specs.Format12 as groups;
 
-    ghost Value = { GroupMap };
+    ghost Value = { groups.Format12 };
 
     ghost view = { λ m. record { table = m.table.now; at = m.at } };
 
-    ghost invariant = { λ m. IsGroupMap (record { table = m.table.now; at = m.at })
+    ghost invariant = { λ m. IsFormat12 (record { table = m.table.now; at = m.at })
         × (m.count ≡ group_count (record { table = m.table.now; at = m.at })) };
 }
 
@@ -48,7 +49,7 @@ impl<'a> Format12<'a> {
         requires place { at ≤ length table.now }
         ensures exact { Gives (λ m. m) result (groups_at table.now at) }
         ensures whole { IfOk result (λ m. m ≡ record { table = table.now; at = at }) }
-        ensures fault { IfErr result (IsBadGroupMap (record { table = table.now; at = at })) }
+        ensures fault { IfErr result (IsBadFormat12 (record { table = table.now; at = at })) }
     {
         let short = Fault::new(CMAP, at as u32, Why::CmapShape);
         if table.len() < at + 16 {

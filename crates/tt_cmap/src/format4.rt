@@ -4,7 +4,7 @@ ghost use Rattle.std.specs.Prelude.{◌≡◌, ◌+◌, ◌-◌, ◌*◌, ◌^�
 ghost use Rattle.tt_core.specs.Limits.{font_limit};
 ghost use Rattle.tt_core.specs.Numbers.{unsigned_at};
 ghost use Rattle.tt_core.specs.Outcomes.{Gives};
-ghost use Rattle.tt_cmap.specs.Defects.{IsBadSegmentMap};
+ghost use Rattle.tt_cmap.specs.Defects.{IsBadFormat4};
 ghost use Rattle.tt_cmap.specs.Format4.{segments_at, segment_bytes, segment_count, end_code, end_code_place, start_code, id_delta, id_range_offset, id_range_offset_place, or_missing, by_segment};
 
 use crate::records::CMAP;
@@ -38,13 +38,14 @@ pub(crate) struct Format4<'a> {
 
 impl<'a> Model for Format4<'a> {
     ghost use Rattle.std.specs.Prelude.{◌≡◌, ◌<◌};
-    ghost use Rattle.tt_cmap.specs.Format4.{IsSegmentMap, SegmentMap, segment_count};
+    ghost use Rattle.tt_cmap.specs.Format4.{IsFormat4, segment_count};
+    ghost use Rattle.tt_cmap.specs.Format4 as segments;
 
-    ghost Value = { SegmentMap };
+    ghost Value = { segments.Format4 };
 
     ghost view = { λ m. record { table = m.table.now; at = m.at } };
 
-    ghost invariant = { λ m. IsSegmentMap (record { table = m.table.now; at = m.at })
+    ghost invariant = { λ m. IsFormat4 (record { table = m.table.now; at = m.at })
         × (m.count ≡ segment_count (record { table = m.table.now; at = m.at })) × (m.count < 32768) };
 }
 
@@ -56,7 +57,7 @@ impl<'a> Format4<'a> {
         requires place { at ≤ length table.now }
         ensures exact { Gives (λ m. m) result (segments_at table.now at) }
         ensures whole { IfOk result (λ m. m ≡ record { table = table.now; at = at }) }
-        ensures fault { IfErr result (IsBadSegmentMap (record { table = table.now; at = at })) }
+        ensures fault { IfErr result (IsBadFormat4 (record { table = table.now; at = at })) }
     {
         let short = Fault::new(CMAP, at as u32, Why::CmapShape);
         if table.len() < at + 14 {

@@ -24,10 +24,10 @@ pub struct Cmap<'a> {
 
 impl<'a> Model for Cmap<'a> {
     ghost use Rattle.std.specs.Prelude.{◌≡◌, ◌<◌, None};
-    ghost use Rattle.tt_cmap.specs.Lookup.{Lookup};
+    ghost use Rattle.tt_cmap.specs.Lookup as lookup;
     ghost use Rattle.tt_cmap.specs.Ranges.{falling_range, subtable_view};
 
-    ghost Value = { Lookup };
+    ghost Value = { lookup.Cmap };
 
     ghost view = { λ c. record { subtable = subtable_view c.subtable; glyphs = c.glyphs } };
 

@@ -3,7 +3,7 @@ use Rattle.std.proofs.Common.{◌≡◌, ℕ, zero, suc, ◌+◌, ◌<◌, ◌�
 use Rattle.std.proofs.lemmas.Bool.Decides.{nat_tests}
 use Rattle.tt_code.specs.declared.decoding.Halt.{Halt}
 use Rattle.tt_code.specs.declared.skips.Sought.{Sought}
-use Rattle.tt_code.specs.Decoding.{Instruction, instruction_at}
+use Rattle.tt_code.specs.Decoding.{Instr, instruction_at}
 use Rattle.tt_code.specs.Skips.{ends, depth_after, skip_from}
 
 -- the rest of the skip is the whole, and instructions enough are counted for it
@@ -33,7 +33,7 @@ halted {sought} {code} {lost} {whole} {place} {depth} halt inside on short =
 
 -- at an opcode that ends it
 ended_by : (fuel : ℕ) (sought : Sought) (code : List ℕ) (lost : Halt) (whole : Result ℕ Halt) (place depth : ℕ)
-    (i : Instruction) → place < length code → length code ≤ fuel + place
+    (i : Instr) → place < length code → length code ≤ fuel + place
     → skip_from fuel sought code lost place depth ≡ whole
     → instruction_at code place ≡ Ok i → ends sought depth i.op ≡ true → whole ≡ Ok (place + i.len)
 ended_by zero sought code lost whole place depth i inside enough same there end = absurd (omega arith)
@@ -42,14 +42,14 @@ ended_by (suc n) sought code lost whole place depth i inside enough same there e
     sym same ∙ rw (more, there, end) refl
 
 pub ended : {sought : Sought} {code : List ℕ} {lost : Halt} {whole : Result ℕ Halt} {place depth : ℕ}
-    (i : Instruction) → place < length code → GoesOn sought code lost whole place depth
+    (i : Instr) → place < length code → GoesOn sought code lost whole place depth
     → instruction_at code place ≡ Ok i → ends sought depth i.op ≡ true → whole ≡ Ok (place + i.len)
 ended {sought} {code} {lost} {whole} {place} {depth} i inside on there end =
     ended_by on.fuel sought code lost whole place depth i inside on.enough on.same there end
 
 -- at any other instruction
 further_by : (fuel : ℕ) (sought : Sought) (code : List ℕ) (lost : Halt) (whole : Result ℕ Halt) (place depth : ℕ)
-    (i : Instruction) → place < length code → length code ≤ fuel + place
+    (i : Instr) → place < length code → length code ≤ fuel + place
     → skip_from fuel sought code lost place depth ≡ whole
     → instruction_at code place ≡ Ok i → ends sought depth i.op ≡ false → 1 ≤ i.len
     → GoesOn sought code lost whole (place + i.len) (depth_after depth i.op)
@@ -63,7 +63,7 @@ further_by (suc n) sought code lost whole place depth i inside enough same there
     }
 
 pub further : {sought : Sought} {code : List ℕ} {lost : Halt} {whole : Result ℕ Halt} {place depth : ℕ}
-    (i : Instruction) → place < length code → GoesOn sought code lost whole place depth
+    (i : Instr) → place < length code → GoesOn sought code lost whole place depth
     → instruction_at code place ≡ Ok i → ends sought depth i.op ≡ false → 1 ≤ i.len
     → GoesOn sought code lost whole (place + i.len) (depth_after depth i.op)
 further {sought} {code} {lost} {whole} {place} {depth} i inside on there none some =

@@ -9,7 +9,7 @@ use Rattle.tt_core.specs.declared.fault.Why.{Why}
 use Rattle.tt_code.specs.declared.decoding.Halt.{Halt}
 use Rattle.tt_code.specs.declared.skips.Sought.{Sought}
 use Rattle.tt_code.specs.declared.skips.Sought.TheVariants as sought
-use Rattle.tt_code.specs.Decoding.{Instruction, head_length, data_length, taken, instruction_at}
+use Rattle.tt_code.specs.Decoding.{Instr, head_length, data_length, taken, instruction_at}
 use Rattle.tt_code.specs.Skips.{ends, depth_after, skip_from, skip_end, is_end, ComesTo, EndsBefore, IsOpen, IsSkip}
 
 -- so many IFs of those that were passed are open
@@ -54,11 +54,11 @@ counted sought.Endf depth passed op h none = tt
 some_head : (op : ℕ) → 1 ≤ head_length op
 some_head op = grind (arith, nat_tests)
 
-pub record Lies (code : List ℕ) (at : ℕ) (i : Instruction) : Type 0 where
+pub record Lies (code : List ℕ) (at : ℕ) (i : Instr) : Type 0 where
   pub some : 1 ≤ i.len
   pub within : at + i.len ≤ length code
 
-lies_taken : (code : List ℕ) (at head more : ℕ) (fits : Bool) (i : Instruction) → 1 ≤ head
+lies_taken : (code : List ℕ) (at head more : ℕ) (fits : Bool) (i : Instr) → 1 ≤ head
     → fits ≡ nat_le (at + (head + more)) (length code) → taken code at head more ≡ Ok i → Lies code at i
 lies_taken code at head more true i some is there =
     let room : at + (head + more) ≤ length code = grind (arith, nat_tests) in
@@ -69,13 +69,13 @@ lies_taken code at head more false i some is there =
     let whole = rw (sym is) at there in
     absurd cc
 
-lies : (code : List ℕ) (at : ℕ) (i : Instruction) → instruction_at code at ≡ Ok i → Lies code at i
+lies : (code : List ℕ) (at : ℕ) (i : Instr) → instruction_at code at ≡ Ok i → Lies code at i
 lies code at i there =
     let op = slice_index code at in
     lies_taken code at (head_length op) (data_length op (slice_index code (at + 1))) _ i (some_head op) refl there
 
 -- what a skip that has come to a place answers
-ended : (s : Sought) (code : List ℕ) (at : ℕ) (lost : Why) (place depth : ℕ) (passed : List ℕ) (i : Instruction)
+ended : (s : Sought) (code : List ℕ) (at : ℕ) (lost : Why) (place depth : ℕ) (passed : List ℕ) (i : Instr)
     → ComesTo s code at passed place → Counted s depth passed → instruction_at code place ≡ Ok i
     → ends s depth i.op ≡ true → EndsBefore s code at (place + i.len)
 ended s code at lost place depth passed i comes few there end = record {
@@ -87,7 +87,7 @@ ended s code at lost place depth passed i comes few there end = record {
   end = sym (same_end s depth passed i.op few) ∙ end;
 }
 
-further : (s : Sought) (code : List ℕ) (at : ℕ) (place depth : ℕ) (passed : List ℕ) (i : Instruction)
+further : (s : Sought) (code : List ℕ) (at : ℕ) (place depth : ℕ) (passed : List ℕ) (i : Instr)
     → ComesTo s code at passed place → Counted s depth passed → instruction_at code place ≡ Ok i
     → ends s depth i.op ≡ false → ComesTo s code at (i.op ∷ passed) (place + i.len)
 further s code at place depth passed i comes few there none = record {

@@ -5,7 +5,7 @@ use Rattle.tt_core.specs.declared.fault.Why.TheVariants as why
 use Rattle.tt_code.specs.declared.decoding.Halt.{Halt}
 
 -- an opcode, the bytes that it pushes, and the bytes of the program that it takes
-pub record Instruction : Type 0 where
+pub record Instr : Type 0 where
   pub op : ℕ
   pub args : List ℕ
   pub len : ℕ
@@ -31,7 +31,7 @@ abbrev pub short_at : ℕ → Halt
 short_at at = record { at = at; why = why.CodeShort }
 
 -- an instruction with so many bytes before its data and in it, where they are all there
-abbrev pub taken : List ℕ → ℕ → ℕ → ℕ → Result Instruction Halt
+abbrev pub taken : List ℕ → ℕ → ℕ → ℕ → Result Instr Halt
 taken code at head more =
     let args = slice_range code (at + head) (at + head + more) in
     if nat_le (at + (head + more)) (length code)
@@ -39,7 +39,7 @@ taken code at head more =
     else Err (short_at at)
 
 -- the instruction at a byte
-abbrev pub instruction_at : List ℕ → ℕ → Result Instruction Halt
+abbrev pub instruction_at : List ℕ → ℕ → Result Instr Halt
 instruction_at code at =
     let op = slice_index code at in taken code at (head_length op) (data_length op (slice_index code (at + 1)))
 

@@ -8,7 +8,7 @@ use Rattle.tt_core.specs.declared.fault.Why.TheVariants as why
 use Rattle.tt_code.specs.declared.decoding.Halt.{Halt}
 use Rattle.tt_code.specs.declared.skips.Sought.{Sought}
 use Rattle.tt_code.specs.declared.skips.Sought.TheVariants as sought
-use Rattle.tt_code.specs.Decoding.{Instruction, instruction_at}
+use Rattle.tt_code.specs.Decoding.{Instr, instruction_at}
 
 -- whether an opcode ends a skip, so many inner IFs being open
 abbrev pub ends : Sought → ℕ → ℕ → Bool
@@ -57,7 +57,7 @@ is_end sought.Endf passed op = op == 0x2D
 
 -- the instruction at a place has an opcode, and the next one stands at another place
 pub record StandsAt (code : List ℕ) (place op next : ℕ) : Type 0 where
-  pub instruction : Instruction
+  pub instruction : Instr
   pub there : instruction_at code place ≡ Ok instruction
   pub opcode : instruction.op ≡ op
   pub behind : place + instruction.len ≡ next

@@ -1,6 +1,6 @@
 -- No part of the standard: an instruction as contracts see it, without the address of its data.
-use Rattle.tt_code.specs.declared.decoding.Instr.{Instr}
-use Rattle.tt_code.specs.Decoding.{Instruction}
+use Rattle.tt_code.specs.declared.decoding.Instr as declared
+use Rattle.tt_code.specs.Decoding.{Instr}
 
-abbrev pub instruction_view : Instr → Instruction
-instruction_view i = record { op = i.op; args = i.args.now; len = i.len }
+abbrev pub instr_view : declared.Instr → Instr
+instr_view i = record { op = i.op; args = i.args.now; len = i.len }

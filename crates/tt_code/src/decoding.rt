@@ -3,8 +3,8 @@
 
 ghost use Rattle.std.specs.Prelude.{◌≡◌, ◌+◌, ◌^◌, ◌<◌, ◌≤◌, [], length, slice_index, true, false, Ok, IfOk, IfErr, IfNone, IfSome};
 ghost use Rattle.tt_core.specs.Outcomes.{Gives};
-ghost use Rattle.tt_code.specs.Decoding.{Instruction, head_length, data_length, instruction_at, takes_data};
-ghost use Rattle.tt_code.specs.Views.{instruction_view};
+ghost use Rattle.tt_code.specs.Decoding.{Instr, head_length, data_length, instruction_at, takes_data};
+ghost use Rattle.tt_code.specs.Views.{instr_view};
 
 use tt_core::Why;
 
@@ -93,7 +93,7 @@ pub fn plain_opcode(code: &[u8], at: usize) -> Option<u8>
 /// The instruction at a byte. Error: CodeShort at that byte, where its data passes the end.
 pub fn decode<'a>(code: &'a [u8], at: usize) -> Result<Instr<'a>, Halt>
     requires { at < length code.now }
-    ensures exact { Gives instruction_view result (instruction_at code.now at) }
+    ensures exact { Gives instr_view result (instruction_at code.now at) }
     ensures some { IfOk result (λ i. 1 ≤ i.len) }
     ensures within { IfOk result (λ i. at + i.len ≤ length code.now) }
     ensures fits { IfOk result (λ i. at + i.len < 2 ^ 64) }

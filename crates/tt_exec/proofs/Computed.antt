@@ -7,7 +7,7 @@ use Rattle.tt_core.specs.declared.font_fault.FontFault.{FontFault}
 use Rattle.tt_core.specs.declared.font_fault.FontFault.TheVariants as font
 use Rattle.tt_exec.specs.declared.fault.ExecFault.{ExecFault}
 use Rattle.tt_exec.specs.Machines.{exec_fault, OutcomeIs}
-use Rattle.tt_exec.specs.MachineState.{MachineState, Held, fault_in}
+use Rattle.tt_exec.specs.MachineState.{MachineState, Machine, fault_in}
 use Rattle.tt_exec.specs.Runs.{Leads, Ends, Halts, step_limit, run_within, run_outcome}
 use Rattle.tt_exec.specs.Step.{step, is_ended}
 use Rattle.tt_exec.proofs.Steps.{Stops, end_has_none}
@@ -81,7 +81,7 @@ fault_is s f h = halted h.n s h.t f h.goes_on h.leads h.why
 pub end_told : (s m : MachineState) (n : ℕ) (t : MachineState) → m ≡ s → Ends m n t → run_outcome s ≡ Ok t
 end_told s m n t same e = ap run_outcome (sym same) ∙ end_is m n t e
 
-pub fault_told : (s m : MachineState) (e : FontFault) (r : ExecFault) (new : Held) → m ≡ s → r ≡ exec_fault e
+pub fault_told : (s m : MachineState) (e : FontFault) (r : ExecFault) (new : Machine) → m ≡ s → r ≡ exec_fault e
     → IfSome (font_fault e) (Halts m) → OutcomeIs (run_outcome s) (Err r) new
 fault_told s m (font.Font f) r new same told h = rw told (ap run_outcome (sym same) ∙ fault_is m f h)
 fault_told s m font.Memory r new same told h = rw told tt

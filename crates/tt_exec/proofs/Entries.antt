@@ -12,7 +12,7 @@ use Rattle.std.specs.declared.cmp.Ordering.{Ordering}
 use Rattle.std.specs.declared.cmp.Ordering.TheVariants.{Less, Equal, Greater}
 use Rattle.tt_exec.specs.declared.program.Body.{Body}
 use Rattle.tt_exec.specs.Numbered.{function_at}
-use Rattle.tt_exec.specs.Views.{entry_of, function_of}
+use Rattle.tt_exec.specs.Views.{entry_of, body_of}
 
 chosen : (o : Ordering) (a b c : List (ℕ × Body))
     → map entry_of (match_ordering o a b c) ≡ match_ordering o (map entry_of a) (map entry_of b) (map entry_of c)
@@ -21,7 +21,7 @@ chosen Equal a b c = refl
 chosen Greater a b c = refl
 
 pub inserted : (es : List (ℕ × Body)) (n : ℕ) (b : Body)
-    → map entry_of (insert_entry nat_cmp es n b) ≡ insert_entry nat_cmp (map entry_of es) n (function_of b)
+    → map entry_of (insert_entry nat_cmp es n b) ≡ insert_entry nat_cmp (map entry_of es) n (body_of b)
 inserted [] n b = refl
 inserted (e ∷ es) n b =
     let rest = inserted es n b in
@@ -33,9 +33,9 @@ as_number (pos k) m fits is = rw is refl
 as_number (negsuc k) m fits is = absurd fits
 
 pub found_at : (es : List (ℕ × Body)) (n : ℤ) (m : ℕ) → n ≡ pos m → m < 65536
-    → option_map function_of (lookup (is_at (nat_cmp m)) es) ≡ function_at n (map entry_of es)
+    → option_map body_of (lookup (is_at (nat_cmp m)) es) ≡ function_at n (map entry_of es)
 found_at es n m is few =
     let low : int_le (pos 0) (pos m) ≡ true = grind (arith, ints, nat_tests) in
     let high : int_le (pos m) (pos 65535) ≡ true = grind (arith, ints, nat_tests) in
-    let there = lookup-map_values function_of (is_at (nat_cmp m)) es in
+    let there = lookup-map_values body_of (is_at (nat_cmp m)) es in
     rw (is, low, high, there) refl

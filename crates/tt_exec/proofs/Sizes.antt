@@ -4,7 +4,7 @@ use Rattle.std.specs.Ordering.{int_eq}
 use Rattle.tt_core.specs.Faults.{Fault}
 use Rattle.tt_core.specs.declared.fault.Why.{Why}
 use Rattle.tt_code.specs.declared.decoding.Halt.{Halt}
-use Rattle.tt_code.specs.Decoding.{Instruction, instruction_at, takes_data}
+use Rattle.tt_code.specs.Decoding.{Instr, instruction_at, takes_data}
 use Rattle.tt_code.specs.Skips.{if_end, else_end, definition_end}
 use Rattle.tt_state.specs.declared.graphics_state.GraphicsState.{GraphicsState}
 use Rattle.tt_points_zones.specs.Zones.{ZoneLists, SameShape}
@@ -23,7 +23,7 @@ use Rattle.tt_exec.specs.Calls.{call_limit}
 use Rattle.tt_exec.specs.Flags.{flagged, instctrl}
 use Rattle.tt_exec.specs.Flow.{goes_to, skipped, jumped, if_from, jmpr, jrot, jrof}
 use Rattle.tt_exec.specs.Functions.{may_define, defined, fdef_from, endf, called, call, called_often, loopcall}
-use Rattle.tt_exec.specs.MachineState.{Function, Frame, MachineState}
+use Rattle.tt_exec.specs.MachineState.{Body, Frame, MachineState}
 use Rattle.tt_exec.specs.Moving.{left_by, on_points}
 use Rattle.tt_exec.specs.Numbered.{is_number, function_at}
 use Rattle.tt_exec.specs.Opcodes.{operation_of}
@@ -32,8 +32,8 @@ use Rattle.tt_exec.specs.Operation as op
 use Rattle.tt_exec.specs.Runs.{Leads, Ends}
 use Rattle.tt_exec.specs.Sizes.{HasContours, SameSizes}
 use Rattle.tt_exec.specs.Step.{on_stack, on_graphics, on_places, pushes_words, operate, done, step}
-use Rattle.tt_exec.specs.declared.interpreter.Kind.{Kind}
-use Rattle.tt_exec.specs.declared.interpreter.Kind.TheVariants as kind
+use Rattle.tt_exec.specs.declared.machine_state.Kind.{Kind}
+use Rattle.tt_exec.specs.declared.machine_state.Kind.TheVariants as kind
 
 -- the laws of the instructions on points, and of those on storage and control values
 abbrev pub OnPoints : Type 0
@@ -49,7 +49,7 @@ abbrev Kept : MachineState → MachineState → Type 0
 Kept old new =
     SameShape old.zones new.zones
     × (length new.storage ≡ length old.storage)
-    × (length new.control_values ≡ length old.control_values)
+    × (length new.cvt ≡ length old.cvt)
 
 abbrev Keeps : MachineState → Result MachineState Fault → Type 0
 Keeps old r = IfOk r (Kept old)
@@ -85,21 +85,21 @@ on_graphics_kept at m (Ok t) = same m
 on_graphics_kept at m (Err why) = tt
 
 on_places_kept : (at : ℕ) (m : MachineState) (r : Result (List ℤ × List ℤ × List ℤ) Why)
-    → IfOk r (λ t. (length t.1 ≡ length m.storage) × (length t.2 ≡ length m.control_values))
+    → IfOk r (λ t. (length t.1 ≡ length m.storage) × (length t.2 ≡ length m.cvt))
     → Keeps m (on_places at m r)
 on_places_kept at m (Ok t) (s, v) = (same_zones m.zones, s, v)
 on_places_kept at m (Err why) long = tt
 
 left_by_kept : (at : ℕ) (m : MachineState) (r : Result (List ℤ × ZoneLists × GraphicsState × List ℤ) Why)
-    → IfOk r (shapes.SameSizes m.zones m.control_values) → Keeps m (left_by at m r)
+    → IfOk r (shapes.SameSizes m.zones m.cvt) → Keeps m (left_by at m r)
 left_by_kept at m (Ok t) sizes = (sizes.zones, refl, sizes.control_values)
 left_by_kept at m (Err why) sizes = tt
 
 on_points_kept : OnPoints → (opcode at : ℕ) (m : MachineState) → HasContours m.zones → Keeps m (on_points opcode at m)
 unfolding on_points
 on_points_kept k opcode at m has =
-    left_by_kept at m (points.on_points opcode m.ppem m.stack m.zones m.graphics m.control_values)
-    (k opcode m.ppem m.stack m.zones m.graphics m.control_values has)
+    left_by_kept at m (points.on_points opcode m.ppem m.stack m.zones m.graphics m.cvt)
+    (k opcode m.ppem m.stack m.zones m.graphics m.cvt has)
 
 flagged_kept : (k : Kind) (selector : ℤ) (on : Bool) (m : MachineState) → Kept m (flagged k selector on m)
 flagged_kept kind.Font selector on m = same m
@@ -121,12 +121,12 @@ skipped_kept m (Err halt) = tt
 jumped_kept : (at : ℕ) (offset : ℤ) (m : MachineState) → Keeps m (jumped at offset m)
 jumped_kept at offset m =
     let target = pos at +ℤ offset in
-    either (Keeps m) (int_le (pos 0) target && int_le target (pos (length m.frame.program.bytes))) _ _ (same m) tt
+    either (Keeps m) (int_le (pos 0) target && int_le target (pos (length m.frame.code.bytes))) _ _ (same m) tt
 
 if_kept : (s : List ℤ) (at : ℕ) (m : MachineState) → Keeps m (if_from s at m)
 if_kept (condition ∷ s) at m =
     either (Keeps m) (is_true condition) _ _ (same m)
-    (skipped_kept (record m { stack = s }) (if_end m.frame.program.bytes at))
+    (skipped_kept (record m { stack = s }) (if_end m.frame.code.bytes at))
 if_kept [] at m = tt
 
 jmpr_kept : (s : List ℤ) (at : ℕ) (m : MachineState) → Keeps m (jmpr s at m)
@@ -153,14 +153,14 @@ defined_kept at n m (Err halt) = tt
 fdef_from_kept : (s : List ℤ) (at : ℕ) (m : MachineState) → Keeps m (fdef_from s at m)
 fdef_from_kept (n ∷ s) at m =
     either (Keeps m) (is_number n) _ _
-    (defined_kept at _ (record m { stack = s }) (definition_end m.frame.program.bytes at)) tt
+    (defined_kept at _ (record m { stack = s }) (definition_end m.frame.code.bytes at)) tt
 fdef_from_kept [] at m = tt
 
 endf_kept : (callers : List Frame) (at : ℕ) (m : MachineState) → Keeps m (endf callers at m)
 endf_kept [] at m = tt
 endf_kept (caller ∷ callers) at m = either (Keeps m) (m.frame.left == 0) _ _ (same m) (same m)
 
-called_kept : (at again : ℕ) (m : MachineState) (f : Option Function) → Keeps m (called at again m f)
+called_kept : (at again : ℕ) (m : MachineState) (f : Option Body) → Keeps m (called at again m f)
 called_kept at again m (Some f) = either (Keeps m) (nat_lt (length m.callers) call_limit) _ _ (same m) tt
 called_kept at again m None = tt
 
@@ -168,7 +168,7 @@ call_kept : (s : List ℤ) (at : ℕ) (m : MachineState) → Keeps m (call s at 
 call_kept (n ∷ s) at m = called_kept at 0 (record m { stack = s }) (function_at n m.functions)
 call_kept [] at m = tt
 
-called_often_kept : (at : ℕ) (count : ℤ) (m : MachineState) (f : Option Function) → Keeps m (called_often at count m f)
+called_often_kept : (at : ℕ) (count : ℤ) (m : MachineState) (f : Option Body) → Keeps m (called_often at count m f)
 called_often_kept at count m (Some f) =
     either (Keeps m) (int_lt count (pos 1)) _ _ (same m) (called_kept at _ m (Some f))
 called_often_kept at count m None = tt
@@ -189,12 +189,12 @@ operate_kept k j (op.manage o) at m has = on_stack_kept at m (managed o m.stack)
 operate_kept k j (op.decide o) at m has = on_stack_kept at m (decided o m.graphics.round m.stack)
 operate_kept k j (op.compute o) at m has = on_stack_kept at m (computed o m.graphics.round m.stack)
 operate_kept k j (op.keep o) at m has =
-    on_places_kept at m (kept o m.ppem m.units_per_em m.stack m.storage m.control_values)
-    (j o m.ppem m.units_per_em m.stack m.storage m.control_values)
+    on_places_kept at m (kept o m.ppem m.units_per_em m.stack m.storage m.cvt)
+    (j o m.ppem m.units_per_em m.stack m.storage m.cvt)
 operate_kept k j (op.tell o) at m has = on_stack_kept at m (told o m.ppem m.stack)
 operate_kept k j op.instctrl at m has = instctrl_kept m.stack at m
 operate_kept k j op.if_true at m has = if_kept m.stack at m
-operate_kept k j op.if_false at m has = skipped_kept m (else_end m.frame.program.bytes at)
+operate_kept k j op.if_false at m has = skipped_kept m (else_end m.frame.code.bytes at)
 operate_kept k j op.eif at m has = same m
 operate_kept k j op.jmpr at m has = jmpr_kept m.stack at m
 operate_kept k j op.jrot at m has = jrot_kept m.stack at m
@@ -208,7 +208,7 @@ operate_kept k j (op.on_points o) at m has = on_points_kept k o at m has
 operate_kept k j op.off_profile at m has = tt
 operate_kept k j op.unnamed at m has = tt
 
-done_kept : OnPoints → OnPlaces → (m : MachineState) (r : Result Instruction Halt) → HasContours m.zones
+done_kept : OnPoints → OnPlaces → (m : MachineState) (r : Result Instr Halt) → HasContours m.zones
     → Keeps m (done m r)
 done_kept k j m (Ok i) has =
     let behind = goes_to (m.frame.place + i.len) m in
@@ -220,8 +220,8 @@ done_kept k j m (Err halt) has = tt
 
 step_kept : OnPoints → OnPlaces → (m : MachineState) → HasContours m.zones → Keeps m (step m)
 step_kept k j m has =
-    either (Keeps m) (nat_le (length m.frame.program.bytes) m.frame.place) _ _ tt
-    (done_kept k j m (instruction_at m.frame.program.bytes m.frame.place) has)
+    either (Keeps m) (nat_le (length m.frame.code.bytes) m.frame.place) _ _ tt
+    (done_kept k j m (instruction_at m.frame.code.bytes m.frame.place) has)
 
 -- a run
 has_still : (a b : ZoneLists) → SameShape a b → HasContours a → HasContours b
@@ -242,4 +242,4 @@ pub sizes_kept : OnPoints → OnPlaces → (old new : MachineState) (n : ℕ) �
     → SameSizes old new
 sizes_kept k j old new n has e =
     let all = leads_kept k j n old new has e.leads in
-    record { storage = all.1; control_values = all.2 }
+    record { storage = all.1; cvt = all.2 }

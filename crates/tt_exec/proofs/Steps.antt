@@ -13,7 +13,7 @@ abbrev pub HasStep : MachineState → Type 0
 HasStep t = (v : MachineState) × (step t ≡ Ok v)
 
 -- the program's end has no step
-at_end : (t : MachineState) → is_ended t ≡ true → nat_le (length t.frame.program.bytes) t.frame.place ≡ true
+at_end : (t : MachineState) → is_ended t ≡ true → nat_le (length t.frame.code.bytes) t.frame.place ≡ true
 at_end t ended = grind (arith, nat_tests)
 
 pub end_has_none : (t : MachineState) → is_ended t ≡ true → HasStep t → ⊥

@@ -19,13 +19,13 @@ after (suc n) m = step m >>= λ t. after n t
 
 its_parts : Parts
 its_parts = record {
-  units_per_em = 1024;
+  em = 1024;
   ppem = 16;
-  control_values = [];
+  cvt = [];
   storage = pos 0 ∷ [];
   zones = record { twilight = []; glyph = []; contours = [] };
   functions = [];
-  graphics = default_state;
+  state = default_state;
   skip_glyphs = false;
   default_state = false;
 }

@@ -4,8 +4,8 @@ use Rattle.std.specs.Ordering.{int_eq}
 use Rattle.tt_core.specs.Faults.{Fault}
 use Rattle.tt_core.specs.declared.fault.Why.TheVariants as why
 use Rattle.tt_exec_stack.specs.Logic.{is_true}
-use Rattle.tt_exec.specs.declared.interpreter.Kind.{Kind}
-use Rattle.tt_exec.specs.declared.interpreter.Kind.TheVariants as kind
+use Rattle.tt_exec.specs.declared.machine_state.Kind.{Kind}
+use Rattle.tt_exec.specs.declared.machine_state.Kind.TheVariants as kind
 use Rattle.tt_exec.specs.MachineState.{MachineState, fault_in}
 
 -- the control value program alone sets flags: 1, glyph programs are not run; 2, they start from the defaults. Other

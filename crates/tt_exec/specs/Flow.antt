@@ -21,7 +21,7 @@ skipped m (Err halt) = Err (fault_in m.frame halt.at halt.why)
 abbrev pub jumped : ℕ → ℤ → MachineState → Result MachineState Fault
 jumped at offset m =
     let target = pos at +ℤ offset in
-    if int_le (pos 0) target && int_le target (pos (length m.frame.program.bytes))
+    if int_le (pos 0) target && int_le target (pos (length m.frame.code.bytes))
     then Ok (goes_to (unsigned_abs target) m)
     else Err (fault_in m.frame at why.JumpRange)
 
@@ -29,12 +29,12 @@ jumped at offset m =
 abbrev pub if_from : List ℤ → ℕ → MachineState → Result MachineState Fault
 if_from (condition ∷ s) at m =
     if is_true condition then Ok (record m { stack = s })
-    else skipped (record m { stack = s }) (if_end m.frame.program.bytes at)
+    else skipped (record m { stack = s }) (if_end m.frame.code.bytes at)
 if_from [] at m = Err (fault_in m.frame at why.StackShort)
 
 -- ELSE that is come to ends the part before it
 abbrev pub else_from : ℕ → MachineState → Result MachineState Fault
-else_from at m = skipped m (else_end m.frame.program.bytes at)
+else_from at m = skipped m (else_end m.frame.code.bytes at)
 
 abbrev pub jmpr : List ℤ → ℕ → MachineState → Result MachineState Fault
 jmpr (offset ∷ s) at m = jumped at offset (record m { stack = s })

@@ -5,11 +5,11 @@ use Rattle.tt_core.specs.Faults.{Fault}
 use Rattle.tt_core.specs.declared.fault.Why.TheVariants as why
 use Rattle.tt_code.specs.declared.decoding.Halt.{Halt}
 use Rattle.tt_code.specs.Skips.{definition_end}
-use Rattle.tt_exec.specs.declared.interpreter.Kind.{Kind}
-use Rattle.tt_exec.specs.declared.interpreter.Kind.TheVariants as kind
+use Rattle.tt_exec.specs.declared.machine_state.Kind.{Kind}
+use Rattle.tt_exec.specs.declared.machine_state.Kind.TheVariants as kind
 use Rattle.tt_exec.specs.Calls.{call_limit}
 use Rattle.tt_exec.specs.Flow.{goes_to}
-use Rattle.tt_exec.specs.MachineState.{Function, Frame, MachineState, fault_in}
+use Rattle.tt_exec.specs.MachineState.{Body, Frame, MachineState, fault_in}
 use Rattle.tt_exec.specs.Numbered.{is_number, function_at, with_function}
 
 -- functions are defined by the font program and by the control value program, outside calls (profile)
@@ -21,12 +21,12 @@ may_define _ _ = false
 -- the definition of function n, whose skip ends so
 abbrev pub defined : ℕ → ℕ → MachineState → Result ℕ Halt → Result MachineState Fault
 defined at n m (Ok place) =
-    let f : Function = record { program = m.frame.program; start = at + 1 } in
+    let f : Body = record { code = m.frame.code; start = at + 1 } in
     Ok (goes_to place (record m { functions = with_function n f m.functions }))
 defined at n m (Err halt) = Err (fault_in m.frame halt.at halt.why)
 
 abbrev pub define : ℕ → ℕ → MachineState → Result MachineState Fault
-define at n m = defined at n m (definition_end m.frame.program.bytes at)
+define at n m = defined at n m (definition_end m.frame.code.bytes at)
 
 abbrev pub fdef_from : List ℤ → ℕ → MachineState → Result MachineState Fault
 fdef_from (n ∷ s) at m =
@@ -46,10 +46,10 @@ endf (caller ∷ callers) at m =
     else Ok (record m { frame = record m.frame { place = m.frame.start; left = m.frame.left - 1 } })
 
 -- a function is called, and again so often; it goes on in the program where it was defined
-abbrev pub called : ℕ → ℕ → MachineState → Option Function → Result MachineState Fault
+abbrev pub called : ℕ → ℕ → MachineState → Option Body → Result MachineState Fault
 called at again m (Some f) =
     if nat_lt (length m.callers) call_limit then Ok (record m {
-      frame = record { program = f.program; place = f.start; start = f.start; left = again };
+      frame = record { code = f.code; place = f.start; start = f.start; left = again };
       callers = m.frame ∷ m.callers;
     }) else Err (fault_in m.frame at why.CallDepth)
 called at again m None = Err (fault_in m.frame at why.NoFunction)
@@ -59,7 +59,7 @@ call (n ∷ s) at m = called at 0 (record m { stack = s }) (function_at n m.func
 call [] at m = Err (fault_in m.frame at why.StackShort)
 
 -- a count below 1 calls nothing
-abbrev pub called_often : ℕ → ℤ → MachineState → Option Function → Result MachineState Fault
+abbrev pub called_often : ℕ → ℤ → MachineState → Option Body → Result MachineState Fault
 called_often at count m (Some f) =
     if int_lt count (pos 1) then Ok m else called at (unsigned_abs count - 1) m (Some f)
 called_often at count m None = Err (fault_in m.frame at why.NoFunction)

@@ -4,23 +4,23 @@ use Rattle.tt_core.specs.Faults.{Fault, fault_at}
 use Rattle.tt_core.specs.declared.fault.Why.{Why}
 use Rattle.tt_state.specs.declared.graphics_state.GraphicsState.{GraphicsState}
 use Rattle.tt_points_zones.specs.Zones.{ZoneLists}
-use Rattle.tt_exec.specs.declared.interpreter.Kind.{Kind}
+use Rattle.tt_exec.specs.declared.machine_state.Kind.{Kind}
 
 -- a program: its table, the offset of its first byte there, and its bytes
-pub record Program : Type 0 where
+pub record Code : Type 0 where
   pub table : List ℕ
   pub base : ℕ
   pub bytes : List ℕ
 
 -- a function: the program that defines it, and where it starts there
-pub record Function : Type 0 where
-  pub program : Program
+pub record Body : Type 0 where
+  pub code : Code
   pub start : ℕ
 
 -- an open call, or the program that is run: the place of its next instruction, where it began, and how often it is to
 -- begin again
 pub record Frame : Type 0 where
-  pub program : Program
+  pub code : Code
   pub place : ℕ
   pub start : ℕ
   pub left : ℕ
@@ -30,9 +30,9 @@ pub record MachineState : Type 0 where
   pub stack : List ℤ
   pub frame : Frame
   pub callers : List Frame
-  pub functions : List (ℕ × Function)
+  pub functions : List (ℕ × Body)
   pub storage : List ℤ
-  pub control_values : List ℤ
+  pub cvt : List ℤ
   pub graphics : GraphicsState
   pub zones : ZoneLists
   pub skip_glyphs : Bool
@@ -43,9 +43,9 @@ pub record MachineState : Type 0 where
 
 -- a fault at a place: it names the table of the program that holds the instruction, and the offset there
 abbrev pub fault_in : Frame → ℕ → Why → Fault
-fault_in frame at why = fault_at frame.program.table (frame.program.base + at) why
+fault_in frame at why = fault_at frame.code.table (frame.code.base + at) why
 
 -- what a machine holds, and whether a run of it failed
-pub record Held : Type 0 where
+pub record Machine : Type 0 where
   pub state : MachineState
   pub failed : Bool

@@ -6,47 +6,47 @@ use Rattle.tt_core.specs.declared.font_fault.FontFault.{FontFault}
 use Rattle.tt_core.specs.declared.font_fault.FontFault.TheVariants as font
 use Rattle.tt_exec.specs.declared.fault.ExecFault.{ExecFault}
 use Rattle.tt_exec.specs.declared.fault.ExecFault.TheVariants as exec
-use Rattle.tt_exec.specs.declared.interpreter.Kind.{Kind}
-use Rattle.tt_exec.specs.declared.interpreter.Kind.TheVariants as kind
-use Rattle.tt_exec.specs.MachineState.{Program, Frame, MachineState, Held}
+use Rattle.tt_exec.specs.declared.machine_state.Kind.{Kind}
+use Rattle.tt_exec.specs.declared.machine_state.Kind.TheVariants as kind
+use Rattle.tt_exec.specs.MachineState.{Code, Frame, MachineState, Machine}
 use Rattle.tt_exec.specs.Parts.{Parts}
 use Rattle.tt_exec.specs.Runs.{Ends, Halts}
 
 -- the start of a program
-abbrev pub start_of : Program → Frame
-start_of p = record { program = p; place = 0; start = 0; left = 0 }
+abbrev pub start_of : Code → Frame
+start_of p = record { code = p; place = 0; start = 0; left = 0 }
 
 -- no program has been run yet
-abbrev pub no_program : Program
-no_program = record { table = codes "none"; base = 0; bytes = [] }
+abbrev pub no_code : Code
+no_code = record { table = codes "none"; base = 0; bytes = [] }
 
 abbrev pub fresh : Parts → MachineState
 fresh p = record {
   stack = [];
-  frame = start_of no_program;
+  frame = start_of no_code;
   callers = [];
   functions = p.functions;
   storage = p.storage;
-  control_values = p.control_values;
-  graphics = p.graphics;
+  cvt = p.cvt;
+  graphics = p.state;
   zones = p.zones;
   skip_glyphs = p.skip_glyphs;
   default_state = p.default_state;
   ppem = p.ppem;
-  units_per_em = p.units_per_em;
+  units_per_em = p.em;
   kind = kind.Glyph;
 }
 
 -- the parts of a machine, without what belongs to a run
 abbrev pub parts_in : MachineState → Parts
 parts_in m = record {
-  units_per_em = m.units_per_em;
+  em = m.units_per_em;
   ppem = m.ppem;
-  control_values = m.control_values;
+  cvt = m.cvt;
   storage = m.storage;
   zones = m.zones;
   functions = m.functions;
-  graphics = m.graphics;
+  state = m.graphics;
   skip_glyphs = m.skip_glyphs;
   default_state = m.default_state;
 }
@@ -58,10 +58,10 @@ kind_of table =
     if bytes_eq table (codes "prep") then kind.ControlValue else kind.Glyph)
 
 -- a run begins at the program's first byte, with an empty stack and no open call; all else is as it was
-abbrev pub begun : Kind → Program → MachineState → MachineState
+abbrev pub begun : Kind → Code → MachineState → MachineState
 begun k p m = record m { stack = []; frame = start_of p; callers = []; kind = k }
 
-abbrev pub run_from : Program → MachineState → MachineState
+abbrev pub run_from : Code → MachineState → MachineState
 run_from p m = begun (kind_of p.table) p m
 
 abbrev pub exec_fault : FontFault → ExecFault
@@ -70,7 +70,7 @@ exec_fault font.Memory = exec.Memory
 
 -- A run ends after so many steps, halts with a fault, or has no memory; after either of the last two the machine has
 -- failed, and each further run answers that and changes nothing.
-abbrev pub RunGives : Program → Held → Result ℕ ExecFault → Held → Type 0
+abbrev pub RunGives : Code → Machine → Result ℕ ExecFault → Machine → Type 0
 RunGives p old (Ok n) new = (old.failed ≡ false) × (new.failed ≡ false) × Ends (run_from p old.state) n new.state
 RunGives p old (Err (exec.Font f)) new = (old.failed ≡ false) × (new.failed ≡ true) × Halts (run_from p old.state) f
 RunGives p old (Err exec.Memory) new = (old.failed ≡ false) × (new.failed ≡ true)
@@ -78,13 +78,13 @@ RunGives p old (Err exec.Failed) new = (old.failed ≡ true) × (new ≡ old)
 
 -- the same by what a run computes: at its end the state that it gives, and else the fault, unless memory ran out or the
 -- machine had failed
-abbrev pub OutcomeIs : Result MachineState Fault → Result ℕ ExecFault → Held → Type 0
+abbrev pub OutcomeIs : Result MachineState Fault → Result ℕ ExecFault → Machine → Type 0
 OutcomeIs outcome (Ok n) new = outcome ≡ Ok new.state
 OutcomeIs outcome (Err (exec.Font f)) new = outcome ≡ Err f
 OutcomeIs outcome (Err exec.Memory) new = Unit {0}
 OutcomeIs outcome (Err exec.Failed) new = Unit {0}
 
 -- the parts of a machine, or None after a run that failed
-abbrev pub GivesParts : Held → Option Parts → Type 0
+abbrev pub GivesParts : Machine → Option Parts → Type 0
 GivesParts m (Some p) = (m.failed ≡ false) × (p ≡ parts_in m.state)
 GivesParts m None = m.failed ≡ true

@@ -11,9 +11,9 @@ use Rattle.tt_exec.specs.MachineState.{MachineState, fault_in}
 -- what an instruction leaves of the stack, the zones, the graphics state and the control values, or its refusal at its
 -- place
 abbrev pub left_by : ℕ → MachineState → Result (List ℤ × ZoneLists × GraphicsState × List ℤ) Why → Result MachineState Fault
-left_by at m (Ok t) = Ok (record m { stack = t.0; zones = t.1; graphics = t.2; control_values = t.3 })
+left_by at m (Ok t) = Ok (record m { stack = t.0; zones = t.1; graphics = t.2; cvt = t.3 })
 left_by at m (Err why) = Err (fault_in m.frame at why)
 
 unfoldable pub on_points : ℕ → ℕ → MachineState → Result MachineState Fault
 on_points opcode at m =
-    left_by at m (is.on_points opcode m.ppem m.stack m.zones m.graphics m.control_values)
+    left_by at m (is.on_points opcode m.ppem m.stack m.zones m.graphics m.cvt)

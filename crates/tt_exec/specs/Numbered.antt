@@ -3,16 +3,16 @@ use Rattle.std.specs.Prelude.{ℕ, ℤ, pos, int_le, unsigned_abs, Bool, ◌&&�
 use Rattle.std.specs.BTreeMap.{insert_entry, is_at}
 use Rattle.std.specs.Map.{lookup}
 use Rattle.std.specs.Ordering.{nat_cmp}
-use Rattle.tt_exec.specs.MachineState.{Function}
+use Rattle.tt_exec.specs.MachineState.{Body}
 
 -- a number that a function may have
 abbrev pub is_number : ℤ → Bool
 is_number n = int_le (pos 0) n && int_le n (pos 65535)
 
 -- the function of a number
-abbrev pub function_at : ℤ → List (ℕ × Function) → Option Function
+abbrev pub function_at : ℤ → List (ℕ × Body) → Option Body
 function_at n functions = if is_number n then lookup (is_at (nat_cmp (unsigned_abs n))) functions else None
 
 -- the functions with one more, which takes the place of an earlier one
-abbrev pub with_function : ℕ → Function → List (ℕ × Function) → List (ℕ × Function)
+abbrev pub with_function : ℕ → Body → List (ℕ × Body) → List (ℕ × Body)
 with_function n f functions = insert_entry nat_cmp functions n f

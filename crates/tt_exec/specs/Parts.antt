@@ -3,29 +3,29 @@ use Rattle.std.specs.Prelude.{ℕ, ℤ, Bool, List, map}
 use Rattle.tt_state.specs.declared.graphics_state.GraphicsState.{GraphicsState}
 use Rattle.tt_points_zones.specs.Zones.{ZoneLists, zones_view}
 use Rattle.tt_exec.specs.declared.parts.Parts as declared
-use Rattle.tt_exec.specs.MachineState.{Function}
+use Rattle.tt_exec.specs.MachineState.{Body}
 use Rattle.tt_exec.specs.Views.{entry_of}
 
 pub record Parts : Type 0 where
-  pub units_per_em : ℕ
+  pub em : ℕ
   pub ppem : ℕ
-  pub control_values : List ℤ
+  pub cvt : List ℤ
   pub storage : List ℤ
   pub zones : ZoneLists
-  pub functions : List (ℕ × Function)
-  pub graphics : GraphicsState
+  pub functions : List (ℕ × Body)
+  pub state : GraphicsState
   pub skip_glyphs : Bool
   pub default_state : Bool
 
 abbrev pub parts_of : declared.Parts → Parts
 parts_of p = record {
-  units_per_em = p.em;
+  em = p.em;
   ppem = p.ppem;
-  control_values = p.cvt.items;
+  cvt = p.cvt.items;
   storage = p.storage.items;
   zones = zones_view p.zones;
   functions = map entry_of p.functions.entries;
-  graphics = p.state;
+  state = p.state;
   skip_glyphs = p.skip_glyphs;
   default_state = p.default_state;
 }

@@ -9,4 +9,4 @@ HasContours z = AreContours 0 z.contours (length z.glyph)
 
 pub record SameSizes (old new : MachineState) : Type 0 where
   pub storage : length new.storage ≡ length old.storage
-  pub control_values : length new.control_values ≡ length old.control_values
+  pub cvt : length new.cvt ≡ length old.cvt

@@ -5,7 +5,7 @@ use Rattle.tt_core.specs.Faults.{Fault}
 use Rattle.tt_core.specs.declared.fault.Why.{Why}
 use Rattle.tt_core.specs.declared.fault.Why.TheVariants as why
 use Rattle.tt_code.specs.declared.decoding.Halt.{Halt}
-use Rattle.tt_code.specs.Decoding.{Instruction, instruction_at, takes_data}
+use Rattle.tt_code.specs.Decoding.{Instr, instruction_at, takes_data}
 use Rattle.tt_state.specs.declared.graphics_state.GraphicsState.{GraphicsState}
 use Rattle.tt_exec_stack.specs.Arithmetic.{computed}
 use Rattle.tt_exec_stack.specs.Logic.{decided}
@@ -35,7 +35,7 @@ on_graphics at m (Ok t) = Ok (record m { stack = t.0; graphics = t.1 })
 on_graphics at m (Err why) = Err (fault_in m.frame at why)
 
 abbrev pub on_places : ℕ → MachineState → Result (List ℤ × List ℤ × List ℤ) Why → Result MachineState Fault
-on_places at m (Ok t) = Ok (record m { stack = t.0; storage = t.1; control_values = t.2 })
+on_places at m (Ok t) = Ok (record m { stack = t.0; storage = t.1; cvt = t.2 })
 on_places at m (Err why) = Err (fault_in m.frame at why)
 
 -- NPUSHW and PUSHW push words
@@ -54,7 +54,7 @@ operate (op.adjust o) at m = on_graphics at m (adjusted o m.ppem m.units_per_em 
 operate (op.manage o) at m = on_stack at m (managed o m.stack)
 operate (op.decide o) at m = on_stack at m (decided o m.graphics.round m.stack)
 operate (op.compute o) at m = on_stack at m (computed o m.graphics.round m.stack)
-operate (op.keep o) at m = on_places at m (kept o m.ppem m.units_per_em m.stack m.storage m.control_values)
+operate (op.keep o) at m = on_places at m (kept o m.ppem m.units_per_em m.stack m.storage m.cvt)
 operate (op.tell o) at m = on_stack at m (told o m.ppem m.stack)
 operate op.instctrl at m = instctrl m.stack at m
 operate op.if_true at m = if_from m.stack at m
@@ -72,7 +72,7 @@ operate op.off_profile at m = Err (fault_in m.frame at why.OffProfile)
 operate op.unnamed at m = Err (fault_in m.frame at why.BadOpcode)
 
 -- what stands at the state's place is done, or data there passes the end
-abbrev pub done : MachineState → Result Instruction Halt → Result MachineState Fault
+abbrev pub done : MachineState → Result Instr Halt → Result MachineState Fault
 done m (Ok i) =
     let behind = goes_to (m.frame.place + i.len) m in
     if takes_data i.op then push i.op i.args m.frame.place behind
@@ -82,12 +82,12 @@ done m (Err halt) = Err (fault_in m.frame halt.at halt.why)
 -- The program's end inside a call is no instruction.
 abbrev pub step : MachineState → Result MachineState Fault
 step m =
-    if nat_le (length m.frame.program.bytes) m.frame.place then Err (fault_in m.frame m.frame.place why.CodeShort)
-    else done m (instruction_at m.frame.program.bytes m.frame.place)
+    if nat_le (length m.frame.code.bytes) m.frame.place then Err (fault_in m.frame m.frame.place why.CodeShort)
+    else done m (instruction_at m.frame.code.bytes m.frame.place)
 
 -- a program ends at its end, where no call is open
 abbrev pub no_call : MachineState → Bool
 no_call m = length m.callers == 0
 
 abbrev pub is_ended : MachineState → Bool
-is_ended m = if no_call m then m.frame.place == length m.frame.program.bytes else false
+is_ended m = if no_call m then m.frame.place == length m.frame.code.bytes else false

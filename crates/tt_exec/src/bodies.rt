@@ -4,7 +4,7 @@
 ghost use Rattle.std.specs.Prelude.{◌≡◌, map, OnOk, OnErr};
 ghost use Rattle.std.specs.Option.{option_map};
 ghost use Rattle.tt_exec.specs.Numbered.{function_at, with_function};
-ghost use Rattle.tt_exec.specs.Views.{entry_of, function_of};
+ghost use Rattle.tt_exec.specs.Views.{entry_of, body_of};
 
 use crate::program::Body;
 use std::alloc::AllocError;
@@ -19,10 +19,10 @@ pub(crate) struct Bodies<'a> {
 
 impl<'a> Model for Bodies<'a> {
     ghost use Rattle.std.specs.Prelude.{ℕ, List, map};
-    ghost use Rattle.tt_exec.specs.MachineState.{Function};
+    ghost use Rattle.tt_exec.specs.MachineState.{Body};
     ghost use Rattle.tt_exec.specs.Views.{entry_of};
 
-    ghost Value = { List (ℕ × Function) };
+    ghost Value = { List (ℕ × Body) };
 
     ghost view = { λ b. map entry_of b.by_number.entries };
 }
@@ -44,7 +44,7 @@ impl<'a> Bodies<'a> {
 
     /// The function of a number.
     pub(crate) fn get(&self, n: i32) -> Option<Body<'a>>
-        ensures { option_map function_of result ≡ function_at n self.now }
+        ensures { option_map body_of result ≡ function_at n self.now }
     {
         let Ok(n) = u16::try_from(n) else {
             return None;
@@ -54,7 +54,7 @@ impl<'a> Bodies<'a> {
 
     /// Gives a number a function, in the place of an earlier one.
     pub(crate) fn set(&mut self, n: u16, body: Body<'a>) -> Result<(), AllocError>
-        ensures { OnOk result (self.new ≡ with_function n (function_of body.entry) self.old) }
+        ensures { OnOk result (self.new ≡ with_function n (body_of body.entry) self.old) }
     {
         self.by_number.insert(n, body)?;
         Ok(())

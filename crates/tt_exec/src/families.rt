@@ -9,14 +9,14 @@ ghost use Rattle.tt_exec.specs.Operation as operation;
 ghost use Rattle.tt_exec.specs.States.{state_of};
 ghost use Rattle.tt_exec.specs.Step as is;
 
-use crate::interpreter::Interpreter;
+use crate::machine_state::MachineState;
 use tt_core::{Fault, FontFault};
 use tt_exec_stack::{
     Arithmetic, Logic, Managing, Places, Query, Setting, Vectors, adjust, compute, decide, keep,
     manage, push_bytes, push_words, tell, turn,
 };
 
-impl Interpreter<'_> {
+impl MachineState<'_> {
     /// NPUSHB[], NPUSHW[], PUSHB[n] and PUSHW[n].
     #[inline(always)]
     pub(crate) fn push(&mut self, op: u8, args: &[u8], at: usize) -> Result<(), FontFault>

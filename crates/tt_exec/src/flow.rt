@@ -7,11 +7,11 @@ ghost use Rattle.tt_exec.specs.Flow as flow;
 ghost use Rattle.tt_exec.specs.Flags as flags;
 ghost use Rattle.tt_exec.specs.States.{state_of};
 
-use crate::interpreter::{Interpreter, Kind};
+use crate::machine_state::{MachineState, Kind};
 use tt_code::{skip_else, skip_if};
 use tt_core::{Fault, Why};
 
-impl Interpreter<'_> {
+impl MachineState<'_> {
     /// Takes the top of the stack. Error: StackShort.
     pub(crate) fn popped(&mut self, at: usize) -> Result<i32, Fault>
         requires { at < length self.old.frame.code.bytes.now }

@@ -5,17 +5,17 @@ ghost use Rattle.std.specs.Prelude.{◌≡◌, ◌+◌, ◌<◌, ◌≤◌, ◌^
 ghost use Rattle.tt_core.specs.Outcomes.{Leaves};
 ghost use Rattle.tt_exec_stack.specs.Stack.{Does};
 ghost use Rattle.tt_exec.specs.Functions as is;
-ghost use Rattle.tt_exec.specs.Views.{function_of};
+ghost use Rattle.tt_exec.specs.Views.{body_of};
 ghost use Rattle.tt_exec.specs.States.{state_of};
 ghost use Rattle.std.specs.Prelude.{Some};
 
 use crate::callers::CALL_LIMIT;
-use crate::interpreter::{Interpreter, Kind};
+use crate::machine_state::{MachineState, Kind};
 use crate::program::{Body, Frame};
 use tt_code::skip_def;
 use tt_core::{Fault, FontFault, Why};
 
-impl<'a> Interpreter<'a> {
+impl<'a> MachineState<'a> {
     fn may_define(&self) -> bool
         ensures { result ≡ is.may_define self.now.kind self.now.callers }
     {
@@ -84,7 +84,7 @@ impl<'a> Interpreter<'a> {
     /// Calls a function, and again so often. Error: CallDepth.
     fn enter(&mut self, at: usize, body: Body<'a>, again: u32) -> Result<(), Fault>
         requires { at < length self.old.frame.code.bytes.now }
-        ensures { let f = function_of body.entry in Does (is.called at again (state_of self.old) (Some f)) (state_of self.new) result }
+        ensures { let f = body_of body.entry in Does (is.called at again (state_of self.old) (Some f)) (state_of self.new) result }
     {
         if self.callers.len() >= CALL_LIMIT {
             return Err(self.fault(at, Why::CallDepth));

@@ -8,7 +8,7 @@ mod families;
 mod fault;
 mod flow;
 mod functions;
-mod interpreter;
+mod machine_state;
 pub mod laws;
 mod machine;
 mod moving;

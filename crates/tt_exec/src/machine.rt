@@ -10,12 +10,12 @@ ghost use Rattle.tt_exec.specs.Machines.{fresh, kind_of, run_from, GivesParts, O
 ghost use Rattle.tt_exec.specs.Parts.{parts_of};
 ghost use Rattle.tt_exec.specs.Runs.{run_outcome};
 ghost use Rattle.tt_exec.specs.Sizes.{SameSizes};
-ghost use Rattle.tt_exec.specs.Views.{program_of};
+ghost use Rattle.tt_exec.specs.Views.{code_of};
 
 use crate::bodies::Bodies;
 use crate::callers::Callers;
 use crate::fault::ExecFault;
-use crate::interpreter::{Interpreter, Kind};
+use crate::machine_state::{Kind, MachineState};
 use crate::laws;
 use crate::parts::Parts;
 use crate::program::{Code, Frame};
@@ -27,18 +27,18 @@ use tt_exec_stack::{Graphics, Size, Stack};
 /// A machine, which runs programs one behind the other. A clause sees what it holds, and whether a run failed.
 #[derive(Drop)]
 pub struct Machine<'a> {
-    interpreter: Interpreter<'a>,
+    state: MachineState<'a>,
     failed: bool,
 }
 
 impl<'a> Model for Machine<'a> {
-    ghost use Rattle.tt_exec.specs.MachineState.{Held};
+    ghost use Rattle.tt_exec.specs.MachineState as held;
 
-    ghost Value = { Held };
+    ghost Value = { held.Machine };
 
     ghost use Rattle.tt_exec.specs.States.{state_of};
 
-    ghost view = { λ m. record { state = state_of m.interpreter; failed = m.failed } };
+    ghost view = { λ m. record { state = state_of m.state; failed = m.failed } };
 }
 
 /// Which program stands in a table.
@@ -63,7 +63,7 @@ impl<'a> Machine<'a> {
         requires graphics { IsGraphicsState parts.state }
         ensures { IfOk result (λ m. m ≡ record { state = fresh (parts_of parts.entry); failed = false }) }
     {
-        let interpreter = Interpreter {
+        let state = MachineState {
             stack: Stack::new(alloc)?,
             frame: Frame::idle(),
             callers: Callers::new(alloc),
@@ -78,7 +78,7 @@ impl<'a> Machine<'a> {
             kind: Kind::Glyph,
         };
         Ok(Machine {
-            interpreter,
+            state,
             failed: false,
         })
     }
@@ -87,9 +87,9 @@ impl<'a> Machine<'a> {
     /// were made. Where functions may be defined and flags set goes by the program's table. Errors: Font with a defect
     /// of the program, Memory; from then on Failed.
     pub fn run(&mut self, code: Code<'a>) -> Result<u32, ExecFault>
-        ensures exact { RunGives (program_of code.entry) self.old result self.new }
+        ensures exact { RunGives (code_of code.entry) self.old result self.new }
         // The same by the function that computes a run.
-        ensures outcome { OutcomeIs (run_outcome (run_from (program_of code.entry) self.old.state)) result self.new }
+        ensures outcome { OutcomeIs (run_outcome (run_from (code_of code.entry) self.old.state)) result self.new }
         // No point, place of the storage area or control value is made or dropped, and the contours stay.
         ensures shape { IfOk result (λ n. SameShape self.old.state.zones self.new.state.zones) }
         ensures sizes { IfOk result (λ n. SameSizes self.old.state self.new.state) }
@@ -98,9 +98,9 @@ impl<'a> Machine<'a> {
             return Err(ExecFault::Failed);
         }
         laws::sizes_are_kept();
-        self.interpreter.points.are_sound();
-        self.interpreter.begin(code, kind_of(code.table));
-        match self.interpreter.go() {
+        self.state.points.are_sound();
+        self.state.begin(code, kind_of(code.table));
+        match self.state.go() {
             Ok(steps) => Ok(steps),
             Err(fault) => {
                 self.failed = true;
@@ -114,7 +114,7 @@ impl<'a> Machine<'a> {
         ensures exact { reverse result.now ≡ self.now.state.stack }
         ensures limit { length result.now ≤ stack_limit }
     {
-        self.interpreter.stack.items()
+        self.state.stack.items()
     }
 
     /// What the machine is made of, as its runs left it; None after Font or Memory.
@@ -128,6 +128,6 @@ impl<'a> Machine<'a> {
         if self.failed {
             return None;
         }
-        Some(self.interpreter.into_parts())
+        Some(self.state.into_parts())
     }
 }

@@ -7,11 +7,11 @@ ghost use Rattle.tt_core.specs.Outcomes.{Leaves};
 ghost use Rattle.tt_exec.specs.Moving as is;
 ghost use Rattle.tt_exec.specs.States.{state_of};
 
-use crate::interpreter::Interpreter;
+use crate::machine_state::MachineState;
 use tt_core::FontFault;
 use tt_exec_points::on_points;
 
-impl Interpreter<'_> {
+impl MachineState<'_> {
     /// The instruction of an opcode that works on points, or DELTAC[].
     #[inline(always)]
     #[tactic(auto, unfolding(crate::specs::Moving::on_points))]

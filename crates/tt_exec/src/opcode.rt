@@ -10,12 +10,12 @@ ghost use Rattle.tt_exec.specs.States.{state_of};
 ghost use Rattle.tt_exec.specs.Step as is;
 ghost use Rattle.tt_exec.specs.Views.{frame_of};
 
-use crate::interpreter::Interpreter;
+use crate::machine_state::MachineState;
 use tt_core::{FontFault, Why};
 use tt_exec_stack::{Arithmetic, Logic, Managing, Places, Query, Setting, Vectors};
 use tt_state::{Axis, Round};
 
-impl Interpreter<'_> {
+impl MachineState<'_> {
     /// An instruction that is none, or not supported.
     #[cold]
     fn refuse(&self, at: usize, why: Why) -> Result<(), FontFault>

@@ -35,12 +35,12 @@ pub(crate) struct Frame<'a> {
 }
 
 impl<'a> Frame<'a> {
-    ghost use Rattle.tt_exec.specs.Machines.{no_program, start_of};
-    ghost use Rattle.tt_exec.specs.Views.{frame_of, program_of};
+    ghost use Rattle.tt_exec.specs.Machines.{no_code, start_of};
+    ghost use Rattle.tt_exec.specs.Views.{frame_of, code_of};
 
     /// The start of a program.
     pub(crate) fn of(code: Code<'a>) -> Frame<'a>
-        ensures { frame_of result ≡ start_of (program_of code.entry) }
+        ensures { frame_of result ≡ start_of (code_of code.entry) }
     {
         Frame {
             code,
@@ -52,7 +52,7 @@ impl<'a> Frame<'a> {
 
     /// No program has been run yet.
     pub(crate) fn idle() -> Frame<'a>
-        ensures { frame_of result ≡ start_of no_program }
+        ensures { frame_of result ≡ start_of no_code }
     {
         Frame::of(Code {
             table: *b"none",

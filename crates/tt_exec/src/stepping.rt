@@ -6,14 +6,14 @@ ghost use Rattle.tt_exec.specs.Runs.{Ends, Halts};
 ghost use Rattle.tt_exec.specs.States.{state_of};
 ghost use Rattle.tt_exec.specs.Step as is;
 
-use crate::interpreter::Interpreter;
+use crate::machine_state::MachineState;
 use tt_code::{decode, plain_opcode};
 use tt_core::{FontFault, Why};
 
 /// Steps of a run (profile).
 const STEP_LIMIT: u32 = 1_000_000;
 
-impl Interpreter<'_> {
+impl MachineState<'_> {
     /// Does the instruction at the frame's place. Errors: CodeShort where its data passes the program's end or the
     /// place is that end; those of the instruction.
     #[inline(always)]

@@ -3,83 +3,83 @@ use Rattle.std.proofs.Common.{◌≡◌, ◌≢◌, ◌∙◌, sym, ℕ, true, f
 use Rattle.tt_core.specs.Faults.{Fault}
 use Rattle.tt_core.specs.Limits.{level_limit}
 use Rattle.tt_core.specs.Outcomes.{◌>>=◌}
-use Rattle.tt_glyf.specs.Loca.{GlyphTables}
-use Rattle.tt_metrics.specs.Metrics.{Fields}
+use Rattle.tt_glyf.specs.Loca.{Glyf}
+use Rattle.tt_metrics.specs.Metrics.{Metrics}
 use Rattle.tt_fit.specs.declared.programs.Fit.{Fit}
 use Rattle.tt_fit.specs.declared.programs.Fit.TheVariants as fit
 use Rattle.tt_fit.specs.Fallback.{Fallback, never, where_refused, everywhere, is_program_fault}
-use Rattle.tt_fit.specs.Fitting.{Setting, hinted_by, outline_at, fitted_outline, unfitted_fault}
+use Rattle.tt_fit.specs.Fitting.{Fitter, hinted_by, outline_at, fitted_outline, unfitted_fault}
 use Rattle.tt_fit.specs.Laws.{FallbackFits, FallbackScales, FallbackRefuses, FallbackKeeps, OthersNeverFallBack}
-use Rattle.tt_fit.specs.Outline.{Shape}
-use Rattle.tt_fit.specs.Preparation.{begun_parts, hinted_by_programs, prepared_by, prepared, setting_of}
+use Rattle.tt_fit.specs.Outline.{Outline}
+use Rattle.tt_fit.specs.Preparation.{begun_parts, hinted_by_programs, prepared_by, prepared, fitter_of}
 use Rattle.tt_fit.specs.Programs.{Hints, unhinted}
 
 -- for no glyph
-pub never-unfitted : (s : Setting) (g : ℕ) → s.fallback ≡ never → unfitted_fault s g ≡ None
+pub never-unfitted : (s : Fitter) (g : ℕ) → s.fallback ≡ never → unfitted_fault s g ≡ None
 unfolding unfitted_fault
 never-unfitted s g is = rw is refl
 
 -- for a glyph by what its outline with programs is
-pub fitted-where-made : (s : Setting) (g : ℕ) (o : Shape) → s.fallback ≡ where_refused
+pub fitted-where-made : (s : Fitter) (g : ℕ) (o : Outline) → s.fallback ≡ where_refused
     → outline_at (hinted_by s s.hints) level_limit g ≡ Ok o → unfitted_fault s g ≡ None
 unfolding unfitted_fault
 fitted-where-made s g o is made = rw (is, made) refl
 
-pub unfitted-where-refused : (s : Setting) (g : ℕ) (f : Fault) → s.fallback ≡ where_refused
+pub unfitted-where-refused : (s : Fitter) (g : ℕ) (f : Fault) → s.fallback ≡ where_refused
     → outline_at (hinted_by s s.hints) level_limit g ≡ Err f → is_program_fault f ≡ true
     → unfitted_fault s g ≡ Some f
 unfolding unfitted_fault
 unfitted-where-refused s g f is fails of_program = rw (is, fails, of_program) refl
 
-pub fitted-where-short : (s : Setting) (g : ℕ) (f : Fault) → s.fallback ≡ where_refused
+pub fitted-where-short : (s : Fitter) (g : ℕ) (f : Fault) → s.fallback ≡ where_refused
     → outline_at (hinted_by s s.hints) level_limit g ≡ Err f → is_program_fault f ≡ false
     → unfitted_fault s g ≡ None
 unfolding unfitted_fault
 fitted-where-short s g f is fails of_table = rw (is, fails, of_table) refl
 
 -- for every glyph
-pub unfitted-everywhere : (s : Setting) (g : ℕ) (f : Fault) → s.fallback ≡ everywhere f → unfitted_fault s g ≡ Some f
+pub unfitted-everywhere : (s : Fitter) (g : ℕ) (f : Fault) → s.fallback ≡ everywhere f → unfitted_fault s g ≡ Some f
 unfolding unfitted_fault
 unfitted-everywhere s g f is = rw is refl
 
 -- what is made then
-pub made-fitted : (s : Setting) (g : ℕ) → unfitted_fault s g ≡ None
+pub made-fitted : (s : Fitter) (g : ℕ) → unfitted_fault s g ≡ None
     → fitted_outline s g ≡ outline_at (hinted_by s s.hints) level_limit g
 unfolding fitted_outline
 made-fitted s g none = rw none refl
 
-pub made-unfitted : (s : Setting) (g : ℕ) (f : Fault) → unfitted_fault s g ≡ Some f
+pub made-unfitted : (s : Fitter) (g : ℕ) (f : Fault) → unfitted_fault s g ≡ Some f
     → fitted_outline s g ≡ outline_at (hinted_by s unhinted) level_limit g
 unfolding fitted_outline
 made-unfitted s g f some = rw some refl
 
 -- an outline by programs is the answer
-pub made-by-programs : (s : Setting) (g : ℕ) (hints : Hints) (o : Shape) → s.fallback ≡ where_refused
+pub made-by-programs : (s : Fitter) (g : ℕ) (hints : Hints) (o : Outline) → s.fallback ≡ where_refused
     → s.hints ≡ hints → outline_at (hinted_by s hints) level_limit g ≡ Ok o → fitted_outline s g ≡ Ok o
 made-by-programs s g hints o is same made =
     let by_own : outline_at (hinted_by s s.hints) level_limit g ≡ Ok o = rw same made in
     made-fitted s g (fitted-where-made s g o is by_own) ∙ by_own
 
 -- what outlines are made from, by what the two programs leave
-abbrev setting_with : Fields → GlyphTables → ℕ → Hints → Fallback → Setting
+abbrev setting_with : Metrics → Glyf → ℕ → Hints → Fallback → Fitter
 setting_with m tables ppem hints fallback =
     record { tables = tables; metrics = m; ppem = ppem; hints = hints; fallback = fallback }
 
-abbrev setting_by : Fields → GlyphTables → ℕ → Fit → Result Hints Fault → Result Setting Fault
+abbrev setting_by : Metrics → Glyf → ℕ → Fit → Result Hints Fault → Result Fitter Fault
 setting_by m tables ppem how left = prepared_by how left >>= λ p. Ok
     (setting_with m tables ppem p.hints p.fallback)
 
-abbrev outline_by : Fields → GlyphTables → ℕ → Fit → Result Hints Fault → ℕ → Result Shape Fault
+abbrev outline_by : Metrics → Glyf → ℕ → Fit → Result Hints Fault → ℕ → Result Outline Fault
 outline_by m tables ppem how left g = setting_by m tables ppem how left >>= λ s. fitted_outline s g
 
 -- a setting whose programs are never given up
-full-is : (m : Fields) (tables : GlyphTables) (ppem : ℕ) (hints : Hints) (fallback : Fallback) (g : ℕ)
+full-is : (m : Metrics) (tables : Glyf) (ppem : ℕ) (hints : Hints) (fallback : Fallback) (g : ℕ)
     → fitted_outline (setting_with m tables ppem hints never) g
     ≡ outline_at (hinted_by (setting_with m tables ppem hints fallback) hints) level_limit g
 full-is m tables ppem hints fallback g =
     let t = setting_with m tables ppem hints never in made-fitted t g (never-unfitted t g refl)
 
-fits-by : (m : Fields) (tables : GlyphTables) (ppem : ℕ) (s : Setting) (g : ℕ) (o : Shape) (left : Result Hints Fault)
+fits-by : (m : Metrics) (tables : Glyf) (ppem : ℕ) (s : Fitter) (g : ℕ) (o : Outline) (left : Result Hints Fault)
     → setting_by m tables ppem fit.Fallback left ≡ Ok s → outline_by m tables ppem fit.Full left g ≡ Ok o
     → (fitted_outline s g ≡ Ok o) × (unfitted_fault s g ≡ None)
 fits-by m tables ppem s g o (Ok hints) is made =
@@ -91,11 +91,11 @@ fits-by m tables ppem s g o (Ok hints) is made =
 fits-by m tables ppem s g o (Err f) is made = absurd cc
 
 pub fallback-fits : FallbackFits
-unfolding setting_of prepared
+unfolding fitter_of prepared
 fallback-fits m tables programs ppem s g o is made =
     fits-by m tables ppem s g o (hinted_by_programs (begun_parts m programs.cvt ppem) programs) is made
 
-scales-by : (m : Fields) (tables : GlyphTables) (ppem : ℕ) (s : Setting) (g : ℕ) (f : Fault)
+scales-by : (m : Metrics) (tables : Glyf) (ppem : ℕ) (s : Fitter) (g : ℕ) (f : Fault)
     (left : Result Hints Fault) → setting_by m tables ppem fit.Fallback left ≡ Ok s
     → outline_by m tables ppem fit.Full left g ≡ Err f → is_program_fault f ≡ true
     → (fitted_outline s g ≡ outline_by m tables ppem fit.None left g) × (unfitted_fault s g ≡ Some f)
@@ -113,11 +113,11 @@ scales-by m tables ppem s g f (Err kept) is fails of_program =
     rw (← same, ← known) (made-unfitted t g kept some ∙ sym (full-is m tables ppem unhinted never g), some)
 
 pub fallback-scales : FallbackScales
-unfolding setting_of prepared
+unfolding fitter_of prepared
 fallback-scales m tables programs ppem s g f is fails of_program =
     scales-by m tables ppem s g f (hinted_by_programs (begun_parts m programs.cvt ppem) programs) is fails of_program
 
-refuses-by : (m : Fields) (tables : GlyphTables) (ppem : ℕ) (full s : Setting) (g : ℕ) (f : Fault)
+refuses-by : (m : Metrics) (tables : Glyf) (ppem : ℕ) (full s : Fitter) (g : ℕ) (f : Fault)
     (left : Result Hints Fault) → setting_by m tables ppem fit.Fallback left ≡ Ok s
     → setting_by m tables ppem fit.Full left ≡ Ok full → fitted_outline full g ≡ Err f → is_program_fault f ≡ false
     → (fitted_outline s g ≡ Err f) × (unfitted_fault s g ≡ None)
@@ -132,12 +132,12 @@ refuses-by m tables ppem full s g f (Ok hints) is made fails of_table =
 refuses-by m tables ppem full s g f (Err kept) is made fails of_table = absurd cc
 
 pub fallback-refuses : FallbackRefuses
-unfolding setting_of prepared
+unfolding fitter_of prepared
 fallback-refuses m tables programs ppem full s g f is made fails of_table =
     refuses-by m tables ppem full s g f (hinted_by_programs (begun_parts m programs.cvt ppem) programs) is made fails
     of_table
 
-keeps-by : (m : Fields) (tables : GlyphTables) (ppem : ℕ) (s : Setting) (g : ℕ) (f : Fault)
+keeps-by : (m : Metrics) (tables : Glyf) (ppem : ℕ) (s : Fitter) (g : ℕ) (f : Fault)
     (left : Result Hints Fault) → setting_by m tables ppem fit.Fallback left ≡ Ok s
     → setting_by m tables ppem fit.Full left ≡ Err f
     → (fitted_outline s g ≡ outline_by m tables ppem fit.None left g) × (unfitted_fault s g ≡ Some f)
@@ -150,11 +150,11 @@ keeps-by m tables ppem s g f (Err kept) is fails =
     rw (← same, ← known) (made-unfitted t g kept some ∙ sym (full-is m tables ppem unhinted never g), some)
 
 pub fallback-keeps : FallbackKeeps
-unfolding setting_of prepared
+unfolding fitter_of prepared
 fallback-keeps m tables programs ppem s g f is fails =
     keeps-by m tables ppem s g f (hinted_by_programs (begun_parts m programs.cvt ppem) programs) is fails
 
-others-by : (m : Fields) (tables : GlyphTables) (ppem : ℕ) (how : Fit) (s : Setting) (g : ℕ)
+others-by : (m : Metrics) (tables : Glyf) (ppem : ℕ) (how : Fit) (s : Fitter) (g : ℕ)
     (left : Result Hints Fault) → setting_by m tables ppem how left ≡ Ok s → how ≢ fit.Fallback
     → unfitted_fault s g ≡ None
 others-by m tables ppem fit.None s g left is other =
@@ -167,6 +167,6 @@ others-by m tables ppem fit.Full s g (Err f) is other = absurd cc
 others-by m tables ppem fit.Fallback s g left is other = absurd (other refl)
 
 pub others-never-fall-back : OthersNeverFallBack
-unfolding setting_of prepared
+unfolding fitter_of prepared
 others-never-fall-back m tables programs ppem how s g is other =
     others-by m tables ppem how s g (hinted_by_programs (begun_parts m programs.cvt ppem) programs) is other

@@ -6,7 +6,7 @@ use Rattle.tt_core.specs.Faults.{Fault}
 use Rattle.tt_exec.specs.Parts.{Parts}
 use Rattle.tt_fit.specs.Defects.{PassesLimit, IsGridDefect, IsProgramDefect, IsFinishingDefect}
 use Rattle.tt_fit.specs.GlyphZone.{GlyphProgram, program_in_glyf, on_grid, are_on_grid, on_grid_at, parts_with}
-use Rattle.tt_fit.specs.Outline.{PhantomPoints, Shape}
+use Rattle.tt_fit.specs.Outline.{PhantomPoints, Outline}
 use Rattle.tt_fit.specs.Programs.{Hints, unhinted, hinted, is_run, run_of, by_program, finished}
 use Rattle.tt_fit.specs.Scaling.{is_coordinate}
 use Rattle.tt_fit.proofs.Placing.{passes, fits, one-fails, all-hold}
@@ -48,10 +48,10 @@ grid-whole at p grid f was bad =
     let test = passed-else (are_on_grid (on_grid p)) _ _ grid was in none-passes (on_grid p) test.0 bad.0
 
 -- a program that is run
-abbrev Refuses : Parts → GlyphProgram → Shape → Fault → Result PhantomPoints Fault → Type 0
+abbrev Refuses : Parts → GlyphProgram → Outline → Fault → Result PhantomPoints Fault → Type 0
 Refuses parts p o f x = IsOkAnd x (λ grid. run_of (program_in_glyf p) (parts_with parts o grid) ≡ Err f)
 
-program-broke : (parts : Parts) (p : GlyphProgram) (o : Shape) (f : Fault) → is_run parts p ≡ true
+program-broke : (parts : Parts) (p : GlyphProgram) (o : Outline) (f : Fault) → is_run parts p ≡ true
     → by_program parts p o ≡ Err f → IsProgramDefect parts p o f
 unfolding by_program
 program-broke parts p o f is was = elim (was-err (on_grid_at p.glyph_at o.phantom) _ f was) [
@@ -62,7 +62,7 @@ program-broke parts p o f is was = elim (was-err (on_grid_at p.glyph_at o.phanto
   ]
 ]
 
-program-whole : (parts : Parts) (p : GlyphProgram) (o made : Shape) (f : Fault) → by_program parts p o ≡ Ok made
+program-whole : (parts : Parts) (p : GlyphProgram) (o made : Outline) (f : Fault) → by_program parts p o ≡ Ok made
     → IsProgramDefect parts p o f → ⊥
 unfolding by_program
 program-whole parts p o made f was bad =
@@ -73,17 +73,17 @@ program-whole parts p o made f was bad =
       | inr ran ↦ let first = left.first in let refused = subst (Refuses parts p o f) grid.first ran in cc
     ]
 
-broke-by : (run : Bool) (parts : Parts) (p : GlyphProgram) (o : Shape) (f : Fault) → is_run parts p ≡ run
+broke-by : (run : Bool) (parts : Parts) (p : GlyphProgram) (o : Outline) (f : Fault) → is_run parts p ≡ run
     → (if run then by_program parts p o else Ok o) ≡ Err f → IsProgramDefect parts p o f
 broke-by true parts p o f is was = program-broke parts p o f is was
 broke-by false parts p o f is was = absurd cc
 
-pub finished-broke : (h : Hints) (p : GlyphProgram) (o : Shape) (f : Fault) → finished h p o ≡ Err f
+pub finished-broke : (h : Hints) (p : GlyphProgram) (o : Outline) (f : Fault) → finished h p o ≡ Err f
     → IsFinishingDefect h p o f
 finished-broke unhinted p o f was = absurd cc
 finished-broke (hinted parts) p o f was = broke-by (is_run parts p) parts p o f refl was
 
-pub finished-whole : (h : Hints) (p : GlyphProgram) (o made : Shape) (f : Fault) → finished h p o ≡ Ok made
+pub finished-whole : (h : Hints) (p : GlyphProgram) (o made : Outline) (f : Fault) → finished h p o ≡ Ok made
     → IsFinishingDefect h p o f → ⊥
 finished-whole unhinted p o made f was bad = bad
 finished-whole (hinted parts) p o made f was bad =

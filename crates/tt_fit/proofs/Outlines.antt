@@ -4,7 +4,7 @@ use Rattle.std.proofs.lemmas.List.Elements.{All-nil}
 use Rattle.tt_core.specs.Limits.{point_limit}
 use Rattle.tt_glyf.specs.Meaning.{AreEnds as EndContours}
 use Rattle.tt_fit.specs.Components.{ends_after}
-use Rattle.tt_fit.specs.Outline.{Shape, PhantomPoints, IsCoordinate, IsPoint, ArePhantom, AreEnds, IsOutline}
+use Rattle.tt_fit.specs.Outline.{Outline, PhantomPoints, IsCoordinate, IsPoint, ArePhantom, AreEnds, IsOutline}
 use Rattle.tt_fit.proofs.Contours.{scaled-ends, joined-ends}
 
 no-ends : AreEnds 0 []
@@ -31,7 +31,7 @@ pub scaled-is : (points : List (ℤ × ℤ × Bool)) (ends lasts : List ℕ) (n 
 scaled-is points ends lasts n phantom many few coordinates are is phantoms =
     rw is (record { few = omega (arith, many, few); coordinates = coordinates; phantom = phantoms; ends = rw many (scaled-ends n lasts are) })
 
-pub joined-is : (o component : Shape) (points : List (ℤ × ℤ × Bool)) (ends : List ℕ) (phantom : PhantomPoints)
+pub joined-is : (o component : Outline) (points : List (ℤ × ℤ × Bool)) (ends : List ℕ) (phantom : PhantomPoints)
     → IsOutline o → IsOutline component
     → length points ≡ length o.points + length component.points → length points ≤ point_limit → All IsPoint points
     → ends ≡ o.ends ++ ends_after (length o.points) component.ends → ArePhantom phantom

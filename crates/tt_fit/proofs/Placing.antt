@@ -17,7 +17,7 @@ use Rattle.tt_glyf.specs.declared.raw.Record.{Record}
 use Rattle.tt_glyf.specs.Flags.{has}
 use Rattle.tt_fit.specs.Components.{offset_of, point_of, matched_by, shift_of, landed, placed_point, within_point_limit, behind, placed}
 use Rattle.tt_fit.specs.Defects.{PassesLimit, LeavesLimit, IsPhantomDefect, IsScaledDefect, LacksPoint, IsMatchDefect, IsLandingDefect, IsCountDefect, IsPlacingDefect}
-use Rattle.tt_fit.specs.Outline.{PhantomPoints, Shape}
+use Rattle.tt_fit.specs.Outline.{PhantomPoints, Outline}
 use Rattle.tt_fit.specs.Scaling.{Size, is_coordinate, is_position, are_positions, glyf_fault, coordinate_fault, settled, scaled_position, scaled_point, blank, scaled_outline}
 
 -- coordinates
@@ -103,13 +103,13 @@ unfolding blank
 blank-broke at p f was =
     let test = failed-else (are_positions p) _ _ f was in (phantom-leaves p test.0, test.1)
 
-pub blank-whole : (at : ℕ) (p : PhantomPoints) (o : Shape) (f : Fault) → blank at p ≡ Ok o → IsPhantomDefect at p f → ⊥
+pub blank-whole : (at : ℕ) (p : PhantomPoints) (o : Outline) (f : Fault) → blank at p ≡ Ok o → IsPhantomDefect at p f → ⊥
 unfolding blank
 blank-whole at p o f was bad =
     let test = passed-else (are_positions p) _ _ o was in phantom-stays p test.0 bad.0
 
 -- the points of a simple glyph
-pub scaled-broke : (z : Size) (at : ℕ) (points : List RawPoint) (ends : List ℕ) (o : Shape) (f : Fault)
+pub scaled-broke : (z : Size) (at : ℕ) (points : List RawPoint) (ends : List ℕ) (o : Outline) (f : Fault)
     → scaled_outline z at points ends o ≡ Err f → IsScaledDefect z at points f
 unfolding scaled_outline
 scaled-broke z at points ends o f was = elim (was-err (each (scaled_point z at) points) _ f was) [
@@ -120,7 +120,7 @@ scaled-broke z at points ends o f was = elim (was-err (each (scaled_point z at) 
   | inr whole ↦ let done = whole.rest in absurd cc
 ]
 
-pub scaled-whole : (z : Size) (at : ℕ) (points : List RawPoint) (ends : List ℕ) (o made : Shape) (f : Fault)
+pub scaled-whole : (z : Size) (at : ℕ) (points : List RawPoint) (ends : List ℕ) (o made : Outline) (f : Fault)
     → scaled_outline z at points ends o ≡ Ok made → IsScaledDefect z at points f → ⊥
 unfolding scaled_outline
 scaled-whole z at points ends o made f was bad =
@@ -237,7 +237,7 @@ landing-whole z r component points all by f shifted was bad =
     let one = each-made (placed_point r by) component all there.0 there.1 was there.2 in
     settled-stays r.at (landed r by there.1) one.0 one.1 there.3
 
-pub placing-broke : (z : Size) (r : Record) (component o : Shape) (f : Fault) → placed z r component o ≡ Err f
+pub placing-broke : (z : Size) (r : Record) (component o : Outline) (f : Fault) → placed z r component o ≡ Err f
     → IsPlacingDefect z r component o f
 unfolding placed behind
 placing-broke z r component o f was = elim (was-err (shift_of z r component.points o.points) _ f was) [
@@ -253,7 +253,7 @@ placing-broke z r component o f was = elim (was-err (shift_of z r component.poin
   ]
 ]
 
-pub placing-whole : (z : Size) (r : Record) (component o made : Shape) (f : Fault) → placed z r component o ≡ Ok made
+pub placing-whole : (z : Size) (r : Record) (component o made : Outline) (f : Fault) → placed z r component o ≡ Ok made
     → IsPlacingDefect z r component o f → ⊥
 unfolding placed behind
 placing-whole z r component o made f was bad =

@@ -9,28 +9,28 @@ use Rattle.tt_core.specs.Outcomes.{◌>>=◌}
 use Rattle.tt_glyf.specs.declared.raw.Record.{Record}
 use Rattle.tt_glyf.specs.GlyphData.{glyph_data_of}
 use Rattle.tt_glyf.specs.Loca.{glyph_offset}
-use Rattle.tt_glyf.specs.Raw.{GlyphData, empty, simple, composite}
+use Rattle.tt_glyf.specs.Raw.{Raw, empty, simple, composite}
 use Rattle.tt_glyf.proofs.Defects.{glyph-broke, glyph-whole}
 use Rattle.tt_fit.specs.Defects.{IsStartDefect, IsPlacingDefect, assembled_before, IsRecordsDefect, IsFinishingDefect, IsMakingDefect, IsDefectBy, IsBadComponent, IsOutlineDefect}
-use Rattle.tt_fit.specs.Fitting.{Setting, size_of, start, joined, glyph_program, made, outline_by, added, glyph_setting, fitted_outline}
+use Rattle.tt_fit.specs.Fitting.{Fitter, size_of, start, joined, glyph_program, made, outline_by, added, glyph_fitter, fitted_outline}
 use Rattle.tt_fit.specs.Laws.{OutlinesAreWhole, OutlineFaultsStand}
-use Rattle.tt_fit.specs.Outline.{Shape}
+use Rattle.tt_fit.specs.Outline.{Outline}
 use Rattle.tt_fit.specs.Programs.{finished}
 use Rattle.tt_fit.specs.Scaling.{phantom_points, scaled_outline}
 use Rattle.tt_fit.proofs.Finishing.{finished-broke, finished-whole}
 use Rattle.tt_fit.proofs.Placing.{blank-broke, blank-whole, scaled-broke, scaled-whole, placing-broke, placing-whole}
 
 -- what a record adds is refused for a defect of the record, and only then
-abbrev Tells : (Record → Shape → Result Shape Fault) → (Record → Result Shape Fault → Fault → Type 0) → Type 0
-Tells add IsOne = (r : Record) (o : Shape) (f : Fault) → add r o ≡ Err f → IsOne r (Ok o) f
+abbrev Tells : (Record → Outline → Result Outline Fault) → (Record → Result Outline Fault → Fault → Type 0) → Type 0
+Tells add IsOne = (r : Record) (o : Outline) (f : Fault) → add r o ≡ Err f → IsOne r (Ok o) f
 
-abbrev Spares : (Record → Shape → Result Shape Fault) → (Record → Result Shape Fault → Fault → Type 0) → Type 0
-Spares add IsOne = (r : Record) (o next : Shape) (f : Fault) → add r o ≡ Ok next → IsOne r (Ok o) f → ⊥
+abbrev Spares : (Record → Outline → Result Outline Fault) → (Record → Result Outline Fault → Fault → Type 0) → Type 0
+Spares add IsOne = (r : Record) (o next : Outline) (f : Fault) → add r o ≡ Ok next → IsOne r (Ok o) f → ⊥
 
 -- records that are joined one after the other
-joined-broke : (add : Record → Shape → Result Shape Fault) (rs : List Record) (o : Shape) (f : Fault)
+joined-broke : (add : Record → Outline → Result Outline Fault) (rs : List Record) (o : Outline) (f : Fault)
     → joined add rs o ≡ Err f
-    → (i : ℕ) × (r : Record) × (before : Shape) × (slice_get rs i ≡ Some r) × (joined add (take i rs) o ≡ Ok before)
+    → (i : ℕ) × (r : Record) × (before : Outline) × (slice_get rs i ≡ Some r) × (joined add (take i rs) o ≡ Ok before)
     × (add r before ≡ Err f)
 joined-broke add [] o f was = absurd cc
 joined-broke add (r ∷ rs) o f was = elim (was-err (add r o) (joined add rs) f was) [
@@ -40,13 +40,13 @@ joined-broke add (r ∷ rs) o f was = elim (was-err (add r o) (joined add rs) f 
       (suc there.0, there.1, there.2, there.3, rw later.first there.4, there.5)
 ]
 
-through : (x : Result Shape Fault) (rest : Shape → Result Shape Fault) (o made : Shape) → x ≡ Ok o → rest o ≡ Ok made
+through : (x : Result Outline Fault) (rest : Outline → Result Outline Fault) (o made : Outline) → x ≡ Ok o → rest o ≡ Ok made
     → (x >>= rest) ≡ Ok made
 through x rest o made first then = rw first then
 
-joined-made : (add : Record → Shape → Result Shape Fault) (rs : List Record) (o all : Shape) (i : ℕ) (r : Record)
+joined-made : (add : Record → Outline → Result Outline Fault) (rs : List Record) (o all : Outline) (i : ℕ) (r : Record)
     → joined add rs o ≡ Ok all → slice_get rs i ≡ Some r
-    → (before : Shape) × (next : Shape) × (joined add (take i rs) o ≡ Ok before) × (add r before ≡ Ok next)
+    → (before : Outline) × (next : Outline) × (joined add (take i rs) o ≡ Ok before) × (add r before ≡ Ok next)
 joined-made add [] o all i r was there = absurd cc
 joined-made add (z ∷ rs) o all zero r was there =
     let first = came-through (add z o) (joined add rs) all was in
@@ -61,51 +61,51 @@ joined-made add (z ∷ rs) o all (suc i) r was there =
       later.3,
     )
 
-records-broke : (add : Record → Shape → Result Shape Fault) (IsOne : Record → Result Shape Fault → Fault → Type 0)
-    → Tells add IsOne → (begun : Result Shape Fault) (o : Shape) (records : List Record) (f : Fault) → begun ≡ Ok o
+records-broke : (add : Record → Outline → Result Outline Fault) (IsOne : Record → Result Outline Fault → Fault → Type 0)
+    → Tells add IsOne → (begun : Result Outline Fault) (o : Outline) (records : List Record) (f : Fault) → begun ≡ Ok o
     → joined add records o ≡ Err f → IsRecordsDefect add IsOne begun records f
 records-broke add IsOne tells begun o records f begins was =
     let there = joined-broke add records o f was in
     let before : assembled_before add begun records there.0 ≡ Ok there.2 = rw begins there.4 in
-    let P : Result Shape Fault → Type 0 = λ x. IsOne there.1 x f in
+    let P : Result Outline Fault → Type 0 = λ x. IsOne there.1 x f in
     (there.0, there.1, there.3, subst P (sym before) (tells there.1 there.2 f there.5))
 
-records-whole : (add : Record → Shape → Result Shape Fault) (IsOne : Record → Result Shape Fault → Fault → Type 0)
-    → Spares add IsOne → (begun : Result Shape Fault) (o all : Shape) (records : List Record) (f : Fault)
+records-whole : (add : Record → Outline → Result Outline Fault) (IsOne : Record → Result Outline Fault → Fault → Type 0)
+    → Spares add IsOne → (begun : Result Outline Fault) (o all : Outline) (records : List Record) (f : Fault)
     → begun ≡ Ok o → joined add records o ≡ Ok all → IsRecordsDefect add IsOne begun records f → ⊥
 records-whole add IsOne spares begun o all records f begins was bad =
     let came = joined-made add records o all bad.0 bad.1 was bad.2 in
     let before : assembled_before add begun records bad.0 ≡ Ok came.0 = rw begins came.2 in
-    let P : Result Shape Fault → Type 0 = λ x. IsOne bad.1 x f in
+    let P : Result Outline Fault → Type 0 = λ x. IsOne bad.1 x f in
     spares bad.1 came.0 came.1 f came.3 (subst P before bad.3)
 
 -- a glyph that can be read
-start-broke : (s : Setting) (x_min : ℤ) (g : ℕ) (f : Fault) → start s x_min g ≡ Err f → IsStartDefect s x_min g f
+start-broke : (s : Fitter) (x_min : ℤ) (g : ℕ) (f : Fault) → start s x_min g ≡ Err f → IsStartDefect s x_min g f
 start-broke s x_min g f was =
     blank-broke (glyph_offset s.tables g) (phantom_points (size_of s) s.metrics x_min g) f was
 
-start-whole : (s : Setting) (x_min : ℤ) (g : ℕ) (o : Shape) (f : Fault) → start s x_min g ≡ Ok o
+start-whole : (s : Fitter) (x_min : ℤ) (g : ℕ) (o : Outline) (f : Fault) → start s x_min g ≡ Ok o
     → IsStartDefect s x_min g f → ⊥
 start-whole s x_min g o f was bad =
     blank-whole (glyph_offset s.tables g) (phantom_points (size_of s) s.metrics x_min g) o f was bad
 
 -- the program of a glyph, over the points that are made for it
-abbrev IsFinishingOf : Setting → ℕ → List ℕ → ℕ → Fault → Result Shape Fault → Type 0
+abbrev IsFinishingOf : Fitter → ℕ → List ℕ → ℕ → Fault → Result Outline Fault → Type 0
 IsFinishingOf s g code code_at f x = IsOkAnd x (λ o. IsFinishingDefect s.hints (glyph_program s g code code_at) o f)
 
-finishing-broke : (s : Setting) (g : ℕ) (code : List ℕ) (code_at : ℕ) (x : Result Shape Fault) (o : Shape) (f : Fault)
+finishing-broke : (s : Fitter) (g : ℕ) (code : List ℕ) (code_at : ℕ) (x : Result Outline Fault) (o : Outline) (f : Fault)
     → x ≡ Ok o → finished s.hints (glyph_program s g code code_at) o ≡ Err f → IsFinishingOf s g code code_at f x
 finishing-broke s g code code_at x o f made was =
     subst (IsFinishingOf s g code code_at f) (sym made) (finished-broke s.hints (glyph_program s g code code_at) o f was)
 
-finishing-whole : (s : Setting) (g : ℕ) (code : List ℕ) (code_at : ℕ) (x : Result Shape Fault) (o all : Shape)
+finishing-whole : (s : Fitter) (g : ℕ) (code : List ℕ) (code_at : ℕ) (x : Result Outline Fault) (o all : Outline)
     (f : Fault) → x ≡ Ok o → finished s.hints (glyph_program s g code code_at) o ≡ Ok all
     → IsFinishingOf s g code code_at f x → ⊥
 finishing-whole s g code code_at x o all f made was bad =
     finished-whole s.hints (glyph_program s g code code_at) o all f was (subst (IsFinishingOf s g code code_at f) made bad)
 
-making-broke : (s : Setting) (add : Record → Shape → Result Shape Fault)
-    (IsOne : Record → Result Shape Fault → Fault → Type 0) → Tells add IsOne → (g : ℕ) (d : GlyphData) (f : Fault)
+making-broke : (s : Fitter) (add : Record → Outline → Result Outline Fault)
+    (IsOne : Record → Result Outline Fault → Fault → Type 0) → Tells add IsOne → (g : ℕ) (d : Raw) (f : Fault)
     → made s add g d ≡ Err f → IsMakingDefect s add IsOne g d f
 making-broke s add IsOne tells g empty f was = start-broke s (pos 0) g f was
 making-broke s add IsOne tells g (simple d) f was = elim (was-err (start s d.x_min g) _ f was) [
@@ -132,8 +132,8 @@ making-broke s add IsOne tells g (composite d) f was =
           inr (inr (finishing-broke s g d.code d.code_at all whole.value f whole.first whole.rest))
     ]
 
-making-whole : (s : Setting) (add : Record → Shape → Result Shape Fault)
-    (IsOne : Record → Result Shape Fault → Fault → Type 0) → Spares add IsOne → (g : ℕ) (d : GlyphData) (o : Shape)
+making-whole : (s : Fitter) (add : Record → Outline → Result Outline Fault)
+    (IsOne : Record → Result Outline Fault → Fault → Type 0) → Spares add IsOne → (g : ℕ) (d : Raw) (o : Outline)
     (f : Fault) → made s add g d ≡ Ok o → IsMakingDefect s add IsOne g d f → ⊥
 making-whole s add IsOne spares g empty o f was bad = start-whole s (pos 0) g o f was bad
 making-whole s add IsOne spares g (simple d) o f was bad =
@@ -164,41 +164,41 @@ making-whole s add IsOne spares g (composite d) o f was bad =
     ]
 
 -- a glyph, by what its records add
-outline-broke : (s : Setting) (add : Record → Shape → Result Shape Fault)
-    (IsOne : Record → Result Shape Fault → Fault → Type 0) → Tells add IsOne → (g : ℕ) (f : Fault)
+outline-broke : (s : Fitter) (add : Record → Outline → Result Outline Fault)
+    (IsOne : Record → Result Outline Fault → Fault → Type 0) → Tells add IsOne → (g : ℕ) (f : Fault)
     → outline_by s add g ≡ Err f → IsDefectBy s add IsOne g f
 outline-broke s add IsOne tells g f was = elim (was-err (glyph_data_of s.tables g) (made s add g) f was) [
   | inl here ↦ inl (glyph-broke s.tables g f here)
   | inr read ↦
-      let P : Result GlyphData Fault → Type 0 = λ x. IsOkAnd x (λ d. IsMakingDefect s add IsOne g d f) in
+      let P : Result Raw Fault → Type 0 = λ x. IsOkAnd x (λ d. IsMakingDefect s add IsOne g d f) in
       inr (subst P (sym read.first) (making-broke s add IsOne tells g read.value f read.rest))
 ]
 
-outline-whole : (s : Setting) (add : Record → Shape → Result Shape Fault)
-    (IsOne : Record → Result Shape Fault → Fault → Type 0) → Spares add IsOne → (g : ℕ) (o : Shape) (f : Fault)
+outline-whole : (s : Fitter) (add : Record → Outline → Result Outline Fault)
+    (IsOne : Record → Result Outline Fault → Fault → Type 0) → Spares add IsOne → (g : ℕ) (o : Outline) (f : Fault)
     → outline_by s add g ≡ Ok o → IsDefectBy s add IsOne g f → ⊥
 outline-whole s add IsOne spares g o f was bad =
     let read = came-through (glyph_data_of s.tables g) (made s add g) o was in
     elim bad [
       | inl unread ↦ glyph-whole s.tables g read.value read.first f unread
       | inr making ↦
-          let P : Result GlyphData Fault → Type 0 = λ x. IsOkAnd x (λ d. IsMakingDefect s add IsOne g d f) in
+          let P : Result Raw Fault → Type 0 = λ x. IsOkAnd x (λ d. IsMakingDefect s add IsOne g d f) in
           making-whole s add IsOne spares g read.value o f read.rest (subst P read.first making)
     ]
 
 -- levels of components
-component-broke : (s : Setting) (levels : ℕ) → Tells (added s levels) (IsBadComponent s levels)
+component-broke : (s : Fitter) (levels : ℕ) → Tells (added s levels) (IsBadComponent s levels)
 unfolding added IsBadComponent
 component-broke s zero = λ r o f was. cc
 component-broke s (suc levels) = λ r o f was. elim (was-err (outline_by s (added s levels) r.glyph) _ f was) [
   | inl here ↦
       inl (outline-broke s (added s levels) (IsBadComponent s levels) (component-broke s levels) r.glyph f here)
   | inr component ↦
-      let P : Result Shape Fault → Type 0 = λ x. IsOkAnd x (λ c. IsPlacingDefect (size_of s) r c o f) in
+      let P : Result Outline Fault → Type 0 = λ x. IsOkAnd x (λ c. IsPlacingDefect (size_of s) r c o f) in
       inr (subst P (sym component.first) (placing-broke (size_of s) r component.value o f component.rest))
 ]
 
-component-whole : (s : Setting) (levels : ℕ) → Spares (added s levels) (IsBadComponent s levels)
+component-whole : (s : Fitter) (levels : ℕ) → Spares (added s levels) (IsBadComponent s levels)
 unfolding added IsBadComponent
 component-whole s zero = λ r o next f was bad. cc
 component-whole s (suc levels) = λ r o next f was bad.
@@ -208,19 +208,19 @@ component-whole s (suc levels) = λ r o next f was bad.
           outline-whole s (added s levels) (IsBadComponent s levels) (component-whole s levels) r.glyph
           component.value f component.first own
       | inr placing ↦
-          let P : Result Shape Fault → Type 0 = λ x. IsOkAnd x (λ c. IsPlacingDefect (size_of s) r c o f) in
+          let P : Result Outline Fault → Type 0 = λ x. IsOkAnd x (λ c. IsPlacingDefect (size_of s) r c o f) in
           placing-whole (size_of s) r component.value o next f component.rest (subst P component.first placing)
     ]
 
 pub faults-stand : OutlineFaultsStand
 unfolding fitted_outline IsOutlineDefect
 faults-stand s g f was =
-    let t = glyph_setting s g in
+    let t = glyph_fitter s g in
     outline-broke t (added t level_limit) (IsBadComponent t level_limit) (component-broke t level_limit) g f was
 
 pub outlines-whole : OutlinesAreWhole
 unfolding fitted_outline IsOutlineDefect
 outlines-whole s g o was = λ f bad.
-    let t = glyph_setting s g in
+    let t = glyph_fitter s g in
     outline-whole t (added t level_limit) (IsBadComponent t level_limit) (component-whole t level_limit) g o f
     was bad

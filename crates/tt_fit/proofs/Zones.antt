@@ -6,7 +6,7 @@ use Rattle.std.proofs.lemmas.List.Elements.{All-push}
 use Rattle.tt_points_zones.specs.Zones.{IsPoint, AreContours, IsZones}
 use Rattle.tt_state.specs.declared.point.Point.{Point}
 use Rattle.tt_fit.specs.GlyphZone.{contours_from, glyph_zone}
-use Rattle.tt_fit.specs.Outline.{Shape, PhantomPoints, IsOutline}
+use Rattle.tt_fit.specs.Outline.{Outline, PhantomPoints, IsOutline}
 
 -- ends that never fall, from a number that none of them is below
 contours-rise : (first n : ℕ) (ends : List ℕ)
@@ -25,10 +25,10 @@ more-points : (first n m : ℕ) (cs : List (ℕ × ℕ)) → n ≤ m → AreCont
 more-points first n m [] le are = omega (arith, le, are)
 more-points first n m (c ∷ cs) le are = (are.0, are.1, more-points c.1 n m cs le are.2)
 
-zone-length : (o : Shape) (grid : PhantomPoints) → length (glyph_zone o grid) ≡ length o.points + 4
+zone-length : (o : Outline) (grid : PhantomPoints) → length (glyph_zone o grid) ≡ length o.points + 4
 zone-length o grid = rw (length-append, length-map) refl
 
-pub contours-are : (o : Shape) (grid : PhantomPoints) → IsOutline o
+pub contours-are : (o : Outline) (grid : PhantomPoints) → IsOutline o
     → AreContours 0 (contours_from 0 o.ends) (length (glyph_zone o grid))
 contours-are o grid is =
     let ends = is.ends in
@@ -41,7 +41,7 @@ pub one_more : (ps : List Point) (p : Point) → All IsPoint ps → IsPoint p �
 one_more ps p all one = All-push IsPoint ps p all one
 
 -- the zones of a glyph
-pub zones-are : (twilight glyph : List Point) (contours : List (ℕ × ℕ)) (o : Shape) (grid : PhantomPoints)
+pub zones-are : (twilight glyph : List Point) (contours : List (ℕ × ℕ)) (o : Outline) (grid : PhantomPoints)
     → All IsPoint twilight → glyph ≡ glyph_zone o grid → All IsPoint glyph → contours ≡ contours_from 0 o.ends
     → IsOutline o → IsZones (record { twilight = twilight; glyph = glyph; contours = contours })
 zones-are twilight glyph contours o grid all zone sound ranges is =

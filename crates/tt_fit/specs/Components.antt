@@ -10,7 +10,7 @@ use Rattle.tt_core.specs.Outcomes.{◌>>=◌, each}
 use Rattle.tt_glyf.specs.Composite.{args_are_xy_values, round_xy_to_grid, use_my_metrics, one}
 use Rattle.tt_glyf.specs.declared.raw.Record.{Record}
 use Rattle.tt_glyf.specs.Flags.{has}
-use Rattle.tt_fit.specs.Outline.{PhantomPoints, Shape}
+use Rattle.tt_fit.specs.Outline.{PhantomPoints, Outline}
 use Rattle.tt_fit.specs.Scaling.{Size, scale, to_grid, glyf_fault, settled}
 
 -- a point's position under a component's transform, whose numbers are 2.14
@@ -58,7 +58,7 @@ within_point_limit at points = if nat_lt point_limit (length points) then Err
     (glyf_fault at why.PointLimit) else Ok points
 
 -- the last of the records that use a component's metrics counts (profile)
-abbrev pub phantom_with : Record → Shape → Shape → PhantomPoints
+abbrev pub phantom_with : Record → Outline → Outline → PhantomPoints
 phantom_with r component o = if has r.flags use_my_metrics then component.phantom else o.phantom
 
 -- so many points before them, the contours end so much later
@@ -66,14 +66,14 @@ abbrev pub ends_after : ℕ → List ℕ → List ℕ
 ends_after points ends = map (λ e. points + e) ends
 
 -- a component moved so far, behind what is assembled before it
-unfoldable pub behind : Record → ℤ × ℤ → Shape → Shape → Result Shape Fault
+unfoldable pub behind : Record → ℤ × ℤ → Outline → Outline → Result Outline Fault
 behind r by component o = do
   landed ← each (placed_point r by) component.points
   points ← within_point_limit r.at (o.points ++ landed)
   Ok (record { points = points; ends = o.ends ++ ends_after (length o.points) component.ends; phantom = phantom_with r component o })
 
 -- a component placed behind what is assembled so far
-unfoldable pub placed : Size → Record → Shape → Shape → Result Shape Fault
+unfoldable pub placed : Size → Record → Outline → Outline → Result Outline Fault
 placed z r component o = shift_of z r component.points o.points >>= λ by. behind r by component o
 
 -- worked values: 256 units in an em, at 16 pixels
@@ -108,7 +108,7 @@ phantom_after : ℤ → PhantomPoints
 phantom_after advance =
     record { left = (pos 0, pos 0); right = (advance, pos 0); ascent = (pos 0, pos 64); descent = (pos 0, pos 0) }
 
-shape_of : List (ℤ × ℤ × Bool) → ℤ → Shape
+shape_of : List (ℤ × ℤ × Bool) → ℤ → Outline
 shape_of points advance = record { points = points; ends = length points ∷ []; phantom = phantom_after advance }
 
 -- point 1 lands where point 0 of what is assembled so far is

@@ -13,12 +13,12 @@ use Rattle.tt_glyf.specs.Defects.{IsGlyphDefect}
 use Rattle.tt_glyf.specs.Flags.{has}
 use Rattle.tt_glyf.specs.GlyphData.{glyph_data_of}
 use Rattle.tt_glyf.specs.Loca.{glyph_offset}
-use Rattle.tt_glyf.specs.Raw.{GlyphData, empty, simple, composite}
+use Rattle.tt_glyf.specs.Raw.{Raw, empty, simple, composite}
 use Rattle.tt_exec.specs.Parts.{Parts}
 use Rattle.tt_fit.specs.Components.{shift_of, landed}
-use Rattle.tt_fit.specs.Fitting.{Setting, size_of, start, glyph_program, joined, added, outline_at, glyph_setting}
+use Rattle.tt_fit.specs.Fitting.{Fitter, size_of, start, glyph_program, joined, added, outline_at, glyph_fitter}
 use Rattle.tt_fit.specs.GlyphZone.{GlyphProgram, program_in_glyf, on_grid, on_grid_at, parts_with}
-use Rattle.tt_fit.specs.Outline.{PhantomPoints, Shape}
+use Rattle.tt_fit.specs.Outline.{PhantomPoints, Outline}
 use Rattle.tt_fit.specs.Programs.{Hints, unhinted, hinted, is_run, run_of}
 use Rattle.tt_fit.specs.Scaling.{Size, scale, glyf_fault, coordinate_fault, phantom_points, scaled_outline}
 
@@ -38,7 +38,7 @@ IsPhantomDefect at p fault =
     × (fault ≡ coordinate_fault at)
 
 -- one of a glyph does, told at the glyph's first byte
-abbrev pub IsStartDefect : Setting → ℤ → ℕ → Fault → Type 0
+abbrev pub IsStartDefect : Fitter → ℤ → ℕ → Fault → Type 0
 IsStartDefect s x_min g fault =
     IsPhantomDefect (glyph_offset s.tables g) (phantom_points (size_of s) s.metrics x_min g) fault
 
@@ -70,20 +70,20 @@ IsCountDefect r component points fault =
     (point_limit < length points + length component) × (fault ≡ glyf_fault r.at why.PointLimit)
 
 -- a component cannot be placed behind what is assembled so far
-abbrev pub IsPlacingDefect : Size → Record → Shape → Shape → Fault → Type 0
+abbrev pub IsPlacingDefect : Size → Record → Outline → Outline → Fault → Type 0
 IsPlacingDefect z r component o fault =
     IsMatchDefect r component.points o.points fault
     ⊎ IsLandingDefect z r component.points o.points fault
     ⊎ IsCountDefect r component.points o.points fault
 
 -- what is assembled before record i
-abbrev pub assembled_before : (Record → Shape → Result Shape Fault) → Result Shape Fault → List Record → ℕ
-    → Result Shape Fault
+abbrev pub assembled_before : (Record → Outline → Result Outline Fault) → Result Outline Fault → List Record → ℕ
+    → Result Outline Fault
 assembled_before add begun records i = begun >>= joined add (take i records)
 
 -- one of the records is bad, by what is bad of a record behind what is assembled before it
-abbrev pub IsRecordsDefect : (Record → Shape → Result Shape Fault) → (Record → Result Shape Fault → Fault → Type 0)
-    → Result Shape Fault → List Record → Fault → Type 0
+abbrev pub IsRecordsDefect : (Record → Outline → Result Outline Fault) → (Record → Result Outline Fault → Fault → Type 0)
+    → Result Outline Fault → List Record → Fault → Type 0
 IsRecordsDefect add IsOne begun records fault =
     (i : ℕ) × (r : Record) × (slice_get records i ≡ Some r) × IsOne r (assembled_before add begun records i) fault
 
@@ -94,18 +94,18 @@ IsGridDefect at p fault =
     × (fault ≡ coordinate_fault at)
 
 -- a glyph's program is run, and a phantom point leaves the limit on the grid, or the program has a fault
-abbrev pub IsProgramDefect : Parts → GlyphProgram → Shape → Fault → Type 0
+abbrev pub IsProgramDefect : Parts → GlyphProgram → Outline → Fault → Type 0
 IsProgramDefect parts p o fault = (is_run parts p ≡ true) × (IsGridDefect p.glyph_at (on_grid o.phantom) fault
     ⊎ IsOkAnd (on_grid_at p.glyph_at o.phantom) (λ grid.
     run_of (program_in_glyf p) (parts_with parts o grid) ≡ Err fault))
 
-abbrev pub IsFinishingDefect : Hints → GlyphProgram → Shape → Fault → Type 0
+abbrev pub IsFinishingDefect : Hints → GlyphProgram → Outline → Fault → Type 0
 IsFinishingDefect unhinted p o fault = ⊥
 IsFinishingDefect (hinted parts) p o fault = IsProgramDefect parts p o fault
 
 -- a glyph that can be read has no outline: a phantom point, a point or a record is bad, or its program
-abbrev pub IsMakingDefect : Setting → (Record → Shape → Result Shape Fault)
-    → (Record → Result Shape Fault → Fault → Type 0) → ℕ → GlyphData → Fault → Type 0
+abbrev pub IsMakingDefect : Fitter → (Record → Outline → Result Outline Fault)
+    → (Record → Result Outline Fault → Fault → Type 0) → ℕ → Raw → Fault → Type 0
 IsMakingDefect s add IsOne g empty fault = IsStartDefect s (pos 0) g fault
 IsMakingDefect s add IsOne g (simple d) fault =
     IsStartDefect s d.x_min g fault ⊎ IsScaledDefect (size_of s) (glyph_offset s.tables g) d.points fault
@@ -117,14 +117,14 @@ IsMakingDefect s add IsOne g (composite d) fault =
     IsFinishingDefect s.hints (glyph_program s g d.code d.code_at) o fault)
 
 -- a glyph cannot be read, or has no outline
-abbrev pub IsDefectBy : Setting → (Record → Shape → Result Shape Fault)
-    → (Record → Result Shape Fault → Fault → Type 0) → ℕ → Fault → Type 0
+abbrev pub IsDefectBy : Fitter → (Record → Outline → Result Outline Fault)
+    → (Record → Result Outline Fault → Fault → Type 0) → ℕ → Fault → Type 0
 IsDefectBy s add IsOne g fault =
     IsGlyphDefect s.tables g fault ⊎ IsOkAnd (glyph_data_of s.tables g) (λ d. IsMakingDefect s add IsOne g d fault)
 
 -- a record is bad where so many levels of components are left: there is none for its component, or the component is
 -- bad, or it cannot be placed
-unfoldable pub IsBadComponent : Setting → ℕ → Record → Result Shape Fault → Fault → Type 0
+unfoldable pub IsBadComponent : Fitter → ℕ → Record → Result Outline Fault → Fault → Type 0
 IsBadComponent s zero r before fault = fault ≡ glyf_fault r.at why.ComponentDepth
 IsBadComponent s (suc levels) r before fault =
     IsDefectBy s (added s levels) (IsBadComponent s levels) r.glyph fault
@@ -132,9 +132,9 @@ IsBadComponent s (suc levels) r before fault =
     IsPlacingDefect (size_of s) r component o fault))
 
 -- a defect of a glyph, or of a component that is reached from it
-abbrev pub IsDefectAt : Setting → ℕ → ℕ → Fault → Type 0
+abbrev pub IsDefectAt : Fitter → ℕ → ℕ → Fault → Type 0
 IsDefectAt s levels g fault = IsDefectBy s (added s levels) (IsBadComponent s levels) g fault
 
 -- one of a character's glyph, as it is made: where programs are given up for it, a defect that stands without them
-unfoldable pub IsOutlineDefect : Setting → ℕ → Fault → Type 0
-IsOutlineDefect s g fault = IsDefectAt (glyph_setting s g) level_limit g fault
+unfoldable pub IsOutlineDefect : Fitter → ℕ → Fault → Type 0
+IsOutlineDefect s g fault = IsDefectAt (glyph_fitter s g) level_limit g fault

@@ -3,7 +3,7 @@
 use Rattle.std.specs.Prelude.{◌≡◌, Bool, true, false, ◌&&◌, nat_le, if◌then◌else◌, codes, Option, Some, None, Result, Ok, Err, refl}
 use Rattle.tt_core.specs.declared.fault.Why.TheVariants as why
 use Rattle.tt_core.specs.Faults.{Fault, fault_at, why_number}
-use Rattle.tt_fit.specs.Outline.{Shape}
+use Rattle.tt_fit.specs.Outline.{Outline}
 use Rattle.tt_fit.specs.Programs.{Hints, unhinted}
 
 -- a fault of a program; the numbers below are those of the font's tables
@@ -18,7 +18,7 @@ pub data Fallback : Type 0 where
   everywhere : Fault → Fallback
 
 -- the fault for which they are, by what the outline with them is
-abbrev pub unfitted_by : Fallback → Result Shape Fault → Option Fault
+abbrev pub unfitted_by : Fallback → Result Outline Fault → Option Fault
 unfitted_by never by_programs = None
 unfitted_by where_refused (Ok o) = None
 unfitted_by where_refused (Err fault) = if is_program_fault fault then Some fault else None

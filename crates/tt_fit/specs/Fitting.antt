@@ -13,30 +13,30 @@ use Rattle.tt_glyf.specs.declared.raw.RawPoint.{RawPoint}
 use Rattle.tt_glyf.specs.declared.raw.Record.{Record}
 use Rattle.tt_glyf.specs.Flags.{run_at, flags_from}
 use Rattle.tt_glyf.specs.GlyphData.{glyph_data_of, header_of, described}
-use Rattle.tt_glyf.specs.Loca.{GlyphTables, glyph_offset, glyph_bytes_of}
+use Rattle.tt_glyf.specs.Loca.{Glyf, glyph_offset, glyph_bytes_of}
 use Rattle.tt_glyf.specs.Simple.{end_at, ends_from, points_within, points_of, simple_of}
 use Rattle.tt_metrics.specs.declared.head.LocaFormat.TheVariants.{Short}
-use Rattle.tt_glyf.specs.Raw.{GlyphData, empty, simple, composite}
-use Rattle.tt_metrics.specs.Metrics.{Fields, units_per_em_of, loca_format_of, glyphs_of}
+use Rattle.tt_glyf.specs.Raw.{Raw, empty, simple, composite}
+use Rattle.tt_metrics.specs.Metrics.{Metrics, units_per_em_of, loca_format_of, glyphs_of}
 use Rattle.tt_fit.specs.Components.{placed, behind, shift_of, within_point_limit}
 use Rattle.tt_fit.specs.Fallback.{Fallback, never, unfitted_by, hints_kept}
-use Rattle.tt_fit.specs.Outline.{PhantomPoints, Shape}
+use Rattle.tt_fit.specs.Outline.{PhantomPoints, Outline}
 use Rattle.tt_fit.specs.GlyphZone.{GlyphProgram}
 use Rattle.tt_fit.specs.Programs.{Hints, unhinted, AreHints, finished}
 use Rattle.tt_fit.specs.Scaling.{Size, glyf_fault, phantom_points, blank, scaled_outline, settled}
 
 -- what outlines are made from: the glyph data and the metrics of a font, the pixels per em, what its programs leave,
 -- and for which glyphs that is given up
-pub record Setting : Type 0 where
-  pub tables : GlyphTables
-  pub metrics : Fields
+pub record Fitter : Type 0 where
+  pub tables : Glyf
+  pub metrics : Metrics
   pub ppem : ℕ
   pub hints : Hints
   pub fallback : Fallback
 
 -- the glyph data is that of the metrics, the size is one that is supported, and what the programs leave is what they
 -- can leave
-pub record IsSetting (s : Setting) : Type 0 where
+pub record IsFitter (s : Fitter) : Type 0 where
   pub format : s.tables.format ≡ loca_format_of s.metrics
   pub glyphs : s.tables.glyphs ≡ glyphs_of s.metrics
   pub low : 1 ≤ s.ppem
@@ -44,62 +44,62 @@ pub record IsSetting (s : Setting) : Type 0 where
   pub hints : AreHints s.hints
 
 -- the same, but for what the programs leave, which is given up for no glyph
-abbrev pub hinted_by : Setting → Hints → Setting
+abbrev pub hinted_by : Fitter → Hints → Fitter
 hinted_by s hints = record s { hints = hints; fallback = never }
 
-abbrev pub size_of : Setting → Size
+abbrev pub size_of : Fitter → Size
 size_of s = record { ppem = s.ppem; units_per_em = units_per_em_of s.metrics }
 
 -- a glyph without points, whose outline in font units begins at this x
-abbrev pub start : Setting → ℤ → ℕ → Result Shape Fault
+abbrev pub start : Fitter → ℤ → ℕ → Result Outline Fault
 start s x_min g = blank (glyph_offset s.tables g) (phantom_points (size_of s) s.metrics x_min g)
 
 -- each record in order, by what a record adds to the outline so far
-abbrev pub joined : (Record → Shape → Result Shape Fault) → List Record → Shape → Result Shape Fault
+abbrev pub joined : (Record → Outline → Result Outline Fault) → List Record → Outline → Result Outline Fault
 joined add [] o = Ok o
 joined add (r ∷ rs) o = add r o >>= joined add rs
 
-abbrev pub glyph_program : Setting → ℕ → List ℕ → ℕ → GlyphProgram
+abbrev pub glyph_program : Fitter → ℕ → List ℕ → ℕ → GlyphProgram
 glyph_program s g code code_at = record { code = code; code_at = code_at; glyph_at = glyph_offset s.tables g }
 
 -- the outline of a simple glyph, begun without points: its points scaled, and its program over them
-abbrev pub simple_outline : Setting → ℕ → List RawPoint → List ℕ → GlyphProgram → Shape → Result Shape Fault
+abbrev pub simple_outline : Fitter → ℕ → List RawPoint → List ℕ → GlyphProgram → Outline → Result Outline Fault
 simple_outline s g points ends program o = scaled_outline (size_of s) (glyph_offset s.tables g) points ends o >>=
     finished s.hints program
 
 -- the outline of a glyph, by what a record adds to the outline so far
-abbrev pub made : Setting → (Record → Shape → Result Shape Fault) → ℕ → GlyphData → Result Shape Fault
+abbrev pub made : Fitter → (Record → Outline → Result Outline Fault) → ℕ → Raw → Result Outline Fault
 made s add g empty = start s (pos 0) g
 made s add g (simple d) = start s d.x_min g >>= simple_outline s g d.points d.ends (glyph_program s g d.code d.code_at)
 made s add g (composite d) = start s d.x_min g >>= joined add d.records >>= finished s.hints
     (glyph_program s g d.code d.code_at)
 
-abbrev pub outline_by : Setting → (Record → Shape → Result Shape Fault) → ℕ → Result Shape Fault
+abbrev pub outline_by : Fitter → (Record → Outline → Result Outline Fault) → ℕ → Result Outline Fault
 outline_by s add g = glyph_data_of s.tables g >>= made s add g
 
 -- what a record adds where so many levels of components are left: its component's own outline, placed
-unfoldable pub added : Setting → ℕ → Record → Shape → Result Shape Fault
+unfoldable pub added : Fitter → ℕ → Record → Outline → Result Outline Fault
 added s zero r o = Err (glyf_fault r.at why.ComponentDepth)
 added s (suc levels) r o = outline_by s (added s levels) r.glyph >>= λ component. placed (size_of s) r component o
 
 -- the outline of a glyph, where so many levels of components are left
-abbrev pub outline_at : Setting → ℕ → ℕ → Result Shape Fault
+abbrev pub outline_at : Fitter → ℕ → ℕ → Result Outline Fault
 outline_at s levels g = outline_by s (added s levels) g
 
 -- the fault for which a character's glyph is made with its scaled points, its components too
-unfoldable pub unfitted_fault : Setting → ℕ → Option Fault
+unfoldable pub unfitted_fault : Fitter → ℕ → Option Fault
 unfitted_fault s g = unfitted_by s.fallback (outline_at (hinted_by s s.hints) level_limit g)
 
 -- what a character's glyph is made from
-abbrev pub glyph_setting : Setting → ℕ → Setting
-glyph_setting s g = hinted_by s (hints_kept (unfitted_fault s g) s.hints)
+abbrev pub glyph_fitter : Fitter → ℕ → Fitter
+glyph_fitter s g = hinted_by s (hints_kept (unfitted_fault s g) s.hints)
 
 -- the outline of a character's glyph, or the fault that comes first
-unfoldable pub fitted_outline : Setting → ℕ → Result Shape Fault
-fitted_outline s g = outline_at (glyph_setting s g) level_limit g
+unfoldable pub fitted_outline : Fitter → ℕ → Result Outline Fault
+fitted_outline s g = outline_at (glyph_fitter s g) level_limit g
 
 -- worked values: three glyphs at 16 pixels, 256 units in an em, each 256 wide; the bearing of glyph 1 alone is 64
-abbrev its_metrics : Fields
+abbrev its_metrics : Metrics
 its_metrics = record {
   head = record { units_per_em = 256; loca_format = Short };
   maxp = record { glyphs = 3; twilight = 0; storage = 0 };
@@ -108,7 +108,7 @@ its_metrics = record {
 }
 
 -- glyph 0 is empty, glyph 1 a square of four points, (64,0), (64,128), (192,128), (192,0), and glyph 2 is behind it
-abbrev its_setting : List ℕ → Setting
+abbrev its_setting : List ℕ → Fitter
 its_setting third = record {
   tables = record {
     loca = 0 ∷ 0 ∷ 0 ∷ 0 ∷ 0 ∷ 11 ∷ 0 ∷ 22 ∷ [];

@@ -2,12 +2,12 @@
 -- program works on, and the outline that they make.
 use Rattle.std.specs.Prelude.{◌≡◌, ℕ, Bool, ◌&&◌, true, false, if◌then◌else◌, ℤ, pos, negsuc, List, [], ◌∷◌, ◌++◌, length, map, take, drop, Result, Ok, Err, refl}
 use Rattle.tt_core.specs.Faults.{Fault}
-use Rattle.tt_exec.specs.MachineState.{Program}
+use Rattle.tt_exec.specs.MachineState.{Code}
 use Rattle.tt_exec.specs.Parts.{Parts}
 use Rattle.tt_glyf.specs.Bytes.{glyf_tag}
 use Rattle.tt_points_zones.specs.Zones.{ZoneLists}
 use Rattle.tt_state.specs.declared.point.Point.{Point}
-use Rattle.tt_fit.specs.Outline.{PhantomPoints, phantom_of, Shape}
+use Rattle.tt_fit.specs.Outline.{PhantomPoints, phantom_of, Outline}
 use Rattle.tt_fit.specs.Scaling.{to_grid, is_coordinate, coordinate_fault}
 
 -- a glyph's program, its offset in glyf, and the glyph's first byte there
@@ -16,7 +16,7 @@ pub record GlyphProgram : Type 0 where
   pub code_at : ℕ
   pub glyph_at : ℕ
 
-abbrev pub program_in_glyf : GlyphProgram → Program
+abbrev pub program_in_glyf : GlyphProgram → Code
 program_in_glyf p = record { table = glyf_tag; base = p.code_at; bytes = p.code }
 
 -- the ends of the advance go to the grid along x, the ascent and the descent along y
@@ -52,7 +52,7 @@ phantom_zone was now =
     ∷ untouched was.descent now.descent true ∷ []
 
 -- the points of the outline, and the phantom points behind them
-abbrev pub glyph_zone : Shape → PhantomPoints → List Point
+abbrev pub glyph_zone : Outline → PhantomPoints → List Point
 glyph_zone o grid = map outline_point o.points ++ phantom_zone o.phantom grid
 
 -- each contour from the end of the one before it, the first from this number
@@ -60,12 +60,12 @@ abbrev pub contours_from : ℕ → List ℕ → List (ℕ × ℕ)
 contours_from first [] = []
 contours_from first (end ∷ ends) = (first, end) ∷ contours_from end ends
 
-abbrev pub zones_of : List Point → Shape → PhantomPoints → ZoneLists
+abbrev pub zones_of : List Point → Outline → PhantomPoints → ZoneLists
 zones_of twilight o grid =
     record { twilight = twilight; glyph = glyph_zone o grid; contours = contours_from 0 o.ends }
 
 -- what a machine is made of when a glyph's program begins
-abbrev pub parts_with : Parts → Shape → PhantomPoints → Parts
+abbrev pub parts_with : Parts → Outline → PhantomPoints → Parts
 parts_with parts o grid = record parts { zones = zones_of parts.zones.twilight o grid }
 
 abbrev pub place_of : Point → ℤ × ℤ
@@ -75,7 +75,7 @@ abbrev pub seen : Point → ℤ × ℤ × Bool
 seen p = (p.x, p.y, p.on)
 
 -- the outline whose points stand in the glyph zone, the phantom points behind them
-abbrev pub left_outline : Shape → List Point → Shape
+abbrev pub left_outline : Outline → List Point → Outline
 left_outline o zone = record {
   points = map seen (take (length o.points) zone);
   ends = o.ends;
@@ -87,7 +87,7 @@ abbrev its_phantom : PhantomPoints
 its_phantom =
     record { left = (pos 0, pos 0); right = (pos 100, pos 0); ascent = (pos 0, pos 70); descent = (pos 0, negsuc 32) }
 
-abbrev its_shape : Shape
+abbrev its_shape : Outline
 its_shape =
     record { points = (pos 5, pos 6, true) ∷ (pos 7, pos 8, false) ∷ []; ends = 2 ∷ []; phantom = its_phantom }
 

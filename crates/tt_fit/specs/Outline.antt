@@ -1,7 +1,7 @@
 -- No part of the standard: what a fitted glyph is, in 26.6 pixels, and what holds of every one.
 use Rattle.std.specs.Prelude.{◌≡◌, ℕ, ◌-◌, ◌<◌, ◌≤◌, Bool, ℤ, pos, unsigned_abs, List, length, get_or, slice_index, All}
 use Rattle.tt_core.specs.Limits.{coordinate_limit, point_limit}
-use Rattle.tt_fit.specs.declared.outline.Outline.{Outline}
+use Rattle.tt_fit.specs.declared.outline.Outline as declared
 
 -- the left and right ends of the advance, the ascent and the descent, each as a position
 pub record PhantomPoints : Type 0 where
@@ -21,12 +21,12 @@ phantom_of ps = record {
 
 -- the points with their flag for on the curve, contour after contour; for each contour the number one past its last
 -- point; the phantom points
-pub record Shape : Type 0 where
+pub record Outline : Type 0 where
   pub points : List (ℤ × ℤ × Bool)
   pub ends : List ℕ
   pub phantom : PhantomPoints
 
-abbrev pub outline_of : Outline → Shape
+abbrev pub outline_of : declared.Outline → Outline
 outline_of o = record { points = o.points.items; ends = o.ends.items; phantom = phantom_of o.phantom }
 
 -- a coordinate is within the limit
@@ -53,7 +53,7 @@ pub record AreEnds (points : ℕ) (ends : List ℕ) : Type 0 where
   pub last : slice_index ends (length ends - 1) ≡ points
 
 -- at most so many points, each coordinate within the limit, and ends that fit the points
-pub record IsOutline (o : Shape) : Type 0 where
+pub record IsOutline (o : Outline) : Type 0 where
   pub few : length o.points ≤ point_limit
   pub coordinates : All IsPoint o.points
   pub phantom : ArePhantom o.phantom

@@ -6,10 +6,10 @@ use Rattle.std.specs.List.{range_with_len}
 use Rattle.tt_core.specs.Faults.{Fault}
 use Rattle.tt_core.specs.Numbers.{unsigned_at, signed16}
 use Rattle.tt_core.specs.Outcomes.{◌>>=◌}
-use Rattle.tt_exec.specs.MachineState.{Program}
+use Rattle.tt_exec.specs.MachineState.{Code}
 use Rattle.tt_exec.specs.Parts.{Parts}
-use Rattle.tt_glyf.specs.Loca.{GlyphTables}
-use Rattle.tt_metrics.specs.Metrics.{Fields, storage_of, twilight_of, units_per_em_of}
+use Rattle.tt_glyf.specs.Loca.{Glyf}
+use Rattle.tt_metrics.specs.Metrics.{Metrics, storage_of, twilight_of, units_per_em_of}
 use Rattle.tt_state.specs.declared.graphics_state.GraphicsState.{GraphicsState}
 use Rattle.tt_state.specs.declared.point.Point.{Point}
 use Rattle.tt_state.specs.GraphicsState.{default_state}
@@ -17,7 +17,7 @@ use Rattle.tt_fit.specs.declared.programs.Fit.{Fit}
 use Rattle.tt_fit.specs.declared.programs.Fit.TheVariants as fit
 use Rattle.tt_fit.specs.declared.programs.Programs as declared
 use Rattle.tt_fit.specs.Fallback.{Fallback, never, where_refused, everywhere}
-use Rattle.tt_fit.specs.Fitting.{Setting}
+use Rattle.tt_fit.specs.Fitting.{Fitter}
 use Rattle.tt_fit.specs.GlyphZone.{untouched}
 use Rattle.tt_fit.specs.Programs.{Hints, unhinted, hinted, run_of}
 use Rattle.tt_fit.specs.Scaling.{Size, scale}
@@ -43,23 +43,23 @@ abbrev pub origin : Point
 origin = untouched (pos 0, pos 0) (pos 0, pos 0) true
 
 -- what the font program and the control value program begin with; both have no glyph
-abbrev pub begun_parts : Fields → List ℕ → ℕ → Parts
+abbrev pub begun_parts : Metrics → List ℕ → ℕ → Parts
 begun_parts m cvt ppem = record {
-  units_per_em = units_per_em_of m;
+  em = units_per_em_of m;
   ppem = ppem;
-  control_values = control_values (record { ppem = ppem; units_per_em = units_per_em_of m }) cvt;
+  cvt = control_values (record { ppem = ppem; units_per_em = units_per_em_of m }) cvt;
   storage = replicate (storage_of m) (pos 0);
   zones = record { twilight = replicate (twilight_of m) origin; glyph = []; contours = [] };
   functions = [];
-  graphics = default_state;
+  state = default_state;
   skip_glyphs = false;
   default_state = false;
 }
 
-abbrev pub font_program : List ℕ → Program
+abbrev pub font_program : List ℕ → Code
 font_program fpgm = record { table = codes "fpgm"; base = 0; bytes = fpgm }
 
-abbrev pub control_value_program : List ℕ → Program
+abbrev pub control_value_program : List ℕ → Code
 control_value_program prep = record { table = codes "prep"; base = 0; bytes = prep }
 
 -- the vectors, the reference points, the zone pointers and the loop as they are by default
@@ -78,11 +78,11 @@ pointers_set_back g = record g {
 
 -- the graphics state in which the programs of glyphs begin; the control value program can ask for the defaults
 abbrev pub glyph_graphics : Parts → GraphicsState
-glyph_graphics parts = if parts.default_state then default_state else pointers_set_back parts.graphics
+glyph_graphics parts = if parts.default_state then default_state else pointers_set_back parts.state
 
 -- what the control value program leaves to the glyphs
 abbrev pub left_to_glyphs : Parts → Parts
-left_to_glyphs parts = record parts { graphics = glyph_graphics parts }
+left_to_glyphs parts = record parts { state = glyph_graphics parts }
 
 -- what the control value program begins with: of the font program only the functions are kept
 abbrev pub with_functions : Parts → Parts → Parts
@@ -112,12 +112,12 @@ prepared_by fit.None by_programs = Ok (never_given_up unhinted)
 prepared_by fit.Full by_programs = by_programs >>= λ hints. Ok (never_given_up hints)
 prepared_by fit.Fallback by_programs = Ok (or_kept by_programs)
 
-unfoldable pub prepared : Fields → ProgramTables → ℕ → Fit → Result GlyphHints Fault
+unfoldable pub prepared : Metrics → ProgramTables → ℕ → Fit → Result GlyphHints Fault
 prepared m programs ppem fit = prepared_by fit (hinted_by_programs (begun_parts m programs.cvt ppem) programs)
 
 -- what the outlines of a font at a size are made from
-unfoldable pub setting_of : Fields → GlyphTables → ProgramTables → ℕ → Fit → Result Setting Fault
-setting_of m tables programs ppem fit = do
+unfoldable pub fitter_of : Metrics → Glyf → ProgramTables → ℕ → Fit → Result Fitter Fault
+fitter_of m tables programs ppem fit = do
   p ← prepared m programs ppem fit
   Ok (record { tables = tables; metrics = m; ppem = ppem; hints = p.hints; fallback = p.fallback })
 

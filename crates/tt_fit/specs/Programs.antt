@@ -6,13 +6,13 @@ use Rattle.tt_core.specs.Faults.{Fault}
 use Rattle.tt_core.specs.Limits.{size_limit}
 use Rattle.tt_core.specs.Outcomes.{◌>>=◌}
 use Rattle.tt_exec.specs.Machines.{fresh, parts_in, run_from}
-use Rattle.tt_exec.specs.MachineState.{Program}
+use Rattle.tt_exec.specs.MachineState.{Code}
 use Rattle.tt_exec.specs.Parts.{Parts}
 use Rattle.tt_exec.specs.Runs.{run_outcome}
 use Rattle.tt_points_zones.specs.Zones.{IsZones}
 use Rattle.tt_state.specs.GraphicsState.{IsGraphicsState}
 use Rattle.tt_fit.specs.GlyphZone.{GlyphProgram, program_in_glyf, on_grid_at, parts_with, left_outline}
-use Rattle.tt_fit.specs.Outline.{Shape}
+use Rattle.tt_fit.specs.Outline.{Outline}
 
 -- what the programs of the font and of its control values leave to the glyphs
 pub data Hints : Type 0 where
@@ -22,9 +22,9 @@ pub data Hints : Type 0 where
 -- what a machine can be made of
 pub record AreParts (parts : Parts) : Type 0 where
   pub size : parts.ppem ≤ size_limit
-  pub units : 0 < parts.units_per_em
+  pub units : 0 < parts.em
   pub zones : IsZones parts.zones
-  pub graphics : IsGraphicsState parts.graphics
+  pub graphics : IsGraphicsState parts.state
 
 -- what holds of all that they can leave
 abbrev pub AreHints : Hints → Type 0
@@ -32,7 +32,7 @@ AreHints unhinted = ⊤
 AreHints (hinted parts) = AreParts parts
 
 -- what a program leaves of a machine's parts, or its fault
-unfoldable pub run_of : Program → Parts → Result Parts Fault
+unfoldable pub run_of : Code → Parts → Result Parts Fault
 run_of program parts = run_outcome (run_from program (fresh parts)) >>= λ left. Ok (parts_in left)
 
 -- a program of at least one byte is run, unless the control value program switched the programs of glyphs off
@@ -40,11 +40,11 @@ abbrev pub is_run : Parts → GlyphProgram → Bool
 is_run parts p = not (parts.skip_glyphs) && not (length p.code == 0)
 
 -- the phantom points go to the grid, and the program runs; what it leaves of the points is the outline
-unfoldable pub by_program : Parts → GlyphProgram → Shape → Result Shape Fault
+unfoldable pub by_program : Parts → GlyphProgram → Outline → Result Outline Fault
 by_program parts p o = on_grid_at p.glyph_at o.phantom >>= λ grid.
     run_of (program_in_glyf p) (parts_with parts o grid) >>= λ left. Ok (left_outline o left.zones.glyph)
 
 -- the outline that a glyph's program leaves: of scaled points, or of the joined components
-abbrev pub finished : Hints → GlyphProgram → Shape → Result Shape Fault
+abbrev pub finished : Hints → GlyphProgram → Outline → Result Outline Fault
 finished unhinted p o = Ok o
 finished (hinted parts) p o = if is_run parts p then by_program parts p o else Ok o

@@ -13,17 +13,17 @@ use Rattle.tt_glyf.specs.GlyphData.{glyph_data_of, header_of, described}
 use Rattle.tt_glyf.specs.Loca.{glyph_bytes_of}
 use Rattle.tt_glyf.specs.Simple.{end_at, ends_from, points_within, points_of, simple_of}
 use Rattle.tt_metrics.specs.declared.head.LocaFormat.TheVariants.{Short}
-use Rattle.tt_metrics.specs.Metrics.{Fields}
+use Rattle.tt_metrics.specs.Metrics.{Metrics}
 use Rattle.tt_fit.specs.declared.programs.Fit.TheVariants as fit
 use Rattle.tt_fit.specs.Components.{placed, behind, shift_of, within_point_limit}
 use Rattle.tt_fit.specs.Fallback.{Fallback, never, where_refused, everywhere, is_program_fault}
-use Rattle.tt_fit.specs.Fitting.{Setting, added, fitted_outline, unfitted_fault}
+use Rattle.tt_fit.specs.Fitting.{Fitter, added, fitted_outline, unfitted_fault}
 use Rattle.tt_fit.specs.GlyphZone.{on_grid_at}
 use Rattle.tt_fit.specs.Preparation.{ProgramTables, begun_parts, hinted_by_programs, prepared}
 use Rattle.tt_fit.specs.Programs.{unhinted, hinted, run_of, by_program}
 use Rattle.tt_fit.specs.Scaling.{blank, scaled_outline, settled}
 
-abbrev its_metrics : Fields
+abbrev its_metrics : Metrics
 its_metrics = record {
   head = record { units_per_em = 256; loca_format = Short };
   maxp = record { glyphs = 4; twilight = 0; storage = 0 };
@@ -31,7 +31,7 @@ its_metrics = record {
   hmtx = 1 ∷ 0 ∷ 0 ∷ 64 ∷ 0 ∷ 64 ∷ 0 ∷ 64 ∷ 0 ∷ 64 ∷ [];
 }
 
-abbrev its_setting : Fallback → Setting
+abbrev its_setting : Fallback → Fitter
 its_setting fallback = record {
   tables = record {
     loca = 0 ∷ 0 ∷ 0 ∷ 0 ∷ 0 ∷ 12 ∷ 0 ∷ 21 ∷ 0 ∷ 22 ∷ [];

@@ -10,10 +10,10 @@ use Rattle.tt_core.specs.Numbers.{scaled}
 use Rattle.tt_core.specs.Outcomes.{◌>>=◌, each}
 use Rattle.tt_glyf.specs.Bytes.{glyf_tag}
 use Rattle.tt_glyf.specs.declared.raw.RawPoint.{RawPoint}
-use Rattle.tt_metrics.specs.Metrics.{Fields, ascent_of, descent_of, advance_of, left_side_bearing_of}
+use Rattle.tt_metrics.specs.Metrics.{Metrics, ascent_of, descent_of, advance_of, left_side_bearing_of}
 use Rattle.tt_state.specs.declared.rounding.Round.TheVariants as round
 use Rattle.tt_state.specs.Rounding.{rounded}
-use Rattle.tt_fit.specs.Outline.{PhantomPoints, Shape}
+use Rattle.tt_fit.specs.Outline.{PhantomPoints, Outline}
 
 -- pixels per em, and font units in an em
 pub record Size : Type 0 where
@@ -53,7 +53,7 @@ scaled_point z at p = settled at (scaled_position z p)
 
 -- the left and right ends of the advance, the ascent and the descent; each number is scaled as one (profile for the
 -- last two)
-abbrev pub phantom_points : Size → Fields → ℤ → ℕ → PhantomPoints
+abbrev pub phantom_points : Size → Metrics → ℤ → ℕ → PhantomPoints
 phantom_points z m x_min g = record {
   left = (scale z (x_min -ℤ left_side_bearing_of m g), pos 0);
   right = (scale z (x_min -ℤ left_side_bearing_of m g +ℤ pos (advance_of m g)), pos 0);
@@ -68,12 +68,12 @@ abbrev pub are_positions : PhantomPoints → Bool
 are_positions p = is_position p.left && is_position p.right && is_position p.ascent && is_position p.descent
 
 -- an outline without points, of a glyph that begins at this offset in glyf, with these phantom points
-unfoldable pub blank : ℕ → PhantomPoints → Result Shape Fault
+unfoldable pub blank : ℕ → PhantomPoints → Result Outline Fault
 blank at phantom = if are_positions phantom then Ok (record { points = []; ends = []; phantom = phantom }) else Err
     (coordinate_fault at)
 
 -- an outline with these points; each contour's last point is given
-unfoldable pub scaled_outline : Size → ℕ → List RawPoint → List ℕ → Shape → Result Shape Fault
+unfoldable pub scaled_outline : Size → ℕ → List RawPoint → List ℕ → Outline → Result Outline Fault
 scaled_outline z at points ends o = each (scaled_point z at) points >>= λ ps. Ok
     (record o { points = ps; ends = map (λ e. e + 1) ends })
 

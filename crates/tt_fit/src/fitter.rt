@@ -10,9 +10,9 @@ ghost use Rattle.tt_metrics.specs.Metrics.{loca_format_of, glyphs_of};
 ghost use Rattle.tt_fit.specs.Components.{placed};
 ghost use Rattle.tt_fit.specs.Defects.{IsOutlineDefect};
 ghost use Rattle.tt_fit.specs.Fallback.{never, where_refused};
-ghost use Rattle.tt_fit.specs.Fitting.{IsSetting, hinted_by, size_of, start, glyph_program, simple_outline, joined, added, outline_at, unfitted_fault, fitted_outline};
+ghost use Rattle.tt_fit.specs.Fitting.{IsFitter, hinted_by, size_of, start, glyph_program, simple_outline, joined, added, outline_at, unfitted_fault, fitted_outline};
 ghost use Rattle.tt_fit.specs.Outline.{outline_of, phantom_of, IsPoint, ArePhantom, AreEnds, IsOutline};
-ghost use Rattle.tt_fit.specs.Preparation.{program_tables, setting_of};
+ghost use Rattle.tt_fit.specs.Preparation.{program_tables, fitter_of};
 ghost use Rattle.tt_fit.specs.Programs.{AreHints};
 ghost use Rattle.tt_fit.specs.Views.{hints_of, size_view, program_view};
 
@@ -44,21 +44,22 @@ pub struct Fitter<'a> {
 }
 
 impl<'a> Model for Fitter<'a> {
-    ghost use Rattle.tt_fit.specs.Fitting.{Setting, IsSetting};
+    ghost use Rattle.tt_fit.specs.Fitting.{IsFitter};
+    ghost use Rattle.tt_fit.specs.Fitting as fitting;
     ghost use Rattle.tt_fit.specs.Views.{hints_of, fallback_of};
 
-    ghost Value = { Setting };
+    ghost Value = { fitting.Fitter };
 
     ghost view = { λ f. record { tables = f.glyf; metrics = f.metrics; ppem = f.ppem; hints = hints_of f.hints; fallback = fallback_of f.fallback } };
 
-    ghost invariant = { λ f. IsSetting (record { tables = f.glyf; metrics = f.metrics; ppem = f.ppem; hints = hints_of f.hints; fallback = fallback_of f.fallback }) };
+    ghost invariant = { λ f. IsFitter (record { tables = f.glyf; metrics = f.metrics; ppem = f.ppem; hints = hints_of f.hints; fallback = fallback_of f.fallback }) };
 }
 
 impl<'a> Fitter<'a> {
     /// Takes the metrics and the glyph data of a font, and its programs. With `Fit::Full` the font program and the
     /// control value program are run at this size, in pixels per em; with `Fit::None` they are not looked at. Errors:
     /// those of the two programs, Memory. With `Fit::Fallback` a fault of the two is kept, and no glyph is fitted.
-    #[tactic(auto, unfolding(crate::specs::Preparation::setting_of))]
+    #[tactic(auto, unfolding(crate::specs::Preparation::fitter_of))]
     pub fn new(
         alloc: Global,
         metrics: &Metrics<'a>,
@@ -73,8 +74,8 @@ impl<'a> Fitter<'a> {
         requires glyphs { glyf.glyphs ≡ glyphs_of metrics.now }
         requires fpgm { length programs.fpgm.now ≤ font_limit }
         requires prep { length programs.prep.now ≤ font_limit }
-        ensures exact { FontGives (λ f. f) result (setting_of metrics.now glyf.entry (program_tables programs.entry) ppem fit) }
-        ensures setting { IfOk result IsSetting }
+        ensures exact { FontGives (λ f. f) result (fitter_of metrics.now glyf.entry (program_tables programs.entry) ppem fit) }
+        ensures setting { IfOk result IsFitter }
         ensures tables { IfOk result (λ f. f.tables ≡ glyf.entry) }
         ensures metrics { IfOk result (λ f. f.metrics ≡ metrics.now) }
         ensures ppem { IfOk result (λ f. f.ppem ≡ ppem) }

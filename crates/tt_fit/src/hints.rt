@@ -6,7 +6,7 @@ ghost use Rattle.tt_core.specs.Outcomes.{FontGives};
 ghost use Rattle.tt_exec.specs.declared.fault.ExecFault.TheVariants as exec;
 ghost use Rattle.tt_exec.specs.Machines.{exec_fault};
 ghost use Rattle.tt_exec.specs.Parts.{parts_of};
-ghost use Rattle.tt_exec.specs.Views.{program_of};
+ghost use Rattle.tt_exec.specs.Views.{code_of};
 ghost use Rattle.tt_points_zones.specs.Zones.{SameShape};
 ghost use Rattle.tt_fit.specs.GlyphZone.{parts_with, program_in_glyf, zones_of};
 ghost use Rattle.tt_fit.specs.Outline.{outline_of, phantom_of, ArePhantom, IsOutline};
@@ -49,7 +49,7 @@ pub(crate) fn run<'a>(
     code: Code<'a>,
 ) -> Result<Parts<'a>, FontFault>
     requires { AreParts (parts_of parts) }
-    ensures exact { FontGives parts_of result (run_of (program_of code.entry) (parts_of parts.entry)) }
+    ensures exact { FontGives parts_of result (run_of (code_of code.entry) (parts_of parts.entry)) }
     ensures sound { IfOk result (λ p. AreParts (parts_of p)) }
     ensures shape { IfOk result (λ p. SameShape (parts_of parts.entry).zones (parts_of p).zones) }
 {
@@ -120,8 +120,8 @@ fn with_glyph<'a>(
     })
 }
 
-fn code_of<'a>(program: Program<'a>) -> Code<'a>
-    ensures { program_of result ≡ program_in_glyf (program_view program.entry) }
+fn code_in_glyf<'a>(program: Program<'a>) -> Code<'a>
+    ensures { code_of result ≡ program_in_glyf (program_view program.entry) }
 {
     Code {
         table: *b"glyf",
@@ -145,7 +145,7 @@ fn by_program<'a>(
 {
     let grid = on_grid(program.glyph_at, &outline.phantom)?;
     let begun = with_glyph(alloc, parts, &outline, &grid)?;
-    let left = run(alloc, begun, code_of(program))?;
+    let left = run(alloc, begun, code_in_glyf(program))?;
     Ok(left_outline(alloc, outline, &left.zones.glyph)?)
 }
 

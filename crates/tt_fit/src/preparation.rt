@@ -6,7 +6,7 @@ ghost use Rattle.tt_core.specs.Faults.{is_ascii};
 ghost use Rattle.tt_core.specs.Limits.{font_limit};
 ghost use Rattle.tt_core.specs.Outcomes.{FontGives};
 ghost use Rattle.tt_exec.specs.Parts.{parts_of};
-ghost use Rattle.tt_exec.specs.Views.{program_of};
+ghost use Rattle.tt_exec.specs.Views.{code_of};
 ghost use Rattle.tt_fit.specs.Preparation.{program_tables, control_value, control_values, origin, begun_parts, left_to_glyphs, pointers_set_back, hinted_by_programs, never_given_up, prepared_by, prepared};
 ghost use Rattle.tt_fit.specs.Programs.{AreHints, AreParts};
 ghost use Rattle.tt_fit.specs.Scaling.{scale};
@@ -133,7 +133,7 @@ fn left_to_glyphs<'a>(left: Parts<'a>) -> Parts<'a>
 fn whole_table<'a>(table: [u8; 4], bytes: &'a [u8]) -> Code<'a>
     requires ascii { IsTrue (is_ascii table) }
     requires fits { length bytes.now ≤ font_limit }
-    ensures { program_of result ≡ record { table = table; base = 0; bytes = bytes.now } }
+    ensures { code_of result ≡ record { table = table; base = 0; bytes = bytes.now } }
 {
     Code {
         table,

@@ -6,7 +6,7 @@ ghost use Rattle.tt_core.specs.Limits.{point_limit};
 ghost use Rattle.tt_core.specs.Outcomes.{each, FontGives, Gives};
 ghost use Rattle.tt_metrics.specs.Metrics.{glyphs_of, advance_of, left_side_bearing_of};
 ghost use Rattle.tt_glyf.specs.Meaning.{AreEnds as EndContours};
-ghost use Rattle.tt_fit.specs.Outline.{Shape, outline_of, IsCoordinate, IsPoint, AreEnds, IsOutline};
+ghost use Rattle.tt_fit.specs.Outline.{Outline, outline_of, IsCoordinate, IsPoint, AreEnds, IsOutline};
 ghost use Rattle.tt_fit.specs.Scaling.{is_coordinate, glyf_fault, coordinate_fault, settled, scaled_position, scaled_point, phantom_points, blank, scaled_outline};
 ghost use Rattle.tt_fit.specs.Views.{size_view, landing_view, phantom_view};
 

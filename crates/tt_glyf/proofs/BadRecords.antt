@@ -9,7 +9,7 @@ use Rattle.tt_core.specs.Limits.{component_limit}
 use Rattle.tt_core.specs.Numbers.{unsigned_at}
 use Rattle.tt_core.specs.Outcomes.{◌>>=◌}
 use Rattle.tt_glyf.specs.declared.raw.Record.{Record}
-use Rattle.tt_glyf.specs.Bytes.{Stretch, Listing, byte_in, word_in, signed_in, slice_in, glyph_fault}
+use Rattle.tt_glyf.specs.Bytes.{GlyphBytes, Listing, byte_in, word_in, signed_in, slice_in, glyph_fault}
 use Rattle.tt_glyf.specs.Composite.{Arguments, Transform, Program, signed8, argument_size, argument_at, arguments_at, transform_size, one_scale, identity, two_scales_at, two_by_two_at, transform_at, record_size, asks_scaled_offset, unscaled, known_glyph, record_at, records_from, records_of, more_components, arg_1_and_2_are_words, args_are_xy_values, we_have_a_scale, we_have_an_x_and_y_scale, we_have_a_two_by_two, has_program, program_of, composite_of}
 use Rattle.tt_glyf.specs.Defects.{IsCut, IsBadRecord, IsRecordsDefect, IsProgramDefect, IsCompositeDefect}
 use Rattle.tt_glyf.specs.Flags.{has}
@@ -19,7 +19,7 @@ use Rattle.tt_glyf.proofs.Chains.{after-err}
 use Rattle.tt_glyf.proofs.Fields.{IsShort, short-further, byte-short, word-was, word-short, signed-short, slice-short}
 use Rattle.tt_glyf.proofs.Parts.{AreUpTo, flags-are, arguments-were, written_arguments, transform-was, glyph-known, record-was, records-were}
 
-argument-broke-cases : (g : Stretch) (at : ℕ) (words offsets : Bool) (f : Fault)
+argument-broke-cases : (g : GlyphBytes) (at : ℕ) (words offsets : Bool) (f : Fault)
     → (if words then (if offsets then signed_in g at else (word_in g at >>= λ n. Ok (pos n)))
     else (byte_in g at >>= λ n. Ok (if offsets then signed8 n else pos n))) ≡ Err f
     → IsShort g (at + (if words then 2 else 1)) f
@@ -33,13 +33,13 @@ argument-broke-cases g at false offsets f was = elim (was-err (byte_in g at) _ f
   | inr later ↦ let rest = later.rest in absurd cc
 ]
 
-argument-broke : (g : Stretch) (flags at : ℕ) (f : Fault) → argument_at g flags at ≡ Err f
+argument-broke : (g : GlyphBytes) (flags at : ℕ) (f : Fault) → argument_at g flags at ≡ Err f
     → IsShort g (at + argument_size flags) f
 unfolding argument_at
 argument-broke g flags at f was =
     argument-broke-cases g at (has flags arg_1_and_2_are_words) (has flags args_are_xy_values) f was
 
-arguments-broke : (g : Stretch) (flags at : ℕ) (f : Fault) → arguments_at g flags at ≡ Err f
+arguments-broke : (g : GlyphBytes) (flags at : ℕ) (f : Fault) → arguments_at g flags at ≡ Err f
     → IsShort g (at + 2 * argument_size flags) f
 unfolding arguments_at
 arguments-broke g flags at f was = elim (was-err (argument_at g flags at) _ f was) [
@@ -52,7 +52,7 @@ arguments-broke g flags at f was = elim (was-err (argument_at g flags at) _ f wa
   ]
 ]
 
-two_scales-broke : (g : Stretch) (at : ℕ) (f : Fault) → two_scales_at g at ≡ Err f → IsShort g (at + 4) f
+two_scales-broke : (g : GlyphBytes) (at : ℕ) (f : Fault) → two_scales_at g at ≡ Err f → IsShort g (at + 4) f
 unfolding two_scales_at
 two_scales-broke g at f was = elim (was-err (signed_in g at) _ f was) [
   | inl here ↦ short-further g (at + 2) (at + 4) f (omega arith) (signed-short g at f here)
@@ -62,7 +62,7 @@ two_scales-broke g at f was = elim (was-err (signed_in g at) _ f was) [
   ]
 ]
 
-two_by_two-broke : (g : Stretch) (at : ℕ) (f : Fault) → two_by_two_at g at ≡ Err f → IsShort g (at + 8) f
+two_by_two-broke : (g : GlyphBytes) (at : ℕ) (f : Fault) → two_by_two_at g at ≡ Err f → IsShort g (at + 8) f
 unfolding two_by_two_at
 two_by_two-broke g at f was = elim (was-err (signed_in g at) _ f was) [
   | inl here ↦ short-further g (at + 2) (at + 8) f (omega arith) (signed-short g at f here)
@@ -78,7 +78,7 @@ two_by_two-broke g at f was = elim (was-err (signed_in g at) _ f was) [
   ]
 ]
 
-transform-broke-cases : (g : Stretch) (at : ℕ) (a b c : Bool) (f : Fault)
+transform-broke-cases : (g : GlyphBytes) (at : ℕ) (a b c : Bool) (f : Fault)
     → (if a then (signed_in g at >>= λ s. Ok (one_scale s))
     else (if b then two_scales_at g at else (if c then two_by_two_at g at else Ok identity))) ≡ Err f
     → IsShort g (at + (if a then 2 else (if b then 4 else (if c then 8 else 0)))) f
@@ -90,14 +90,14 @@ transform-broke-cases g at false true c f was = two_scales-broke g at f was
 transform-broke-cases g at false false true f was = two_by_two-broke g at f was
 transform-broke-cases g at false false false f was = absurd cc
 
-transform-broke : (g : Stretch) (flags at : ℕ) (f : Fault) → transform_at g flags at ≡ Err f
+transform-broke : (g : GlyphBytes) (flags at : ℕ) (f : Fault) → transform_at g flags at ≡ Err f
     → IsShort g (at + transform_size flags) f
 unfolding transform_at
 transform-broke g flags at f was =
     transform-broke-cases g at (has flags we_have_a_scale) (has flags we_have_an_x_and_y_scale)
     (has flags we_have_a_two_by_two) f was
 
-unknown-broke : (glyphs : ℕ) (g : Stretch) (at number : ℕ) (f : Fault) → known_glyph glyphs g at number ≡ Err f
+unknown-broke : (glyphs : ℕ) (g : GlyphBytes) (at number : ℕ) (f : Fault) → known_glyph glyphs g at number ≡ Err f
     → (glyphs ≤ number) × (f ≡ glyph_fault g at why.ComponentGlyph)
 unfolding known_glyph
 unknown-broke glyphs g at number f was =
@@ -105,25 +105,25 @@ unknown-broke glyphs g at number f was =
     let test = p.0 in
     (grind (arith, nat_tests), p.1)
 
-scaled-broke : (g : Stretch) (at : ℕ) (r : Record) (f : Fault) → unscaled g at r ≡ Err f
+scaled-broke : (g : GlyphBytes) (at : ℕ) (r : Record) (f : Fault) → unscaled g at r ≡ Err f
     → (asks_scaled_offset r ≡ true) × (f ≡ glyph_fault g at why.ScaledOffset)
 unfolding unscaled
 scaled-broke g at r f was = failed (asks_scaled_offset r) _ r f was
 
 -- the same of the record with these flags
-abbrev record_by : Stretch → ℕ → ℕ → Record
+abbrev record_by : GlyphBytes → ℕ → ℕ → Record
 record_by g at flags =
     record_of (g.start + at) flags (written_component g.bytes at) (written_argument g.bytes flags (at + 4))
     (written_argument g.bytes flags (at + 4 + argument_size flags))
     (written_transform g.bytes flags (at + 4 + 2 * argument_size flags))
 
-abbrev IsBadBy : ℕ → Stretch → ℕ → ℕ → Fault → Type 0
+abbrev IsBadBy : ℕ → GlyphBytes → ℕ → ℕ → Fault → Type 0
 IsBadBy glyphs g at flags f =
     IsCut g (at + record_size flags) f
     ⊎ ((glyphs ≤ written_component g.bytes at) × (f ≡ glyph_fault g at why.ComponentGlyph))
     ⊎ ((asks_scaled_offset (record_by g at flags) ≡ true) × (f ≡ glyph_fault g at why.ScaledOffset))
 
-scaled-by : (g : Stretch) (at flags number glyph : ℕ) (args : Arguments) (t : Transform) (f : Fault) → glyph ≡ number
+scaled-by : (g : GlyphBytes) (at flags number glyph : ℕ) (args : Arguments) (t : Transform) (f : Fault) → glyph ≡ number
     → number ≡ written_component g.bytes at → args ≡ written_arguments g.bytes flags (at + 4)
     → t ≡ written_transform g.bytes flags (at + 4 + 2 * argument_size flags)
     → unscaled g at (record_of (g.start + at) flags glyph args.arg1 args.arg2 t) ≡ Err f
@@ -134,7 +134,7 @@ scaled-by g at flags number glyph args t f e1 e2 e3 e4 was =
     let p = scaled-broke g at (record_of (g.start + at) flags glyph args.arg1 args.arg2 t) f was in
     (sym (ap asks_scaled_offset is) ∙ p.0, p.1)
 
-record-broke : (glyphs : ℕ) (g : Stretch) (at : ℕ) (f : Fault) → record_at glyphs g at ≡ Err f
+record-broke : (glyphs : ℕ) (g : GlyphBytes) (at : ℕ) (f : Fault) → record_at glyphs g at ≡ Err f
     → IsBadRecord glyphs g at f
 unfolding record_at
 record-broke glyphs g at f was = elim (was-err (word_in g at) _ f was) [
@@ -172,7 +172,7 @@ record-broke glyphs g at f was = elim (was-err (word_in g at) _ f was) [
 ]
 
 -- the records
-records-further : (glyphs : ℕ) (g : Stretch) (at allowed : ℕ) (f : Fault)
+records-further : (glyphs : ℕ) (g : GlyphBytes) (at allowed : ℕ) (f : Fault)
     → has (written_component_flags g.bytes at) more_components ≡ true
     → IsRecordsDefect glyphs g (record_end g.bytes at) allowed f → IsRecordsDefect glyphs g at (suc allowed) f
 records-further glyphs g at allowed f more bad = elim bad [
@@ -180,7 +180,7 @@ records-further glyphs g at allowed f more bad = elim bad [
   | inr over ↦ inr ((more, over.0), over.1)
 ]
 
-records-broke-cases : (glyphs : ℕ) (g : Stretch) (at allowed : ℕ) (r : Record) (m : Bool) (f : Fault)
+records-broke-cases : (glyphs : ℕ) (g : GlyphBytes) (at allowed : ℕ) (r : Record) (m : Bool) (f : Fault)
     → r.flags ≡ written_component_flags g.bytes at → has r.flags more_components ≡ m
     → ◌≡◌ {A = Result (Listing Record) Fault} (if m then records_from glyphs g (at + record_size r.flags) allowed
     else Ok (record { items = []; next = at + record_size r.flags })) (Err f)
@@ -190,7 +190,7 @@ records-broke-cases glyphs g at allowed r true f flags is came others =
     records-further glyphs g at allowed f (rw flags at is) (others (rw flags at came))
 records-broke-cases glyphs g at allowed r false f flags is came others = absurd cc
 
-pub records-broke : (glyphs : ℕ) (g : Stretch) (at allowed : ℕ) (f : Fault) → records_from glyphs g at allowed ≡ Err f
+pub records-broke : (glyphs : ℕ) (g : GlyphBytes) (at allowed : ℕ) (f : Fault) → records_from glyphs g at allowed ≡ Err f
     → IsRecordsDefect glyphs g at allowed f
 unfolding records_from
 records-broke glyphs g at zero f was = inr (tt, cc)
@@ -205,11 +205,11 @@ records-broke glyphs g at (suc allowed) f was = elim (was-err (record_at glyphs 
 ]
 
 -- the program
-record ProgramBroke (g : Stretch) (next : ℕ) (follows : Bool) (f : Fault) : Type 0 where
+record ProgramBroke (g : GlyphBytes) (next : ℕ) (follows : Bool) (f : Fault) : Type 0 where
   pub says : follows ≡ true
   pub short : IsShort g (next + 2 + unsigned_at g.bytes next 2) f
 
-program-broke-cases : (g : Stretch) (next : ℕ) (follows : Bool) (f : Fault)
+program-broke-cases : (g : GlyphBytes) (next : ℕ) (follows : Bool) (f : Fault)
     → ◌≡◌ {A = Result Program Fault} (if follows then (word_in g next >>= λ size. slice_in g (next + 2) size
     >>= λ code. Ok (record { code = code; code_at = g.start + (next + 2) }))
     else Ok (record { code = []; code_at = g.start + next })) (Err f) → ProgramBroke g next follows f
@@ -228,12 +228,12 @@ program-broke-cases g next true f was = elim (was-err (word_in g next) _ f was) 
 ]
 program-broke-cases g next false f was = absurd cc
 
-program-broke : (g : Stretch) (records : Listing Record) (f : Fault) → program_of g records ≡ Err f
+program-broke : (g : GlyphBytes) (records : Listing Record) (f : Fault) → program_of g records ≡ Err f
     → ProgramBroke g records.next (has_program records.items) f
 unfolding program_of
 program-broke g records f was = program-broke-cases g records.next (has_program records.items) f was
 
-program-behind : (g : Stretch) (records : Listing Record) (f : Fault) → AreUpTo g 10 records
+program-behind : (g : GlyphBytes) (records : Listing Record) (f : Fault) → AreUpTo g 10 records
     → ProgramBroke g records.next (has_program records.items) f → IsProgramDefect g 10 f
 program-behind g records f up_to broke =
     let next = up_to.next in
@@ -241,7 +241,7 @@ program-behind g records f up_to broke =
     let short = rw (← next) at broke.short in
     (up_to.n, up_to.goes_on, up_to.stops, ap has_program items ∙ broke.says, (short.ends, short.is))
 
-pub composite-broke : (glyphs : ℕ) (g : Stretch) (x_min : ℤ) (f : Fault) → composite_of glyphs g x_min ≡ Err f
+pub composite-broke : (glyphs : ℕ) (g : GlyphBytes) (x_min : ℤ) (f : Fault) → composite_of glyphs g x_min ≡ Err f
     → IsCompositeDefect glyphs g f
 unfolding composite_of
 composite-broke glyphs g x_min f was = elim (was-err (records_of glyphs g) _ f was) [

@@ -9,7 +9,7 @@ use Rattle.tt_core.specs.declared.fault.Why.TheVariants as why
 use Rattle.tt_core.specs.Limits.{point_limit}
 use Rattle.tt_core.specs.Numbers.{unsigned_at, signed16}
 use Rattle.tt_core.specs.Outcomes.{◌>>=◌}
-use Rattle.tt_glyf.specs.Bytes.{Stretch, Listing, byte_in, word_in, signed_in, slice_in, glyph_fault, short, after}
+use Rattle.tt_glyf.specs.Bytes.{GlyphBytes, Listing, byte_in, word_in, signed_in, slice_in, glyph_fault, short, after}
 use Rattle.tt_glyf.specs.Coordinates.{Axis, Coordinate, Delta, x_axis, y_axis, origin, short_delta, delta_at, summed, is_coordinate, within_words, coordinate_at, coordinates_from}
 use Rattle.tt_glyf.specs.Defects.{IsCut, IsFallingEnd, IsManyPoints, written_points, IsBadRun, IsFlagDefect, IsCoordinateDefect, IsSimpleDefect}
 use Rattle.tt_glyf.specs.Flags.{Run, has, repeat_flag, run_within, run_at, flags_from}
@@ -22,23 +22,23 @@ use Rattle.tt_glyf.proofs.Fields.{IsShort, byte-was, byte-short, word-was, word-
 use Rattle.tt_glyf.proofs.Outlines.{EndsRead, end-was, ends-were, count-was}
 use Rattle.tt_glyf.proofs.Places.{slice-was}
 
-pub cut : (g : Stretch) (end later : ℕ) (f : Fault) → end ≤ later → IsShort g end f → IsCut g later f
+pub cut : (g : GlyphBytes) (end later : ℕ) (f : Fault) → end ≤ later → IsShort g end f → IsCut g later f
 cut g end later f le s =
     let ends = s.ends in
     (omega arith, s.is)
 
-further : (g : Stretch) (end later : ℕ) (f : Fault) → end ≤ later → IsCut g end f → IsCut g later f
+further : (g : GlyphBytes) (end later : ℕ) (f : Fault) → end ≤ later → IsCut g end f → IsCut g later f
 further g end later f le s =
     let ends = s.0 in
     (omega arith, s.1)
 
 -- the ends of the contours
-IsEndDefect : Stretch → ℕ → ℕ → Fault → Type 0
+IsEndDefect : GlyphBytes → ℕ → ℕ → Fault → Type 0
 IsEndDefect g at before f =
     IsCut g (at + 2) f ⊎ ((at + 2 ≤ length g.bytes) × (unsigned_at g.bytes at 2 < before)
     × (f ≡ glyph_fault g at why.ContourOrder))
 
-end-broke : (g : Stretch) (at before : ℕ) (f : Fault) → end_at g at before ≡ Err f → IsEndDefect g at before f
+end-broke : (g : GlyphBytes) (at before : ℕ) (f : Fault) → end_at g at before ≡ Err f → IsEndDefect g at before f
 unfolding end_at IsEndDefect
 end-broke g at before f was = elim (was-err (word_in g at) (rising g at before) f was) [
   | inl here ↦ let s = word-short g at f here in inl (s.ends, s.is)
@@ -54,10 +54,10 @@ abbrev end_before : List ℕ → ℕ → ℕ
 end_before bytes zero = 0
 end_before bytes (suc i) = written_end bytes i
 
-abbrev AreEndsBad : Stretch → ℕ → Fault → Type 0
+abbrev AreEndsBad : GlyphBytes → ℕ → Fault → Type 0
 AreEndsBad g contours f = IsCut g (size_place contours) f ⊎ IsFallingEnd g contours f
 
-end-falls : (g : Stretch) (i contours : ℕ) (f : Fault) → i < contours
+end-falls : (g : GlyphBytes) (i contours : ℕ) (f : Fault) → i < contours
     → IsEndDefect g (end_place i) (end_before g.bytes i) f → AreEndsBad g contours f
 unfolding IsEndDefect
 end-falls g zero contours f within bad = elim bad [
@@ -69,7 +69,7 @@ end-falls g (suc i) contours f within bad = elim bad [
   | inr falls ↦ inr (i, omega arith, rw (add-one i) falls.0, rw (add-one i) falls.1, rw (add-one i) falls.2)
 ]
 
-pub ends-broke : (g : Stretch) (i n before contours : ℕ) (f : Fault) → i + n ≡ contours → before ≡ end_before g.bytes i
+pub ends-broke : (g : GlyphBytes) (i n before contours : ℕ) (f : Fault) → i + n ≡ contours → before ≡ end_before g.bytes i
     → ends_from g (end_place i) n before ≡ Err f → AreEndsBad g contours f
 unfolding ends_from
 ends-broke g i zero before contours f total last was = absurd cc
@@ -88,10 +88,10 @@ run_as bytes at flag repeats =
     if repeats then record { flag = flag; copies = slice_index bytes (at + 1); next = at + 2 }
     else record { flag = flag; copies = 0; next = at + 1 }
 
-abbrev IsBadAs : Stretch → ℕ → ℕ → Run → Fault → Type 0
+abbrev IsBadAs : GlyphBytes → ℕ → ℕ → Run → Fault → Type 0
 IsBadAs g at left r f = IsCut g r.next f ⊎ ((left ≤ r.copies) × (f ≡ glyph_fault g at why.FlagRun))
 
-run-broke-cases : (g : Stretch) (at left flag : ℕ) (repeats : Bool) (f : Fault)
+run-broke-cases : (g : GlyphBytes) (at left flag : ℕ) (repeats : Bool) (f : Fault)
     → (if repeats then (byte_in g (at + 1) >>= λ copies. run_within g at left
     (record { flag = flag; copies = copies; next = at + 2 }))
     else Ok (record { flag = flag; copies = 0; next = at + 1 })) ≡ Err f
@@ -111,7 +111,7 @@ run-goes-on : (bytes : List ℕ) (at flag : ℕ) (repeats : Bool) → at + 1 ≤
 run-goes-on bytes at flag true = omega arith
 run-goes-on bytes at flag false = omega arith
 
-run-broke : (g : Stretch) (at left : ℕ) (f : Fault) → run_at g at left ≡ Err f → IsBadRun g at left f
+run-broke : (g : GlyphBytes) (at left : ℕ) (f : Fault) → run_at g at left ≡ Err f → IsBadRun g at left f
 unfolding run_at
 run-broke g at left f was = elim (was-err (byte_in g at) _ f was) [
   | inl here ↦ inl (cut g (at + 1) (written_run g.bytes at).next f
@@ -122,12 +122,12 @@ run-broke g at left f was = elim (was-err (byte_in g at) _ f was) [
       rw flag.is at (run-broke-cases g at left later.value (has later.value repeat_flag) f later.rest)
 ]
 
-flags-first : (g : Stretch) (at left : ℕ) (f : Fault) → IsBadRun g at (suc left) f → IsFlagDefect g at (suc left) f
+flags-first : (g : GlyphBytes) (at left : ℕ) (f : Fault) → IsBadRun g at (suc left) f → IsFlagDefect g at (suc left) f
 flags-first g at left f bad =
     let all : suc left - 0 ≡ suc left = omega arith in
     (0, omega arith, rw all bad)
 
-flags-more : (g : Stretch) (at left : ℕ) (r : Run) (f : Fault) → IsRead g r (written_run g.bytes at) (suc left)
+flags-more : (g : GlyphBytes) (at left : ℕ) (r : Run) (f : Fault) → IsRead g r (written_run g.bytes at) (suc left)
     → IsFlagDefect g r.next (left - r.copies) f → IsFlagDefect g at (suc left) f
 flags-more g at left r f run bad =
     let same = run.same in
@@ -139,7 +139,7 @@ flags-more g at left r f run bad =
     length (written_flags g.bytes (written_run g.bytes at).next is.0) = rw total (omega arith) in
     (suc is.0, rw total (omega arith), rw count is.2)
 
-pub flags-broke : (fuel : ℕ) (g : Stretch) (at left : ℕ) (f : Fault) → left ≤ fuel → flags_from fuel g at left ≡ Err f
+pub flags-broke : (fuel : ℕ) (g : GlyphBytes) (at left : ℕ) (f : Fault) → left ≤ fuel → flags_from fuel g at left ≡ Err f
     → IsFlagDefect g at left f
 unfolding flags_from
 flags-broke fuel g at zero f enough was = absurd cc
@@ -163,7 +163,7 @@ delta_as bytes at short same =
     else (if same then record { by = pos 0; next = at }
     else record { by = signed16 (unsigned_at bytes at 2); next = at + 2 })
 
-delta-broke-cases : (g : Stretch) (at : ℕ) (short same : Bool) (f : Fault)
+delta-broke-cases : (g : GlyphBytes) (at : ℕ) (short same : Bool) (f : Fault)
     → ◌≡◌ {A = Result Delta Fault} (if short then (byte_in g at
     >>= λ byte. Ok (record { by = short_delta same byte; next = at + 1 }))
     else (if same then Ok (record { by = pos 0; next = at })
@@ -191,7 +191,7 @@ deltas-go-on bytes a (flag ∷ flags) at =
     let others = deltas-go-on bytes a flags (written_delta bytes a flag at).next in
     omega arith
 
-delta-broke : (g : Stretch) (a : Axis) (flag at : ℕ) (f : Fault) → delta_at g a flag at ≡ Err f
+delta-broke : (g : GlyphBytes) (a : Axis) (flag at : ℕ) (f : Fault) → delta_at g a flag at ≡ Err f
     → IsCut g (written_delta g.bytes a flag at).next f
 unfolding delta_at
 delta-broke g a flag at f was = delta-broke-cases g at (has flag a.short) (has flag a.same) f was
@@ -206,12 +206,12 @@ leaves-more from by ds leaves =
     let below = leaves.1 in
     (suc leaves.0, omega arith, rw (add-one (suc leaves.0)) h)
 
-abbrev AreSumsBad : Stretch → Axis → List ℕ → Coordinate → Fault → Type 0
+abbrev AreSumsBad : GlyphBytes → Axis → List ℕ → Coordinate → Fault → Type 0
 AreSumsBad g a flags before f =
     IsCut g (deltas_end g.bytes a flags before.next) f
     ⊎ (LeavesFrom before.value (deltas g.bytes a flags before.next) × (f ≡ glyph_fault g 0 why.CoordRange))
 
-sums-more : (g : Stretch) (a : Axis) (flag : ℕ) (flags : List ℕ) (before c : Coordinate) (f : Fault)
+sums-more : (g : GlyphBytes) (a : Axis) (flag : ℕ) (flags : List ℕ) (before c : Coordinate) (f : Fault)
     → c ≡ summed before (written_delta g.bytes a flag before.next) → AreSumsBad g a flags c f
     → AreSumsBad g a (flag ∷ flags) before f
 sums-more g a flag flags before c f is bad =
@@ -226,7 +226,7 @@ sums-more g a flag flags before c f is bad =
     ]
 
 -- the coordinate of one point
-coordinate-broke : (g : Stretch) (a : Axis) (flag : ℕ) (flags : List ℕ) (before : Coordinate) (f : Fault)
+coordinate-broke : (g : GlyphBytes) (a : Axis) (flag : ℕ) (flags : List ℕ) (before : Coordinate) (f : Fault)
     → before.next ≤ length g.bytes → coordinate_at g a flag before ≡ Err f → AreSumsBad g a (flag ∷ flags) before f
 unfolding coordinate_at within_words
 coordinate-broke g a flag flags before f le was = elim (was-err (delta_at g a flag before.next) _ f was) [
@@ -243,7 +243,7 @@ coordinate-broke g a flag flags before f le was = elim (was-err (delta_at g a fl
       inr ((0, omega arith, leaves), p.1)
 ]
 
-pub sums-broke : (g : Stretch) (a : Axis) (flags : List ℕ) (before : Coordinate) (f : Fault)
+pub sums-broke : (g : GlyphBytes) (a : Axis) (flags : List ℕ) (before : Coordinate) (f : Fault)
     → before.next ≤ length g.bytes → coordinates_from g a flags before ≡ Err f → AreSumsBad g a flags before f
 unfolding coordinates_from
 sums-broke g a [] before f le was = absurd cc
@@ -256,10 +256,10 @@ sums-broke g a (flag ∷ flags) before f le was = elim (was-err (coordinate_at g
 ]
 
 -- the points
-abbrev ArePointsBad : Stretch → ℕ → ℕ → Fault → Type 0
+abbrev ArePointsBad : GlyphBytes → ℕ → ℕ → Fault → Type 0
 ArePointsBad g at n f = IsFlagDefect g at n f ⊎ IsCoordinateDefect g at n f
 
-x-broke : (g : Stretch) (at n : ℕ) (flags : Listing ℕ) (f : Fault) → AreCovered g.bytes at n flags
+x-broke : (g : GlyphBytes) (at n : ℕ) (flags : Listing ℕ) (f : Fault) → AreCovered g.bytes at n flags
     → AreSumsBad g x_axis flags.items (origin flags.next) f → IsCoordinateDefect g at n f
 x-broke g at n flags f covered bad =
     let runs = covered.runs in
@@ -274,7 +274,7 @@ x-broke g at n flags f covered bad =
       ],
     )
 
-y-broke : (g : Stretch) (at n : ℕ) (flags : Listing ℕ) (xs : Listing ℤ) (f : Fault) → AreCovered g.bytes at n flags
+y-broke : (g : GlyphBytes) (at n : ℕ) (flags : Listing ℕ) (xs : Listing ℤ) (f : Fault) → AreCovered g.bytes at n flags
     → AreRead g.bytes x_axis flags.items (origin flags.next) xs → AreSumsBad g y_axis flags.items (origin xs.next) f
     → IsCoordinateDefect g at n f
 y-broke g at n flags xs f covered read bad =
@@ -295,7 +295,7 @@ y-broke g at n flags xs f covered read bad =
 all-of : (n : ℕ) → n ≤ n
 all-of n = omega arith
 
-pub points-broke : (g : Stretch) (at n : ℕ) (f : Fault) → at ≤ length g.bytes → points_of g at n ≡ Err f
+pub points-broke : (g : GlyphBytes) (at n : ℕ) (f : Fault) → at ≤ length g.bytes → points_of g at n ≡ Err f
     → ArePointsBad g at n f
 unfolding points_of
 points-broke g at n f le was = elim (was-err (flags_from n g at n) _ f was) [
@@ -325,7 +325,7 @@ count-is bytes contours ends some read =
     let word = read.words (contours - 1) (omega arith) in
     rw many (ap (λ (n : ℕ). n + 1) word)
 
-many-broke : (g : Stretch) (contours : ℕ) (ends : Listing ℕ) (f : Fault) → 0 < contours
+many-broke : (g : GlyphBytes) (contours : ℕ) (ends : Listing ℕ) (f : Fault) → 0 < contours
     → EndsRead g.bytes 10 contours 0 ends → points_within g ends ≡ Err f → IsManyPoints g contours f
 unfolding points_within
 many-broke g contours ends f some read was =
@@ -338,7 +338,7 @@ many-broke g contours ends f some read was =
     (omega arith, grind (arith, nat_tests), rw place at p.1)
 
 -- behind the program
-points-behind : (g : Stretch) (contours n size : ℕ) (ends : Listing ℕ) (f : Fault) → 0 < contours
+points-behind : (g : GlyphBytes) (contours n size : ℕ) (ends : Listing ℕ) (f : Fault) → 0 < contours
     → EndsRead g.bytes 10 contours 0 ends → n ≡ point_count ends.items → size ≡ unsigned_at g.bytes ends.next 2
     → ArePointsBad g (ends.next + 2 + size) n f → ArePointsBad g (flags_place g.bytes contours)
     (written_points g.bytes contours) f
@@ -348,7 +348,7 @@ points-behind g contours n size ends f some read count is bad =
     let place : ends.next + 2 + size ≡ flags_place g.bytes contours = rw (is, next) refl in
     rw (place, n_is) at bad
 
-pub simple-broke : (g : Stretch) (x_min : ℤ) (contours : ℕ) (f : Fault) → 10 ≤ length g.bytes → 0 < contours
+pub simple-broke : (g : GlyphBytes) (x_min : ℤ) (contours : ℕ) (f : Fault) → 10 ≤ length g.bytes → 0 < contours
     → simple_of g x_min contours ≡ Err f → IsSimpleDefect g contours f
 unfolding simple_of
 simple-broke g x_min contours f header some was = elim (was-err (ends_of g contours) _ f was) [

@@ -6,19 +6,19 @@ use Rattle.std.proofs.lemmas.List.{length-replicate}
 use Rattle.std.proofs.lemmas.Bool.Decides.{nat_tests}
 use Rattle.tt_core.specs.Chains.{came-through, passed-else}
 use Rattle.tt_core.specs.Outcomes.{◌>>=◌}
-use Rattle.tt_glyf.specs.Bytes.{Stretch, Listing, byte_in, after}
+use Rattle.tt_glyf.specs.Bytes.{GlyphBytes, Listing, byte_in, after}
 use Rattle.tt_glyf.specs.Flags.{Run, has, repeat_flag, run_within, run_at, flags_from}
 use Rattle.tt_glyf.specs.Meaning.{written_run, runs_end, written_flags}
 use Rattle.tt_glyf.proofs.Chains.{came-after}
 use Rattle.tt_glyf.proofs.Fields.{byte-was}
 
 -- what is known of a run that was read
-pub record IsRead (g : Stretch) (r is : Run) (left : ℕ) : Type 0 where
+pub record IsRead (g : GlyphBytes) (r is : Run) (left : ℕ) : Type 0 where
   pub same : r ≡ is
   pub within : r.copies < left
   pub room : r.next ≤ length g.bytes
 
-run-cases : (g : Stretch) (at left flag : ℕ) (repeats : Bool) (r : Run) → 0 < left → at + 1 ≤ length g.bytes
+run-cases : (g : GlyphBytes) (at left flag : ℕ) (repeats : Bool) (r : Run) → 0 < left → at + 1 ≤ length g.bytes
     → (if repeats then (byte_in g (at + 1) >>= λ copies. run_within g at left
     (record { flag = flag; copies = copies; next = at + 2 }))
     else Ok (record { flag = flag; copies = 0; next = at + 1 })) ≡ Ok r
@@ -37,7 +37,7 @@ run-cases g at left flag false r some le was =
     let is : r ≡ record { flag = flag; copies = 0; next = at + 1 } = cc in
     rw is (record { same = refl; within = some; room = le })
 
-pub run-was : (g : Stretch) (at left : ℕ) (r : Run) → 0 < left → run_at g at left ≡ Ok r
+pub run-was : (g : GlyphBytes) (at left : ℕ) (r : Run) → 0 < left → run_at g at left ≡ Ok r
     → IsRead g r (written_run g.bytes at) left
 unfolding run_at
 run-was g at left r some was =
@@ -87,7 +87,7 @@ good-more bytes at left (suc k) first others below =
     (written_flags bytes (written_run bytes at).next k) = rw total (omega arith) in
     rw count (others k (omega arith))
 
-covered-more : (g : Stretch) (at left : ℕ) (r : Run) (rest read : Listing ℕ)
+covered-more : (g : GlyphBytes) (at left : ℕ) (r : Run) (rest read : Listing ℕ)
     → IsRead g r (written_run g.bytes at) (suc left) → AreCovered g.bytes r.next (left - r.copies) rest
     → read ≡ record { items = replicate (suc r.copies) r.flag ++ rest.items; next = rest.next }
     → AreCovered g.bytes at (suc left) read
@@ -109,7 +109,7 @@ covered-more g at left r rest read run are whole =
       good = λ k below. good-more g.bytes at left k (record { within = within; room = room }) is.good below;
     })
 
-pub flags-were : (fuel : ℕ) (g : Stretch) (at left : ℕ) (read : Listing ℕ) → left ≤ fuel → at ≤ length g.bytes
+pub flags-were : (fuel : ℕ) (g : GlyphBytes) (at left : ℕ) (read : Listing ℕ) → left ≤ fuel → at ≤ length g.bytes
     → flags_from fuel g at left ≡ Ok read → AreCovered g.bytes at left read
 unfolding flags_from
 flags-were fuel g at zero read enough le was =

@@ -8,13 +8,13 @@ use Rattle.tt_core.specs.Faults.{Fault, fault_at}
 use Rattle.tt_core.specs.declared.fault.Why.TheVariants as why
 use Rattle.tt_core.specs.Directory.{HasNo}
 use Rattle.tt_core.specs.Outcomes.{◌>>=◌}
-use Rattle.tt_glyf.specs.Bytes.{Stretch, stretch_at, signed_in, short}
+use Rattle.tt_glyf.specs.Bytes.{GlyphBytes, stretch_at, signed_in, short}
 use Rattle.tt_glyf.specs.Composite.{composite_of}
 use Rattle.tt_glyf.specs.Defects.{IsCut, IsBadGlyph, HasBytes, IsGlyphDefect}
 use Rattle.tt_glyf.specs.GlyphData.{Header, header_of, described, glyph_in, glyph_data_of}
-use Rattle.tt_glyf.specs.Loca.{GlyphTables, loca_tag, entry_place, glyph_offset, has_no_bytes, is_out_of_range, bytes_between, glyph_bytes_of, IsRangeDefect}
-use Rattle.tt_glyf.specs.Meaning.{stretch_of, contour_count, written_x_min}
-use Rattle.tt_glyf.specs.Raw.{GlyphData, empty}
+use Rattle.tt_glyf.specs.Loca.{Glyf, loca_tag, entry_place, glyph_offset, has_no_bytes, is_out_of_range, bytes_between, glyph_bytes_of, IsRangeDefect}
+use Rattle.tt_glyf.specs.Meaning.{glyph_bytes_at, contour_count, written_x_min}
+use Rattle.tt_glyf.specs.Raw.{Raw, empty}
 use Rattle.tt_glyf.specs.Simple.{simple_of}
 use Rattle.tt_glyf.proofs.BadRecords.{composite-broke}
 use Rattle.tt_glyf.proofs.Broken.{cut, simple-broke}
@@ -23,7 +23,7 @@ use Rattle.tt_glyf.proofs.Glyphs.{is-negative, written_header, header-was, simpl
 use Rattle.tt_glyf.proofs.Whole.{simple-whole, composite-whole}
 
 -- the header
-header-broke-cases : (g : Stretch) (shorter : Bool) (f : Fault) → nat_lt (length g.bytes) 10 ≡ shorter
+header-broke-cases : (g : GlyphBytes) (shorter : Bool) (f : Fault) → nat_lt (length g.bytes) 10 ≡ shorter
     → ◌≡◌ {A = Result Header Fault} (if shorter then Err (short g)
     else (signed_in g 0 >>= λ contours. signed_in g 2 >>= λ x_min. Ok (record { contours = contours; x_min = x_min })))
     (Err f) → IsCut g 10 f
@@ -36,7 +36,7 @@ header-broke-cases g false f is was = elim (was-err (signed_in g 0) _ f was) [
   ]
 ]
 
-header-broke : (g : Stretch) (f : Fault) → header_of g ≡ Err f → IsCut g 10 f
+header-broke : (g : GlyphBytes) (f : Fault) → header_of g ≡ Err f → IsCut g 10 f
 unfolding header_of
 header-broke g f was = header-broke-cases g (nat_lt (length g.bytes) 10) f refl was
 
@@ -50,12 +50,12 @@ negative-is c is = grind (arith, ints)
 positive-is : (c : ℤ) → pos 0 <ℤ c → (int_lt c (pos 0) ≡ false) × ((unsigned_abs c == 0) ≡ false) × (0 < unsigned_abs c)
 positive-is c is = (grind (arith, ints), grind (arith, ints, nat_tests), grind (arith, ints))
 
-abbrev described_by : ℕ → Stretch → Bool → Bool → Result GlyphData Fault
+abbrev described_by : ℕ → GlyphBytes → Bool → Bool → Result Raw Fault
 described_by glyphs g negative none =
     if negative then composite_of glyphs g (written_x_min g.bytes)
     else (if none then Ok empty else simple_of g (written_x_min g.bytes) (unsigned_abs (contour_count g.bytes)))
 
-described-broke-cases : (glyphs : ℕ) (g : Stretch) (negative none : Bool) (f : Fault) → 10 ≤ length g.bytes
+described-broke-cases : (glyphs : ℕ) (g : GlyphBytes) (negative none : Bool) (f : Fault) → 10 ≤ length g.bytes
     → int_lt (contour_count g.bytes) (pos 0) ≡ negative → (unsigned_abs (contour_count g.bytes) == 0) ≡ none
     → described_by glyphs g negative none ≡ Err f → IsBadGlyph glyphs g f
 described-broke-cases glyphs g true none f header negative is was =
@@ -74,14 +74,14 @@ described-broke-cases glyphs g false false f header negative is was =
           (unsigned_abs (contour_count g.bytes)) f header (grind (arith, nat_tests)) was,
     ))
 
-described-broke : (glyphs : ℕ) (g : Stretch) (f : Fault) → 10 ≤ length g.bytes
+described-broke : (glyphs : ℕ) (g : GlyphBytes) (f : Fault) → 10 ≤ length g.bytes
     → described glyphs g (written_header g.bytes) ≡ Err f → IsBadGlyph glyphs g f
 unfolding described
 described-broke glyphs g f header was =
     described-broke-cases glyphs g (int_lt (contour_count g.bytes) (pos 0)) (unsigned_abs (contour_count g.bytes) == 0)
     f header refl refl was
 
-bytes-broke : (glyphs : ℕ) (g : Stretch) (f : Fault) → glyph_in glyphs g ≡ Err f → IsBadGlyph glyphs g f
+bytes-broke : (glyphs : ℕ) (g : GlyphBytes) (f : Fault) → glyph_in glyphs g ≡ Err f → IsBadGlyph glyphs g f
 bytes-broke glyphs g f was = elim (was-err (header_of g) (described glyphs g) f was) [
   | inl here ↦ inl (header-broke g f here)
   | inr later ↦
@@ -100,7 +100,7 @@ differ a b is same = grind (arith, nat_tests)
 less : (a b : ℕ) → nat_lt a b ≡ true → a < b
 less a b is = grind (arith, nat_tests)
 
-range-broke-cases : (t : GlyphTables) (g : ℕ) (none out : Bool) (f : Fault) → has_no_bytes t g ≡ none
+range-broke-cases : (t : Glyf) (g : ℕ) (none out : Bool) (f : Fault) → has_no_bytes t g ≡ none
     → is_out_of_range t g ≡ out → ◌≡◌ {A = Result (List ℕ) Fault}
     (if none then Ok [] else (if out then Err (fault_at loca_tag (entry_place t.format g) why.GlyphRange)
     else Ok (bytes_between t g))) (Err f) → IsRangeDefect t g f
@@ -115,17 +115,17 @@ range-broke-cases t g false true f some is was = (
 )
 range-broke-cases t g false false f some is was = absurd cc
 
-range-broke : (t : GlyphTables) (g : ℕ) (f : Fault) → glyph_bytes_of t g ≡ Err f → IsRangeDefect t g f
+range-broke : (t : Glyf) (g : ℕ) (f : Fault) → glyph_bytes_of t g ≡ Err f → IsRangeDefect t g f
 unfolding glyph_bytes_of
 range-broke t g f was = range-broke-cases t g (has_no_bytes t g) (is_out_of_range t g) f refl refl was
 
-has-bytes : (t : GlyphTables) (g : ℕ) (bytes : List ℕ) → has_no_bytes t g ≡ false → AreBytes t g bytes → HasBytes t g
+has-bytes : (t : Glyf) (g : ℕ) (bytes : List ℕ) → has_no_bytes t g ≡ false → AreBytes t g bytes → HasBytes t g
 has-bytes t g bytes some are =
     let ordered = are.ordered in
     let other = differ (glyph_offset t g) (glyph_offset t (g + 1)) some in
     (omega arith, omega arith)
 
-glyph-broke-cases : (t : GlyphTables) (g : ℕ) (none : Bool) (f : Fault) → has_no_bytes t g ≡ none
+glyph-broke-cases : (t : Glyf) (g : ℕ) (none : Bool) (f : Fault) → has_no_bytes t g ≡ none
     → (if none then Ok empty else (glyph_bytes_of t g >>= λ bytes. glyph_in t.glyphs
     (stretch_at (glyph_offset t g) bytes))) ≡ Err f → IsGlyphDefect t g f
 glyph-broke-cases t g true f is was = absurd cc
@@ -133,15 +133,15 @@ glyph-broke-cases t g false f is was = elim (was-err (glyph_bytes_of t g) _ f wa
   | inl here ↦ inl (range-broke t g f here)
   | inr later ↦
       let are = bytes-were t g later.value is later.first in
-      inr (has-bytes t g later.value is are, bytes-broke t.glyphs (stretch_of t g) f (rw are.is at later.rest))
+      inr (has-bytes t g later.value is are, bytes-broke t.glyphs (glyph_bytes_at t g) f (rw are.is at later.rest))
 ]
 
 -- a fault names a defect that stands
-pub glyph-broke : (t : GlyphTables) (g : ℕ) (f : Fault) → glyph_data_of t g ≡ Err f → IsGlyphDefect t g f
+pub glyph-broke : (t : Glyf) (g : ℕ) (f : Fault) → glyph_data_of t g ≡ Err f → IsGlyphDefect t g f
 unfolding glyph_data_of
 glyph-broke t g f was = glyph-broke-cases t g (has_no_bytes t g) f refl was
 
-described-whole-cases : (glyphs : ℕ) (g : Stretch) (negative none : Bool) (d : GlyphData) (f : Fault)
+described-whole-cases : (glyphs : ℕ) (g : GlyphBytes) (negative none : Bool) (d : Raw) (f : Fault)
     → 10 ≤ length g.bytes → int_lt (contour_count g.bytes) (pos 0) ≡ negative
     → (unsigned_abs (contour_count g.bytes) == 0) ≡ none → described_by glyphs g negative none ≡ Ok d
     → ¬ IsBadGlyph glyphs g f
@@ -160,21 +160,21 @@ described-whole-cases glyphs g negative none d f header is_negative is was bad =
       composite-whole glyphs g (written_x_min g.bytes) read.0 f read.1 one.2
 ]
 
-described-whole : (glyphs : ℕ) (g : Stretch) (d : GlyphData) (f : Fault) → 10 ≤ length g.bytes
+described-whole : (glyphs : ℕ) (g : GlyphBytes) (d : Raw) (f : Fault) → 10 ≤ length g.bytes
     → described glyphs g (written_header g.bytes) ≡ Ok d → ¬ IsBadGlyph glyphs g f
 unfolding described
 described-whole glyphs g d f header was bad =
     described-whole-cases glyphs g (int_lt (contour_count g.bytes) (pos 0)) (unsigned_abs (contour_count g.bytes) == 0)
     d f header refl refl was bad
 
-bytes-whole : (glyphs : ℕ) (g : Stretch) (d : GlyphData) (f : Fault) → glyph_in glyphs g ≡ Ok d
+bytes-whole : (glyphs : ℕ) (g : GlyphBytes) (d : Raw) (f : Fault) → glyph_in glyphs g ≡ Ok d
     → ¬ IsBadGlyph glyphs g f
 bytes-whole glyphs g d f was bad =
     let by_header = came-through (header_of g) (described glyphs g) d was in
     let header = header-was g by_header.value by_header.first in
     described-whole glyphs g d f header.room (rw header.is at by_header.rest) bad
 
-glyph-whole-cases : (t : GlyphTables) (g : ℕ) (none : Bool) (d : GlyphData) (f : Fault) → has_no_bytes t g ≡ none
+glyph-whole-cases : (t : Glyf) (g : ℕ) (none : Bool) (d : Raw) (f : Fault) → has_no_bytes t g ≡ none
     → (if none then Ok empty else (glyph_bytes_of t g >>= λ bytes. glyph_in t.glyphs
     (stretch_at (glyph_offset t g) bytes))) ≡ Ok d → ¬ IsGlyphDefect t g f
 glyph-whole-cases t g true d f is was bad = elim bad [
@@ -190,10 +190,10 @@ glyph-whole-cases t g false d f is was bad =
         | inl falls ↦ absurd (omega arith)
         | inr past ↦ absurd (omega arith)
       ]
-      | inr one ↦ bytes-whole t.glyphs (stretch_of t g) d f (rw are.is at by_bytes.rest) one.1
+      | inr one ↦ bytes-whole t.glyphs (glyph_bytes_at t g) d f (rw are.is at by_bytes.rest) one.1
     ]
 
 -- a glyph that is read has no defect
-pub glyph-whole : (t : GlyphTables) (g : ℕ) (d : GlyphData) → glyph_data_of t g ≡ Ok d → HasNo (IsGlyphDefect t g)
+pub glyph-whole : (t : Glyf) (g : ℕ) (d : Raw) → glyph_data_of t g ≡ Ok d → HasNo (IsGlyphDefect t g)
 unfolding glyph_data_of
 glyph-whole t g d was = λ f bad. glyph-whole-cases t g (has_no_bytes t g) d f refl was bad

@@ -4,7 +4,7 @@ use Rattle.std.specs.Prelude.{slice_index}
 use Rattle.tt_core.specs.Chains.{came-through, passed-else}
 use Rattle.tt_core.specs.Numbers.{unsigned_at, signed16}
 use Rattle.tt_core.specs.Outcomes.{◌>>=◌}
-use Rattle.tt_glyf.specs.Bytes.{Stretch, Listing, byte_in, signed_in}
+use Rattle.tt_glyf.specs.Bytes.{GlyphBytes, Listing, byte_in, signed_in}
 use Rattle.tt_glyf.specs.Coordinates.{Axis, Delta, Coordinate, delta_at, summed, is_coordinate, within_words, coordinate_at, coordinates_from, short_delta}
 use Rattle.tt_glyf.specs.Flags.{has}
 use Rattle.tt_glyf.specs.Meaning.{written_delta, deltas, deltas_end, AreSums}
@@ -12,7 +12,7 @@ use Rattle.tt_glyf.proofs.Chains.{came-after}
 use Rattle.tt_glyf.proofs.Fields.{IsField, byte-was, signed-was}
 
 -- a delta that was read is the one that is written there
-delta-cases : (g : Stretch) (at : ℕ) (short same : Bool) (d : Delta) → at ≤ length g.bytes
+delta-cases : (g : GlyphBytes) (at : ℕ) (short same : Bool) (d : Delta) → at ≤ length g.bytes
     → (if short then (byte_in g at >>= λ byte. Ok (record { by = short_delta same byte; next = at + 1 }))
     else (if same then Ok (record { by = pos 0; next = at })
     else (signed_in g at >>= λ word. Ok (record { by = word; next = at + 2 })))) ≡ Ok d
@@ -37,18 +37,18 @@ delta-cases g at false false d le was =
     let is : ◌≡◌ {A = Delta} (record { by = through.value; next = at + 2 }) d = cc through.rest in
     rw (← is) (record { is = rw (← value) refl; room = word.room })
 
-pub delta-was : (g : Stretch) (a : Axis) (flag at : ℕ) (d : Delta) → at ≤ length g.bytes → delta_at g a flag at ≡ Ok d
+pub delta-was : (g : GlyphBytes) (a : Axis) (flag at : ℕ) (d : Delta) → at ≤ length g.bytes → delta_at g a flag at ≡ Ok d
     → IsField g d.next d (written_delta g.bytes a flag at)
 unfolding delta_at
 delta-was g a flag at d le was = delta-cases g at (has flag a.short) (has flag a.same) d le was
 
 -- a coordinate that was read is the one before it and the delta, and fits
-pub record IsNext (g : Stretch) (a : Axis) (flag : ℕ) (before c : Coordinate) : Type 0 where
+pub record IsNext (g : GlyphBytes) (a : Axis) (flag : ℕ) (before c : Coordinate) : Type 0 where
   pub is : c ≡ summed before (written_delta g.bytes a flag before.next)
   pub fits : is_coordinate c.value ≡ true
   pub room : c.next ≤ length g.bytes
 
-pub coordinate-was : (g : Stretch) (a : Axis) (flag : ℕ) (before c : Coordinate) → before.next ≤ length g.bytes
+pub coordinate-was : (g : GlyphBytes) (a : Axis) (flag : ℕ) (before c : Coordinate) → before.next ≤ length g.bytes
     → coordinate_at g a flag before ≡ Ok c → IsNext g a flag before c
 unfolding coordinate_at within_words
 coordinate-was g a flag before c le was =
@@ -100,7 +100,7 @@ read-more bytes a flag flags before c rest read is fits are whole =
       room = more.room;
     })
 
-pub coordinates-were : (g : Stretch) (a : Axis) (flags : List ℕ) (before : Coordinate) (read : Listing ℤ)
+pub coordinates-were : (g : GlyphBytes) (a : Axis) (flags : List ℕ) (before : Coordinate) (read : Listing ℤ)
     → before.next ≤ length g.bytes → coordinates_from g a flags before ≡ Ok read → AreRead g.bytes a flags before read
 unfolding coordinates_from
 coordinates-were g a [] before read le was =

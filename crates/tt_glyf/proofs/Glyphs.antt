@@ -10,12 +10,12 @@ use Rattle.tt_core.specs.Numbers.{unsigned_at}
 use Rattle.tt_core.specs.Outcomes.{◌>>=◌}
 use Rattle.tt_glyf.specs.declared.raw.RawPoint.{RawPoint}
 use Rattle.tt_glyf.specs.declared.raw.Record.{Record}
-use Rattle.tt_glyf.specs.Bytes.{Stretch, stretch_at, Listing, word_in, signed_in, slice_in, short}
+use Rattle.tt_glyf.specs.Bytes.{GlyphBytes, stretch_at, Listing, word_in, signed_in, slice_in, short}
 use Rattle.tt_glyf.specs.Composite.{Program, records_of, has_program, program_of, composite_of}
 use Rattle.tt_glyf.specs.GlyphData.{Header, header_of, described, glyph_in, glyph_data_of}
-use Rattle.tt_glyf.specs.Loca.{GlyphTables, glyph_offset, has_no_bytes, is_out_of_range, bytes_between, glyph_bytes_of}
-use Rattle.tt_glyf.specs.Meaning.{IfEmpty, HasNoOutline, IfSimple, IfComposite, stretch_of, IsProgram, HasProgram, contour_count, written_x_min, size_place, written_size, flags_place, records_end, AreEnds, AreWords, ArePoints, AreComponents, AreRecords, AreCompositeWords}
-use Rattle.tt_glyf.specs.Raw.{SimpleGlyph, CompositeGlyph, GlyphData, empty, simple, composite}
+use Rattle.tt_glyf.specs.Loca.{Glyf, glyph_offset, has_no_bytes, is_out_of_range, bytes_between, glyph_bytes_of}
+use Rattle.tt_glyf.specs.Meaning.{IfEmpty, HasNoOutline, IfSimple, IfComposite, glyph_bytes_at, IsProgram, HasProgram, contour_count, written_x_min, size_place, written_size, flags_place, records_end, AreEnds, AreWords, ArePoints, AreComponents, AreRecords, AreCompositeWords}
+use Rattle.tt_glyf.specs.Raw.{SimpleGlyph, CompositeGlyph, Raw, empty, simple, composite}
 use Rattle.tt_glyf.specs.Simple.{ends_of, points_within, points_of, simple_of}
 use Rattle.tt_glyf.proofs.Fields.{IsField, word-was, signed-was}
 use Rattle.tt_glyf.proofs.Outlines.{EndsRead, ends-were, never-falls, CountRead, count-was, PointsRead, points-were, points-are}
@@ -23,13 +23,13 @@ use Rattle.tt_glyf.proofs.Parts.{ArePartsRead, records-were, IsProgramRead, IsPr
 use Rattle.tt_glyf.proofs.Places.{IsWithin, slice-was, program-is}
 
 -- the program is somewhere in the glyph's bytes
-abbrev pub IsProgramOf : Stretch → GlyphData → Type 0
+abbrev pub IsProgramOf : GlyphBytes → Raw → Type 0
 IsProgramOf g empty = Unit {0}
 IsProgramOf g (simple s) = IsProgramRead g (record { code = s.code; code_at = s.code_at })
 IsProgramOf g (composite c) = IsProgramRead g (record { code = c.code; code_at = c.code_at })
 
 -- what is said of a glyph, over its own bytes
-pub record IsRead (glyphs : ℕ) (g : Stretch) (d : GlyphData) : Type 0 where
+pub record IsRead (glyphs : ℕ) (g : GlyphBytes) (d : Raw) : Type 0 where
   pub nothing : IfEmpty d (contour_count g.bytes ≡ pos 0)
   pub few : IfSimple d (λ s. length s.points ≤ point_limit)
   pub ends : IfSimple d (λ s. AreEnds (length s.points) s.ends)
@@ -40,7 +40,7 @@ pub record IsRead (glyphs : ℕ) (g : Stretch) (d : GlyphData) : Type 0 where
   pub composite_words : IfComposite d (AreCompositeWords g)
   pub program : IsProgramOf g d
 
-nothing-read : (glyphs : ℕ) (g : Stretch) → contour_count g.bytes ≡ pos 0 → IsRead glyphs g empty
+nothing-read : (glyphs : ℕ) (g : GlyphBytes) → contour_count g.bytes ≡ pos 0 → IsRead glyphs g empty
 nothing-read glyphs g is =
     record {
       nothing = is;
@@ -65,7 +65,7 @@ is-none : (c : ℤ) → (unsigned_abs c == 0) ≡ true → c ≡ pos 0
 is-none c is = grind (arith, ints, nat_tests)
 
 -- what was read of a simple glyph of so many contours
-pub record SimpleRead (g : Stretch) (x_min : ℤ) (contours : ℕ) (s : SimpleGlyph) : Type 0 where
+pub record SimpleRead (g : GlyphBytes) (x_min : ℤ) (contours : ℕ) (s : SimpleGlyph) : Type 0 where
   pub x_min_is : s.x_min ≡ x_min
   pub ends : EndsRead g.bytes 10 contours 0 (record { items = s.ends; next = size_place contours })
   pub code_at : s.code_at ≡ g.start + (size_place contours + 2)
@@ -74,7 +74,7 @@ pub record SimpleRead (g : Stretch) (x_min : ℤ) (contours : ℕ) (s : SimpleGl
   pub count : CountRead s.ends (length s.points)
   pub points : PointsRead g.bytes (flags_place g.bytes contours) (length s.points) s.points
 
-simple-make : (g : Stretch) (x_min : ℤ) (contours n size : ℕ) (ends : Listing ℕ) (code : List ℕ)
+simple-make : (g : GlyphBytes) (x_min : ℤ) (contours n size : ℕ) (ends : Listing ℕ) (code : List ℕ)
     (points : List RawPoint) → EndsRead g.bytes 10 contours 0 ends → CountRead ends.items n
     → size ≡ unsigned_at g.bytes ends.next 2 → (length code ≡ size) × IsWithin g.bytes code (ends.next + 2)
     → PointsRead g.bytes (ends.next + 2 + size) n points
@@ -99,7 +99,7 @@ simple-make g x_min contours n size ends code points e c s k p =
       points = rw place (rw (← many) at p);
     }
 
-pub simple-was : (g : Stretch) (x_min : ℤ) (contours : ℕ) (d : GlyphData) → 10 ≤ length g.bytes
+pub simple-was : (g : GlyphBytes) (x_min : ℤ) (contours : ℕ) (d : Raw) → 10 ≤ length g.bytes
     → simple_of g x_min contours ≡ Ok d → (s : SimpleGlyph) × SimpleRead g x_min contours s × (d ≡ simple s)
 unfolding simple_of
 simple-was g x_min contours d header was =
@@ -147,7 +147,7 @@ ends-are bytes ends points n contours some read count =
       last = sym count.is;
     }
 
-simple-is : (glyphs : ℕ) (g : Stretch) (contours : ℕ) (s : SimpleGlyph) → 0 < contours
+simple-is : (glyphs : ℕ) (g : GlyphBytes) (contours : ℕ) (s : SimpleGlyph) → 0 < contours
     → pos contours ≡ contour_count g.bytes → SimpleRead g (written_x_min g.bytes) contours s
     → IsRead glyphs g (simple s)
 simple-is glyphs g contours s some is read =
@@ -171,7 +171,7 @@ simple-is glyphs g contours s some is read =
     }
 
 -- what was read of a composite glyph
-pub record CompositeRead (glyphs : ℕ) (g : Stretch) (x_min : ℤ) (c : CompositeGlyph) : Type 0 where
+pub record CompositeRead (glyphs : ℕ) (g : GlyphBytes) (x_min : ℤ) (c : CompositeGlyph) : Type 0 where
   pub x_min_is : c.x_min ≡ x_min
   pub parts : ArePartsRead glyphs g 10 component_limit (record {
     items = c.records;
@@ -180,7 +180,7 @@ pub record CompositeRead (glyphs : ℕ) (g : Stretch) (x_min : ℤ) (c : Composi
   pub program : IsProgramBehind g (records_end g.bytes 10 c.records) (has_program c.records)
       (record { code = c.code; code_at = c.code_at })
 
-composite-make : (glyphs : ℕ) (g : Stretch) (x_min : ℤ) (records : Listing Record) (p : Program)
+composite-make : (glyphs : ℕ) (g : GlyphBytes) (x_min : ℤ) (records : Listing Record) (p : Program)
     → ArePartsRead glyphs g 10 component_limit records → IsProgramBehind g records.next (has_program records.items) p
     → CompositeRead glyphs g x_min (record {
       x_min = x_min;
@@ -192,7 +192,7 @@ composite-make glyphs g x_min records p parts program =
     let end = parts.end in
     record { x_min_is = refl; parts = rw end at parts; program = rw end at program }
 
-pub composite-was : (glyphs : ℕ) (g : Stretch) (x_min : ℤ) (d : GlyphData) → composite_of glyphs g x_min ≡ Ok d
+pub composite-was : (glyphs : ℕ) (g : GlyphBytes) (x_min : ℤ) (d : Raw) → composite_of glyphs g x_min ≡ Ok d
     → (c : CompositeGlyph) × CompositeRead glyphs g x_min c × (d ≡ composite c)
 unfolding composite_of
 composite-was glyphs g x_min d was =
@@ -214,7 +214,7 @@ composite-was glyphs g x_min d was =
       sym is,
     )
 
-composite-is : (glyphs : ℕ) (g : Stretch) (c : CompositeGlyph) → contour_count g.bytes <ℤ pos 0
+composite-is : (glyphs : ℕ) (g : GlyphBytes) (c : CompositeGlyph) → contour_count g.bytes <ℤ pos 0
     → CompositeRead glyphs g (written_x_min g.bytes) c
     → IsRead glyphs g (composite c)
 composite-is glyphs g c is read = record {
@@ -234,7 +234,7 @@ composite-is glyphs g c is read = record {
   program = read.program.read;
 }
 
-described-cases : (glyphs : ℕ) (g : Stretch) (contours : ℕ) (negative none : Bool) (d : GlyphData)
+described-cases : (glyphs : ℕ) (g : GlyphBytes) (contours : ℕ) (negative none : Bool) (d : Raw)
     → 10 ≤ length g.bytes → contours ≡ unsigned_abs (contour_count g.bytes)
     → int_lt (contour_count g.bytes) (pos 0) ≡ negative
     → (contours == 0) ≡ none
@@ -257,7 +257,7 @@ described-cases glyphs g contours false false d header count sign is was =
 abbrev pub written_header : List ℕ → Header
 written_header bytes = record { contours = contour_count bytes; x_min = written_x_min bytes }
 
-header-cases : (g : Stretch) (h : Header) (cut : Bool) → nat_lt (length g.bytes) 10 ≡ cut
+header-cases : (g : GlyphBytes) (h : Header) (cut : Bool) → nat_lt (length g.bytes) 10 ≡ cut
     → (if cut then Err (short g) else (signed_in g 0 >>= λ contours. signed_in g 2
     >>= λ x_min. Ok (record { contours = contours; x_min = x_min }))) ≡ Ok h → IsField g 10 h (written_header g.bytes)
 header-cases g h true is was = absurd cc
@@ -269,41 +269,41 @@ header-cases g h false is was =
     let e : ◌≡◌ {A = Header} (record { contours = by_contours.value; x_min = by_x_min.value }) h = cc by_x_min.rest in
     rw (← e) (record { is = rw (← contours, ← x_min) refl; room = grind (arith, nat_tests) })
 
-pub header-was : (g : Stretch) (h : Header) → header_of g ≡ Ok h → IsField g 10 h (written_header g.bytes)
+pub header-was : (g : GlyphBytes) (h : Header) → header_of g ≡ Ok h → IsField g 10 h (written_header g.bytes)
 unfolding header_of
 header-was g h was = header-cases g h (nat_lt (length g.bytes) 10) refl was
 
-described-was : (glyphs : ℕ) (g : Stretch) (d : GlyphData) → 10 ≤ length g.bytes
+described-was : (glyphs : ℕ) (g : GlyphBytes) (d : Raw) → 10 ≤ length g.bytes
     → described glyphs g (written_header g.bytes) ≡ Ok d → IsRead glyphs g d
 unfolding described
 described-was glyphs g d header was =
     described-cases glyphs g (unsigned_abs (contour_count g.bytes)) (int_lt (contour_count g.bytes) (pos 0))
     (unsigned_abs (contour_count g.bytes) == 0) d header refl refl refl was
 
-glyph-was : (glyphs : ℕ) (g : Stretch) (d : GlyphData) → glyph_in glyphs g ≡ Ok d → IsRead glyphs g d
+glyph-was : (glyphs : ℕ) (g : GlyphBytes) (d : Raw) → glyph_in glyphs g ≡ Ok d → IsRead glyphs g d
 glyph-was glyphs g d was =
     let by_header = came-through (header_of g) (described glyphs g) d was in
     let header = header-was g by_header.value by_header.first in
     described-was glyphs g d header.room (rw header.is at by_header.rest)
 
 -- the bytes of a glyph, where loca's entries differ
-pub record AreBytes (t : GlyphTables) (g : ℕ) (bytes : List ℕ) : Type 0 where
+pub record AreBytes (t : Glyf) (g : ℕ) (bytes : List ℕ) : Type 0 where
   pub is : bytes ≡ bytes_between t g
   pub ordered : glyph_offset t g ≤ min (glyph_offset t (g + 1)) (length t.glyf)
 
-bytes-cases : (t : GlyphTables) (g : ℕ) (none out : Bool) (f : Fault) (bytes : List ℕ) → none ≡ false
+bytes-cases : (t : Glyf) (g : ℕ) (none out : Bool) (f : Fault) (bytes : List ℕ) → none ≡ false
     → is_out_of_range t g ≡ out → (if none then Ok [] else (if out then Err f else Ok (bytes_between t g))) ≡ Ok bytes
     → AreBytes t g bytes
 bytes-cases t g true out f bytes some is was = absurd cc
 bytes-cases t g false true f bytes some is was = absurd cc
 bytes-cases t g false false f bytes some is was = record { is = cc; ordered = grind (arith, nat_tests) }
 
-pub bytes-were : (t : GlyphTables) (g : ℕ) (bytes : List ℕ) → has_no_bytes t g ≡ false → glyph_bytes_of t g ≡ Ok bytes
+pub bytes-were : (t : Glyf) (g : ℕ) (bytes : List ℕ) → has_no_bytes t g ≡ false → glyph_bytes_of t g ≡ Ok bytes
     → AreBytes t g bytes
 unfolding glyph_bytes_of
 bytes-were t g bytes some was = bytes-cases t g (has_no_bytes t g) (is_out_of_range t g) _ bytes some refl was
 
-program-in : (t : GlyphTables) (g : ℕ) (bytes code : List ℕ) (at : ℕ) → AreBytes t g bytes
+program-in : (t : Glyf) (g : ℕ) (bytes code : List ℕ) (at : ℕ) → AreBytes t g bytes
     → IsProgramRead (stretch_at (glyph_offset t g) bytes) (record { code = code; code_at = at })
     → IsProgram t.glyf code at
 program-in t g bytes code at b p =
@@ -311,37 +311,37 @@ program-in t g bytes code at b p =
     b.ordered (omega arith) b.is p.within in
     rw p.at whole
 
-programs-in : (t : GlyphTables) (g : ℕ) (bytes : List ℕ) (d : GlyphData) → AreBytes t g bytes
+programs-in : (t : Glyf) (g : ℕ) (bytes : List ℕ) (d : Raw) → AreBytes t g bytes
     → IsProgramOf (stretch_at (glyph_offset t g) bytes) d → HasProgram t.glyf d
 programs-in t g bytes empty b p = tt
 programs-in t g bytes (simple s) b p = program-in t g bytes s.code s.code_at b p
 programs-in t g bytes (composite c) b p = program-in t g bytes c.code c.code_at b p
 
 -- what is said of the glyph of a number
-pub record IsGlyph (t : GlyphTables) (g : ℕ) (d : GlyphData) : Type 0 where
+pub record IsGlyph (t : Glyf) (g : ℕ) (d : Raw) : Type 0 where
   pub nothing : IfEmpty d (HasNoOutline t g)
   pub few : IfSimple d (λ s. length s.points ≤ point_limit)
   pub ends : IfSimple d (λ s. AreEnds (length s.points) s.ends)
-  pub words : IfSimple d (AreWords (stretch_of t g))
+  pub words : IfSimple d (AreWords (glyph_bytes_at t g))
   pub points : IfSimple d (λ s. ArePoints (bytes_between t g) (flags_place (bytes_between t g) (length s.ends))
       s.points)
-  pub components : IfComposite d (λ c. AreComponents (stretch_of t g) 10 c.records)
+  pub components : IfComposite d (λ c. AreComponents (glyph_bytes_at t g) 10 c.records)
   pub records : IfComposite d (λ c. AreRecords t.glyphs c.records)
-  pub composite_words : IfComposite d (AreCompositeWords (stretch_of t g))
+  pub composite_words : IfComposite d (AreCompositeWords (glyph_bytes_at t g))
   pub program : HasProgram t.glyf d
 
-nothing-in : (t : GlyphTables) (g : ℕ) (d : GlyphData) → IfEmpty d (contour_count (bytes_between t g) ≡ pos 0)
+nothing-in : (t : Glyf) (g : ℕ) (d : Raw) → IfEmpty d (contour_count (bytes_between t g) ≡ pos 0)
     → IfEmpty d (HasNoOutline t g)
 nothing-in t g empty is = inr is
 nothing-in t g (simple s) is = tt
 nothing-in t g (composite c) is = tt
 
-glyph-make : (t : GlyphTables) (g : ℕ) (bytes : List ℕ) (d : GlyphData) → AreBytes t g bytes
+glyph-make : (t : Glyf) (g : ℕ) (bytes : List ℕ) (d : Raw) → AreBytes t g bytes
     → IsRead t.glyphs (stretch_at (glyph_offset t g) bytes) d → IsGlyph t g d
 glyph-make t g bytes d b read =
     let program = programs-in t g bytes d b read.program in
     let is = b.is in
-    let whole : IsRead t.glyphs (stretch_of t g) d = rw is at read in
+    let whole : IsRead t.glyphs (glyph_bytes_at t g) d = rw is at read in
     record {
       nothing = nothing-in t g d whole.nothing;
       few = whole.few;
@@ -354,7 +354,7 @@ glyph-make t g bytes d b read =
       program = program;
     }
 
-glyph-cases : (t : GlyphTables) (g : ℕ) (none : Bool) (d : GlyphData) → has_no_bytes t g ≡ none
+glyph-cases : (t : Glyf) (g : ℕ) (none : Bool) (d : Raw) → has_no_bytes t g ≡ none
     → (if none then Ok empty else (glyph_bytes_of t g >>= λ bytes. glyph_in t.glyphs
     (stretch_at (glyph_offset t g) bytes))) ≡ Ok d → IsGlyph t g d
 glyph-cases t g true d is was =
@@ -376,6 +376,6 @@ glyph-cases t g false d is was =
     glyph-make t g bytes d (bytes-were t g bytes is by_bytes.first)
     (glyph-was t.glyphs (stretch_at (glyph_offset t g) bytes) d by_bytes.rest)
 
-pub glyph-is : (t : GlyphTables) (g : ℕ) (d : GlyphData) → glyph_data_of t g ≡ Ok d → IsGlyph t g d
+pub glyph-is : (t : Glyf) (g : ℕ) (d : Raw) → glyph_data_of t g ≡ Ok d → IsGlyph t g d
 unfolding glyph_data_of
 glyph-is t g d was = glyph-cases t g (has_no_bytes t g) d refl was

@@ -6,7 +6,7 @@ use Rattle.tt_core.specs.Chains.{came-through, passed}
 use Rattle.tt_core.specs.Limits.{point_limit}
 use Rattle.tt_core.specs.Numbers.{unsigned_at}
 use Rattle.tt_glyf.specs.declared.raw.RawPoint.{RawPoint}
-use Rattle.tt_glyf.specs.Bytes.{Stretch, Listing, word_in}
+use Rattle.tt_glyf.specs.Bytes.{GlyphBytes, Listing, word_in}
 use Rattle.tt_glyf.specs.Coordinates.{Axis, Coordinate, x_axis, y_axis, origin}
 use Rattle.tt_glyf.specs.Flags.{has, on_curve_point}
 use Rattle.tt_glyf.specs.Meaning.{runs_end, written_flags, deltas_end, y_place, points_end, ArePoints}
@@ -52,12 +52,12 @@ ends-more bytes at n before e rest read word le are is =
     })
 
 -- an end that was read
-pub record IsEnd (g : Stretch) (at before e : ℕ) : Type 0 where
+pub record IsEnd (g : GlyphBytes) (at before e : ℕ) : Type 0 where
   pub is : e ≡ unsigned_at g.bytes at 2
   pub rises : before ≤ e
   pub room : at + 2 ≤ length g.bytes
 
-pub end-was : (g : Stretch) (at before e : ℕ) → end_at g at before ≡ Ok e → IsEnd g at before e
+pub end-was : (g : GlyphBytes) (at before e : ℕ) → end_at g at before ≡ Ok e → IsEnd g at before e
 unfolding end_at
 end-was g at before e was =
     let through = came-through (word_in g at) (rising g at before) e was in
@@ -67,7 +67,7 @@ end-was g at before e was =
     let test : nat_lt e before ≡ false = rw (← is) p.0 in
     record { is = sym is ∙ word.is; rises = grind (arith, nat_tests); room = word.room }
 
-pub ends-were : (g : Stretch) (at n before : ℕ) (read : Listing ℕ) → at ≤ length g.bytes
+pub ends-were : (g : GlyphBytes) (at n before : ℕ) (read : Listing ℕ) → at ≤ length g.bytes
     → ends_from g at n before ≡ Ok read → EndsRead g.bytes at n before read
 unfolding ends_from
 ends-were g at zero before read le was =
@@ -102,7 +102,7 @@ pub record CountRead (ends : List ℕ) (n : ℕ) : Type 0 where
   pub is : n ≡ point_count ends
   pub few : n ≤ point_limit
 
-pub count-was : (g : Stretch) (ends : Listing ℕ) (n : ℕ) → points_within g ends ≡ Ok n → CountRead ends.items n
+pub count-was : (g : GlyphBytes) (ends : Listing ℕ) (n : ℕ) → points_within g ends ≡ Ok n → CountRead ends.items n
 unfolding points_within
 count-was g ends n was =
     let p = passed _ _ _ _ was in
@@ -197,7 +197,7 @@ points-by bytes at n flags xs ys f cx cy =
     let end = f.end in
     rw covers (points-make bytes at n f.runs xs ys f.many f.good (rw (covers, end) at cx) (rw covers at cy))
 
-pub points-were : (g : Stretch) (at n : ℕ) (points : List RawPoint) → at ≤ length g.bytes
+pub points-were : (g : GlyphBytes) (at n : ℕ) (points : List RawPoint) → at ≤ length g.bytes
     → points_of g at n ≡ Ok points → PointsRead g.bytes at n points
 unfolding points_of
 points-were g at n points le was =

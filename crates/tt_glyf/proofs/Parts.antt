@@ -7,7 +7,7 @@ use Rattle.tt_core.specs.Chains.{came-through, passed, passed-else}
 use Rattle.tt_core.specs.Numbers.{unsigned_at, signed16}
 use Rattle.tt_core.specs.Outcomes.{◌>>=◌}
 use Rattle.tt_glyf.specs.declared.raw.Record.{Record}
-use Rattle.tt_glyf.specs.Bytes.{Stretch, Listing, byte_in, word_in, signed_in, slice_in}
+use Rattle.tt_glyf.specs.Bytes.{GlyphBytes, Listing, byte_in, word_in, signed_in, slice_in}
 use Rattle.tt_glyf.specs.Composite.{Arguments, Transform, Program, signed8, argument_size, argument_at, arguments_at, transform_size, one_scale, identity, two_scales_at, two_by_two_at, transform_at, record_size, asks_scaled_offset, unscaled, known_glyph, record_at, records_from, more_components, arg_1_and_2_are_words, args_are_xy_values, we_have_a_scale, we_have_an_x_and_y_scale, we_have_a_two_by_two, has_program, program_of}
 use Rattle.tt_glyf.specs.Defects.{written_records, record_place, GoesOn}
 use Rattle.tt_glyf.specs.Flags.{has}
@@ -16,7 +16,7 @@ use Rattle.tt_glyf.proofs.Chains.{came-after}
 use Rattle.tt_glyf.proofs.Fields.{IsField, byte-was, word-was, signed-was}
 use Rattle.tt_glyf.proofs.Places.{IsWithin, slice-was}
 
-argument-cases : (g : Stretch) (at : ℕ) (words offsets : Bool) (a : ℤ)
+argument-cases : (g : GlyphBytes) (at : ℕ) (words offsets : Bool) (a : ℤ)
     → (if words then (if offsets then signed_in g at else (word_in g at >>= λ n. Ok (pos n)))
     else (byte_in g at >>= λ n. Ok (if offsets then signed8 n else pos n))) ≡ Ok a
     → IsField g (at + (if words then 2 else 1)) a (if words
@@ -34,7 +34,7 @@ argument-cases g at false offsets a was =
     let is : (if offsets then signed8 through.value else pos through.value) ≡ a = cc through.rest in
     rw (← is) (record { is = ap (λ (n : ℕ). if offsets then signed8 n else pos n) byte.is; room = byte.room })
 
-pub argument-was : (g : Stretch) (flags at : ℕ) (a : ℤ) → argument_at g flags at ≡ Ok a
+pub argument-was : (g : GlyphBytes) (flags at : ℕ) (a : ℤ) → argument_at g flags at ≡ Ok a
     → IsField g (at + argument_size flags) a (written_argument g.bytes flags at)
 unfolding argument_at
 argument-was g flags at a was =
@@ -44,7 +44,7 @@ abbrev pub written_arguments : List ℕ → ℕ → ℕ → Arguments
 written_arguments bytes flags at =
     record { arg1 = written_argument bytes flags at; arg2 = written_argument bytes flags (at + argument_size flags) }
 
-pub arguments-were : (g : Stretch) (flags at : ℕ) (a : Arguments) → arguments_at g flags at ≡ Ok a
+pub arguments-were : (g : GlyphBytes) (flags at : ℕ) (a : Arguments) → arguments_at g flags at ≡ Ok a
     → IsField g (at + 2 * argument_size flags) a (written_arguments g.bytes flags at)
 unfolding arguments_at
 arguments-were g flags at a was =
@@ -58,7 +58,7 @@ arguments-were g flags at a was =
     let is : ◌≡◌ {A = Arguments} (record { arg1 = first.value; arg2 = second.value }) a = cc second.rest in
     rw (← is) (record { is = rw (← value1, ← value2) refl; room = omega arith })
 
-two_scales-were : (g : Stretch) (at : ℕ) (t : Transform) → two_scales_at g at ≡ Ok t
+two_scales-were : (g : GlyphBytes) (at : ℕ) (t : Transform) → two_scales_at g at ≡ Ok t
     → IsField g (at + 4) t (record {
       xx = signed16 (unsigned_at g.bytes at 2);
       yx = pos 0;
@@ -78,7 +78,7 @@ two_scales-were g at t was =
     by_yy.rest in
     rw (← is) (record { is = rw (← value_xx, ← value_yy) refl; room = omega arith })
 
-two_by_two-was : (g : Stretch) (at : ℕ) (t : Transform) → two_by_two_at g at ≡ Ok t
+two_by_two-was : (g : GlyphBytes) (at : ℕ) (t : Transform) → two_by_two_at g at ≡ Ok t
     → IsField g (at + 8) t (record {
       xx = signed16 (unsigned_at g.bytes at 2);
       yx = signed16 (unsigned_at g.bytes (at + 2) 2);
@@ -104,7 +104,7 @@ two_by_two-was g at t was =
     t = cc by_yy.rest in
     rw (← is) (record { is = rw (← value_xx, ← value_yx, ← value_xy, ← value_yy) refl; room = omega arith })
 
-transform-cases : (g : Stretch) (at : ℕ) (a b c : Bool) (t : Transform) → at ≤ length g.bytes
+transform-cases : (g : GlyphBytes) (at : ℕ) (a b c : Bool) (t : Transform) → at ≤ length g.bytes
     → (if a then (signed_in g at >>= λ s. Ok (one_scale s))
     else (if b then two_scales_at g at else (if c then two_by_two_at g at else Ok identity))) ≡ Ok t
     → IsField g (at + (if a then 2 else (if b then 4 else (if c then 8 else 0)))) t
@@ -130,7 +130,7 @@ transform-cases g at false true c t le was = two_scales-were g at t was
 transform-cases g at false false true t le was = two_by_two-was g at t was
 transform-cases g at false false false t le was = record { is = cc; room = omega arith }
 
-pub transform-was : (g : Stretch) (flags at : ℕ) (t : Transform) → at ≤ length g.bytes → transform_at g flags at ≡ Ok t
+pub transform-was : (g : GlyphBytes) (flags at : ℕ) (t : Transform) → at ≤ length g.bytes → transform_at g flags at ≡ Ok t
     → IsField g (at + transform_size flags) t (written_transform g.bytes flags at)
 unfolding transform_at
 transform-was g flags at t le was =
@@ -142,7 +142,7 @@ pub record IsKnown (glyphs number glyph : ℕ) : Type 0 where
   pub is : glyph ≡ number
   pub known : number < glyphs
 
-pub glyph-known : (glyphs : ℕ) (g : Stretch) (at number glyph : ℕ) → known_glyph glyphs g at number ≡ Ok glyph
+pub glyph-known : (glyphs : ℕ) (g : GlyphBytes) (at number glyph : ℕ) → known_glyph glyphs g at number ≡ Ok glyph
     → IsKnown glyphs number glyph
 unfolding known_glyph
 glyph-known glyphs g at number glyph was =
@@ -151,7 +151,7 @@ glyph-known glyphs g at number glyph was =
     record { is = sym p.1; known = grind (arith, nat_tests) }
 
 -- what is known of a record that was read, with these flags
-pub record IsPartBy (glyphs : ℕ) (g : Stretch) (at flags : ℕ) (r : Record) : Type 0 where
+pub record IsPartBy (glyphs : ℕ) (g : GlyphBytes) (at flags : ℕ) (r : Record) : Type 0 where
   pub is : r ≡ record_of (g.start + at) flags (written_component g.bytes at) (written_argument g.bytes flags (at + 4))
       (written_argument g.bytes flags (at + 4 + argument_size flags))
       (written_transform g.bytes flags (at + 4 + 2 * argument_size flags))
@@ -159,15 +159,15 @@ pub record IsPartBy (glyphs : ℕ) (g : Stretch) (at flags : ℕ) (r : Record) :
   pub room : at + record_size flags ≤ length g.bytes
   pub unscaled : asks_scaled_offset r ≡ false
 
-abbrev pub IsPart : ℕ → Stretch → ℕ → Record → Type 0
+abbrev pub IsPart : ℕ → GlyphBytes → ℕ → Record → Type 0
 IsPart glyphs g at r = IsPartBy glyphs g at (written_component_flags g.bytes at) r
 
-part-was : (g : Stretch) (at : ℕ) (part r : Record) → unscaled g at part ≡ Ok r → (asks_scaled_offset part ≡ false)
+part-was : (g : GlyphBytes) (at : ℕ) (part r : Record) → unscaled g at part ≡ Ok r → (asks_scaled_offset part ≡ false)
     × (part ≡ r)
 unfolding unscaled
 part-was g at part r was = passed (asks_scaled_offset part) _ part r was
 
-part-make : (glyphs : ℕ) (g : Stretch) (at flags number glyph : ℕ) (args : Arguments) (t : Transform) (r : Record)
+part-make : (glyphs : ℕ) (g : GlyphBytes) (at flags number glyph : ℕ) (args : Arguments) (t : Transform) (r : Record)
     → unscaled g at (record_of (g.start + at) flags glyph args.arg1 args.arg2 t) ≡ Ok r
     → number ≡ written_component g.bytes at → IsKnown glyphs number glyph
     → args ≡ written_arguments g.bytes flags (at + 4) → IsField g
@@ -186,7 +186,7 @@ part-make glyphs g at flags number glyph args t r was component known arguments 
     refl in
     record { is = sym p.1 ∙ is; known = rw (← component) there; room = omega arith; unscaled = rw (← p.1) p.0 }
 
-pub record-was : (glyphs : ℕ) (g : Stretch) (at : ℕ) (r : Record) → record_at glyphs g at ≡ Ok r → IsPart glyphs g at r
+pub record-was : (glyphs : ℕ) (g : GlyphBytes) (at : ℕ) (r : Record) → record_at glyphs g at ≡ Ok r → IsPart glyphs g at r
 unfolding record_at
 record-was glyphs g at r was =
     let by_flags = came-through (word_in g at) _ r was in
@@ -203,7 +203,7 @@ record-was glyphs g at r was =
     by_args.value by_t.value r by_t.rest number.is known args.is t)
 
 -- these are the records up to the last one, and the place behind them
-pub record AreUpTo (g : Stretch) (at : ℕ) (read : Listing Record) : Type 0 where
+pub record AreUpTo (g : GlyphBytes) (at : ℕ) (read : Listing Record) : Type 0 where
   pub n : ℕ
   pub goes_on : GoesOn g at n
   pub stops : has (written_component_flags g.bytes (record_place g.bytes at n)) more_components ≡ false
@@ -211,29 +211,29 @@ pub record AreUpTo (g : Stretch) (at : ℕ) (read : Listing Record) : Type 0 whe
   pub next : record_place g.bytes at (suc n) ≡ read.next
 
 -- a record that is let pass
-pub record IsGoodRecord (glyphs : ℕ) (g : Stretch) (at n allowed : ℕ) : Type 0 where
+pub record IsGoodRecord (glyphs : ℕ) (g : GlyphBytes) (at n allowed : ℕ) : Type 0 where
   pub few : n < allowed
   pub known : written_component g.bytes at < glyphs
   pub room : record_end g.bytes at ≤ length g.bytes
   pub unscaled : asks_scaled_offset (written_record g at) ≡ false
 
-abbrev pub AreGoodRecords : ℕ → Stretch → ℕ → ℕ → Type 0
+abbrev pub AreGoodRecords : ℕ → GlyphBytes → ℕ → ℕ → Type 0
 AreGoodRecords glyphs g at allowed =
     (n : ℕ) → GoesOn g at n → IsGoodRecord glyphs g (record_place g.bytes at n) n allowed
 
-good-first : (glyphs : ℕ) (g : Stretch) (at allowed : ℕ) (r : Record) → IsPart glyphs g at r
+good-first : (glyphs : ℕ) (g : GlyphBytes) (at allowed : ℕ) (r : Record) → IsPart glyphs g at r
     → IsGoodRecord glyphs g at 0 (suc allowed)
 good-first glyphs g at allowed r part =
     let is : r ≡ written_record g at = part.is in
     record { few = omega arith; known = part.known; room = part.room; unscaled = rw is at part.unscaled }
 
-good-last : (glyphs : ℕ) (g : Stretch) (at allowed : ℕ) (r : Record) (n : ℕ) → IsPart glyphs g at r
+good-last : (glyphs : ℕ) (g : GlyphBytes) (at allowed : ℕ) (r : Record) (n : ℕ) → IsPart glyphs g at r
     → has (written_component_flags g.bytes at) more_components ≡ false → GoesOn g at n
     → IsGoodRecord glyphs g (record_place g.bytes at n) n (suc allowed)
 good-last glyphs g at allowed r zero part stops goes_on = good-first glyphs g at allowed r part
 good-last glyphs g at allowed r (suc n) part stops goes_on = let more = goes_on.0 in absurd cc
 
-good-more : (glyphs : ℕ) (g : Stretch) (at allowed : ℕ) (r : Record) (n : ℕ) → IsPart glyphs g at r
+good-more : (glyphs : ℕ) (g : GlyphBytes) (at allowed : ℕ) (r : Record) (n : ℕ) → IsPart glyphs g at r
     → AreGoodRecords glyphs g (record_end g.bytes at) allowed → GoesOn g at n
     → IsGoodRecord glyphs g (record_place g.bytes at n) n (suc allowed)
 good-more glyphs g at allowed r zero part others goes_on = good-first glyphs g at allowed r part
@@ -243,7 +243,7 @@ good-more glyphs g at allowed r (suc n) part others goes_on =
     record { few = omega arith; known = good.known; room = good.room; unscaled = good.unscaled }
 
 -- the records that were read
-pub record ArePartsRead (glyphs : ℕ) (g : Stretch) (at allowed : ℕ) (read : Listing Record) : Type 0 where
+pub record ArePartsRead (glyphs : ℕ) (g : GlyphBytes) (at allowed : ℕ) (read : Listing Record) : Type 0 where
   pub are : AreComponents g at read.items
   pub some : 0 < length read.items
   pub few : length read.items ≤ allowed
@@ -253,22 +253,22 @@ pub record ArePartsRead (glyphs : ℕ) (g : Stretch) (at allowed : ℕ) (read : 
   pub up_to : AreUpTo g at read
   pub good : AreGoodRecords glyphs g at allowed
 
-pub flags-are : (glyphs : ℕ) (g : Stretch) (at : ℕ) (r : Record) → IsPart glyphs g at r
+pub flags-are : (glyphs : ℕ) (g : GlyphBytes) (at : ℕ) (r : Record) → IsPart glyphs g at r
     → r.flags ≡ written_component_flags g.bytes at
 flags-are glyphs g at r part = ap (λ (x : Record). x.flags) part.is
 
-glyph-is : (glyphs : ℕ) (g : Stretch) (at : ℕ) (r : Record) → IsPart glyphs g at r → r.glyph < glyphs
+glyph-is : (glyphs : ℕ) (g : GlyphBytes) (at : ℕ) (r : Record) → IsPart glyphs g at r → r.glyph < glyphs
 glyph-is glyphs g at r part =
     let is : r.glyph ≡ written_component g.bytes at = ap (λ (x : Record). x.glyph) part.is in
     let known = part.known in
     rw is known
 
-components-more : (glyphs : ℕ) (g : Stretch) (at : ℕ) (r : Record) (rs : List Record) → IsPart glyphs g at r
+components-more : (glyphs : ℕ) (g : GlyphBytes) (at : ℕ) (r : Record) (rs : List Record) → IsPart glyphs g at r
     → has r.flags more_components ≡ true → AreComponents g (record_end g.bytes at) rs → AreComponents g at (r ∷ rs)
 components-more glyphs g at r [] part goes_on are = absurd are
 components-more glyphs g at r (s ∷ rs) part goes_on are = (part.is, part.room, goes_on, are)
 
-parts-last : (glyphs : ℕ) (g : Stretch) (at allowed : ℕ) (r : Record) → IsPart glyphs g at r
+parts-last : (glyphs : ℕ) (g : GlyphBytes) (at allowed : ℕ) (r : Record) → IsPart glyphs g at r
     → has r.flags more_components ≡ false → ArePartsRead glyphs g at (suc allowed)
     (record { items = r ∷ []; next = record_end g.bytes at })
 parts-last glyphs g at allowed r part stops =
@@ -286,7 +286,7 @@ parts-last glyphs g at allowed r part stops =
       good = λ n goes_on. good-last glyphs g at allowed r n part stop goes_on;
     }
 
-parts-more : (glyphs : ℕ) (g : Stretch) (at allowed : ℕ) (r : Record) (rest : Listing Record) → IsPart glyphs g at r
+parts-more : (glyphs : ℕ) (g : GlyphBytes) (at allowed : ℕ) (r : Record) (rest : Listing Record) → IsPart glyphs g at r
     → has r.flags more_components ≡ true → ArePartsRead glyphs g (record_end g.bytes at) allowed rest
     → ArePartsRead glyphs g at (suc allowed) (record { items = r ∷ rest.items; next = rest.next })
 parts-more glyphs g at allowed r rest part goes_on read =
@@ -312,7 +312,7 @@ parts-more glyphs g at allowed r rest part goes_on read =
       good = λ n goes_on. good-more glyphs g at allowed r n part read.good goes_on;
     }
 
-parts-cases : (glyphs : ℕ) (g : Stretch) (at allowed : ℕ) (r : Record) (rest : Listing Record) (m : Bool)
+parts-cases : (glyphs : ℕ) (g : GlyphBytes) (at allowed : ℕ) (r : Record) (rest : Listing Record) (m : Bool)
     → IsPart glyphs g at r → has r.flags more_components ≡ m
     → (if m then records_from glyphs g (at + record_size r.flags) allowed
     else Ok (record { items = []; next = at + record_size r.flags })) ≡ Ok rest
@@ -328,7 +328,7 @@ parts-cases glyphs g at allowed r rest false part is came further =
     let place : ◌≡◌ {A = Listing Record} (record { items = []; next = record_end g.bytes at }) rest = rw (← flags) e in
     rw (← place) (parts-last glyphs g at allowed r part is)
 
-pub records-were : (glyphs : ℕ) (g : Stretch) (at allowed : ℕ) (read : Listing Record)
+pub records-were : (glyphs : ℕ) (g : GlyphBytes) (at allowed : ℕ) (read : Listing Record)
     → records_from glyphs g at allowed ≡ Ok read → ArePartsRead glyphs g at allowed read
 unfolding records_from
 records-were glyphs g at zero read was = absurd cc
@@ -349,19 +349,19 @@ nothing-there bytes at =
     rw none refl
 
 -- the program that was read
-pub record IsProgramRead (g : Stretch) (p : Program) : Type 0 where
+pub record IsProgramRead (g : GlyphBytes) (p : Program) : Type 0 where
   pub place : ℕ
   pub at : p.code_at ≡ g.start + place
   pub within : IsWithin g.bytes p.code place
 
 -- the program that was read behind the records, where one of them says so
-pub record IsProgramBehind (g : Stretch) (next : ℕ) (follows : Bool) (p : Program) : Type 0 where
+pub record IsProgramBehind (g : GlyphBytes) (next : ℕ) (follows : Bool) (p : Program) : Type 0 where
   pub read : IsProgramRead g p
   pub size : follows ≡ true → (p.code_at ≡ g.start + (next + 2)) × (length p.code ≡ unsigned_at g.bytes next 2)
   pub none : follows ≡ false → p.code ≡ []
   pub room : follows ≡ true → next + 2 + unsigned_at g.bytes next 2 ≤ length g.bytes
 
-program-there : (g : Stretch) (next size : ℕ) (code : List ℕ) → size ≡ unsigned_at g.bytes next 2 → length code ≡ size
+program-there : (g : GlyphBytes) (next size : ℕ) (code : List ℕ) → size ≡ unsigned_at g.bytes next 2 → length code ≡ size
     → IsWithin g.bytes code (next + 2) → IsProgramBehind g next true
     (record { code = code; code_at = g.start + (next + 2) })
 program-there g next size code is many within =
@@ -373,7 +373,7 @@ program-there g next size code is many within =
       room = λ t. rw (← is) (omega arith);
     }
 
-program-cases : (g : Stretch) (next : ℕ) (follows : Bool) (p : Program) → next ≤ length g.bytes
+program-cases : (g : GlyphBytes) (next : ℕ) (follows : Bool) (p : Program) → next ≤ length g.bytes
     → (if follows then (word_in g next >>= λ size. slice_in g (next + 2) size
     >>= λ code. Ok (record { code = code; code_at = g.start + (next + 2) }))
     else Ok (record { code = []; code_at = g.start + next })) ≡ Ok p → IsProgramBehind g next follows p
@@ -400,7 +400,7 @@ program-cases g next false p room was =
       room = λ t. absurd cc;
     })
 
-pub program-was : (g : Stretch) (records : Listing Record) (p : Program) → records.next ≤ length g.bytes
+pub program-was : (g : GlyphBytes) (records : Listing Record) (p : Program) → records.next ≤ length g.bytes
     → program_of g records ≡ Ok p → IsProgramBehind g records.next (has_program records.items) p
 unfolding program_of
 program-was g records p room was = program-cases g records.next (has_program records.items) p room was

@@ -4,7 +4,7 @@ use Rattle.std.specs.Prelude.{slice_range}
 use Rattle.std.proofs.lemmas.List.{length-drop, length-take, drop-take, take-take, drop-drop}
 use Rattle.std.proofs.lemmas.Bool.Decides.{nat_tests}
 use Rattle.tt_core.specs.Chains.{passed-else}
-use Rattle.tt_glyf.specs.Bytes.{Stretch, slice_in}
+use Rattle.tt_glyf.specs.Bytes.{GlyphBytes, slice_in}
 use Rattle.tt_glyf.specs.Meaning.{IsProgram}
 
 -- the bytes of a stretch at a place of it
@@ -15,7 +15,7 @@ pub record IsWithin (bytes code : List ℕ) (at : ℕ) : Type 0 where
 pub length-range : (bytes : List ℕ) (at n : ℕ) → at + n ≤ length bytes → length (slice_range bytes at (at + n)) ≡ n
 length-range bytes at n room = simp (length-take, length-drop) (omega arith)
 
-pub slice-was : (g : Stretch) (at n : ℕ) (code : List ℕ) → slice_in g at n ≡ Ok code → (length code ≡ n)
+pub slice-was : (g : GlyphBytes) (at n : ℕ) (code : List ℕ) → slice_in g at n ≡ Ok code → (length code ≡ n)
     × IsWithin g.bytes code at
 unfolding slice_in
 slice-was g at n code was =

@@ -2,12 +2,12 @@
 use Rattle.std.proofs.Common.{◌≡◌, ℕ, zero, suc, ◌+◌, ◌-◌, ◌<◌, ◌≤◌, List, ◌++◌, Ok, Err, refl, ap, arith, add-one, append-nil}
 use Rattle.std.proofs.Math.ListN.{replicate}
 use Rattle.tt_core.specs.Faults.{Fault}
-use Rattle.tt_glyf.specs.Bytes.{Stretch, after}
+use Rattle.tt_glyf.specs.Bytes.{GlyphBytes, after}
 use Rattle.tt_glyf.specs.Flags.{Run, run_at, flags_from}
 use Rattle.tt_glyf.proofs.Chains.{chain-same, after-after}
 
 -- more runs than points make no difference
-pub enough : (a b : ℕ) (g : Stretch) (at left : ℕ) → left ≤ a → left ≤ b
+pub enough : (a b : ℕ) (g : GlyphBytes) (at left : ℕ) → left ≤ a → left ≤ b
     → flags_from a g at left ≡ flags_from b g at left
 unfolding flags_from
 enough a b g at zero la lb = refl
@@ -18,7 +18,7 @@ enough (suc a) (suc b) g at (suc l) la lb =
     (enough a b g r.next (l - r.copies) (omega arith) (omega arith)))
 
 -- a run, then the runs behind it
-pub turn : (g : Stretch) (before : List ℕ) (at left : ℕ) (r : Run) → 0 < left → r.copies < left
+pub turn : (g : GlyphBytes) (before : List ℕ) (at left : ℕ) (r : Run) → 0 < left → r.copies < left
     → run_at g at left ≡ Ok r → after before (flags_from left g at left) ≡ after
     (before ++ replicate (r.copies + 1) r.flag) (flags_from (left - (r.copies + 1)) g r.next (left - (r.copies + 1)))
 unfolding flags_from
@@ -29,14 +29,14 @@ turn g before at (suc l) r some within was =
     rw (rest, was, after-after, fuel, add-one) refl
 
 -- a run that is refused
-pub breaks : (g : Stretch) (before : List ℕ) (at left : ℕ) (f : Fault) → 0 < left → run_at g at left ≡ Err f
+pub breaks : (g : GlyphBytes) (before : List ℕ) (at left : ℕ) (f : Fault) → 0 < left → run_at g at left ≡ Err f
     → after before (flags_from left g at left) ≡ Err f
 unfolding flags_from
 breaks g before at zero f some was = absurd (omega arith)
 breaks g before at (suc l) f some was = rw was refl
 
 -- no point is left
-pub done : (g : Stretch) (before : List ℕ) (at left : ℕ) → left ≡ 0
+pub done : (g : GlyphBytes) (before : List ℕ) (at left : ℕ) → left ≡ 0
     → after before (flags_from left g at left) ≡ Ok (record { items = before; next = at })
 unfolding flags_from
 done g before at left none = rw (none, append-nil) refl

@@ -7,7 +7,7 @@ use Rattle.tt_core.specs.declared.fault.Why.TheVariants as why
 use Rattle.tt_core.specs.Numbers.{unsigned_at}
 use Rattle.tt_glyf.specs.declared.raw.RawPoint.{RawPoint}
 use Rattle.tt_core.specs.Limits.{component_limit}
-use Rattle.tt_glyf.specs.Bytes.{Stretch, Listing, glyph_fault}
+use Rattle.tt_glyf.specs.Bytes.{GlyphBytes, Listing, glyph_fault}
 use Rattle.tt_glyf.specs.Composite.{has_program, more_components}
 use Rattle.tt_glyf.specs.Coordinates.{Axis, Coordinate, x_axis, y_axis, origin}
 use Rattle.tt_glyf.specs.Defects.{IsCut, LeavesWords, IsFallingEnd, written_points, IsFlagDefect, IsCoordinateDefect, IsSimpleDefect, IsRecordsDefect, IsProgramDefect, IsCompositeDefect, written_records, record_place, GoesOn}
@@ -22,14 +22,14 @@ use Rattle.tt_glyf.proofs.Outlines.{EndsRead, never-falls, PointsRead}
 use Rattle.tt_glyf.proofs.Parts.{AreUpTo, AreGoodRecords, IsProgramBehind}
 
 -- what may be bad behind so many runs
-abbrev IsBadBehind : Stretch → ℕ → ℕ → Fault → Type 0
+abbrev IsBadBehind : GlyphBytes → ℕ → ℕ → Fault → Type 0
 IsBadBehind g at runs f =
     IsCut g (points_end g.bytes at runs) f
     ⊎ ((LeavesWords (x_deltas g.bytes at runs) ⊎ LeavesWords (y_deltas g.bytes at runs))
     × (f ≡ glyph_fault g 0 why.CoordRange))
 
 -- a program passes the end behind so many records that go on, and one more
-abbrev IsProgramCut : Stretch → ℕ → Fault → Type 0
+abbrev IsProgramCut : GlyphBytes → ℕ → Fault → Type 0
 IsProgramCut g n f =
     (has_program (written_records g 10 (suc n)) ≡ true)
     × IsCut g (record_place g.bytes 10 (suc n) + 2 + unsigned_at g.bytes (record_place g.bytes 10 (suc n)) 2) f
@@ -53,7 +53,7 @@ many-deltas : (bytes : List ℕ) (a : Axis) (flags : List ℕ) (at : ℕ) → le
 many-deltas bytes a [] at = refl
 many-deltas bytes a (flag ∷ flags) at = ap suc (many-deltas bytes a flags (written_delta bytes a flag at).next)
 
-no-falling : (g : Stretch) (contours : ℕ) (ends : Listing ℕ) (f : Fault) → EndsRead g.bytes 10 contours 0 ends
+no-falling : (g : GlyphBytes) (contours : ℕ) (ends : Listing ℕ) (f : Fault) → EndsRead g.bytes 10 contours 0 ends
     → ¬ IsFallingEnd g contours f
 no-falling g contours ends f read bad =
     let many = read.many in
@@ -64,7 +64,7 @@ no-falling g contours ends f read bad =
     let rises = never-falls 0 ends.items bad.0 (bad.0 + 1) read.rise (omega arith) (omega arith) in
     absurd (omega arith)
 
-no-flag-defect : (g : Stretch) (at n : ℕ) (f : Fault) → AreGoodRuns g.bytes at n → ¬ IsFlagDefect g at n f
+no-flag-defect : (g : GlyphBytes) (at n : ℕ) (f : Fault) → AreGoodRuns g.bytes at n → ¬ IsFlagDefect g at n f
 no-flag-defect g at n f good bad =
     let run = good bad.0 bad.1 in
     let within = run.within in
@@ -84,7 +84,7 @@ no-leaving bytes a flags before read start are bad =
     let leaves = bad.2 in
     absurd (true≢false (sym fits ∙ leaves))
 
-no-coordinate-defect-by : (g : Stretch) (at n : ℕ) (points : List RawPoint) (f : Fault)
+no-coordinate-defect-by : (g : GlyphBytes) (at n : ℕ) (points : List RawPoint) (f : Fault)
     → (read : PointsRead g.bytes at n points) → ¬ IsBadBehind g at read.runs f
 no-coordinate-defect-by g at n points f read bad = elim bad [
   | inl short ↦
@@ -99,18 +99,18 @@ no-coordinate-defect-by g at n points f read bad = elim bad [
   ]
 ]
 
-no-coordinate-defect : (g : Stretch) (at n : ℕ) (points : List RawPoint) (f : Fault) → PointsRead g.bytes at n points
+no-coordinate-defect : (g : GlyphBytes) (at n : ℕ) (points : List RawPoint) (f : Fault) → PointsRead g.bytes at n points
     → ¬ IsCoordinateDefect g at n f
 no-coordinate-defect g at n points f read bad =
     let same : bad.0 ≡ read.runs = runs-same g.bytes at bad.0 read.runs (bad.1 ∙ sym read.covers) in
     no-coordinate-defect-by g at n points f read (subst (λ (k : ℕ). IsBadBehind g at k f) same bad.2)
 
-points-are-written : (g : Stretch) (x_min : ℤ) (contours : ℕ) (s : SimpleGlyph) → 0 < contours
+points-are-written : (g : GlyphBytes) (x_min : ℤ) (contours : ℕ) (s : SimpleGlyph) → 0 < contours
     → SimpleRead g x_min contours s → length s.points ≡ written_points g.bytes contours
 points-are-written g x_min contours s some read =
     read.count.is ∙ count-is g.bytes contours (record { items = s.ends; next = size_place contours }) some read.ends
 
-pub simple-whole : (g : Stretch) (x_min : ℤ) (contours : ℕ) (s : SimpleGlyph) (f : Fault) → 0 < contours
+pub simple-whole : (g : GlyphBytes) (x_min : ℤ) (contours : ℕ) (s : SimpleGlyph) (f : Fault) → 0 < contours
     → SimpleRead g x_min contours s → ¬ IsSimpleDefect g contours f
 simple-whole g x_min contours s f some read bad =
     let points = points-are-written g x_min contours s some read in
@@ -134,7 +134,7 @@ simple-whole g x_min contours s f some read bad =
     ]
 
 -- the last record is one
-last-same : (g : Stretch) (at k n : ℕ) → GoesOn g at k → has
+last-same : (g : GlyphBytes) (at k n : ℕ) → GoesOn g at k → has
     (written_component_flags g.bytes (record_place g.bytes at k)) more_components ≡ false → GoesOn g at n
     → has (written_component_flags g.bytes (record_place g.bytes at n)) more_components ≡ false → k ≡ n
 last-same g at zero zero on_k stops_k on_n stops_n = refl
@@ -143,7 +143,7 @@ last-same g at (suc k) zero on_k stops_k on_n stops_n = absurd (true≢false (sy
 last-same g at (suc k) (suc n) on_k stops_k on_n stops_n =
     ap suc (last-same g (record_end g.bytes at) k n on_k.1 stops_k on_n.1 stops_n)
 
-no-records-defect : (glyphs : ℕ) (g : Stretch) (f : Fault) → AreGoodRecords glyphs g 10 component_limit
+no-records-defect : (glyphs : ℕ) (g : GlyphBytes) (f : Fault) → AreGoodRecords glyphs g 10 component_limit
     → ¬ IsRecordsDefect glyphs g 10 component_limit f
 no-records-defect glyphs g f good bad = elim bad [
   | inl one ↦
@@ -164,7 +164,7 @@ no-records-defect glyphs g f good bad = elim bad [
       absurd (omega arith)
 ]
 
-no-program-defect : (g : Stretch) (c : CompositeGlyph) (f : Fault)
+no-program-defect : (g : GlyphBytes) (c : CompositeGlyph) (f : Fault)
     → AreUpTo g 10 (record { items = c.records; next = records_end g.bytes 10 c.records })
     → IsProgramBehind g (records_end g.bytes 10 c.records) (has_program c.records)
     (record { code = c.code; code_at = c.code_at }) → ¬ IsProgramDefect g 10 f
@@ -178,7 +178,7 @@ no-program-defect g c f up_to program bad =
     let ends = rw next at there.1.0 in
     absurd (omega arith)
 
-pub composite-whole : (glyphs : ℕ) (g : Stretch) (x_min : ℤ) (c : CompositeGlyph) (f : Fault)
+pub composite-whole : (glyphs : ℕ) (g : GlyphBytes) (x_min : ℤ) (c : CompositeGlyph) (f : Fault)
     → CompositeRead glyphs g x_min c → ¬ IsCompositeDefect glyphs g f
 composite-whole glyphs g x_min c f read bad = elim bad [
   | inl records ↦ no-records-defect glyphs g f read.parts.good records

@@ -12,35 +12,35 @@ abbrev pub glyf_tag : List ℕ
 glyf_tag = codes "glyf"
 
 -- the bytes of one glyph, and where they begin in glyf
-pub record Stretch : Type 0 where
+pub record GlyphBytes : Type 0 where
   pub start : ℕ
   pub bytes : List ℕ
 
-abbrev pub stretch_at : ℕ → List ℕ → Stretch
+abbrev pub stretch_at : ℕ → List ℕ → GlyphBytes
 stretch_at start bytes = record { start = start; bytes = bytes }
 
 -- a fault at a byte of the glyph, told by its offset in glyf
-abbrev pub glyph_fault : Stretch → ℕ → Why → Fault
+abbrev pub glyph_fault : GlyphBytes → ℕ → Why → Fault
 glyph_fault s at why = fault_at glyf_tag (s.start + at) why
 
 -- the bytes end too early
-abbrev pub short : Stretch → Fault
+abbrev pub short : GlyphBytes → Fault
 short s = glyph_fault s (length s.bytes) why.GlyphShort
 
 -- the byte at a place
-unfoldable pub byte_in : Stretch → ℕ → Result ℕ Fault
+unfoldable pub byte_in : GlyphBytes → ℕ → Result ℕ Fault
 byte_in s at = if nat_lt at (length s.bytes) then Ok (slice_index s.bytes at) else Err (short s)
 
 -- the unsigned number in the two bytes at a place
-unfoldable pub word_in : Stretch → ℕ → Result ℕ Fault
+unfoldable pub word_in : GlyphBytes → ℕ → Result ℕ Fault
 word_in s at = if nat_le (at + 2) (length s.bytes) then Ok (unsigned_at s.bytes at 2) else Err (short s)
 
 -- the signed number in the two bytes at a place
-unfoldable pub signed_in : Stretch → ℕ → Result ℤ Fault
+unfoldable pub signed_in : GlyphBytes → ℕ → Result ℤ Fault
 signed_in s at = if nat_le (at + 2) (length s.bytes) then Ok (signed16 (unsigned_at s.bytes at 2)) else Err (short s)
 
 -- so many bytes from a place on
-unfoldable pub slice_in : Stretch → ℕ → ℕ → Result (List ℕ) Fault
+unfoldable pub slice_in : GlyphBytes → ℕ → ℕ → Result (List ℕ) Fault
 slice_in s at n = if nat_le (at + n) (length s.bytes) then Ok (slice_range s.bytes at (at + n)) else Err (short s)
 
 -- a list that was read from the bytes, and the place behind it

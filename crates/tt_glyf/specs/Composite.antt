@@ -7,8 +7,8 @@ use Rattle.tt_core.specs.declared.fault.Why.TheVariants as why
 use Rattle.tt_core.specs.Limits.{component_limit}
 use Rattle.tt_core.specs.Outcomes.{◌>>=◌}
 use Rattle.tt_glyf.specs.declared.raw.Record.{Record}
-use Rattle.tt_glyf.specs.Bytes.{Stretch, Listing, byte_in, word_in, signed_in, slice_in, glyph_fault, after}
-use Rattle.tt_glyf.specs.Raw.{GlyphData, composite}
+use Rattle.tt_glyf.specs.Bytes.{GlyphBytes, Listing, byte_in, word_in, signed_in, slice_in, glyph_fault, after}
+use Rattle.tt_glyf.specs.Raw.{Raw, composite}
 use Rattle.tt_glyf.specs.Flags.{has}
 
 abbrev pub arg_1_and_2_are_words : ℕ
@@ -66,7 +66,7 @@ abbrev pub argument_size : ℕ → ℕ
 argument_size flags = if has flags arg_1_and_2_are_words then 2 else 1
 
 -- an argument, at a place
-unfoldable pub argument_at : Stretch → ℕ → ℕ → Result ℤ Fault
+unfoldable pub argument_at : GlyphBytes → ℕ → ℕ → Result ℤ Fault
 argument_at g flags at =
     if has flags arg_1_and_2_are_words
     then (if has flags args_are_xy_values then signed_in g at else (word_in g at >>= λ n. Ok (pos n)))
@@ -96,13 +96,13 @@ transform_size flags =
 abbrev pub one_scale : ℤ → Transform
 one_scale s = record { xx = s; yx = pos 0; xy = pos 0; yy = s }
 
-unfoldable pub two_scales_at : Stretch → ℕ → Result Transform Fault
+unfoldable pub two_scales_at : GlyphBytes → ℕ → Result Transform Fault
 two_scales_at g at = do
   xx ← signed_in g at
   yy ← signed_in g (at + 2)
   Ok (record { xx = xx; yx = pos 0; xy = pos 0; yy = yy })
 
-unfoldable pub two_by_two_at : Stretch → ℕ → Result Transform Fault
+unfoldable pub two_by_two_at : GlyphBytes → ℕ → Result Transform Fault
 two_by_two_at g at = do
   xx ← signed_in g at
   yx ← signed_in g (at + 2)
@@ -111,7 +111,7 @@ two_by_two_at g at = do
   Ok (record { xx = xx; yx = yx; xy = xy; yy = yy })
 
 -- the transform, at a place
-unfoldable pub transform_at : Stretch → ℕ → ℕ → Result Transform Fault
+unfoldable pub transform_at : GlyphBytes → ℕ → ℕ → Result Transform Fault
 transform_at g flags at =
     if has flags we_have_a_scale then (signed_in g at >>= λ s. Ok (one_scale s))
     else (if has flags we_have_an_x_and_y_scale then two_scales_at g at
@@ -140,11 +140,11 @@ abbrev pub asks_scaled_offset : Record → Bool
 asks_scaled_offset r = scales_offsets r.flags && not (is_identity (transform_of r)) && not (has_arguments_zero r)
 
 -- a scaled offset is refused (profile)
-unfoldable pub unscaled : Stretch → ℕ → Record → Result Record Fault
+unfoldable pub unscaled : GlyphBytes → ℕ → Record → Result Record Fault
 unscaled g at r = if asks_scaled_offset r then Err (glyph_fault g at why.ScaledOffset) else Ok r
 
 -- a component has to be a glyph of the font
-unfoldable pub known_glyph : ℕ → Stretch → ℕ → ℕ → Result ℕ Fault
+unfoldable pub known_glyph : ℕ → GlyphBytes → ℕ → ℕ → Result ℕ Fault
 known_glyph glyphs g at glyph = if nat_lt glyph glyphs then Ok glyph else Err (glyph_fault g at why.ComponentGlyph)
 
 -- the two arguments
@@ -152,14 +152,14 @@ pub record Arguments : Type 0 where
   pub arg1 : ℤ
   pub arg2 : ℤ
 
-unfoldable pub arguments_at : Stretch → ℕ → ℕ → Result Arguments Fault
+unfoldable pub arguments_at : GlyphBytes → ℕ → ℕ → Result Arguments Fault
 arguments_at g flags at = do
   arg1 ← argument_at g flags at
   arg2 ← argument_at g flags (at + argument_size flags)
   Ok (record { arg1 = arg1; arg2 = arg2 })
 
 -- the component record at a place
-unfoldable pub record_at : ℕ → Stretch → ℕ → Result Record Fault
+unfoldable pub record_at : ℕ → GlyphBytes → ℕ → Result Record Fault
 record_at glyphs g at = do
   flags ← word_in g at
   number ← word_in g (at + 2)
@@ -179,7 +179,7 @@ record_at glyphs g at = do
   })
 
 -- the records from a place on, of which so many are let pass
-unfoldable pub records_from : ℕ → Stretch → ℕ → ℕ → Result (Listing Record) Fault
+unfoldable pub records_from : ℕ → GlyphBytes → ℕ → ℕ → Result (Listing Record) Fault
 records_from glyphs g at zero = Err (glyph_fault g at why.ComponentCount)
 records_from glyphs g at (suc allowed) = do
   r ← record_at glyphs g at
@@ -187,7 +187,7 @@ records_from glyphs g at (suc allowed) = do
       else Ok (record { items = []; next = at + record_size r.flags }))
 
 -- the records stand behind the header, and no more than these are read (profile)
-abbrev pub records_of : ℕ → Stretch → Result (Listing Record) Fault
+abbrev pub records_of : ℕ → GlyphBytes → Result (Listing Record) Fault
 records_of glyphs g = records_from glyphs g 10 component_limit
 
 -- some record says that a program follows
@@ -200,7 +200,7 @@ pub record Program : Type 0 where
   pub code_at : ℕ
 
 -- the program behind the records, which is there where any of them says so (profile)
-unfoldable pub program_of : Stretch → Listing Record → Result Program Fault
+unfoldable pub program_of : GlyphBytes → Listing Record → Result Program Fault
 program_of g records =
     if has_program records.items
     then (word_in g records.next >>= λ size. slice_in g (records.next + 2) size
@@ -208,7 +208,7 @@ program_of g records =
     else Ok (record { code = []; code_at = g.start + records.next })
 
 -- what a composite glyph says behind its header, in a font of so many glyphs
-unfoldable pub composite_of : ℕ → Stretch → ℤ → Result GlyphData Fault
+unfoldable pub composite_of : ℕ → GlyphBytes → ℤ → Result Raw Fault
 composite_of glyphs g x_min = do
   records ← records_of glyphs g
   p ← program_of g records

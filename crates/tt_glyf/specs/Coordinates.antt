@@ -4,7 +4,7 @@ use Rattle.std.specs.Prelude.{ℕ, ◌+◌, ◌&&◌, Bool, if◌then◌else◌,
 use Rattle.tt_core.specs.Faults.{Fault}
 use Rattle.tt_core.specs.declared.fault.Why.TheVariants as why
 use Rattle.tt_core.specs.Outcomes.{◌>>=◌}
-use Rattle.tt_glyf.specs.Bytes.{Stretch, Listing, byte_in, signed_in, glyph_fault, after}
+use Rattle.tt_glyf.specs.Bytes.{GlyphBytes, Listing, byte_in, signed_in, glyph_fault, after}
 use Rattle.tt_glyf.specs.Flags.{has, x_short_vector, y_short_vector, x_is_same_or_positive, y_is_same_or_positive}
 
 -- the two flag bits that tell how a delta along an axis is written
@@ -28,7 +28,7 @@ abbrev pub short_delta : Bool → ℕ → ℤ
 short_delta positive byte = if positive then pos byte else neg_ℤ (pos byte)
 
 -- the delta of a point with this flag
-unfoldable pub delta_at : Stretch → Axis → ℕ → ℕ → Result Delta Fault
+unfoldable pub delta_at : GlyphBytes → Axis → ℕ → ℕ → Result Delta Fault
 delta_at g a flag at =
     if has flag a.short then (byte_in g at >>= λ byte. Ok
     (record { by = short_delta (has flag a.same) byte; next = at + 1 }))
@@ -49,15 +49,15 @@ abbrev pub is_coordinate : ℤ → Bool
 is_coordinate v = int_lt (neg_ℤ (pos 32769)) v && int_lt v (pos 32768)
 
 -- a sum that leaves 16 bits is refused at the glyph's first byte
-unfoldable pub within_words : Stretch → Coordinate → Result Coordinate Fault
+unfoldable pub within_words : GlyphBytes → Coordinate → Result Coordinate Fault
 within_words g c = if is_coordinate c.value then Ok c else Err (glyph_fault g 0 why.CoordRange)
 
 -- the coordinate of a point with this flag
-unfoldable pub coordinate_at : Stretch → Axis → ℕ → Coordinate → Result Coordinate Fault
+unfoldable pub coordinate_at : GlyphBytes → Axis → ℕ → Coordinate → Result Coordinate Fault
 coordinate_at g a flag before = delta_at g a flag before.next >>= λ d. within_words g (summed before d)
 
 -- the coordinates of the points with these flags
-unfoldable pub coordinates_from : Stretch → Axis → List ℕ → Coordinate → Result (Listing ℤ) Fault
+unfoldable pub coordinates_from : GlyphBytes → Axis → List ℕ → Coordinate → Result (Listing ℤ) Fault
 coordinates_from g a [] before = Ok (record { items = []; next = before.next })
 coordinates_from g a (flag ∷ flags) before = do
   c ← coordinate_at g a flag before
@@ -67,5 +67,5 @@ coordinates_from g a (flag ∷ flags) before = do
 abbrev pub origin : ℕ → Coordinate
 origin at = record { value = pos 0; next = at }
 
-abbrev pub coordinates_of : Stretch → Axis → List ℕ → ℕ → Result (Listing ℤ) Fault
+abbrev pub coordinates_of : GlyphBytes → Axis → List ℕ → ℕ → Result (Listing ℤ) Fault
 coordinates_of g a flags at = coordinates_from g a flags (origin at)

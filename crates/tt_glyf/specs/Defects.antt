@@ -6,19 +6,19 @@ use Rattle.tt_core.specs.declared.fault.Why.TheVariants as why
 use Rattle.tt_core.specs.Limits.{component_limit, point_limit}
 use Rattle.tt_core.specs.Numbers.{unsigned_at}
 use Rattle.tt_glyf.specs.declared.raw.Record.{Record}
-use Rattle.tt_glyf.specs.Bytes.{Stretch, glyph_fault, short}
+use Rattle.tt_glyf.specs.Bytes.{GlyphBytes, glyph_fault, short}
 use Rattle.tt_glyf.specs.Composite.{more_components, has_program, asks_scaled_offset}
 use Rattle.tt_glyf.specs.Coordinates.{is_coordinate}
 use Rattle.tt_glyf.specs.Flags.{has}
-use Rattle.tt_glyf.specs.Loca.{GlyphTables, glyph_offset, IsRangeDefect}
-use Rattle.tt_glyf.specs.Meaning.{stretch_of, contour_count, end_place, written_end, size_place, flags_place, written_run, runs_end, written_flags, x_deltas, y_deltas, points_end, written_component_flags, written_component, written_record, record_end}
+use Rattle.tt_glyf.specs.Loca.{Glyf, glyph_offset, IsRangeDefect}
+use Rattle.tt_glyf.specs.Meaning.{glyph_bytes_at, contour_count, end_place, written_end, size_place, flags_place, written_run, runs_end, written_flags, x_deltas, y_deltas, points_end, written_component_flags, written_component, written_record, record_end}
 
 -- the bytes end before a place behind a field
-abbrev pub IsCut : Stretch → ℕ → Fault → Type 0
+abbrev pub IsCut : GlyphBytes → ℕ → Fault → Type 0
 IsCut g end fault = (length g.bytes < end) × (fault ≡ short g)
 
 -- the end of contour i + 1 lies below the one before it
-abbrev pub IsFallingEnd : Stretch → ℕ → Fault → Type 0
+abbrev pub IsFallingEnd : GlyphBytes → ℕ → Fault → Type 0
 IsFallingEnd g contours fault =
     (i : ℕ) × (i + 1 < contours) × (end_place (i + 1) + 2 ≤ length g.bytes)
     × (written_end g.bytes (i + 1) < written_end g.bytes i)
@@ -29,20 +29,20 @@ abbrev pub written_points : List ℕ → ℕ → ℕ
 written_points bytes contours = written_end bytes (contours - 1) + 1
 
 -- they are more than the limit
-abbrev pub IsManyPoints : Stretch → ℕ → Fault → Type 0
+abbrev pub IsManyPoints : GlyphBytes → ℕ → Fault → Type 0
 IsManyPoints g contours fault =
     (size_place contours ≤ length g.bytes) × (point_limit < written_points g.bytes contours)
     × (fault ≡ glyph_fault g (end_place (contours - 1)) why.PointLimit)
 
 -- the run at a place, where so many points are left, passes the end of the bytes, or copies its flag past the last
 -- point
-abbrev pub IsBadRun : Stretch → ℕ → ℕ → Fault → Type 0
+abbrev pub IsBadRun : GlyphBytes → ℕ → ℕ → Fault → Type 0
 IsBadRun g at left fault =
     IsCut g (written_run g.bytes at).next fault
     ⊎ ((left ≤ (written_run g.bytes at).copies) × (fault ≡ glyph_fault g at why.FlagRun))
 
 -- one of the runs that so many points need does
-abbrev pub IsFlagDefect : Stretch → ℕ → ℕ → Fault → Type 0
+abbrev pub IsFlagDefect : GlyphBytes → ℕ → ℕ → Fault → Type 0
 IsFlagDefect g at points fault =
     (k : ℕ) × (length (written_flags g.bytes at k) < points)
     × IsBadRun g (runs_end g.bytes at k) (points - length (written_flags g.bytes at k)) fault
@@ -52,7 +52,7 @@ abbrev pub LeavesWords : List ℤ → Type 0
 LeavesWords by = (i : ℕ) × (i < length by) × (is_coordinate (fold ◌+ℤ◌ (pos 0) (take (i + 1) by)) ≡ false)
 
 -- behind the runs of so many points a delta passes the end of the bytes, or a coordinate leaves 16 bits
-abbrev pub IsCoordinateDefect : Stretch → ℕ → ℕ → Fault → Type 0
+abbrev pub IsCoordinateDefect : GlyphBytes → ℕ → ℕ → Fault → Type 0
 IsCoordinateDefect g at points fault =
     (runs : ℕ) × (length (written_flags g.bytes at runs) ≡ points)
     × (IsCut g (points_end g.bytes at runs) fault
@@ -60,7 +60,7 @@ IsCoordinateDefect g at points fault =
     × (fault ≡ glyph_fault g 0 why.CoordRange)))
 
 -- a defect of a simple glyph of so many contours
-abbrev pub IsSimpleDefect : Stretch → ℕ → Fault → Type 0
+abbrev pub IsSimpleDefect : GlyphBytes → ℕ → Fault → Type 0
 IsSimpleDefect g contours fault =
     IsCut g (flags_place g.bytes contours) fault
     ⊎ IsFallingEnd g contours fault
@@ -69,7 +69,7 @@ IsSimpleDefect g contours fault =
     ⊎ IsCoordinateDefect g (flags_place g.bytes contours) (written_points g.bytes contours) fault
 
 -- the first so many records from a place on, one behind the other
-abbrev pub written_records : Stretch → ℕ → ℕ → List Record
+abbrev pub written_records : GlyphBytes → ℕ → ℕ → List Record
 written_records g at zero = []
 written_records g at (suc n) = written_record g at ∷ written_records g (record_end g.bytes at) n
 
@@ -79,26 +79,26 @@ record_place bytes at zero = at
 record_place bytes at (suc n) = record_place bytes (record_end bytes at) n
 
 -- each of them says that another follows
-abbrev pub GoesOn : Stretch → ℕ → ℕ → Type 0
+abbrev pub GoesOn : GlyphBytes → ℕ → ℕ → Type 0
 GoesOn g at zero = Unit {0}
 GoesOn g at (suc n) =
     (has (written_component_flags g.bytes at) more_components ≡ true) × GoesOn g (record_end g.bytes at) n
 
 -- a record passes the end of the bytes, or names no glyph of the font, or wants its offset transformed
-abbrev pub IsBadRecord : ℕ → Stretch → ℕ → Fault → Type 0
+abbrev pub IsBadRecord : ℕ → GlyphBytes → ℕ → Fault → Type 0
 IsBadRecord glyphs g at fault =
     IsCut g (record_end g.bytes at) fault
     ⊎ ((glyphs ≤ written_component g.bytes at) × (fault ≡ glyph_fault g at why.ComponentGlyph))
     ⊎ ((asks_scaled_offset (written_record g at) ≡ true) × (fault ≡ glyph_fault g at why.ScaledOffset))
 
 -- one of the records that are let pass is bad, or there is one more
-abbrev pub IsRecordsDefect : ℕ → Stretch → ℕ → ℕ → Fault → Type 0
+abbrev pub IsRecordsDefect : ℕ → GlyphBytes → ℕ → ℕ → Fault → Type 0
 IsRecordsDefect glyphs g at allowed fault =
     ((n : ℕ) × (n < allowed) × GoesOn g at n × IsBadRecord glyphs g (record_place g.bytes at n) fault)
     ⊎ (GoesOn g at allowed × (fault ≡ glyph_fault g (record_place g.bytes at allowed) why.ComponentCount))
 
 -- the records up to the last one say that a program follows, and it passes the end of the bytes
-abbrev pub IsProgramDefect : Stretch → ℕ → Fault → Type 0
+abbrev pub IsProgramDefect : GlyphBytes → ℕ → Fault → Type 0
 IsProgramDefect g at fault =
     (n : ℕ) × GoesOn g at n × (has (written_component_flags g.bytes (record_place g.bytes at n))
     more_components ≡ false)
@@ -106,11 +106,11 @@ IsProgramDefect g at fault =
     × IsCut g (record_place g.bytes at (suc n) + 2 + unsigned_at g.bytes (record_place g.bytes at (suc n)) 2) fault
 
 -- a defect of a composite glyph
-abbrev pub IsCompositeDefect : ℕ → Stretch → Fault → Type 0
+abbrev pub IsCompositeDefect : ℕ → GlyphBytes → Fault → Type 0
 IsCompositeDefect glyphs g fault = IsRecordsDefect glyphs g 10 component_limit fault ⊎ IsProgramDefect g 10 fault
 
 -- a defect of the bytes of a glyph: there is no whole header, or what it announces is bad
-abbrev pub IsBadGlyph : ℕ → Stretch → Fault → Type 0
+abbrev pub IsBadGlyph : ℕ → GlyphBytes → Fault → Type 0
 IsBadGlyph glyphs g fault =
     IsCut g 10 fault
     ⊎ ((10 ≤ length g.bytes) × (pos 0 <ℤ contour_count g.bytes)
@@ -118,9 +118,9 @@ IsBadGlyph glyphs g fault =
     ⊎ ((10 ≤ length g.bytes) × (contour_count g.bytes <ℤ pos 0) × IsCompositeDefect glyphs g fault)
 
 -- loca gives the glyph bytes of glyf
-abbrev pub HasBytes : GlyphTables → ℕ → Type 0
+abbrev pub HasBytes : Glyf → ℕ → Type 0
 HasBytes t g = (glyph_offset t g < glyph_offset t (g + 1)) × (glyph_offset t g ≤ length t.glyf)
 
 -- a defect of a glyph
-abbrev pub IsGlyphDefect : GlyphTables → ℕ → Fault → Type 0
-IsGlyphDefect t g fault = IsRangeDefect t g fault ⊎ (HasBytes t g × IsBadGlyph t.glyphs (stretch_of t g) fault)
+abbrev pub IsGlyphDefect : Glyf → ℕ → Fault → Type 0
+IsGlyphDefect t g fault = IsRangeDefect t g fault ⊎ (HasBytes t g × IsBadGlyph t.glyphs (glyph_bytes_at t g) fault)

@@ -5,7 +5,7 @@ use Rattle.std.specs.Int.RustNames.{bit_and}
 use Rattle.tt_core.specs.Faults.{Fault}
 use Rattle.tt_core.specs.declared.fault.Why.TheVariants as why
 use Rattle.tt_core.specs.Outcomes.{◌>>=◌}
-use Rattle.tt_glyf.specs.Bytes.{Stretch, Listing, byte_in, glyph_fault, after}
+use Rattle.tt_glyf.specs.Bytes.{GlyphBytes, Listing, byte_in, glyph_fault, after}
 
 -- the flags have this bit
 abbrev pub has : ℕ → ℕ → Bool
@@ -45,11 +45,11 @@ pub record Run : Type 0 where
   pub next : ℕ
 
 -- copies past the last point are refused
-abbrev pub run_within : Stretch → ℕ → ℕ → Run → Result Run Fault
+abbrev pub run_within : GlyphBytes → ℕ → ℕ → Run → Result Run Fault
 run_within g at left r = if nat_lt r.copies left then Ok r else Err (glyph_fault g at why.FlagRun)
 
 -- the run that begins at a place, where so many points are left
-unfoldable pub run_at : Stretch → ℕ → ℕ → Result Run Fault
+unfoldable pub run_at : GlyphBytes → ℕ → ℕ → Result Run Fault
 run_at g at left = do
   flag ← byte_in g at
   if has flag repeat_flag
@@ -58,7 +58,7 @@ run_at g at left = do
       else Ok (record { flag = flag; copies = 0; next = at + 1 })
 
 -- the flags of all points that are left, run by run; there are no more runs than points
-unfoldable pub flags_from : ℕ → Stretch → ℕ → ℕ → Result (Listing ℕ) Fault
+unfoldable pub flags_from : ℕ → GlyphBytes → ℕ → ℕ → Result (Listing ℕ) Fault
 flags_from runs g at zero = Ok (record { items = []; next = at })
 flags_from zero g at (suc left) = Ok (record { items = []; next = at })
 flags_from (suc runs) g at (suc left) = do
@@ -66,5 +66,5 @@ flags_from (suc runs) g at (suc left) = do
   after (replicate (suc r.copies) r.flag) (flags_from runs g r.next (left - r.copies))
 
 -- the flags of so many points
-abbrev pub flags_of : Stretch → ℕ → ℕ → Result (Listing ℕ) Fault
+abbrev pub flags_of : GlyphBytes → ℕ → ℕ → Result (Listing ℕ) Fault
 flags_of g at points = flags_from points g at points

@@ -6,12 +6,12 @@ use Rattle.tt_core.specs.declared.fault.Why.TheVariants as why
 use Rattle.tt_core.specs.Faults.{fault_at}
 use Rattle.tt_core.specs.Outcomes.{◌>>=◌}
 use Rattle.tt_glyf.specs.declared.raw.RawPoint.{RawPoint}
-use Rattle.tt_glyf.specs.Bytes.{Stretch, stretch_at, byte_in, word_in, signed_in, slice_in, short}
+use Rattle.tt_glyf.specs.Bytes.{GlyphBytes, stretch_at, byte_in, word_in, signed_in, slice_in, short}
 use Rattle.tt_glyf.specs.Composite.{one, two_scales_at, two_by_two_at, transform_at, argument_at, arguments_at, unscaled, known_glyph, record_at, records_from, program_of, composite_of}
 use Rattle.tt_glyf.specs.Coordinates.{delta_at, within_words, coordinate_at, coordinates_from}
 use Rattle.tt_glyf.specs.Flags.{run_at, flags_from}
-use Rattle.tt_glyf.specs.Loca.{GlyphTables, glyph_offset, has_no_bytes, glyph_bytes_of}
-use Rattle.tt_glyf.specs.Raw.{GlyphData, empty, simple, composite}
+use Rattle.tt_glyf.specs.Loca.{Glyf, glyph_offset, has_no_bytes, glyph_bytes_of}
+use Rattle.tt_glyf.specs.Raw.{Raw, empty, simple, composite}
 use Rattle.tt_glyf.specs.Simple.{end_at, ends_from, points_within, points_of, simple_of}
 
 pub record Header : Type 0 where
@@ -19,24 +19,24 @@ pub record Header : Type 0 where
   pub x_min : ℤ
 
 -- numberOfContours at 0, xMin at 2; the 10 bytes have to be there
-unfoldable pub header_of : Stretch → Result Header Fault
+unfoldable pub header_of : GlyphBytes → Result Header Fault
 header_of g =
     if nat_lt (length g.bytes) 10 then Err (short g)
     else (signed_in g 0 >>= λ contours. signed_in g 2 >>= λ x_min. Ok (record { contours = contours; x_min = x_min }))
 
 -- behind the header: no contours are an empty glyph, whose other bytes are not read, and any negative number is a
 -- composite (profile)
-unfoldable pub described : ℕ → Stretch → Header → Result GlyphData Fault
+unfoldable pub described : ℕ → GlyphBytes → Header → Result Raw Fault
 described glyphs g h =
     if int_lt h.contours (pos 0) then composite_of glyphs g h.x_min
     else (if unsigned_abs h.contours == 0 then Ok empty else simple_of g h.x_min (unsigned_abs h.contours))
 
 -- the glyph that some bytes of glyf describe
-abbrev pub glyph_in : ℕ → Stretch → Result GlyphData Fault
+abbrev pub glyph_in : ℕ → GlyphBytes → Result Raw Fault
 glyph_in glyphs g = header_of g >>= described glyphs g
 
 -- the glyph of a number
-unfoldable pub glyph_data_of : GlyphTables → ℕ → Result GlyphData Fault
+unfoldable pub glyph_data_of : Glyf → ℕ → Result Raw Fault
 glyph_data_of t g =
     if has_no_bytes t g then Ok empty
     else (glyph_bytes_of t g >>= λ bytes. glyph_in t.glyphs (stretch_at (glyph_offset t g) bytes))

@@ -8,14 +8,14 @@ use Rattle.tt_core.specs.Numbers.{unsigned_at}
 use Rattle.tt_core.specs.Outcomes.{◌>>=◌}
 use Rattle.tt_metrics.specs.declared.head.LocaFormat.{LocaFormat}
 use Rattle.tt_metrics.specs.declared.head.LocaFormat.TheVariants.{Short, Long}
-use Rattle.tt_metrics.specs.Metrics.{Fields, loca_format_of, glyphs_of}
+use Rattle.tt_metrics.specs.Metrics.{Metrics, loca_format_of, glyphs_of}
 
 -- 'loca'
 abbrev pub loca_tag : List ℕ
 loca_tag = codes "loca"
 
 -- loca, with what head and maxp say of it
-pub record Locations : Type 0 where
+pub record Loca : Type 0 where
   pub loca : List ℕ
   pub format : LocaFormat
   pub glyphs : ℕ
@@ -35,7 +35,7 @@ entry_at Short loca g = 2 * unsigned_at loca (2 * g) 2
 entry_at Long loca g = unsigned_at loca (4 * g) 4
 
 -- loca of a font whose metrics are known
-abbrev pub loca_with : List ℕ → Fields → Locations
+abbrev pub loca_with : List ℕ → Metrics → Loca
 loca_with loca m = record { loca = loca; format = loca_format_of m; glyphs = glyphs_of m }
 
 -- how many bytes loca needs: an entry for each glyph, and one more
@@ -43,74 +43,74 @@ abbrev pub loca_size : LocaFormat → ℕ → ℕ
 loca_size format glyphs = entry_size format * (glyphs + 1)
 
 -- loca, where it is long enough
-unfoldable pub loca_of : List ℕ → Fields → Result Locations Fault
+unfoldable pub loca_of : List ℕ → Metrics → Result Loca Fault
 loca_of loca m =
     if nat_lt (length loca) (loca_size (loca_format_of m) (glyphs_of m))
     then Err (fault_at loca_tag (length loca) why.LocaShort)
     else Ok (loca_with loca m)
 
 -- loca has fewer entries than it needs
-abbrev pub IsLocaDefect : List ℕ → Fields → Fault → Type 0
+abbrev pub IsLocaDefect : List ℕ → Metrics → Fault → Type 0
 IsLocaDefect loca m fault =
     (length loca < loca_size (loca_format_of m) (glyphs_of m)) × (fault ≡ fault_at loca_tag (length loca) why.LocaShort)
 
 -- loca has an entry for each glyph, and one more
-pub record AreLocations (l : Locations) : Type 0 where
+pub record IsLoca (l : Loca) : Type 0 where
   pub entries : loca_size l.format l.glyphs ≤ length l.loca
   pub limit : length l.loca ≤ font_limit
   pub some : 0 < l.glyphs
 
 -- loca and glyf, with what head and maxp say of them
-pub record GlyphTables : Type 0 where
+pub record Glyf : Type 0 where
   pub loca : List ℕ
   pub glyf : List ℕ
   pub format : LocaFormat
   pub glyphs : ℕ
 
 -- loca, and glyf beside it
-abbrev pub with_glyf : Locations → List ℕ → GlyphTables
+abbrev pub with_glyf : Loca → List ℕ → Glyf
 with_glyf l glyf = record { loca = l.loca; glyf = glyf; format = l.format; glyphs = l.glyphs }
 
 -- the two tables of a font whose metrics are known
-abbrev pub tables_with : List ℕ → List ℕ → Fields → GlyphTables
+abbrev pub tables_with : List ℕ → List ℕ → Metrics → Glyf
 tables_with loca glyf m = with_glyf (loca_with loca m) glyf
 
 -- the two tables, where loca is long enough
-abbrev pub glyph_tables_of : List ℕ → List ℕ → Fields → Result GlyphTables Fault
+abbrev pub glyph_tables_of : List ℕ → List ℕ → Metrics → Result Glyf Fault
 glyph_tables_of loca glyf m = loca_of loca m >>= λ l. Ok (with_glyf l glyf)
 
 -- what reading a glyph counts on
-pub record AreTables (t : GlyphTables) : Type 0 where
+pub record AreTables (t : Glyf) : Type 0 where
   pub entries : loca_size t.format t.glyphs ≤ length t.loca
   pub loca_limit : length t.loca ≤ font_limit
   pub glyf_limit : length t.glyf ≤ font_limit
   pub some : 0 < t.glyphs
 
 -- the offset of glyph g in glyf
-abbrev pub glyph_offset : GlyphTables → ℕ → ℕ
+abbrev pub glyph_offset : Glyf → ℕ → ℕ
 glyph_offset t g = entry_at t.format t.loca g
 
 -- equal neighbours, wherever they point: the glyph has no bytes
-abbrev pub has_no_bytes : GlyphTables → ℕ → Bool
+abbrev pub has_no_bytes : Glyf → ℕ → Bool
 has_no_bytes t g = glyph_offset t g == glyph_offset t (g + 1)
 
 -- entry g is above the next one, or past glyf
-abbrev pub is_out_of_range : GlyphTables → ℕ → Bool
+abbrev pub is_out_of_range : Glyf → ℕ → Bool
 is_out_of_range t g = nat_lt (glyph_offset t (g + 1)) (glyph_offset t g) || nat_lt (length t.glyf) (glyph_offset t g)
 
 -- the bytes from entry g to the next entry, or to the end of glyf, whichever comes first (profile)
-abbrev pub bytes_between : GlyphTables → ℕ → List ℕ
+abbrev pub bytes_between : Glyf → ℕ → List ℕ
 bytes_between t g = slice_range t.glyf (glyph_offset t g) (min (glyph_offset t (g + 1)) (length t.glyf))
 
 -- the bytes of a glyph
-unfoldable pub glyph_bytes_of : GlyphTables → ℕ → Result (List ℕ) Fault
+unfoldable pub glyph_bytes_of : Glyf → ℕ → Result (List ℕ) Fault
 glyph_bytes_of t g =
     if has_no_bytes t g then Ok []
     else (if is_out_of_range t g then Err (fault_at loca_tag (entry_place t.format g) why.GlyphRange)
     else Ok (bytes_between t g))
 
 -- entry g and the next one differ, and entry g is above it or past glyf
-abbrev pub IsRangeDefect : GlyphTables → ℕ → Fault → Type 0
+abbrev pub IsRangeDefect : Glyf → ℕ → Fault → Type 0
 IsRangeDefect t g fault =
     (glyph_offset t g ≢ glyph_offset t (g + 1))
     × ((glyph_offset t (g + 1) < glyph_offset t g) ⊎ (length t.glyf < glyph_offset t g))

@@ -5,40 +5,40 @@ use Rattle.tt_core.specs.Limits.{component_limit}
 use Rattle.tt_core.specs.Numbers.{unsigned_at, signed16}
 use Rattle.tt_glyf.specs.declared.raw.RawPoint.{RawPoint}
 use Rattle.tt_glyf.specs.declared.raw.Record.{Record}
-use Rattle.tt_glyf.specs.Bytes.{Stretch, stretch_at}
+use Rattle.tt_glyf.specs.Bytes.{GlyphBytes, stretch_at}
 use Rattle.tt_glyf.specs.Composite.{Transform, signed8, argument_size, record_size, one_scale, identity, has_program, arg_1_and_2_are_words, args_are_xy_values, we_have_a_scale, we_have_an_x_and_y_scale, we_have_a_two_by_two, more_components}
 use Rattle.tt_glyf.specs.Coordinates.{Axis, Delta, x_axis, y_axis, short_delta}
 use Rattle.tt_glyf.specs.Flags.{Run, has, on_curve_point, repeat_flag}
-use Rattle.tt_glyf.specs.Loca.{GlyphTables, glyph_offset, has_no_bytes, bytes_between}
-use Rattle.tt_glyf.specs.Raw.{SimpleGlyph, CompositeGlyph, GlyphData, empty, simple, composite}
+use Rattle.tt_glyf.specs.Loca.{Glyf, glyph_offset, has_no_bytes, bytes_between}
+use Rattle.tt_glyf.specs.Raw.{SimpleGlyph, CompositeGlyph, Raw, empty, simple, composite}
 
 -- this holds where there is no outline
-abbrev pub IfEmpty : GlyphData → Type 0 → Type 0
+abbrev pub IfEmpty : Raw → Type 0 → Type 0
 IfEmpty empty P = P
 IfEmpty (simple s) P = Unit {0}
 IfEmpty (composite c) P = Unit {0}
 
 -- this holds of a simple glyph
-abbrev pub IfSimple : GlyphData → (SimpleGlyph → Type 0) → Type 0
+abbrev pub IfSimple : Raw → (SimpleGlyph → Type 0) → Type 0
 IfSimple empty P = Unit {0}
 IfSimple (simple s) P = P s
 IfSimple (composite c) P = Unit {0}
 
 -- this holds of a composite glyph
-abbrev pub IfComposite : GlyphData → (CompositeGlyph → Type 0) → Type 0
+abbrev pub IfComposite : Raw → (CompositeGlyph → Type 0) → Type 0
 IfComposite empty P = Unit {0}
 IfComposite (simple s) P = Unit {0}
 IfComposite (composite c) P = P c
 
 -- the bytes of a glyph, and where they begin
-abbrev pub stretch_of : GlyphTables → ℕ → Stretch
-stretch_of t g = stretch_at (glyph_offset t g) (bytes_between t g)
+abbrev pub glyph_bytes_at : Glyf → ℕ → GlyphBytes
+glyph_bytes_at t g = stretch_at (glyph_offset t g) (bytes_between t g)
 
 -- a program is the bytes of glyf at its offset
 abbrev pub IsProgram : List ℕ → List ℕ → ℕ → Type 0
 IsProgram glyf code at = (at + length code ≤ length glyf) × (code ≡ slice_range glyf at (at + length code))
 
-abbrev pub HasProgram : List ℕ → GlyphData → Type 0
+abbrev pub HasProgram : List ℕ → Raw → Type 0
 HasProgram glyf empty = Unit {0}
 HasProgram glyf (simple s) = IsProgram glyf s.code s.code_at
 HasProgram glyf (composite c) = IsProgram glyf c.code c.code_at
@@ -57,7 +57,7 @@ abbrev pub written_x_min : List ℕ → ℤ
 written_x_min bytes = signed16 (unsigned_at bytes 2 2)
 
 -- loca gives the glyph no bytes, or the glyph has no contours
-abbrev pub HasNoOutline : GlyphTables → ℕ → Type 0
+abbrev pub HasNoOutline : Glyf → ℕ → Type 0
 HasNoOutline t g = (has_no_bytes t g ≡ true) ⊎ (contour_count (bytes_between t g) ≡ pos 0)
 
 -- where the end of contour i stands, and what stands there
@@ -78,7 +78,7 @@ abbrev pub flags_place : List ℕ → ℕ → ℕ
 flags_place bytes contours = size_place contours + 2 + written_size bytes contours
 
 -- the words of a simple glyph
-pub record AreWords (g : Stretch) (s : SimpleGlyph) : Type 0 where
+pub record AreWords (g : GlyphBytes) (s : SimpleGlyph) : Type 0 where
   pub x_min : s.x_min ≡ written_x_min g.bytes
   pub contours : pos (length s.ends) ≡ contour_count g.bytes
   pub ends : (i : ℕ) → i < length s.ends → slice_index s.ends i ≡ written_end g.bytes i
@@ -198,7 +198,7 @@ abbrev pub written_component : List ℕ → ℕ → ℕ
 written_component bytes at = unsigned_at bytes (at + 2) 2
 
 -- the component record that is written at a place: flags, the component, two arguments, the transform
-abbrev pub written_record : Stretch → ℕ → Record
+abbrev pub written_record : GlyphBytes → ℕ → Record
 written_record g at =
     let flags = written_component_flags g.bytes at in
     record_of (g.start + at) flags (written_component g.bytes at)
@@ -211,7 +211,7 @@ record_end bytes at = at + record_size (written_component_flags bytes at)
 
 -- these are the records from a place on, one behind the other, up to the first without the flag for more; none passes
 -- the end of the bytes
-abbrev pub AreComponents : Stretch → ℕ → List Record → Type 0
+abbrev pub AreComponents : GlyphBytes → ℕ → List Record → Type 0
 AreComponents g at [] = ⊥
 AreComponents g at (r ∷ []) =
     (r ≡ written_record g at) × (record_end g.bytes at ≤ length g.bytes) × (has r.flags more_components ≡ false)
@@ -241,7 +241,7 @@ records_end bytes at (r ∷ rs) = records_end bytes (record_end bytes at) rs
 
 -- the words of a composite glyph; where a record says so, the size of the program stands behind the records, then the
 -- program
-pub record AreCompositeWords (g : Stretch) (c : CompositeGlyph) : Type 0 where
+pub record AreCompositeWords (g : GlyphBytes) (c : CompositeGlyph) : Type 0 where
   pub contours : contour_count g.bytes <ℤ pos 0
   pub x_min : c.x_min ≡ written_x_min g.bytes
   pub follows : has_program c.records ≡ true → (c.code_at ≡ g.start + (records_end g.bytes 10 c.records + 2))

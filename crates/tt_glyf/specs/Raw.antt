@@ -1,6 +1,6 @@
 -- What a glyph is read into, as the definitions see it.
 use Rattle.std.specs.Prelude.{ℕ, ℤ, List}
-use Rattle.tt_glyf.specs.declared.raw.Raw.{Raw}
+use Rattle.tt_glyf.specs.declared.raw.Raw as declared
 use Rattle.tt_glyf.specs.declared.raw.Raw.TheVariants as raw
 use Rattle.tt_glyf.specs.declared.raw.RawPoint.{RawPoint}
 use Rattle.tt_glyf.specs.declared.raw.Record.{Record}
@@ -19,15 +19,15 @@ pub record CompositeGlyph : Type 0 where
   pub code : List ℕ
   pub code_at : ℕ
 
-pub data GlyphData : Type 0 where
-  empty : GlyphData
-  simple : SimpleGlyph → GlyphData
-  composite : CompositeGlyph → GlyphData
+pub data Raw : Type 0 where
+  empty : Raw
+  simple : SimpleGlyph → Raw
+  composite : CompositeGlyph → Raw
 
 -- the view of what is read
-abbrev pub glyph_data : Raw → GlyphData
-glyph_data raw.Empty = empty
-glyph_data (raw.Simple x_min points ends code code_at) =
+abbrev pub raw_view : declared.Raw → Raw
+raw_view raw.Empty = empty
+raw_view (raw.Simple x_min points ends code code_at) =
     simple (record { x_min = x_min; points = points.items; ends = ends.items; code = code.now; code_at = code_at })
-glyph_data (raw.Composite x_min records code code_at) =
+raw_view (raw.Composite x_min records code code_at) =
     composite (record { x_min = x_min; records = records.items; code = code.now; code_at = code_at })

@@ -7,28 +7,28 @@ use Rattle.tt_core.specs.declared.fault.Why.TheVariants as why
 use Rattle.tt_core.specs.Limits.{point_limit}
 use Rattle.tt_core.specs.Outcomes.{◌>>=◌}
 use Rattle.tt_glyf.specs.declared.raw.RawPoint.{RawPoint}
-use Rattle.tt_glyf.specs.Bytes.{Stretch, Listing, word_in, slice_in, glyph_fault, after}
+use Rattle.tt_glyf.specs.Bytes.{GlyphBytes, Listing, word_in, slice_in, glyph_fault, after}
 use Rattle.tt_glyf.specs.Coordinates.{coordinates_of, x_axis, y_axis}
-use Rattle.tt_glyf.specs.Raw.{GlyphData, simple}
+use Rattle.tt_glyf.specs.Raw.{Raw, simple}
 use Rattle.tt_glyf.specs.Flags.{has, on_curve_point, flags_of}
 
 -- an end that is not below the one before it
-abbrev pub rising : Stretch → ℕ → ℕ → ℕ → Result ℕ Fault
+abbrev pub rising : GlyphBytes → ℕ → ℕ → ℕ → Result ℕ Fault
 rising g at before e = if nat_lt e before then Err (glyph_fault g at why.ContourOrder) else Ok e
 
 -- the end of a contour, at a place
-unfoldable pub end_at : Stretch → ℕ → ℕ → Result ℕ Fault
+unfoldable pub end_at : GlyphBytes → ℕ → ℕ → Result ℕ Fault
 end_at g at before = word_in g at >>= rising g at before
 
 -- the ends of so many contours, the one before them being `before`
-unfoldable pub ends_from : Stretch → ℕ → ℕ → ℕ → Result (Listing ℕ) Fault
+unfoldable pub ends_from : GlyphBytes → ℕ → ℕ → ℕ → Result (Listing ℕ) Fault
 ends_from g at zero before = Ok (record { items = []; next = at })
 ends_from g at (suc contours) before = do
   e ← end_at g at before
   after (e ∷ []) (ends_from g (at + 2) contours e)
 
 -- the ends stand behind the header
-abbrev pub ends_of : Stretch → ℕ → Result (Listing ℕ) Fault
+abbrev pub ends_of : GlyphBytes → ℕ → Result (Listing ℕ) Fault
 ends_of g contours = ends_from g 10 contours 0
 
 -- how many points there are: the last contour ends with the last of them
@@ -36,7 +36,7 @@ abbrev pub point_count : List ℕ → ℕ
 point_count ends = slice_index ends (length ends - 1) + 1
 
 -- more points are refused at the last contour's end, which stands before this place (profile)
-unfoldable pub points_within : Stretch → Listing ℕ → Result ℕ Fault
+unfoldable pub points_within : GlyphBytes → Listing ℕ → Result ℕ Fault
 points_within g ends =
     if nat_lt point_limit (point_count ends.items) then Err (glyph_fault g (ends.next - 2) why.PointLimit)
     else Ok (point_count ends.items)
@@ -48,7 +48,7 @@ points_from (flag ∷ flags) (x ∷ xs) (y ∷ ys) =
 points_from flags xs ys = []
 
 -- so many points from a place on: the flags, all x, then all y
-unfoldable pub points_of : Stretch → ℕ → ℕ → Result (List RawPoint) Fault
+unfoldable pub points_of : GlyphBytes → ℕ → ℕ → Result (List RawPoint) Fault
 points_of g at points = do
   flags ← flags_of g at points
   xs ← coordinates_of g x_axis flags.items flags.next
@@ -56,7 +56,7 @@ points_of g at points = do
   Ok (points_from flags.items xs.items ys.items)
 
 -- what a glyph of so many contours says behind its header
-unfoldable pub simple_of : Stretch → ℤ → ℕ → Result GlyphData Fault
+unfoldable pub simple_of : GlyphBytes → ℤ → ℕ → Result Raw Fault
 simple_of g x_min contours = do
   ends ← ends_of g contours
   points ← points_within g ends

@@ -20,9 +20,9 @@ pub(crate) struct GlyphBytes<'a> {
 impl<'a> Model for GlyphBytes<'a> {
     ghost use Rattle.std.specs.Prelude.{◌+◌, ◌≤◌, length};
     ghost use Rattle.tt_core.specs.Limits.{font_limit};
-    ghost use Rattle.tt_glyf.specs.Bytes.{Stretch};
+    ghost use Rattle.tt_glyf.specs.Bytes as slices;
 
-    ghost Value = { Stretch };
+    ghost Value = { slices.GlyphBytes };
 
     ghost view = { λ g. record { start = g.start; bytes = g.bytes.now } };
 

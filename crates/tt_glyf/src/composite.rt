@@ -4,7 +4,7 @@ ghost use Rattle.std.specs.Prelude.{◌≡◌, ◌+◌, ◌*◌, ◌<◌, ◌≤
 ghost use Rattle.tt_core.specs.Outcomes.{Gives};
 ghost use Rattle.tt_glyf.specs.Composite.{records_of, has_program, program_of, composite_of};
 ghost use Rattle.tt_glyf.specs.Meaning.{HasArguments, IfComposite};
-ghost use Rattle.tt_glyf.specs.Raw.{glyph_data};
+ghost use Rattle.tt_glyf.specs.Raw.{raw_view};
 ghost use Rattle.tt_core.specs.Outcomes.{FontGives};
 ghost use Rattle.tt_glyf.specs.Views.{records_listing, program_view};
 
@@ -91,8 +91,8 @@ pub(crate) fn read_composite<'a>(
     glyphs: u16,
 ) -> Result<Raw<'a>, FontFault>
     requires { 10 ≤ length glyph.now.bytes }
-    ensures exact { FontGives glyph_data result (composite_of glyphs glyph.now x_min) }
-    ensures arguments { IfOk result (λ r. IfComposite (glyph_data r) (λ c. All HasArguments c.records)) }
+    ensures exact { FontGives raw_view result (composite_of glyphs glyph.now x_min) }
+    ensures arguments { IfOk result (λ r. IfComposite (raw_view r) (λ c. All HasArguments c.records)) }
 {
     let list = read_records(alloc, glyph, glyphs)?;
     let program = read_program(glyph, &list)?;

@@ -7,8 +7,8 @@ ghost use Rattle.tt_core.specs.Outcomes.{Gives};
 ghost use Rattle.tt_glyf.specs.Bytes.{stretch_at};
 ghost use Rattle.tt_glyf.specs.GlyphData.{glyph_in, described, glyph_data_of};
 ghost use Rattle.tt_glyf.specs.Loca.{glyph_tables_of, tables_with, with_glyf, glyph_offset, has_no_bytes, bytes_between, glyph_bytes_of, IsLocaDefect, IsRangeDefect, AreTables};
-ghost use Rattle.tt_glyf.specs.Meaning.{IfEmpty, HasNoOutline, IfSimple, IfComposite, stretch_of, flags_place, HasArguments, HasProgram, AreEnds, AreWords, ArePoints, AreComponents, AreRecords, AreCompositeWords};
-ghost use Rattle.tt_glyf.specs.Raw.{glyph_data};
+ghost use Rattle.tt_glyf.specs.Meaning.{IfEmpty, HasNoOutline, IfSimple, IfComposite, glyph_bytes_at, flags_place, HasArguments, HasProgram, AreEnds, AreWords, ArePoints, AreComponents, AreRecords, AreCompositeWords};
+ghost use Rattle.tt_glyf.specs.Raw.{raw_view};
 ghost use Rattle.tt_core.specs.Outcomes.{FontGives, IfTold, font_fault};
 ghost use Rattle.tt_glyf.specs.Defects.{IsGlyphDefect};
 ghost use Rattle.tt_glyf.specs.Views.{header_view};
@@ -35,9 +35,10 @@ pub struct Glyf<'a> {
 impl<'a> Model for Glyf<'a> {
     ghost use Rattle.std.specs.Prelude.{◌≤◌, length};
     ghost use Rattle.tt_core.specs.Limits.{font_limit};
-    ghost use Rattle.tt_glyf.specs.Loca.{GlyphTables, with_glyf};
+    ghost use Rattle.tt_glyf.specs.Loca.{with_glyf};
+    ghost use Rattle.tt_glyf.specs.Loca as tables;
 
-    ghost Value = { GlyphTables };
+    ghost Value = { tables.Glyf };
 
     ghost view = { λ t. with_glyf t.loca t.glyf.now };
 
@@ -112,26 +113,26 @@ impl<'a> Glyf<'a> {
     /// FlagRun, ComponentCount, ComponentGlyph, ScaledOffset, PointLimit, CoordRange, Memory.
     pub fn read(&self, alloc: Global, g: u16) -> Result<Raw<'a>, FontFault>
         requires { g < self.now.glyphs }
-        ensures exact { FontGives glyph_data result (glyph_data_of self.now g) }
+        ensures exact { FontGives raw_view result (glyph_data_of self.now g) }
         // On Ok nothing is wrong with the glyph, and a fault tells what is.
         ensures sound { OnOk result (HasNo (IsGlyphDefect self.now g)) }
         ensures fault { IfTold font_fault result (IsGlyphDefect self.now g) }
         // Without an outline it has no bytes or no contours.
-        ensures empty { IfOk result (λ r. IfEmpty (glyph_data r) (HasNoOutline self.now g)) }
+        ensures empty { IfOk result (λ r. IfEmpty (raw_view r) (HasNoOutline self.now g)) }
         // A simple glyph: the words at their places, the contours' ends, and points whose flags are those of
         // their runs and whose coordinates are the sums of all deltas up to them.
-        ensures words { IfOk result (λ r. IfSimple (glyph_data r) (AreWords (stretch_of self.now g))) }
-        ensures few { IfOk result (λ r. IfSimple (glyph_data r) (λ s. length s.points ≤ point_limit)) }
-        ensures ends { IfOk result (λ r. IfSimple (glyph_data r) (λ s. AreEnds (length s.points) s.ends)) }
-        ensures sums { IfOk result (λ r. IfSimple (glyph_data r) (λ s. ArePoints (bytes_between self.now g) (flags_place (bytes_between self.now g) (length s.ends)) s.points)) }
+        ensures words { IfOk result (λ r. IfSimple (raw_view r) (AreWords (glyph_bytes_at self.now g))) }
+        ensures few { IfOk result (λ r. IfSimple (raw_view r) (λ s. length s.points ≤ point_limit)) }
+        ensures ends { IfOk result (λ r. IfSimple (raw_view r) (λ s. AreEnds (length s.points) s.ends)) }
+        ensures sums { IfOk result (λ r. IfSimple (raw_view r) (λ s. ArePoints (bytes_between self.now g) (flags_place (bytes_between self.now g) (length s.ends)) s.points)) }
         // A composite glyph: the words at their places, and the records as they are written, each of a glyph
         // of the font, with arguments in their ranges.
-        ensures composite_words { IfOk result (λ r. IfComposite (glyph_data r) (AreCompositeWords (stretch_of self.now g))) }
-        ensures components { IfOk result (λ r. IfComposite (glyph_data r) (λ c. AreComponents (stretch_of self.now g) 10 c.records)) }
-        ensures records { IfOk result (λ r. IfComposite (glyph_data r) (λ c. AreRecords self.now.glyphs c.records)) }
-        ensures arguments { IfOk result (λ r. IfComposite (glyph_data r) (λ c. All HasArguments c.records)) }
+        ensures composite_words { IfOk result (λ r. IfComposite (raw_view r) (AreCompositeWords (glyph_bytes_at self.now g))) }
+        ensures components { IfOk result (λ r. IfComposite (raw_view r) (λ c. AreComponents (glyph_bytes_at self.now g) 10 c.records)) }
+        ensures records { IfOk result (λ r. IfComposite (raw_view r) (λ c. AreRecords self.now.glyphs c.records)) }
+        ensures arguments { IfOk result (λ r. IfComposite (raw_view r) (λ c. All HasArguments c.records)) }
         // The program is the bytes of glyf at its offset.
-        ensures program { IfOk result (λ r. HasProgram self.now.glyf (glyph_data r)) }
+        ensures program { IfOk result (λ r. HasProgram self.now.glyf (raw_view r)) }
         ensures limit { length self.now.glyf ≤ font_limit }
     {
         self.read_whole(alloc, g)
@@ -140,8 +141,8 @@ impl<'a> Glyf<'a> {
     #[tactic(auto, unfolding(crate::specs::GlyphData::glyph_data_of))]
     fn read_whole(&self, alloc: Global, g: u16) -> Result<Raw<'a>, FontFault>
         requires { g < self.now.glyphs }
-        ensures exact { FontGives glyph_data result (glyph_data_of self.now g) }
-        ensures arguments { IfOk result (λ r. IfComposite (glyph_data r) (λ c. All HasArguments c.records)) }
+        ensures exact { FontGives raw_view result (glyph_data_of self.now g) }
+        ensures arguments { IfOk result (λ r. IfComposite (raw_view r) (λ c. All HasArguments c.records)) }
         ensures limit { length self.now.glyf ≤ font_limit }
     {
         if self.has_no_bytes(g) {
@@ -155,8 +156,8 @@ impl<'a> Glyf<'a> {
 
 /// The glyph that some bytes of glyf describe.
 fn read_glyph<'a>(alloc: Global, glyph: &GlyphBytes<'a>, glyphs: u16) -> Result<Raw<'a>, FontFault>
-    ensures exact { FontGives glyph_data result (glyph_in glyphs glyph.now) }
-    ensures arguments { IfOk result (λ r. IfComposite (glyph_data r) (λ c. All HasArguments c.records)) }
+    ensures exact { FontGives raw_view result (glyph_in glyphs glyph.now) }
+    ensures arguments { IfOk result (λ r. IfComposite (raw_view r) (λ c. All HasArguments c.records)) }
 {
     let header = read_header(glyph)?;
     read_described(alloc, glyph, header, glyphs)
@@ -171,8 +172,8 @@ fn read_described<'a>(
     glyphs: u16,
 ) -> Result<Raw<'a>, FontFault>
     requires { 10 ≤ length glyph.now.bytes }
-    ensures exact { FontGives glyph_data result (described glyphs glyph.now (header_view header)) }
-    ensures arguments { IfOk result (λ r. IfComposite (glyph_data r) (λ c. All HasArguments c.records)) }
+    ensures exact { FontGives raw_view result (described glyphs glyph.now (header_view header)) }
+    ensures arguments { IfOk result (λ r. IfComposite (raw_view r) (λ c. All HasArguments c.records)) }
 {
     if header.contours < 0 {
         return read_composite(alloc, glyph, header.x_min, glyphs);

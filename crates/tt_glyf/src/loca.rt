@@ -5,7 +5,7 @@ ghost use Rattle.tt_core.specs.Directory.{HasNo};
 ghost use Rattle.tt_core.specs.Faults.{fault_at};
 ghost use Rattle.tt_core.specs.Limits.{font_limit};
 ghost use Rattle.tt_core.specs.Outcomes.{Gives};
-ghost use Rattle.tt_glyf.specs.Loca.{AreLocations, IsLocaDefect, entry_at, entry_place, entry_size, loca_of, loca_tag, loca_with};
+ghost use Rattle.tt_glyf.specs.Loca.{IsLoca, IsLocaDefect, entry_at, entry_place, entry_size, loca_of, loca_tag, loca_with};
 
 use std::marker::Model;
 use tt_core::{Fault, Why, u16_at, u32_at};
@@ -23,13 +23,14 @@ pub struct Loca<'a> {
 }
 
 impl<'a> Model for Loca<'a> {
-    ghost use Rattle.tt_glyf.specs.Loca.{AreLocations, Locations};
+    ghost use Rattle.tt_glyf.specs.Loca.{IsLoca};
+    ghost use Rattle.tt_glyf.specs.Loca as tables;
 
-    ghost Value = { Locations };
+    ghost Value = { tables.Loca };
 
     ghost view = { λ l. record { loca = l.loca.now; format = l.format; glyphs = l.glyphs } };
 
-    ghost invariant = { λ l. AreLocations (record { loca = l.loca.now; format = l.format; glyphs = l.glyphs }) };
+    ghost invariant = { λ l. IsLoca (record { loca = l.loca.now; format = l.format; glyphs = l.glyphs }) };
 }
 
 impl<'a> Loca<'a> {
@@ -39,7 +40,7 @@ impl<'a> Loca<'a> {
         requires { length loca.now ≤ font_limit }
         ensures exact { Gives (λ l. l) result (loca_of loca.now metrics.now) }
         ensures whole { IfOk result (λ l. l ≡ loca_with loca.now metrics.now) }
-        ensures entries { IfOk result AreLocations }
+        ensures entries { IfOk result IsLoca }
         ensures sound { OnOk result (HasNo (IsLocaDefect loca.now metrics.now)) }
         ensures fault { IfErr result (IsLocaDefect loca.now metrics.now) }
     {

@@ -4,7 +4,7 @@ ghost use Rattle.std.specs.Prelude.{◌≡◌, ◌+◌, ◌*◌, ◌^◌, ◌<�
 ghost use Rattle.tt_core.specs.Limits.{point_limit};
 ghost use Rattle.tt_core.specs.Outcomes.{Gives};
 ghost use Rattle.tt_glyf.specs.Meaning.{HasArguments, IfComposite};
-ghost use Rattle.tt_glyf.specs.Raw.{glyph_data};
+ghost use Rattle.tt_glyf.specs.Raw.{raw_view};
 ghost use Rattle.tt_core.specs.Outcomes.{FontGives};
 ghost use Rattle.tt_glyf.specs.Simple.{end_at, ends_of, points_within, points_from, points_of, simple_of};
 ghost use Rattle.tt_glyf.specs.Views.{ends_listing};
@@ -138,8 +138,8 @@ pub(crate) fn read_simple<'a>(
     requires header { 10 ≤ length glyph.now.bytes }
     requires some { 0 < contours }
     requires size { contours < 2 ^ 16 }
-    ensures exact { FontGives glyph_data result (simple_of glyph.now x_min contours) }
-    ensures arguments { IfOk result (λ r. IfComposite (glyph_data r) (λ c. All HasArguments c.records)) }
+    ensures exact { FontGives raw_view result (simple_of glyph.now x_min contours) }
+    ensures arguments { IfOk result (λ r. IfComposite (raw_view r) (λ c. All HasArguments c.records)) }
 {
     let list = read_ends(alloc, glyph, contours)?;
     let count = point_count(glyph, &list)?;

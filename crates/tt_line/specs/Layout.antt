@@ -9,45 +9,45 @@ use Rattle.tt_core.specs.declared.fault.JobFault.TheVariants as job
 use Rattle.tt_core.specs.Limits.{width_limit, height_limit}
 use Rattle.tt_core.specs.Numbers.{rounded_quotient}
 use Rattle.tt_core.specs.Outcomes.{◌>>=◌}
-use Rattle.tt_cmap.specs.Lookup.{Lookup, glyph_of}
+use Rattle.tt_cmap.specs.Lookup.{Cmap, glyph_of}
 use Rattle.tt_line.specs.declared.picture.Extent.{Extent}
 use Rattle.tt_metrics.specs.declared.head.LocaFormat.TheVariants.{Short}
-use Rattle.tt_metrics.specs.Metrics.{Fields, units_per_em_of, ascent_of, descent_of, advance_of}
+use Rattle.tt_metrics.specs.Metrics.{Metrics, units_per_em_of, ascent_of, descent_of, advance_of}
 
 -- n / d for a positive d, rounded up to a whole number
 abbrev pub ceiling_quotient : ℤ → ℤ → ℤ
 ceiling_quotient n d = neg_ℤ (int_div_euclid (neg_ℤ n) d)
 
 -- the advance of a glyph in pixels, at a size in pixels per em: rounded to the nearest, a half upwards
-abbrev pub advance_in_pixels : Fields → ℕ → ℕ → ℕ
+abbrev pub advance_in_pixels : Metrics → ℕ → ℕ → ℕ
 advance_in_pixels m ppem g = unsigned_abs (rounded_quotient (pos (advance_of m g * ppem)) (pos (units_per_em_of m)))
 
 -- pixels from the base line up to the ascent
-abbrev pub rise_of : Fields → ℕ → ℤ
+abbrev pub rise_of : Metrics → ℕ → ℤ
 rise_of m ppem = ceiling_quotient (ascent_of m *ℤ pos ppem) (pos (units_per_em_of m))
 
 -- pixels from the base line down to the descent
-abbrev pub depth_of : Fields → ℕ → ℤ
+abbrev pub depth_of : Metrics → ℕ → ℤ
 depth_of m ppem = ceiling_quotient (neg_ℤ (descent_of m) *ℤ pos ppem) (pos (units_per_em_of m))
 
 -- the glyph of each character of a text
-abbrev pub text_glyphs : Lookup → List ℕ → List ℕ
+abbrev pub text_glyphs : Cmap → List ℕ → List ℕ
 text_glyphs lookup text = map (glyph_of lookup) (chars text)
 
 -- the advance in pixels of each of some glyphs
-abbrev pub advances_of : Fields → ℕ → List ℕ → List ℕ
+abbrev pub advances_of : Metrics → ℕ → List ℕ → List ℕ
 advances_of m ppem glyphs = map (advance_in_pixels m ppem) glyphs
 
 -- where glyph i begins, in pixels: the advances of the i glyphs before it
-abbrev pub pen_of : Fields → ℕ → List ℕ → ℕ → ℕ
+abbrev pub pen_of : Metrics → ℕ → List ℕ → ℕ → ℕ
 pen_of m ppem glyphs i = sum (take i (advances_of m ppem glyphs))
 
 -- each glyph with its pen
-abbrev pub placed_glyphs : Fields → ℕ → List ℕ → List (ℕ × ℕ)
+abbrev pub placed_glyphs : Metrics → ℕ → List ℕ → List (ℕ × ℕ)
 placed_glyphs m ppem glyphs = map (λ i. (slice_index glyphs i, pen_of m ppem glyphs i)) (range_with_len 0 (length glyphs))
 
 -- how large the picture of a line with its margins would be
-abbrev pub extent_of : Fields → ℕ → ℕ → List ℕ → Extent
+abbrev pub extent_of : Metrics → ℕ → ℕ → List ℕ → Extent
 extent_of m ppem margin glyphs = record {
   width = sum (advances_of m ppem glyphs) + 2 * margin;
   height = rise_of m ppem +ℤ depth_of m ppem +ℤ pos (2 * margin);
@@ -67,7 +67,7 @@ pub record Placement : Type 0 where
   pub rise : ℤ
   pub glyphs : List (ℕ × ℕ)
 
-abbrev pub placed_in : Fields → ℕ → List ℕ → Extent → Placement
+abbrev pub placed_in : Metrics → ℕ → List ℕ → Extent → Placement
 placed_in m ppem glyphs e = record {
   width = e.width;
   height = unsigned_abs e.height;
@@ -75,11 +75,11 @@ placed_in m ppem glyphs e = record {
   glyphs = placed_glyphs m ppem glyphs;
 }
 
-abbrev pub glyph_placement : Fields → ℕ → ℕ → List ℕ → Result Placement JobFault
+abbrev pub glyph_placement : Metrics → ℕ → ℕ → List ℕ → Result Placement JobFault
 glyph_placement m ppem margin glyphs = within_limits (extent_of m ppem margin glyphs) >>= λ e. Ok (placed_in m ppem glyphs e)
 
 -- the layout of a text at a size in pixels per em with a margin in pixels, or why there is none
-unfoldable pub placement : Fields → Lookup → List ℕ → ℕ → ℕ → Result Placement JobFault
+unfoldable pub placement : Metrics → Cmap → List ℕ → ℕ → ℕ → Result Placement JobFault
 placement m lookup text ppem margin = glyph_placement m ppem margin (text_glyphs lookup text)
 
 -- no pixel
@@ -104,7 +104,7 @@ pub record IsWithinLimits (e : Extent) : Type 0 where
   pub height : e.height ≤ℤ pos height_limit
 
 -- worked values: 256 units in an em, 300 above the base line and 100 below it, and advances of 256, 250 and 8
-example : Fields
+example : Metrics
 example = record {
   head = record { units_per_em = 256; loca_format = Short };
   maxp = record { glyphs = 3; twilight = 0; storage = 0 };

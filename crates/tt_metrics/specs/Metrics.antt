@@ -13,14 +13,14 @@ use Rattle.tt_metrics.specs.Hhea.{hhea_of, IsHheaDefect}
 use Rattle.tt_metrics.specs.Hmtx.{hmtx_of, advance_in, bearing_in, IsHmtxDefect}
 use Rattle.tt_metrics.specs.Maxp.{maxp_of, IsMaxpDefect}
 
-pub record Fields : Type 0 where
+pub record Metrics : Type 0 where
   pub head : Head
   pub maxp : Maxp
   pub hhea : Hhea
   pub hmtx : List ℕ
 
 -- the four tables in the order in which they are read; the first fault is the answer
-unfoldable pub metrics_of : List ℕ → Result Fields Fault
+unfoldable pub metrics_of : List ℕ → Result Metrics Fault
 metrics_of file = do
   head ← head_of file
   maxp ← maxp_of file
@@ -29,37 +29,37 @@ metrics_of file = do
   Ok (record { head = head; maxp = maxp; hhea = hhea; hmtx = hmtx })
 
 -- font units in an em
-abbrev pub units_per_em_of : Fields → ℕ
+abbrev pub units_per_em_of : Metrics → ℕ
 units_per_em_of m = m.head.units_per_em
 
-abbrev pub loca_format_of : Fields → LocaFormat
+abbrev pub loca_format_of : Metrics → LocaFormat
 loca_format_of m = m.head.loca_format
 
-abbrev pub glyphs_of : Fields → ℕ
+abbrev pub glyphs_of : Metrics → ℕ
 glyphs_of m = m.maxp.glyphs
 
-abbrev pub twilight_of : Fields → ℕ
+abbrev pub twilight_of : Metrics → ℕ
 twilight_of m = m.maxp.twilight
 
-abbrev pub storage_of : Fields → ℕ
+abbrev pub storage_of : Metrics → ℕ
 storage_of m = m.maxp.storage
 
 -- font units above the base line
-abbrev pub ascent_of : Fields → ℤ
+abbrev pub ascent_of : Metrics → ℤ
 ascent_of m = m.hhea.ascent
 
 -- font units above the base line, so mostly negative
-abbrev pub descent_of : Fields → ℤ
+abbrev pub descent_of : Metrics → ℤ
 descent_of m = m.hhea.descent
 
-abbrev pub advance_of : Fields → ℕ → ℕ
+abbrev pub advance_of : Metrics → ℕ → ℕ
 advance_of m g = advance_in m.hmtx m.hhea.long_metrics g
 
-abbrev pub left_side_bearing_of : Fields → ℕ → ℤ
+abbrev pub left_side_bearing_of : Metrics → ℕ → ℤ
 left_side_bearing_of m g = bearing_in m.hmtx m.hhea.long_metrics g
 
 -- what the rest of the program counts on
-pub record IsInRange (m : Fields) : Type 0 where
+pub record IsInRange (m : Metrics) : Type 0 where
   pub em_low : smallest_em ≤ units_per_em_of m
   pub em_high : units_per_em_of m ≤ largest_em
   pub glyphs : 0 < glyphs_of m

@@ -24,9 +24,10 @@ pub struct Metrics<'a> {
 
 impl<'a> Model for Metrics<'a> {
     ghost use Rattle.std.specs.Prelude.{◌<◌, ◌≤◌, ◌*◌, length};
-    ghost use Rattle.tt_metrics.specs.Metrics.{Fields, IsInRange};
+    ghost use Rattle.tt_metrics.specs.Metrics.{IsInRange};
+    ghost use Rattle.tt_metrics.specs.Metrics as metrics;
 
-    ghost Value = { Fields };
+    ghost Value = { metrics.Metrics };
 
     ghost view = { λ m. record { head = m.head; maxp = m.maxp; hhea = m.hhea; hmtx = m.hmtx.now } };
 

@@ -5,7 +5,7 @@ use Rattle.tt_core.specs.Bits.{stride}
 use Rattle.tt_pbm.specs.P4.{columns, shows, byte_at, rows, p4_header_of}
 use Rattle.tt_scan.specs.declared.edge.Edge.{Edge}
 use Rattle.tt_scan.specs.declared.edge.Frame.{Frame}
-use Rattle.tt_render.specs.Glyphs.{Standing, Blacken, all_rows, stamps_in}
+use Rattle.tt_render.specs.Glyphs.{Glyph, Blacken, all_rows, stamps_in}
 use Rattle.tt_render.specs.Picture.{picture}
 use Rattle.tt_render.specs.Pixels.{is_black_by, is_black_pixel}
 
@@ -30,7 +30,7 @@ pub rows_alike : (w : ℕ) (a b : ℕ → ℕ → Bool) → ((c r : ℕ) → a c
 rows_alike w a b same from n = map_alike (byte_at w a) (byte_at w b) (byte_alike w a b same) from n
 
 -- glyphs that blacken what some edges do have the picture of these
-pub same_picture : (f : Frame) (gs : List Standing) (edges : List (List Edge)) (header : List ℕ)
+pub same_picture : (f : Frame) (gs : List Glyph) (edges : List (List Edge)) (header : List ℕ)
     → header ≡ p4_header_of f.width f.height → Blacken f gs edges → header ++ all_rows f gs ≡ picture f edges
 same_picture f gs edges header is black = rw is (ap (λ bytes. p4_header_of f.width f.height ++ bytes)
     (rows_alike f.width (is_black_by f (stamps_in gs)) (is_black_pixel f edges) black 0 (stride f.width * f.height)))

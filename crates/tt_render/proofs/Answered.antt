@@ -13,7 +13,7 @@ use Rattle.tt_render.specs.declared.fault.DrawFault.{DrawFault}
 use Rattle.tt_render.specs.declared.fault.DrawFault.TheVariants as draw
 use Rattle.tt_render.specs.declared.fault.RunFault.{RunFault}
 use Rattle.tt_render.specs.declared.fault.RunFault.TheVariants as run
-use Rattle.tt_render.specs.Asked.{Ask}
+use Rattle.tt_render.specs.Job.{Job}
 use Rattle.tt_render.specs.Defects.{TellsDefectsOf, IsExtentRefusal, IsJobRefusal, draw_font_fault, draw_job_fault}
 use Rattle.tt_render.specs.Face.{Face, face_of}
 use Rattle.tt_render.specs.Outcome.{Refused, Wanted, as_font, CallFails, IfJob, IfLarge, needs_font, refusal}
@@ -52,20 +52,20 @@ reading_defects V (run.Write sent) (Some file) after read IsOne fails = absurd f
 reading_defects V run.Memory (Some file) after read IsOne fails = tt
 
 -- a refused extent is known once the font is
-late_refusal : (face : Face) (a : Ask) (j : JobFault) → IsExtentRefusal face a j → needs_font j ≡ true
+late_refusal : (face : Face) (a : Job) (j : JobFault) → IsExtentRefusal face a j → needs_font j ≡ true
 late_refusal face a fault.SizeRange stands = absurd stands
 late_refusal face a fault.TextLong stands = absurd stands
 late_refusal face a fault.EmptyPicture stands = refl
 late_refusal face a fault.PictureLarge stands = refl
 late_refusal face a fault.MarginRange stands = absurd stands
 
-late : (r : Result Face Fault) (a : Ask) (j : JobFault) → IsOkAnd r (λ face. IsExtentRefusal face a j) → needs_font j
+late : (r : Result Face Fault) (a : Job) (j : JobFault) → IsOkAnd r (λ face. IsExtentRefusal face a j) → needs_font j
     ≡ true
 late (Ok face) a j stands = late_refusal face a j stands
 late (Err f) a j stands = absurd stands
 
 -- a picture was not made of what was read
-pub drawing_fails : (w : Wanted) (made : List ℕ → Result (List ℕ) Refused) → IsOfFont w made → (a : Ask) (d : DrawFault)
+pub drawing_fails : (w : Wanted) (made : List ℕ → Result (List ℕ) Refused) → IsOfFont w made → (a : Job) (d : DrawFault)
     (before after out : Option (List ℕ)) (file : List ℕ) (read write : Bool) → IsRead before after file read write
     → IfSome (refusal d) (λ e. made file ≡ Err e) → IfSome (draw_job_fault d)
     (λ j. IsOkAnd (face_of file) (λ face. IsExtentRefusal face a j)) → CallFails (run_fault_of_draw d)
@@ -77,7 +77,7 @@ drawing_fails w made of_made a (draw.Job j) before after out file read write r f
 drawing_fails w made of_made a draw.Memory before after out file read write r fails extent =
     memory_fails w made of_made before after out file read write r
 
-pub drawing_job : (a : Ask) (d : DrawFault) (before after : Option (List ℕ)) (file : List ℕ)
+pub drawing_job : (a : Job) (d : DrawFault) (before after : Option (List ℕ)) (file : List ℕ)
     → Consumes before after file → IsAtEnd after → IfSome (draw_job_fault d)
     (λ j. IsOkAnd (face_of file) (λ face. IsExtentRefusal face a j)) → IfJob {V = Unit {0}} (Err (run_fault_of_draw d))
     (IsJobRefusal a before)

@@ -7,7 +7,7 @@ use Rattle.tt_core.specs.Faults.{Fault}
 use Rattle.tt_core.specs.Limits.{font_limit}
 use Rattle.tt_render.specs.declared.fault.RunFault.{RunFault}
 use Rattle.tt_render.specs.declared.fault.RunFault.TheVariants as run
-use Rattle.tt_render.specs.Asked.{Ask, tested, text_tested}
+use Rattle.tt_render.specs.Job.{Job, tested, text_tested}
 use Rattle.tt_render.specs.Defects.{CallTellsDefects, TellsDefectsOf}
 use Rattle.tt_render.specs.MapLines.{lines_of, map_outcome}
 use Rattle.tt_render.specs.Outcome.{Refused, font, job, large, as_font, of_font, Wanted, WithBytes, CallFails, needs_font}
@@ -25,7 +25,7 @@ pub map_is_of_font : (text : List ℕ) → text_tested text ≡ Ok tt → IsOfFo
 unfolding map_outcome
 map_is_of_font text good = record { tested = good; same = λ file. rw good refl }
 
-pub run_is_of_font : (a : Ask) → tested a ≡ Ok tt → IsOfFont (record { tested = tested a; bytes = run_outcome a })
+pub run_is_of_font : (a : Job) → tested a ≡ Ok tt → IsOfFont (record { tested = tested a; bytes = run_outcome a })
     (pictured a)
 unfolding run_outcome
 run_is_of_font a good = record { tested = good; same = λ file. rw good refl }
@@ -36,7 +36,7 @@ pub map_refused : (text : List ℕ) (j : JobFault) → text_tested text ≡ Err 
 unfolding map_outcome
 map_refused text j refused file = rw refused refl
 
-pub run_refused : (a : Ask) (j : JobFault) → tested a ≡ Err j → (file : List ℕ) → run_outcome a file ≡ Err (job j)
+pub run_refused : (a : Job) (j : JobFault) → tested a ≡ Err j → (file : List ℕ) → run_outcome a file ≡ Err (job j)
 unfolding run_outcome
 run_refused a j refused file = rw refused refl
 

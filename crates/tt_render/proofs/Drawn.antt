@@ -9,22 +9,22 @@ use Rattle.tt_core.specs.Directory.{HasNo}
 use Rattle.tt_core.specs.Outcomes.{each}
 use Rattle.tt_core.proofs.Each.{each-failed, each-made}
 use Rattle.tt_fit.specs.Defects.{IsOutlineDefect}
-use Rattle.tt_fit.specs.Fitting.{Setting, fitted_outline}
-use Rattle.tt_fit.specs.Outline.{Shape}
+use Rattle.tt_fit.specs.Fitting.{Fitter, fitted_outline}
+use Rattle.tt_fit.specs.Outline.{Outline}
 use Rattle.tt_fit.proofs.Standing.{faults-stand, outlines-whole}
 use Rattle.tt_scan.specs.declared.edge.Edge.{Edge}
 use Rattle.tt_render.specs.Defects.{IsGlyphDefect}
 use Rattle.tt_render.specs.Picture.{glyph_edges}
 
 -- a glyph whose edges cannot be had has no outline, and one whose edges were had has one
-glyph-failed : (s : Setting) (g : ℕ × ℕ) (e : Fault) → glyph_edges s g ≡ Err e → fitted_outline s g.0 ≡ Err e
+glyph-failed : (s : Fitter) (g : ℕ × ℕ) (e : Fault) → glyph_edges s g ≡ Err e → fitted_outline s g.0 ≡ Err e
 glyph-failed s g e fails = elim (was-err (fitted_outline s g.0) _ e fails) [
   | inl here ↦ here
   | inr drawn ↦ let done = drawn.rest in absurd cc
 ]
 
-glyph-made : (s : Setting) (g : ℕ × ℕ) (edges : List Edge) → glyph_edges s g ≡ Ok edges
-    → (o : Shape) × (fitted_outline s g.0 ≡ Ok o)
+glyph-made : (s : Fitter) (g : ℕ × ℕ) (edges : List Edge) → glyph_edges s g ≡ Ok edges
+    → (o : Outline) × (fitted_outline s g.0 ≡ Ok o)
 glyph-made s g edges made =
     let outline = came-through (fitted_outline s g.0) _ edges made in (outline.value, outline.first)
 
@@ -34,7 +34,7 @@ number-at [] i g there = absurd cc
 number-at (z ∷ gs) zero g there = let same : z ≡ g = cc in rw same refl
 number-at (z ∷ gs) (suc i) g there = number-at gs i g there
 
-pub defect_of_line : (s : Setting) (gs : List (ℕ × ℕ)) (e : Fault) → each (glyph_edges s) gs ≡ Err e → IsGlyphDefect s
+pub defect_of_line : (s : Fitter) (gs : List (ℕ × ℕ)) (e : Fault) → each (glyph_edges s) gs ≡ Err e → IsGlyphDefect s
     (map (λ g. g.0) gs) e
 defect_of_line s gs e fails =
     let there = each-failed (glyph_edges s) gs e fails in
@@ -43,7 +43,7 @@ defect_of_line s gs e fails =
     let stands = faults-stand s there.1.0 e (glyph-failed s there.1 e there.3) in
     (there.0, omega arith, rw (number-at gs there.0 there.1 there.2) stands)
 
-pub no_defect_of_line : (s : Setting) (gs : List (ℕ × ℕ)) (tapes : List (List Edge)) → each (glyph_edges s) gs
+pub no_defect_of_line : (s : Fitter) (gs : List (ℕ × ℕ)) (tapes : List (List Edge)) → each (glyph_edges s) gs
     ≡ Ok tapes → HasNo (IsGlyphDefect s (map (λ g. g.0) gs))
 no_defect_of_line s gs tapes made = λ e there.
     let many = length-map gs (λ (g : ℕ × ℕ). g.0) in

@@ -3,13 +3,13 @@ use Rattle.std.proofs.Common.{◌≡◌, ◌≢◌, ℕ, ◌+◌, ◌<◌, Bool,
 use Rattle.std.proofs.lemmas.Bool.Decides.{nat_tests}
 use Rattle.std.proofs.lemmas.List.Elements.{All-head, All-tail}
 use Rattle.tt_core.specs.Faults.{Fault}
-use Rattle.tt_fit.specs.Fitting.{Setting, unfitted_fault}
+use Rattle.tt_fit.specs.Fitting.{Fitter, unfitted_fault}
 use Rattle.tt_core.specs.Chains.{came-through}
 use Rattle.tt_fit.specs.declared.programs.Fit.TheVariants as fit
 use Rattle.tt_fit.specs.Laws.{OthersNeverFallBack}
 use Rattle.tt_line.specs.Layout.{Placement, placement}
 use Rattle.tt_scan.specs.declared.edge.Frame.{Frame}
-use Rattle.tt_render.specs.Asked.{Ask}
+use Rattle.tt_render.specs.Job.{Job}
 use Rattle.tt_render.specs.Face.{Face, face_of}
 use Rattle.tt_render.specs.Laws.{OthersListNothing}
 use Rattle.tt_render.specs.Outcome.{as_font, as_job}
@@ -17,11 +17,11 @@ use Rattle.tt_render.specs.Picture.{glyphs_in, setting_in}
 use Rattle.tt_render.specs.Programs.{programs_in}
 use Rattle.tt_render.proofs.Whole.{of-font}
 use Rattle.tt_render.specs.declared.unfitted.Unfitted.{Unfitted}
-use Rattle.tt_render.specs.Glyphs.{Standing, IsDrawn, numbers_of, is_among, with_glyph, distinct, distinct_after}
+use Rattle.tt_render.specs.Glyphs.{Glyph, IsDrawn, numbers_of, is_among, with_glyph, distinct, distinct_after}
 use Rattle.tt_render.specs.Unfitted.{listed, unfitted_among, unfitted_standing, line_report, report_of, all_differ, ListsOnce}
 
 -- glyphs as they are drawn are those of the definition
-pub standing_listed : (s : Setting) (f : Frame) (gs : List Standing) → All (IsDrawn s f) gs → unfitted_standing gs
+pub standing_listed : (s : Fitter) (f : Frame) (gs : List Glyph) → All (IsDrawn s f) gs → unfitted_standing gs
     ≡ unfitted_among s (numbers_of gs)
 standing_listed s f [] drawn = refl
 standing_listed s f (g ∷ gs) drawn =
@@ -69,13 +69,13 @@ distinct_differ before (g ∷ gs) differ =
     distinct_differ (with_glyph before g) gs (with_by (is_among g before) before g refl differ)
 
 -- what is not among some glyphs is not listed of them
-among_listed : (s : Setting) (g : ℕ) (gs : List ℕ) (fault : Option Fault) (h : ℕ) (others : List Unfitted)
+among_listed : (s : Fitter) (g : ℕ) (gs : List ℕ) (fault : Option Fault) (h : ℕ) (others : List Unfitted)
     → (h == g) ≡ false → is_among g (map (λ u. u.glyph) others) ≡ false
     → is_among g (map (λ u. u.glyph) (listed h fault others)) ≡ false
 among_listed s g gs None h others other behind = behind
 among_listed s g gs (Some fault) h others other behind = rw other behind
 
-not_listed : (s : Setting) (g : ℕ) (gs : List ℕ) → is_among g gs ≡ false
+not_listed : (s : Fitter) (g : ℕ) (gs : List ℕ) → is_among g gs ≡ false
     → is_among g (map (λ u. u.glyph) (unfitted_among s gs)) ≡ false
 not_listed s g [] not_there = refl
 not_listed s g (h ∷ gs) not_there =
@@ -87,7 +87,7 @@ listed_once : (g : ℕ) (fault : Option Fault) (others : List Unfitted)
 listed_once g None others not_there once = once
 listed_once g (Some fault) others not_there once = rw (not_there, once) refl
 
-among_once : (s : Setting) (gs : List ℕ) → all_differ gs ≡ true → ListsOnce (unfitted_among s gs)
+among_once : (s : Fitter) (gs : List ℕ) → all_differ gs ≡ true → ListsOnce (unfitted_among s gs)
 among_once s [] differ = refl
 among_once s (g ∷ gs) differ =
     let heads = both (not (is_among g gs)) (all_differ gs) differ in
@@ -95,36 +95,36 @@ among_once s (g ∷ gs) differ =
     listed_once g (unfitted_fault s g) (unfitted_among s gs) out (among_once s gs heads.1)
 
 -- no glyph of some is listed twice
-pub lists_once : (s : Setting) (gs : List ℕ) → ListsOnce (unfitted_among s (distinct gs))
+pub lists_once : (s : Fitter) (gs : List ℕ) → ListsOnce (unfitted_among s (distinct gs))
 lists_once s gs = among_once s (distinct gs) (distinct_differ [] gs refl)
 
 -- the glyphs from one on are that one and those behind it
-from_one : (gs : List Standing) (i : ℕ) (g : Standing) → i < length gs → g ≡ get_or gs i g → drop i gs
+from_one : (gs : List Glyph) (i : ℕ) (g : Glyph) → i < length gs → g ≡ get_or gs i g → drop i gs
     ≡ g ∷ drop (i + 1) gs
 from_one gs i g below is =
     let whole : drop i gs ≡ get_or gs i g ∷ drop (i + 1) gs = rw add-one (drop-cons gs i g below) in rw (← is) at whole
 
 -- one more glyph is listed behind those before it, or is not
-pub one_listed : (gs : List Standing) (i : ℕ) (g : Standing) (before : List Unfitted) (u : Unfitted) → i < length gs
+pub one_listed : (gs : List Glyph) (i : ℕ) (g : Glyph) (before : List Unfitted) (u : Unfitted) → i < length gs
     → g ≡ get_or gs i g → g.unfitted ≡ Some u.fault → u.glyph ≡ g.number
     → (before ++ u ∷ []) ++ unfitted_standing (drop (i + 1) gs) ≡ before ++ unfitted_standing (drop i gs)
 one_listed gs i g before u below is stands number =
     rw (from_one gs i g below is, stands, ← number)
     (append_assoc before (u ∷ []) (unfitted_standing (drop (i + 1) gs)))
 
-pub none_more : (gs : List Standing) (i : ℕ) (g : Standing) (before : List Unfitted) → i < length gs
+pub none_more : (gs : List Glyph) (i : ℕ) (g : Glyph) (before : List Unfitted) → i < length gs
     → g ≡ get_or gs i g → g.unfitted ≡ None
     → before ++ unfitted_standing (drop (i + 1) gs) ≡ before ++ unfitted_standing (drop i gs)
 none_more gs i g before below is stands = rw (from_one gs i g below is, stands) refl
 
 -- what is listed of the glyphs that are kept of a line is what the definition lists of the line
-pub of_line : (s : Setting) (f : Frame) (gs : List Standing) (line : List (ℕ × ℕ)) (entries : List Unfitted)
+pub of_line : (s : Fitter) (f : Frame) (gs : List Glyph) (line : List (ℕ × ℕ)) (entries : List Unfitted)
     → All (IsDrawn s f) gs → numbers_of gs ≡ distinct (map (λ g. g.0) line) → entries ≡ unfitted_standing gs
     → entries ≡ unfitted_among s (distinct (map (λ g. g.0) line))
 of_line s f gs line entries drawn numbers is = is ∙ standing_listed s f gs drawn ∙ ap (unfitted_among s) numbers
 
 -- where no glyph has a fault for which it is not fitted, none is listed
-none_listed : (s : Setting) (gs : List ℕ) → ((g : ℕ) → unfitted_fault s g ≡ None) → unfitted_among s gs ≡ []
+none_listed : (s : Fitter) (gs : List ℕ) → ((g : ℕ) → unfitted_fault s g ≡ None) → unfitted_among s gs ≡ []
 none_listed s [] none = refl
 none_listed s (g ∷ gs) none = rw (none g, none_listed s gs none) refl
 
@@ -132,7 +132,7 @@ ok_empty : (xs entries : List Unfitted) → ◌≡◌ {A = Result (List Unfitted
     → entries ≡ []
 ok_empty xs entries was empty = cc
 
-line_lists_nothing : OthersNeverFallBack → (face : Face) (a : Ask) (line : Placement) (entries : List Unfitted)
+line_lists_nothing : OthersNeverFallBack → (face : Face) (a : Job) (line : Placement) (entries : List Unfitted)
     → line_report face a line ≡ Ok entries → a.fit ≢ fit.Fallback → entries ≡ []
 unfolding line_report setting_in
 line_lists_nothing law face a line entries was other =
@@ -150,7 +150,7 @@ unfolding report_of
 others_list_nothing law a file entries was other =
     let by_face = came-through (as_font (face_of file)) _ entries was in
     let face = by_face.value in
-    let by_line = came-through (as_job (placement face.metrics face.lookup a.text a.ppem a.margin)) _ entries
+    let by_line = came-through (as_job (placement face.metrics face.cmap a.text a.ppem a.margin)) _ entries
     by_face.rest in
     let line = by_line.value in
     line_lists_nothing law face a line entries (of-font (line_report face a line) entries by_line.rest) other

@@ -8,13 +8,13 @@ use Rattle.std.proofs.Math.Seq.{map-set_same}
 use Rattle.std.specs.List.{slice_index}
 use Rattle.tt_arc.proofs.Moves.{outline_at}
 use Rattle.tt_arc.specs.Chords.{chord_edges}
-use Rattle.tt_fit.specs.Fitting.{Setting, fitted_outline}
-use Rattle.tt_fit.specs.Outline.{Shape}
+use Rattle.tt_fit.specs.Fitting.{Fitter, fitted_outline}
+use Rattle.tt_fit.specs.Outline.{Outline}
 use Rattle.tt_scan.specs.declared.edge.Edge.{Edge}
 use Rattle.tt_scan.specs.declared.edge.Frame.{Frame}
 use Rattle.tt_scan.proofs.Moved.{black_in_columns}
 use Rattle.tt_scan.specs.Winding.{is_black, column_x, row_y, moved_edges}
-use Rattle.tt_render.specs.Glyphs.{Standing, IsDrawn, AreKept, Blacken, Adds, stamps_in, numbers_of}
+use Rattle.tt_render.specs.Glyphs.{Glyph, IsDrawn, AreKept, Blacken, Adds, stamps_in, numbers_of}
 use Rattle.tt_render.specs.Picture.{origin_of, edges_at, glyph_edges}
 use Rattle.tt_render.specs.Pixels.{is_black_from, is_black_by, some_black}
 use Rattle.tt_render.proofs.Places.{ok_and}
@@ -34,7 +34,7 @@ or_swap false true false = refl
 or_swap false false c = sym (or_false c)
 
 -- a glyph that stands nowhere blackens nothing
-pub stands_nowhere : (f : Frame) (gs : List Standing) (g : Standing) (c r : ℕ) → g.pens ≡ []
+pub stands_nowhere : (f : Frame) (gs : List Glyph) (g : Glyph) (c r : ℕ) → g.pens ≡ []
     → is_black_by f (stamps_in (gs ++ g ∷ [])) c r ≡ is_black_by f (stamps_in gs) c r
 stands_nowhere f [] g c r none = rw none refl
 stands_nowhere f (h ∷ hs) g c r none = rw (stands_nowhere f hs g c r none) refl
@@ -49,7 +49,7 @@ one_pen_more f edges (p ∷ ps) pen c r =
     (is_black edges (column_x f.margin (pos c -ℤ pos pen)) (row_y f (pos r))))
 
 -- glyph i stands at one more pen
-pub stands_at : (f : Frame) (gs : List Standing) (i : ℕ) (g : Standing) (pen c r : ℕ) → i < length gs → g ≡ get_or gs
+pub stands_at : (f : Frame) (gs : List Glyph) (i : ℕ) (g : Glyph) (pen c r : ℕ) → i < length gs → g ≡ get_or gs
     i g
     → is_black_by f (stamps_in (set gs i (record g { pens = g.pens ++ pen ∷ [] }))) c r
     ≡ (is_black_by f (stamps_in gs) c r || is_black g.tape.edges (column_x f.margin (pos c -ℤ pos pen))
@@ -70,13 +70,13 @@ some_more [] g x y = or_false (is_black g x y)
 some_more (h ∷ hs) g x y = rw (some_more hs g x y) (or_or (is_black h x y) (some_black hs x y) (is_black g x y))
 
 -- the edges so far, and those of one place more
-pub one_place_more : (f : Frame) (before after : List Standing) (edges : List (List Edge)) (new : List Edge)
+pub one_place_more : (f : Frame) (before after : List Glyph) (edges : List (List Edge)) (new : List Edge)
     → Blacken f before edges → Adds f before after new → Blacken f after (edges ++ new ∷ [])
 one_place_more f before after edges new black adds = λ c r.
     rw (adds c r, black c r) (sym (some_more edges new (column_x f.margin (pos c)) (row_y f (pos r))))
 
 -- what an outline blackens from a pen it blackens so far to the left from pen 0
-from_pen : (m : ℕ) (o : Shape) (pen : ℕ) (c y : ℤ) → is_black (edges_at pen o) (column_x m c) y
+from_pen : (m : ℕ) (o : Outline) (pen : ℕ) (c y : ℤ) → is_black (edges_at pen o) (column_x m c) y
     ≡ is_black (edges_at 0 o) (column_x m (c -ℤ pos pen)) y
 from_pen m o pen c y =
     let start : pos (64 * pen) -ℤ origin_of o ≡ (pos (64 * 0) -ℤ origin_of o) +ℤ pos 64 *ℤ pos pen = omega
@@ -89,7 +89,7 @@ from_pen m o pen c y =
     rw edges moved
 
 -- a drawn glyph stands at one more pen
-pub adds_at : (s : Setting) (f : Frame) (before gs : List Standing) (i : ℕ) (g : Standing) (placed : ℕ × ℕ)
+pub adds_at : (s : Fitter) (f : Frame) (before gs : List Glyph) (i : ℕ) (g : Glyph) (placed : ℕ × ℕ)
     → ((c r : ℕ) → is_black_by f (stamps_in gs) c r ≡ is_black_by f (stamps_in before) c r) → i < length gs
     → g ≡ get_or gs i g → IsDrawn s f g → g.number ≡ placed.0
     → IsOkAnd (glyph_edges s placed) (Adds f before (set gs i (record g { pens = g.pens ++ placed.1 ∷ [] })))
@@ -100,25 +100,25 @@ adds_at s f before gs i g placed same below is drawn number =
     stands_at f gs i g placed.1 c r below is ∙ rw (same c r, drawn.edges, black) refl)
 
 -- and is the glyph that it was
-pub numbers_stood : (gs : List Standing) (i : ℕ) (g : Standing) (ps : List ℕ) → g ≡ get_or gs i g
+pub numbers_stood : (gs : List Glyph) (i : ℕ) (g : Glyph) (ps : List ℕ) → g ≡ get_or gs i g
     → numbers_of (set gs i (record g { pens = ps })) ≡ numbers_of gs
-numbers_stood gs i g ps is = map-set_same (λ (t : Standing). t.number) gs i (record g { pens = ps }) g
-    (ap (λ (t : Standing). t.number) is)
+numbers_stood gs i g ps is = map-set_same (λ (t : Glyph). t.number) gs i (record g { pens = ps }) g
+    (ap (λ (t : Glyph). t.number) is)
 
-pub number_is : (gs : List Standing) (i : ℕ) (g : Standing) (n : ℕ) → i < length gs → g ≡ get_or gs i g
+pub number_is : (gs : List Glyph) (i : ℕ) (g : Glyph) (n : ℕ) → i < length gs → g ≡ get_or gs i g
     → slice_index (numbers_of gs) i ≡ n → g.number ≡ n
-number_is gs i g n below is found = ap (λ (t : Standing). t.number) is
-    ∙ sym (get_or-map (λ (t : Standing). t.number) gs i g 0 below) ∙ found
+number_is gs i g n below is found = ap (λ (t : Glyph). t.number) is
+    ∙ sym (get_or-map (λ (t : Glyph). t.number) gs i g 0 below) ∙ found
 
-pub drawn_is : (s : Setting) (f : Frame) (table : List ℕ) (gs : List Standing) (i : ℕ) (g : Standing)
+pub drawn_is : (s : Fitter) (f : Frame) (table : List ℕ) (gs : List Glyph) (i : ℕ) (g : Glyph)
     → AreKept s f table gs → i < length gs → g ≡ get_or gs i g → IsDrawn s f g
 drawn_is s f table gs i g kept below is = rw (← is) at (kept.drawn i g below)
 
-pub kept_stood : (s : Setting) (f : Frame) (table : List ℕ) (gs : List Standing) (i : ℕ) (g : Standing) (ps : List ℕ)
+pub kept_stood : (s : Fitter) (f : Frame) (table : List ℕ) (gs : List Glyph) (i : ℕ) (g : Glyph) (ps : List ℕ)
     → AreKept s f table gs → i < length gs → g ≡ get_or gs i g → AreKept s f table (set gs i (record g { pens = ps }))
 kept_stood s f table gs i g ps kept below is =
     let drawn = drawn_is s f table gs i g kept below is in
-    let stood : Standing = record g { pens = ps } in
+    let stood : Glyph = record g { pens = ps } in
     let here : IsDrawn s f stood = record {
       shape = drawn.shape;
       unfitted = drawn.unfitted;
@@ -133,7 +133,7 @@ kept_stood s f table gs i g ps kept below is =
     }
 
 -- what a place adds, at whatever pen that was asked for
-pub made_at : {pen : ℕ} (s : Setting) (f : Frame) (before after : List Standing) (g : ℕ × ℕ)
+pub made_at : {pen : ℕ} (s : Fitter) (f : Frame) (before after : List Glyph) (g : ℕ × ℕ)
     → IsOkAnd (glyph_edges s (g.0, pen)) (Adds f before after) → g ≡ (g.0, pen)
     → (new : List Edge) × (glyph_edges s g ≡ Ok new) × Adds f before after new
 made_at {pen} s f before after g black is =

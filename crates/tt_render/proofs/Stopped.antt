@@ -10,7 +10,7 @@ use Rattle.tt_line.specs.declared.fault.LineFault.{LineFault}
 use Rattle.tt_line.specs.declared.fault.LineFault.TheVariants as line
 use Rattle.tt_line.specs.Layout.{Placement, placement, text_glyphs}
 use Rattle.tt_line.specs.Outcome.{job_fault}
-use Rattle.tt_render.specs.Asked.{Ask}
+use Rattle.tt_render.specs.Job.{Job}
 use Rattle.tt_render.specs.Defects.{IsExtentRefusal, IsLineDefect, IsRunDefect, draw_font_fault, draw_job_fault}
 use Rattle.tt_render.specs.Face.{Face, face_of}
 use Rattle.tt_render.specs.Outcome.{refusal}
@@ -18,28 +18,28 @@ use Rattle.tt_render.specs.Picture.{drawn, pictured}
 use Rattle.tt_render.specs.Views.{draw_fault_of_font, draw_fault_of_line}
 use Rattle.tt_render.proofs.Telling.{line_tells}
 
-pub laying_stops : (a : Ask) (file : List ℕ) (face : Face) (e : LineFault) → face_of file ≡ Ok face
-    → IfSome (job_fault e) (λ j. placement face.metrics face.lookup a.text a.ppem a.margin ≡ Err j)
+pub laying_stops : (a : Job) (file : List ℕ) (face : Face) (e : LineFault) → face_of file ≡ Ok face
+    → IfSome (job_fault e) (λ j. placement face.metrics face.cmap a.text a.ppem a.margin ≡ Err j)
     → IfSome (refusal (draw_fault_of_line e)) (λ r. pictured a file ≡ Err r)
 unfolding pictured
 laying_stops a file face (line.Job j) there fails = rw (there, fails) refl
 laying_stops a file face line.Memory there fails = tt
 
-pub drawing_stops : (a : Ask) (file : List ℕ) (face : Face) (l : Placement) (e : FontFault) → face_of file ≡ Ok face
-    → placement face.metrics face.lookup a.text a.ppem a.margin ≡ Ok l
+pub drawing_stops : (a : Job) (file : List ℕ) (face : Face) (l : Placement) (e : FontFault) → face_of file ≡ Ok face
+    → placement face.metrics face.cmap a.text a.ppem a.margin ≡ Ok l
     → IfSome (font_fault e) (λ f. drawn face a l ≡ Err f)
     → IfSome (refusal (draw_fault_of_font e)) (λ r. pictured a file ≡ Err r)
 unfolding pictured
 drawing_stops a file face l (font.Font f) there laid fails = rw (there, laid, fails) refl
 drawing_stops a file face l font.Memory there laid fails = tt
 
-pub drawing_tells : (a : Ask) (file : List ℕ) (face : Face) (gs : List ℕ) (e : FontFault) → face_of file ≡ Ok face
-    → gs ≡ text_glyphs face.lookup a.text → IfSome (font_fault e) (IsLineDefect face a gs)
+pub drawing_tells : (a : Job) (file : List ℕ) (face : Face) (gs : List ℕ) (e : FontFault) → face_of file ≡ Ok face
+    → gs ≡ text_glyphs face.cmap a.text → IfSome (font_fault e) (IsLineDefect face a gs)
     → IfSome (draw_font_fault (draw_fault_of_font e)) (IsRunDefect a file)
 drawing_tells a file face gs (font.Font f) there glyphs stands = line_tells a file face gs f there glyphs stands
 drawing_tells a file face gs font.Memory there glyphs stands = tt
 
-pub laying_tells : (a : Ask) (file : List ℕ) (face : Face) (e : LineFault) → face_of file ≡ Ok face
+pub laying_tells : (a : Job) (file : List ℕ) (face : Face) (e : LineFault) → face_of file ≡ Ok face
     → IfSome (job_fault e) (IsExtentRefusal face a)
     → IfSome (draw_job_fault (draw_fault_of_line e)) (λ j. IsOkAnd (face_of file) (λ face. IsExtentRefusal face a j))
 laying_tells a file face (line.Job j) there stands = rw there stands

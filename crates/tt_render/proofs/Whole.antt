@@ -12,16 +12,16 @@ use Rattle.tt_core.specs.Limits.{font_limit}
 use Rattle.tt_core.specs.Outcomes.{◌>>=◌, each}
 use Rattle.tt_fit.specs.declared.programs.Fit.{Fit}
 use Rattle.tt_fit.specs.declared.programs.Fit.TheVariants as fit
-use Rattle.tt_fit.specs.Fitting.{Setting}
+use Rattle.tt_fit.specs.Fitting.{Fitter}
 use Rattle.tt_fit.specs.Preparation.{ProgramTables}
 use Rattle.tt_glyf.specs.Bytes.{glyf_tag}
 use Rattle.tt_glyf.specs.Laws.{LocationsAreWhole}
-use Rattle.tt_glyf.specs.Loca.{GlyphTables, loca_tag, loca_of, IsLocaDefect}
+use Rattle.tt_glyf.specs.Loca.{Glyf, loca_tag, loca_of, IsLocaDefect}
 use Rattle.tt_line.specs.Laws.{PlacesGlyphs}
 use Rattle.tt_line.specs.Layout.{Placement, placement}
 use Rattle.tt_metrics.specs.Laws.{MetricsAreWhole}
-use Rattle.tt_metrics.specs.Metrics.{Fields, metrics_of, glyphs_of, IsMetricsDefect}
-use Rattle.tt_render.specs.Asked.{Ask, tested, text_tested}
+use Rattle.tt_metrics.specs.Metrics.{Metrics, metrics_of, glyphs_of, IsMetricsDefect}
+use Rattle.tt_render.specs.Job.{Job, tested, text_tested}
 use Rattle.tt_render.specs.Defects.{IsFaceDefect, IsGlyphTableDefect, HasProgramPastEnd, IsProgramTableDefect, IsSettingDefect, IsLineDefect, IsRunDefect}
 use Rattle.tt_render.specs.Face.{Face, cmap_tag, face_of}
 use Rattle.tt_render.specs.Laws.{DrawnFontsAreWhole, MappedFontsAreWhole}
@@ -62,7 +62,7 @@ face-whole laws file face was =
           cmap fault (subst P (sym same) table)
     ]
 
-glyph-tables-whole : FontLaws → (directory : List ℕ) (m : Fields) (t : GlyphTables) → glyphs_in directory m ≡ Ok t
+glyph-tables-whole : FontLaws → (directory : List ℕ) (m : Metrics) (t : Glyf) → glyphs_in directory m ≡ Ok t
     → HasNo (IsGlyphTableDefect directory m)
 unfolding glyphs_in
 glyph-tables-whole laws directory m t was =
@@ -110,7 +110,7 @@ programs-whole directory fit.None programs was = λ fault defect. absurd defect
 programs-whole directory fit.Full programs was = all-programs-whole directory programs was
 programs-whole directory fit.Fallback programs was = all-programs-whole directory programs was
 
-setting-whole : FontLaws → (face : Face) (a : Ask) (s : Setting) → setting_in face a ≡ Ok s
+setting-whole : FontLaws → (face : Face) (a : Job) (s : Fitter) → setting_in face a ≡ Ok s
     → HasNo (IsSettingDefect face a)
 unfolding setting_in
 setting-whole laws face a s was =
@@ -120,7 +120,7 @@ setting-whole laws face a s was =
     (glyph-tables-whole laws face.directory face.metrics by_tables.value by_tables.first)
     (programs-whole face.directory a.fit by_programs.value by_programs.first) by_programs.first by_programs.rest
 
-line-whole : FontLaws → (face : Face) (a : Ask) (line : Placement) (bytes : List ℕ) → drawn face a line ≡ Ok bytes
+line-whole : FontLaws → (face : Face) (a : Job) (line : Placement) (bytes : List ℕ) → drawn face a line ≡ Ok bytes
     → HasNo (IsLineDefect face a (map (λ g. g.0) line.glyphs))
 unfolding drawn
 line-whole laws face a line bytes was =
@@ -139,18 +139,18 @@ pub of-job : {X : Type 0} (r : Result X JobFault) (x : X) → as_job r ≡ Ok x 
 of-job (Ok y) x was = cc
 of-job (Err j) x was = absurd cc
 
-picture-whole : FontLaws → (a : Ask) (file bytes : List ℕ) → pictured a file ≡ Ok bytes → HasNo (IsRunDefect a file)
+picture-whole : FontLaws → (a : Job) (file bytes : List ℕ) → pictured a file ≡ Ok bytes → HasNo (IsRunDefect a file)
 unfolding pictured
 picture-whole laws a file bytes was =
     let by_face = came-through (as_font (face_of file)) _ bytes was in
     let face = by_face.value in
-    let by_line = came-through (as_job (placement face.metrics face.lookup a.text a.ppem a.margin)) _ bytes
+    let by_line = came-through (as_job (placement face.metrics face.cmap a.text a.ppem a.margin)) _ bytes
     by_face.rest in
     let line = by_line.value in
     let there = of-font (face_of file) face by_face.first in
-    let laid = of-job (placement face.metrics face.lookup a.text a.ppem a.margin) line by_line.first in
+    let laid = of-job (placement face.metrics face.cmap a.text a.ppem a.margin) line by_line.first in
     no_run_defect a file face (map (λ g. g.0) line.glyphs) there (face-whole laws file face there)
-    (laws.places face.metrics face.lookup a.text a.ppem a.margin line laid)
+    (laws.places face.metrics face.cmap a.text a.ppem a.margin line laid)
     (line-whole laws face a line bytes (of-font (drawn face a line) bytes by_line.rest))
 
 -- what was made of a file that is not too large

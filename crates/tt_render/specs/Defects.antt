@@ -5,15 +5,15 @@ use Rattle.tt_core.specs.Directory.{HasNo, IsDefectIn, PassesEnd, IsTableDefect,
 use Rattle.tt_fit.specs.declared.programs.Fit.{Fit}
 use Rattle.tt_fit.specs.declared.programs.Fit.TheVariants as fit
 use Rattle.tt_fit.specs.Defects.{IsOutlineDefect}
-use Rattle.tt_fit.specs.Fitting.{Setting}
+use Rattle.tt_fit.specs.Fitting.{Fitter}
 use Rattle.tt_fit.specs.Preparation.{prepared}
 use Rattle.tt_glyf.specs.Bytes.{glyf_tag}
 use Rattle.tt_glyf.specs.Loca.{loca_tag, IsLocaDefect}
 use Rattle.tt_line.specs.Layout.{text_glyphs, extent_of, IsRefusal}
 use Rattle.tt_cmap.specs.Defects.{IsBadCmap}
-use Rattle.tt_metrics.specs.Metrics.{Fields, IsMetricsDefect}
+use Rattle.tt_metrics.specs.Metrics.{Metrics, IsMetricsDefect}
 use Rattle.tt_core.specs.declared.fault.JobFault.{JobFault}
-use Rattle.tt_render.specs.Asked.{Ask, IsAskRefusal}
+use Rattle.tt_render.specs.Job.{Job, IsJobRefusal}
 use Rattle.tt_render.specs.declared.fault.DrawFault.{DrawFault}
 use Rattle.tt_render.specs.declared.fault.DrawFault.TheVariants as draw
 use Rattle.tt_render.specs.declared.fault.RunFault.{RunFault}
@@ -29,12 +29,12 @@ IsFaceDefect file fault = IsDirectoryDefect file fault ⊎ IsMetricsDefect file 
     ⊎ IsDefectIn file cmap_tag IsBadCmap fault
 
 -- a defect of loca, or of where glyf stands
-abbrev pub IsGlyphTableDefect : List ℕ → Fields → Fault → Type 0
+abbrev pub IsGlyphTableDefect : List ℕ → Metrics → Fault → Type 0
 IsGlyphTableDefect directory m fault = IsDefectIn directory loca_tag (λ loca. IsLocaDefect loca m) fault
     ⊎ IsTableDefect directory glyf_tag fault
 
 -- a defect of one of some glyphs, or of a component that is reached from it
-abbrev pub IsGlyphDefect : Setting → List ℕ → Fault → Type 0
+abbrev pub IsGlyphDefect : Fitter → List ℕ → Fault → Type 0
 IsGlyphDefect s glyphs fault = (i : ℕ) × (i < length glyphs) × IsOutlineDefect s (slice_index glyphs i) fault
 
 -- the control values, the font program or the control value program pass the end of the file
@@ -50,24 +50,24 @@ IsProgramTableDefect directory fit.Fallback fault = HasProgramPastEnd directory 
 
 -- what the font program and the control value program leave at the size is this fault; with fallback it is kept, and no
 -- defect
-abbrev pub IsPreparationDefect : Face → Ask → Fault → Type 0
+abbrev pub IsPreparationDefect : Face → Job → Fault → Type 0
 IsPreparationDefect face a fault = IsOkAnd (programs_in face.directory a.fit)
     (λ programs. prepared face.metrics programs a.ppem a.fit ≡ Err fault)
 
 -- a defect of what outlines are made from
-abbrev pub IsSettingDefect : Face → Ask → Fault → Type 0
+abbrev pub IsSettingDefect : Face → Job → Fault → Type 0
 IsSettingDefect face a fault = IsGlyphTableDefect face.directory face.metrics fault
     ⊎ IsProgramTableDefect face.directory a.fit fault ⊎ IsPreparationDefect face a fault
 
 -- a defect of what some glyphs are drawn from
-abbrev pub IsLineDefect : Face → Ask → List ℕ → Fault → Type 0
+abbrev pub IsLineDefect : Face → Job → List ℕ → Fault → Type 0
 IsLineDefect face a glyphs fault = IsSettingDefect face a fault ⊎ IsOkAnd (setting_in face a)
     (λ s. IsGlyphDefect s glyphs fault)
 
 -- a defect of what every text is looked up in, or of what the glyphs of this one are drawn from
-abbrev pub IsRunDefect : Ask → List ℕ → Fault → Type 0
+abbrev pub IsRunDefect : Job → List ℕ → Fault → Type 0
 IsRunDefect a file fault = IsFaceDefect file fault ⊎ IsOkAnd (face_of file)
-    (λ face. IsLineDefect face a (text_glyphs face.lookup a.text) fault)
+    (λ face. IsLineDefect face a (text_glyphs face.cmap a.text) fault)
 
 -- Ok means that there is no defect, and a fault that an error tells is one
 abbrev pub TellsDefects : {V E : Type 0} → (E → Option Fault) → (Fault → Type 0) → Result V E → Type 0
@@ -99,13 +99,13 @@ draw_job_fault (draw.Job j) = Some j
 draw_job_fault draw.Memory = None
 
 -- what stands behind a refusal of the picture's extent
-abbrev pub IsExtentRefusal : Face → Ask → JobFault → Type 0
-IsExtentRefusal face a j = IsRefusal (extent_of face.metrics a.ppem a.margin (text_glyphs face.lookup a.text)) j
+abbrev pub IsExtentRefusal : Face → Job → JobFault → Type 0
+IsExtentRefusal face a j = IsRefusal (extent_of face.metrics a.ppem a.margin (text_glyphs face.cmap a.text)) j
 
 -- what stands behind a refusal of the job by a font file: the extent comes second
-abbrev pub IsRefusedBy : Bool → Ask → Option (List ℕ) → JobFault → Type 0
+abbrev pub IsRefusedBy : Bool → Job → Option (List ℕ) → JobFault → Type 0
 IsRefusedBy true a left j = IfSome left (λ file. IsOkAnd (face_of file) (λ face. IsExtentRefusal face a j))
-IsRefusedBy false a left j = IsAskRefusal a j
+IsRefusedBy false a left j = IsJobRefusal a j
 
-abbrev pub IsJobRefusal : Ask → Option (List ℕ) → JobFault → Type 0
+abbrev pub IsJobRefusal : Job → Option (List ℕ) → JobFault → Type 0
 IsJobRefusal a left j = IsRefusedBy (needs_font j) a left j

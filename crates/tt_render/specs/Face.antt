@@ -1,20 +1,20 @@
 -- Apple TrueType Reference Manual, "The Font Directory", and OpenType, "cmap": what a text is looked up in.
 use Rattle.std.specs.Prelude.{ℕ, List, codes, Result, Ok}
-use Rattle.tt_cmap.specs.Lookup.{Lookup, lookup_of}
+use Rattle.tt_cmap.specs.Lookup.{Cmap, lookup_of}
 use Rattle.tt_core.specs.Faults.{Fault}
 use Rattle.tt_core.specs.Directory.{directory_of, needed_table}
 use Rattle.tt_core.specs.Outcomes.{◌>>=◌}
-use Rattle.tt_metrics.specs.Metrics.{Fields, metrics_of, glyphs_of}
+use Rattle.tt_metrics.specs.Metrics.{Metrics, metrics_of, glyphs_of}
 use Rattle.tt_render.specs.declared.face.Face as declared
 
 -- the directory, the metrics and the character map of a font
 pub record Face : Type 0 where
   pub directory : List ℕ
-  pub metrics : Fields
-  pub lookup : Lookup
+  pub metrics : Metrics
+  pub cmap : Cmap
 
 abbrev pub face_view : declared.Face → Face
-face_view f = record { directory = f.dir; metrics = f.metrics; lookup = f.cmap }
+face_view f = record { directory = f.dir; metrics = f.metrics; cmap = f.cmap }
 
 -- 'cmap'
 abbrev pub cmap_tag : List ℕ
@@ -26,5 +26,5 @@ face_of file = do
   directory ← directory_of file
   metrics ← metrics_of directory
   table ← needed_table directory cmap_tag
-  lookup ← lookup_of table (glyphs_of metrics)
-  Ok (record { directory = directory; metrics = metrics; lookup = lookup })
+  cmap ← lookup_of table (glyphs_of metrics)
+  Ok (record { directory = directory; metrics = metrics; cmap = cmap })

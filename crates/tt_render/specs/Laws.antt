@@ -3,7 +3,7 @@
 use Rattle.std.specs.Prelude.{◌≡◌, ◌≢◌, ℕ, List, [], Ok}
 use Rattle.tt_core.specs.Directory.{HasNo}
 use Rattle.tt_fit.specs.declared.programs.Fit.TheVariants as fit
-use Rattle.tt_render.specs.Asked.{Ask}
+use Rattle.tt_render.specs.Job.{Job}
 use Rattle.tt_render.specs.declared.unfitted.Unfitted.{Unfitted}
 use Rattle.tt_render.specs.Defects.{IsFaceDefect, IsRunDefect}
 use Rattle.tt_render.specs.MapLines.{map_outcome}
@@ -12,7 +12,7 @@ use Rattle.tt_render.specs.Unfitted.{report_of}
 
 -- where a picture is to be written, no defect of the job stands in the file
 abbrev pub DrawnFontsAreWhole : Type 0
-DrawnFontsAreWhole = (a : Ask) (file bytes : List ℕ) → run_outcome a file ≡ Ok bytes → HasNo (IsRunDefect a file)
+DrawnFontsAreWhole = (a : Job) (file bytes : List ℕ) → run_outcome a file ≡ Ok bytes → HasNo (IsRunDefect a file)
 
 -- where lines are to be written, no defect stands in the tables that they are read from
 abbrev pub MappedFontsAreWhole : Type 0
@@ -20,5 +20,5 @@ MappedFontsAreWhole = (text file bytes : List ℕ) → map_outcome text file ≡
 
 -- where glyphs are fitted in another way than with fallback, none is listed as not fitted
 abbrev pub OthersListNothing : Type 0
-OthersListNothing = (a : Ask) (file : List ℕ) (entries : List Unfitted) → report_of a file ≡ Ok entries
+OthersListNothing = (a : Job) (file : List ℕ) (entries : List Unfitted) → report_of a file ≡ Ok entries
     → a.fit ≢ fit.Fallback → entries ≡ []

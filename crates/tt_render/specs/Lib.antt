@@ -1,4 +1,4 @@
-pub mod Asked
+pub mod Job
 pub mod Defects
 pub mod Face
 pub mod Glyphs

@@ -3,9 +3,9 @@ use Rattle.std.specs.Prelude.{ℕ, ◌-◌, List, ◌++◌, length, replicate, f
 use Rattle.std.specs.Fmt.{digits}
 use Rattle.tt_core.specs.Faults.{Fault}
 use Rattle.tt_core.specs.Outcomes.{◌>>=◌}
-use Rattle.tt_cmap.specs.Lookup.{Lookup, glyph_of}
-use Rattle.tt_metrics.specs.Metrics.{Fields, advance_of}
-use Rattle.tt_render.specs.Asked.{text_tested}
+use Rattle.tt_cmap.specs.Lookup.{Cmap, glyph_of}
+use Rattle.tt_metrics.specs.Metrics.{Metrics, advance_of}
+use Rattle.tt_render.specs.Job.{text_tested}
 use Rattle.tt_render.specs.Face.{face_of}
 use Rattle.tt_render.specs.Outcome.{Refused, Wanted, as_font, outcome_of}
 
@@ -22,16 +22,16 @@ abbrev pub line_text : ℕ → ℕ → ℕ → List ℕ
 line_text c glyph advance = codes "U+" ++ (code_point c ++
     (codes " " ++ (decimal glyph ++ (codes " " ++ (decimal advance ++ codes "\n")))))
 
-abbrev pub map_line : Fields → Lookup → ℕ → List ℕ
+abbrev pub map_line : Metrics → Cmap → ℕ → List ℕ
 map_line m lookup c = line_text c (glyph_of lookup c) (advance_of m (glyph_of lookup c))
 
 -- the lines of the characters of a text, in the order of the text
-abbrev pub map_lines : Fields → Lookup → List ℕ → List ℕ
+abbrev pub map_lines : Metrics → Cmap → List ℕ → List ℕ
 map_lines m lookup text = flat_map (map_line m lookup) (chars text)
 
 -- the lines by the tables of a file, or the file's first fault in the order in which they are read
 unfoldable pub lines_of : List ℕ → List ℕ → Result (List ℕ) Fault
-lines_of file text = face_of file >>= λ face. Ok (map_lines face.metrics face.lookup text)
+lines_of file text = face_of file >>= λ face. Ok (map_lines face.metrics face.cmap text)
 
 -- what is to be written for a text and a font file, or why nothing is: the text is tested first, then the file's size
 unfoldable pub map_outcome : List ℕ → List ℕ → Result (List ℕ) Refused

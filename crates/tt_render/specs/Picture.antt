@@ -6,24 +6,24 @@ use Rattle.tt_arc.specs.Chords.{chord_edges}
 use Rattle.tt_core.specs.Faults.{Fault}
 use Rattle.tt_core.specs.Directory.{needed_table}
 use Rattle.tt_core.specs.Outcomes.{◌>>=◌, each}
-use Rattle.tt_fit.specs.Fitting.{Setting, fitted_outline}
-use Rattle.tt_fit.specs.Outline.{Shape}
-use Rattle.tt_fit.specs.Preparation.{setting_of}
+use Rattle.tt_fit.specs.Fitting.{Fitter, fitted_outline}
+use Rattle.tt_fit.specs.Outline.{Outline}
+use Rattle.tt_fit.specs.Preparation.{fitter_of}
 use Rattle.tt_glyf.specs.Bytes.{glyf_tag}
-use Rattle.tt_glyf.specs.Loca.{GlyphTables, loca_tag, loca_of, with_glyf}
+use Rattle.tt_glyf.specs.Loca.{Glyf, loca_tag, loca_of, with_glyf}
 use Rattle.tt_line.specs.Layout.{Placement, placement}
-use Rattle.tt_metrics.specs.Metrics.{Fields}
+use Rattle.tt_metrics.specs.Metrics.{Metrics}
 use Rattle.tt_pbm.specs.P4.{p4}
 use Rattle.tt_scan.specs.declared.edge.Edge.{Edge}
 use Rattle.tt_scan.specs.declared.edge.Frame.{Frame}
-use Rattle.tt_render.specs.Asked.{Ask, tested}
+use Rattle.tt_render.specs.Job.{Job, tested}
 use Rattle.tt_render.specs.Face.{Face, face_of}
 use Rattle.tt_render.specs.Outcome.{Refused, Wanted, as_font, as_job, outcome_of}
 use Rattle.tt_render.specs.Pixels.{is_black_pixel}
 use Rattle.tt_render.specs.Programs.{programs_in}
 
 -- loca and glyf; a loca that is too short comes before a glyf that is not there
-unfoldable pub glyphs_in : List ℕ → Fields → Result GlyphTables Fault
+unfoldable pub glyphs_in : List ℕ → Metrics → Result Glyf Fault
 glyphs_in directory m = do
   loca ← needed_table directory loca_tag
   locations ← loca_of loca m
@@ -31,22 +31,22 @@ glyphs_in directory m = do
   Ok (with_glyf locations glyf)
 
 -- what the outlines are made from: the glyph data, and what the font's programs leave at the size
-unfoldable pub setting_in : Face → Ask → Result Setting Fault
+unfoldable pub setting_in : Face → Job → Result Fitter Fault
 setting_in face a = do
   tables ← glyphs_in face.directory face.metrics
   programs ← programs_in face.directory a.fit
-  setting_of face.metrics tables programs a.ppem a.fit
+  fitter_of face.metrics tables programs a.ppem a.fit
 
 -- the x of the first phantom point, which is to stand at the pen
-abbrev pub origin_of : Shape → ℤ
+abbrev pub origin_of : Outline → ℤ
 origin_of o = o.phantom.left.0
 
 -- the edges of an outline at a pen; a pixel has 64 units
-abbrev pub edges_at : ℕ → Shape → List Edge
+abbrev pub edges_at : ℕ → Outline → List Edge
 edges_at pen o = chord_edges o.points o.ends (pos (64 * pen) -ℤ origin_of o) (pos 0)
 
 -- the edges of a glyph at its pen
-abbrev pub glyph_edges : Setting → ℕ × ℕ → Result (List Edge) Fault
+abbrev pub glyph_edges : Fitter → ℕ × ℕ → Result (List Edge) Fault
 glyph_edges s g = fitted_outline s g.0 >>= λ o. Ok (edges_at g.1 o)
 
 -- where the picture of a line stands
@@ -58,22 +58,22 @@ abbrev pub picture : Frame → List (List Edge) → List ℕ
 picture f glyphs = p4 f.width f.height (is_black_pixel f glyphs)
 
 -- the picture of a line that is laid out
-unfoldable pub drawn : Face → Ask → Placement → Result (List ℕ) Fault
+unfoldable pub drawn : Face → Job → Placement → Result (List ℕ) Fault
 drawn face a line = do
   s ← setting_in face a
   glyphs ← each (glyph_edges s) line.glyphs
   Ok (picture (frame_of line a.margin) glyphs)
 
 -- the picture of a text by a font, or the first refusal
-unfoldable pub pictured : Ask → List ℕ → Result (List ℕ) Refused
+unfoldable pub pictured : Job → List ℕ → Result (List ℕ) Refused
 pictured a file =
     as_font (face_of file) >>= λ face.
-    as_job (placement face.metrics face.lookup a.text a.ppem a.margin) >>= λ line.
+    as_job (placement face.metrics face.cmap a.text a.ppem a.margin) >>= λ line.
     as_font (drawn face a line)
 
 -- what is to be written for a job and a font file, or why nothing is: the job is tested first, then the file's size
-unfoldable pub run_outcome : Ask → List ℕ → Result (List ℕ) Refused
+unfoldable pub run_outcome : Job → List ℕ → Result (List ℕ) Refused
 run_outcome a file = outcome_of (tested a) (pictured a) file
 
-abbrev pub run_wanted : Ask → Wanted
+abbrev pub run_wanted : Job → Wanted
 run_wanted a = record { tested = tested a; bytes = run_outcome a }

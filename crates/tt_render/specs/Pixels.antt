@@ -6,7 +6,7 @@ use Rattle.tt_scan.specs.declared.edge.Edge.{Edge}
 use Rattle.tt_scan.specs.declared.edge.Frame.{Frame}
 use Rattle.tt_scan.specs.declared.mark.Span.{Span}
 use Rattle.tt_scan.specs.Marks.{covers}
-use Rattle.tt_scan.specs.Tape.{Edges}
+use Rattle.tt_scan.specs.Tape.{Tape}
 use Rattle.tt_scan.specs.Winding.{is_black, column_x, row_y}
 
 -- the edges of some glyph blacken a point
@@ -35,7 +35,7 @@ is_black_by f [] c r = false
 is_black_by f (g ∷ gs) c r = is_black_from f g.edges g.pens c r || is_black_by f gs c r
 
 -- a tape of the frame, with no more edges than a glyph has, of which so many crossings were asked for at most
-pub record TapeFits (f : Frame) (asked : ℕ) (t : Edges) : Type 0 where
+pub record TapeFits (f : Frame) (asked : ℕ) (t : Tape) : Type 0 where
   pub frame : t.frame ≡ f
   pub edges : length t.edges ≤ 2 ^ 17
   pub crosses : t.crosses ≤ asked

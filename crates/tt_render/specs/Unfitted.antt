@@ -4,12 +4,12 @@ use Rattle.std.specs.Prelude.{◌≡◌, refl, ℕ, Bool, true, false, not, ◌&
 use Rattle.tt_core.specs.declared.fault.Why.TheVariants as why
 use Rattle.tt_core.specs.Faults.{Fault, fault_at}
 use Rattle.tt_core.specs.Outcomes.{◌>>=◌}
-use Rattle.tt_fit.specs.Fitting.{Setting, unfitted_fault}
+use Rattle.tt_fit.specs.Fitting.{Fitter, unfitted_fault}
 use Rattle.tt_line.specs.Layout.{Placement, placement}
-use Rattle.tt_render.specs.Asked.{Ask}
+use Rattle.tt_render.specs.Job.{Job}
 use Rattle.tt_render.specs.declared.unfitted.Unfitted.{Unfitted}
 use Rattle.tt_render.specs.Face.{Face, face_of}
-use Rattle.tt_render.specs.Glyphs.{Standing, distinct, is_among}
+use Rattle.tt_render.specs.Glyphs.{Glyph, distinct, is_among}
 use Rattle.tt_render.specs.Outcome.{Refused, as_font, as_job}
 use Rattle.tt_render.specs.Picture.{setting_in}
 
@@ -19,23 +19,23 @@ listed g None others = others
 listed g (Some fault) others = record { glyph = g; fault = fault } ∷ others
 
 -- those of some glyphs that are not fitted, in their order
-abbrev pub unfitted_among : Setting → List ℕ → List Unfitted
+abbrev pub unfitted_among : Fitter → List ℕ → List Unfitted
 unfitted_among s [] = []
 unfitted_among s (g ∷ gs) = listed g (unfitted_fault s g) (unfitted_among s gs)
 
 -- those of a line, each once, in order of first appearance
-unfoldable pub line_report : Face → Ask → Placement → Result (List Unfitted) Fault
+unfoldable pub line_report : Face → Job → Placement → Result (List Unfitted) Fault
 line_report face a line = setting_in face a >>= λ s. Ok (unfitted_among s (distinct (map (λ g. g.0) line.glyphs)))
 
 -- those of a text by a font, or the first refusal
-unfoldable pub report_of : Ask → List ℕ → Result (List Unfitted) Refused
+unfoldable pub report_of : Job → List ℕ → Result (List Unfitted) Refused
 report_of a file =
     as_font (face_of file) >>= λ face.
-    as_job (placement face.metrics face.lookup a.text a.ppem a.margin) >>= λ line.
+    as_job (placement face.metrics face.cmap a.text a.ppem a.margin) >>= λ line.
     as_font (line_report face a line)
 
 -- the same of glyphs that are kept
-abbrev pub unfitted_standing : List Standing → List Unfitted
+abbrev pub unfitted_standing : List Glyph → List Unfitted
 unfitted_standing [] = []
 unfitted_standing (g ∷ gs) = listed g.number g.unfitted (unfitted_standing gs)
 

@@ -12,7 +12,7 @@ use Rattle.tt_render.specs.declared.fault.DrawFault.{DrawFault}
 use Rattle.tt_render.specs.declared.fault.DrawFault.TheVariants as draw
 use Rattle.tt_render.specs.declared.fault.RunFault.{RunFault}
 use Rattle.tt_render.specs.declared.fault.RunFault.TheVariants as run
-use Rattle.tt_render.specs.Glyphs.{StandingFits, all_rows}
+use Rattle.tt_render.specs.Glyphs.{GlyphFits, all_rows}
 
 -- the bytes of a picture
 abbrev pub picture_bytes : Picture → List ℕ
@@ -22,7 +22,7 @@ picture_bytes p = header_bytes p.header ++ all_rows p.frame p.glyphs.items
 pub record IsReady (p : Picture) : Type 0 where
   pub header : p.header.len ≤ 16
   pub frame : FrameFits p.frame
-  pub glyphs : All (StandingFits p.frame 0 p.sweep.room) p.glyphs.items
+  pub glyphs : All (GlyphFits p.frame 0 p.sweep.room) p.glyphs.items
   pub row : length p.row.items ≡ stride p.frame.width
 
 -- what stopped a part of a call stops the call

@@ -6,7 +6,7 @@ ghost use Rattle.tt_core.specs.Directory.{HasNo};
 ghost use Rattle.tt_core.specs.Outcomes.{Gives, GivesUnless, FontGives, IfTold, font_fault};
 ghost use Rattle.tt_line.specs.Outcome.{placement_of};
 ghost use Rattle.tt_metrics.specs.Metrics.{loca_format_of, glyphs_of};
-ghost use Rattle.tt_render.specs.Asked.{ask_of, IsAsked};
+ghost use Rattle.tt_render.specs.Job.{job_view, IsJob};
 ghost use Rattle.tt_render.specs.Defects.{IsGlyphTableDefect, IsSettingDefect, IsLineDefect, IsRunDefect, IsExtentRefusal, TellsDefects, draw_font_fault, draw_job_fault};
 ghost use Rattle.tt_render.specs.Face.{face_of, face_view};
 ghost use Rattle.tt_render.specs.Outcome.{refusal};
@@ -63,10 +63,10 @@ fn open_glyf<'a>(face: &Face<'a>) -> Result<Glyf<'a>, Fault>
 /// the two programs; those of running the two. Memory comes where a growth was refused.
 #[tactic(auto, unfolding(crate::specs::Picture::setting_in))]
 fn open_fitter<'a>(alloc: Global, face: &Face<'a>, job: &Job) -> Result<Fitter<'a>, FontFault>
-    requires { IsAsked (ask_of job.now) }
-    ensures exact { FontGives (λ f. f) result (setting_in (face_view face.now) (ask_of job.now)) }
+    requires { IsJob (job_view job.now) }
+    ensures exact { FontGives (λ f. f) result (setting_in (face_view face.now) (job_view job.now)) }
     ensures glyphs { IfOk result (λ f. f.tables.glyphs ≡ glyphs_of face.now.metrics) }
-    ensures defects { TellsDefects font_fault (IsSettingDefect (face_view face.now) (ask_of job.now)) result }
+    ensures defects { TellsDefects font_fault (IsSettingDefect (face_view face.now) (job_view job.now)) result }
 {
     let glyf = open_glyf(face)?;
     let programs = open_programs(&face.dir, job.fit)?;
@@ -77,17 +77,17 @@ fn open_fitter<'a>(alloc: Global, face: &Face<'a>, job: &Job) -> Result<Fitter<'
 /// of the line, Memory.
 #[tactic(auto, unfolding(crate::specs::Picture::drawn, crate::specs::Unfitted::line_report))]
 fn draw_line(alloc: Global, face: &Face, job: &Job, line: &Line) -> Result<Picture, FontFault>
-    requires asked { IsAsked (ask_of job.now) }
+    requires asked { IsJob (job_view job.now) }
     requires width { (1 ≤ line.now.width) × (line.now.width ≤ width_limit) }
     requires height { (1 ≤ line.now.height) × (line.now.height ≤ height_limit) }
     requires rise { unsigned_abs line.now.rise < 2 ^ 20 }
     requires known { All (λ g. g.0 < glyphs_of face.now.metrics) line.now.glyphs.items }
     requires count { length line.now.glyphs.items ≤ text_limit }
-    ensures exact { FontGives picture_bytes result (drawn (face_view face.now) (ask_of job.now) (placement_of line.now)) }
+    ensures exact { FontGives picture_bytes result (drawn (face_view face.now) (job_view job.now) (placement_of line.now)) }
     ensures ready { IfOk result IsReady }
-    ensures report { IfOk result (λ p. line_report (face_view face.now) (ask_of job.now) (placement_of line.now) ≡ Ok p.report.unfitted.items) }
+    ensures report { IfOk result (λ p. line_report (face_view face.now) (job_view job.now) (placement_of line.now) ≡ Ok p.report.unfitted.items) }
     ensures once { IfOk result (λ p. ListsOnce p.report.unfitted.items) }
-    ensures defects { TellsDefects font_fault (IsLineDefect (face_view face.now) (ask_of job.now) (map (λ g. g.0) line.now.glyphs.items)) result }
+    ensures defects { TellsDefects font_fault (IsLineDefect (face_view face.now) (job_view job.now) (map (λ g. g.0) line.now.glyphs.items)) result }
 {
     let fitter = open_fitter(alloc, face, job)?;
     let frame = Frame {
@@ -128,13 +128,13 @@ fn ready(alloc: Global, frame: Frame, glyphs: Vec<Glyph>) -> Result<Picture, All
 #[tactic(auto, unfolding(crate::specs::Picture::pictured, crate::specs::Unfitted::report_of))]
 pub(crate) fn draw(alloc: Global, file: &[u8], job: &Job) -> Result<Picture, DrawFault>
     requires size { length file.now ≤ font_limit }
-    requires asked { IsAsked (ask_of job.now) }
-    ensures exact { GivesUnless refusal picture_bytes result (pictured (ask_of job.now) file.now) }
+    requires asked { IsJob (job_view job.now) }
+    ensures exact { GivesUnless refusal picture_bytes result (pictured (job_view job.now) file.now) }
     ensures ready { IfOk result IsReady }
-    ensures report { IfOk result (λ p. report_of (ask_of job.now) file.now ≡ Ok p.report.unfitted.items) }
+    ensures report { IfOk result (λ p. report_of (job_view job.now) file.now ≡ Ok p.report.unfitted.items) }
     ensures once { IfOk result (λ p. ListsOnce p.report.unfitted.items) }
-    ensures defects { TellsDefects draw_font_fault (IsRunDefect (ask_of job.now) file.now) result }
-    ensures extent { IfTold draw_job_fault result (λ j. IsOkAnd (face_of file.now) (λ face. IsExtentRefusal face (ask_of job.now) j)) }
+    ensures defects { TellsDefects draw_font_fault (IsRunDefect (job_view job.now) file.now) result }
+    ensures extent { IfTold draw_job_fault result (λ j. IsOkAnd (face_of file.now) (λ face. IsExtentRefusal face (job_view job.now) j)) }
 {
     let face = open_face(file)?;
     let line = lay(

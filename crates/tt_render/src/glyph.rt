@@ -7,7 +7,7 @@ ghost use Rattle.tt_core.specs.Outcomes.{IfTold, font_fault};
 ghost use Rattle.tt_fit.specs.Fitting.{fitted_outline};
 ghost use Rattle.tt_fit.specs.Outline.{IsOutline, outline_of};
 ghost use Rattle.tt_scan.specs.Winding.{FrameFits, is_black, column_x, row_y};
-ghost use Rattle.tt_render.specs.Glyphs.{IsDrawn, StandingFits, stamp_of};
+ghost use Rattle.tt_render.specs.Glyphs.{IsDrawn, GlyphFits, stamp_of};
 ghost use Rattle.tt_render.specs.Picture.{edges_at};
 ghost use Rattle.tt_render.specs.Pixels.{TapeFits, is_black_from, covers_from, row_crossings};
 
@@ -31,9 +31,9 @@ pub(crate) struct Glyph {
 }
 
 impl Model for Glyph {
-    ghost use Rattle.tt_render.specs.Glyphs.{Standing};
+    ghost use Rattle.tt_render.specs.Glyphs as glyphs;
 
-    ghost Value = { Standing };
+    ghost Value = { glyphs.Glyph };
 
     ghost view = { λ g. record { number = g.number; tape = g.tape; pens = g.pens.items; unfitted = g.unfitted } };
 }
@@ -103,13 +103,13 @@ impl Glyph {
 
     /// Blackens the pixels of a row of the picture that the glyph covers at its pens; all others stay as they are.
     pub(crate) fn add_to_row(&mut self, sweep: &mut Sweep, frame: Frame, r: u32, row: &mut [u8])
-        requires glyph { StandingFits frame (r * row_crossings) sweep.old.room self.old }
+        requires glyph { GlyphFits frame (r * row_crossings) sweep.old.room self.old }
         requires height { frame.height ≤ height_limit }
         requires within { r < frame.height }
         requires width { frame.width ≤ 8 * length row.old }
         ensures bits { (k : ℕ) → bit row.new k ≡ (bit row.old k || (nat_lt k frame.width && is_black_from frame self.old.tape.edges self.old.pens k r)) }
         ensures len { length row.new ≡ length row.old }
-        ensures glyph { StandingFits frame ((r + 1) * row_crossings) sweep.new.room self.new }
+        ensures glyph { GlyphFits frame ((r + 1) * row_crossings) sweep.new.room self.new }
         ensures stamp { stamp_of self.new ≡ stamp_of self.old }
         ensures room { sweep.new.room ≡ sweep.old.room }
     {

@@ -4,19 +4,19 @@ ghost use Rattle.std.specs.Prelude.{◌≡◌, ◌<◌, ◌≤◌, false, nat_lt
 ghost use Rattle.tt_core.specs.declared.fault.JobFault.TheVariants.{TextLong};
 ghost use Rattle.tt_core.specs.Limits.{text_limit};
 ghost use Rattle.tt_core.specs.Outcomes.{Gives};
-ghost use Rattle.tt_render.specs.Asked.{ask_of, tested, text_tested, IsAsked, IsAskRefusal};
+ghost use Rattle.tt_render.specs.Job.{job_view, tested, text_tested, IsJob, IsJobRefusal};
 ghost use Rattle.tt_render.specs.Outcome.{needs_font};
 
 use crate::job::Job;
 use tt_core::{JobFault, MARGIN_LIMIT, SIZE_LIMIT, TEXT_LIMIT};
 
 /// Tests a job. Errors, the first of: SizeRange, MarginRange, TextLong.
-#[tactic(auto, unfolding(crate::specs::Asked::tested))]
+#[tactic(auto, unfolding(crate::specs::Job::tested))]
 pub(crate) fn test_job(job: &Job) -> Result<(), JobFault>
-    ensures exact { Gives (λ u. u) result (tested (ask_of job.now)) }
-    ensures asked { OnOk result (IsAsked (ask_of job.now)) }
+    ensures exact { Gives (λ u. u) result (tested (job_view job.now)) }
+    ensures asked { OnOk result (IsJob (job_view job.now)) }
     ensures first { IfErr result (λ j. needs_font j ≡ false) }
-    ensures refused { IfErr result (IsAskRefusal (ask_of job.now)) }
+    ensures refused { IfErr result (IsJobRefusal (job_view job.now)) }
 {
     if job.ppem < 1 || job.ppem > SIZE_LIMIT {
         return Err(JobFault::SizeRange);
@@ -28,7 +28,7 @@ pub(crate) fn test_job(job: &Job) -> Result<(), JobFault>
 }
 
 /// Error: TextLong.
-#[tactic(auto, unfolding(crate::specs::Asked::text_tested))]
+#[tactic(auto, unfolding(crate::specs::Job::text_tested))]
 pub(crate) fn test_text(text: &str) -> Result<(), JobFault>
     ensures exact { Gives (λ u. u) result (text_tested text.now) }
     ensures short { OnOk result (length (chars text.now) ≤ text_limit) }

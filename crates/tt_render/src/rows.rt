@@ -4,7 +4,7 @@ ghost use Rattle.std.specs.Prelude.{◌≡◌, ℕ, ◌+◌, ◌*◌, ◌<◌, �
 ghost use Rattle.tt_core.specs.Bits.{bit, stride};
 ghost use Rattle.tt_core.specs.Limits.{width_limit, height_limit};
 ghost use Rattle.tt_pbm.specs.P4.{rows};
-ghost use Rattle.tt_render.specs.Glyphs.{StandingFits, stamps_in};
+ghost use Rattle.tt_render.specs.Glyphs.{GlyphFits, stamps_in};
 ghost use Rattle.tt_render.specs.Pixels.{is_black_by, row_crossings};
 
 use crate::glyph::Glyph;
@@ -29,12 +29,12 @@ pub(crate) fn make_row(
     r: u32,
     row: &mut [u8],
 )
-    requires glyphs { All (StandingFits frame (r * row_crossings) sweep.old.room) glyphs.old }
+    requires glyphs { All (GlyphFits frame (r * row_crossings) sweep.old.room) glyphs.old }
     requires height { frame.height ≤ height_limit }
     requires within { r < frame.height }
     requires len { length row.old ≡ stride frame.width }
     ensures row { row.new ≡ rows frame.width (is_black_by frame (stamps_in glyphs.old)) (stride frame.width * r) (stride frame.width) }
-    ensures glyphs { All (StandingFits frame ((r + 1) * row_crossings) sweep.new.room) glyphs.new }
+    ensures glyphs { All (GlyphFits frame ((r + 1) * row_crossings) sweep.new.room) glyphs.new }
     ensures stamps { stamps_in glyphs.new ≡ stamps_in glyphs.old }
     ensures room { sweep.new.room ≡ sweep.old.room }
 {
@@ -51,13 +51,13 @@ fn whiten(row: &mut [u8])
 
 /// Blackens the pixels of a row that some glyph covers; all others stay as they are.
 fn add_glyphs(glyphs: &mut [Glyph], sweep: &mut Sweep, frame: Frame, r: u32, row: &mut [u8])
-    requires glyphs { All (StandingFits frame (r * row_crossings) sweep.old.room) glyphs.old }
+    requires glyphs { All (GlyphFits frame (r * row_crossings) sweep.old.room) glyphs.old }
     requires height { frame.height ≤ height_limit }
     requires within { r < frame.height }
     requires width { frame.width ≤ 8 * length row.old }
     ensures bits { (k : ℕ) → bit row.new k ≡ (bit row.old k || (nat_lt k frame.width && is_black_by frame (stamps_in glyphs.old) k r)) }
     ensures len { length row.new ≡ length row.old }
-    ensures glyphs { All (StandingFits frame ((r + 1) * row_crossings) sweep.new.room) glyphs.new }
+    ensures glyphs { All (GlyphFits frame ((r + 1) * row_crossings) sweep.new.room) glyphs.new }
     ensures stamps { stamps_in glyphs.new ≡ stamps_in glyphs.old }
     ensures room { sweep.new.room ≡ sweep.old.room }
 {

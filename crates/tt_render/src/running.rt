@@ -2,7 +2,7 @@
 
 ghost use Rattle.std.specs.Prelude.{◌≡◌, ◌<◌, false, length, Ok, IfOk, IfSome};
 ghost use Rattle.tt_core.specs.Limits.{font_limit};
-ghost use Rattle.tt_render.specs.Asked.{ask_of};
+ghost use Rattle.tt_render.specs.Job.{job_view};
 ghost use Rattle.tt_render.specs.Defects.{IsRunDefect, IsJobRefusal, TellsDefectsOf};
 ghost use Rattle.tt_render.specs.Outcome.{CallGives, IfJob, IfLarge};
 ghost use Rattle.tt_render.specs.Picture.{run_wanted};
@@ -41,13 +41,13 @@ pub fn run<R: Source, W: Sink>(
       out_before = W.written out.old;
       out_after = W.written out.new;
       write_failed = W.has_failed out.new;
-    }) (run_wanted (ask_of job.now)) }
+    }) (run_wanted (job_view job.now)) }
     // With fallback each glyph of the text that is not fitted is listed once, in order of first appearance, with its
     // fault; with the other ways of fitting none is.
-    ensures report { IfOk result (λ r. IfSome (R.left font.old) (λ file. report_of (ask_of job.now) file ≡ Ok r.unfitted.items)) }
+    ensures report { IfOk result (λ r. IfSome (R.left font.old) (λ file. report_of (job_view job.now) file ≡ Ok r.unfitted.items)) }
     ensures once { IfOk result (λ r. ListsOnce r.unfitted.items) }
-    ensures defects { TellsDefectsOf (R.left font.old) (IsRunDefect (ask_of job.now)) result }
-    ensures job { IfJob result (IsJobRefusal (ask_of job.now) (R.left font.old)) }
+    ensures defects { TellsDefectsOf (R.left font.old) (IsRunDefect (job_view job.now)) result }
+    ensures job { IfJob result (IsJobRefusal (job_view job.now) (R.left font.old)) }
     ensures large { IfLarge result (IfSome (R.left font.old) (λ file. font_limit < length file)) }
 {
     test_job(job)?;

@@ -4,7 +4,7 @@ ghost use Rattle.std.specs.Prelude.{◌≡◌, ◌+◌, ◌*◌, ◌^◌, ◌<�
 ghost use Rattle.std.specs.Io.KnownBytes.{Appends};
 ghost use Rattle.tt_core.specs.Bits.{stride};
 ghost use Rattle.tt_core.specs.Limits.{width_limit, height_limit};
-ghost use Rattle.tt_render.specs.Glyphs.{StandingFits, row_of, all_rows, stamps_in};
+ghost use Rattle.tt_render.specs.Glyphs.{GlyphFits, row_of, all_rows, stamps_in};
 ghost use Rattle.tt_render.specs.Pixels.{row_crossings};
 ghost use Rattle.tt_render.specs.Views.{IsReady, picture_bytes};
 
@@ -50,7 +50,7 @@ fn write_rows<W: Sink>(
     row: &mut [u8],
 ) -> Result<(), Cut>
     requires out { W.has_failed out.old ≡ false }
-    requires glyphs { All (StandingFits frame 0 sweep.old.room) glyphs.old }
+    requires glyphs { All (GlyphFits frame 0 sweep.old.room) glyphs.old }
     requires width { frame.width ≤ width_limit }
     requires height { frame.height ≤ height_limit }
     requires row { length row.old ≡ stride frame.width }
@@ -82,7 +82,7 @@ fn write_row<W: Sink>(
     row: &mut [u8],
 ) -> Result<(), Cut>
     requires out { W.has_failed out.old ≡ false }
-    requires glyphs { All (StandingFits frame (r * row_crossings) sweep.old.room) glyphs.old }
+    requires glyphs { All (GlyphFits frame (r * row_crossings) sweep.old.room) glyphs.old }
     requires height { frame.height ≤ height_limit }
     requires within { r < frame.height }
     requires row { length row.old ≡ stride frame.width }
@@ -90,7 +90,7 @@ fn write_row<W: Sink>(
     ensures part { IfErr result (λ cut. Appends (W.written out.old) (W.written out.new) (take cut.sent (row_of frame glyphs.old r))) }
     ensures within { IfErr result (λ cut. cut.sent < stride frame.width) }
     ensures failure { W.has_failed out.new ≡ is_err result }
-    ensures glyphs { All (StandingFits frame ((r + 1) * row_crossings) sweep.new.room) glyphs.new }
+    ensures glyphs { All (GlyphFits frame ((r + 1) * row_crossings) sweep.new.room) glyphs.new }
     ensures stamps { stamps_in glyphs.new ≡ stamps_in glyphs.old }
     ensures row { length row.new ≡ stride frame.width }
 {

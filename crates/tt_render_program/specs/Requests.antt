@@ -3,7 +3,7 @@ use Rattle.std.specs.Prelude.{◌≡◌, ℕ, List, [], codes, Option, Some, Non
 use Rattle.std.specs.Str.{bytes_eq}
 use Rattle.tt_fit.specs.declared.programs.Fit.{Fit}
 use Rattle.tt_fit.specs.declared.programs.Fit.TheVariants as fit
-use Rattle.tt_render.specs.Asked.{Ask, ask_of}
+use Rattle.tt_render.specs.Job.{Job, job_view}
 use Rattle.tt_render.specs.Defects.{IsFaceDefect, IsRunDefect}
 use Rattle.tt_render.specs.MapLines.{map_wanted}
 use Rattle.tt_render.specs.Outcome.{Traffic}
@@ -24,7 +24,7 @@ fit_named name =
     else (if bytes_eq name (codes "fallback") then Some fit.Fallback else None))
 
 -- what the words of a drawing ask for
-abbrev pub asked : Words → Option Ask
+abbrev pub asked : Words → Option Job
 asked w =
     option_map (λ f. record { text = w.text.now; ppem = w.size; margin = w.margin; fit = f }) (fit_named w.fit.now)
 
@@ -34,7 +34,7 @@ font_of (Map font text) = font.now
 font_of (Draw font job) = font.now
 
 -- the glyphs that a picture of a text by a font file lists as not fitted
-abbrev pub IsListed : Ask → Option (List ℕ) → List Unfitted → Type 0
+abbrev pub IsListed : Job → Option (List ℕ) → List Unfitted → Type 0
 IsListed a left entries = IfSome left (λ file. report_of a file ≡ Ok entries) × ListsOnce entries
 
 -- a request is done and told: what it wants to be written for a font file, what it lists, and for which defects of the
@@ -43,5 +43,5 @@ abbrev pub Performs : Request → Traffic → Errors → ℕ → Type 0
 Performs (Map font text) t e status =
     Does {V = Unit {0}} (λ v. []) (map_wanted text.now) (λ entries. ⊤) IsFaceDefect t e status
 Performs (Draw font job) t e status =
-    Does {V = Report} (λ r. r.unfitted.items) (run_wanted (ask_of job)) (IsListed (ask_of job) t.left_before)
-    (IsRunDefect (ask_of job)) t e status
+    Does {V = Report} (λ r. r.unfitted.items) (run_wanted (job_view job)) (IsListed (job_view job) t.left_before)
+    (IsRunDefect (job_view job)) t e status

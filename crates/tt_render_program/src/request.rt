@@ -1,7 +1,7 @@
 //! What a command line asks for.
 
 ghost use Rattle.std.specs.Prelude.{◌≡◌, option_map};
-ghost use Rattle.tt_render.specs.Asked.{ask_of};
+ghost use Rattle.tt_render.specs.Job.{job_view};
 ghost use Rattle.tt_render_program.specs.Requests.{asked, font_of};
 
 use tt_fit::Fit;
@@ -38,7 +38,7 @@ pub struct Words<'a> {
 
 /// The job that is asked for; none where the way to fit has no such name.
 pub fn job_of<'a>(words: &Words<'a>) -> Option<Job<'a>>
-    ensures { option_map ask_of result ≡ asked words.now }
+    ensures { option_map job_view result ≡ asked words.now }
 {
     let fit = match words.fit {
         "full" => Fit::Full,

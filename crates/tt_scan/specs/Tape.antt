@@ -4,7 +4,7 @@ use Rattle.tt_scan.specs.declared.edge.Edge.{Edge}
 use Rattle.tt_scan.specs.declared.edge.Frame.{Frame}
 use Rattle.tt_scan.specs.Winding.{column_x, row_y}
 
-pub record Edges : Type 0 where
+pub record Tape : Type 0 where
   pub frame : Frame
   pub edges : List Edge
   pub crosses : ℕ
@@ -14,8 +14,8 @@ abbrev pub edge_at : List Edge → ℕ → Edge
 edge_at edges i = get_or edges i (record { ax = pos 0; ay = pos 0; bx = pos 0; by = pos 0 })
 
 -- the centre of pixel k of row r
-abbrev pub centre_x : Edges → ℕ → ℤ
+abbrev pub centre_x : Tape → ℕ → ℤ
 centre_x t k = column_x t.frame.margin (pos k)
 
-abbrev pub centre_y : Edges → ℤ → ℤ
+abbrev pub centre_y : Tape → ℤ → ℤ
 centre_y t r = row_y t.frame r

@@ -33,10 +33,10 @@ impl Model for Tape {
     ghost use Rattle.std.specs.Prelude.{All};
     ghost use Rattle.tt_scan.specs.Crossing.{AreAllRows};
     ghost use Rattle.tt_scan.specs.Mets.{AreMet};
-    ghost use Rattle.tt_scan.specs.Tape.{Edges};
+    ghost use Rattle.tt_scan.specs.Tape as tape;
     ghost use Rattle.tt_scan.specs.Winding.{EdgeFits, FrameFits};
 
-    ghost Value = { Edges };
+    ghost Value = { tape.Tape };
 
     ghost view = { λ t. record { frame = t.frame; edges = t.edges.items; crosses = t.crosses } };
 

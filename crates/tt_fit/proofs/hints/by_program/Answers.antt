@@ -9,7 +9,7 @@ returns-in_err-left-clause-exact c =
       arith,
       c.in_ok-grid.ensures.exact,
       c.in_ok-begun.ensures.exact,
-      c.code_of.ensures,
+      c.code_in_glyf.ensures,
       c.in_err-left.ensures.exact,
       c.from_residual-in_err-left.ensures,
     )
@@ -21,7 +21,7 @@ returns-clause-exact c =
       arith,
       c.in_ok-grid.ensures.exact,
       c.in_ok-begun.ensures.exact,
-      c.code_of.ensures,
+      c.code_in_glyf.ensures,
       c.in_ok-left.ensures.exact,
       c.deref.ensures.value,
       c.in_ok-left_outline.ensures.exact,

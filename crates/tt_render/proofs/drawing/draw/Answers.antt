@@ -1,7 +1,7 @@
 use Rattle.std.proofs.Common.{map, refl, rules}
 use Rattle.std.proofs.lemmas.Result.{err_from_is_err_and}
 use Rattle.tt_line.specs.Outcome.{placement_of}
-use Rattle.tt_render.specs.Asked.{ask_of}
+use Rattle.tt_render.specs.Job.{job_view}
 use Rattle.tt_render.specs.Face.{face_view}
 use Rattle.tt_render.specs.Picture.{pictured}
 use Rattle.tt_render.specs.Unfitted.{report_of}
@@ -21,7 +21,7 @@ returns-clause-report c =
 
 pub returns-clause-defects : goal.returns-clause-defects
 returns-clause-defects c =
-    no_run_defect (ask_of c.args.job.now) c.args.file.now (face_view c.in_ok-face.face)
+    no_run_defect (job_view c.args.job.now) c.args.file.now (face_view c.in_ok-face.face)
     (map (λ g. g.0) c.in_ok-line.line.glyphs.items) c.in_ok-face.ensures.exact c.in_ok-face.ensures.sound
     c.in_ok-line.ensures.glyphs c.in_ok-draw_line.ensures.defects
 
@@ -35,7 +35,7 @@ returns-in_err-face-clause-defects c = search rules
 pub returns-in_err-line-clause-exact : goal.returns-in_err-line-clause-exact
 returns-in_err-line-clause-exact c =
     let p = err_from_is_err_and c.from_residual-in_err-line.result c.from_residual-in_err-line.ensures.1 in
-    rw (p.1, p.2) (laying_stops (ask_of c.args.job.now) c.args.file.now (face_view c.in_ok-face.face)
+    rw (p.1, p.2) (laying_stops (job_view c.args.job.now) c.args.file.now (face_view c.in_ok-face.face)
     c.in_err-line.field-0.0 c.in_ok-face.ensures.exact c.in_err-line.ensures.exact)
 
 pub returns-in_err-line-clause-defects : goal.returns-in_err-line-clause-defects
@@ -46,20 +46,20 @@ returns-in_err-line-clause-defects c =
 pub returns-in_err-line-clause-extent : goal.returns-in_err-line-clause-extent
 returns-in_err-line-clause-extent c =
     let p = err_from_is_err_and c.from_residual-in_err-line.result c.from_residual-in_err-line.ensures.1 in
-    rw (p.1, p.2) (laying_tells (ask_of c.args.job.now) c.args.file.now (face_view c.in_ok-face.face)
+    rw (p.1, p.2) (laying_tells (job_view c.args.job.now) c.args.file.now (face_view c.in_ok-face.face)
     c.in_err-line.field-0.0 c.in_ok-face.ensures.exact c.in_err-line.ensures.refused)
 
 pub returns-in_err-draw_line-clause-exact : goal.returns-in_err-draw_line-clause-exact
 returns-in_err-draw_line-clause-exact c =
     let p = err_from_is_err_and c.from_residual-in_err-draw_line.result c.from_residual-in_err-draw_line.ensures.1 in
-    rw (p.1, p.2) (drawing_stops (ask_of c.args.job.now) c.args.file.now (face_view c.in_ok-face.face)
+    rw (p.1, p.2) (drawing_stops (job_view c.args.job.now) c.args.file.now (face_view c.in_ok-face.face)
     (placement_of c.in_ok-line.line) c.in_err-draw_line.field-0.0 c.in_ok-face.ensures.exact c.in_ok-line.ensures.exact
     c.in_err-draw_line.ensures.exact)
 
 pub returns-in_err-draw_line-clause-defects : goal.returns-in_err-draw_line-clause-defects
 returns-in_err-draw_line-clause-defects c =
     let p = err_from_is_err_and c.from_residual-in_err-draw_line.result c.from_residual-in_err-draw_line.ensures.1 in
-    rw (p.1, p.2) (drawing_tells (ask_of c.args.job.now) c.args.file.now (face_view c.in_ok-face.face)
+    rw (p.1, p.2) (drawing_tells (job_view c.args.job.now) c.args.file.now (face_view c.in_ok-face.face)
     (map (λ g. g.0) c.in_ok-line.line.glyphs.items) c.in_err-draw_line.field-0.0 c.in_ok-face.ensures.exact
     c.in_ok-line.ensures.glyphs c.in_err-draw_line.ensures.defects)
 

@@ -5,7 +5,7 @@ use Rattle.tt_core.specs.Outcomes.{each}
 use Rattle.tt_line.specs.Outcome.{placement_of}
 use Rattle.tt_pbm.specs.P4.{header_bytes}
 use Rattle.tt_scan.specs.declared.edge.Edge.{Edge}
-use Rattle.tt_render.specs.Asked.{ask_of}
+use Rattle.tt_render.specs.Job.{job_view}
 use Rattle.tt_render.specs.Face.{face_view}
 use Rattle.tt_render.specs.Glyphs.{Blacken}
 use Rattle.tt_render.specs.Picture.{drawn, frame_of, glyph_edges, picture}
@@ -20,7 +20,7 @@ use Rattle.tt_render.proofs.drawing.draw_line.Goals as goal
 pub returns-in_err-glyphs-clause-defects : goal.returns-in_err-glyphs-clause-defects
 returns-in_err-glyphs-clause-defects c =
     let face = face_view c.args.face.now in
-    let a = ask_of c.args.job.now in
+    let a = job_view c.args.job.now in
     let s = c.in_ok-fitter.fitter in
     let there = c.in_ok-fitter.ensures.exact in
     let p = err_from_is_err_and c.from_residual-in_err-glyphs.result c.from_residual-in_err-glyphs.ensures.1 in
@@ -52,7 +52,7 @@ returns-clause-defects c =
     let gs = c.args.line.now.glyphs.items in
     let black = rw c.deref.ensures.value at c.in_ok-glyphs.ensures.black in
     let made = ok_and (each (glyph_edges s) gs) _ black in
-    no_line_defect (face_view c.args.face.now) (ask_of c.args.job.now) s gs made.0 c.in_ok-fitter.ensures.exact
+    no_line_defect (face_view c.args.face.now) (job_view c.args.job.now) s gs made.0 c.in_ok-fitter.ensures.exact
     c.in_ok-fitter.ensures.defects made.1
 
 pub returns-clause-report : goal.returns-clause-report

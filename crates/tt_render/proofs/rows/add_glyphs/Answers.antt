@@ -3,7 +3,7 @@ use Rattle.std.proofs.lemmas.List.{get_or-map, get_or-set_other, length-set, len
 use Rattle.std.proofs.lemmas.List.Elements.{AllWithin-more_set}
 use Rattle.std.proofs.Math.Seq.{map-set_same}
 use Rattle.tt_core.specs.Bits.{bit}
-use Rattle.tt_render.specs.Glyphs.{StandingFits, stamp_of, stamps_in}
+use Rattle.tt_render.specs.Glyphs.{GlyphFits, stamp_of, stamps_in}
 use Rattle.tt_render.specs.Pixels.{Stamp, is_black_from, row_crossings}
 use Rattle.tt_render.proofs.Blackened.{one_glyph_more}
 use Rattle.tt_render.proofs.rows.add_glyphs.Goals as goal
@@ -36,7 +36,7 @@ loop-i-preserved c =
           (nat_lt k c.args.frame.width) within);
       len = c.add_to_row.ensures.len ∙ so_far.len;
       done = rw room (AllWithin-more_set c.loop-i.glyphs i new inside
-          (StandingFits c.args.frame ((c.args.r + 1) * row_crossings) c.loop-i.sweep.room) so_far.done fits_after);
+          (GlyphFits c.args.frame ((c.args.r + 1) * row_crossings) c.loop-i.sweep.room) so_far.done fits_after);
       left = λ k d low high.
           let other : k ≢ i = λ e. absurd (omega (arith, e)) in
           rw (room, get_or-set_other c.loop-i.glyphs i k new d other) (so_far.left k d (omega arith) high);

@@ -1,7 +1,7 @@
 use Rattle.std.proofs.Common.{◌<◌, List, ℕ, length, take}
 use Rattle.std.proofs.lemmas.Result.{err_from_is_err_and}
 use Rattle.std.specs.Io.KnownBytes.{Appends}
-use Rattle.tt_render.specs.Asked.{ask_of}
+use Rattle.tt_render.specs.Job.{job_view}
 use Rattle.tt_render.specs.Defects.{IsRunDefect}
 use Rattle.tt_render.specs.Picture.{pictured, run_wanted}
 use Rattle.tt_render.specs.Views.{picture_bytes}
@@ -11,7 +11,7 @@ use Rattle.tt_render.proofs.running.run.Goals as goal
 
 pub returns-in_err-test_job-clause-outcome : goal.returns-in_err-test_job-clause-outcome
 returns-in_err-test_job-clause-outcome g c =
-    let a = ask_of c.args.job.now in
+    let a = job_view c.args.job.now in
     let p = err_from_is_err_and c.from_residual.result c.from_residual.ensures.1 in
     let refused = c.in_err-test_job in
     rw (p.1, p.2) (job_fails (run_wanted a) refused.field-0.0 (g.R.Source.left c.args.font.now)
@@ -28,7 +28,7 @@ returns-in_err-test_job-clause-job g c =
 pub returns-in_err-file-clause-outcome : goal.returns-in_err-file-clause-outcome
 returns-in_err-file-clause-outcome g c =
     let left = g.R.Source.left in
-    let a = ask_of c.args.job.now in
+    let a = job_view c.args.job.now in
     let p = err_from_is_err_and c.from_residual-in_err-file.result c.from_residual-in_err-file.ensures.1 in
     rw (p.1, p.2) (reading_fails (run_wanted a) (pictured a) (run_is_of_font a c.in_ok-test_job.ensures.exact)
     c.in_err-file.field-0.0 (left c.args.font.now) (left c.read_font.new.font) (g.W.Sink.written c.args.out.now)
@@ -40,7 +40,7 @@ returns-in_err-file-clause-defects g c =
     let left = g.R.Source.left in
     let p = err_from_is_err_and c.from_residual-in_err-file.result c.from_residual-in_err-file.ensures.1 in
     rw (p.1, p.2) (reading_defects _ c.in_err-file.field-0.0 (left c.args.font.now) (left c.read_font.new.font)
-    (g.R.Source.has_failed c.read_font.new.font) (IsRunDefect (ask_of c.args.job.now)) c.in_err-file.ensures)
+    (g.R.Source.has_failed c.read_font.new.font) (IsRunDefect (job_view c.args.job.now)) c.in_err-file.ensures)
 
 pub returns-in_err-file-clause-job : goal.returns-in_err-file-clause-job
 returns-in_err-file-clause-job g c =
@@ -59,7 +59,7 @@ returns-in_err-file-clause-large g c =
 pub returns-in_err-picture-clause-outcome : goal.returns-in_err-picture-clause-outcome
 returns-in_err-picture-clause-outcome g c =
     let left = g.R.Source.left in
-    let a = ask_of c.args.job.now in
+    let a = job_view c.args.job.now in
     let file = c.in_ok-file in
     let p = err_from_is_err_and c.from_residual-in_err-picture.result c.from_residual-in_err-picture.ensures.1 in
     let fails = rw c.deref.ensures.value at c.in_err-picture.ensures.exact in
@@ -79,7 +79,7 @@ returns-in_err-picture-clause-defects g c =
     let p = err_from_is_err_and c.from_residual-in_err-picture.result c.from_residual-in_err-picture.ensures.1 in
     let tells = rw c.deref.ensures.value at c.in_err-picture.ensures.defects in
     rw (p.1, p.2) (drawing_defects _ c.in_err-picture.field-0.0 (left c.args.font.now)
-    (left c.read_font.new.font) file.file.items (IsRunDefect (ask_of c.args.job.now)) file.ensures.0 file.ensures.1
+    (left c.read_font.new.font) file.file.items (IsRunDefect (job_view c.args.job.now)) file.ensures.0 file.ensures.1
     tells)
 
 pub returns-in_err-picture-clause-job : goal.returns-in_err-picture-clause-job
@@ -88,7 +88,7 @@ returns-in_err-picture-clause-job g c =
     let file = c.in_ok-file in
     let p = err_from_is_err_and c.from_residual-in_err-picture.result c.from_residual-in_err-picture.ensures.1 in
     let extent = rw c.deref.ensures.value at c.in_err-picture.ensures.extent in
-    rw (p.1, p.2) (drawing_job (ask_of c.args.job.now) c.in_err-picture.field-0.0 (left c.args.font.now)
+    rw (p.1, p.2) (drawing_job (job_view c.args.job.now) c.in_err-picture.field-0.0 (left c.args.font.now)
     (left c.read_font.new.font) file.file.items file.ensures.0 file.ensures.1 extent)
 
 pub returns-in_err-picture-clause-large : goal.returns-in_err-picture-clause-large
@@ -100,7 +100,7 @@ pub returns-in_err-write_picture-clause-outcome : goal.returns-in_err-write_pict
 returns-in_err-write_picture-clause-outcome g c =
     let left = g.R.Source.left in
     let written = g.W.Sink.written in
-    let a = ask_of c.args.job.now in
+    let a = job_view c.args.job.now in
     let of_font = run_is_of_font a c.in_ok-test_job.ensures.exact in
     let file = c.in_ok-file in
     let bytes = picture_bytes c.in_ok-picture.picture in
@@ -120,14 +120,14 @@ returns-in_err-write_picture-clause-defects g c =
     let p = err_from_is_err_and c.from_residual-in_err-write_picture.result
     c.from_residual-in_err-write_picture.ensures.1 in
     let tells = rw c.deref.ensures.value at c.in_ok-picture.ensures.defects in
-    rw (p.1, p.2) (tells_of_known (IsRunDefect (ask_of c.args.job.now)) (left c.args.font.now)
+    rw (p.1, p.2) (tells_of_known (IsRunDefect (job_view c.args.job.now)) (left c.args.font.now)
     (left c.read_font.new.font) file.file.items _ file.ensures.0 file.ensures.1 tells)
 
 pub returns-clause-outcome : goal.returns-clause-outcome
 returns-clause-outcome g c =
     let left = g.R.Source.left in
     let written = g.W.Sink.written in
-    let a = ask_of c.args.job.now in
+    let a = job_view c.args.job.now in
     let of_font = run_is_of_font a c.in_ok-test_job.ensures.exact in
     let file = c.in_ok-file in
     let bytes = picture_bytes c.in_ok-picture.picture in
@@ -140,5 +140,5 @@ returns-clause-defects g c =
     let left = g.R.Source.left in
     let file = c.in_ok-file in
     let tells = rw c.deref.ensures.value at c.in_ok-picture.ensures.defects in
-    tells_of_known (IsRunDefect (ask_of c.args.job.now)) (left c.args.font.now)
+    tells_of_known (IsRunDefect (job_view c.args.job.now)) (left c.args.font.now)
     (left c.read_font.new.font) file.file.items _ file.ensures.0 file.ensures.1 tells

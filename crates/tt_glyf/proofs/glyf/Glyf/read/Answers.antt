@@ -5,8 +5,8 @@ use Rattle.tt_core.specs.Limits.{point_limit}
 use Rattle.tt_glyf.specs.Defects.{IsGlyphDefect}
 use Rattle.tt_glyf.specs.GlyphData.{glyph_data_of}
 use Rattle.tt_glyf.specs.Loca.{bytes_between}
-use Rattle.tt_glyf.specs.Meaning.{IfEmpty, HasNoOutline, IfSimple, IfComposite, stretch_of, flags_place, HasProgram, AreEnds, AreWords, ArePoints, AreComponents, AreRecords, AreCompositeWords}
-use Rattle.tt_glyf.specs.Raw.{glyph_data}
+use Rattle.tt_glyf.specs.Meaning.{IfEmpty, HasNoOutline, IfSimple, IfComposite, glyph_bytes_at, flags_place, HasProgram, AreEnds, AreWords, ArePoints, AreComponents, AreRecords, AreCompositeWords}
+use Rattle.tt_glyf.specs.Raw.{raw_view}
 use Rattle.tt_glyf.proofs.Defects.{glyph-broke, glyph-whole}
 use Rattle.tt_glyf.proofs.Glyphs.{glyph-is}
 use Rattle.tt_glyf.proofs.Reading.{if-read}
@@ -37,13 +37,13 @@ returns-clause-sums c =
 pub returns-clause-words : goal.returns-clause-words
 returns-clause-words c =
     if-read c.read_whole.result (glyph_data_of c.args.self.now c.args.g)
-    (λ d. IfSimple d (AreWords (stretch_of c.args.self.now c.args.g))) (returns-clause-exact c)
+    (λ d. IfSimple d (AreWords (glyph_bytes_at c.args.self.now c.args.g))) (returns-clause-exact c)
     (λ d was. (glyph-is c.args.self.now c.args.g d was).words)
 
 pub returns-clause-components : goal.returns-clause-components
 returns-clause-components c =
     if-read c.read_whole.result (glyph_data_of c.args.self.now c.args.g)
-    (λ d. IfComposite d (λ x. AreComponents (stretch_of c.args.self.now c.args.g) 10 x.records))
+    (λ d. IfComposite d (λ x. AreComponents (glyph_bytes_at c.args.self.now c.args.g) 10 x.records))
     (returns-clause-exact c) (λ d was. (glyph-is c.args.self.now c.args.g d was).components)
 
 pub returns-clause-records : goal.returns-clause-records
@@ -55,7 +55,7 @@ returns-clause-records c =
 pub returns-clause-composite_words : goal.returns-clause-composite_words
 returns-clause-composite_words c =
     if-read c.read_whole.result (glyph_data_of c.args.self.now c.args.g)
-    (λ d. IfComposite d (AreCompositeWords (stretch_of c.args.self.now c.args.g))) (returns-clause-exact c)
+    (λ d. IfComposite d (AreCompositeWords (glyph_bytes_at c.args.self.now c.args.g))) (returns-clause-exact c)
     (λ d was. (glyph-is c.args.self.now c.args.g d was).composite_words)
 
 pub returns-clause-program : goal.returns-clause-program
@@ -65,13 +65,13 @@ returns-clause-program c =
 
 pub returns-clause-sound : goal.returns-clause-sound
 returns-clause-sound c =
-    on-given glyph_data c.read_whole.result (glyph_data_of c.args.self.now c.args.g)
+    on-given raw_view c.read_whole.result (glyph_data_of c.args.self.now c.args.g)
     (HasNo (IsGlyphDefect c.args.self.now c.args.g)) (returns-clause-exact c)
     (λ d was. glyph-whole c.args.self.now c.args.g d was)
 
 pub returns-clause-fault : goal.returns-clause-fault
 returns-clause-fault c =
-    if-told glyph_data c.read_whole.result (glyph_data_of c.args.self.now c.args.g)
+    if-told raw_view c.read_whole.result (glyph_data_of c.args.self.now c.args.g)
     (IsGlyphDefect c.args.self.now c.args.g) (returns-clause-exact c) (λ f was. glyph-broke c.args.self.now c.args.g f was)
 
 pub returns-clause-empty : goal.returns-clause-empty

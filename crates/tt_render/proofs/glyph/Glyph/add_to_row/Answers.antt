@@ -1,7 +1,7 @@
 use Rattle.std.proofs.Common.{◌≡◌, ◌∙◌, ◌+◌, ◌*◌, ◌^◌, ◌<◌, ◌≤◌, nat_lt, length, SFits, w64, rules, arith, ap}
 use Rattle.std.proofs.lemmas.Int.{to_z-of_z}
 use Rattle.tt_core.specs.Bits.{bit}
-use Rattle.tt_scan.specs.Tape.{Edges}
+use Rattle.tt_scan.specs.Tape.{Tape}
 use Rattle.tt_scan.specs.Winding.{row_y}
 use Rattle.tt_render.specs.Pixels.{row_crossings}
 use Rattle.tt_render.proofs.Pens.{none_from, painted_from, met_few}
@@ -37,13 +37,13 @@ returns-clause-glyph c =
     let row : SFits w64 c.from.result = search rules in
     let crosses = rw tape at (simp to_z-of_z at c.cut.ensures.crosses) in
     let few = met_few g.tape.edges (row_y g.tape.frame c.from.result) in
-    let edges : c.cut.new.tape.edges ≡ g.tape.edges = ap (λ (t : Edges). t.edges) kept in
+    let edges : c.cut.new.tape.edges ≡ g.tape.edges = ap (λ (t : Tape). t.edges) kept in
     let many : length g.tape.edges ≤ 2 ^ 17 = fits.tape.edges in
     let before : g.tape.crosses ≤ c.args.r * row_crossings = fits.tape.crosses in
     let after : c.cut.new.tape.crosses ≤ (c.args.r + 1) * row_crossings = omega (arith, crosses, few) in
     record {
       tape = record {
-        frame = ap (λ (t : Edges). t.frame) kept ∙ fits.tape.frame;
+        frame = ap (λ (t : Tape). t.frame) kept ∙ fits.tape.frame;
         edges = rw edges many;
         crosses
             = after;

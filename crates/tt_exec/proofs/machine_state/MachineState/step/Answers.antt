@@ -1,7 +1,7 @@
 use Rattle.std.proofs.Common.{◌≡◌, nat_le, length, true, false, arith}
 use Rattle.std.proofs.lemmas.Bool.Decides.{nat_tests}
 use Rattle.tt_code.specs.Decoding.{takes_data}
-use Rattle.tt_exec.proofs.interpreter.Interpreter.step.Goals as goal
+use Rattle.tt_exec.proofs.machine_state.MachineState.step.Goals as goal
 
 pub returns-in-Ok : goal.returns-in-Ok
 returns-in-Ok c =

@@ -5,45 +5,45 @@ use Rattle.tt_core.specs.declared.fault.JobFault.TheVariants as fault
 use Rattle.tt_core.specs.Limits.{text_limit, size_limit, margin_limit}
 use Rattle.tt_fit.specs.declared.programs.Fit.{Fit}
 use Rattle.tt_fit.specs.declared.programs.Fit.TheVariants as fit
-use Rattle.tt_render.specs.declared.job.Job.{Job}
+use Rattle.tt_render.specs.declared.job.Job as declared
 
 -- a text, the pixels per em, the pixels round the line, and how outlines are fitted
-pub record Ask : Type 0 where
+pub record Job : Type 0 where
   pub text : List ℕ
   pub ppem : ℕ
   pub margin : ℕ
   pub fit : Fit
 
-abbrev pub ask_of : Job → Ask
-ask_of j = record { text = j.text.now; ppem = j.ppem; margin = j.margin; fit = j.fit }
+abbrev pub job_view : declared.Job → Job
+job_view j = record { text = j.text.now; ppem = j.ppem; margin = j.margin; fit = j.fit }
 
 -- the limit of a text, in characters
 unfoldable pub text_tested : List ℕ → Result (Unit {0}) JobFault
 text_tested text = if nat_lt text_limit (length (chars text)) then Err fault.TextLong else Ok tt
 
 -- the limits of a job, in the order in which they are tested
-unfoldable pub tested : Ask → Result (Unit {0}) JobFault
+unfoldable pub tested : Job → Result (Unit {0}) JobFault
 tested a =
     if nat_lt a.ppem 1 || nat_lt size_limit a.ppem then Err fault.SizeRange
     else (if nat_lt margin_limit a.margin then Err fault.MarginRange
     else text_tested a.text)
 
 -- a job within its limits
-pub record IsAsked (a : Ask) : Type 0 where
+pub record IsJob (a : Job) : Type 0 where
   pub low : 1 ≤ a.ppem
   pub high : a.ppem ≤ size_limit
   pub margin : a.margin ≤ margin_limit
   pub text : length (chars a.text) ≤ text_limit
 
 -- what stands behind a refusal of the job alone
-abbrev pub IsAskRefusal : Ask → JobFault → Type 0
-IsAskRefusal a fault.SizeRange = (a.ppem < 1) ⊎ (size_limit < a.ppem)
-IsAskRefusal a fault.MarginRange = margin_limit < a.margin
-IsAskRefusal a fault.TextLong = text_limit < length (chars a.text)
-IsAskRefusal a j = ⊥
+abbrev pub IsJobRefusal : Job → JobFault → Type 0
+IsJobRefusal a fault.SizeRange = (a.ppem < 1) ⊎ (size_limit < a.ppem)
+IsJobRefusal a fault.MarginRange = margin_limit < a.margin
+IsJobRefusal a fault.TextLong = text_limit < length (chars a.text)
+IsJobRefusal a j = ⊥
 
 -- worked values
-of_size : ℕ → Ask
+of_size : ℕ → Job
 of_size ppem = record { text = codes "A"; ppem = ppem; margin = 0; fit = fit.None }
 
 no_size : tested (of_size 0) ≡ Err fault.SizeRange

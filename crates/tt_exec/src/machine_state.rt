@@ -8,7 +8,7 @@ ghost use Rattle.tt_exec.specs.Machines.{begun, parts_in};
 ghost use Rattle.tt_exec.specs.MachineState.{fault_in};
 ghost use Rattle.tt_exec.specs.Parts.{parts_of};
 ghost use Rattle.tt_exec.specs.States.{state_of};
-ghost use Rattle.tt_exec.specs.Views.{frame_of, program_of};
+ghost use Rattle.tt_exec.specs.Views.{frame_of, code_of};
 
 use crate::bodies::Bodies;
 use crate::callers::Callers;
@@ -29,7 +29,7 @@ pub(crate) enum Kind {
 }
 
 #[derive(Drop)]
-pub(crate) struct Interpreter<'a> {
+pub(crate) struct MachineState<'a> {
     pub(crate) stack: Stack,
     /// The innermost open call, or the program that is run.
     pub(crate) frame: Frame<'a>,
@@ -46,10 +46,10 @@ pub(crate) struct Interpreter<'a> {
     pub(crate) kind: Kind,
 }
 
-impl<'a> Interpreter<'a> {
+impl<'a> MachineState<'a> {
     /// Begins a run of a program.
     pub(crate) fn begin(&mut self, code: Code<'a>, kind: Kind)
-        ensures { state_of self.new ≡ begun kind (program_of code.entry) (state_of self.old) }
+        ensures { state_of self.new ≡ begun kind (code_of code.entry) (state_of self.old) }
     {
         self.stack.clear();
         self.callers.clear();

@@ -1,7 +1,7 @@
 use Rattle.std.proofs.Common.{◌≤◌, ◌-◌}
 use Rattle.tt_exec.specs.Runs.{Leads, step_limit}
 use Rattle.tt_exec.specs.States.{state_of}
-use Rattle.tt_exec.proofs.interpreter.Interpreter.go.Given as goal
+use Rattle.tt_exec.proofs.machine_state.MachineState.go.Given as goal
 
 -- the steps that were made lead here
 abbrev pub invariant-steps : goal.invariant-steps

@@ -1,5 +1,5 @@
 use Rattle.std.proofs.Common.{refl, rules}
-use Rattle.tt_fit.proofs.hints.code_of.Goals as goal
+use Rattle.tt_fit.proofs.hints.code_in_glyf.Goals as goal
 
 pub invariant_of-result : goal.invariant_of-result
 invariant_of-result c = record { ascii = search rules; fits = c.args.program.fits }

@@ -1,7 +1,7 @@
 use Rattle.std.proofs.Common.{rules, refl, arith}
 use Rattle.tt_exec.specs.States.{state_of}
 use Rattle.tt_exec.proofs.Steps.{one_more}
-use Rattle.tt_exec.proofs.interpreter.Interpreter.go.Goals as goal
+use Rattle.tt_exec.proofs.machine_state.MachineState.go.Goals as goal
 
 pub steps-preserved : goal.steps-preserved
 steps-preserved c = record {
