@@ -10,7 +10,7 @@ ghost use Rattle.tt_exec.specs.States.{state_of};
 ghost use Rattle.std.specs.Prelude.{Some};
 
 use crate::callers::CALL_LIMIT;
-use crate::machine_state::{MachineState, Kind};
+use crate::machine_state::{Kind, MachineState};
 use crate::program::{Body, Frame};
 use tt_code::skip_def;
 use tt_core::{Fault, FontFault, Why};
