@@ -5,7 +5,7 @@ use Rattle.tt_core.specs.Faults.{Fault}
 use Rattle.tt_core.specs.declared.fault.Why.TheVariants as why
 use Rattle.tt_core.specs.Outcomes.{◌>>=◌}
 use Rattle.tt_glyf.specs.Bytes.{GlyphBytes, Listing, byte_in, signed_in, glyph_fault, after}
-use Rattle.tt_glyf.specs.Format.{has, x_short_vector, y_short_vector, x_is_same_or_positive, y_is_same_or_positive}
+use Rattle.tt_glyf.specs.Format.{word_size, has, x_short_vector, y_short_vector, x_is_same_or_positive, y_is_same_or_positive}
 
 -- the two flag bits that tell how a delta along an axis is written
 pub record Axis : Type 0 where

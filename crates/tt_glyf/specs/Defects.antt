@@ -8,7 +8,7 @@ use Rattle.tt_core.specs.Numbers.{unsigned_at}
 use Rattle.tt_glyf.specs.declared.raw.Record.{Record}
 use Rattle.tt_glyf.specs.Bytes.{GlyphBytes, glyph_fault, short}
 use Rattle.tt_glyf.specs.Composite.{has_program, asks_scaled_offset}
-use Rattle.tt_glyf.specs.Format.{more_components, has, end_place, size_place}
+use Rattle.tt_glyf.specs.Format.{word_size, header_size, more_components, has, end_place, size_place}
 use Rattle.tt_glyf.specs.Coordinates.{is_coordinate}
 use Rattle.tt_glyf.specs.Loca.{Glyf, glyph_offset, IsRangeDefect}
 use Rattle.tt_glyf.specs.Meaning.{glyph_bytes_at, contour_count, written_end, flags_place, written_run, runs_end, written_flags, x_deltas, y_deltas, points_end, written_component_flags, written_component, written_record, record_end}

@@ -1,7 +1,6 @@
 -- OpenType, "The 'glyf' table", "Simple Glyph Flags": a flag byte stands for one point, or for a run of points where it
 -- says that the next byte counts further copies. Bits 64 and 128 are ignored (profile).
-use Rattle.std.specs.Prelude.{ℕ, zero, suc, ◌+◌, ◌-◌, Bool, ◌==◌, nat_lt, if◌then◌else◌, List, [], ◌∷◌, replicate, codes, Result, Ok, Err}
-use Rattle.std.specs.Int.RustNames.{bit_and}
+use Rattle.std.specs.Prelude.{ℕ, zero, suc, ◌+◌, ◌-◌, nat_lt, if◌then◌else◌, [], replicate, Result, Ok, Err}
 use Rattle.tt_core.specs.Faults.{Fault}
 use Rattle.tt_core.specs.declared.fault.Why.TheVariants as why
 use Rattle.tt_core.specs.Outcomes.{◌>>=◌}

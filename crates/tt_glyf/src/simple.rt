@@ -42,15 +42,6 @@ fn end_at(glyph: &GlyphBytes, at: usize, before: u16) -> Result<u16, Fault>
     Ok(end)
 }
 
-/// Where the end of a contour stands, from the glyph's first byte.
-#[inline(always)]
-fn end_place(i: usize) -> usize
-    requires { i < 2 ^ 16 }
-    ensures { result ≡ end_place i }
-{
-    HEADER_SIZE + WORD_SIZE * i
-}
-
 /// The last point of each contour, and the place after them.
 #[derive(Drop)]
 struct EndList {
@@ -71,12 +62,12 @@ fn read_ends(alloc: Global, glyph: &GlyphBytes, contours: usize) -> Result<EndLi
     let mut ends = Vec::with_capacity(alloc, contours.min(glyph.len() / WORD_SIZE))?;
     let mut before = 0;
     for i in 0..contours {
-        before = end_at(glyph, end_place(i), before)?;
+        before = end_at(glyph, HEADER_SIZE + WORD_SIZE * i, before)?;
         ends.push(before)?;
     }
     Ok(EndList {
         ends,
-        next: end_place(contours),
+        next: HEADER_SIZE + WORD_SIZE * contours,
     })
 }
 
