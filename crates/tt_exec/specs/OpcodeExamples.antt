@@ -5,8 +5,8 @@ use Rattle.tt_state.specs.declared.graphics_state.Axis.TheVariants as axis
 use Rattle.tt_state.specs.declared.rounding.Round.TheVariants as round
 use Rattle.tt_exec_stack.specs.declared.arithmetic.Arithmetic.TheVariants as arithmetic
 use Rattle.tt_exec_stack.specs.declared.managing.Managing.TheVariants as managing
-use Rattle.tt_exec_stack.specs.declared.settings.Setting.TheVariants as setting
-use Rattle.tt_exec_stack.specs.declared.vectors.Vectors.TheVariants as vectors
+use Rattle.tt_exec_state.specs.declared.settings.Setting.TheVariants as setting
+use Rattle.tt_exec_state.specs.declared.vectors.Vectors.TheVariants as vectors
 use Rattle.tt_points.specs.Distances.{keeping}
 use Rattle.tt_points.specs.declared.measuring.Position.TheVariants as position
 use Rattle.tt_points_loops.specs.declared.deltas.DeltaRange.TheVariants as ranges

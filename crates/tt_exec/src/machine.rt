@@ -22,7 +22,8 @@ use crate::program::{Code, Frame};
 use std::alloc::{AllocError, Global};
 use std::marker::Model;
 use tt_exec_points::Points;
-use tt_exec_stack::{Graphics, Size, Stack};
+use tt_exec_stack::Stack;
+use tt_exec_state::{Graphics, Size};
 
 /// A machine, which runs programs one behind the other. A clause sees what it holds, and whether a run failed.
 #[derive(Drop)]

@@ -7,7 +7,8 @@ ghost use Rattle.tt_exec_points.specs.Instruction as is;
 use crate::control_values::deltac;
 use crate::points::Points;
 use tt_core::Why;
-use tt_exec_stack::{Graphics, Size, Stack};
+use tt_exec_stack::Stack;
+use tt_exec_state::{Graphics, Size};
 use tt_points::{DeltaRange, Keeping, Position, ReferencePoint};
 use tt_state::Axis;
 
