@@ -19,7 +19,7 @@ use Rattle.tt_exec_stack.specs.Queries.{told}
 use Rattle.tt_exec_stack.specs.Settings.{adjusted}
 use Rattle.tt_exec_stack.specs.Vectors.{turned}
 use Rattle.tt_exec_stack.specs.declared.places.Places.{Places}
-use Rattle.tt_exec.specs.Calls.{call_limit}
+use Rattle.tt_core.specs.Limits.{call_limit}
 use Rattle.tt_exec.specs.Flags.{flagged, instctrl}
 use Rattle.tt_exec.specs.Flow.{goes_to, skipped, jumped, if_from, jmpr, jrot, jrof}
 use Rattle.tt_exec.specs.Functions.{may_define, defined, fdef_from, endf, called, call, called_often, loopcall}

@@ -24,5 +24,5 @@ pub use pushing::{push_bytes, push_words};
 pub use queries::{Query, tell};
 pub use settings::{Setting, adjust};
 pub use size::Size;
-pub use stack::{STACK_LIMIT, Stack};
+pub use stack::Stack;
 pub use vectors::{Vectors, turn};
