@@ -6,8 +6,8 @@ use crate::words::Words;
 use anyhow::{Result, bail};
 use std::alloc::Global;
 use tt_core::Device;
+use tt_program_decisions::{Request, perform};
 use tt_render::Job;
-use tt_render_program::{Request, perform};
 
 /// The font, and how it is read and the answer is taken.
 #[derive(Drop)]

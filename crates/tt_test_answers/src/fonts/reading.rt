@@ -3,8 +3,8 @@
 use super::devices::Manner;
 use crate::words::Words;
 use anyhow::{Context, Result, bail};
+use tt_program_decisions::job_of;
 use tt_render::Job;
-use tt_render_program::job_of;
 
 /// The next word, a number of bytes.
 pub(crate) fn size_in(words: &mut Words) -> Result<usize> {
@@ -45,7 +45,7 @@ where
     let size: u32 = words.word()?.parse()?;
     let margin: u32 = words.word()?.parse()?;
     let fit = words.word()?;
-    job_of(&tt_render_program::Words {
+    job_of(&tt_program_decisions::Words {
         text,
         size,
         margin,

@@ -1,0 +1,107 @@
+//! The command line, as clap reads it.
+
+use clap::{Arg, ArgAction, ArgMatches, Command, value_parser};
+use std::alloc::{AllocError, Global};
+use tt_program_decisions::{Request, Words, job_of};
+
+/// The words of `--fit`.
+static FITS: [&str; 3] = ["full", "none", "fallback"];
+
+/// `tt_render map FONT TEXT` and `tt_render draw --size N [--margin N] [--fit full|none|fallback] FONT TEXT`.
+pub(crate) fn command<'a>(alloc: Global) -> Result<Command<'a>, AllocError> {
+    Command::new(alloc, "tt_render")
+        .bin_name("tt_render")?
+        .about("Draws a line of text from a TrueType font")
+        .version("0.1.0")
+        .subcommand_required(true)
+        .subcommand(draw_command(alloc)?)?
+        .subcommand(map_command(alloc)?)
+}
+
+fn draw_command<'a>(alloc: Global) -> Result<Command<'a>, AllocError> {
+    Command::new(alloc, "draw")
+        .about("Writes the picture of a line of text on standard output, as binary PBM (P4)")
+        .after_help(
+            "A TEXT that begins with '-' goes behind '--': tt_render draw --size N FONT -- -text",
+        )
+        .arg(size(alloc))?
+        .arg(margin(alloc))?
+        .arg(fit(alloc))?
+        .arg(font(alloc))?
+        .arg(text(alloc))
+}
+
+fn map_command<'a>(alloc: Global) -> Result<Command<'a>, AllocError> {
+    Command::new(alloc, "map")
+        .about("Prints each character's glyph number and advance in font units")
+        .after_help("A TEXT that begins with '-' goes behind '--': tt_render map FONT -- -text")
+        .arg(font(alloc))?
+        .arg(text(alloc))
+}
+
+fn font<'a>(alloc: Global) -> Arg<'a> {
+    Arg::new(alloc, "FONT")
+        .required(true)
+        .action(ArgAction::Set)
+        .help("The path of a TrueType font file")
+}
+
+fn text<'a>(alloc: Global) -> Arg<'a> {
+    Arg::new(alloc, "TEXT")
+        .required(true)
+        .action(ArgAction::Set)
+        .help("At most 4096 characters")
+}
+
+fn size<'a>(alloc: Global) -> Arg<'a> {
+    Arg::new(alloc, "size")
+        .long("size")
+        .value_name("N")
+        .value_parser(value_parser!(u32))
+        .required(true)
+        .help("Pixels per em, 1 to 300")
+}
+
+fn margin<'a>(alloc: Global) -> Arg<'a> {
+    Arg::new(alloc, "margin")
+        .long("margin")
+        .value_name("N")
+        .value_parser(value_parser!(u32))
+        .default_value("0")
+        .help("Pixels round the line, 0 to 64")
+}
+
+fn fit<'a>(alloc: Global) -> Arg<'a> {
+    Arg::new(alloc, "fit")
+        .long("fit")
+        .value_name("HOW")
+        .value_parser(FITS.as_slice())
+        .default_value("full")
+        .help(
+            "full: by the font's programs; none: scaled points only; fallback: full where that serves",
+        )
+}
+
+/// What a command line asks for.
+pub(crate) fn request<'a>(matches: &ArgMatches<'a>) -> Option<Request<'a>> {
+    match matches.subcommand()? {
+        ("map", map) => Some(Request::Map {
+            font: map.get_str("FONT")?,
+            text: map.get_str("TEXT")?,
+        }),
+        ("draw", draw) => Some(Request::Draw {
+            font: draw.get_str("FONT")?,
+            job: job_of(&drawing(draw)?)?,
+        }),
+        _ => None,
+    }
+}
+
+fn drawing<'a>(draw: &ArgMatches<'a>) -> Option<Words<'a>> {
+    Some(Words {
+        text: draw.get_str("TEXT")?,
+        size: draw.get_one::<u32>("size")?,
+        margin: draw.get_one::<u32>("margin")?,
+        fit: draw.get_str("fit")?,
+    })
+}

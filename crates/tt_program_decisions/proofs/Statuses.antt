@@ -1,0 +1,25 @@
+-- No exit status is above 5.
+use Rattle.std.proofs.Common.{◌≤◌, arith}
+use Rattle.tt_render.specs.declared.fault.RunFault.{RunFault}
+use Rattle.tt_render.specs.declared.fault.RunFault.TheVariants as run
+use Rattle.tt_render.specs.Report.{status_of}
+use Rattle.tt_program_decisions.specs.declared.stopping.Stop.{Stop}
+use Rattle.tt_program_decisions.specs.declared.stopping.Stop.TheVariants as stop
+use Rattle.tt_program_decisions.specs.Stops.{stop_status}
+
+pub status_within : (fault : RunFault) → status_of fault ≤ 5
+status_within (run.Font f) = omega arith
+status_within (run.Job j) = omega arith
+status_within run.Read = omega arith
+status_within run.FontLarge = omega arith
+status_within (run.Write sent) = omega arith
+status_within run.Memory = omega arith
+
+pub stop_within : (why : Stop) → stop_status why ≤ 5
+stop_within stop.Shown = omega arith
+stop_within stop.NotShown = omega arith
+stop_within stop.Refused = omega arith
+stop_within stop.NoText = omega arith
+stop_within stop.Incomplete = omega arith
+stop_within stop.Unopened = omega arith
+stop_within stop.Memory = omega arith

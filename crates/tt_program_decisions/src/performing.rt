@@ -1,0 +1,48 @@
+//! A request done, over its font and the standard streams.
+
+ghost use Rattle.std.specs.Prelude.{◌≡◌, ◌≤◌, false};
+ghost use Rattle.tt_program_decisions.specs.Requests.{Performs};
+
+use crate::request::Request;
+use crate::telling::{tell, tell_picture};
+use std::alloc::Global;
+use tt_core::{Sink, Source};
+
+/// Does what a request asks for, and tells on standard error a fault, or which glyphs are not fitted though that was
+/// asked for; answers the exit status.
+pub fn perform<R: Source, W: Sink, E: Sink>(
+    alloc: Global,
+    request: &Request,
+    font: &mut R,
+    out: &mut W,
+    error: &mut E,
+) -> u8
+    requires font { R.has_failed font.old ≡ false }
+    requires out { W.has_failed out.old ≡ false }
+    requires error { E.has_failed error.old ≡ false }
+    ensures range { result ≤ 5 }
+    // Some answer stands for what went through the devices, and the status and the lines are told of that answer.
+    ensures outcome { Performs request.now (record {
+      left_before = R.left font.old;
+      left_after = R.left font.new;
+      read_failed = R.has_failed font.new;
+      out_before = W.written out.old;
+      out_after = W.written out.new;
+      write_failed = W.has_failed out.new;
+    }) (record {
+      before = E.written error.old;
+      after = E.written error.new;
+      failed = E.has_failed error.new;
+    }) result }
+{
+    match request {
+        Request::Map { text, .. } => {
+            let mapped = tt_render::map(alloc, font, text, out);
+            tell(alloc, &mapped, error)
+        }
+        Request::Draw { job, .. } => {
+            let drawn = tt_render::run(alloc, font, out, job);
+            tell_picture(alloc, &drawn, error)
+        }
+    }
+}

@@ -1,0 +1,90 @@
+//! The ends of the program at which no request is done.
+
+ghost use Rattle.std.specs.Prelude.{◌≡◌, ◌≤◌, false};
+ghost use Rattle.tt_program_decisions.specs.Stops.{stop_at_open, stop_at_words, stop_status, stop_text};
+ghost use Rattle.tt_program_decisions.specs.Telling.{Prints};
+
+use crate::telling::print;
+use std::io::ErrorKind;
+use tt_core::Sink;
+
+/// Why no request is done.
+#[derive(Clone, Copy)]
+pub enum Stop {
+    /// Help or the version was asked for, and is printed.
+    Shown,
+    /// Help or the version was asked for, and cannot be printed.
+    NotShown,
+    /// The command line is refused, and clap has said why.
+    Refused,
+    /// A word of the command line is no text.
+    NoText,
+    /// A word lacks, though clap let the command line pass.
+    Incomplete,
+    /// The font cannot be opened.
+    Unopened,
+    /// Memory was refused before a request was known, or its font open.
+    Memory,
+}
+
+/// Why there are no words of a command line: memory, or a word that is no text.
+pub fn stop_of_words(kind: ErrorKind) -> Stop
+    ensures { result ≡ stop_at_words kind }
+{
+    match kind {
+        ErrorKind::OutOfMemory => Stop::Memory,
+        _ => Stop::NoText,
+    }
+}
+
+/// Why a font is not open.
+pub fn stop_of_open(kind: ErrorKind) -> Stop
+    ensures { result ≡ stop_at_open kind }
+{
+    match kind {
+        ErrorKind::OutOfMemory => Stop::Memory,
+        _ => Stop::Unopened,
+    }
+}
+
+/// Says on standard error why no request is done; answers the exit status.
+#[tactic(auto, using(crate::proofs::Statuses::stop_within))]
+pub fn tell_stop<E: Sink>(stop: Stop, error: &mut E) -> u8
+    requires { E.has_failed error.old ≡ false }
+    ensures range { result ≤ 5 }
+    ensures status { result ≡ stop_status stop }
+    ensures text { Prints (record {
+      before = E.written error.old;
+      after = E.written error.new;
+      failed = E.has_failed error.new;
+    }) (stop_text stop) }
+{
+    print(error, text_of(stop));
+    status_of(stop)
+}
+
+fn status_of(stop: Stop) -> u8
+    ensures { result ≡ stop_status stop }
+{
+    match stop {
+        Stop::Shown => 0,
+        Stop::Refused | Stop::NoText | Stop::Incomplete => 2,
+        Stop::Unopened => 3,
+        Stop::NotShown => 4,
+        Stop::Memory => 5,
+    }
+}
+
+/// A line with its line feed, or nothing where clap has printed.
+fn text_of(stop: Stop) -> &'static str
+    ensures { result.now ≡ stop_text stop }
+{
+    match stop {
+        Stop::Shown | Stop::Refused => "",
+        Stop::NotShown => "tt_render: cannot write the help\n",
+        Stop::NoText => "tt_render: the command line is not UTF-8\n",
+        Stop::Incomplete => "tt_render: the command line is incomplete\n",
+        Stop::Unopened => "tt_render: cannot read the font\n",
+        Stop::Memory => "tt_render: out of memory\n",
+    }
+}

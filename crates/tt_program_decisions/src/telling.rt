@@ -1,0 +1,141 @@
+//! What is told of an answer: the exit status, and a line on standard error.
+
+ghost use Rattle.std.specs.Prelude.{◌≡◌, ◌≤◌, ◌++◌, [], false, codes, string_bytes, IfOk, IfErr};
+ghost use Rattle.tt_render.specs.declared.fault.RunFault.TheVariants.{Memory};
+ghost use Rattle.tt_render.specs.Report.{line_of};
+ghost use Rattle.tt_program_decisions.specs.Telling.{Prints, Tells, TellsFailure, TellsFault, TellsReport, report_lines};
+
+use std::alloc::{AllocError, Global};
+use tt_core::Sink;
+use tt_pbm::write_all_of;
+use tt_render::{Report, RunFault, Unfitted, line, status, unfitted_line};
+
+/// The line for want of memory, which takes none.
+const NO_MEMORY: &str = "tt_render: out of memory\n";
+
+/// Tells the answer of `map` on standard error; answers the exit status.
+pub(crate) fn tell<E: Sink>(alloc: Global, answer: &Result<(), RunFault>, error: &mut E) -> u8
+    requires { E.has_failed error.old ≡ false }
+    ensures range { result ≤ 5 }
+    ensures told { Tells (λ v. []) answer.now result (record {
+      before = E.written error.old;
+      after = E.written error.new;
+      failed = E.has_failed error.new;
+    }) }
+{
+    match answer {
+        Ok(()) => 0,
+        Err(fault) => tell_fault(alloc, fault, error),
+    }
+}
+
+/// Tells the answer of `run` on standard error, and which glyphs are not fitted; answers the exit status.
+pub(crate) fn tell_picture<E: Sink>(
+    alloc: Global,
+    answer: &Result<Report, RunFault>,
+    error: &mut E,
+) -> u8
+    requires { E.has_failed error.old ≡ false }
+    ensures range { result ≤ 5 }
+    ensures told { Tells (λ r. r.unfitted.items) answer.now result (record {
+      before = E.written error.old;
+      after = E.written error.new;
+      failed = E.has_failed error.new;
+    }) }
+{
+    match answer {
+        Ok(report) => tell_report(alloc, &report.unfitted, error),
+        Err(fault) => tell_fault(alloc, fault, error),
+    }
+}
+
+/// Tells which glyphs are not fitted, or want of memory where that is refused for their lines.
+fn tell_report<E: Sink>(alloc: Global, unfitted: &[Unfitted], error: &mut E) -> u8
+    requires { E.has_failed error.old ≡ false }
+    ensures range { result ≤ 5 }
+    ensures told { TellsReport unfitted.now result (record {
+      before = E.written error.old;
+      after = E.written error.new;
+      failed = E.has_failed error.new;
+    }) }
+{
+    if unfitted.is_empty() {
+        return 0;
+    }
+    tell_text(report_lines(alloc, unfitted), 0, error)
+}
+
+/// Tells a text with a status, or want of memory where that was refused for the text.
+fn tell_text<E: Sink>(text: Result<String, AllocError>, status_then: u8, error: &mut E) -> u8
+    requires status { status_then ≤ 5 }
+    requires error { E.has_failed error.old ≡ false }
+    ensures range { result ≤ 5 }
+    ensures told { IfOk text (λ t. (result ≡ status_then) × Prints (record {
+      before = E.written error.old;
+      after = E.written error.new;
+      failed = E.has_failed error.new;
+    }) (string_bytes t)) }
+    ensures refused { IfErr text (λ e. TellsFault Memory result (record {
+      before = E.written error.old;
+      after = E.written error.new;
+      failed = E.has_failed error.new;
+    })) }
+{
+    match text {
+        Ok(text) => {
+            print(error, &text);
+            status_then
+        }
+        Err(AllocError) => {
+            print(error, NO_MEMORY);
+            status(&RunFault::Memory)
+        }
+    }
+}
+
+/// A line for each glyph that is not fitted, with its line feed.
+fn report_lines(alloc: Global, unfitted: &[Unfitted]) -> Result<String, AllocError>
+    ensures { IfOk result (λ text. string_bytes text ≡ report_lines unfitted.now) }
+{
+    let mut text = String::new(alloc);
+    for entry in unfitted {
+        text.push_str(&unfitted_line(alloc, entry)?)?;
+        text.push_str("\n")?;
+    }
+    Ok(text)
+}
+
+/// Tells a fault, or want of memory where that is refused for the fault's line.
+#[tactic(auto, using(crate::proofs::Statuses::status_within))]
+fn tell_fault<E: Sink>(alloc: Global, fault: &RunFault, error: &mut E) -> u8
+    requires { E.has_failed error.old ≡ false }
+    ensures range { result ≤ 5 }
+    ensures told { TellsFailure fault.now result (record {
+      before = E.written error.old;
+      after = E.written error.new;
+      failed = E.has_failed error.new;
+    }) }
+{
+    tell_text(ended_line(alloc, fault), status(fault), error)
+}
+
+/// The line of a fault, with its line feed.
+fn ended_line(alloc: Global, fault: &RunFault) -> Result<String, AllocError>
+    ensures { IfOk result (λ text. string_bytes text ≡ line_of fault.now ++ codes "\n") }
+{
+    let mut text = line(alloc, fault)?;
+    text.push_str("\n")?;
+    Ok(text)
+}
+
+/// Prints a text on standard error. Where that fails, no other place is left to tell it.
+pub(crate) fn print<E: Sink>(error: &mut E, text: &str)
+    requires { E.has_failed error.old ≡ false }
+    ensures { Prints (record {
+      before = E.written error.old;
+      after = E.written error.new;
+      failed = E.has_failed error.new;
+    }) text.now }
+{
+    let _ = write_all_of(error, text.as_bytes());
+}

@@ -1,5 +1,0 @@
-use Rattle.std.proofs.Common.{refl}
-use Rattle.tt_render_program.proofs.stopping.status_of.Goals as goal
-
-pub returns-in-Shown : goal.returns-in-Shown
-returns-in-Shown c = rw c.in-Shown.is refl
