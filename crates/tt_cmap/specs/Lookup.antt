@@ -20,7 +20,7 @@ by_subtable table glyphs None = Err (cmap_fault 0 why.NoCmap)
 by_subtable table glyphs (Some place) =
     subtable_at table place >>= λ subtable. Ok (record { subtable = subtable; glyphs = glyphs })
 
--- the same behind the records, which have to fit first
+-- the same after the records, which have to fit first
 abbrev pub lookup_by : List ℕ → ℕ → Option Place → Result Cmap Fault
 lookup_by table glyphs place = records_of table >>= λ count. by_subtable table glyphs place
 

@@ -99,7 +99,7 @@ impl<'a> Subtable<'a> {
     #[tactic(auto, using(tt_core::specs::Search::first_from_next, tt_core::specs::Search::first_from_here))]
     fn falling(&self, reads: &mut Reads) -> Option<usize>
         requires room { reads.old + 2 ^ 30 < 2 ^ 32 }
-        ensures first { result ≡ falling_range (subtable_view self.now) }
+        ensures exact { result ≡ falling_range (subtable_view self.now) }
         ensures bound { IfSome result (λ i. i + 1 < range_count (subtable_view self.now)) }
         ensures falls { IfSome result (λ i. falls (subtable_view self.now) i ≡ true) }
     {
