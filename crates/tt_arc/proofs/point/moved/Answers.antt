@@ -1,6 +1,6 @@
 use Rattle.std.proofs.Common.{◌+ℤ◌, SFits, w32, w64, refl, rules, arith}
 use Rattle.std.proofs.lemmas.Int.{ints, to_z-of_z}
-use Rattle.tt_arc.proofs.dot.moved.Goals as goal
+use Rattle.tt_arc.proofs.point.moved.Goals as goal
 
 pub returns : goal.returns
 returns c =
