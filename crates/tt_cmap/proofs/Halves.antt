@@ -5,7 +5,7 @@ use Rattle.tt_core.specs.Search.{IsLeast, first_below_least, first_below_none, f
 use Rattle.tt_cmap.specs.Halves.{asked_within, asked}
 use Rattle.tt_cmap.specs.Ranges.{Subtable, segments, groups, range_count, range_end, falls, falling_range, reaches, range_of, ends_read, most_ends, IfSegments}
 
--- where nothing falls, each range ends at the end of the one before it or behind
+-- where nothing falls, each range ends at the end of the one before it or after
 rises-once : (s : Subtable) → falling_range s ≡ None → (i : ℕ) → i + 1 < range_count s → range_end s i
     ≤ range_end s (i + 1)
 rises-once s rises i within =
@@ -90,7 +90,7 @@ pub record IsLeft (s : Subtable) (c count low high reads all : ℕ) : Type 0 whe
   pub ordered : low ≤ high
   pub within : high ≤ count
   pub before : (j : ℕ) → j < low → reaches s c j ≡ false
-  pub behind : high < count → reaches s c high ≡ true
+  pub after : high < count → reaches s c high ≡ true
   pub plane : high < count → IfSegments s (c ≤ 65535)
   pub to_read : reads + asked (reaches s c) low (high - low) ≡ all
 
@@ -102,7 +102,7 @@ all-left s c count reads is =
       ordered = omega arith;
       within = omega arith;
       before = λ j below. absurd (omega (arith, below));
-      behind = λ below. absurd (omega (arith, below));
+      after = λ below. absurd (omega (arith, below));
       plane = λ below. absurd (omega (arith, below));
       to_read = rw (is, same) refl;
     }
@@ -128,7 +128,7 @@ goes-on s rises c low high reads all left some below =
       ordered = omega (arith, some);
       within = left.within;
       before = before-fails s rises c (low + (high - low) / 2) (omega (arith, some, left.within)) below;
-      behind = left.behind;
+      after = left.after;
       plane = left.plane;
       to_read = rw rest (omega (arith, once, left.to_read));
     }
@@ -149,7 +149,7 @@ goes-back s c low high reads all left some reached plane =
       ordered = omega arith;
       within = omega (arith, some, left.within);
       before = left.before;
-      behind = λ below. holds;
+      after = λ below. holds;
       plane = λ below. plane;
       to_read = rw rest (omega (arith, once, left.to_read));
     }
@@ -169,7 +169,7 @@ found s c low high reads all left none within =
     let same : high ≡ low = omega (arith, none, left.ordered) in
     let least : IsLeast (reaches s c) (range_count s) low = record {
       within = within;
-      holds = rw same at (left.behind (omega (arith, same, within)));
+      holds = rw same at (left.after (omega (arith, same, within)));
       before = left.before;
     } in
     first_below_least (reaches s c) (range_count s) low least

@@ -7,11 +7,11 @@ use Rattle.tt_core.specs.Outcomes.{◌>>=◌}
 use Rattle.tt_core.specs.Search.{first_below}
 use Rattle.tt_cmap.specs.declared.records.Format.{Format}
 use Rattle.tt_cmap.specs.declared.records.Format.TheVariants as format
-use Rattle.tt_cmap.specs.declared.records.Place.{Place}
+use Rattle.tt_cmap.specs.declared.records.Choice.{Choice}
 use Rattle.tt_cmap.specs.declared.ranges.Subtable as ranges
 use Rattle.tt_cmap.specs.declared.ranges.Subtable.TheVariants as by
-use Rattle.tt_cmap.specs.Format4.{Format4, segment_count, segments_at, end_code, end_code_place, by_segment, segment_reads}
-use Rattle.tt_cmap.specs.Format12.{Format12, group_count, groups_at, end_char_code, end_char_code_place, by_group, group_reads}
+use Rattle.tt_cmap.specs.Format4.{Format4, seg_count, segments_at, end_code, end_code_place, by_segment, segment_reads}
+use Rattle.tt_cmap.specs.Format12.{Format12, num_groups, groups_at, end_char_code, end_char_code_place, by_group, group_reads}
 use Rattle.tt_cmap.specs.Halves.{asked}
 use Rattle.tt_cmap.specs.Subtables.{cmap_fault}
 
@@ -24,8 +24,8 @@ table_of (segments m) = m.table
 table_of (groups m) = m.table
 
 abbrev pub range_count : Subtable → ℕ
-range_count (segments m) = segment_count m
-range_count (groups m) = group_count m
+range_count (segments m) = seg_count m
+range_count (groups m) = num_groups m
 
 -- the last character of range i, and where it stands
 abbrev pub range_end : Subtable → ℕ → ℕ
@@ -59,10 +59,10 @@ subtable_with format.Segments table at = segments_at table at >>= λ m. Ok (segm
 subtable_with format.Groups table at = groups_at table at >>= λ m. Ok (groups m)
 
 -- and whose ranges have to end in rising order
-abbrev pub subtable_at : List ℕ → Place → Result Subtable Fault
+abbrev pub subtable_at : List ℕ → Choice → Result Subtable Fault
 subtable_at table p = subtable_with p.format table p.at >>= λ s. or_falling s (falling_range s)
 
--- range i ends at the character, or behind it
+-- range i ends at the character or after it
 abbrev pub reaches : Subtable → ℕ → ℕ → Bool
 reaches s c i = nat_le c (range_end s i)
 
@@ -78,7 +78,7 @@ abbrev pub by_found : Subtable → ℕ → ℕ → Option ℕ → ℕ
 by_found s glyphs c None = 0
 by_found s glyphs c (Some i) = by_range s glyphs c i
 
--- the glyph of a character: by the first range that ends at it or behind it, and 0 where there is none
+-- the glyph of a character: by the first range that ends at it or after it, and 0 where there is none
 abbrev pub glyph_in : Subtable → ℕ → ℕ → ℕ
 glyph_in s glyphs c = by_found s glyphs c (range_of s c)
 

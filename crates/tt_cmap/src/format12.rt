@@ -4,7 +4,7 @@ ghost use Rattle.std.specs.Prelude.{◌≡◌, ◌+◌, ◌*◌, ◌^◌, ◌<�
 ghost use Rattle.tt_core.specs.Limits.{font_limit};
 ghost use Rattle.tt_core.specs.Outcomes.{Gives};
 ghost use Rattle.tt_cmap.specs.Defects.{IsBadFormat12};
-ghost use Rattle.tt_cmap.specs.Format12.{groups_at, group_count, group_place, end_char_code, end_char_code_place, by_group, group_reads};
+ghost use Rattle.tt_cmap.specs.Format12.{groups_at, num_groups, group_place, end_char_code, end_char_code_place, by_group, group_reads};
 
 use crate::glyphs::or_missing;
 use crate::lookup::reads::Reads;
@@ -38,7 +38,7 @@ pub(crate) struct Format12<'a> {
 
 impl<'a> Model for Format12<'a> {
     ghost use Rattle.std.specs.Prelude.{◌≡◌};
-    ghost use Rattle.tt_cmap.specs.Format12.{IsFormat12, group_count};
+    ghost use Rattle.tt_cmap.specs.Format12.{IsFormat12, num_groups};
     ghost use Rattle.tt_cmap.specs.Format12 as groups;
 
     ghost Value = { groups.Format12 };
@@ -46,7 +46,7 @@ impl<'a> Model for Format12<'a> {
     ghost view = { λ m. record { table = m.table; at = m.at } };
 
     ghost invariant = { λ m. IsFormat12 (record { table = m.table; at = m.at })
-        × (m.count ≡ group_count (record { table = m.table; at = m.at })) };
+        × (m.count ≡ num_groups (record { table = m.table; at = m.at })) };
 }
 
 impl<'a> Format12<'a> {
@@ -77,14 +77,14 @@ impl<'a> Format12<'a> {
     }
 
     pub(crate) fn count(&self) -> usize
-        ensures exact { result ≡ group_count self.now }
+        ensures exact { result ≡ num_groups self.now }
         ensures bound { 12 * result ≤ font_limit }
     {
         self.count
     }
 
     fn group_place(&self, i: usize) -> usize
-        requires { i < group_count self.now }
+        requires { i < num_groups self.now }
         ensures exact { result ≡ group_place self.now i }
         ensures fits { result + 12 ≤ length self.now.table }
         ensures size { length self.now.table ≤ font_limit }
@@ -94,7 +94,7 @@ impl<'a> Format12<'a> {
 
     /// Where the last character of a group stands.
     pub(crate) fn end_char_code_place(&self, i: usize) -> usize
-        requires { i < group_count self.now }
+        requires { i < num_groups self.now }
         ensures exact { result ≡ end_char_code_place self.now i }
         ensures fits { result + 4 ≤ length self.now.table }
         ensures size { length self.now.table ≤ font_limit }
@@ -103,7 +103,7 @@ impl<'a> Format12<'a> {
     }
 
     pub(crate) fn end_char_code(&self, i: usize, reads: &mut Reads) -> usize
-        requires group { i < group_count self.now }
+        requires group { i < num_groups self.now }
         requires room { reads.old + 1 < 2 ^ 32 }
         ensures exact { result ≡ end_char_code self.now i }
         ensures count { reads.new ≡ reads.old + 1 }
@@ -113,7 +113,7 @@ impl<'a> Format12<'a> {
 
     /// The glyph of a character by a group whose end is not before it.
     pub(crate) fn glyph(&self, glyphs: u16, c: usize, i: usize, reads: &mut Reads) -> u16
-        requires group { i < group_count self.now }
+        requires group { i < num_groups self.now }
         requires character { c < 2 ^ 21 }
         requires glyphs { 0 < glyphs }
         requires room { reads.old + 2 < 2 ^ 32 }

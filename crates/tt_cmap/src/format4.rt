@@ -4,7 +4,7 @@ ghost use Rattle.std.specs.Prelude.{◌≡◌, ◌+◌, ◌-◌, ◌*◌, ◌^�
 ghost use Rattle.tt_core.specs.Limits.{font_limit};
 ghost use Rattle.tt_core.specs.Outcomes.{Gives};
 ghost use Rattle.tt_cmap.specs.Defects.{IsBadFormat4};
-ghost use Rattle.tt_cmap.specs.Format4.{segments_at, segment_bytes, segment_count, end_code, end_code_place, start_code, id_delta, id_range_offset, id_range_offset_place, by_segment, segment_reads};
+ghost use Rattle.tt_cmap.specs.Format4.{segments_at, seg_count_x2, seg_count, end_code, end_code_place, start_code, id_delta, id_range_offset, id_range_offset_place, by_segment, segment_reads};
 
 use crate::glyphs::or_missing;
 use crate::lookup::reads::Reads;
@@ -37,7 +37,7 @@ pub(crate) struct Format4<'a> {
 
 impl<'a> Model for Format4<'a> {
     ghost use Rattle.std.specs.Prelude.{◌≡◌, ◌<◌};
-    ghost use Rattle.tt_cmap.specs.Format4.{IsFormat4, segment_bytes};
+    ghost use Rattle.tt_cmap.specs.Format4.{IsFormat4, seg_count_x2};
     ghost use Rattle.tt_cmap.specs.Format4 as segments;
 
     ghost Value = { segments.Format4 };
@@ -45,7 +45,7 @@ impl<'a> Model for Format4<'a> {
     ghost view = { λ m. record { table = m.table; at = m.at } };
 
     ghost invariant = { λ m. IsFormat4 (record { table = m.table; at = m.at })
-        × (m.list ≡ segment_bytes (record { table = m.table; at = m.at })) × (m.list < 65536) };
+        × (m.list ≡ seg_count_x2 (record { table = m.table; at = m.at })) × (m.list < 65536) };
 }
 
 impl<'a> Format4<'a> {
@@ -76,7 +76,7 @@ impl<'a> Format4<'a> {
     }
 
     pub(crate) fn count(&self) -> usize
-        ensures exact { result ≡ segment_count self.now }
+        ensures exact { result ≡ seg_count self.now }
         ensures bound { result < 32768 }
     {
         self.list / WORD
@@ -84,7 +84,7 @@ impl<'a> Format4<'a> {
 
     /// Where the last character of a segment stands.
     pub(crate) fn end_code_place(&self, i: usize) -> usize
-        requires { i < segment_count self.now }
+        requires { i < seg_count self.now }
         ensures exact { result ≡ end_code_place self.now i }
         ensures fits { result + 2 ≤ length self.now.table }
         ensures size { length self.now.table ≤ font_limit }
@@ -93,7 +93,7 @@ impl<'a> Format4<'a> {
     }
 
     pub(crate) fn end_code(&self, i: usize, reads: &mut Reads) -> usize
-        requires segment { i < segment_count self.now }
+        requires segment { i < seg_count self.now }
         requires room { reads.old + 1 < 2 ^ 32 }
         ensures exact { result ≡ end_code self.now i }
         ensures bound { result < 65536 }
@@ -103,7 +103,7 @@ impl<'a> Format4<'a> {
     }
 
     fn start_code(&self, i: usize, reads: &mut Reads) -> usize
-        requires segment { i < segment_count self.now }
+        requires segment { i < seg_count self.now }
         requires room { reads.old + 1 < 2 ^ 32 }
         ensures exact { result ≡ start_code self.now i }
         ensures bound { result < 65536 }
@@ -114,7 +114,7 @@ impl<'a> Format4<'a> {
     }
 
     fn id_delta(&self, i: usize, reads: &mut Reads) -> usize
-        requires segment { i < segment_count self.now }
+        requires segment { i < seg_count self.now }
         requires room { reads.old + 1 < 2 ^ 32 }
         ensures exact { result ≡ id_delta self.now i }
         ensures bound { result < 65536 }
@@ -125,7 +125,7 @@ impl<'a> Format4<'a> {
     }
 
     fn id_range_offset_place(&self, i: usize) -> usize
-        requires { i < segment_count self.now }
+        requires { i < seg_count self.now }
         ensures exact { result ≡ id_range_offset_place self.now i }
         ensures fits { result + 2 ≤ length self.now.table }
         ensures size { length self.now.table ≤ font_limit }
@@ -136,7 +136,7 @@ impl<'a> Format4<'a> {
 
     /// The glyph of a character by a segment whose end is not before it.
     pub(crate) fn glyph(&self, glyphs: u16, c: usize, i: usize, reads: &mut Reads) -> u16
-        requires segment { i < segment_count self.now }
+        requires segment { i < seg_count self.now }
         requires character { c < 2 ^ 21 }
         requires glyphs { 0 < glyphs }
         requires room { reads.old + 4 < 2 ^ 32 }

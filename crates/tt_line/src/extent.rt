@@ -7,14 +7,14 @@ ghost use Rattle.tt_line.specs.Layout.{within_limits, IsRefusal, IsWithinLimits}
 
 use tt_core::{HEIGHT_LIMIT, JobFault, WIDTH_LIMIT};
 
-/// In pixels. The height may be negative.
+/// Width and height of a picture, in pixels, before they are known to be within the limits. The height may be negative.
 #[derive(Clone, Copy)]
 pub(crate) struct Extent {
     pub(crate) width: u64,
     pub(crate) height: i32,
 }
 
-/// The extent of a line between its margins, and of these.
+/// The extent of a line and of the margins round it: the advances beside each other, the rise above the depth.
 pub(crate) fn with_margins(advances: u64, rise: i32, depth: i32, margin: u32) -> Extent
     requires advances { advances < 2 ^ 40 }
     requires rise { unsigned_abs rise < 2 ^ 20 }
@@ -38,7 +38,7 @@ pub(crate) fn test_limits(extent: Extent) -> Result<Extent, JobFault>
     ensures exact { Gives (λ e. e) result (within_limits extent) }
     ensures same { IfOk result (λ e. e ≡ extent) }
     ensures within { IfOk result IsWithinLimits }
-    ensures refused { IfErr result (IsRefusal extent) }
+    ensures fault { IfErr result (IsRefusal extent) }
 {
     if extent.width < 1 || extent.height < 1 {
         return Err(JobFault::EmptyPicture);
