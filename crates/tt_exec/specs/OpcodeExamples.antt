@@ -46,16 +46,16 @@ not_supported : those is_off_profile (from 0 256)
 not_supported = refl
 
 -- on the stack and on what a program sets
-svtca_x : operation_of 0x01 ≡ op.turn (vectors.Svtca axis.X)
+svtca_x : operation_of 0x01 ≡ op.access_vectors (vectors.Svtca axis.X)
 svtca_x = refl
 
-rthg : operation_of 0x19 ≡ op.adjust (setting.RoundTo round.Half)
+rthg : operation_of 0x19 ≡ op.set_state (setting.RoundTo round.Half)
 rthg = refl
 
 mindex : operation_of 0x26 ≡ op.manage managing.Mindex
 mindex = refl
 
-flipoff : operation_of 0x4E ≡ op.adjust (setting.Flip false)
+flipoff : operation_of 0x4E ≡ op.set_state (setting.Flip false)
 flipoff = refl
 
 floor : operation_of 0x66 ≡ op.compute arithmetic.Floor
