@@ -5,7 +5,7 @@ use Rattle.tt_core.specs.Faults.{Fault}
 use Rattle.tt_core.specs.declared.fault.Why.TheVariants as why
 use Rattle.tt_core.specs.Limits.{font_limit}
 use Rattle.tt_core.specs.Numbers.{unsigned_at}
-use Rattle.tt_cmap.specs.Format4.{or_missing}
+use Rattle.tt_cmap.specs.Glyphs.{or_missing}
 use Rattle.tt_cmap.specs.Subtables.{cmap_fault}
 
 -- a subtable of format 12: the bytes of cmap, and where it begins in them
@@ -50,3 +50,7 @@ abbrev pub by_group : Format12 → ℕ → ℕ → ℕ → ℕ
 by_group m glyphs c i =
     if nat_lt c (start_char_code m i) then 0
     else or_missing glyphs (start_glyph_id m i + (c - start_char_code m i))
+
+-- how many numbers are read for that: startCharCode, then startGlyphID
+abbrev pub group_reads : Format12 → ℕ → ℕ → ℕ
+group_reads m c i = if nat_lt c (start_char_code m i) then 1 else 2

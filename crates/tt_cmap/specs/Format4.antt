@@ -5,6 +5,7 @@ use Rattle.tt_core.specs.Faults.{Fault}
 use Rattle.tt_core.specs.declared.fault.Why.TheVariants as why
 use Rattle.tt_core.specs.Limits.{font_limit}
 use Rattle.tt_core.specs.Numbers.{unsigned_at, number_at}
+use Rattle.tt_cmap.specs.Glyphs.{or_missing}
 use Rattle.tt_cmap.specs.Subtables.{cmap_fault}
 
 -- a subtable of format 4: the bytes of cmap, and where it begins in them
@@ -54,10 +55,6 @@ pub record IsFormat4 (m : Format4) : Type 0 where
   pub fits : m.at + 16 + 4 * segment_bytes m ≤ length m.table
   pub size : length m.table ≤ font_limit
 
--- a glyph number that the font has, and 0 for any other (profile)
-abbrev pub or_missing : ℕ → ℕ → ℕ
-or_missing glyphs g = if nat_lt g glyphs then g else 0
-
 -- what the array of glyph numbers has: 0 stays 0, and a word past the end of cmap is 0 too (profile)
 abbrev pub by_array : ℕ → ℕ → Option ℕ → ℕ
 by_array glyphs delta None = 0
@@ -73,3 +70,7 @@ by_segment m glyphs c i =
     if nat_lt c (start_code m i) then 0
     else (if id_range_offset m i == 0 then or_missing glyphs ((c + id_delta m i) % 65536)
     else by_array glyphs (id_delta m i) (number_at m.table (array_place m i c) 2))
+
+-- how many numbers are read for that: startCode, then idDelta and idRangeOffset, then one of the array
+abbrev pub segment_reads : Format4 → ℕ → ℕ → ℕ
+segment_reads m c i = if nat_lt c (start_code m i) then 1 else (if id_range_offset m i == 0 then 3 else 4)
