@@ -212,11 +212,11 @@ operate_kept k j op.unnamed at m has = tt
 done_kept : OnPoints → OnPlaces → (m : MachineState) (r : Result Instr Halt) → HasContours m.zones
     → Keeps m (done m r)
 done_kept k j m (Ok i) has =
-    let behind = goes_to (m.frame.place + i.len) m in
+    let next = goes_to (m.frame.place + i.len) m in
     either (Keeps m) (takes_data i.op) _ _
-    (on_stack_kept m.frame.place behind
+    (on_stack_kept m.frame.place next
     (if pushes_words i.op then pushed_words i.args m.stack else pushed_bytes i.args m.stack))
-    (operate_kept k j (operation_of i.op) m.frame.place behind has)
+    (operate_kept k j (operation_of i.op) m.frame.place next has)
 done_kept k j m (Err halt) has = tt
 
 step_kept : OnPoints → OnPlaces → (m : MachineState) → HasContours m.zones → Keeps m (step m)

@@ -74,9 +74,9 @@ operate op.unnamed at m = Err (fault_in m.frame at why.BadOpcode)
 -- what stands at the state's place is done, or data there passes the end
 abbrev pub done : MachineState → Result Instr Halt → Result MachineState Fault
 done m (Ok i) =
-    let behind = goes_to (m.frame.place + i.len) m in
-    if takes_data i.op then push i.op i.args m.frame.place behind
-    else operate (operation_of i.op) m.frame.place behind
+    let next = goes_to (m.frame.place + i.len) m in
+    if takes_data i.op then push i.op i.args m.frame.place next
+    else operate (operation_of i.op) m.frame.place next
 done m (Err halt) = Err (fault_in m.frame halt.at halt.why)
 
 -- The program's end inside a call is no instruction.

@@ -18,6 +18,7 @@ use Rattle.tt_points_loops.specs.Flipping as flipping
 use Rattle.tt_points_loops.specs.Moving as moving
 use Rattle.tt_points_loops.specs.Series.{one_by_one}
 use Rattle.tt_points_loops.specs.Shapes as on_many
+use Rattle.tt_points_loops.specs.Shapes.{whatever, through, same}
 use Rattle.tt_points_loops.specs.Shifting as shifting
 use Rattle.tt_points_zones.specs.Zones.{ZoneLists, AreContours, SameShape, KeepsShape, KeepsShapeBefore}
 use Rattle.tt_exec_state.specs.StoredValues.{place}
@@ -41,21 +42,6 @@ HasContours z = AreContours 0 z.contours (length z.glyph)
 
 abbrev Interpolated : Type 0
 Interpolated = (axis : Axis) (z : ZoneLists) → HasContours z → KeepsShape z (iup axis z)
-
--- what holds whatever comes first holds after it
-whatever : {A B : Type 0} (P : B → Type 0) (r : Result A Why) (f : A → Result B Why) → ((x : A) → IfOk (f x) P)
-    → IfOk (r >>= f) P
-whatever P (Ok x) f every = every x
-whatever P (Err why) f every = tt
-
--- what holds after something of which another thing holds
-through : {A B : Type 0} (P : A → Type 0) (Q : B → Type 0) (r : Result A Why) (f : A → Result B Why) → IfOk r P
-    → ((x : A) → P x → IfOk (f x) Q) → IfOk (r >>= f) Q
-through P Q (Ok x) f holds next = next x holds
-through P Q (Err why) f holds next = tt
-
-same : (z : ZoneLists) → SameShape z z
-same z = record { twilight = refl; glyph = refl; contours = refl }
 
 -- the shape of what is left
 abbrev Shaped : ZoneLists → List ℤ × ZoneLists × GraphicsState → Type 0

@@ -1,5 +1,5 @@
 -- No part of the standard: no instruction on a single point makes a point or drops one.
-use Rattle.std.proofs.Common.{◌∙◌, ℤ, Bool, ◌-ℤ◌, unsigned_abs, Result, Ok, Err, IfOk, refl, length-set}
+use Rattle.std.proofs.Common.{◌∙◌, ℤ, Bool, ◌-ℤ◌, Result, Ok, Err, IfOk, refl, length-set}
 use Rattle.tt_core.specs.Outcomes.{◌>>=◌}
 use Rattle.tt_core.specs.declared.fault.Why.{Why}
 use Rattle.tt_state.specs.declared.graphics_state.Axis.{Axis}
@@ -8,6 +8,7 @@ use Rattle.tt_state.specs.declared.graphics_state.Zone.{Zone}
 use Rattle.tt_state.specs.declared.graphics_state.Zone.TheVariants as zone
 use Rattle.tt_state.specs.declared.point.Point.{Point}
 use Rattle.tt_points_zones.specs.Points.{cur, moved, direction, point_in, with_point}
+use Rattle.tt_points_loops.specs.Shapes.{whatever, through, same, joined, put_one, put}
 use Rattle.tt_points_zones.specs.Zones.{ZoneLists, SameShape, KeepsShape, KeepsShapeBefore}
 use Rattle.tt_points.specs.declared.distances.Keeping.{Keeping}
 use Rattle.tt_points.specs.ControlValues.{placed_at, set_at, miap, mirp_distance, chosen_from, mirp}
@@ -19,39 +20,7 @@ use Rattle.tt_points.specs.ControlValues as by_value
 use Rattle.tt_points.specs.Measuring as measuring
 use Rattle.tt_points.specs.Moving as moving
 
--- what holds whatever comes first holds behind it
-behind : {A B : Type 0} (P : B → Type 0) (r : Result A Why) (f : A → Result B Why) → ((x : A) → IfOk (f x) P)
-    → IfOk (r >>= f) P
-behind P (Ok x) f every = every x
-behind P (Err why) f every = tt
-
--- what holds behind something of which another thing holds
-through : {A B : Type 0} (P : A → Type 0) (Q : B → Type 0) (r : Result A Why) (f : A → Result B Why) → IfOk r P
-    → ((x : A) → P x → IfOk (f x) Q) → IfOk (r >>= f) Q
-through P Q (Ok x) f holds next = next x holds
-through P Q (Err why) f holds next = tt
-
-same : (z : ZoneLists) → SameShape z z
-same z = record { twilight = refl; glyph = refl; contours = refl }
-
-joined : (a b c : ZoneLists) → SameShape a b → SameShape b c → SameShape a c
-joined a b c first second = record {
-  twilight = second.twilight ∙ first.twilight;
-  glyph = second.glyph ∙ first.glyph;
-  contours = second.contours ∙ first.contours;
-}
-
-put_one : (zone : Zone) (n : ℤ) (p : Point) (z : ZoneLists) → SameShape z (with_point zone n p z)
-put_one zone.Twilight n p z =
-    record { twilight = length-set z.twilight (unsigned_abs n) p; glyph = refl; contours = refl }
-put_one zone.Glyph n p z = record { twilight = refl; glyph = length-set z.glyph (unsigned_abs n) p; contours = refl }
-
--- one point in the place of another, alone and with a graphics state
-put : (zone : Zone) (n : ℤ) (z : ZoneLists) (r : Result Point Why)
-    → KeepsShape z (r >>= λ q. Ok (with_point zone n q z))
-put zone n z (Ok q) = put_one zone n q z
-put zone n z (Err why) = tt
-
+-- one point in the place of another, and a graphics state
 put_before : (g : GraphicsState) (zone : Zone) (n : ℤ) (z : ZoneLists) (r : Result Point Why)
     → KeepsShapeBefore z (r >>= λ q. Ok (with_point zone n q z, g))
 put_before g zone n z (Ok q) = put_one zone n q z
@@ -72,62 +41,62 @@ twice g z r f once again =
 made_kept : (zone : Zone) (axis : Axis) (p d : ℤ) (r : Point) (z : ZoneLists) → KeepsShape z (made zone axis p d r z)
 unfolding made
 made_kept zone.Twilight axis p d r z =
-    behind (SameShape z) (point_in zone.Twilight p z) _ (λ q. put zone.Twilight p z (placed axis d r q))
+    whatever (SameShape z) (point_in zone.Twilight p z) _ (λ q. put zone.Twilight p z (placed axis d r q))
 made_kept zone.Glyph axis p d r z = same z
 
 kept_from_kept : (axis : Axis) (p d : ℤ) (g : GraphicsState) (z : ZoneLists) → KeepsShape z (kept_from axis p d z g)
 unfolding kept_from
 kept_from_kept axis p d g z =
-    behind (SameShape z) (point_in g.zp1 p z) _ (λ q.
-    behind (SameShape z) (point_in g.zp0 g.rp0 z) _ (λ r. put g.zp1 p z (kept axis d q r)))
+    whatever (SameShape z) (point_in g.zp1 p z) _ (λ q.
+    whatever (SameShape z) (point_in g.zp0 g.rp0 z) _ (λ r. put g.zp1 p z (kept axis d q r)))
 
 chosen_from_kept : (k : Keeping) (axis : Axis) (p c : ℤ) (g : GraphicsState) (z : ZoneLists)
     → KeepsShape z (chosen_from k axis p c z g)
 unfolding chosen_from
 chosen_from_kept k axis p c g z =
-    behind (SameShape z) (point_in g.zp1 p z) _ (λ q.
-    behind (SameShape z) (point_in g.zp0 g.rp0 z) _ (λ r.
+    whatever (SameShape z) (point_in g.zp1 p z) _ (λ q.
+    whatever (SameShape z) (point_in g.zp0 g.rp0 z) _ (λ r.
     put g.zp1 p z (kept axis (mirp_distance k g (original_distance axis q r) c) q r)))
 
 mdap_kept : (round : Bool) (p : ℤ) (z : ZoneLists) (g : GraphicsState) → KeepsShapeBefore z (mdap round p z g)
 unfolding mdap
 mdap_kept round p z g =
-    behind (Before z) (point_in g.zp0 p z) _ (λ q.
-    behind (Before z) (direction g) _ (λ axis.
+    whatever (Before z) (point_in g.zp0 p z) _ (λ q.
+    whatever (Before z) (direction g) _ (λ axis.
     put_before (record g { rp0 = p; rp1 = p }) g.zp0 p z (moved axis (mdap_distance round g (cur axis q)) q)))
 
 mdrp_kept : (k : Keeping) (p : ℤ) (z : ZoneLists) (g : GraphicsState) → KeepsShapeBefore z (mdrp k p z g)
 unfolding mdrp
 mdrp_kept k p z g =
-    behind (Before z) (point_in g.zp1 p z) _ (λ q.
-    behind (Before z) (point_in g.zp0 g.rp0 z) _ (λ r.
-    behind (Before z) (direction g) _ (λ axis.
+    whatever (Before z) (point_in g.zp1 p z) _ (λ q.
+    whatever (Before z) (point_in g.zp0 g.rp0 z) _ (λ r.
+    whatever (Before z) (direction g) _ (λ axis.
     put_before (referred k.set_rp0 p g) g.zp1 p z
     (kept axis (mdrp_distance k g (original_distance axis q r)) q r))))
 
 msirp_kept : (set_rp0 : Bool) (p d : ℤ) (z : ZoneLists) (g : GraphicsState) → KeepsShapeBefore z (msirp set_rp0 p d z g)
 unfolding msirp
 msirp_kept set_rp0 p d z g =
-    behind (Before z) (point_in g.zp1 p z) _ (λ q.
-    behind (Before z) (point_in g.zp0 g.rp0 z) _ (λ r.
-    behind (Before z) (direction g) _ (λ axis.
+    whatever (Before z) (point_in g.zp1 p z) _ (λ q.
+    whatever (Before z) (point_in g.zp0 g.rp0 z) _ (λ r.
+    whatever (Before z) (direction g) _ (λ axis.
     twice (referred set_rp0 p g) z (made g.zp1 axis p d r z) (λ y. kept_from axis p d y g)
     (made_kept g.zp1 axis p d r z) (kept_from_kept axis p d g))))
 
 miap_kept : (round : Bool) (p c : ℤ) (z : ZoneLists) (g : GraphicsState) → KeepsShapeBefore z (miap round p c z g)
 unfolding miap
 miap_kept round p c z g =
-    behind (Before z) (point_in g.zp0 p z) _ (λ q.
-    behind (Before z) (direction g) _ (λ axis.
-    behind (Before z) (placed_at g.zp0 axis c q) _ (λ n.
+    whatever (Before z) (point_in g.zp0 p z) _ (λ q.
+    whatever (Before z) (direction g) _ (λ axis.
+    whatever (Before z) (placed_at g.zp0 axis c q) _ (λ n.
     put_before (record g { rp0 = p; rp1 = p }) g.zp0 p z (set_at round g axis c n))))
 
 mirp_kept : (k : Keeping) (p c : ℤ) (z : ZoneLists) (g : GraphicsState) → KeepsShapeBefore z (mirp k p c z g)
 unfolding mirp
 mirp_kept k p c z g =
-    behind (Before z) (point_in g.zp1 p z) _ (λ q.
-    behind (Before z) (point_in g.zp0 g.rp0 z) _ (λ r.
-    behind (Before z) (direction g) _ (λ axis.
+    whatever (Before z) (point_in g.zp1 p z) _ (λ q.
+    whatever (Before z) (point_in g.zp0 g.rp0 z) _ (λ r.
+    whatever (Before z) (direction g) _ (λ axis.
     twice (referred k.set_rp0 p g) z (made g.zp1 axis p (single_width g c) r z)
     (λ y. chosen_from k axis p (single_width g c) y g)
     (made_kept g.zp1 axis p (single_width g c) r z) (chosen_from_kept k axis p (single_width g c) g))))
@@ -135,13 +104,13 @@ mirp_kept k p c z g =
 scfs_kept : (p v : ℤ) (z : ZoneLists) (g : GraphicsState) → KeepsShape z (scfs p v z g)
 unfolding scfs
 scfs_kept p v z g =
-    behind (SameShape z) (point_in g.zp2 p z) _ (λ q.
-    behind (SameShape z) (direction g) _ (λ axis.
-    behind (SameShape z) (moved axis (v -ℤ cur axis q) q) _ (λ m. put_one g.zp2 p (settled_in g.zp2 m) z)))
+    whatever (SameShape z) (point_in g.zp2 p z) _ (λ q.
+    whatever (SameShape z) (direction g) _ (λ axis.
+    whatever (SameShape z) (moved axis (v -ℤ cur axis q) q) _ (λ m. put_one g.zp2 p (settled_in g.zp2 m) z)))
 
 utp_kept : (p : ℤ) (z : ZoneLists) (g : GraphicsState) → KeepsShape z (utp p z g)
 unfolding utp
-utp_kept p z g = behind (SameShape z) (point_in g.zp0 p z) _ (λ q. put_one g.zp0 p (untouched g.free q) z)
+utp_kept p z g = whatever (SameShape z) (point_in g.zp0 p z) _ (λ q. put_one g.zp0 p (untouched g.free q) z)
 
 pub record ShapeIsKept (z : ZoneLists) (g : GraphicsState) : Type 0 where
   pub mdap : (round : Bool) (p : ℤ) → KeepsShapeBefore z (moving.mdap round p z g)

@@ -20,22 +20,22 @@ use Rattle.tt_points_loops.specs.Flipping as flipping
 use Rattle.tt_points_loops.specs.Moving as moving
 use Rattle.tt_points_loops.specs.Shifting as shifting
 
--- what holds whatever comes first holds behind it
-behind : {A B : Type 0} (P : B → Type 0) (r : Result A Why) (f : A → Result B Why) → ((x : A) → IfOk (f x) P)
+-- what holds whatever comes first holds after it
+pub whatever : {A B : Type 0} (P : B → Type 0) (r : Result A Why) (f : A → Result B Why) → ((x : A) → IfOk (f x) P)
     → IfOk (r >>= f) P
-behind P (Ok x) f every = every x
-behind P (Err why) f every = tt
+whatever P (Ok x) f every = every x
+whatever P (Err why) f every = tt
 
--- what holds behind something of which another thing holds
-through : {A B : Type 0} (P : A → Type 0) (Q : B → Type 0) (r : Result A Why) (f : A → Result B Why) → IfOk r P
+-- what holds after something of which another thing holds
+pub through : {A B : Type 0} (P : A → Type 0) (Q : B → Type 0) (r : Result A Why) (f : A → Result B Why) → IfOk r P
     → ((x : A) → P x → IfOk (f x) Q) → IfOk (r >>= f) Q
 through P Q (Ok x) f holds next = next x holds
 through P Q (Err why) f holds next = tt
 
-same : (z : ZoneLists) → SameShape z z
+pub same : (z : ZoneLists) → SameShape z z
 same z = record { twilight = refl; glyph = refl; contours = refl }
 
-joined : (a b c : ZoneLists) → SameShape a b → SameShape b c → SameShape a c
+pub joined : (a b c : ZoneLists) → SameShape a b → SameShape b c → SameShape a c
 joined a b c first second = record {
   twilight = second.twilight ∙ first.twilight;
   glyph = second.glyph ∙ first.glyph;
@@ -46,7 +46,7 @@ weaker : (r : Result ZoneLists Why) (a b : ZoneLists) → SameShape a b → Keep
 weaker (Ok c) a b first second = joined a b c first second
 weaker (Err why) a b first second = tt
 
-put_one : (zone : Zone) (n : ℤ) (p : Point) (z : ZoneLists) → SameShape z (with_point zone n p z)
+pub put_one : (zone : Zone) (n : ℤ) (p : Point) (z : ZoneLists) → SameShape z (with_point zone n p z)
 put_one zone.Twilight n p z =
     record { twilight = length-set z.twilight (unsigned_abs n) p; glyph = refl; contours = refl }
 put_one zone.Glyph n p z = record { twilight = refl; glyph = length-set z.glyph (unsigned_abs n) p; contours = refl }
@@ -57,7 +57,7 @@ put_all zone.Twilight ps z many = record { twilight = many; glyph = refl; contou
 put_all zone.Glyph ps z many = record { twilight = refl; glyph = many; contours = refl }
 
 -- one point in the place of another
-put : (zone : Zone) (n : ℤ) (z : ZoneLists) (r : Result Point Why)
+pub put : (zone : Zone) (n : ℤ) (z : ZoneLists) (r : Result Point Why)
     → KeepsShape z (r >>= λ q. Ok (with_point zone n q z))
 put zone n z (Ok q) = put_one zone n q z
 put zone n z (Err why) = tt
@@ -79,7 +79,7 @@ count : (low past : ℕ) (move : ℕ → Point → Result Point Why) (i : ℕ) (
     → IfOk (each_from_to low past move i ps) (λ qs. length qs ≡ length ps)
 count low past move i [] = refl
 count low past move i (p ∷ ps) =
-    behind (λ qs. length qs ≡ suc (length ps)) (if nat_le low i && nat_lt i past then move i p else Ok p) _
+    whatever (λ qs. length qs ≡ suc (length ps)) (if nat_le low i && nat_lt i past then move i p else Ok p) _
     (λ q. through (λ qs. length qs ≡ length ps) (λ qs. length qs ≡ suc (length ps))
     (each_from_to low past move (suc i) ps) (λ qs. Ok (q ∷ qs)) (count low past move (suc i) ps)
     (λ qs many. ap suc many))
@@ -95,51 +95,51 @@ shifted_range : (touch : Bool) (which : ReferencePoint) (zone : Zone) (r : ℕ �
     → KeepsShape z (shift_range touch which zone r z g)
 shifted_range touch which zone r z g =
     let but = number_in zone (reference_zone which g) (reference_number which g) in
-    behind (SameShape z) (reference which g z) _ (λ p. range zone (r.0) (r.1) (follow_but but touch g p) z)
+    whatever (SameShape z) (reference which g z) _ (λ p. range zone (r.0) (r.1) (follow_but but touch g p) z)
 
 flipped_range : (on : Bool) (low high : ℤ) (z : ZoneLists) → KeepsShape z (flip_range on low high z)
 flipped_range on low high z =
-    behind (SameShape z) (point_in zone.Glyph high z) _ (λ last.
-    behind (SameShape z) (point_in zone.Glyph low z) _ (λ first.
+    whatever (SameShape z) (point_in zone.Glyph high z) _ (λ last.
+    whatever (SameShape z) (point_in zone.Glyph low z) _ (λ first.
     range zone.Glyph (unsigned_abs low) (unsigned_abs high + 1) (λ i p. Ok (put_on on p)) z))
 
 moved_by : (d : Option ℤ) (g : GraphicsState) (n : ℤ) (z : ZoneLists) → KeepsShape z (move_by d g n z)
 moved_by None g n z = same z
 moved_by (Some d) g n z =
-    behind (SameShape z) (point_in g.zp0 n z) _ (λ p.
-    behind (SameShape z) (direction g) _ (λ axis. put g.zp0 n z (moved axis d p)))
+    whatever (SameShape z) (point_in g.zp0 n z) _ (λ p.
+    whatever (SameShape z) (direction g) _ (λ axis. put g.zp0 n z (moved axis d p)))
 
 excepted : (range : DeltaRange) (ppem : ℕ) (g : GraphicsState) (pair : ℤ × ℤ) (z : ZoneLists) → KeepsShape z (except range ppem g pair z)
-excepted range ppem g pair z = behind (SameShape z) (delta_of range (pair.0) ppem g) _ (λ d. moved_by d g (pair.1) z)
+excepted range ppem g pair z = whatever (SameShape z) (delta_of range (pair.0) ppem g) _ (λ d. moved_by d g (pair.1) z)
 
 aligned : (g : GraphicsState) (n : ℤ) (z : ZoneLists) → KeepsShape z (align g n z)
 aligned g n z =
-    behind (SameShape z) (point_in g.zp1 n z) _ (λ p.
-    behind (SameShape z) (point_in g.zp0 g.rp0 z) _ (λ r.
-    behind (SameShape z) (direction g) _ (λ axis. put g.zp1 n z (moved axis (cur axis r -ℤ cur axis p) p))))
+    whatever (SameShape z) (point_in g.zp1 n z) _ (λ p.
+    whatever (SameShape z) (point_in g.zp0 g.rp0 z) _ (λ r.
+    whatever (SameShape z) (direction g) _ (λ axis. put g.zp1 n z (moved axis (cur axis r -ℤ cur axis p) p))))
 
 interpolated : (g : GraphicsState) (n : ℤ) (z : ZoneLists) → KeepsShape z (interpolate g n z)
-interpolated g n z = behind (SameShape z) (point_in g.zp2 n z) _ (λ p. put g.zp2 n z (in_between g z p))
+interpolated g n z = whatever (SameShape z) (point_in g.zp2 n z) _ (λ p. put g.zp2 n z (in_between g z p))
 
 pushed : (amount : ℤ) (g : GraphicsState) (n : ℤ) (z : ZoneLists) → KeepsShape z (push amount g n z)
-pushed amount g n z = behind (SameShape z) (point_in g.zp2 n z) _ (λ p. put g.zp2 n z (moved g.free amount p))
+pushed amount g n z = whatever (SameShape z) (point_in g.zp2 n z) _ (λ p. put g.zp2 n z (moved g.free amount p))
 
 turned : (n : ℤ) (z : ZoneLists) → KeepsShape z (flip n z)
-turned n z = behind (SameShape z) (point_in zone.Glyph n z) _ (λ p. put_one zone.Glyph n (flipped p) z)
+turned n z = whatever (SameShape z) (point_in zone.Glyph n z) _ (λ p. put_one zone.Glyph n (flipped p) z)
 
 shifted : (g : GraphicsState) (before : Result Point Why) (n : ℤ) (z : ZoneLists) → KeepsShape z (shift g before n z)
 shifted g before n z =
-    behind (SameShape z) (point_in g.zp2 n z) _ (λ p.
-    behind (SameShape z) before _ (λ r. put g.zp2 n z (follow true g r p)))
+    whatever (SameShape z) (point_in g.zp2 n z) _ (λ p.
+    whatever (SameShape z) before _ (λ r. put g.zp2 n z (follow true g r p)))
 
 shifted_zone : (which : ReferencePoint) (e : ℤ) (z : ZoneLists) (g : GraphicsState) → KeepsShape z (shz which e z g)
 unfolding shz
 shifted_zone which e z g =
-    behind (SameShape z) (zone_of e) _ (λ zone. shifted_range false which zone (outline_in zone z) z g)
+    whatever (SameShape z) (zone_of e) _ (λ zone. shifted_range false which zone (outline_in zone z) z g)
 
 shifted_contour : (which : ReferencePoint) (c : ℤ) (z : ZoneLists) (g : GraphicsState) → KeepsShape z (shc which c z g)
 shifted_contour which c z g =
-    behind (SameShape z) (contour_in g.zp2 c z) _ (λ r. shifted_range true which g.zp2 r z g)
+    whatever (SameShape z) (contour_in g.zp2 c z) _ (λ r. shifted_range true which g.zp2 r z g)
 
 pub record ShapeIsKept (z : ZoneLists) (g : GraphicsState) : Type 0 where
   pub alignrp : (points : List ℤ) → KeepsShapeBefore z (moving.alignrp points z g)
