@@ -50,7 +50,11 @@ impl MachineState<'_> {
         requires { at ≤ length self.old.frame.code.bytes.now }
         ensures { Does (is.operate (operation.access_vectors op) at (state_of self.old)) (state_of self.new) result }
     {
-        done_at!(self, at, access_vectors(op, &mut self.stack, &mut self.graphics))
+        done_at!(
+            self,
+            at,
+            access_vectors(op, &mut self.stack, &mut self.graphics)
+        )
     }
 
     #[inline(always)]
@@ -58,7 +62,11 @@ impl MachineState<'_> {
         requires { at ≤ length self.old.frame.code.bytes.now }
         ensures { Does (is.operate (operation.set_state op) at (state_of self.old)) (state_of self.new) result }
     {
-        done_at!(self, at, set_state(op, self.size, &mut self.stack, &mut self.graphics))
+        done_at!(
+            self,
+            at,
+            set_state(op, self.size, &mut self.stack, &mut self.graphics)
+        )
     }
 
     #[inline(always)]
@@ -92,7 +100,17 @@ impl MachineState<'_> {
         requires { at ≤ length self.old.frame.code.bytes.now }
         ensures { Does (is.operate (operation.access_values op) at (state_of self.old)) (state_of self.new) result }
     {
-        done_at!(self, at, access_values(op, self.size, &mut self.stack, &mut self.storage, &mut self.cvt))
+        done_at!(
+            self,
+            at,
+            access_values(
+                op,
+                self.size,
+                &mut self.stack,
+                &mut self.storage,
+                &mut self.cvt
+            )
+        )
     }
 
     #[inline(always)]
