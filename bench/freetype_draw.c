@@ -63,12 +63,19 @@ static void add(struct picture *to, const FT_Bitmap *from, long column, long row
   }
 }
 
+/* Has no dropout of an outline filled. A flag says so; but the scan mode that a program of the font set stands in the
+   tag of a contour's first point and goes before the flag, so of each tag only the kind of the point is left. */
+static void fill_no_dropout(FT_Outline *outline) {
+  outline->flags |= FT_OUTLINE_IGNORE_DROPOUTS;
+  for (int i = 0; i < outline->n_points; i++) outline->tags[i] &= 3;
+}
+
 static void draw(FT_Face face, FT_UInt glyph, struct picture *to, long left) {
   FT_GlyphSlot slot = face->glyph;
 
   need(FT_Load_Glyph(face, glyph, FITTING | FT_LOAD_TARGET_MONO | FT_LOAD_NO_BITMAP), "a glyph is refused");
   if (slot->format != FT_GLYPH_FORMAT_OUTLINE) stop("a glyph has no outline");
-  slot->outline.flags |= FT_OUTLINE_IGNORE_DROPOUTS;
+  fill_no_dropout(&slot->outline);
   need(FT_Render_Glyph(slot, FT_RENDER_MODE_MONO), "a glyph is not rendered");
   add(to, &slot->bitmap, left + slot->bitmap_left, to->base - slot->bitmap_top);
 }

@@ -1,5 +1,5 @@
 """What `map` answers, by the rules alone: the directory, head, maxp, hhea and hmtx of OpenType, with the refusals in
-the order in which the bytes are read, and behind them cmap by ../characters/plain.py. It shares no code with
+the order in which the bytes are read, and after them cmap by ../characters/plain.py. It shares no code with
 tt_render."""
 import sys
 from pathlib import Path

@@ -14,7 +14,7 @@ HEAD = """\
 # Runs of the bytecode machine; the answers are values by another program, an independent model of the instruction set
 # that was written from the rules alone. Made by make_cases.py. A run is a line NAME|QUESTION|ANSWER, where NAME has
 # the opcode under test. The words of question and answer stand at the head of crates/tt_test_answers/src/machine.rt. A
-# line `font BASE CODE` is the font program whose functions the runs behind it have.
+# line `font BASE CODE` is the font program whose functions the runs after it have.
 """
 
 

@@ -1,6 +1,6 @@
 -- Apple TrueType Reference Manual, "The Font Directory", and OpenType, "cmap": what a text is looked up in.
 use Rattle.std.specs.Prelude.{ℕ, List, codes, Result, Ok}
-use Rattle.tt_cmap.specs.Lookup.{Cmap, lookup_of}
+use Rattle.tt_cmap.specs.Lookup.{Cmap, cmap_of}
 use Rattle.tt_core.specs.Faults.{Fault}
 use Rattle.tt_core.specs.Directory.{directory_of, needed_table}
 use Rattle.tt_core.specs.Outcomes.{◌>>=◌}
@@ -26,5 +26,5 @@ face_of file = do
   directory ← directory_of file
   metrics ← metrics_of directory
   table ← needed_table directory cmap_tag
-  cmap ← lookup_of table (glyphs_of metrics)
+  cmap ← cmap_of table (glyphs_of metrics)
   Ok (record { directory = directory; metrics = metrics; cmap = cmap })
