@@ -8,9 +8,9 @@ use Rattle.tt_render.specs.Defects.{IsFaceDefect, IsRunDefect}
 use Rattle.tt_render.specs.MapLines.{map_wanted}
 use Rattle.tt_render.specs.Outcome.{Traffic}
 use Rattle.tt_render.specs.Picture.{run_wanted}
-use Rattle.tt_render.specs.Unfitted.{ListsOnce, report_of}
-use Rattle.tt_render.specs.declared.unfitted.Report.{Report}
-use Rattle.tt_render.specs.declared.unfitted.Unfitted.{Unfitted}
+use Rattle.tt_render.specs.Report.{ListsOnce, report_of}
+use Rattle.tt_render.specs.declared.report.Report.{Report}
+use Rattle.tt_render.specs.declared.report.Unfitted.{Unfitted}
 use Rattle.tt_program_decisions.specs.declared.request.Request.{Request}
 use Rattle.tt_program_decisions.specs.declared.request.Request.TheVariants.{Map, Draw}
 use Rattle.tt_program_decisions.specs.declared.request.Words.{Words}

@@ -6,8 +6,8 @@ use Rattle.tt_render.specs.declared.fault.RunFault.{RunFault}
 use Rattle.tt_render.specs.declared.fault.RunFault.TheVariants as run
 use Rattle.tt_render.specs.Defects.{TellsDefectsOf}
 use Rattle.tt_render.specs.Outcome.{CallGives, Traffic, Wanted}
-use Rattle.tt_render.specs.declared.unfitted.Unfitted.{Unfitted}
-use Rattle.tt_render.specs.Report.{line_of, status_of, unfitted_line_of}
+use Rattle.tt_render.specs.declared.report.Unfitted.{Unfitted}
+use Rattle.tt_render.specs.Messages.{line_of, status_of, unfitted_line_of}
 
 -- standard error before a call and after it: the bytes that went out, and whether it has failed
 pub record Errors : Type 0 where

@@ -2,7 +2,7 @@
 
 ghost use Rattle.std.specs.Prelude.{◌≡◌, ◌≤◌, ◌++◌, [], false, codes, string_bytes, IfOk, IfErr};
 ghost use Rattle.tt_render.specs.declared.fault.RunFault.TheVariants.{Memory};
-ghost use Rattle.tt_render.specs.Report.{line_of};
+ghost use Rattle.tt_render.specs.Messages.{line_of};
 ghost use Rattle.tt_program_decisions.specs.Telling.{Prints, Tells, TellsFailure, TellsFault, TellsReport, report_lines};
 
 use std::alloc::{AllocError, Global};

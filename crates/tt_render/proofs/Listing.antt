@@ -10,15 +10,14 @@ use Rattle.tt_fit.specs.Laws.{OthersNeverFallBack}
 use Rattle.tt_line.specs.Layout.{Placement, placement}
 use Rattle.tt_scan.specs.declared.edge.Frame.{Frame}
 use Rattle.tt_render.specs.Job.{Job}
-use Rattle.tt_render.specs.Face.{Face, face_of}
+use Rattle.tt_render.specs.Tables.{Face, face_of, programs_in, glyphs_in}
 use Rattle.tt_render.specs.Laws.{OthersListNothing}
 use Rattle.tt_render.specs.Outcome.{as_font, as_job}
-use Rattle.tt_render.specs.Picture.{glyphs_in, setting_in}
-use Rattle.tt_render.specs.Programs.{programs_in}
+use Rattle.tt_render.specs.Picture.{setting_in}
 use Rattle.tt_render.proofs.Whole.{of-font}
-use Rattle.tt_render.specs.declared.unfitted.Unfitted.{Unfitted}
+use Rattle.tt_render.specs.declared.report.Unfitted.{Unfitted}
 use Rattle.tt_render.specs.Glyphs.{Glyph, IsDrawn, numbers_of, is_among, with_glyph, distinct, distinct_after}
-use Rattle.tt_render.specs.Unfitted.{listed, unfitted_among, unfitted_standing, line_report, report_of, all_differ, ListsOnce}
+use Rattle.tt_render.specs.Report.{listed, unfitted_among, unfitted_standing, line_report, report_of, all_differ, ListsOnce}
 
 -- glyphs as they are drawn are those of the definition
 pub standing_listed : (s : Fitter) (f : Frame) (gs : List Glyph) → All (IsDrawn s f) gs → unfitted_standing gs

@@ -18,10 +18,9 @@ use Rattle.tt_render.specs.declared.fault.DrawFault.{DrawFault}
 use Rattle.tt_render.specs.declared.fault.DrawFault.TheVariants as draw
 use Rattle.tt_render.specs.declared.fault.RunFault.{RunFault}
 use Rattle.tt_render.specs.declared.fault.RunFault.TheVariants as run
-use Rattle.tt_render.specs.Face.{Face, face_of, cmap_tag}
+use Rattle.tt_render.specs.Tables.{Face, face_of, cmap_tag, cvt_tag, fpgm_tag, prep_tag, programs_in}
 use Rattle.tt_render.specs.Outcome.{needs_font}
 use Rattle.tt_render.specs.Picture.{setting_in}
-use Rattle.tt_render.specs.Programs.{cvt_tag, fpgm_tag, prep_tag, programs_in}
 
 -- a defect of the directory, or of a table that every text is looked up in
 abbrev pub IsFaceDefect : List ℕ → Fault → Type 0

@@ -6,7 +6,7 @@ use Rattle.tt_core.specs.Outcomes.{◌>>=◌}
 use Rattle.tt_cmap.specs.Lookup.{Cmap, glyph_of}
 use Rattle.tt_metrics.specs.Metrics.{Metrics, advance_of}
 use Rattle.tt_render.specs.Job.{text_tested}
-use Rattle.tt_render.specs.Face.{face_of}
+use Rattle.tt_render.specs.Tables.{face_of}
 use Rattle.tt_render.specs.Outcome.{Refused, Wanted, as_font, outcome_of}
 
 -- digits behind as many zeros as make them four

@@ -10,10 +10,10 @@ ghost use Rattle.tt_render.specs.Defects.{IsFaceDefect, TellsDefects, TellsDefec
 ghost use Rattle.tt_render.specs.MapLines.{code_point, line_text, lines_of, map_lines, map_wanted};
 ghost use Rattle.tt_render.specs.Outcome.{CallGives, IfJob, IfLarge};
 
-use crate::face::open_face;
 use crate::fault::RunFault;
-use crate::limits::test_text;
+use crate::job::test_text;
 use crate::reading::read_font;
+use crate::tables::open_face;
 use std::alloc::{AllocError, Global};
 use tt_cmap::Cmap;
 use tt_core::{FontFault, Sink, Source};

@@ -6,14 +6,13 @@ ghost use Rattle.tt_render.specs.Job.{job_view};
 ghost use Rattle.tt_render.specs.Defects.{IsRunDefect, IsJobRefusal, TellsDefectsOf};
 ghost use Rattle.tt_render.specs.Outcome.{CallGives, IfJob, IfLarge};
 ghost use Rattle.tt_render.specs.Picture.{run_wanted};
-ghost use Rattle.tt_render.specs.Unfitted.{report_of, ListsOnce};
+ghost use Rattle.tt_render.specs.Report.{report_of, ListsOnce};
 
 use crate::drawing::{Picture, draw};
 use crate::fault::RunFault;
-use crate::job::Job;
-use crate::limits::test_job;
+use crate::job::{Job, test_job};
 use crate::reading::read_font;
-use crate::unfitted::Report;
+use crate::report::Report;
 use crate::writing::write_picture;
 use std::alloc::Global;
 use tt_core::{Sink, Source};
