@@ -26,7 +26,7 @@ put_together : (before line feed behind : List ℕ) → ((before ++ line) ++ fee
 put_together before line feed behind =
     append_assoc (before ++ line) feed behind ∙ append_assoc before line (feed ++ behind)
 
--- a line and its line feed, behind those that stand
+-- a line and its line feed, after those that stand
 pub line_behind : (us : List Unfitted) (i : ℕ) (u : Unfitted) (before : List ℕ) → i < length us → u ≡ get_or us i u
     → ((before ++ unfitted_line_of u) ++ codes "\n") ++ report_lines (drop (i + 1) us)
     ≡ before ++ report_lines (drop i us)

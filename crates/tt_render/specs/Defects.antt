@@ -97,11 +97,11 @@ draw_job_fault (draw.Font f) = None
 draw_job_fault (draw.Job j) = Some j
 draw_job_fault draw.Memory = None
 
--- what stands behind a refusal of the picture's extent
+-- the fact for which the extent of a picture is refused
 abbrev pub IsExtentRefusal : Face → Job → JobFault → Type 0
 IsExtentRefusal face a j = IsRefusal (extent_of face.metrics a.ppem a.margin (text_glyphs face.cmap a.text)) j
 
--- what stands behind a refusal of the job by a font file: the extent comes second
+-- the fact for which a job is refused, alone or by a font file: the extent comes second
 abbrev pub IsRefusedBy : Bool → Job → Option (List ℕ) → JobFault → Type 0
 IsRefusedBy true a left j = IfSome left (λ file. IsOkAnd (face_of file) (λ face. IsExtentRefusal face a j))
 IsRefusedBy false a left j = IsJobRefusal a j

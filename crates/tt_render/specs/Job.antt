@@ -35,7 +35,7 @@ pub record IsJob (a : Job) : Type 0 where
   pub margin : a.margin ≤ margin_limit
   pub text : length (chars a.text) ≤ text_limit
 
--- what stands behind a refusal of the job alone
+-- the fact for which a job is refused before the font is read
 abbrev pub IsJobRefusal : Job → JobFault → Type 0
 IsJobRefusal a fault.SizeRange = (a.ppem < 1) ⊎ (size_limit < a.ppem)
 IsJobRefusal a fault.MarginRange = margin_limit < a.margin

@@ -13,7 +13,7 @@ use Rattle.tt_render.specs.Glyphs.{Glyph, distinct, is_among}
 use Rattle.tt_render.specs.Outcome.{Refused, as_font, as_job}
 use Rattle.tt_render.specs.Picture.{setting_in}
 
--- a glyph before those behind it, where a fault is why it is not fitted
+-- a glyph before those after it, where a fault is why it is not fitted
 abbrev pub listed : ℕ → Option Fault → List Unfitted → List Unfitted
 listed g None others = others
 listed g (Some fault) others = record { glyph = g; fault = fault } ∷ others
