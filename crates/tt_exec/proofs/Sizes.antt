@@ -11,14 +11,14 @@ use Rattle.tt_points_zones.specs.Zones.{ZoneLists, SameShape}
 use Rattle.tt_exec_points.specs.OnPoints as points
 use Rattle.tt_exec_points.specs.Shapes as shapes
 use Rattle.tt_exec_stack.specs.Arithmetic.{computed}
-use Rattle.tt_exec_stack.specs.Logic.{is_true, decided}
+use Rattle.tt_exec_stack.specs.Logic.{is_true, evaluated}
 use Rattle.tt_exec_stack.specs.Managing.{managed}
-use Rattle.tt_exec_stack.specs.Places.{kept}
+use Rattle.tt_exec_state.specs.StoredValues.{values_accessed}
 use Rattle.tt_exec_stack.specs.Pushing.{pushed_bytes, pushed_words}
-use Rattle.tt_exec_stack.specs.Queries.{told}
-use Rattle.tt_exec_stack.specs.Settings.{adjusted}
-use Rattle.tt_exec_stack.specs.Vectors.{turned}
-use Rattle.tt_exec_stack.specs.declared.places.Places.{Places}
+use Rattle.tt_exec_state.specs.Queries.{answered}
+use Rattle.tt_exec_state.specs.Settings.{state_set}
+use Rattle.tt_exec_state.specs.Vectors.{vectors_accessed}
+use Rattle.tt_exec_state.specs.declared.stored_values.StoredValues.{StoredValues}
 use Rattle.tt_exec.specs.Calls.{call_limit}
 use Rattle.tt_exec.specs.Flags.{flagged, instctrl}
 use Rattle.tt_exec.specs.Flow.{goes_to, skipped, jumped, if_from, jmpr, jrot, jrof}
@@ -41,7 +41,7 @@ OnPoints = (opcode ppem : ℕ) (s : List ℤ) (z : ZoneLists) (g : GraphicsState
     → IfOk (points.on_points opcode ppem s z g cvt) (shapes.SameSizes z cvt)
 
 abbrev pub OnPlaces : Type 0
-OnPlaces = (o : Places) (ppem em : ℕ) (s storage cvt : List ℤ) → IfOk (kept o ppem em s storage cvt)
+OnPlaces = (o : StoredValues) (ppem em : ℕ) (s storage cvt : List ℤ) → IfOk (values_accessed o ppem em s storage cvt)
     (λ t. (length t.1 ≡ length storage) × (length t.2 ≡ length cvt))
 
 -- what a step keeps
@@ -182,16 +182,16 @@ loopcall_kept [] at m = tt
 -- a step
 operate_kept : OnPoints → OnPlaces → (o : Operation) (at : ℕ) (m : MachineState) → HasContours m.zones
     → Keeps m (operate o at m)
-operate_kept k j (op.turn o) at m has = on_graphics_kept at m (turned o m.stack m.graphics)
+operate_kept k j (op.turn o) at m has = on_graphics_kept at m (vectors_accessed o m.stack m.graphics)
 operate_kept k j (op.adjust o) at m has =
-    on_graphics_kept at m (adjusted o m.ppem m.units_per_em m.stack m.graphics)
+    on_graphics_kept at m (state_set o m.ppem m.units_per_em m.stack m.graphics)
 operate_kept k j (op.manage o) at m has = on_stack_kept at m (managed o m.stack)
-operate_kept k j (op.decide o) at m has = on_stack_kept at m (decided o m.graphics.round m.stack)
+operate_kept k j (op.decide o) at m has = on_stack_kept at m (evaluated o m.graphics.round m.stack)
 operate_kept k j (op.compute o) at m has = on_stack_kept at m (computed o m.graphics.round m.stack)
 operate_kept k j (op.keep o) at m has =
-    on_places_kept at m (kept o m.ppem m.units_per_em m.stack m.storage m.cvt)
+    on_places_kept at m (values_accessed o m.ppem m.units_per_em m.stack m.storage m.cvt)
     (j o m.ppem m.units_per_em m.stack m.storage m.cvt)
-operate_kept k j (op.tell o) at m has = on_stack_kept at m (told o m.ppem m.stack)
+operate_kept k j (op.tell o) at m has = on_stack_kept at m (answered o m.ppem m.stack)
 operate_kept k j op.instctrl at m has = instctrl_kept m.stack at m
 operate_kept k j op.if_true at m has = if_kept m.stack at m
 operate_kept k j op.if_false at m has = skipped_kept m (else_end m.frame.code.bytes at)

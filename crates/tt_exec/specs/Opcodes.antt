@@ -6,10 +6,10 @@ use Rattle.tt_state.specs.declared.rounding.Round.TheVariants as round
 use Rattle.tt_exec_stack.specs.declared.arithmetic.Arithmetic.TheVariants as arithmetic
 use Rattle.tt_exec_stack.specs.declared.logic.Logic.TheVariants as logic
 use Rattle.tt_exec_stack.specs.declared.managing.Managing.TheVariants as managing
-use Rattle.tt_exec_stack.specs.declared.places.Places.TheVariants as places
-use Rattle.tt_exec_stack.specs.declared.queries.Query.TheVariants as query
-use Rattle.tt_exec_stack.specs.declared.settings.Setting.TheVariants as setting
-use Rattle.tt_exec_stack.specs.declared.vectors.Vectors.TheVariants as vectors
+use Rattle.tt_exec_state.specs.declared.stored_values.StoredValues.TheVariants as places
+use Rattle.tt_exec_state.specs.declared.queries.Query.TheVariants as query
+use Rattle.tt_exec_state.specs.declared.settings.Setting.TheVariants as setting
+use Rattle.tt_exec_state.specs.declared.vectors.Vectors.TheVariants as vectors
 use Rattle.tt_exec.specs.Operation.{Operation}
 use Rattle.tt_exec.specs.Operation as op
 

@@ -4,10 +4,10 @@ use Rattle.std.specs.Prelude.{ℕ}
 use Rattle.tt_exec_stack.specs.declared.arithmetic.Arithmetic.{Arithmetic}
 use Rattle.tt_exec_stack.specs.declared.logic.Logic.{Logic}
 use Rattle.tt_exec_stack.specs.declared.managing.Managing.{Managing}
-use Rattle.tt_exec_stack.specs.declared.places.Places.{Places}
-use Rattle.tt_exec_stack.specs.declared.queries.Query.{Query}
-use Rattle.tt_exec_stack.specs.declared.settings.Setting.{Setting}
-use Rattle.tt_exec_stack.specs.declared.vectors.Vectors.{Vectors}
+use Rattle.tt_exec_state.specs.declared.stored_values.StoredValues.{StoredValues}
+use Rattle.tt_exec_state.specs.declared.queries.Query.{Query}
+use Rattle.tt_exec_state.specs.declared.settings.Setting.{Setting}
+use Rattle.tt_exec_state.specs.declared.vectors.Vectors.{Vectors}
 
 pub data Operation : Type 0 where
   turn : Vectors → Operation
@@ -15,7 +15,7 @@ pub data Operation : Type 0 where
   manage : Managing → Operation
   decide : Logic → Operation
   compute : Arithmetic → Operation
-  keep : Places → Operation
+  keep : StoredValues → Operation
   tell : Query → Operation
   instctrl : Operation
   if_true if_false eif jmpr jrot jrof : Operation

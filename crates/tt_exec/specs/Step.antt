@@ -8,13 +8,13 @@ use Rattle.tt_code.specs.declared.decoding.Halt.{Halt}
 use Rattle.tt_code.specs.Decoding.{Instr, instruction_at, takes_data}
 use Rattle.tt_state.specs.declared.graphics_state.GraphicsState.{GraphicsState}
 use Rattle.tt_exec_stack.specs.Arithmetic.{computed}
-use Rattle.tt_exec_stack.specs.Logic.{decided}
+use Rattle.tt_exec_stack.specs.Logic.{evaluated}
 use Rattle.tt_exec_stack.specs.Managing.{managed}
-use Rattle.tt_exec_stack.specs.Places.{kept}
+use Rattle.tt_exec_state.specs.StoredValues.{values_accessed}
 use Rattle.tt_exec_stack.specs.Pushing.{pushed_bytes, pushed_words}
-use Rattle.tt_exec_stack.specs.Queries.{told}
-use Rattle.tt_exec_stack.specs.Settings.{adjusted}
-use Rattle.tt_exec_stack.specs.Vectors.{turned}
+use Rattle.tt_exec_state.specs.Queries.{answered}
+use Rattle.tt_exec_state.specs.Settings.{state_set}
+use Rattle.tt_exec_state.specs.Vectors.{vectors_accessed}
 use Rattle.tt_exec.specs.Flags.{instctrl}
 use Rattle.tt_exec.specs.Flow.{goes_to, if_from, else_from, jmpr, jrot, jrof}
 use Rattle.tt_exec.specs.Functions.{fdef, endf, call, loopcall}
@@ -49,13 +49,13 @@ push opcode args at m =
 
 -- an operation that stands at a place; the state's place is behind it
 abbrev pub operate : Operation → ℕ → MachineState → Result MachineState Fault
-operate (op.turn o) at m = on_graphics at m (turned o m.stack m.graphics)
-operate (op.adjust o) at m = on_graphics at m (adjusted o m.ppem m.units_per_em m.stack m.graphics)
+operate (op.turn o) at m = on_graphics at m (vectors_accessed o m.stack m.graphics)
+operate (op.adjust o) at m = on_graphics at m (state_set o m.ppem m.units_per_em m.stack m.graphics)
 operate (op.manage o) at m = on_stack at m (managed o m.stack)
-operate (op.decide o) at m = on_stack at m (decided o m.graphics.round m.stack)
+operate (op.decide o) at m = on_stack at m (evaluated o m.graphics.round m.stack)
 operate (op.compute o) at m = on_stack at m (computed o m.graphics.round m.stack)
-operate (op.keep o) at m = on_places at m (kept o m.ppem m.units_per_em m.stack m.storage m.cvt)
-operate (op.tell o) at m = on_stack at m (told o m.ppem m.stack)
+operate (op.keep o) at m = on_places at m (values_accessed o m.ppem m.units_per_em m.stack m.storage m.cvt)
+operate (op.tell o) at m = on_stack at m (answered o m.ppem m.stack)
 operate op.instctrl at m = instctrl m.stack at m
 operate op.if_true at m = if_from m.stack at m
 operate op.if_false at m = else_from at m

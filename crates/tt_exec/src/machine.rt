@@ -15,14 +15,15 @@ ghost use Rattle.tt_exec.specs.Views.{code_of};
 use crate::bodies::Bodies;
 use crate::callers::Callers;
 use crate::fault::ExecFault;
-use crate::machine_state::{Kind, MachineState};
 use crate::laws;
+use crate::machine_state::{Kind, MachineState};
 use crate::parts::Parts;
 use crate::program::{Code, Frame};
 use std::alloc::{AllocError, Global};
 use std::marker::Model;
 use tt_exec_points::Points;
-use tt_exec_stack::{Graphics, Size, Stack};
+use tt_exec_stack::Stack;
+use tt_exec_state::{Graphics, Size};
 
 /// A machine, which runs programs one behind the other. A clause sees what it holds, and whether a run failed.
 #[derive(Drop)]

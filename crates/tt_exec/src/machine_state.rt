@@ -16,7 +16,8 @@ use crate::parts::Parts;
 use crate::program::{Code, Frame};
 use tt_core::{Fault, Why};
 use tt_exec_points::Points;
-use tt_exec_stack::{Graphics, Size, Stack};
+use tt_exec_stack::Stack;
+use tt_exec_state::{Graphics, Size};
 
 /// Which program is run: it says where functions may be defined and flags set.
 #[derive(Clone, Copy)]

@@ -12,7 +12,8 @@ ghost use Rattle.tt_exec.specs.Views.{frame_of};
 
 use crate::machine_state::MachineState;
 use tt_core::{FontFault, Why};
-use tt_exec_stack::{Arithmetic, Logic, Managing, Places, Query, Setting, Vectors};
+use tt_exec_stack::{Arithmetic, Logic, Managing};
+use tt_exec_state::{Query, Setting, StoredValues, Vectors};
 use tt_state::{Axis, Round};
 
 impl MachineState<'_> {
@@ -120,10 +121,10 @@ impl MachineState<'_> {
             Leaves result (state_of self.new) given }
     {
         match op {
-            0x42 => Ok(self.keep(Places::Ws, at)?),
-            0x43 => Ok(self.keep(Places::Rs, at)?),
-            0x44 => Ok(self.keep(Places::Wcvtp, at)?),
-            0x45 => Ok(self.keep(Places::Rcvt, at)?),
+            0x42 => Ok(self.keep(StoredValues::Ws, at)?),
+            0x43 => Ok(self.keep(StoredValues::Rs, at)?),
+            0x44 => Ok(self.keep(StoredValues::Wcvtp, at)?),
+            0x45 => Ok(self.keep(StoredValues::Rcvt, at)?),
             0x46 => self.on_points(0x46, at),
             0x47 => self.on_points(0x47, at),
             0x48 => self.on_points(0x48, at),
@@ -178,7 +179,7 @@ impl MachineState<'_> {
             0x6D => Ok(self.compute(Arithmetic::Nround, at)?),
             0x6E => Ok(self.compute(Arithmetic::Nround, at)?),
             0x6F => Ok(self.compute(Arithmetic::Nround, at)?),
-            0x70 => Ok(self.keep(Places::Wcvtf, at)?),
+            0x70 => Ok(self.keep(StoredValues::Wcvtf, at)?),
             0x71 => self.on_points(0x71, at),
             0x72 => self.on_points(0x72, at),
             0x73 => self.on_points(0x73, at),

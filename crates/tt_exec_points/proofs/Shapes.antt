@@ -18,7 +18,7 @@ use Rattle.tt_points_loops.specs.Series.{one_by_one}
 use Rattle.tt_points_loops.specs.Shapes as on_many
 use Rattle.tt_points_loops.specs.Shifting as shifting
 use Rattle.tt_points_zones.specs.Zones.{ZoneLists, AreContours, SameShape, KeepsShape, KeepsShapeBefore}
-use Rattle.tt_exec_stack.specs.Places.{place}
+use Rattle.tt_exec_state.specs.StoredValues.{place}
 use Rattle.tt_exec_points.specs.ControlValues.{value_of, change_by, change, changes, popped, deltac}
 use Rattle.tt_exec_points.specs.OnPoints.{is_either, on_point, on_several, is_several, is_deltac, on_points}
 use Rattle.tt_exec_points.specs.Popping.{Left, behind, behind_move, looped, counted}

@@ -6,7 +6,7 @@ use Rattle.tt_core.specs.declared.fault.Why.{Why}
 use Rattle.tt_core.specs.declared.fault.Why.TheVariants as why
 use Rattle.tt_state.specs.GraphicsState.{default_state}
 use Rattle.tt_state.specs.declared.graphics_state.GraphicsState.{GraphicsState}
-use Rattle.tt_exec_stack.specs.Places.{place}
+use Rattle.tt_exec_state.specs.StoredValues.{place}
 use Rattle.tt_exec_stack.specs.Stack.{is_value}
 use Rattle.tt_points_loops.specs.Deltas.{delta_of, pairs_of}
 use Rattle.tt_points_loops.specs.Series.{one_by_one}

@@ -5,7 +5,7 @@ use Rattle.tt_core.specs.Outcomes.{◌>>=◌}
 use Rattle.tt_core.specs.declared.fault.Why.{Why}
 use Rattle.tt_core.specs.declared.fault.Why.TheVariants as why
 use Rattle.tt_state.specs.declared.graphics_state.GraphicsState.{GraphicsState}
-use Rattle.tt_exec_stack.specs.Places.{place}
+use Rattle.tt_exec_state.specs.StoredValues.{place}
 use Rattle.tt_exec_stack.specs.Stack.{pushed}
 use Rattle.tt_points.specs.ControlValues as by_value
 use Rattle.tt_points.specs.Measuring as measuring

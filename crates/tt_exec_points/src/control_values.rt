@@ -7,7 +7,8 @@ ghost use Rattle.tt_state.specs.GraphicsState.{IsGraphicsState};
 
 use crate::several::pairs_counted;
 use tt_core::Why;
-use tt_exec_stack::{Graphics, Stack};
+use tt_exec_stack::Stack;
+use tt_exec_state::Graphics;
 use tt_points::delta_of;
 use tt_state::GraphicsState;
 

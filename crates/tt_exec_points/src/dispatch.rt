@@ -7,7 +7,8 @@ ghost use Rattle.tt_exec_points.specs.OnPoints as is;
 use crate::control_values::deltac;
 use crate::points::Points;
 use tt_core::Why;
-use tt_exec_stack::{Graphics, Size, Stack};
+use tt_exec_stack::Stack;
+use tt_exec_state::{Graphics, Size};
 use tt_state::Axis;
 
 /// Those on single points.

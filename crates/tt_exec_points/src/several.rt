@@ -10,7 +10,8 @@ ghost use Rattle.tt_points_iup.specs.Interpolation as interpolation;
 
 use crate::points::Points;
 use tt_core::Why;
-use tt_exec_stack::{Graphics, Stack};
+use tt_exec_stack::Stack;
+use tt_exec_state::Graphics;
 use tt_points::{alignrp, deltap, flippt, fliprgoff, fliprgon, ip, iup, shc, shp, shpix, shz};
 use tt_state::Axis;
 

@@ -6,7 +6,8 @@ ghost use Rattle.tt_exec_points.specs.Single as is;
 
 use crate::points::Points;
 use tt_core::Why;
-use tt_exec_stack::{Graphics, Stack};
+use tt_exec_stack::Stack;
+use tt_exec_state::Graphics;
 use tt_points::{gc, md, mdap, mdrp, miap, mirp, msirp, scfs, utp};
 
 /// The control value with a number. Error: CvtRange.

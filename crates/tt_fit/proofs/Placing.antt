@@ -11,10 +11,9 @@ use Rattle.tt_core.specs.declared.fault.Why.TheVariants as why
 use Rattle.tt_core.specs.Limits.{point_limit}
 use Rattle.tt_core.specs.Outcomes.{each}
 use Rattle.tt_core.proofs.Each.{each-failed, each-made, length-each}
-use Rattle.tt_glyf.specs.Composite.{args_are_xy_values}
+use Rattle.tt_glyf.specs.Format.{args_are_xy_values, has}
 use Rattle.tt_glyf.specs.declared.raw.RawPoint.{RawPoint}
 use Rattle.tt_glyf.specs.declared.raw.Record.{Record}
-use Rattle.tt_glyf.specs.Flags.{has}
 use Rattle.tt_fit.specs.Components.{offset_of, point_of, matched_by, shift_of, landed, placed_point, within_point_limit, behind, placed}
 use Rattle.tt_fit.specs.Defects.{PassesLimit, LeavesLimit, IsPhantomDefect, IsScaledDefect, LacksPoint, IsMatchDefect, IsLandingDefect, IsCountDefect, IsPlacingDefect}
 use Rattle.tt_fit.specs.Outline.{PhantomPoints, Outline}

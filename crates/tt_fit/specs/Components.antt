@@ -7,9 +7,9 @@ use Rattle.tt_core.specs.declared.fault.Why.TheVariants as why
 use Rattle.tt_core.specs.Limits.{point_limit}
 use Rattle.tt_core.specs.Numbers.{rounded_quotient}
 use Rattle.tt_core.specs.Outcomes.{◌>>=◌, each}
-use Rattle.tt_glyf.specs.Composite.{args_are_xy_values, round_xy_to_grid, use_my_metrics, one}
+use Rattle.tt_glyf.specs.Composite.{one}
+use Rattle.tt_glyf.specs.Format.{args_are_xy_values, round_xy_to_grid, use_my_metrics, has}
 use Rattle.tt_glyf.specs.declared.raw.Record.{Record}
-use Rattle.tt_glyf.specs.Flags.{has}
 use Rattle.tt_fit.specs.Outline.{PhantomPoints, Outline}
 use Rattle.tt_fit.specs.Scaling.{Size, scale, to_grid, glyf_fault, settled}
 

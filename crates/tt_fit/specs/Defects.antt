@@ -6,11 +6,10 @@ use Rattle.tt_core.specs.Faults.{Fault}
 use Rattle.tt_core.specs.declared.fault.Why.TheVariants as why
 use Rattle.tt_core.specs.Limits.{coordinate_limit, level_limit, point_limit}
 use Rattle.tt_core.specs.Outcomes.{◌>>=◌}
-use Rattle.tt_glyf.specs.Composite.{args_are_xy_values}
+use Rattle.tt_glyf.specs.Format.{args_are_xy_values, has}
 use Rattle.tt_glyf.specs.declared.raw.RawPoint.{RawPoint}
 use Rattle.tt_glyf.specs.declared.raw.Record.{Record}
 use Rattle.tt_glyf.specs.Defects.{IsGlyphDefect}
-use Rattle.tt_glyf.specs.Flags.{has}
 use Rattle.tt_glyf.specs.GlyphData.{glyph_data_of}
 use Rattle.tt_glyf.specs.Loca.{glyph_offset}
 use Rattle.tt_glyf.specs.Raw.{Raw, empty, simple, composite}

@@ -10,9 +10,9 @@ use Rattle.tt_core.specs.Numbers.{unsigned_at}
 use Rattle.tt_core.specs.Outcomes.{◌>>=◌}
 use Rattle.tt_glyf.specs.declared.raw.Record.{Record}
 use Rattle.tt_glyf.specs.Bytes.{GlyphBytes, Listing, byte_in, word_in, signed_in, slice_in, glyph_fault}
-use Rattle.tt_glyf.specs.Composite.{Arguments, Transform, Program, signed8, argument_size, argument_at, arguments_at, transform_size, one_scale, identity, two_scales_at, two_by_two_at, transform_at, record_size, asks_scaled_offset, unscaled, known_glyph, record_at, records_from, records_of, more_components, arg_1_and_2_are_words, args_are_xy_values, we_have_a_scale, we_have_an_x_and_y_scale, we_have_a_two_by_two, has_program, program_of, composite_of}
+use Rattle.tt_glyf.specs.Composite.{Arguments, Transform, Program, signed8, argument_at, arguments_at, one_scale, identity, two_scales_at, two_by_two_at, transform_at, asks_scaled_offset, unscaled, known_glyph, record_at, records_from, records_of, has_program, program_of, composite_of}
+use Rattle.tt_glyf.specs.Format.{argument_size, transform_size, record_size, more_components, arg_1_and_2_are_words, args_are_xy_values, we_have_a_scale, we_have_an_x_and_y_scale, we_have_a_two_by_two, has}
 use Rattle.tt_glyf.specs.Defects.{IsCut, IsBadRecord, IsRecordsDefect, IsProgramDefect, IsCompositeDefect}
-use Rattle.tt_glyf.specs.Flags.{has}
 use Rattle.tt_glyf.specs.Meaning.{written_argument, written_transform, record_of, written_component_flags, written_component, record_end}
 use Rattle.tt_glyf.proofs.Broken.{cut}
 use Rattle.tt_glyf.proofs.Chains.{after-err}
@@ -233,9 +233,9 @@ program-broke : (g : GlyphBytes) (records : Listing Record) (f : Fault) → prog
 unfolding program_of
 program-broke g records f was = program-broke-cases g records.next (has_program records.items) f was
 
-program-behind : (g : GlyphBytes) (records : Listing Record) (f : Fault) → AreUpTo g 10 records
+program-after : (g : GlyphBytes) (records : Listing Record) (f : Fault) → AreUpTo g 10 records
     → ProgramBroke g records.next (has_program records.items) f → IsProgramDefect g 10 f
-program-behind g records f up_to broke =
+program-after g records f up_to broke =
     let next = up_to.next in
     let items = up_to.items in
     let short = rw (← next) at broke.short in
@@ -250,7 +250,7 @@ composite-broke glyphs g x_min f was = elim (was-err (records_of glyphs g) _ f w
       let records = by_records.value in
       let read = records-were glyphs g 10 component_limit records by_records.first in
       elim (was-err (program_of g records) _ f by_records.rest) [
-        | inl here ↦ inr (program-behind g records f read.up_to (program-broke g records f here))
+        | inl here ↦ inr (program-after g records f read.up_to (program-broke g records f here))
         | inr by_program ↦ let rest = by_program.rest in absurd cc
       ]
 ]

@@ -12,8 +12,9 @@ use Rattle.tt_core.specs.Outcomes.{◌>>=◌}
 use Rattle.tt_glyf.specs.Bytes.{GlyphBytes, Listing, byte_in, word_in, signed_in, slice_in, glyph_fault, short, after}
 use Rattle.tt_glyf.specs.Coordinates.{Axis, Coordinate, Delta, x_axis, y_axis, origin, short_delta, delta_at, summed, is_coordinate, within_words, coordinate_at, coordinates_from}
 use Rattle.tt_glyf.specs.Defects.{IsCut, IsFallingEnd, IsManyPoints, written_points, IsBadRun, IsFlagDefect, IsCoordinateDefect, IsSimpleDefect}
-use Rattle.tt_glyf.specs.Flags.{Run, has, repeat_flag, run_within, run_at, flags_from}
-use Rattle.tt_glyf.specs.Meaning.{end_place, written_end, size_place, flags_place, written_run, runs_end, written_flags, written_delta, deltas, deltas_end, y_place, points_end}
+use Rattle.tt_glyf.specs.Flags.{Run, run_within, run_at, flags_from}
+use Rattle.tt_glyf.specs.Format.{has, repeat_flag, end_place, size_place}
+use Rattle.tt_glyf.specs.Meaning.{written_end, flags_place, written_run, runs_end, written_flags, written_delta, deltas, deltas_end, y_place, points_end}
 use Rattle.tt_glyf.specs.Simple.{rising, end_at, ends_from, ends_of, point_count, points_within, points_of, simple_of}
 use Rattle.tt_glyf.proofs.Chains.{after-err}
 use Rattle.tt_glyf.proofs.Covers.{IsRead, run-was, flags-length, AreCovered, flags-were}
@@ -337,12 +338,12 @@ many-broke g contours ends f some read was =
     let place : ends.next - 2 ≡ end_place (contours - 1) = omega arith in
     (omega arith, grind (arith, nat_tests), rw place at p.1)
 
--- behind the program
-points-behind : (g : GlyphBytes) (contours n size : ℕ) (ends : Listing ℕ) (f : Fault) → 0 < contours
+-- after the program
+points-after : (g : GlyphBytes) (contours n size : ℕ) (ends : Listing ℕ) (f : Fault) → 0 < contours
     → EndsRead g.bytes 10 contours 0 ends → n ≡ point_count ends.items → size ≡ unsigned_at g.bytes ends.next 2
     → ArePointsBad g (ends.next + 2 + size) n f → ArePointsBad g (flags_place g.bytes contours)
     (written_points g.bytes contours) f
-points-behind g contours n size ends f some read count is bad =
+points-after g contours n size ends f some read count is bad =
     let next = read.next in
     let n_is : n ≡ written_points g.bytes contours = count ∙ count-is g.bytes contours ends some read in
     let place : ends.next + 2 + size ≡ flags_place g.bytes contours = rw (is, next) refl in
@@ -380,7 +381,7 @@ simple-broke g x_min contours f header some was = elim (was-err (ends_of g conto
                         let room = code.1.room in
                         let many = code.0 in
                         elim (was-err (points_of g (ends.next + 2 + size) n) _ f by_code.rest) [
-                          | inl here ↦ inr (inr (inr (points-behind g contours n size ends f some read count.is word.is
+                          | inl here ↦ inr (inr (inr (points-after g contours n size ends f some read count.is word.is
                               (points-broke g (ends.next + 2 + size) n f (omega arith) here))))
                           | inr by_points ↦ let rest = by_points.rest in absurd cc
                         ]

@@ -18,7 +18,7 @@ pub after-nothing : {A : Type 0} (x : Result (Listing A) Fault) → after [] x �
 after-nothing (Ok read) = refl
 after-nothing (Err f) = refl
 
--- a list that came through behind others
+-- a list that came through after others
 pub record CameAfter {A : Type 0} (before : List A) (x : Result (Listing A) Fault) (y : Listing A) : Type 0 where
   pub read : Listing A
   pub was : x ≡ Ok read

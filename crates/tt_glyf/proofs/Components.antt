@@ -5,8 +5,8 @@ use Rattle.tt_core.specs.declared.fault.Why.TheVariants as why
 use Rattle.tt_core.specs.Limits.{component_limit}
 use Rattle.tt_glyf.specs.declared.raw.Record.{Record}
 use Rattle.tt_glyf.specs.Bytes.{GlyphBytes, after, glyph_fault}
-use Rattle.tt_glyf.specs.Composite.{record_at, records_from, record_size, more_components}
-use Rattle.tt_glyf.specs.Flags.{has}
+use Rattle.tt_glyf.specs.Composite.{record_at, records_from}
+use Rattle.tt_glyf.specs.Format.{record_size, more_components, has}
 use Rattle.tt_glyf.proofs.Chains.{after-after}
 
 pub more : (n : ℕ) (g : GlyphBytes) (before : List Record) (at i : ℕ) (r : Record) → i < component_limit

@@ -4,7 +4,7 @@ use Rattle.std.proofs.lemmas.List.{drop_all}
 use Rattle.tt_core.specs.Faults.{Fault}
 use Rattle.tt_glyf.specs.declared.raw.RawPoint.{RawPoint}
 use Rattle.tt_glyf.specs.Bytes.{GlyphBytes, after}
-use Rattle.tt_glyf.specs.Flags.{has, on_curve_point}
+use Rattle.tt_glyf.specs.Format.{has, on_curve_point}
 use Rattle.tt_glyf.specs.Simple.{end_at, ends_from, points_from}
 use Rattle.tt_glyf.proofs.Chains.{after-after}
 

@@ -7,7 +7,8 @@ use Rattle.std.proofs.lemmas.Bool.Decides.{nat_tests}
 use Rattle.tt_core.specs.Chains.{came-through, passed-else}
 use Rattle.tt_core.specs.Outcomes.{◌>>=◌}
 use Rattle.tt_glyf.specs.Bytes.{GlyphBytes, Listing, byte_in, after}
-use Rattle.tt_glyf.specs.Flags.{Run, has, repeat_flag, run_within, run_at, flags_from}
+use Rattle.tt_glyf.specs.Flags.{Run, run_within, run_at, flags_from}
+use Rattle.tt_glyf.specs.Format.{has, repeat_flag}
 use Rattle.tt_glyf.specs.Meaning.{written_run, runs_end, written_flags}
 use Rattle.tt_glyf.proofs.Chains.{came-after}
 use Rattle.tt_glyf.proofs.Fields.{byte-was}
@@ -127,8 +128,8 @@ flags-were (suc fuel) g at (suc left) read enough le was =
     let through = came-through (run_at g at (suc left)) (λ r. after (replicate (suc r.copies) r.flag)
     (flags_from fuel g r.next (left - r.copies))) read was in
     let r = through.value in
-    let behind = came-after (replicate (suc r.copies) r.flag) (flags_from fuel g r.next (left - r.copies)) read
+    let later = came-after (replicate (suc r.copies) r.flag) (flags_from fuel g r.next (left - r.copies)) read
     through.rest in
     let run = run-was g at (suc left) r (omega arith) through.first in
-    covered-more g at left r behind.read read run (flags-were fuel g r.next (left - r.copies) behind.read (omega arith)
-    run.room behind.was) behind.is
+    covered-more g at left r later.read read run (flags-were fuel g r.next (left - r.copies) later.read (omega arith)
+    run.room later.was) later.is

@@ -6,7 +6,7 @@ use Rattle.tt_core.specs.Numbers.{unsigned_at, signed16}
 use Rattle.tt_core.specs.Outcomes.{◌>>=◌}
 use Rattle.tt_glyf.specs.Bytes.{GlyphBytes, Listing, byte_in, signed_in}
 use Rattle.tt_glyf.specs.Coordinates.{Axis, Delta, Coordinate, delta_at, summed, is_coordinate, within_words, coordinate_at, coordinates_from, short_delta}
-use Rattle.tt_glyf.specs.Flags.{has}
+use Rattle.tt_glyf.specs.Format.{has}
 use Rattle.tt_glyf.specs.Meaning.{written_delta, deltas, deltas_end, AreSums}
 use Rattle.tt_glyf.proofs.Chains.{came-after}
 use Rattle.tt_glyf.proofs.Fields.{IsField, byte-was, signed-was}
@@ -114,7 +114,7 @@ coordinates-were g a [] before read le was =
     })
 coordinates-were g a (flag ∷ flags) before read le was =
     let through = came-through _ _ _ was in
-    let behind = came-after (through.value.value ∷ []) (coordinates_from g a flags through.value) read through.rest in
+    let later = came-after (through.value.value ∷ []) (coordinates_from g a flags through.value) read through.rest in
     let next = coordinate-was g a flag before through.value le through.first in
-    read-more g.bytes a flag flags before through.value behind.read read next.is next.fits
-    (coordinates-were g a flags through.value behind.read next.room behind.was) behind.is
+    read-more g.bytes a flag flags before through.value later.read read next.is next.fits
+    (coordinates-were g a flags through.value later.read next.room later.was) later.is

@@ -14,12 +14,13 @@ use Rattle.tt_glyf.specs.Bytes.{GlyphBytes, stretch_at, Listing, word_in, signed
 use Rattle.tt_glyf.specs.Composite.{Program, records_of, has_program, program_of, composite_of}
 use Rattle.tt_glyf.specs.GlyphData.{Header, header_of, described, glyph_in, glyph_data_of}
 use Rattle.tt_glyf.specs.Loca.{Glyf, glyph_offset, has_no_bytes, is_out_of_range, bytes_between, glyph_bytes_of}
-use Rattle.tt_glyf.specs.Meaning.{IfEmpty, HasNoOutline, IfSimple, IfComposite, glyph_bytes_at, IsProgram, HasProgram, contour_count, written_x_min, size_place, written_size, flags_place, records_end, AreEnds, AreWords, ArePoints, AreComponents, AreRecords, AreCompositeWords}
+use Rattle.tt_glyf.specs.Meaning.{IfEmpty, HasNoOutline, IfSimple, IfComposite, glyph_bytes_at, IsProgram, HasProgram, contour_count, written_x_min, written_size, flags_place, records_end, AreEnds, AreWords, ArePoints, AreComponents, AreRecords, AreCompositeWords}
+use Rattle.tt_glyf.specs.Format.{size_place}
 use Rattle.tt_glyf.specs.Raw.{SimpleGlyph, CompositeGlyph, Raw, empty, simple, composite}
 use Rattle.tt_glyf.specs.Simple.{ends_of, points_within, points_of, simple_of}
 use Rattle.tt_glyf.proofs.Fields.{IsField, word-was, signed-was}
 use Rattle.tt_glyf.proofs.Outlines.{EndsRead, ends-were, never-falls, CountRead, count-was, PointsRead, points-were, points-are}
-use Rattle.tt_glyf.proofs.Parts.{ArePartsRead, records-were, IsProgramRead, IsProgramBehind, program-was}
+use Rattle.tt_glyf.proofs.Parts.{ArePartsRead, records-were, IsProgramRead, IsProgramAfter, program-was}
 use Rattle.tt_glyf.proofs.Places.{IsWithin, slice-was, program-is}
 
 -- the program is somewhere in the glyph's bytes
@@ -177,11 +178,11 @@ pub record CompositeRead (glyphs : ℕ) (g : GlyphBytes) (x_min : ℤ) (c : Comp
     items = c.records;
     next = records_end g.bytes 10 c.records;
   })
-  pub program : IsProgramBehind g (records_end g.bytes 10 c.records) (has_program c.records)
+  pub program : IsProgramAfter g (records_end g.bytes 10 c.records) (has_program c.records)
       (record { code = c.code; code_at = c.code_at })
 
 composite-make : (glyphs : ℕ) (g : GlyphBytes) (x_min : ℤ) (records : Listing Record) (p : Program)
-    → ArePartsRead glyphs g 10 component_limit records → IsProgramBehind g records.next (has_program records.items) p
+    → ArePartsRead glyphs g 10 component_limit records → IsProgramAfter g records.next (has_program records.items) p
     → CompositeRead glyphs g x_min (record {
       x_min = x_min;
       records = records.items;

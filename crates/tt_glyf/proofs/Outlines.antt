@@ -8,7 +8,7 @@ use Rattle.tt_core.specs.Numbers.{unsigned_at}
 use Rattle.tt_glyf.specs.declared.raw.RawPoint.{RawPoint}
 use Rattle.tt_glyf.specs.Bytes.{GlyphBytes, Listing, word_in}
 use Rattle.tt_glyf.specs.Coordinates.{Axis, Coordinate, x_axis, y_axis, origin}
-use Rattle.tt_glyf.specs.Flags.{has, on_curve_point}
+use Rattle.tt_glyf.specs.Format.{has, on_curve_point}
 use Rattle.tt_glyf.specs.Meaning.{runs_end, written_flags, deltas_end, y_place, points_end, ArePoints}
 use Rattle.tt_glyf.specs.Simple.{rising, end_at, ends_from, point_count, points_within, points_from, points_of}
 use Rattle.tt_glyf.proofs.Chains.{came-after}
@@ -75,10 +75,10 @@ ends-were g at zero before read le was =
     rw is (record { rise = tt; many = refl; words = λ i below. absurd (omega arith); next = omega arith; room = le })
 ends-were g at (suc n) before read le was =
     let through = came-through _ _ _ was in
-    let behind = came-after (through.value ∷ []) (ends_from g (at + 2) n through.value) read through.rest in
+    let later = came-after (through.value ∷ []) (ends_from g (at + 2) n through.value) read through.rest in
     let end = end-was g at before through.value through.first in
-    ends-more g.bytes at n before through.value behind.read read end.is end.rises
-    (ends-were g (at + 2) n through.value behind.read end.room behind.was) behind.is
+    ends-more g.bytes at n before through.value later.read read end.is end.rises
+    (ends-were g (at + 2) n through.value later.read end.room later.was) later.is
 
 -- what rises one by one never falls
 rise-from : (before : ℕ) (es : List ℕ) (j : ℕ) → RiseFrom before es → j < length es → before ≤ slice_index es j
@@ -172,7 +172,7 @@ points-make bytes at n runs xs ys covers good cx cy =
     let flags = written_flags bytes at runs in
     let lx = cx.many in
     let ly = cy.many in
-    let behind : AreRead bytes y_axis flags (origin (y_place bytes at runs)) ys = rw cx.next at cy in
+    let later : AreRead bytes y_axis flags (origin (y_place bytes at runs)) ys = rw cx.next at cy in
     record {
       many = points-many flags xs.items ys.items lx ly ∙ covers;
       runs = runs;
@@ -180,7 +180,7 @@ points-make bytes at n runs xs ys covers good cx cy =
       good = good;
       xs = read-as bytes x_axis flags (origin (runs_end bytes at runs)) xs _ cx
           (points-xs flags xs.items ys.items lx ly);
-      ys = read-as bytes y_axis flags (origin (y_place bytes at runs)) ys _ behind
+      ys = read-as bytes y_axis flags (origin (y_place bytes at runs)) ys _ later
           (points-ys flags xs.items ys.items lx ly);
       on = points-on flags xs.items ys.items lx ly;
     }

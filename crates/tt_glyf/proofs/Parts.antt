@@ -8,9 +8,9 @@ use Rattle.tt_core.specs.Numbers.{unsigned_at, signed16}
 use Rattle.tt_core.specs.Outcomes.{◌>>=◌}
 use Rattle.tt_glyf.specs.declared.raw.Record.{Record}
 use Rattle.tt_glyf.specs.Bytes.{GlyphBytes, Listing, byte_in, word_in, signed_in, slice_in}
-use Rattle.tt_glyf.specs.Composite.{Arguments, Transform, Program, signed8, argument_size, argument_at, arguments_at, transform_size, one_scale, identity, two_scales_at, two_by_two_at, transform_at, record_size, asks_scaled_offset, unscaled, known_glyph, record_at, records_from, more_components, arg_1_and_2_are_words, args_are_xy_values, we_have_a_scale, we_have_an_x_and_y_scale, we_have_a_two_by_two, has_program, program_of}
+use Rattle.tt_glyf.specs.Composite.{Arguments, Transform, Program, signed8, argument_at, arguments_at, one_scale, identity, two_scales_at, two_by_two_at, transform_at, asks_scaled_offset, unscaled, known_glyph, record_at, records_from, has_program, program_of}
+use Rattle.tt_glyf.specs.Format.{argument_size, transform_size, record_size, more_components, arg_1_and_2_are_words, args_are_xy_values, we_have_a_scale, we_have_an_x_and_y_scale, we_have_a_two_by_two, has}
 use Rattle.tt_glyf.specs.Defects.{written_records, record_place, GoesOn}
-use Rattle.tt_glyf.specs.Flags.{has}
 use Rattle.tt_glyf.specs.Meaning.{written_argument, written_transform, record_of, written_component_flags, written_component, written_record, record_end, records_end, AreComponents}
 use Rattle.tt_glyf.proofs.Chains.{came-after}
 use Rattle.tt_glyf.proofs.Fields.{IsField, byte-was, word-was, signed-was}
@@ -202,7 +202,7 @@ record-was glyphs g at r was =
     rw (word-was g at flags by_flags.first).is at (part-make glyphs g at flags by_number.value by_glyph.value
     by_args.value by_t.value r by_t.rest number.is known args.is t)
 
--- these are the records up to the last one, and the place behind them
+-- these are the records up to the last one, and the place after them
 pub record AreUpTo (g : GlyphBytes) (at : ℕ) (read : Listing Record) : Type 0 where
   pub n : ℕ
   pub goes_on : GoesOn g at n
@@ -335,13 +335,13 @@ records-were glyphs g at zero read was = absurd cc
 records-were glyphs g at (suc allowed) read was =
     let through = came-through (record_at glyphs g at) _ read was in
     let r = through.value in
-    let behind = came-after (r ∷ []) (if has r.flags more_components
+    let later = came-after (r ∷ []) (if has r.flags more_components
     then records_from glyphs g (at + record_size r.flags) allowed
     else Ok (record { items = []; next = at + record_size r.flags })) read through.rest in
-    let whole = parts-cases glyphs g at allowed r behind.read (has r.flags more_components)
-    (record-was glyphs g at r through.first) refl behind.was
-    (λ came. records-were glyphs g (record_end g.bytes at) allowed behind.read came) in
-    rw behind.is whole
+    let whole = parts-cases glyphs g at allowed r later.read (has r.flags more_components)
+    (record-was glyphs g at r through.first) refl later.was
+    (λ came. records-were glyphs g (record_end g.bytes at) allowed later.read came) in
+    rw later.is whole
 
 nothing-there : (bytes : List ℕ) (at : ℕ) → ◌≡◌ {A = List ℕ} [] (slice_range bytes at (at + 0))
 nothing-there bytes at =
@@ -354,15 +354,15 @@ pub record IsProgramRead (g : GlyphBytes) (p : Program) : Type 0 where
   pub at : p.code_at ≡ g.start + place
   pub within : IsWithin g.bytes p.code place
 
--- the program that was read behind the records, where one of them says so
-pub record IsProgramBehind (g : GlyphBytes) (next : ℕ) (follows : Bool) (p : Program) : Type 0 where
+-- the program that was read after the records, where one of them says so
+pub record IsProgramAfter (g : GlyphBytes) (next : ℕ) (follows : Bool) (p : Program) : Type 0 where
   pub read : IsProgramRead g p
   pub size : follows ≡ true → (p.code_at ≡ g.start + (next + 2)) × (length p.code ≡ unsigned_at g.bytes next 2)
   pub none : follows ≡ false → p.code ≡ []
   pub room : follows ≡ true → next + 2 + unsigned_at g.bytes next 2 ≤ length g.bytes
 
 program-there : (g : GlyphBytes) (next size : ℕ) (code : List ℕ) → size ≡ unsigned_at g.bytes next 2 → length code ≡ size
-    → IsWithin g.bytes code (next + 2) → IsProgramBehind g next true
+    → IsWithin g.bytes code (next + 2) → IsProgramAfter g next true
     (record { code = code; code_at = g.start + (next + 2) })
 program-there g next size code is many within =
     let room = within.room in
@@ -376,7 +376,7 @@ program-there g next size code is many within =
 program-cases : (g : GlyphBytes) (next : ℕ) (follows : Bool) (p : Program) → next ≤ length g.bytes
     → (if follows then (word_in g next >>= λ size. slice_in g (next + 2) size
     >>= λ code. Ok (record { code = code; code_at = g.start + (next + 2) }))
-    else Ok (record { code = []; code_at = g.start + next })) ≡ Ok p → IsProgramBehind g next follows p
+    else Ok (record { code = []; code_at = g.start + next })) ≡ Ok p → IsProgramAfter g next follows p
 program-cases g next true p room was =
     let by_size = came-through (word_in g next) _ p was in
     let by_code = came-through (slice_in g (next + 2) by_size.value) _ p by_size.rest in
@@ -401,6 +401,6 @@ program-cases g next false p room was =
     })
 
 pub program-was : (g : GlyphBytes) (records : Listing Record) (p : Program) → records.next ≤ length g.bytes
-    → program_of g records ≡ Ok p → IsProgramBehind g records.next (has_program records.items) p
+    → program_of g records ≡ Ok p → IsProgramAfter g records.next (has_program records.items) p
 unfolding program_of
 program-was g records p room was = program-cases g records.next (has_program records.items) p room was

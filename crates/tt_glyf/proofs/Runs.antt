@@ -17,7 +17,7 @@ enough (suc a) (suc b) g at (suc l) la lb =
     chain-same (run_at g at (suc l)) _ _ (λ r. ap (after (replicate (suc r.copies) r.flag))
     (enough a b g r.next (l - r.copies) (omega arith) (omega arith)))
 
--- a run, then the runs behind it
+-- a run, then the runs after it
 pub turn : (g : GlyphBytes) (before : List ℕ) (at left : ℕ) (r : Run) → 0 < left → r.copies < left
     → run_at g at left ≡ Ok r → after before (flags_from left g at left) ≡ after
     (before ++ replicate (r.copies + 1) r.flag) (flags_from (left - (r.copies + 1)) g r.next (left - (r.copies + 1)))

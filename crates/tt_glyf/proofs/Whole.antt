@@ -8,27 +8,27 @@ use Rattle.tt_core.specs.Numbers.{unsigned_at}
 use Rattle.tt_glyf.specs.declared.raw.RawPoint.{RawPoint}
 use Rattle.tt_core.specs.Limits.{component_limit}
 use Rattle.tt_glyf.specs.Bytes.{GlyphBytes, Listing, glyph_fault}
-use Rattle.tt_glyf.specs.Composite.{has_program, more_components}
+use Rattle.tt_glyf.specs.Composite.{has_program}
+use Rattle.tt_glyf.specs.Format.{more_components, has, size_place}
 use Rattle.tt_glyf.specs.Coordinates.{Axis, Coordinate, x_axis, y_axis, origin}
 use Rattle.tt_glyf.specs.Defects.{IsCut, LeavesWords, IsFallingEnd, written_points, IsFlagDefect, IsCoordinateDefect, IsSimpleDefect, IsRecordsDefect, IsProgramDefect, IsCompositeDefect, written_records, record_place, GoesOn}
-use Rattle.tt_glyf.specs.Flags.{has}
-use Rattle.tt_glyf.specs.Meaning.{size_place, flags_place, written_run, runs_end, written_flags, written_delta, deltas, x_deltas, y_place, y_deltas, points_end, written_component_flags, record_end, records_end}
+use Rattle.tt_glyf.specs.Meaning.{flags_place, written_run, runs_end, written_flags, written_delta, deltas, x_deltas, y_place, y_deltas, points_end, written_component_flags, record_end, records_end}
 use Rattle.tt_glyf.specs.Raw.{SimpleGlyph, CompositeGlyph}
 use Rattle.tt_glyf.proofs.Broken.{count-is}
 use Rattle.tt_glyf.proofs.Covers.{AreGoodRuns, flags-length}
 use Rattle.tt_glyf.proofs.Deltas.{AreRead}
 use Rattle.tt_glyf.proofs.Glyphs.{SimpleRead, CompositeRead}
 use Rattle.tt_glyf.proofs.Outlines.{EndsRead, never-falls, PointsRead}
-use Rattle.tt_glyf.proofs.Parts.{AreUpTo, AreGoodRecords, IsProgramBehind}
+use Rattle.tt_glyf.proofs.Parts.{AreUpTo, AreGoodRecords, IsProgramAfter}
 
--- what may be bad behind so many runs
-abbrev IsBadBehind : GlyphBytes → ℕ → ℕ → Fault → Type 0
-IsBadBehind g at runs f =
+-- what may be bad after so many runs
+abbrev IsBadAfter : GlyphBytes → ℕ → ℕ → Fault → Type 0
+IsBadAfter g at runs f =
     IsCut g (points_end g.bytes at runs) f
     ⊎ ((LeavesWords (x_deltas g.bytes at runs) ⊎ LeavesWords (y_deltas g.bytes at runs))
     × (f ≡ glyph_fault g 0 why.CoordRange))
 
--- a program passes the end behind so many records that go on, and one more
+-- a program passes the end after so many records that go on, and one more
 abbrev IsProgramCut : GlyphBytes → ℕ → Fault → Type 0
 IsProgramCut g n f =
     (has_program (written_records g 10 (suc n)) ≡ true)
@@ -85,7 +85,7 @@ no-leaving bytes a flags before read start are bad =
     absurd (true≢false (sym fits ∙ leaves))
 
 no-coordinate-defect-by : (g : GlyphBytes) (at n : ℕ) (points : List RawPoint) (f : Fault)
-    → (read : PointsRead g.bytes at n points) → ¬ IsBadBehind g at read.runs f
+    → (read : PointsRead g.bytes at n points) → ¬ IsBadAfter g at read.runs f
 no-coordinate-defect-by g at n points f read bad = elim bad [
   | inl short ↦
       let ends = short.0 in
@@ -103,7 +103,7 @@ no-coordinate-defect : (g : GlyphBytes) (at n : ℕ) (points : List RawPoint) (f
     → ¬ IsCoordinateDefect g at n f
 no-coordinate-defect g at n points f read bad =
     let same : bad.0 ≡ read.runs = runs-same g.bytes at bad.0 read.runs (bad.1 ∙ sym read.covers) in
-    no-coordinate-defect-by g at n points f read (subst (λ (k : ℕ). IsBadBehind g at k f) same bad.2)
+    no-coordinate-defect-by g at n points f read (subst (λ (k : ℕ). IsBadAfter g at k f) same bad.2)
 
 points-are-written : (g : GlyphBytes) (x_min : ℤ) (contours : ℕ) (s : SimpleGlyph) → 0 < contours
     → SimpleRead g x_min contours s → length s.points ≡ written_points g.bytes contours
@@ -166,7 +166,7 @@ no-records-defect glyphs g f good bad = elim bad [
 
 no-program-defect : (g : GlyphBytes) (c : CompositeGlyph) (f : Fault)
     → AreUpTo g 10 (record { items = c.records; next = records_end g.bytes 10 c.records })
-    → IsProgramBehind g (records_end g.bytes 10 c.records) (has_program c.records)
+    → IsProgramAfter g (records_end g.bytes 10 c.records) (has_program c.records)
     (record { code = c.code; code_at = c.code_at }) → ¬ IsProgramDefect g 10 f
 no-program-defect g c f up_to program bad =
     let same : bad.0 ≡ up_to.n = last-same g 10 bad.0 up_to.n bad.1 bad.2 up_to.goes_on up_to.stops in

@@ -43,7 +43,7 @@ signed_in s at = if nat_le (at + 2) (length s.bytes) then Ok (signed16 (unsigned
 unfoldable pub slice_in : GlyphBytes → ℕ → ℕ → Result (List ℕ) Fault
 slice_in s at n = if nat_le (at + n) (length s.bytes) then Ok (slice_range s.bytes at (at + n)) else Err (short s)
 
--- a list that was read from the bytes, and the place behind it
+-- a list that was read from the bytes, and the place after it
 pub record Listing (A : Type 0) : Type 0 where
   pub items : List A
   pub next : ℕ

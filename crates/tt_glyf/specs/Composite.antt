@@ -1,6 +1,6 @@
 -- OpenType, "The 'glyf' table", "Composite Glyph Description": component records one after the other, up to the first
 -- without the flag for more, then perhaps a program.
-use Rattle.std.specs.Prelude.{ℕ, zero, suc, ◌+◌, ◌*◌, Bool, false, not, ◌&&◌, ◌||◌, nat_lt, if◌then◌else◌, ℤ, pos, ◌-ℤ◌, List, [], ◌∷◌, codes, Result, Ok, Err}
+use Rattle.std.specs.Prelude.{ℕ, zero, suc, ◌+◌, ◌*◌, Bool, false, not, ◌&&◌, ◌||◌, nat_lt, if◌then◌else◌, ℤ, pos, ◌-ℤ◌, List, [], ◌∷◌, Result, Ok, Err}
 use Rattle.std.specs.Ordering.{int_eq}
 use Rattle.tt_core.specs.Faults.{Fault}
 use Rattle.tt_core.specs.declared.fault.Why.TheVariants as why
@@ -9,61 +9,11 @@ use Rattle.tt_core.specs.Outcomes.{◌>>=◌}
 use Rattle.tt_glyf.specs.declared.raw.Record.{Record}
 use Rattle.tt_glyf.specs.Bytes.{GlyphBytes, Listing, byte_in, word_in, signed_in, slice_in, glyph_fault, after}
 use Rattle.tt_glyf.specs.Raw.{Raw, composite}
-use Rattle.tt_glyf.specs.Flags.{has}
-
-abbrev pub arg_1_and_2_are_words : ℕ
-arg_1_and_2_are_words = 0x1
-
--- they are offsets along x and y, and so signed; else point numbers
-abbrev pub args_are_xy_values : ℕ
-args_are_xy_values = 0x2
-
--- offsets are rounded to whole pixels
-abbrev pub round_xy_to_grid : ℕ
-round_xy_to_grid = 0x4
-
-abbrev pub we_have_a_scale : ℕ
-we_have_a_scale = 0x8
-
-abbrev pub more_components : ℕ
-more_components = 0x20
-
-abbrev pub we_have_an_x_and_y_scale : ℕ
-we_have_an_x_and_y_scale = 0x40
-
-abbrev pub we_have_a_two_by_two : ℕ
-we_have_a_two_by_two = 0x80
-
-abbrev pub we_have_instructions : ℕ
-we_have_instructions = 0x100
-
--- the metrics of the component are the glyph's
-abbrev pub use_my_metrics : ℕ
-use_my_metrics = 0x200
-
-abbrev pub scaled_component_offset : ℕ
-scaled_component_offset = 0x800
-
-abbrev pub unscaled_component_offset : ℕ
-unscaled_component_offset = 0x1000
-
--- the flags, by their names
-abbrev pub component_flags : List (List ℕ × ℕ)
-component_flags =
-    (codes "ARG_1_AND_2_ARE_WORDS", arg_1_and_2_are_words) ∷ (codes "ARGS_ARE_XY_VALUES", args_are_xy_values)
-    ∷ (codes "ROUND_XY_TO_GRID", round_xy_to_grid) ∷ (codes "WE_HAVE_A_SCALE", we_have_a_scale)
-    ∷ (codes "MORE_COMPONENTS", more_components) ∷ (codes "WE_HAVE_AN_X_AND_Y_SCALE", we_have_an_x_and_y_scale)
-    ∷ (codes "WE_HAVE_A_TWO_BY_TWO", we_have_a_two_by_two) ∷ (codes "WE_HAVE_INSTRUCTIONS", we_have_instructions)
-    ∷ (codes "USE_MY_METRICS", use_my_metrics) ∷ (codes "SCALED_COMPONENT_OFFSET", scaled_component_offset)
-    ∷ (codes "UNSCALED_COMPONENT_OFFSET", unscaled_component_offset) ∷ []
+use Rattle.tt_glyf.specs.Format.{has, word_size, header_size, glyph_index_offset, arguments_offset, arg_1_and_2_are_words, args_are_xy_values, we_have_a_scale, we_have_an_x_and_y_scale, we_have_a_two_by_two, we_have_instructions, more_components, scaled_component_offset, unscaled_component_offset, argument_size, record_size}
 
 -- 8 bits read as two's complement
 abbrev pub signed8 : ℕ → ℤ
 signed8 n = if nat_lt n 128 then pos n else pos n -ℤ pos 256
-
--- how many bytes an argument has
-abbrev pub argument_size : ℕ → ℕ
-argument_size flags = if has flags arg_1_and_2_are_words then 2 else 1
 
 -- an argument, at a place
 unfoldable pub argument_at : GlyphBytes → ℕ → ℕ → Result ℤ Fault
@@ -86,28 +36,21 @@ one = pos 16384
 abbrev pub identity : Transform
 identity = record { xx = one; yx = pos 0; xy = pos 0; yy = one }
 
--- of the three flags the first that is set counts (profile)
-abbrev pub transform_size : ℕ → ℕ
-transform_size flags =
-    if has flags we_have_a_scale then 2
-    else (if has flags we_have_an_x_and_y_scale then 4
-    else (if has flags we_have_a_two_by_two then 8 else 0))
-
 abbrev pub one_scale : ℤ → Transform
 one_scale s = record { xx = s; yx = pos 0; xy = pos 0; yy = s }
 
 unfoldable pub two_scales_at : GlyphBytes → ℕ → Result Transform Fault
 two_scales_at g at = do
   xx ← signed_in g at
-  yy ← signed_in g (at + 2)
+  yy ← signed_in g (at + word_size)
   Ok (record { xx = xx; yx = pos 0; xy = pos 0; yy = yy })
 
 unfoldable pub two_by_two_at : GlyphBytes → ℕ → Result Transform Fault
 two_by_two_at g at = do
   xx ← signed_in g at
-  yx ← signed_in g (at + 2)
-  xy ← signed_in g (at + 4)
-  yy ← signed_in g (at + 6)
+  yx ← signed_in g (at + word_size)
+  xy ← signed_in g (at + 2 * word_size)
+  yy ← signed_in g (at + 3 * word_size)
   Ok (record { xx = xx; yx = yx; xy = xy; yy = yy })
 
 -- the transform, at a place
@@ -116,10 +59,6 @@ transform_at g flags at =
     if has flags we_have_a_scale then (signed_in g at >>= λ s. Ok (one_scale s))
     else (if has flags we_have_an_x_and_y_scale then two_scales_at g at
     else (if has flags we_have_a_two_by_two then two_by_two_at g at else Ok identity))
-
--- how many bytes a record has
-abbrev pub record_size : ℕ → ℕ
-record_size flags = 4 + 2 * argument_size flags + transform_size flags
 
 abbrev pub is_identity : Transform → Bool
 is_identity t = int_eq t.xx one && int_eq t.yx (pos 0) && int_eq t.xy (pos 0) && int_eq t.yy one
@@ -135,7 +74,7 @@ scales_offsets flags =
 abbrev pub has_arguments_zero : Record → Bool
 has_arguments_zero r = int_eq r.arg1 (pos 0) && int_eq r.arg2 (pos 0)
 
--- the record wants an offset that is transformed, and that is not what it is anyway
+-- the record asks for its offset to be transformed, and that would change it
 abbrev pub asks_scaled_offset : Record → Bool
 asks_scaled_offset r = scales_offsets r.flags && not (is_identity (transform_of r)) && not (has_arguments_zero r)
 
@@ -162,10 +101,10 @@ arguments_at g flags at = do
 unfoldable pub record_at : ℕ → GlyphBytes → ℕ → Result Record Fault
 record_at glyphs g at = do
   flags ← word_in g at
-  number ← word_in g (at + 2)
+  number ← word_in g (at + glyph_index_offset)
   glyph ← known_glyph glyphs g at number
-  args ← arguments_at g flags (at + 4)
-  t ← transform_at g flags (at + 4 + 2 * argument_size flags)
+  args ← arguments_at g flags (at + arguments_offset)
+  t ← transform_at g flags (at + arguments_offset + 2 * argument_size flags)
   unscaled g at (record {
     at = g.start + at;
     flags = flags;
@@ -186,9 +125,9 @@ records_from glyphs g at (suc allowed) = do
   after (r ∷ []) (if has r.flags more_components then records_from glyphs g (at + record_size r.flags) allowed
       else Ok (record { items = []; next = at + record_size r.flags }))
 
--- the records stand behind the header, and no more than these are read (profile)
+-- the records stand after the header, and no more than these are read (profile)
 abbrev pub records_of : ℕ → GlyphBytes → Result (Listing Record) Fault
-records_of glyphs g = records_from glyphs g 10 component_limit
+records_of glyphs g = records_from glyphs g header_size component_limit
 
 -- some record says that a program follows
 abbrev pub has_program : List Record → Bool
@@ -199,15 +138,15 @@ pub record Program : Type 0 where
   pub code : List ℕ
   pub code_at : ℕ
 
--- the program behind the records, which is there where any of them says so (profile)
+-- the program after the records, which is there where any of them says so (profile)
 unfoldable pub program_of : GlyphBytes → Listing Record → Result Program Fault
 program_of g records =
     if has_program records.items
-    then (word_in g records.next >>= λ size. slice_in g (records.next + 2) size
-    >>= λ code. Ok (record { code = code; code_at = g.start + (records.next + 2) }))
+    then (word_in g records.next >>= λ size. slice_in g (records.next + word_size) size
+    >>= λ code. Ok (record { code = code; code_at = g.start + (records.next + word_size) }))
     else Ok (record { code = []; code_at = g.start + records.next })
 
--- what a composite glyph says behind its header, in a font of so many glyphs
+-- what a composite glyph says after its header, in a font of so many glyphs
 unfoldable pub composite_of : ℕ → GlyphBytes → ℤ → Result Raw Fault
 composite_of glyphs g x_min = do
   records ← records_of glyphs g

@@ -5,7 +5,7 @@ use Rattle.tt_core.specs.Faults.{Fault}
 use Rattle.tt_core.specs.declared.fault.Why.TheVariants as why
 use Rattle.tt_core.specs.Outcomes.{◌>>=◌}
 use Rattle.tt_glyf.specs.Bytes.{GlyphBytes, Listing, byte_in, signed_in, glyph_fault, after}
-use Rattle.tt_glyf.specs.Flags.{has, x_short_vector, y_short_vector, x_is_same_or_positive, y_is_same_or_positive}
+use Rattle.tt_glyf.specs.Format.{word_size, has, x_short_vector, y_short_vector, x_is_same_or_positive, y_is_same_or_positive}
 
 -- the two flag bits that tell how a delta along an axis is written
 pub record Axis : Type 0 where
@@ -18,7 +18,7 @@ x_axis = record { short = x_short_vector; same = x_is_same_or_positive }
 abbrev pub y_axis : Axis
 y_axis = record { short = y_short_vector; same = y_is_same_or_positive }
 
--- a delta, and the place behind it
+-- a delta, and the place after it
 pub record Delta : Type 0 where
   pub by : ℤ
   pub next : ℕ
@@ -33,9 +33,9 @@ delta_at g a flag at =
     if has flag a.short then (byte_in g at >>= λ byte. Ok
     (record { by = short_delta (has flag a.same) byte; next = at + 1 }))
     else (if has flag a.same then Ok (record { by = pos 0; next = at })
-    else (signed_in g at >>= λ word. Ok (record { by = word; next = at + 2 })))
+    else (signed_in g at >>= λ word. Ok (record { by = word; next = at + word_size })))
 
--- a coordinate, or a sum that may be one, and the place behind its delta
+-- a coordinate, or a sum that may be one, and the place after its delta
 pub record Coordinate : Type 0 where
   pub value : ℤ
   pub next : ℕ

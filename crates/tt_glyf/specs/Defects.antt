@@ -7,20 +7,20 @@ use Rattle.tt_core.specs.Limits.{component_limit, point_limit}
 use Rattle.tt_core.specs.Numbers.{unsigned_at}
 use Rattle.tt_glyf.specs.declared.raw.Record.{Record}
 use Rattle.tt_glyf.specs.Bytes.{GlyphBytes, glyph_fault, short}
-use Rattle.tt_glyf.specs.Composite.{more_components, has_program, asks_scaled_offset}
+use Rattle.tt_glyf.specs.Composite.{has_program, asks_scaled_offset}
+use Rattle.tt_glyf.specs.Format.{word_size, header_size, more_components, has, end_place, size_place}
 use Rattle.tt_glyf.specs.Coordinates.{is_coordinate}
-use Rattle.tt_glyf.specs.Flags.{has}
 use Rattle.tt_glyf.specs.Loca.{Glyf, glyph_offset, IsRangeDefect}
-use Rattle.tt_glyf.specs.Meaning.{glyph_bytes_at, contour_count, end_place, written_end, size_place, flags_place, written_run, runs_end, written_flags, x_deltas, y_deltas, points_end, written_component_flags, written_component, written_record, record_end}
+use Rattle.tt_glyf.specs.Meaning.{glyph_bytes_at, contour_count, written_end, flags_place, written_run, runs_end, written_flags, x_deltas, y_deltas, points_end, written_component_flags, written_component, written_record, record_end}
 
--- the bytes end before a place behind a field
+-- the bytes end before a field does
 abbrev pub IsCut : GlyphBytes → ℕ → Fault → Type 0
 IsCut g end fault = (length g.bytes < end) × (fault ≡ short g)
 
 -- the end of contour i + 1 lies below the one before it
 abbrev pub IsFallingEnd : GlyphBytes → ℕ → Fault → Type 0
 IsFallingEnd g contours fault =
-    (i : ℕ) × (i + 1 < contours) × (end_place (i + 1) + 2 ≤ length g.bytes)
+    (i : ℕ) × (i + 1 < contours) × (end_place (i + 1) + word_size ≤ length g.bytes)
     × (written_end g.bytes (i + 1) < written_end g.bytes i)
     × (fault ≡ glyph_fault g (end_place (i + 1)) why.ContourOrder)
 
@@ -51,7 +51,7 @@ IsFlagDefect g at points fault =
 abbrev pub LeavesWords : List ℤ → Type 0
 LeavesWords by = (i : ℕ) × (i < length by) × (is_coordinate (fold ◌+ℤ◌ (pos 0) (take (i + 1) by)) ≡ false)
 
--- behind the runs of so many points a delta passes the end of the bytes, or a coordinate leaves 16 bits
+-- after the runs of so many points a delta passes the end of the bytes, or a coordinate leaves 16 bits
 abbrev pub IsCoordinateDefect : GlyphBytes → ℕ → ℕ → Fault → Type 0
 IsCoordinateDefect g at points fault =
     (runs : ℕ) × (length (written_flags g.bytes at runs) ≡ points)
@@ -68,12 +68,12 @@ IsSimpleDefect g contours fault =
     ⊎ IsFlagDefect g (flags_place g.bytes contours) (written_points g.bytes contours) fault
     ⊎ IsCoordinateDefect g (flags_place g.bytes contours) (written_points g.bytes contours) fault
 
--- the first so many records from a place on, one behind the other
+-- the first so many records from a place on, one after the other
 abbrev pub written_records : GlyphBytes → ℕ → ℕ → List Record
 written_records g at zero = []
 written_records g at (suc n) = written_record g at ∷ written_records g (record_end g.bytes at) n
 
--- the place behind them
+-- the place after them
 abbrev pub record_place : List ℕ → ℕ → ℕ → ℕ
 record_place bytes at zero = at
 record_place bytes at (suc n) = record_place bytes (record_end bytes at) n
@@ -84,7 +84,7 @@ GoesOn g at zero = Unit {0}
 GoesOn g at (suc n) =
     (has (written_component_flags g.bytes at) more_components ≡ true) × GoesOn g (record_end g.bytes at) n
 
--- a record passes the end of the bytes, or names no glyph of the font, or wants its offset transformed
+-- a record passes the end of the bytes, or names no glyph of the font, or asks for an offset that is transformed
 abbrev pub IsBadRecord : ℕ → GlyphBytes → ℕ → Fault → Type 0
 IsBadRecord glyphs g at fault =
     IsCut g (record_end g.bytes at) fault
@@ -103,19 +103,19 @@ IsProgramDefect g at fault =
     (n : ℕ) × GoesOn g at n × (has (written_component_flags g.bytes (record_place g.bytes at n))
     more_components ≡ false)
     × (has_program (written_records g at (suc n)) ≡ true)
-    × IsCut g (record_place g.bytes at (suc n) + 2 + unsigned_at g.bytes (record_place g.bytes at (suc n)) 2) fault
+    × IsCut g (record_place g.bytes at (suc n) + word_size + unsigned_at g.bytes (record_place g.bytes at (suc n)) word_size) fault
 
 -- a defect of a composite glyph
 abbrev pub IsCompositeDefect : ℕ → GlyphBytes → Fault → Type 0
-IsCompositeDefect glyphs g fault = IsRecordsDefect glyphs g 10 component_limit fault ⊎ IsProgramDefect g 10 fault
+IsCompositeDefect glyphs g fault = IsRecordsDefect glyphs g header_size component_limit fault ⊎ IsProgramDefect g header_size fault
 
 -- a defect of the bytes of a glyph: there is no whole header, or what it announces is bad
 abbrev pub IsBadGlyph : ℕ → GlyphBytes → Fault → Type 0
 IsBadGlyph glyphs g fault =
-    IsCut g 10 fault
-    ⊎ ((10 ≤ length g.bytes) × (pos 0 <ℤ contour_count g.bytes)
+    IsCut g header_size fault
+    ⊎ ((header_size ≤ length g.bytes) × (pos 0 <ℤ contour_count g.bytes)
     × IsSimpleDefect g (unsigned_abs (contour_count g.bytes)) fault)
-    ⊎ ((10 ≤ length g.bytes) × (contour_count g.bytes <ℤ pos 0) × IsCompositeDefect glyphs g fault)
+    ⊎ ((header_size ≤ length g.bytes) × (contour_count g.bytes <ℤ pos 0) × IsCompositeDefect glyphs g fault)
 
 -- loca gives the glyph bytes of glyf
 abbrev pub HasBytes : Glyf → ℕ → Type 0

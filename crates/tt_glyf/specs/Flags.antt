@@ -1,44 +1,13 @@
 -- OpenType, "The 'glyf' table", "Simple Glyph Flags": a flag byte stands for one point, or for a run of points where it
 -- says that the next byte counts further copies. Bits 64 and 128 are ignored (profile).
-use Rattle.std.specs.Prelude.{ℕ, zero, suc, ◌+◌, ◌-◌, Bool, ◌==◌, nat_lt, if◌then◌else◌, List, [], ◌∷◌, replicate, codes, Result, Ok, Err}
-use Rattle.std.specs.Int.RustNames.{bit_and}
+use Rattle.std.specs.Prelude.{ℕ, zero, suc, ◌+◌, ◌-◌, nat_lt, if◌then◌else◌, [], replicate, Result, Ok, Err}
 use Rattle.tt_core.specs.Faults.{Fault}
 use Rattle.tt_core.specs.declared.fault.Why.TheVariants as why
 use Rattle.tt_core.specs.Outcomes.{◌>>=◌}
+use Rattle.tt_glyf.specs.Format.{has, repeat_flag}
 use Rattle.tt_glyf.specs.Bytes.{GlyphBytes, Listing, byte_in, glyph_fault, after}
 
--- the flags have this bit
-abbrev pub has : ℕ → ℕ → Bool
-has flags bit = bit_and flags bit == bit
-
-abbrev pub on_curve_point : ℕ
-on_curve_point = 1
-
-abbrev pub x_short_vector : ℕ
-x_short_vector = 2
-
-abbrev pub y_short_vector : ℕ
-y_short_vector = 4
-
-abbrev pub repeat_flag : ℕ
-repeat_flag = 8
-
--- with a short vector its sign is plus, without one the coordinate is the same as the last
-abbrev pub x_is_same_or_positive : ℕ
-x_is_same_or_positive = 16
-
-abbrev pub y_is_same_or_positive : ℕ
-y_is_same_or_positive = 32
-
--- the flags, by their names
-abbrev pub point_flags : List (List ℕ × ℕ)
-point_flags =
-    (codes "ON_CURVE_POINT", on_curve_point) ∷ (codes "X_SHORT_VECTOR", x_short_vector)
-    ∷ (codes "Y_SHORT_VECTOR", y_short_vector) ∷ (codes "REPEAT_FLAG", repeat_flag)
-    ∷ (codes "X_IS_SAME_OR_POSITIVE", x_is_same_or_positive)
-    ∷ (codes "Y_IS_SAME_OR_POSITIVE", y_is_same_or_positive) ∷ []
-
--- a flag, how many further points it stands for, and the place behind it
+-- a flag, how many further points it stands for, and the place after it
 pub record Run : Type 0 where
   pub flag : ℕ
   pub copies : ℕ

@@ -9,6 +9,7 @@ use Rattle.tt_glyf.specs.declared.raw.RawPoint.{RawPoint}
 use Rattle.tt_glyf.specs.Bytes.{GlyphBytes, stretch_at, byte_in, word_in, signed_in, slice_in, short}
 use Rattle.tt_glyf.specs.Composite.{one, two_scales_at, two_by_two_at, transform_at, argument_at, arguments_at, unscaled, known_glyph, record_at, records_from, program_of, composite_of}
 use Rattle.tt_glyf.specs.Coordinates.{delta_at, within_words, coordinate_at, coordinates_from}
+use Rattle.tt_glyf.specs.Format.{number_of_contours_offset, x_min_offset, header_size}
 use Rattle.tt_glyf.specs.Flags.{run_at, flags_from}
 use Rattle.tt_glyf.specs.Loca.{Glyf, glyph_offset, has_no_bytes, glyph_bytes_of}
 use Rattle.tt_glyf.specs.Raw.{Raw, empty, simple, composite}
@@ -18,13 +19,13 @@ pub record Header : Type 0 where
   pub contours : ℤ
   pub x_min : ℤ
 
--- numberOfContours at 0, xMin at 2; the 10 bytes have to be there
+-- numberOfContours and xMin; the whole header has to be there
 unfoldable pub header_of : GlyphBytes → Result Header Fault
 header_of g =
-    if nat_lt (length g.bytes) 10 then Err (short g)
-    else (signed_in g 0 >>= λ contours. signed_in g 2 >>= λ x_min. Ok (record { contours = contours; x_min = x_min }))
+    if nat_lt (length g.bytes) header_size then Err (short g)
+    else (signed_in g number_of_contours_offset >>= λ contours. signed_in g x_min_offset >>= λ x_min. Ok (record { contours = contours; x_min = x_min }))
 
--- behind the header: no contours are an empty glyph, whose other bytes are not read, and any negative number is a
+-- after the header: no contours are an empty glyph, whose other bytes are not read, and any negative number is a
 -- composite (profile)
 unfoldable pub described : ℕ → GlyphBytes → Header → Result Raw Fault
 described glyphs g h =

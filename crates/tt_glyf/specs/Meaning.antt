@@ -6,9 +6,10 @@ use Rattle.tt_core.specs.Numbers.{unsigned_at, signed16}
 use Rattle.tt_glyf.specs.declared.raw.RawPoint.{RawPoint}
 use Rattle.tt_glyf.specs.declared.raw.Record.{Record}
 use Rattle.tt_glyf.specs.Bytes.{GlyphBytes, stretch_at}
-use Rattle.tt_glyf.specs.Composite.{Transform, signed8, argument_size, record_size, one_scale, identity, has_program, arg_1_and_2_are_words, args_are_xy_values, we_have_a_scale, we_have_an_x_and_y_scale, we_have_a_two_by_two, more_components}
+use Rattle.tt_glyf.specs.Format.{word_size, number_of_contours_offset, x_min_offset, header_size, end_place, size_place, has, on_curve_point, repeat_flag, glyph_index_offset, arguments_offset, arg_1_and_2_are_words, args_are_xy_values, we_have_a_scale, we_have_an_x_and_y_scale, we_have_a_two_by_two, more_components, argument_size, record_size}
+use Rattle.tt_glyf.specs.Composite.{Transform, signed8, one_scale, identity, has_program}
 use Rattle.tt_glyf.specs.Coordinates.{Axis, Delta, x_axis, y_axis, short_delta}
-use Rattle.tt_glyf.specs.Flags.{Run, has, on_curve_point, repeat_flag}
+use Rattle.tt_glyf.specs.Flags.{Run}
 use Rattle.tt_glyf.specs.Loca.{Glyf, glyph_offset, has_no_bytes, bytes_between}
 use Rattle.tt_glyf.specs.Raw.{SimpleGlyph, CompositeGlyph, Raw, empty, simple, composite}
 
@@ -51,38 +52,32 @@ pub record AreEnds (points : ℕ) (ends : List ℕ) : Type 0 where
 
 -- the header: numberOfContours, negative for a composite glyph, and xMin
 abbrev pub contour_count : List ℕ → ℤ
-contour_count bytes = signed16 (unsigned_at bytes 0 2)
+contour_count bytes = signed16 (unsigned_at bytes number_of_contours_offset word_size)
 
 abbrev pub written_x_min : List ℕ → ℤ
-written_x_min bytes = signed16 (unsigned_at bytes 2 2)
+written_x_min bytes = signed16 (unsigned_at bytes x_min_offset word_size)
 
 -- loca gives the glyph no bytes, or the glyph has no contours
 abbrev pub HasNoOutline : Glyf → ℕ → Type 0
 HasNoOutline t g = (has_no_bytes t g ≡ true) ⊎ (contour_count (bytes_between t g) ≡ pos 0)
 
--- where the end of contour i stands, and what stands there
-abbrev pub end_place : ℕ → ℕ
-end_place i = 10 + 2 * i
-
+-- what stands where the end of contour i is
 abbrev pub written_end : List ℕ → ℕ → ℕ
-written_end bytes i = unsigned_at bytes (end_place i) 2
+written_end bytes i = unsigned_at bytes (end_place i) word_size
 
--- behind the ends of so many contours stands the size of the program, then the program, then the flags
-abbrev pub size_place : ℕ → ℕ
-size_place contours = end_place contours
-
+-- the bytes of the program, which stands after its size and before the flags
 abbrev pub written_size : List ℕ → ℕ → ℕ
-written_size bytes contours = unsigned_at bytes (size_place contours) 2
+written_size bytes contours = unsigned_at bytes (size_place contours) word_size
 
 abbrev pub flags_place : List ℕ → ℕ → ℕ
-flags_place bytes contours = size_place contours + 2 + written_size bytes contours
+flags_place bytes contours = size_place contours + word_size + written_size bytes contours
 
 -- the words of a simple glyph
 pub record AreWords (g : GlyphBytes) (s : SimpleGlyph) : Type 0 where
   pub x_min : s.x_min ≡ written_x_min g.bytes
   pub contours : pos (length s.ends) ≡ contour_count g.bytes
   pub ends : (i : ℕ) → i < length s.ends → slice_index s.ends i ≡ written_end g.bytes i
-  pub code_at : s.code_at ≡ g.start + (size_place (length s.ends) + 2)
+  pub code_at : s.code_at ≡ g.start + (size_place (length s.ends) + word_size)
   pub code_size : length s.code ≡ written_size g.bytes (length s.ends)
 
 -- the run of flags that is written at a place
@@ -92,7 +87,7 @@ written_run bytes at =
     { flag = slice_index bytes at; copies = slice_index bytes (at + 1); next = at + 2 }
     else record { flag = slice_index bytes at; copies = 0; next = at + 1 }
 
--- the place behind so many runs
+-- the place after so many runs
 abbrev pub runs_end : List ℕ → ℕ → ℕ → ℕ
 runs_end bytes at zero = at
 runs_end bytes at (suc runs) = runs_end bytes (written_run bytes at).next runs
@@ -109,7 +104,7 @@ abbrev pub written_delta : List ℕ → Axis → ℕ → ℕ → Delta
 written_delta bytes a flag at =
     if has flag a.short then record { by = short_delta (has flag a.same) (slice_index bytes at); next = at + 1 }
     else (if has flag a.same then record { by = pos 0; next = at }
-    else record { by = signed16 (unsigned_at bytes at 2); next = at + 2 })
+    else record { by = signed16 (unsigned_at bytes at word_size); next = at + word_size })
 
 -- all deltas along an axis, in the order of the bytes
 abbrev pub deltas : List ℕ → Axis → List ℕ → ℕ → List ℤ
@@ -117,12 +112,12 @@ deltas bytes a [] at = []
 deltas bytes a (flag ∷ flags) at =
     (written_delta bytes a flag at).by ∷ deltas bytes a flags (written_delta bytes a flag at).next
 
--- the place behind them
+-- the place after them
 abbrev pub deltas_end : List ℕ → Axis → List ℕ → ℕ → ℕ
 deltas_end bytes a [] at = at
 deltas_end bytes a (flag ∷ flags) at = deltas_end bytes a flags (written_delta bytes a flag at).next
 
--- behind so many runs of flags the deltas along x, and behind these the deltas along y
+-- after so many runs of flags the deltas along x, and after these the deltas along y
 abbrev pub x_deltas : List ℕ → ℕ → ℕ → List ℤ
 x_deltas bytes at runs = deltas bytes x_axis (written_flags bytes at runs) (runs_end bytes at runs)
 
@@ -153,26 +148,26 @@ pub record ArePoints (bytes : List ℕ) (at : ℕ) (points : List RawPoint) : Ty
 abbrev pub written_argument : List ℕ → ℕ → ℕ → ℤ
 written_argument bytes flags at =
     if has flags arg_1_and_2_are_words
-    then (if has flags args_are_xy_values then signed16 (unsigned_at bytes at 2) else pos (unsigned_at bytes at 2))
+    then (if has flags args_are_xy_values then signed16 (unsigned_at bytes at word_size) else pos (unsigned_at bytes at word_size))
     else (if has flags args_are_xy_values then signed8 (slice_index bytes at) else pos (slice_index bytes at))
 
 -- the transform: one scale, or one along x and one along y, or both rows of a matrix
 abbrev pub written_transform : List ℕ → ℕ → ℕ → Transform
 written_transform bytes flags at =
-    if has flags we_have_a_scale then one_scale (signed16 (unsigned_at bytes at 2))
+    if has flags we_have_a_scale then one_scale (signed16 (unsigned_at bytes at word_size))
     else (if has flags we_have_an_x_and_y_scale
     then record {
-      xx = signed16 (unsigned_at bytes at 2);
+      xx = signed16 (unsigned_at bytes at word_size);
       yx = pos 0;
       xy = pos 0;
-      yy = signed16 (unsigned_at bytes (at + 2) 2);
+      yy = signed16 (unsigned_at bytes (at + word_size) word_size);
     }
     else (if has flags we_have_a_two_by_two
     then record {
-      xx = signed16 (unsigned_at bytes at 2);
-      yx = signed16 (unsigned_at bytes (at + 2) 2);
-      xy = signed16 (unsigned_at bytes (at + 4) 2);
-      yy = signed16 (unsigned_at bytes (at + 6) 2);
+      xx = signed16 (unsigned_at bytes at word_size);
+      yx = signed16 (unsigned_at bytes (at + word_size) word_size);
+      xy = signed16 (unsigned_at bytes (at + 2 * word_size) word_size);
+      yy = signed16 (unsigned_at bytes (at + 3 * word_size) word_size);
     }
     else identity))
 
@@ -192,24 +187,24 @@ record_of at flags glyph arg1 arg2 t =
     }
 
 abbrev pub written_component_flags : List ℕ → ℕ → ℕ
-written_component_flags bytes at = unsigned_at bytes at 2
+written_component_flags bytes at = unsigned_at bytes at word_size
 
 abbrev pub written_component : List ℕ → ℕ → ℕ
-written_component bytes at = unsigned_at bytes (at + 2) 2
+written_component bytes at = unsigned_at bytes (at + glyph_index_offset) word_size
 
 -- the component record that is written at a place: flags, the component, two arguments, the transform
 abbrev pub written_record : GlyphBytes → ℕ → Record
 written_record g at =
     let flags = written_component_flags g.bytes at in
     record_of (g.start + at) flags (written_component g.bytes at)
-    (written_argument g.bytes flags (at + 4)) (written_argument g.bytes flags (at + 4 + argument_size flags))
-    (written_transform g.bytes flags (at + 4 + 2 * argument_size flags))
+    (written_argument g.bytes flags (at + arguments_offset)) (written_argument g.bytes flags (at + arguments_offset + argument_size flags))
+    (written_transform g.bytes flags (at + arguments_offset + 2 * argument_size flags))
 
--- the place behind it
+-- the place after it
 abbrev pub record_end : List ℕ → ℕ → ℕ
 record_end bytes at = at + record_size (written_component_flags bytes at)
 
--- these are the records from a place on, one behind the other, up to the first without the flag for more; none passes
+-- these are the records from a place on, one after the other, up to the first without the flag for more; none passes
 -- the end of the bytes
 abbrev pub AreComponents : GlyphBytes → ℕ → List Record → Type 0
 AreComponents g at [] = ⊥
@@ -234,16 +229,16 @@ pub record AreRecords (glyphs : ℕ) (records : List Record) : Type 0 where
   pub few : length records ≤ component_limit
   pub known : All (λ r. r.glyph < glyphs) records
 
--- the place behind the records from a place on, whatever their flags
+-- the place after the records from a place on, whatever their flags
 abbrev pub records_end : List ℕ → ℕ → List Record → ℕ
 records_end bytes at [] = at
 records_end bytes at (r ∷ rs) = records_end bytes (record_end bytes at) rs
 
--- the words of a composite glyph; where a record says so, the size of the program stands behind the records, then the
+-- the words of a composite glyph; where a record says so, the size of the program stands after the records, then the
 -- program
 pub record AreCompositeWords (g : GlyphBytes) (c : CompositeGlyph) : Type 0 where
   pub contours : contour_count g.bytes <ℤ pos 0
   pub x_min : c.x_min ≡ written_x_min g.bytes
-  pub follows : has_program c.records ≡ true → (c.code_at ≡ g.start + (records_end g.bytes 10 c.records + 2))
-      × (length c.code ≡ unsigned_at g.bytes (records_end g.bytes 10 c.records) 2)
+  pub follows : has_program c.records ≡ true → (c.code_at ≡ g.start + (records_end g.bytes header_size c.records + word_size))
+      × (length c.code ≡ unsigned_at g.bytes (records_end g.bytes header_size c.records) word_size)
   pub none : has_program c.records ≡ false → c.code ≡ []

@@ -8,9 +8,10 @@ use Rattle.tt_core.specs.Limits.{point_limit}
 use Rattle.tt_core.specs.Outcomes.{◌>>=◌}
 use Rattle.tt_glyf.specs.declared.raw.RawPoint.{RawPoint}
 use Rattle.tt_glyf.specs.Bytes.{GlyphBytes, Listing, word_in, slice_in, glyph_fault, after}
+use Rattle.tt_glyf.specs.Format.{word_size, header_size, has, on_curve_point}
 use Rattle.tt_glyf.specs.Coordinates.{coordinates_of, x_axis, y_axis}
 use Rattle.tt_glyf.specs.Raw.{Raw, simple}
-use Rattle.tt_glyf.specs.Flags.{has, on_curve_point, flags_of}
+use Rattle.tt_glyf.specs.Flags.{flags_of}
 
 -- an end that is not below the one before it
 abbrev pub rising : GlyphBytes → ℕ → ℕ → ℕ → Result ℕ Fault
@@ -25,11 +26,11 @@ unfoldable pub ends_from : GlyphBytes → ℕ → ℕ → ℕ → Result (Listin
 ends_from g at zero before = Ok (record { items = []; next = at })
 ends_from g at (suc contours) before = do
   e ← end_at g at before
-  after (e ∷ []) (ends_from g (at + 2) contours e)
+  after (e ∷ []) (ends_from g (at + word_size) contours e)
 
--- the ends stand behind the header
+-- the ends stand after the header
 abbrev pub ends_of : GlyphBytes → ℕ → Result (Listing ℕ) Fault
-ends_of g contours = ends_from g 10 contours 0
+ends_of g contours = ends_from g header_size contours 0
 
 -- how many points there are: the last contour ends with the last of them
 abbrev pub point_count : List ℕ → ℕ
@@ -38,7 +39,7 @@ point_count ends = slice_index ends (length ends - 1) + 1
 -- more points are refused at the last contour's end, which stands before this place (profile)
 unfoldable pub points_within : GlyphBytes → Listing ℕ → Result ℕ Fault
 points_within g ends =
-    if nat_lt point_limit (point_count ends.items) then Err (glyph_fault g (ends.next - 2) why.PointLimit)
+    if nat_lt point_limit (point_count ends.items) then Err (glyph_fault g (ends.next - word_size) why.PointLimit)
     else Ok (point_count ends.items)
 
 -- the points of these flags and coordinates
@@ -55,18 +56,18 @@ points_of g at points = do
   ys ← coordinates_of g y_axis flags.items xs.next
   Ok (points_from flags.items xs.items ys.items)
 
--- what a glyph of so many contours says behind its header
+-- what a glyph of so many contours says after its header
 unfoldable pub simple_of : GlyphBytes → ℤ → ℕ → Result Raw Fault
 simple_of g x_min contours = do
   ends ← ends_of g contours
   points ← points_within g ends
   size ← word_in g ends.next
-  code ← slice_in g (ends.next + 2) size
-  points ← points_of g (ends.next + 2 + size) points
+  code ← slice_in g (ends.next + word_size) size
+  points ← points_of g (ends.next + word_size + size) points
   Ok (simple (record {
     x_min = x_min;
     points = points;
     ends = ends.items;
     code = code;
-    code_at = g.start + (ends.next + 2);
+    code_at = g.start + (ends.next + word_size);
   }))

@@ -3,12 +3,14 @@
 ghost use Rattle.std.specs.Prelude.{◌≡◌, ◌+◌, ◌*◌, ◌≤◌, length, unsigned_abs, IsTrue, IfOk, IfErr};
 ghost use Rattle.tt_core.specs.Limits.{font_limit};
 ghost use Rattle.tt_core.specs.Outcomes.{Gives};
-ghost use Rattle.tt_glyf.specs.Composite.{signed8, argument_size, argument_at, arguments_at, transform_size, two_scales_at, two_by_two_at, transform_at, record_size, scales_offsets, is_identity, transform_of, has_arguments_zero, asks_scaled_offset, unscaled, known_glyph, record_at};
+ghost use Rattle.tt_glyf.specs.Composite.{signed8, argument_at, arguments_at, two_scales_at, two_by_two_at, transform_at, scales_offsets, is_identity, transform_of, has_arguments_zero, asks_scaled_offset, unscaled, known_glyph, record_at};
+ghost use Rattle.tt_glyf.specs.Format.{argument_size, transform_size, record_size, word_size};
 ghost use Rattle.tt_glyf.specs.Meaning.{HasArguments, IsArgument};
 ghost use Rattle.tt_glyf.specs.Views.{arguments_of, transform_view};
 
 use crate::bytes::GlyphBytes;
 use crate::component_flags::{ComponentFlags, has_flag};
+use crate::format::{ARGUMENTS_OFFSET, GLYPH_INDEX_OFFSET, WORD_SIZE};
 use crate::raw::Record;
 use tt_core::{Fault, Why};
 
@@ -21,7 +23,7 @@ fn argument_size(flags: u16) -> usize
     ensures bound { result ≤ 2 }
 {
     if has_flag(flags, ComponentFlags::ARG_1_AND_2_ARE_WORDS) {
-        2
+        WORD_SIZE
     } else {
         1
     }
@@ -33,11 +35,11 @@ fn transform_size(flags: u16) -> usize
     ensures bound { result ≤ 8 }
 {
     if has_flag(flags, ComponentFlags::WE_HAVE_A_SCALE) {
-        2
+        WORD_SIZE
     } else if has_flag(flags, ComponentFlags::WE_HAVE_AN_X_AND_Y_SCALE) {
-        4
+        2 * WORD_SIZE
     } else if has_flag(flags, ComponentFlags::WE_HAVE_A_TWO_BY_TWO) {
-        8
+        4 * WORD_SIZE
     } else {
         0
     }
@@ -48,7 +50,7 @@ pub(crate) fn record_size(flags: u16) -> usize
     ensures exact { result ≡ record_size flags }
     ensures bound { result ≤ 16 }
 {
-    4 + 2 * argument_size(flags) + transform_size(flags)
+    ARGUMENTS_OFFSET + 2 * argument_size(flags) + transform_size(flags)
 }
 
 /// 8 bits read as two's complement.
@@ -118,10 +120,10 @@ struct Transform {
 #[tactic(auto, unfolding(crate::specs::Composite::two_scales_at))]
 fn two_scales_at(glyph: &GlyphBytes, at: usize) -> Result<Transform, Fault>
     ensures exact { Gives transform_view result (two_scales_at glyph.now at) }
-    ensures room { IfOk result (λ t. at + 4 ≤ length glyph.now.bytes) }
+    ensures room { IfOk result (λ t. at + 2 * word_size ≤ length glyph.now.bytes) }
 {
     let xx = glyph.signed(at)?;
-    let yy = glyph.signed(at + 2)?;
+    let yy = glyph.signed(at + WORD_SIZE)?;
     Ok(Transform {
         xx,
         yx: 0,
@@ -134,12 +136,12 @@ fn two_scales_at(glyph: &GlyphBytes, at: usize) -> Result<Transform, Fault>
 #[tactic(auto, unfolding(crate::specs::Composite::two_by_two_at))]
 fn two_by_two_at(glyph: &GlyphBytes, at: usize) -> Result<Transform, Fault>
     ensures exact { Gives transform_view result (two_by_two_at glyph.now at) }
-    ensures room { IfOk result (λ t. at + 8 ≤ length glyph.now.bytes) }
+    ensures room { IfOk result (λ t. at + 4 * word_size ≤ length glyph.now.bytes) }
 {
     let xx = glyph.signed(at)?;
-    let yx = glyph.signed(at + 2)?;
-    let xy = glyph.signed(at + 4)?;
-    let yy = glyph.signed(at + 6)?;
+    let yx = glyph.signed(at + WORD_SIZE)?;
+    let xy = glyph.signed(at + 2 * WORD_SIZE)?;
+    let yy = glyph.signed(at + 3 * WORD_SIZE)?;
     Ok(Transform { xx, yx, xy, yy })
 }
 
@@ -194,7 +196,7 @@ fn has_arguments_zero(part: Record) -> bool
     part.arg1 == 0 && part.arg2 == 0
 }
 
-/// Whether a record wants an offset that is transformed, and that is not what it is anyway.
+/// Whether a record asks for its offset to be transformed, and that would change it.
 fn asks_scaled_offset(part: Record) -> bool
     ensures { result ≡ asks_scaled_offset part }
 {
@@ -236,10 +238,14 @@ pub(crate) fn record_at(glyph: &GlyphBytes, glyphs: u16, at: usize) -> Result<Re
     ensures limit { length glyph.now.bytes ≤ font_limit }
 {
     let flags = glyph.word(at)?;
-    let number = glyph.word(at + 2)?;
+    let number = glyph.word(at + GLYPH_INDEX_OFFSET)?;
     let component = known_glyph(glyph, glyphs, at, number)?;
-    let args = arguments_at(glyph, flags, at + 4)?;
-    let t = transform_at(glyph, flags, at + 4 + 2 * argument_size(flags))?;
+    let args = arguments_at(glyph, flags, at + ARGUMENTS_OFFSET)?;
+    let t = transform_at(
+        glyph,
+        flags,
+        at + ARGUMENTS_OFFSET + 2 * argument_size(flags),
+    )?;
     let part = Record {
         at: glyph.place(at),
         flags,

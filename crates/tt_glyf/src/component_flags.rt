@@ -1,7 +1,7 @@
 //! The flags of a component record. OpenType, "The 'glyf' table", "Component Glyph Flags".
 
 ghost use Rattle.std.specs.Prelude.{◌≡◌};
-ghost use Rattle.tt_glyf.specs.Flags.{has};
+ghost use Rattle.tt_glyf.specs.Format.{has};
 
 use bitflags::{Flag, Flags, bitflag_items};
 
@@ -27,7 +27,7 @@ bitflag_items! {
 
 impl Flags for ComponentFlags {
     ghost use Rattle.std.specs.Prelude.{⊤};
-    ghost use Rattle.tt_glyf.specs.Composite.{component_flags};
+    ghost use Rattle.tt_glyf.specs.Format.{component_flags};
 
     type Bits = u16;
 

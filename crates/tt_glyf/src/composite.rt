@@ -3,6 +3,7 @@
 ghost use Rattle.std.specs.Prelude.{◌≡◌, ◌+◌, ◌*◌, ◌<◌, ◌≤◌, length, vec_len, All, IsTrue, IfOk, IfErr};
 ghost use Rattle.tt_core.specs.Outcomes.{Gives};
 ghost use Rattle.tt_glyf.specs.Composite.{records_of, has_program, program_of, composite_of};
+ghost use Rattle.tt_glyf.specs.Format.{header_size};
 ghost use Rattle.tt_glyf.specs.Meaning.{HasArguments, IfComposite};
 ghost use Rattle.tt_glyf.specs.Raw.{raw_view};
 ghost use Rattle.tt_core.specs.Outcomes.{FontGives};
@@ -11,11 +12,12 @@ ghost use Rattle.tt_glyf.specs.Views.{records_listing, program_view};
 use crate::bytes::GlyphBytes;
 use crate::component::{record_at, record_size};
 use crate::component_flags::{ComponentFlags, has_flag};
+use crate::format::{HEADER_SIZE, WORD_SIZE};
 use crate::raw::{Raw, Record};
 use std::alloc::Global;
 use tt_core::{COMPONENT_LIMIT, Fault, FontFault, Why};
 
-/// The records of a glyph, and the place behind them.
+/// The records of a glyph, and the place after them.
 #[derive(Drop)]
 struct RecordList {
     records: Vec<Record>,
@@ -24,13 +26,13 @@ struct RecordList {
 
 /// Errors: GlyphShort, ComponentCount, ComponentGlyph, ScaledOffset, Memory.
 fn read_records(alloc: Global, glyph: &GlyphBytes, glyphs: u16) -> Result<RecordList, FontFault>
-    requires { 10 ≤ length glyph.now.bytes }
+    requires { header_size ≤ length glyph.now.bytes }
     ensures exact { FontGives records_listing result (records_of glyphs glyph.now) }
     ensures arguments { IfOk result (λ r. All HasArguments r.records.items) }
     ensures room { IfOk result (λ r. r.next ≤ length glyph.now.bytes) }
 {
     let mut records = Vec::new(alloc);
-    let mut next = 10;
+    let mut next = HEADER_SIZE;
     for i in 0..COMPONENT_LIMIT {
         let part = record_at(glyph, glyphs, next)?;
         next += record_size(part.flags);
@@ -61,7 +63,7 @@ struct Program<'a> {
     code_at: u32,
 }
 
-/// The program behind the records, empty where there is none. Error: GlyphShort.
+/// The program after the records, empty where there is none. Error: GlyphShort.
 #[tactic(auto, unfolding(crate::specs::Composite::program_of))]
 fn read_program<'a>(glyph: &GlyphBytes<'a>, list: &RecordList) -> Result<Program<'a>, Fault>
     requires { list.now.next ≤ length glyph.now.bytes }
@@ -74,14 +76,14 @@ fn read_program<'a>(glyph: &GlyphBytes<'a>, list: &RecordList) -> Result<Program
         });
     }
     let size = usize::from(glyph.word(list.next)?);
-    let code = glyph.slice(list.next + 2, size)?;
+    let code = glyph.slice(list.next + WORD_SIZE, size)?;
     Ok(Program {
         code,
-        code_at: glyph.place(list.next + 2),
+        code_at: glyph.place(list.next + WORD_SIZE),
     })
 }
 
-/// What stands behind the header of a composite glyph. Errors: GlyphShort, ComponentCount,
+/// What stands after the header of a composite glyph. Errors: GlyphShort, ComponentCount,
 /// ComponentGlyph, ScaledOffset, Memory.
 #[tactic(auto, unfolding(crate::specs::Composite::composite_of))]
 pub(crate) fn read_composite<'a>(
@@ -90,7 +92,7 @@ pub(crate) fn read_composite<'a>(
     x_min: i16,
     glyphs: u16,
 ) -> Result<Raw<'a>, FontFault>
-    requires { 10 ≤ length glyph.now.bytes }
+    requires { header_size ≤ length glyph.now.bytes }
     ensures exact { FontGives raw_view result (composite_of glyphs glyph.now x_min) }
     ensures arguments { IfOk result (λ r. IfComposite (raw_view r) (λ c. All HasArguments c.records)) }
 {

@@ -8,6 +8,7 @@ ghost use Rattle.tt_core.specs.Outcomes.{FontGives};
 
 use crate::bytes::GlyphBytes;
 use crate::flags::{PointFlags, has_flag};
+use crate::format::WORD_SIZE;
 use std::alloc::Global;
 use tt_core::{Fault, FontFault, Why};
 
@@ -18,7 +19,7 @@ pub(crate) struct Axis {
     pub(crate) same: PointFlags,
 }
 
-/// A delta, and the place behind it.
+/// A delta, and the place after it.
 #[derive(Clone, Copy)]
 struct Delta {
     by: i32,
@@ -60,18 +61,18 @@ fn delta_at(glyph: &GlyphBytes, axis: Axis, flag: u8, at: usize) -> Result<Delta
     let word = glyph.signed(at)?;
     Ok(Delta {
         by: i32::from(word),
-        next: at + 2,
+        next: at + WORD_SIZE,
     })
 }
 
-/// The sum that may be the next coordinate, and the place behind its delta.
+/// The sum that may be the next coordinate, and the place after its delta.
 #[derive(Clone, Copy)]
 struct Sum {
     value: i32,
     next: usize,
 }
 
-/// A coordinate, and the place behind its delta.
+/// A coordinate, and the place after its delta.
 #[derive(Clone, Copy)]
 struct Coordinate {
     value: i16,
@@ -105,7 +106,7 @@ fn within_words(glyph: &GlyphBytes, sum: Sum) -> Result<Coordinate, Fault>
     }
 }
 
-/// The coordinate behind another. Errors: GlyphShort, CoordRange.
+/// The coordinate after another. Errors: GlyphShort, CoordRange.
 #[inline(always)]
 #[tactic(auto, unfolding(crate::specs::Coordinates::coordinate_at))]
 fn coordinate_at(
@@ -122,7 +123,7 @@ fn coordinate_at(
     within_words(glyph, summed(before, delta))
 }
 
-/// The coordinates of all points along one axis, and the place behind their deltas.
+/// The coordinates of all points along one axis, and the place after their deltas.
 #[derive(Drop)]
 pub(crate) struct Coordinates {
     pub(crate) values: Vec<i16>,
@@ -140,7 +141,7 @@ pub(crate) fn read_coordinates(
 ) -> Result<Coordinates, FontFault>
     requires { at ≤ length glyph.now.bytes }
     ensures exact { FontGives coordinates_listing result (coordinates_of glyph.now (axis_of axis) flags.now at) }
-    ensures many { IfOk result (λ c. vec_len c.values ≡ length flags.now) }
+    ensures count { IfOk result (λ c. vec_len c.values ≡ length flags.now) }
     ensures room { IfOk result (λ c. c.next ≤ length glyph.now.bytes) }
 {
     let mut values = Vec::with_capacity(alloc, flags.len())?;

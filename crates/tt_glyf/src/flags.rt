@@ -2,7 +2,8 @@
 
 ghost use Rattle.std.specs.Prelude.{◌≡◌, ◌+◌, ◌^◌, ◌<◌, ◌≤◌, ◌++◌, length, replicate, vec_len, IsTrue, IfOk, IfErr, OnOk};
 ghost use Rattle.tt_core.specs.Outcomes.{Gives};
-ghost use Rattle.tt_glyf.specs.Flags.{has, run_at, flags_of};
+ghost use Rattle.tt_glyf.specs.Flags.{run_at, flags_of};
+ghost use Rattle.tt_glyf.specs.Format.{has};
 ghost use Rattle.tt_core.specs.Outcomes.{FontGives};
 ghost use Rattle.tt_glyf.specs.Views.{run_of, flags_listing};
 
@@ -28,7 +29,7 @@ bitflag_items! {
 
 impl Flags for PointFlags {
     ghost use Rattle.std.specs.Prelude.{⊤};
-    ghost use Rattle.tt_glyf.specs.Flags.{point_flags};
+    ghost use Rattle.tt_glyf.specs.Format.{point_flags};
 
     type Bits = u8;
 
@@ -62,7 +63,7 @@ pub(crate) fn has_flag(flags: u8, flag: PointFlags) -> bool
 /// A flag and its count, two bytes, stand for at most 256 points.
 const POINTS_A_BYTE: usize = 128;
 
-/// A flag byte, how many further points it stands for, and the place behind it.
+/// A flag byte, how many further points it stands for, and the place after it.
 #[derive(Clone, Copy)]
 struct Run {
     flag: u8,
@@ -112,7 +113,7 @@ fn push_copies(flags: &mut Vec<u8>, flag: u8, n: usize) -> Result<(), AllocError
     Ok(())
 }
 
-/// The flags of all points, and the place behind them.
+/// The flags of all points, and the place after them.
 #[derive(Drop)]
 pub(crate) struct FlagList {
     pub(crate) flags: Vec<u8>,
@@ -130,7 +131,7 @@ pub(crate) fn read_flags(
     requires place { at ≤ length glyph.now.bytes }
     requires size { points < 2 ^ 32 }
     ensures exact { FontGives flags_listing result (flags_of glyph.now at points) }
-    ensures many { IfOk result (λ f. vec_len f.flags ≡ points) }
+    ensures count { IfOk result (λ f. vec_len f.flags ≡ points) }
     ensures room { IfOk result (λ f. f.next ≤ length glyph.now.bytes) }
 {
     let mut flags = Vec::with_capacity(alloc, points.min(glyph.len() * POINTS_A_BYTE))?;

@@ -5,6 +5,7 @@ ghost use Rattle.tt_core.specs.Limits.{font_limit, point_limit};
 ghost use Rattle.tt_core.specs.Directory.{HasNo};
 ghost use Rattle.tt_core.specs.Outcomes.{Gives};
 ghost use Rattle.tt_glyf.specs.Bytes.{stretch_at};
+ghost use Rattle.tt_glyf.specs.Format.{header_size};
 ghost use Rattle.tt_glyf.specs.GlyphData.{glyph_in, described, glyph_data_of};
 ghost use Rattle.tt_glyf.specs.Loca.{glyph_tables_of, tables_with, with_glyf, glyph_offset, has_no_bytes, bytes_between, glyph_bytes_of, IsLocaDefect, IsRangeDefect, AreTables};
 ghost use Rattle.tt_glyf.specs.Meaning.{IfEmpty, HasNoOutline, IfSimple, IfComposite, glyph_bytes_at, flags_place, HasArguments, HasProgram, AreEnds, AreWords, ArePoints, AreComponents, AreRecords, AreCompositeWords};
@@ -46,7 +47,8 @@ impl<'a> Model for Glyf<'a> {
 }
 
 impl<'a> Glyf<'a> {
-    /// Takes loca and glyf of the font with these metrics. Error: LocaShort.
+    /// Takes loca and glyf of the font with these metrics. Error: LocaShort. The public call for a caller that opens
+    /// both at once; tt_render opens loca before it takes glyf, by `of`.
     pub fn open(loca: &'a [u8], glyf: &'a [u8], metrics: &Metrics) -> Result<Glyf<'a>, Fault>
         requires loca { length loca.now ≤ font_limit }
         requires glyf { length glyf.now ≤ font_limit }
@@ -128,7 +130,7 @@ impl<'a> Glyf<'a> {
         // A composite glyph: the words at their places, and the records as they are written, each of a glyph
         // of the font, with arguments in their ranges.
         ensures composite_words { IfOk result (λ r. IfComposite (raw_view r) (AreCompositeWords (glyph_bytes_at self.now g))) }
-        ensures components { IfOk result (λ r. IfComposite (raw_view r) (λ c. AreComponents (glyph_bytes_at self.now g) 10 c.records)) }
+        ensures components { IfOk result (λ r. IfComposite (raw_view r) (λ c. AreComponents (glyph_bytes_at self.now g) header_size c.records)) }
         ensures records { IfOk result (λ r. IfComposite (raw_view r) (λ c. AreRecords self.now.glyphs c.records)) }
         ensures arguments { IfOk result (λ r. IfComposite (raw_view r) (λ c. All HasArguments c.records)) }
         // The program is the bytes of glyf at its offset.
@@ -163,7 +165,7 @@ fn read_glyph<'a>(alloc: Global, glyph: &GlyphBytes<'a>, glyphs: u16) -> Result<
     read_described(alloc, glyph, header, glyphs)
 }
 
-/// What stands behind a header.
+/// What stands after a header.
 #[tactic(auto, unfolding(crate::specs::GlyphData::described))]
 fn read_described<'a>(
     alloc: Global,
@@ -171,7 +173,7 @@ fn read_described<'a>(
     header: Header,
     glyphs: u16,
 ) -> Result<Raw<'a>, FontFault>
-    requires { 10 ≤ length glyph.now.bytes }
+    requires { header_size ≤ length glyph.now.bytes }
     ensures exact { FontGives raw_view result (described glyphs glyph.now (header_view header)) }
     ensures arguments { IfOk result (λ r. IfComposite (raw_view r) (λ c. All HasArguments c.records)) }
 {

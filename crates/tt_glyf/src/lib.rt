@@ -7,6 +7,7 @@ mod component_flags;
 mod composite;
 mod coordinates;
 mod flags;
+mod format;
 mod glyf;
 mod header;
 pub mod laws;
@@ -18,4 +19,5 @@ pub use component_flags::ComponentFlags;
 pub use glyf::Glyf;
 pub use loca::Loca;
 pub use raw::{Raw, RawPoint, Record};
+/// What refuses a glyph, by the name that this crate's interface has for it.
 pub use tt_core::FontFault as GlyfFault;

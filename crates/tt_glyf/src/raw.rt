@@ -1,7 +1,7 @@
 //! What a glyph is read into: font units, as they stand in the file.
 
 ghost use Rattle.std.specs.Prelude.{◌≡◌};
-ghost use Rattle.tt_glyf.specs.Flags.{has};
+ghost use Rattle.tt_glyf.specs.Format.{has};
 
 use crate::component_flags::{ComponentFlags, has_flag};
 

@@ -3,6 +3,7 @@
 ghost use Rattle.std.specs.Prelude.{◌≡◌, ◌+◌, ◌*◌, ◌^◌, ◌<◌, ◌≤◌, length, vec_len, All, IsTrue, IfOk, IfErr};
 ghost use Rattle.tt_core.specs.Limits.{point_limit};
 ghost use Rattle.tt_core.specs.Outcomes.{Gives};
+ghost use Rattle.tt_glyf.specs.Format.{end_place, header_size, word_size};
 ghost use Rattle.tt_glyf.specs.Meaning.{HasArguments, IfComposite};
 ghost use Rattle.tt_glyf.specs.Raw.{raw_view};
 ghost use Rattle.tt_core.specs.Outcomes.{FontGives};
@@ -12,6 +13,7 @@ ghost use Rattle.tt_glyf.specs.Views.{ends_listing};
 use crate::bytes::GlyphBytes;
 use crate::coordinates::{Axis, read_coordinates};
 use crate::flags::{PointFlags, has_flag, read_flags};
+use crate::format::{HEADER_SIZE, WORD_SIZE};
 use crate::raw::{Raw, RawPoint};
 use std::alloc::{AllocError, Global};
 use tt_core::{Fault, FontFault, POINT_LIMIT, Why};
@@ -31,7 +33,7 @@ const Y_AXIS: Axis = Axis {
 #[tactic(auto, unfolding(crate::specs::Simple::end_at))]
 fn end_at(glyph: &GlyphBytes, at: usize, before: u16) -> Result<u16, Fault>
     ensures exact { Gives (λ e. e) result (end_at glyph.now at before) }
-    ensures room { IfOk result (λ e. at + 2 ≤ length glyph.now.bytes) }
+    ensures room { IfOk result (λ e. at + word_size ≤ length glyph.now.bytes) }
 {
     let end = glyph.word(at)?;
     if end < before {
@@ -40,7 +42,7 @@ fn end_at(glyph: &GlyphBytes, at: usize, before: u16) -> Result<u16, Fault>
     Ok(end)
 }
 
-/// The last point of each contour, and the place behind them.
+/// The last point of each contour, and the place after them.
 #[derive(Drop)]
 struct EndList {
     ends: Vec<u16>,
@@ -50,22 +52,22 @@ struct EndList {
 /// Errors: GlyphShort, ContourOrder, Memory.
 #[tactic(auto, using(crate::proofs::Contours::turn, crate::proofs::Contours::breaks, crate::proofs::Contours::done))]
 fn read_ends(alloc: Global, glyph: &GlyphBytes, contours: usize) -> Result<EndList, FontFault>
-    requires header { 10 ≤ length glyph.now.bytes }
+    requires header { header_size ≤ length glyph.now.bytes }
     requires size { contours < 2 ^ 16 }
     ensures exact { FontGives ends_listing result (ends_of glyph.now contours) }
-    ensures many { IfOk result (λ e. vec_len e.ends ≡ contours) }
-    ensures next { IfOk result (λ e. e.next ≡ 10 + 2 * contours) }
+    ensures count { IfOk result (λ e. vec_len e.ends ≡ contours) }
+    ensures next { IfOk result (λ e. e.next ≡ end_place contours) }
     ensures room { IfOk result (λ e. e.next ≤ length glyph.now.bytes) }
 {
-    let mut ends = Vec::with_capacity(alloc, contours.min(glyph.len() / 2))?;
+    let mut ends = Vec::with_capacity(alloc, contours.min(glyph.len() / WORD_SIZE))?;
     let mut before = 0;
     for i in 0..contours {
-        before = end_at(glyph, 10 + 2 * i, before)?;
+        before = end_at(glyph, HEADER_SIZE + WORD_SIZE * i, before)?;
         ends.push(before)?;
     }
     Ok(EndList {
         ends,
-        next: 10 + 2 * contours,
+        next: HEADER_SIZE + WORD_SIZE * contours,
     })
 }
 
@@ -73,14 +75,14 @@ fn read_ends(alloc: Global, glyph: &GlyphBytes, contours: usize) -> Result<EndLi
 #[tactic(auto, unfolding(crate::specs::Simple::points_within))]
 fn point_count(glyph: &GlyphBytes, list: &EndList) -> Result<usize, Fault>
     requires some { 0 < vec_len list.now.ends }
-    requires behind { 2 ≤ list.now.next }
+    requires after { word_size ≤ list.now.next }
     requires room { list.now.next ≤ length glyph.now.bytes }
     ensures exact { Gives (λ n. n) result (points_within glyph.now (ends_listing list.now)) }
     ensures few { IfOk result (λ n. n ≤ point_limit) }
 {
     let count = usize::from(list.ends[list.ends.len() - 1]) + 1;
     if count > POINT_LIMIT {
-        return Err(glyph.fault(list.next - 2, Why::PointLimit));
+        return Err(glyph.fault(list.next - WORD_SIZE, Why::PointLimit));
     }
     Ok(count)
 }
@@ -126,7 +128,7 @@ fn read_points(
     Ok(assembled(alloc, &list.flags, &xs.values, &ys.values)?)
 }
 
-/// What stands behind the header of a glyph of some contours. Errors: GlyphShort, ContourOrder,
+/// What stands after the header of a glyph of some contours. Errors: GlyphShort, ContourOrder,
 /// PointLimit, FlagRun, CoordRange, Memory.
 #[tactic(auto, unfolding(crate::specs::Simple::simple_of))]
 pub(crate) fn read_simple<'a>(
@@ -135,7 +137,7 @@ pub(crate) fn read_simple<'a>(
     x_min: i16,
     contours: usize,
 ) -> Result<Raw<'a>, FontFault>
-    requires header { 10 ≤ length glyph.now.bytes }
+    requires header { header_size ≤ length glyph.now.bytes }
     requires some { 0 < contours }
     requires size { contours < 2 ^ 16 }
     ensures exact { FontGives raw_view result (simple_of glyph.now x_min contours) }
@@ -144,13 +146,13 @@ pub(crate) fn read_simple<'a>(
     let list = read_ends(alloc, glyph, contours)?;
     let count = point_count(glyph, &list)?;
     let size = usize::from(glyph.word(list.next)?);
-    let code = glyph.slice(list.next + 2, size)?;
-    let points = read_points(alloc, glyph, list.next + 2 + size, count)?;
+    let code = glyph.slice(list.next + WORD_SIZE, size)?;
+    let points = read_points(alloc, glyph, list.next + WORD_SIZE + size, count)?;
     Ok(Raw::Simple {
         x_min,
         points,
         ends: list.ends,
         code,
-        code_at: glyph.place(list.next + 2),
+        code_at: glyph.place(list.next + WORD_SIZE),
     })
 }

@@ -1,3 +1,4 @@
+pub mod Counted
 pub mod Crossing
 pub mod Marks
 pub mod Mets

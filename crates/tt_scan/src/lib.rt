@@ -4,6 +4,7 @@
 
 mod bytes;
 mod collect;
+mod counted;
 mod crossing;
 mod edge;
 pub mod laws;

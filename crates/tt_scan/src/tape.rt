@@ -1,5 +1,4 @@
-//! The edges of one glyph. No other module sees the fields of a tape: an edge is read by `rows_of` and
-//! `cross` alone, and each `cross` is counted.
+//! The edges of one glyph, in the frame of its picture. They stand in `counted.rt`, so that each crossing is counted.
 
 ghost use Rattle.std.specs.Prelude.{◌≡◌, ℕ, ℤ, false, int_lt, if◌then◌else◌, vec_capacity, ◌+◌, ◌*◌, ◌^◌, ◌<◌, ◌≤◌, ◌<ℤ◌, ◌≤ℤ◌, pos, length, [], ◌∷◌, ◌++◌, get_or, unsigned_abs, OnOk, OnErr};
 ghost use Rattle.tt_core.specs.Limits.{width_limit};
@@ -9,7 +8,8 @@ ghost use Rattle.tt_scan.specs.Crossing.{IsCross, AreRows, AreAllRows, has_row};
 ghost use Rattle.tt_scan.specs.Tape.{edge_at};
 
 use crate::collect::visit_all;
-use crate::crossing::{crossing, row_height};
+use crate::counted::CountedEdges;
+use crate::crossing::row_height;
 use crate::edge::{Cross, Edge, Frame};
 use crate::mark::{Mark, Span};
 use crate::rows::{join, row_range};
@@ -21,8 +21,7 @@ use std::marker::Model;
 #[derive(Drop)]
 pub struct Tape {
     frame: Frame,
-    edges: Vec<Edge>,
-    crosses: u64,
+    edges: CountedEdges,
     /// The rows of all edges: the first, and one past the last.
     rows: (i64, i64),
     /// The edges that meet some row.
@@ -38,10 +37,10 @@ impl Model for Tape {
 
     ghost Value = { tape.Tape };
 
-    ghost view = { λ t. record { frame = t.frame; edges = t.edges.items; crosses = t.crosses } };
+    ghost view = { λ t. record { frame = t.frame; edges = t.edges.edges; crosses = t.edges.crosses } };
 
-    ghost invariant = { λ t. FrameFits t.frame × All EdgeFits t.edges.items × AreAllRows t.edges.items t.frame t.rows
-        × AreMet t.edges.items t.frame t.table.met };
+    ghost invariant = { λ t. FrameFits t.frame × All EdgeFits t.edges.edges × AreAllRows t.edges.edges t.frame t.rows
+        × AreMet t.edges.edges t.frame t.table.met };
 }
 
 /// Adds an edge to those that meet some row, if it does. After an error they are as they were.
@@ -72,8 +71,7 @@ impl Tape {
     {
         Tape {
             frame,
-            edges: Vec::new(alloc),
-            crosses: 0,
+            edges: CountedEdges::new(alloc),
             rows: (0, 0),
             table: Table::new(alloc),
         }
@@ -123,7 +121,7 @@ impl Tape {
     pub fn crosses(&self) -> u64
         ensures { result ≡ self.now.crosses }
     {
-        self.crosses
+        self.edges.crosses()
     }
 
     /// The first of the frame's rows whose centre line meets some edge, and one past the last; two equal numbers where
@@ -142,7 +140,7 @@ impl Tape {
         requires { i < length self.now.edges }
         ensures { AreRows (edge_at self.now.edges i) self.now.frame result }
     {
-        row_range(self.edges[i], self.frame)
+        self.edges.rows_of(i, self.frame)
     }
 
     /// What edge `i` does at the centre line of a row.
@@ -155,12 +153,8 @@ impl Tape {
         ensures bound { unsigned_abs result.turn ≤ 1 }
         ensures counted { self.new ≡ record self.old { crosses = self.old.crosses + 1 } }
     {
-        self.crosses += 1;
-        crossing(
-            self.edges[i],
-            self.frame.margin,
-            row_height(self.frame, row),
-        )
+        self.edges
+            .cross(i, self.frame.margin, row_height(self.frame, row))
     }
 
     /// What the edges that meet a row leave of it. Each of them is crossed once.
@@ -186,13 +180,12 @@ impl Tape {
         let y = row_height(self.frame, r);
         self.table.seek(r as i32);
         visit_all(
-            &self.edges,
+            &mut self.edges,
             self.table.live(),
             self.frame.margin,
             y,
             marks,
             black,
         );
-        self.crosses += self.table.live().len() as u64;
     }
 }

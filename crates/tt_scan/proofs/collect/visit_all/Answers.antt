@@ -1,4 +1,4 @@
-use Rattle.std.proofs.Common.{◌≡◌, sym, length, take, SFits, w64, to_z, of_z, rules, arith}
+use Rattle.std.proofs.Common.{◌≡◌, sym, refl, add_assoc, length, take, SFits, w64, to_z, of_z, rules, arith}
 use Rattle.std.proofs.Math.Seq.{take-length}
 use Rattle.std.proofs.lemmas.Int.{to_z-of_z}
 use Rattle.tt_scan.specs.Winding.{column_x}
@@ -11,11 +11,12 @@ loop-i-preserved c =
     record {
       black = λ at.
           let x = column_x c.args.margin at in
-          rw (c.visit.ensures.black at, c.loop-i.invariant.black at) (sym (on_more c.args.edges.now c.args.met.now c.loop-i.i _ x y c.loop-i-test.true));
+          rw (c.visit.ensures.black at, c.loop-i.invariant.crosses, c.loop-i.invariant.black at) (sym (on_more c.args.edges.now.edges c.args.met.now c.loop-i.i _ x y c.loop-i-test.true));
       turns = λ at.
           let x = column_x c.args.margin at in
-          rw (c.visit.ensures.turns at, c.loop-i.invariant.turns at) (sym (turns_more_met c.args.edges.now c.args.met.now c.loop-i.i _ x y c.loop-i-test.true));
+          rw (c.visit.ensures.turns at, c.loop-i.invariant.crosses, c.loop-i.invariant.turns at) (sym (turns_more_met c.args.edges.now.edges c.args.met.now c.loop-i.i _ x y c.loop-i-test.true));
       count = search rules;
+      crosses = rw (c.visit.ensures.crosses, c.loop-i.invariant.crosses, add_assoc c.args.edges.now.crosses c.loop-i.i 1) refl;
       black_count = search rules;
       capacity = search rules;
       black_capacity = search rules;
