@@ -5,7 +5,7 @@ use Rattle.tt_scan.specs.Tape.{Tape}
 use Rattle.tt_scan.specs.Winding.{row_y}
 use Rattle.tt_render.specs.Pixels.{row_crossings}
 use Rattle.tt_render.proofs.Pens.{none_from, painted_from, met_few}
-use Rattle.tt_render.proofs.painting.Glyph.add_to_row.Goals as goal
+use Rattle.tt_render.proofs.glyph.Glyph.add_to_row.Goals as goal
 
 pub returns-then-not-meets-clause-bits : goal.returns-then-not-meets-clause-bits
 returns-then-not-meets-clause-bits c =
