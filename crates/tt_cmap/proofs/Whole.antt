@@ -10,8 +10,8 @@ use Rattle.tt_cmap.specs.declared.records.Format.{Format}
 use Rattle.tt_cmap.specs.declared.records.Format.TheVariants as format
 use Rattle.tt_cmap.specs.declared.records.Place.{Place}
 use Rattle.tt_cmap.specs.Defects.{IsBadRecords, IsBadShape, IsBadFormat4, IsBadFormat12, IsFalling, IsBadSubtable, IsBadChoice}
-use Rattle.tt_cmap.specs.Format4.{Format4, segment_bytes, segments_at}
-use Rattle.tt_cmap.specs.Format12.{Format12, group_count, groups_at}
+use Rattle.tt_cmap.specs.Format4.{Format4, seg_count_x2, lists_end, segments_at}
+use Rattle.tt_cmap.specs.Format12.{Format12, groups_end, groups_at}
 use Rattle.tt_cmap.specs.Laws.{LookupsAreWhole}
 use Rattle.tt_cmap.specs.Lookup.{Cmap, by_subtable, lookup_of}
 use Rattle.tt_cmap.specs.Ranges.{Subtable, segments, groups, read_as, subtable_with, subtable_at, range_count, falls, falling_range, or_falling}
@@ -39,10 +39,10 @@ unfolding segments_at
 segments-whole table at m was =
     let it : Format4 = record { table = table; at = at } in
     let header = passed-on (nat_lt (length table) (at + 14)) _ _ m was in
-    let halves = passed-on (not (segment_bytes it % 2 == 0)) _ _ m header.1 in
-    let lists = passed-on (nat_lt (length table) (at + 16 + 4 * segment_bytes it)) _ _ m halves.1 in
-    let fits = at-least (length table) (at + 16 + 4 * segment_bytes it) lists.0 in
-    let whole = even (segment_bytes it) halves.0 in
+    let halves = passed-on (not (seg_count_x2 it % 2 == 0)) _ _ m header.1 in
+    let lists = passed-on (nat_lt (length table) (lists_end it)) _ _ m halves.1 in
+    let fits = at-least (length table) (lists_end it) lists.0 in
+    let whole = even (seg_count_x2 it) halves.0 in
     λ fault bad. elim bad [
       | inl short ↦ omega (arith, fits, short.0)
       | inr other ↦ elim other [
@@ -57,10 +57,10 @@ unfolding groups_at
 groups-whole table at m was =
     let it : Format12 = record { table = table; at = at } in
     let header = passed-on (nat_lt (length table) (at + 16)) _ _ m was in
-    let lists = passed-on (nat_lt (length table) (at + 16 + 12 * group_count it)) _ _ m header.1 in
+    let lists = passed-on (nat_lt (length table) (groups_end it)) _ _ m header.1 in
     λ fault bad. elim (bad.0) [
       | inl short ↦ not-below (length table) (at + 16) header.0 short
-      | inr short ↦ not-below (length table) (at + 16 + 12 * group_count it) lists.0 short
+      | inr short ↦ not-below (length table) (groups_end it) lists.0 short
     ]
 
 -- a subtable whose shape is good
@@ -74,8 +74,8 @@ unfolding segments_at
 segments-same table at m was =
     let it : Format4 = record { table = table; at = at } in
     let header = passed-on (nat_lt (length table) (at + 14)) _ _ m was in
-    let halves = passed-on (not (segment_bytes it % 2 == 0)) _ _ m header.1 in
-    let lists = passed (nat_lt (length table) (at + 16 + 4 * segment_bytes it)) _ it m halves.1 in
+    let halves = passed-on (not (seg_count_x2 it % 2 == 0)) _ _ m header.1 in
+    let lists = passed (nat_lt (length table) (lists_end it)) _ it m halves.1 in
     sym lists.1
 
 groups-same : (table : List ℕ) (at : ℕ) (m : Format12) → groups_at table at ≡ Ok m
@@ -84,7 +84,7 @@ unfolding groups_at
 groups-same table at m was =
     let it : Format12 = record { table = table; at = at } in
     let header = passed-on (nat_lt (length table) (at + 16)) _ _ m was in
-    let lists = passed (nat_lt (length table) (at + 16 + 12 * group_count it)) _ it m header.1 in
+    let lists = passed (nat_lt (length table) (groups_end it)) _ it m header.1 in
     sym lists.1
 
 is-segments : (m it : Format4) (s : Subtable) → ◌≡◌ {A = Result Subtable Fault} (Ok (segments m)) (Ok s) → m ≡ it

@@ -6,7 +6,7 @@ use Rattle.tt_core.specs.Outcomes.{◌>>=◌}
 use Rattle.tt_core.specs.Search.{IsLeast, first_below_least, first_below_nothing}
 use Rattle.tt_cmap.specs.declared.records.Format.TheVariants.{Segments, Groups}
 use Rattle.tt_cmap.specs.declared.records.Place.{Place}
-use Rattle.tt_cmap.specs.Ranges.{Subtable, segments, groups, subtable_at, range_count, reaches, by_range, glyph_in}
+use Rattle.tt_cmap.specs.Ranges.{Subtable, segments, groups, subtable_at, range_count, reaches, by_range, glyph_in, reads_in}
 use Rattle.tt_cmap.specs.Subtables.{cmap_fault, records_of, place_of, chosen_subtable}
 
 -- the subtable that serves, and how many glyphs the font has
@@ -20,7 +20,7 @@ by_subtable table glyphs None = Err (cmap_fault 0 why.NoCmap)
 by_subtable table glyphs (Some place) =
     subtable_at table place >>= λ subtable. Ok (record { subtable = subtable; glyphs = glyphs })
 
--- the same behind the records, which have to fit first
+-- the same after the records, which have to fit first
 abbrev pub lookup_by : List ℕ → ℕ → Option Place → Result Cmap Fault
 lookup_by table glyphs place = records_of table >>= λ count. by_subtable table glyphs place
 
@@ -31,6 +31,10 @@ lookup_of table glyphs = lookup_by table glyphs (chosen_subtable table)
 -- the glyph of a character
 abbrev pub glyph_of : Cmap → ℕ → ℕ
 glyph_of m c = glyph_in m.subtable m.glyphs c
+
+-- how many numbers of the subtable its lookup reads
+abbrev pub reads_of : Cmap → ℕ → ℕ
+reads_of m c = reads_in m.subtable c
 
 -- g is what the least range that reaches the character says of it, and 0 where no range does
 pub record FollowsRanges (m : Cmap) (c g : ℕ) : Type 0 where

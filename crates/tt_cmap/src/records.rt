@@ -102,7 +102,7 @@ fn has_format(format: Format, table: &[u8], at: usize) -> bool
 fn first_subtable(platform: Platform, format: Format, table: &[u8], count: usize) -> Option<usize>
     requires count { count ≡ record_count table.now }
     requires fit { record_place count ≤ length table.now }
-    ensures first { result ≡ first_subtable platform format table.now }
+    ensures exact { result ≡ first_subtable platform format table.now }
     ensures within { IfSome result (λ at. at + 2 ≤ length table.now) }
 {
     for i in 0..count {
@@ -118,7 +118,7 @@ fn first_subtable(platform: Platform, format: Format, table: &[u8], count: usize
 fn first_of(format: Format, table: &[u8], count: usize) -> Option<Place>
     requires count { count ≡ record_count table.now }
     requires fit { record_place count ≤ length table.now }
-    ensures first { result ≡ first_of format table.now }
+    ensures exact { result ≡ first_of format table.now }
     ensures within { IfSome result (λ p. p.at + 2 ≤ length table.now) }
 {
     if let Some(at) = first_subtable(Platform::Windows, format, table, count) {
@@ -134,7 +134,7 @@ fn first_of(format: Format, table: &[u8], count: usize) -> Option<Place>
 pub(crate) fn chosen(table: &[u8], count: usize) -> Option<Place>
     requires count { count ≡ record_count table.now }
     requires fit { record_place count ≤ length table.now }
-    ensures chosen { result ≡ chosen_subtable table.now }
+    ensures exact { result ≡ chosen_subtable table.now }
     ensures within { IfSome result (λ p. p.at + 2 ≤ length table.now) }
 {
     match first_of(Format::Groups, table, count) {

@@ -1,4 +1,3 @@
-pub mod Calls
 pub mod Examples
 pub mod Flags
 pub mod Flow

@@ -12,4 +12,4 @@ pub use arithmetic::{Arithmetic, compute};
 pub use logic::{Logic, evaluate};
 pub use managing::{Managing, manage};
 pub use pushing::{push_bytes, push_words};
-pub use stack::{STACK_LIMIT, Stack};
+pub use stack::Stack;

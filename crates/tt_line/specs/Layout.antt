@@ -10,7 +10,7 @@ use Rattle.tt_core.specs.Limits.{width_limit, height_limit}
 use Rattle.tt_core.specs.Numbers.{rounded_quotient}
 use Rattle.tt_core.specs.Outcomes.{◌>>=◌}
 use Rattle.tt_cmap.specs.Lookup.{Cmap, glyph_of}
-use Rattle.tt_line.specs.declared.picture.Extent.{Extent}
+use Rattle.tt_line.specs.declared.extent.Extent.{Extent}
 use Rattle.tt_metrics.specs.declared.head.LocaFormat.TheVariants.{Short}
 use Rattle.tt_metrics.specs.Metrics.{Metrics, units_per_em_of, ascent_of, descent_of, advance_of}
 
@@ -90,7 +90,7 @@ IsEmpty e = (e.width < 1) ⊎ (e.height <ℤ pos 1)
 abbrev pub IsLarge : Extent → Type 0
 IsLarge e = (width_limit < e.width) ⊎ (pos height_limit <ℤ e.height)
 
--- what stands behind a refusal
+-- what is wrong where a picture is refused
 abbrev pub IsRefusal : Extent → JobFault → Type 0
 IsRefusal e job.EmptyPicture = IsEmpty e
 IsRefusal e job.PictureLarge = (¬ IsEmpty e) × IsLarge e

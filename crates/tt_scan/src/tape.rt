@@ -11,9 +11,9 @@ use crate::collect::visit_all;
 use crate::counted::CountedEdges;
 use crate::crossing::row_height;
 use crate::edge::{Cross, Edge, Frame};
+use crate::edge_table::{EdgeTable, Entry};
 use crate::mark::{Mark, Span};
 use crate::rows::{join, row_range};
-use crate::table::{Met, Table};
 use std::alloc::{AllocError, Global};
 use std::marker::Model;
 
@@ -24,14 +24,14 @@ pub struct Tape {
     edges: CountedEdges,
     /// The rows of all edges: the first, and one past the last.
     rows: (i64, i64),
-    /// The edges that meet some row.
-    table: Table,
+    /// The edges that meet some row, each with its rows.
+    table: EdgeTable,
 }
 
 impl Model for Tape {
     ghost use Rattle.std.specs.Prelude.{All};
     ghost use Rattle.tt_scan.specs.Crossing.{AreAllRows};
-    ghost use Rattle.tt_scan.specs.Mets.{AreMet};
+    ghost use Rattle.tt_scan.specs.EdgeTable.{IsTableOf};
     ghost use Rattle.tt_scan.specs.Tape as tape;
     ghost use Rattle.tt_scan.specs.Winding.{EdgeFits, FrameFits};
 
@@ -40,23 +40,23 @@ impl Model for Tape {
     ghost view = { λ t. record { frame = t.frame; edges = t.edges.edges; crosses = t.edges.crosses } };
 
     ghost invariant = { λ t. FrameFits t.frame × All EdgeFits t.edges.edges × AreAllRows t.edges.edges t.frame t.rows
-        × AreMet t.edges.edges t.frame t.table.met };
+        × IsTableOf t.edges.edges t.frame t.table.entries };
 }
 
-/// Adds an edge to those that meet some row, if it does. After an error they are as they were.
+/// Adds the entry of an edge with these rows, if it has any. After an error the table is as it was.
 #[inline(always)]
-fn add_met(table: &mut Table, rows: (i64, i64), place: usize) -> Result<(), AllocError>
+fn add_entry(table: &mut EdgeTable, rows: (i64, i64), edge: usize) -> Result<(), AllocError>
     requires low { pos 0 ≤ℤ rows.0 }
     requires high { rows.1 <ℤ pos (2 ^ 31) }
-    ensures added { OnOk result (table.new.met ≡ table.old.met ++ (if int_lt rows.0 rows.1
-        then (record { first = rows.0; past = rows.1; place = place }) ∷ [] else [])) }
-    ensures kept { OnErr result (table.new.met ≡ table.old.met) }
+    ensures added { OnOk result (table.new.entries ≡ table.old.entries ++ (if int_lt rows.0 rows.1
+        then (record { first = rows.0; past = rows.1; edge = edge }) ∷ [] else [])) }
+    ensures kept { OnErr result (table.new.entries ≡ table.old.entries) }
 {
     if rows.0 < rows.1 {
-        table.add(Met {
+        table.add(Entry {
             first: rows.0 as i32,
             past: rows.1 as i32,
-            place,
+            edge,
         })
     } else {
         Ok(())
@@ -73,7 +73,7 @@ impl Tape {
             frame,
             edges: CountedEdges::new(alloc),
             rows: (0, 0),
-            table: Table::new(alloc),
+            table: EdgeTable::new(alloc),
         }
     }
 
@@ -95,7 +95,7 @@ impl Tape {
     {
         self.edges.reserve(1)?;
         let rows = row_range(edge, self.frame);
-        add_met(&mut self.table, rows, self.edges.len())?;
+        add_entry(&mut self.table, rows, self.edges.len())?;
         join(&mut self.rows, rows);
         self.edges.push_reserved(edge);
         Ok(())
@@ -117,7 +117,7 @@ impl Tape {
         self.edges.len()
     }
 
-    /// How many crossings were asked for.
+    /// How many crossings were asked for. Only tests call it.
     pub fn crosses(&self) -> u64
         ensures { result ≡ self.now.crosses }
     {
@@ -135,7 +135,7 @@ impl Tape {
     }
 
     /// The first of the frame's rows whose centre line meets edge `i`, its ends included, and one past the
-    /// last; two equal numbers where none does.
+    /// last; two equal numbers where none does. Only tests call it: a row finds its edges by the edge table.
     pub fn rows_of(&self, i: usize) -> (i64, i64)
         requires { i < length self.now.edges }
         ensures { AreRows (edge_at self.now.edges i) self.now.frame result }
@@ -143,7 +143,7 @@ impl Tape {
         self.edges.rows_of(i, self.frame)
     }
 
-    /// What edge `i` does at the centre line of a row.
+    /// What edge `i` does at the centre line of a row. Only `pixel` and tests call it.
     pub fn cross(&mut self, i: usize, row: i64) -> Cross
         requires within { i < length self.old.edges }
         requires row_low { pos 0 ≤ℤ row }
@@ -157,7 +157,7 @@ impl Tape {
             .cross(i, self.frame.margin, row_height(self.frame, row))
     }
 
-    /// What the edges that meet a row leave of it. Each of them is crossed once.
+    /// What the edges that meet a row leave of it. Each of them is crossed once, and no other.
     pub(crate) fn collect(&mut self, r: i64, marks: &mut Vec<Mark>, black: &mut Vec<Span>)
         requires row_low { pos 0 ≤ℤ r }
         requires row_high { r <ℤ pos self.old.frame.height }
@@ -178,10 +178,10 @@ impl Tape {
         ensures crosses { self.new.crosses ≡ self.old.crosses + rows_met self.old.edges (row_y self.old.frame r) }
     {
         let y = row_height(self.frame, r);
-        self.table.seek(r as i32);
+        self.table.activate(r as i32);
         visit_all(
             &mut self.edges,
-            self.table.live(),
+            self.table.active(),
             self.frame.margin,
             y,
             marks,

@@ -47,7 +47,7 @@ pub returns-in_err-line-clause-extent : goal.returns-in_err-line-clause-extent
 returns-in_err-line-clause-extent c =
     let p = err_from_is_err_and c.from_residual-in_err-line.result c.from_residual-in_err-line.ensures.1 in
     rw (p.1, p.2) (laying_tells (job_view c.args.job.now) c.args.file.now (face_view c.in_ok-face.face)
-    c.in_err-line.field-0.0 c.in_ok-face.ensures.exact c.in_err-line.ensures.refused)
+    c.in_err-line.field-0.0 c.in_ok-face.ensures.exact c.in_err-line.ensures.fault)
 
 pub returns-in_err-draw_line-clause-exact : goal.returns-in_err-draw_line-clause-exact
 returns-in_err-draw_line-clause-exact c =

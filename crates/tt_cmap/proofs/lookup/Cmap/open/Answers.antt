@@ -14,20 +14,20 @@ unfolding lookup_of
 returns-clause-exact c =
     let table = c.args.table.now in
     let P : Option Place → Type 0 = λ place. Gives (λ m. m) c.by_subtable.result (lookup_by table c.args.glyphs place) in
-    subst P c.chosen.ensures.chosen (rw c.in_ok-count.ensures.exact c.by_subtable.ensures.exact)
+    subst P c.chosen.ensures.exact (rw c.in_ok-count.ensures.exact c.by_subtable.ensures.exact)
 
 pub returns-clause-first : goal.returns-clause-first
 returns-clause-first c = λ format i serves.
     let table = c.args.table.now in
     let P : Option Place → Type 0 = λ place. Gives (λ m. m) c.by_subtable.result (lookup_by table c.args.glyphs place) in
-    let chosen = c.chosen.ensures.chosen ∙ chosen_serves format table i serves in
+    let chosen = c.chosen.ensures.exact ∙ chosen_serves format table i serves in
     subst P chosen (rw c.in_ok-count.ensures.exact c.by_subtable.ensures.exact)
 
 pub returns-clause-absent : goal.returns-clause-absent
 returns-clause-absent c = λ none.
     let table = c.args.table.now in
     let P : Option Place → Type 0 = λ place. Gives (λ m. m) c.by_subtable.result (lookup_by table c.args.glyphs place) in
-    let chosen = c.chosen.ensures.chosen ∙ none_chosen table none in
+    let chosen = c.chosen.ensures.exact ∙ none_chosen table none in
     subst P chosen (rw c.in_ok-count.ensures.exact c.by_subtable.ensures.exact)
 
 pub returns-clause-sound : goal.returns-clause-sound
