@@ -13,7 +13,7 @@ use Rattle.tt_line.specs.Layout.{text_glyphs, extent_of, IsRefusal}
 use Rattle.tt_cmap.specs.Defects.{IsBadCmap}
 use Rattle.tt_metrics.specs.Metrics.{Metrics, IsMetricsDefect}
 use Rattle.tt_core.specs.declared.fault.JobFault.{JobFault}
-use Rattle.tt_render.specs.Job.{Job, IsJobRefusal}
+use Rattle.tt_render.specs.Job.{Job, IsTestRefusal}
 use Rattle.tt_render.specs.declared.fault.DrawFault.{DrawFault}
 use Rattle.tt_render.specs.declared.fault.DrawFault.TheVariants as draw
 use Rattle.tt_render.specs.declared.fault.RunFault.{RunFault}
@@ -104,7 +104,7 @@ IsExtentRefusal face a j = IsRefusal (extent_of face.metrics a.ppem a.margin (te
 -- the fact for which a job is refused, alone or by a font file: the extent comes second
 abbrev pub IsRefusedBy : Bool → Job → Option (List ℕ) → JobFault → Type 0
 IsRefusedBy true a left j = IfSome left (λ file. IsOkAnd (face_of file) (λ face. IsExtentRefusal face a j))
-IsRefusedBy false a left j = IsJobRefusal a j
+IsRefusedBy false a left j = IsTestRefusal a j
 
 abbrev pub IsJobRefusal : Job → Option (List ℕ) → JobFault → Type 0
 IsJobRefusal a left j = IsRefusedBy (needs_font j) a left j

@@ -4,7 +4,7 @@ ghost use Rattle.std.specs.Prelude.{◌≡◌, ◌<◌, ◌≤◌, false, nat_lt
 ghost use Rattle.tt_core.specs.declared.fault.JobFault.TheVariants.{TextLong};
 ghost use Rattle.tt_core.specs.Limits.{text_limit};
 ghost use Rattle.tt_core.specs.Outcomes.{Gives};
-ghost use Rattle.tt_render.specs.Job.{job_view, tested, text_tested, IsJob, IsJobRefusal};
+ghost use Rattle.tt_render.specs.Job.{job_view, tested, text_tested, IsJob, IsTestRefusal};
 ghost use Rattle.tt_render.specs.Outcome.{needs_font};
 
 use tt_core::{JobFault, MARGIN_LIMIT, SIZE_LIMIT, TEXT_LIMIT};
@@ -27,7 +27,7 @@ pub(crate) fn test_job(job: &Job) -> Result<(), JobFault>
     ensures exact { Gives (λ u. u) result (tested (job_view job.now)) }
     ensures asked { OnOk result (IsJob (job_view job.now)) }
     ensures first { IfErr result (λ j. needs_font j ≡ false) }
-    ensures refused { IfErr result (IsJobRefusal (job_view job.now)) }
+    ensures refused { IfErr result (IsTestRefusal (job_view job.now)) }
 {
     if job.ppem < 1 || job.ppem > SIZE_LIMIT {
         return Err(JobFault::SizeRange);
