@@ -5,7 +5,7 @@ use Rattle.tt_core.specs.Faults.{Fault}
 use Rattle.tt_core.specs.declared.fault.Why.TheVariants as why
 use Rattle.tt_cmap.specs.declared.records.Format.{Format}
 use Rattle.tt_cmap.specs.declared.records.Format.TheVariants as format
-use Rattle.tt_cmap.specs.declared.records.Place.{Place}
+use Rattle.tt_cmap.specs.declared.records.Choice.{Choice}
 use Rattle.tt_cmap.specs.Format4.{Format4, seg_count_x2, lists_end}
 use Rattle.tt_cmap.specs.Format12.{Format12, groups_end}
 use Rattle.tt_cmap.specs.Ranges.{Subtable, segments, groups, read_as, table_of, range_count, range_end_place, falls}
@@ -44,12 +44,12 @@ IsBadShape format.Segments table at fault = IsBadFormat4 (record { table = table
 IsBadShape format.Groups table at fault = IsBadFormat12 (record { table = table; at = at }) fault
 
 -- the subtable has a bad shape, or its ends fall
-abbrev pub IsBadSubtable : List ℕ → Place → Fault → Type 0
+abbrev pub IsBadSubtable : List ℕ → Choice → Fault → Type 0
 IsBadSubtable table p fault =
     IsBadShape p.format table p.at fault ⊎ IsFalling (read_as p.format table p.at) fault
 
 -- no subtable can be used, or the chosen one is bad
-abbrev pub IsBadChoice : List ℕ → Option Place → Fault → Type 0
+abbrev pub IsBadChoice : List ℕ → Option Choice → Fault → Type 0
 IsBadChoice table None fault = fault ≡ cmap_fault 0 why.NoCmap
 IsBadChoice table (Some place) fault = IsBadSubtable table place fault
 

@@ -7,7 +7,7 @@ use Rattle.tt_core.specs.Outcomes.{◌>>=◌}
 use Rattle.tt_core.specs.Search.{first_below}
 use Rattle.tt_cmap.specs.declared.records.Format.{Format}
 use Rattle.tt_cmap.specs.declared.records.Format.TheVariants as format
-use Rattle.tt_cmap.specs.declared.records.Place.{Place}
+use Rattle.tt_cmap.specs.declared.records.Choice.{Choice}
 use Rattle.tt_cmap.specs.declared.ranges.Subtable as ranges
 use Rattle.tt_cmap.specs.declared.ranges.Subtable.TheVariants as by
 use Rattle.tt_cmap.specs.Format4.{Format4, seg_count, segments_at, end_code, end_code_place, by_segment, segment_reads}
@@ -59,7 +59,7 @@ subtable_with format.Segments table at = segments_at table at >>= λ m. Ok (segm
 subtable_with format.Groups table at = groups_at table at >>= λ m. Ok (groups m)
 
 -- and whose ranges have to end in rising order
-abbrev pub subtable_at : List ℕ → Place → Result Subtable Fault
+abbrev pub subtable_at : List ℕ → Choice → Result Subtable Fault
 subtable_at table p = subtable_with p.format table p.at >>= λ s. or_falling s (falling_range s)
 
 -- range i ends at the character or after it

@@ -9,7 +9,7 @@ ghost use Rattle.tt_cmap.specs.Ranges.{read_as, subtable_with, subtable_at, subt
 use crate::format4::Format4;
 use crate::format12::Format12;
 use crate::lookup::reads::Reads;
-use crate::records::{CMAP, Format, Place};
+use crate::records::{CMAP, Choice, Format};
 use crate::table::Table;
 use tt_core::{Fault, Why};
 
@@ -21,38 +21,38 @@ pub(crate) enum Subtable<'a> {
 }
 
 impl<'a> Subtable<'a> {
-    /// The subtable at a place, which has to fit. Error: CmapShape.
-    fn with(table: &'a [u8], place: Place, reads: &mut Reads) -> Result<Subtable<'a>, Fault>
+    /// The subtable that was chosen, which has to fit. Error: CmapShape.
+    fn with(table: &'a [u8], choice: Choice, reads: &mut Reads) -> Result<Subtable<'a>, Fault>
         requires size { length table.now ≤ font_limit }
-        requires place { place.at ≤ length table.now }
+        requires place { choice.at ≤ length table.now }
         requires room { reads.old + 1 < 2 ^ 32 }
-        ensures exact { Gives subtable_view result (subtable_with place.format table.now place.at) }
-        ensures whole { IfOk result (λ s. subtable_view s ≡ read_as place.format table.now place.at) }
-        ensures fault { IfErr result (IsBadShape place.format table.now place.at) }
+        ensures exact { Gives subtable_view result (subtable_with choice.format table.now choice.at) }
+        ensures whole { IfOk result (λ s. subtable_view s ≡ read_as choice.format table.now choice.at) }
+        ensures fault { IfErr result (IsBadShape choice.format table.now choice.at) }
         ensures few { reads.new ≤ reads.old + 1 }
     {
         let table = Table::new(table);
-        match place.format {
-            Format::Segments => Ok(Subtable::Segments(Format4::open(table, place.at, reads)?)),
-            Format::Groups => Ok(Subtable::Groups(Format12::open(table, place.at, reads)?)),
+        match choice.format {
+            Format::Segments => Ok(Subtable::Segments(Format4::open(table, choice.at, reads)?)),
+            Format::Groups => Ok(Subtable::Groups(Format12::open(table, choice.at, reads)?)),
         }
     }
 
     /// The same, whose ranges have to end in rising order. Error: CmapShape.
     pub(crate) fn open(
         table: &'a [u8],
-        place: Place,
+        choice: Choice,
         reads: &mut Reads,
     ) -> Result<Subtable<'a>, Fault>
         requires size { length table.now ≤ font_limit }
-        requires place { place.at ≤ length table.now }
+        requires place { choice.at ≤ length table.now }
         requires room { reads.old + 2 ^ 31 < 2 ^ 32 }
-        ensures exact { Gives subtable_view result (subtable_at table.now place) }
+        ensures exact { Gives subtable_view result (subtable_at table.now choice) }
         ensures rises { IfOk result (λ s. falling_range (subtable_view s) ≡ None) }
-        ensures whole { IfOk result (λ s. subtable_view s ≡ read_as place.format table.now place.at) }
-        ensures fault { IfErr result (IsBadSubtable table.now place) }
+        ensures whole { IfOk result (λ s. subtable_view s ≡ read_as choice.format table.now choice.at) }
+        ensures fault { IfErr result (IsBadSubtable table.now choice) }
     {
-        let subtable = Subtable::with(table, place, reads)?;
+        let subtable = Subtable::with(table, choice, reads)?;
         match subtable.falling(reads) {
             Some(i) => Err(Fault::new(CMAP, subtable.end_place(i + 1), Why::CmapShape)),
             None => Ok(subtable),

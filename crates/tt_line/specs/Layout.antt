@@ -32,7 +32,7 @@ depth_of m ppem = ceiling_quotient (neg_ℤ (descent_of m) *ℤ pos ppem) (pos (
 
 -- the glyph of each character of a text
 abbrev pub text_glyphs : Cmap → List ℕ → List ℕ
-text_glyphs lookup text = map (glyph_of lookup) (chars text)
+text_glyphs cmap text = map (glyph_of cmap) (chars text)
 
 -- the advance in pixels of each of some glyphs
 abbrev pub advances_of : Metrics → ℕ → List ℕ → List ℕ
@@ -80,7 +80,7 @@ glyph_placement m ppem margin glyphs = within_limits (extent_of m ppem margin gl
 
 -- the layout of a text at a size in pixels per em with a margin in pixels, or why there is none
 unfoldable pub placement : Metrics → Cmap → List ℕ → ℕ → ℕ → Result Placement JobFault
-placement m lookup text ppem margin = glyph_placement m ppem margin (text_glyphs lookup text)
+placement m cmap text ppem margin = glyph_placement m ppem margin (text_glyphs cmap text)
 
 -- no pixel
 abbrev pub IsEmpty : Extent → Type 0

@@ -3,7 +3,7 @@
 -- table", "The 'prep' table"; OpenType, "cmap", "loca", "glyf". A font may lack each of the last three; without fitting
 -- none of these is looked at.
 use Rattle.std.specs.Prelude.{◌≡◌, refl, ℕ, List, [], ◌∷◌, take, codes, Option, Some, None, Result, Ok, Err}
-use Rattle.tt_cmap.specs.Lookup.{Cmap, lookup_of}
+use Rattle.tt_cmap.specs.Lookup.{Cmap, cmap_of}
 use Rattle.tt_core.specs.declared.fault.Why.TheVariants as why
 use Rattle.tt_core.specs.Directory.{directory_of, table_of, needed_table}
 use Rattle.tt_core.specs.Faults.{Fault, file_fault}
@@ -35,7 +35,7 @@ face_of file = do
   directory ← directory_of file
   metrics ← metrics_of directory
   table ← needed_table directory cmap_tag
-  cmap ← lookup_of table (glyphs_of metrics)
+  cmap ← cmap_of table (glyphs_of metrics)
   Ok (record { directory = directory; metrics = metrics; cmap = cmap })
 
 -- loca and glyf; a loca that is too short comes before a glyf that is not there

@@ -5,7 +5,8 @@ use Rattle.tt_core.specs.Faults.{Fault}
 use Rattle.tt_core.specs.declared.fault.Why.{Why}
 use Rattle.tt_state.specs.declared.graphics_state.GraphicsState.{GraphicsState}
 use Rattle.tt_points_zones.specs.Zones.{ZoneLists}
-use Rattle.tt_exec_points.specs.OnPoints as is
+use Rattle.tt_exec_points.specs.declared.instruction.PointInstruction.{PointInstruction}
+use Rattle.tt_exec_points.specs.Instruction as is
 use Rattle.tt_exec.specs.MachineState.{MachineState, fault_in}
 
 -- what an instruction leaves of the stack, the zones, the graphics state and the control values, or its refusal at its
@@ -14,6 +15,6 @@ abbrev pub left_by : ℕ → MachineState → Result (List ℤ × ZoneLists × G
 left_by at m (Ok t) = Ok (record m { stack = t.0; zones = t.1; graphics = t.2; cvt = t.3 })
 left_by at m (Err why) = Err (fault_in m.frame at why)
 
-unfoldable pub on_points : ℕ → ℕ → MachineState → Result MachineState Fault
-on_points opcode at m =
-    left_by at m (is.on_points opcode m.ppem m.stack m.zones m.graphics m.cvt)
+unfoldable pub on_points : PointInstruction → ℕ → MachineState → Result MachineState Fault
+on_points o at m =
+    left_by at m (is.on_points o m.ppem m.stack m.zones m.graphics m.cvt)

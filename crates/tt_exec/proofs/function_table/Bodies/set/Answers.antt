@@ -1,5 +1,5 @@
 use Rattle.tt_exec.proofs.Entries.{inserted}
-use Rattle.tt_exec.proofs.bodies.Bodies.set.Goals as goal
+use Rattle.tt_exec.proofs.function_table.Bodies.set.Goals as goal
 
 pub returns : goal.returns
 returns c =

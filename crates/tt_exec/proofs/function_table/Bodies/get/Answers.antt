@@ -1,7 +1,7 @@
 use Rattle.std.proofs.Common.{◌≡◌, ◌<◌, pos, SFits, w32, rules}
 use Rattle.std.proofs.lemmas.Int.{to_z-of_z}
 use Rattle.tt_exec.proofs.Entries.{as_number, found_at}
-use Rattle.tt_exec.proofs.bodies.Bodies.get.Goals as goal
+use Rattle.tt_exec.proofs.function_table.Bodies.get.Goals as goal
 
 pub returns : goal.returns
 returns c =
