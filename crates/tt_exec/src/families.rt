@@ -26,7 +26,7 @@ impl MachineState<'_> {
         ensures { Leaves result (state_of self.new) (is.push op args.now at (state_of self.old)) }
     {
         let pushed = match op {
-            0x41 | 0xB8..=0xFF => push_words(args, &mut self.stack),
+            0x41 | 0xB8..=0xBF => push_words(args, &mut self.stack),
             _ => push_bytes(args, &mut self.stack),
         };
         match pushed {

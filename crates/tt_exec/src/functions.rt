@@ -9,7 +9,7 @@ ghost use Rattle.tt_exec.specs.Views.{body_of};
 ghost use Rattle.tt_exec.specs.States.{state_of};
 ghost use Rattle.std.specs.Prelude.{Some};
 
-use crate::machine_state::{MachineState, Kind};
+use crate::machine_state::{Kind, MachineState};
 use crate::program::{Body, Frame};
 use tt_code::skip_def;
 use tt_core::{CALL_LIMIT, Fault, FontFault, Why};

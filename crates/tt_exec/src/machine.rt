@@ -12,9 +12,9 @@ ghost use Rattle.tt_exec.specs.Runs.{run_outcome};
 ghost use Rattle.tt_exec.specs.Sizes.{SameSizes};
 ghost use Rattle.tt_exec.specs.Views.{code_of};
 
-use crate::bodies::Bodies;
 use crate::callers::Callers;
 use crate::fault::ExecFault;
+use crate::function_table::Bodies;
 use crate::laws;
 use crate::machine_state::{Kind, MachineState};
 use crate::parts::Parts;

@@ -10,8 +10,8 @@ ghost use Rattle.tt_exec.specs.Parts.{parts_of};
 ghost use Rattle.tt_exec.specs.States.{state_of};
 ghost use Rattle.tt_exec.specs.Views.{frame_of, code_of};
 
-use crate::bodies::Bodies;
 use crate::callers::Callers;
+use crate::function_table::Bodies;
 use crate::parts::Parts;
 use crate::program::{Code, Frame};
 use tt_core::{Fault, Why};
