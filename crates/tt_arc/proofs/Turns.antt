@@ -6,10 +6,10 @@ use Rattle.tt_scan.specs.declared.edge.Edge.{Edge}
 use Rattle.tt_scan.specs.Winding.{side, is_zero, is_between, lies_on, lies_on_one, turned, winding}
 use Rattle.tt_scan.proofs.Ranges.{between_turned}
 use Rattle.tt_scan.proofs.Sides.{on_rising, side_reversed}
-use Rattle.tt_arc.specs.declared.curve.Bend.{Bend}
-use Rattle.tt_arc.specs.declared.curve.Curve.{Curve}
-use Rattle.tt_arc.specs.declared.dot.Dot.{Dot}
-use Rattle.tt_arc.specs.Chords.{moved, spot_of, joint_of, curve_of, eighth, along_y, chord_end, edge_between, first_chords, edges_of, contour_edges, contour_at, chord_edges}
+use Rattle.tt_arc.specs.declared.quadratic.Coordinates.{Coordinates}
+use Rattle.tt_arc.specs.declared.quadratic.Quadratic.{Quadratic}
+use Rattle.tt_arc.specs.declared.point.Point.{Point}
+use Rattle.tt_arc.specs.Chords.{moved, edge_end_of, curve_end_of, quadratic_of, eighth, along_y, chord_end, edge_between, first_chords, edges_of, contour_edges, contour_at, chord_edges}
 use Rattle.tt_arc.specs.Laws.{turned_right, winding_right, SidesAgree}
 use Rattle.tt_arc.proofs.Walks.{edges_along, last_of, contour_whole}
 
@@ -101,7 +101,7 @@ turns-append : (y : ℤ) (es fs : List Edge) → turns y (es ++ fs) ≡ turns y 
 turns-append y [] fs = omega (arith, ints)
 turns-append y (e ∷ es) fs = let more = turns-append y es fs in omega (arith, ints, more)
 
-of_chords : (y : ℤ) (c : Curve) (n : ℕ) → turns y (first_chords c n) ≡ over y (chord_end c n).y -ℤ over y
+of_chords : (y : ℤ) (c : Quadratic) (n : ℕ) → turns y (first_chords c n) ≡ over y (chord_end c n).y -ℤ over y
     (chord_end c 0).y
 unfolding first_chords
 of_chords y c zero = omega (arith, ints)
@@ -110,51 +110,51 @@ of_chords y c (suc k) =
     let both = turns-append y (first_chords c k) (edge_between (chord_end c k) (chord_end c (suc k)) ∷ []) in
     omega (arith, ints, more, both)
 
-first_eighth : (b : Bend) → eighth 0 b ≡ pos 64 *ℤ b.q
+first_eighth : (b : Coordinates) → eighth 0 b ≡ pos 64 *ℤ b.from
 first_eighth b = omega (arith, ints)
 
-last_eighth : (b : Bend) → eighth 8 b ≡ pos 64 *ℤ b.r
+last_eighth : (b : Coordinates) → eighth 8 b ≡ pos 64 *ℤ b.to
 last_eighth b = omega (arith, ints)
 
 -- the height at which the edges of a point begin
-abbrev height : Dot → Dot → ℤ
-height before p = if p.on then pos 128 *ℤ p.y else pos 64 *ℤ (joint_of before p).y
+abbrev height : Point → Point → ℤ
+height before p = if p.on then pos 128 *ℤ p.y else pos 64 *ℤ (curve_end_of before p).y
 
-height_on : (before p : Dot) → p.on ≡ true → height before p ≡ pos 128 *ℤ p.y
+height_on : (before p : Point) → p.on ≡ true → height before p ≡ pos 128 *ℤ p.y
 height_on before p on = rw on refl
 
-height_off : (before p : Dot) → p.on ≡ false → height before p ≡ pos 64 *ℤ (joint_of before p).y
+height_off : (before p : Point) → p.on ≡ false → height before p ≡ pos 64 *ℤ (curve_end_of before p).y
 height_off before p off = rw off refl
 
-joint_on : (n p : Dot) → n.on ≡ true → (joint_of n p).y ≡ pos 2 *ℤ n.y
-joint_on n p on = rw on refl
+curve_end_on : (n p : Point) → n.on ≡ true → (curve_end_of n p).y ≡ pos 2 *ℤ n.y
+curve_end_on n p on = rw on refl
 
-joint_off : (n p : Dot) → n.on ≡ false → (joint_of n p).y ≡ n.y +ℤ p.y
-joint_off n p off = rw off refl
+curve_end_off : (n p : Point) → n.on ≡ false → (curve_end_of n p).y ≡ n.y +ℤ p.y
+curve_end_off n p off = rw off refl
 
--- a curve ends where the next point's edges begin
-curve_end : (p after : Dot) (next : Bool) → p.on ≡ false → after.on ≡ next → pos 64 *ℤ (joint_of after p).y
+-- a quadratic ends where the next point's edges begin
+quadratic_ends : (p after : Point) (next : Bool) → p.on ≡ false → after.on ≡ next → pos 64 *ℤ (curve_end_of after p).y
     ≡ height p after
-curve_end p after true off on =
-    let here = joint_on after p on in
+quadratic_ends p after true off on =
+    let here = curve_end_on after p on in
     let there = height_on p after on in
     omega (arith, ints, here, there)
-curve_end p after false off on =
-    let here = joint_off after p on in
+quadratic_ends p after false off on =
+    let here = curve_end_off after p on in
     let there = height_off p after on in
-    let other = joint_off p after off in
+    let other = curve_end_off p after off in
     omega (arith, ints, here, there, other)
 
-straight : (before p after : Dot) → p.on ≡ true → after.on ≡ true → edges_of before p after ≡ edge_between (spot_of p)
-    (spot_of after) ∷ []
+straight : (before p after : Point) → p.on ≡ true → after.on ≡ true → edges_of before p after ≡ edge_between (edge_end_of p)
+    (edge_end_of after) ∷ []
 unfolding edges_of
 straight before p after on next = rw (on, next) refl
 
-no_edge : (before p after : Dot) → p.on ≡ true → after.on ≡ false → edges_of before p after ≡ []
+no_edge : (before p after : Point) → p.on ≡ true → after.on ≡ false → edges_of before p after ≡ []
 unfolding edges_of
 no_edge before p after on next = rw (on, next) refl
 
-curved : (before p after : Dot) → p.on ≡ false → edges_of before p after ≡ first_chords (curve_of before p after) 8
+curved : (before p after : Point) → p.on ≡ false → edges_of before p after ≡ first_chords (quadratic_of before p after) 8
 unfolding edges_of
 curved before p after off = rw off refl
 
@@ -168,41 +168,41 @@ one_turn y a b = omega (arith, ints)
 no_turn : (y a : ℤ) → pos 0 ≡ over y a -ℤ over y a
 no_turn y a = omega (arith, ints)
 
-of_point_by : (y : ℤ) (before p after : Dot) (on next : Bool) → p.on ≡ on → after.on ≡ next
+of_point_by : (y : ℤ) (before p after : Point) (on next : Bool) → p.on ≡ on → after.on ≡ next
     → turns y (edges_of before p after) ≡ over y (height p after) -ℤ over y (height before p)
 of_point_by y before p after true true is_on is_next =
     between y (height p after) (height before p) (pos 128 *ℤ after.y) (pos 128 *ℤ p.y) (edges_of before p after)
-    (edge_between (spot_of p) (spot_of after) ∷ []) (straight before p after is_on is_next)
+    (edge_between (edge_end_of p) (edge_end_of after) ∷ []) (straight before p after is_on is_next)
     (one_turn y (pos 128 *ℤ after.y) (pos 128 *ℤ p.y)) (sym (height_on p after is_next))
     (sym (height_on before p is_on))
 of_point_by y before p after true false is_on is_next =
     let here = height_on before p is_on in
     let there = height_off p after is_next in
-    let joint = joint_on p after is_on in
-    let same : height before p ≡ height p after = omega (arith, ints, here, there, joint) in
+    let end = curve_end_on p after is_on in
+    let same : height before p ≡ height p after = omega (arith, ints, here, there, end) in
     between y (height p after) (height before p) (height before p) (height before p) (edges_of before p after) []
     (no_edge before p after is_on is_next) (no_turn y (height before p)) same refl
 of_point_by y before p after false next is_on is_next =
-    let c = curve_of before p after in
-    let last = last_eighth (along_y c) ∙ curve_end p after next is_on is_next in
+    let c = quadratic_of before p after in
+    let last = last_eighth (along_y c) ∙ quadratic_ends p after next is_on is_next in
     let first = first_eighth (along_y c) ∙ sym (height_off before p is_on) in
     between y (height p after) (height before p) (chord_end c 8).y (chord_end c 0).y (edges_of before p after)
     (first_chords c 8) (curved before p after is_on) (of_chords y c 8) last first
 
-of_point : (y : ℤ) (before p after : Dot) → turns y (edges_of before p after) ≡ over y (height p after) -ℤ over y
+of_point : (y : ℤ) (before p after : Point) → turns y (edges_of before p after) ≡ over y (height p after) -ℤ over y
     (height before p)
 of_point y before p after = of_point_by y before p after p.on after.on refl refl
 
-along : (y : ℤ) (before p : Dot) (ps : List Dot) (behind : Dot) → turns y (edges_along before p ps behind)
-    ≡ over y (height (last_of p ps) behind) -ℤ over y (height before p)
-along y before p [] behind = of_point y before p behind
-along y before p (q ∷ ps) behind =
+along : (y : ℤ) (before p : Point) (ps : List Point) (following : Point) → turns y (edges_along before p ps following)
+    ≡ over y (height (last_of p ps) following) -ℤ over y (height before p)
+along y before p [] following = of_point y before p following
+along y before p (q ∷ ps) following =
     let one = of_point y before p q in
-    let more = along y p q ps behind in
-    let both = turns-append y (edges_of before p q) (edges_along p q ps behind) in
+    let more = along y p q ps following in
+    let both = turns-append y (edges_of before p q) (edges_along p q ps following) in
     omega (arith, ints, one, more, both)
 
-round_contour : (y : ℤ) (ps : List Dot) → turns y (contour_edges ps) ≡ pos 0
+round_contour : (y : ℤ) (ps : List Point) → turns y (contour_edges ps) ≡ pos 0
 round_contour y [] = refl
 round_contour y (p ∷ []) = refl
 round_contour y (p ∷ q ∷ ps) =
@@ -210,7 +210,7 @@ round_contour y (p ∷ q ∷ ps) =
     let turn = along y (last_of q ps) p (q ∷ ps) p in
     omega (arith, ints, whole, turn)
 
-round_all : (y : ℤ) (f : ℕ → List Dot) (cs : List ℕ) → turns y (flat_map (λ c. contour_edges (f c)) cs) ≡ pos 0
+round_all : (y : ℤ) (f : ℕ → List Point) (cs : List ℕ) → turns y (flat_map (λ c. contour_edges (f c)) cs) ≡ pos 0
 round_all y f [] = refl
 round_all y f (c ∷ cs) =
     let one = round_contour y (f c) in

@@ -5,38 +5,38 @@ use Rattle.std.proofs.lemmas.Bool.{lt-ltb}
 use Rattle.std.proofs.lemmas.List.{take_all}
 use Rattle.tt_scan.specs.declared.edge.Edge.{Edge}
 use Rattle.tt_scan.specs.Tape.{Tape}
-use Rattle.tt_arc.specs.declared.curve.Curve.{Curve}
-use Rattle.tt_arc.specs.declared.curve.Spot.{Spot}
-use Rattle.tt_arc.specs.declared.dot.Dot.{Dot}
-use Rattle.tt_arc.specs.Chords.{chord_end, edge_between, first_chords, edges_of, dot_at, place_before, place_after, edges_at, contour_edges}
+use Rattle.tt_arc.specs.declared.quadratic.Quadratic.{Quadratic}
+use Rattle.tt_arc.specs.declared.quadratic.EdgeEnd.{EdgeEnd}
+use Rattle.tt_arc.specs.declared.point.Point.{Point}
+use Rattle.tt_arc.specs.Chords.{chord_end, edge_between, first_chords, edges_of, point_at, number_before, number_after, edges_at, contour_edges}
 use Rattle.tt_arc.proofs.Eighths.{one_chord_more}
 
-pub one_chord_pushed : (t u v : Tape) (c : Curve) (k : ℕ) (from to : Spot) (e : Edge) → u
+pub one_chord_pushed : (t u v : Tape) (c : Quadratic) (k : ℕ) (from to : EdgeEnd) (e : Edge) → u
     ≡ record t { edges = t.edges ++ first_chords c k } → from ≡ chord_end c k → to ≡ chord_end c (k + 1) → e
     ≡ edge_between from to → v ≡ record u { edges = u.edges ++ e ∷ [] } → v
     ≡ record t { edges = t.edges ++ first_chords c (k + 1) }
 one_chord_pushed t u v c k from to e before is_from is_to is_e after =
     rw (after, before, is_e, is_from, is_to, one_chord_more c k, append_assoc) refl
 
--- the edges of a point and those that follow it, where one more point stands before and one behind them
-abbrev pub edges_along : Dot → Dot → List Dot → Dot → List Edge
-edges_along before p [] behind = edges_of before p behind
-edges_along before p (q ∷ ps) behind = edges_of before p q ++ edges_along p q ps behind
+-- the edges of a point and those that follow it, where one more point stands before and one following them
+abbrev pub edges_along : Point → Point → List Point → Point → List Edge
+edges_along before p [] following = edges_of before p following
+edges_along before p (q ∷ ps) following = edges_of before p q ++ edges_along p q ps following
 
 -- the last of a point and those that follow it
-abbrev pub last_of : Dot → List Dot → Dot
+abbrev pub last_of : Point → List Point → Point
 last_of p [] = p
 last_of p (q ∷ ps) = last_of q ps
 
-abbrev nowhere : Dot
+abbrev nowhere : Point
 nowhere = record { x = pos 0; y = pos 0; on = false }
 
-last_is : {X : Type 0} (f : X → Dot) (p : X) (ps : List X) (d : X) → last_of (f p) (map f ps)
+last_is : {X : Type 0} (f : X → Point) (p : X) (ps : List X) (d : X) → last_of (f p) (map f ps)
     ≡ f (get_or (p ∷ ps) (length ps) d)
 last_is f p [] d = refl
 last_is f p (q ∷ ps) d = last_is f q ps d
 
--- the points behind the first, as the code walks them
+-- the points following the first, as the code walks them
 abbrev pub rest : {X : Type 0} → List X → List X
 rest ps = take (length ps - 1) (drop 1 ps)
 
@@ -51,61 +51,61 @@ all_of_rest P [] all k d below = absurd (omega arith)
 all_of_rest P (p ∷ ps) all k d below =
     let shorter = rw (rest_is p ps) at below in rw (rest_is p ps) (all (suc k) d (omega arith))
 
-after_last : (n i : ℕ) → i + 1 ≡ n → place_after n i ≡ 0
+after_last : (n i : ℕ) → i + 1 ≡ n → number_after n i ≡ 0
 after_last n i is = grind (arith, is)
 
-after_inner : (n i : ℕ) → i + 1 < n → place_after n i ≡ i + 1
+after_inner : (n i : ℕ) → i + 1 < n → number_after n i ≡ i + 1
 after_inner n i below = grind (arith, below)
 
-one_point : (ps : List Dot) (k : ℕ) (before p after : Dot) → before ≡ dot_at ps (place_before (length ps) k) → p
-    ≡ dot_at ps k → after ≡ dot_at ps (place_after (length ps) k) → edges_at ps k ≡ edges_of before p after
+one_point : (ps : List Point) (k : ℕ) (before p after : Point) → before ≡ point_at ps (number_before (length ps) k) → p
+    ≡ point_at ps k → after ≡ point_at ps (number_after (length ps) k) → edges_at ps k ≡ edges_of before p after
 one_point ps k before p after is_before is_p is_after = rw (is_before, is_p, is_after) refl
 
 -- the points from a number on, each with its neighbours, as the code walks them
-along_is : (all : List Dot) (k : ℕ) (before p : Dot) (ps : List Dot) (first : Dot) → before
-    ≡ dot_at all (place_before (length all) k) → first ≡ dot_at all 0 → drop k all ≡ p ∷ ps
+along_is : (all : List Point) (k : ℕ) (before p : Point) (ps : List Point) (first : Point) → before
+    ≡ point_at all (number_before (length all) k) → first ≡ point_at all 0 → drop k all ≡ p ∷ ps
     → edges_along before p ps first ≡ flat_map (edges_at all) (range_with_len k (length (p ∷ ps)))
 along_is all k before p [] first is_before is_first from =
     let many : length (drop k all) ≡ 1 = rw from refl in
     let last : k + 1 ≡ length all = omega (arith, many, length-drop k all) in
     let whole = drop-cons all k nowhere (omega (arith, last)) in
-    let here : p ≡ dot_at all k = cc in
-    let after : first ≡ dot_at all (place_after (length all) k) = rw (after_last (length all) k last) is_first in
+    let here : p ≡ point_at all k = cc in
+    let after : first ≡ point_at all (number_after (length all) k) = rw (after_last (length all) k last) is_first in
     rw (one_point all k before p first is_before here after, append-nil) refl
 along_is all k before p (q ∷ ps) first is_before is_first from =
     let many : length (drop k all) ≡ suc (suc (length ps)) = rw from refl in
     let inner : k + 1 < length all = omega (arith, many, length-drop k all) in
     let whole = drop-cons all k nowhere (omega (arith, inner)) in
-    let here : p ≡ dot_at all k = cc in
-    let behind : drop (suc k) all ≡ q ∷ ps = cc in
+    let here : p ≡ point_at all k = cc in
+    let following : drop (suc k) all ≡ q ∷ ps = cc in
     let next = drop-cons all (suc k) nowhere (omega (arith, inner)) in
-    let there : q ≡ dot_at all (k + 1) = rw add-one cc in
-    let after : q ≡ dot_at all (place_after (length all) k) = rw (after_inner (length all) k inner) there in
-    let next_before : p ≡ dot_at all (place_before (length all) (k + 1)) = rw add-one here in
-    let next_from : drop (k + 1) all ≡ q ∷ ps = rw add-one behind in
+    let there : q ≡ point_at all (k + 1) = rw add-one cc in
+    let after : q ≡ point_at all (number_after (length all) k) = rw (after_inner (length all) k inner) there in
+    let next_before : p ≡ point_at all (number_before (length all) (k + 1)) = rw add-one here in
+    let next_from : drop (k + 1) all ≡ q ∷ ps = rw add-one following in
     let others = along_is all (k + 1) p q ps first next_before is_first next_from in
     rw (one_point all k before p q is_before here after, others) refl
 
-last_at : (p : Dot) (ps : List Dot) → last_of p ps ≡ dot_at (p ∷ ps) (length ps)
+last_at : (p : Point) (ps : List Point) → last_of p ps ≡ point_at (p ∷ ps) (length ps)
 last_at p [] = refl
 last_at p (q ∷ ps) = last_at q ps
 
-pub of_two : (ps : List Dot) → 1 < length ps → contour_edges ps ≡ flat_map (edges_at ps) (range_with_len 0 (length ps))
+pub of_two : (ps : List Point) → 1 < length ps → contour_edges ps ≡ flat_map (edges_at ps) (range_with_len 0 (length ps))
 of_two ps two = rw (lt-ltb 1 (length ps) two) refl
 
-pub of_fewer : (ps : List Dot) → length ps < 2 → contour_edges ps ≡ []
+pub of_fewer : (ps : List Point) → length ps < 2 → contour_edges ps ≡ []
 of_fewer [] few = refl
 of_fewer (p ∷ []) few = refl
 of_fewer (p ∷ q ∷ ps) few = absurd (omega arith)
 
-pub contour_whole : (p q : Dot) (ps : List Dot) → edges_along (last_of q ps) p (q ∷ ps) p ≡ contour_edges (p ∷ q ∷ ps)
+pub contour_whole : (p q : Point) (ps : List Point) → edges_along (last_of q ps) p (q ∷ ps) p ≡ contour_edges (p ∷ q ∷ ps)
 contour_whole p q ps =
     let less : length (p ∷ q ∷ ps) - 1 ≡ suc (length ps) = omega arith in
-    let last : last_of q ps ≡ dot_at (p ∷ q ∷ ps) (place_before (length (p ∷ q ∷ ps)) 0) = rw less (last_at q ps) in
+    let last : last_of q ps ≡ point_at (p ∷ q ∷ ps) (number_before (length (p ∷ q ∷ ps)) 0) = rw less (last_at q ps) in
     along_is (p ∷ q ∷ ps) 0 (last_of q ps) p (q ∷ ps) p last refl refl ∙ sym (of_two (p ∷ q ∷ ps) (omega arith))
 
 -- a contour of two points or more, as the code walks it
-pub contour_is : {X : Type 0} (f : X → Dot) (ps : List X) (d : X) (first before : Dot) → 2 ≤ length ps → first
+pub contour_is : {X : Type 0} (f : X → Point) (ps : List X) (d : X) (first before : Point) → 2 ≤ length ps → first
     ≡ f (get_or ps 0 d) → before ≡ f (get_or ps (length ps - 1) d) → edges_along before first (map f (rest ps)) first
     ≡ contour_edges (map f ps)
 contour_is f [] d first before two is_first is_before = absurd (omega arith)
@@ -116,9 +116,9 @@ contour_is f (p ∷ q ∷ ps) d first before two is_first is_before =
     rw (rest_is p (q ∷ ps), is_first, at_last, ← last_is f q ps d) (contour_whole (f p) (f q) (map f ps))
 
 -- one point of a contour done
-pub one_point_more : {X : Type 0} (f : X → Dot) (out new : List Edge) (xs : List X) (i : ℕ) (d : X)
-    (before p after behind : Dot) → i < length xs → after ≡ f (get_or xs i d) → new ≡ out ++ edges_of before p after
-    → new ++ edges_along p after (map f (drop (i + 1) xs)) behind ≡ out ++ edges_along before p
-    (map f (drop i xs)) behind
-one_point_more f out new xs i d before p after behind below is_after is_new =
+pub one_point_more : {X : Type 0} (f : X → Point) (out new : List Edge) (xs : List X) (i : ℕ) (d : X)
+    (before p after following : Point) → i < length xs → after ≡ f (get_or xs i d) → new ≡ out ++ edges_of before p after
+    → new ++ edges_along p after (map f (drop (i + 1) xs)) following ≡ out ++ edges_along before p
+    (map f (drop i xs)) following
+one_point_more f out new xs i d before p after following below is_after is_new =
     rw (is_new, is_after, append_assoc, add-one, drop-cons xs i d below) refl

@@ -3,11 +3,11 @@ use Rattle.std.specs.Prelude.{◌≡◌, ◌≢◌, ◌↔◌, ◌⊎◌, ℕ, �
 use Rattle.std.specs.List.{Any}
 use Rattle.tt_scan.specs.declared.edge.Edge.{Edge}
 use Rattle.tt_scan.specs.Winding.{side, lies_on, lies_on_one, winding, is_black, moved_edges}
-use Rattle.tt_arc.specs.declared.dot.Dot.{Dot}
+use Rattle.tt_arc.specs.declared.point.Point.{Point}
 use Rattle.tt_arc.specs.Chords.{moved, edges_of, edges_at, contour_at, chord_edges}
 
 -- contour c has two points or more, i is one of them, and (x, y) lies on an edge of that point
-pub record LiesOnEdgeOf (ps : List Dot) (ends : List ℕ) (x y : ℤ) (c i : ℕ) : Type 0 where
+pub record LiesOnEdgeOf (ps : List Point) (ends : List ℕ) (x y : ℤ) (c i : ℕ) : Type 0 where
   pub contour : c < length ends
   pub two : 1 < length (contour_at ps ends c)
   pub point : i < length (contour_at ps ends c)

@@ -2,9 +2,9 @@
 #![tactic(auto)]
 
 mod contour;
-mod curve;
-mod dot;
 pub mod laws;
 mod outline;
+mod point;
+mod quadratic;
 
 pub use outline::chords;

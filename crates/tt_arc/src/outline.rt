@@ -7,18 +7,18 @@ ghost use Rattle.tt_scan.specs.Winding.{FrameFits};
 ghost use Rattle.tt_arc.specs.Chords.{IsNear, moved, outline_edges, chord_edges};
 
 use crate::contour::push_contour;
-use crate::dot::Shift;
+use crate::point::Offset;
 use std::alloc::{AllocError, Global};
 use tt_fit::Outline;
 use tt_scan::{Frame, Tape};
 
-/// Adds the edges of all contours. Each end is one past its contour's last point.
+/// Adds the edges of all contours to a tape. Each end is one past its contour's last point. Error: memory ran out.
 #[tactic(auto, using(crate::proofs::Contours::none_left))]
 fn push_contours(
     tape: &mut Tape,
     points: &[(i32, i32, bool)],
     ends: &[u32],
-    by: Shift,
+    by: Offset,
 ) -> Result<(), AllocError>
     requires ends { AreEnds (length points.now) ends.now }
     requires near { All (IsNear by.dx by.dy) points.now }
@@ -63,6 +63,6 @@ pub fn chords(
     let mut tape = Tape::new(alloc, frame);
     // Memory is taken once.
     tape.reserve(most_edges(&outline.points))?;
-    push_contours(&mut tape, &outline.points, &outline.ends, Shift { dx, dy })?;
+    push_contours(&mut tape, &outline.points, &outline.ends, Offset { dx, dy })?;
     Ok(tape)
 }

@@ -1,10 +1,11 @@
--- Search by halves: what one reading of a range's end says of the ranges before it, and how often a part can be halved.
-use Rattle.std.proofs.Common.{◌≡◌, ℕ, zero, suc, ◌+◌, ◌-◌, ◌*◌, ◌/◌, ◌^◌, ◌<◌, ◌≤◌, nat_lt, true, false, Some, None, arith, mul-le-mul_right, pow_mono, lt_of_not-le, pow-suc, add-zero}
+-- Search by halves: what one reading of a range's end says of the ranges before it, and how many ends are read.
+use Rattle.std.proofs.Common.{◌≡◌, ℕ, zero, suc, ◌+◌, ◌-◌, ◌*◌, ◌/◌, ◌^◌, ◌<◌, ◌≤◌, nat_lt, if◌then◌else◌, Bool, true, false, Some, None, refl, arith, pow-suc, add-zero}
 use Rattle.std.proofs.lemmas.Bool.Decides.{nat_tests}
 use Rattle.tt_core.specs.Search.{IsLeast, first_below_least, first_below_none, first_below_nothing}
-use Rattle.tt_cmap.specs.Ranges.{Subtable, segments, groups, range_count, range_end, falls, falling_range, reaches, range_of, IfSegments}
+use Rattle.tt_cmap.specs.Halves.{asked_within, asked}
+use Rattle.tt_cmap.specs.Ranges.{Subtable, segments, groups, range_count, range_end, falls, falling_range, reaches, range_of, ends_read, most_ends, IfSegments}
 
--- where nothing falls, each range ends at the end of the one before it or behind
+-- where nothing falls, each range ends at the end of the one before it or after
 rises-once : (s : Subtable) → falling_range s ≡ None → (i : ℕ) → i + 1 < range_count s → range_end s i
     ≤ range_end s (i + 1)
 rises-once s rises i within =
@@ -31,121 +32,155 @@ before-fails s rises c m within below j first =
     let up : range_end s j ≤ range_end s m = rw sum at up in
     grind (arith, nat_tests, up, below)
 
--- the number of probes is less than what they have divided by
-pub less-than-power : (p : ℕ) → p < 2 ^ p
-less-than-power zero = omega arith
-less-than-power (suc p) = omega (arith, less-than-power p, pow-suc 2 p)
+-- more steps than there are numbers change nothing
+same-asked : (passes : ℕ → Bool) (n m low left : ℕ) → left ≤ n → left ≤ m
+    → asked_within n passes low left ≡ asked_within m passes low left
+unfolding asked_within
+same-asked passes zero zero low left few many = refl
+same-asked passes zero (suc m) low left few many = let none : left ≡ 0 = omega (arith, few) in rw none refl
+same-asked passes (suc n) zero low left few many = let none : left ≡ 0 = omega (arith, many) in rw none refl
+same-asked passes (suc n) (suc m) low zero few many = refl
+same-asked passes (suc n) (suc m) low (suc left) few many =
+    let before = same-asked passes n m low (suc left / 2) (omega (arith, few)) (omega (arith, many)) in
+    let after = same-asked passes n m (low + suc left / 2 + 1) (suc left - suc left / 2 - 1) (omega (arith, few)) (omega (arith, many)) in
+    rw (before, after) refl
 
--- a half of what is left, and its probe
-halved-once : (left half p n : ℕ) → 2 * half ≤ left → left * 2 ^ p ≤ n → half * 2 ^ (p + 1) ≤ n
-halved-once left half p n small before =
-    let next : p + 1 ≡ suc p = omega arith in
-    let power : 2 ^ suc p ≡ 2 ^ p * 2 = pow-suc 2 p in
-    let most : 2 * half * 2 ^ p ≤ left * 2 ^ p = mul-le-mul_right (2 ^ p) small in
-    let same : half * (2 ^ p * 2) ≡ 2 * half * 2 ^ p = grind arith in
-    rw (next, power, same) (omega (arith, most, before))
+-- the middle one doesn't pass: it was asked, and the half after it is left
+asked-after : (passes : ℕ → Bool) (low left : ℕ) → 0 < left → passes (low + left / 2) ≡ false
+    → asked passes low left ≡ 1 + asked passes (low + left / 2 + 1) (left - left / 2 - 1)
+unfolding asked_within
+asked-after passes low zero some fails = absurd (omega (arith, some))
+asked-after passes low (suc left) some fails =
+    let same = same-asked passes left (suc left - suc left / 2 - 1) (low + suc left / 2 + 1) (suc left - suc left / 2 - 1)
+    (omega arith) (omega arith) in
+    rw (fails, same) refl
 
--- where something is left, one probe more has been paid for
-paid-once : (left p n : ℕ) → 0 < left → left * 2 ^ p ≤ n → 2 ^ (p + 1) ≤ 2 * n + 1
-paid-once left p n some before =
-    let next : p + 1 ≡ suc p = omega arith in
-    let power : 2 ^ suc p ≡ 2 ^ p * 2 = pow-suc 2 p in
-    let most : 1 * 2 ^ p ≤ left * 2 ^ p = mul-le-mul_right (2 ^ p) some in
-    rw (next, power) (omega (arith, most, before))
+-- the middle one passes: it was asked, and the half before it is left
+asked-before : (passes : ℕ → Bool) (low left : ℕ) → 0 < left → passes (low + left / 2) ≡ true
+    → asked passes low left ≡ 1 + asked passes low (left / 2)
+unfolding asked_within
+asked-before passes low zero some holds = absurd (omega (arith, some))
+asked-before passes low (suc left) some holds =
+    let same = same-asked passes left (suc left / 2) low (suc left / 2) (omega arith) (omega arith) in
+    rw (holds, same) refl
+
+one-more : (b : Bool) (k : ℕ) {x y : ℕ} → x ≤ k → y ≤ k → (if b then 1 + x else 1 + y) ≤ suc k
+one-more true k before after = omega (arith, before)
+one-more false k before after = omega (arith, after)
+
+-- twice as many numbers take one question more
+few-within : (passes : ℕ → Bool) (n low left k : ℕ) → left < 2 ^ k → asked_within n passes low left ≤ k
+unfolding asked_within
+few-within passes zero low left k small = omega arith
+few-within passes (suc n) low zero k small = omega arith
+few-within passes (suc n) low (suc left) zero small = absurd (omega (arith, small))
+few-within passes (suc n) low (suc left) (suc k) small =
+    let power : 2 ^ suc k ≡ 2 ^ k * 2 = pow-suc 2 k in
+    let before = few-within passes n low (suc left / 2) k (omega (arith, small, power)) in
+    let after = few-within passes n (low + suc left / 2 + 1) (suc left - suc left / 2 - 1) k (omega (arith, small, power)) in
+    one-more (passes (low + suc left / 2)) k before after
+
+pub few-ends : (s : Subtable) (c : ℕ) → range_count s < 2 ^ most_ends s → ends_read s c ≤ most_ends s
+unfolding ends_read
+few-ends s c small = few-within (reaches s c) (range_count s) 0 (range_count s) (most_ends s) small
 
 -- what is known where a part of the ranges, from low to high, is left: none before it reaches the character, the one
--- behind it does, and each probe has halved it
-pub record IsLeft (s : Subtable) (c count low high probes : ℕ) : Type 0 where
+-- after it does, and as many ends are still to be read as a search by halves asks
+pub record IsLeft (s : Subtable) (c count low high reads all : ℕ) : Type 0 where
   pub ordered : low ≤ high
   pub within : high ≤ count
   pub before : (j : ℕ) → j < low → reaches s c j ≡ false
-  pub behind : high < count → reaches s c high ≡ true
+  pub after : high < count → reaches s c high ≡ true
   pub plane : high < count → IfSegments s (c ≤ 65535)
-  pub halved : (high - low) * 2 ^ probes ≤ count
-  pub few : 2 ^ probes ≤ 2 * count + 1
+  pub to_read : reads + asked (reaches s c) low (high - low) ≡ all
 
-pub all-left : (s : Subtable) (c count : ℕ) → IsLeft s c count 0 count 0
-all-left s c count = record {
-  ordered = omega arith;
-  within = omega arith;
-  before = λ j below. absurd (omega (arith, below));
-  behind = λ below. absurd (omega (arith, below));
-  plane = λ below. absurd (omega (arith, below));
-  halved = omega arith;
-  few = omega arith;
-}
+pub all-left : (s : Subtable) (c count reads : ℕ) → count ≡ range_count s → IsLeft s c count 0 count reads (reads + ends_read s c)
+unfolding ends_read
+all-left s c count reads is =
+    let same : range_count s - 0 ≡ range_count s = omega arith in
+    record {
+      ordered = omega arith;
+      within = omega arith;
+      before = λ j below. absurd (omega (arith, below));
+      after = λ below. absurd (omega (arith, below));
+      plane = λ below. absurd (omega (arith, below));
+      to_read = rw (is, same) refl;
+    }
 
--- the number of probes is far below what a word holds
-pub few-probes : (s : Subtable) (c count low high probes : ℕ) → IsLeft s c count low high probes → low < high → count < 2 ^ 31
-    → probes + 1 < 2 ^ 32
-few-probes s c count low high probes left some small =
-    let most : 1 * 2 ^ probes ≤ (high - low) * 2 ^ probes = mul-le-mul_right (2 ^ probes) (omega (arith, some)) in
-    omega (arith, most, left.halved, less-than-power probes, small)
+at-most-23 : (s : Subtable) → most_ends s ≤ 23
+at-most-23 (segments m) = omega arith
+at-most-23 (groups m) = omega arith
 
--- the middle does not reach the character: what is behind it is left
-pub goes-on : (s : Subtable) → falling_range s ≡ None → (c low high probes : ℕ)
-    → IsLeft s c (range_count s) low high probes → low < high → range_end s (low + (high - low) / 2) < c
-    → IsLeft s c (range_count s) (low + (high - low) / 2 + 1) high (probes + 1)
-goes-on s rises c low high probes left some below = record {
-  ordered = omega (arith, some);
-  within = left.within;
-  before = before-fails s rises c (low + (high - low) / 2) (omega (arith, some, left.within)) below;
-  behind = left.behind;
-  plane = left.plane;
-  halved = halved-once (high - low) (high - (low + (high - low) / 2 + 1)) probes (range_count s) (omega (arith, some)) left.halved;
-  few = paid-once (high - low) probes (range_count s) (omega (arith, some)) left.halved;
-}
+-- so few ends are read that the count of readings has room for them
+pub has-room : (s : Subtable) (c count low high reads start : ℕ) → IsLeft s c count low high reads (start + ends_read s c)
+    → ends_read s c ≤ most_ends s → start + 2 ^ 30 < 2 ^ 32 → reads + 1 < 2 ^ 32
+has-room s c count low high reads start left few room = omega (arith, left.to_read, few, at-most-23 s, room)
+
+-- the middle does not reach the character: what is after it is left
+pub goes-on : (s : Subtable) → falling_range s ≡ None → (c low high reads all : ℕ)
+    → IsLeft s c (range_count s) low high reads all → low < high → range_end s (low + (high - low) / 2) < c
+    → IsLeft s c (range_count s) (low + (high - low) / 2 + 1) high (reads + 1) all
+goes-on s rises c low high reads all left some below =
+    let fails : reaches s c (low + (high - low) / 2) ≡ false = grind (arith, nat_tests, below) in
+    let once = asked-after (reaches s c) low (high - low) (omega (arith, some)) fails in
+    let rest : high - (low + (high - low) / 2 + 1) ≡ high - low - (high - low) / 2 - 1 = omega arith in
+    record {
+      ordered = omega (arith, some);
+      within = left.within;
+      before = before-fails s rises c (low + (high - low) / 2) (omega (arith, some, left.within)) below;
+      after = left.after;
+      plane = left.plane;
+      to_read = rw rest (omega (arith, once, left.to_read));
+    }
 
 pub plane-below : (s : Subtable) (c e : ℕ) → c ≤ e → IfSegments s (e ≤ 65535) → IfSegments s (c ≤ 65535)
 plane-below (segments m) c e below plane = omega (arith, below, plane)
 plane-below (groups m) c e below plane = tt
 
 -- the middle reaches the character: what is before it is left
-pub goes-back : (s : Subtable) (c low high probes : ℕ) → IsLeft s c (range_count s) low high probes → low < high
+pub goes-back : (s : Subtable) (c low high reads all : ℕ) → IsLeft s c (range_count s) low high reads all → low < high
     → c ≤ range_end s (low + (high - low) / 2) → IfSegments s (c ≤ 65535)
-    → IsLeft s c (range_count s) low (low + (high - low) / 2) (probes + 1)
-goes-back s c low high probes left some reached plane = record {
-  ordered = omega arith;
-  within = omega (arith, some, left.within);
-  before = left.before;
-  behind = λ below. grind (arith, nat_tests, reached);
-  plane = λ below. plane;
-  halved = halved-once (high - low) (low + (high - low) / 2 - low) probes (range_count s) (omega (arith, some)) left.halved;
-  few = paid-once (high - low) probes (range_count s) (omega (arith, some)) left.halved;
-}
+    → IsLeft s c (range_count s) low (low + (high - low) / 2) (reads + 1) all
+goes-back s c low high reads all left some reached plane =
+    let holds : reaches s c (low + (high - low) / 2) ≡ true = grind (arith, nat_tests, reached) in
+    let once = asked-before (reaches s c) low (high - low) (omega (arith, some)) holds in
+    let rest : low + (high - low) / 2 - low ≡ (high - low) / 2 = omega arith in
+    record {
+      ordered = omega arith;
+      within = omega (arith, some, left.within);
+      before = left.before;
+      after = λ below. holds;
+      plane = λ below. plane;
+      to_read = rw rest (omega (arith, once, left.to_read));
+    }
 
--- nothing is left, and a range stands behind it: that is the first
-pub found : (s : Subtable) (c low high probes : ℕ) → IsLeft s c (range_count s) low high probes → high ≤ low
+-- nothing is left: all ends that a search by halves asks are read
+pub all-read : (s : Subtable) (c count low high reads all : ℕ) → IsLeft s c count low high reads all → high ≤ low → reads ≡ all
+unfolding asked_within
+all-read s c count low high reads all left none =
+    let nothing : high - low ≡ 0 = omega (arith, none) in
+    let nobody : asked (reaches s c) low (high - low) ≡ 0 = rw nothing refl in
+    omega (arith, left.to_read, nobody)
+
+-- nothing is left, and a range stands after it: that is the first
+pub found : (s : Subtable) (c low high reads all : ℕ) → IsLeft s c (range_count s) low high reads all → high ≤ low
     → low < range_count s → range_of s c ≡ Some low
-found s c low high probes left none within =
+found s c low high reads all left none within =
     let same : high ≡ low = omega (arith, none, left.ordered) in
     let least : IsLeast (reaches s c) (range_count s) low = record {
       within = within;
-      holds = rw same at (left.behind (omega (arith, same, within)));
+      holds = rw same at (left.after (omega (arith, same, within)));
       before = left.before;
     } in
     first_below_least (reaches s c) (range_count s) low least
 
 -- and where none does, none is found
-pub nothing-found : (s : Subtable) (c low high probes : ℕ) → IsLeft s c (range_count s) low high probes → high ≤ low
+pub nothing-found : (s : Subtable) (c low high reads all : ℕ) → IsLeft s c (range_count s) low high reads all → high ≤ low
     → range_count s ≤ low → range_of s c ≡ None
-nothing-found s c low high probes left none past =
+nothing-found s c low high reads all left none past =
     first_below_nothing (reaches s c) (range_count s) (λ j below. left.before j (omega (arith, below, past)))
 
 -- a character that segments reach is in the Basic Multilingual Plane
 pub not-beyond : (s : Subtable) (c g : ℕ) → IfSegments s (c ≤ 65535) → IfSegments s (65535 < c → g ≡ 0)
 not-beyond (segments m) c g plane = λ beyond. absurd (omega (arith, plane, beyond))
 not-beyond (groups m) c g plane = tt
-
--- twice as many ranges take one probe more
-few-by : (p n k : ℕ) → 2 ^ p ≤ 2 * n + 1 → 2 * n + 1 < 2 ^ (k + 1) → p ≤ k
-few-by p n k paid small = let below : p < k + 1 = lt_of_not-le (λ more. omega (arith, pow_mono more, paid, small)) in
-    omega (arith, below)
-
-pub few : (s : Subtable) (c low high p n : ℕ) → IsLeft s c n low high p → n ≤ 67108864 → p ≤ 32
-few s c low high p n left small = few-by p n 32 left.few (omega (arith, small))
-
-pub few-for-segments : (s : Subtable) (c low high p n : ℕ) → IsLeft s c n low high p → IfSegments s (n < 32768)
-    → IfSegments s (p ≤ 16)
-few-for-segments (segments m) c low high p n left small = few-by p n 16 left.few (omega (arith, small))
-few-for-segments (groups m) c low high p n left small = tt

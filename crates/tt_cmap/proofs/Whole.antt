@@ -1,4 +1,4 @@
--- A cmap that gives a lookup has no defect.
+-- A table that gives a character map has no defect.
 use Rattle.std.proofs.Common.{◌≡◌, ℕ, ◌+◌, ◌-◌, ◌*◌, ◌%◌, ◌≤◌, nat_lt, false, List, length, Option, Some, None, Result, Ok, inl, inr, arith, refl, sym}
 use Rattle.std.specs.Prelude.{not, ◌==◌}
 use Rattle.std.proofs.lemmas.Bool.Decides.{nat_tests}
@@ -8,12 +8,12 @@ use Rattle.tt_core.specs.Faults.{Fault}
 use Rattle.tt_core.specs.Search.{first_below_none}
 use Rattle.tt_cmap.specs.declared.records.Format.{Format}
 use Rattle.tt_cmap.specs.declared.records.Format.TheVariants as format
-use Rattle.tt_cmap.specs.declared.records.Place.{Place}
+use Rattle.tt_cmap.specs.declared.records.Choice.{Choice}
 use Rattle.tt_cmap.specs.Defects.{IsBadRecords, IsBadShape, IsBadFormat4, IsBadFormat12, IsFalling, IsBadSubtable, IsBadChoice}
-use Rattle.tt_cmap.specs.Format4.{Format4, segment_bytes, segments_at}
-use Rattle.tt_cmap.specs.Format12.{Format12, group_count, groups_at}
-use Rattle.tt_cmap.specs.Laws.{LookupsAreWhole}
-use Rattle.tt_cmap.specs.Lookup.{Cmap, by_subtable, lookup_of}
+use Rattle.tt_cmap.specs.Format4.{Format4, seg_count_x2, lists_end, segments_at}
+use Rattle.tt_cmap.specs.Format12.{Format12, groups_end, groups_at}
+use Rattle.tt_cmap.specs.Laws.{CmapsAreWhole}
+use Rattle.tt_cmap.specs.Lookup.{Cmap, by_subtable, cmap_of}
 use Rattle.tt_cmap.specs.Ranges.{Subtable, segments, groups, read_as, subtable_with, subtable_at, range_count, falls, falling_range, or_falling}
 use Rattle.tt_cmap.specs.Subtables.{record_count, record_place, records_of, chosen_subtable}
 
@@ -39,10 +39,10 @@ unfolding segments_at
 segments-whole table at m was =
     let it : Format4 = record { table = table; at = at } in
     let header = passed-on (nat_lt (length table) (at + 14)) _ _ m was in
-    let halves = passed-on (not (segment_bytes it % 2 == 0)) _ _ m header.1 in
-    let lists = passed-on (nat_lt (length table) (at + 16 + 4 * segment_bytes it)) _ _ m halves.1 in
-    let fits = at-least (length table) (at + 16 + 4 * segment_bytes it) lists.0 in
-    let whole = even (segment_bytes it) halves.0 in
+    let halves = passed-on (not (seg_count_x2 it % 2 == 0)) _ _ m header.1 in
+    let lists = passed-on (nat_lt (length table) (lists_end it)) _ _ m halves.1 in
+    let fits = at-least (length table) (lists_end it) lists.0 in
+    let whole = even (seg_count_x2 it) halves.0 in
     λ fault bad. elim bad [
       | inl short ↦ omega (arith, fits, short.0)
       | inr other ↦ elim other [
@@ -57,10 +57,10 @@ unfolding groups_at
 groups-whole table at m was =
     let it : Format12 = record { table = table; at = at } in
     let header = passed-on (nat_lt (length table) (at + 16)) _ _ m was in
-    let lists = passed-on (nat_lt (length table) (at + 16 + 12 * group_count it)) _ _ m header.1 in
+    let lists = passed-on (nat_lt (length table) (groups_end it)) _ _ m header.1 in
     λ fault bad. elim (bad.0) [
       | inl short ↦ not-below (length table) (at + 16) header.0 short
-      | inr short ↦ not-below (length table) (at + 16 + 12 * group_count it) lists.0 short
+      | inr short ↦ not-below (length table) (groups_end it) lists.0 short
     ]
 
 -- a subtable whose shape is good
@@ -74,8 +74,8 @@ unfolding segments_at
 segments-same table at m was =
     let it : Format4 = record { table = table; at = at } in
     let header = passed-on (nat_lt (length table) (at + 14)) _ _ m was in
-    let halves = passed-on (not (segment_bytes it % 2 == 0)) _ _ m header.1 in
-    let lists = passed (nat_lt (length table) (at + 16 + 4 * segment_bytes it)) _ it m halves.1 in
+    let halves = passed-on (not (seg_count_x2 it % 2 == 0)) _ _ m header.1 in
+    let lists = passed (nat_lt (length table) (lists_end it)) _ it m halves.1 in
     sym lists.1
 
 groups-same : (table : List ℕ) (at : ℕ) (m : Format12) → groups_at table at ≡ Ok m
@@ -84,7 +84,7 @@ unfolding groups_at
 groups-same table at m was =
     let it : Format12 = record { table = table; at = at } in
     let header = passed-on (nat_lt (length table) (at + 16)) _ _ m was in
-    let lists = passed (nat_lt (length table) (at + 16 + 12 * group_count it)) _ it m header.1 in
+    let lists = passed (nat_lt (length table) (groups_end it)) _ it m header.1 in
     sym lists.1
 
 is-segments : (m it : Format4) (s : Subtable) → ◌≡◌ {A = Result Subtable Fault} (Ok (segments m)) (Ok s) → m ≡ it
@@ -117,7 +117,7 @@ rising s rises = λ fault falling.
     not-both (falls s i) falling.3
     (first_below_none (range_count s - 1) (falls s) i rises (omega (arith, falling.1)))
 
-subtable-whole : (table : List ℕ) (p : Place) (s : Subtable) → subtable_at table p ≡ Ok s
+subtable-whole : (table : List ℕ) (p : Choice) (s : Subtable) → subtable_at table p ≡ Ok s
     → HasNo (IsBadSubtable table p)
 subtable-whole table p s was =
     let by_shape = came-through (subtable_with p.format table p.at) _ s was in
@@ -128,18 +128,18 @@ subtable-whole table p s was =
       | inr falling ↦ rising by_shape.value rises fault (rw shaped.same falling)
     ]
 
-choice-whole : (table : List ℕ) (glyphs : ℕ) (place : Option Place) (lookup : Cmap) → by_subtable table glyphs place
-    ≡ Ok lookup → HasNo (IsBadChoice table place)
-choice-whole table glyphs None lookup was = absurd cc
-choice-whole table glyphs (Some p) lookup was =
-    let by_subtable = came-through (subtable_at table p) _ lookup was in
+choice-whole : (table : List ℕ) (glyphs : ℕ) (place : Option Choice) (cmap : Cmap) → by_subtable table glyphs place
+    ≡ Ok cmap → HasNo (IsBadChoice table place)
+choice-whole table glyphs None cmap was = absurd cc
+choice-whole table glyphs (Some p) cmap was =
+    let by_subtable = came-through (subtable_at table p) _ cmap was in
     subtable-whole table p by_subtable.value by_subtable.first
 
-pub lookup-whole : LookupsAreWhole
-unfolding lookup_of
-lookup-whole table glyphs lookup was =
-    let by_records = came-through (records_of table) _ lookup was in
+pub cmap-whole : CmapsAreWhole
+unfolding cmap_of
+cmap-whole table glyphs cmap was =
+    let by_records = came-through (records_of table) _ cmap was in
     λ fault bad. elim bad [
       | inl records ↦ records-whole table by_records.value by_records.first fault records
-      | inr choice ↦ choice-whole table glyphs (chosen_subtable table) lookup by_records.rest fault choice.1
+      | inr choice ↦ choice-whole table glyphs (chosen_subtable table) cmap by_records.rest fault choice.1
     ]

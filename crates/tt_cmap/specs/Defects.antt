@@ -1,13 +1,13 @@
--- OpenType, "cmap: Character to Glyph Index Mapping Table": what stands behind a fault of cmap,
--- apart from the order in which faults are looked for.
+-- OpenType, "cmap: Character to Glyph Index Mapping Table": what is wrong where cmap is refused, apart from
+-- the order in which faults are looked for.
 use Rattle.std.specs.Prelude.{◌≡◌, ℕ, ◌+◌, ◌*◌, ◌%◌, ◌<◌, ◌≤◌, true, List, length, Option, Some, None, ◌⊎◌}
 use Rattle.tt_core.specs.Faults.{Fault}
 use Rattle.tt_core.specs.declared.fault.Why.TheVariants as why
 use Rattle.tt_cmap.specs.declared.records.Format.{Format}
 use Rattle.tt_cmap.specs.declared.records.Format.TheVariants as format
-use Rattle.tt_cmap.specs.declared.records.Place.{Place}
-use Rattle.tt_cmap.specs.Format4.{Format4, segment_bytes}
-use Rattle.tt_cmap.specs.Format12.{Format12, group_count}
+use Rattle.tt_cmap.specs.declared.records.Choice.{Choice}
+use Rattle.tt_cmap.specs.Format4.{Format4, seg_count_x2, lists_end}
+use Rattle.tt_cmap.specs.Format12.{Format12, groups_end}
 use Rattle.tt_cmap.specs.Ranges.{Subtable, segments, groups, read_as, table_of, range_count, range_end_place, falls}
 use Rattle.tt_cmap.specs.Subtables.{cmap_fault, record_count, record_place, chosen_subtable}
 
@@ -19,13 +19,13 @@ IsBadRecords table fault = ((length table < 4) ⊎ (length table < record_place 
 abbrev pub IsBadFormat4 : Format4 → Fault → Type 0
 IsBadFormat4 m fault =
     ((length m.table < m.at + 14) × (fault ≡ cmap_fault m.at why.CmapShape))
-    ⊎ ((m.at + 14 ≤ length m.table) × (segment_bytes m % 2 ≡ 1) × (fault ≡ cmap_fault (m.at + 6) why.CmapShape))
-    ⊎ ((m.at + 14 ≤ length m.table) × (length m.table < m.at + 16 + 4 * segment_bytes m) × (fault ≡ cmap_fault m.at why.CmapShape))
+    ⊎ ((m.at + 14 ≤ length m.table) × (seg_count_x2 m % 2 ≡ 1) × (fault ≡ cmap_fault (m.at + 6) why.CmapShape))
+    ⊎ ((m.at + 14 ≤ length m.table) × (length m.table < lists_end m) × (fault ≡ cmap_fault m.at why.CmapShape))
 
 -- a subtable of format 12 does not fit
 abbrev pub IsBadFormat12 : Format12 → Fault → Type 0
 IsBadFormat12 m fault =
-    ((length m.table < m.at + 16) ⊎ (length m.table < m.at + 16 + 12 * group_count m)) × (fault ≡ cmap_fault m.at why.CmapShape)
+    ((length m.table < m.at + 16) ⊎ (length m.table < groups_end m)) × (fault ≡ cmap_fault m.at why.CmapShape)
 
 -- the bytes of a range's last character
 abbrev pub range_end_size : Subtable → ℕ
@@ -44,12 +44,12 @@ IsBadShape format.Segments table at fault = IsBadFormat4 (record { table = table
 IsBadShape format.Groups table at fault = IsBadFormat12 (record { table = table; at = at }) fault
 
 -- the subtable has a bad shape, or its ends fall
-abbrev pub IsBadSubtable : List ℕ → Place → Fault → Type 0
+abbrev pub IsBadSubtable : List ℕ → Choice → Fault → Type 0
 IsBadSubtable table p fault =
     IsBadShape p.format table p.at fault ⊎ IsFalling (read_as p.format table p.at) fault
 
 -- no subtable can be used, or the chosen one is bad
-abbrev pub IsBadChoice : List ℕ → Option Place → Fault → Type 0
+abbrev pub IsBadChoice : List ℕ → Option Choice → Fault → Type 0
 IsBadChoice table None fault = fault ≡ cmap_fault 0 why.NoCmap
 IsBadChoice table (Some place) fault = IsBadSubtable table place fault
 

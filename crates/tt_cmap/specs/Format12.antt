@@ -5,7 +5,7 @@ use Rattle.tt_core.specs.Faults.{Fault}
 use Rattle.tt_core.specs.declared.fault.Why.TheVariants as why
 use Rattle.tt_core.specs.Limits.{font_limit}
 use Rattle.tt_core.specs.Numbers.{unsigned_at}
-use Rattle.tt_cmap.specs.Format4.{or_missing}
+use Rattle.tt_cmap.specs.Glyphs.{or_missing}
 use Rattle.tt_cmap.specs.Subtables.{cmap_fault}
 
 -- a subtable of format 12: the bytes of cmap, and where it begins in them
@@ -13,8 +13,9 @@ pub record Format12 : Type 0 where
   pub table : List ℕ
   pub at : ℕ
 
-abbrev pub group_count : Format12 → ℕ
-group_count m = unsigned_at m.table (m.at + 12) 4
+-- numGroups
+abbrev pub num_groups : Format12 → ℕ
+num_groups m = unsigned_at m.table (m.at + 12) 4
 
 -- a group is three words: its first and its last character, and the glyph of its first
 abbrev pub group_place : Format12 → ℕ → ℕ
@@ -32,17 +33,21 @@ end_char_code m i = unsigned_at m.table (end_char_code_place m i) 4
 abbrev pub start_glyph_id : Format12 → ℕ → ℕ
 start_glyph_id m i = unsigned_at m.table (group_place m i + 8) 4
 
+-- where the groups end
+abbrev pub groups_end : Format12 → ℕ
+groups_end m = m.at + 16 + 12 * num_groups m
+
 -- the subtable at a place, whose groups have to fit
 unfoldable pub groups_at : List ℕ → ℕ → Result Format12 Fault
 groups_at table at =
     let m : Format12 = record { table = table; at = at } in
     if nat_lt (length table) (at + 16) then Err (cmap_fault at why.CmapShape)
-    else (if nat_lt (length table) (at + 16 + 12 * group_count m) then Err (cmap_fault at why.CmapShape)
+    else (if nat_lt (length table) (groups_end m) then Err (cmap_fault at why.CmapShape)
     else Ok m)
 
 -- its groups fit into a cmap of a lawful font
 pub record IsFormat12 (m : Format12) : Type 0 where
-  pub fits : m.at + 16 + 12 * group_count m ≤ length m.table
+  pub fits : groups_end m ≤ length m.table
   pub size : length m.table ≤ font_limit
 
 -- the glyph of a character by group i, whose end is not before it: glyphs of a group follow each other
@@ -50,3 +55,7 @@ abbrev pub by_group : Format12 → ℕ → ℕ → ℕ → ℕ
 by_group m glyphs c i =
     if nat_lt c (start_char_code m i) then 0
     else or_missing glyphs (start_glyph_id m i + (c - start_char_code m i))
+
+-- how many numbers are read for that: startCharCode, then startGlyphID
+abbrev pub group_reads : Format12 → ℕ → ℕ → ℕ
+group_reads m c i = if nat_lt c (start_char_code m i) then 1 else 2

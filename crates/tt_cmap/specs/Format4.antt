@@ -5,6 +5,7 @@ use Rattle.tt_core.specs.Faults.{Fault}
 use Rattle.tt_core.specs.declared.fault.Why.TheVariants as why
 use Rattle.tt_core.specs.Limits.{font_limit}
 use Rattle.tt_core.specs.Numbers.{unsigned_at, number_at}
+use Rattle.tt_cmap.specs.Glyphs.{or_missing}
 use Rattle.tt_cmap.specs.Subtables.{cmap_fault}
 
 -- a subtable of format 4: the bytes of cmap, and where it begins in them
@@ -12,12 +13,12 @@ pub record Format4 : Type 0 where
   pub table : List ℕ
   pub at : ℕ
 
--- twice the number of segments
-abbrev pub segment_bytes : Format4 → ℕ
-segment_bytes m = unsigned_at m.table (m.at + 6) 2
+-- segCountX2: twice the number of segments, and so the bytes of each of the four lists
+abbrev pub seg_count_x2 : Format4 → ℕ
+seg_count_x2 m = unsigned_at m.table (m.at + 6) 2
 
-abbrev pub segment_count : Format4 → ℕ
-segment_count m = segment_bytes m / 2
+abbrev pub seg_count : Format4 → ℕ
+seg_count m = seg_count_x2 m / 2
 
 -- where the last character of segment i stands
 abbrev pub end_code_place : Format4 → ℕ → ℕ
@@ -26,37 +27,37 @@ end_code_place m i = m.at + 14 + 2 * i
 abbrev pub end_code : Format4 → ℕ → ℕ
 end_code m i = unsigned_at m.table (end_code_place m i) 2
 
--- startCode, idDelta and idRangeOffset are three more lists behind a word of padding, each as long as the first
+-- startCode, idDelta and idRangeOffset are three more lists after a word of padding, each as long as the first
 abbrev pub start_code : Format4 → ℕ → ℕ
-start_code m i = unsigned_at m.table (m.at + 16 + segment_bytes m + 2 * i) 2
+start_code m i = unsigned_at m.table (m.at + 16 + seg_count_x2 m + 2 * i) 2
 
 abbrev pub id_delta : Format4 → ℕ → ℕ
-id_delta m i = unsigned_at m.table (m.at + 16 + 2 * segment_bytes m + 2 * i) 2
+id_delta m i = unsigned_at m.table (m.at + 16 + 2 * seg_count_x2 m + 2 * i) 2
 
 abbrev pub id_range_offset_place : Format4 → ℕ → ℕ
-id_range_offset_place m i = m.at + 16 + 3 * segment_bytes m + 2 * i
+id_range_offset_place m i = m.at + 16 + 3 * seg_count_x2 m + 2 * i
 
 abbrev pub id_range_offset : Format4 → ℕ → ℕ
 id_range_offset m i = unsigned_at m.table (id_range_offset_place m i) 2
+
+-- where the four lists end
+abbrev pub lists_end : Format4 → ℕ
+lists_end m = m.at + 16 + 4 * seg_count_x2 m
 
 -- the subtable at a place, whose four lists have to fit
 unfoldable pub segments_at : List ℕ → ℕ → Result Format4 Fault
 segments_at table at =
     let m : Format4 = record { table = table; at = at } in
     if nat_lt (length table) (at + 14) then Err (cmap_fault at why.CmapShape)
-    else (if not (segment_bytes m % 2 == 0) then Err (cmap_fault (at + 6) why.CmapShape)
-    else (if nat_lt (length table) (at + 16 + 4 * segment_bytes m) then Err (cmap_fault at why.CmapShape)
+    else (if not (seg_count_x2 m % 2 == 0) then Err (cmap_fault (at + 6) why.CmapShape)
+    else (if nat_lt (length table) (lists_end m) then Err (cmap_fault at why.CmapShape)
     else Ok m))
 
 -- its four lists fit into a cmap of a lawful font
 pub record IsFormat4 (m : Format4) : Type 0 where
-  pub even : segment_bytes m % 2 ≡ 0
-  pub fits : m.at + 16 + 4 * segment_bytes m ≤ length m.table
+  pub even : seg_count_x2 m % 2 ≡ 0
+  pub fits : lists_end m ≤ length m.table
   pub size : length m.table ≤ font_limit
-
--- a glyph number that the font has, and 0 for any other (profile)
-abbrev pub or_missing : ℕ → ℕ → ℕ
-or_missing glyphs g = if nat_lt g glyphs then g else 0
 
 -- what the array of glyph numbers has: 0 stays 0, and a word past the end of cmap is 0 too (profile)
 abbrev pub by_array : ℕ → ℕ → Option ℕ → ℕ
@@ -73,3 +74,7 @@ by_segment m glyphs c i =
     if nat_lt c (start_code m i) then 0
     else (if id_range_offset m i == 0 then or_missing glyphs ((c + id_delta m i) % 65536)
     else by_array glyphs (id_delta m i) (number_at m.table (array_place m i c) 2))
+
+-- how many numbers are read for that: startCode, then idDelta and idRangeOffset, then one of the array
+abbrev pub segment_reads : Format4 → ℕ → ℕ → ℕ
+segment_reads m c i = if nat_lt c (start_code m i) then 1 else (if id_range_offset m i == 0 then 3 else 4)

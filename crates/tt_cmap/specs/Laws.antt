@@ -2,9 +2,9 @@
 use Rattle.std.specs.Prelude.{◌≡◌, List, ℕ, Ok}
 use Rattle.tt_core.specs.Directory.{HasNo}
 use Rattle.tt_cmap.specs.Defects.{IsBadCmap}
-use Rattle.tt_cmap.specs.Lookup.{Cmap, lookup_of}
+use Rattle.tt_cmap.specs.Lookup.{Cmap, cmap_of}
 
--- where the table gives a lookup, its bytes have no defect
-abbrev pub LookupsAreWhole : Type 0
-LookupsAreWhole = (table : List ℕ) (glyphs : ℕ) (lookup : Cmap) → lookup_of table glyphs ≡ Ok lookup
+-- where a table gives a character map, its bytes have no defect
+abbrev pub CmapsAreWhole : Type 0
+CmapsAreWhole = (table : List ℕ) (glyphs : ℕ) (cmap : Cmap) → cmap_of table glyphs ≡ Ok cmap
     → HasNo (IsBadCmap table)

@@ -1,6 +1,8 @@
 pub mod Defects
 pub mod Format12
 pub mod Format4
+pub mod Glyphs
+pub mod Halves
 pub mod Laws
 pub mod Lookup
 pub mod Ranges

@@ -5,32 +5,36 @@ use Rattle.tt_core.specs.declared.fault.Why.TheVariants as why
 use Rattle.tt_core.specs.Outcomes.{◌>>=◌}
 use Rattle.tt_core.specs.Search.{IsLeast, first_below_least, first_below_nothing}
 use Rattle.tt_cmap.specs.declared.records.Format.TheVariants.{Segments, Groups}
-use Rattle.tt_cmap.specs.declared.records.Place.{Place}
-use Rattle.tt_cmap.specs.Ranges.{Subtable, segments, groups, subtable_at, range_count, reaches, by_range, glyph_in}
-use Rattle.tt_cmap.specs.Subtables.{cmap_fault, records_of, place_of, chosen_subtable}
+use Rattle.tt_cmap.specs.declared.records.Choice.{Choice}
+use Rattle.tt_cmap.specs.Ranges.{Subtable, segments, groups, subtable_at, range_count, reaches, by_range, glyph_in, reads_in}
+use Rattle.tt_cmap.specs.Subtables.{cmap_fault, records_of, choice_of, chosen_subtable}
 
 -- the subtable that serves, and how many glyphs the font has
 pub record Cmap : Type 0 where
   pub subtable : Subtable
   pub glyphs : ℕ
 
--- the lookup by a subtable, which has to fit and whose ranges have to end in rising order
-abbrev pub by_subtable : List ℕ → ℕ → Option Place → Result Cmap Fault
+-- the map by a subtable, which has to fit and whose ranges have to end in rising order
+abbrev pub by_subtable : List ℕ → ℕ → Option Choice → Result Cmap Fault
 by_subtable table glyphs None = Err (cmap_fault 0 why.NoCmap)
-by_subtable table glyphs (Some place) =
-    subtable_at table place >>= λ subtable. Ok (record { subtable = subtable; glyphs = glyphs })
+by_subtable table glyphs (Some choice) =
+    subtable_at table choice >>= λ subtable. Ok (record { subtable = subtable; glyphs = glyphs })
 
--- the same behind the records, which have to fit first
-abbrev pub lookup_by : List ℕ → ℕ → Option Place → Result Cmap Fault
-lookup_by table glyphs place = records_of table >>= λ count. by_subtable table glyphs place
+-- the same after the records, which have to fit first
+abbrev pub cmap_by : List ℕ → ℕ → Option Choice → Result Cmap Fault
+cmap_by table glyphs choice = records_of table >>= λ count. by_subtable table glyphs choice
 
--- the lookup by the subtable that serves, or cmap's first fault
-unfoldable pub lookup_of : List ℕ → ℕ → Result Cmap Fault
-lookup_of table glyphs = lookup_by table glyphs (chosen_subtable table)
+-- the map by the subtable that serves, or cmap's first fault
+unfoldable pub cmap_of : List ℕ → ℕ → Result Cmap Fault
+cmap_of table glyphs = cmap_by table glyphs (chosen_subtable table)
 
 -- the glyph of a character
 abbrev pub glyph_of : Cmap → ℕ → ℕ
 glyph_of m c = glyph_in m.subtable m.glyphs c
+
+-- how many numbers of the subtable its lookup reads
+abbrev pub reads_of : Cmap → ℕ → ℕ
+reads_of m c = reads_in m.subtable c
 
 -- g is what the least range that reaches the character says of it, and 0 where no range does
 pub record FollowsRanges (m : Cmap) (c g : ℕ) : Type 0 where
@@ -53,7 +57,7 @@ two_segments =
 abbrev by_segments : ℕ → Cmap
 by_segments glyphs = record { subtable = segments (record { table = two_segments; at = 12 }); glyphs = glyphs }
 
-its_subtable : chosen_subtable two_segments ≡ Some (place_of Segments 12)
+its_subtable : chosen_subtable two_segments ≡ Some (choice_of Segments 12)
 its_subtable = refl
 
 its_first_letter : glyph_of (by_segments 3) 65 ≡ 1
@@ -83,7 +87,7 @@ one_group =
 abbrev by_groups : Cmap
 by_groups = record { subtable = groups (record { table = one_group; at = 12 }); glyphs = 3 }
 
-its_groups : chosen_subtable one_group ≡ Some (place_of Groups 12)
+its_groups : chosen_subtable one_group ≡ Some (choice_of Groups 12)
 its_groups = refl
 
 the_second_of_a_group : glyph_of by_groups 128513 ≡ 2

@@ -7,11 +7,12 @@ use Rattle.tt_core.specs.Outcomes.{◌>>=◌}
 use Rattle.tt_core.specs.Search.{first_below}
 use Rattle.tt_cmap.specs.declared.records.Format.{Format}
 use Rattle.tt_cmap.specs.declared.records.Format.TheVariants as format
-use Rattle.tt_cmap.specs.declared.records.Place.{Place}
+use Rattle.tt_cmap.specs.declared.records.Choice.{Choice}
 use Rattle.tt_cmap.specs.declared.ranges.Subtable as ranges
 use Rattle.tt_cmap.specs.declared.ranges.Subtable.TheVariants as by
-use Rattle.tt_cmap.specs.Format4.{Format4, segment_count, segments_at, end_code, end_code_place, by_segment}
-use Rattle.tt_cmap.specs.Format12.{Format12, group_count, groups_at, end_char_code, end_char_code_place, by_group}
+use Rattle.tt_cmap.specs.Format4.{Format4, seg_count, segments_at, end_code, end_code_place, by_segment, segment_reads}
+use Rattle.tt_cmap.specs.Format12.{Format12, num_groups, groups_at, end_char_code, end_char_code_place, by_group, group_reads}
+use Rattle.tt_cmap.specs.Halves.{asked}
 use Rattle.tt_cmap.specs.Subtables.{cmap_fault}
 
 pub data Subtable : Type 0 where
@@ -23,8 +24,8 @@ table_of (segments m) = m.table
 table_of (groups m) = m.table
 
 abbrev pub range_count : Subtable → ℕ
-range_count (segments m) = segment_count m
-range_count (groups m) = group_count m
+range_count (segments m) = seg_count m
+range_count (groups m) = num_groups m
 
 -- the last character of range i, and where it stands
 abbrev pub range_end : Subtable → ℕ → ℕ
@@ -58,10 +59,10 @@ subtable_with format.Segments table at = segments_at table at >>= λ m. Ok (segm
 subtable_with format.Groups table at = groups_at table at >>= λ m. Ok (groups m)
 
 -- and whose ranges have to end in rising order
-abbrev pub subtable_at : List ℕ → Place → Result Subtable Fault
+abbrev pub subtable_at : List ℕ → Choice → Result Subtable Fault
 subtable_at table p = subtable_with p.format table p.at >>= λ s. or_falling s (falling_range s)
 
--- range i ends at the character, or behind it
+-- range i ends at the character or after it
 abbrev pub reaches : Subtable → ℕ → ℕ → Bool
 reaches s c i = nat_le c (range_end s i)
 
@@ -77,9 +78,32 @@ abbrev pub by_found : Subtable → ℕ → ℕ → Option ℕ → ℕ
 by_found s glyphs c None = 0
 by_found s glyphs c (Some i) = by_range s glyphs c i
 
--- the glyph of a character: by the first range that ends at it or behind it, and 0 where there is none
+-- the glyph of a character: by the first range that ends at it or after it, and 0 where there is none
 abbrev pub glyph_in : Subtable → ℕ → ℕ → ℕ
 glyph_in s glyphs c = by_found s glyphs c (range_of s c)
+
+-- how many ends a lookup reads: those that a search by halves asks, of all ranges
+unfoldable pub ends_read : Subtable → ℕ → ℕ
+ends_read s c = asked (reaches s c) 0 (range_count s)
+
+-- how many numbers it reads of the range that it finds
+abbrev pub range_reads : Subtable → ℕ → ℕ → ℕ
+range_reads (segments m) c i = segment_reads m c i
+range_reads (groups m) c i = group_reads m c i
+
+abbrev pub found_reads : Subtable → ℕ → Option ℕ → ℕ
+found_reads s c None = 0
+found_reads s c (Some i) = range_reads s c i
+
+-- how many numbers a lookup reads in all
+abbrev pub reads_in : Subtable → ℕ → ℕ
+reads_in s c = ends_read s c + found_reads s c (range_of s c)
+
+-- the most ends that a lookup can read: a list of format 4 has fewer than 2^15 segments, and the 12 bytes of each group
+-- of format 12 leave fewer than 2^23 of them in a font
+abbrev pub most_ends : Subtable → ℕ
+most_ends (segments m) = 15
+most_ends (groups m) = 23
 
 -- this holds of a subtable of format 4
 abbrev pub IfSegments : Subtable → Type 0 → Type 0

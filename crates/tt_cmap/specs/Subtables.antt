@@ -10,7 +10,7 @@ use Rattle.tt_core.specs.Numbers.{unsigned_at}
 use Rattle.tt_core.specs.Search.{first_below, IsLeast, first_below_least, first_below_nothing}
 use Rattle.tt_cmap.specs.declared.records.Format.{Format}
 use Rattle.tt_cmap.specs.declared.records.Format.TheVariants.{Segments, Groups}
-use Rattle.tt_cmap.specs.declared.records.Place.{Place}
+use Rattle.tt_cmap.specs.declared.records.Choice.{Choice}
 use Rattle.tt_cmap.specs.declared.records.Platform.{Platform}
 use Rattle.tt_cmap.specs.declared.records.Platform.TheVariants.{Windows, Unicode}
 
@@ -71,8 +71,8 @@ first_subtable platform format table =
     option_map (subtable_of table) (first_below (record_count table) (is_wanted platform format table))
 
 -- a subtable by its format and the place where it begins
-abbrev pub place_of : Format → ℕ → Place
-place_of format at = record { format = format; at = at }
+abbrev pub choice_of : Format → ℕ → Choice
+choice_of format at = record { format = format; at = at }
 
 -- the first of two, where it is there
 abbrev pub or_else : {A : Type 0} → Option A → Option A → Option A
@@ -80,12 +80,12 @@ or_else None other = other
 or_else (Some x) other = Some x
 
 -- the first subtable of a format: Windows' before Unicode's
-abbrev pub first_of : Format → List ℕ → Option Place
+abbrev pub first_of : Format → List ℕ → Option Choice
 first_of format table =
-    option_map (place_of format) (or_else (first_subtable Windows format table) (first_subtable Unicode format table))
+    option_map (choice_of format) (or_else (first_subtable Windows format table) (first_subtable Unicode format table))
 
 -- the subtable that serves: one of format 12 before one of format 4
-abbrev pub chosen_subtable : List ℕ → Option Place
+abbrev pub chosen_subtable : List ℕ → Option Choice
 chosen_subtable table = or_else (first_of Groups table) (first_of Segments table)
 
 -- no record of the platform has a subtable of the format
@@ -110,7 +110,7 @@ abbrev pub NoneServes : List ℕ → Type 0
 NoneServes table = HasNoFirst Groups table × HasNoFirst Segments table
 
 is_first_of : (format : Format) (table : List ℕ) (i : ℕ) → IsFirst format table i → first_of format table
-    ≡ Some (place_of format (subtable_of table i))
+    ≡ Some (choice_of format (subtable_of table i))
 is_first_of format table i (inl least) =
     rw (first_below_least (is_wanted Windows format table) (record_count table) i least) refl
 is_first_of format table i (inr least) =
@@ -125,7 +125,7 @@ none_of format table none =
     rw (windows, unicode) refl
 
 pub chosen_serves : (format : Format) (table : List ℕ) (i : ℕ) → Serves format table i → chosen_subtable table
-    ≡ Some (place_of format (subtable_of table i))
+    ≡ Some (choice_of format (subtable_of table i))
 chosen_serves Groups table i first = rw (is_first_of Groups table i first) refl
 chosen_serves Segments table i first = rw (none_of Groups table first.0, is_first_of Segments table i first.1) refl
 
@@ -138,14 +138,14 @@ abbrev two_records : ℕ → ℕ → List ℕ
 two_records encoding format =
     0 ∷ 0 ∷ 0 ∷ 2 ∷ 0 ∷ 0 ∷ 0 ∷ 3 ∷ 0 ∷ 0 ∷ 0 ∷ 20 ∷ 0 ∷ 3 ∷ 0 ∷ encoding ∷ 0 ∷ 0 ∷ 0 ∷ 22 ∷ 0 ∷ 4 ∷ 0 ∷ format ∷ []
 
-windows_before_unicode : chosen_subtable (two_records 1 4) ≡ Some (place_of Segments 22)
+windows_before_unicode : chosen_subtable (two_records 1 4) ≡ Some (choice_of Segments 22)
 windows_before_unicode = refl
 
-another_format : chosen_subtable (two_records 1 6) ≡ Some (place_of Segments 20)
+another_format : chosen_subtable (two_records 1 6) ≡ Some (choice_of Segments 20)
 another_format = refl
 
-groups_before_segments : chosen_subtable (two_records 10 12) ≡ Some (place_of Groups 22)
+groups_before_segments : chosen_subtable (two_records 10 12) ≡ Some (choice_of Groups 22)
 groups_before_segments = refl
 
-groups_of_another_encoding : chosen_subtable (two_records 1 12) ≡ Some (place_of Segments 20)
+groups_of_another_encoding : chosen_subtable (two_records 1 12) ≡ Some (choice_of Segments 20)
 groups_of_another_encoding = refl

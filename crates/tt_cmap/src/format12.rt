@@ -2,112 +2,131 @@
 
 ghost use Rattle.std.specs.Prelude.{◌≡◌, ◌+◌, ◌*◌, ◌^◌, ◌<◌, ◌≤◌, length, IfOk, IfErr};
 ghost use Rattle.tt_core.specs.Limits.{font_limit};
-ghost use Rattle.tt_core.specs.Numbers.{unsigned_at};
 ghost use Rattle.tt_core.specs.Outcomes.{Gives};
 ghost use Rattle.tt_cmap.specs.Defects.{IsBadFormat12};
-ghost use Rattle.tt_cmap.specs.Format12.{groups_at, group_count, group_place, end_char_code, end_char_code_place, by_group};
+ghost use Rattle.tt_cmap.specs.Format12.{groups_at, num_groups, group_place, end_char_code, end_char_code_place, by_group, group_reads};
 
-use crate::format4::known;
+use crate::glyphs::or_missing;
+use crate::lookup::reads::Reads;
 use crate::records::CMAP;
+use crate::table::Table;
 use std::marker::Model;
 use tt_core::{Fault, Why};
 
-fn long(table: &[u8], at: usize) -> usize
-    requires { at + 4 ≤ length table.now }
-    ensures exact { result ≡ unsigned_at table.now at 4 }
-    ensures bound { result < 2 ^ 32 }
-{
-    u32::from_be_bytes([table[at], table[at + 1], table[at + 2], table[at + 3]]) as usize
-}
+/// Where numGroups stands in the subtable: a uint32.
+const NUM_GROUPS: usize = 12;
+
+/// Where the groups begin.
+const GROUPS: usize = 16;
+
+/// The bytes of a group: three uint32, of which startCharCode is the first.
+const GROUP: usize = 12;
+
+/// Where endCharCode stands in a group.
+const END_CHAR_CODE: usize = 4;
+
+/// Where startGlyphID stands in a group.
+const START_GLYPH_ID: usize = 8;
 
 /// A subtable whose groups fit. A clause sees it as the bytes of cmap and where it begins.
 #[derive(Drop)]
 pub(crate) struct Format12<'a> {
-    table: &'a [u8],
+    table: Table<'a>,
     at: usize,
     count: usize,
 }
 
 impl<'a> Model for Format12<'a> {
     ghost use Rattle.std.specs.Prelude.{◌≡◌};
-    ghost use Rattle.tt_cmap.specs.Format12.{IsFormat12, group_count};
+    ghost use Rattle.tt_cmap.specs.Format12.{IsFormat12, num_groups};
     ghost use Rattle.tt_cmap.specs.Format12 as groups;
 
     ghost Value = { groups.Format12 };
 
-    ghost view = { λ m. record { table = m.table.now; at = m.at } };
+    ghost view = { λ m. record { table = m.table; at = m.at } };
 
-    ghost invariant = { λ m. IsFormat12 (record { table = m.table.now; at = m.at })
-        × (m.count ≡ group_count (record { table = m.table.now; at = m.at })) };
+    ghost invariant = { λ m. IsFormat12 (record { table = m.table; at = m.at })
+        × (m.count ≡ num_groups (record { table = m.table; at = m.at })) };
 }
 
 impl<'a> Format12<'a> {
     /// The subtable at a place. Error: CmapShape.
     #[tactic(auto, unfolding(crate::specs::Format12::groups_at))]
-    pub(crate) fn open(table: &'a [u8], at: usize) -> Result<Format12<'a>, Fault>
-        requires size { length table.now ≤ font_limit }
-        requires place { at ≤ length table.now }
-        ensures exact { Gives (λ m. m) result (groups_at table.now at) }
-        ensures whole { IfOk result (λ m. m ≡ record { table = table.now; at = at }) }
-        ensures fault { IfErr result (IsBadFormat12 (record { table = table.now; at = at })) }
+    pub(crate) fn open(
+        table: Table<'a>,
+        at: usize,
+        reads: &mut Reads,
+    ) -> Result<Format12<'a>, Fault>
+        requires size { length table ≤ font_limit }
+        requires place { at ≤ length table }
+        requires room { reads.old + 1 < 2 ^ 32 }
+        ensures exact { Gives (λ m. m) result (groups_at table.entry at) }
+        ensures whole { IfOk result (λ m. m ≡ record { table = table.entry; at = at }) }
+        ensures fault { IfErr result (IsBadFormat12 (record { table = table.entry; at = at })) }
+        ensures few { reads.new ≤ reads.old + 1 }
     {
         let short = Fault::new(CMAP, at as u32, Why::CmapShape);
-        if table.len() < at + 16 {
+        if table.len() < at + GROUPS {
             return Err(short);
         }
-        let count = long(table, at + 12);
-        if table.len() < at + 16 + 12 * count {
+        let count = table.long(at + NUM_GROUPS, reads);
+        if table.len() < at + GROUPS + GROUP * count {
             return Err(short);
         }
         Ok(Format12 { table, at, count })
     }
 
     pub(crate) fn count(&self) -> usize
-        ensures exact { result ≡ group_count self.now }
+        ensures exact { result ≡ num_groups self.now }
         ensures bound { 12 * result ≤ font_limit }
     {
         self.count
     }
 
     fn group_place(&self, i: usize) -> usize
-        requires { i < group_count self.now }
+        requires { i < num_groups self.now }
         ensures exact { result ≡ group_place self.now i }
         ensures fits { result + 12 ≤ length self.now.table }
         ensures size { length self.now.table ≤ font_limit }
     {
-        self.at + 16 + 12 * i
+        self.at + GROUPS + GROUP * i
     }
 
     /// Where the last character of a group stands.
     pub(crate) fn end_char_code_place(&self, i: usize) -> usize
-        requires { i < group_count self.now }
+        requires { i < num_groups self.now }
         ensures exact { result ≡ end_char_code_place self.now i }
         ensures fits { result + 4 ≤ length self.now.table }
         ensures size { length self.now.table ≤ font_limit }
     {
-        self.group_place(i) + 4
+        self.group_place(i) + END_CHAR_CODE
     }
 
-    pub(crate) fn end_char_code(&self, i: usize) -> usize
-        requires { i < group_count self.now }
+    pub(crate) fn end_char_code(&self, i: usize, reads: &mut Reads) -> usize
+        requires group { i < num_groups self.now }
+        requires room { reads.old + 1 < 2 ^ 32 }
         ensures exact { result ≡ end_char_code self.now i }
+        ensures count { reads.new ≡ reads.old + 1 }
     {
-        long(self.table, self.end_char_code_place(i))
+        self.table.long(self.end_char_code_place(i), reads)
     }
 
     /// The glyph of a character by a group whose end is not before it.
-    pub(crate) fn glyph(&self, glyphs: u16, c: usize, i: usize) -> u16
-        requires group { i < group_count self.now }
+    pub(crate) fn glyph(&self, glyphs: u16, c: usize, i: usize, reads: &mut Reads) -> u16
+        requires group { i < num_groups self.now }
         requires character { c < 2 ^ 21 }
         requires glyphs { 0 < glyphs }
+        requires room { reads.old + 2 < 2 ^ 32 }
         ensures exact { result ≡ by_group self.now glyphs c i }
-        ensures below { result < glyphs }
+        ensures bound { result < glyphs }
+        ensures count { reads.new ≡ reads.old + group_reads self.now c i }
     {
         let place = self.group_place(i);
-        let start = long(self.table, place);
+        let start = self.table.long(place, reads);
         if c < start {
             return 0;
         }
-        known(glyphs, long(self.table, place + 8) + (c - start))
+        let first = self.table.long(place + START_GLYPH_ID, reads);
+        or_missing(glyphs, first + (c - start))
     }
 }

@@ -2,152 +2,162 @@
 
 ghost use Rattle.std.specs.Prelude.{◌≡◌, ◌+◌, ◌-◌, ◌*◌, ◌^◌, ◌<◌, ◌≤◌, length, IfOk, IfErr};
 ghost use Rattle.tt_core.specs.Limits.{font_limit};
-ghost use Rattle.tt_core.specs.Numbers.{unsigned_at};
 ghost use Rattle.tt_core.specs.Outcomes.{Gives};
 ghost use Rattle.tt_cmap.specs.Defects.{IsBadFormat4};
-ghost use Rattle.tt_cmap.specs.Format4.{segments_at, segment_bytes, segment_count, end_code, end_code_place, start_code, id_delta, id_range_offset, id_range_offset_place, or_missing, by_segment};
+ghost use Rattle.tt_cmap.specs.Format4.{segments_at, seg_count_x2, seg_count, end_code, end_code_place, start_code, id_delta, id_range_offset, id_range_offset_place, by_segment, segment_reads};
 
+use crate::glyphs::or_missing;
+use crate::lookup::reads::Reads;
 use crate::records::CMAP;
+use crate::table::Table;
 use std::marker::Model;
-use tt_core::{Fault, Why, u16_at};
+use tt_core::{Fault, Why};
 
-fn word(table: &[u8], at: usize) -> usize
-    requires { at + 2 ≤ length table.now }
-    ensures exact { result ≡ unsigned_at table.now at 2 }
-    ensures bound { result < 65536 }
-{
-    usize::from(u16::from_be_bytes([table[at], table[at + 1]]))
-}
+/// Where segCountX2 stands in the subtable: twice the number of segments. It is also how many bytes each of the lists
+/// endCode, startCode, idDelta and idRangeOffset has.
+const SEG_COUNT_X2: usize = 6;
 
-/// A glyph number that the font has, and 0 for any other (profile).
-pub(crate) fn known(glyphs: u16, g: usize) -> u16
-    requires { 0 < glyphs }
-    ensures exact { result ≡ or_missing glyphs g }
-    ensures below { result < glyphs }
-{
-    if g < usize::from(glyphs) { g as u16 } else { 0 }
-}
+/// Where the list endCode begins.
+const END_CODE: usize = 14;
+
+/// What stands before and between the four lists: the 14 bytes, and reservedPad, a uint16 after endCode.
+const HEADER: usize = 16;
+
+/// The bytes of a uint16, as each number of the subtable is.
+const WORD: usize = 2;
 
 /// A subtable whose four lists fit. A clause sees it as the bytes of cmap and where it begins.
 #[derive(Drop)]
 pub(crate) struct Format4<'a> {
-    table: &'a [u8],
+    table: Table<'a>,
     at: usize,
-    count: usize,
+    /// segCountX2.
+    list: usize,
 }
 
 impl<'a> Model for Format4<'a> {
     ghost use Rattle.std.specs.Prelude.{◌≡◌, ◌<◌};
-    ghost use Rattle.tt_cmap.specs.Format4.{IsFormat4, segment_count};
+    ghost use Rattle.tt_cmap.specs.Format4.{IsFormat4, seg_count_x2};
     ghost use Rattle.tt_cmap.specs.Format4 as segments;
 
     ghost Value = { segments.Format4 };
 
-    ghost view = { λ m. record { table = m.table.now; at = m.at } };
+    ghost view = { λ m. record { table = m.table; at = m.at } };
 
-    ghost invariant = { λ m. IsFormat4 (record { table = m.table.now; at = m.at })
-        × (m.count ≡ segment_count (record { table = m.table.now; at = m.at })) × (m.count < 32768) };
+    ghost invariant = { λ m. IsFormat4 (record { table = m.table; at = m.at })
+        × (m.list ≡ seg_count_x2 (record { table = m.table; at = m.at })) × (m.list < 65536) };
 }
 
 impl<'a> Format4<'a> {
     /// The subtable at a place. Error: CmapShape.
     #[tactic(auto, unfolding(crate::specs::Format4::segments_at))]
-    pub(crate) fn open(table: &'a [u8], at: usize) -> Result<Format4<'a>, Fault>
-        requires size { length table.now ≤ font_limit }
-        requires place { at ≤ length table.now }
-        ensures exact { Gives (λ m. m) result (segments_at table.now at) }
-        ensures whole { IfOk result (λ m. m ≡ record { table = table.now; at = at }) }
-        ensures fault { IfErr result (IsBadFormat4 (record { table = table.now; at = at })) }
+    pub(crate) fn open(table: Table<'a>, at: usize, reads: &mut Reads) -> Result<Format4<'a>, Fault>
+        requires size { length table ≤ font_limit }
+        requires place { at ≤ length table }
+        requires room { reads.old + 1 < 2 ^ 32 }
+        ensures exact { Gives (λ m. m) result (segments_at table.entry at) }
+        ensures whole { IfOk result (λ m. m ≡ record { table = table.entry; at = at }) }
+        ensures fault { IfErr result (IsBadFormat4 (record { table = table.entry; at = at })) }
+        ensures few { reads.new ≤ reads.old + 1 }
     {
         let short = Fault::new(CMAP, at as u32, Why::CmapShape);
-        if table.len() < at + 14 {
+        if table.len() < at + END_CODE {
             return Err(short);
         }
-        let bytes = word(table, at + 6);
-        if bytes % 2 != 0 {
-            return Err(Fault::new(CMAP, at as u32 + 6, Why::CmapShape));
+        let list = table.word(at + SEG_COUNT_X2, reads);
+        if list % WORD != 0 {
+            let place = at + SEG_COUNT_X2;
+            return Err(Fault::new(CMAP, place as u32, Why::CmapShape));
         }
-        if table.len() < at + 16 + 4 * bytes {
+        if table.len() < at + HEADER + 4 * list {
             return Err(short);
         }
-        Ok(Format4 {
-            table,
-            at,
-            count: bytes / 2,
-        })
+        Ok(Format4 { table, at, list })
     }
 
     pub(crate) fn count(&self) -> usize
-        ensures exact { result ≡ segment_count self.now }
+        ensures exact { result ≡ seg_count self.now }
         ensures bound { result < 32768 }
     {
-        self.count
+        self.list / WORD
     }
 
     /// Where the last character of a segment stands.
     pub(crate) fn end_code_place(&self, i: usize) -> usize
-        requires { i < segment_count self.now }
+        requires { i < seg_count self.now }
         ensures exact { result ≡ end_code_place self.now i }
         ensures fits { result + 2 ≤ length self.now.table }
         ensures size { length self.now.table ≤ font_limit }
     {
-        self.at + 14 + 2 * i
+        self.at + END_CODE + WORD * i
     }
 
-    pub(crate) fn end_code(&self, i: usize) -> usize
-        requires { i < segment_count self.now }
+    pub(crate) fn end_code(&self, i: usize, reads: &mut Reads) -> usize
+        requires segment { i < seg_count self.now }
+        requires room { reads.old + 1 < 2 ^ 32 }
         ensures exact { result ≡ end_code self.now i }
         ensures bound { result < 65536 }
+        ensures count { reads.new ≡ reads.old + 1 }
     {
-        word(self.table, self.end_code_place(i))
+        self.table.word(self.end_code_place(i), reads)
     }
 
-    fn start_code(&self, i: usize) -> usize
-        requires { i < segment_count self.now }
+    fn start_code(&self, i: usize, reads: &mut Reads) -> usize
+        requires segment { i < seg_count self.now }
+        requires room { reads.old + 1 < 2 ^ 32 }
         ensures exact { result ≡ start_code self.now i }
         ensures bound { result < 65536 }
+        ensures count { reads.new ≡ reads.old + 1 }
     {
-        word(self.table, self.at + 16 + 2 * self.count + 2 * i)
+        let start_codes = self.at + HEADER + self.list;
+        self.table.word(start_codes + WORD * i, reads)
     }
 
-    fn id_delta(&self, i: usize) -> usize
-        requires { i < segment_count self.now }
+    fn id_delta(&self, i: usize, reads: &mut Reads) -> usize
+        requires segment { i < seg_count self.now }
+        requires room { reads.old + 1 < 2 ^ 32 }
         ensures exact { result ≡ id_delta self.now i }
         ensures bound { result < 65536 }
+        ensures count { reads.new ≡ reads.old + 1 }
     {
-        word(self.table, self.at + 16 + 4 * self.count + 2 * i)
+        let id_deltas = self.at + HEADER + 2 * self.list;
+        self.table.word(id_deltas + WORD * i, reads)
     }
 
     fn id_range_offset_place(&self, i: usize) -> usize
-        requires { i < segment_count self.now }
+        requires { i < seg_count self.now }
         ensures exact { result ≡ id_range_offset_place self.now i }
         ensures fits { result + 2 ≤ length self.now.table }
         ensures size { length self.now.table ≤ font_limit }
     {
-        self.at + 16 + 6 * self.count + 2 * i
+        let id_range_offsets = self.at + HEADER + 3 * self.list;
+        id_range_offsets + WORD * i
     }
 
     /// The glyph of a character by a segment whose end is not before it.
-    pub(crate) fn glyph(&self, glyphs: u16, c: usize, i: usize) -> u16
-        requires segment { i < segment_count self.now }
+    pub(crate) fn glyph(&self, glyphs: u16, c: usize, i: usize, reads: &mut Reads) -> u16
+        requires segment { i < seg_count self.now }
         requires character { c < 2 ^ 21 }
         requires glyphs { 0 < glyphs }
+        requires room { reads.old + 4 < 2 ^ 32 }
         ensures exact { result ≡ by_segment self.now glyphs c i }
-        ensures below { result < glyphs }
+        ensures bound { result < glyphs }
+        ensures count { reads.new ≡ reads.old + segment_reads self.now c i }
     {
-        let start = self.start_code(i);
+        let start = self.start_code(i, reads);
         if c < start {
             return 0;
         }
-        let delta = self.id_delta(i);
+        let delta = self.id_delta(i, reads);
         let place = self.id_range_offset_place(i);
-        let range_offset = word(self.table, place);
+        let range_offset = self.table.word(place, reads);
         if range_offset == 0 {
-            return known(glyphs, (c + delta) % 65536);
+            return or_missing(glyphs, (c + delta) % 65536);
         }
-        match u16_at(self.table, place + range_offset + 2 * (c - start)) {
+        let in_array = place + range_offset + WORD * (c - start);
+        match self.table.word_if_there(in_array, reads) {
             None | Some(0) => 0,
-            Some(glyph) => known(glyphs, (usize::from(glyph) + delta) % 65536),
+            Some(glyph) => or_missing(glyphs, (usize::from(glyph) + delta) % 65536),
         }
     }
 }

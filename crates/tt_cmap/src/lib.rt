@@ -3,9 +3,11 @@
 
 mod format12;
 mod format4;
+mod glyphs;
 pub mod laws;
 mod lookup;
 mod ranges;
 mod records;
+mod table;
 
-pub use lookup::Cmap;
+pub use lookup::{Cmap, Lookup};

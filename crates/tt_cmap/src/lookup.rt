@@ -1,19 +1,31 @@
-//! The table as a whole.
+//! The table as a whole, and a lookup in it.
 
-ghost use Rattle.std.specs.Prelude.{◌≡◌, ◌<◌, ◌≤◌, ℕ, length, Some, None, IsTrue, IfSome, IfOk, IfErr, OnOk};
+ghost use Rattle.std.specs.Prelude.{◌≡◌, ◌+◌, ◌<◌, ◌≤◌, ℕ, length, Some, None, IsTrue, IfSome, IfOk, IfErr, OnOk};
 ghost use Rattle.tt_core.specs.Limits.{font_limit};
 ghost use Rattle.tt_core.specs.Directory.{HasNo};
 ghost use Rattle.tt_core.specs.Outcomes.{Gives};
 ghost use Rattle.tt_cmap.specs.declared.records.Format.{Format};
-ghost use Rattle.tt_cmap.specs.Lookup.{lookup_of, lookup_by, by_subtable, glyph_of, FollowsRanges};
-ghost use Rattle.tt_cmap.specs.Ranges.{table_of, IfSegments};
-ghost use Rattle.tt_cmap.specs.Subtables.{subtable_of, place_of, Serves, NoneServes};
+ghost use Rattle.tt_cmap.specs.Lookup.{cmap_of, cmap_by, by_subtable, glyph_of, reads_of, FollowsRanges};
+ghost use Rattle.tt_cmap.specs.Ranges.{table_of, most_ends, IfSegments};
+ghost use Rattle.tt_cmap.specs.Subtables.{subtable_of, choice_of, Serves, NoneServes};
 ghost use Rattle.tt_cmap.specs.Defects.{IsBadCmap, IsBadChoice};
 
+pub(crate) mod reads;
+
+use crate::lookup::reads::Reads;
 use crate::ranges::Subtable;
-use crate::records::{CMAP, Place, chosen, record_count};
+use crate::records::{CMAP, Choice, chosen, record_count};
 use std::marker::Model;
 use tt_core::{Fault, Why};
+
+/// What a lookup answers.
+#[derive(Clone, Copy)]
+pub struct Lookup {
+    /// The glyph: 0, the missing glyph, where the map has none, or one that the font lacks (profile).
+    pub glyph: u16,
+    /// How many numbers of the subtable were read for it.
+    pub reads: u32,
+}
 
 /// A character map. A clause sees it as the subtable that serves and the number of glyphs.
 #[derive(Drop)]
@@ -38,15 +50,15 @@ impl<'a> Cmap<'a> {
     /// Chooses the first record of platform 3 and encoding 10 with a subtable of format 12, else the first of
     /// platform 0 with one; else the first of platform 3 and encoding 1 with a subtable of format 4, else the first of
     /// platform 0 with one (profile). Errors: CmapShape, NoCmap.
-    #[tactic(auto, unfolding(crate::specs::Lookup::lookup_of))]
+    #[tactic(auto, unfolding(crate::specs::Lookup::cmap_of))]
     pub fn open(table: &'a [u8], glyphs: u16) -> Result<Cmap<'a>, Fault>
         requires size { length table.now ≤ font_limit }
         requires glyphs { 0 < glyphs }
-        ensures exact { Gives (λ c. c) result (lookup_of table.now glyphs) }
+        ensures exact { Gives (λ c. c) result (cmap_of table.now glyphs) }
         // The record that serves names the subtable.
         ensures first { (format : Format) (i : ℕ) → Serves format table.now i
-            → Gives (λ c. c) result (lookup_by table.now glyphs (Some (place_of format (subtable_of table.now i)))) }
-        ensures absent { NoneServes table.now → Gives (λ c. c) result (lookup_by table.now glyphs None) }
+            → Gives (λ c. c) result (cmap_by table.now glyphs (Some (choice_of format (subtable_of table.now i)))) }
+        ensures absent { NoneServes table.now → Gives (λ c. c) result (cmap_by table.now glyphs None) }
         ensures whole { IfOk result (λ c. table_of c.subtable ≡ table.now) }
         ensures glyphs { IfOk result (λ c. c.glyphs ≡ glyphs) }
         ensures sound { OnOk result (HasNo (IsBadCmap table.now)) }
@@ -56,33 +68,52 @@ impl<'a> Cmap<'a> {
         Cmap::by_subtable(table, glyphs, chosen(table, count))
     }
 
-    /// The map by the subtable that begins at a place. Errors: NoCmap, CmapShape.
-    fn by_subtable(table: &'a [u8], glyphs: u16, place: Option<Place>) -> Result<Cmap<'a>, Fault>
+    /// The map by the subtable that was chosen. Errors: NoCmap, CmapShape.
+    fn by_subtable(table: &'a [u8], glyphs: u16, choice: Option<Choice>) -> Result<Cmap<'a>, Fault>
         requires size { length table.now ≤ font_limit }
-        requires within { IfSome place (λ p. p.at ≤ length table.now) }
+        requires within { IfSome choice (λ p. p.at ≤ length table.now) }
         requires glyphs { 0 < glyphs }
-        ensures exact { Gives (λ c. c) result (by_subtable table.now glyphs place) }
+        ensures exact { Gives (λ c. c) result (by_subtable table.now glyphs choice) }
         ensures whole { IfOk result (λ c. table_of c.subtable ≡ table.now) }
         ensures glyphs { IfOk result (λ c. c.glyphs ≡ glyphs) }
-        ensures fault { IfErr result (IsBadChoice table.now place) }
+        ensures fault { IfErr result (IsBadChoice table.now choice) }
     {
-        let Some(place) = place else {
+        let Some(choice) = choice else {
             return Err(Fault::new(CMAP, 0, Why::NoCmap));
         };
         Ok(Cmap {
-            subtable: Subtable::open(table, place)?,
+            subtable: Subtable::open(table, choice, &mut Reads::none())?,
             glyphs,
         })
     }
 
+    /// The glyph of a character, and how many numbers of the subtable were read for it: ends of ranges, by halves, and
+    /// then at most 4 of the range that is found.
+    pub fn look_up(&self, c: char) -> Lookup
+        ensures exact { result.glyph ≡ glyph_of self.now c }
+        ensures ranges { FollowsRanges self.now c result.glyph }
+        // Segments end at U+FFFF.
+        ensures beyond { IfSegments self.now.subtable (0xFFFF < c → result.glyph ≡ 0) }
+        ensures bound { result.glyph < self.now.glyphs }
+        ensures count { result.reads ≡ reads_of self.now c }
+        ensures few { result.reads ≤ most_ends self.now.subtable + 4 }
+    {
+        let mut reads = Reads::none();
+        let glyph = self.subtable.glyph(self.glyphs, c as usize, &mut reads);
+        Lookup {
+            glyph,
+            reads: reads.count(),
+        }
+    }
+
     /// The glyph of a character: 0 where the map has none, or one that the font lacks (profile).
     pub fn glyph(&self, c: char) -> u16
-        ensures meaning { result ≡ glyph_of self.now c }
+        ensures exact { result ≡ glyph_of self.now c }
         ensures ranges { FollowsRanges self.now c result }
         // Segments end at U+FFFF.
         ensures beyond { IfSegments self.now.subtable (0xFFFF < c → result ≡ 0) }
-        ensures below { result < self.now.glyphs }
+        ensures bound { result < self.now.glyphs }
     {
-        self.subtable.glyph(self.glyphs, c as usize)
+        self.look_up(c).glyph
     }
 }

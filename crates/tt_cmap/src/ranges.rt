@@ -4,11 +4,13 @@ ghost use Rattle.std.specs.Prelude.{◌≡◌, ◌+◌, ◌-◌, ◌*◌, ◌^�
 ghost use Rattle.tt_core.specs.Limits.{font_limit};
 ghost use Rattle.tt_core.specs.Outcomes.{Gives};
 ghost use Rattle.tt_cmap.specs.Defects.{IsBadShape, IsBadSubtable, range_end_size};
-ghost use Rattle.tt_cmap.specs.Ranges.{read_as, subtable_with, subtable_at, subtable_view, table_of, range_count, range_end, range_end_place, falls, falling_range, reaches, range_of, by_range, glyph_in, IfSegments};
+ghost use Rattle.tt_cmap.specs.Ranges.{read_as, subtable_with, subtable_at, subtable_view, table_of, range_count, range_end, range_end_place, falls, falling_range, range_of, by_range, glyph_in, ends_read, range_reads, reads_in, most_ends, IfSegments};
 
 use crate::format4::Format4;
 use crate::format12::Format12;
-use crate::records::{CMAP, Format, Place};
+use crate::lookup::reads::Reads;
+use crate::records::{CMAP, Choice, Format};
+use crate::table::Table;
 use tt_core::{Fault, Why};
 
 /// A subtable that is read: its ranges are segments or groups.
@@ -18,39 +20,40 @@ pub(crate) enum Subtable<'a> {
     Groups(Format12<'a>),
 }
 
-/// What a search found, and how many last characters it read for that.
-#[derive(Clone, Copy)]
-struct Found {
-    range: Option<usize>,
-    probes: u32,
-}
-
 impl<'a> Subtable<'a> {
-    /// The subtable at a place, which has to fit. Error: CmapShape.
-    fn with(table: &'a [u8], place: Place) -> Result<Subtable<'a>, Fault>
+    /// The subtable that was chosen, which has to fit. Error: CmapShape.
+    fn with(table: &'a [u8], choice: Choice, reads: &mut Reads) -> Result<Subtable<'a>, Fault>
         requires size { length table.now ≤ font_limit }
-        requires place { place.at ≤ length table.now }
-        ensures exact { Gives subtable_view result (subtable_with place.format table.now place.at) }
-        ensures whole { IfOk result (λ s. subtable_view s ≡ read_as place.format table.now place.at) }
-        ensures fault { IfErr result (IsBadShape place.format table.now place.at) }
+        requires place { choice.at ≤ length table.now }
+        requires room { reads.old + 1 < 2 ^ 32 }
+        ensures exact { Gives subtable_view result (subtable_with choice.format table.now choice.at) }
+        ensures whole { IfOk result (λ s. subtable_view s ≡ read_as choice.format table.now choice.at) }
+        ensures fault { IfErr result (IsBadShape choice.format table.now choice.at) }
+        ensures few { reads.new ≤ reads.old + 1 }
     {
-        match place.format {
-            Format::Segments => Ok(Subtable::Segments(Format4::open(table, place.at)?)),
-            Format::Groups => Ok(Subtable::Groups(Format12::open(table, place.at)?)),
+        let table = Table::new(table);
+        match choice.format {
+            Format::Segments => Ok(Subtable::Segments(Format4::open(table, choice.at, reads)?)),
+            Format::Groups => Ok(Subtable::Groups(Format12::open(table, choice.at, reads)?)),
         }
     }
 
     /// The same, whose ranges have to end in rising order. Error: CmapShape.
-    pub(crate) fn open(table: &'a [u8], place: Place) -> Result<Subtable<'a>, Fault>
+    pub(crate) fn open(
+        table: &'a [u8],
+        choice: Choice,
+        reads: &mut Reads,
+    ) -> Result<Subtable<'a>, Fault>
         requires size { length table.now ≤ font_limit }
-        requires place { place.at ≤ length table.now }
-        ensures exact { Gives subtable_view result (subtable_at table.now place) }
+        requires place { choice.at ≤ length table.now }
+        requires room { reads.old + 2 ^ 31 < 2 ^ 32 }
+        ensures exact { Gives subtable_view result (subtable_at table.now choice) }
         ensures rises { IfOk result (λ s. falling_range (subtable_view s) ≡ None) }
-        ensures whole { IfOk result (λ s. subtable_view s ≡ read_as place.format table.now place.at) }
-        ensures fault { IfErr result (IsBadSubtable table.now place) }
+        ensures whole { IfOk result (λ s. subtable_view s ≡ read_as choice.format table.now choice.at) }
+        ensures fault { IfErr result (IsBadSubtable table.now choice) }
     {
-        let subtable = Subtable::with(table, place)?;
-        match subtable.falling() {
+        let subtable = Subtable::with(table, choice, reads)?;
+        match subtable.falling(reads) {
             Some(i) => Err(Fault::new(CMAP, subtable.end_place(i + 1), Why::CmapShape)),
             None => Ok(subtable),
         }
@@ -58,8 +61,8 @@ impl<'a> Subtable<'a> {
 
     fn count(&self) -> usize
         ensures exact { result ≡ range_count (subtable_view self.now) }
-        ensures bound { result ≤ font_limit }
-        ensures segments { IfSegments (subtable_view self.now) (result < 32768) }
+        ensures bound { result < 2 ^ most_ends (subtable_view self.now) }
+        ensures few { result < 2 ^ 23 }
     {
         match self {
             Subtable::Segments(s) => s.count(),
@@ -79,85 +82,90 @@ impl<'a> Subtable<'a> {
         }
     }
 
-    fn end(&self, i: usize) -> usize
-        requires { i < range_count (subtable_view self.now) }
+    fn end(&self, i: usize, reads: &mut Reads) -> usize
+        requires range { i < range_count (subtable_view self.now) }
+        requires room { reads.old + 1 < 2 ^ 32 }
         ensures exact { result ≡ range_end (subtable_view self.now) i }
         ensures plane { IfSegments (subtable_view self.now) (result ≤ 0xFFFF) }
+        ensures count { reads.new ≡ reads.old + 1 }
     {
         match self {
-            Subtable::Segments(s) => s.end_code(i),
-            Subtable::Groups(g) => g.end_char_code(i),
+            Subtable::Segments(s) => s.end_code(i, reads),
+            Subtable::Groups(g) => g.end_char_code(i, reads),
         }
     }
 
     /// The first range that the next one ends before.
     #[tactic(auto, using(tt_core::specs::Search::first_from_next, tt_core::specs::Search::first_from_here))]
-    fn falling(&self) -> Option<usize>
-        ensures first { result ≡ falling_range (subtable_view self.now) }
+    fn falling(&self, reads: &mut Reads) -> Option<usize>
+        requires room { reads.old + 2 ^ 30 < 2 ^ 32 }
+        ensures exact { result ≡ falling_range (subtable_view self.now) }
         ensures bound { IfSome result (λ i. i + 1 < range_count (subtable_view self.now)) }
         ensures falls { IfSome result (λ i. falls (subtable_view self.now) i ≡ true) }
     {
         for i in 0..self.count().saturating_sub(1) {
-            if self.end(i + 1) < self.end(i) {
+            if self.end(i + 1, reads) < self.end(i, reads) {
                 return Some(i);
             }
         }
         None
     }
 
-    /// The first range that ends at the character, or behind it: by halves.
-    fn search(&self, c: usize) -> Found
+    /// The first range that ends at the character or after it, by halves.
+    fn search(&self, c: usize, reads: &mut Reads) -> Option<usize>
         requires rises { falling_range (subtable_view self.now) ≡ None }
-        ensures first { result.range ≡ range_of (subtable_view self.now) c }
-        ensures bound { IfSome result.range (λ i. i < range_count (subtable_view self.now)) }
-        ensures plane { IfSome result.range (λ i. IfSegments (subtable_view self.now) (c ≤ 0xFFFF)) }
-        // A probe halves what is left.
-        ensures halves { 2 ^ result.probes ≤ 2 * range_count (subtable_view self.now) + 1 }
-        ensures segments { IfSegments (subtable_view self.now) (result.probes ≤ 16) }
-        ensures few { result.probes ≤ 32 }
+        requires room { reads.old + 2 ^ 30 < 2 ^ 32 }
+        ensures exact { result ≡ range_of (subtable_view self.now) c }
+        ensures bound { IfSome result (λ i. i < range_count (subtable_view self.now)) }
+        ensures plane { IfSome result (λ i. IfSegments (subtable_view self.now) (c ≤ 0xFFFF)) }
+        ensures count { reads.new ≡ reads.old + ends_read (subtable_view self.now) c }
+        ensures few { ends_read (subtable_view self.now) c ≤ most_ends (subtable_view self.now) }
     {
         let count = self.count();
         let mut low = 0;
         let mut high = count;
-        let mut probes = 0;
         while low < high {
             let middle = low + (high - low) / 2;
-            probes += 1;
-            if self.end(middle) < c {
+            if self.end(middle, reads) < c {
                 low = middle + 1;
             } else {
                 high = middle;
             }
         }
-        let range = if low < count { Some(low) } else { None };
-        Found { range, probes }
+        if low < count { Some(low) } else { None }
     }
 
     /// The glyph of a character by a range whose end is not before it.
-    fn glyph_by(&self, glyphs: u16, c: usize, i: usize) -> u16
+    fn glyph_by(&self, glyphs: u16, c: usize, i: usize, reads: &mut Reads) -> u16
         requires range { i < range_count (subtable_view self.now) }
         requires character { c < 2 ^ 21 }
         requires glyphs { 0 < glyphs }
+        requires room { reads.old + 4 < 2 ^ 32 }
         ensures exact { result ≡ by_range (subtable_view self.now) glyphs c i }
-        ensures below { result < glyphs }
+        ensures bound { result < glyphs }
+        ensures count { reads.new ≡ reads.old + range_reads (subtable_view self.now) c i }
+        ensures few { range_reads (subtable_view self.now) c i ≤ 4 }
     {
         match self {
-            Subtable::Segments(s) => s.glyph(glyphs, c, i),
-            Subtable::Groups(g) => g.glyph(glyphs, c, i),
+            Subtable::Segments(s) => s.glyph(glyphs, c, i, reads),
+            Subtable::Groups(g) => g.glyph(glyphs, c, i, reads),
         }
     }
 
     /// The glyph of a character, below `glyphs`.
-    pub(crate) fn glyph(&self, glyphs: u16, c: usize) -> u16
+    pub(crate) fn glyph(&self, glyphs: u16, c: usize, reads: &mut Reads) -> u16
         requires rises { falling_range (subtable_view self.now) ≡ None }
         requires character { c < 2 ^ 21 }
         requires glyphs { 0 < glyphs }
+        requires room { reads.old + 2 ^ 31 < 2 ^ 32 }
         ensures exact { result ≡ glyph_in (subtable_view self.now) glyphs c }
         ensures beyond { IfSegments (subtable_view self.now) (0xFFFF < c → result ≡ 0) }
-        ensures below { result < glyphs }
+        ensures bound { result < glyphs }
+        ensures count { reads.new ≡ reads.old + reads_in (subtable_view self.now) c }
+        ensures few { reads_in (subtable_view self.now) c ≤ most_ends (subtable_view self.now) + 4 }
     {
-        match self.search(c).range {
-            Some(i) => self.glyph_by(glyphs, c, i),
+        match self.search(c, reads) {
+            Some(i) => self.glyph_by(glyphs, c, i, reads),
             None => 0,
         }
     }

@@ -29,9 +29,9 @@ pub(crate) enum Format {
     Groups,
 }
 
-/// Where a subtable begins, and how it maps.
+/// The subtable that serves: how it maps characters, and where in cmap it begins.
 #[derive(Clone, Copy)]
-pub(crate) struct Place {
+pub(crate) struct Choice {
     pub(crate) format: Format,
     pub(crate) at: usize,
 }
@@ -102,7 +102,7 @@ fn has_format(format: Format, table: &[u8], at: usize) -> bool
 fn first_subtable(platform: Platform, format: Format, table: &[u8], count: usize) -> Option<usize>
     requires count { count ≡ record_count table.now }
     requires fit { record_place count ≤ length table.now }
-    ensures first { result ≡ first_subtable platform format table.now }
+    ensures exact { result ≡ first_subtable platform format table.now }
     ensures within { IfSome result (λ at. at + 2 ≤ length table.now) }
 {
     for i in 0..count {
@@ -114,31 +114,31 @@ fn first_subtable(platform: Platform, format: Format, table: &[u8], count: usize
     None
 }
 
-/// The first subtable of a format, Windows' before Unicode's.
-fn first_of(format: Format, table: &[u8], count: usize) -> Option<Place>
+/// The first subtable of a format: Windows' before Unicode's.
+fn first_of(format: Format, table: &[u8], count: usize) -> Option<Choice>
     requires count { count ≡ record_count table.now }
     requires fit { record_place count ≤ length table.now }
-    ensures first { result ≡ first_of format table.now }
+    ensures exact { result ≡ first_of format table.now }
     ensures within { IfSome result (λ p. p.at + 2 ≤ length table.now) }
 {
     if let Some(at) = first_subtable(Platform::Windows, format, table, count) {
-        return Some(Place { format, at });
+        return Some(Choice { format, at });
     }
     match first_subtable(Platform::Unicode, format, table, count) {
-        Some(at) => Some(Place { format, at }),
+        Some(at) => Some(Choice { format, at }),
         None => None,
     }
 }
 
-/// Where the subtable begins that serves, if one does: one of format 12 before one of format 4.
-pub(crate) fn chosen(table: &[u8], count: usize) -> Option<Place>
+/// The subtable that serves, if one does: one of format 12 before one of format 4.
+pub(crate) fn chosen(table: &[u8], count: usize) -> Option<Choice>
     requires count { count ≡ record_count table.now }
     requires fit { record_place count ≤ length table.now }
-    ensures chosen { result ≡ chosen_subtable table.now }
+    ensures exact { result ≡ chosen_subtable table.now }
     ensures within { IfSome result (λ p. p.at + 2 ≤ length table.now) }
 {
     match first_of(Format::Groups, table, count) {
-        Some(place) => Some(place),
+        Some(choice) => Some(choice),
         None => first_of(Format::Segments, table, count),
     }
 }

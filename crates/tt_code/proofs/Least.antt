@@ -83,7 +83,7 @@ ended s code at lost place depth passed i comes few there end = record {
   place = place;
   comes = comes;
   op = i.op;
-  stands = record { instruction = i; there = there; opcode = refl; behind = refl };
+  stands = record { instruction = i; there = there; opcode = refl; after = refl };
   end = sym (same_end s depth passed i.op few) ∙ end;
 }
 
@@ -91,7 +91,7 @@ further : (s : Sought) (code : List ℕ) (at : ℕ) (place depth : ℕ) (passed 
     → ComesTo s code at passed place → Counted s depth passed → instruction_at code place ≡ Ok i
     → ends s depth i.op ≡ false → ComesTo s code at (i.op ∷ passed) (place + i.len)
 further s code at place depth passed i comes few there none = record {
-  leads = (place, comes.leads, record { instruction = i; there = there; opcode = refl; behind = refl });
+  leads = (place, comes.leads, record { instruction = i; there = there; opcode = refl; after = refl });
   first = (sym (same_end s depth passed i.op few) ∙ none, comes.first);
 }
 

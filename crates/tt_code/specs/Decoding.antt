@@ -10,7 +10,7 @@ pub record Instr : Type 0 where
   pub args : List ℕ
   pub len : ℕ
 
--- the bytes before the data: NPUSHB (40) and NPUSHW (41) have a count behind the opcode
+-- the bytes before the data: NPUSHB (40) and NPUSHW (41) have a count after the opcode
 abbrev pub head_length : ℕ → ℕ
 head_length op = if op == 0x40 || op == 0x41 then 2 else 1
 
@@ -22,7 +22,7 @@ data_length op count =
     if nat_le 0xB0 op && nat_le op 0xB7 then op - 0xAF else (
     if nat_le 0xB8 op && nat_le op 0xBF then 2 * (op - 0xB7) else 0)))
 
--- data stands behind it, be it a count of 0
+-- whether data follows an opcode, be it a count of 0
 abbrev pub takes_data : ℕ → Bool
 takes_data op = op == 0x40 || op == 0x41 || (nat_le 0xB0 op && nat_le op 0xBF)
 

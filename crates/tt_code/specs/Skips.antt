@@ -1,5 +1,5 @@
 -- Apple TrueType Reference Manual, "Instruction Set" (IF, ELSE, EIF, FDEF, ENDF): IF (58) whose condition is false goes
--- on behind its ELSE (1B) or EIF (59), an ELSE that is come to behind its EIF, and FDEF behind the first ENDF (2D). The
+-- on after its ELSE (1B) or EIF (59), an ELSE that is come to after its EIF, and FDEF after the first ENDF (2D). The
 -- program is passed over instruction by instruction, and IFs in between are passed over with their EIFs.
 use Rattle.std.specs.Prelude.{◌≡◌, ℕ, zero, suc, ◌+◌, ◌-◌, ◌<◌, ◌==◌, ◌||◌, ◌&&◌, ◌⊎◌, nat_le, Bool, true, false, if◌then◌else◌, List, [], ◌∷◌, length, count_by, Result, Ok, Err, MatchResult, refl}
 use Rattle.tt_core.specs.Outcomes.{◌>>=◌}
@@ -16,7 +16,7 @@ ends sought.ElseOrEif depth op = depth == 0 && (op == 0x1B || op == 0x59)
 ends sought.Eif depth op = depth == 0 && op == 0x59
 ends sought.Endf depth op = op == 0x2D
 
--- the inner IFs that are open behind an opcode
+-- the inner IFs that are open after an opcode
 abbrev pub depth_after : ℕ → ℕ → ℕ
 depth_after depth op = if op == 0x58 then depth + 1 else (if op == 0x59 then depth - 1 else depth)
 
@@ -49,7 +49,7 @@ definition_end code at = skip_end sought.Endf code at why.NoEndf
 abbrev pub closed : List ℕ → Bool
 closed passed = count_by (λ op. op == 0x58) passed == count_by (λ op. op == 0x59) passed
 
--- whether an opcode behind those that were passed is the end
+-- whether an opcode after those that were passed is the end
 abbrev pub is_end : Sought → List ℕ → ℕ → Bool
 is_end sought.ElseOrEif passed op = closed passed && (op == 0x1B || op == 0x59)
 is_end sought.Eif passed op = closed passed && op == 0x59
@@ -60,7 +60,7 @@ pub record StandsAt (code : List ℕ) (place op next : ℕ) : Type 0 where
   pub instruction : Instr
   pub there : instruction_at code place ≡ Ok instruction
   pub opcode : instruction.op ≡ op
-  pub behind : place + instruction.len ≡ next
+  pub after : place + instruction.len ≡ next
 
 -- instructions with these opcodes lead from one place to another
 abbrev pub Leads : List ℕ → ℕ → List ℕ → ℕ → Type 0

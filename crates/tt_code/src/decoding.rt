@@ -75,7 +75,7 @@ fn data_length(op: u8, count: usize) -> usize
     }
 }
 
-/// The opcode at a byte, where no data stands behind it.
+/// The opcode at a byte, where no data follows it.
 #[inline(always)]
 pub fn plain_opcode(code: &[u8], at: usize) -> Option<u8>
     requires { at < length code.now }

@@ -39,7 +39,7 @@ fn is_end(sought: Sought, depth: usize, op: u8) -> bool
     }
 }
 
-/// How many inner IFs are open behind an opcode.
+/// How many inner IFs are open after an opcode.
 fn depth_after(depth: usize, op: u8) -> usize
     requires { depth + 1 < 2 ^ 64 }
     ensures exact { result ≡ depth_after depth op }
@@ -52,7 +52,7 @@ fn depth_after(depth: usize, op: u8) -> usize
     }
 }
 
-/// The place behind the end of a skip that begins at `at`. Errors: CodeShort where data passes the end, `lost` at `at`
+/// The place after the end of a skip that begins at `at`. Errors: CodeShort where data passes the end, `lost` at `at`
 /// where the program's end is reached.
 fn skip(sought: Sought, code: &[u8], at: usize, lost: Why) -> Result<usize, Halt>
     requires { at < length code.now }
@@ -75,7 +75,7 @@ fn skip(sought: Sought, code: &[u8], at: usize, lost: Why) -> Result<usize, Halt
     Err(Halt { at, why: lost })
 }
 
-/// Of an IF at `at` whose condition is false: the place behind its ELSE or EIF. Errors: CodeShort at an instruction
+/// Of an IF at `at` whose condition is false: the place after its ELSE or EIF. Errors: CodeShort at an instruction
 /// whose data passes the end, IfOpen at `at`.
 pub fn skip_if(code: &[u8], at: usize) -> Result<usize, Halt>
     requires { at < length code.now }
@@ -90,7 +90,7 @@ pub fn skip_if(code: &[u8], at: usize) -> Result<usize, Halt>
     skip(Sought::ElseOrEif, code, at, Why::IfOpen)
 }
 
-/// Of an ELSE at `at` that is come to: the place behind its EIF. Errors: CodeShort at an instruction whose data passes
+/// Of an ELSE at `at` that is come to: the place after its EIF. Errors: CodeShort at an instruction whose data passes
 /// the end, IfOpen at `at`.
 pub fn skip_else(code: &[u8], at: usize) -> Result<usize, Halt>
     requires { at < length code.now }
@@ -105,7 +105,7 @@ pub fn skip_else(code: &[u8], at: usize) -> Result<usize, Halt>
     skip(Sought::Eif, code, at, Why::IfOpen)
 }
 
-/// Of an FDEF at `at`: the place behind the first ENDF. Errors: CodeShort at an instruction whose data passes the end,
+/// Of an FDEF at `at`: the place after the first ENDF. Errors: CodeShort at an instruction whose data passes the end,
 /// NoEndf at `at`.
 pub fn skip_def(code: &[u8], at: usize) -> Result<usize, Halt>
     requires { at < length code.now }

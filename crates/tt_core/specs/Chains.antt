@@ -30,7 +30,7 @@ pub was-err : {A B E : Type 0} (x : Result A E) (f : A → Result B E) (e : E) �
 was-err (Ok v) f e was = inr (record { value = v; first = refl; rest = was })
 was-err (Err d) f e was = inl cc
 
--- a test that was passed, and what comes behind it
+-- a test that was passed, and what comes after it
 pub passed-on : {A E : Type 0} (failed : Bool) (e : E) (x : Result A E) (y : A) → (if failed then Err e else x) ≡ Ok y
     → (failed ≡ false) × (x ≡ Ok y)
 passed-on true e x y was = absurd cc

@@ -68,7 +68,7 @@ or_missing tag (Some table) = Ok table
 unfoldable pub needed_table : List ℕ → List ℕ → Result (List ℕ) Fault
 needed_table file tag = table_of file tag >>= or_missing tag
 
--- What stands behind a fault, apart from the order in which faults are looked for.
+-- What is wrong where a file is refused, apart from the order in which faults are looked for.
 
 -- a defect of the directory itself: it does not fit, or the version is another
 abbrev pub IsDirectoryDefect : List ℕ → Fault → Type 0

@@ -39,3 +39,15 @@ level_limit = 4
 -- a coordinate in magnitude, in 26.6 pixels
 abbrev pub coordinate_limit : ℕ
 coordinate_limit = 2097151
+
+-- steps of one run of a program
+abbrev pub step_limit : ℕ
+step_limit = 1000000
+
+-- calls of functions that may be open at once
+abbrev pub call_limit : ℕ
+call_limit = 64
+
+-- entries of the interpreter's stack
+abbrev pub stack_limit : ℕ
+stack_limit = 8192

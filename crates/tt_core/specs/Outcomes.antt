@@ -15,7 +15,7 @@ abbrev pub each : {A B E : Type 0} → (A → Result B E) → List A → Result 
 each make [] = Ok []
 each make (x ∷ xs) = make x >>= λ y. each make xs >>= λ ys. Ok (y ∷ ys)
 
--- the same behind elements that are there
+-- the same after elements that are there
 abbrev pub after_each : {A B E : Type 0} → (A → Result B E) → List A → List B → Result (List B) E
 after_each make xs before = each make xs >>= λ ys. Ok (before ++ ys)
 

@@ -11,7 +11,7 @@ first_from passes i (suc n) = if passes i then Some i else first_from passes (i 
 abbrev pub first_below : ℕ → (ℕ → Bool) → Option ℕ
 first_below n passes = first_from passes 0 n
 
--- where i does not pass, the search goes on behind it
+-- where i does not pass, the search goes on after it
 pub first_from_next : (passes : ℕ → Bool) (i n : ℕ) → i < n → passes i ≡ false → first_from passes i (n - i)
     ≡ first_from passes (i + 1) (n - (i + 1))
 first_from_next passes i n below fails =

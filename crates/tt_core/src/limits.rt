@@ -30,3 +30,12 @@ pub const LEVEL_LIMIT: u32 = 4;
 /// A coordinate in magnitude, in 26.6 pixels: two of them and a pen are below 2^23, so that every product of a scan
 /// conversion fits 64 bits.
 pub const COORDINATE_LIMIT: i32 = 2_097_151;
+
+/// Steps of one run of a program; a step is one instruction.
+pub const STEP_LIMIT: u32 = 1_000_000;
+
+/// Calls of functions that may be open at once.
+pub const CALL_LIMIT: usize = 64;
+
+/// Entries of the interpreter's stack.
+pub const STACK_LIMIT: usize = 8192;

@@ -1,6 +1,7 @@
 -- What a run computes is what it leads to.
 use Rattle.std.proofs.Common.{◌≡◌, ℕ, zero, suc, ◌+◌, ◌-◌, ◌≤◌, inl, inr, Bool, true, false, Ok, Err, IfSome, sym, ◌∙◌, ap, refl, arith}
 use Rattle.tt_core.specs.Faults.{Fault}
+use Rattle.tt_core.specs.Limits.{step_limit}
 use Rattle.tt_core.specs.declared.fault.Why.TheVariants as why
 use Rattle.tt_core.specs.Outcomes.{font_fault}
 use Rattle.tt_core.specs.declared.font_fault.FontFault.{FontFault}
@@ -8,7 +9,7 @@ use Rattle.tt_core.specs.declared.font_fault.FontFault.TheVariants as font
 use Rattle.tt_exec.specs.declared.fault.ExecFault.{ExecFault}
 use Rattle.tt_exec.specs.Machines.{exec_fault, OutcomeIs}
 use Rattle.tt_exec.specs.MachineState.{MachineState, Machine, fault_in}
-use Rattle.tt_exec.specs.Runs.{Leads, Ends, Halts, step_limit, run_within, run_outcome}
+use Rattle.tt_exec.specs.Runs.{Leads, Ends, Halts, run_within, run_outcome}
 use Rattle.tt_exec.specs.Step.{step, is_ended}
 use Rattle.tt_exec.proofs.Steps.{Stops, end_has_none}
 

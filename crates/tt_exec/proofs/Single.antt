@@ -2,10 +2,11 @@
 use Rattle.std.proofs.Common.{◌≡◌, ℕ, zero, suc, ◌+◌, ◌-◌, ◌<◌, ◌≤◌, ◌⊎◌, inl, inr, Bool, true, false, Result, Ok, Err, sym, ◌∙◌, refl, arith}
 use Rattle.std.proofs.lemmas.Bool.{cases_order}
 use Rattle.tt_core.specs.Faults.{Fault}
+use Rattle.tt_core.specs.Limits.{step_limit}
 use Rattle.tt_core.specs.declared.fault.Why.TheVariants as why
 use Rattle.tt_exec.specs.MachineState.{MachineState, fault_in}
 use Rattle.tt_exec.specs.Outcomes.{HasOneOutcome}
-use Rattle.tt_exec.specs.Runs.{Leads, Ends, Halts, step_limit}
+use Rattle.tt_exec.specs.Runs.{Leads, Ends, Halts}
 use Rattle.tt_exec.specs.Step.{step, is_ended}
 use Rattle.tt_exec.proofs.Computed.{end_is, fault_is}
 use Rattle.tt_exec.proofs.Steps.{HasStep, Stops, end_has_none, one_more}

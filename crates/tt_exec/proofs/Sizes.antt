@@ -8,23 +8,24 @@ use Rattle.tt_code.specs.Decoding.{Instr, instruction_at, takes_data}
 use Rattle.tt_code.specs.Skips.{if_end, else_end, definition_end}
 use Rattle.tt_state.specs.declared.graphics_state.GraphicsState.{GraphicsState}
 use Rattle.tt_points_zones.specs.Zones.{ZoneLists, SameShape}
-use Rattle.tt_exec_points.specs.OnPoints as points
+use Rattle.tt_exec_points.specs.declared.instruction.PointInstruction.{PointInstruction}
+use Rattle.tt_exec_points.specs.Instruction as points
 use Rattle.tt_exec_points.specs.Shapes as shapes
 use Rattle.tt_exec_stack.specs.Arithmetic.{computed}
-use Rattle.tt_exec_stack.specs.Logic.{is_true, decided}
+use Rattle.tt_exec_stack.specs.Logic.{is_true, evaluated}
 use Rattle.tt_exec_stack.specs.Managing.{managed}
-use Rattle.tt_exec_stack.specs.Places.{kept}
+use Rattle.tt_exec_state.specs.StoredValues.{values_accessed}
 use Rattle.tt_exec_stack.specs.Pushing.{pushed_bytes, pushed_words}
-use Rattle.tt_exec_stack.specs.Queries.{told}
-use Rattle.tt_exec_stack.specs.Settings.{adjusted}
-use Rattle.tt_exec_stack.specs.Vectors.{turned}
-use Rattle.tt_exec_stack.specs.declared.places.Places.{Places}
-use Rattle.tt_exec.specs.Calls.{call_limit}
+use Rattle.tt_exec_state.specs.Queries.{answered}
+use Rattle.tt_exec_state.specs.Settings.{state_set}
+use Rattle.tt_exec_state.specs.Vectors.{vectors_accessed}
+use Rattle.tt_exec_state.specs.declared.stored_values.StoredValues.{StoredValues}
+use Rattle.tt_core.specs.Limits.{call_limit}
 use Rattle.tt_exec.specs.Flags.{flagged, instctrl}
 use Rattle.tt_exec.specs.Flow.{goes_to, skipped, jumped, if_from, jmpr, jrot, jrof}
 use Rattle.tt_exec.specs.Functions.{may_define, defined, fdef_from, endf, called, call, called_often, loopcall}
 use Rattle.tt_exec.specs.MachineState.{Body, Frame, MachineState}
-use Rattle.tt_exec.specs.Moving.{left_by, on_points}
+use Rattle.tt_exec.specs.OnPoints.{left_by, on_points}
 use Rattle.tt_exec.specs.Numbered.{is_number, function_at}
 use Rattle.tt_exec.specs.Opcodes.{operation_of}
 use Rattle.tt_exec.specs.Operation.{Operation}
@@ -37,11 +38,11 @@ use Rattle.tt_exec.specs.declared.machine_state.Kind.TheVariants as kind
 
 -- the laws of the instructions on points, and of those on storage and control values
 abbrev pub OnPoints : Type 0
-OnPoints = (opcode ppem : ℕ) (s : List ℤ) (z : ZoneLists) (g : GraphicsState) (cvt : List ℤ) → HasContours z
-    → IfOk (points.on_points opcode ppem s z g cvt) (shapes.SameSizes z cvt)
+OnPoints = (o : PointInstruction) (ppem : ℕ) (s : List ℤ) (z : ZoneLists) (g : GraphicsState) (cvt : List ℤ) → HasContours z
+    → IfOk (points.on_points o ppem s z g cvt) (shapes.SameSizes z cvt)
 
 abbrev pub OnPlaces : Type 0
-OnPlaces = (o : Places) (ppem em : ℕ) (s storage cvt : List ℤ) → IfOk (kept o ppem em s storage cvt)
+OnPlaces = (o : StoredValues) (ppem em : ℕ) (s storage cvt : List ℤ) → IfOk (values_accessed o ppem em s storage cvt)
     (λ t. (length t.1 ≡ length storage) × (length t.2 ≡ length cvt))
 
 -- what a step keeps
@@ -95,11 +96,11 @@ left_by_kept : (at : ℕ) (m : MachineState) (r : Result (List ℤ × ZoneLists 
 left_by_kept at m (Ok t) sizes = (sizes.zones, refl, sizes.control_values)
 left_by_kept at m (Err why) sizes = tt
 
-on_points_kept : OnPoints → (opcode at : ℕ) (m : MachineState) → HasContours m.zones → Keeps m (on_points opcode at m)
+on_points_kept : OnPoints → (o : PointInstruction) (at : ℕ) (m : MachineState) → HasContours m.zones → Keeps m (on_points o at m)
 unfolding on_points
-on_points_kept k opcode at m has =
-    left_by_kept at m (points.on_points opcode m.ppem m.stack m.zones m.graphics m.cvt)
-    (k opcode m.ppem m.stack m.zones m.graphics m.cvt has)
+on_points_kept k o at m has =
+    left_by_kept at m (points.on_points o m.ppem m.stack m.zones m.graphics m.cvt)
+    (k o m.ppem m.stack m.zones m.graphics m.cvt has)
 
 flagged_kept : (k : Kind) (selector : ℤ) (on : Bool) (m : MachineState) → Kept m (flagged k selector on m)
 flagged_kept kind.Font selector on m = same m
@@ -182,19 +183,19 @@ loopcall_kept [] at m = tt
 -- a step
 operate_kept : OnPoints → OnPlaces → (o : Operation) (at : ℕ) (m : MachineState) → HasContours m.zones
     → Keeps m (operate o at m)
-operate_kept k j (op.turn o) at m has = on_graphics_kept at m (turned o m.stack m.graphics)
+operate_kept k j (op.turn o) at m has = on_graphics_kept at m (vectors_accessed o m.stack m.graphics)
 operate_kept k j (op.adjust o) at m has =
-    on_graphics_kept at m (adjusted o m.ppem m.units_per_em m.stack m.graphics)
+    on_graphics_kept at m (state_set o m.ppem m.units_per_em m.stack m.graphics)
 operate_kept k j (op.manage o) at m has = on_stack_kept at m (managed o m.stack)
-operate_kept k j (op.decide o) at m has = on_stack_kept at m (decided o m.graphics.round m.stack)
+operate_kept k j (op.decide o) at m has = on_stack_kept at m (evaluated o m.graphics.round m.stack)
 operate_kept k j (op.compute o) at m has = on_stack_kept at m (computed o m.graphics.round m.stack)
 operate_kept k j (op.keep o) at m has =
-    on_places_kept at m (kept o m.ppem m.units_per_em m.stack m.storage m.cvt)
+    on_places_kept at m (values_accessed o m.ppem m.units_per_em m.stack m.storage m.cvt)
     (j o m.ppem m.units_per_em m.stack m.storage m.cvt)
-operate_kept k j (op.tell o) at m has = on_stack_kept at m (told o m.ppem m.stack)
+operate_kept k j (op.tell o) at m has = on_stack_kept at m (answered o m.ppem m.stack)
 operate_kept k j op.instctrl at m has = instctrl_kept m.stack at m
-operate_kept k j op.if_true at m has = if_kept m.stack at m
-operate_kept k j op.if_false at m has = skipped_kept m (else_end m.frame.code.bytes at)
+operate_kept k j op.if_from at m has = if_kept m.stack at m
+operate_kept k j op.else_from at m has = skipped_kept m (else_end m.frame.code.bytes at)
 operate_kept k j op.eif at m has = same m
 operate_kept k j op.jmpr at m has = jmpr_kept m.stack at m
 operate_kept k j op.jrot at m has = jrot_kept m.stack at m

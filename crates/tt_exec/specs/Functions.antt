@@ -7,7 +7,7 @@ use Rattle.tt_code.specs.declared.decoding.Halt.{Halt}
 use Rattle.tt_code.specs.Skips.{definition_end}
 use Rattle.tt_exec.specs.declared.machine_state.Kind.{Kind}
 use Rattle.tt_exec.specs.declared.machine_state.Kind.TheVariants as kind
-use Rattle.tt_exec.specs.Calls.{call_limit}
+use Rattle.tt_core.specs.Limits.{call_limit}
 use Rattle.tt_exec.specs.Flow.{goes_to}
 use Rattle.tt_exec.specs.MachineState.{Body, Frame, MachineState, fault_in}
 use Rattle.tt_exec.specs.Numbered.{is_number, function_at, with_function}

@@ -1,13 +1,13 @@
-pub mod Calls
 pub mod Examples
 pub mod Flags
 pub mod Flow
 pub mod Functions
 pub mod MachineState
 pub mod Machines
-pub mod Moving
+pub mod OnPoints
 pub mod Numbered
 pub mod Opcodes
+pub mod OpcodeExamples
 pub mod Operation
 pub mod Outcomes
 pub mod Parts

@@ -1,13 +1,13 @@
 -- No part of the standard: an instruction, by the family whose file defines it. Each family's variants are in the
 -- manual's names.
-use Rattle.std.specs.Prelude.{ℕ}
 use Rattle.tt_exec_stack.specs.declared.arithmetic.Arithmetic.{Arithmetic}
 use Rattle.tt_exec_stack.specs.declared.logic.Logic.{Logic}
 use Rattle.tt_exec_stack.specs.declared.managing.Managing.{Managing}
-use Rattle.tt_exec_stack.specs.declared.places.Places.{Places}
-use Rattle.tt_exec_stack.specs.declared.queries.Query.{Query}
-use Rattle.tt_exec_stack.specs.declared.settings.Setting.{Setting}
-use Rattle.tt_exec_stack.specs.declared.vectors.Vectors.{Vectors}
+use Rattle.tt_exec_state.specs.declared.stored_values.StoredValues.{StoredValues}
+use Rattle.tt_exec_state.specs.declared.queries.Query.{Query}
+use Rattle.tt_exec_state.specs.declared.settings.Setting.{Setting}
+use Rattle.tt_exec_state.specs.declared.vectors.Vectors.{Vectors}
+use Rattle.tt_exec_points.specs.declared.instruction.PointInstruction.{PointInstruction}
 
 pub data Operation : Type 0 where
   turn : Vectors → Operation
@@ -15,13 +15,13 @@ pub data Operation : Type 0 where
   manage : Managing → Operation
   decide : Logic → Operation
   compute : Arithmetic → Operation
-  keep : Places → Operation
+  keep : StoredValues → Operation
   tell : Query → Operation
   instctrl : Operation
-  if_true if_false eif jmpr jrot jrof : Operation
+  if_from else_from eif jmpr jrot jrof : Operation
   fdef endf call loopcall : Operation
-  -- an instruction that works on points, by its opcode
-  on_points : ℕ → Operation
+  -- an instruction that works on points, or DELTAC
+  on_points : PointInstruction → Operation
   -- SPVTL, SFVTL, ISECT, ALIGNPTS, DEBUG, S45ROUND, SDPVTL, IDEF, which are not supported (profile)
   off_profile : Operation
   unnamed : Operation

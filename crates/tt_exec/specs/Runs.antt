@@ -2,14 +2,11 @@
 -- stops at a fault.
 use Rattle.std.specs.Prelude.{◌≡◌, ℕ, zero, suc, ◌<◌, ◌≤◌, ◌⊎◌, true, false, if◌then◌else◌, Result, Ok, Err}
 use Rattle.tt_core.specs.Faults.{Fault}
+use Rattle.tt_core.specs.Limits.{step_limit}
 use Rattle.tt_core.specs.Outcomes.{◌>>=◌}
 use Rattle.tt_core.specs.declared.fault.Why.TheVariants as why
 use Rattle.tt_exec.specs.MachineState.{MachineState, fault_in}
 use Rattle.tt_exec.specs.Step.{step, is_ended}
-
--- steps of a run (profile)
-abbrev pub step_limit : ℕ
-step_limit = 1000000
 
 -- so many steps lead from one state to another
 abbrev pub Leads : ℕ → MachineState → MachineState → Type 0

@@ -1,6 +1,6 @@
 -- Apple TrueType Reference Manual, "Instruction set": one step, the instruction at the state's place. Each family's
 -- definitions stand in a file of their own; this one has them work on a whole state.
-use Rattle.std.specs.Prelude.{ℕ, ◌+◌, nat_le, ℤ, Bool, false, ◌==◌, ◌||◌, List, length, if◌then◌else◌, Result, Ok, Err}
+use Rattle.std.specs.Prelude.{ℕ, ◌+◌, nat_le, ℤ, Bool, false, ◌==◌, ◌||◌, ◌&&◌, List, length, if◌then◌else◌, Result, Ok, Err}
 use Rattle.tt_core.specs.Faults.{Fault}
 use Rattle.tt_core.specs.declared.fault.Why.{Why}
 use Rattle.tt_core.specs.declared.fault.Why.TheVariants as why
@@ -8,18 +8,18 @@ use Rattle.tt_code.specs.declared.decoding.Halt.{Halt}
 use Rattle.tt_code.specs.Decoding.{Instr, instruction_at, takes_data}
 use Rattle.tt_state.specs.declared.graphics_state.GraphicsState.{GraphicsState}
 use Rattle.tt_exec_stack.specs.Arithmetic.{computed}
-use Rattle.tt_exec_stack.specs.Logic.{decided}
+use Rattle.tt_exec_stack.specs.Logic.{evaluated}
 use Rattle.tt_exec_stack.specs.Managing.{managed}
-use Rattle.tt_exec_stack.specs.Places.{kept}
+use Rattle.tt_exec_state.specs.StoredValues.{values_accessed}
 use Rattle.tt_exec_stack.specs.Pushing.{pushed_bytes, pushed_words}
-use Rattle.tt_exec_stack.specs.Queries.{told}
-use Rattle.tt_exec_stack.specs.Settings.{adjusted}
-use Rattle.tt_exec_stack.specs.Vectors.{turned}
+use Rattle.tt_exec_state.specs.Queries.{answered}
+use Rattle.tt_exec_state.specs.Settings.{state_set}
+use Rattle.tt_exec_state.specs.Vectors.{vectors_accessed}
 use Rattle.tt_exec.specs.Flags.{instctrl}
 use Rattle.tt_exec.specs.Flow.{goes_to, if_from, else_from, jmpr, jrot, jrof}
 use Rattle.tt_exec.specs.Functions.{fdef, endf, call, loopcall}
 use Rattle.tt_exec.specs.MachineState.{MachineState, fault_in}
-use Rattle.tt_exec.specs.Moving.{on_points}
+use Rattle.tt_exec.specs.OnPoints.{on_points}
 use Rattle.tt_exec.specs.Opcodes.{operation_of}
 use Rattle.tt_exec.specs.Operation.{Operation}
 use Rattle.tt_exec.specs.Operation as op
@@ -40,7 +40,7 @@ on_places at m (Err why) = Err (fault_in m.frame at why)
 
 -- NPUSHW and PUSHW push words
 abbrev pub pushes_words : ℕ → Bool
-pushes_words opcode = opcode == 0x41 || nat_le 0xB8 opcode
+pushes_words opcode = opcode == 0x41 || (nat_le 0xB8 opcode && nat_le opcode 0xBF)
 
 -- an opcode's data pushed
 abbrev pub push : ℕ → List ℕ → ℕ → MachineState → Result MachineState Fault
@@ -49,16 +49,16 @@ push opcode args at m =
 
 -- an operation that stands at a place; the state's place is behind it
 abbrev pub operate : Operation → ℕ → MachineState → Result MachineState Fault
-operate (op.turn o) at m = on_graphics at m (turned o m.stack m.graphics)
-operate (op.adjust o) at m = on_graphics at m (adjusted o m.ppem m.units_per_em m.stack m.graphics)
+operate (op.turn o) at m = on_graphics at m (vectors_accessed o m.stack m.graphics)
+operate (op.adjust o) at m = on_graphics at m (state_set o m.ppem m.units_per_em m.stack m.graphics)
 operate (op.manage o) at m = on_stack at m (managed o m.stack)
-operate (op.decide o) at m = on_stack at m (decided o m.graphics.round m.stack)
+operate (op.decide o) at m = on_stack at m (evaluated o m.graphics.round m.stack)
 operate (op.compute o) at m = on_stack at m (computed o m.graphics.round m.stack)
-operate (op.keep o) at m = on_places at m (kept o m.ppem m.units_per_em m.stack m.storage m.cvt)
-operate (op.tell o) at m = on_stack at m (told o m.ppem m.stack)
+operate (op.keep o) at m = on_places at m (values_accessed o m.ppem m.units_per_em m.stack m.storage m.cvt)
+operate (op.tell o) at m = on_stack at m (answered o m.ppem m.stack)
 operate op.instctrl at m = instctrl m.stack at m
-operate op.if_true at m = if_from m.stack at m
-operate op.if_false at m = else_from at m
+operate op.if_from at m = if_from m.stack at m
+operate op.else_from at m = else_from at m
 operate op.eif at m = Ok m
 operate op.jmpr at m = jmpr m.stack at m
 operate op.jrot at m = jrot m.stack at m

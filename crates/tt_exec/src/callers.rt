@@ -1,16 +1,14 @@
 //! The calls that are open. Apple TrueType Reference Manual, "Instruction set" (defining and using functions).
 
 ghost use Rattle.std.specs.Prelude.{◌≡◌, ◌<◌, ◌≤◌, ◌==◌, [], ◌∷◌, length, MatchOption};
-ghost use Rattle.tt_exec.specs.Calls.{call_limit};
+ghost use Rattle.tt_core.specs.Limits.{call_limit};
 ghost use Rattle.tt_exec.specs.Views.{frame_of};
 
 use crate::program::Frame;
 use smallvec::SmallVec;
 use std::alloc::Global;
 use std::marker::Model;
-
-/// Calls that may be open (profile).
-pub(crate) const CALL_LIMIT: usize = 64;
+use tt_core::CALL_LIMIT;
 
 /// What waits for the innermost call, with room for as many as there may be. A clause sees it as a list, the innermost
 /// first.
@@ -21,7 +19,7 @@ pub(crate) struct Callers<'a> {
 
 impl<'a> Model for Callers<'a> {
     ghost use Rattle.std.specs.Prelude.{◌≡◌, ◌≤◌, List, length, map, reverse};
-    ghost use Rattle.tt_exec.specs.Calls.{call_limit};
+    ghost use Rattle.tt_core.specs.Limits.{call_limit};
     ghost use Rattle.tt_exec.specs.MachineState.{Frame};
     ghost use Rattle.tt_exec.specs.Views.{frame_of};
 

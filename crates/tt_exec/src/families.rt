@@ -1,5 +1,5 @@
 //! The families of instructions that work on the stack and on what a program sets, and move no point: what each does
-//! stands in the crate tt_exec_stack, by the same names. An instruction stands at `at`. Apple TrueType Reference Manual,
+//! stands in the crates tt_exec_stack and tt_exec_state. An instruction stands at `at`. Apple TrueType Reference Manual,
 //! "Instruction set".
 
 ghost use Rattle.std.specs.Prelude.{◌≤◌, length};
@@ -12,8 +12,10 @@ ghost use Rattle.tt_exec.specs.Step as is;
 use crate::machine_state::MachineState;
 use tt_core::{Fault, FontFault};
 use tt_exec_stack::{
-    Arithmetic, Logic, Managing, Places, Query, Setting, Vectors, adjust, compute, decide, keep,
-    manage, push_bytes, push_words, tell, turn,
+    Arithmetic, Logic, Managing, compute, evaluate, manage, push_bytes, push_words,
+};
+use tt_exec_state::{
+    Query, Setting, StoredValues, Vectors, access_values, access_vectors, answer, set_state,
 };
 
 impl MachineState<'_> {
@@ -24,7 +26,7 @@ impl MachineState<'_> {
         ensures { Leaves result (state_of self.new) (is.push op args.now at (state_of self.old)) }
     {
         let pushed = match op {
-            0x41 | 0xB8..=0xFF => push_words(args, &mut self.stack),
+            0x41 | 0xB8..=0xBF => push_words(args, &mut self.stack),
             _ => push_bytes(args, &mut self.stack),
         };
         match pushed {
@@ -38,7 +40,7 @@ impl MachineState<'_> {
         requires { at ≤ length self.old.frame.code.bytes.now }
         ensures { Does (is.operate (operation.turn op) at (state_of self.old)) (state_of self.new) result }
     {
-        match turn(op, &mut self.stack, &mut self.graphics) {
+        match access_vectors(op, &mut self.stack, &mut self.graphics) {
             Ok(()) => Ok(()),
             Err(why) => Err(self.fault(at, why)),
         }
@@ -49,7 +51,7 @@ impl MachineState<'_> {
         requires { at ≤ length self.old.frame.code.bytes.now }
         ensures { Does (is.operate (operation.adjust op) at (state_of self.old)) (state_of self.new) result }
     {
-        match adjust(op, self.size, &mut self.stack, &mut self.graphics) {
+        match set_state(op, self.size, &mut self.stack, &mut self.graphics) {
             Ok(()) => Ok(()),
             Err(why) => Err(self.fault(at, why)),
         }
@@ -72,7 +74,7 @@ impl MachineState<'_> {
         ensures { Does (is.operate (operation.decide op) at (state_of self.old)) (state_of self.new) result }
     {
         let round = self.graphics.state().round;
-        match decide(op, round, &mut self.stack) {
+        match evaluate(op, round, &mut self.stack) {
             Ok(()) => Ok(()),
             Err(why) => Err(self.fault(at, why)),
         }
@@ -91,11 +93,11 @@ impl MachineState<'_> {
     }
 
     #[inline(always)]
-    pub(crate) fn keep(&mut self, op: Places, at: usize) -> Result<(), Fault>
+    pub(crate) fn keep(&mut self, op: StoredValues, at: usize) -> Result<(), Fault>
         requires { at ≤ length self.old.frame.code.bytes.now }
         ensures { Does (is.operate (operation.keep op) at (state_of self.old)) (state_of self.new) result }
     {
-        match keep(
+        match access_values(
             op,
             self.size,
             &mut self.stack,
@@ -112,7 +114,7 @@ impl MachineState<'_> {
         requires { at ≤ length self.old.frame.code.bytes.now }
         ensures { Does (is.operate (operation.tell op) at (state_of self.old)) (state_of self.new) result }
     {
-        match tell(op, self.size, &mut self.stack) {
+        match answer(op, self.size, &mut self.stack) {
             Ok(()) => Ok(()),
             Err(why) => Err(self.fault(at, why)),
         }

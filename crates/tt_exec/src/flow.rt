@@ -7,7 +7,7 @@ ghost use Rattle.tt_exec.specs.Flow as flow;
 ghost use Rattle.tt_exec.specs.Flags as flags;
 ghost use Rattle.tt_exec.specs.States.{state_of};
 
-use crate::machine_state::{MachineState, Kind};
+use crate::machine_state::{Kind, MachineState};
 use tt_code::{skip_else, skip_if};
 use tt_core::{Fault, Why};
 
@@ -24,7 +24,7 @@ impl MachineState<'_> {
     }
 
     /// IF[], 0x58: e -> nothing; goes on behind its ELSE or EIF where e is 0.
-    pub(crate) fn if_true(&mut self, at: usize) -> Result<(), Fault>
+    pub(crate) fn if_from(&mut self, at: usize) -> Result<(), Fault>
         requires { at < length self.old.frame.code.bytes.now }
         ensures { Does (flow.if_from self.old.stack at (state_of self.old)) (state_of self.new) result }
     {
@@ -41,7 +41,7 @@ impl MachineState<'_> {
     }
 
     /// ELSE[], 0x1B: come to behind the part of a true IF, goes on behind the EIF.
-    pub(crate) fn if_false(&mut self, at: usize) -> Result<(), Fault>
+    pub(crate) fn else_from(&mut self, at: usize) -> Result<(), Fault>
         requires { at < length self.old.frame.code.bytes.now }
         ensures { Does (flow.else_from at (state_of self.old)) (state_of self.new) result }
     {

@@ -9,11 +9,10 @@ ghost use Rattle.tt_exec.specs.Views.{body_of};
 ghost use Rattle.tt_exec.specs.States.{state_of};
 ghost use Rattle.std.specs.Prelude.{Some};
 
-use crate::callers::CALL_LIMIT;
-use crate::machine_state::{MachineState, Kind};
+use crate::machine_state::{Kind, MachineState};
 use crate::program::{Body, Frame};
 use tt_code::skip_def;
-use tt_core::{Fault, FontFault, Why};
+use tt_core::{CALL_LIMIT, Fault, FontFault, Why};
 
 impl<'a> MachineState<'a> {
     fn may_define(&self) -> bool

@@ -19,5 +19,5 @@ pub fn sizes_are_kept()
     ensures sizes { (old new : MachineState) (n : ℕ) → HasContours old.zones → Ends old n new → SameSizes old new }
 {
     tt_exec_points::laws::sizes_are_kept();
-    tt_exec_stack::laws::sizes_are_kept();
+    tt_exec_state::laws::sizes_are_kept();
 }

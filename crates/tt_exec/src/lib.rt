@@ -2,16 +2,16 @@
 //! and "Instruction set".
 #![tactic(auto)]
 
-mod bodies;
 mod callers;
 mod families;
 mod fault;
 mod flow;
+mod function_table;
 mod functions;
-mod machine_state;
 pub mod laws;
 mod machine;
-mod moving;
+mod machine_state;
+mod on_points;
 mod opcode;
 mod parts;
 mod program;

@@ -5,24 +5,25 @@ ghost use Rattle.std.specs.Option.{option_map};
 ghost use Rattle.tt_core.specs.Limits.{size_limit};
 ghost use Rattle.tt_state.specs.GraphicsState.{IsGraphicsState};
 ghost use Rattle.tt_points_zones.specs.Zones.{zones_view, IsZones, SameShape};
-ghost use Rattle.tt_exec_stack.specs.Stack.{stack_limit};
+ghost use Rattle.tt_core.specs.Limits.{stack_limit};
 ghost use Rattle.tt_exec.specs.Machines.{fresh, kind_of, run_from, GivesParts, OutcomeIs, RunGives};
 ghost use Rattle.tt_exec.specs.Parts.{parts_of};
 ghost use Rattle.tt_exec.specs.Runs.{run_outcome};
 ghost use Rattle.tt_exec.specs.Sizes.{SameSizes};
 ghost use Rattle.tt_exec.specs.Views.{code_of};
 
-use crate::bodies::Bodies;
 use crate::callers::Callers;
 use crate::fault::ExecFault;
-use crate::machine_state::{Kind, MachineState};
+use crate::function_table::Bodies;
 use crate::laws;
+use crate::machine_state::{Kind, MachineState};
 use crate::parts::Parts;
 use crate::program::{Code, Frame};
 use std::alloc::{AllocError, Global};
 use std::marker::Model;
 use tt_exec_points::Points;
-use tt_exec_stack::{Graphics, Size, Stack};
+use tt_exec_stack::Stack;
+use tt_exec_state::{Graphics, Size};
 
 /// A machine, which runs programs one behind the other. A clause sees what it holds, and whether a run failed.
 #[derive(Drop)]

@@ -10,13 +10,14 @@ ghost use Rattle.tt_exec.specs.Parts.{parts_of};
 ghost use Rattle.tt_exec.specs.States.{state_of};
 ghost use Rattle.tt_exec.specs.Views.{frame_of, code_of};
 
-use crate::bodies::Bodies;
 use crate::callers::Callers;
+use crate::function_table::Bodies;
 use crate::parts::Parts;
 use crate::program::{Code, Frame};
 use tt_core::{Fault, Why};
 use tt_exec_points::Points;
-use tt_exec_stack::{Graphics, Size, Stack};
+use tt_exec_stack::Stack;
+use tt_exec_state::{Graphics, Size};
 
 /// Which program is run: it says where functions may be defined and flags set.
 #[derive(Clone, Copy)]

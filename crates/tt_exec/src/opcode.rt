@@ -12,8 +12,32 @@ ghost use Rattle.tt_exec.specs.Views.{frame_of};
 
 use crate::machine_state::MachineState;
 use tt_core::{FontFault, Why};
-use tt_exec_stack::{Arithmetic, Logic, Managing, Places, Query, Setting, Vectors};
+use tt_exec_points::PointInstruction;
+use tt_exec_stack::{Arithmetic, Logic, Managing};
+use tt_exec_state::{Query, Setting, StoredValues, Vectors};
+use tt_points::{DeltaRange, Keeping, Position, ReferencePoint};
 use tt_state::{Axis, Round};
+
+/// An opcode that has the bit of this value.
+#[inline(always)]
+fn has_bit(op: u8, bit: u8) -> bool
+    requires { 0 < bit }
+    ensures { result ≡ table.has_bit op bit }
+{
+    op / bit % 2 == 1
+}
+
+/// What the bits of an MDRP or MIRP opcode say.
+#[inline(always)]
+fn keeping(op: u8) -> Keeping
+    ensures { result ≡ table.keeping_of op }
+{
+    Keeping {
+        set_rp0: has_bit(op, 16),
+        minimum_distance: has_bit(op, 8),
+        round: has_bit(op, 4),
+    }
+}
 
 impl MachineState<'_> {
     /// An instruction that is none, or not supported.
@@ -60,7 +84,7 @@ impl MachineState<'_> {
             0x18 => Ok(self.adjust(Setting::RoundTo(Round::Grid), at)?),
             0x19 => Ok(self.adjust(Setting::RoundTo(Round::Half), at)?),
             0x1A => Ok(self.adjust(Setting::Smd, at)?),
-            0x1B => Ok(self.if_false(at)?),
+            0x1B => Ok(self.else_from(at)?),
             0x1C => Ok(self.jmpr(at)?),
             0x1D => Ok(self.adjust(Setting::Scvtci, at)?),
             0x1E => Ok(self.adjust(Setting::Sswci, at)?),
@@ -85,29 +109,29 @@ impl MachineState<'_> {
             0x25 => Ok(self.manage(Managing::Cindex, at)?),
             0x26 => Ok(self.manage(Managing::Mindex, at)?),
             0x27 => self.refuse(at, Why::OffProfile),
-            0x29 => self.on_points(0x29, at),
+            0x29 => self.on_points(PointInstruction::Utp, at),
             0x2A => Ok(self.loopcall(at)?),
             0x2B => Ok(self.call(at)?),
             0x2C => self.fdef(at),
             0x2D => Ok(self.endf(at)?),
-            0x2E => self.on_points(0x2E, at),
-            0x2F => self.on_points(0x2F, at),
-            0x30 => self.on_points(0x30, at),
-            0x31 => self.on_points(0x31, at),
-            0x32 => self.on_points(0x32, at),
-            0x33 => self.on_points(0x33, at),
-            0x34 => self.on_points(0x34, at),
-            0x35 => self.on_points(0x35, at),
-            0x36 => self.on_points(0x36, at),
-            0x37 => self.on_points(0x37, at),
-            0x38 => self.on_points(0x38, at),
-            0x39 => self.on_points(0x39, at),
-            0x3A => self.on_points(0x3A, at),
-            0x3B => self.on_points(0x3B, at),
-            0x3C => self.on_points(0x3C, at),
+            0x2E => self.on_points(PointInstruction::Mdap { round: false }, at),
+            0x2F => self.on_points(PointInstruction::Mdap { round: true }, at),
+            0x30 => self.on_points(PointInstruction::Iup(Axis::Y), at),
+            0x31 => self.on_points(PointInstruction::Iup(Axis::X), at),
+            0x32 => self.on_points(PointInstruction::Shp(ReferencePoint::Rp2), at),
+            0x33 => self.on_points(PointInstruction::Shp(ReferencePoint::Rp1), at),
+            0x34 => self.on_points(PointInstruction::Shc(ReferencePoint::Rp2), at),
+            0x35 => self.on_points(PointInstruction::Shc(ReferencePoint::Rp1), at),
+            0x36 => self.on_points(PointInstruction::Shz(ReferencePoint::Rp2), at),
+            0x37 => self.on_points(PointInstruction::Shz(ReferencePoint::Rp1), at),
+            0x38 => self.on_points(PointInstruction::Shpix, at),
+            0x39 => self.on_points(PointInstruction::Ip, at),
+            0x3A => self.on_points(PointInstruction::Msirp { set_rp0: false }, at),
+            0x3B => self.on_points(PointInstruction::Msirp { set_rp0: true }, at),
+            0x3C => self.on_points(PointInstruction::Alignrp, at),
             0x3D => Ok(self.adjust(Setting::RoundTo(Round::Double), at)?),
-            0x3E => self.on_points(0x3E, at),
-            0x3F => self.on_points(0x3F, at),
+            0x3E => self.on_points(PointInstruction::Miap { round: false }, at),
+            0x3F => self.on_points(PointInstruction::Miap { round: true }, at),
             _ => self.refuse(at, Why::BadOpcode),
         }
     }
@@ -120,15 +144,15 @@ impl MachineState<'_> {
             Leaves result (state_of self.new) given }
     {
         match op {
-            0x42 => Ok(self.keep(Places::Ws, at)?),
-            0x43 => Ok(self.keep(Places::Rs, at)?),
-            0x44 => Ok(self.keep(Places::Wcvtp, at)?),
-            0x45 => Ok(self.keep(Places::Rcvt, at)?),
-            0x46 => self.on_points(0x46, at),
-            0x47 => self.on_points(0x47, at),
-            0x48 => self.on_points(0x48, at),
-            0x49 => self.on_points(0x49, at),
-            0x4A => self.on_points(0x4A, at),
+            0x42 => Ok(self.keep(StoredValues::Ws, at)?),
+            0x43 => Ok(self.keep(StoredValues::Rs, at)?),
+            0x44 => Ok(self.keep(StoredValues::Wcvtp, at)?),
+            0x45 => Ok(self.keep(StoredValues::Rcvt, at)?),
+            0x46 => self.on_points(PointInstruction::Gc(Position::Current), at),
+            0x47 => self.on_points(PointInstruction::Gc(Position::Original), at),
+            0x48 => self.on_points(PointInstruction::Scfs, at),
+            0x49 => self.on_points(PointInstruction::Md(Position::Current), at),
+            0x4A => self.on_points(PointInstruction::Md(Position::Original), at),
             0x4B => Ok(self.tell(Query::Mppem, at)?),
             0x4C => Ok(self.tell(Query::Mps, at)?),
             0x4D => Ok(self.adjust(Setting::Flip(true), at)?),
@@ -142,12 +166,12 @@ impl MachineState<'_> {
             0x55 => Ok(self.decide(Logic::Neq, at)?),
             0x56 => Ok(self.decide(Logic::Odd, at)?),
             0x57 => Ok(self.decide(Logic::Even, at)?),
-            0x58 => Ok(self.if_true(at)?),
+            0x58 => Ok(self.if_from(at)?),
             0x59 => Ok(()),
             0x5A => Ok(self.decide(Logic::And, at)?),
             0x5B => Ok(self.decide(Logic::Or, at)?),
             0x5C => Ok(self.decide(Logic::Not, at)?),
-            0x5D => self.on_points(0x5D, at),
+            0x5D => self.on_points(PointInstruction::Deltap(DeltaRange::First), at),
             0x5E => Ok(self.adjust(Setting::Sdb, at)?),
             0x5F => Ok(self.adjust(Setting::Sds, at)?),
             _ => self.refuse(at, Why::BadOpcode),
@@ -178,12 +202,12 @@ impl MachineState<'_> {
             0x6D => Ok(self.compute(Arithmetic::Nround, at)?),
             0x6E => Ok(self.compute(Arithmetic::Nround, at)?),
             0x6F => Ok(self.compute(Arithmetic::Nround, at)?),
-            0x70 => Ok(self.keep(Places::Wcvtf, at)?),
-            0x71 => self.on_points(0x71, at),
-            0x72 => self.on_points(0x72, at),
-            0x73 => self.on_points(0x73, at),
-            0x74 => self.on_points(0x74, at),
-            0x75 => self.on_points(0x75, at),
+            0x70 => Ok(self.keep(StoredValues::Wcvtf, at)?),
+            0x71 => self.on_points(PointInstruction::Deltap(DeltaRange::Second), at),
+            0x72 => self.on_points(PointInstruction::Deltap(DeltaRange::Third), at),
+            0x73 => self.on_points(PointInstruction::Deltac(DeltaRange::First), at),
+            0x74 => self.on_points(PointInstruction::Deltac(DeltaRange::Second), at),
+            0x75 => self.on_points(PointInstruction::Deltac(DeltaRange::Third), at),
             0x76 => Ok(self.adjust(Setting::Sround, at)?),
             0x77 => self.refuse(at, Why::OffProfile),
             0x78 => Ok(self.jrot(at)?),
@@ -205,9 +229,9 @@ impl MachineState<'_> {
             Leaves result (state_of self.new) given }
     {
         match op {
-            0x80 => self.on_points(0x80, at),
-            0x81 => self.on_points(0x81, at),
-            0x82 => self.on_points(0x82, at),
+            0x80 => self.on_points(PointInstruction::Flippt, at),
+            0x81 => self.on_points(PointInstruction::Fliprgon, at),
+            0x82 => self.on_points(PointInstruction::Fliprgoff, at),
             0x85 => Ok(self.adjust(Setting::Ignored, at)?),
             0x86 => self.refuse(at, Why::OffProfile),
             0x87 => self.refuse(at, Why::OffProfile),
@@ -234,7 +258,8 @@ impl MachineState<'_> {
             0x40..=0x5F => self.operate_40(op, at),
             0x60..=0x7F => self.operate_60(op, at),
             0x80..=0xBF => self.operate_80(op, at),
-            _ => self.on_points(op, at),
+            0xC0..=0xDF => self.on_points(PointInstruction::Mdrp(keeping(op)), at),
+            _ => self.on_points(PointInstruction::Mirp(keeping(op)), at),
         }
     }
 }

@@ -8,10 +8,7 @@ ghost use Rattle.tt_exec.specs.Step as is;
 
 use crate::machine_state::MachineState;
 use tt_code::{decode, plain_opcode};
-use tt_core::{FontFault, Why};
-
-/// Steps of a run (profile).
-const STEP_LIMIT: u32 = 1_000_000;
+use tt_core::{FontFault, STEP_LIMIT, Why};
 
 impl MachineState<'_> {
     /// Does the instruction at the frame's place. Errors: CodeShort where its data passes the program's end or the

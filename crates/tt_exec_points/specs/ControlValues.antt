@@ -6,8 +6,10 @@ use Rattle.tt_core.specs.declared.fault.Why.{Why}
 use Rattle.tt_core.specs.declared.fault.Why.TheVariants as why
 use Rattle.tt_state.specs.GraphicsState.{default_state}
 use Rattle.tt_state.specs.declared.graphics_state.GraphicsState.{GraphicsState}
-use Rattle.tt_exec_stack.specs.Places.{place}
+use Rattle.tt_exec_state.specs.StoredValues.{place}
 use Rattle.tt_exec_stack.specs.Stack.{is_value}
+use Rattle.tt_points_loops.specs.declared.deltas.DeltaRange.{DeltaRange}
+use Rattle.tt_points_loops.specs.declared.deltas.DeltaRange.TheVariants as ranges
 use Rattle.tt_points_loops.specs.Deltas.{delta_of, pairs_of}
 use Rattle.tt_points_loops.specs.Series.{one_by_one}
 use Rattle.tt_exec_points.specs.Popping.{counted}
@@ -23,28 +25,28 @@ change_by (Some d) n cvt = place n (length cvt) why.CvtRange >>= λ i.
     value_of (get_or cvt i (pos 0) +ℤ d) >>= λ v. Ok (slice_set cvt i v)
 
 -- a pair of an argument and a number
-abbrev pub change : ℕ → ℕ → GraphicsState → ℤ × ℤ → List ℤ → Result (List ℤ) Why
-change op ppem g pair cvt = delta_of op pair.0 ppem g >>= λ d. change_by d pair.1 cvt
+abbrev pub change : DeltaRange → ℕ → GraphicsState → ℤ × ℤ → List ℤ → Result (List ℤ) Why
+change range ppem g pair cvt = delta_of range pair.0 ppem g >>= λ d. change_by d pair.1 cvt
 
 -- each pair in turn: an earlier one is done where a later one is refused
-abbrev pub changes : ℕ → ℕ → GraphicsState → List (ℤ × ℤ) → List ℤ → Result (List ℤ) Why
-changes op ppem g pairs cvt = one_by_one (change op ppem g) pairs cvt
+abbrev pub changes : DeltaRange → ℕ → GraphicsState → List (ℤ × ℤ) → List ℤ → Result (List ℤ) Why
+changes range ppem g pairs cvt = one_by_one (change range ppem g) pairs cvt
 
 -- pairs as they stand on the stack, in the order in which they are popped
 abbrev pub popped : List ℤ → List (ℤ × ℤ)
 popped entries = reverse (pairs_of entries)
 
 -- the stack and the control values
-abbrev pub deltac : ℕ → ℕ → List ℤ → GraphicsState → List ℤ → Result (List ℤ × List ℤ) Why
-deltac op ppem s g cvt = counted s >>= λ t. changes op ppem g (popped t.0) cvt >>= λ c. Ok (t.1, c)
+abbrev pub deltac : DeltaRange → ℕ → List ℤ → GraphicsState → List ℤ → Result (List ℤ × List ℤ) Why
+deltac range ppem s g cvt = counted s >>= λ t. changes range ppem g (popped t.0) cvt >>= λ c. Ok (t.1, c)
 
 -- worked values
-a_value_at_its_size : deltac 0x73 16 (pos 1 ∷ pos 0 ∷ pos 0x7F ∷ []) default_state (pos 100 ∷ []) ≡ Ok ([], pos 164 ∷ [])
+a_value_at_its_size : deltac ranges.First 16 (pos 1 ∷ pos 0 ∷ pos 0x7F ∷ []) default_state (pos 100 ∷ []) ≡ Ok ([], pos 164 ∷ [])
 a_value_at_its_size = refl
 
-no_value_one : deltac 0x73 16 (pos 1 ∷ pos 1 ∷ pos 0x7F ∷ []) default_state (pos 100 ∷ []) ≡ Err why.CvtRange
+no_value_one : deltac ranges.First 16 (pos 1 ∷ pos 1 ∷ pos 0x7F ∷ []) default_state (pos 100 ∷ []) ≡ Err why.CvtRange
 no_value_one = refl
 
-no_value_needed_at_other_sizes : deltac 0x73 17 (pos 1 ∷ pos 1 ∷ pos 0x7F ∷ []) default_state (pos 100 ∷ [])
+no_value_needed_at_other_sizes : deltac ranges.First 17 (pos 1 ∷ pos 1 ∷ pos 0x7F ∷ []) default_state (pos 100 ∷ [])
     ≡ Ok ([], pos 100 ∷ [])
 no_value_needed_at_other_sizes = refl

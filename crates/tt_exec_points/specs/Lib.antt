@@ -2,5 +2,5 @@ pub mod Popping
 pub mod Single
 pub mod Several
 pub mod ControlValues
-pub mod OnPoints
+pub mod Instruction
 pub mod Shapes

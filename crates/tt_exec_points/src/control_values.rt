@@ -7,8 +7,9 @@ ghost use Rattle.tt_state.specs.GraphicsState.{IsGraphicsState};
 
 use crate::several::pairs_counted;
 use tt_core::Why;
-use tt_exec_stack::{Graphics, Stack};
-use tt_points::delta_of;
+use tt_exec_stack::Stack;
+use tt_exec_state::Graphics;
+use tt_points::{DeltaRange, delta_of};
 use tt_state::GraphicsState;
 
 /// A sum that fits 32 bits. Error: ValueRange.
@@ -34,7 +35,7 @@ fn change_by(d: Option<i32>, n: i32, cvt: &mut [i32]) -> Result<(), Why>
 
 /// Pair `i` of arguments and control values.
 fn change(
-    op: u8,
+    range: DeltaRange,
     ppem: u32,
     state: &GraphicsState,
     pairs: &[i32],
@@ -43,43 +44,43 @@ fn change(
 ) -> Result<(), Why>
     requires state { IsGraphicsState state.now }
     requires there { 2 * i + 1 < length pairs.now }
-    ensures { Gives (λ u. cvt.new) result (is.change op ppem state.now
+    ensures { Gives (λ u. cvt.new) result (is.change range ppem state.now
         (get_or pairs.now (2 * i) (pos 0), get_or pairs.now (2 * i + 1) (pos 0)) cvt.old) }
 {
-    let d = delta_of(op, pairs[2 * i], ppem, state)?;
+    let d = delta_of(range, pairs[2 * i], ppem, state)?;
     change_by(d, pairs[2 * i + 1], cvt)
 }
 
 /// Every pair, the last first.
 fn change_all(
-    op: u8,
+    range: DeltaRange,
     ppem: u32,
     state: &GraphicsState,
     pairs: &[i32],
     cvt: &mut [i32],
 ) -> Result<(), Why>
     requires { IsGraphicsState state.now }
-    ensures { Gives (λ u. cvt.new) result (is.changes op ppem state.now (is.popped pairs.now) cvt.old) }
+    ensures { Gives (λ u. cvt.new) result (is.changes range ppem state.now (is.popped pairs.now) cvt.old) }
 {
     for i in (0..pairs.len() / 2).rev() {
-        change(op, ppem, state, pairs, i, cvt)?;
+        change(range, ppem, state, pairs, i, cvt)?;
     }
     Ok(())
 }
 
-/// DELTAC1[] to DELTAC3[], 0x73 to 0x75: n pairs of an argument and a control value's number, n -> .
+/// DELTAC1[] to DELTAC3[]: n pairs of an argument and a control value's number, n -> .
 pub(crate) fn deltac(
-    op: u8,
+    range: DeltaRange,
     ppem: u32,
     stack: &mut Stack,
     graphics: &Graphics,
     cvt: &mut [i32],
 ) -> Result<(), Why>
-    ensures { Gives (λ u. (stack.new, cvt.new)) result (is.deltac op ppem stack.old graphics.now cvt.old) }
+    ensures { Gives (λ u. (stack.new, cvt.new)) result (is.deltac range ppem stack.old graphics.now cvt.old) }
 {
     let many = pairs_counted(stack)?;
     let pairs = stack.top(many)?;
-    change_all(op, ppem, &graphics.state(), pairs, cvt)?;
+    change_all(range, ppem, &graphics.state(), pairs, cvt)?;
     stack.discard(many);
     Ok(())
 }

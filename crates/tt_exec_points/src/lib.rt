@@ -2,11 +2,11 @@
 #![tactic(auto)]
 
 mod control_values;
-mod dispatch;
+mod instruction;
 pub mod laws;
 mod points;
 mod several;
 mod single;
 
-pub use dispatch::on_points;
+pub use instruction::{PointInstruction, on_points};
 pub use points::Points;

@@ -10,8 +10,12 @@ ghost use Rattle.tt_points_iup.specs.Interpolation as interpolation;
 
 use crate::points::Points;
 use tt_core::Why;
-use tt_exec_stack::{Graphics, Stack};
-use tt_points::{alignrp, deltap, flippt, fliprgoff, fliprgon, ip, iup, shc, shp, shpix, shz};
+use tt_exec_stack::Stack;
+use tt_exec_state::Graphics;
+use tt_points::{
+    DeltaRange, ReferencePoint, alignrp, deltap, flippt, fliprgoff, fliprgon, ip, iup, shc, shp,
+    shpix, shz,
+};
 use tt_state::Axis;
 
 /// How many entries the top one counts in pairs. Errors: StackShort, BadArgument below 0.
@@ -26,7 +30,7 @@ pub(crate) fn pairs_counted(stack: &mut Stack) -> Result<usize, Why>
 }
 
 impl Points {
-    /// ALIGNRP[], 0x3C: as many points as the loop says -> .
+    /// ALIGNRP[]: as many points as the loop says -> .
     pub(crate) fn alignrp(&mut self, stack: &mut Stack, graphics: &mut Graphics) -> Result<(), Why>
         ensures { Gives (λ u. (stack.new, self.new, graphics.new)) result (is.alignrp stack.old self.old graphics.old) }
     {
@@ -39,7 +43,7 @@ impl Points {
         Ok(())
     }
 
-    /// IP[], 0x39: as many points as the loop says -> .
+    /// IP[]: as many points as the loop says -> .
     pub(crate) fn ip(&mut self, stack: &mut Stack, graphics: &mut Graphics) -> Result<(), Why>
         ensures { Gives (λ u. (stack.new, self.new, graphics.new)) result (is.ip stack.old self.old graphics.old) }
     {
@@ -52,25 +56,25 @@ impl Points {
         Ok(())
     }
 
-    /// SHP[a], 0x32, 0x33: as many points as the loop says -> .
+    /// SHP[a]: as many points as the loop says -> .
     pub(crate) fn shp(
         &mut self,
-        op: u8,
+        which: ReferencePoint,
         stack: &mut Stack,
         graphics: &mut Graphics,
     ) -> Result<(), Why>
-        ensures { Gives (λ u. (stack.new, self.new, graphics.new)) result (is.shp op stack.old self.old graphics.old) }
+        ensures { Gives (λ u. (stack.new, self.new, graphics.new)) result (is.shp which stack.old self.old graphics.old) }
     {
         let mut state = graphics.state();
         let many = state.loops as usize;
         let points = stack.top(many)?;
-        shp(&mut self.zones, &mut state, op, points)?;
+        shp(&mut self.zones, &mut state, which, points)?;
         stack.discard(many);
         graphics.set(state);
         Ok(())
     }
 
-    /// SHPIX[], 0x38: as many points as the loop says, amount -> .
+    /// SHPIX[]: as many points as the loop says, amount -> .
     pub(crate) fn shpix(&mut self, stack: &mut Stack, graphics: &mut Graphics) -> Result<(), Why>
         ensures { Gives (λ u. (stack.new, self.new, graphics.new)) result (is.shpix stack.old self.old graphics.old) }
     {
@@ -84,7 +88,7 @@ impl Points {
         Ok(())
     }
 
-    /// FLIPPT[], 0x80: as many points as the loop says -> .
+    /// FLIPPT[]: as many points as the loop says -> .
     pub(crate) fn flippt(&mut self, stack: &mut Stack, graphics: &mut Graphics) -> Result<(), Why>
         ensures { Gives (λ u. (stack.new, self.new, graphics.new)) result (is.flippt stack.old self.old graphics.old) }
     {
@@ -97,7 +101,7 @@ impl Points {
         Ok(())
     }
 
-    /// FLIPRGON[], 0x81: low, high -> . Error: PointRange.
+    /// FLIPRGON[]: low, high -> . Error: PointRange.
     pub(crate) fn fliprgon(&mut self, stack: &mut Stack, graphics: &Graphics) -> Result<(), Why>
         ensures { Gives (λ u. (stack.new, self.new, graphics.now)) result (is.fliprgon stack.old self.old graphics.now) }
     {
@@ -106,7 +110,7 @@ impl Points {
         fliprgon(&mut self.zones, low, high)
     }
 
-    /// FLIPRGOFF[], 0x82: low, high -> . Error: PointRange.
+    /// FLIPRGOFF[]: low, high -> . Error: PointRange.
     pub(crate) fn fliprgoff(&mut self, stack: &mut Stack, graphics: &Graphics) -> Result<(), Why>
         ensures { Gives (λ u. (stack.new, self.new, graphics.now)) result (is.fliprgoff stack.old self.old graphics.now) }
     {
@@ -115,41 +119,51 @@ impl Points {
         fliprgoff(&mut self.zones, low, high)
     }
 
-    /// SHC[a], 0x34, 0x35: contour -> . Errors: ContourRange, PointRange, Perpendicular, ValueRange.
-    pub(crate) fn shc(&mut self, op: u8, stack: &mut Stack, graphics: &Graphics) -> Result<(), Why>
-        ensures { Gives (λ u. (stack.new, self.new, graphics.now)) result (is.shc op stack.old self.old graphics.now) }
+    /// SHC[a]: contour -> . Errors: ContourRange, PointRange, Perpendicular, ValueRange.
+    pub(crate) fn shc(
+        &mut self,
+        which: ReferencePoint,
+        stack: &mut Stack,
+        graphics: &Graphics,
+    ) -> Result<(), Why>
+        ensures { Gives (λ u. (stack.new, self.new, graphics.now)) result (is.shc which stack.old self.old graphics.now) }
     {
         let contour = stack.pop()?;
-        shc(&mut self.zones, &graphics.state(), op, contour)
+        shc(&mut self.zones, &graphics.state(), which, contour)
     }
 
-    /// SHZ[a], 0x36, 0x37: zone -> . Errors: ZoneRange, PointRange, Perpendicular, ValueRange.
-    pub(crate) fn shz(&mut self, op: u8, stack: &mut Stack, graphics: &Graphics) -> Result<(), Why>
-        ensures { Gives (λ u. (stack.new, self.new, graphics.now)) result (is.shz op stack.old self.old graphics.now) }
+    /// SHZ[a]: zone -> . Errors: ZoneRange, PointRange, Perpendicular, ValueRange.
+    pub(crate) fn shz(
+        &mut self,
+        which: ReferencePoint,
+        stack: &mut Stack,
+        graphics: &Graphics,
+    ) -> Result<(), Why>
+        ensures { Gives (λ u. (stack.new, self.new, graphics.now)) result (is.shz which stack.old self.old graphics.now) }
     {
         let zone = stack.pop()?;
-        shz(&mut self.zones, &graphics.state(), op, zone)?;
+        shz(&mut self.zones, &graphics.state(), which, zone)?;
         Ok(())
     }
 
-    /// DELTAP1[] to DELTAP3[], 0x5D, 0x71, 0x72: n pairs of an argument and a point, n -> .
+    /// DELTAP1[] to DELTAP3[]: n pairs of an argument and a point, n -> .
     pub(crate) fn deltap(
         &mut self,
-        op: u8,
+        range: DeltaRange,
         ppem: u32,
         stack: &mut Stack,
         graphics: &Graphics,
     ) -> Result<(), Why>
-        ensures { Gives (λ u. (stack.new, self.new, graphics.now)) result (is.deltap op ppem stack.old self.old graphics.now) }
+        ensures { Gives (λ u. (stack.new, self.new, graphics.now)) result (is.deltap range ppem stack.old self.old graphics.now) }
     {
         let many = pairs_counted(stack)?;
         let pairs = stack.top(many)?;
-        deltap(&mut self.zones, &graphics.state(), op, ppem, pairs)?;
+        deltap(&mut self.zones, &graphics.state(), range, ppem, pairs)?;
         stack.discard(many);
         Ok(())
     }
 
-    /// IUP[a], 0x30 along y, 0x31 along x. Error: ValueRange.
+    /// IUP[a]. Error: ValueRange.
     pub(crate) fn iup(&mut self, axis: Axis) -> Result<(), Why>
         ensures { Gives (λ u. self.new) result (interpolation.iup axis self.old) }
     {

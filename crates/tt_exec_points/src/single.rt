@@ -6,8 +6,9 @@ ghost use Rattle.tt_exec_points.specs.Single as is;
 
 use crate::points::Points;
 use tt_core::Why;
-use tt_exec_stack::{Graphics, Stack};
-use tt_points::{gc, md, mdap, mdrp, miap, mirp, msirp, scfs, utp};
+use tt_exec_stack::Stack;
+use tt_exec_state::Graphics;
+use tt_points::{Keeping, Position, gc, md, mdap, mdrp, miap, mirp, msirp, scfs, utp};
 
 /// The control value with a number. Error: CvtRange.
 fn control_value(n: i32, cvt: &[i32]) -> Result<i32, Why>
@@ -30,92 +31,92 @@ fn point_and_value(stack: &mut Stack, cvt: &[i32]) -> Result<(i32, i32), Why>
 }
 
 impl Points {
-    /// MDAP[r], 0x2E, 0x2F: p -> . Errors: PointRange, Perpendicular, ValueRange.
+    /// MDAP[r]: p -> . Errors: PointRange, Perpendicular, ValueRange.
     pub(crate) fn mdap(
         &mut self,
-        op: u8,
+        round: bool,
         stack: &mut Stack,
         graphics: &mut Graphics,
     ) -> Result<(), Why>
-        ensures { Gives (λ u. (stack.new, self.new, graphics.new)) result (is.mdap op stack.old self.old graphics.old) }
+        ensures { Gives (λ u. (stack.new, self.new, graphics.new)) result (is.mdap round stack.old self.old graphics.old) }
     {
         let p = stack.pop()?;
         let mut state = graphics.state();
-        mdap(&mut self.zones, &mut state, op, p)?;
+        mdap(&mut self.zones, &mut state, round, p)?;
         graphics.set(state);
         Ok(())
     }
 
-    /// MDRP[abcde], 0xC0 to 0xDF: p -> . Errors: PointRange, Perpendicular, ValueRange.
+    /// MDRP[abcde]: p -> . Errors: PointRange, Perpendicular, ValueRange.
     pub(crate) fn mdrp(
         &mut self,
-        op: u8,
+        keeping: Keeping,
         stack: &mut Stack,
         graphics: &mut Graphics,
     ) -> Result<(), Why>
-        ensures { Gives (λ u. (stack.new, self.new, graphics.new)) result (is.mdrp op stack.old self.old graphics.old) }
+        ensures { Gives (λ u. (stack.new, self.new, graphics.new)) result (is.mdrp keeping stack.old self.old graphics.old) }
     {
         let p = stack.pop()?;
         let mut state = graphics.state();
-        mdrp(&mut self.zones, &mut state, op, p)?;
+        mdrp(&mut self.zones, &mut state, keeping, p)?;
         graphics.set(state);
         Ok(())
     }
 
-    /// MSIRP[a], 0x3A, 0x3B: p, d -> . Errors: PointRange, Perpendicular, ValueRange.
+    /// MSIRP[a]: p, d -> . Errors: PointRange, Perpendicular, ValueRange.
     pub(crate) fn msirp(
         &mut self,
-        op: u8,
+        set_rp0: bool,
         stack: &mut Stack,
         graphics: &mut Graphics,
     ) -> Result<(), Why>
-        ensures { Gives (λ u. (stack.new, self.new, graphics.new)) result (is.msirp op stack.old self.old graphics.old) }
+        ensures { Gives (λ u. (stack.new, self.new, graphics.new)) result (is.msirp set_rp0 stack.old self.old graphics.old) }
     {
         let d = stack.pop()?;
         let p = stack.pop()?;
         let mut state = graphics.state();
-        msirp(&mut self.zones, &mut state, op, p, d)?;
+        msirp(&mut self.zones, &mut state, set_rp0, p, d)?;
         graphics.set(state);
         Ok(())
     }
 
-    /// MIAP[r], 0x3E, 0x3F: p, n -> . Errors: CvtRange, PointRange, Perpendicular, ValueRange.
+    /// MIAP[r]: p, n -> . Errors: CvtRange, PointRange, Perpendicular, ValueRange.
     pub(crate) fn miap(
         &mut self,
-        op: u8,
+        round: bool,
         cvt: &[i32],
         stack: &mut Stack,
         graphics: &mut Graphics,
     ) -> Result<(), Why>
-        ensures { let given = is.miap op cvt.now stack.old self.old graphics.old in
+        ensures { let given = is.miap round cvt.now stack.old self.old graphics.old in
             Gives (λ u. (stack.new, self.new, graphics.new)) result given }
     {
         let (p, c) = point_and_value(stack, cvt)?;
         let mut state = graphics.state();
-        miap(&mut self.zones, &mut state, op, p, c)?;
+        miap(&mut self.zones, &mut state, round, p, c)?;
         graphics.set(state);
         Ok(())
     }
 
-    /// MIRP[abcde], 0xE0 to 0xFF: p, n -> . Errors: CvtRange, PointRange, Perpendicular, ValueRange.
+    /// MIRP[abcde]: p, n -> . Errors: CvtRange, PointRange, Perpendicular, ValueRange.
     pub(crate) fn mirp(
         &mut self,
-        op: u8,
+        keeping: Keeping,
         cvt: &[i32],
         stack: &mut Stack,
         graphics: &mut Graphics,
     ) -> Result<(), Why>
-        ensures { let given = is.mirp op cvt.now stack.old self.old graphics.old in
+        ensures { let given = is.mirp keeping cvt.now stack.old self.old graphics.old in
             Gives (λ u. (stack.new, self.new, graphics.new)) result given }
     {
         let (p, c) = point_and_value(stack, cvt)?;
         let mut state = graphics.state();
-        mirp(&mut self.zones, &mut state, op, p, c)?;
+        mirp(&mut self.zones, &mut state, keeping, p, c)?;
         graphics.set(state);
         Ok(())
     }
 
-    /// SCFS[], 0x48: p, v -> . Errors: PointRange, Perpendicular, ValueRange.
+    /// SCFS[]: p, v -> . Errors: PointRange, Perpendicular, ValueRange.
     pub(crate) fn scfs(&mut self, stack: &mut Stack, graphics: &Graphics) -> Result<(), Why>
         ensures { Gives (λ u. (stack.new, self.new, graphics.now)) result (is.scfs stack.old self.old graphics.now) }
     {
@@ -124,7 +125,7 @@ impl Points {
         scfs(&mut self.zones, &graphics.state(), p, v)
     }
 
-    /// UTP[], 0x29: p -> . Error: PointRange.
+    /// UTP[]: p -> . Error: PointRange.
     pub(crate) fn utp(&mut self, stack: &mut Stack, graphics: &Graphics) -> Result<(), Why>
         ensures { Gives (λ u. (stack.new, self.new, graphics.now)) result (is.utp stack.old self.old graphics.now) }
     {
@@ -132,22 +133,27 @@ impl Points {
         utp(&mut self.zones, &graphics.state(), p)
     }
 
-    /// GC[a], 0x46, 0x47: p -> c. Errors: PointRange, StackFull.
-    pub(crate) fn gc(&self, op: u8, stack: &mut Stack, graphics: &Graphics) -> Result<(), Why>
-        ensures { Gives (λ u. stack.new) result (is.gc op stack.old self.now graphics.now) }
+    /// GC[a]: p -> c. Error: PointRange.
+    pub(crate) fn gc(&self, of: Position, stack: &mut Stack, graphics: &Graphics) -> Result<(), Why>
+        ensures { Gives (λ u. stack.new) result (is.gc of stack.old self.now graphics.now) }
     {
         let p = stack.pop()?;
-        let value = gc(&self.zones, &graphics.state(), op, p)?;
+        let value = gc(&self.zones, &graphics.state(), of, p)?;
         stack.push(i64::from(value))
     }
 
-    /// MD[a], 0x49, 0x4A: p2, p1 -> d. Errors: PointRange, StackFull.
-    pub(crate) fn md(&self, op: u8, stack: &mut Stack, graphics: &Graphics) -> Result<(), Why>
-        ensures { Gives (λ u. stack.new) result (is.md op stack.old self.now graphics.now) }
+    /// MD[a]: p2, p1 -> d. Error: PointRange.
+    pub(crate) fn md(
+        &self,
+        between: Position,
+        stack: &mut Stack,
+        graphics: &Graphics,
+    ) -> Result<(), Why>
+        ensures { Gives (λ u. stack.new) result (is.md between stack.old self.now graphics.now) }
     {
         let p1 = stack.pop()?;
         let p2 = stack.pop()?;
-        let value = md(&self.zones, &graphics.state(), op, p2, p1)?;
+        let value = md(&self.zones, &graphics.state(), between, p2, p1)?;
         stack.push(i64::from(value))
     }
 }

@@ -1,10 +1,5 @@
 pub mod Arithmetic
 pub mod Logic
 pub mod Managing
-pub mod Places
 pub mod Pushing
-pub mod Queries
-pub mod Settings
-pub mod Size
 pub mod Stack
-pub mod Vectors

@@ -67,18 +67,18 @@ abbrev pub negated : List ℤ → Result (List ℤ) Why
 negated (e ∷ s) = pushed (truth (not (is_true e))) s
 negated [] = Err why.StackShort
 
-abbrev pub decided : Logic → Round → List ℤ → Result (List ℤ) Why
-decided op.Lt round s = lt s
-decided op.Lteq round s = lteq s
-decided op.Gt round s = gt s
-decided op.Gteq round s = gteq s
-decided op.Eq round s = eq s
-decided op.Neq round s = neq s
-decided op.Odd round s = odd round s
-decided op.Even round s = even round s
-decided op.And round s = and s
-decided op.Or round s = or s
-decided op.Not round s = negated s
+abbrev pub evaluated : Logic → Round → List ℤ → Result (List ℤ) Why
+evaluated op.Lt round s = lt s
+evaluated op.Lteq round s = lteq s
+evaluated op.Gt round s = gt s
+evaluated op.Gteq round s = gteq s
+evaluated op.Eq round s = eq s
+evaluated op.Neq round s = neq s
+evaluated op.Odd round s = odd round s
+evaluated op.Even round s = even round s
+evaluated op.And round s = and s
+evaluated op.Or round s = or s
+evaluated op.Not round s = negated s
 
 -- worked values: the second entry is compared with the top
 one_is_less_than_two : lt (pos 2 ∷ pos 1 ∷ []) ≡ Ok (pos 1 ∷ [])

@@ -2,12 +2,9 @@
 -- bits, here with the top first.
 use Rattle.std.specs.Prelude.{◌≡◌, ℕ, ◌-◌, ◌^◌, ℤ, pos, negsuc, neg_ℤ, int_lt, int_le, unsigned_abs, slice_get, Bool, ◌&&◌, nat_lt, if◌then◌else◌, List, [], ◌∷◌, length, take, reverse, Result, Ok, Err, refl}
 use Rattle.std.specs.Option.{ok_or}
+use Rattle.tt_core.specs.Limits.{stack_limit}
 use Rattle.tt_core.specs.declared.fault.Why.{Why}
 use Rattle.tt_core.specs.declared.fault.Why.TheVariants as why
-
--- entries of the stack (profile)
-abbrev pub stack_limit : ℕ
-stack_limit = 8192
 
 -- a number that fits 32 bits
 abbrev pub is_value : ℤ → Bool

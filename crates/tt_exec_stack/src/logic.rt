@@ -137,8 +137,8 @@ fn not(stack: &mut Stack) -> Result<(), Why>
 
 /// Error: StackShort.
 #[inline(always)]
-pub fn decide(op: Logic, round: Round, stack: &mut Stack) -> Result<(), Why>
-    ensures { Does (is.decided op round stack.old) stack.new result }
+pub fn evaluate(op: Logic, round: Round, stack: &mut Stack) -> Result<(), Why>
+    ensures { Does (is.evaluated op round stack.old) stack.new result }
 {
     match op {
         Logic::Lt => lt(stack),

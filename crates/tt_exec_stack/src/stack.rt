@@ -1,16 +1,14 @@
 //! The interpreter's stack. Apple TrueType Reference Manual, "Instructing TrueType Glyphs".
 
 ghost use Rattle.std.specs.Prelude.{◌≡◌, ◌-◌, ◌<◌, ◌≤◌, [], ◌∷◌, length, reverse, take, drop, ◌++◌, pos, IfOk, OnOk};
+ghost use Rattle.tt_core.specs.Limits.{stack_limit};
 ghost use Rattle.tt_core.specs.declared.fault.Why.TheVariants.{StackShort};
 ghost use Rattle.tt_core.specs.Outcomes.{Gives};
-ghost use Rattle.tt_exec_stack.specs.Stack.{stack_limit, Does, Pops, kth, pushed, top};
+ghost use Rattle.tt_exec_stack.specs.Stack.{Does, Pops, kth, pushed, top};
 
 use std::alloc::{AllocError, Global};
 use std::marker::Model;
-use tt_core::Why;
-
-/// Entries of the stack (profile).
-pub const STACK_LIMIT: usize = 8192;
+use tt_core::{STACK_LIMIT, Why};
 
 /// Numbers of 32 bits, and memory for as many as there may be. A clause sees it as a list, the top first.
 #[derive(Drop)]
@@ -21,7 +19,7 @@ pub struct Stack {
 impl Model for Stack {
     ghost use Rattle.std.specs.Prelude.{ℤ, List, ◌≤◌, reverse};
     ghost use Rattle.std.specs.Vec.{vec_len, vec_capacity};
-    ghost use Rattle.tt_exec_stack.specs.Stack.{stack_limit};
+    ghost use Rattle.tt_core.specs.Limits.{stack_limit};
 
     ghost Value = { List ℤ };
 

@@ -6,5 +6,5 @@ use Rattle.tt_line.specs.Layout.{Placement, placement, text_glyphs}
 
 -- where a text is laid out, the glyphs that are placed are those of its characters
 abbrev pub PlacesGlyphs : Type 0
-PlacesGlyphs = (m : Metrics) (lookup : Cmap) (text : List ℕ) (ppem margin : ℕ) (line : Placement)
-    → placement m lookup text ppem margin ≡ Ok line → map (λ g. g.0) line.glyphs ≡ text_glyphs lookup text
+PlacesGlyphs = (m : Metrics) (cmap : Cmap) (text : List ℕ) (ppem margin : ℕ) (line : Placement)
+    → placement m cmap text ppem margin ≡ Ok line → map (λ g. g.0) line.glyphs ≡ text_glyphs cmap text

@@ -10,7 +10,7 @@ use Rattle.tt_core.specs.Limits.{width_limit, height_limit}
 use Rattle.tt_core.specs.Numbers.{rounded_quotient}
 use Rattle.tt_core.specs.Outcomes.{◌>>=◌}
 use Rattle.tt_cmap.specs.Lookup.{Cmap, glyph_of}
-use Rattle.tt_line.specs.declared.picture.Extent.{Extent}
+use Rattle.tt_line.specs.declared.extent.Extent.{Extent}
 use Rattle.tt_metrics.specs.declared.head.LocaFormat.TheVariants.{Short}
 use Rattle.tt_metrics.specs.Metrics.{Metrics, units_per_em_of, ascent_of, descent_of, advance_of}
 
@@ -32,7 +32,7 @@ depth_of m ppem = ceiling_quotient (neg_ℤ (descent_of m) *ℤ pos ppem) (pos (
 
 -- the glyph of each character of a text
 abbrev pub text_glyphs : Cmap → List ℕ → List ℕ
-text_glyphs lookup text = map (glyph_of lookup) (chars text)
+text_glyphs cmap text = map (glyph_of cmap) (chars text)
 
 -- the advance in pixels of each of some glyphs
 abbrev pub advances_of : Metrics → ℕ → List ℕ → List ℕ
@@ -80,7 +80,7 @@ glyph_placement m ppem margin glyphs = within_limits (extent_of m ppem margin gl
 
 -- the layout of a text at a size in pixels per em with a margin in pixels, or why there is none
 unfoldable pub placement : Metrics → Cmap → List ℕ → ℕ → ℕ → Result Placement JobFault
-placement m lookup text ppem margin = glyph_placement m ppem margin (text_glyphs lookup text)
+placement m cmap text ppem margin = glyph_placement m ppem margin (text_glyphs cmap text)
 
 -- no pixel
 abbrev pub IsEmpty : Extent → Type 0
@@ -90,7 +90,7 @@ IsEmpty e = (e.width < 1) ⊎ (e.height <ℤ pos 1)
 abbrev pub IsLarge : Extent → Type 0
 IsLarge e = (width_limit < e.width) ⊎ (pos height_limit <ℤ e.height)
 
--- what stands behind a refusal
+-- what is wrong where a picture is refused
 abbrev pub IsRefusal : Extent → JobFault → Type 0
 IsRefusal e job.EmptyPicture = IsEmpty e
 IsRefusal e job.PictureLarge = (¬ IsEmpty e) × IsLarge e

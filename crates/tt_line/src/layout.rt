@@ -7,8 +7,8 @@ ghost use Rattle.tt_line.specs.Layout.{text_glyphs, advances_of, placed_glyphs, 
 ghost use Rattle.tt_line.specs.Outcome.{placement_of, job_fault};
 ghost use Rattle.tt_metrics.specs.Metrics.{glyphs_of};
 
+use crate::extent::{test_limits, with_margins};
 use crate::fault::LineFault;
-use crate::picture::{test_limits, with_margins};
 use crate::pixels::{advance, depth, rise};
 use std::alloc::{AllocError, Global};
 use tt_cmap::Cmap;
@@ -56,7 +56,7 @@ pub fn lay(
     // Memory is taken only for the glyphs of a line that is not refused.
     ensures memory { IfErr result (λ e. IfNone (job_fault e)
         (IsOk (placement metrics.now cmap.now text.now ppem margin) × (0 < length (chars text.now)))) }
-    ensures refused { IfTold job_fault result (IsRefusal (extent_of metrics.now ppem margin (text_glyphs cmap.now text.now))) }
+    ensures fault { IfTold job_fault result (IsRefusal (extent_of metrics.now ppem margin (text_glyphs cmap.now text.now))) }
 {
     let rise = rise(metrics, ppem);
     // The text is walked once for its width, so that no memory is taken for a line that is refused.
@@ -71,7 +71,7 @@ pub fn lay(
     })
 }
 
-/// In pixels. A sum of so many advances can pass 32 bits.
+/// The sum of the advances of a text's characters, in pixels. Of 4,096 characters it can pass 32 bits.
 fn sum_of_advances(metrics: &Metrics, cmap: &Cmap, text: &str, ppem: u32) -> u64
     requires size { ppem ≤ size_limit }
     requires text { length (chars text.now) ≤ text_limit }
@@ -86,7 +86,7 @@ fn sum_of_advances(metrics: &Metrics, cmap: &Cmap, text: &str, ppem: u32) -> u64
     sum
 }
 
-/// The glyph of each character with its pen, in pixels.
+/// The glyph of each character with its pen: the pixels from the left margin to its origin.
 fn placed_glyphs(
     alloc: Global,
     metrics: &Metrics,

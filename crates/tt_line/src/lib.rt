@@ -1,10 +1,10 @@
 //! Where the glyphs of a line of text stand, in pixels, and how large its picture is.
 #![tactic(auto)]
 
+mod extent;
 mod fault;
 pub mod laws;
 mod layout;
-mod picture;
 mod pixels;
 
 pub use fault::LineFault;

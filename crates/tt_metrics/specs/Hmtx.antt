@@ -18,7 +18,7 @@ hmtx_of file n = needed_table file hmtx_tag >>= or_short hmtx_tag (4 * n)
 abbrev pub advance_in : List ℕ → ℕ → ℕ → ℕ
 advance_in hmtx n g = unsigned_at hmtx (4 * min g (n - 1)) 2
 
--- where the bearing of glyph g stands: in its pair, or in the list behind the pairs
+-- where the bearing of glyph g stands: in its pair, or in the list after the pairs
 abbrev pub bearing_place : ℕ → ℕ → ℕ
 bearing_place n g = if nat_lt g n then 4 * g + 2 else 4 * n + 2 * (g - n)
 

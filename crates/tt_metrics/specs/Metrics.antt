@@ -72,12 +72,12 @@ IsMetricsDefect file fault =
     IsHeadDefect file fault ⊎ IsMaxpDefect file fault ⊎ IsHheaDefect file fault
     ⊎ IsOkAnd (hhea_of file) (λ hhea. IsHmtxDefect file hhea.long_metrics fault)
 
--- worked values: one pair and one bearing behind it
+-- worked values: one pair and one bearing after it
 last_advance_repeats : advance_in (1 ∷ 2 ∷ 255 ∷ 254 ∷ 255 ∷ 253 ∷ []) 1 5 ≡ 258
 last_advance_repeats = refl
 
 bearing_in_its_pair : bearing_in (1 ∷ 2 ∷ 255 ∷ 254 ∷ 255 ∷ 253 ∷ []) 1 0 ≡ negsuc 1
 bearing_in_its_pair = refl
 
-bearing_behind_the_pairs : bearing_in (1 ∷ 2 ∷ 255 ∷ 254 ∷ 255 ∷ 253 ∷ []) 1 1 ≡ negsuc 2
-bearing_behind_the_pairs = refl
+bearing_after_the_pairs : bearing_in (1 ∷ 2 ∷ 255 ∷ 254 ∷ 255 ∷ 253 ∷ []) 1 1 ≡ negsuc 2
+bearing_after_the_pairs = refl

@@ -85,14 +85,14 @@ impl<'a> Metrics<'a> {
         self.maxp.glyphs
     }
 
-    /// Font units above the base line.
+    /// The ascent: font units above the base line.
     pub fn ascent(&self) -> i16
         ensures { result ≡ ascent_of self.now }
     {
         self.hhea.ascent
     }
 
-    /// Font units above the base line, so mostly negative.
+    /// The descent: font units above the base line, so mostly negative.
     pub fn descent(&self) -> i16
         ensures { result ≡ descent_of self.now }
     {

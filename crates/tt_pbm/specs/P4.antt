@@ -1,7 +1,5 @@
--- Netpbm, "PBM", the format with raster, magic number P4: a header in ASCII, then the rows from the top, 8 pixels a
--- byte,
--- the leftmost pixel in the highest bit, 1 for black. The bits behind a row's last pixel are 0 (profile). The header
--- has
+-- Netpbm, "PBM", the format with raster, magic number P4: a header in ASCII, then the rows from the top, 8 pixels a byte,
+-- the leftmost pixel in the highest bit, 1 for black. The bits after a row's last pixel are 0 (profile). The header has
 -- one line feed, one space and one line feed where the standard lets any white space stand (profile).
 use Rattle.std.specs.Prelude.{◌≡◌, refl, ℕ, zero, suc, ◌+◌, ◌*◌, ◌/◌, ◌%◌, ◌^◌, Bool, true, false, ◌&&◌, nat_lt, nat_le, if◌then◌else◌, take, List, [], ◌∷◌, ◌++◌, map, codes, decimal}
 use Rattle.std.specs.Fmt.{digits}
@@ -42,7 +40,7 @@ shows w black r c = nat_lt c w && black c r
 abbrev pub byte_of : ℕ → (ℕ → ℕ → Bool) → ℕ → ℕ → ℕ
 byte_of w black r k = columns 8 (λ j. shows w black r (8 * k + j))
 
--- byte i of all rows, one behind the other
+-- byte i of all rows, one row after the other
 abbrev pub byte_at : ℕ → (ℕ → ℕ → Bool) → ℕ → ℕ
 byte_at w black i = byte_of w black (i / stride w) (i % stride w)
 

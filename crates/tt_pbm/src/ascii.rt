@@ -1,13 +1,13 @@
-//! A short text of ASCII, made from its end: a number's last digit is the first that a division gives.
+//! A short text of ASCII. It is made from its end to its start, since a division by 10 gives a number's last digit first.
 
 ghost use Rattle.std.specs.Prelude.{◌≡◌, ◌+◌, ◌≤◌, ◌<◌, ◌++◌, [], ◌∷◌, length, decimal};
 
 use std::marker::Model;
 
-/// The most bytes of a text.
+/// Bytes that a text has room for.
 const ROOM: usize = 24;
 
-/// A text of at most 24 bytes.
+/// A text of at most 24 bytes, those from `at` on. A clause sees it as a list.
 #[derive(Drop)]
 pub struct Ascii {
     bytes: [u8; ROOM],
@@ -25,8 +25,9 @@ impl Model for Ascii {
 }
 
 impl Ascii {
+    /// The empty text.
     pub fn new() -> Ascii
-        ensures text { result ≡ [] }
+        ensures exact { result ≡ [] }
     {
         Ascii {
             bytes: [0; ROOM],
@@ -34,6 +35,7 @@ impl Ascii {
         }
     }
 
+    /// The bytes of the text, the first first.
     pub fn as_bytes(&self) -> &[u8]
         ensures exact { result.now ≡ self.now }
     {
@@ -43,17 +45,17 @@ impl Ascii {
     /// Puts a byte before the text.
     pub fn push(&mut self, byte: u8)
         requires room { length self.old < 24 }
-        ensures text { self.new ≡ byte ∷ self.old }
+        ensures exact { self.new ≡ byte ∷ self.old }
     {
         self.at -= 1;
         self.bytes[self.at] = byte;
     }
 
-    /// Puts a number before the text.
+    /// Puts a number, in decimal, before the text.
     pub fn push_decimal(&mut self, n: u16)
         requires room { length self.old + 5 ≤ 24 }
-        ensures text { self.new ≡ decimal n ++ self.old }
-        ensures len { length self.new ≤ length self.old + 5 }
+        ensures exact { self.new ≡ decimal n ++ self.old }
+        ensures bound { length self.new ≤ length self.old + 5 }
     {
         let mut rest = n;
         while rest >= 10 {

@@ -23,7 +23,7 @@ pub fn p4_header(w: u32, h: u32) -> Header
     requires some_rows { 1 ≤ h }
     requires rows { h ≤ height_limit }
     ensures exact { take result.len result.bytes ≡ p4_header_of w h }
-    ensures size { result.len ≤ 16 }
+    ensures bound { result.len ≤ 16 }
 {
     let mut text = Ascii::new();
     text.push(b'\n');

@@ -1,5 +1,5 @@
 -- No instruction makes a point or drops one.
-use Rattle.std.proofs.Common.{◌∙◌, ℕ, ℤ, ◌-ℤ◌, unsigned_abs, Result, Ok, Err, IfOk, refl, length-set}
+use Rattle.std.proofs.Common.{◌∙◌, ℤ, Bool, ◌-ℤ◌, unsigned_abs, Result, Ok, Err, IfOk, refl, length-set}
 use Rattle.tt_core.specs.Outcomes.{◌>>=◌}
 use Rattle.tt_core.specs.declared.fault.Why.{Why}
 use Rattle.tt_state.specs.declared.graphics_state.Axis.{Axis}
@@ -9,8 +9,9 @@ use Rattle.tt_state.specs.declared.graphics_state.Zone.TheVariants as zone
 use Rattle.tt_state.specs.declared.point.Point.{Point}
 use Rattle.tt_points_zones.specs.Points.{cur, moved, direction, point_in, with_point}
 use Rattle.tt_points_zones.specs.Zones.{ZoneLists, SameShape, KeepsShape, KeepsShapeBefore}
+use Rattle.tt_points.specs.declared.distances.Keeping.{Keeping}
 use Rattle.tt_points.specs.ControlValues.{placed_at, set_at, miap, mirp_distance, chosen_from, mirp}
-use Rattle.tt_points.specs.Distances.{has_bit, single_width}
+use Rattle.tt_points.specs.Distances.{single_width}
 use Rattle.tt_points.specs.Measuring.{untouched, scfs, utp}
 use Rattle.tt_points.specs.Moving.{original_distance, kept, referred, mdap_distance, mdap, kept_from, msirp, mdrp_distance, mdrp}
 use Rattle.tt_points.specs.Shapes.{ShapeIsKept}
@@ -78,56 +79,56 @@ kept_from_kept axis p d g z =
     behind (SameShape z) (point_in g.zp1 p z) _ (λ q.
     behind (SameShape z) (point_in g.zp0 g.rp0 z) _ (λ r. put g.zp1 p z (kept axis d q r)))
 
-chosen_from_kept : (op : ℕ) (axis : Axis) (p c : ℤ) (g : GraphicsState) (z : ZoneLists)
-    → KeepsShape z (chosen_from op axis p c z g)
+chosen_from_kept : (k : Keeping) (axis : Axis) (p c : ℤ) (g : GraphicsState) (z : ZoneLists)
+    → KeepsShape z (chosen_from k axis p c z g)
 unfolding chosen_from
-chosen_from_kept op axis p c g z =
+chosen_from_kept k axis p c g z =
     behind (SameShape z) (point_in g.zp1 p z) _ (λ q.
     behind (SameShape z) (point_in g.zp0 g.rp0 z) _ (λ r.
-    put g.zp1 p z (kept axis (mirp_distance op g (original_distance axis q r) c) q r)))
+    put g.zp1 p z (kept axis (mirp_distance k g (original_distance axis q r) c) q r)))
 
-mdap_kept : (op : ℕ) (p : ℤ) (z : ZoneLists) (g : GraphicsState) → KeepsShapeBefore z (mdap op p z g)
+mdap_kept : (round : Bool) (p : ℤ) (z : ZoneLists) (g : GraphicsState) → KeepsShapeBefore z (mdap round p z g)
 unfolding mdap
-mdap_kept op p z g =
+mdap_kept round p z g =
     behind (Before z) (point_in g.zp0 p z) _ (λ q.
     behind (Before z) (direction g) _ (λ axis.
-    put_before (record g { rp0 = p; rp1 = p }) g.zp0 p z (moved axis (mdap_distance op g (cur axis q)) q)))
+    put_before (record g { rp0 = p; rp1 = p }) g.zp0 p z (moved axis (mdap_distance round g (cur axis q)) q)))
 
-mdrp_kept : (op : ℕ) (p : ℤ) (z : ZoneLists) (g : GraphicsState) → KeepsShapeBefore z (mdrp op p z g)
+mdrp_kept : (k : Keeping) (p : ℤ) (z : ZoneLists) (g : GraphicsState) → KeepsShapeBefore z (mdrp k p z g)
 unfolding mdrp
-mdrp_kept op p z g =
+mdrp_kept k p z g =
     behind (Before z) (point_in g.zp1 p z) _ (λ q.
     behind (Before z) (point_in g.zp0 g.rp0 z) _ (λ r.
     behind (Before z) (direction g) _ (λ axis.
-    put_before (referred (has_bit op 16) p g) g.zp1 p z
-    (kept axis (mdrp_distance op g (original_distance axis q r)) q r))))
+    put_before (referred k.set_rp0 p g) g.zp1 p z
+    (kept axis (mdrp_distance k g (original_distance axis q r)) q r))))
 
-msirp_kept : (op : ℕ) (p d : ℤ) (z : ZoneLists) (g : GraphicsState) → KeepsShapeBefore z (msirp op p d z g)
+msirp_kept : (set_rp0 : Bool) (p d : ℤ) (z : ZoneLists) (g : GraphicsState) → KeepsShapeBefore z (msirp set_rp0 p d z g)
 unfolding msirp
-msirp_kept op p d z g =
+msirp_kept set_rp0 p d z g =
     behind (Before z) (point_in g.zp1 p z) _ (λ q.
     behind (Before z) (point_in g.zp0 g.rp0 z) _ (λ r.
     behind (Before z) (direction g) _ (λ axis.
-    twice (referred (has_bit op 1) p g) z (made g.zp1 axis p d r z) (λ y. kept_from axis p d y g)
+    twice (referred set_rp0 p g) z (made g.zp1 axis p d r z) (λ y. kept_from axis p d y g)
     (made_kept g.zp1 axis p d r z) (kept_from_kept axis p d g))))
 
-miap_kept : (op : ℕ) (p c : ℤ) (z : ZoneLists) (g : GraphicsState) → KeepsShapeBefore z (miap op p c z g)
+miap_kept : (round : Bool) (p c : ℤ) (z : ZoneLists) (g : GraphicsState) → KeepsShapeBefore z (miap round p c z g)
 unfolding miap
-miap_kept op p c z g =
+miap_kept round p c z g =
     behind (Before z) (point_in g.zp0 p z) _ (λ q.
     behind (Before z) (direction g) _ (λ axis.
     behind (Before z) (placed_at g.zp0 axis c q) _ (λ n.
-    put_before (record g { rp0 = p; rp1 = p }) g.zp0 p z (set_at op g axis c n))))
+    put_before (record g { rp0 = p; rp1 = p }) g.zp0 p z (set_at round g axis c n))))
 
-mirp_kept : (op : ℕ) (p c : ℤ) (z : ZoneLists) (g : GraphicsState) → KeepsShapeBefore z (mirp op p c z g)
+mirp_kept : (k : Keeping) (p c : ℤ) (z : ZoneLists) (g : GraphicsState) → KeepsShapeBefore z (mirp k p c z g)
 unfolding mirp
-mirp_kept op p c z g =
+mirp_kept k p c z g =
     behind (Before z) (point_in g.zp1 p z) _ (λ q.
     behind (Before z) (point_in g.zp0 g.rp0 z) _ (λ r.
     behind (Before z) (direction g) _ (λ axis.
-    twice (referred (has_bit op 16) p g) z (made g.zp1 axis p (single_width g c) r z)
-    (λ y. chosen_from op axis p (single_width g c) y g)
-    (made_kept g.zp1 axis p (single_width g c) r z) (chosen_from_kept op axis p (single_width g c) g))))
+    twice (referred k.set_rp0 p g) z (made g.zp1 axis p (single_width g c) r z)
+    (λ y. chosen_from k axis p (single_width g c) y g)
+    (made_kept g.zp1 axis p (single_width g c) r z) (chosen_from_kept k axis p (single_width g c) g))))
 
 scfs_kept : (p v : ℤ) (z : ZoneLists) (g : GraphicsState) → KeepsShape z (scfs p v z g)
 unfolding scfs
@@ -142,11 +143,11 @@ utp_kept p z g = behind (SameShape z) (point_in g.zp0 p z) _ (λ q. put_one g.zp
 
 pub shape_kept : (z : ZoneLists) (g : GraphicsState) → ShapeIsKept z g
 shape_kept z g = record {
-  mdap = λ op p. mdap_kept op p z g;
-  mdrp = λ op p. mdrp_kept op p z g;
-  msirp = λ op p d. msirp_kept op p d z g;
-  miap = λ op p c. miap_kept op p c z g;
-  mirp = λ op p c. mirp_kept op p c z g;
+  mdap = λ round p. mdap_kept round p z g;
+  mdrp = λ k p. mdrp_kept k p z g;
+  msirp = λ set_rp0 p d. msirp_kept set_rp0 p d z g;
+  miap = λ round p c. miap_kept round p c z g;
+  mirp = λ k p c. mirp_kept k p c z g;
   scfs = λ p v. scfs_kept p v z g;
   utp = λ p. utp_kept p z g;
 }

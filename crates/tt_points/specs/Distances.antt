@@ -1,14 +1,11 @@
 -- Apple TrueType Reference Manual, "Graphics State" (round state, minimum distance, single width, auto flip, control
 -- value cut-in): what becomes of a distance that an instruction keeps. Distances are in 26.6 pixels.
-use Rattle.std.specs.Prelude.{◌≡◌, ℕ, ◌/◌, ◌%◌, ◌==◌, ℤ, pos, negsuc, ◌-ℤ◌, neg_ℤ, int_lt, unsigned_abs, Bool, ◌&&◌, ◌||◌, if◌then◌else◌, refl}
+use Rattle.std.specs.Prelude.{◌≡◌, ℤ, pos, negsuc, ◌-ℤ◌, neg_ℤ, int_lt, unsigned_abs, Bool, ◌&&◌, ◌||◌, if◌then◌else◌, refl}
 use Rattle.std.specs.Int.{int_max, int_min}
 use Rattle.tt_state.specs.declared.graphics_state.GraphicsState.{GraphicsState}
 use Rattle.tt_state.specs.GraphicsState.{default_state}
 use Rattle.tt_state.specs.Rounding.{rounded}
-
--- an opcode that has the bit of this value
-abbrev pub has_bit : ℕ → ℕ → Bool
-has_bit op bit = op / bit % 2 == 1
+use Rattle.tt_points.specs.declared.distances.Keeping.{Keeping}
 
 abbrev pub magnitude : ℤ → ℤ
 magnitude d = pos (unsigned_abs d)
@@ -31,12 +28,12 @@ single_width g d =
 abbrev pub at_least_minimum : GraphicsState → ℤ → ℤ → ℤ
 at_least_minimum g d e = if int_lt d (pos 0) then int_min e (neg_ℤ g.min_distance) else int_max e g.min_distance
 
--- the same by the opcode: its bit 4 rounds, its bit 8 keeps the minimum distance
-abbrev pub rounded_by : ℕ → GraphicsState → ℤ → ℤ
-rounded_by op g e = if has_bit op 4 then rounded g.round e else e
+-- a distance rounded, and made at least the minimum, if that is asked for
+abbrev pub rounded_by : Keeping → GraphicsState → ℤ → ℤ
+rounded_by k g e = if k.round then rounded g.round e else e
 
-abbrev pub spaced_by : ℕ → GraphicsState → ℤ → ℤ → ℤ
-spaced_by op g d e = if has_bit op 8 then at_least_minimum g d e else e
+abbrev pub spaced_by : Keeping → GraphicsState → ℤ → ℤ → ℤ
+spaced_by k g d e = if k.minimum_distance then at_least_minimum g d e else e
 
 -- two distances of different signs
 abbrev pub is_opposite : ℤ → ℤ → Bool
@@ -49,6 +46,11 @@ flipped g d c = if g.auto_flip && is_opposite d c then neg_ℤ c else c
 -- the control value, or what was measured where that is further away than the cut-in
 abbrev pub cut_in : GraphicsState → ℤ → ℤ → ℤ
 cut_in g d c = if int_lt g.cut_in (apart c d) then d else c
+
+-- what MDRP and MIRP do beside the move
+abbrev pub keeping : Bool → Bool → Bool → Keeping
+keeping set_rp0 minimum_distance round =
+    record { set_rp0 = set_rp0; minimum_distance = minimum_distance; round = round }
 
 -- worked values
 abbrev hundred_wide : ℤ → GraphicsState

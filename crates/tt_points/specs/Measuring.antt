@@ -1,6 +1,6 @@
 -- Apple TrueType Reference Manual, "Instruction Set" (GC, SCFS, MD, UTP): coordinates read and set, and a touch undone.
 -- Coordinates are in 26.6 pixels.
-use Rattle.std.specs.Prelude.{◌≡◌, ℕ, ℤ, pos, ◌-ℤ◌, true, false, if◌then◌else◌, [], ◌∷◌, Result, Ok, Err, refl}
+use Rattle.std.specs.Prelude.{◌≡◌, ℤ, pos, ◌-ℤ◌, true, false, [], ◌∷◌, Result, Ok, Err, refl}
 use Rattle.tt_core.specs.Outcomes.{◌>>=◌}
 use Rattle.tt_core.specs.declared.fault.Why.{Why}
 use Rattle.tt_core.specs.declared.fault.Why.TheVariants as why
@@ -12,18 +12,23 @@ use Rattle.tt_state.specs.declared.point.Point.{Point}
 use Rattle.tt_state.specs.GraphicsState.{default_state}
 use Rattle.tt_points_zones.specs.Zones.{ZoneLists}
 use Rattle.tt_points_zones.specs.Points.{cur, org, direction, moved, point_in, with_point}
-use Rattle.tt_points.specs.Distances.{has_bit}
+use Rattle.tt_points.specs.declared.measuring.Position.{Position}
+use Rattle.tt_points.specs.declared.measuring.Position.TheVariants as position
 use Rattle.tt_points.specs.Twilight.{settled_in, origin}
 
--- along the projection vector: the current coordinate, or the original one
-unfoldable pub gc : ℕ → ℤ → ZoneLists → GraphicsState → Result ℤ Why
-gc op p z g = point_in g.zp2 p z >>= λ q. Ok (if has_bit op 1 then org g.proj q else cur g.proj q)
+-- a coordinate along an axis
+abbrev pub coordinate : Position → Axis → Point → ℤ
+coordinate position.Current axis q = cur axis q
+coordinate position.Original axis q = org axis q
 
--- from p1 to p2: the distance between their current places, or between their original ones, which are those of 0x4A
--- (profile)
-unfoldable pub md : ℕ → ℤ → ℤ → ZoneLists → GraphicsState → Result ℤ Why
-md op p2 p1 z g = point_in g.zp1 p1 z >>= λ a. point_in g.zp0 p2 z >>= λ b.
-    Ok (if has_bit op 1 then cur g.proj b -ℤ cur g.proj a else org g.proj b -ℤ org g.proj a)
+-- along the projection vector: the current coordinate, or the original one
+unfoldable pub gc : Position → ℤ → ZoneLists → GraphicsState → Result ℤ Why
+gc of p z g = point_in g.zp2 p z >>= λ q. Ok (coordinate of g.proj q)
+
+-- from p1 to p2: the distance between their current places, or between their original ones
+unfoldable pub md : Position → ℤ → ℤ → ZoneLists → GraphicsState → Result ℤ Why
+md between p2 p1 z g = point_in g.zp1 p1 z >>= λ a. point_in g.zp0 p2 z >>= λ b.
+    Ok (coordinate between g.proj b -ℤ coordinate between g.proj a)
 
 -- moved to a coordinate
 unfoldable pub scfs : ℤ → ℤ → ZoneLists → GraphicsState → Result ZoneLists Why
@@ -49,23 +54,23 @@ two_points = record {
   contours = [];
 }
 
-its_coordinate : gc 0x46 (pos 1) two_points default_state ≡ Ok (pos 210)
+its_coordinate : gc position.Current (pos 1) two_points default_state ≡ Ok (pos 210)
 unfolding gc
 its_coordinate = refl
 
-its_original_coordinate : gc 0x47 (pos 1) two_points default_state ≡ Ok (pos 100)
+its_original_coordinate : gc position.Original (pos 1) two_points default_state ≡ Ok (pos 100)
 unfolding gc
 its_original_coordinate = refl
 
-now_apart : md 0x49 (pos 1) (pos 0) two_points default_state ≡ Ok (pos 200)
+now_apart : md position.Current (pos 1) (pos 0) two_points default_state ≡ Ok (pos 200)
 unfolding md
 now_apart = refl
 
-once_apart : md 0x4A (pos 1) (pos 0) two_points default_state ≡ Ok (pos 100)
+once_apart : md position.Original (pos 1) (pos 0) two_points default_state ≡ Ok (pos 100)
 unfolding md
 once_apart = refl
 
-no_twilight_point : gc 0x46 (pos 1) two_points (record default_state { zp2 = zone.Twilight }) ≡ Err why.PointRange
+no_twilight_point : gc position.Current (pos 1) two_points (record default_state { zp2 = zone.Twilight }) ≡ Err why.PointRange
 unfolding gc
 no_twilight_point = refl
 

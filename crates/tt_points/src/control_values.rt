@@ -9,7 +9,7 @@ ghost use Rattle.tt_points_zones.specs.Zones.{IsPoint, IsZones, zones_view};
 ghost use Rattle.tt_points.specs.ControlValues as is;
 ghost use Rattle.tt_points.specs.Distances as distances;
 
-use crate::distances::{Distance, cut_in, flipped, has_bit, rounded_by, single_width, spaced_by};
+use crate::distances::{Distance, Keeping, cut_in, flipped, rounded_by, single_width, spaced_by};
 use crate::moving::{kept, original_distance, refer};
 use crate::twilight::{make, placed};
 use tt_core::Why;
@@ -27,7 +27,7 @@ const ORIGIN: Point = Point {
     on: true,
 };
 
-/// A control value as MIAP's bit 1 has it: cut in by where the point stands, and rounded.
+/// A control value as a rounding MIAP has it: cut in by where the point stands, and rounded.
 fn cut_in_and_rounded(state: &GraphicsState, at: Distance, c: Distance) -> i64
     requires at { unsigned_abs at.0 < 2 ^ 22 }
     requires c { unsigned_abs c.0 < 2 ^ 32 }
@@ -39,13 +39,13 @@ fn cut_in_and_rounded(state: &GraphicsState, at: Distance, c: Distance) -> i64
 
 /// How far MIAP moves a point that stands at a coordinate.
 #[tactic(auto, unfolding(crate::specs::ControlValues::miap_distance))]
-fn miap_distance(op: u8, state: &GraphicsState, at: Distance, c: Distance) -> i64
+fn miap_distance(round: bool, state: &GraphicsState, at: Distance, c: Distance) -> i64
     requires at { unsigned_abs at.0 < 2 ^ 22 }
     requires c { unsigned_abs c.0 < 2 ^ 32 }
-    ensures exact { result ≡ is.miap_distance op state.now at.0 c.0 }
+    ensures exact { result ≡ is.miap_distance round state.now at.0 c.0 }
     ensures bound { unsigned_abs result < 2 ^ 34 }
 {
-    if has_bit(op, 1) {
+    if round {
         cut_in_and_rounded(state, at, c) - at.0
     } else {
         c.0 - at.0
@@ -58,7 +58,7 @@ fn placed_at(zone: Zone, q: Point, axis: Axis, c: Distance) -> Result<Point, Why
     requires q { IsPoint q }
     requires small { unsigned_abs c.0 < 2 ^ 32 }
     ensures exact { Gives (λ p. p) result (is.placed_at zone axis c.0 q) }
-    ensures sound { IfOk result IsPoint }
+    ensures valid { IfOk result IsPoint }
 {
     match zone {
         Zone::Twilight => placed(q, axis, c, ORIGIN),
@@ -77,25 +77,37 @@ fn standing(q: Point, axis: Axis) -> Distance
 
 /// A point moved by MIAP's rule. Error: ValueRange.
 #[tactic(auto, unfolding(crate::specs::ControlValues::set_at))]
-fn set_at(op: u8, state: &GraphicsState, q: Point, axis: Axis, c: Distance) -> Result<Point, Why>
+fn set_at(
+    round: bool,
+    state: &GraphicsState,
+    q: Point,
+    axis: Axis,
+    c: Distance,
+) -> Result<Point, Why>
     requires q { IsPoint q }
     requires small { unsigned_abs c.0 < 2 ^ 32 }
-    ensures exact { Gives (λ p. p) result (is.set_at op state.now axis c.0 q) }
-    ensures sound { IfOk result IsPoint }
+    ensures exact { Gives (λ p. p) result (is.set_at round state.now axis c.0 q) }
+    ensures valid { IfOk result IsPoint }
 {
-    moved(q, axis, miap_distance(op, state, standing(q, axis), c))
+    moved(q, axis, miap_distance(round, state, standing(q, axis), c))
 }
 
-/// MIAP[r], 0x3E and 0x3F: p, n -> point p of zone pointer 0 is moved to `c`, the control value of that number. In the
-/// twilight zone it is placed there first (profile). 0x3F keeps the point's coordinate where the control value is
-/// further from it than the cut-in, and rounds. The point becomes reference points 0 and 1. Errors: PointRange,
-/// Perpendicular, ValueRange.
+/// MIAP[r]: p, n -> point p of zone pointer 0 is moved to `c`, the control value of that number. In the twilight zone it
+/// is placed there first (profile). With `round` the point's coordinate is kept where the control value is further from
+/// it than the cut-in, and rounded. The point becomes reference points 0 and 1. Errors: PointRange, Perpendicular,
+/// ValueRange.
 #[tactic(auto, unfolding(crate::specs::ControlValues::miap))]
-pub fn miap(zones: &mut Zones, state: &mut GraphicsState, op: u8, p: i32, c: i32) -> Result<(), Why>
+pub fn miap(
+    zones: &mut Zones,
+    state: &mut GraphicsState,
+    round: bool,
+    p: i32,
+    c: i32,
+) -> Result<(), Why>
     requires zones { IsZones (zones_view zones.old) }
     requires state { IsGraphicsState state.old }
     ensures exact { Gives (λ u. (zones_view zones.new, state.new)) result
-        (is.miap op p c (zones_view zones.old) state.old) }
+        (is.miap round p c (zones_view zones.old) state.old) }
     ensures zones { IsZones (zones_view zones.new) }
     ensures state { IsGraphicsState state.new }
 {
@@ -103,20 +115,20 @@ pub fn miap(zones: &mut Zones, state: &mut GraphicsState, op: u8, p: i32, c: i32
     let axis = direction(state)?;
     let c = Distance::new(c);
     let q = placed_at(state.zp0, q, axis, c)?;
-    zones.set(state.zp0, p, set_at(op, state, q, axis, c)?);
+    zones.set(state.zp0, p, set_at(round, state, q, axis, c)?);
     state.rp0 = p;
     state.rp1 = p;
     Ok(())
 }
 
-/// Bit 4 of MIRP's opcode cuts in, where both points are of one zone.
-fn cut_in_by(op: u8, state: &GraphicsState, d: Distance, c: i64) -> i64
+/// A rounding MIRP cuts in, where both points are of one zone.
+fn cut_in_by(keeping: Keeping, state: &GraphicsState, d: Distance, c: i64) -> i64
     requires d { unsigned_abs d.0 < 2 ^ 23 }
     requires c { unsigned_abs c < 2 ^ 32 }
-    ensures exact { result ≡ is.cut_in_by op state.now d.0 c }
+    ensures exact { result ≡ is.cut_in_by keeping state.now d.0 c }
     ensures bound { unsigned_abs result < 2 ^ 32 }
 {
-    if has_bit(op, 4) && state.zp0 == state.zp1 {
+    if keeping.round && state.zp0 == state.zp1 {
         cut_in(state, d.0, c)
     } else {
         c
@@ -124,38 +136,38 @@ fn cut_in_by(op: u8, state: &GraphicsState, d: Distance, c: i64) -> i64
 }
 
 /// A control value turned and cut in by an original distance.
-fn chosen(op: u8, state: &GraphicsState, d: Distance, c: Distance) -> i64
+fn chosen(keeping: Keeping, state: &GraphicsState, d: Distance, c: Distance) -> i64
     requires d { unsigned_abs d.0 < 2 ^ 23 }
     requires c { unsigned_abs c.0 < 2 ^ 32 }
-    ensures exact { result ≡ is.chosen op state.now d.0 c.0 }
+    ensures exact { result ≡ is.chosen keeping state.now d.0 c.0 }
     ensures bound { unsigned_abs result < 2 ^ 32 }
 {
-    cut_in_by(op, state, d, flipped(state, d.0, c.0))
+    cut_in_by(keeping, state, d, flipped(state, d.0, c.0))
 }
 
-/// The distance that MIRP keeps for an original distance `d` and a control value `c`, behind the single width.
+/// The distance that MIRP keeps for an original distance `d` and a control value `c`, after the single width.
 #[tactic(auto, unfolding(crate::specs::ControlValues::mirp_distance))]
-fn mirp_distance(op: u8, state: &GraphicsState, d: Distance, c: Distance) -> Distance
+fn mirp_distance(keeping: Keeping, state: &GraphicsState, d: Distance, c: Distance) -> Distance
     requires d { unsigned_abs d.0 < 2 ^ 23 }
     requires c { unsigned_abs c.0 < 2 ^ 32 }
-    ensures exact { result.0 ≡ is.mirp_distance op state.now d.0 c.0 }
+    ensures exact { result.0 ≡ is.mirp_distance keeping state.now d.0 c.0 }
     ensures bound { unsigned_abs result.0 < 2 ^ 33 }
 {
     Distance(spaced_by(
-        op,
+        keeping,
         state,
         d.0,
-        rounded_by(op, state, chosen(op, state, d, c)),
+        rounded_by(keeping, state, chosen(keeping, state, d, c)),
     ))
 }
 
-/// Point `p` of zone pointer 1 moved by MIRP's rule, `c` being the control value behind the single width. Errors:
+/// Point `p` of zone pointer 1 moved by MIRP's rule, `c` being the control value after the single width. Errors:
 /// PointRange, ValueRange.
 #[tactic(auto, unfolding(crate::specs::ControlValues::chosen_from))]
 fn choose_from(
     zones: &mut Zones,
     state: &GraphicsState,
-    op: u8,
+    keeping: Keeping,
     p: i32,
     axis: Axis,
     c: Distance,
@@ -163,12 +175,12 @@ fn choose_from(
     requires zones { IsZones (zones_view zones.old) }
     requires small { unsigned_abs c.0 < 2 ^ 32 }
     ensures exact { Gives (λ u. zones_view zones.new) result
-        (is.chosen_from op axis p c.0 (zones_view zones.old) state.now) }
+        (is.chosen_from keeping axis p c.0 (zones_view zones.old) state.now) }
     ensures zones { IsZones (zones_view zones.new) }
 {
     let q = zones.point(state.zp1, p)?;
     let r = zones.point(state.zp0, state.rp0)?;
-    let d = mirp_distance(op, state, original_distance(q, r, axis), c);
+    let d = mirp_distance(keeping, state, original_distance(q, r, axis), c);
     zones.set(state.zp1, p, kept(q, axis, d, r)?);
     Ok(())
 }
@@ -180,17 +192,22 @@ fn single_width_of(state: &GraphicsState, c: i32) -> Distance
     Distance(single_width(state, i64::from(c)))
 }
 
-/// MIRP[abcde], 0xE0 to 0xFF: p, n -> point p of zone pointer 1 is moved to the distance `c`, the control value of that
-/// number, from reference point 0, of zone pointer 0; a twilight point is placed there first (profile). Bit 4 of the
-/// opcode keeps the original distance where the control value differs by more than the cut-in, in one zone, and rounds;
-/// bit 8 keeps the minimum distance. Reference point 1 becomes reference point 0, and p reference point 2; bit 16 makes
-/// it reference point 0. Errors: PointRange, Perpendicular, ValueRange.
+/// MIRP[abcde]: p, n -> point p of zone pointer 1 is moved to the distance `c`, the control value of that number, from
+/// reference point 0, of zone pointer 0, as `keeping` has it; a twilight point is placed there first (profile). Where it
+/// rounds, the original distance is kept if the control value differs by more than the cut-in, in one zone. Reference
+/// point 1 becomes reference point 0, and p reference point 2. Errors: PointRange, Perpendicular, ValueRange.
 #[tactic(auto, unfolding(crate::specs::ControlValues::mirp))]
-pub fn mirp(zones: &mut Zones, state: &mut GraphicsState, op: u8, p: i32, c: i32) -> Result<(), Why>
+pub fn mirp(
+    zones: &mut Zones,
+    state: &mut GraphicsState,
+    keeping: Keeping,
+    p: i32,
+    c: i32,
+) -> Result<(), Why>
     requires zones { IsZones (zones_view zones.old) }
     requires state { IsGraphicsState state.old }
     ensures exact { Gives (λ u. (zones_view zones.new, state.new)) result
-        (is.mirp op p c (zones_view zones.old) state.old) }
+        (is.mirp keeping p c (zones_view zones.old) state.old) }
     ensures zones { IsZones (zones_view zones.new) }
     ensures state { IsGraphicsState state.new }
 {
@@ -199,7 +216,7 @@ pub fn mirp(zones: &mut Zones, state: &mut GraphicsState, op: u8, p: i32, c: i32
     let axis = direction(state)?;
     let c = single_width_of(state, c);
     make(zones, state.zp1, p, axis, c, r)?;
-    choose_from(zones, state, op, p, axis, c)?;
-    refer(state, has_bit(op, 16), p);
+    choose_from(zones, state, keeping, p, axis, c)?;
+    refer(state, keeping.set_rp0, p);
     Ok(())
 }

@@ -19,12 +19,16 @@ impl Distance {
     }
 }
 
-/// An opcode that has the bit of this value.
-pub(crate) fn has_bit(op: u8, bit: u8) -> bool
-    requires { 0 < bit }
-    ensures { result ≡ is.has_bit op bit }
-{
-    op / bit % 2 == 1
+/// What MDRP and MIRP do with the distance that they keep, and with the point. The type of the distance, which an
+/// opcode's two lowest bits tell, changes nothing (profile).
+#[derive(Clone, Copy)]
+pub struct Keeping {
+    /// The point becomes reference point 0.
+    pub set_rp0: bool,
+    /// The distance is made at least the minimum distance.
+    pub minimum_distance: bool,
+    /// The distance is rounded. MIRP applies the control value cut-in too.
+    pub round: bool,
 }
 
 fn magnitude(d: i64) -> i64
@@ -78,26 +82,26 @@ fn at_least_minimum(state: &GraphicsState, d: i64, e: i64) -> i64
     if d < 0 { e.min(-min) } else { e.max(min) }
 }
 
-/// A distance rounded where the opcode has bit 4.
-pub(crate) fn rounded_by(op: u8, state: &GraphicsState, e: i64) -> i64
+/// A distance rounded, if that is asked for.
+pub(crate) fn rounded_by(keeping: Keeping, state: &GraphicsState, e: i64) -> i64
     requires { unsigned_abs e < 2 ^ 32 }
-    ensures exact { result ≡ is.rounded_by op state.now e }
+    ensures exact { result ≡ is.rounded_by keeping state.now e }
     ensures bound { unsigned_abs result < 2 ^ 33 }
 {
-    if has_bit(op, 4) {
+    if keeping.round {
         state.round.round(e)
     } else {
         e
     }
 }
 
-/// A distance made at least the minimum where the opcode has bit 8.
-pub(crate) fn spaced_by(op: u8, state: &GraphicsState, d: i64, e: i64) -> i64
+/// A distance made at least the minimum, if that is asked for.
+pub(crate) fn spaced_by(keeping: Keeping, state: &GraphicsState, d: i64, e: i64) -> i64
     requires { unsigned_abs e < 2 ^ 33 }
-    ensures exact { result ≡ is.spaced_by op state.now d e }
+    ensures exact { result ≡ is.spaced_by keeping state.now d e }
     ensures bound { unsigned_abs result < 2 ^ 33 }
 {
-    if has_bit(op, 8) {
+    if keeping.minimum_distance {
         at_least_minimum(state, d, e)
     } else {
         e

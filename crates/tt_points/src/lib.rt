@@ -10,10 +10,12 @@ mod moving;
 mod twilight;
 
 pub use control_values::{miap, mirp};
-pub use measuring::{gc, md, scfs, utp};
+pub use distances::Keeping;
+pub use measuring::{Position, gc, md, scfs, utp};
 pub use moving::{mdap, mdrp, msirp};
 pub use tt_points_iup::iup;
 pub use tt_points_loops::{
-    alignrp, delta_of, deltap, flippt, fliprgoff, fliprgon, ip, shc, shp, shpix, shz,
+    DeltaRange, ReferencePoint, alignrp, delta_of, deltap, flippt, fliprgoff, fliprgon, ip, shc,
+    shp, shpix, shz,
 };
 pub use tt_points_zones::Zones;

@@ -8,24 +8,30 @@ ghost use Rattle.tt_points_zones.specs.Points as point;
 ghost use Rattle.tt_points_zones.specs.Zones.{IsPoint, IsZones, zones_view};
 ghost use Rattle.tt_points.specs.Measuring as is;
 
-use crate::distances::has_bit;
 use crate::twilight::settled_in;
 use tt_core::Why;
 use tt_points_zones::{Zones, cur, direction, moved, org};
 use tt_state::{Axis, GraphicsState, Point};
 
-/// GC[a], 0x46 and 0x47: p -> the current coordinate, the original one, of point p of zone pointer 2. Error:
-/// PointRange.
+/// Which place of a point is measured.
+#[derive(Clone, Copy)]
+pub enum Position {
+    /// Where it stands now.
+    Current,
+    /// Where it stood before the program.
+    Original,
+}
+
+/// GC[a]: p -> the coordinate of point p of zone pointer 2. Error: PointRange.
 #[tactic(auto, unfolding(crate::specs::Measuring::gc))]
-pub fn gc(zones: &Zones, state: &GraphicsState, op: u8, p: i32) -> Result<i32, Why>
+pub fn gc(zones: &Zones, state: &GraphicsState, of: Position, p: i32) -> Result<i32, Why>
     requires { IsZones (zones_view zones.now) }
-    ensures { Gives (λ c. c) result (is.gc op p (zones_view zones.now) state.now) }
+    ensures { Gives (λ c. c) result (is.gc of p (zones_view zones.now) state.now) }
 {
     let q = zones.point(state.zp2, p)?;
-    if has_bit(op, 1) {
-        Ok(org(q, state.proj))
-    } else {
-        Ok(cur(q, state.proj))
+    match of {
+        Position::Current => Ok(cur(q, state.proj)),
+        Position::Original => Ok(org(q, state.proj)),
     }
 }
 
@@ -47,19 +53,23 @@ fn original_distance(b: Point, a: Point, axis: Axis) -> i32
     org(b, axis) - org(a, axis)
 }
 
-/// MD[a], 0x49 and 0x4A: p2, p1 -> the distance from point p1 of zone pointer 1 to point p2 of zone pointer 0, between
-/// their current places, between their original ones (profile). Error: PointRange.
+/// MD[a]: p2, p1 -> the distance from point p1 of zone pointer 1 to point p2 of zone pointer 0. Error: PointRange.
 #[tactic(auto, unfolding(crate::specs::Measuring::md))]
-pub fn md(zones: &Zones, state: &GraphicsState, op: u8, p2: i32, p1: i32) -> Result<i32, Why>
+pub fn md(
+    zones: &Zones,
+    state: &GraphicsState,
+    between: Position,
+    p2: i32,
+    p1: i32,
+) -> Result<i32, Why>
     requires { IsZones (zones_view zones.now) }
-    ensures { Gives (λ d. d) result (is.md op p2 p1 (zones_view zones.now) state.now) }
+    ensures { Gives (λ d. d) result (is.md between p2 p1 (zones_view zones.now) state.now) }
 {
     let a = zones.point(state.zp1, p1)?;
     let b = zones.point(state.zp0, p2)?;
-    if has_bit(op, 1) {
-        Ok(current_distance(b, a, state.proj))
-    } else {
-        Ok(original_distance(b, a, state.proj))
+    match between {
+        Position::Current => Ok(current_distance(b, a, state.proj)),
+        Position::Original => Ok(original_distance(b, a, state.proj)),
     }
 }
 
@@ -90,7 +100,7 @@ pub fn scfs(zones: &mut Zones, state: &GraphicsState, p: i32, v: i32) -> Result<
 fn untouched(p: Point, axis: Axis) -> Point
     requires { IsPoint p }
     ensures exact { result ≡ is.untouched axis p }
-    ensures sound { IsPoint result }
+    ensures valid { IsPoint result }
 {
     match axis {
         Axis::X => Point {

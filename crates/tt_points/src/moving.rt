@@ -9,7 +9,7 @@ ghost use Rattle.tt_points_zones.specs.Points as point;
 ghost use Rattle.tt_points_zones.specs.Zones.{IsPoint, IsZones, zones_view};
 ghost use Rattle.tt_points.specs.Moving as is;
 
-use crate::distances::{Distance, has_bit, rounded_by, single_width, spaced_by};
+use crate::distances::{Distance, Keeping, rounded_by, single_width, spaced_by};
 use crate::twilight::make;
 use tt_core::Why;
 use tt_points_zones::{Zones, cur, direction, moved, org};
@@ -53,12 +53,12 @@ pub(crate) fn kept(q: Point, axis: Axis, d: Distance, r: Point) -> Result<Point,
     requires r { IsPoint r }
     requires small { unsigned_abs d.0 < 2 ^ 33 }
     ensures exact { Gives (λ p. p) result (is.kept axis d.0 q r) }
-    ensures sound { IfOk result IsPoint }
+    ensures valid { IfOk result IsPoint }
 {
     moved(q, axis, short_of(d, q, r, axis))
 }
 
-/// The reference points behind a move that kept a distance.
+/// The reference points after a move that kept a distance.
 pub(crate) fn refer(state: &mut GraphicsState, rp0: bool, p: i32)
     requires { IsGraphicsState state.old }
     ensures exact { state.new ≡ is.referred rp0 p state.old }
@@ -80,34 +80,34 @@ fn to_rounded(state: &GraphicsState, at: Distance) -> i64
     state.round.round(at.0) - at.0
 }
 
-/// How far a point is moved that is touched where it is, or rounded, which bit 1 of the opcode says.
+/// How far a point is moved that is touched where it is, or rounded.
 #[tactic(auto, unfolding(crate::specs::Moving::mdap_distance))]
-fn mdap_distance(op: u8, state: &GraphicsState, q: Point, axis: Axis) -> i64
+fn mdap_distance(round: bool, state: &GraphicsState, q: Point, axis: Axis) -> i64
     requires { IsPoint q }
-    ensures exact { result ≡ is.mdap_distance op state.now (point.cur axis q) }
+    ensures exact { result ≡ is.mdap_distance round state.now (point.cur axis q) }
     ensures bound { unsigned_abs result < 2 ^ 33 }
 {
-    if has_bit(op, 1) {
+    if round {
         to_rounded(state, Distance(i64::from(cur(q, axis))))
     } else {
         0
     }
 }
 
-/// MDAP[r], 0x2E and 0x2F: p -> point p of zone pointer 0 is touched where it is, rounded. It becomes reference points 0
+/// MDAP[r]: p -> point p of zone pointer 0 is touched where it is, rounded. It becomes reference points 0
 /// and 1. Errors: PointRange, Perpendicular, ValueRange.
 #[tactic(auto, unfolding(crate::specs::Moving::mdap))]
-pub fn mdap(zones: &mut Zones, state: &mut GraphicsState, op: u8, p: i32) -> Result<(), Why>
+pub fn mdap(zones: &mut Zones, state: &mut GraphicsState, round: bool, p: i32) -> Result<(), Why>
     requires zones { IsZones (zones_view zones.old) }
     requires state { IsGraphicsState state.old }
     ensures exact { Gives (λ u. (zones_view zones.new, state.new)) result
-        (is.mdap op p (zones_view zones.old) state.old) }
+        (is.mdap round p (zones_view zones.old) state.old) }
     ensures zones { IsZones (zones_view zones.new) }
     ensures state { IsGraphicsState state.new }
 {
     let q = zones.point(state.zp0, p)?;
     let axis = direction(state)?;
-    let q = moved(q, axis, mdap_distance(op, state, q, axis))?;
+    let q = moved(q, axis, mdap_distance(round, state, q, axis))?;
     zones.set(state.zp0, p, q);
     state.rp0 = p;
     state.rp1 = p;
@@ -135,21 +135,21 @@ fn keep_from(
     Ok(())
 }
 
-/// MSIRP[a], 0x3A and 0x3B: p, d -> point p of zone pointer 1 is moved to the distance d from reference point 0, of
+/// MSIRP[a]: p, d -> point p of zone pointer 1 is moved to the distance d from reference point 0, of
 /// zone pointer 0; a twilight point is placed there first (profile). Reference point 1 becomes reference point 0, and p
-/// reference point 2; 0x3B makes it reference point 0. Errors: PointRange, Perpendicular, ValueRange.
+/// reference point 2, with `set_rp0` also reference point 0. Errors: PointRange, Perpendicular, ValueRange.
 #[tactic(auto, unfolding(crate::specs::Moving::msirp))]
 pub fn msirp(
     zones: &mut Zones,
     state: &mut GraphicsState,
-    op: u8,
+    set_rp0: bool,
     p: i32,
     d: i32,
 ) -> Result<(), Why>
     requires zones { IsZones (zones_view zones.old) }
     requires state { IsGraphicsState state.old }
     ensures exact { Gives (λ u. (zones_view zones.new, state.new)) result
-        (is.msirp op p d (zones_view zones.old) state.old) }
+        (is.msirp set_rp0 p d (zones_view zones.old) state.old) }
     ensures zones { IsZones (zones_view zones.new) }
     ensures state { IsGraphicsState state.new }
 {
@@ -159,47 +159,51 @@ pub fn msirp(
     let d = Distance::new(d);
     make(zones, state.zp1, p, axis, d, r)?;
     keep_from(zones, state, p, axis, d)?;
-    refer(state, has_bit(op, 1), p);
+    refer(state, set_rp0, p);
     Ok(())
 }
 
-/// What MDRP keeps of an original distance, behind the single width.
-fn mdrp_kept(op: u8, state: &GraphicsState, d: i64) -> i64
+/// What MDRP keeps of an original distance, after the single width.
+fn mdrp_kept(keeping: Keeping, state: &GraphicsState, d: i64) -> i64
     requires { unsigned_abs d < 2 ^ 32 }
-    ensures exact { result ≡ is.mdrp_kept op state.now d }
+    ensures exact { result ≡ is.mdrp_kept keeping state.now d }
     ensures bound { unsigned_abs result < 2 ^ 33 }
 {
-    spaced_by(op, state, d, rounded_by(op, state, d))
+    spaced_by(keeping, state, d, rounded_by(keeping, state, d))
 }
 
 /// What MDRP keeps of an original distance.
 #[tactic(auto, unfolding(crate::specs::Moving::mdrp_distance))]
-fn mdrp_distance(op: u8, state: &GraphicsState, d: Distance) -> Distance
+fn mdrp_distance(keeping: Keeping, state: &GraphicsState, d: Distance) -> Distance
     requires { unsigned_abs d.0 < 2 ^ 23 }
-    ensures exact { result.0 ≡ is.mdrp_distance op state.now d.0 }
+    ensures exact { result.0 ≡ is.mdrp_distance keeping state.now d.0 }
     ensures bound { unsigned_abs result.0 < 2 ^ 33 }
 {
-    Distance(mdrp_kept(op, state, single_width(state, d.0)))
+    Distance(mdrp_kept(keeping, state, single_width(state, d.0)))
 }
 
-/// MDRP[abcde], 0xC0 to 0xDF: p -> point p of zone pointer 1 is moved to its original distance from reference point 0,
-/// of zone pointer 0; bit 4 of the opcode rounds it, bit 8 keeps the minimum distance. Reference point 1 becomes
-/// reference point 0, and p reference point 2; bit 16 makes it reference point 0. Errors: PointRange, Perpendicular,
-/// ValueRange.
+/// MDRP[abcde]: p -> point p of zone pointer 1 is moved to its original distance from reference point 0, of zone
+/// pointer 0, as `keeping` has it. Reference point 1 becomes reference point 0, and p reference point 2. Errors:
+/// PointRange, Perpendicular, ValueRange.
 #[tactic(auto, unfolding(crate::specs::Moving::mdrp))]
-pub fn mdrp(zones: &mut Zones, state: &mut GraphicsState, op: u8, p: i32) -> Result<(), Why>
+pub fn mdrp(
+    zones: &mut Zones,
+    state: &mut GraphicsState,
+    keeping: Keeping,
+    p: i32,
+) -> Result<(), Why>
     requires zones { IsZones (zones_view zones.old) }
     requires state { IsGraphicsState state.old }
     ensures exact { Gives (λ u. (zones_view zones.new, state.new)) result
-        (is.mdrp op p (zones_view zones.old) state.old) }
+        (is.mdrp keeping p (zones_view zones.old) state.old) }
     ensures zones { IsZones (zones_view zones.new) }
     ensures state { IsGraphicsState state.new }
 {
     let q = zones.point(state.zp1, p)?;
     let r = zones.point(state.zp0, state.rp0)?;
     let axis = direction(state)?;
-    let d = mdrp_distance(op, state, original_distance(q, r, axis));
+    let d = mdrp_distance(keeping, state, original_distance(q, r, axis));
     zones.set(state.zp1, p, kept(q, axis, d, r)?);
-    refer(state, has_bit(op, 16), p);
+    refer(state, keeping.set_rp0, p);
     Ok(())
 }

@@ -14,7 +14,7 @@ use tt_state::{Axis, Point, Zone};
 fn settled(p: Point) -> Point
     requires { IsPoint p }
     ensures exact { result ≡ is.settled p }
-    ensures sound { IsPoint result }
+    ensures valid { IsPoint result }
 {
     Point {
         org_x: p.x,
@@ -27,7 +27,7 @@ fn settled(p: Point) -> Point
 pub(crate) fn settled_in(zone: Zone, p: Point) -> Point
     requires { IsPoint p }
     ensures exact { result ≡ is.settled_in zone p }
-    ensures sound { IsPoint result }
+    ensures valid { IsPoint result }
 {
     match zone {
         Zone::Twilight => settled(p),
@@ -40,7 +40,7 @@ fn at_original(p: Point, r: Point) -> Point
     requires p { IsPoint p }
     requires r { IsPoint r }
     ensures exact { result ≡ record p { x = r.org_x; y = r.org_y } }
-    ensures sound { IsPoint result }
+    ensures valid { IsPoint result }
 {
     Point {
         x: r.org_x,
@@ -56,7 +56,7 @@ pub(crate) fn placed(p: Point, axis: Axis, d: Distance, r: Point) -> Result<Poin
     requires r { IsPoint r }
     requires small { unsigned_abs d.0 < 2 ^ 40 }
     ensures exact { Gives (λ q. q) result (is.placed axis d.0 r p) }
-    ensures sound { IfOk result IsPoint }
+    ensures valid { IfOk result IsPoint }
 {
     Ok(settled(shifted(at_original(p, r), axis, d.0)?))
 }

@@ -8,6 +8,8 @@ use Rattle.tt_state.specs.declared.graphics_state.Zone.TheVariants as zone
 use Rattle.tt_state.specs.declared.point.Point.{Point}
 use Rattle.tt_points_zones.specs.Points.{cur, moved, direction, point_in, points_in, with_point}
 use Rattle.tt_points_zones.specs.Zones.{ZoneLists, SameShape, KeepsShape, KeepsShapeBefore}
+use Rattle.tt_points_loops.specs.declared.deltas.DeltaRange.{DeltaRange}
+use Rattle.tt_points_loops.specs.declared.shifting.ReferencePoint.{ReferencePoint}
 use Rattle.tt_points_loops.specs.Deltas.{delta_of, move_by, except, pairs_of}
 use Rattle.tt_points_loops.specs.Flipping.{flipped, flip, put_on, flip_range}
 use Rattle.tt_points_loops.specs.Moving.{align, in_between, interpolate, push}
@@ -86,11 +88,11 @@ range zone first past move z =
     through (λ qs. length qs ≡ length ps) (SameShape z) (each_from_to first past move 0 ps)
     (λ qs. Ok (with_points zone qs z)) (count first past move 0 ps) (λ qs many. put_all zone qs z many)
 
-shifted_range : (touch : Bool) (op : ℕ) (zone : Zone) (r : ℕ × ℕ) (z : ZoneLists) (g : GraphicsState)
-    → KeepsShape z (shift_range touch op zone r z g)
-shifted_range touch op zone r z g =
-    let but = number_in zone (reference_zone op g) (reference_number op g) in
-    behind (SameShape z) (reference op g z) _ (λ p. range zone (r.0) (r.1) (follow_but but touch g p) z)
+shifted_range : (touch : Bool) (which : ReferencePoint) (zone : Zone) (r : ℕ × ℕ) (z : ZoneLists) (g : GraphicsState)
+    → KeepsShape z (shift_range touch which zone r z g)
+shifted_range touch which zone r z g =
+    let but = number_in zone (reference_zone which g) (reference_number which g) in
+    behind (SameShape z) (reference which g z) _ (λ p. range zone (r.0) (r.1) (follow_but but touch g p) z)
 
 flipped_range : (on : Bool) (low high : ℤ) (z : ZoneLists) → KeepsShape z (flip_range on low high z)
 flipped_range on low high z =
@@ -104,8 +106,8 @@ moved_by (Some d) g n z =
     behind (SameShape z) (point_in g.zp0 n z) _ (λ p.
     behind (SameShape z) (direction g) _ (λ axis. put g.zp0 n z (moved axis d p)))
 
-excepted : (op ppem : ℕ) (g : GraphicsState) (pair : ℤ × ℤ) (z : ZoneLists) → KeepsShape z (except op ppem g pair z)
-excepted op ppem g pair z = behind (SameShape z) (delta_of op (pair.0) ppem g) _ (λ d. moved_by d g (pair.1) z)
+excepted : (range : DeltaRange) (ppem : ℕ) (g : GraphicsState) (pair : ℤ × ℤ) (z : ZoneLists) → KeepsShape z (except range ppem g pair z)
+excepted range ppem g pair z = behind (SameShape z) (delta_of range (pair.0) ppem g) _ (λ d. moved_by d g (pair.1) z)
 
 aligned : (g : GraphicsState) (n : ℤ) (z : ZoneLists) → KeepsShape z (align g n z)
 aligned g n z =
@@ -127,14 +129,14 @@ shifted g before n z =
     behind (SameShape z) (point_in g.zp2 n z) _ (λ p.
     behind (SameShape z) before _ (λ r. put g.zp2 n z (follow true g r p)))
 
-shifted_zone : (op : ℕ) (e : ℤ) (z : ZoneLists) (g : GraphicsState) → KeepsShape z (shz op e z g)
+shifted_zone : (which : ReferencePoint) (e : ℤ) (z : ZoneLists) (g : GraphicsState) → KeepsShape z (shz which e z g)
 unfolding shz
-shifted_zone op e z g =
-    behind (SameShape z) (zone_of e) _ (λ zone. shifted_range false op zone (outline_in zone z) z g)
+shifted_zone which e z g =
+    behind (SameShape z) (zone_of e) _ (λ zone. shifted_range false which zone (outline_in zone z) z g)
 
-shifted_contour : (op : ℕ) (c : ℤ) (z : ZoneLists) (g : GraphicsState) → KeepsShape z (shc op c z g)
-shifted_contour op c z g =
-    behind (SameShape z) (contour_in g.zp2 c z) _ (λ r. shifted_range true op g.zp2 r z g)
+shifted_contour : (which : ReferencePoint) (c : ℤ) (z : ZoneLists) (g : GraphicsState) → KeepsShape z (shc which c z g)
+shifted_contour which c z g =
+    behind (SameShape z) (contour_in g.zp2 c z) _ (λ r. shifted_range true which g.zp2 r z g)
 
 pub shape_kept : (z : ZoneLists) (g : GraphicsState) → ShapeIsKept z g
 shape_kept z g = record {
@@ -144,8 +146,8 @@ shape_kept z g = record {
   flippt = λ points. loop flip turned points z g;
   fliprgon = λ low high. flipped_range true low high z;
   fliprgoff = λ low high. flipped_range false low high z;
-  shp = λ op points. loop (shift g (reference op g z)) (shifted g (reference op g z)) points z g;
-  shc = λ op c. shifted_contour op c z g;
-  shz = λ op e. shifted_zone op e z g;
-  deltap = λ op ppem pairs. series (except op ppem g) (excepted op ppem g) (reverse (pairs_of pairs)) z;
+  shp = λ which points. loop (shift g (reference which g z)) (shifted g (reference which g z)) points z g;
+  shc = λ which c. shifted_contour which c z g;
+  shz = λ which e. shifted_zone which e z g;
+  deltap = λ range ppem pairs. series (except range ppem g) (excepted range ppem g) (reverse (pairs_of pairs)) z;
 }

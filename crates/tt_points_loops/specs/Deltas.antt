@@ -1,6 +1,6 @@
 -- Apple TrueType Reference Manual, "Instruction set": managing exceptions (DELTAP1 to DELTAP3, DELTAC1 to DELTAC3).
 -- Distances are in 26.6 pixels, sizes in pixels per em.
-use Rattle.std.specs.Prelude.{◌≡◌, ℕ, ◌/◌, ◌%◌, ◌^◌, ◌==◌, ◌||◌, nat_lt, ℤ, pos, negsuc, ◌+ℤ◌, ◌-ℤ◌, ◌*ℤ◌, int_lt, unsigned_abs, Bool, true, false, if◌then◌else◌, List, [], ◌∷◌, reverse, Option, Some, None, Result, Ok, Err, refl}
+use Rattle.std.specs.Prelude.{◌≡◌, ℕ, ◌/◌, ◌%◌, ◌^◌, ◌||◌, nat_lt, ℤ, pos, negsuc, ◌+ℤ◌, ◌-ℤ◌, ◌*ℤ◌, int_lt, unsigned_abs, Bool, true, false, if◌then◌else◌, List, [], ◌∷◌, reverse, Option, Some, None, Result, Ok, Err, refl}
 use Rattle.std.specs.Ordering.{int_eq}
 use Rattle.tt_core.specs.Outcomes.{◌>>=◌}
 use Rattle.tt_core.specs.declared.fault.Why.{Why}
@@ -10,16 +10,19 @@ use Rattle.tt_state.specs.declared.graphics_state.GraphicsState.{GraphicsState}
 use Rattle.tt_state.specs.declared.point.Point.{Point}
 use Rattle.tt_points_zones.specs.Points.{moved, direction, point_in, with_point}
 use Rattle.tt_points_zones.specs.Zones.{ZoneLists}
+use Rattle.tt_points_loops.specs.declared.deltas.DeltaRange.{DeltaRange}
+use Rattle.tt_points_loops.specs.declared.deltas.DeltaRange.TheVariants as ranges
 use Rattle.tt_points_loops.specs.Series.{one_by_one}
 
--- how far behind the delta base the sizes of the second and the third instruction of each kind begin
-abbrev pub sizes_passed : ℕ → ℤ
-sizes_passed op =
-    if op == 0x71 || op == 0x74 then pos 16 else (if op == 0x72 || op == 0x75 then pos 32 else pos 0)
+-- how far above the delta base the sizes of a range begin
+abbrev pub sizes_passed : DeltaRange → ℤ
+sizes_passed ranges.First = pos 0
+sizes_passed ranges.Second = pos 16
+sizes_passed ranges.Third = pos 32
 
 -- bits 7 to 4 of an argument: the size
-abbrev pub size_of : ℕ → ℕ → GraphicsState → ℤ
-size_of op argument g = (g.delta_base +ℤ sizes_passed op) +ℤ pos (argument / 16)
+abbrev pub size_of : DeltaRange → ℕ → GraphicsState → ℤ
+size_of range argument g = (g.delta_base +ℤ sizes_passed range) +ℤ pos (argument / 16)
 
 -- bits 3 to 0: 0 to 7 are -8 to -1 steps, 8 to 15 are 1 to 8
 abbrev pub steps_of : ℕ → ℤ
@@ -31,10 +34,10 @@ abbrev pub step_of : GraphicsState → ℤ
 step_of g = pos (64 / 2 ^ unsigned_abs g.delta_shift)
 
 -- the exception that an argument is at a size, None at others. Past a byte it has no meaning (profile).
-abbrev pub delta_of : ℕ → ℤ → ℕ → GraphicsState → Result (Option ℤ) Why
-delta_of op argument ppem g =
+abbrev pub delta_of : DeltaRange → ℤ → ℕ → GraphicsState → Result (Option ℤ) Why
+delta_of range argument ppem g =
     if int_lt argument (pos 0) || int_lt (pos 255) argument then Err why.BadArgument
-    else Ok (if int_eq (size_of op (unsigned_abs argument) g) (pos ppem)
+    else Ok (if int_eq (size_of range (unsigned_abs argument) g) (pos ppem)
     then Some (steps_of (unsigned_abs argument) *ℤ step_of g) else None)
 
 -- a point of zp0 moved by an exception, if there is one
@@ -43,8 +46,8 @@ move_by None g n z = Ok z
 move_by (Some d) g n z =
     point_in g.zp0 n z >>= λ p. direction g >>= λ axis. moved axis d p >>= λ q. Ok (with_point g.zp0 n q z)
 
-abbrev pub except : ℕ → ℕ → GraphicsState → ℤ × ℤ → ZoneLists → Result ZoneLists Why
-except op ppem g pair z = delta_of op pair.0 ppem g >>= λ d. move_by d g pair.1 z
+abbrev pub except : DeltaRange → ℕ → GraphicsState → ℤ × ℤ → ZoneLists → Result ZoneLists Why
+except range ppem g pair z = delta_of range pair.0 ppem g >>= λ d. move_by d g pair.1 z
 
 -- arguments and numbers of points, as they stand on the stack
 abbrev pub pairs_of : List ℤ → List (ℤ × ℤ)
@@ -52,20 +55,20 @@ pairs_of (argument ∷ n ∷ rest) = (argument, n) ∷ pairs_of rest
 pairs_of _ = []
 
 -- DELTAP1, DELTAP2 and DELTAP3; the last pair is popped first
-abbrev pub deltap : ℕ → ℕ → List ℤ → ZoneLists → GraphicsState → Result ZoneLists Why
-deltap op ppem pairs z g = one_by_one (except op ppem g) (reverse (pairs_of pairs)) z
+abbrev pub deltap : DeltaRange → ℕ → List ℤ → ZoneLists → GraphicsState → Result ZoneLists Why
+deltap range ppem pairs z g = one_by_one (except range ppem g) (reverse (pairs_of pairs)) z
 
 -- worked values
-eight_steps_up : delta_of 0x5D (pos 0x7F) 16 default_state ≡ Ok (Some (pos 64))
+eight_steps_up : delta_of ranges.First (pos 0x7F) 16 default_state ≡ Ok (Some (pos 64))
 eight_steps_up = refl
 
-eight_steps_down : delta_of 0x71 (pos 0x70) 32 (record default_state { delta_shift = pos 6 }) ≡ Ok (Some (negsuc 7))
+eight_steps_down : delta_of ranges.Second (pos 0x70) 32 (record default_state { delta_shift = pos 6 }) ≡ Ok (Some (negsuc 7))
 eight_steps_down = refl
 
-another_size : delta_of 0x75 (pos 0x7F) 16 default_state ≡ Ok None
+another_size : delta_of ranges.Third (pos 0x7F) 16 default_state ≡ Ok None
 another_size = refl
 
-past_a_byte : delta_of 0x5D (pos 256) 1 default_state ≡ Err why.BadArgument
+past_a_byte : delta_of ranges.First (pos 256) 1 default_state ≡ Err why.BadArgument
 past_a_byte = refl
 
 abbrev point : ℤ → Bool → Point
@@ -75,12 +78,12 @@ point x touched =
 abbrev glyph : List Point → ZoneLists
 glyph ps = record { twilight = []; glyph = ps; contours = [] }
 
-a_point_at_its_size : deltap 0x5D 16 (pos 0x7F ∷ pos 0 ∷ pos 0x6F ∷ pos 9 ∷ [])
+a_point_at_its_size : deltap ranges.First 16 (pos 0x7F ∷ pos 0 ∷ pos 0x6F ∷ pos 9 ∷ [])
     (glyph (point (pos 1) false ∷ [])) default_state
     ≡ Ok (glyph (point (pos 65) true ∷ []))
 a_point_at_its_size = refl
 
-last_pair_first : deltap 0x5D 16 (pos 256 ∷ pos 0 ∷ pos 0x7F ∷ pos 1 ∷ [])
+last_pair_first : deltap ranges.First 16 (pos 256 ∷ pos 0 ∷ pos 0x7F ∷ pos 1 ∷ [])
     (glyph (point (pos 1) false ∷ [])) default_state
     ≡ Err why.PointRange
 last_pair_first = refl

@@ -1,6 +1,6 @@
 -- Apple TrueType Reference Manual, "Instruction set": managing outlines (SHP, SHC, SHZ): points follow a reference
 -- point. Distances are in 26.6 pixels.
-use Rattle.std.specs.Prelude.{◌≡◌, ℕ, ◌%◌, ◌-◌, ◌==◌, ℤ, pos, negsuc, ◌-ℤ◌, int_lt, unsigned_abs, slice_get, Bool, true, false, if◌then◌else◌, List, [], ◌∷◌, length, Option, Some, None, Result, Ok, Err, refl}
+use Rattle.std.specs.Prelude.{◌≡◌, ℕ, ◌-◌, ◌==◌, ℤ, pos, negsuc, ◌-ℤ◌, int_lt, unsigned_abs, slice_get, Bool, true, false, if◌then◌else◌, List, [], ◌∷◌, length, Option, Some, None, Result, Ok, Err, refl}
 use Rattle.std.specs.Option.{ok_or}
 use Rattle.std.specs.Ordering.{int_eq}
 use Rattle.tt_core.specs.Outcomes.{◌>>=◌}
@@ -15,17 +15,21 @@ use Rattle.tt_state.specs.declared.graphics_state.Zone.TheVariants as zone
 use Rattle.tt_state.specs.declared.point.Point.{Point}
 use Rattle.tt_points_zones.specs.Points.{cur, org, shifted, moved, direction, points_in, point_in, with_point}
 use Rattle.tt_points_zones.specs.Zones.{ZoneLists}
+use Rattle.tt_points_loops.specs.declared.shifting.ReferencePoint.{ReferencePoint}
+use Rattle.tt_points_loops.specs.declared.shifting.ReferencePoint.TheVariants as by
 use Rattle.tt_points_loops.specs.Series.{each_from_to, looped}
 
--- the reference point: rp1 in zp0 by the opcode's last bit, else rp2 in zp1
-abbrev pub reference_zone : ℕ → GraphicsState → Zone
-reference_zone op g = if op % 2 == 0 then g.zp1 else g.zp0
+-- the reference point: rp1 in zp0, or rp2 in zp1
+abbrev pub reference_zone : ReferencePoint → GraphicsState → Zone
+reference_zone by.Rp1 g = g.zp0
+reference_zone by.Rp2 g = g.zp1
 
-abbrev pub reference_number : ℕ → GraphicsState → ℤ
-reference_number op g = if op % 2 == 0 then g.rp2 else g.rp1
+abbrev pub reference_number : ReferencePoint → GraphicsState → ℤ
+reference_number by.Rp1 g = g.rp1
+reference_number by.Rp2 g = g.rp2
 
-abbrev pub reference : ℕ → GraphicsState → ZoneLists → Result Point Why
-reference op g z = point_in (reference_zone op g) (reference_number op g) z
+abbrev pub reference : ReferencePoint → GraphicsState → ZoneLists → Result Point Why
+reference which g z = point_in (reference_zone which g) (reference_number which g) z
 
 -- how far a point stands from where it stood
 abbrev pub offset : Axis → Point → ℤ
@@ -46,8 +50,8 @@ abbrev pub shift : GraphicsState → Result Point Why → ℤ → ZoneLists → 
 shift g before n z =
     point_in g.zp2 n z >>= λ p. before >>= λ r. follow true g r p >>= λ q. Ok (with_point g.zp2 n q z)
 
-abbrev pub shp : ℕ → List ℤ → ZoneLists → GraphicsState → Result (ZoneLists × GraphicsState) Why
-shp op points z g = looped (shift g (reference op g z)) points z g
+abbrev pub shp : ReferencePoint → List ℤ → ZoneLists → GraphicsState → Result (ZoneLists × GraphicsState) Why
+shp which points z g = looped (shift g (reference which g z)) points z g
 
 -- the number of the reference point, where it is a point of this zone
 abbrev pub number_in : Zone → Zone → ℤ → Option ℕ
@@ -74,11 +78,11 @@ follow_in zone first past move z =
     each_from_to first past move 0 (points_in zone z) >>= λ ps. Ok (with_points zone ps z)
 
 -- the points of a range of a zone, but the reference point
-abbrev pub shift_range : Bool → ℕ → Zone → ℕ × ℕ → ZoneLists → GraphicsState → Result ZoneLists Why
-shift_range touch op zone range z g =
-    reference op g z >>= λ r.
+abbrev pub shift_range : Bool → ReferencePoint → Zone → ℕ × ℕ → ZoneLists → GraphicsState → Result ZoneLists Why
+shift_range touch which zone range z g =
+    reference which g z >>= λ r.
     follow_in zone range.0 range.1
-    (follow_but (number_in zone (reference_zone op g) (reference_number op g)) touch g r) z
+    (follow_but (number_in zone (reference_zone which g) (reference_number which g)) touch g r) z
 
 abbrev pub contour_at : ℤ → List (ℕ × ℕ) → Result (ℕ × ℕ) Why
 contour_at c contours =
@@ -90,8 +94,8 @@ contour_in zone.Twilight c z = if int_eq c (pos 0) then Ok (0, length z.twilight
 contour_in zone.Glyph c z = contour_at c z.contours
 
 -- SHC: the points of a contour of zp2
-abbrev pub shc : ℕ → ℤ → ZoneLists → GraphicsState → Result ZoneLists Why
-shc op c z g = contour_in g.zp2 c z >>= λ range. shift_range true op g.zp2 range z g
+abbrev pub shc : ReferencePoint → ℤ → ZoneLists → GraphicsState → Result ZoneLists Why
+shc which c z g = contour_in g.zp2 c z >>= λ range. shift_range true which g.zp2 range z g
 
 -- where the last contour ends; the points behind it are phantom points
 abbrev pub end_of : Option (ℕ × ℕ) → ℕ
@@ -110,8 +114,8 @@ outline_in zone.Twilight z = (0, length z.twilight)
 outline_in zone.Glyph z = (0, contours_end z.contours)
 
 -- SHZ: the points of a zone but phantom points, none of them touched by it
-unfoldable pub shz : ℕ → ℤ → ZoneLists → GraphicsState → Result ZoneLists Why
-shz op e z g = zone_of e >>= λ zone. shift_range false op zone (outline_in zone z) z g
+unfoldable pub shz : ReferencePoint → ℤ → ZoneLists → GraphicsState → Result ZoneLists Why
+shz which e z g = zone_of e >>= λ zone. shift_range false which zone (outline_in zone z) z g
 
 -- worked values, along x
 abbrev point : ℤ → ℤ → Point
@@ -124,29 +128,29 @@ abbrev glyph : List Point → ZoneLists
 glyph ps = record { twilight = []; glyph = ps; contours = (0, 2) ∷ [] }
 
 -- rp2 itself is among the points: it is moved, and the next point by no more than before
-taken_once : shp 0x32 (pos 1 ∷ pos 0 ∷ []) (glyph (point (pos 5) (pos 7) ∷ point (pos 1) (pos 2) ∷ [])) default_state
+taken_once : shp by.Rp2 (pos 1 ∷ pos 0 ∷ []) (glyph (point (pos 5) (pos 7) ∷ point (pos 1) (pos 2) ∷ [])) default_state
     ≡ Ok (glyph (moved_to (pos 5) (pos 9) ∷ moved_to (pos 1) (pos 4) ∷ []), default_state)
 taken_once = refl
 
-all_but_the_reference : shc 0x34 (pos 0)
+all_but_the_reference : shc by.Rp2 (pos 0)
     (glyph (point (pos 5) (pos 7) ∷ point (pos 1) (pos 2) ∷ point (pos 1) (pos 2) ∷ [])) default_state
     ≡ Ok (glyph (point (pos 5) (pos 7) ∷ moved_to (pos 1) (pos 4) ∷ point (pos 1) (pos 2) ∷ []))
 all_but_the_reference = refl
 
-untouched : shz 0x37 (pos 1)
+untouched : shz by.Rp1 (pos 1)
     (glyph (point (pos 5) (pos 7) ∷ point (pos 1) (pos 2) ∷ point (pos 1) (pos 2) ∷ [])) default_state
     ≡ Ok (glyph (point (pos 5) (pos 7) ∷ point (pos 1) (pos 4) ∷ point (pos 1) (pos 2) ∷ []))
 unfolding shz
 untouched = refl
 
-no_contour_one : shc 0x34 (pos 1) (glyph []) (record default_state { rp2 = negsuc 0 }) ≡ Err why.ContourRange
+no_contour_one : shc by.Rp2 (pos 1) (glyph []) (record default_state { rp2 = negsuc 0 }) ≡ Err why.ContourRange
 no_contour_one = refl
 
-no_reference : shz 0x36 (pos 0) (glyph []) (record default_state { rp2 = negsuc 0 }) ≡ Err why.PointRange
+no_reference : shz by.Rp2 (pos 0) (glyph []) (record default_state { rp2 = negsuc 0 }) ≡ Err why.PointRange
 unfolding shz
 no_reference = refl
 
-nothing_to_move : shc 0x34 (pos 0) (glyph (point (pos 5) (pos 7) ∷ []))
+nothing_to_move : shc by.Rp2 (pos 0) (glyph (point (pos 5) (pos 7) ∷ []))
     (record default_state { zp2 = zone.Twilight; free = axis.Y })
     ≡ Ok (glyph (point (pos 5) (pos 7) ∷ []))
 nothing_to_move = refl

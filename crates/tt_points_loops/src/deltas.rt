@@ -11,24 +11,32 @@ use tt_core::Why;
 use tt_points_zones::{Zones, direction, moved};
 use tt_state::GraphicsState;
 
-/// How far behind the delta base the sizes of an instruction begin.
-fn sizes_passed(op: u8) -> i64
-    ensures exact { result ≡ is.sizes_passed op }
+/// Which 16 sizes above the delta base an instruction is for: DELTAP1 and DELTAC1 have the first ones.
+#[derive(Clone, Copy)]
+pub enum DeltaRange {
+    First,
+    Second,
+    Third,
+}
+
+/// How far above the delta base the sizes of a range begin, in pixels per em.
+fn sizes_passed(range: DeltaRange) -> i64
+    ensures exact { result ≡ is.sizes_passed range }
     ensures low { pos 0 ≤ℤ result }
     ensures high { result ≤ℤ pos 32 }
 {
-    match op {
-        0x71 | 0x74 => 16,
-        0x72 | 0x75 => 32,
-        _ => 0,
+    match range {
+        DeltaRange::First => 0,
+        DeltaRange::Second => 16,
+        DeltaRange::Third => 32,
     }
 }
 
 /// Bits 7 to 4 of an argument: the size.
-fn size_of(op: u8, argument: u8, state: &GraphicsState) -> i64
-    ensures { result ≡ is.size_of op argument state.now }
+fn size_of(range: DeltaRange, argument: u8, state: &GraphicsState) -> i64
+    ensures { result ≡ is.size_of range argument state.now }
 {
-    i64::from(state.delta_base) + sizes_passed(op) + i64::from(argument / 16)
+    i64::from(state.delta_base) + sizes_passed(range) + i64::from(argument / 16)
 }
 
 /// Bits 3 to 0: 0 to 7 are -8 to -1 steps, 8 to 15 are 1 to 8.
@@ -77,18 +85,22 @@ fn exception(argument: u8, state: &GraphicsState) -> i32
     product(steps_of(argument), step_of(state))
 }
 
-/// What DELTAP1 to DELTAP3 (0x5D, 0x71, 0x72) and DELTAC1 to DELTAC3 (0x73 to 0x75) make of an argument: a distance in
-/// 26.6 pixels of 1 to 8 steps to either side; None where the argument is for another size than `ppem`. Error:
-/// BadArgument where it is no byte.
-pub fn delta_of(op: u8, argument: i32, ppem: u32, state: &GraphicsState) -> Result<Option<i32>, Why>
+/// What a DELTAP and a DELTAC instruction make of an argument: a distance in 26.6 pixels of 1 to 8 steps to either side;
+/// None where the argument is for another size than `ppem`. Error: BadArgument where it is no byte.
+pub fn delta_of(
+    range: DeltaRange,
+    argument: i32,
+    ppem: u32,
+    state: &GraphicsState,
+) -> Result<Option<i32>, Why>
     requires { IsGraphicsState state.now }
-    ensures exact { Gives (λ d. d) result (is.delta_of op argument ppem state.now) }
+    ensures exact { Gives (λ d. d) result (is.delta_of range argument ppem state.now) }
     ensures bound { IfOk result (λ d. IfSome d (λ by. unsigned_abs by ≤ 512)) }
 {
     let Ok(argument) = u8::try_from(argument) else {
         return Err(Why::BadArgument);
     };
-    if size_of(op, argument, state) != i64::from(ppem) {
+    if size_of(range, argument, state) != i64::from(ppem) {
         return Ok(None);
     }
     Ok(Some(exception(argument, state)))
@@ -111,7 +123,7 @@ fn move_by(zones: &mut Zones, state: &GraphicsState, d: i32, n: i32) -> Result<(
 fn except(
     zones: &mut Zones,
     state: &GraphicsState,
-    op: u8,
+    range: DeltaRange,
     ppem: u32,
     pairs: &[i32],
     i: usize,
@@ -120,34 +132,34 @@ fn except(
     requires state { IsGraphicsState state.now }
     requires there { 2 * i + 1 < length pairs.now }
     ensures exact { Gives (λ u. zones_view zones.new) result
-        (is.except op ppem state.now (get_or pairs.now (2 * i) (pos 0), get_or pairs.now (2 * i + 1) (pos 0))
+        (is.except range ppem state.now (get_or pairs.now (2 * i) (pos 0), get_or pairs.now (2 * i + 1) (pos 0))
         (zones_view zones.old)) }
     ensures zones { IsZones (zones_view zones.new) }
 {
-    match delta_of(op, pairs[2 * i], ppem, state)? {
+    match delta_of(range, pairs[2 * i], ppem, state)? {
         Some(d) => move_by(zones, state, d, pairs[2 * i + 1]),
         None => Ok(()),
     }
 }
 
-/// DELTAP1[], 0x5D, DELTAP2[], 0x71, and DELTAP3[], 0x72: pairs of an argument and a point of zp0 -> each point is
+/// DELTAP1[], DELTAP2[] and DELTAP3[]: pairs of an argument and a point of zp0 -> each point is
 /// moved by the exception that its argument is at `ppem` pixels per em, if it is one. The last pair comes first. Errors:
 /// BadArgument, PointRange, Perpendicular, ValueRange.
 pub fn deltap(
     zones: &mut Zones,
     state: &GraphicsState,
-    op: u8,
+    range: DeltaRange,
     ppem: u32,
     pairs: &[i32],
 ) -> Result<(), Why>
     requires zones { IsZones (zones_view zones.old) }
     requires state { IsGraphicsState state.now }
     ensures exact { Gives (λ u. zones_view zones.new) result
-        (is.deltap op ppem pairs.now (zones_view zones.old) state.now) }
+        (is.deltap range ppem pairs.now (zones_view zones.old) state.now) }
     ensures zones { IsZones (zones_view zones.new) }
 {
     for i in (0..pairs.len() / 2).rev() {
-        except(zones, state, op, ppem, pairs, i)?;
+        except(zones, state, range, ppem, pairs, i)?;
     }
     Ok(())
 }

@@ -52,7 +52,7 @@ pub fn flippt(zones: &mut Zones, state: &mut GraphicsState, points: &[i32]) -> R
 fn put_on(p: Point, on: bool) -> Point
     requires { IsPoint p }
     ensures exact { result ≡ is.put_on on p }
-    ensures sound { IsPoint result }
+    ensures valid { IsPoint result }
 {
     Point { on, ..p }
 }
@@ -61,7 +61,7 @@ fn put_all_on(points: &mut [Point], low: usize, past: usize, on: bool)
     requires points { All IsPoint points.old }
     requires past { past ≤ length points.old }
     ensures exact { each_from_to low past (λ i p. Ok (is.put_on on p)) 0 points.old ≡ Ok points.new }
-    ensures sound { All IsPoint points.new }
+    ensures valid { All IsPoint points.new }
     ensures count { length points.new ≡ length points.old }
 {
     for i in low..past {

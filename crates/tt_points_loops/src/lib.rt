@@ -7,7 +7,7 @@ pub mod laws;
 mod moving;
 mod shifting;
 
-pub use deltas::{delta_of, deltap};
+pub use deltas::{DeltaRange, delta_of, deltap};
 pub use flipping::{flippt, fliprgoff, fliprgon};
 pub use moving::{alignrp, ip, shpix};
-pub use shifting::{shc, shp, shz};
+pub use shifting::{ReferencePoint, shc, shp, shz};

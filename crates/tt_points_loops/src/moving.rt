@@ -52,7 +52,7 @@ fn moved_by(p: Point, axis: Axis, by: Distance) -> Result<Point, Why>
     requires point { IsPoint p }
     requires small { unsigned_abs by.0 < 2 ^ 60 }
     ensures exact { Gives (λ q. q) result (point.moved axis by.0 p) }
-    ensures sound { IfOk result IsPoint }
+    ensures valid { IfOk result IsPoint }
 {
     moved(p, axis, by.0)
 }
@@ -62,7 +62,7 @@ fn aligned(p: Point, r: Point, axis: Axis) -> Result<Point, Why>
     requires p { IsPoint p }
     requires r { IsPoint r }
     ensures exact { Gives (λ q. q) result (point.moved axis (cur axis r -ℤ cur axis p) p) }
-    ensures sound { IfOk result IsPoint }
+    ensures valid { IfOk result IsPoint }
 {
     moved_by(p, axis, distance_now(p, r, axis))
 }
@@ -172,7 +172,7 @@ fn moved_between(p: Point, a: Point, b: Point, axis: Axis) -> Result<Point, Why>
     requires a { IsPoint a }
     requires b { IsPoint b }
     ensures exact { Gives (λ q. q) result (point.moved axis (is.interpolated axis a b p -ℤ cur axis p) p) }
-    ensures sound { IfOk result IsPoint }
+    ensures valid { IfOk result IsPoint }
 {
     moved_by(
         p,
@@ -187,7 +187,7 @@ fn kept_between(p: Point, a: Point, b: Point, state: &GraphicsState) -> Result<P
     requires a { IsPoint a }
     requires b { IsPoint b }
     ensures exact { Gives (λ q. q) result (is.kept_between state.now a b p) }
-    ensures sound { IfOk result IsPoint }
+    ensures valid { IfOk result IsPoint }
 {
     moved_between(p, a, b, direction(state)?)
 }
@@ -197,7 +197,7 @@ fn in_between(zones: &Zones, state: &GraphicsState, p: Point) -> Result<Point, W
     requires zones { IsZones (zones_view zones.now) }
     requires point { IsPoint p }
     ensures exact { Gives (λ q. q) result (is.in_between state.now (zones_view zones.now) p) }
-    ensures sound { IfOk result IsPoint }
+    ensures valid { IfOk result IsPoint }
 {
     let a = zones.point(state.zp0, state.rp1)?;
     let b = zones.point(state.zp1, state.rp2)?;
@@ -248,7 +248,7 @@ fn pushed(p: Point, by: Distance, state: &GraphicsState) -> Result<Point, Why>
     requires point { IsPoint p }
     requires small { unsigned_abs by.0 < 2 ^ 60 }
     ensures exact { Gives (λ q. q) result (point.moved state.now.free by.0 p) }
-    ensures sound { IfOk result IsPoint }
+    ensures valid { IfOk result IsPoint }
 {
     moved_by(p, state.free, by)
 }

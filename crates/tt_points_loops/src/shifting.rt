@@ -14,26 +14,41 @@ use tt_core::Why;
 use tt_points_zones::{Zones, cur, direction, moved, org, shifted};
 use tt_state::{Axis, GraphicsState, Point, Zone};
 
-fn reference_zone(state: &GraphicsState, op: u8) -> Zone
-    ensures { result ≡ is.reference_zone op state.now }
-{
-    if op % 2 == 0 { state.zp1 } else { state.zp0 }
+/// Which reference point others follow.
+#[derive(Clone, Copy)]
+pub enum ReferencePoint {
+    /// Reference point 1, in zone pointer 0.
+    Rp1,
+    /// Reference point 2, in zone pointer 1.
+    Rp2,
 }
 
-fn reference_number(state: &GraphicsState, op: u8) -> i32
-    ensures { result ≡ is.reference_number op state.now }
+fn reference_zone(state: &GraphicsState, which: ReferencePoint) -> Zone
+    ensures { result ≡ is.reference_zone which state.now }
 {
-    if op % 2 == 0 { state.rp2 } else { state.rp1 }
+    match which {
+        ReferencePoint::Rp1 => state.zp0,
+        ReferencePoint::Rp2 => state.zp1,
+    }
 }
 
-/// The reference point: rp1 in zp0 by the opcode's last bit, else rp2 in zp1. Error: PointRange.
-fn reference(zones: &Zones, state: &GraphicsState, op: u8) -> Result<Point, Why>
+fn reference_number(state: &GraphicsState, which: ReferencePoint) -> i32
+    ensures { result ≡ is.reference_number which state.now }
+{
+    match which {
+        ReferencePoint::Rp1 => state.rp1,
+        ReferencePoint::Rp2 => state.rp2,
+    }
+}
+
+/// The reference point. Error: PointRange.
+fn reference(zones: &Zones, state: &GraphicsState, which: ReferencePoint) -> Result<Point, Why>
     requires { IsZones (zones_view zones.now) }
-    ensures exact { Gives (λ p. p) result (is.reference op state.now (zones_view zones.now)) }
-    ensures sound { IfOk result IsPoint }
-    ensures sign { IfOk result (λ p. pos 0 ≤ℤ is.reference_number op state.now) }
+    ensures exact { Gives (λ p. p) result (is.reference which state.now (zones_view zones.now)) }
+    ensures valid { IfOk result IsPoint }
+    ensures sign { IfOk result (λ p. pos 0 ≤ℤ is.reference_number which state.now) }
 {
-    zones.point(reference_zone(state, op), reference_number(state, op))
+    zones.point(reference_zone(state, which), reference_number(state, which))
 }
 
 fn difference(to: i32, from: i32) -> i64
@@ -59,7 +74,7 @@ fn moved_as(p: Point, r: Point, axis: Axis) -> Result<Point, Why>
     requires p { IsPoint p }
     requires r { IsPoint r }
     ensures exact { Gives (λ q. q) result (is.moved_as axis r p) }
-    ensures sound { IfOk result IsPoint }
+    ensures valid { IfOk result IsPoint }
 {
     moved(p, axis, offset(r, axis))
 }
@@ -69,7 +84,7 @@ fn shifted_as(p: Point, r: Point, axis: Axis) -> Result<Point, Why>
     requires p { IsPoint p }
     requires r { IsPoint r }
     ensures exact { Gives (λ q. q) result (is.shifted_as axis r p) }
-    ensures sound { IfOk result IsPoint }
+    ensures valid { IfOk result IsPoint }
 {
     shifted(p, axis, offset(r, axis))
 }
@@ -79,7 +94,7 @@ fn follow(p: Point, r: Point, touch: bool, state: &GraphicsState) -> Result<Poin
     requires p { IsPoint p }
     requires r { IsPoint r }
     ensures exact { Gives (λ q. q) result (is.follow touch state.now r p) }
-    ensures sound { IfOk result IsPoint }
+    ensures valid { IfOk result IsPoint }
 {
     let axis = direction(state)?;
     if touch {
@@ -125,17 +140,22 @@ fn shift_all(
     Ok(())
 }
 
-/// SHP[a], 0x32 and 0x33: loop points of zp2 -> each is moved as far as the reference point stands from its original:
-/// rp2 in zp1, or rp1 in zp0. Errors: PointRange, Perpendicular, ValueRange.
-pub fn shp(zones: &mut Zones, state: &mut GraphicsState, op: u8, points: &[i32]) -> Result<(), Why>
+/// SHP[a]: loop points of zp2 -> each is moved as far as the reference point stands from its original.
+/// Errors: PointRange, Perpendicular, ValueRange.
+pub fn shp(
+    zones: &mut Zones,
+    state: &mut GraphicsState,
+    which: ReferencePoint,
+    points: &[i32],
+) -> Result<(), Why>
     requires zones { IsZones (zones_view zones.old) }
     requires state { IsGraphicsState state.old }
     ensures exact { Gives (λ u. (zones_view zones.new, state.new)) result
-        (is.shp op points.now (zones_view zones.old) state.old) }
+        (is.shp which points.now (zones_view zones.old) state.old) }
     ensures zones { IsZones (zones_view zones.new) }
     ensures state { IsGraphicsState state.new }
 {
-    let before = reference(zones, state, op);
+    let before = reference(zones, state, which);
     shift_all(zones, state, before, points)?;
     state.loops = 1;
     Ok(())
@@ -166,7 +186,7 @@ fn follow_but(p: Point, i: usize, by: Leader, state: &GraphicsState) -> Result<P
     requires p { IsPoint p }
     requires reference { IsPoint by.reference }
     ensures exact { Gives (λ q. q) result (is.follow_but by.but by.touch state.now by.reference i p) }
-    ensures sound { IfOk result IsPoint }
+    ensures valid { IfOk result IsPoint }
 {
     if by.but == Some(i) {
         return Ok(p);
@@ -187,7 +207,7 @@ fn follow_all(
     requires past { past ≤ length points.old }
     ensures exact { Gives (λ u. points.new) result
         (each_from_to first past (is.follow_but by.but by.touch state.now by.reference) 0 points.old) }
-    ensures sound { All IsPoint points.new }
+    ensures valid { All IsPoint points.new }
     ensures count { length points.new ≡ length points.old }
 {
     for i in first..past {
@@ -246,21 +266,21 @@ struct Range {
 fn shift_range(
     zones: &mut Zones,
     state: &GraphicsState,
-    op: u8,
+    which: ReferencePoint,
     range: Range,
     touch: bool,
 ) -> Result<(), Why>
     requires zones { IsZones (zones_view zones.old) }
     requires past { range.past ≤ length (points_in range.zone (zones_view zones.old)) }
     ensures exact { Gives (λ u. zones_view zones.new) result
-        (is.shift_range touch op range.zone (range.first, range.past) (zones_view zones.old) state.now) }
+        (is.shift_range touch which range.zone (range.first, range.past) (zones_view zones.old) state.now) }
     ensures zones { IsZones (zones_view zones.new) }
 {
-    let reference = reference(zones, state, op)?;
+    let reference = reference(zones, state, which)?;
     let but = number_in(
         range.zone,
-        reference_zone(state, op),
-        reference_number(state, op),
+        reference_zone(state, which),
+        reference_number(state, which),
     );
     let by = Leader {
         reference,
@@ -306,17 +326,21 @@ fn contour_in(zones: &Zones, zone: Zone, c: i32) -> Result<Range, Why>
     }
 }
 
-/// SHC[a], 0x34 and 0x35: contour of zp2 -> its points are moved as far as the reference point stands from its
-/// original, all but the reference point: rp2 in zp1, or rp1 in zp0. Errors: ContourRange, PointRange,
-/// Perpendicular, ValueRange.
-pub fn shc(zones: &mut Zones, state: &GraphicsState, op: u8, contour: i32) -> Result<(), Why>
+/// SHC[a]: contour of zp2 -> its points are moved as far as the reference point stands from its original,
+/// all but the reference point. Errors: ContourRange, PointRange, Perpendicular, ValueRange.
+pub fn shc(
+    zones: &mut Zones,
+    state: &GraphicsState,
+    which: ReferencePoint,
+    contour: i32,
+) -> Result<(), Why>
     requires zones { IsZones (zones_view zones.old) }
     requires state { IsGraphicsState state.now }
-    ensures exact { Gives (λ u. zones_view zones.new) result (is.shc op contour (zones_view zones.old) state.now) }
+    ensures exact { Gives (λ u. zones_view zones.new) result (is.shc which contour (zones_view zones.old) state.now) }
     ensures zones { IsZones (zones_view zones.new) }
 {
     let range = contour_in(zones, state.zp2, contour)?;
-    shift_range(zones, state, op, range, true)
+    shift_range(zones, state, which, range, true)
 }
 
 /// Where the last contour ends; the points behind it are phantom points.
@@ -358,17 +382,21 @@ fn outline_in(zones: &Zones, zone: Zone) -> Range
     }
 }
 
-/// SHZ[a], 0x36 and 0x37: zone -> its points but phantom points go as far as the reference point stands from its
-/// original, all but the reference point: rp2 in zp1, or rp1 in zp0. None is touched by it. Errors: ZoneRange,
-/// PointRange, Perpendicular, ValueRange.
+/// SHZ[a]: zone -> its points but phantom points go as far as the reference point stands from its original, all but the
+/// reference point. None is touched by it. Errors: ZoneRange, PointRange, Perpendicular, ValueRange.
 #[tactic(auto, unfolding(crate::specs::Shifting::shz))]
-pub fn shz(zones: &mut Zones, state: &GraphicsState, op: u8, zone: i32) -> Result<(), Why>
+pub fn shz(
+    zones: &mut Zones,
+    state: &GraphicsState,
+    which: ReferencePoint,
+    zone: i32,
+) -> Result<(), Why>
     requires zones { IsZones (zones_view zones.old) }
     requires state { IsGraphicsState state.now }
-    ensures exact { Gives (λ u. zones_view zones.new) result (is.shz op zone (zones_view zones.old) state.now) }
+    ensures exact { Gives (λ u. zones_view zones.new) result (is.shz which zone (zones_view zones.old) state.now) }
     ensures zones { IsZones (zones_view zones.new) }
 {
     let zone = zone_of(zone)?;
     let outline = outline_in(zones, zone);
-    shift_range(zones, state, op, outline, false)
+    shift_range(zones, state, which, outline, false)
 }

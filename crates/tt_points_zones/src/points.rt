@@ -7,11 +7,8 @@ ghost use Rattle.tt_core.specs.Outcomes.{Gives};
 ghost use Rattle.tt_points_zones.specs.Points as is;
 ghost use Rattle.tt_points_zones.specs.Zones.{IsPoint};
 
-use tt_core::Why;
+use tt_core::{COORDINATE_LIMIT, Why};
 use tt_state::{Axis, GraphicsState, Point};
-
-/// A coordinate is at most this in magnitude, in 26.6 pixels (profile).
-const COORDINATE_LIMIT: i64 = 2_097_151;
 
 /// Where a point stands along an axis.
 pub fn cur(p: Point, axis: Axis) -> i32
@@ -50,7 +47,8 @@ pub fn is_touched(p: Point, axis: Axis) -> bool
 pub fn is_coordinate(v: i64) -> bool
     ensures { result ≡ is.is_coordinate v }
 {
-    -COORDINATE_LIMIT <= v && v <= COORDINATE_LIMIT
+    let limit = i64::from(COORDINATE_LIMIT);
+    -limit <= v && v <= limit
 }
 
 /// The point put to a coordinate, as touched as it was.

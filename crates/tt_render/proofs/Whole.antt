@@ -1,8 +1,8 @@
 -- A font from which there is something to be written has no defect.
 use Rattle.std.proofs.Common.{◌≡◌, ℕ, nat_lt, List, length, map, Option, Some, None, Result, Ok, Err, inl, inr, subst, sym}
 use Rattle.tt_cmap.specs.Defects.{IsBadCmap}
-use Rattle.tt_cmap.specs.Laws.{LookupsAreWhole}
-use Rattle.tt_cmap.specs.Lookup.{lookup_of}
+use Rattle.tt_cmap.specs.Laws.{CmapsAreWhole}
+use Rattle.tt_cmap.specs.Lookup.{cmap_of}
 use Rattle.tt_core.specs.declared.fault.JobFault.{JobFault}
 use Rattle.tt_core.specs.Chains.{came-through, passed-on, not-below}
 use Rattle.tt_core.specs.Directory.{directory_of, record_end, record_of, named_by, table_of, needed_table, HasNo, RecordPassesEnd, PassesEnd, IsDefectIn, HasNo-IsDefectIn}
@@ -23,12 +23,11 @@ use Rattle.tt_metrics.specs.Laws.{MetricsAreWhole}
 use Rattle.tt_metrics.specs.Metrics.{Metrics, metrics_of, glyphs_of, IsMetricsDefect}
 use Rattle.tt_render.specs.Job.{Job, tested, text_tested}
 use Rattle.tt_render.specs.Defects.{IsFaceDefect, IsGlyphTableDefect, HasProgramPastEnd, IsProgramTableDefect, IsSettingDefect, IsLineDefect, IsRunDefect}
-use Rattle.tt_render.specs.Face.{Face, cmap_tag, face_of}
+use Rattle.tt_render.specs.Tables.{Face, cmap_tag, face_of, cvt_tag, fpgm_tag, prep_tag, or_empty, optional_table, all_programs_in, programs_in, glyphs_in}
 use Rattle.tt_render.specs.Laws.{DrawnFontsAreWhole, MappedFontsAreWhole}
 use Rattle.tt_render.specs.MapLines.{lines_of, map_outcome}
 use Rattle.tt_render.specs.Outcome.{Refused, as_font, as_job, outcome_of}
-use Rattle.tt_render.specs.Picture.{glyphs_in, setting_in, glyph_edges, drawn, pictured, run_outcome}
-use Rattle.tt_render.specs.Programs.{cvt_tag, fpgm_tag, prep_tag, or_empty, optional_table, all_programs_in, programs_in}
+use Rattle.tt_render.specs.Picture.{setting_in, glyph_edges, drawn, pictured, run_outcome}
 use Rattle.tt_render.proofs.Telling.{no_setting_defect, no_line_defect, no_run_defect}
 
 -- what the layers below say of what they give
@@ -37,7 +36,7 @@ pub record FontLaws : Type 0 where
   pub files : DirectoriesAreFiles
   pub tables : TablesAreWhole
   pub metrics : MetricsAreWhole
-  pub lookups : LookupsAreWhole
+  pub lookups : CmapsAreWhole
   pub locations : LocationsAreWhole
   pub places : PlacesGlyphs
 
@@ -47,7 +46,7 @@ face-whole laws file face was =
     let by_directory = came-through (directory_of file) _ face was in
     let by_metrics = came-through (metrics_of by_directory.value) _ face by_directory.rest in
     let by_table = came-through (needed_table by_directory.value cmap_tag) _ face by_metrics.rest in
-    let by_lookup = came-through (lookup_of by_table.value (glyphs_of by_metrics.value)) _ face by_table.rest in
+    let by_lookup = came-through (cmap_of by_table.value (glyphs_of by_metrics.value)) _ face by_table.rest in
     let same : by_directory.value ≡ file = laws.files file by_directory.value by_directory.first in
     let cmap = HasNo-IsDefectIn by_directory.value cmap_tag by_table.value IsBadCmap by_table.first
     (laws.tables by_directory.value cmap_tag by_table.value by_table.first)

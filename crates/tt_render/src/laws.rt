@@ -10,7 +10,7 @@ pub fn fonts_are_whole()
 {
     tt_core::laws::tables_are_whole();
     tt_metrics::laws::metrics_are_whole();
-    tt_cmap::laws::lookups_are_whole();
+    tt_cmap::laws::cmaps_are_whole();
     tt_glyf::laws::locations_are_whole();
     tt_line::laws::glyphs_are_placed();
 }

@@ -1,6 +1,6 @@
 mod Edges
+pub mod ActiveEdges
 pub mod Columns
-pub mod Counts
 pub mod Crosses
 pub mod Floors
 pub mod Moved
@@ -8,8 +8,8 @@ pub mod Points
 pub mod Ranges
 pub mod Sides
 pub mod Stamped
+pub mod Standing
 pub mod Stretches
-pub mod Tables
 pub mod Unmet
 pub mod Visits
 pub mod Words

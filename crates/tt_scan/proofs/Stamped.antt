@@ -11,7 +11,7 @@ use Rattle.tt_scan.specs.declared.stamp.Stamp.{Stamp}
 use Rattle.tt_scan.specs.Marks.{covers}
 use Rattle.tt_scan.specs.Stamps.{in_word, shows, IsStampOf}
 use Rattle.tt_scan.proofs.Columns.{or_bit}
-use Rattle.tt_scan.proofs.Tables.{reached}
+use Rattle.tt_scan.proofs.ActiveEdges.{reached}
 use Rattle.tt_scan.proofs.Words.{past_last}
 use Rattle.tt_scan.proofs.Visits.{covers_more}
 

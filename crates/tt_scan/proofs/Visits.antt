@@ -1,5 +1,5 @@
 -- What an edge leaves of a row.
-use Rattle.std.proofs.Common.{◌≡◌, ◌∙◌, ◌≢◌, ◌↔◌, ◌==◌, ap, refl, ℕ, ◌+◌, ◌<◌, ◌≤◌, Bool, true, false, ◌&&◌, ◌||◌, List, [], ◌∷◌, ◌++◌, length, drop, get_or, int_le, ◌≤ℤ◌, ◌<ℤ◌, nat_lt, inl, inr, arith}
+use Rattle.std.proofs.Common.{◌≡◌, ◌∙◌, ◌≢◌, refl, ℕ, ◌+◌, ◌<◌, ◌≤◌, Bool, true, false, ◌&&◌, ◌||◌, List, [], ◌∷◌, ◌++◌, length, drop, get_or, int_le, ◌≤ℤ◌, ◌<ℤ◌, nat_lt, inl, inr, arith}
 use Rattle.std.specs.Prelude.{ℤ, pos, negsuc, ◌+ℤ◌, ◌-ℤ◌, not, int_lt, unsigned_abs, if◌then◌else◌}
 use Rattle.std.proofs.lemmas.Bool.Decides.{nat_tests}
 use Rattle.std.proofs.lemmas.Bool.{cases_lt}
@@ -72,9 +72,3 @@ within_width k width s t same = elim (cases_lt k width) [
   | inl inside ↦ rw (same inside) refl
   | inr outside ↦ let off : nat_lt k width ≡ false = grind (arith, nat_tests) in rw off refl
 ]
-
--- no span
-pub none_where : (ss : List Span) (b : Bool) (n : ℕ) → n ≡ length ss → b ≡ (n == 0) → (b ≡ true) ↔ (ss ≡ [])
-none_where [] b n is_n is = (λ none. refl, λ none. rw is_n at is)
-none_where (s ∷ ss) b n is_n is =
-    (λ none. absurd (grind (arith, nat_tests)), λ none. absurd (let long = ap length none in omega arith))

@@ -1,6 +1,7 @@
+pub mod Counted
 pub mod Crossing
+pub mod EdgeTable
 pub mod Marks
-pub mod Mets
 pub mod Stamps
 pub mod Tape
 pub mod Winding

@@ -4,8 +4,10 @@
 
 mod bytes;
 mod collect;
+mod counted;
 mod crossing;
 mod edge;
+mod edge_table;
 pub mod laws;
 mod mark;
 mod paint;
@@ -16,7 +18,6 @@ mod rows;
 mod stamp;
 mod stretch;
 mod sweep;
-mod table;
 mod tape;
 
 pub use edge::{Cross, Edge, Frame};

@@ -9,7 +9,7 @@ use crate::tape::Tape;
 
 impl Tape {
     /// Whether the pixel of a column and a row is black: its centre lies on an edge, or the edges wind
-    /// round it.
+    /// round it. Only tests call it: the program draws rows by a `Sweep`.
     pub fn pixel(&mut self, c: i64, r: i64) -> bool
         requires row_low { pos 0 ≤ℤ r }
         requires row_high { r <ℤ pos self.old.frame.height }

@@ -9,7 +9,8 @@ use crate::sweep::Sweep;
 use crate::tape::Tape;
 
 /// Blackens the pixels of a row of the picture in a row of bytes, the leftmost pixel in the highest bit of the first
-/// byte. It takes no memory: the sweep has it.
+/// byte. It takes no memory: the sweep has it. Nobody calls it here: the glyphs of a line stand anywhere in its rows, so
+/// tt_render calls `cut` and `paint`.
 pub fn row_into(tape: &mut Tape, sweep: &mut Sweep, r: i64, row: &mut [u8])
     requires row_low { pos 0 ≤ℤ r }
     requires row_high { r <ℤ pos tape.old.frame.height }

@@ -1,6 +1,6 @@
 //! The sweep of a row: its black columns, cut once from the edges of a tape, then painted wherever the glyph stands.
 
-ghost use Rattle.std.specs.Prelude.{◌≡◌, ℕ, ℤ, ◌+◌, ◌-ℤ◌, ◌*◌, ◌^◌, ◌<◌, ◌≤◌, ◌<ℤ◌, ◌≤ℤ◌, ◌&&◌, ◌||◌, ◌↔◌, true, nat_lt, pos, [], length, unsigned_abs, IfOk};
+ghost use Rattle.std.specs.Prelude.{◌≡◌, ℕ, ℤ, ◌+◌, ◌-ℤ◌, ◌*◌, ◌^◌, ◌<◌, ◌≤◌, ◌<ℤ◌, ◌≤ℤ◌, ◌&&◌, ◌||◌, nat_lt, pos, [], length, unsigned_abs, IfOk};
 ghost use Rattle.tt_core.specs.Bits.{bit};
 ghost use Rattle.tt_scan.specs.Marks.{covers};
 ghost use Rattle.tt_scan.specs.Winding.{is_black, column_x, row_y, rows_met};
@@ -70,13 +70,6 @@ impl Sweep {
         sort(&mut self.marks);
         wind(&self.marks, &mut self.spans);
         self.stamp = stamped(&self.spans);
-    }
-
-    /// Whether there is no span, so that no column is black.
-    pub fn is_blank(&self) -> bool
-        ensures { (result ≡ true) ↔ (self.now.spans ≡ []) }
-    {
-        self.spans.is_empty()
     }
 
     /// Blackens the pixels of the black columns, moved by `shift` columns to the right, in a row of so many pixels, the

@@ -1,5 +1,4 @@
-//! The edges of one glyph. No other module sees the fields of a tape: an edge is read by `rows_of` and
-//! `cross` alone, and each `cross` is counted.
+//! The edges of one glyph, in the frame of its picture. They stand in `counted.rt`, so that each crossing is counted.
 
 ghost use Rattle.std.specs.Prelude.{◌≡◌, ℕ, ℤ, false, int_lt, if◌then◌else◌, vec_capacity, ◌+◌, ◌*◌, ◌^◌, ◌<◌, ◌≤◌, ◌<ℤ◌, ◌≤ℤ◌, pos, length, [], ◌∷◌, ◌++◌, get_or, unsigned_abs, OnOk, OnErr};
 ghost use Rattle.tt_core.specs.Limits.{width_limit};
@@ -9,11 +8,12 @@ ghost use Rattle.tt_scan.specs.Crossing.{IsCross, AreRows, AreAllRows, has_row};
 ghost use Rattle.tt_scan.specs.Tape.{edge_at};
 
 use crate::collect::visit_all;
-use crate::crossing::{crossing, row_height};
+use crate::counted::CountedEdges;
+use crate::crossing::row_height;
 use crate::edge::{Cross, Edge, Frame};
+use crate::edge_table::{EdgeTable, Entry};
 use crate::mark::{Mark, Span};
 use crate::rows::{join, row_range};
-use crate::table::{Met, Table};
 use std::alloc::{AllocError, Global};
 use std::marker::Model;
 
@@ -21,43 +21,42 @@ use std::marker::Model;
 #[derive(Drop)]
 pub struct Tape {
     frame: Frame,
-    edges: Vec<Edge>,
-    crosses: u64,
+    edges: CountedEdges,
     /// The rows of all edges: the first, and one past the last.
     rows: (i64, i64),
-    /// The edges that meet some row.
-    table: Table,
+    /// The edges that meet some row, each with its rows.
+    table: EdgeTable,
 }
 
 impl Model for Tape {
     ghost use Rattle.std.specs.Prelude.{All};
     ghost use Rattle.tt_scan.specs.Crossing.{AreAllRows};
-    ghost use Rattle.tt_scan.specs.Mets.{AreMet};
+    ghost use Rattle.tt_scan.specs.EdgeTable.{IsTableOf};
     ghost use Rattle.tt_scan.specs.Tape as tape;
     ghost use Rattle.tt_scan.specs.Winding.{EdgeFits, FrameFits};
 
     ghost Value = { tape.Tape };
 
-    ghost view = { λ t. record { frame = t.frame; edges = t.edges.items; crosses = t.crosses } };
+    ghost view = { λ t. record { frame = t.frame; edges = t.edges.edges; crosses = t.edges.crosses } };
 
-    ghost invariant = { λ t. FrameFits t.frame × All EdgeFits t.edges.items × AreAllRows t.edges.items t.frame t.rows
-        × AreMet t.edges.items t.frame t.table.met };
+    ghost invariant = { λ t. FrameFits t.frame × All EdgeFits t.edges.edges × AreAllRows t.edges.edges t.frame t.rows
+        × IsTableOf t.edges.edges t.frame t.table.entries };
 }
 
-/// Adds an edge to those that meet some row, if it does. After an error they are as they were.
+/// Adds the entry of an edge with these rows, if it has any. After an error the table is as it was.
 #[inline(always)]
-fn add_met(table: &mut Table, rows: (i64, i64), place: usize) -> Result<(), AllocError>
+fn add_entry(table: &mut EdgeTable, rows: (i64, i64), edge: usize) -> Result<(), AllocError>
     requires low { pos 0 ≤ℤ rows.0 }
     requires high { rows.1 <ℤ pos (2 ^ 31) }
-    ensures added { OnOk result (table.new.met ≡ table.old.met ++ (if int_lt rows.0 rows.1
-        then (record { first = rows.0; past = rows.1; place = place }) ∷ [] else [])) }
-    ensures kept { OnErr result (table.new.met ≡ table.old.met) }
+    ensures added { OnOk result (table.new.entries ≡ table.old.entries ++ (if int_lt rows.0 rows.1
+        then (record { first = rows.0; past = rows.1; edge = edge }) ∷ [] else [])) }
+    ensures kept { OnErr result (table.new.entries ≡ table.old.entries) }
 {
     if rows.0 < rows.1 {
-        table.add(Met {
+        table.add(Entry {
             first: rows.0 as i32,
             past: rows.1 as i32,
-            place,
+            edge,
         })
     } else {
         Ok(())
@@ -72,10 +71,9 @@ impl Tape {
     {
         Tape {
             frame,
-            edges: Vec::new(alloc),
-            crosses: 0,
+            edges: CountedEdges::new(alloc),
             rows: (0, 0),
-            table: Table::new(alloc),
+            table: EdgeTable::new(alloc),
         }
     }
 
@@ -97,7 +95,7 @@ impl Tape {
     {
         self.edges.reserve(1)?;
         let rows = row_range(edge, self.frame);
-        add_met(&mut self.table, rows, self.edges.len())?;
+        add_entry(&mut self.table, rows, self.edges.len())?;
         join(&mut self.rows, rows);
         self.edges.push_reserved(edge);
         Ok(())
@@ -119,11 +117,11 @@ impl Tape {
         self.edges.len()
     }
 
-    /// How many crossings were asked for.
+    /// How many crossings were asked for. Only tests call it.
     pub fn crosses(&self) -> u64
         ensures { result ≡ self.now.crosses }
     {
-        self.crosses
+        self.edges.crosses()
     }
 
     /// The first of the frame's rows whose centre line meets some edge, and one past the last; two equal numbers where
@@ -137,15 +135,15 @@ impl Tape {
     }
 
     /// The first of the frame's rows whose centre line meets edge `i`, its ends included, and one past the
-    /// last; two equal numbers where none does.
+    /// last; two equal numbers where none does. Only tests call it: a row finds its edges by the edge table.
     pub fn rows_of(&self, i: usize) -> (i64, i64)
         requires { i < length self.now.edges }
         ensures { AreRows (edge_at self.now.edges i) self.now.frame result }
     {
-        row_range(self.edges[i], self.frame)
+        self.edges.rows_of(i, self.frame)
     }
 
-    /// What edge `i` does at the centre line of a row.
+    /// What edge `i` does at the centre line of a row. Only `pixel` and tests call it.
     pub fn cross(&mut self, i: usize, row: i64) -> Cross
         requires within { i < length self.old.edges }
         requires row_low { pos 0 ≤ℤ row }
@@ -155,15 +153,11 @@ impl Tape {
         ensures bound { unsigned_abs result.turn ≤ 1 }
         ensures counted { self.new ≡ record self.old { crosses = self.old.crosses + 1 } }
     {
-        self.crosses += 1;
-        crossing(
-            self.edges[i],
-            self.frame.margin,
-            row_height(self.frame, row),
-        )
+        self.edges
+            .cross(i, self.frame.margin, row_height(self.frame, row))
     }
 
-    /// What the edges that meet a row leave of it. Each of them is crossed once.
+    /// What the edges that meet a row leave of it. Each of them is crossed once, and no other.
     pub(crate) fn collect(&mut self, r: i64, marks: &mut Vec<Mark>, black: &mut Vec<Span>)
         requires row_low { pos 0 ≤ℤ r }
         requires row_high { r <ℤ pos self.old.frame.height }
@@ -184,15 +178,14 @@ impl Tape {
         ensures crosses { self.new.crosses ≡ self.old.crosses + rows_met self.old.edges (row_y self.old.frame r) }
     {
         let y = row_height(self.frame, r);
-        self.table.seek(r as i32);
+        self.table.activate(r as i32);
         visit_all(
-            &self.edges,
-            self.table.live(),
+            &mut self.edges,
+            self.table.active(),
             self.frame.margin,
             y,
             marks,
             black,
         );
-        self.crosses += self.table.live().len() as u64;
     }
 }

@@ -55,7 +55,7 @@ impl GraphicsState {
     /// The defaults, with which a font program starts.
     pub fn new() -> GraphicsState
         ensures exact { result ≡ default_state }
-        ensures sound { IsGraphicsState result }
+        ensures valid { IsGraphicsState result }
     {
         GraphicsState {
             proj: Axis::X,

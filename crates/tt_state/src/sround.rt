@@ -124,7 +124,8 @@ impl Super {
         if rounded < 0 { phase } else { rounded }
     }
 
-    /// The distance between the magnitudes that rounding gives, in 26.6 pixels.
+    /// The distance between the magnitudes that rounding gives, in 26.6 pixels. The agreed interface has this, `phase`
+    /// and `threshold`; tests alone call them.
     pub fn period(&self) -> u32
         ensures { result ≡ self.now.period }
     {

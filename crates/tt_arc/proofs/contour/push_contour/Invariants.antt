@@ -1,5 +1,5 @@
 use Rattle.std.proofs.Common.{◌≡◌, ◌++◌, All, map, drop}
-use Rattle.tt_arc.specs.Chords.{DotFits, IsNear, moved, contour_edges}
+use Rattle.tt_arc.specs.Chords.{PointFits, IsNear, moved, contour_edges}
 use Rattle.tt_arc.proofs.Walks.{edges_along}
 use Rattle.tt_arc.proofs.contour.push_contour.Given as goal
 
@@ -10,6 +10,6 @@ invariant-loop-point l = record {
   frame : l.tape.frame ≡ l.fn.tape.frame;
   crosses : l.tape.crosses ≡ l.fn.tape.crosses;
   rest : All (IsNear l.by.dx l.by.dy) l.point-items;
-  before : DotFits l.before;
-  p : DotFits l.p;
+  before : PointFits l.before;
+  p : PointFits l.p;
 }

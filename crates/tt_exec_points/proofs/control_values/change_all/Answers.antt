@@ -17,10 +17,10 @@ loop-i-preserved c =
     let left : c.loop-i.i ≡ c.loop-i.i - 1 + 1 = omega arith in
     let there : c.loop-i.i - 1 < length (pairs_of c.args.pairs.now) = omega (arith, pairs_count c.args.pairs.now) in
     let inside : 2 * (c.loop-i.i - 1) + 1 < length c.args.pairs.now = omega arith in
-    let came : change c.args.op c.args.ppem c.args.state.now (get_or (pairs_of pairs) i (pos 0, pos 0)) c.loop-i.cvt
+    let came : change c.args.range c.args.ppem c.args.state.now (get_or (pairs_of pairs) i (pos 0, pos 0)) c.loop-i.cvt
     ≡ Ok c.change.new.cvt =
     rw (pair_at pairs i inside) c.in_ok-change.ensures in
-    went_on (change c.args.op c.args.ppem c.args.state.now) (pairs_of pairs) c.loop-i.i i (pos 0, pos 0) _ _ _
+    went_on (change c.args.range c.args.ppem c.args.state.now) (pairs_of pairs) c.loop-i.i i (pos 0, pos 0) _ _ _
     left there c.loop-i.invariant came
 
 pub returns-in_err-change : goal.returns-in_err-change
@@ -30,11 +30,11 @@ returns-in_err-change c =
     let left : c.loop-i.i ≡ c.loop-i.i - 1 + 1 = omega arith in
     let there : c.loop-i.i - 1 < length (pairs_of c.args.pairs.now) = omega (arith, pairs_count c.args.pairs.now) in
     let inside : 2 * (c.loop-i.i - 1) + 1 < length c.args.pairs.now = omega arith in
-    let came : change c.args.op c.args.ppem c.args.state.now (get_or (pairs_of pairs) i (pos 0, pos 0)) c.loop-i.cvt
+    let came : change c.args.range c.args.ppem c.args.state.now (get_or (pairs_of pairs) i (pos 0, pos 0)) c.loop-i.cvt
     ≡ Err _ =
     rw (pair_at pairs i inside) c.in_err-change.ensures in
     let e = err_from_is_err_and c.from_residual.result c.from_residual.ensures.1 in
-    let whole = broke_off (change c.args.op c.args.ppem c.args.state.now) (pairs_of pairs) c.loop-i.i i (pos 0, pos 0) _ _ _
+    let whole = broke_off (change c.args.range c.args.ppem c.args.state.now) (pairs_of pairs) c.loop-i.i i (pos 0, pos 0) _ _ _
     left there c.loop-i.invariant came in
     rw (e.1, e.2) whole
 

@@ -23,8 +23,8 @@ loop-c-preserved c =
     let g = glyph_of c.args.cmap.now in
     let items : c.push.new.self.items ≡ c.loop-c.glyphs.items ++ (c.glyph-glyph.result, c.loop-c.pen) ∷ [] = c.in_ok-push.ensures.items in
     record {
-      pen = next_pen f g c.loop-c.yielded c.in-Some.c c.glyph-glyph.result c.loop-c.pen c.advance-pen.result c.loop-c.invariant.pen c.glyph-glyph.ensures.meaning c.advance-pen.ensures.exact;
-      placed = next_placed f g c.loop-c.yielded c.in-Some.c c.glyph-glyph.result c.loop-c.pen c.loop-c.glyphs.items c.push.new.self.items c.loop-c.invariant.pen c.loop-c.invariant.placed c.glyph-glyph.ensures.meaning items;
+      pen = next_pen f g c.loop-c.yielded c.in-Some.c c.glyph-glyph.result c.loop-c.pen c.advance-pen.result c.loop-c.invariant.pen c.glyph-glyph.ensures.exact c.advance-pen.ensures.exact;
+      placed = next_placed f g c.loop-c.yielded c.in-Some.c c.glyph-glyph.result c.loop-c.pen c.loop-c.glyphs.items c.push.new.self.items c.loop-c.invariant.pen c.loop-c.invariant.placed c.glyph-glyph.ensures.exact items;
       known = rw items (All-push (λ (p : ℕ × ℕ). p.0 < glyphs_of c.args.metrics.now) c.loop-c.glyphs.items (c.glyph-glyph.result, c.loop-c.pen) c.loop-c.invariant.known (omega arith));
     }
 

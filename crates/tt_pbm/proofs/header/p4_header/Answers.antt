@@ -5,4 +5,4 @@ use Rattle.tt_pbm.proofs.header.p4_header.Goals as goal
 pub returns-clause-exact : goal.returns-clause-exact
 returns-clause-exact c = rw (c.copy_from_slice.ensures.after) (take_at c.as_bytes-text.result.now _ _ refl
     ∙ rw
-    (c.as_bytes-text.ensures.exact, c.push-5.ensures.text, c.push-4.ensures.text, c.push-3.ensures.text, c.push_decimal-2.ensures.text, c.push-2.ensures.text, c.push_decimal.ensures.text, c.push.ensures.text, c.new-text.ensures.text) refl)
+    (c.as_bytes-text.ensures.exact, c.push-5.ensures.exact, c.push-4.ensures.exact, c.push-3.ensures.exact, c.push_decimal-2.ensures.exact, c.push-2.ensures.exact, c.push_decimal.ensures.exact, c.push.ensures.exact, c.new-text.ensures.exact) refl)

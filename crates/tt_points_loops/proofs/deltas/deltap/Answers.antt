@@ -18,7 +18,7 @@ loop-i-preserved c =
     let left : c.loop-i.i ≡ c.loop-i.i - 1 + 1 = omega arith in
     let there : c.loop-i.i - 1 < length (pairs_of c.args.pairs.now) = omega (arith, pairs_count c.args.pairs.now) in
     let inside : 2 * (c.loop-i.i - 1) + 1 < length c.args.pairs.now = omega arith in
-    let step = except c.args.op c.args.ppem c.args.state.now in
+    let step = except c.args.range c.args.ppem c.args.state.now in
     let came : step (get_or (pairs_of pairs) i (pos 0, pos 0)) (zones_view c.loop-i.zones)
     ≡ Ok (zones_view c.except.new.zones) =
     rw (pair_at pairs i inside) c.in_ok-except.ensures.exact in
@@ -35,7 +35,7 @@ returns-in_err-except-clause-exact c =
     let left : c.loop-i.i ≡ c.loop-i.i - 1 + 1 = omega arith in
     let there : c.loop-i.i - 1 < length (pairs_of c.args.pairs.now) = omega (arith, pairs_count c.args.pairs.now) in
     let inside : 2 * (c.loop-i.i - 1) + 1 < length c.args.pairs.now = omega arith in
-    let step = except c.args.op c.args.ppem c.args.state.now in
+    let step = except c.args.range c.args.ppem c.args.state.now in
     let came : step (get_or (pairs_of pairs) i (pos 0, pos 0)) (zones_view c.loop-i.zones) ≡ Err _ =
     rw (pair_at pairs i inside) c.in_err-except.ensures.exact in
     let e = err_from_is_err_and c.from_residual.result c.from_residual.ensures.1 in

@@ -22,4 +22,4 @@ returns-clause-zones c =
     let written = with_items_is c.args.zones.now.glyph c.put_all_on.new.points
     (c.put_all_on.ensures.count ∙ c.deref_mut.ensures.len) in
     rw written
-    (glyph_kept (zones_view c.args.zones.now) c.put_all_on.new.points c.requires c.put_all_on.ensures.sound same)
+    (glyph_kept (zones_view c.args.zones.now) c.put_all_on.new.points c.requires c.put_all_on.ensures.valid same)

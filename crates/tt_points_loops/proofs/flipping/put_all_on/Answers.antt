@@ -18,5 +18,5 @@ loop-i-preserved c =
     record {
       same = further (λ i p. Ok (put_on c.args.on p)) c.loop-i.i c.args.past c.loop-i.points _ _ _ c.loop-i-test.true
           (omega arith) c.loop-i.invariant.same came;
-      sound = All-set IsPoint _ _ _ c.put_on.ensures.sound c.loop-i.invariant.sound;
+      valid = All-set IsPoint _ _ _ c.put_on.ensures.valid c.loop-i.invariant.valid;
     }

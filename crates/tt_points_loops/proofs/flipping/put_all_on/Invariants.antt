@@ -9,5 +9,5 @@ abbrev pub invariant-loop-i : goal.invariant-loop-i
 invariant-loop-i l = record {
   same : each_from_to l.i l.past (λ i p. Ok (put_on l.on p)) 0 l.points
       ≡ each_from_to l.low l.past (λ i p. Ok (put_on l.on p)) 0 l.fn.points;
-  sound : All IsPoint l.points;
+  valid : All IsPoint l.points;
 }

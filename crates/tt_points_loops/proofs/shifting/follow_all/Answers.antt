@@ -21,5 +21,5 @@ loop-i-preserved c =
     record {
       same = further _ c.loop-i.i c.args.past c.loop-i.points _ _ _ c.loop-i-test.true
           (omega arith) c.loop-i.invariant.same c.in_ok-points.ensures.exact;
-      sound = All-set IsPoint _ _ _ c.in_ok-points.ensures.sound c.loop-i.invariant.sound;
+      valid = All-set IsPoint _ _ _ c.in_ok-points.ensures.valid c.loop-i.invariant.valid;
     }

@@ -9,5 +9,5 @@ abbrev pub invariant-loop-i : goal.invariant-loop-i
 invariant-loop-i l = record {
   same : each_from_to l.i l.past (follow_but l.by.but l.by.touch l.state l.by.reference) 0 l.points
       ≡ each_from_to l.first l.past (follow_but l.by.but l.by.touch l.state l.by.reference) 0 l.fn.points;
-  sound : All IsPoint l.points;
+  valid : All IsPoint l.points;
 }

@@ -2,9 +2,9 @@ use Rattle.std.proofs.Common.{map, refl, rules}
 use Rattle.std.proofs.lemmas.Result.{err_from_is_err_and}
 use Rattle.tt_line.specs.Outcome.{placement_of}
 use Rattle.tt_render.specs.Job.{job_view}
-use Rattle.tt_render.specs.Face.{face_view}
+use Rattle.tt_render.specs.Tables.{face_view}
 use Rattle.tt_render.specs.Picture.{pictured}
-use Rattle.tt_render.specs.Unfitted.{report_of}
+use Rattle.tt_render.specs.Report.{report_of}
 use Rattle.tt_render.proofs.Stopped.{laying_stops, laying_tells, laying_tells_no_defect, drawing_stops, drawing_tells, drawing_refuses_no_job}
 use Rattle.tt_render.proofs.Telling.{no_run_defect}
 use Rattle.tt_render.proofs.drawing.draw.Goals as goal
@@ -47,7 +47,7 @@ pub returns-in_err-line-clause-extent : goal.returns-in_err-line-clause-extent
 returns-in_err-line-clause-extent c =
     let p = err_from_is_err_and c.from_residual-in_err-line.result c.from_residual-in_err-line.ensures.1 in
     rw (p.1, p.2) (laying_tells (job_view c.args.job.now) c.args.file.now (face_view c.in_ok-face.face)
-    c.in_err-line.field-0.0 c.in_ok-face.ensures.exact c.in_err-line.ensures.refused)
+    c.in_err-line.field-0.0 c.in_ok-face.ensures.exact c.in_err-line.ensures.fault)
 
 pub returns-in_err-draw_line-clause-exact : goal.returns-in_err-draw_line-clause-exact
 returns-in_err-draw_line-clause-exact c =

@@ -8,7 +8,7 @@ returns-clause-run c =
       files = c.tables_are_whole.ensures.same;
       tables = c.tables_are_whole.ensures.table;
       metrics = c.metrics_are_whole.ensures;
-      lookups = c.lookups_are_whole.ensures;
+      lookups = c.cmaps_are_whole.ensures;
       locations = c.locations_are_whole.ensures;
       places = c.glyphs_are_placed.ensures;
     } in
@@ -21,7 +21,7 @@ returns-clause-map c =
       files = c.tables_are_whole.ensures.same;
       tables = c.tables_are_whole.ensures.table;
       metrics = c.metrics_are_whole.ensures;
-      lookups = c.lookups_are_whole.ensures;
+      lookups = c.cmaps_are_whole.ensures;
       locations = c.locations_are_whole.ensures;
       places = c.glyphs_are_placed.ensures;
     } in

@@ -16,5 +16,5 @@ pub loop-c-preserved : goal.loop-c-preserved
 loop-c-preserved c =
     let line = map_line c.args.metrics.now c.args.cmap.now in
     rw (c.in_ok-extend_from_slice.ensures.items, c.as_bytes.ensures.exact, c.line-line.ensures)
-    (rw (c.advance.ensures, c.glyph-glyph.ensures.meaning, c.loop-c.invariant)
+    (rw (c.advance.ensures, c.glyph-glyph.ensures.exact, c.loop-c.invariant)
     (flat_map_more line [] c.loop-c.yielded c.in-Some.c))

@@ -1,5 +1,6 @@
 use Rattle.std.proofs.Common.{◌≤◌, ◌-◌}
-use Rattle.tt_exec.specs.Runs.{Leads, step_limit}
+use Rattle.tt_core.specs.Limits.{step_limit}
+use Rattle.tt_exec.specs.Runs.{Leads}
 use Rattle.tt_exec.specs.States.{state_of}
 use Rattle.tt_exec.proofs.machine_state.MachineState.go.Given as goal
 
@@ -11,4 +12,4 @@ invariant-steps l = record {
 }
 
 abbrev pub decreases-steps : goal.decreases-steps
-decreases-steps l = 1000000 - l.n
+decreases-steps l = step_limit - l.n

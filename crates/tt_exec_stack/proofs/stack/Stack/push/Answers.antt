@@ -1,6 +1,7 @@
 use Rattle.std.proofs.Common.{◌<◌, length, ap, arith, rules}
 use Rattle.std.proofs.lemmas.List.{length-reverse}
-use Rattle.tt_exec_stack.specs.Stack.{pushed, stack_limit}
+use Rattle.tt_core.specs.Limits.{stack_limit}
+use Rattle.tt_exec_stack.specs.Stack.{pushed}
 use Rattle.tt_exec_stack.proofs.stack.Stack.push.Goals as goal
 
 pub put-requires : goal.put-requires

@@ -14,11 +14,11 @@ push-requires-2 c = omega
     (arith, c.requires.room, lacks-some c.loop-rest.rest c.args.n c.loop-rest.self c.args.self.now (omega arith) (omega arith) c.loop-rest.invariant)
 
 pub loop-rest-preserved : goal.loop-rest-preserved
-loop-rest-preserved c = rw (c.push.ensures.text) (goes-on c.loop-rest.rest c.loop-rest.self _ (omega arith) (omega arith) c.loop-rest.invariant)
+loop-rest-preserved c = rw (c.push.ensures.exact) (goes-on c.loop-rest.rest c.loop-rest.self _ (omega arith) (omega arith) c.loop-rest.invariant)
 
-pub returns-clause-text : goal.returns-clause-text
-returns-clause-text c = c.push-2.ensures.text ∙ ends c.loop-rest.rest c.loop-rest.self _ (omega arith) c.loop-rest.invariant
+pub returns-clause-exact : goal.returns-clause-exact
+returns-clause-exact c = c.push-2.ensures.exact ∙ ends c.loop-rest.rest c.loop-rest.self _ (omega arith) c.loop-rest.invariant
 
-pub returns-clause-len : goal.returns-clause-len
-returns-clause-len c = rw (c.push-2.ensures.text) (omega
+pub returns-clause-bound : goal.returns-clause-bound
+returns-clause-bound c = rw (c.push-2.ensures.exact) (omega
     (arith, lacks-some c.loop-rest.rest c.args.n c.loop-rest.self c.args.self.now (omega arith) (omega arith) c.loop-rest.invariant))

@@ -1,5 +1,4 @@
-use Rattle.std.proofs.Common.{refl}
 use Rattle.tt_scan.proofs.tape.Tape.crosses.Goals as goal
 
 pub returns : goal.returns
-returns c = rw (← c.self.view_is) refl
+returns c = rw (← c.self.view_is) c.crosses.ensures

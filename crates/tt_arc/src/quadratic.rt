@@ -1,0 +1,199 @@
+//! The quadratic curve of a point off the curve, cut into eight chords. Apple TrueType Reference Manual, "Digitizing
+//! Letterform Designs".
+//!
+//! ```text
+//!            c            a, b    the ends of the quadratic (`CurveEnd`), in 1/128 pixel: the neighbours of point c,
+//!          .   .                  or midway between c and a neighbour that is off the curve too
+//!        _-------_        c       its control point, the point off the curve (`Point`), in 26.6
+//!      /           \      chords  eight, between the places at t = 0, 1/8, .., 1 (`EdgeEnd`), in 1/8192 pixel
+//!    a               b
+//! ```
+//!
+//! Along an axis the nine places are values of a polynomial of degree 2, so each follows from the one before by sums alone:
+//! by its first difference, and by the second, which is the same all along (`Differences`).
+
+ghost use Rattle.std.specs.Prelude.{◌≡◌, ◌^◌, ◌<◌, ◌≤◌, ◌++◌, ◌+ℤ◌, unsigned_abs, OnOk};
+ghost use Rattle.tt_scan.specs.Winding.{EdgeFits};
+ghost use Rattle.tt_arc.specs.Chords.{PointFits, CurveEndFits, QuadraticFits, CoordinatesFit, EdgeEndFits, AreDifferences, along_x, along_y, curve_end_of, quadratic_of, edge_between, first_chords};
+
+use crate::point::Point;
+use std::alloc::AllocError;
+use tt_scan::{Edge, Tape};
+
+/// Where a quadratic begins or ends, in 1/128 pixel.
+#[derive(Clone, Copy)]
+pub(crate) struct CurveEnd {
+    pub(crate) x: i64,
+    pub(crate) y: i64,
+}
+
+/// The quadratic curve of a point off the curve.
+#[derive(Clone, Copy)]
+pub(crate) struct Quadratic {
+    pub(crate) from: CurveEnd,
+    pub(crate) control: Point,
+    pub(crate) to: CurveEnd,
+}
+
+/// An end of an edge, in 1/8192 pixel.
+#[derive(Clone, Copy)]
+pub(crate) struct EdgeEnd {
+    pub(crate) x: i64,
+    pub(crate) y: i64,
+}
+
+/// The coordinates of a quadratic along one axis: of its ends in 1/128 pixel, of its control point in 26.6.
+#[derive(Clone, Copy)]
+struct Coordinates {
+    from: i64,
+    control: i64,
+    to: i64,
+}
+
+/// Where a chord ends along one axis, how far it is from there to the end of the next chord, and how much further to
+/// the end of the one after it: in 1/8192 pixel.
+#[derive(Clone, Copy)]
+struct Differences {
+    value: i64,
+    first: i64,
+    second: i64,
+}
+
+/// The end that the quadratic of a point off the curve has towards a neighbour: the neighbour, or where that is off the
+/// curve too the point midway.
+#[inline(always)]
+fn curve_end_of(neighbour: Point, p: Point) -> CurveEnd
+    requires neighbour { PointFits neighbour }
+    requires point { PointFits p }
+    ensures exact { result ≡ curve_end_of neighbour p }
+    ensures valid { CurveEndFits result }
+{
+    if neighbour.on {
+        CurveEnd {
+            x: 2 * neighbour.x,
+            y: 2 * neighbour.y,
+        }
+    } else {
+        CurveEnd {
+            x: neighbour.x + p.x,
+            y: neighbour.y + p.y,
+        }
+    }
+}
+
+/// The quadratic of a point off the curve, between its neighbours.
+#[inline(always)]
+pub(crate) fn quadratic_of(before: Point, p: Point, after: Point) -> Quadratic
+    requires before { PointFits before }
+    requires point { PointFits p }
+    requires after { PointFits after }
+    ensures exact { result ≡ quadratic_of before p after }
+    ensures valid { QuadraticFits result }
+{
+    Quadratic {
+        from: curve_end_of(before, p),
+        control: p,
+        to: curve_end_of(after, p),
+    }
+}
+
+/// The coordinates of a quadratic along x.
+#[inline(always)]
+fn along_x(curve: Quadratic) -> Coordinates
+    ensures { result ≡ along_x curve }
+{
+    Coordinates {
+        from: curve.from.x,
+        control: curve.control.x,
+        to: curve.to.x,
+    }
+}
+
+/// The coordinates of a quadratic along y.
+#[inline(always)]
+fn along_y(curve: Quadratic) -> Coordinates
+    ensures { result ≡ along_y curve }
+{
+    Coordinates {
+        from: curve.from.y,
+        control: curve.control.y,
+        to: curve.to.y,
+    }
+}
+
+/// The coordinate and the differences where a quadratic begins.
+#[inline(always)]
+fn differences_at_start(coordinates: Coordinates) -> Differences
+    requires { CoordinatesFit coordinates }
+    ensures { AreDifferences coordinates 0 result }
+{
+    let Coordinates { from, control, to } = coordinates;
+    Differences {
+        value: 64 * from,
+        first: 28 * control - 15 * from + to,
+        second: 2 * (from + to) - 8 * control,
+    }
+}
+
+/// One chord on.
+#[inline(always)]
+fn next(s: Differences) -> Differences
+    requires value { unsigned_abs s.value < 2 ^ 30 }
+    requires first { unsigned_abs s.first < 2 ^ 31 }
+    requires second { unsigned_abs s.second ≤ 2 ^ 27 }
+    ensures value { result.value ≡ s.value +ℤ s.first }
+    ensures first { result.first ≡ s.first +ℤ s.second }
+    ensures second { result.second ≡ s.second }
+{
+    Differences {
+        value: s.value + s.first,
+        first: s.first + s.second,
+        second: s.second,
+    }
+}
+
+/// Where a chord ends.
+#[inline(always)]
+fn edge_end(x: Differences, y: Differences) -> EdgeEnd
+    ensures { result ≡ record { x = x.value; y = y.value } }
+{
+    EdgeEnd {
+        x: x.value,
+        y: y.value,
+    }
+}
+
+/// The straight edge from a to b.
+#[inline(always)]
+pub(crate) fn edge_between(a: EdgeEnd, b: EdgeEnd) -> Edge
+    requires a { EdgeEndFits a }
+    requires b { EdgeEndFits b }
+    ensures exact { result ≡ edge_between a b }
+    ensures valid { EdgeFits result }
+{
+    Edge {
+        ax: a.x,
+        ay: a.y,
+        bx: b.x,
+        by: b.y,
+    }
+}
+
+/// Adds the eight chords of a quadratic to a tape. Error: memory ran out.
+#[tactic(auto, using(crate::proofs::Eighths::no_chord))]
+pub(crate) fn push_chords(tape: &mut Tape, curve: Quadratic) -> Result<(), AllocError>
+    requires { QuadraticFits curve }
+    ensures exact { OnOk result (tape.new ≡ record tape.old { edges = tape.old.edges ++ first_chords curve 8 }) }
+{
+    let mut x = differences_at_start(along_x(curve));
+    let mut y = differences_at_start(along_y(curve));
+    let mut from = edge_end(x, y);
+    for k in 0..8u32 {
+        x = next(x);
+        y = next(y);
+        let to = edge_end(x, y);
+        tape.push(edge_between(from, to))?;
+        from = to;
+    }
+    Ok(())
+}

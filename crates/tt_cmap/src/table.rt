@@ -1,0 +1,71 @@
+//! The bytes of cmap, read number by number. They don't leave this module, so that a subtable is read by calls that
+//! count alone.
+
+ghost use Rattle.std.specs.Prelude.{◌≡◌, ◌+◌, ◌<◌, ◌≤◌, ◌^◌, length};
+ghost use Rattle.tt_core.specs.Numbers.{unsigned_at, number_at};
+
+use crate::lookup::reads::Reads;
+use std::marker::Model;
+use tt_core::{u16_at, u32_at};
+
+/// The bytes of cmap. A clause sees them as a list.
+#[derive(Drop)]
+pub(crate) struct Table<'a> {
+    bytes: &'a [u8],
+}
+
+impl<'a> Model for Table<'a> {
+    ghost use Rattle.std.specs.Prelude.{ℕ, List};
+
+    ghost Value = { List ℕ };
+
+    ghost view = { λ t. t.bytes.now };
+}
+
+impl<'a> Table<'a> {
+    pub(crate) fn new(bytes: &'a [u8]) -> Table<'a>
+        ensures exact { result ≡ bytes.now }
+    {
+        Table { bytes }
+    }
+
+    pub(crate) fn len(&self) -> usize
+        ensures exact { result ≡ length self.now }
+    {
+        self.bytes.len()
+    }
+
+    /// The uint16 at a place.
+    pub(crate) fn word(&self, at: usize, reads: &mut Reads) -> usize
+        requires fits { at + 2 ≤ length self.now }
+        requires room { reads.old + 1 < 2 ^ 32 }
+        ensures exact { result ≡ unsigned_at self.now at 2 }
+        ensures bound { result < 65536 }
+        ensures count { reads.new ≡ reads.old + 1 }
+    {
+        reads.one_more();
+        usize::from(u16_at(self.bytes, at).unwrap())
+    }
+
+    /// The uint32 at a place.
+    pub(crate) fn long(&self, at: usize, reads: &mut Reads) -> usize
+        requires fits { at + 4 ≤ length self.now }
+        requires room { reads.old + 1 < 2 ^ 32 }
+        ensures exact { result ≡ unsigned_at self.now at 4 }
+        ensures bound { result < 2 ^ 32 }
+        ensures count { reads.new ≡ reads.old + 1 }
+    {
+        reads.one_more();
+        u32_at(self.bytes, at).unwrap() as usize
+    }
+
+    /// The uint16 at a place that may be past the end. Looking there counts too.
+    pub(crate) fn word_if_there(&self, at: usize, reads: &mut Reads) -> Option<u16>
+        requires room { reads.old + 1 < 2 ^ 32 }
+        ensures exact { result ≡ number_at self.now at 2 }
+        ensures count { reads.new ≡ reads.old + 1 }
+    {
+        reads.one_more();
+        u16_at(self.bytes, at)
+    }
+}

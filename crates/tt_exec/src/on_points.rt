@@ -1,0 +1,34 @@
+//! The instructions on points, and those that change control values by exceptions: what each does stands in the crate
+//! tt_exec_points. An instruction stands at `at`, and the frame's place is after it. Apple TrueType Reference Manual,
+//! "Instruction set".
+
+ghost use Rattle.std.specs.Prelude.{◌<◌, length};
+ghost use Rattle.tt_core.specs.Outcomes.{Leaves};
+ghost use Rattle.tt_exec.specs.OnPoints as is;
+ghost use Rattle.tt_exec.specs.States.{state_of};
+
+use crate::machine_state::MachineState;
+use tt_core::FontFault;
+use tt_exec_points::{PointInstruction, on_points};
+
+impl MachineState<'_> {
+    /// An instruction that works on points, or DELTAC[].
+    #[inline(always)]
+    #[tactic(auto, unfolding(crate::specs::OnPoints::on_points))]
+    pub(crate) fn on_points(&mut self, op: PointInstruction, at: usize) -> Result<(), FontFault>
+        requires { at < length self.old.frame.code.bytes.now }
+        ensures { Leaves result (state_of self.new) (is.on_points op at (state_of self.old)) }
+    {
+        match on_points(
+            op,
+            self.size,
+            &mut self.stack,
+            &mut self.points,
+            &mut self.graphics,
+            &mut self.cvt,
+        ) {
+            Ok(()) => Ok(()),
+            Err(why) => Err(FontFault::Font(self.fault(at, why))),
+        }
+    }
+}

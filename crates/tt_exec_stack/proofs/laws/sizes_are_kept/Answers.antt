@@ -1,5 +1,0 @@
-use Rattle.tt_exec_stack.proofs.Sizes.{sizes_kept}
-use Rattle.tt_exec_stack.proofs.laws.sizes_are_kept.Goals as goal
-
-pub returns : goal.returns
-returns c = sizes_kept

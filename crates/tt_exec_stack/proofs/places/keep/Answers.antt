@@ -1,8 +1,0 @@
-use Rattle.std.proofs.Common.{ℤ, List}
-use Rattle.tt_exec_stack.proofs.Behind.{beside}
-use Rattle.tt_exec_stack.proofs.places.keep.Goals as goal
-
-pub returns-in-Wcvtp : goal.returns-in-Wcvtp
-returns-in-Wcvtp c =
-    let left : List ℤ × List ℤ = (c.wcvtp.new.stack, c.wcvtp.new.cvt) in
-    rw c.in-Wcvtp.is (beside _ (λ t. (t.0, c.args.storage.now, t.1)) left c.wcvtp.result c.wcvtp.ensures)

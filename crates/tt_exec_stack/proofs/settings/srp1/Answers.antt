@@ -1,5 +1,0 @@
-use Rattle.std.proofs.Common.{rules}
-use Rattle.tt_exec_stack.proofs.settings.srp1.Goals as goal
-
-pub returns : goal.returns
-returns c = search rules

@@ -1,7 +1,0 @@
-use Rattle.tt_exec_stack.proofs.Behind.{beside}
-use Rattle.tt_exec_stack.proofs.vectors.gpv.Goals as goal
-
-pub returns : goal.returns
-returns c =
-    let pushed = rw c.state.ensures.exact at c.push_vector.ensures in
-    beside _ (λ t. (t, c.args.graphics.now)) c.push_vector.new.stack c.push_vector.result pushed

@@ -1,0 +1,5 @@
+pub mod Queries
+pub mod Settings
+pub mod Size
+pub mod StoredValues
+pub mod Vectors

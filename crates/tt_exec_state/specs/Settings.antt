@@ -1,0 +1,124 @@
+-- Apple TrueType Reference Manual, "Instruction set": managing the graphics state. The top of the stack stands first.
+use Rattle.std.specs.Prelude.{◌≡◌, ℕ, ℤ, pos, int_lt, unsigned_abs, Bool, ◌||◌, if◌then◌else◌, List, [], ◌∷◌, Result, Ok, Err, refl}
+use Rattle.std.specs.Int.{int_rem_euclid}
+use Rattle.std.specs.Ordering.{int_eq}
+use Rattle.tt_core.specs.Outcomes.{◌>>=◌}
+use Rattle.tt_core.specs.declared.fault.Why.{Why}
+use Rattle.tt_core.specs.declared.fault.Why.TheVariants as why
+use Rattle.tt_state.specs.declared.graphics_state.Zone.{Zone}
+use Rattle.tt_state.specs.declared.graphics_state.Zone.TheVariants as zones
+use Rattle.tt_state.specs.declared.graphics_state.GraphicsState.{GraphicsState}
+use Rattle.tt_state.specs.declared.rounding.Round.{Round}
+use Rattle.tt_state.specs.GraphicsState.{default_state}
+use Rattle.tt_state.specs.Rounding.{super_state}
+use Rattle.tt_exec_state.specs.declared.settings.Setting.{Setting}
+use Rattle.tt_exec_state.specs.declared.settings.Setting.TheVariants as op
+use Rattle.tt_exec_state.specs.Size.{in_pixels}
+
+-- what a setting leaves, or its refusal
+abbrev pub Set : Type 0
+Set = Result (List ℤ × GraphicsState) Why
+
+abbrev pub srp0 : List ℤ → GraphicsState → Set
+srp0 (p ∷ s) g = Ok (s, record g { rp0 = p })
+srp0 [] g = Err why.StackShort
+
+abbrev pub srp1 : List ℤ → GraphicsState → Set
+srp1 (p ∷ s) g = Ok (s, record g { rp1 = p })
+srp1 [] g = Err why.StackShort
+
+abbrev pub srp2 : List ℤ → GraphicsState → Set
+srp2 (p ∷ s) g = Ok (s, record g { rp2 = p })
+srp2 [] g = Err why.StackShort
+
+abbrev pub zone : ℤ → Result Zone Why
+zone n =
+    if int_eq n (pos 0) then Ok zones.Twilight else (if int_eq n (pos 1) then Ok zones.Glyph else Err why.ZoneRange)
+
+abbrev pub szp0 : List ℤ → GraphicsState → Set
+szp0 (n ∷ s) g = zone n >>= λ z. Ok (s, record g { zp0 = z })
+szp0 [] g = Err why.StackShort
+
+abbrev pub szp1 : List ℤ → GraphicsState → Set
+szp1 (n ∷ s) g = zone n >>= λ z. Ok (s, record g { zp1 = z })
+szp1 [] g = Err why.StackShort
+
+abbrev pub szp2 : List ℤ → GraphicsState → Set
+szp2 (n ∷ s) g = zone n >>= λ z. Ok (s, record g { zp2 = z })
+szp2 [] g = Err why.StackShort
+
+abbrev pub szps : List ℤ → GraphicsState → Set
+szps (n ∷ s) g = zone n >>= λ z. Ok (s, record g { zp0 = z; zp1 = z; zp2 = z })
+szps [] g = Err why.StackShort
+
+abbrev pub sloop : List ℤ → GraphicsState → Set
+sloop (n ∷ s) g = if int_lt n (pos 0) then Err why.BadArgument else Ok (s, record g { loops = n })
+sloop [] g = Err why.StackShort
+
+abbrev pub round_to : Round → GraphicsState → GraphicsState
+round_to round g = record g { round = round }
+
+-- by the low byte
+abbrev pub sround : List ℤ → GraphicsState → Set
+sround (n ∷ s) g = Ok (s, round_to (super_state (unsigned_abs (int_rem_euclid n (pos 256)))) g)
+sround [] g = Err why.StackShort
+
+abbrev pub smd : List ℤ → GraphicsState → Set
+smd (d ∷ s) g = Ok (s, record g { min_distance = d })
+smd [] g = Err why.StackShort
+
+abbrev pub scvtci : List ℤ → GraphicsState → Set
+scvtci (n ∷ s) g = Ok (s, record g { cut_in = n })
+scvtci [] g = Err why.StackShort
+
+abbrev pub sswci : List ℤ → GraphicsState → Set
+sswci (n ∷ s) g = Ok (s, record g { single_cut_in = n })
+sswci [] g = Err why.StackShort
+
+abbrev pub ssw : ℕ → ℕ → List ℤ → GraphicsState → Set
+ssw ppem em (n ∷ s) g = in_pixels ppem em n >>= λ w. Ok (s, record g { single_width = w })
+ssw ppem em [] g = Err why.StackShort
+
+abbrev pub flip : Bool → GraphicsState → GraphicsState
+flip on g = record g { auto_flip = on }
+
+abbrev pub sdb : List ℤ → GraphicsState → Set
+sdb (n ∷ s) g = Ok (s, record g { delta_base = n })
+sdb [] g = Err why.StackShort
+
+abbrev pub sds : List ℤ → GraphicsState → Set
+sds (n ∷ s) g =
+    if int_lt n (pos 0) || int_lt (pos 6) n then Err why.BadArgument else Ok (s, record g { delta_shift = n })
+sds [] g = Err why.StackShort
+
+-- SCANCTRL, SCANTYPE, SANGW and AA
+abbrev pub ignored : List ℤ → Result (List ℤ) Why
+ignored (n ∷ s) = Ok s
+ignored [] = Err why.StackShort
+
+abbrev pub state_set : Setting → ℕ → ℕ → List ℤ → GraphicsState → Set
+state_set op.Srp0 ppem em s g = srp0 s g
+state_set op.Srp1 ppem em s g = srp1 s g
+state_set op.Srp2 ppem em s g = srp2 s g
+state_set op.Szp0 ppem em s g = szp0 s g
+state_set op.Szp1 ppem em s g = szp1 s g
+state_set op.Szp2 ppem em s g = szp2 s g
+state_set op.Szps ppem em s g = szps s g
+state_set op.Sloop ppem em s g = sloop s g
+state_set (op.RoundTo round) ppem em s g = Ok (s, round_to round g)
+state_set op.Sround ppem em s g = sround s g
+state_set op.Smd ppem em s g = smd s g
+state_set op.Scvtci ppem em s g = scvtci s g
+state_set op.Sswci ppem em s g = sswci s g
+state_set op.Ssw ppem em s g = ssw ppem em s g
+state_set (op.Flip on) ppem em s g = Ok (s, flip on g)
+state_set op.Sdb ppem em s g = sdb s g
+state_set op.Sds ppem em s g = sds s g
+state_set op.Ignored ppem em s g = ignored s >>= λ t. Ok (t, g)
+
+-- worked values
+no_zone_two : szp0 (pos 2 ∷ []) default_state ≡ Err why.ZoneRange
+no_zone_two = refl
+
+no_shift_seven : sds (pos 7 ∷ []) default_state ≡ Err why.BadArgument
+no_shift_seven = refl

@@ -1,0 +1,19 @@
+//! The instructions that set or read what a program works with, and move no point: the graphics state with its vectors,
+//! the storage area, the control values, the size and the engine's version. Apple TrueType Reference Manual,
+//! "Instruction set".
+#![tactic(auto)]
+
+mod graphics;
+pub mod laws;
+mod queries;
+mod settings;
+mod size;
+mod stored_values;
+mod vectors;
+
+pub use graphics::Graphics;
+pub use queries::{Query, answer};
+pub use settings::{Setting, set_state};
+pub use size::Size;
+pub use stored_values::{StoredValues, access_values};
+pub use vectors::{Vectors, access_vectors};

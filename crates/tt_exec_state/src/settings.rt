@@ -1,0 +1,329 @@
+//! Managing the graphics state: reference points, zone pointers, the round state, distances and deltas. Apple TrueType
+//! Reference Manual, "Instruction set".
+
+ghost use Rattle.std.specs.Prelude.{◌≡◌};
+ghost use Rattle.tt_core.specs.Outcomes.{Gives};
+ghost use Rattle.tt_exec_stack.specs.Stack.{Does};
+ghost use Rattle.tt_exec_state.specs.Settings as is;
+
+use crate::graphics::Graphics;
+use crate::size::Size;
+use tt_core::Why;
+use tt_exec_stack::Stack;
+use tt_state::{GraphicsState, Round, Zone};
+
+/// The instructions that set a variable of the graphics state.
+#[derive(Clone, Copy)]
+pub enum Setting {
+    Srp0,
+    Srp1,
+    Srp2,
+    Szp0,
+    Szp1,
+    Szp2,
+    Szps,
+    Sloop,
+    RoundTo(Round),
+    Sround,
+    Smd,
+    Scvtci,
+    Sswci,
+    Ssw,
+    Flip(bool),
+    Sdb,
+    Sds,
+    Ignored,
+}
+
+/// SRP0[], 0x10: p -> reference point 0, which is tested where it is used.
+fn srp0(stack: &mut Stack, graphics: &mut Graphics) -> Result<(), Why>
+    ensures { Does (is.srp0 stack.old graphics.old) (stack.new, graphics.new) result }
+{
+    let rp0 = stack.pop()?;
+    graphics.set(GraphicsState {
+        rp0,
+        ..graphics.state()
+    });
+    Ok(())
+}
+
+/// SRP1[], 0x11: p -> reference point 1.
+fn srp1(stack: &mut Stack, graphics: &mut Graphics) -> Result<(), Why>
+    ensures { Does (is.srp1 stack.old graphics.old) (stack.new, graphics.new) result }
+{
+    let rp1 = stack.pop()?;
+    graphics.set(GraphicsState {
+        rp1,
+        ..graphics.state()
+    });
+    Ok(())
+}
+
+/// SRP2[], 0x12: p -> reference point 2.
+fn srp2(stack: &mut Stack, graphics: &mut Graphics) -> Result<(), Why>
+    ensures { Does (is.srp2 stack.old graphics.old) (stack.new, graphics.new) result }
+{
+    let rp2 = stack.pop()?;
+    graphics.set(GraphicsState {
+        rp2,
+        ..graphics.state()
+    });
+    Ok(())
+}
+
+/// A zone by its number. Error: ZoneRange.
+fn zone(n: i32) -> Result<Zone, Why>
+    ensures exact { Gives (λ z. z) result (is.zone n) }
+{
+    match n {
+        0 => Ok(Zone::Twilight),
+        1 => Ok(Zone::Glyph),
+        _ => Err(Why::ZoneRange),
+    }
+}
+
+fn set_zp0(zp0: Zone, graphics: &mut Graphics)
+    ensures { graphics.new ≡ record graphics.old { zp0 = zp0 } }
+{
+    graphics.set(GraphicsState {
+        zp0,
+        ..graphics.state()
+    });
+}
+
+/// SZP0[], 0x13: n -> zone pointer 0.
+fn szp0(stack: &mut Stack, graphics: &mut Graphics) -> Result<(), Why>
+    ensures { Does (is.szp0 stack.old graphics.old) (stack.new, graphics.new) result }
+{
+    let n = stack.pop()?;
+    set_zp0(zone(n)?, graphics);
+    Ok(())
+}
+
+fn set_zp1(zp1: Zone, graphics: &mut Graphics)
+    ensures { graphics.new ≡ record graphics.old { zp1 = zp1 } }
+{
+    graphics.set(GraphicsState {
+        zp1,
+        ..graphics.state()
+    });
+}
+
+/// SZP1[], 0x14: n -> zone pointer 1.
+fn szp1(stack: &mut Stack, graphics: &mut Graphics) -> Result<(), Why>
+    ensures { Does (is.szp1 stack.old graphics.old) (stack.new, graphics.new) result }
+{
+    let n = stack.pop()?;
+    set_zp1(zone(n)?, graphics);
+    Ok(())
+}
+
+fn set_zp2(zp2: Zone, graphics: &mut Graphics)
+    ensures { graphics.new ≡ record graphics.old { zp2 = zp2 } }
+{
+    graphics.set(GraphicsState {
+        zp2,
+        ..graphics.state()
+    });
+}
+
+/// SZP2[], 0x15: n -> zone pointer 2.
+fn szp2(stack: &mut Stack, graphics: &mut Graphics) -> Result<(), Why>
+    ensures { Does (is.szp2 stack.old graphics.old) (stack.new, graphics.new) result }
+{
+    let n = stack.pop()?;
+    set_zp2(zone(n)?, graphics);
+    Ok(())
+}
+
+fn set_zps(all: Zone, graphics: &mut Graphics)
+    ensures { graphics.new ≡ record graphics.old { zp0 = all; zp1 = all; zp2 = all } }
+{
+    graphics.set(GraphicsState {
+        zp0: all,
+        zp1: all,
+        zp2: all,
+        ..graphics.state()
+    });
+}
+
+/// SZPS[], 0x16: n -> all three zone pointers.
+fn szps(stack: &mut Stack, graphics: &mut Graphics) -> Result<(), Why>
+    ensures { Does (is.szps stack.old graphics.old) (stack.new, graphics.new) result }
+{
+    let n = stack.pop()?;
+    set_zps(zone(n)?, graphics);
+    Ok(())
+}
+
+/// SLOOP[], 0x17: n -> the loop variable. Error: BadArgument where it is negative.
+fn sloop(stack: &mut Stack, graphics: &mut Graphics) -> Result<(), Why>
+    ensures { Does (is.sloop stack.old graphics.old) (stack.new, graphics.new) result }
+{
+    let loops = stack.pop()?;
+    if loops < 0 {
+        return Err(Why::BadArgument);
+    }
+    graphics.set(GraphicsState {
+        loops,
+        ..graphics.state()
+    });
+    Ok(())
+}
+
+/// RTG[], 0x18; RTHG[], 0x19; RTDG[], 0x3D; ROFF[], 0x7A; RUTG[], 0x7C; RDTG[], 0x7D: the round state.
+fn round_to(round: Round, graphics: &mut Graphics)
+    ensures { graphics.new ≡ is.round_to round graphics.old }
+{
+    graphics.set(GraphicsState {
+        round,
+        ..graphics.state()
+    });
+}
+
+/// SROUND[], 0x76: n -> the round state, by the low byte of n.
+fn sround(stack: &mut Stack, graphics: &mut Graphics) -> Result<(), Why>
+    ensures { Does (is.sround stack.old graphics.old) (stack.new, graphics.new) result }
+{
+    let n = stack.pop()?;
+    round_to(Round::from_byte(n.rem_euclid(256) as u8), graphics);
+    Ok(())
+}
+
+/// SMD[], 0x1A: d -> the minimum distance.
+fn smd(stack: &mut Stack, graphics: &mut Graphics) -> Result<(), Why>
+    ensures { Does (is.smd stack.old graphics.old) (stack.new, graphics.new) result }
+{
+    let min_distance = stack.pop()?;
+    graphics.set(GraphicsState {
+        min_distance,
+        ..graphics.state()
+    });
+    Ok(())
+}
+
+/// SCVTCI[], 0x1D: n -> the control-value cut-in.
+fn scvtci(stack: &mut Stack, graphics: &mut Graphics) -> Result<(), Why>
+    ensures { Does (is.scvtci stack.old graphics.old) (stack.new, graphics.new) result }
+{
+    let cut_in = stack.pop()?;
+    graphics.set(GraphicsState {
+        cut_in,
+        ..graphics.state()
+    });
+    Ok(())
+}
+
+/// SSWCI[], 0x1E: n -> the single-width cut-in.
+fn sswci(stack: &mut Stack, graphics: &mut Graphics) -> Result<(), Why>
+    ensures { Does (is.sswci stack.old graphics.old) (stack.new, graphics.new) result }
+{
+    let single_cut_in = stack.pop()?;
+    graphics.set(GraphicsState {
+        single_cut_in,
+        ..graphics.state()
+    });
+    Ok(())
+}
+
+fn set_single_width(single_width: i32, graphics: &mut Graphics)
+    ensures { graphics.new ≡ record graphics.old { single_width = single_width } }
+{
+    graphics.set(GraphicsState {
+        single_width,
+        ..graphics.state()
+    });
+}
+
+/// SSW[], 0x1F: n -> the single-width value, n font units scaled. Error: ValueRange.
+fn ssw(size: Size, stack: &mut Stack, graphics: &mut Graphics) -> Result<(), Why>
+    ensures { Does (is.ssw size.ppem size.units_per_em stack.old graphics.old) (stack.new, graphics.new) result }
+{
+    let units = stack.pop()?;
+    set_single_width(size.in_pixels(units)?, graphics);
+    Ok(())
+}
+
+/// FLIPON[], 0x4D, and FLIPOFF[], 0x4E: auto flip.
+fn flip(on: bool, graphics: &mut Graphics)
+    ensures { graphics.new ≡ is.flip on graphics.old }
+{
+    graphics.set(GraphicsState {
+        auto_flip: on,
+        ..graphics.state()
+    });
+}
+
+/// SDB[], 0x5E: n -> the delta base.
+fn sdb(stack: &mut Stack, graphics: &mut Graphics) -> Result<(), Why>
+    ensures { Does (is.sdb stack.old graphics.old) (stack.new, graphics.new) result }
+{
+    let delta_base = stack.pop()?;
+    graphics.set(GraphicsState {
+        delta_base,
+        ..graphics.state()
+    });
+    Ok(())
+}
+
+/// SDS[], 0x5F: n -> the delta shift. Error: BadArgument where it is not 0 to 6.
+fn sds(stack: &mut Stack, graphics: &mut Graphics) -> Result<(), Why>
+    ensures { Does (is.sds stack.old graphics.old) (stack.new, graphics.new) result }
+{
+    let delta_shift = stack.pop()?;
+    if delta_shift < 0 || delta_shift > 6 {
+        return Err(Why::BadArgument);
+    }
+    graphics.set(GraphicsState {
+        delta_shift,
+        ..graphics.state()
+    });
+    Ok(())
+}
+
+/// SCANCTRL[], 0x85; SCANTYPE[], 0x8D; SANGW[], 0x7E; AA[], 0x7F: n -> nothing.
+fn ignored(stack: &mut Stack) -> Result<(), Why>
+    ensures { Does (is.ignored stack.old) stack.new result }
+{
+    stack.pop()?;
+    Ok(())
+}
+
+/// Errors: StackShort; BadArgument of SLOOP and SDS; ZoneRange; ValueRange of SSW.
+#[inline(always)]
+pub fn set_state(
+    op: Setting,
+    size: Size,
+    stack: &mut Stack,
+    graphics: &mut Graphics,
+) -> Result<(), Why>
+    ensures { let given = is.state_set op size.ppem size.units_per_em stack.old graphics.old in
+        Does given (stack.new, graphics.new) result }
+{
+    match op {
+        Setting::Srp0 => srp0(stack, graphics),
+        Setting::Srp1 => srp1(stack, graphics),
+        Setting::Srp2 => srp2(stack, graphics),
+        Setting::Szp0 => szp0(stack, graphics),
+        Setting::Szp1 => szp1(stack, graphics),
+        Setting::Szp2 => szp2(stack, graphics),
+        Setting::Szps => szps(stack, graphics),
+        Setting::Sloop => sloop(stack, graphics),
+        Setting::RoundTo(round) => {
+            round_to(round, graphics);
+            Ok(())
+        }
+        Setting::Sround => sround(stack, graphics),
+        Setting::Smd => smd(stack, graphics),
+        Setting::Scvtci => scvtci(stack, graphics),
+        Setting::Sswci => sswci(stack, graphics),
+        Setting::Ssw => ssw(size, stack, graphics),
+        Setting::Flip(on) => {
+            flip(on, graphics);
+            Ok(())
+        }
+        Setting::Sdb => sdb(stack, graphics),
+        Setting::Sds => sds(stack, graphics),
+        Setting::Ignored => ignored(stack),
+    }
+}

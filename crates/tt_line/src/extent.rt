@@ -1,0 +1,50 @@
+//! How large the picture of a line is.
+
+ghost use Rattle.std.specs.Prelude.{◌≡◌, ◌+◌, ◌*◌, ◌<◌, ◌≤◌, ◌^◌, ◌+ℤ◌, pos, unsigned_abs, IfOk, IfErr};
+ghost use Rattle.tt_core.specs.Limits.{margin_limit};
+ghost use Rattle.tt_core.specs.Outcomes.{Gives};
+ghost use Rattle.tt_line.specs.Layout.{within_limits, IsRefusal, IsWithinLimits};
+
+use tt_core::{HEIGHT_LIMIT, JobFault, WIDTH_LIMIT};
+
+/// Width and height of a picture, in pixels, before they are known to be within the limits. The height may be negative.
+#[derive(Clone, Copy)]
+pub(crate) struct Extent {
+    pub(crate) width: u64,
+    pub(crate) height: i32,
+}
+
+/// The extent of a line and of the margins round it: the advances beside each other, the rise above the depth.
+pub(crate) fn with_margins(advances: u64, rise: i32, depth: i32, margin: u32) -> Extent
+    requires advances { advances < 2 ^ 40 }
+    requires rise { unsigned_abs rise < 2 ^ 20 }
+    requires depth { unsigned_abs depth < 2 ^ 20 }
+    requires margin { margin ≤ margin_limit }
+    ensures width { result.width ≡ advances + 2 * margin }
+    ensures height { result.height ≡ rise +ℤ depth +ℤ pos (2 * margin) }
+{
+    let margins = 2 * margin;
+    Extent {
+        width: advances + u64::from(margins),
+        height: rise + depth + margins as i32,
+    }
+}
+
+/// Refuses a picture without a pixel, and then one that is too large.
+///
+/// Errors: EmptyPicture, PictureLarge.
+#[tactic(auto, unfolding(crate::specs::Layout::within_limits))]
+pub(crate) fn test_limits(extent: Extent) -> Result<Extent, JobFault>
+    ensures exact { Gives (λ e. e) result (within_limits extent) }
+    ensures same { IfOk result (λ e. e ≡ extent) }
+    ensures within { IfOk result IsWithinLimits }
+    ensures fault { IfErr result (IsRefusal extent) }
+{
+    if extent.width < 1 || extent.height < 1 {
+        return Err(JobFault::EmptyPicture);
+    }
+    if extent.width > u64::from(WIDTH_LIMIT) || extent.height > HEIGHT_LIMIT as i32 {
+        return Err(JobFault::PictureLarge);
+    }
+    Ok(extent)
+}

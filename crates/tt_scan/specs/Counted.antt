@@ -1,0 +1,9 @@
+-- No part of the standard: the edges of a tape, how many crossings of them were asked for, and for how many edges there
+-- is memory.
+use Rattle.std.specs.Prelude.{ℕ, List}
+use Rattle.tt_scan.specs.declared.edge.Edge.{Edge}
+
+pub record CountedEdges : Type 0 where
+  pub edges : List Edge
+  pub crosses : ℕ
+  pub capacity : ℕ

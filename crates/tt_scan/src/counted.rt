@@ -1,0 +1,119 @@
+//! The edges of a tape, and how many crossings were asked for. No edge leaves this module: what one does at a height is
+//! told by `cross` and `cross_met` alone, and each call of these is counted. Its rows are told by `rows_of`, which says
+//! nothing of columns.
+
+ghost use Rattle.std.specs.Prelude.{◌≡◌, true, ◌+◌, ◌^◌, ◌<◌, ◌≤◌, length, [], ◌∷◌, ◌++◌, unsigned_abs, OnOk};
+ghost use Rattle.tt_core.specs.Limits.{margin_limit};
+ghost use Rattle.tt_scan.specs.Winding.{EdgeFits, FrameFits, is_between};
+ghost use Rattle.tt_scan.specs.Crossing.{IsCross, AreRows};
+ghost use Rattle.tt_scan.specs.Tape.{edge_at};
+
+use crate::crossing::{crossing, crossing_met};
+use crate::edge::{Cross, Edge, Frame};
+use crate::rows::row_range;
+use std::alloc::{AllocError, Global};
+use std::marker::Model;
+
+/// Edges, each of which is crossed by a counted call alone.
+#[derive(Drop)]
+pub(crate) struct CountedEdges {
+    edges: Vec<Edge>,
+    crosses: u64,
+}
+
+impl Model for CountedEdges {
+    ghost use Rattle.std.specs.Vec.{vec_capacity};
+    ghost use Rattle.tt_scan.specs.Counted as counted;
+
+    ghost Value = { counted.CountedEdges };
+
+    ghost view = { λ e. record { edges = e.edges.items; crosses = e.crosses; capacity = vec_capacity e.edges } };
+}
+
+impl CountedEdges {
+    /// No edges, and no crossing yet. It takes no memory yet.
+    pub(crate) fn new(alloc: Global) -> CountedEdges
+        ensures edges { result.edges ≡ [] }
+        ensures crosses { result.crosses ≡ 0 }
+    {
+        CountedEdges {
+            edges: Vec::new(alloc),
+            crosses: 0,
+        }
+    }
+
+    /// Takes memory for so many more edges. The edges stay as they are, whatever the result.
+    pub(crate) fn reserve(&mut self, more: usize) -> Result<(), AllocError>
+        ensures edges { self.new.edges ≡ self.old.edges }
+        ensures crosses { self.new.crosses ≡ self.old.crosses }
+        ensures room { OnOk result (length self.new.edges + more ≤ self.new.capacity) }
+    {
+        self.edges.reserve(more)
+    }
+
+    /// Adds an edge, for which there is memory.
+    #[inline(always)]
+    pub(crate) fn push_reserved(&mut self, edge: Edge)
+        requires { length self.old.edges < self.old.capacity }
+        ensures { self.new ≡ record self.old { edges = self.old.edges ++ edge ∷ [] } }
+    {
+        self.edges.push_reserved(edge);
+    }
+
+    /// How many edges there are.
+    #[inline(always)]
+    pub(crate) fn len(&self) -> usize
+        ensures exact { result ≡ length self.now.edges }
+        ensures small { result < 2 ^ 63 }
+    {
+        self.edges.len()
+    }
+
+    /// How many crossings were asked for.
+    pub(crate) fn crosses(&self) -> u64
+        ensures { result ≡ self.now.crosses }
+    {
+        self.crosses
+    }
+
+    /// The first of a frame's rows whose centre line meets edge `i`, its ends included, and one past the last; two equal
+    /// numbers where none does.
+    pub(crate) fn rows_of(&self, i: usize, frame: Frame) -> (i64, i64)
+        requires within { i < length self.now.edges }
+        requires edge { EdgeFits (edge_at self.now.edges i) }
+        requires frame { FrameFits frame }
+        ensures { AreRows (edge_at self.now.edges i) frame result }
+    {
+        row_range(self.edges[i], frame)
+    }
+
+    /// What edge `i` does at a height.
+    pub(crate) fn cross(&mut self, i: usize, margin: u32, y: i64) -> Cross
+        requires within { i < length self.old.edges }
+        requires edge { EdgeFits (edge_at self.old.edges i) }
+        requires margin { margin ≤ margin_limit }
+        requires count { self.old.crosses < 2 ^ 63 }
+        ensures exact { IsCross (edge_at self.old.edges i) margin y result }
+        ensures bound { unsigned_abs result.turn ≤ 1 }
+        ensures count { self.new ≡ record self.old { crosses = self.old.crosses + 1 } }
+    {
+        self.crosses += 1;
+        crossing(self.edges[i], margin, y)
+    }
+
+    /// What edge `i` does at a height that it reaches.
+    #[inline(always)]
+    pub(crate) fn cross_met(&mut self, i: usize, margin: u32, y: i64) -> Cross
+        requires within { i < length self.old.edges }
+        requires edge { EdgeFits (edge_at self.old.edges i) }
+        requires margin { margin ≤ margin_limit }
+        requires met { is_between (edge_at self.old.edges i).ay (edge_at self.old.edges i).by y ≡ true }
+        requires count { self.old.crosses < 2 ^ 63 }
+        ensures exact { IsCross (edge_at self.old.edges i) margin y result }
+        ensures bound { unsigned_abs result.turn ≤ 1 }
+        ensures count { self.new ≡ record self.old { crosses = self.old.crosses + 1 } }
+    {
+        self.crosses += 1;
+        crossing_met(self.edges[i], margin, y)
+    }
+}
