@@ -11,7 +11,7 @@ ghost use Rattle.tt_points_iup.specs.Positions.{IsPosition, position_of};
 
 use crate::counted::PlainPoint;
 use tt_core::{Why, rq};
-use tt_points_zones::is_coordinate;
+use tt_points_zones::{distance_between, is_coordinate, product};
 use tt_state::Axis;
 
 /// Where a point stood along an axis before the program, and where it stands.
@@ -22,28 +22,7 @@ pub(crate) struct Position {
 }
 
 #[derive(Clone, Copy)]
-struct Distance(i64);
-
-#[derive(Clone, Copy)]
 struct Coordinate(i64);
-
-fn distance_between(from: i32, to: i32) -> Distance
-    requires from { unsigned_abs from ≤ coordinate_limit }
-    requires to { unsigned_abs to ≤ coordinate_limit }
-    ensures exact { result.0 ≡ to -ℤ from }
-    ensures bound { unsigned_abs result.0 < 2 ^ 23 }
-{
-    Distance(i64::from(to) - i64::from(from))
-}
-
-fn product(a: Distance, b: Distance) -> i64
-    requires left { unsigned_abs a.0 < 2 ^ 23 }
-    requires right { unsigned_abs b.0 < 2 ^ 23 }
-    ensures exact { result ≡ a.0 *ℤ b.0 }
-    ensures bound { unsigned_abs result < 2 ^ 46 }
-{
-    a.0 * b.0
-}
 
 fn added(a: i32, b: i64) -> i64
     requires { unsigned_abs b < 2 ^ 61 }

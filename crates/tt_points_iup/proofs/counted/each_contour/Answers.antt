@@ -1,5 +1,5 @@
 use Rattle.std.proofs.Common.{◌∙◌, length-drop, ◌≡◌, ◌+◌, ◌-◌, ◌≤◌, length, take, drop, get_or, arith, rules}
-use Rattle.std.proofs.lemmas.List.{drop_all, drop_more, length-take-le}
+use Rattle.std.proofs.lemmas.List.{drop_more, length-take-le}
 use Rattle.std.proofs.lemmas.Result.{err_from_is_err_and}
 use Rattle.tt_points_iup.specs.Interpolation as is
 use Rattle.tt_points_iup.proofs.Limits.{limited_ok, whole_ok}

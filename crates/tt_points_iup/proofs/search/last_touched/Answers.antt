@@ -1,6 +1,5 @@
-use Rattle.std.proofs.Common.{◌≡◌, ◌∙◌, ◌+◌, ◌<◌, true, false, length, get_or, drop, Some, ap, sym, arith}
+use Rattle.std.proofs.Common.{◌≡◌, ◌∙◌, ◌<◌, true, false, length, get_or, sym, arith}
 use Rattle.tt_points_zones.specs.Points.{is_touched}
-use Rattle.tt_points_iup.specs.Interpolation as is
 use Rattle.tt_points_iup.specs.Positions.{point_of}
 use Rattle.tt_points_iup.proofs.Filled.{blank}
 use Rattle.tt_points_iup.proofs.Touches.{last_here, last_later}
