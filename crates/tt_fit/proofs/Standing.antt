@@ -11,13 +11,13 @@ use Rattle.tt_glyf.specs.GlyphData.{glyph_data_of}
 use Rattle.tt_glyf.specs.Loca.{glyph_offset}
 use Rattle.tt_glyf.specs.Raw.{Raw, empty, simple, composite}
 use Rattle.tt_glyf.proofs.Defects.{glyph-broke, glyph-whole}
-use Rattle.tt_fit.specs.Defects.{IsStartDefect, IsPlacingDefect, assembled_before, IsRecordsDefect, IsFinishingDefect, IsMakingDefect, IsDefectBy, IsBadComponent, IsOutlineDefect}
+use Rattle.tt_fit.specs.Defects.{IsStartDefect, IsPlacingDefect, assembled_before, IsRecordsDefect, IsHintingDefect, IsMakingDefect, IsDefectBy, IsBadComponent, IsOutlineDefect}
 use Rattle.tt_fit.specs.Fitting.{Fitter, size_of, start, joined, glyph_program, made, outline_by, added, glyph_fitter, fitted_outline}
 use Rattle.tt_fit.specs.Laws.{OutlinesAreWhole, OutlineFaultsStand}
 use Rattle.tt_fit.specs.Outline.{Outline}
-use Rattle.tt_fit.specs.Programs.{finished}
+use Rattle.tt_fit.specs.Hinting.{hinted}
 use Rattle.tt_fit.specs.Scaling.{phantom_points, scaled_outline}
-use Rattle.tt_fit.proofs.Finishing.{finished-broke, finished-whole}
+use Rattle.tt_fit.proofs.GlyphPrograms.{hinted-broke, hinted-whole}
 use Rattle.tt_fit.proofs.Placing.{blank-broke, blank-whole, scaled-broke, scaled-whole, placing-broke, placing-whole}
 
 -- what a record adds is refused for a defect of the record, and only then
@@ -91,18 +91,18 @@ start-whole s x_min g o f was bad =
 
 -- the program of a glyph, over the points that are made for it
 abbrev IsFinishingOf : Fitter → ℕ → List ℕ → ℕ → Fault → Result Outline Fault → Type 0
-IsFinishingOf s g code code_at f x = IsOkAnd x (λ o. IsFinishingDefect s.hints (glyph_program s g code code_at) o f)
+IsFinishingOf s g code code_at f x = IsOkAnd x (λ o. IsHintingDefect s.hinting (glyph_program s g code code_at) o f)
 
 finishing-broke : (s : Fitter) (g : ℕ) (code : List ℕ) (code_at : ℕ) (x : Result Outline Fault) (o : Outline) (f : Fault)
-    → x ≡ Ok o → finished s.hints (glyph_program s g code code_at) o ≡ Err f → IsFinishingOf s g code code_at f x
+    → x ≡ Ok o → hinted s.hinting (glyph_program s g code code_at) o ≡ Err f → IsFinishingOf s g code code_at f x
 finishing-broke s g code code_at x o f made was =
-    subst (IsFinishingOf s g code code_at f) (sym made) (finished-broke s.hints (glyph_program s g code code_at) o f was)
+    subst (IsFinishingOf s g code code_at f) (sym made) (hinted-broke s.hinting (glyph_program s g code code_at) o f was)
 
 finishing-whole : (s : Fitter) (g : ℕ) (code : List ℕ) (code_at : ℕ) (x : Result Outline Fault) (o all : Outline)
-    (f : Fault) → x ≡ Ok o → finished s.hints (glyph_program s g code code_at) o ≡ Ok all
+    (f : Fault) → x ≡ Ok o → hinted s.hinting (glyph_program s g code code_at) o ≡ Ok all
     → IsFinishingOf s g code code_at f x → ⊥
 finishing-whole s g code code_at x o all f made was bad =
-    finished-whole s.hints (glyph_program s g code code_at) o all f was (subst (IsFinishingOf s g code code_at f) made bad)
+    hinted-whole s.hinting (glyph_program s g code code_at) o all f was (subst (IsFinishingOf s g code code_at f) made bad)
 
 making-broke : (s : Fitter) (add : Record → Outline → Result Outline Fault)
     (IsOne : Record → Result Outline Fault → Fault → Type 0) → Tells add IsOne → (g : ℕ) (d : Raw) (f : Fault)
