@@ -51,7 +51,7 @@ impl Glyphs {
         }
     }
 
-    /// Keeps a glyph behind the others.
+    /// Keeps a glyph after the others.
     fn add(&mut self, glyph: Glyph, number: u16) -> Result<(), AllocError>
         requires number { glyph.number ≡ number }
         requires known { number < length self.old.places.items }

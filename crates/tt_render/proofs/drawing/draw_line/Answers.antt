@@ -6,10 +6,10 @@ use Rattle.tt_line.specs.Outcome.{placement_of}
 use Rattle.tt_pbm.specs.P4.{header_bytes}
 use Rattle.tt_scan.specs.declared.edge.Edge.{Edge}
 use Rattle.tt_render.specs.Job.{job_view}
-use Rattle.tt_render.specs.Face.{face_view}
+use Rattle.tt_render.specs.Tables.{face_view}
 use Rattle.tt_render.specs.Glyphs.{Blacken}
 use Rattle.tt_render.specs.Picture.{drawn, frame_of, glyph_edges, picture}
-use Rattle.tt_render.specs.Unfitted.{line_report}
+use Rattle.tt_render.specs.Report.{line_report}
 use Rattle.tt_render.specs.Views.{picture_bytes}
 use Rattle.tt_render.proofs.Alike.{same_picture}
 use Rattle.tt_render.proofs.Listing.{of_line, lists_once}

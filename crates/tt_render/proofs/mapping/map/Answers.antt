@@ -113,7 +113,7 @@ returns-in_err-write_all_of-clause-outcome g c =
     let p = err_from_is_err_and c.from_residual-in_err-write_all_of.result c.from_residual-in_err-write_all_of.ensures.1
     in
     rw (p.1, p.2)
-    (of_font.tested, with_bytes (map_wanted text) (made text) of_font Q (left c.args.font.now) (left c.read_font.new.font) file.file.items bytes file.ensures.0 file.ensures.1 file.ensures.2 is_made (within, part), file.ensures.1, file.ensures.3, cut.ensures.failure)
+    (of_font.tested, with_bytes (map_wanted text) (made text) of_font Q (left c.args.font.now) (left c.read_font.new.font) file.file.items bytes file.ensures.0 file.ensures.1 file.ensures.2 is_made (within, part), (file.ensures.1, file.ensures.3), cut.ensures.failure)
 
 pub returns-in_err-write_all_of-clause-defects : goal.returns-in_err-write_all_of-clause-defects
 returns-in_err-write_all_of-clause-defects g c =
@@ -137,7 +137,7 @@ returns-clause-outcome g c =
     let is_made : made text file.file.items ≡ Ok bytes = rw lines_are refl in
     let all = rw c.deref-2.ensures.value at c.in_ok-write_all_of.ensures.all in
     let Q : List ℕ → Type 0 = Appends (written c.args.out.now) (written c.write_all_of.new.out) in
-    (of_font.tested, with_bytes (map_wanted text) (made text) of_font Q (left c.args.font.now) (left c.read_font.new.font) file.file.items bytes file.ensures.0 file.ensures.1 file.ensures.2 is_made all, file.ensures.1, file.ensures.3, c.in_ok-write_all_of.ensures.failure)
+    (of_font.tested, with_bytes (map_wanted text) (made text) of_font Q (left c.args.font.now) (left c.read_font.new.font) file.file.items bytes file.ensures.0 file.ensures.1 file.ensures.2 is_made all, (file.ensures.1, file.ensures.3), c.in_ok-write_all_of.ensures.failure)
 
 pub returns-clause-defects : goal.returns-clause-defects
 returns-clause-defects g c =
