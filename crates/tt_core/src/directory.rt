@@ -110,7 +110,7 @@ impl<'a> Dir<'a> {
 
     #[tactic(auto, using(crate::specs::Search::first_from_next, crate::specs::Search::first_from_here))]
     fn record(&self, tag: [u8; 4]) -> Option<usize>
-        ensures first { result ≡ record_of self.now tag }
+        ensures exact { result ≡ record_of self.now tag }
         ensures bound { IfSome result (λ i. i < record_count self.now) }
         ensures room { directory_end self.now ≤ length self.now }
         ensures size { length self.now ≤ font_limit }

@@ -4,7 +4,7 @@ use Rattle.std.specs.Prelude.{slice_index}
 use Rattle.std.proofs.lemmas.Bool.{cases_lt}
 use Rattle.std.proofs.lemmas.List.{get_or_append_left, get_or-append_right, get_or-map, get_or_past, length-map}
 use Rattle.tt_glyf.specs.Meaning.{AreEnds as EndContours}
-use Rattle.tt_fit.specs.Components.{ends_after}
+use Rattle.tt_fit.specs.Joining.{ends_after}
 use Rattle.tt_fit.specs.Outline.{AreEnds}
 
 -- the places one past these points
@@ -52,9 +52,9 @@ joined-length m xs ys = rw (length-append, length-map) refl
 end-before : (m : ℕ) (xs ys : List ℕ) (i : ℕ) → i < length xs → slice_index (xs ++ ends_after m ys) i ≡ slice_index xs i
 end-before m xs ys i below = get_or_append_left xs (ends_after m ys) 0 i below
 
-end-behind : (m : ℕ) (xs ys : List ℕ) (i : ℕ) → length xs ≤ i → i < length xs + length ys
+end-after : (m : ℕ) (xs ys : List ℕ) (i : ℕ) → length xs ≤ i → i < length xs + length ys
     → slice_index (xs ++ ends_after m ys) i ≡ m + slice_index ys (i - length xs)
-end-behind m xs ys i above below =
+end-after m xs ys i above below =
     let right = get_or-append_right xs (ends_after m ys) (length xs) i 0 refl above in
     let moved = get_or-map (λ e. m + e) ys (i - length xs) 0 0 (omega arith) in
     right ∙ moved
@@ -72,15 +72,15 @@ joined-rise m k xs ys are more i j le below = elim (cases_lt j (length xs)) [
       let at_j = end-before m xs ys j before in
       let rise = are.rising i j le before in
       omega (arith, at_i, at_j, rise)
-  | inr behind ↦
-      let at_j = end-behind m xs ys j behind below in
+  | inr later ↦
+      let at_j = end-after m xs ys j later below in
       elim (cases_lt i (length xs)) [
         | inl first ↦
             let at_i = end-before m xs ys i first in
             let within = are.within i in
             omega (arith, at_i, at_j, within)
         | inr second ↦
-            let at_i = end-behind m xs ys i second (omega arith) in
+            let at_i = end-after m xs ys i second (omega arith) in
             let rise = more.rising (i - length xs) (j - length xs) (omega arith) (omega arith) in
             omega (arith, at_i, at_j, rise)
       ]
@@ -93,9 +93,9 @@ joined-within m k xs ys are more i = elim (cases_lt i (length xs)) [
       let at = end-before m xs ys i before in
       let within = are.within i in
       omega (arith, at, within)
-  | inr behind ↦ elim (cases_lt i (length xs + length ys)) [
+  | inr later ↦ elim (cases_lt i (length xs + length ys)) [
     | inl below ↦
-        let at = end-behind m xs ys i behind below in
+        let at = end-after m xs ys i later below in
         let within = more.within (i - length xs) in
         omega (arith, at, within)
     | inr past ↦
@@ -112,12 +112,12 @@ joined-last m k xs [] are more =
     let last = are.last in
     rw (append-nil, same, last) (omega (arith, none))
 joined-last m k xs (y ∷ ys) are more =
-    let at = end-behind m xs (y ∷ ys) (length xs + length (y ∷ ys) - 1) (omega arith) (omega arith) in
+    let at = end-after m xs (y ∷ ys) (length xs + length (y ∷ ys) - 1) (omega arith) (omega arith) in
     let same : length xs + length (y ∷ ys) - 1 - length xs ≡ length (y ∷ ys) - 1 = omega arith in
     let last = more.last in
     at ∙ rw (same, last) refl
 
--- the ends of contours, and those of a component behind them
+-- the ends of contours, and those of a component after them
 pub joined-ends : (m k : ℕ) (xs ys : List ℕ) → AreEnds m xs → AreEnds k ys → AreEnds (m + k) (xs ++ ends_after m ys)
 joined-ends m k xs ys are more = record {
   rising = λ i j le below. let many = joined-length m xs ys in joined-rise m k xs ys are more i j le

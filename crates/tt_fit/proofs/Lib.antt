@@ -1,6 +1,6 @@
 pub mod Contours
 pub mod Falling
-pub mod Finishing
+pub mod GlyphPrograms
 pub mod Levels
 pub mod Lists
 pub mod Outlines

@@ -5,7 +5,7 @@ use Rattle.tt_core.specs.Faults.{Fault}
 use Rattle.tt_fit.specs.Outline.{IsPoint}
 use Rattle.tt_core.specs.Outcomes.{each, after_each}
 
--- behind nothing
+-- after nothing
 pub from_nothing : {A B : Type 0} (make : A → Result B Fault) (xs : List A) → after_each make xs [] ≡ each make xs
 from_nothing make [] = refl
 from_nothing make (x ∷ xs) = grind arith

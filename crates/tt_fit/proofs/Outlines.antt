@@ -3,7 +3,7 @@ use Rattle.std.proofs.Common.{◌≡◌, ℕ, ◌+◌, ◌≤◌, ℤ, pos, Bool
 use Rattle.std.proofs.lemmas.List.Elements.{All-nil}
 use Rattle.tt_core.specs.Limits.{point_limit}
 use Rattle.tt_glyf.specs.Meaning.{AreEnds as EndContours}
-use Rattle.tt_fit.specs.Components.{ends_after}
+use Rattle.tt_fit.specs.Joining.{ends_after}
 use Rattle.tt_fit.specs.Outline.{Outline, PhantomPoints, IsCoordinate, IsPoint, ArePhantom, AreEnds, IsOutline}
 use Rattle.tt_fit.proofs.Contours.{scaled-ends, joined-ends}
 

@@ -14,10 +14,12 @@ use Rattle.tt_core.proofs.Each.{each-failed, each-made, length-each}
 use Rattle.tt_glyf.specs.Format.{args_are_xy_values, has}
 use Rattle.tt_glyf.specs.declared.raw.RawPoint.{RawPoint}
 use Rattle.tt_glyf.specs.declared.raw.Record.{Record}
-use Rattle.tt_fit.specs.Components.{offset_of, point_of, matched_by, shift_of, landed, placed_point, within_point_limit, behind, placed}
+use Rattle.tt_fit.specs.Component.{offset_of, point_of, matched_by, shift_of, landed, placed_point}
+use Rattle.tt_fit.specs.Joining.{within_point_limit, appended, placed}
 use Rattle.tt_fit.specs.Defects.{PassesLimit, LeavesLimit, IsPhantomDefect, IsScaledDefect, LacksPoint, IsMatchDefect, IsLandingDefect, IsCountDefect, IsPlacingDefect}
 use Rattle.tt_fit.specs.Outline.{PhantomPoints, Outline}
-use Rattle.tt_fit.specs.Scaling.{Size, is_coordinate, is_position, are_positions, glyf_fault, coordinate_fault, settled, scaled_position, scaled_point, blank, scaled_outline}
+use Rattle.tt_fit.specs.Scaling.{is_coordinate, is_position, are_positions, glyf_fault, coordinate_fault, settled, scaled_position, scaled_point, blank, scaled_outline}
+use Rattle.tt_fit.specs.Size.{FontSize}
 
 -- coordinates
 pub passes : (v : ℤ) → is_coordinate v ≡ false → PassesLimit v
@@ -108,7 +110,7 @@ blank-whole at p o f was bad =
     let test = passed-else (are_positions p) _ _ o was in phantom-stays p test.0 bad.0
 
 -- the points of a simple glyph
-pub scaled-broke : (z : Size) (at : ℕ) (points : List RawPoint) (ends : List ℕ) (o : Outline) (f : Fault)
+pub scaled-broke : (z : FontSize) (at : ℕ) (points : List RawPoint) (ends : List ℕ) (o : Outline) (f : Fault)
     → scaled_outline z at points ends o ≡ Err f → IsScaledDefect z at points f
 unfolding scaled_outline
 scaled-broke z at points ends o f was = elim (was-err (each (scaled_point z at) points) _ f was) [
@@ -119,7 +121,7 @@ scaled-broke z at points ends o f was = elim (was-err (each (scaled_point z at) 
   | inr whole ↦ let done = whole.rest in absurd cc
 ]
 
-pub scaled-whole : (z : Size) (at : ℕ) (points : List RawPoint) (ends : List ℕ) (o made : Outline) (f : Fault)
+pub scaled-whole : (z : FontSize) (at : ℕ) (points : List RawPoint) (ends : List ℕ) (o made : Outline) (f : Fault)
     → scaled_outline z at points ends o ≡ Ok made → IsScaledDefect z at points f → ⊥
 unfolding scaled_outline
 scaled-whole z at points ends o made f was bad =
@@ -148,7 +150,7 @@ matched-broke r (Some p) (Some q) f was = absurd cc
 matched-broke r (Some p) None f was = (inr refl, cc)
 matched-broke r None q f was = (inl refl, cc)
 
-shift-broke-by : (z : Size) (r : Record) (component points : List (ℤ × ℤ × Bool)) (f : Fault) (by_offset : Bool)
+shift-broke-by : (z : FontSize) (r : Record) (component points : List (ℤ × ℤ × Bool)) (f : Fault) (by_offset : Bool)
     → has r.flags args_are_xy_values ≡ by_offset
     → (if by_offset then Ok (offset_of z r) else matched_by r (point_of component r.arg2) (point_of points r.arg1))
     ≡ Err f → IsMatchDefect r component points f
@@ -163,7 +165,7 @@ shift-broke-by z r component points f false is was =
       broke.1,
     )
 
-shift-broke : (z : Size) (r : Record) (component points : List (ℤ × ℤ × Bool)) (f : Fault)
+shift-broke : (z : FontSize) (r : Record) (component points : List (ℤ × ℤ × Bool)) (f : Fault)
     → shift_of z r component points ≡ Err f → IsMatchDefect r component points f
 unfolding shift_of
 shift-broke z r component points f was =
@@ -175,7 +177,7 @@ matched-made r (Some p) (Some q) by was = (p, q, refl, refl)
 matched-made r (Some p) None by was = absurd cc
 matched-made r None q by was = absurd cc
 
-shift-whole-by : (z : Size) (r : Record) (component points : List (ℤ × ℤ × Bool)) (by : ℤ × ℤ) (f : Fault)
+shift-whole-by : (z : FontSize) (r : Record) (component points : List (ℤ × ℤ × Bool)) (by : ℤ × ℤ) (f : Fault)
     (by_offset : Bool) → has r.flags args_are_xy_values ≡ by_offset
     → (if by_offset then Ok (offset_of z r) else matched_by r (point_of component r.arg2) (point_of points r.arg1))
     ≡ Ok by → IsMatchDefect r component points f → ⊥
@@ -187,7 +189,7 @@ shift-whole-by z r component points by f false is was bad =
       | inr lacking ↦ has-point points r.arg1 found.1 found.3 lacking
     ]
 
-shift-whole : (z : Size) (r : Record) (component points : List (ℤ × ℤ × Bool)) (by : ℤ × ℤ) (f : Fault)
+shift-whole : (z : FontSize) (r : Record) (component points : List (ℤ × ℤ × Bool)) (by : ℤ × ℤ) (f : Fault)
     → shift_of z r component points ≡ Ok by → IsMatchDefect r component points f → ⊥
 unfolding shift_of
 shift-whole z r component points by f was =
@@ -214,7 +216,7 @@ count-whole r points landed component all f many was bad =
     not-below point_limit (length points + length landed) fit (omega arith)
 
 -- a component's points in their places
-landing-broke : (z : Size) (r : Record) (component points : List (ℤ × ℤ × Bool)) (by : ℤ × ℤ) (f : Fault)
+landing-broke : (z : FontSize) (r : Record) (component points : List (ℤ × ℤ × Bool)) (by : ℤ × ℤ) (f : Fault)
     → shift_of z r component points ≡ Ok by → each (placed_point r by) component ≡ Err f
     → IsLandingDefect z r component points f
 landing-broke z r component points by f shifted was =
@@ -225,7 +227,7 @@ landing-broke z r component points by f shifted was =
     × LeavesLimit (landed r by p).0 (landed r by p).1 × (f ≡ coordinate_fault r.at)) in
     subst P (sym shifted) (point.0, point.1, point.2, broke.0, broke.1)
 
-landing-whole : (z : Size) (r : Record) (component points all : List (ℤ × ℤ × Bool)) (by : ℤ × ℤ) (f : Fault)
+landing-whole : (z : FontSize) (r : Record) (component points all : List (ℤ × ℤ × Bool)) (by : ℤ × ℤ) (f : Fault)
     → shift_of z r component points ≡ Ok by → each (placed_point r by) component ≡ Ok all
     → IsLandingDefect z r component points f → ⊥
 landing-whole z r component points all by f shifted was bad =
@@ -236,9 +238,9 @@ landing-whole z r component points all by f shifted was bad =
     let one = each-made (placed_point r by) component all there.0 there.1 was there.2 in
     settled-stays r.at (landed r by there.1) one.0 one.1 there.3
 
-pub placing-broke : (z : Size) (r : Record) (component o : Outline) (f : Fault) → placed z r component o ≡ Err f
+pub placing-broke : (z : FontSize) (r : Record) (component o : Outline) (f : Fault) → placed z r component o ≡ Err f
     → IsPlacingDefect z r component o f
-unfolding placed behind
+unfolding placed appended
 placing-broke z r component o f was = elim (was-err (shift_of z r component.points o.points) _ f was) [
   | inl here ↦ inl (shift-broke z r component.points o.points f here)
   | inr moved ↦ elim (was-err (each (placed_point r moved.value) component.points) _ f moved.rest) [
@@ -252,9 +254,9 @@ placing-broke z r component o f was = elim (was-err (shift_of z r component.poin
   ]
 ]
 
-pub placing-whole : (z : Size) (r : Record) (component o made : Outline) (f : Fault) → placed z r component o ≡ Ok made
+pub placing-whole : (z : FontSize) (r : Record) (component o made : Outline) (f : Fault) → placed z r component o ≡ Ok made
     → IsPlacingDefect z r component o f → ⊥
-unfolding placed behind
+unfolding placed appended
 placing-whole z r component o made f was bad =
     let moved = came-through (shift_of z r component.points o.points) _ made was in
     let all = came-through (each (placed_point r moved.value) component.points) _ made moved.rest in

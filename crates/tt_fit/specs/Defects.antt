@@ -14,12 +14,14 @@ use Rattle.tt_glyf.specs.GlyphData.{glyph_data_of}
 use Rattle.tt_glyf.specs.Loca.{glyph_offset}
 use Rattle.tt_glyf.specs.Raw.{Raw, empty, simple, composite}
 use Rattle.tt_exec.specs.Parts.{Parts}
-use Rattle.tt_fit.specs.Components.{shift_of, landed}
+use Rattle.tt_fit.specs.Component.{shift_of, landed}
 use Rattle.tt_fit.specs.Fitting.{Fitter, size_of, start, glyph_program, joined, added, outline_at, glyph_fitter}
-use Rattle.tt_fit.specs.GlyphZone.{GlyphProgram, program_in_glyf, on_grid, on_grid_at, parts_with}
+use Rattle.tt_fit.specs.GlyphZone.{GlyphProgram, program_in_glyf, on_grid, on_grid_at}
+use Rattle.tt_fit.specs.Parts.{parts_with}
 use Rattle.tt_fit.specs.Outline.{PhantomPoints, Outline}
-use Rattle.tt_fit.specs.Programs.{Hints, unhinted, hinted, is_run, run_of}
-use Rattle.tt_fit.specs.Scaling.{Size, scale, glyf_fault, coordinate_fault, phantom_points, scaled_outline}
+use Rattle.tt_fit.specs.Hinting.{Hinting, off, ready, is_run, run_of}
+use Rattle.tt_fit.specs.Scaling.{glyf_fault, coordinate_fault, phantom_points, scaled_outline}
+use Rattle.tt_fit.specs.Size.{FontSize, scale}
 
 -- a coordinate is past the limit
 abbrev pub PassesLimit : ℤ → Type 0
@@ -42,7 +44,7 @@ IsStartDefect s x_min g fault =
     IsPhantomDefect (glyph_offset s.tables g) (phantom_points (size_of s) s.metrics x_min g) fault
 
 -- a scaled point does
-abbrev pub IsScaledDefect : Size → ℕ → List RawPoint → Fault → Type 0
+abbrev pub IsScaledDefect : FontSize → ℕ → List RawPoint → Fault → Type 0
 IsScaledDefect z at points fault =
     (i : ℕ) × (p : RawPoint) × (slice_get points i ≡ Some p) × LeavesLimit (scale z p.x) (scale z p.y)
     × (fault ≡ coordinate_fault at)
@@ -58,7 +60,7 @@ IsMatchDefect r component points fault =
     × (fault ≡ glyf_fault r.at why.MatchPoint)
 
 -- a point of the component, transformed and moved, lies past the limit
-abbrev pub IsLandingDefect : Size → Record → List (ℤ × ℤ × Bool) → List (ℤ × ℤ × Bool) → Fault → Type 0
+abbrev pub IsLandingDefect : FontSize → Record → List (ℤ × ℤ × Bool) → List (ℤ × ℤ × Bool) → Fault → Type 0
 IsLandingDefect z r component points fault = IsOkAnd (shift_of z r component points) (λ by.
     (i : ℕ) × (p : ℤ × ℤ × Bool) × (slice_get component i ≡ Some p)
     × LeavesLimit (landed r by p).0 (landed r by p).1 × (fault ≡ coordinate_fault r.at))
@@ -68,8 +70,8 @@ abbrev pub IsCountDefect : Record → List (ℤ × ℤ × Bool) → List (ℤ ×
 IsCountDefect r component points fault =
     (point_limit < length points + length component) × (fault ≡ glyf_fault r.at why.PointLimit)
 
--- a component cannot be placed behind what is assembled so far
-abbrev pub IsPlacingDefect : Size → Record → Outline → Outline → Fault → Type 0
+-- a component cannot be added to what is assembled so far
+abbrev pub IsPlacingDefect : FontSize → Record → Outline → Outline → Fault → Type 0
 IsPlacingDefect z r component o fault =
     IsMatchDefect r component.points o.points fault
     ⊎ IsLandingDefect z r component.points o.points fault
@@ -80,7 +82,7 @@ abbrev pub assembled_before : (Record → Outline → Result Outline Fault) → 
     → Result Outline Fault
 assembled_before add begun records i = begun >>= joined add (take i records)
 
--- one of the records is bad, by what is bad of a record behind what is assembled before it
+-- one of the records is bad, by what is bad of a record where so much is assembled before it
 abbrev pub IsRecordsDefect : (Record → Outline → Result Outline Fault) → (Record → Result Outline Fault → Fault → Type 0)
     → Result Outline Fault → List Record → Fault → Type 0
 IsRecordsDefect add IsOne begun records fault =
@@ -98,9 +100,9 @@ IsProgramDefect parts p o fault = (is_run parts p ≡ true) × (IsGridDefect p.g
     ⊎ IsOkAnd (on_grid_at p.glyph_at o.phantom) (λ grid.
     run_of (program_in_glyf p) (parts_with parts o grid) ≡ Err fault))
 
-abbrev pub IsFinishingDefect : Hints → GlyphProgram → Outline → Fault → Type 0
-IsFinishingDefect unhinted p o fault = ⊥
-IsFinishingDefect (hinted parts) p o fault = IsProgramDefect parts p o fault
+abbrev pub IsHintingDefect : Hinting → GlyphProgram → Outline → Fault → Type 0
+IsHintingDefect off p o fault = ⊥
+IsHintingDefect (ready parts) p o fault = IsProgramDefect parts p o fault
 
 -- a glyph that can be read has no outline: a phantom point, a point or a record is bad, or its program
 abbrev pub IsMakingDefect : Fitter → (Record → Outline → Result Outline Fault)
@@ -109,11 +111,11 @@ IsMakingDefect s add IsOne g empty fault = IsStartDefect s (pos 0) g fault
 IsMakingDefect s add IsOne g (simple d) fault =
     IsStartDefect s d.x_min g fault ⊎ IsScaledDefect (size_of s) (glyph_offset s.tables g) d.points fault
     ⊎ IsOkAnd (start s d.x_min g >>= scaled_outline (size_of s) (glyph_offset s.tables g) d.points d.ends) (λ o.
-    IsFinishingDefect s.hints (glyph_program s g d.code d.code_at) o fault)
+    IsHintingDefect s.hinting (glyph_program s g d.code d.code_at) o fault)
 IsMakingDefect s add IsOne g (composite d) fault =
     IsStartDefect s d.x_min g fault ⊎ IsRecordsDefect add IsOne (start s d.x_min g) d.records fault
     ⊎ IsOkAnd (start s d.x_min g >>= joined add d.records) (λ o.
-    IsFinishingDefect s.hints (glyph_program s g d.code d.code_at) o fault)
+    IsHintingDefect s.hinting (glyph_program s g d.code d.code_at) o fault)
 
 -- a glyph cannot be read, or has no outline
 abbrev pub IsDefectBy : Fitter → (Record → Outline → Result Outline Fault)
@@ -134,6 +136,6 @@ IsBadComponent s (suc levels) r before fault =
 abbrev pub IsDefectAt : Fitter → ℕ → ℕ → Fault → Type 0
 IsDefectAt s levels g fault = IsDefectBy s (added s levels) (IsBadComponent s levels) g fault
 
--- one of a character's glyph, as it is made: where programs are given up for it, a defect that stands without them
+-- one of a character's glyph, as it is made: of an unfitted one, a defect that stands without programs
 unfoldable pub IsOutlineDefect : Fitter → ℕ → Fault → Type 0
 IsOutlineDefect s g fault = IsDefectAt (glyph_fitter s g) level_limit g fault

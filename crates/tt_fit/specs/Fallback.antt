@@ -1,33 +1,33 @@
--- No part of the standard: for which glyphs a font's programs are given up, so that they are made with their scaled
--- points (profile).
+-- No part of the standard: which glyphs are unfitted, that is made with their scaled points, since a program of the
+-- font is refused (profile).
 use Rattle.std.specs.Prelude.{◌≡◌, Bool, true, false, ◌&&◌, nat_le, if◌then◌else◌, codes, Option, Some, None, Result, Ok, Err, refl}
 use Rattle.tt_core.specs.declared.fault.Why.TheVariants as why
 use Rattle.tt_core.specs.Faults.{Fault, fault_at, why_number}
 use Rattle.tt_fit.specs.Outline.{Outline}
-use Rattle.tt_fit.specs.Programs.{Hints, unhinted}
+use Rattle.tt_fit.specs.Hinting.{Hinting, off}
 
 -- a fault of a program; the numbers below are those of the font's tables
 unfoldable pub is_program_fault : Fault → Bool
 is_program_fault fault = nat_le 30 (why_number fault.why) && nat_le (why_number fault.why) 50
 
--- programs are given up for no glyph, for each whose own or whose component's program is refused, or, by a fault of
--- the font program or the control value program, for every glyph
+-- no glyph is unfitted; or each whose own or whose component's program is refused; or, by a fault of the font program
+-- or the control value program, every glyph
 pub data Fallback : Type 0 where
   never : Fallback
   where_refused : Fallback
   everywhere : Fault → Fallback
 
--- the fault for which they are, by what the outline with them is
+-- the fault for which a glyph is unfitted, by what its outline with its program is
 abbrev pub unfitted_by : Fallback → Result Outline Fault → Option Fault
 unfitted_by never by_programs = None
 unfitted_by where_refused (Ok o) = None
 unfitted_by where_refused (Err fault) = if is_program_fault fault then Some fault else None
 unfitted_by (everywhere fault) by_programs = Some fault
 
--- what a glyph is made with, where they are given up for this fault, or for none
-abbrev pub hints_kept : Option Fault → Hints → Hints
-hints_kept None hints = hints
-hints_kept (Some fault) hints = unhinted
+-- what a glyph is made with, where it is unfitted for this fault, or for none
+abbrev pub hinting_for : Option Fault → Hinting → Hinting
+hinting_for None hinting = hinting
+hinting_for (Some fault) hinting = off
 
 -- worked values: the last fault of a table, the first and the last one of a program
 coordinate_is_of_a_table : is_program_fault (fault_at (codes "glyf") 0 why.CoordRange) ≡ false

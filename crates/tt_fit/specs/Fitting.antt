@@ -18,20 +18,22 @@ use Rattle.tt_glyf.specs.Simple.{end_at, ends_from, points_within, points_of, si
 use Rattle.tt_metrics.specs.declared.head.LocaFormat.TheVariants.{Short}
 use Rattle.tt_glyf.specs.Raw.{Raw, empty, simple, composite}
 use Rattle.tt_metrics.specs.Metrics.{Metrics, units_per_em_of, loca_format_of, glyphs_of}
-use Rattle.tt_fit.specs.Components.{placed, behind, shift_of, within_point_limit}
-use Rattle.tt_fit.specs.Fallback.{Fallback, never, unfitted_by, hints_kept}
+use Rattle.tt_fit.specs.Component.{shift_of}
+use Rattle.tt_fit.specs.Joining.{placed, appended, within_point_limit}
+use Rattle.tt_fit.specs.Fallback.{Fallback, never, unfitted_by, hinting_for}
 use Rattle.tt_fit.specs.Outline.{PhantomPoints, Outline}
 use Rattle.tt_fit.specs.GlyphZone.{GlyphProgram}
-use Rattle.tt_fit.specs.Programs.{Hints, unhinted, AreHints, finished}
-use Rattle.tt_fit.specs.Scaling.{Size, glyf_fault, phantom_points, blank, scaled_outline, settled}
+use Rattle.tt_fit.specs.Hinting.{Hinting, off, IsHinting, hinted}
+use Rattle.tt_fit.specs.Scaling.{glyf_fault, phantom_points, blank, scaled_outline, settled}
+use Rattle.tt_fit.specs.Size.{FontSize}
 
 -- what outlines are made from: the glyph data and the metrics of a font, the pixels per em, what its programs leave,
--- and for which glyphs that is given up
+-- and which glyphs are unfitted
 pub record Fitter : Type 0 where
   pub tables : Glyf
   pub metrics : Metrics
   pub ppem : ℕ
-  pub hints : Hints
+  pub hinting : Hinting
   pub fallback : Fallback
 
 -- the glyph data is that of the metrics, the size is one that is supported, and what the programs leave is what they
@@ -41,13 +43,13 @@ pub record IsFitter (s : Fitter) : Type 0 where
   pub glyphs : s.tables.glyphs ≡ glyphs_of s.metrics
   pub low : 1 ≤ s.ppem
   pub high : s.ppem ≤ size_limit
-  pub hints : AreHints s.hints
+  pub hinting : IsHinting s.hinting
 
--- the same, but for what the programs leave, which is given up for no glyph
-abbrev pub hinted_by : Fitter → Hints → Fitter
-hinted_by s hints = record s { hints = hints; fallback = never }
+-- the same with this in place of what the programs leave, and no glyph unfitted
+abbrev pub with_hinting : Fitter → Hinting → Fitter
+with_hinting s hinting = record s { hinting = hinting; fallback = never }
 
-abbrev pub size_of : Fitter → Size
+abbrev pub size_of : Fitter → FontSize
 size_of s = record { ppem = s.ppem; units_per_em = units_per_em_of s.metrics }
 
 -- a glyph without points, whose outline in font units begins at this x
@@ -65,13 +67,13 @@ glyph_program s g code code_at = record { code = code; code_at = code_at; glyph_
 -- the outline of a simple glyph, begun without points: its points scaled, and its program over them
 abbrev pub simple_outline : Fitter → ℕ → List RawPoint → List ℕ → GlyphProgram → Outline → Result Outline Fault
 simple_outline s g points ends program o = scaled_outline (size_of s) (glyph_offset s.tables g) points ends o >>=
-    finished s.hints program
+    hinted s.hinting program
 
 -- the outline of a glyph, by what a record adds to the outline so far
 abbrev pub made : Fitter → (Record → Outline → Result Outline Fault) → ℕ → Raw → Result Outline Fault
 made s add g empty = start s (pos 0) g
 made s add g (simple d) = start s d.x_min g >>= simple_outline s g d.points d.ends (glyph_program s g d.code d.code_at)
-made s add g (composite d) = start s d.x_min g >>= joined add d.records >>= finished s.hints
+made s add g (composite d) = start s d.x_min g >>= joined add d.records >>= hinted s.hinting
     (glyph_program s g d.code d.code_at)
 
 abbrev pub outline_by : Fitter → (Record → Outline → Result Outline Fault) → ℕ → Result Outline Fault
@@ -88,11 +90,11 @@ outline_at s levels g = outline_by s (added s levels) g
 
 -- the fault for which a character's glyph is made with its scaled points, its components too
 unfoldable pub unfitted_fault : Fitter → ℕ → Option Fault
-unfitted_fault s g = unfitted_by s.fallback (outline_at (hinted_by s s.hints) level_limit g)
+unfitted_fault s g = unfitted_by s.fallback (outline_at (with_hinting s s.hinting) level_limit g)
 
 -- what a character's glyph is made from
 abbrev pub glyph_fitter : Fitter → ℕ → Fitter
-glyph_fitter s g = hinted_by s (hints_kept (unfitted_fault s g) s.hints)
+glyph_fitter s g = with_hinting s (hinting_for (unfitted_fault s g) s.hinting)
 
 -- the outline of a character's glyph, or the fault that comes first
 unfoldable pub fitted_outline : Fitter → ℕ → Result Outline Fault
@@ -107,7 +109,7 @@ its_metrics = record {
   hmtx = 1 ∷ 0 ∷ 0 ∷ 0 ∷ 0 ∷ 64 ∷ 0 ∷ 0 ∷ [];
 }
 
--- glyph 0 is empty, glyph 1 a square of four points, (64,0), (64,128), (192,128), (192,0), and glyph 2 is behind it
+-- glyph 0 is empty, glyph 1 a square of four points, (64,0), (64,128), (192,128), (192,0), and glyph 2 is after it
 abbrev its_setting : List ℕ → Fitter
 its_setting third = record {
   tables = record {
@@ -119,7 +121,7 @@ its_setting third = record {
   };
   metrics = its_metrics;
   ppem = 16;
-  hints = unhinted;
+  hinting = off;
   fallback = never;
 }
 
@@ -152,7 +154,7 @@ squares_are_joined : fitted_outline (its_setting two_squares) 2 ≡ Ok (record {
   ends = 4 ∷ 8 ∷ [];
   phantom = its_phantom_points (pos 0);
 })
-unfolding fitted_outline unfitted_fault added placed behind shift_of within_point_limit glyph_data_of glyph_bytes_of header_of described
+unfolding fitted_outline unfitted_fault added placed appended shift_of within_point_limit glyph_data_of glyph_bytes_of header_of described
     composite_of records_from record_at known_glyph arguments_at argument_at transform_at unscaled program_of simple_of
     ends_from end_at points_within points_of flags_from run_at coordinates_from coordinate_at within_words delta_at
     byte_in word_in signed_in slice_in blank scaled_outline settled

@@ -3,9 +3,7 @@
 use Rattle.std.specs.Prelude.{◌≡◌, ℕ, Bool, ◌&&◌, true, false, if◌then◌else◌, ℤ, pos, negsuc, List, [], ◌∷◌, ◌++◌, length, map, take, drop, Result, Ok, Err, refl}
 use Rattle.tt_core.specs.Faults.{Fault}
 use Rattle.tt_exec.specs.MachineState.{Code}
-use Rattle.tt_exec.specs.Parts.{Parts}
 use Rattle.tt_glyf.specs.Bytes.{glyf_tag}
-use Rattle.tt_points_zones.specs.Zones.{ZoneLists}
 use Rattle.tt_state.specs.declared.point.Point.{Point}
 use Rattle.tt_fit.specs.Outline.{PhantomPoints, phantom_of, Outline}
 use Rattle.tt_fit.specs.Scaling.{to_grid, is_coordinate, coordinate_fault}
@@ -51,7 +49,7 @@ phantom_zone was now =
     untouched was.left now.left true ∷ untouched was.right now.right true ∷ untouched was.ascent now.ascent true
     ∷ untouched was.descent now.descent true ∷ []
 
--- the points of the outline, and the phantom points behind them
+-- the points of the outline, and the phantom points after them
 abbrev pub glyph_zone : Outline → PhantomPoints → List Point
 glyph_zone o grid = map outline_point o.points ++ phantom_zone o.phantom grid
 
@@ -60,21 +58,13 @@ abbrev pub contours_from : ℕ → List ℕ → List (ℕ × ℕ)
 contours_from first [] = []
 contours_from first (end ∷ ends) = (first, end) ∷ contours_from end ends
 
-abbrev pub zones_of : List Point → Outline → PhantomPoints → ZoneLists
-zones_of twilight o grid =
-    record { twilight = twilight; glyph = glyph_zone o grid; contours = contours_from 0 o.ends }
-
--- what a machine is made of when a glyph's program begins
-abbrev pub parts_with : Parts → Outline → PhantomPoints → Parts
-parts_with parts o grid = record parts { zones = zones_of parts.zones.twilight o grid }
-
 abbrev pub place_of : Point → ℤ × ℤ
 place_of p = (p.x, p.y)
 
 abbrev pub seen : Point → ℤ × ℤ × Bool
 seen p = (p.x, p.y, p.on)
 
--- the outline whose points stand in the glyph zone, the phantom points behind them
+-- the outline whose points stand in the glyph zone, the phantom points after them
 abbrev pub left_outline : Outline → List Point → Outline
 left_outline o zone = record {
   points = map seen (take (length o.points) zone);

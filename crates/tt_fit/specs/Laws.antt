@@ -1,4 +1,4 @@
--- Laws of the definitions: an outline that is given has no defect, and a fault is one; where programs are given up,
+-- Laws of the definitions: an outline that is given has no defect, and a fault is one; with Fallback
 -- what is made is what the other two ways of fitting make.
 use Rattle.std.specs.Prelude.{◌≡◌, ◌≢◌, ℕ, true, false, Some, None, Result, Ok, Err}
 use Rattle.tt_core.specs.Directory.{HasNo}
@@ -49,13 +49,13 @@ FallbackRefuses = (m : Metrics) (tables : Glyf) (programs : ProgramTables) (ppem
     → (fitted_outline s g ≡ Err fault) × (unfitted_fault s g ≡ None)
 
 -- a fault of the font program or the control value program is one of every glyph
-abbrev pub FallbackKeeps : Type 0
-FallbackKeeps = (m : Metrics) (tables : Glyf) (programs : ProgramTables) (ppem : ℕ) (s : Fitter) (g : ℕ)
+abbrev pub FallbackUnfitsAll : Type 0
+FallbackUnfitsAll = (m : Metrics) (tables : Glyf) (programs : ProgramTables) (ppem : ℕ) (s : Fitter) (g : ℕ)
     (fault : Fault) → fitter_of m tables programs ppem fit.Fallback ≡ Ok s
     → fitter_of m tables programs ppem fit.Full ≡ Err fault
     → (fitted_outline s g ≡ outline_with m tables programs ppem fit.None g) × (unfitted_fault s g ≡ Some fault)
 
--- with another way of fitting programs are given up for no glyph
+-- with another way of fitting no glyph is unfitted
 abbrev pub OthersNeverFallBack : Type 0
 OthersNeverFallBack = (m : Metrics) (tables : Glyf) (programs : ProgramTables) (ppem : ℕ) (how : Fit)
     (s : Fitter) (g : ℕ) → fitter_of m tables programs ppem how ≡ Ok s → how ≢ fit.Fallback

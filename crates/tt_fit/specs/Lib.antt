@@ -1,12 +1,15 @@
-pub mod Components
+pub mod Component
 pub mod Defects
 pub mod Fallback
 pub mod Fitting
 pub mod GlyphZone
+pub mod Hinting
+pub mod Joining
 pub mod Laws
 pub mod Outline
+pub mod Parts
 pub mod Preparation
-pub mod Programs
 pub mod Refusals
 pub mod Scaling
+pub mod Size
 pub mod Views

@@ -15,12 +15,14 @@ use Rattle.tt_glyf.specs.Simple.{end_at, ends_from, points_within, points_of, si
 use Rattle.tt_metrics.specs.declared.head.LocaFormat.TheVariants.{Short}
 use Rattle.tt_metrics.specs.Metrics.{Metrics}
 use Rattle.tt_fit.specs.declared.programs.Fit.TheVariants as fit
-use Rattle.tt_fit.specs.Components.{placed, behind, shift_of, within_point_limit}
+use Rattle.tt_fit.specs.Component.{shift_of}
+use Rattle.tt_fit.specs.Joining.{placed, appended, within_point_limit}
 use Rattle.tt_fit.specs.Fallback.{Fallback, never, where_refused, everywhere, is_program_fault}
 use Rattle.tt_fit.specs.Fitting.{Fitter, added, fitted_outline, unfitted_fault}
 use Rattle.tt_fit.specs.GlyphZone.{on_grid_at}
-use Rattle.tt_fit.specs.Preparation.{ProgramTables, begun_parts, hinted_by_programs, prepared}
-use Rattle.tt_fit.specs.Programs.{unhinted, hinted, run_of, by_program}
+use Rattle.tt_fit.specs.Preparation.{ProgramTables, left_by_programs, prepared}
+use Rattle.tt_fit.specs.Parts.{begun_parts}
+use Rattle.tt_fit.specs.Hinting.{off, ready, run_of, by_program}
 use Rattle.tt_fit.specs.Scaling.{blank, scaled_outline, settled}
 
 abbrev its_metrics : Metrics
@@ -42,7 +44,7 @@ its_setting fallback = record {
   };
   metrics = its_metrics;
   ppem = 16;
-  hints = hinted (begun_parts its_metrics [] 16);
+  hinting = ready (begun_parts its_metrics [] 16);
   fallback = fallback;
 }
 
@@ -80,7 +82,7 @@ composite_is_scaled : fitted_outline (its_setting where_refused) 2 ≡ Ok (recor
     descent = (pos 0, neg_ℤ (pos 256));
   };
 })
-unfolding fitted_outline unfitted_fault added placed behind shift_of within_point_limit glyph_data_of glyph_bytes_of
+unfolding fitted_outline unfitted_fault added placed appended shift_of within_point_limit glyph_data_of glyph_bytes_of
     header_of described simple_of ends_from end_at points_within points_of flags_from run_at coordinates_from
     coordinate_at within_words delta_at byte_in word_in signed_in slice_in blank scaled_outline settled by_program
     on_grid_at run_of run_outcome run_within composite_of records_from record_at known_glyph arguments_at argument_at
@@ -100,15 +102,15 @@ abbrev font_fault : Fault
 font_fault = fault_at (codes "fpgm") 0 why.OffProfile
 
 font_program_is_refused : prepared its_metrics its_programs 16 fit.Full ≡ Err font_fault
-unfolding prepared hinted_by_programs run_of run_outcome run_within
+unfolding prepared left_by_programs run_of run_outcome run_within
 font_program_is_refused = refl
 
-its_fault_is_kept : prepared its_metrics its_programs 16 fit.Fallback ≡ Ok
-    (record { hints = unhinted; fallback = everywhere font_fault })
-unfolding prepared hinted_by_programs run_of run_outcome run_within
-its_fault_is_kept = refl
+by_it_every_glyph_is_unfitted : prepared its_metrics its_programs 16 fit.Fallback ≡ Ok
+    (record { hinting = off; fallback = everywhere font_fault })
+unfolding prepared left_by_programs run_of run_outcome run_within
+by_it_every_glyph_is_unfitted = refl
 
--- it gives up programs for a glyph that has none as well
+-- by it a glyph that has no program is unfitted as well
 empty_is_unfitted : unfitted_fault (its_setting (everywhere font_fault)) 0 ≡ Some font_fault
 unfolding unfitted_fault
 empty_is_unfitted = refl

@@ -6,7 +6,6 @@ use Rattle.tt_core.specs.declared.fault.Why.{Why}
 use Rattle.tt_core.specs.declared.fault.Why.TheVariants as why
 use Rattle.tt_core.specs.Faults.{fault_at}
 use Rattle.tt_core.specs.Limits.{coordinate_limit}
-use Rattle.tt_core.specs.Numbers.{scaled}
 use Rattle.tt_core.specs.Outcomes.{◌>>=◌, each}
 use Rattle.tt_glyf.specs.Bytes.{glyf_tag}
 use Rattle.tt_glyf.specs.declared.raw.RawPoint.{RawPoint}
@@ -14,15 +13,7 @@ use Rattle.tt_metrics.specs.Metrics.{Metrics, ascent_of, descent_of, advance_of,
 use Rattle.tt_state.specs.declared.rounding.Round.TheVariants as round
 use Rattle.tt_state.specs.Rounding.{rounded}
 use Rattle.tt_fit.specs.Outline.{PhantomPoints, Outline}
-
--- pixels per em, and font units in an em
-pub record Size : Type 0 where
-  pub ppem : ℕ
-  pub units_per_em : ℕ
-
--- font units as 26.6 pixels
-abbrev pub scale : Size → ℤ → ℤ
-scale z v = scaled v z.ppem z.units_per_em
+use Rattle.tt_fit.specs.Size.{FontSize, scale}
 
 -- a distance to whole pixels
 abbrev pub to_grid : ℤ → ℤ
@@ -44,16 +35,16 @@ coordinate_fault at = glyf_fault at why.CoordRange
 unfoldable pub settled : ℕ → ℤ × ℤ × Bool → Result (ℤ × ℤ × Bool) Fault
 settled at p = if is_coordinate p.0 && is_coordinate p.1 then Ok p else Err (coordinate_fault at)
 
-abbrev pub scaled_position : Size → RawPoint → ℤ × ℤ × Bool
+abbrev pub scaled_position : FontSize → RawPoint → ℤ × ℤ × Bool
 scaled_position z p = (scale z p.x, scale z p.y, p.on)
 
 -- a point of a glyph that begins at this offset in glyf
-abbrev pub scaled_point : Size → ℕ → RawPoint → Result (ℤ × ℤ × Bool) Fault
+abbrev pub scaled_point : FontSize → ℕ → RawPoint → Result (ℤ × ℤ × Bool) Fault
 scaled_point z at p = settled at (scaled_position z p)
 
 -- the left and right ends of the advance, the ascent and the descent; each number is scaled as one (profile for the
 -- last two)
-abbrev pub phantom_points : Size → Metrics → ℤ → ℕ → PhantomPoints
+abbrev pub phantom_points : FontSize → Metrics → ℤ → ℕ → PhantomPoints
 phantom_points z m x_min g = record {
   left = (scale z (x_min -ℤ left_side_bearing_of m g), pos 0);
   right = (scale z (x_min -ℤ left_side_bearing_of m g +ℤ pos (advance_of m g)), pos 0);
@@ -73,12 +64,12 @@ blank at phantom = if are_positions phantom then Ok (record { points = []; ends 
     (coordinate_fault at)
 
 -- an outline with these points; each contour's last point is given
-unfoldable pub scaled_outline : Size → ℕ → List RawPoint → List ℕ → Outline → Result Outline Fault
+unfoldable pub scaled_outline : FontSize → ℕ → List RawPoint → List ℕ → Outline → Result Outline Fault
 scaled_outline z at points ends o = each (scaled_point z at) points >>= λ ps. Ok
     (record o { points = ps; ends = map (λ e. e + 1) ends })
 
 -- worked values: 256 units in an em, at 16 pixels
-its_size : Size
+its_size : FontSize
 its_size = record { ppem = 16; units_per_em = 256 }
 
 a_scaled_point : scaled_point its_size 0 (record { x = pos 64; y = neg_ℤ (pos 128); on = true })

@@ -5,13 +5,13 @@ ghost use Rattle.tt_core.specs.Numbers.{rounded_quotient};
 ghost use Rattle.tt_core.specs.Outcomes.{Gives};
 ghost use Rattle.tt_glyf.specs.Composite.{one};
 ghost use Rattle.tt_glyf.specs.Meaning.{HasArguments};
-ghost use Rattle.tt_fit.specs.Components.{transformed, offset_along, offset_of, point_of, onto, matched_by, shift_of, landed, placed_point};
+ghost use Rattle.tt_fit.specs.Component.{transformed, offset_along, offset_of, point_of, onto, matched_by, shift_of, landed, placed_point};
 ghost use Rattle.tt_fit.specs.Outline.{IsPoint};
 ghost use Rattle.tt_fit.specs.Views.{size_view, landing_view, position_view, shift_view};
 
-use crate::places::{Position, Shift};
+use crate::position::{Position, Shift};
 use crate::scaling::{Landing, glyf_fault, settled};
-use crate::size::Size;
+use crate::size::FontSize;
 use tt_core::{Fault, Why, rq};
 use tt_glyf::{ComponentFlags, Record};
 use tt_state::Round;
@@ -59,7 +59,7 @@ fn transformed(part: Record, point: (i32, i32, bool)) -> Position
 }
 
 /// An argument as an offset.
-fn offset_along(size: Size, part: Record, v: i32) -> i64
+fn offset_along(size: FontSize, part: Record, v: i32) -> i64
     requires { unsigned_abs v ≤ 2 ^ 15 }
     ensures exact { result ≡ offset_along (size_view size) part v }
     ensures bound { unsigned_abs result < 2 ^ 47 }
@@ -72,7 +72,7 @@ fn offset_along(size: Size, part: Record, v: i32) -> i64
     }
 }
 
-fn offset_of(size: Size, part: Record) -> Shift
+fn offset_of(size: FontSize, part: Record) -> Shift
     requires x { unsigned_abs part.arg1 ≤ 2 ^ 15 }
     requires y { unsigned_abs part.arg2 ≤ 2 ^ 15 }
     ensures { shift_view result ≡ offset_of (size_view size) part }
@@ -104,9 +104,9 @@ fn onto(part: Record, point: (i32, i32, bool), target: (i32, i32, bool)) -> Shif
 }
 
 /// How far a component is moved, where these points are assembled so far. Error: MatchPoint.
-#[tactic(auto, unfolding(crate::specs::Components::shift_of))]
+#[tactic(auto, unfolding(crate::specs::Component::shift_of))]
 pub(crate) fn shift_of(
-    size: Size,
+    size: FontSize,
     part: Record,
     component: &[(i32, i32, bool)],
     points: &[(i32, i32, bool)],

@@ -1,4 +1,4 @@
-//! For which glyphs the font's programs are given up.
+//! Which glyphs are unfitted: made with their scaled points, since a program of the font is refused.
 
 ghost use Rattle.std.specs.Prelude.{◌≡◌};
 ghost use Rattle.tt_core.specs.Outcomes.{font_fault};
@@ -6,14 +6,14 @@ ghost use Rattle.tt_fit.specs.Fallback.{is_program_fault};
 
 use tt_core::{Fault, FontFault};
 
-/// For which glyphs the font's programs are given up, and points are scaled only.
+/// Which glyphs are unfitted, that is have their points scaled only.
 #[derive(Clone, Copy)]
 pub(crate) enum Fallback {
-    /// For none.
+    /// None: a fault of a program is the answer.
     Never,
-    /// For each whose own or whose component's program is refused.
+    /// Each whose own or whose component's program is refused.
     WhereRefused,
-    /// For every one, by this fault of the font program or the control value program.
+    /// Every one, by this fault of the font program or the control value program.
     Everywhere(Fault),
 }
 

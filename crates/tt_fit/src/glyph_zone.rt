@@ -16,7 +16,7 @@ use tt_state::{Point, Round};
 
 /// A glyph's program.
 #[derive(Clone, Copy)]
-pub(crate) struct Program<'a> {
+pub(crate) struct GlyphProgram<'a> {
     pub(crate) code: &'a [u8],
     /// Its offset in glyf.
     pub(crate) code_at: u32,
@@ -61,7 +61,7 @@ fn along_y(at: u32, p: (i32, i32)) -> Result<(i32, i32), Fault>
 pub(crate) fn on_grid(at: u32, phantom: &[(i32, i32); 4]) -> Result<[(i32, i32); 4], Fault>
     requires { ArePhantom (phantom_of phantom.now) }
     ensures exact { Gives phantom_of result (on_grid_at at (phantom_of phantom.now)) }
-    ensures sound { IfOk result (λ p. ArePhantom (phantom_of p)) }
+    ensures valid { IfOk result (λ p. ArePhantom (phantom_of p)) }
 {
     let left = along_x(at, phantom[0])?;
     let right = along_x(at, phantom[1])?;
@@ -88,7 +88,7 @@ pub(crate) fn untouched(org: (i32, i32), now: (i32, i32), on: bool) -> Point
 fn outline_point(point: (i32, i32, bool)) -> Point
     requires { IsPoint point }
     ensures exact { result ≡ outline_point point }
-    ensures sound { IsZonePoint result }
+    ensures valid { IsZonePoint result }
 {
     untouched((point.0, point.1), (point.0, point.1), point.2)
 }
@@ -97,7 +97,7 @@ fn outline_point(point: (i32, i32, bool)) -> Point
 fn outline_points(alloc: Global, points: &[(i32, i32, bool)]) -> Result<Vec<Point>, AllocError>
     requires { All IsPoint points.now }
     ensures exact { IfOk result (λ v. v.items ≡ map outline_point points.now) }
-    ensures sound { IfOk result (λ v. All IsZonePoint v.items) }
+    ensures valid { IfOk result (λ v. All IsZonePoint v.items) }
 {
     let mut zone = Vec::with_capacity(alloc, points.len().saturating_add(4))?;
     for point in points {
@@ -106,20 +106,20 @@ fn outline_points(alloc: Global, points: &[(i32, i32, bool)]) -> Result<Vec<Poin
     Ok(zone)
 }
 
-/// A phantom point behind the points of a zone: where it was, and where it is.
+/// A phantom point after the points of a zone: where it was, and where it is.
 #[tactic(auto, using(crate::proofs::Zones::one_more))]
 fn push_phantom(zone: &mut Vec<Point>, was: (i32, i32), now: (i32, i32)) -> Result<(), AllocError>
     requires zone { All IsZonePoint zone.old.items }
     requires was { IsPosition was }
     requires now { IsPosition now }
     ensures exact { OnOk result (zone.new.items ≡ zone.old.items ++ untouched was now true ∷ []) }
-    ensures sound { OnOk result (All IsZonePoint zone.new.items) }
+    ensures valid { OnOk result (All IsZonePoint zone.new.items) }
 {
     zone.push(untouched(was, now, true))?;
     Ok(())
 }
 
-/// The points of an outline, and behind them its phantom points, which have gone to the grid.
+/// The points of an outline, and after them its phantom points, which have gone to the grid.
 pub(crate) fn glyph_zone(
     alloc: Global,
     outline: &Outline,
@@ -128,7 +128,7 @@ pub(crate) fn glyph_zone(
     requires outline { IsOutline (outline_of outline.now) }
     requires grid { ArePhantom (phantom_of grid.now) }
     ensures exact { IfOk result (λ v. v.items ≡ glyph_zone (outline_of outline.now) (phantom_of grid.now)) }
-    ensures sound { IfOk result (λ v. All IsZonePoint v.items) }
+    ensures valid { IfOk result (λ v. All IsZonePoint v.items) }
 {
     let mut zone = outline_points(alloc, &outline.points)?;
     let was = &outline.phantom;
@@ -155,7 +155,7 @@ pub(crate) fn contours(alloc: Global, ends: &[u32]) -> Result<Vec<(u32, u32)>, A
 fn seen(point: Point) -> (i32, i32, bool)
     requires { IsZonePoint point }
     ensures exact { result ≡ seen point }
-    ensures sound { IsPoint result }
+    ensures valid { IsPoint result }
 {
     (point.x, point.y, point.on)
 }
@@ -163,7 +163,7 @@ fn seen(point: Point) -> (i32, i32, bool)
 fn place_of(point: Point) -> (i32, i32)
     requires { IsZonePoint point }
     ensures exact { result ≡ place_of point }
-    ensures sound { IsPosition result }
+    ensures valid { IsPosition result }
 {
     (point.x, point.y)
 }
@@ -172,7 +172,7 @@ fn place_of(point: Point) -> (i32, i32)
 fn seen_points(alloc: Global, zone: &[Point]) -> Result<Vec<(i32, i32, bool)>, AllocError>
     requires { All IsZonePoint zone.now }
     ensures exact { IfOk result (λ v. v.items ≡ map seen zone.now) }
-    ensures sound { IfOk result (λ v. All IsPoint v.items) }
+    ensures valid { IfOk result (λ v. All IsPoint v.items) }
 {
     let mut points = Vec::with_capacity(alloc, zone.len())?;
     for point in zone {
@@ -186,7 +186,7 @@ fn seen_phantom(zone: &[Point]) -> [(i32, i32); 4]
     requires count { length zone.now ≡ 4 }
     requires zone { All IsZonePoint zone.now }
     ensures exact { phantom_of result ≡ phantom_of (map place_of zone.now) }
-    ensures sound { ArePhantom (phantom_of result) }
+    ensures valid { ArePhantom (phantom_of result) }
 {
     [
         place_of(zone[0]),
@@ -196,7 +196,7 @@ fn seen_phantom(zone: &[Point]) -> [(i32, i32); 4]
     ]
 }
 
-/// The outline whose points stand in the glyph zone, its phantom points behind them.
+/// The outline whose points stand in the glyph zone, its phantom points after them.
 pub(crate) fn left_outline(
     alloc: Global,
     outline: Outline,
@@ -206,7 +206,7 @@ pub(crate) fn left_outline(
     requires count { length zone.now ≡ length outline.points.items + 4 }
     requires zone { All IsZonePoint zone.now }
     ensures exact { IfOk result (λ o. outline_of o ≡ left_outline (outline_of outline) zone.now) }
-    ensures sound { IfOk result (λ o. IsOutline (outline_of o)) }
+    ensures valid { IfOk result (λ o. IsOutline (outline_of o)) }
 {
     let (own, phantom) = zone.split_at(outline.points.len());
     let points = seen_points(alloc, own)?;

@@ -4,15 +4,16 @@ ghost use Rattle.std.specs.Prelude.{◌≡◌, ◌+◌, ◌<◌, ◌≤◌, ◌+
 ghost use Rattle.tt_core.specs.Limits.{point_limit};
 ghost use Rattle.tt_core.specs.Outcomes.{after_each, FontGives, Leaves};
 ghost use Rattle.tt_glyf.specs.Meaning.{HasArguments};
-ghost use Rattle.tt_fit.specs.Components.{placed_point, ends_after, behind, placed};
+ghost use Rattle.tt_fit.specs.Component.{placed_point};
+ghost use Rattle.tt_fit.specs.Joining.{ends_after, appended, placed};
 ghost use Rattle.tt_fit.specs.Outline.{outline_of, IsPoint, IsOutline};
 ghost use Rattle.tt_fit.specs.Views.{size_view, shift_view};
 
 use crate::component::{placed_point, shift_of};
 use crate::outline::Outline;
-use crate::places::Shift;
+use crate::position::Shift;
 use crate::scaling::glyf_fault;
-use crate::size::Size;
+use crate::size::FontSize;
 use std::alloc::AllocError;
 use tt_core::{FontFault, POINT_LIMIT, Why};
 use tt_glyf::{ComponentFlags, Record};
@@ -27,7 +28,7 @@ fn push_placed(
 ) -> Result<(), FontFault>
     requires { All IsPoint points.old.items }
     ensures exact { Leaves result points.new.items (after_each (placed_point part (shift_view by)) component.now points.old.items) }
-    ensures many { OnOk result (length points.new.items ≡ length points.old.items + length component.now) }
+    ensures count { OnOk result (length points.new.items ≡ length points.old.items + length component.now) }
     ensures coordinates { OnOk result (All IsPoint points.new.items) }
 {
     points.reserve(component.len())?;
@@ -37,7 +38,7 @@ fn push_placed(
     Ok(())
 }
 
-/// The ends of a component's contours, behind so many points.
+/// The ends of a component's contours, where so many points stand before them.
 fn push_ends(ends: &mut Vec<u32>, points: u32, component: &[u32]) -> Result<(), AllocError>
     requires points { points ≤ point_limit }
     requires component { All (λ e. e ≤ point_limit) component.now }
@@ -49,9 +50,9 @@ fn push_ends(ends: &mut Vec<u32>, points: u32, component: &[u32]) -> Result<(), 
     Ok(())
 }
 
-/// A component moved so far, behind what is assembled before it. Errors: CoordRange, PointLimit, Memory.
-#[tactic(auto, unfolding(crate::specs::Components::behind, crate::specs::Components::within_point_limit))]
-fn behind(
+/// A component moved by so much, added to what is assembled before it. Errors: CoordRange, PointLimit, Memory.
+#[tactic(auto, unfolding(crate::specs::Joining::appended, crate::specs::Joining::within_point_limit))]
+fn appended(
     part: Record,
     by: Shift,
     component: &Outline,
@@ -59,8 +60,8 @@ fn behind(
 ) -> Result<Outline, FontFault>
     requires component { IsOutline (outline_of component.now) }
     requires so_far { IsOutline (outline_of so_far) }
-    ensures exact { FontGives outline_of result (behind part (shift_view by) (outline_of component.now) (outline_of so_far)) }
-    ensures sound { IfOk result (λ o. IsOutline (outline_of o)) }
+    ensures exact { FontGives outline_of result (appended part (shift_view by) (outline_of component.now) (outline_of so_far)) }
+    ensures valid { IfOk result (λ o. IsOutline (outline_of o)) }
 {
     let Outline {
         mut points,
@@ -87,10 +88,10 @@ fn behind(
     })
 }
 
-/// A component placed behind what is assembled so far. Errors: MatchPoint, CoordRange, PointLimit, Memory.
-#[tactic(auto, unfolding(crate::specs::Components::placed))]
+/// A component placed and added to what is assembled so far. Errors: MatchPoint, CoordRange, PointLimit, Memory.
+#[tactic(auto, unfolding(crate::specs::Joining::placed))]
 pub(crate) fn placed(
-    size: Size,
+    size: FontSize,
     part: Record,
     component: &Outline,
     so_far: Outline,
@@ -99,8 +100,8 @@ pub(crate) fn placed(
     requires component { IsOutline (outline_of component.now) }
     requires so_far { IsOutline (outline_of so_far) }
     ensures exact { FontGives outline_of result (placed (size_view size) part (outline_of component.now) (outline_of so_far)) }
-    ensures sound { IfOk result (λ o. IsOutline (outline_of o)) }
+    ensures valid { IfOk result (λ o. IsOutline (outline_of o)) }
 {
     let by = shift_of(size, part, &component.points, &so_far.points)?;
-    behind(part, by, component, so_far)
+    appended(part, by, component, so_far)
 }

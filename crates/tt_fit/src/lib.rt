@@ -1,21 +1,23 @@
-//! Outlines of glyphs at a size: scaled, and composites assembled from their components.
+//! Outlines of glyphs at a size: points are scaled, components joined, and the font's programs run over them.
 #![tactic(auto)]
 
 mod component;
 mod fallback;
-mod fitter;
+mod fitting;
 mod glyph_zone;
-mod hints;
+mod hinting;
 mod joining;
 pub mod laws;
 mod outline;
-mod places;
+mod parts;
+mod position;
 mod preparation;
 mod programs;
 mod scaling;
 mod size;
 
-pub use fitter::Fitter;
+pub use fitting::Fitter;
 pub use outline::Outline;
 pub use programs::{Fit, Programs};
+/// What refuses an outline, by the name that this crate's interface has for it.
 pub use tt_core::FontFault as FitFault;

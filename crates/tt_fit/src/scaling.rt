@@ -11,7 +11,7 @@ ghost use Rattle.tt_fit.specs.Scaling.{is_coordinate, glyf_fault, coordinate_fau
 ghost use Rattle.tt_fit.specs.Views.{size_view, landing_view, phantom_view};
 
 use crate::outline::Outline;
-use crate::size::Size;
+use crate::size::FontSize;
 use std::alloc::{AllocError, Global};
 use tt_core::{COORDINATE_LIMIT, Fault, FontFault, Why};
 use tt_glyf::RawPoint;
@@ -58,7 +58,7 @@ pub(crate) fn settled(at: u32, landing: Landing) -> Result<(i32, i32, bool), Fau
     Ok((x, y, landing.on))
 }
 
-fn scaled_position(size: Size, point: RawPoint) -> Landing
+fn scaled_position(size: FontSize, point: RawPoint) -> Landing
     ensures { landing_view result ≡ scaled_position (size_view size) point }
 {
     Landing {
@@ -69,7 +69,7 @@ fn scaled_position(size: Size, point: RawPoint) -> Landing
 }
 
 /// Error: CoordRange.
-fn scaled_point(size: Size, at: u32, point: RawPoint) -> Result<(i32, i32, bool), Fault>
+fn scaled_point(size: FontSize, at: u32, point: RawPoint) -> Result<(i32, i32, bool), Fault>
     ensures exact { Gives (λ p. p) result (scaled_point (size_view size) at point) }
     ensures within { IfOk result IsPoint }
 {
@@ -80,12 +80,12 @@ fn scaled_point(size: Size, at: u32, point: RawPoint) -> Result<(i32, i32, bool)
 #[tactic(auto, using(crate::proofs::Lists::points, crate::proofs::Lists::from_nothing))]
 fn scaled_points(
     alloc: Global,
-    size: Size,
+    size: FontSize,
     at: u32,
     points: &[RawPoint],
 ) -> Result<Vec<(i32, i32, bool)>, FontFault>
     ensures exact { FontGives (λ v. v.items) result (each (scaled_point (size_view size) at) points.now) }
-    ensures many { IfOk result (λ v. length v.items ≡ length points.now) }
+    ensures count { IfOk result (λ v. length v.items ≡ length points.now) }
     ensures coordinates { IfOk result (λ v. All IsPoint v.items) }
 {
     let mut scaled = Vec::with_capacity(alloc, points.len())?;
@@ -131,7 +131,7 @@ fn span_of(metrics: &Metrics, x_min: i16, g: u16) -> Span
 }
 
 /// The phantom points of glyph `g`.
-pub(crate) fn phantom_points(size: Size, metrics: &Metrics, x_min: i16, g: u16) -> Phantom
+pub(crate) fn phantom_points(size: FontSize, metrics: &Metrics, x_min: i16, g: u16) -> Phantom
     requires { g < glyphs_of metrics.now }
     ensures { phantom_view result ≡ phantom_points (size_view size) metrics.now x_min g }
 {
@@ -148,7 +148,7 @@ pub(crate) fn phantom_points(size: Size, metrics: &Metrics, x_min: i16, g: u16) 
 #[tactic(auto, unfolding(crate::specs::Scaling::blank))]
 pub(crate) fn blank(alloc: Global, at: u32, phantom: Phantom) -> Result<Outline, Fault>
     ensures exact { Gives outline_of result (blank at (phantom_view phantom)) }
-    ensures sound { IfOk result (λ o. IsOutline (outline_of o)) }
+    ensures valid { IfOk result (λ o. IsOutline (outline_of o)) }
 {
     let left = coordinate(at, phantom.left)?;
     let right = coordinate(at, phantom.right)?;
@@ -166,7 +166,7 @@ pub(crate) fn blank(alloc: Global, at: u32, phantom: Phantom) -> Result<Outline,
 #[tactic(auto, unfolding(crate::specs::Scaling::scaled_outline))]
 pub(crate) fn scaled_outline(
     alloc: Global,
-    size: Size,
+    size: FontSize,
     at: u32,
     points: &[RawPoint],
     last_points: &[u16],
@@ -176,7 +176,7 @@ pub(crate) fn scaled_outline(
     requires ends { EndContours (length points.now) last_points.now }
     requires start { IsOutline (outline_of start) }
     ensures exact { FontGives outline_of result (scaled_outline (size_view size) at points.now last_points.now (outline_of start)) }
-    ensures sound { IfOk result (λ o. IsOutline (outline_of o)) }
+    ensures valid { IfOk result (λ o. IsOutline (outline_of o)) }
 {
     let points = scaled_points(alloc, size, at, points)?;
     let ends = contour_ends(alloc, last_points)?;

@@ -1,11 +1,12 @@
 //! The command line, as clap reads it.
 
+ghost use Rattle.std.specs.Prelude.{◌≡◌, ℕ, List, Some, None};
+ghost use Rattle.std.specs.Str.Parse.{ParsesUnsigned, ExplainsUnsignedError, HasUnsignedDigitsIfOk};
+ghost use Rattle.clap.specs.Words.{ReadsOne, first_value, found_of, one_text};
+
 use clap::{Arg, ArgAction, ArgMatches, Command, value_parser};
 use std::alloc::{AllocError, Global};
-use tt_program_decisions::{Request, Words, job_of};
-
-/// The words of `--fit`.
-static FITS: [&str; 3] = ["full", "none", "fallback"];
+use tt_program_decisions::{Arguments, FITS, FULL, Request, request_of};
 
 /// `tt_render map FONT TEXT` and `tt_render draw --size N [--margin N] [--fit full|none|fallback] FONT TEXT`.
 pub(crate) fn command<'a>(alloc: Global) -> Result<Command<'a>, AllocError> {
@@ -76,32 +77,35 @@ fn fit<'a>(alloc: Global) -> Arg<'a> {
         .long("fit")
         .value_name("HOW")
         .value_parser(FITS.as_slice())
-        .default_value("full")
+        .default_value(FULL)
         .help(
             "full: by the font's programs; none: scaled points only; fallback: full where that serves",
         )
 }
 
-/// What a command line asks for.
-pub(crate) fn request<'a>(matches: &ArgMatches<'a>) -> Option<Request<'a>> {
-    match matches.subcommand()? {
-        ("map", map) => Some(Request::Map {
-            font: map.get_str("FONT")?,
-            text: map.get_str("TEXT")?,
-        }),
-        ("draw", draw) => Some(Request::Draw {
-            font: draw.get_str("FONT")?,
-            job: job_of(&drawing(draw)?)?,
-        }),
-        _ => None,
+/// The arguments of a subcommand, as clap found them.
+#[derive(Drop)]
+struct Found<'m, 'a> {
+    matches: &'m ArgMatches<'a>,
+}
+
+impl<'m, 'a> Arguments<'a> for Found<'m, 'a> {
+    ghost text = { λ f name. first_value (found_of f.matches.now) name };
+
+    ghost IsNumber = { λ f name n. (one_text (found_of f.matches.now) name ≡ None → n ≡ None)
+        × ((t : List ℕ) → one_text (found_of f.matches.now) name ≡ Some t → ReadsOne (λ bs r. ParsesUnsigned 32 10 bs r × ExplainsUnsignedError 10 bs r × HasUnsignedDigitsIfOk bs r) t n) };
+
+    fn text_for(&self, name: &str) -> Option<&'a str> {
+        self.matches.get_str(name)
+    }
+
+    fn number_for(&self, name: &str) -> Option<u32> {
+        self.matches.get_one::<u32>(name)
     }
 }
 
-fn drawing<'a>(draw: &ArgMatches<'a>) -> Option<Words<'a>> {
-    Some(Words {
-        text: draw.get_str("TEXT")?,
-        size: draw.get_one::<u32>("size")?,
-        margin: draw.get_one::<u32>("margin")?,
-        fit: draw.get_str("fit")?,
-    })
+/// What a command line asks for.
+pub(crate) fn request<'a>(matches: &ArgMatches<'a>) -> Option<Request<'a>> {
+    let (subcommand, matches) = matches.subcommand()?;
+    request_of(subcommand, &Found { matches })
 }

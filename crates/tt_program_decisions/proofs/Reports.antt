@@ -4,8 +4,8 @@ use Rattle.std.specs.Io.KnownBytes.{Appends}
 use Rattle.std.specs.Prelude.{◌⊎◌, IfOk, IfErr, OnOk, is_err}
 use Rattle.tt_pbm.specs.declared.writing.Cut.{Cut}
 use Rattle.tt_render.specs.declared.fault.RunFault.TheVariants as run
-use Rattle.tt_render.specs.declared.unfitted.Unfitted.{Unfitted}
-use Rattle.tt_render.specs.Report.{unfitted_line_of}
+use Rattle.tt_render.specs.declared.report.Unfitted.{Unfitted}
+use Rattle.tt_render.specs.Messages.{unfitted_line_of}
 use Rattle.tt_program_decisions.specs.Telling.{Errors, Prints, PrintsUnless, TellsFault, TellsReport, report_lines}
 
 -- a text was told, or want of memory for it
@@ -26,7 +26,7 @@ put_together : (before line feed behind : List ℕ) → ((before ++ line) ++ fee
 put_together before line feed behind =
     append_assoc (before ++ line) feed behind ∙ append_assoc before line (feed ++ behind)
 
--- a line and its line feed, behind those that stand
+-- a line and its line feed, after those that stand
 pub line_behind : (us : List Unfitted) (i : ℕ) (u : Unfitted) (before : List ℕ) → i < length us → u ≡ get_or us i u
     → ((before ++ unfitted_line_of u) ++ codes "\n") ++ report_lines (drop (i + 1) us)
     ≡ before ++ report_lines (drop i us)

@@ -8,9 +8,9 @@ use Rattle.tt_render.specs.Defects.{IsFaceDefect, IsRunDefect}
 use Rattle.tt_render.specs.MapLines.{map_wanted}
 use Rattle.tt_render.specs.Outcome.{Traffic}
 use Rattle.tt_render.specs.Picture.{run_wanted}
-use Rattle.tt_render.specs.Unfitted.{ListsOnce, report_of}
-use Rattle.tt_render.specs.declared.unfitted.Report.{Report}
-use Rattle.tt_render.specs.declared.unfitted.Unfitted.{Unfitted}
+use Rattle.tt_render.specs.Report.{ListsOnce, report_of}
+use Rattle.tt_render.specs.declared.report.Report.{Report}
+use Rattle.tt_render.specs.declared.report.Unfitted.{Unfitted}
 use Rattle.tt_program_decisions.specs.declared.request.Request.{Request}
 use Rattle.tt_program_decisions.specs.declared.request.Request.TheVariants.{Map, Draw}
 use Rattle.tt_program_decisions.specs.declared.request.Words.{Words}
@@ -23,10 +23,34 @@ fit_named name =
     else (if bytes_eq name (codes "none") then Some fit.None
     else (if bytes_eq name (codes "fallback") then Some fit.Fallback else None))
 
+-- the job of a text at a size, with a margin, fitted in the way of this name
+abbrev pub job_asked : List ℕ → ℕ → ℕ → List ℕ → Option Job
+job_asked text size margin how =
+    option_map (λ f. record { text = text; ppem = size; margin = margin; fit = f }) (fit_named how)
+
 -- what the words of a drawing ask for
 abbrev pub asked : Words → Option Job
-asked w =
-    option_map (λ f. record { text = w.text.now; ppem = w.size; margin = w.margin; fit = f }) (fit_named w.fit.now)
+asked w = job_asked w.text.now w.size w.margin w.fit.now
+
+-- what is asked for: the lines of a text by a font, or the picture of a job by a font
+pub data Asked : Type 0 where
+  lines : List ℕ → List ℕ → Asked
+  picture : List ℕ → Job → Asked
+
+abbrev pub asked_of : Request → Asked
+asked_of (Map font text) = lines font.now text.now
+asked_of (Draw font job) = picture font.now (job_view job)
+
+-- `map FONT TEXT`, of words that may lack
+abbrev pub map_asked : Option (List ℕ) → Option (List ℕ) → Option Asked
+map_asked (Some font) (Some text) = Some (lines font text)
+map_asked font text = None
+
+-- `draw --size SIZE --margin MARGIN --fit FIT FONT TEXT`, of words that may lack
+abbrev pub draw_asked : Option (List ℕ) → Option (List ℕ) → Option ℕ → Option ℕ → Option (List ℕ) → Option Asked
+draw_asked (Some font) (Some text) (Some size) (Some margin) (Some how) =
+    option_map (λ job. picture font job) (job_asked text size margin how)
+draw_asked font text size margin how = None
 
 -- the path of a request's font
 abbrev pub font_of : Request → List ℕ

@@ -6,14 +6,20 @@ use Rattle.tt_render.specs.declared.fault.RunFault.{RunFault}
 use Rattle.tt_render.specs.declared.fault.RunFault.TheVariants as run
 use Rattle.tt_render.specs.Defects.{TellsDefectsOf}
 use Rattle.tt_render.specs.Outcome.{CallGives, Traffic, Wanted}
-use Rattle.tt_render.specs.declared.unfitted.Unfitted.{Unfitted}
-use Rattle.tt_render.specs.Report.{line_of, status_of, unfitted_line_of}
+use Rattle.tt_render.specs.declared.report.Unfitted.{Unfitted}
+use Rattle.tt_render.specs.Messages.{line_of, status_of, unfitted_line_of}
 
--- standard error before a call and after it: the bytes that went out, and whether it has failed
+-- standard error before a call and after it: the bytes that went out, None where no contract knows them, and whether it
+-- has failed
 pub record Errors : Type 0 where
   pub before : Option (List ℕ)
   pub after : Option (List ℕ)
   pub failed : Bool
+
+-- what the device says of itself
+abbrev pub errors_of : {E : Type 0} → (E → Option (List ℕ)) → (E → Bool) → E → E → Errors
+errors_of written has_failed before after =
+    record { before = written before; after = written after; failed = has_failed after }
 
 abbrev pub PrintsUnless : Bool → Option (List ℕ) → Option (List ℕ) → List ℕ → Type 0
 PrintsUnless false before after text = Appends before after text

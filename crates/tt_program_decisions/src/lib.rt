@@ -1,4 +1,4 @@
-//! What the program decides: which job a command line makes, and which exit status and line each end has.
+//! What the program decides: what a command line asks for, and which exit status and line each end has.
 #![tactic(auto)]
 
 mod performing;
@@ -7,5 +7,5 @@ mod stopping;
 mod telling;
 
 pub use performing::perform;
-pub use request::{Request, Words, job_of};
+pub use request::{Arguments, FITS, FULL, Request, Words, job_of, request_of};
 pub use stopping::{Stop, stop_of_open, stop_of_words, tell_stop};

@@ -2,6 +2,8 @@
 
 ghost use Rattle.std.specs.Prelude.{◌≡◌, ◌≤◌, false};
 ghost use Rattle.tt_program_decisions.specs.Requests.{Performs};
+ghost use Rattle.tt_program_decisions.specs.Telling.{errors_of};
+ghost use Rattle.tt_render.specs.Outcome.{traffic_of};
 
 use crate::request::Request;
 use crate::telling::{tell, tell_picture};
@@ -20,20 +22,9 @@ pub fn perform<R: Source, W: Sink, E: Sink>(
     requires font { R.has_failed font.old ≡ false }
     requires out { W.has_failed out.old ≡ false }
     requires error { E.has_failed error.old ≡ false }
-    ensures range { result ≤ 5 }
+    ensures bound { result ≤ 5 }
     // Some answer stands for what went through the devices, and the status and the lines are told of that answer.
-    ensures outcome { Performs request.now (record {
-      left_before = R.left font.old;
-      left_after = R.left font.new;
-      read_failed = R.has_failed font.new;
-      out_before = W.written out.old;
-      out_after = W.written out.new;
-      write_failed = W.has_failed out.new;
-    }) (record {
-      before = E.written error.old;
-      after = E.written error.new;
-      failed = E.has_failed error.new;
-    }) result }
+    ensures outcome { Performs request.now (traffic_of R.left R.has_failed W.written W.has_failed font.old font.new out.old out.new) (errors_of E.written E.has_failed error.old error.new) result }
 {
     match request {
         Request::Map { text, .. } => {

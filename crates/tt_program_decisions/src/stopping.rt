@@ -2,9 +2,9 @@
 
 ghost use Rattle.std.specs.Prelude.{◌≡◌, ◌≤◌, false};
 ghost use Rattle.tt_program_decisions.specs.Stops.{stop_at_open, stop_at_words, stop_status, stop_text};
-ghost use Rattle.tt_program_decisions.specs.Telling.{Prints};
+ghost use Rattle.tt_program_decisions.specs.Telling.{Prints, errors_of};
 
-use crate::telling::print;
+use crate::telling::{NO_MEMORY, print};
 use std::io::ErrorKind;
 use tt_core::Sink;
 
@@ -51,13 +51,9 @@ pub fn stop_of_open(kind: ErrorKind) -> Stop
 #[tactic(auto, using(crate::proofs::Statuses::stop_within))]
 pub fn tell_stop<E: Sink>(stop: Stop, error: &mut E) -> u8
     requires { E.has_failed error.old ≡ false }
-    ensures range { result ≤ 5 }
+    ensures bound { result ≤ 5 }
     ensures status { result ≡ stop_status stop }
-    ensures text { Prints (record {
-      before = E.written error.old;
-      after = E.written error.new;
-      failed = E.has_failed error.new;
-    }) (stop_text stop) }
+    ensures text { Prints (errors_of E.written E.has_failed error.old error.new) (stop_text stop) }
 {
     print(error, text_of(stop));
     status_of(stop)
@@ -85,6 +81,6 @@ fn text_of(stop: Stop) -> &'static str
         Stop::NoText => "tt_render: the command line is not UTF-8\n",
         Stop::Incomplete => "tt_render: the command line is incomplete\n",
         Stop::Unopened => "tt_render: cannot read the font\n",
-        Stop::Memory => "tt_render: out of memory\n",
+        Stop::Memory => NO_MEMORY,
     }
 }

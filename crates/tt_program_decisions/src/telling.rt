@@ -2,8 +2,8 @@
 
 ghost use Rattle.std.specs.Prelude.{◌≡◌, ◌≤◌, ◌++◌, [], false, codes, string_bytes, IfOk, IfErr};
 ghost use Rattle.tt_render.specs.declared.fault.RunFault.TheVariants.{Memory};
-ghost use Rattle.tt_render.specs.Report.{line_of};
-ghost use Rattle.tt_program_decisions.specs.Telling.{Prints, Tells, TellsFailure, TellsFault, TellsReport, report_lines};
+ghost use Rattle.tt_render.specs.Messages.{line_of};
+ghost use Rattle.tt_program_decisions.specs.Telling.{Prints, Tells, TellsFailure, TellsFault, TellsReport, errors_of, report_lines};
 
 use std::alloc::{AllocError, Global};
 use tt_core::Sink;
@@ -11,17 +11,13 @@ use tt_pbm::write_all_of;
 use tt_render::{Report, RunFault, Unfitted, line, status, unfitted_line};
 
 /// The line for want of memory, which takes none.
-const NO_MEMORY: &str = "tt_render: out of memory\n";
+pub(crate) const NO_MEMORY: &str = "tt_render: out of memory\n";
 
 /// Tells the answer of `map` on standard error; answers the exit status.
 pub(crate) fn tell<E: Sink>(alloc: Global, answer: &Result<(), RunFault>, error: &mut E) -> u8
     requires { E.has_failed error.old ≡ false }
-    ensures range { result ≤ 5 }
-    ensures told { Tells (λ v. []) answer.now result (record {
-      before = E.written error.old;
-      after = E.written error.new;
-      failed = E.has_failed error.new;
-    }) }
+    ensures bound { result ≤ 5 }
+    ensures told { Tells (λ v. []) answer.now result (errors_of E.written E.has_failed error.old error.new) }
 {
     match answer {
         Ok(()) => 0,
@@ -36,12 +32,8 @@ pub(crate) fn tell_picture<E: Sink>(
     error: &mut E,
 ) -> u8
     requires { E.has_failed error.old ≡ false }
-    ensures range { result ≤ 5 }
-    ensures told { Tells (λ r. r.unfitted.items) answer.now result (record {
-      before = E.written error.old;
-      after = E.written error.new;
-      failed = E.has_failed error.new;
-    }) }
+    ensures bound { result ≤ 5 }
+    ensures told { Tells (λ r. r.unfitted.items) answer.now result (errors_of E.written E.has_failed error.old error.new) }
 {
     match answer {
         Ok(report) => tell_report(alloc, &report.unfitted, error),
@@ -52,12 +44,8 @@ pub(crate) fn tell_picture<E: Sink>(
 /// Tells which glyphs are not fitted, or want of memory where that is refused for their lines.
 fn tell_report<E: Sink>(alloc: Global, unfitted: &[Unfitted], error: &mut E) -> u8
     requires { E.has_failed error.old ≡ false }
-    ensures range { result ≤ 5 }
-    ensures told { TellsReport unfitted.now result (record {
-      before = E.written error.old;
-      after = E.written error.new;
-      failed = E.has_failed error.new;
-    }) }
+    ensures bound { result ≤ 5 }
+    ensures told { TellsReport unfitted.now result (errors_of E.written E.has_failed error.old error.new) }
 {
     if unfitted.is_empty() {
         return 0;
@@ -69,17 +57,9 @@ fn tell_report<E: Sink>(alloc: Global, unfitted: &[Unfitted], error: &mut E) -> 
 fn tell_text<E: Sink>(text: Result<String, AllocError>, status_then: u8, error: &mut E) -> u8
     requires status { status_then ≤ 5 }
     requires error { E.has_failed error.old ≡ false }
-    ensures range { result ≤ 5 }
-    ensures told { IfOk text (λ t. (result ≡ status_then) × Prints (record {
-      before = E.written error.old;
-      after = E.written error.new;
-      failed = E.has_failed error.new;
-    }) (string_bytes t)) }
-    ensures refused { IfErr text (λ e. TellsFault Memory result (record {
-      before = E.written error.old;
-      after = E.written error.new;
-      failed = E.has_failed error.new;
-    })) }
+    ensures bound { result ≤ 5 }
+    ensures told { IfOk text (λ t. (result ≡ status_then) × Prints (errors_of E.written E.has_failed error.old error.new) (string_bytes t)) }
+    ensures refused { IfErr text (λ e. TellsFault Memory result (errors_of E.written E.has_failed error.old error.new)) }
 {
     match text {
         Ok(text) => {
@@ -109,12 +89,8 @@ fn report_lines(alloc: Global, unfitted: &[Unfitted]) -> Result<String, AllocErr
 #[tactic(auto, using(crate::proofs::Statuses::status_within))]
 fn tell_fault<E: Sink>(alloc: Global, fault: &RunFault, error: &mut E) -> u8
     requires { E.has_failed error.old ≡ false }
-    ensures range { result ≤ 5 }
-    ensures told { TellsFailure fault.now result (record {
-      before = E.written error.old;
-      after = E.written error.new;
-      failed = E.has_failed error.new;
-    }) }
+    ensures bound { result ≤ 5 }
+    ensures told { TellsFailure fault.now result (errors_of E.written E.has_failed error.old error.new) }
 {
     tell_text(ended_line(alloc, fault), status(fault), error)
 }
@@ -131,11 +107,7 @@ fn ended_line(alloc: Global, fault: &RunFault) -> Result<String, AllocError>
 /// Prints a text on standard error. Where that fails, no other place is left to tell it.
 pub(crate) fn print<E: Sink>(error: &mut E, text: &str)
     requires { E.has_failed error.old ≡ false }
-    ensures { Prints (record {
-      before = E.written error.old;
-      after = E.written error.new;
-      failed = E.has_failed error.new;
-    }) text.now }
+    ensures { Prints (errors_of E.written E.has_failed error.old error.new) text.now }
 {
     let _ = write_all_of(error, text.as_bytes());
 }

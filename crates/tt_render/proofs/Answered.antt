@@ -15,7 +15,7 @@ use Rattle.tt_render.specs.declared.fault.RunFault.{RunFault}
 use Rattle.tt_render.specs.declared.fault.RunFault.TheVariants as run
 use Rattle.tt_render.specs.Job.{Job}
 use Rattle.tt_render.specs.Defects.{TellsDefectsOf, IsExtentRefusal, IsJobRefusal, draw_font_fault, draw_job_fault}
-use Rattle.tt_render.specs.Face.{Face, face_of}
+use Rattle.tt_render.specs.Tables.{Face, face_of}
 use Rattle.tt_render.specs.Outcome.{Refused, Wanted, as_font, CallFails, IfJob, IfLarge, needs_font, refusal}
 use Rattle.tt_render.specs.Reading.{ReadFails}
 use Rattle.tt_render.specs.Views.{run_fault_of_font, run_fault_of_draw}

@@ -10,15 +10,14 @@ use Rattle.tt_fit.specs.Laws.{OthersNeverFallBack}
 use Rattle.tt_line.specs.Layout.{Placement, placement}
 use Rattle.tt_scan.specs.declared.edge.Frame.{Frame}
 use Rattle.tt_render.specs.Job.{Job}
-use Rattle.tt_render.specs.Face.{Face, face_of}
+use Rattle.tt_render.specs.Tables.{Face, face_of, programs_in, glyphs_in}
 use Rattle.tt_render.specs.Laws.{OthersListNothing}
 use Rattle.tt_render.specs.Outcome.{as_font, as_job}
-use Rattle.tt_render.specs.Picture.{glyphs_in, setting_in}
-use Rattle.tt_render.specs.Programs.{programs_in}
+use Rattle.tt_render.specs.Picture.{setting_in}
 use Rattle.tt_render.proofs.Whole.{of-font}
-use Rattle.tt_render.specs.declared.unfitted.Unfitted.{Unfitted}
+use Rattle.tt_render.specs.declared.report.Unfitted.{Unfitted}
 use Rattle.tt_render.specs.Glyphs.{Glyph, IsDrawn, numbers_of, is_among, with_glyph, distinct, distinct_after}
-use Rattle.tt_render.specs.Unfitted.{listed, unfitted_among, unfitted_standing, line_report, report_of, all_differ, ListsOnce}
+use Rattle.tt_render.specs.Report.{listed, unfitted_among, unfitted_standing, line_report, report_of, all_differ, ListsOnce}
 
 -- glyphs as they are drawn are those of the definition
 pub standing_listed : (s : Fitter) (f : Frame) (gs : List Glyph) → All (IsDrawn s f) gs → unfitted_standing gs
@@ -40,7 +39,7 @@ is_not : (a : Bool) → not a ≡ true → a ≡ false
 is_not true is = absurd cc
 is_not false is = refl
 
--- a number behind some is among them and it
+-- a number after some is among them and it
 among_pushed : (h g : ℕ) (gs : List ℕ) → is_among h gs ≡ false → (g == h) ≡ false → is_among h (gs ++ g ∷ []) ≡ false
 among_pushed h g [] not_there other = rw other refl
 among_pushed h g (k ∷ gs) not_there other =
@@ -72,8 +71,8 @@ distinct_differ before (g ∷ gs) differ =
 among_listed : (s : Fitter) (g : ℕ) (gs : List ℕ) (fault : Option Fault) (h : ℕ) (others : List Unfitted)
     → (h == g) ≡ false → is_among g (map (λ u. u.glyph) others) ≡ false
     → is_among g (map (λ u. u.glyph) (listed h fault others)) ≡ false
-among_listed s g gs None h others other behind = behind
-among_listed s g gs (Some fault) h others other behind = rw other behind
+among_listed s g gs None h others other absent = absent
+among_listed s g gs (Some fault) h others other absent = rw other absent
 
 not_listed : (s : Fitter) (g : ℕ) (gs : List ℕ) → is_among g gs ≡ false
     → is_among g (map (λ u. u.glyph) (unfitted_among s gs)) ≡ false
@@ -98,13 +97,13 @@ among_once s (g ∷ gs) differ =
 pub lists_once : (s : Fitter) (gs : List ℕ) → ListsOnce (unfitted_among s (distinct gs))
 lists_once s gs = among_once s (distinct gs) (distinct_differ [] gs refl)
 
--- the glyphs from one on are that one and those behind it
+-- the glyphs from one on are that one and those after it
 from_one : (gs : List Glyph) (i : ℕ) (g : Glyph) → i < length gs → g ≡ get_or gs i g → drop i gs
     ≡ g ∷ drop (i + 1) gs
 from_one gs i g below is =
     let whole : drop i gs ≡ get_or gs i g ∷ drop (i + 1) gs = rw add-one (drop-cons gs i g below) in rw (← is) at whole
 
--- one more glyph is listed behind those before it, or is not
+-- one more glyph is listed after those before it, or is not
 pub one_listed : (gs : List Glyph) (i : ℕ) (g : Glyph) (before : List Unfitted) (u : Unfitted) → i < length gs
     → g ≡ get_or gs i g → g.unfitted ≡ Some u.fault → u.glyph ≡ g.number
     → (before ++ u ∷ []) ++ unfitted_standing (drop (i + 1) gs) ≡ before ++ unfitted_standing (drop i gs)

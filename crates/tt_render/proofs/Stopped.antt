@@ -12,7 +12,7 @@ use Rattle.tt_line.specs.Layout.{Placement, placement, text_glyphs}
 use Rattle.tt_line.specs.Outcome.{job_fault}
 use Rattle.tt_render.specs.Job.{Job}
 use Rattle.tt_render.specs.Defects.{IsExtentRefusal, IsLineDefect, IsRunDefect, draw_font_fault, draw_job_fault}
-use Rattle.tt_render.specs.Face.{Face, face_of}
+use Rattle.tt_render.specs.Tables.{Face, face_of}
 use Rattle.tt_render.specs.Outcome.{refusal}
 use Rattle.tt_render.specs.Picture.{drawn, pictured}
 use Rattle.tt_render.specs.Views.{draw_fault_of_font, draw_fault_of_line}

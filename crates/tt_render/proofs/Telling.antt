@@ -17,9 +17,8 @@ use Rattle.tt_metrics.specs.Metrics.{Metrics}
 use Rattle.tt_scan.specs.declared.edge.Edge.{Edge}
 use Rattle.tt_render.specs.Job.{Job}
 use Rattle.tt_render.specs.Defects.{IsFaceDefect, IsGlyphTableDefect, IsProgramTableDefect, IsSettingDefect, IsGlyphDefect, IsLineDefect, IsRunDefect}
-use Rattle.tt_render.specs.Face.{Face, face_of}
+use Rattle.tt_render.specs.Tables.{Face, face_of, programs_in}
 use Rattle.tt_render.specs.Picture.{setting_in, glyph_edges}
-use Rattle.tt_render.specs.Programs.{programs_in}
 use Rattle.tt_render.proofs.Drawn.{defect_of_line, no_defect_of_line}
 
 pub no_glyph_table_defect : {X : Type 0} (r : Result X Fault) (directory : List ℕ) (m : Metrics)

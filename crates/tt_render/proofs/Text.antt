@@ -66,7 +66,7 @@ exactly_six c large small = begins c
     ∙ more 59 (c / 65536) (c / 1048576) (c / 65536 % 16) _ (omega (arith, large)) (omega arith) refl
     ∙ last 58 (c / 1048576) (c / 1048576) _ (omega (arith, small)) refl
 
--- a short number behind zeros
+-- a short number after zeros
 behind_three : (c : ℕ) → c < 16 → code_point c ≡ four c []
 behind_three c small =
     let none : c / 16 % 16 ≡ 0 = omega (arith, small) in

@@ -23,12 +23,11 @@ use Rattle.tt_metrics.specs.Laws.{MetricsAreWhole}
 use Rattle.tt_metrics.specs.Metrics.{Metrics, metrics_of, glyphs_of, IsMetricsDefect}
 use Rattle.tt_render.specs.Job.{Job, tested, text_tested}
 use Rattle.tt_render.specs.Defects.{IsFaceDefect, IsGlyphTableDefect, HasProgramPastEnd, IsProgramTableDefect, IsSettingDefect, IsLineDefect, IsRunDefect}
-use Rattle.tt_render.specs.Face.{Face, cmap_tag, face_of}
+use Rattle.tt_render.specs.Tables.{Face, cmap_tag, face_of, cvt_tag, fpgm_tag, prep_tag, or_empty, optional_table, all_programs_in, programs_in, glyphs_in}
 use Rattle.tt_render.specs.Laws.{DrawnFontsAreWhole, MappedFontsAreWhole}
 use Rattle.tt_render.specs.MapLines.{lines_of, map_outcome}
 use Rattle.tt_render.specs.Outcome.{Refused, as_font, as_job, outcome_of}
-use Rattle.tt_render.specs.Picture.{glyphs_in, setting_in, glyph_edges, drawn, pictured, run_outcome}
-use Rattle.tt_render.specs.Programs.{cvt_tag, fpgm_tag, prep_tag, or_empty, optional_table, all_programs_in, programs_in}
+use Rattle.tt_render.specs.Picture.{setting_in, glyph_edges, drawn, pictured, run_outcome}
 use Rattle.tt_render.proofs.Telling.{no_setting_defect, no_line_defect, no_run_defect}
 
 -- what the layers below say of what they give

@@ -13,15 +13,14 @@ use Rattle.tt_line.specs.Layout.{text_glyphs, extent_of, IsRefusal}
 use Rattle.tt_cmap.specs.Defects.{IsBadCmap}
 use Rattle.tt_metrics.specs.Metrics.{Metrics, IsMetricsDefect}
 use Rattle.tt_core.specs.declared.fault.JobFault.{JobFault}
-use Rattle.tt_render.specs.Job.{Job, IsJobRefusal}
+use Rattle.tt_render.specs.Job.{Job, IsTestRefusal}
 use Rattle.tt_render.specs.declared.fault.DrawFault.{DrawFault}
 use Rattle.tt_render.specs.declared.fault.DrawFault.TheVariants as draw
 use Rattle.tt_render.specs.declared.fault.RunFault.{RunFault}
 use Rattle.tt_render.specs.declared.fault.RunFault.TheVariants as run
-use Rattle.tt_render.specs.Face.{Face, face_of, cmap_tag}
+use Rattle.tt_render.specs.Tables.{Face, face_of, cmap_tag, cvt_tag, fpgm_tag, prep_tag, programs_in}
 use Rattle.tt_render.specs.Outcome.{needs_font}
 use Rattle.tt_render.specs.Picture.{setting_in}
-use Rattle.tt_render.specs.Programs.{cvt_tag, fpgm_tag, prep_tag, programs_in}
 
 -- a defect of the directory, or of a table that every text is looked up in
 abbrev pub IsFaceDefect : List ℕ → Fault → Type 0
@@ -98,14 +97,14 @@ draw_job_fault (draw.Font f) = None
 draw_job_fault (draw.Job j) = Some j
 draw_job_fault draw.Memory = None
 
--- what stands behind a refusal of the picture's extent
+-- the fact for which the extent of a picture is refused
 abbrev pub IsExtentRefusal : Face → Job → JobFault → Type 0
 IsExtentRefusal face a j = IsRefusal (extent_of face.metrics a.ppem a.margin (text_glyphs face.cmap a.text)) j
 
--- what stands behind a refusal of the job by a font file: the extent comes second
+-- the fact for which a job is refused, alone or by a font file: the extent comes second
 abbrev pub IsRefusedBy : Bool → Job → Option (List ℕ) → JobFault → Type 0
 IsRefusedBy true a left j = IfSome left (λ file. IsOkAnd (face_of file) (λ face. IsExtentRefusal face a j))
-IsRefusedBy false a left j = IsJobRefusal a j
+IsRefusedBy false a left j = IsTestRefusal a j
 
 abbrev pub IsJobRefusal : Job → Option (List ℕ) → JobFault → Type 0
 IsJobRefusal a left j = IsRefusedBy (needs_font j) a left j

@@ -37,11 +37,11 @@ abbrev pub is_among : ℕ → List ℕ → Bool
 is_among g [] = false
 is_among g (h ∷ hs) = (h == g) || is_among g hs
 
--- a glyph behind those before it, unless it is one of them
+-- a glyph after those before it, unless it is one of them
 abbrev pub with_glyph : List ℕ → ℕ → List ℕ
 with_glyph before g = if is_among g before then before else before ++ g ∷ []
 
--- the distinct glyphs of some, in order of first appearance, behind those before them
+-- the distinct glyphs of some, in order of first appearance, after those before them
 abbrev pub distinct_after : List ℕ → List ℕ → List ℕ
 distinct_after before [] = before
 distinct_after before (g ∷ gs) = distinct_after (with_glyph before g) gs
@@ -57,7 +57,7 @@ pub record IsDrawn (s : Fitter) (f : Frame) (g : Glyph) : Type 0 where
   pub edges : g.tape.edges ≡ edges_at 0 shape
   pub fits : TapeFits f 0 g.tape
 
--- the rows of a picture of some glyphs, one behind the other: so many bytes of them, from a byte on
+-- the rows of a picture of some glyphs, one after the other: so many bytes of them, from a byte on
 abbrev pub rows_by : Frame → List Glyph → ℕ → ℕ → List ℕ
 rows_by f gs from len = rows f.width (is_black_by f (stamps_in gs)) from len
 

@@ -35,12 +35,12 @@ pub record IsJob (a : Job) : Type 0 where
   pub margin : a.margin ≤ margin_limit
   pub text : length (chars a.text) ≤ text_limit
 
--- what stands behind a refusal of the job alone
-abbrev pub IsJobRefusal : Job → JobFault → Type 0
-IsJobRefusal a fault.SizeRange = (a.ppem < 1) ⊎ (size_limit < a.ppem)
-IsJobRefusal a fault.MarginRange = margin_limit < a.margin
-IsJobRefusal a fault.TextLong = text_limit < length (chars a.text)
-IsJobRefusal a j = ⊥
+-- the fact for which a job is refused before the font is read
+abbrev pub IsTestRefusal : Job → JobFault → Type 0
+IsTestRefusal a fault.SizeRange = (a.ppem < 1) ⊎ (size_limit < a.ppem)
+IsTestRefusal a fault.MarginRange = margin_limit < a.margin
+IsTestRefusal a fault.TextLong = text_limit < length (chars a.text)
+IsTestRefusal a j = ⊥
 
 -- worked values
 of_size : ℕ → Job

@@ -4,11 +4,11 @@ use Rattle.std.specs.Prelude.{◌≡◌, ◌≢◌, ℕ, List, [], Ok}
 use Rattle.tt_core.specs.Directory.{HasNo}
 use Rattle.tt_fit.specs.declared.programs.Fit.TheVariants as fit
 use Rattle.tt_render.specs.Job.{Job}
-use Rattle.tt_render.specs.declared.unfitted.Unfitted.{Unfitted}
+use Rattle.tt_render.specs.declared.report.Unfitted.{Unfitted}
 use Rattle.tt_render.specs.Defects.{IsFaceDefect, IsRunDefect}
 use Rattle.tt_render.specs.MapLines.{map_outcome}
 use Rattle.tt_render.specs.Picture.{run_outcome}
-use Rattle.tt_render.specs.Unfitted.{report_of}
+use Rattle.tt_render.specs.Report.{report_of}
 
 -- where a picture is to be written, no defect of the job stands in the file
 abbrev pub DrawnFontsAreWhole : Type 0

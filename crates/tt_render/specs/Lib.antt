@@ -1,14 +1,13 @@
 pub mod Job
 pub mod Defects
-pub mod Face
+pub mod Tables
 pub mod Glyphs
 pub mod Laws
 pub mod MapLines
+pub mod Messages
 pub mod Outcome
 pub mod Picture
 pub mod Pixels
-pub mod Programs
 pub mod Reading
 pub mod Report
-pub mod Unfitted
 pub mod Views

@@ -6,10 +6,10 @@ use Rattle.tt_core.specs.Outcomes.{◌>>=◌}
 use Rattle.tt_cmap.specs.Lookup.{Cmap, glyph_of}
 use Rattle.tt_metrics.specs.Metrics.{Metrics, advance_of}
 use Rattle.tt_render.specs.Job.{text_tested}
-use Rattle.tt_render.specs.Face.{face_of}
+use Rattle.tt_render.specs.Tables.{face_of}
 use Rattle.tt_render.specs.Outcome.{Refused, Wanted, as_font, outcome_of}
 
--- digits behind as many zeros as make them four
+-- digits after as many zeros as make them four
 abbrev pub at_least_four : List ℕ → List ℕ
 at_least_four ds = replicate (4 - length ds) 48 ++ ds
 

@@ -40,7 +40,8 @@ refusal (draw.Font f) = Some (font f)
 refusal (draw.Job j) = Some (job j)
 refusal draw.Memory = None
 
--- a reader and a writer, before a call and after it: the bytes that are left, those that went out, and who has failed
+-- a reader and a writer, before a call and after it: the bytes that the reader will still give, those that went out by
+-- the writer, each None where no contract knows them (a file's), and whether the device has failed
 pub record Traffic : Type 0 where
   pub left_before : Option (List ℕ)
   pub left_after : Option (List ℕ)
@@ -49,25 +50,74 @@ pub record Traffic : Type 0 where
   pub out_after : Option (List ℕ)
   pub write_failed : Bool
 
+-- what a reader and a writer say of themselves, before a call and after it
+abbrev pub traffic_of : {R W : Type 0} → (R → Option (List ℕ)) → (R → Bool) → (W → Option (List ℕ)) → (W → Bool)
+    → R → R → W → W → Traffic
+traffic_of left read_failed written write_failed font_before font_after out_before out_after = record {
+  left_before = left font_before;
+  left_after = left font_after;
+  read_failed = read_failed font_after;
+  out_before = written out_before;
+  out_after = written out_after;
+  write_failed = write_failed out_after;
+}
+
 -- some bytes, perhaps none, were read
 abbrev pub Advances : Option (List ℕ) → Option (List ℕ) → Type 0
 Advances before after = (bytes : List ℕ) × Consumes before after bytes
 
--- nothing was written, and no device has failed
-abbrev pub Untouched : Traffic → Type 0
-Untouched t = Keeps t.out_before t.out_after × (t.read_failed ≡ false) × (t.write_failed ≡ false)
+-- what the reader did in a call: it was not asked; it gave some bytes, perhaps none; it gave all that it had; it failed
+-- after some bytes
+abbrev pub ReadsNothing : Traffic → Type 0
+ReadsNothing t = Keeps t.left_before t.left_after × (t.read_failed ≡ false)
 
--- this holds of the bytes that are to be written for the file
-abbrev pub WithBytes : (List ℕ → Result (List ℕ) Refused) → (List ℕ → Type 0) → List ℕ → Type 0
-WithBytes wanted Q file = (bytes : List ℕ) × (wanted file ≡ Ok bytes) × Q bytes
+abbrev pub ReadsSome : Traffic → Type 0
+ReadsSome t = Advances t.left_before t.left_after × (t.read_failed ≡ false)
 
--- all of the bytes went out
+abbrev pub ReadsToEnd : Traffic → Type 0
+ReadsToEnd t = IsAtEnd t.left_after × (t.read_failed ≡ false)
+
+abbrev pub ReaderFails : Traffic → Type 0
+ReaderFails t = Advances t.left_before t.left_after × (t.read_failed ≡ true)
+
+-- what the writer did: nothing went out; it took all that it was given; it failed
+abbrev pub WritesNothing : Traffic → Type 0
+WritesNothing t = Keeps t.out_before t.out_after × (t.write_failed ≡ false)
+
+abbrev pub WriterServes : Traffic → Type 0
+WriterServes t = t.write_failed ≡ false
+
+abbrev pub WriterFails : Traffic → Type 0
+WriterFails t = t.write_failed ≡ true
+
+-- all of these bytes went out
 abbrev pub SendsAll : Traffic → List ℕ → Type 0
 SendsAll t bytes = Appends t.out_before t.out_after bytes
 
--- the first of the bytes went out, and not all
+-- the first of these bytes went out, and not all
 abbrev pub SendsFirst : ℕ → Traffic → List ℕ → Type 0
 SendsFirst sent t bytes = (sent < length bytes) × Appends t.out_before t.out_after (take sent bytes)
+
+-- what a call that was asked for does: the tests of the job alone, and what is to be written for a font file
+pub record Wanted : Type 0 where
+  pub tested : Result (Unit {0}) JobFault
+  pub bytes : List ℕ → Result (List ℕ) Refused
+
+-- the job passed its tests
+abbrev pub Passes : Wanted → Type 0
+Passes w = w.tested ≡ Ok tt
+
+-- this is why nothing is to be written for the bytes that the reader had
+abbrev pub RefusedFor : Traffic → Wanted → Refused → Type 0
+RefusedFor t w why = IfSome t.left_before (λ file. w.bytes file ≡ Err why)
+
+-- this holds of the bytes that are to be written for a font file
+abbrev pub WithBytes : (List ℕ → Result (List ℕ) Refused) → (List ℕ → Type 0) → List ℕ → Type 0
+WithBytes wanted Q file = (bytes : List ℕ) × (wanted file ≡ Ok bytes) × Q bytes
+
+-- the same of the bytes that the reader had
+abbrev pub WithBytesFor : Traffic → Wanted → (List ℕ → Type 0) → Type 0
+WithBytesFor t w Q = IfSome t.left_before (WithBytes w.bytes Q)
 
 -- a job is tested before the font is read, but for the extent of its picture
 abbrev pub needs_font : JobFault → Bool
@@ -75,38 +125,27 @@ needs_font fault.EmptyPicture = true
 needs_font fault.PictureLarge = true
 needs_font j = false
 
--- what a call that was asked for does: the tests of the job alone, and what is to be written for a font file
-pub record Wanted : Type 0 where
-  pub tested : Result (Unit {0}) JobFault
-  pub bytes : List ℕ → Result (List ℕ) Refused
+-- a job that fails its tests is refused whatever the reader has
+abbrev pub RefusedAtOnce : JobFault → Wanted → Type 0
+RefusedAtOnce j w = (w.tested ≡ Err j) × ((file : List ℕ) → w.bytes file ≡ Err (job j))
 
--- a job is refused by what the reader had, or by itself, whatever the reader has, of which then nothing is read
+-- a job that is refused, by what the reader had or at once
 abbrev pub JobFails : Bool → JobFault → Traffic → Wanted → Type 0
-JobFails true j t w = (w.tested ≡ Ok tt) × IfSome t.left_before (λ file. w.bytes file ≡ Err (job j))
-    × IsAtEnd t.left_after × Untouched t
-JobFails false j t w = (w.tested ≡ Err j) × ((file : List ℕ) → w.bytes file ≡ Err (job j))
-    × Keeps t.left_before t.left_after × Untouched t
+JobFails true j t w = Passes w × RefusedFor t w (job j) × ReadsToEnd t × WritesNothing t
+JobFails false j t w = RefusedAtOnce j w × ReadsNothing t × WritesNothing t
 
+-- a call failed so
 abbrev pub CallFails : RunFault → Traffic → Wanted → Type 0
-CallFails (run.Font f) t w =
-    (w.tested ≡ Ok tt) × IfSome t.left_before (λ file. w.bytes file ≡ Err (font f)) × IsAtEnd t.left_after × Untouched t
+CallFails (run.Font f) t w = Passes w × RefusedFor t w (font f) × ReadsToEnd t × WritesNothing t
 CallFails (run.Job j) t w = JobFails (needs_font j) j t w
-CallFails run.Read t w =
-    (w.tested ≡ Ok tt) × (t.read_failed ≡ true) × Advances t.left_before t.left_after × Keeps t.out_before t.out_after
-    × (t.write_failed ≡ false)
-CallFails run.FontLarge t w =
-    (w.tested ≡ Ok tt) × IfSome t.left_before (λ file. w.bytes file ≡ Err large) × Advances t.left_before t.left_after
-    × Untouched t
-CallFails (run.Write sent) t w =
-    (w.tested ≡ Ok tt) × IfSome t.left_before (WithBytes w.bytes (SendsFirst sent t)) × IsAtEnd t.left_after
-    × (t.read_failed ≡ false) × (t.write_failed ≡ true)
-CallFails run.Memory t w = (w.tested ≡ Ok tt) × Advances t.left_before t.left_after × Untouched t
+CallFails run.Read t w = Passes w × ReaderFails t × WritesNothing t
+CallFails run.FontLarge t w = Passes w × RefusedFor t w large × ReadsSome t × WritesNothing t
+CallFails (run.Write sent) t w = Passes w × WithBytesFor t w (SendsFirst sent t) × ReadsToEnd t × WriterFails t
+CallFails run.Memory t w = Passes w × ReadsSome t × WritesNothing t
 
 -- a call wrote all of the bytes that are wanted for what the reader had, or failed so
 abbrev pub CallGives : {V : Type 0} → Result V RunFault → Traffic → Wanted → Type 0
-CallGives (Ok v) t w =
-    (w.tested ≡ Ok tt) × IfSome t.left_before (WithBytes w.bytes (SendsAll t)) × IsAtEnd t.left_after
-    × (t.read_failed ≡ false) × (t.write_failed ≡ false)
+CallGives (Ok v) t w = Passes w × WithBytesFor t w (SendsAll t) × ReadsToEnd t × WriterServes t
 CallGives (Err e) t w = CallFails e t w
 
 -- this holds of a refusal of the job

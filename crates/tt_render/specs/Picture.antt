@@ -1,34 +1,20 @@
 -- The picture of a line of text: each glyph's outline moved to its pen, blackened by the scan converter's rules
--- (OpenType,
--- "TrueType Fundamentals"), written as format P4 of Netpbm's PBM. Margins and limits are profile.
+-- (OpenType, "TrueType Fundamentals"), written as format P4 of Netpbm's PBM. Margins and limits are profile.
 use Rattle.std.specs.Prelude.{ℕ, ◌*◌, ℤ, pos, ◌-ℤ◌, List, Result, Ok}
 use Rattle.tt_arc.specs.Chords.{chord_edges}
 use Rattle.tt_core.specs.Faults.{Fault}
-use Rattle.tt_core.specs.Directory.{needed_table}
 use Rattle.tt_core.specs.Outcomes.{◌>>=◌, each}
 use Rattle.tt_fit.specs.Fitting.{Fitter, fitted_outline}
 use Rattle.tt_fit.specs.Outline.{Outline}
 use Rattle.tt_fit.specs.Preparation.{fitter_of}
-use Rattle.tt_glyf.specs.Bytes.{glyf_tag}
-use Rattle.tt_glyf.specs.Loca.{Glyf, loca_tag, loca_of, with_glyf}
 use Rattle.tt_line.specs.Layout.{Placement, placement}
-use Rattle.tt_metrics.specs.Metrics.{Metrics}
 use Rattle.tt_pbm.specs.P4.{p4}
 use Rattle.tt_scan.specs.declared.edge.Edge.{Edge}
 use Rattle.tt_scan.specs.declared.edge.Frame.{Frame}
 use Rattle.tt_render.specs.Job.{Job, tested}
-use Rattle.tt_render.specs.Face.{Face, face_of}
 use Rattle.tt_render.specs.Outcome.{Refused, Wanted, as_font, as_job, outcome_of}
 use Rattle.tt_render.specs.Pixels.{is_black_pixel}
-use Rattle.tt_render.specs.Programs.{programs_in}
-
--- loca and glyf; a loca that is too short comes before a glyf that is not there
-unfoldable pub glyphs_in : List ℕ → Metrics → Result Glyf Fault
-glyphs_in directory m = do
-  loca ← needed_table directory loca_tag
-  locations ← loca_of loca m
-  glyf ← needed_table directory glyf_tag
-  Ok (with_glyf locations glyf)
+use Rattle.tt_render.specs.Tables.{Face, face_of, glyphs_in, programs_in}
 
 -- what the outlines are made from: the glyph data, and what the font's programs leave at the size
 unfoldable pub setting_in : Face → Job → Result Fitter Fault

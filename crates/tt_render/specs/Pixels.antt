@@ -1,6 +1,5 @@
 -- Which pixels of a line are black. OpenType, "TrueType Fundamentals", the scan converter's rules 1 and 2, for each
--- glyph
--- by itself: what one glyph winds round another does not count against.
+-- glyph by itself: what one glyph winds round another does not count against.
 use Rattle.std.specs.Prelude.{◌≡◌, ℕ, ◌≤◌, ◌^◌, Bool, false, ◌||◌, ℤ, pos, ◌-ℤ◌, List, [], ◌∷◌, length}
 use Rattle.tt_scan.specs.declared.edge.Edge.{Edge}
 use Rattle.tt_scan.specs.declared.edge.Frame.{Frame}
@@ -34,7 +33,7 @@ abbrev pub is_black_by : Frame → List Stamp → ℕ → ℕ → Bool
 is_black_by f [] c r = false
 is_black_by f (g ∷ gs) c r = is_black_from f g.edges g.pens c r || is_black_by f gs c r
 
--- a tape of the frame, with no more edges than a glyph has, of which so many crossings were asked for at most
+-- the tape has this frame, at most 2 ^ 17 edges, and a crossing count of at most `asked`
 pub record TapeFits (f : Frame) (asked : ℕ) (t : Tape) : Type 0 where
   pub frame : t.frame ≡ f
   pub edges : length t.edges ≤ 2 ^ 17

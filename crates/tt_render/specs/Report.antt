@@ -1,56 +1,60 @@
--- What the program says of a fault: its exit status, and its line on standard error; and of a glyph that is not
--- fitted.
-use Rattle.std.specs.Prelude.{ℕ, List, ◌++◌, codes, decimal, ◌≡◌, refl}
-use Rattle.std.specs.Fmt.{digits}
-use Rattle.tt_core.specs.declared.fault.JobFault.{JobFault}
+-- No part of the standard: which glyphs of a text are drawn with their scaled points, and for which fault of a program
+-- (profile).
+use Rattle.std.specs.Prelude.{◌≡◌, refl, ℕ, Bool, true, false, not, ◌&&◌, List, [], ◌∷◌, map, codes, Option, Some, None, Result, Ok}
 use Rattle.tt_core.specs.declared.fault.Why.TheVariants as why
-use Rattle.tt_core.specs.Faults.{Fault, fault_at, why_number, why_name, job_number, job_name}
-use Rattle.tt_render.specs.declared.fault.RunFault.{RunFault}
-use Rattle.tt_render.specs.declared.fault.RunFault.TheVariants as run
-use Rattle.tt_render.specs.declared.unfitted.Unfitted.{Unfitted}
+use Rattle.tt_core.specs.Faults.{Fault, fault_at}
+use Rattle.tt_core.specs.Outcomes.{◌>>=◌}
+use Rattle.tt_fit.specs.Fitting.{Fitter, unfitted_fault}
+use Rattle.tt_line.specs.Layout.{Placement, placement}
+use Rattle.tt_render.specs.Job.{Job}
+use Rattle.tt_render.specs.declared.report.Unfitted.{Unfitted}
+use Rattle.tt_render.specs.Tables.{Face, face_of}
+use Rattle.tt_render.specs.Glyphs.{Glyph, distinct, is_among}
+use Rattle.tt_render.specs.Outcome.{Refused, as_font, as_job}
+use Rattle.tt_render.specs.Picture.{setting_in}
 
-abbrev pub status_of : RunFault → ℕ
-status_of (run.Font f) = 1
-status_of (run.Job j) = 2
-status_of run.Read = 3
-status_of run.FontLarge = 3
-status_of (run.Write sent) = 4
-status_of run.Memory = 5
+-- a glyph before those after it, where a fault is why it is not fitted
+abbrev pub listed : ℕ → Option Fault → List Unfitted → List Unfitted
+listed g None others = others
+listed g (Some fault) others = record { glyph = g; fault = fault } ∷ others
 
--- `<table>+<offset>: <number> <name>`
-abbrev pub fault_words : Fault → List ℕ
-fault_words f =
-    f.table ++ (codes "+" ++ (decimal f.offset
-    ++ (codes ": " ++ (decimal (why_number f.why) ++ (codes " " ++ why_name f.why)))))
+-- those of some glyphs that are not fitted, in their order
+abbrev pub unfitted_among : Fitter → List ℕ → List Unfitted
+unfitted_among s [] = []
+unfitted_among s (g ∷ gs) = listed g (unfitted_fault s g) (unfitted_among s gs)
 
--- `tt_render: <table>+<offset>: <number> <name>`
-abbrev pub font_line : Fault → List ℕ
-font_line f = codes "tt_render: " ++ fault_words f
+-- those of a line, each once, in order of first appearance
+unfoldable pub line_report : Face → Job → Placement → Result (List Unfitted) Fault
+line_report face a line = setting_in face a >>= λ s. Ok (unfitted_among s (distinct (map (λ g. g.0) line.glyphs)))
 
--- `tt_render: glyph <n> unfitted: <table>+<offset>: <number> <name>`
-abbrev pub unfitted_line_of : Unfitted → List ℕ
-unfitted_line_of u =
-    codes "tt_render: glyph " ++ (decimal u.glyph ++ (codes " unfitted: " ++ fault_words u.fault))
+-- those of a text by a font, or the first refusal
+unfoldable pub report_of : Job → List ℕ → Result (List Unfitted) Refused
+report_of a file =
+    as_font (face_of file) >>= λ face.
+    as_job (placement face.metrics face.cmap a.text a.ppem a.margin) >>= λ line.
+    as_font (line_report face a line)
 
--- `tt_render: <number> <name>`
-abbrev pub job_line : JobFault → List ℕ
-job_line j = codes "tt_render: " ++ (decimal (job_number j) ++ (codes " " ++ job_name j))
+-- the same of glyphs that are kept
+abbrev pub unfitted_standing : List Glyph → List Unfitted
+unfitted_standing [] = []
+unfitted_standing (g ∷ gs) = listed g.number g.unfitted (unfitted_standing gs)
 
-abbrev pub line_of : RunFault → List ℕ
-line_of (run.Font f) = font_line f
-line_of (run.Job j) = job_line j
-line_of run.Read = codes "tt_render: cannot read the font"
-line_of run.FontLarge = codes "tt_render: font larger than 67108864 bytes"
-line_of (run.Write sent) = codes "tt_render: cannot write after " ++ (decimal sent ++ codes " bytes")
-line_of run.Memory = codes "tt_render: out of memory"
+-- no number stands twice
+abbrev pub all_differ : List ℕ → Bool
+all_differ [] = true
+all_differ (g ∷ gs) = not (is_among g gs) && all_differ gs
 
--- a worked value
-an_instruction_outside : line_of (run.Font (fault_at (codes "glyf") 14 why.OffProfile))
-    ≡ codes "tt_render: glyf+14: 35 OffProfile"
-unfolding digits why_number why_name
-an_instruction_outside = refl
+-- no glyph is listed twice
+abbrev pub ListsOnce : List Unfitted → Type 0
+ListsOnce entries = all_differ (map (λ u. u.glyph) entries) ≡ true
 
-a_glyph_not_fitted : unfitted_line_of (record { glyph = 1; fault = fault_at (codes "glyf") 14 why.OffProfile })
-    ≡ codes "tt_render: glyph 1 unfitted: glyf+14: 35 OffProfile"
-unfolding digits why_number why_name
-a_glyph_not_fitted = refl
+-- worked values
+seven_and_three : all_differ (7 ∷ 3 ∷ []) ≡ true
+seven_and_three = refl
+
+seven_twice : all_differ (7 ∷ 3 ∷ 7 ∷ []) ≡ false
+seven_twice = refl
+
+one_of_two : listed 1 (Some (fault_at (codes "glyf") 14 why.OffProfile)) (listed 2 None [])
+    ≡ record { glyph = 1; fault = fault_at (codes "glyf") 14 why.OffProfile } ∷ []
+one_of_two = refl

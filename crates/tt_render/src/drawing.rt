@@ -1,34 +1,31 @@
 //! The picture of a line.
 
-ghost use Rattle.std.specs.Prelude.{◌≡◌, ◌<◌, ◌≤◌, ◌^◌, length, map, unsigned_abs, All, Ok, IfOk, IfErr, OnOk, IsOkAnd};
+ghost use Rattle.std.specs.Prelude.{◌≡◌, ◌<◌, ◌≤◌, ◌^◌, length, map, unsigned_abs, All, Ok, IfOk, IsOkAnd};
 ghost use Rattle.tt_core.specs.Limits.{font_limit, text_limit, width_limit, height_limit};
-ghost use Rattle.tt_core.specs.Directory.{HasNo};
-ghost use Rattle.tt_core.specs.Outcomes.{Gives, GivesUnless, FontGives, IfTold, font_fault};
+ghost use Rattle.tt_core.specs.Outcomes.{GivesUnless, FontGives, IfTold, font_fault};
 ghost use Rattle.tt_line.specs.Outcome.{placement_of};
-ghost use Rattle.tt_metrics.specs.Metrics.{loca_format_of, glyphs_of};
+ghost use Rattle.tt_metrics.specs.Metrics.{glyphs_of};
 ghost use Rattle.tt_render.specs.Job.{job_view, IsJob};
-ghost use Rattle.tt_render.specs.Defects.{IsGlyphTableDefect, IsSettingDefect, IsLineDefect, IsRunDefect, IsExtentRefusal, TellsDefects, draw_font_fault, draw_job_fault};
-ghost use Rattle.tt_render.specs.Face.{face_of, face_view};
+ghost use Rattle.tt_render.specs.Defects.{IsSettingDefect, IsLineDefect, IsRunDefect, IsExtentRefusal, TellsDefects, draw_font_fault, draw_job_fault};
 ghost use Rattle.tt_render.specs.Outcome.{refusal};
-ghost use Rattle.tt_render.specs.Picture.{drawn, pictured, setting_in, glyphs_in};
+ghost use Rattle.tt_render.specs.Picture.{drawn, pictured, setting_in};
 ghost use Rattle.tt_pbm.specs.P4.{header_bytes, p4_header_of};
 ghost use Rattle.tt_render.specs.Pixels.{TapeFits};
-ghost use Rattle.tt_render.specs.Unfitted.{line_report, report_of, unfitted_standing, ListsOnce};
+ghost use Rattle.tt_render.specs.Report.{line_report, report_of, unfitted_standing, ListsOnce};
+ghost use Rattle.tt_render.specs.Tables.{face_of, face_view};
 ghost use Rattle.tt_render.specs.Views.{IsReady, picture_bytes};
 ghost use Rattle.tt_scan.specs.Winding.{FrameFits};
 
-use crate::face::{Face, open_face};
 use crate::fault::DrawFault;
 use crate::glyph::Glyph;
 use crate::glyphs::line_glyphs;
 use crate::job::Job;
-use crate::programs::open_programs;
+use crate::report::{Report, report_on};
 use crate::rows::most_edges;
-use crate::unfitted::{Report, report_on};
+use crate::tables::{Face, open_face, open_glyf, open_programs};
 use std::alloc::{AllocError, Global};
-use tt_core::{Fault, FontFault};
+use tt_core::FontFault;
 use tt_fit::Fitter;
-use tt_glyf::{Glyf, Loca};
 use tt_line::{Line, lay};
 use tt_pbm::{Header, p4_header};
 use tt_scan::{Frame, Sweep};
@@ -43,20 +40,6 @@ pub(crate) struct Picture {
     /// Memory for one row.
     pub(crate) row: Vec<u8>,
     pub(crate) report: Report,
-}
-
-/// loca and glyf. Errors: NoTable, TableRange, LocaShort.
-#[tactic(auto, unfolding(crate::specs::Picture::glyphs_in))]
-fn open_glyf<'a>(face: &Face<'a>) -> Result<Glyf<'a>, Fault>
-    ensures exact { Gives (λ t. t) result (glyphs_in face.now.dir face.now.metrics) }
-    ensures format { IfOk result (λ t. t.format ≡ loca_format_of face.now.metrics) }
-    ensures glyphs { IfOk result (λ t. t.glyphs ≡ glyphs_of face.now.metrics) }
-    ensures sound { OnOk result (HasNo (IsGlyphTableDefect face.now.dir face.now.metrics)) }
-    ensures fault { IfErr result (IsGlyphTableDefect face.now.dir face.now.metrics) }
-{
-    // A loca that is too short comes before a glyf that is not there.
-    let loca = Loca::open(face.dir.needed(*b"loca")?, &face.metrics)?;
-    Ok(Glyf::of(loca, face.dir.needed(*b"glyf")?))
 }
 
 /// What makes the outlines of a job. Errors, the first of: those of loca and glyf; TableRange of the control values and
@@ -75,7 +58,7 @@ fn open_fitter<'a>(alloc: Global, face: &Face<'a>, job: &Job) -> Result<Fitter<'
 
 /// The picture of a line that is laid out. Errors: those of loca and glyf, of the programs, of the glyphs in the order
 /// of the line, Memory.
-#[tactic(auto, unfolding(crate::specs::Picture::drawn, crate::specs::Unfitted::line_report))]
+#[tactic(auto, unfolding(crate::specs::Picture::drawn, crate::specs::Report::line_report))]
 fn draw_line(alloc: Global, face: &Face, job: &Job, line: &Line) -> Result<Picture, FontFault>
     requires asked { IsJob (job_view job.now) }
     requires width { (1 ≤ line.now.width) × (line.now.width ≤ width_limit) }
@@ -84,7 +67,7 @@ fn draw_line(alloc: Global, face: &Face, job: &Job, line: &Line) -> Result<Pictu
     requires known { All (λ g. g.0 < glyphs_of face.now.metrics) line.now.glyphs.items }
     requires count { length line.now.glyphs.items ≤ text_limit }
     ensures exact { FontGives picture_bytes result (drawn (face_view face.now) (job_view job.now) (placement_of line.now)) }
-    ensures ready { IfOk result IsReady }
+    ensures valid { IfOk result IsReady }
     ensures report { IfOk result (λ p. line_report (face_view face.now) (job_view job.now) (placement_of line.now) ≡ Ok p.report.unfitted.items) }
     ensures once { IfOk result (λ p. ListsOnce p.report.unfitted.items) }
     ensures defects { TellsDefects font_fault (IsLineDefect (face_view face.now) (job_view job.now) (map (λ g. g.0) line.now.glyphs.items)) result }
@@ -108,7 +91,7 @@ fn ready(alloc: Global, frame: Frame, glyphs: Vec<Glyph>) -> Result<Picture, All
     ensures frame { IfOk result (λ p. p.frame ≡ frame) }
     ensures glyphs { IfOk result (λ p. p.glyphs.items ≡ glyphs.items) }
     ensures report { IfOk result (λ p. p.report.unfitted.items ≡ unfitted_standing glyphs.items) }
-    ensures ready { IfOk result IsReady }
+    ensures valid { IfOk result IsReady }
 {
     let most = most_edges(&glyphs);
     let report = report_on(alloc, &glyphs)?;
@@ -125,12 +108,12 @@ fn ready(alloc: Global, frame: Frame, glyphs: Vec<Glyph>) -> Result<Picture, All
 /// The picture of a job by a font file. Errors, the first of: those of the tables that every text is
 /// looked up in; EmptyPicture, PictureLarge; those of loca and glyf; those of the programs; those of the glyphs in the
 /// order of the text. Memory comes where a growth was refused.
-#[tactic(auto, unfolding(crate::specs::Picture::pictured, crate::specs::Unfitted::report_of))]
+#[tactic(auto, unfolding(crate::specs::Picture::pictured, crate::specs::Report::report_of))]
 pub(crate) fn draw(alloc: Global, file: &[u8], job: &Job) -> Result<Picture, DrawFault>
     requires size { length file.now ≤ font_limit }
     requires asked { IsJob (job_view job.now) }
     ensures exact { GivesUnless refusal picture_bytes result (pictured (job_view job.now) file.now) }
-    ensures ready { IfOk result IsReady }
+    ensures valid { IfOk result IsReady }
     ensures report { IfOk result (λ p. report_of (job_view job.now) file.now ≡ Ok p.report.unfitted.items) }
     ensures once { IfOk result (λ p. ListsOnce p.report.unfitted.items) }
     ensures defects { TellsDefects draw_font_fault (IsRunDefect (job_view job.now) file.now) result }

@@ -1,31 +1,29 @@
-//! A glyph of a line: made once, however often it stands in the line.
+//! A glyph of a line: made once, however often it stands in the line. How it is painted: painting.rt.
 
-ghost use Rattle.std.specs.Prelude.{◌≡◌, ℕ, ℤ, ◌+◌, ◌*◌, ◌<◌, ◌≤◌, ◌&&◌, ◌||◌, false, nat_lt, pos, ◌++◌, [], ◌∷◌, length, IfOk, IfSome, IfNone, OnOk, Some, None, Err};
-ghost use Rattle.tt_core.specs.Bits.{bit};
-ghost use Rattle.tt_core.specs.Limits.{height_limit};
+ghost use Rattle.std.specs.Prelude.{◌≡◌, ◌<◌, ◌≤◌, ◌++◌, [], ◌∷◌, length, IfOk, IfSome, IfNone, OnOk, Some, None, Err};
 ghost use Rattle.tt_core.specs.Outcomes.{IfTold, font_fault};
 ghost use Rattle.tt_fit.specs.Fitting.{fitted_outline};
 ghost use Rattle.tt_fit.specs.Outline.{IsOutline, outline_of};
-ghost use Rattle.tt_scan.specs.Winding.{FrameFits, is_black, column_x, row_y};
-ghost use Rattle.tt_render.specs.Glyphs.{IsDrawn, GlyphFits, stamp_of};
+ghost use Rattle.tt_scan.specs.Winding.{FrameFits};
+ghost use Rattle.tt_render.specs.Glyphs.{IsDrawn};
 ghost use Rattle.tt_render.specs.Picture.{edges_at};
-ghost use Rattle.tt_render.specs.Pixels.{TapeFits, is_black_from, covers_from, row_crossings};
+ghost use Rattle.tt_render.specs.Pixels.{TapeFits};
 
-use crate::unfitted::Unfitted;
+use crate::report::Unfitted;
 use std::alloc::{AllocError, Global};
 use std::marker::Model;
 use tt_arc::chords;
 use tt_core::{Fault, FontFault};
 use tt_fit::{Fitter, Outline};
-use tt_scan::{Frame, Sweep, Tape};
+use tt_scan::{Frame, Tape};
 
 /// A glyph by its number in the font, with its edges where its pen is 0.
 #[derive(Drop)]
 pub(crate) struct Glyph {
     number: u16,
-    tape: Tape,
-    /// Where it stands, in pixels.
-    pens: Vec<u32>,
+    pub(crate) tape: Tape,
+    /// Where it stands in the line, in pixels from the left end.
+    pub(crate) pens: Vec<u32>,
     /// The fault for which its outline is not fitted.
     unfitted: Option<Fault>,
 }
@@ -39,7 +37,7 @@ impl Model for Glyph {
 }
 
 impl Glyph {
-    /// A glyph that stands nowhere yet. Errors: those of its outline, Memory.
+    /// A glyph without a pen. Errors: those of its outline, Memory.
     pub(crate) fn new(
         alloc: Global,
         fitter: &Fitter,
@@ -50,7 +48,7 @@ impl Glyph {
         requires frame { FrameFits frame }
         ensures number { IfOk result (λ g. g.number ≡ number) }
         ensures pens { IfOk result (λ g. g.pens ≡ []) }
-        ensures drawn { IfOk result (IsDrawn fitter.now frame) }
+        ensures valid { IfOk result (IsDrawn fitter.now frame) }
         ensures fault { IfTold font_fault result (λ f. fitted_outline fitter.now number ≡ Err f) }
     {
         // The outline is given up once the tape stands.
@@ -77,7 +75,7 @@ impl Glyph {
         }
     }
 
-    /// Has the glyph stand at one more pen.
+    /// Adds a pen at which the glyph stands, in pixels. Error: Memory.
     pub(crate) fn stand(&mut self, pen: u32) -> Result<(), AllocError>
         ensures { OnOk result (self.new ≡ record self.old { pens = self.old.pens ++ pen ∷ [] }) }
     {
@@ -90,46 +88,6 @@ impl Glyph {
     {
         self.tape.edges()
     }
-
-    /// Whether a row of the picture is to be looked at.
-    fn meets(&self, r: u32) -> bool
-        requires { r < self.now.tape.frame.height }
-        ensures { result ≡ false → (c : ℤ) → is_black self.now.tape.edges (column_x self.now.tape.frame.margin c) (row_y self.now.tape.frame (pos r)) ≡ false }
-    {
-        let (first, past) = self.tape.rows();
-        let row = i64::from(r);
-        first <= row && row < past
-    }
-
-    /// Blackens the pixels of a row of the picture that the glyph covers at its pens; all others stay as they are.
-    pub(crate) fn add_to_row(&mut self, sweep: &mut Sweep, frame: Frame, r: u32, row: &mut [u8])
-        requires glyph { GlyphFits frame (r * row_crossings) sweep.old.room self.old }
-        requires height { frame.height ≤ height_limit }
-        requires within { r < frame.height }
-        requires width { frame.width ≤ 8 * length row.old }
-        ensures bits { (k : ℕ) → bit row.new k ≡ (bit row.old k || (nat_lt k frame.width && is_black_from frame self.old.tape.edges self.old.pens k r)) }
-        ensures len { length row.new ≡ length row.old }
-        ensures glyph { GlyphFits frame ((r + 1) * row_crossings) sweep.new.room self.new }
-        ensures stamp { stamp_of self.new ≡ stamp_of self.old }
-        ensures room { sweep.new.room ≡ sweep.old.room }
-    {
-        if !self.meets(r) {
-            return;
-        }
-        sweep.cut(&mut self.tape, i64::from(r));
-        paint_at(sweep, &self.pens, frame.width, row);
-    }
-}
-
-/// Blackens the columns of a sweep's spans from each pen.
-fn paint_at(sweep: &Sweep, pens: &[u32], width: u32, row: &mut [u8])
-    requires width { width ≤ 8 * length row.old }
-    ensures bits { (k : ℕ) → bit row.new k ≡ (bit row.old k || (nat_lt k width && covers_from sweep.now.spans pens.now k)) }
-    ensures len { length row.new ≡ length row.old }
-{
-    for pen in pens {
-        sweep.paint(i64::from(*pen), width, row);
-    }
 }
 
 /// The edges of an outline whose first phantom point stands at the left end of the line.
@@ -137,7 +95,7 @@ fn tape_of(alloc: Global, outline: &Outline, frame: Frame) -> Result<Tape, Alloc
     requires frame { FrameFits frame }
     requires outline { IsOutline (outline_of outline.now) }
     ensures exact { IfOk result (λ t. t ≡ record { frame = frame; edges = edges_at 0 (outline_of outline.now); crosses = 0 }) }
-    ensures fits { IfOk result (TapeFits frame 0) }
+    ensures valid { IfOk result (TapeFits frame 0) }
 {
     let origin = outline.phantom[0].0;
     chords(alloc, outline, -i64::from(origin), 0, frame)

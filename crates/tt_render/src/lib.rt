@@ -2,25 +2,24 @@
 #![tactic(auto)]
 
 mod drawing;
-mod face;
 mod fault;
 mod glyph;
 mod glyphs;
 mod job;
 pub mod laws;
-mod limits;
 mod mapping;
-mod programs;
+mod messages;
+mod painting;
 mod reading;
-mod reports;
+mod report;
 mod rows;
 mod running;
-mod unfitted;
+mod tables;
 mod writing;
 
 pub use fault::RunFault;
 pub use job::Job;
 pub use mapping::map;
-pub use reports::{line, status, unfitted_line};
+pub use messages::{line, status, unfitted_line};
+pub use report::{Report, Unfitted};
 pub use running::run;
-pub use unfitted::{Report, Unfitted};

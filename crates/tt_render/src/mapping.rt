@@ -8,12 +8,12 @@ ghost use Rattle.tt_core.specs.Outcomes.{FontGives, font_fault};
 ghost use Rattle.tt_metrics.specs.Metrics.{glyphs_of};
 ghost use Rattle.tt_render.specs.Defects.{IsFaceDefect, TellsDefects, TellsDefectsOf};
 ghost use Rattle.tt_render.specs.MapLines.{code_point, line_text, lines_of, map_lines, map_wanted};
-ghost use Rattle.tt_render.specs.Outcome.{CallGives, IfJob, IfLarge};
+ghost use Rattle.tt_render.specs.Outcome.{CallGives, IfJob, IfLarge, traffic_of};
 
-use crate::face::open_face;
 use crate::fault::RunFault;
-use crate::limits::test_text;
+use crate::job::test_text;
 use crate::reading::read_font;
+use crate::tables::open_face;
 use std::alloc::{AllocError, Global};
 use tt_cmap::Cmap;
 use tt_core::{FontFault, Sink, Source};
@@ -34,14 +34,7 @@ pub fn map<R: Source, W: Sink>(
 ) -> Result<(), RunFault>
     requires font { R.has_failed font.old ≡ false }
     requires out { W.has_failed out.old ≡ false }
-    ensures outcome { CallGives result (record {
-      left_before = R.left font.old;
-      left_after = R.left font.new;
-      read_failed = R.has_failed font.new;
-      out_before = W.written out.old;
-      out_after = W.written out.new;
-      write_failed = W.has_failed out.new;
-    }) (map_wanted text.now) }
+    ensures outcome { CallGives result (traffic_of R.left R.has_failed W.written W.has_failed font.old font.new out.old out.new) (map_wanted text.now) }
     ensures defects { TellsDefectsOf (R.left font.old) IsFaceDefect result }
     ensures text { IfJob result (λ j. (j ≡ TextLong) × (text_limit < length (chars text.now))) }
     ensures large { IfLarge result (IfSome (R.left font.old) (λ file. font_limit < length file)) }

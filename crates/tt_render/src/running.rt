@@ -4,16 +4,15 @@ ghost use Rattle.std.specs.Prelude.{◌≡◌, ◌<◌, false, length, Ok, IfOk,
 ghost use Rattle.tt_core.specs.Limits.{font_limit};
 ghost use Rattle.tt_render.specs.Job.{job_view};
 ghost use Rattle.tt_render.specs.Defects.{IsRunDefect, IsJobRefusal, TellsDefectsOf};
-ghost use Rattle.tt_render.specs.Outcome.{CallGives, IfJob, IfLarge};
+ghost use Rattle.tt_render.specs.Outcome.{CallGives, IfJob, IfLarge, traffic_of};
 ghost use Rattle.tt_render.specs.Picture.{run_wanted};
-ghost use Rattle.tt_render.specs.Unfitted.{report_of, ListsOnce};
+ghost use Rattle.tt_render.specs.Report.{report_of, ListsOnce};
 
 use crate::drawing::{Picture, draw};
 use crate::fault::RunFault;
-use crate::job::Job;
-use crate::limits::test_job;
+use crate::job::{Job, test_job};
 use crate::reading::read_font;
-use crate::unfitted::Report;
+use crate::report::Report;
 use crate::writing::write_picture;
 use std::alloc::Global;
 use tt_core::{Sink, Source};
@@ -34,14 +33,7 @@ pub fn run<R: Source, W: Sink>(
 ) -> Result<Report, RunFault>
     requires font { R.has_failed font.old ≡ false }
     requires out { W.has_failed out.old ≡ false }
-    ensures outcome { CallGives result (record {
-      left_before = R.left font.old;
-      left_after = R.left font.new;
-      read_failed = R.has_failed font.new;
-      out_before = W.written out.old;
-      out_after = W.written out.new;
-      write_failed = W.has_failed out.new;
-    }) (run_wanted (job_view job.now)) }
+    ensures outcome { CallGives result (traffic_of R.left R.has_failed W.written W.has_failed font.old font.new out.old out.new) (run_wanted (job_view job.now)) }
     // With fallback each glyph of the text that is not fitted is listed once, in order of first appearance, with its
     // fault; with the other ways of fitting none is.
     ensures report { IfOk result (λ r. IfSome (R.left font.old) (λ file. report_of (job_view job.now) file ≡ Ok r.unfitted.items)) }

@@ -1,6 +1,6 @@
 //! What the program does, without its command line, over readers and writers in memory, and as often as it is asked:
 //! for tests with fonts that are damaged and devices that fail. A line of standard input is a question, or says of what
-//! and how those behind it are asked:
+//! and how those after it are asked:
 //!
 //!     font HEX
 //!     file PATH

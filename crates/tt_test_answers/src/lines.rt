@@ -6,7 +6,7 @@ use std::io::{self, BufRead, BufReader, BufWriter, Write};
 
 /// What answers the questions.
 pub(crate) trait Answers {
-    /// Takes the words of a line: prints the answer of a question, or keeps what those behind it are asked of.
+    /// Takes the words of a line: prints the answer of a question, or keeps what those after it are asked of.
     fn take<W: Write>(&mut self, rt: &HostRuntime, out: &mut W, words: &mut Words) -> Result<()>;
 }
 

@@ -1,5 +1,5 @@
 //! What runs of the bytecode machine leave. A line of standard input is a question, or a font program, whose functions
-//! the questions behind it have:
+//! the questions after it have:
 //!
 //!     TABLE BASE CODE EM PPEM CVT STORAGE TWILIGHT GLYPH ENDS
 //!     font BASE CODE

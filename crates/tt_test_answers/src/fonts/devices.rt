@@ -13,7 +13,7 @@ pub(crate) struct Manner {
     pub(crate) write_step: usize,
     /// How many bytes are taken in all.
     pub(crate) room: usize,
-    /// Whether a write behind those takes nothing. Else it fails.
+    /// Whether a write after those takes nothing. Else it fails.
     pub(crate) takes_nothing: bool,
 }
 

@@ -19,7 +19,7 @@ pub(crate) fn print_run<'a, W: Write>(
     }
 }
 
-/// Prints the steps, and what the machine holds behind them.
+/// Prints the steps, and what the machine holds after them.
 fn print_steps<W: Write>(out: &mut W, steps: u32, machine: Machine, before: &Parts) -> Result<()> {
     write!(out, "{steps} steps; stack")?;
     for value in machine.stack() {
@@ -93,7 +93,7 @@ fn print_round<W: Write>(out: &mut W, round: &Round) -> Result<()> {
     Ok(())
 }
 
-/// Prints each value that is another, behind its place.
+/// Prints each value that is another, after its place.
 fn print_changed<W: Write>(out: &mut W, before: &[i32], after: &[i32]) -> Result<()> {
     for (i, (old, new)) in before.iter().zip(after).enumerate() {
         if old != new {
@@ -103,7 +103,7 @@ fn print_changed<W: Write>(out: &mut W, before: &[i32], after: &[i32]) -> Result
     Ok(())
 }
 
-/// Prints each point that is another, behind its number.
+/// Prints each point that is another, after its number.
 fn print_moved<W: Write>(out: &mut W, before: &[Point], after: &[Point]) -> Result<()> {
     for (i, (old, new)) in before.iter().zip(after).enumerate() {
         if old != new {

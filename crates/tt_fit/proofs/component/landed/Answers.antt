@@ -1,6 +1,6 @@
 use Rattle.std.proofs.Common.{◌≡◌, ◌+ℤ◌, SFits, w64, ap, refl, rules, arith}
 use Rattle.std.proofs.lemmas.Int.{ints, to_z-of_z}
-use Rattle.tt_fit.specs.Components.{transformed}
+use Rattle.tt_fit.specs.Component.{transformed}
 use Rattle.tt_fit.proofs.component.landed.Goals as goal
 
 pub returns : goal.returns

@@ -6,5 +6,5 @@ use Rattle.tt_fit.proofs.glyph_zone.outline_points.Given as goal
 abbrev pub invariant-loop-point : goal.invariant-loop-point
 invariant-loop-point l = record {
   so_far : l.zone.items ++ map outline_point (drop l.point-index l.points) ≡ map outline_point l.points;
-  sound : All IsPoint l.zone.items;
+  valid : All IsPoint l.zone.items;
 }

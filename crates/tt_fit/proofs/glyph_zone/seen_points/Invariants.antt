@@ -6,5 +6,5 @@ use Rattle.tt_fit.proofs.glyph_zone.seen_points.Given as goal
 abbrev pub invariant-loop-point : goal.invariant-loop-point
 invariant-loop-point l = record {
   so_far : l.points.items ++ map seen (drop l.point-index l.zone) ≡ map seen l.zone;
-  sound : All IsPoint l.points.items;
+  valid : All IsPoint l.points.items;
 }

@@ -1,5 +1,5 @@
 use Rattle.std.proofs.Common.{◌≡◌, ◌++◌, drop}
-use Rattle.tt_fit.specs.Components.{ends_after}
+use Rattle.tt_fit.specs.Joining.{ends_after}
 use Rattle.tt_fit.proofs.joining.push_ends.Given as goal
 
 abbrev pub invariant-loop-end : goal.invariant-loop-end

@@ -1,5 +1,5 @@
 use Rattle.std.proofs.Common.{◌≡◌, ◌+◌, length, drop, All}
-use Rattle.tt_fit.specs.Components.{placed_point}
+use Rattle.tt_fit.specs.Component.{placed_point}
 use Rattle.tt_fit.specs.Outline.{IsPoint}
 use Rattle.tt_core.specs.Outcomes.{after_each}
 use Rattle.tt_fit.specs.Views.{shift_view}
@@ -9,6 +9,6 @@ abbrev pub invariant-loop-point : goal.invariant-loop-point
 invariant-loop-point l = record {
   so_far : after_each (placed_point l.part (shift_view l.by)) (drop l.point-index l.component) l.points.items
       ≡ after_each (placed_point l.part (shift_view l.by)) l.component l.fn.points.items;
-  many : length l.points.items ≡ length l.fn.points.items + l.point-index;
+  count : length l.points.items ≡ length l.fn.points.items + l.point-index;
   coordinates : All IsPoint l.points.items;
 }

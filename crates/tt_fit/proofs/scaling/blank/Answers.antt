@@ -3,8 +3,8 @@ use Rattle.std.proofs.lemmas.Int.{to_z-of_z}
 use Rattle.tt_fit.proofs.Outlines.{blank-is}
 use Rattle.tt_fit.proofs.scaling.blank.Goals as goal
 
-pub returns-clause-sound : goal.returns-clause-sound
-returns-clause-sound c =
+pub returns-clause-valid : goal.returns-clause-valid
+returns-clause-valid c =
     let left : SFits w32 c.in_ok-left.left = search rules in
     let right : SFits w32 c.in_ok-right.right = search rules in
     let ascent : SFits w32 c.in_ok-ascent.ascent = search rules in

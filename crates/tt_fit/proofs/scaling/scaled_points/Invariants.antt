@@ -9,6 +9,6 @@ abbrev pub invariant-loop-point : goal.invariant-loop-point
 invariant-loop-point l = record {
   so_far : after_each (scaled_point (size_view l.size) l.at) (drop l.point-index l.points) l.scaled.items
       ≡ each (scaled_point (size_view l.size) l.at) l.points;
-  many : length l.scaled.items ≡ l.point-index;
+  count : length l.scaled.items ≡ l.point-index;
   coordinates : All IsPoint l.scaled.items;
 }

@@ -2,9 +2,9 @@ use Rattle.std.proofs.Common.{map, refl, rules}
 use Rattle.std.proofs.lemmas.Result.{err_from_is_err_and}
 use Rattle.tt_line.specs.Outcome.{placement_of}
 use Rattle.tt_render.specs.Job.{job_view}
-use Rattle.tt_render.specs.Face.{face_view}
+use Rattle.tt_render.specs.Tables.{face_view}
 use Rattle.tt_render.specs.Picture.{pictured}
-use Rattle.tt_render.specs.Unfitted.{report_of}
+use Rattle.tt_render.specs.Report.{report_of}
 use Rattle.tt_render.proofs.Stopped.{laying_stops, laying_tells, laying_tells_no_defect, drawing_stops, drawing_tells, drawing_refuses_no_job}
 use Rattle.tt_render.proofs.Telling.{no_run_defect}
 use Rattle.tt_render.proofs.drawing.draw.Goals as goal

@@ -6,10 +6,10 @@ use Rattle.tt_line.specs.Outcome.{placement_of}
 use Rattle.tt_pbm.specs.P4.{header_bytes}
 use Rattle.tt_scan.specs.declared.edge.Edge.{Edge}
 use Rattle.tt_render.specs.Job.{job_view}
-use Rattle.tt_render.specs.Face.{face_view}
+use Rattle.tt_render.specs.Tables.{face_view}
 use Rattle.tt_render.specs.Glyphs.{Blacken}
 use Rattle.tt_render.specs.Picture.{drawn, frame_of, glyph_edges, picture}
-use Rattle.tt_render.specs.Unfitted.{line_report}
+use Rattle.tt_render.specs.Report.{line_report}
 use Rattle.tt_render.specs.Views.{picture_bytes}
 use Rattle.tt_render.proofs.Alike.{same_picture}
 use Rattle.tt_render.proofs.Listing.{of_line, lists_once}
@@ -63,7 +63,7 @@ returns-clause-report c =
     let glyphs = c.in_ok-glyphs.glyphs.items in
     let numbers = rw c.deref.ensures.value at c.in_ok-glyphs.ensures.numbers in
     let entries = of_line s _ glyphs c.args.line.now.glyphs.items c.in_ok-ready.field-0.report.unfitted.items
-    c.in_ok-glyphs.ensures.drawn numbers c.in_ok-ready.ensures.report in
+    c.in_ok-glyphs.ensures.valid numbers c.in_ok-ready.ensures.report in
     rw (there, entries) refl
 
 pub returns-clause-once : goal.returns-clause-once
@@ -73,5 +73,5 @@ returns-clause-once c =
     let line = c.args.line.now.glyphs.items in
     let numbers = rw c.deref.ensures.value at c.in_ok-glyphs.ensures.numbers in
     let entries = of_line s _ glyphs line c.in_ok-ready.field-0.report.unfitted.items
-    c.in_ok-glyphs.ensures.drawn numbers c.in_ok-ready.ensures.report in
+    c.in_ok-glyphs.ensures.valid numbers c.in_ok-ready.ensures.report in
     rw entries (lists_once s (map (λ g. g.0) line))

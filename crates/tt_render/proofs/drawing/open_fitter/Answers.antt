@@ -1,7 +1,7 @@
 use Rattle.std.proofs.Common.{refl}
 use Rattle.std.proofs.lemmas.Result.{err_from_is_err_and}
 use Rattle.tt_fit.specs.Preparation.{program_tables}
-use Rattle.tt_render.specs.Face.{face_view}
+use Rattle.tt_render.specs.Tables.{face_view}
 use Rattle.tt_render.specs.Job.{job_view}
 use Rattle.tt_render.specs.Picture.{setting_in}
 use Rattle.tt_render.proofs.Telling.{failed_by, made_by, preparing_tells, no_setting_defect}

@@ -68,7 +68,7 @@ returns-in_err-lines-clause-outcome g c =
     let fails = rw c.deref.ensures.value at c.in_err-lines.ensures.exact in
     let read : IsRead (left c.args.font.now) (left c.read_font.new.font) file.file.items
     (g.R.Source.has_failed c.read_font.new.font) (g.W.Sink.has_failed c.args.out.now) =
-    record { taken = file.ensures.0; end = file.ensures.1; small = file.ensures.2; sound_in = file.ensures.3; sound_out = c.requires.out } in
+    record { taken = file.ensures.0; end = file.ensures.1; small = file.ensures.2; reader_serves = file.ensures.3; writer_serves = c.requires.out } in
     rw (p.1, p.2) (lines_fail (map_wanted text) (λ file. lines_of file text)
     (map_is_of_font text c.in_ok-test_text.ensures.exact) c.in_err-lines.field-0.0 (left c.args.font.now)
     (left c.read_font.new.font) (g.W.Sink.written c.args.out.now) file.file.items
@@ -113,7 +113,7 @@ returns-in_err-write_all_of-clause-outcome g c =
     let p = err_from_is_err_and c.from_residual-in_err-write_all_of.result c.from_residual-in_err-write_all_of.ensures.1
     in
     rw (p.1, p.2)
-    (of_font.tested, with_bytes (map_wanted text) (made text) of_font Q (left c.args.font.now) (left c.read_font.new.font) file.file.items bytes file.ensures.0 file.ensures.1 file.ensures.2 is_made (within, part), file.ensures.1, file.ensures.3, cut.ensures.failure)
+    (of_font.tested, with_bytes (map_wanted text) (made text) of_font Q (left c.args.font.now) (left c.read_font.new.font) file.file.items bytes file.ensures.0 file.ensures.1 file.ensures.2 is_made (within, part), (file.ensures.1, file.ensures.3), cut.ensures.failure)
 
 pub returns-in_err-write_all_of-clause-defects : goal.returns-in_err-write_all_of-clause-defects
 returns-in_err-write_all_of-clause-defects g c =
@@ -137,7 +137,7 @@ returns-clause-outcome g c =
     let is_made : made text file.file.items ≡ Ok bytes = rw lines_are refl in
     let all = rw c.deref-2.ensures.value at c.in_ok-write_all_of.ensures.all in
     let Q : List ℕ → Type 0 = Appends (written c.args.out.now) (written c.write_all_of.new.out) in
-    (of_font.tested, with_bytes (map_wanted text) (made text) of_font Q (left c.args.font.now) (left c.read_font.new.font) file.file.items bytes file.ensures.0 file.ensures.1 file.ensures.2 is_made all, file.ensures.1, file.ensures.3, c.in_ok-write_all_of.ensures.failure)
+    (of_font.tested, with_bytes (map_wanted text) (made text) of_font Q (left c.args.font.now) (left c.read_font.new.font) file.file.items bytes file.ensures.0 file.ensures.1 file.ensures.2 is_made all, (file.ensures.1, file.ensures.3), c.in_ok-write_all_of.ensures.failure)
 
 pub returns-clause-defects : goal.returns-clause-defects
 returns-clause-defects g c =

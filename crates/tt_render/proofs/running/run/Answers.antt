@@ -66,7 +66,7 @@ returns-in_err-picture-clause-outcome g c =
     let extent = rw c.deref.ensures.value at c.in_err-picture.ensures.extent in
     let read : IsRead (left c.args.font.now) (left c.read_font.new.font) file.file.items
     (g.R.Source.has_failed c.read_font.new.font) (g.W.Sink.has_failed c.args.out.now) =
-    record { taken = file.ensures.0; end = file.ensures.1; small = file.ensures.2; sound_in = file.ensures.3; sound_out = c.requires.out } in
+    record { taken = file.ensures.0; end = file.ensures.1; small = file.ensures.2; reader_serves = file.ensures.3; writer_serves = c.requires.out } in
     rw (p.1, p.2) (drawing_fails (run_wanted a) (pictured a) (run_is_of_font a c.in_ok-test_job.ensures.exact) a
     c.in_err-picture.field-0.0 (left c.args.font.now) (left c.read_font.new.font)
     (g.W.Sink.written c.args.out.now) file.file.items (g.R.Source.has_failed c.read_font.new.font)
@@ -111,7 +111,7 @@ returns-in_err-write_picture-clause-outcome g c =
     let p = err_from_is_err_and c.from_residual-in_err-write_picture.result
     c.from_residual-in_err-write_picture.ensures.1 in
     rw (p.1, p.2)
-    (of_font.tested, with_bytes (run_wanted a) (pictured a) of_font Q (left c.args.font.now) (left c.read_font.new.font) file.file.items bytes file.ensures.0 file.ensures.1 file.ensures.2 made (cut.ensures.within, cut.ensures.part), file.ensures.1, file.ensures.3, cut.ensures.failure)
+    (of_font.tested, with_bytes (run_wanted a) (pictured a) of_font Q (left c.args.font.now) (left c.read_font.new.font) file.file.items bytes file.ensures.0 file.ensures.1 file.ensures.2 made (cut.ensures.within, cut.ensures.part), (file.ensures.1, file.ensures.3), cut.ensures.failure)
 
 pub returns-in_err-write_picture-clause-defects : goal.returns-in_err-write_picture-clause-defects
 returns-in_err-write_picture-clause-defects g c =
@@ -133,7 +133,7 @@ returns-clause-outcome g c =
     let bytes = picture_bytes c.in_ok-picture.picture in
     let made = rw c.deref.ensures.value at c.in_ok-picture.ensures.exact in
     let Q : List ℕ → Type 0 = Appends (written c.args.out.now) (written c.write_picture.new.out) in
-    (of_font.tested, with_bytes (run_wanted a) (pictured a) of_font Q (left c.args.font.now) (left c.read_font.new.font) file.file.items bytes file.ensures.0 file.ensures.1 file.ensures.2 made c.in_ok-write_picture.ensures.all, file.ensures.1, file.ensures.3, c.in_ok-write_picture.ensures.failure)
+    (of_font.tested, with_bytes (run_wanted a) (pictured a) of_font Q (left c.args.font.now) (left c.read_font.new.font) file.file.items bytes file.ensures.0 file.ensures.1 file.ensures.2 made c.in_ok-write_picture.ensures.all, (file.ensures.1, file.ensures.3), c.in_ok-write_picture.ensures.failure)
 
 pub returns-clause-defects : goal.returns-clause-defects
 returns-clause-defects g c =

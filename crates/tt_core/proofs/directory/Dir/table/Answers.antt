@@ -7,7 +7,7 @@ use Rattle.tt_core.proofs.directory.Dir.table.Goals as goal
 pub returns-clause-first : goal.returns-clause-first
 returns-clause-first c = λ i least.
     let file = c.args.self.now in
-    let found : c.record.result ≡ Some i = c.record.ensures.first ∙ first_below_least (has_tag file c.args.tag)
+    let found : c.record.result ≡ Some i = c.record.ensures.exact ∙ first_below_least (has_tag file c.args.tag)
     (record_count file) i least in
     let P : Option ℕ → Type 0 = λ r. Gives option_copied c.named.result (named_by file r) in
     subst P found c.named.ensures.exact
@@ -15,7 +15,7 @@ returns-clause-first c = λ i least.
 pub returns-clause-absent : goal.returns-clause-absent
 returns-clause-absent c = λ fails.
     let file = c.args.self.now in
-    let found : c.record.result ≡ None = c.record.ensures.first ∙ first_below_nothing (has_tag file c.args.tag)
+    let found : c.record.result ≡ None = c.record.ensures.exact ∙ first_below_nothing (has_tag file c.args.tag)
     (record_count file) fails in
     let P : Option ℕ → Type 0 = λ r. Gives option_copied c.named.result (named_by file r) in
     subst P found c.named.ensures.exact

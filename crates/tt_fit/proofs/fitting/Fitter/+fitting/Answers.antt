@@ -1,0 +1,62 @@
+use Rattle.std.proofs.Common.{◌≡◌, ◌∙◌, ◌<◌, Ok, SFits, w16, rules, arith}
+use Rattle.std.proofs.lemmas.Int.{to_z-of_z}
+use Rattle.tt_glyf.specs.GlyphData.{glyph_data_of}
+use Rattle.tt_glyf.specs.Raw.{SimpleGlyph, simple}
+use Rattle.tt_fit.specs.Fitting.{with_hinting, start, glyph_program, added, outline_at}
+use Rattle.tt_fit.specs.Outline.{outline_of}
+use Rattle.tt_fit.specs.Hinting.{hinted}
+use Rattle.tt_fit.specs.Views.{hinting_view}
+use Rattle.tt_fit.proofs.Levels.{one_record_more, one_level_done, simple_made}
+use Rattle.tt_fit.proofs.fitting.Fitter.+fitting.Goals as goal
+
+pub joined-loop-part-preserved : goal.joined-loop-part-preserved
+joined-loop-part-preserved t c =
+    let add = added (with_hinting c.args.self.now (hinting_view c.args.hinting.now)) c.args.levels in
+    record {
+      so_far = one_record_more add c.args.records.now c.loop-part.part-index _ (outline_of c.loop-part.so_far)
+          (outline_of c.in_ok-so_far.so_far) c.loop-part-test.true c.in_ok-so_far.ensures.exact
+          ∙ c.loop-part.invariant.so_far;
+      valid = c.in_ok-so_far.ensures.valid;
+    }
+
+pub added-returns-clause-exact : goal.added-returns-clause-exact
+added-returns-clause-exact t c =
+    let s = with_hinting c.args.self.now (hinting_view c.args.hinting.now) in
+    let some : 0 < c.args.levels = omega (arith, c.if-levels-eq0.false) in
+    let placed = rw c.size.ensures at c.placed.ensures.exact in
+    rw (one_level_done s c.args.levels c.args.part (outline_of c.args.so_far)
+    (outline_of c.in_ok-component.component) some c.in_ok-component.ensures.exact) placed
+
+pub outline-returns-in_ok-start-in-Empty-clause-exact : goal.outline-returns-in_ok-start-in-Empty-clause-exact
+outline-returns-in_ok-start-in-Empty-clause-exact t c =
+    grind (arith, c.self.view_is, c.in_ok-read.ensures.exact, c.in-Empty.is, c.in_ok-start-in-Empty.ensures.exact)
+
+pub outline-returns-in_ok-start-in-Simple-clause-exact : goal.outline-returns-in_ok-start-in-Simple-clause-exact
+outline-returns-in_ok-start-in-Simple-clause-exact t c =
+    let s = with_hinting c.args.self.now (hinting_view c.args.hinting.now) in
+    let d = c.in-Simple in
+    let glyph : SimpleGlyph = record {
+      x_min = d.x_min;
+      points = d.points.items;
+      ends = d.ends.items;
+      code = d.code.now;
+      code_at = d.code_at;
+    } in
+    let read : glyph_data_of s.tables c.args.g ≡ Ok (simple glyph) = grind
+    (arith, c.self.view_is, c.in_ok-read.ensures.exact, d.is) in
+    let o = outline_of c.in_ok-start-in-Simple.start in
+    let x_min : SFits w16 d.x_min = search rules in
+    let begun : start s d.x_min c.args.g ≡ Ok o = simp to_z-of_z at c.in_ok-start-in-Simple.ensures.exact in
+    rw (simple_made s c.args.levels c.args.g glyph o read begun)
+    (rw (c.deref.ensures.value, c.deref-in-Simple.ensures.value, c.program-program.ensures) at c.simple.ensures.exact)
+
+pub outline-returns-in_ok-joined-in-Composite-clause-exact : goal.outline-returns-in_ok-joined-in-Composite-clause-exact
+outline-returns-in_ok-joined-in-Composite-clause-exact t c =
+    let s = with_hinting c.args.self.now (hinting_view c.args.hinting.now) in
+    let d = c.in-Composite in
+    let program = glyph_program s c.args.g d.code.now d.code_at in
+    let joins = rw c.as_slice.ensures.value at c.in_ok-joined-in-Composite.ensures.exact in
+    let is : outline_at s c.args.levels c.args.g ≡ hinted s.hinting program
+    (outline_of c.in_ok-joined-in-Composite.joined) = grind
+    (arith, c.self.view_is, c.in_ok-read.ensures.exact, d.is, c.in_ok-start-in-Composite.ensures.exact, joins) in
+    rw is (rw c.program.ensures at c.hinted.ensures.exact)

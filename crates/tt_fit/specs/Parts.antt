@@ -1,0 +1,82 @@
+-- Apple TrueType Reference Manual, "Instructing TrueType Glyphs": what a machine is made of when the font program, the
+-- control value program or a glyph's program begins.
+use Rattle.std.specs.Prelude.{◌≡◌, ℕ, ◌*◌, ◌/◌, ◌<◌, ◌≤◌, true, false, if◌then◌else◌, ℤ, pos, negsuc, List, [], ◌∷◌, length, map, replicate, refl}
+use Rattle.std.specs.List.{range_with_len}
+use Rattle.tt_core.specs.Limits.{size_limit}
+use Rattle.tt_core.specs.Numbers.{unsigned_at, signed16}
+use Rattle.tt_exec.specs.Parts.{Parts}
+use Rattle.tt_metrics.specs.Metrics.{Metrics, storage_of, twilight_of, units_per_em_of}
+use Rattle.tt_points_zones.specs.Zones.{ZoneLists, IsZones}
+use Rattle.tt_state.specs.declared.graphics_state.GraphicsState.{GraphicsState}
+use Rattle.tt_state.specs.declared.point.Point.{Point}
+use Rattle.tt_state.specs.GraphicsState.{default_state, IsGraphicsState}
+use Rattle.tt_fit.specs.GlyphZone.{untouched, glyph_zone, contours_from}
+use Rattle.tt_fit.specs.Outline.{Outline, PhantomPoints}
+use Rattle.tt_fit.specs.Size.{FontSize, scale}
+
+-- what a machine can be made of
+pub record AreParts (parts : Parts) : Type 0 where
+  pub size : parts.ppem ≤ size_limit
+  pub units : 0 < parts.em
+  pub zones : IsZones parts.zones
+  pub graphics : IsGraphicsState parts.state
+
+-- a control value is a signed word in font units; an odd last byte is ignored
+abbrev pub control_value : FontSize → List ℕ → ℕ → ℤ
+control_value z cvt i = scale z (signed16 (unsigned_at cvt (2 * i) 2))
+
+abbrev pub control_values : FontSize → List ℕ → List ℤ
+control_values z cvt = map (control_value z cvt) (range_with_len 0 (length cvt / 2))
+
+-- a point of the twilight zone before a program sets it
+abbrev pub origin : Point
+origin = untouched (pos 0, pos 0) (pos 0, pos 0) true
+
+-- what the font program and the control value program begin with; both have no glyph
+abbrev pub begun_parts : Metrics → List ℕ → ℕ → Parts
+begun_parts m cvt ppem = record {
+  em = units_per_em_of m;
+  ppem = ppem;
+  cvt = control_values (record { ppem = ppem; units_per_em = units_per_em_of m }) cvt;
+  storage = replicate (storage_of m) (pos 0);
+  zones = record { twilight = replicate (twilight_of m) origin; glyph = []; contours = [] };
+  functions = [];
+  state = default_state;
+  skip_glyphs = false;
+  default_state = false;
+}
+
+-- the vectors, the reference points, the zone pointers and the loop as they are by default
+abbrev pub pointers_set_back : GraphicsState → GraphicsState
+pointers_set_back g = record g {
+  proj = default_state.proj;
+  free = default_state.free;
+  rp0 = default_state.rp0;
+  rp1 = default_state.rp1;
+  rp2 = default_state.rp2;
+  zp0 = default_state.zp0;
+  zp1 = default_state.zp1;
+  zp2 = default_state.zp2;
+  loops = default_state.loops;
+}
+
+-- the graphics state in which the programs of glyphs begin; the control value program can ask for the defaults
+abbrev pub glyph_graphics : Parts → GraphicsState
+glyph_graphics parts = if parts.default_state then default_state else pointers_set_back parts.state
+
+-- what the control value program leaves to the glyphs
+abbrev pub left_to_glyphs : Parts → Parts
+left_to_glyphs parts = record parts { state = glyph_graphics parts }
+
+abbrev pub zones_of : List Point → Outline → PhantomPoints → ZoneLists
+zones_of twilight o grid =
+    record { twilight = twilight; glyph = glyph_zone o grid; contours = contours_from 0 o.ends }
+
+-- what a machine is made of when a glyph's program begins
+abbrev pub parts_with : Parts → Outline → PhantomPoints → Parts
+parts_with parts o grid = record parts { zones = zones_of parts.zones.twilight o grid }
+
+-- worked value: 1024 units in an em, at 16 pixels, a control value of 100 and one of -1, and half of a third
+two_control_values : control_values (record { ppem = 16; units_per_em = 1024 }) (0 ∷ 100 ∷ 255 ∷ 255 ∷ 9 ∷ [])
+    ≡ pos 100 ∷ negsuc 0 ∷ []
+two_control_values = refl

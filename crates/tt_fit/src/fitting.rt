@@ -1,0 +1,314 @@
+//! The outlines of a font at a size.
+
+ghost use Rattle.std.specs.Prelude.{◌≡◌, ◌+◌, ◌<◌, ◌≤◌, ◌^◌, IsTrue, IfOk, IfErr, OnOk, length, All};
+ghost use Rattle.tt_core.specs.Directory.{HasNo};
+ghost use Rattle.tt_core.specs.Limits.{font_limit, level_limit, point_limit, size_limit};
+ghost use Rattle.tt_core.specs.Outcomes.{FontGives, Gives, IfTold, font_fault};
+ghost use Rattle.tt_glyf.specs.Loca.{glyph_offset};
+ghost use Rattle.tt_glyf.specs.Meaning.{AreEnds as EndContours, HasArguments};
+ghost use Rattle.tt_metrics.specs.Metrics.{loca_format_of, glyphs_of};
+ghost use Rattle.tt_fit.specs.Joining.{placed};
+ghost use Rattle.tt_fit.specs.Defects.{IsOutlineDefect};
+ghost use Rattle.tt_fit.specs.Fallback.{never, where_refused};
+ghost use Rattle.tt_fit.specs.Fitting.{IsFitter, with_hinting, size_of, start, glyph_program, simple_outline, joined, added, outline_at, unfitted_fault, fitted_outline};
+ghost use Rattle.tt_fit.specs.Outline.{outline_of, phantom_of, IsPoint, ArePhantom, AreEnds, IsOutline};
+ghost use Rattle.tt_fit.specs.Preparation.{program_tables, fitter_of};
+ghost use Rattle.tt_fit.specs.Hinting.{IsHinting};
+ghost use Rattle.tt_fit.specs.Views.{hinting_view, size_view, program_view};
+
+use crate::fallback::{Fallback, is_program_fault, told};
+use crate::glyph_zone::GlyphProgram;
+use crate::hinting::{Hinting, hinted};
+use crate::joining::placed;
+use crate::outline::Outline;
+use crate::preparation::{Preparation, prepared};
+use crate::programs::{Fit, Programs};
+use crate::scaling::{blank, glyf_fault, phantom_points, scaled_outline};
+use crate::size::FontSize;
+use std::alloc::Global;
+use std::marker::Model;
+use tt_core::{Fault, FontFault, LEVEL_LIMIT, Why};
+use tt_glyf::{Glyf, Raw, RawPoint, Record};
+use tt_metrics::Metrics;
+
+/// Makes the outlines of a font at a size. A clause sees it as the glyph data, the metrics, the size,
+/// what the font's programs left, and which glyphs are unfitted.
+#[derive(Drop)]
+pub struct Fitter<'a> {
+    alloc: Global,
+    metrics: Metrics<'a>,
+    glyf: Glyf<'a>,
+    ppem: u32,
+    hinting: Hinting<'a>,
+    fallback: Fallback,
+}
+
+impl<'a> Model for Fitter<'a> {
+    ghost use Rattle.tt_fit.specs.Fitting.{IsFitter};
+    ghost use Rattle.tt_fit.specs.Fitting as fitting;
+    ghost use Rattle.tt_fit.specs.Views.{hinting_view, fallback_view};
+
+    ghost Value = { fitting.Fitter };
+
+    ghost view = { λ f. record { tables = f.glyf; metrics = f.metrics; ppem = f.ppem; hinting = hinting_view f.hinting; fallback = fallback_view f.fallback } };
+
+    ghost invariant = { λ f. IsFitter (record { tables = f.glyf; metrics = f.metrics; ppem = f.ppem; hinting = hinting_view f.hinting; fallback = fallback_view f.fallback }) };
+}
+
+impl<'a> Fitter<'a> {
+    /// Takes the metrics and the glyph data of a font, and its programs. With `Fit::Full` the font program and the
+    /// control value program are run at this size, in pixels per em; with `Fit::None` they are not looked at. Errors:
+    /// those of the two programs, Memory. With `Fit::Fallback` by a fault of the two every glyph is unfitted.
+    #[tactic(auto, unfolding(crate::specs::Preparation::fitter_of))]
+    pub fn new(
+        alloc: Global,
+        metrics: &Metrics<'a>,
+        glyf: Glyf<'a>,
+        programs: Programs<'a>,
+        ppem: u32,
+        fit: Fit,
+    ) -> Result<Fitter<'a>, FontFault>
+        requires low { 1 ≤ ppem }
+        requires high { ppem ≤ size_limit }
+        requires format { glyf.format ≡ loca_format_of metrics.now }
+        requires glyphs { glyf.glyphs ≡ glyphs_of metrics.now }
+        requires fpgm { length programs.fpgm.now ≤ font_limit }
+        requires prep { length programs.prep.now ≤ font_limit }
+        ensures exact { FontGives (λ f. f) result (fitter_of metrics.now glyf.entry (program_tables programs.entry) ppem fit) }
+        ensures valid { IfOk result IsFitter }
+        ensures tables { IfOk result (λ f. f.tables ≡ glyf.entry) }
+        ensures metrics { IfOk result (λ f. f.metrics ≡ metrics.now) }
+        ensures ppem { IfOk result (λ f. f.ppem ≡ ppem) }
+    {
+        let size = FontSize::of(metrics, ppem);
+        let Preparation { hinting, fallback } = prepared(alloc, metrics, programs, size, fit)?;
+        Ok(Fitter {
+            alloc,
+            metrics: metrics.copy(),
+            glyf,
+            ppem,
+            hinting,
+            fallback,
+        })
+    }
+
+    /// The outline of a glyph, in 26.6 pixels. Errors: those of reading a glyph, CoordRange, ComponentDepth,
+    /// MatchPoint, PointLimit, those of the programs of the glyph and its components, Memory. With `Fit::Fallback` a
+    /// program's fault is told with the outline, which then is made with its scaled points, components included.
+    pub fn fitted(&self, g: u16) -> Result<Outline, FontFault>
+        requires { g < self.now.tables.glyphs }
+        ensures exact { FontGives outline_of result (fitted_outline self.now g) }
+        ensures unfitted { IfOk result (λ o. o.unfitted ≡ unfitted_fault self.now g) }
+        // On Ok nothing is wrong with the glyph or with a component of it, and a fault tells what is.
+        ensures sound { OnOk result (HasNo (IsOutlineDefect self.now g)) }
+        ensures fault { IfTold font_fault result (IsOutlineDefect self.now g) }
+        ensures few { IfOk result (λ o. length o.points.items ≤ point_limit) }
+        ensures coordinates { IfOk result (λ o. All IsPoint o.points.items) }
+        ensures phantom { IfOk result (λ o. ArePhantom (phantom_of o.phantom)) }
+        ensures ends { IfOk result (λ o. AreEnds (length o.points.items) o.ends.items) }
+        ensures outline { IfOk result (λ o. IsOutline (outline_of o)) }
+    {
+        self.made_by_fallback(g)
+    }
+
+    /// The outline of a glyph, with the fault of a program for which it is made without.
+    #[tactic(auto, unfolding(crate::specs::Fitting::fitted_outline, crate::specs::Fitting::unfitted_fault))]
+    fn made_by_fallback(&self, g: u16) -> Result<Outline, FontFault>
+        requires { g < self.now.tables.glyphs }
+        ensures exact { FontGives outline_of result (fitted_outline self.now g) }
+        ensures unfitted { IfOk result (λ o. o.unfitted ≡ unfitted_fault self.now g) }
+        ensures valid { IfOk result (λ o. IsOutline (outline_of o)) }
+    {
+        match self.fallback {
+            Fallback::Never => self.made(&self.hinting, g, None),
+            Fallback::WhereRefused => self.made_or_unfitted(g),
+            Fallback::Everywhere(fault) => self.made(&Hinting::Off, g, Some(fault)),
+        }
+    }
+
+    /// The outline of a glyph with its program, or, where one is refused, without.
+    #[tactic(auto, unfolding(crate::specs::Fitting::fitted_outline, crate::specs::Fitting::unfitted_fault))]
+    fn made_or_unfitted(&self, g: u16) -> Result<Outline, FontFault>
+        requires known { g < self.now.tables.glyphs }
+        requires fallback { self.now.fallback ≡ where_refused }
+        ensures exact { FontGives outline_of result (fitted_outline self.now g) }
+        ensures unfitted { IfOk result (λ o. o.unfitted ≡ unfitted_fault self.now g) }
+        ensures valid { IfOk result (λ o. IsOutline (outline_of o)) }
+    {
+        match self.made(&self.hinting, g, None) {
+            Ok(outline) => Ok(outline),
+            Err(refusal) => match told(refusal) {
+                Some(fault) => self.refused(g, fault),
+                None => Err(FontFault::Memory),
+            },
+        }
+    }
+
+    /// The outline of a glyph that has this fault with its program.
+    #[tactic(auto, unfolding(crate::specs::Fitting::fitted_outline, crate::specs::Fitting::unfitted_fault))]
+    fn refused(&self, g: u16, fault: Fault) -> Result<Outline, FontFault>
+        requires known { g < self.now.tables.glyphs }
+        requires fallback { self.now.fallback ≡ where_refused }
+        requires fault { outline_at (with_hinting self.now self.now.hinting) level_limit g ≡ Err fault }
+        ensures exact { FontGives outline_of result (fitted_outline self.now g) }
+        ensures unfitted { IfOk result (λ o. o.unfitted ≡ unfitted_fault self.now g) }
+        ensures valid { IfOk result (λ o. IsOutline (outline_of o)) }
+    {
+        if !is_program_fault(fault) {
+            return Err(FontFault::Font(fault));
+        }
+        self.made(&Hinting::Off, g, Some(fault))
+    }
+
+    /// The outline of a glyph by what the programs leave, with the fault for which it is unfitted.
+    fn made(
+        &self,
+        hinting: &Hinting<'a>,
+        g: u16,
+        unfitted: Option<Fault>,
+    ) -> Result<Outline, FontFault>
+        requires hinting { IsHinting (hinting_view hinting.now) }
+        requires known { g < self.now.tables.glyphs }
+        ensures exact { FontGives outline_of result (outline_at (with_hinting self.now (hinting_view hinting.now)) level_limit g) }
+        ensures unfitted { IfOk result (λ o. o.unfitted ≡ unfitted) }
+        ensures valid { IfOk result (λ o. IsOutline (outline_of o)) }
+    {
+        let outline = self.outline(hinting, LEVEL_LIMIT, g)?;
+        Ok(Outline {
+            unfitted,
+            ..outline
+        })
+    }
+
+    fn size(&self) -> FontSize
+        ensures { size_view result ≡ size_of self.now }
+    {
+        FontSize::of(&self.metrics, self.ppem)
+    }
+
+    /// An outline without points. Error: CoordRange.
+    fn start(&self, x_min: i16, g: u16) -> Result<Outline, Fault>
+        requires { g < self.now.tables.glyphs }
+        ensures exact { Gives outline_of result (start self.now x_min g) }
+        ensures valid { IfOk result (λ o. IsOutline (outline_of o)) }
+    {
+        let phantom = phantom_points(self.size(), &self.metrics, x_min, g);
+        blank(self.alloc, self.glyf.start(g), phantom)
+    }
+
+    fn program<'b>(&self, g: u16, code: &'b [u8], code_at: u32) -> GlyphProgram<'b>
+        requires known { g < self.now.tables.glyphs }
+        requires fits { code_at + length code.now < 2 ^ 32 }
+        ensures { program_view result ≡ glyph_program self.now g code.now code_at }
+    {
+        GlyphProgram {
+            code,
+            code_at,
+            glyph_at: self.glyf.start(g),
+        }
+    }
+
+    /// The outline of a simple glyph, begun without points. Errors: CoordRange, Memory.
+    fn simple(
+        &self,
+        hinting: &Hinting<'a>,
+        g: u16,
+        points: &[RawPoint],
+        last_points: &[u16],
+        program: GlyphProgram<'a>,
+        start: Outline,
+    ) -> Result<Outline, FontFault>
+        requires hinting { IsHinting (hinting_view hinting.now) }
+        requires known { g < self.now.tables.glyphs }
+        requires few { length points.now ≤ point_limit }
+        requires ends { EndContours (length points.now) last_points.now }
+        requires start { IsOutline (outline_of start) }
+        ensures exact { FontGives outline_of result (simple_outline (with_hinting self.now (hinting_view hinting.now)) g points.now last_points.now (program_view program.entry) (outline_of start)) }
+        ensures valid { IfOk result (λ o. IsOutline (outline_of o)) }
+    {
+        let at = self.glyf.start(g);
+        let scaled = scaled_outline(self.alloc, self.size(), at, points, last_points, start)?;
+        hinted(self.alloc, hinting, program, scaled)
+    }
+
+    /// The outline of a glyph, where so many levels of components are left.
+    #[cycle(fitting)]
+    fn outline(&self, hinting: &Hinting<'a>, levels: u32, g: u16) -> Result<Outline, FontFault>
+        requires hinting { IsHinting (hinting_view hinting.now) }
+        requires known { g < self.now.tables.glyphs }
+        ensures exact { FontGives outline_of result (outline_at (with_hinting self.now (hinting_view hinting.now)) levels g) }
+        ensures valid { IfOk result (λ o. IsOutline (outline_of o)) }
+    {
+        match self.glyf.read(self.alloc, g)? {
+            Raw::Empty => Ok(self.start(0, g)?),
+            Raw::Simple {
+                x_min,
+                points,
+                ends,
+                code,
+                code_at,
+            } => {
+                let start = self.start(x_min, g)?;
+                let program = self.program(g, code, code_at);
+                self.simple(hinting, g, &points, &ends, program, start)
+            }
+            Raw::Composite {
+                x_min,
+                records,
+                code,
+                code_at,
+            } => {
+                let start = self.start(x_min, g)?;
+                let joined = self.joined(hinting, levels, records.as_slice(), start)?;
+                hinted(self.alloc, hinting, self.program(g, code, code_at), joined)
+            }
+        }
+    }
+
+    /// Each record in order, added to the outline so far.
+    #[cycle(fitting)]
+    fn joined(
+        &self,
+        hinting: &Hinting<'a>,
+        levels: u32,
+        records: &[Record],
+        start: Outline,
+    ) -> Result<Outline, FontFault>
+        requires hinting { IsHinting (hinting_view hinting.now) }
+        requires known { All (λ r. r.glyph < self.now.tables.glyphs) records.now }
+        requires arguments { All HasArguments records.now }
+        requires start { IsOutline (outline_of start) }
+        ensures exact { FontGives outline_of result (joined (added (with_hinting self.now (hinting_view hinting.now)) levels) records.now (outline_of start)) }
+        ensures valid { IfOk result (λ o. IsOutline (outline_of o)) }
+    {
+        let mut so_far = start;
+        for part in records {
+            so_far = self.added(hinting, levels, *part, so_far)?;
+        }
+        Ok(so_far)
+    }
+
+    /// One record: its component's own outline is made, placed, and dropped.
+    #[cycle(fitting)]
+    #[tactic(auto, using(crate::proofs::Levels::one_level), unfolding(crate::specs::Fitting::added))]
+    fn added(
+        &self,
+        hinting: &Hinting<'a>,
+        levels: u32,
+        part: Record,
+        so_far: Outline,
+    ) -> Result<Outline, FontFault>
+        requires hinting { IsHinting (hinting_view hinting.now) }
+        requires known { part.glyph < self.now.tables.glyphs }
+        requires arguments { HasArguments part }
+        requires so_far { IsOutline (outline_of so_far) }
+        ensures exact { FontGives outline_of result (added (with_hinting self.now (hinting_view hinting.now)) levels part (outline_of so_far)) }
+        ensures valid { IfOk result (λ o. IsOutline (outline_of o)) }
+    {
+        if levels == 0 {
+            return Err(FontFault::Font(glyf_fault(part.at, Why::ComponentDepth)));
+        }
+        let component = self.outline(hinting, levels - 1, part.glyph)?;
+        placed(self.size(), part, &component, so_far)
+    }
+}

@@ -1,0 +1,116 @@
+//! What a glyph's program makes of its outline. Apple TrueType Reference Manual, "Instructing TrueType Glyphs".
+
+ghost use Rattle.std.specs.Prelude.{◌≡◌, ◌≢◌, IfOk};
+ghost use Rattle.tt_core.specs.Outcomes.{FontGives};
+ghost use Rattle.tt_exec.specs.declared.fault.ExecFault.TheVariants as exec;
+ghost use Rattle.tt_exec.specs.Machines.{exec_fault};
+ghost use Rattle.tt_exec.specs.Parts.{parts_of};
+ghost use Rattle.tt_exec.specs.Views.{code_of};
+ghost use Rattle.tt_points_zones.specs.Zones.{SameShape};
+ghost use Rattle.tt_fit.specs.GlyphZone.{program_in_glyf};
+ghost use Rattle.tt_fit.specs.Outline.{outline_of, phantom_of, ArePhantom, IsOutline};
+ghost use Rattle.tt_fit.specs.Hinting.{IsHinting, by_program, hinted, run_of};
+ghost use Rattle.tt_fit.specs.Parts.{AreParts, parts_with};
+ghost use Rattle.tt_fit.specs.Views.{hinting_view, program_view};
+
+use crate::glyph_zone::{GlyphProgram, left_outline, on_grid};
+use crate::outline::Outline;
+use crate::parts::with_glyph;
+use std::alloc::Global;
+use tt_core::FontFault;
+use tt_exec::{Code, ExecFault, Machine, Parts};
+
+/// What the font program and the control value program left to the programs of glyphs.
+#[derive(Drop)]
+pub(crate) enum Hinting<'a> {
+    /// No program is run.
+    Off,
+    /// What a machine is made of when a glyph's program begins.
+    Ready(Parts<'a>),
+}
+
+/// A refusal of a machine that has not failed before.
+fn font_fault(fault: ExecFault) -> FontFault
+    requires { fault ≢ exec.Failed }
+    ensures { fault ≡ exec_fault result }
+{
+    match fault {
+        ExecFault::Font(fault) => FontFault::Font(fault),
+        ExecFault::Memory => FontFault::Memory,
+        ExecFault::Failed => unreachable!(),
+    }
+}
+
+/// What a program leaves of a machine's parts. Errors: those of the program, Memory.
+#[tactic(auto, unfolding(crate::specs::Hinting::run_of))]
+pub(crate) fn run<'a>(
+    alloc: Global,
+    parts: Parts<'a>,
+    code: Code<'a>,
+) -> Result<Parts<'a>, FontFault>
+    requires { AreParts (parts_of parts) }
+    ensures exact { FontGives parts_of result (run_of (code_of code.entry) (parts_of parts.entry)) }
+    ensures valid { IfOk result (λ p. AreParts (parts_of p)) }
+    ensures shape { IfOk result (λ p. SameShape (parts_of parts.entry).zones (parts_of p).zones) }
+{
+    let mut machine = Machine::new(alloc, parts)?;
+    if let Err(fault) = machine.run(code) {
+        return Err(font_fault(fault));
+    }
+    match machine.into_parts() {
+        Some(left) => Ok(left),
+        None => unreachable!(),
+    }
+}
+
+fn code_in_glyf<'a>(program: GlyphProgram<'a>) -> Code<'a>
+    ensures { code_of result ≡ program_in_glyf (program_view program.entry) }
+{
+    Code {
+        table: *b"glyf",
+        base: program.code_at,
+        bytes: program.code,
+    }
+}
+
+/// The outline that a glyph's program leaves. Errors: CoordRange of a phantom point, those of the program, Memory.
+#[tactic(auto, unfolding(crate::specs::Hinting::by_program))]
+fn by_program<'a>(
+    alloc: Global,
+    parts: &Parts<'a>,
+    program: GlyphProgram<'a>,
+    outline: Outline,
+) -> Result<Outline, FontFault>
+    requires parts { AreParts (parts_of parts.now) }
+    requires outline { IsOutline (outline_of outline) }
+    ensures exact { FontGives outline_of result (by_program (parts_of parts.now) (program_view program.entry) (outline_of outline)) }
+    ensures valid { IfOk result (λ o. IsOutline (outline_of o)) }
+{
+    let grid = on_grid(program.glyph_at, &outline.phantom)?;
+    let begun = with_glyph(alloc, parts, &outline, &grid)?;
+    let left = run(alloc, begun, code_in_glyf(program))?;
+    Ok(left_outline(alloc, outline, &left.zones.glyph)?)
+}
+
+/// The outline that a glyph's program leaves, of scaled points or of joined components.
+pub(crate) fn hinted<'a>(
+    alloc: Global,
+    hinting: &Hinting<'a>,
+    program: GlyphProgram<'a>,
+    outline: Outline,
+) -> Result<Outline, FontFault>
+    requires hinting { IsHinting (hinting_view hinting.now) }
+    requires outline { IsOutline (outline_of outline) }
+    ensures exact { FontGives outline_of result (hinted (hinting_view hinting.now) (program_view program.entry) (outline_of outline)) }
+    ensures valid { IfOk result (λ o. IsOutline (outline_of o)) }
+{
+    match hinting {
+        Hinting::Off => Ok(outline),
+        Hinting::Ready(parts) => {
+            if parts.skip_glyphs || program.code.is_empty() {
+                return Ok(outline);
+            }
+            by_program(alloc, parts, program, outline)
+        }
+    }
+}

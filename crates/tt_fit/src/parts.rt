@@ -1,0 +1,173 @@
+//! What a machine is made of when a program begins: the font program, the control value program, or a glyph's. Apple
+//! TrueType Reference Manual, "Instructing TrueType Glyphs".
+
+ghost use Rattle.std.specs.Prelude.{◌≡◌, ◌+◌, ◌*◌, ◌≤◌, [], length, replicate, IfOk};
+ghost use Rattle.tt_exec.specs.Parts.{parts_of};
+ghost use Rattle.tt_fit.specs.Outline.{outline_of, phantom_of, ArePhantom, IsOutline};
+ghost use Rattle.tt_fit.specs.Parts.{AreParts, begun_parts, control_value, control_values, left_to_glyphs, origin, parts_with, pointers_set_back, zones_of};
+ghost use Rattle.tt_fit.specs.Size.{scale};
+ghost use Rattle.tt_fit.specs.Views.{size_view};
+ghost use Rattle.tt_metrics.specs.Metrics.{units_per_em_of};
+ghost use Rattle.tt_points_zones.specs.Zones.{zones_view, IsZones};
+ghost use Rattle.tt_state.specs.GraphicsState.{IsGraphicsState};
+
+use crate::glyph_zone::{contours, glyph_zone, untouched};
+use crate::outline::Outline;
+use crate::size::FontSize;
+use std::alloc::{AllocError, Global};
+use std::collections::BTreeMap;
+use tt_core::i16_at;
+use tt_exec::Parts;
+use tt_metrics::Metrics;
+use tt_points_zones::Zones;
+use tt_state::GraphicsState;
+
+/// A control value in 26.6 pixels.
+fn control_value(size: FontSize, cvt: &[u8], i: usize) -> i32
+    requires { 2 * i + 2 ≤ length cvt.now }
+    ensures { result ≡ control_value (size_view size) cvt.now i }
+{
+    match i16_at(cvt, 2 * i) {
+        Some(v) => size.scaled(i32::from(v)) as i32,
+        None => unreachable!(),
+    }
+}
+
+/// The control values in 26.6 pixels.
+fn control_values(alloc: Global, size: FontSize, cvt: &[u8]) -> Result<Vec<i32>, AllocError>
+    ensures { IfOk result (λ v. v.items ≡ control_values (size_view size) cvt.now) }
+{
+    let mut values = Vec::with_capacity(alloc, cvt.len() / 2)?;
+    for i in 0..cvt.len() / 2 {
+        values.push(control_value(size, cvt, i))?;
+    }
+    Ok(values)
+}
+
+/// The zones of a program that has no glyph: so many twilight points, all at the origin.
+fn zones_without_glyph(alloc: Global, twilight: u16) -> Result<Zones, AllocError>
+    ensures exact { IfOk result (λ z. zones_view z ≡ record { twilight = replicate twilight origin; glyph = []; contours = [] }) }
+    ensures valid { IfOk result (λ z. IsZones (zones_view z)) }
+{
+    Ok(Zones {
+        twilight: vec![in alloc; untouched((0, 0), (0, 0), true); usize::from(twilight)]?,
+        glyph: Vec::new(alloc),
+        contours: Vec::new(alloc),
+    })
+}
+
+/// What the font program and the control value program begin with.
+pub(crate) fn begun_parts<'a>(
+    alloc: Global,
+    metrics: &Metrics,
+    cvt: &[u8],
+    size: FontSize,
+) -> Result<Parts<'a>, AllocError>
+    requires { size.units_per_em ≡ units_per_em_of metrics.now }
+    ensures exact { IfOk result (λ p. parts_of p ≡ begun_parts metrics.now cvt.now size.ppem) }
+    ensures valid { IfOk result (λ p. AreParts (parts_of p)) }
+{
+    Ok(Parts {
+        em: size.units_per_em,
+        ppem: size.ppem,
+        cvt: control_values(alloc, size, cvt)?,
+        storage: vec![in alloc; 0; usize::from(metrics.storage())]?,
+        zones: zones_without_glyph(alloc, metrics.twilight())?,
+        functions: BTreeMap::new(alloc),
+        state: GraphicsState::new(),
+        skip_glyphs: false,
+        default_state: false,
+    })
+}
+
+/// The vectors, the reference points, the zone pointers and the loop as they are by default.
+fn pointers_set_back(state: GraphicsState) -> GraphicsState
+    requires { IsGraphicsState state }
+    ensures exact { result ≡ pointers_set_back state }
+    ensures valid { IsGraphicsState result }
+{
+    let default = GraphicsState::new();
+    GraphicsState {
+        proj: default.proj,
+        free: default.free,
+        rp0: default.rp0,
+        rp1: default.rp1,
+        rp2: default.rp2,
+        zp0: default.zp0,
+        zp1: default.zp1,
+        zp2: default.zp2,
+        loops: default.loops,
+        ..state
+    }
+}
+
+/// What the control value program leaves to the glyphs.
+pub(crate) fn left_to_glyphs<'a>(left: Parts<'a>) -> Parts<'a>
+    requires { AreParts (parts_of left) }
+    ensures exact { parts_of result ≡ left_to_glyphs (parts_of left.entry) }
+    ensures valid { AreParts (parts_of result) }
+{
+    let state = if left.default_state {
+        GraphicsState::new()
+    } else {
+        pointers_set_back(left.state)
+    };
+    Parts { state, ..left }
+}
+
+/// A glyph's zones: the twilight points as they were, and the outline's points and contours.
+fn glyph_zones(
+    alloc: Global,
+    zones: Zones,
+    outline: &Outline,
+    grid: &[(i32, i32); 4],
+) -> Result<Zones, AllocError>
+    requires zones { IsZones (zones_view zones) }
+    requires outline { IsOutline (outline_of outline.now) }
+    requires grid { ArePhantom (phantom_of grid.now) }
+    ensures exact { IfOk result (λ z. zones_view z ≡ zones_of zones.twilight.items (outline_of outline.now) (phantom_of grid.now)) }
+    ensures valid { IfOk result (λ z. IsZones (zones_view z)) }
+{
+    Ok(Zones {
+        twilight: zones.twilight,
+        glyph: glyph_zone(alloc, outline, grid)?,
+        contours: contours(alloc, &outline.ends)?,
+    })
+}
+
+/// A machine's parts with a glyph in them, in memory of their own.
+pub(crate) fn with_glyph<'a>(
+    alloc: Global,
+    parts: &Parts<'a>,
+    outline: &Outline,
+    grid: &[(i32, i32); 4],
+) -> Result<Parts<'a>, AllocError>
+    requires parts { AreParts (parts_of parts.now) }
+    requires outline { IsOutline (outline_of outline.now) }
+    requires grid { ArePhantom (phantom_of grid.now) }
+    ensures exact { IfOk result (λ p. parts_of p ≡ parts_with (parts_of parts.now) (outline_of outline.now) (phantom_of grid.now)) }
+    ensures valid { IfOk result (λ p. AreParts (parts_of p)) }
+{
+    let Parts {
+        em,
+        ppem,
+        cvt,
+        storage,
+        zones,
+        functions,
+        state,
+        skip_glyphs,
+        default_state,
+    } = parts.copy()?;
+    Ok(Parts {
+        em,
+        ppem,
+        cvt,
+        storage,
+        zones: glyph_zones(alloc, zones, outline, grid)?,
+        functions,
+        state,
+        skip_glyphs,
+        default_state,
+    })
+}
