@@ -183,16 +183,16 @@ loopcall_kept [] at m = tt
 -- a step
 operate_kept : OnPoints → OnPlaces → (o : Operation) (at : ℕ) (m : MachineState) → HasContours m.zones
     → Keeps m (operate o at m)
-operate_kept k j (op.turn o) at m has = on_graphics_kept at m (vectors_accessed o m.stack m.graphics)
-operate_kept k j (op.adjust o) at m has =
+operate_kept k j (op.access_vectors o) at m has = on_graphics_kept at m (vectors_accessed o m.stack m.graphics)
+operate_kept k j (op.set_state o) at m has =
     on_graphics_kept at m (state_set o m.ppem m.units_per_em m.stack m.graphics)
 operate_kept k j (op.manage o) at m has = on_stack_kept at m (managed o m.stack)
-operate_kept k j (op.decide o) at m has = on_stack_kept at m (evaluated o m.graphics.round m.stack)
+operate_kept k j (op.evaluate o) at m has = on_stack_kept at m (evaluated o m.graphics.round m.stack)
 operate_kept k j (op.compute o) at m has = on_stack_kept at m (computed o m.graphics.round m.stack)
-operate_kept k j (op.keep o) at m has =
+operate_kept k j (op.access_values o) at m has =
     on_places_kept at m (values_accessed o m.ppem m.units_per_em m.stack m.storage m.cvt)
     (j o m.ppem m.units_per_em m.stack m.storage m.cvt)
-operate_kept k j (op.tell o) at m has = on_stack_kept at m (answered o m.ppem m.stack)
+operate_kept k j (op.answer o) at m has = on_stack_kept at m (answered o m.ppem m.stack)
 operate_kept k j op.instctrl at m has = instctrl_kept m.stack at m
 operate_kept k j op.if_from at m has = if_kept m.stack at m
 operate_kept k j op.else_from at m has = skipped_kept m (else_end m.frame.code.bytes at)
@@ -212,11 +212,11 @@ operate_kept k j op.unnamed at m has = tt
 done_kept : OnPoints → OnPlaces → (m : MachineState) (r : Result Instr Halt) → HasContours m.zones
     → Keeps m (done m r)
 done_kept k j m (Ok i) has =
-    let behind = goes_to (m.frame.place + i.len) m in
+    let next = goes_to (m.frame.place + i.len) m in
     either (Keeps m) (takes_data i.op) _ _
-    (on_stack_kept m.frame.place behind
+    (on_stack_kept m.frame.place next
     (if pushes_words i.op then pushed_words i.args m.stack else pushed_bytes i.args m.stack))
-    (operate_kept k j (operation_of i.op) m.frame.place behind has)
+    (operate_kept k j (operation_of i.op) m.frame.place next has)
 done_kept k j m (Err halt) has = tt
 
 step_kept : OnPoints → OnPlaces → (m : MachineState) → HasContours m.zones → Keeps m (step m)

@@ -7,7 +7,6 @@ pub mod Machines
 pub mod OnPoints
 pub mod Numbered
 pub mod Opcodes
-pub mod OpcodeExamples
 pub mod Operation
 pub mod Outcomes
 pub mod Parts

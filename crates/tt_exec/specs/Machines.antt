@@ -1,4 +1,4 @@
--- Apple TrueType Reference Manual, "Instructing TrueType Glyphs": the runs of a machine, one behind the other.
+-- Apple TrueType Reference Manual, "Instructing TrueType Glyphs": the runs of a machine, one after the other.
 use Rattle.std.specs.Prelude.{◌≡◌, ℕ, Option, Some, None, true, false, if◌then◌else◌, List, [], codes, Result, Ok, Err}
 use Rattle.std.specs.Str.{bytes_eq}
 use Rattle.tt_core.specs.Faults.{Fault}

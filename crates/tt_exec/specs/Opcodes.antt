@@ -1,6 +1,6 @@
 -- Apple TrueType Reference Manual, "Instruction set": the instruction of each opcode. Vectors off the axes,
 -- crossings of lines and definitions of instructions are not supported (profile).
-use Rattle.std.specs.Prelude.{ℕ, ◌/◌, ◌%◌, ◌==◌, nat_lt, Bool, true, false, if◌then◌else◌, List, [], ◌∷◌}
+use Rattle.std.specs.Prelude.{◌≡◌, ℕ, zero, suc, ◌/◌, ◌%◌, ◌==◌, nat_lt, Bool, true, false, if◌then◌else◌, List, [], ◌∷◌, refl}
 use Rattle.tt_state.specs.declared.graphics_state.Axis.TheVariants as axis
 use Rattle.tt_state.specs.declared.rounding.Round.TheVariants as round
 use Rattle.tt_exec_stack.specs.declared.arithmetic.Arithmetic.TheVariants as arithmetic
@@ -10,6 +10,8 @@ use Rattle.tt_exec_state.specs.declared.stored_values.StoredValues.TheVariants a
 use Rattle.tt_exec_state.specs.declared.queries.Query.TheVariants as query
 use Rattle.tt_exec_state.specs.declared.settings.Setting.TheVariants as setting
 use Rattle.tt_exec_state.specs.declared.vectors.Vectors.TheVariants as vectors
+use Rattle.tt_code.specs.Decoding.{takes_data}
+use Rattle.tt_points.specs.Distances.{keeping}
 use Rattle.tt_points.specs.declared.distances.Keeping.{Keeping}
 use Rattle.tt_points.specs.declared.measuring.Position.TheVariants as position
 use Rattle.tt_points_loops.specs.declared.deltas.DeltaRange.TheVariants as ranges
@@ -26,38 +28,38 @@ named opcode (e ∷ es) = if opcode == e.0 then e.1 else named opcode es
 -- 0x00 to 0x1F
 abbrev pub opcodes_00 : List (ℕ × Operation)
 opcodes_00 =
-    (0x00, op.turn (vectors.Svtca axis.Y)) ∷
-    (0x01, op.turn (vectors.Svtca axis.X)) ∷
-    (0x02, op.turn (vectors.Spvtca axis.Y)) ∷
-    (0x03, op.turn (vectors.Spvtca axis.X)) ∷
-    (0x04, op.turn (vectors.Sfvtca axis.Y)) ∷
-    (0x05, op.turn (vectors.Sfvtca axis.X)) ∷
+    (0x00, op.access_vectors (vectors.Svtca axis.Y)) ∷
+    (0x01, op.access_vectors (vectors.Svtca axis.X)) ∷
+    (0x02, op.access_vectors (vectors.Spvtca axis.Y)) ∷
+    (0x03, op.access_vectors (vectors.Spvtca axis.X)) ∷
+    (0x04, op.access_vectors (vectors.Sfvtca axis.Y)) ∷
+    (0x05, op.access_vectors (vectors.Sfvtca axis.X)) ∷
     (0x06, op.off_profile) ∷
     (0x07, op.off_profile) ∷
     (0x08, op.off_profile) ∷
     (0x09, op.off_profile) ∷
-    (0x0A, op.turn vectors.Spvfs) ∷
-    (0x0B, op.turn vectors.Sfvfs) ∷
-    (0x0C, op.turn vectors.Gpv) ∷
-    (0x0D, op.turn vectors.Gfv) ∷
-    (0x0E, op.turn vectors.Sfvtpv) ∷
+    (0x0A, op.access_vectors vectors.Spvfs) ∷
+    (0x0B, op.access_vectors vectors.Sfvfs) ∷
+    (0x0C, op.access_vectors vectors.Gpv) ∷
+    (0x0D, op.access_vectors vectors.Gfv) ∷
+    (0x0E, op.access_vectors vectors.Sfvtpv) ∷
     (0x0F, op.off_profile) ∷
-    (0x10, op.adjust setting.Srp0) ∷
-    (0x11, op.adjust setting.Srp1) ∷
-    (0x12, op.adjust setting.Srp2) ∷
-    (0x13, op.adjust setting.Szp0) ∷
-    (0x14, op.adjust setting.Szp1) ∷
-    (0x15, op.adjust setting.Szp2) ∷
-    (0x16, op.adjust setting.Szps) ∷
-    (0x17, op.adjust setting.Sloop) ∷
-    (0x18, op.adjust (setting.RoundTo round.Grid)) ∷
-    (0x19, op.adjust (setting.RoundTo round.Half)) ∷
-    (0x1A, op.adjust setting.Smd) ∷
+    (0x10, op.set_state setting.Srp0) ∷
+    (0x11, op.set_state setting.Srp1) ∷
+    (0x12, op.set_state setting.Srp2) ∷
+    (0x13, op.set_state setting.Szp0) ∷
+    (0x14, op.set_state setting.Szp1) ∷
+    (0x15, op.set_state setting.Szp2) ∷
+    (0x16, op.set_state setting.Szps) ∷
+    (0x17, op.set_state setting.Sloop) ∷
+    (0x18, op.set_state (setting.RoundTo round.Grid)) ∷
+    (0x19, op.set_state (setting.RoundTo round.Half)) ∷
+    (0x1A, op.set_state setting.Smd) ∷
     (0x1B, op.else_from) ∷
     (0x1C, op.jmpr) ∷
-    (0x1D, op.adjust setting.Scvtci) ∷
-    (0x1E, op.adjust setting.Sswci) ∷
-    (0x1F, op.adjust setting.Ssw) ∷
+    (0x1D, op.set_state setting.Scvtci) ∷
+    (0x1E, op.set_state setting.Sswci) ∷
+    (0x1F, op.set_state setting.Ssw) ∷
     []
 
 -- 0x20 to 0x3F
@@ -91,7 +93,7 @@ opcodes_20 =
     (0x3A, op.on_points (on.Msirp false)) ∷
     (0x3B, op.on_points (on.Msirp true)) ∷
     (0x3C, op.on_points on.Alignrp) ∷
-    (0x3D, op.adjust (setting.RoundTo round.Double)) ∷
+    (0x3D, op.set_state (setting.RoundTo round.Double)) ∷
     (0x3E, op.on_points (on.Miap false)) ∷
     (0x3F, op.on_points (on.Miap true)) ∷
     []
@@ -99,36 +101,36 @@ opcodes_20 =
 -- 0x40 to 0x5F
 abbrev pub opcodes_40 : List (ℕ × Operation)
 opcodes_40 =
-    (0x42, op.keep places.Ws) ∷
-    (0x43, op.keep places.Rs) ∷
-    (0x44, op.keep places.Wcvtp) ∷
-    (0x45, op.keep places.Rcvt) ∷
+    (0x42, op.access_values places.Ws) ∷
+    (0x43, op.access_values places.Rs) ∷
+    (0x44, op.access_values places.Wcvtp) ∷
+    (0x45, op.access_values places.Rcvt) ∷
     (0x46, op.on_points (on.Gc position.Current)) ∷
     (0x47, op.on_points (on.Gc position.Original)) ∷
     (0x48, op.on_points on.Scfs) ∷
     (0x49, op.on_points (on.Md position.Current)) ∷
     (0x4A, op.on_points (on.Md position.Original)) ∷
-    (0x4B, op.tell query.Mppem) ∷
-    (0x4C, op.tell query.Mps) ∷
-    (0x4D, op.adjust (setting.Flip true)) ∷
-    (0x4E, op.adjust (setting.Flip false)) ∷
+    (0x4B, op.answer query.Mppem) ∷
+    (0x4C, op.answer query.Mps) ∷
+    (0x4D, op.set_state (setting.Flip true)) ∷
+    (0x4E, op.set_state (setting.Flip false)) ∷
     (0x4F, op.off_profile) ∷
-    (0x50, op.decide logic.Lt) ∷
-    (0x51, op.decide logic.Lteq) ∷
-    (0x52, op.decide logic.Gt) ∷
-    (0x53, op.decide logic.Gteq) ∷
-    (0x54, op.decide logic.Eq) ∷
-    (0x55, op.decide logic.Neq) ∷
-    (0x56, op.decide logic.Odd) ∷
-    (0x57, op.decide logic.Even) ∷
+    (0x50, op.evaluate logic.Lt) ∷
+    (0x51, op.evaluate logic.Lteq) ∷
+    (0x52, op.evaluate logic.Gt) ∷
+    (0x53, op.evaluate logic.Gteq) ∷
+    (0x54, op.evaluate logic.Eq) ∷
+    (0x55, op.evaluate logic.Neq) ∷
+    (0x56, op.evaluate logic.Odd) ∷
+    (0x57, op.evaluate logic.Even) ∷
     (0x58, op.if_from) ∷
     (0x59, op.eif) ∷
-    (0x5A, op.decide logic.And) ∷
-    (0x5B, op.decide logic.Or) ∷
-    (0x5C, op.decide logic.Not) ∷
+    (0x5A, op.evaluate logic.And) ∷
+    (0x5B, op.evaluate logic.Or) ∷
+    (0x5C, op.evaluate logic.Not) ∷
     (0x5D, op.on_points (on.Deltap ranges.First)) ∷
-    (0x5E, op.adjust setting.Sdb) ∷
-    (0x5F, op.adjust setting.Sds) ∷
+    (0x5E, op.set_state setting.Sdb) ∷
+    (0x5F, op.set_state setting.Sds) ∷
     []
 
 -- 0x60 to 0x7F
@@ -150,21 +152,21 @@ opcodes_60 =
     (0x6D, op.compute arithmetic.Nround) ∷
     (0x6E, op.compute arithmetic.Nround) ∷
     (0x6F, op.compute arithmetic.Nround) ∷
-    (0x70, op.keep places.Wcvtf) ∷
+    (0x70, op.access_values places.Wcvtf) ∷
     (0x71, op.on_points (on.Deltap ranges.Second)) ∷
     (0x72, op.on_points (on.Deltap ranges.Third)) ∷
     (0x73, op.on_points (on.Deltac ranges.First)) ∷
     (0x74, op.on_points (on.Deltac ranges.Second)) ∷
     (0x75, op.on_points (on.Deltac ranges.Third)) ∷
-    (0x76, op.adjust setting.Sround) ∷
+    (0x76, op.set_state setting.Sround) ∷
     (0x77, op.off_profile) ∷
     (0x78, op.jrot) ∷
     (0x79, op.jrof) ∷
-    (0x7A, op.adjust (setting.RoundTo round.Off)) ∷
-    (0x7C, op.adjust (setting.RoundTo round.Up)) ∷
-    (0x7D, op.adjust (setting.RoundTo round.Down)) ∷
-    (0x7E, op.adjust setting.Ignored) ∷
-    (0x7F, op.adjust setting.Ignored) ∷
+    (0x7A, op.set_state (setting.RoundTo round.Off)) ∷
+    (0x7C, op.set_state (setting.RoundTo round.Up)) ∷
+    (0x7D, op.set_state (setting.RoundTo round.Down)) ∷
+    (0x7E, op.set_state setting.Ignored) ∷
+    (0x7F, op.set_state setting.Ignored) ∷
     []
 
 -- 0x80 to 0xBF
@@ -173,15 +175,15 @@ opcodes_80 =
     (0x80, op.on_points on.Flippt) ∷
     (0x81, op.on_points on.Fliprgon) ∷
     (0x82, op.on_points on.Fliprgoff) ∷
-    (0x85, op.adjust setting.Ignored) ∷
+    (0x85, op.set_state setting.Ignored) ∷
     (0x86, op.off_profile) ∷
     (0x87, op.off_profile) ∷
-    (0x88, op.tell query.Getinfo) ∷
+    (0x88, op.answer query.Getinfo) ∷
     (0x89, op.off_profile) ∷
     (0x8A, op.manage managing.Roll) ∷
     (0x8B, op.compute arithmetic.Max) ∷
     (0x8C, op.compute arithmetic.Min) ∷
-    (0x8D, op.adjust setting.Ignored) ∷
+    (0x8D, op.set_state setting.Ignored) ∷
     (0x8E, op.instctrl) ∷
     []
 
@@ -204,3 +206,137 @@ operation_of opcode =
     if nat_lt opcode 0xC0 then named opcode opcodes_80 else (
     if nat_lt opcode 0xE0 then op.on_points (on.Mdrp (keeping_of opcode))
     else op.on_points (on.Mirp (keeping_of opcode)))))))
+
+-- worked values: so many opcodes from one on
+abbrev from : ℕ → ℕ → List ℕ
+from opcode zero = []
+from opcode (suc n) = opcode ∷ from (suc opcode) n
+
+-- those of them that push no data and whose instruction passes a test
+abbrev those : (Operation → Bool) → List ℕ → List ℕ
+those test [] = []
+those test (opcode ∷ opcodes) =
+    if takes_data opcode then those test opcodes else (
+    if test (operation_of opcode) then opcode ∷ those test opcodes else those test opcodes)
+
+abbrev is_unnamed : Operation → Bool
+is_unnamed op.unnamed = true
+is_unnamed _ = false
+
+abbrev is_off_profile : Operation → Bool
+is_off_profile op.off_profile = true
+is_off_profile _ = false
+
+-- every opcode that has no instruction: an opcode that is left out of the table shows here
+no_instruction : those is_unnamed (from 0 256) ≡ 0x28 ∷ 0x7B ∷ 0x83 ∷ 0x84 ∷ from 0x8F 33
+no_instruction = refl
+
+-- SPVTL, SFVTL, ISECT, ALIGNPTS, DEBUG, S45ROUND, SDPVTL and IDEF, every opcode that is not supported
+not_supported : those is_off_profile (from 0 256)
+    ≡ 0x06 ∷ 0x07 ∷ 0x08 ∷ 0x09 ∷ 0x0F ∷ 0x27 ∷ 0x4F ∷ 0x77 ∷ 0x86 ∷ 0x87 ∷ 0x89 ∷ []
+not_supported = refl
+
+-- on the stack and on what a program sets
+svtca_x : operation_of 0x01 ≡ op.access_vectors (vectors.Svtca axis.X)
+svtca_x = refl
+
+rthg : operation_of 0x19 ≡ op.set_state (setting.RoundTo round.Half)
+rthg = refl
+
+mindex : operation_of 0x26 ≡ op.manage managing.Mindex
+mindex = refl
+
+flipoff : operation_of 0x4E ≡ op.set_state (setting.Flip false)
+flipoff = refl
+
+floor : operation_of 0x66 ≡ op.compute arithmetic.Floor
+floor = refl
+
+-- on points
+utp : operation_of 0x29 ≡ op.on_points on.Utp
+utp = refl
+
+mdap_rounded : operation_of 0x2F ≡ op.on_points (on.Mdap true)
+mdap_rounded = refl
+
+iup_y : operation_of 0x30 ≡ op.on_points (on.Iup axis.Y)
+iup_y = refl
+
+iup_x : operation_of 0x31 ≡ op.on_points (on.Iup axis.X)
+iup_x = refl
+
+shp_by_2 : operation_of 0x32 ≡ op.on_points (on.Shp by.Rp2)
+shp_by_2 = refl
+
+shp_by_1 : operation_of 0x33 ≡ op.on_points (on.Shp by.Rp1)
+shp_by_1 = refl
+
+shc_by_1 : operation_of 0x35 ≡ op.on_points (on.Shc by.Rp1)
+shc_by_1 = refl
+
+shz_by_2 : operation_of 0x36 ≡ op.on_points (on.Shz by.Rp2)
+shz_by_2 = refl
+
+shpix : operation_of 0x38 ≡ op.on_points on.Shpix
+shpix = refl
+
+ip : operation_of 0x39 ≡ op.on_points on.Ip
+ip = refl
+
+msirp_and_rp0 : operation_of 0x3B ≡ op.on_points (on.Msirp true)
+msirp_and_rp0 = refl
+
+alignrp : operation_of 0x3C ≡ op.on_points on.Alignrp
+alignrp = refl
+
+miap : operation_of 0x3E ≡ op.on_points (on.Miap false)
+miap = refl
+
+gc_original : operation_of 0x47 ≡ op.on_points (on.Gc position.Original)
+gc_original = refl
+
+scfs : operation_of 0x48 ≡ op.on_points on.Scfs
+scfs = refl
+
+-- 0x49 measures where points stand now, and 0x4A where they originally stood, as rasterizers have it (profile)
+md_current : operation_of 0x49 ≡ op.on_points (on.Md position.Current)
+md_current = refl
+
+md_original : operation_of 0x4A ≡ op.on_points (on.Md position.Original)
+md_original = refl
+
+deltap1 : operation_of 0x5D ≡ op.on_points (on.Deltap ranges.First)
+deltap1 = refl
+
+deltap3 : operation_of 0x72 ≡ op.on_points (on.Deltap ranges.Third)
+deltap3 = refl
+
+deltac2 : operation_of 0x74 ≡ op.on_points (on.Deltac ranges.Second)
+deltac2 = refl
+
+flippt : operation_of 0x80 ≡ op.on_points on.Flippt
+flippt = refl
+
+fliprgon : operation_of 0x81 ≡ op.on_points on.Fliprgon
+fliprgon = refl
+
+fliprgoff : operation_of 0x82 ≡ op.on_points on.Fliprgoff
+fliprgoff = refl
+
+mdrp_alone : operation_of 0xC3 ≡ op.on_points (on.Mdrp (keeping false false false))
+mdrp_alone = refl
+
+mdrp_rounded : operation_of 0xC4 ≡ op.on_points (on.Mdrp (keeping false false true))
+mdrp_rounded = refl
+
+mdrp_spaced : operation_of 0xC8 ≡ op.on_points (on.Mdrp (keeping false true false))
+mdrp_spaced = refl
+
+mdrp_and_rp0 : operation_of 0xD0 ≡ op.on_points (on.Mdrp (keeping true false false))
+mdrp_and_rp0 = refl
+
+mirp_alone : operation_of 0xE0 ≡ op.on_points (on.Mirp (keeping false false false))
+mirp_alone = refl
+
+mirp_with_all : operation_of 0xFD ≡ op.on_points (on.Mirp (keeping true true true))
+mirp_with_all = refl

@@ -10,13 +10,13 @@ use Rattle.tt_exec_state.specs.declared.vectors.Vectors.{Vectors}
 use Rattle.tt_exec_points.specs.declared.instruction.PointInstruction.{PointInstruction}
 
 pub data Operation : Type 0 where
-  turn : Vectors → Operation
-  adjust : Setting → Operation
+  access_vectors : Vectors → Operation
+  set_state : Setting → Operation
   manage : Managing → Operation
-  decide : Logic → Operation
+  evaluate : Logic → Operation
   compute : Arithmetic → Operation
-  keep : StoredValues → Operation
-  tell : Query → Operation
+  access_values : StoredValues → Operation
+  answer : Query → Operation
   instctrl : Operation
   if_from else_from eif jmpr jrot jrof : Operation
   fdef endf call loopcall : Operation

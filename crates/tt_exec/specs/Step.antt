@@ -49,13 +49,13 @@ push opcode args at m =
 
 -- an operation that stands at a place; the state's place is behind it
 abbrev pub operate : Operation → ℕ → MachineState → Result MachineState Fault
-operate (op.turn o) at m = on_graphics at m (vectors_accessed o m.stack m.graphics)
-operate (op.adjust o) at m = on_graphics at m (state_set o m.ppem m.units_per_em m.stack m.graphics)
+operate (op.access_vectors o) at m = on_graphics at m (vectors_accessed o m.stack m.graphics)
+operate (op.set_state o) at m = on_graphics at m (state_set o m.ppem m.units_per_em m.stack m.graphics)
 operate (op.manage o) at m = on_stack at m (managed o m.stack)
-operate (op.decide o) at m = on_stack at m (evaluated o m.graphics.round m.stack)
+operate (op.evaluate o) at m = on_stack at m (evaluated o m.graphics.round m.stack)
 operate (op.compute o) at m = on_stack at m (computed o m.graphics.round m.stack)
-operate (op.keep o) at m = on_places at m (values_accessed o m.ppem m.units_per_em m.stack m.storage m.cvt)
-operate (op.tell o) at m = on_stack at m (answered o m.ppem m.stack)
+operate (op.access_values o) at m = on_places at m (values_accessed o m.ppem m.units_per_em m.stack m.storage m.cvt)
+operate (op.answer o) at m = on_stack at m (answered o m.ppem m.stack)
 operate op.instctrl at m = instctrl m.stack at m
 operate op.if_from at m = if_from m.stack at m
 operate op.else_from at m = else_from at m
@@ -74,9 +74,9 @@ operate op.unnamed at m = Err (fault_in m.frame at why.BadOpcode)
 -- what stands at the state's place is done, or data there passes the end
 abbrev pub done : MachineState → Result Instr Halt → Result MachineState Fault
 done m (Ok i) =
-    let behind = goes_to (m.frame.place + i.len) m in
-    if takes_data i.op then push i.op i.args m.frame.place behind
-    else operate (operation_of i.op) m.frame.place behind
+    let next = goes_to (m.frame.place + i.len) m in
+    if takes_data i.op then push i.op i.args m.frame.place next
+    else operate (operation_of i.op) m.frame.place next
 done m (Err halt) = Err (fault_in m.frame halt.at halt.why)
 
 -- The program's end inside a call is no instruction.

@@ -18,6 +18,16 @@ use tt_exec_state::{
     Query, Setting, StoredValues, Vectors, access_values, access_vectors, answer, set_state,
 };
 
+/// What an instruction at a place did; its refusal is a fault there.
+macro_rules! done_at {
+    ($machine:expr, $at:expr, $done:expr) => {
+        match $done {
+            Ok(()) => Ok(()),
+            Err(why) => Err($machine.fault($at, why)),
+        }
+    };
+}
+
 impl MachineState<'_> {
     /// NPUSHB[], NPUSHW[], PUSHB[n] and PUSHW[n].
     #[inline(always)]
@@ -36,25 +46,27 @@ impl MachineState<'_> {
     }
 
     #[inline(always)]
-    pub(crate) fn turn(&mut self, op: Vectors, at: usize) -> Result<(), Fault>
+    pub(crate) fn access_vectors(&mut self, op: Vectors, at: usize) -> Result<(), Fault>
         requires { at ≤ length self.old.frame.code.bytes.now }
-        ensures { Does (is.operate (operation.turn op) at (state_of self.old)) (state_of self.new) result }
+        ensures { Does (is.operate (operation.access_vectors op) at (state_of self.old)) (state_of self.new) result }
     {
-        match access_vectors(op, &mut self.stack, &mut self.graphics) {
-            Ok(()) => Ok(()),
-            Err(why) => Err(self.fault(at, why)),
-        }
+        done_at!(
+            self,
+            at,
+            access_vectors(op, &mut self.stack, &mut self.graphics)
+        )
     }
 
     #[inline(always)]
-    pub(crate) fn adjust(&mut self, op: Setting, at: usize) -> Result<(), Fault>
+    pub(crate) fn set_state(&mut self, op: Setting, at: usize) -> Result<(), Fault>
         requires { at ≤ length self.old.frame.code.bytes.now }
-        ensures { Does (is.operate (operation.adjust op) at (state_of self.old)) (state_of self.new) result }
+        ensures { Does (is.operate (operation.set_state op) at (state_of self.old)) (state_of self.new) result }
     {
-        match set_state(op, self.size, &mut self.stack, &mut self.graphics) {
-            Ok(()) => Ok(()),
-            Err(why) => Err(self.fault(at, why)),
-        }
+        done_at!(
+            self,
+            at,
+            set_state(op, self.size, &mut self.stack, &mut self.graphics)
+        )
     }
 
     #[inline(always)]
@@ -62,22 +74,16 @@ impl MachineState<'_> {
         requires { at ≤ length self.old.frame.code.bytes.now }
         ensures { Does (is.operate (operation.manage op) at (state_of self.old)) (state_of self.new) result }
     {
-        match manage(op, &mut self.stack) {
-            Ok(()) => Ok(()),
-            Err(why) => Err(self.fault(at, why)),
-        }
+        done_at!(self, at, manage(op, &mut self.stack))
     }
 
     #[inline(always)]
-    pub(crate) fn decide(&mut self, op: Logic, at: usize) -> Result<(), Fault>
+    pub(crate) fn evaluate(&mut self, op: Logic, at: usize) -> Result<(), Fault>
         requires { at ≤ length self.old.frame.code.bytes.now }
-        ensures { Does (is.operate (operation.decide op) at (state_of self.old)) (state_of self.new) result }
+        ensures { Does (is.operate (operation.evaluate op) at (state_of self.old)) (state_of self.new) result }
     {
         let round = self.graphics.state().round;
-        match evaluate(op, round, &mut self.stack) {
-            Ok(()) => Ok(()),
-            Err(why) => Err(self.fault(at, why)),
-        }
+        done_at!(self, at, evaluate(op, round, &mut self.stack))
     }
 
     #[inline(always)]
@@ -86,37 +92,32 @@ impl MachineState<'_> {
         ensures { Does (is.operate (operation.compute op) at (state_of self.old)) (state_of self.new) result }
     {
         let round = self.graphics.state().round;
-        match compute(op, round, &mut self.stack) {
-            Ok(()) => Ok(()),
-            Err(why) => Err(self.fault(at, why)),
-        }
+        done_at!(self, at, compute(op, round, &mut self.stack))
     }
 
     #[inline(always)]
-    pub(crate) fn keep(&mut self, op: StoredValues, at: usize) -> Result<(), Fault>
+    pub(crate) fn access_values(&mut self, op: StoredValues, at: usize) -> Result<(), Fault>
         requires { at ≤ length self.old.frame.code.bytes.now }
-        ensures { Does (is.operate (operation.keep op) at (state_of self.old)) (state_of self.new) result }
+        ensures { Does (is.operate (operation.access_values op) at (state_of self.old)) (state_of self.new) result }
     {
-        match access_values(
-            op,
-            self.size,
-            &mut self.stack,
-            &mut self.storage,
-            &mut self.cvt,
-        ) {
-            Ok(()) => Ok(()),
-            Err(why) => Err(self.fault(at, why)),
-        }
+        done_at!(
+            self,
+            at,
+            access_values(
+                op,
+                self.size,
+                &mut self.stack,
+                &mut self.storage,
+                &mut self.cvt
+            )
+        )
     }
 
     #[inline(always)]
-    pub(crate) fn tell(&mut self, op: Query, at: usize) -> Result<(), Fault>
+    pub(crate) fn answer(&mut self, op: Query, at: usize) -> Result<(), Fault>
         requires { at ≤ length self.old.frame.code.bytes.now }
-        ensures { Does (is.operate (operation.tell op) at (state_of self.old)) (state_of self.new) result }
+        ensures { Does (is.operate (operation.answer op) at (state_of self.old)) (state_of self.new) result }
     {
-        match answer(op, self.size, &mut self.stack) {
-            Ok(()) => Ok(()),
-            Err(why) => Err(self.fault(at, why)),
-        }
+        done_at!(self, at, answer(op, self.size, &mut self.stack))
     }
 }

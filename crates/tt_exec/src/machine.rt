@@ -25,7 +25,7 @@ use tt_exec_points::Points;
 use tt_exec_stack::Stack;
 use tt_exec_state::{Graphics, Size};
 
-/// A machine, which runs programs one behind the other. A clause sees what it holds, and whether a run failed.
+/// A machine, which runs programs one after the other. A clause sees what it holds, and whether a run failed.
 #[derive(Drop)]
 pub struct Machine<'a> {
     state: MachineState<'a>,

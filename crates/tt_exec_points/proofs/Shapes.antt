@@ -18,17 +18,17 @@ use Rattle.tt_points_loops.specs.Flipping as flipping
 use Rattle.tt_points_loops.specs.Moving as moving
 use Rattle.tt_points_loops.specs.Series.{one_by_one}
 use Rattle.tt_points_loops.specs.Shapes as on_many
+use Rattle.tt_points_loops.specs.Shapes.{whatever, through, same}
 use Rattle.tt_points_loops.specs.Shifting as shifting
 use Rattle.tt_points_zones.specs.Zones.{ZoneLists, AreContours, SameShape, KeepsShape, KeepsShapeBefore}
 use Rattle.tt_exec_state.specs.StoredValues.{place}
 use Rattle.tt_exec_points.specs.ControlValues.{value_of, change_by, change, changes, popped, deltac}
 use Rattle.tt_exec_points.specs.Instruction.{with_values, with_points, on_points}
+use Rattle.tt_exec_points.specs.Instruction as is
 use Rattle.tt_exec_points.specs.declared.instruction.PointInstruction.{PointInstruction}
 use Rattle.tt_exec_points.specs.declared.instruction.PointInstruction.TheVariants as instruction
-use Rattle.tt_exec_points.specs.Popping.{Left, behind, behind_move, looped, counted}
-use Rattle.tt_exec_points.specs.Several as several
+use Rattle.tt_exec_points.specs.Popping.{Left, after, after_move, looped, counted}
 use Rattle.tt_exec_points.specs.Shapes.{SameSizes}
-use Rattle.tt_exec_points.specs.Single as single
 
 -- the laws of the instructions
 abbrev Single : Type 0
@@ -43,21 +43,6 @@ HasContours z = AreContours 0 z.contours (length z.glyph)
 abbrev Interpolated : Type 0
 Interpolated = (axis : Axis) (z : ZoneLists) → HasContours z → KeepsShape z (iup axis z)
 
--- what holds whatever comes first holds behind it
-whatever : {A B : Type 0} (P : B → Type 0) (r : Result A Why) (f : A → Result B Why) → ((x : A) → IfOk (f x) P)
-    → IfOk (r >>= f) P
-whatever P (Ok x) f every = every x
-whatever P (Err why) f every = tt
-
--- what holds behind something of which another thing holds
-through : {A B : Type 0} (P : A → Type 0) (Q : B → Type 0) (r : Result A Why) (f : A → Result B Why) → IfOk r P
-    → ((x : A) → P x → IfOk (f x) Q) → IfOk (r >>= f) Q
-through P Q (Ok x) f holds next = next x holds
-through P Q (Err why) f holds next = tt
-
-same : (z : ZoneLists) → SameShape z z
-same z = record { twilight = refl; glyph = refl; contours = refl }
-
 -- the shape of what is left
 abbrev Shaped : ZoneLists → List ℤ × ZoneLists × GraphicsState → Type 0
 Shaped z t = SameShape z t.1
@@ -66,88 +51,88 @@ abbrev Keeps : ZoneLists → Left → Type 0
 Keeps z left = IfOk left (Shaped z)
 
 moved : (s : List ℤ) (z : ZoneLists) (r : Result (ZoneLists × GraphicsState) Why) → KeepsShapeBefore z r
-    → Keeps z (behind s r)
+    → Keeps z (after s r)
 moved s z (Ok t) kept = kept
 moved s z (Err why) kept = tt
 
 changed : (s : List ℤ) (g : GraphicsState) (z : ZoneLists) (r : Result ZoneLists Why) → KeepsShape z r
-    → Keeps z (behind_move s g r)
+    → Keeps z (after_move s g r)
 changed s g z (Ok w) kept = kept
 changed s g z (Err why) kept = tt
 
 -- on single points
-mdap : Single → (round : Bool) (s : List ℤ) (z : ZoneLists) (g : GraphicsState) → Keeps z (single.mdap round s z g)
+mdap : Single → (round : Bool) (s : List ℤ) (z : ZoneLists) (g : GraphicsState) → Keeps z (is.mdap round s z g)
 mdap k round (p ∷ s) z g = moved s z (single_moving.mdap round p z g) ((k z g).mdap round p)
 mdap k round [] z g = tt
 
-mdrp : Single → (keeping : Keeping) (s : List ℤ) (z : ZoneLists) (g : GraphicsState) → Keeps z (single.mdrp keeping s z g)
+mdrp : Single → (keeping : Keeping) (s : List ℤ) (z : ZoneLists) (g : GraphicsState) → Keeps z (is.mdrp keeping s z g)
 mdrp k keeping (p ∷ s) z g = moved s z (single_moving.mdrp keeping p z g) ((k z g).mdrp keeping p)
 mdrp k keeping [] z g = tt
 
-msirp : Single → (set_rp0 : Bool) (s : List ℤ) (z : ZoneLists) (g : GraphicsState) → Keeps z (single.msirp set_rp0 s z g)
+msirp : Single → (set_rp0 : Bool) (s : List ℤ) (z : ZoneLists) (g : GraphicsState) → Keeps z (is.msirp set_rp0 s z g)
 msirp k set_rp0 (d ∷ p ∷ s) z g = moved s z (single_moving.msirp set_rp0 p d z g) ((k z g).msirp set_rp0 p d)
 msirp k set_rp0 (d ∷ []) z g = tt
 msirp k set_rp0 [] z g = tt
 
-miap : Single → (round : Bool) (cvt s : List ℤ) (z : ZoneLists) (g : GraphicsState) → Keeps z (single.miap round cvt s z g)
+miap : Single → (round : Bool) (cvt s : List ℤ) (z : ZoneLists) (g : GraphicsState) → Keeps z (is.miap round cvt s z g)
 miap k round cvt s z g =
-    whatever (Shaped z) (single.point_and_value s cvt) _
+    whatever (Shaped z) (is.point_and_value s cvt) _
     (λ t. moved t.2 z (by_value.miap round t.0 t.1 z g) ((k z g).miap round t.0 t.1))
 
-mirp : Single → (keeping : Keeping) (cvt s : List ℤ) (z : ZoneLists) (g : GraphicsState) → Keeps z (single.mirp keeping cvt s z g)
+mirp : Single → (keeping : Keeping) (cvt s : List ℤ) (z : ZoneLists) (g : GraphicsState) → Keeps z (is.mirp keeping cvt s z g)
 mirp k keeping cvt s z g =
-    whatever (Shaped z) (single.point_and_value s cvt) _
+    whatever (Shaped z) (is.point_and_value s cvt) _
     (λ t. moved t.2 z (by_value.mirp keeping t.0 t.1 z g) ((k z g).mirp keeping t.0 t.1))
 
-scfs : Single → (s : List ℤ) (z : ZoneLists) (g : GraphicsState) → Keeps z (single.scfs s z g)
+scfs : Single → (s : List ℤ) (z : ZoneLists) (g : GraphicsState) → Keeps z (is.scfs s z g)
 scfs k (v ∷ p ∷ s) z g = changed s g z (measuring.scfs p v z g) ((k z g).scfs p v)
 scfs k (v ∷ []) z g = tt
 scfs k [] z g = tt
 
-utp : Single → (s : List ℤ) (z : ZoneLists) (g : GraphicsState) → Keeps z (single.utp s z g)
+utp : Single → (s : List ℤ) (z : ZoneLists) (g : GraphicsState) → Keeps z (is.utp s z g)
 utp k (p ∷ s) z g = changed s g z (measuring.utp p z g) ((k z g).utp p)
 utp k [] z g = tt
 
 -- on several points
-alignrp : Many → (s : List ℤ) (z : ZoneLists) (g : GraphicsState) → Keeps z (several.alignrp s z g)
+alignrp : Many → (s : List ℤ) (z : ZoneLists) (g : GraphicsState) → Keeps z (is.alignrp s z g)
 alignrp k s z g =
     whatever (Shaped z) (looped s g) _ (λ t. moved t.1 z (moving.alignrp t.0 z g) ((k z g).alignrp t.0))
 
-ip : Many → (s : List ℤ) (z : ZoneLists) (g : GraphicsState) → Keeps z (several.ip s z g)
+ip : Many → (s : List ℤ) (z : ZoneLists) (g : GraphicsState) → Keeps z (is.ip s z g)
 ip k s z g = whatever (Shaped z) (looped s g) _ (λ t. moved t.1 z (moving.ip t.0 z g) ((k z g).ip t.0))
 
-shp : Many → (which : ReferencePoint) (s : List ℤ) (z : ZoneLists) (g : GraphicsState) → Keeps z (several.shp which s z g)
+shp : Many → (which : ReferencePoint) (s : List ℤ) (z : ZoneLists) (g : GraphicsState) → Keeps z (is.shp which s z g)
 shp k which s z g =
     whatever (Shaped z) (looped s g) _ (λ t. moved t.1 z (shifting.shp which t.0 z g) ((k z g).shp which t.0))
 
-shpix : Many → (s : List ℤ) (z : ZoneLists) (g : GraphicsState) → Keeps z (several.shpix s z g)
+shpix : Many → (s : List ℤ) (z : ZoneLists) (g : GraphicsState) → Keeps z (is.shpix s z g)
 shpix k (amount ∷ s) z g =
     whatever (Shaped z) (looped s g) _ (λ t. moved t.1 z (moving.shpix t.0 amount z g) ((k z g).shpix t.0 amount))
 shpix k [] z g = tt
 
-flippt : Many → (s : List ℤ) (z : ZoneLists) (g : GraphicsState) → Keeps z (several.flippt s z g)
+flippt : Many → (s : List ℤ) (z : ZoneLists) (g : GraphicsState) → Keeps z (is.flippt s z g)
 flippt k s z g =
     whatever (Shaped z) (looped s g) _ (λ t. moved t.1 z (flipping.flippt t.0 z g) ((k z g).flippt t.0))
 
-fliprgon : Many → (s : List ℤ) (z : ZoneLists) (g : GraphicsState) → Keeps z (several.fliprgon s z g)
+fliprgon : Many → (s : List ℤ) (z : ZoneLists) (g : GraphicsState) → Keeps z (is.fliprgon s z g)
 fliprgon k (high ∷ low ∷ s) z g = changed s g z (flipping.fliprgon low high z) ((k z g).fliprgon low high)
 fliprgon k (high ∷ []) z g = tt
 fliprgon k [] z g = tt
 
-fliprgoff : Many → (s : List ℤ) (z : ZoneLists) (g : GraphicsState) → Keeps z (several.fliprgoff s z g)
+fliprgoff : Many → (s : List ℤ) (z : ZoneLists) (g : GraphicsState) → Keeps z (is.fliprgoff s z g)
 fliprgoff k (high ∷ low ∷ s) z g = changed s g z (flipping.fliprgoff low high z) ((k z g).fliprgoff low high)
 fliprgoff k (high ∷ []) z g = tt
 fliprgoff k [] z g = tt
 
-shc : Many → (which : ReferencePoint) (s : List ℤ) (z : ZoneLists) (g : GraphicsState) → Keeps z (several.shc which s z g)
+shc : Many → (which : ReferencePoint) (s : List ℤ) (z : ZoneLists) (g : GraphicsState) → Keeps z (is.shc which s z g)
 shc k which (c ∷ s) z g = changed s g z (shifting.shc which c z g) ((k z g).shc which c)
 shc k which [] z g = tt
 
-shz : Many → (which : ReferencePoint) (s : List ℤ) (z : ZoneLists) (g : GraphicsState) → Keeps z (several.shz which s z g)
+shz : Many → (which : ReferencePoint) (s : List ℤ) (z : ZoneLists) (g : GraphicsState) → Keeps z (is.shz which s z g)
 shz k which (e ∷ s) z g = changed s g z (shifting.shz which e z g) ((k z g).shz which e)
 shz k which [] z g = tt
 
-deltap : Many → (range : DeltaRange) (ppem : ℕ) (s : List ℤ) (z : ZoneLists) (g : GraphicsState) → Keeps z (several.deltap range ppem s z g)
+deltap : Many → (range : DeltaRange) (ppem : ℕ) (s : List ℤ) (z : ZoneLists) (g : GraphicsState) → Keeps z (is.deltap range ppem s z g)
 deltap k range ppem s z g =
     whatever (Shaped z) (counted s) _
     (λ t. changed t.1 g z (deltas.deltap range ppem t.0 z g) ((k z g).deltap range ppem t.0))
@@ -210,9 +195,9 @@ sizes_kept one many i instruction.Ip ppem s z g cvt has = valued z cvt _ (ip man
 sizes_kept one many i (instruction.Msirp set_rp0) ppem s z g cvt has = valued z cvt _ (msirp one set_rp0 s z g)
 sizes_kept one many i instruction.Alignrp ppem s z g cvt has = valued z cvt _ (alignrp many s z g)
 sizes_kept one many i (instruction.Miap round) ppem s z g cvt has = valued z cvt _ (miap one round cvt s z g)
-sizes_kept one many i (instruction.Gc of) ppem s z g cvt has = told z g cvt (single.gc of s z g)
+sizes_kept one many i (instruction.Gc of) ppem s z g cvt has = told z g cvt (is.gc of s z g)
 sizes_kept one many i instruction.Scfs ppem s z g cvt has = valued z cvt _ (scfs one s z g)
-sizes_kept one many i (instruction.Md between) ppem s z g cvt has = told z g cvt (single.md between s z g)
+sizes_kept one many i (instruction.Md between) ppem s z g cvt has = told z g cvt (is.md between s z g)
 sizes_kept one many i (instruction.Deltap range) ppem s z g cvt has = valued z cvt _ (deltap many range ppem s z g)
 sizes_kept one many i (instruction.Deltac range) ppem s z g cvt has =
     through (λ t. AsMany cvt t.1) (SameSizes z cvt) (deltac range ppem s g cvt) (λ t. Ok (t.0, z, g, t.1))

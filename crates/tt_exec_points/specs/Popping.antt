@@ -12,12 +12,12 @@ use Rattle.tt_points_zones.specs.Zones.{ZoneLists}
 abbrev pub Left : Type 0
 Left = Result (List ℤ × ZoneLists × GraphicsState) Why
 
--- behind an instruction that changes zones and graphics state, or zones alone
-abbrev pub behind : List ℤ → Result (ZoneLists × GraphicsState) Why → Left
-behind s given = given >>= λ t. Ok (s, t.0, t.1)
+-- after an instruction that changes zones and graphics state, or zones alone
+abbrev pub after : List ℤ → Result (ZoneLists × GraphicsState) Why → Left
+after s given = given >>= λ t. Ok (s, t.0, t.1)
 
-abbrev pub behind_move : List ℤ → GraphicsState → Result ZoneLists Why → Left
-behind_move s g given = given >>= λ z. Ok (s, z, g)
+abbrev pub after_move : List ℤ → GraphicsState → Result ZoneLists Why → Left
+after_move s g given = given >>= λ z. Ok (s, z, g)
 
 -- so many entries, the top last, and what is left
 abbrev pub taken : ℕ → List ℤ → Result (List ℤ × List ℤ) Why

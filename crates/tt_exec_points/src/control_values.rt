@@ -5,11 +5,11 @@ ghost use Rattle.tt_core.specs.Outcomes.{Gives};
 ghost use Rattle.tt_exec_points.specs.ControlValues as is;
 ghost use Rattle.tt_state.specs.GraphicsState.{IsGraphicsState};
 
-use crate::several::pairs_counted;
+use crate::instruction::pairs_counted;
 use tt_core::Why;
 use tt_exec_stack::Stack;
 use tt_exec_state::Graphics;
-use tt_points::{DeltaRange, delta_of};
+use tt_points_loops::deltas::{DeltaRange, delta_of};
 use tt_state::GraphicsState;
 
 /// A sum that fits 32 bits. Error: ValueRange.

@@ -1,15 +1,26 @@
-//! The instructions on points, and those that change control values by exceptions, with what their opcodes say. Apple
-//! TrueType Reference Manual, "Instruction set".
+//! The instructions on points, and those that change control values by exceptions, with the interpreter's stack. What each
+//! does to its points stands in the crate tt_points and below it, by the same name. Apple TrueType Reference Manual,
+//! "Instruction set".
 
+ghost use Rattle.std.specs.Prelude.{◌≡◌, ◌≤◌, length, unsigned_abs, IfOk};
 ghost use Rattle.tt_core.specs.Outcomes.{Gives};
 ghost use Rattle.tt_exec_points.specs.Instruction as is;
+ghost use Rattle.tt_exec_points.specs.Popping as popping;
+ghost use Rattle.tt_points_iup.specs.Interpolation as interpolation;
 
 use crate::control_values::deltac;
 use crate::points::Points;
 use tt_core::Why;
 use tt_exec_stack::Stack;
 use tt_exec_state::{Graphics, Size};
-use tt_points::{DeltaRange, Keeping, Position, ReferencePoint};
+use tt_points::control_values::{miap, mirp};
+use tt_points::measuring::{Position, gc, md, scfs, utp};
+use tt_points::moving::{mdap, mdrp, msirp};
+use tt_points::{Keeping, iup};
+use tt_points_loops::deltas::{DeltaRange, deltap};
+use tt_points_loops::flipping::{flippt, fliprgoff, fliprgon};
+use tt_points_loops::moving::{alignrp, ip, shpix};
+use tt_points_loops::shifting::{ReferencePoint, shc, shp, shz};
 use tt_state::Axis;
 
 /// An instruction on points, or DELTAC, by the manual's name.
@@ -36,6 +47,283 @@ pub enum PointInstruction {
     Fliprgoff,
     Mdrp(Keeping),
     Mirp(Keeping),
+}
+
+/// Does what changes a graphics state, and sets what it leaves.
+macro_rules! changing {
+    ($graphics:ident, $state:ident => $change:expr) => {{
+        let mut $state = $graphics.state();
+        $change?;
+        $graphics.set($state);
+        Ok(())
+    }};
+}
+
+/// The same with the points' numbers on the stack, as many as the loop variable says. Error: StackShort.
+macro_rules! looped {
+    ($stack:ident, $graphics:ident, ($state:ident, $numbers:ident) => $change:expr) => {{
+        let mut $state = $graphics.state();
+        let many = $state.loops as usize;
+        let $numbers = $stack.top(many)?;
+        $change?;
+        $stack.discard(many);
+        $graphics.set($state);
+        Ok(())
+    }};
+}
+
+/// The control value with a number. Error: CvtRange.
+fn control_value(n: i32, cvt: &[i32]) -> Result<i32, Why>
+    ensures { Gives (λ c. c) result (is.control_value n cvt.now) }
+{
+    if n < 0 || n as usize >= cvt.len() {
+        return Err(Why::CvtRange);
+    }
+    Ok(cvt[n as usize])
+}
+
+/// A point's number, and the control value with the number on top. Errors: StackShort, CvtRange.
+fn point_and_value(stack: &mut Stack, cvt: &[i32]) -> Result<(i32, i32), Why>
+    ensures { Gives (λ t. (t.0, t.1, stack.new)) result (is.point_and_value stack.old cvt.now) }
+{
+    let n = stack.pop()?;
+    let p = stack.pop()?;
+    let c = control_value(n, cvt)?;
+    Ok((p, c))
+}
+
+/// How many entries the top one counts in pairs. Errors: StackShort, BadArgument below 0.
+pub(crate) fn pairs_counted(stack: &mut Stack) -> Result<usize, Why>
+    ensures { Gives (λ n. (n, stack.new)) result (popping.pairs_counted stack.old) }
+{
+    let n = stack.pop()?;
+    if n < 0 {
+        return Err(Why::BadArgument);
+    }
+    Ok(2 * n as usize)
+}
+
+impl Points {
+    /// MDAP[r]: p -> . Errors: PointRange, Perpendicular, ValueRange.
+    pub(crate) fn mdap(
+        &mut self,
+        round: bool,
+        stack: &mut Stack,
+        graphics: &mut Graphics,
+    ) -> Result<(), Why>
+        ensures { Gives (λ u. (stack.new, self.new, graphics.new)) result (is.mdap round stack.old self.old graphics.old) }
+    {
+        let p = stack.pop()?;
+        changing!(graphics, state => mdap(&mut self.zones, &mut state, round, p))
+    }
+
+    /// MDRP[abcde]: p -> . Errors: PointRange, Perpendicular, ValueRange.
+    pub(crate) fn mdrp(
+        &mut self,
+        keeping: Keeping,
+        stack: &mut Stack,
+        graphics: &mut Graphics,
+    ) -> Result<(), Why>
+        ensures { Gives (λ u. (stack.new, self.new, graphics.new)) result (is.mdrp keeping stack.old self.old graphics.old) }
+    {
+        let p = stack.pop()?;
+        changing!(graphics, state => mdrp(&mut self.zones, &mut state, keeping, p))
+    }
+
+    /// MSIRP[a]: p, d -> . Errors: PointRange, Perpendicular, ValueRange.
+    pub(crate) fn msirp(
+        &mut self,
+        set_rp0: bool,
+        stack: &mut Stack,
+        graphics: &mut Graphics,
+    ) -> Result<(), Why>
+        ensures { Gives (λ u. (stack.new, self.new, graphics.new)) result (is.msirp set_rp0 stack.old self.old graphics.old) }
+    {
+        let d = stack.pop()?;
+        let p = stack.pop()?;
+        changing!(graphics, state => msirp(&mut self.zones, &mut state, set_rp0, p, d))
+    }
+
+    /// MIAP[r]: p, n -> . Errors: CvtRange, PointRange, Perpendicular, ValueRange.
+    pub(crate) fn miap(
+        &mut self,
+        round: bool,
+        cvt: &[i32],
+        stack: &mut Stack,
+        graphics: &mut Graphics,
+    ) -> Result<(), Why>
+        ensures { let given = is.miap round cvt.now stack.old self.old graphics.old in
+            Gives (λ u. (stack.new, self.new, graphics.new)) result given }
+    {
+        let (p, c) = point_and_value(stack, cvt)?;
+        changing!(graphics, state => miap(&mut self.zones, &mut state, round, p, c))
+    }
+
+    /// MIRP[abcde]: p, n -> . Errors: CvtRange, PointRange, Perpendicular, ValueRange.
+    pub(crate) fn mirp(
+        &mut self,
+        keeping: Keeping,
+        cvt: &[i32],
+        stack: &mut Stack,
+        graphics: &mut Graphics,
+    ) -> Result<(), Why>
+        ensures { let given = is.mirp keeping cvt.now stack.old self.old graphics.old in
+            Gives (λ u. (stack.new, self.new, graphics.new)) result given }
+    {
+        let (p, c) = point_and_value(stack, cvt)?;
+        changing!(graphics, state => mirp(&mut self.zones, &mut state, keeping, p, c))
+    }
+
+    /// SCFS[]: p, v -> . Errors: PointRange, Perpendicular, ValueRange.
+    pub(crate) fn scfs(&mut self, stack: &mut Stack, graphics: &Graphics) -> Result<(), Why>
+        ensures { Gives (λ u. (stack.new, self.new, graphics.now)) result (is.scfs stack.old self.old graphics.now) }
+    {
+        let v = stack.pop()?;
+        let p = stack.pop()?;
+        scfs(&mut self.zones, &graphics.state(), p, v)
+    }
+
+    /// UTP[]: p -> . Error: PointRange.
+    pub(crate) fn utp(&mut self, stack: &mut Stack, graphics: &Graphics) -> Result<(), Why>
+        ensures { Gives (λ u. (stack.new, self.new, graphics.now)) result (is.utp stack.old self.old graphics.now) }
+    {
+        let p = stack.pop()?;
+        utp(&mut self.zones, &graphics.state(), p)
+    }
+
+    /// GC[a]: p -> c. Error: PointRange.
+    pub(crate) fn gc(&self, of: Position, stack: &mut Stack, graphics: &Graphics) -> Result<(), Why>
+        ensures { Gives (λ u. stack.new) result (is.gc of stack.old self.now graphics.now) }
+    {
+        let p = stack.pop()?;
+        let value = gc(&self.zones, &graphics.state(), of, p)?;
+        stack.push(i64::from(value))
+    }
+
+    /// MD[a]: p2, p1 -> d. Error: PointRange.
+    pub(crate) fn md(
+        &self,
+        between: Position,
+        stack: &mut Stack,
+        graphics: &Graphics,
+    ) -> Result<(), Why>
+        ensures { Gives (λ u. stack.new) result (is.md between stack.old self.now graphics.now) }
+    {
+        let p1 = stack.pop()?;
+        let p2 = stack.pop()?;
+        let value = md(&self.zones, &graphics.state(), between, p2, p1)?;
+        stack.push(i64::from(value))
+    }
+
+    /// ALIGNRP[]: as many points as the loop says -> .
+    pub(crate) fn alignrp(&mut self, stack: &mut Stack, graphics: &mut Graphics) -> Result<(), Why>
+        ensures { Gives (λ u. (stack.new, self.new, graphics.new)) result (is.alignrp stack.old self.old graphics.old) }
+    {
+        looped!(stack, graphics, (state, numbers) => alignrp(&mut self.zones, &mut state, numbers))
+    }
+
+    /// IP[]: as many points as the loop says -> .
+    pub(crate) fn ip(&mut self, stack: &mut Stack, graphics: &mut Graphics) -> Result<(), Why>
+        ensures { Gives (λ u. (stack.new, self.new, graphics.new)) result (is.ip stack.old self.old graphics.old) }
+    {
+        looped!(stack, graphics, (state, numbers) => ip(&mut self.zones, &mut state, numbers))
+    }
+
+    /// SHP[a]: as many points as the loop says -> .
+    pub(crate) fn shp(
+        &mut self,
+        which: ReferencePoint,
+        stack: &mut Stack,
+        graphics: &mut Graphics,
+    ) -> Result<(), Why>
+        ensures { Gives (λ u. (stack.new, self.new, graphics.new)) result (is.shp which stack.old self.old graphics.old) }
+    {
+        looped!(stack, graphics, (state, numbers) => shp(&mut self.zones, &mut state, which, numbers))
+    }
+
+    /// SHPIX[]: as many points as the loop says, amount -> .
+    pub(crate) fn shpix(&mut self, stack: &mut Stack, graphics: &mut Graphics) -> Result<(), Why>
+        ensures { Gives (λ u. (stack.new, self.new, graphics.new)) result (is.shpix stack.old self.old graphics.old) }
+    {
+        let amount = stack.pop()?;
+        looped!(stack, graphics, (state, numbers) => shpix(&mut self.zones, &mut state, numbers, amount))
+    }
+
+    /// FLIPPT[]: as many points as the loop says -> .
+    pub(crate) fn flippt(&mut self, stack: &mut Stack, graphics: &mut Graphics) -> Result<(), Why>
+        ensures { Gives (λ u. (stack.new, self.new, graphics.new)) result (is.flippt stack.old self.old graphics.old) }
+    {
+        looped!(stack, graphics, (state, numbers) => flippt(&mut self.zones, &mut state, numbers))
+    }
+
+    /// FLIPRGON[]: low, high -> . Error: PointRange.
+    pub(crate) fn fliprgon(&mut self, stack: &mut Stack, graphics: &Graphics) -> Result<(), Why>
+        ensures { Gives (λ u. (stack.new, self.new, graphics.now)) result (is.fliprgon stack.old self.old graphics.now) }
+    {
+        let high = stack.pop()?;
+        let low = stack.pop()?;
+        fliprgon(&mut self.zones, low, high)
+    }
+
+    /// FLIPRGOFF[]: low, high -> . Error: PointRange.
+    pub(crate) fn fliprgoff(&mut self, stack: &mut Stack, graphics: &Graphics) -> Result<(), Why>
+        ensures { Gives (λ u. (stack.new, self.new, graphics.now)) result (is.fliprgoff stack.old self.old graphics.now) }
+    {
+        let high = stack.pop()?;
+        let low = stack.pop()?;
+        fliprgoff(&mut self.zones, low, high)
+    }
+
+    /// SHC[a]: contour -> . Errors: ContourRange, PointRange, Perpendicular, ValueRange.
+    pub(crate) fn shc(
+        &mut self,
+        which: ReferencePoint,
+        stack: &mut Stack,
+        graphics: &Graphics,
+    ) -> Result<(), Why>
+        ensures { Gives (λ u. (stack.new, self.new, graphics.now)) result (is.shc which stack.old self.old graphics.now) }
+    {
+        let contour = stack.pop()?;
+        shc(&mut self.zones, &graphics.state(), which, contour)
+    }
+
+    /// SHZ[a]: zone -> . Errors: ZoneRange, PointRange, Perpendicular, ValueRange.
+    pub(crate) fn shz(
+        &mut self,
+        which: ReferencePoint,
+        stack: &mut Stack,
+        graphics: &Graphics,
+    ) -> Result<(), Why>
+        ensures { Gives (λ u. (stack.new, self.new, graphics.now)) result (is.shz which stack.old self.old graphics.now) }
+    {
+        let zone = stack.pop()?;
+        shz(&mut self.zones, &graphics.state(), which, zone)?;
+        Ok(())
+    }
+
+    /// DELTAP1[] to DELTAP3[]: n pairs of an argument and a point, n -> .
+    pub(crate) fn deltap(
+        &mut self,
+        range: DeltaRange,
+        ppem: u32,
+        stack: &mut Stack,
+        graphics: &Graphics,
+    ) -> Result<(), Why>
+        ensures { Gives (λ u. (stack.new, self.new, graphics.now)) result (is.deltap range ppem stack.old self.old graphics.now) }
+    {
+        let many = pairs_counted(stack)?;
+        let pairs = stack.top(many)?;
+        deltap(&mut self.zones, &graphics.state(), range, ppem, pairs)?;
+        stack.discard(many);
+        Ok(())
+    }
+
+    /// IUP[a]. Error: ValueRange.
+    pub(crate) fn iup(&mut self, axis: Axis) -> Result<(), Why>
+        ensures { Gives (λ u. self.new) result (interpolation.iup axis self.old) }
+    {
+        iup(&mut self.zones, axis)
+    }
 }
 
 /// Does an instruction. Errors: StackShort; those of the instruction.

@@ -5,8 +5,6 @@ mod control_values;
 mod instruction;
 pub mod laws;
 mod points;
-mod several;
-mod single;
 
 pub use instruction::{PointInstruction, on_points};
 pub use points::Points;

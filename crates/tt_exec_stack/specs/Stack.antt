@@ -29,7 +29,8 @@ abbrev pub Pops : List ℤ → Result ℤ Why → List ℤ → Type 0
 Pops old (Ok x) new = old ≡ x ∷ new
 Pops old (Err e) new = (old ≡ []) × (e ≡ why.StackShort)
 
--- what a call left, or why it has no answer, is what the definition gives
+-- what a call left, or why it has no answer, is what the definition gives. After a refusal nothing is said of what is
+-- left, here and in Pops but for an empty stack: a run ends at its first refusal, and the machine answers no other.
 abbrev pub Does : {S E : Type 0} → Result S E → S → Result (Unit {0}) E → Type 0
 Does given new (Ok _) = given ≡ Ok new
 Does given new (Err e) = given ≡ Err e

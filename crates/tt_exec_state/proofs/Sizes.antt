@@ -8,11 +8,11 @@ use Rattle.tt_exec_state.specs.Size.{in_pixels}
 use Rattle.tt_exec_state.specs.declared.stored_values.StoredValues.{StoredValues}
 use Rattle.tt_exec_state.specs.declared.stored_values.StoredValues.TheVariants as op
 
--- what holds whatever comes first holds behind it
-behind : {A B : Type 0} (P : B → Type 0) (r : Result A Why) (f : A → Result B Why) → ((x : A) → IfOk (f x) P)
+-- what holds whatever comes first holds after it
+after : {A B : Type 0} (P : B → Type 0) (r : Result A Why) (f : A → Result B Why) → ((x : A) → IfOk (f x) P)
     → IfOk (r >>= f) P
-behind P (Ok x) f every = every x
-behind P (Err why) f every = tt
+after P (Ok x) f every = every x
+after P (Err why) f every = tt
 
 -- what is left of the stack, and a list that is as long as it was
 abbrev AsLong : List ℤ → List ℤ × List ℤ → Type 0
@@ -20,20 +20,20 @@ AsLong xs t = length t.1 ≡ length xs
 
 ws_kept : (s storage : List ℤ) → IfOk (ws s storage) (AsLong storage)
 ws_kept (value ∷ n ∷ s) storage =
-    behind (AsLong storage) (place n (length storage) why.StorageRange) _ (λ i. length-set storage i value)
+    after (AsLong storage) (place n (length storage) why.StorageRange) _ (λ i. length-set storage i value)
 ws_kept (n ∷ []) storage = tt
 ws_kept [] storage = tt
 
 wcvtp_kept : (s cvt : List ℤ) → IfOk (wcvtp s cvt) (AsLong cvt)
 wcvtp_kept (value ∷ n ∷ s) cvt =
-    behind (AsLong cvt) (place n (length cvt) why.CvtRange) _ (λ i. length-set cvt i value)
+    after (AsLong cvt) (place n (length cvt) why.CvtRange) _ (λ i. length-set cvt i value)
 wcvtp_kept (n ∷ []) cvt = tt
 wcvtp_kept [] cvt = tt
 
 wcvtf_kept : (ppem em : ℕ) (s cvt : List ℤ) → IfOk (wcvtf ppem em s cvt) (AsLong cvt)
 wcvtf_kept ppem em (units ∷ n ∷ s) cvt =
-    behind (AsLong cvt) (place n (length cvt) why.CvtRange) _ (λ i.
-    behind (AsLong cvt) (in_pixels ppem em units) _ (λ v. length-set cvt i v))
+    after (AsLong cvt) (place n (length cvt) why.CvtRange) _ (λ i.
+    after (AsLong cvt) (in_pixels ppem em units) _ (λ v. length-set cvt i v))
 wcvtf_kept ppem em (n ∷ []) cvt = tt
 wcvtf_kept ppem em [] cvt = tt
 

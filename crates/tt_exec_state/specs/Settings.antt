@@ -5,12 +5,11 @@ use Rattle.std.specs.Ordering.{int_eq}
 use Rattle.tt_core.specs.Outcomes.{◌>>=◌}
 use Rattle.tt_core.specs.declared.fault.Why.{Why}
 use Rattle.tt_core.specs.declared.fault.Why.TheVariants as why
-use Rattle.tt_state.specs.declared.graphics_state.Zone.{Zone}
-use Rattle.tt_state.specs.declared.graphics_state.Zone.TheVariants as zones
 use Rattle.tt_state.specs.declared.graphics_state.GraphicsState.{GraphicsState}
 use Rattle.tt_state.specs.declared.rounding.Round.{Round}
 use Rattle.tt_state.specs.GraphicsState.{default_state}
 use Rattle.tt_state.specs.Rounding.{super_state}
+use Rattle.tt_points_zones.specs.ZoneNumbers.{zone_of}
 use Rattle.tt_exec_state.specs.declared.settings.Setting.{Setting}
 use Rattle.tt_exec_state.specs.declared.settings.Setting.TheVariants as op
 use Rattle.tt_exec_state.specs.Size.{in_pixels}
@@ -31,24 +30,20 @@ abbrev pub srp2 : List ℤ → GraphicsState → Set
 srp2 (p ∷ s) g = Ok (s, record g { rp2 = p })
 srp2 [] g = Err why.StackShort
 
-abbrev pub zone : ℤ → Result Zone Why
-zone n =
-    if int_eq n (pos 0) then Ok zones.Twilight else (if int_eq n (pos 1) then Ok zones.Glyph else Err why.ZoneRange)
-
 abbrev pub szp0 : List ℤ → GraphicsState → Set
-szp0 (n ∷ s) g = zone n >>= λ z. Ok (s, record g { zp0 = z })
+szp0 (n ∷ s) g = zone_of n >>= λ z. Ok (s, record g { zp0 = z })
 szp0 [] g = Err why.StackShort
 
 abbrev pub szp1 : List ℤ → GraphicsState → Set
-szp1 (n ∷ s) g = zone n >>= λ z. Ok (s, record g { zp1 = z })
+szp1 (n ∷ s) g = zone_of n >>= λ z. Ok (s, record g { zp1 = z })
 szp1 [] g = Err why.StackShort
 
 abbrev pub szp2 : List ℤ → GraphicsState → Set
-szp2 (n ∷ s) g = zone n >>= λ z. Ok (s, record g { zp2 = z })
+szp2 (n ∷ s) g = zone_of n >>= λ z. Ok (s, record g { zp2 = z })
 szp2 [] g = Err why.StackShort
 
 abbrev pub szps : List ℤ → GraphicsState → Set
-szps (n ∷ s) g = zone n >>= λ z. Ok (s, record g { zp0 = z; zp1 = z; zp2 = z })
+szps (n ∷ s) g = zone_of n >>= λ z. Ok (s, record g { zp0 = z; zp1 = z; zp2 = z })
 szps [] g = Err why.StackShort
 
 abbrev pub sloop : List ℤ → GraphicsState → Set

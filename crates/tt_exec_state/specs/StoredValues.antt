@@ -9,7 +9,7 @@ use Rattle.tt_exec_state.specs.declared.stored_values.StoredValues.TheVariants a
 use Rattle.tt_exec_state.specs.Size.{in_pixels}
 use Rattle.tt_exec_stack.specs.Stack.{pushed}
 
--- a place among so many, or this refusal
+-- a number as an index below a length, or this refusal
 abbrev pub place : ℤ → ℕ → Why → Result ℕ Why
 place n many why = if int_lt n (pos 0) || nat_le many (unsigned_abs n) then Err why else Ok (unsigned_abs n)
 

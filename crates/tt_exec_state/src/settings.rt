@@ -2,7 +2,6 @@
 //! Reference Manual, "Instruction set".
 
 ghost use Rattle.std.specs.Prelude.{◌≡◌};
-ghost use Rattle.tt_core.specs.Outcomes.{Gives};
 ghost use Rattle.tt_exec_stack.specs.Stack.{Does};
 ghost use Rattle.tt_exec_state.specs.Settings as is;
 
@@ -10,7 +9,8 @@ use crate::graphics::Graphics;
 use crate::size::Size;
 use tt_core::Why;
 use tt_exec_stack::Stack;
-use tt_state::{GraphicsState, Round, Zone};
+use tt_points_zones::zone_of;
+use tt_state::{GraphicsState, Round};
 
 /// The instructions that set a variable of the graphics state.
 #[derive(Clone, Copy)]
@@ -71,42 +71,13 @@ fn srp2(stack: &mut Stack, graphics: &mut Graphics) -> Result<(), Why>
     Ok(())
 }
 
-/// A zone by its number. Error: ZoneRange.
-fn zone(n: i32) -> Result<Zone, Why>
-    ensures exact { Gives (λ z. z) result (is.zone n) }
-{
-    match n {
-        0 => Ok(Zone::Twilight),
-        1 => Ok(Zone::Glyph),
-        _ => Err(Why::ZoneRange),
-    }
-}
-
-fn set_zp0(zp0: Zone, graphics: &mut Graphics)
-    ensures { graphics.new ≡ record graphics.old { zp0 = zp0 } }
-{
-    graphics.set(GraphicsState {
-        zp0,
-        ..graphics.state()
-    });
-}
-
 /// SZP0[], 0x13: n -> zone pointer 0.
 fn szp0(stack: &mut Stack, graphics: &mut Graphics) -> Result<(), Why>
     ensures { Does (is.szp0 stack.old graphics.old) (stack.new, graphics.new) result }
 {
     let n = stack.pop()?;
-    set_zp0(zone(n)?, graphics);
+    graphics.set_zp0(zone_of(n)?);
     Ok(())
-}
-
-fn set_zp1(zp1: Zone, graphics: &mut Graphics)
-    ensures { graphics.new ≡ record graphics.old { zp1 = zp1 } }
-{
-    graphics.set(GraphicsState {
-        zp1,
-        ..graphics.state()
-    });
 }
 
 /// SZP1[], 0x14: n -> zone pointer 1.
@@ -114,17 +85,8 @@ fn szp1(stack: &mut Stack, graphics: &mut Graphics) -> Result<(), Why>
     ensures { Does (is.szp1 stack.old graphics.old) (stack.new, graphics.new) result }
 {
     let n = stack.pop()?;
-    set_zp1(zone(n)?, graphics);
+    graphics.set_zp1(zone_of(n)?);
     Ok(())
-}
-
-fn set_zp2(zp2: Zone, graphics: &mut Graphics)
-    ensures { graphics.new ≡ record graphics.old { zp2 = zp2 } }
-{
-    graphics.set(GraphicsState {
-        zp2,
-        ..graphics.state()
-    });
 }
 
 /// SZP2[], 0x15: n -> zone pointer 2.
@@ -132,19 +94,8 @@ fn szp2(stack: &mut Stack, graphics: &mut Graphics) -> Result<(), Why>
     ensures { Does (is.szp2 stack.old graphics.old) (stack.new, graphics.new) result }
 {
     let n = stack.pop()?;
-    set_zp2(zone(n)?, graphics);
+    graphics.set_zp2(zone_of(n)?);
     Ok(())
-}
-
-fn set_zps(all: Zone, graphics: &mut Graphics)
-    ensures { graphics.new ≡ record graphics.old { zp0 = all; zp1 = all; zp2 = all } }
-{
-    graphics.set(GraphicsState {
-        zp0: all,
-        zp1: all,
-        zp2: all,
-        ..graphics.state()
-    });
 }
 
 /// SZPS[], 0x16: n -> all three zone pointers.
@@ -152,7 +103,7 @@ fn szps(stack: &mut Stack, graphics: &mut Graphics) -> Result<(), Why>
     ensures { Does (is.szps stack.old graphics.old) (stack.new, graphics.new) result }
 {
     let n = stack.pop()?;
-    set_zps(zone(n)?, graphics);
+    graphics.set_zps(zone_of(n)?);
     Ok(())
 }
 
@@ -175,10 +126,7 @@ fn sloop(stack: &mut Stack, graphics: &mut Graphics) -> Result<(), Why>
 fn round_to(round: Round, graphics: &mut Graphics)
     ensures { graphics.new ≡ is.round_to round graphics.old }
 {
-    graphics.set(GraphicsState {
-        round,
-        ..graphics.state()
-    });
+    graphics.set_round(round);
 }
 
 /// SROUND[], 0x76: n -> the round state, by the low byte of n.
@@ -226,21 +174,12 @@ fn sswci(stack: &mut Stack, graphics: &mut Graphics) -> Result<(), Why>
     Ok(())
 }
 
-fn set_single_width(single_width: i32, graphics: &mut Graphics)
-    ensures { graphics.new ≡ record graphics.old { single_width = single_width } }
-{
-    graphics.set(GraphicsState {
-        single_width,
-        ..graphics.state()
-    });
-}
-
 /// SSW[], 0x1F: n -> the single-width value, n font units scaled. Error: ValueRange.
 fn ssw(size: Size, stack: &mut Stack, graphics: &mut Graphics) -> Result<(), Why>
     ensures { Does (is.ssw size.ppem size.units_per_em stack.old graphics.old) (stack.new, graphics.new) result }
 {
     let units = stack.pop()?;
-    set_single_width(size.in_pixels(units)?, graphics);
+    graphics.set_single_width(size.in_pixels(units)?);
     Ok(())
 }
 
@@ -248,10 +187,7 @@ fn ssw(size: Size, stack: &mut Stack, graphics: &mut Graphics) -> Result<(), Why
 fn flip(on: bool, graphics: &mut Graphics)
     ensures { graphics.new ≡ is.flip on graphics.old }
 {
-    graphics.set(GraphicsState {
-        auto_flip: on,
-        ..graphics.state()
-    });
+    graphics.set_auto_flip(on);
 }
 
 /// SDB[], 0x5E: n -> the delta base.

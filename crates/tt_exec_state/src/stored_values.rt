@@ -19,12 +19,12 @@ pub enum StoredValues {
     Rcvt,
 }
 
-/// A place among so many. Error: this one, where there is no such place.
-fn place(n: i32, many: usize, why: Why) -> Result<usize, Why>
-    ensures exact { Gives (λ i. i) result (is.place n many why) }
-    ensures within { IfOk result (λ i. i < many) }
+/// `n` as an index below `len`. Error: `why`, where it is none.
+fn place(n: i32, len: usize, why: Why) -> Result<usize, Why>
+    ensures exact { Gives (λ i. i) result (is.place n len why) }
+    ensures within { IfOk result (λ i. i < len) }
 {
-    if n < 0 || n as usize >= many {
+    if n < 0 || n as usize >= len {
         return Err(why);
     }
     Ok(n as usize)

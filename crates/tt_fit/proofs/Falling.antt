@@ -1,4 +1,4 @@
--- Where programs are given up, and what is made of a glyph then.
+-- Which glyphs are unfitted, and what is made of one then.
 use Rattle.std.proofs.Common.{◌≡◌, ◌≢◌, ◌∙◌, sym, ℕ, true, false, Some, None, Result, Ok, Err, refl}
 use Rattle.tt_core.specs.Faults.{Fault}
 use Rattle.tt_core.specs.Limits.{level_limit}
@@ -9,7 +9,7 @@ use Rattle.tt_fit.specs.declared.programs.Fit.{Fit}
 use Rattle.tt_fit.specs.declared.programs.Fit.TheVariants as fit
 use Rattle.tt_fit.specs.Fallback.{Fallback, never, where_refused, everywhere, is_program_fault}
 use Rattle.tt_fit.specs.Fitting.{Fitter, with_hinting, outline_at, fitted_outline, unfitted_fault}
-use Rattle.tt_fit.specs.Laws.{FallbackFits, FallbackScales, FallbackRefuses, FallbackKeeps, OthersNeverFallBack}
+use Rattle.tt_fit.specs.Laws.{FallbackFits, FallbackScales, FallbackRefuses, FallbackUnfitsAll, OthersNeverFallBack}
 use Rattle.tt_fit.specs.Outline.{Outline}
 use Rattle.tt_fit.specs.Preparation.{left_by_programs, prepared_by, prepared, fitter_of}
 use Rattle.tt_fit.specs.Parts.{begun_parts}
@@ -73,7 +73,7 @@ setting_by m tables ppem how left = prepared_by how left >>= λ p. Ok
 abbrev outline_by : Metrics → Glyf → ℕ → Fit → Result Hinting Fault → ℕ → Result Outline Fault
 outline_by m tables ppem how left g = setting_by m tables ppem how left >>= λ s. fitted_outline s g
 
--- a setting whose programs are never given up
+-- a setting where no glyph is unfitted
 full-is : (m : Metrics) (tables : Glyf) (ppem : ℕ) (hinting : Hinting) (fallback : Fallback) (g : ℕ)
     → fitted_outline (setting_with m tables ppem hinting never) g
     ≡ outline_at (with_hinting (setting_with m tables ppem hinting fallback) hinting) level_limit g
@@ -106,12 +106,12 @@ scales-by m tables ppem s g f (Ok hinting) is fails of_program =
     let by_programs = sym (full-is m tables ppem hinting where_refused g) ∙ fails in
     let some = unfitted-where-refused t g f refl by_programs of_program in
     rw (← same) (made-unfitted t g f some ∙ sym (full-is m tables ppem off never g), some)
-scales-by m tables ppem s g f (Err kept) is fails of_program =
-    let t = setting_with m tables ppem off (everywhere kept) in
+scales-by m tables ppem s g f (Err told) is fails of_program =
+    let t = setting_with m tables ppem off (everywhere told) in
     let same : t ≡ s = cc in
-    let known : kept ≡ f = cc in
-    let some = unfitted-everywhere t g kept refl in
-    rw (← same, ← known) (made-unfitted t g kept some ∙ sym (full-is m tables ppem off never g), some)
+    let known : told ≡ f = cc in
+    let some = unfitted-everywhere t g told refl in
+    rw (← same, ← known) (made-unfitted t g told some ∙ sym (full-is m tables ppem off never g), some)
 
 pub fallback-scales : FallbackScales
 unfolding fitter_of prepared
@@ -130,7 +130,7 @@ refuses-by m tables ppem full s g f (Ok hinting) is made fails of_table =
     let by_programs = sym (full-is m tables ppem hinting where_refused g) ∙ told in
     let none = fitted-where-short t g f refl by_programs of_table in
     rw (← same) (made-fitted t g none ∙ by_programs, none)
-refuses-by m tables ppem full s g f (Err kept) is made fails of_table = absurd cc
+refuses-by m tables ppem full s g f (Err told) is made fails of_table = absurd cc
 
 pub fallback-refuses : FallbackRefuses
 unfolding fitter_of prepared
@@ -138,22 +138,22 @@ fallback-refuses m tables programs ppem full s g f is made fails of_table =
     refuses-by m tables ppem full s g f (left_by_programs (begun_parts m programs.cvt ppem) programs) is made fails
     of_table
 
-keeps-by : (m : Metrics) (tables : Glyf) (ppem : ℕ) (s : Fitter) (g : ℕ) (f : Fault)
+unfits-by : (m : Metrics) (tables : Glyf) (ppem : ℕ) (s : Fitter) (g : ℕ) (f : Fault)
     (left : Result Hinting Fault) → setting_by m tables ppem fit.Fallback left ≡ Ok s
     → setting_by m tables ppem fit.Full left ≡ Err f
     → (fitted_outline s g ≡ outline_by m tables ppem fit.None left g) × (unfitted_fault s g ≡ Some f)
-keeps-by m tables ppem s g f (Ok hinting) is fails = absurd cc
-keeps-by m tables ppem s g f (Err kept) is fails =
-    let t = setting_with m tables ppem off (everywhere kept) in
+unfits-by m tables ppem s g f (Ok hinting) is fails = absurd cc
+unfits-by m tables ppem s g f (Err told) is fails =
+    let t = setting_with m tables ppem off (everywhere told) in
     let same : t ≡ s = cc in
-    let known : kept ≡ f = cc in
-    let some = unfitted-everywhere t g kept refl in
-    rw (← same, ← known) (made-unfitted t g kept some ∙ sym (full-is m tables ppem off never g), some)
+    let known : told ≡ f = cc in
+    let some = unfitted-everywhere t g told refl in
+    rw (← same, ← known) (made-unfitted t g told some ∙ sym (full-is m tables ppem off never g), some)
 
-pub fallback-keeps : FallbackKeeps
+pub fallback-unfits-all : FallbackUnfitsAll
 unfolding fitter_of prepared
-fallback-keeps m tables programs ppem s g f is fails =
-    keeps-by m tables ppem s g f (left_by_programs (begun_parts m programs.cvt ppem) programs) is fails
+fallback-unfits-all m tables programs ppem s g f is fails =
+    unfits-by m tables ppem s g f (left_by_programs (begun_parts m programs.cvt ppem) programs) is fails
 
 others-by : (m : Metrics) (tables : Glyf) (ppem : ℕ) (how : Fit) (s : Fitter) (g : ℕ)
     (left : Result Hinting Fault) → setting_by m tables ppem how left ≡ Ok s → how ≢ fit.Fallback

@@ -90,19 +90,19 @@ start-whole s x_min g o f was bad =
     blank-whole (glyph_offset s.tables g) (phantom_points (size_of s) s.metrics x_min g) o f was bad
 
 -- the program of a glyph, over the points that are made for it
-abbrev IsFinishingOf : Fitter → ℕ → List ℕ → ℕ → Fault → Result Outline Fault → Type 0
-IsFinishingOf s g code code_at f x = IsOkAnd x (λ o. IsHintingDefect s.hinting (glyph_program s g code code_at) o f)
+abbrev IsHintingOf : Fitter → ℕ → List ℕ → ℕ → Fault → Result Outline Fault → Type 0
+IsHintingOf s g code code_at f x = IsOkAnd x (λ o. IsHintingDefect s.hinting (glyph_program s g code code_at) o f)
 
-finishing-broke : (s : Fitter) (g : ℕ) (code : List ℕ) (code_at : ℕ) (x : Result Outline Fault) (o : Outline) (f : Fault)
-    → x ≡ Ok o → hinted s.hinting (glyph_program s g code code_at) o ≡ Err f → IsFinishingOf s g code code_at f x
-finishing-broke s g code code_at x o f made was =
-    subst (IsFinishingOf s g code code_at f) (sym made) (hinted-broke s.hinting (glyph_program s g code code_at) o f was)
+hinting-broke : (s : Fitter) (g : ℕ) (code : List ℕ) (code_at : ℕ) (x : Result Outline Fault) (o : Outline) (f : Fault)
+    → x ≡ Ok o → hinted s.hinting (glyph_program s g code code_at) o ≡ Err f → IsHintingOf s g code code_at f x
+hinting-broke s g code code_at x o f made was =
+    subst (IsHintingOf s g code code_at f) (sym made) (hinted-broke s.hinting (glyph_program s g code code_at) o f was)
 
-finishing-whole : (s : Fitter) (g : ℕ) (code : List ℕ) (code_at : ℕ) (x : Result Outline Fault) (o all : Outline)
+hinting-whole : (s : Fitter) (g : ℕ) (code : List ℕ) (code_at : ℕ) (x : Result Outline Fault) (o all : Outline)
     (f : Fault) → x ≡ Ok o → hinted s.hinting (glyph_program s g code code_at) o ≡ Ok all
-    → IsFinishingOf s g code code_at f x → ⊥
-finishing-whole s g code code_at x o all f made was bad =
-    hinted-whole s.hinting (glyph_program s g code code_at) o all f was (subst (IsFinishingOf s g code code_at f) made bad)
+    → IsHintingOf s g code code_at f x → ⊥
+hinting-whole s g code code_at x o all f made was bad =
+    hinted-whole s.hinting (glyph_program s g code code_at) o all f was (subst (IsHintingOf s g code code_at f) made bad)
 
 making-broke : (s : Fitter) (add : Record → Outline → Result Outline Fault)
     (IsOne : Record → Result Outline Fault → Fault → Type 0) → Tells add IsOne → (g : ℕ) (d : Raw) (f : Fault)
@@ -117,7 +117,7 @@ making-broke s add IsOne tells g (simple d) f was = elim (was-err (start s d.x_m
             (inl (scaled-broke (size_of s) (glyph_offset s.tables g) d.points d.ends begun.value f here))
         | inr whole ↦
             let both = through (start s d.x_min g) scale begun.value whole.value begun.first whole.first in
-            inr (inr (finishing-broke s g d.code d.code_at (start s d.x_min g >>= scale) whole.value f both whole.rest))
+            inr (inr (hinting-broke s g d.code d.code_at (start s d.x_min g >>= scale) whole.value f both whole.rest))
       ]
 ]
 making-broke s add IsOne tells g (composite d) f was =
@@ -129,7 +129,7 @@ making-broke s add IsOne tells g (composite d) f was =
       ]
       | inr whole ↦
           let all = start s d.x_min g >>= joined add d.records in
-          inr (inr (finishing-broke s g d.code d.code_at all whole.value f whole.first whole.rest))
+          inr (inr (hinting-broke s g d.code d.code_at all whole.value f whole.first whole.rest))
     ]
 
 making-whole : (s : Fitter) (add : Record → Outline → Result Outline Fault)
@@ -147,7 +147,7 @@ making-whole s add IsOne spares g (simple d) o f was bad =
           by_points.first point
       | inr (inr program) ↦
           let both = through (start s d.x_min g) scale begun.value by_points.value begun.first by_points.first in
-          finishing-whole s g d.code d.code_at (start s d.x_min g >>= scale) by_points.value o f both
+          hinting-whole s g d.code d.code_at (start s d.x_min g >>= scale) by_points.value o f both
           by_points.rest program
     ]
 making-whole s add IsOne spares g (composite d) o f was bad =
@@ -160,7 +160,7 @@ making-whole s add IsOne spares g (composite d) o f was bad =
           begun.rest one
       | inr (inr program) ↦
           let all = start s d.x_min g >>= joined add d.records in
-          finishing-whole s g d.code d.code_at all by_records.value o f by_records.first by_records.rest program
+          hinting-whole s g d.code d.code_at all by_records.value o f by_records.first by_records.rest program
     ]
 
 -- a glyph, by what its records add

@@ -49,8 +49,8 @@ FallbackRefuses = (m : Metrics) (tables : Glyf) (programs : ProgramTables) (ppem
     → (fitted_outline s g ≡ Err fault) × (unfitted_fault s g ≡ None)
 
 -- a fault of the font program or the control value program is one of every glyph
-abbrev pub FallbackKeeps : Type 0
-FallbackKeeps = (m : Metrics) (tables : Glyf) (programs : ProgramTables) (ppem : ℕ) (s : Fitter) (g : ℕ)
+abbrev pub FallbackUnfitsAll : Type 0
+FallbackUnfitsAll = (m : Metrics) (tables : Glyf) (programs : ProgramTables) (ppem : ℕ) (s : Fitter) (g : ℕ)
     (fault : Fault) → fitter_of m tables programs ppem fit.Fallback ≡ Ok s
     → fitter_of m tables programs ppem fit.Full ≡ Err fault
     → (fitted_outline s g ≡ outline_with m tables programs ppem fit.None g) × (unfitted_fault s g ≡ Some fault)

@@ -105,10 +105,10 @@ font_program_is_refused : prepared its_metrics its_programs 16 fit.Full ≡ Err 
 unfolding prepared left_by_programs run_of run_outcome run_within
 font_program_is_refused = refl
 
-its_fault_is_kept : prepared its_metrics its_programs 16 fit.Fallback ≡ Ok
+by_it_every_glyph_is_unfitted : prepared its_metrics its_programs 16 fit.Fallback ≡ Ok
     (record { hinting = off; fallback = everywhere font_fault })
 unfolding prepared left_by_programs run_of run_outcome run_within
-its_fault_is_kept = refl
+by_it_every_glyph_is_unfitted = refl
 
 -- by it a glyph that has no program is unfitted as well
 empty_is_unfitted : unfitted_fault (its_setting (everywhere font_fault)) 0 ≡ Some font_fault

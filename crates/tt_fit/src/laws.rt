@@ -1,6 +1,6 @@
 //! Laws of the definitions. Each function takes nothing and gives nothing: its clauses hold of all glyphs.
 
-ghost use Rattle.tt_fit.specs.Laws.{OutlinesAreWhole, OutlineFaultsStand, FallbackFits, FallbackScales, FallbackRefuses, FallbackKeeps, OthersNeverFallBack};
+ghost use Rattle.tt_fit.specs.Laws.{OutlinesAreWhole, OutlineFaultsStand, FallbackFits, FallbackScales, FallbackRefuses, FallbackUnfitsAll, OthersNeverFallBack};
 
 /// Where the definition gives an outline, no defect stands in the glyph or in a component of it, and where it gives a
 /// fault, that one does.
@@ -15,6 +15,6 @@ pub fn glyphs_fall_back()
     ensures fitted { FallbackFits }
     ensures scaled { FallbackScales }
     ensures refused { FallbackRefuses }
-    ensures kept { FallbackKeeps }
+    ensures unfitted { FallbackUnfitsAll }
     ensures never { OthersNeverFallBack }
 {}

@@ -1,21 +1,17 @@
-//! The points that TrueType programs move. Instructions on single points stand here, those on several in the crates
-//! tt_points_loops and tt_points_iup.
+//! The points that TrueType programs move. The crates below hold the zones, the instructions on several points
+//! (`several`) and the interpolation of untouched points. The instructions on one point stand here, above them all: those
+//! that keep a distance, set a coordinate or measure share the rules of distances and of the twilight zone, which no
+//! instruction on several points knows.
 #![tactic(auto)]
 
-mod control_values;
+pub mod control_values;
 mod distances;
 pub mod laws;
-mod measuring;
-mod moving;
+pub mod measuring;
+pub mod moving;
 mod twilight;
 
-pub use control_values::{miap, mirp};
 pub use distances::Keeping;
-pub use measuring::{Position, gc, md, scfs, utp};
-pub use moving::{mdap, mdrp, msirp};
 pub use tt_points_iup::iup;
-pub use tt_points_loops::{
-    DeltaRange, ReferencePoint, alignrp, delta_of, deltap, flippt, fliprgoff, fliprgon, ip, shc,
-    shp, shpix, shz,
-};
+pub use tt_points_loops as several;
 pub use tt_points_zones::Zones;

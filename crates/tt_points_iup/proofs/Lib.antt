@@ -8,3 +8,4 @@ pub mod Ranges
 pub mod ByNumber
 pub mod Whole
 pub mod Shapes
+pub mod Nearest

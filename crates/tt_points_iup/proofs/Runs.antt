@@ -9,7 +9,7 @@ use Rattle.tt_points_zones.specs.Zones.{IsPoint}
 use Rattle.tt_points_iup.specs.Interpolation.{interpolated, first_touched, limited}
 use Rattle.tt_points_iup.specs.Sweeps.{swept, IsRun}
 use Rattle.tt_points_iup.proofs.Limits.{limited_before, whole_ok}
-use Rattle.tt_points_iup.proofs.Touches.{none_touched, first_behind}
+use Rattle.tt_points_iup.proofs.Touches.{none_touched, first_after}
 
 run_last : (axis : Axis) (before first : Point) (us : List Point) → first_touched axis us ≡ None
     → swept axis before first us ≡ map (interpolated axis before first) us
@@ -25,7 +25,7 @@ run_to : (axis : Axis) (before first : Point) (us : List Point) (t : Point) (vs 
 run_to axis before first [] t vs none here = rw here refl
 run_to axis before first (u ∷ us) t vs none here =
     let parts = none_touched axis u us none in
-    let next : first_touched axis (us ++ t ∷ vs) ≡ Some t = rw (first_behind axis us (t ∷ vs) parts.rest, here) refl in
+    let next : first_touched axis (us ++ t ∷ vs) ≡ Some t = rw (first_after axis us (t ∷ vs) parts.rest, here) refl in
     rw (parts.head, next, run_to axis before first us t vs parts.rest here) refl
 
 -- a list at one of its points
@@ -37,17 +37,17 @@ one_past : (part : List Point) (t : Point) (vs : List Point)
 one_past [] t vs = refl
 one_past (p ∷ part) t vs = rw (one_past part t vs) refl
 
-behind_it : (part : List Point) (t : Point) (vs : List Point) → drop (suc (length part)) (part ++ t ∷ vs) ≡ vs
-behind_it [] t vs = refl
-behind_it (p ∷ part) t vs = behind_it part t vs
+after_it : (part : List Point) (t : Point) (vs : List Point) → drop (suc (length part)) (part ++ t ∷ vs) ≡ vs
+after_it [] t vs = refl
+after_it (p ∷ part) t vs = after_it part t vs
 
 past_at : (m : ℕ) (part : List Point) (t : Point) (vs : List Point) → m ≡ suc (length part)
     → (take m (part ++ t ∷ vs) ≡ part ++ t ∷ []) × (drop m (part ++ t ∷ vs) ≡ vs)
-past_at m part t vs e = (rw e (one_past part t vs), rw e (behind_it part t vs))
+past_at m part t vs e = (rw e (one_past part t vs), rw e (after_it part t vs))
 
 pub run_ends : (axis : Axis) (before first : Point) (old new : List Point) (n : ℕ) → 0 < length old → n ≡ length old
     → first_touched axis (take n old) ≡ None → limited axis (map (interpolated axis before first) old) ≡ Ok new
-    → IsPoint before → IsRun axis before first old new (record { len = n; last = before })
+    → IsPoint before → IsRun axis before first old new n before
 run_ends axis before first old new n some long none made sound =
     let f = interpolated axis before first in
     let is : map f old ≡ new = whole_ok axis (map f old) new made in
@@ -62,7 +62,7 @@ run_ends axis before first old new n some long none made sound =
       bound = omega arith;
       so_far = rw (all, past, append-nil new, run_last axis before first old untouched) (sym is);
       rest = rw (past, gone) refl;
-      last = sound;
+      valid = sound;
     }
 
 pub run_ends_outside : (axis : Axis) (before first : Point) (old : List Point) (n : ℕ) (fault : Why) → n ≡ length old
@@ -85,7 +85,7 @@ to_point axis before first old n d inside none here =
 pub run_goes : (axis : Axis) (before first : Point) (old part : List Point) (n : ℕ) (d : Point) → n < length old
     → first_touched axis (take n old) ≡ None → is_touched axis (get_or old n d) ≡ true
     → limited axis (map (interpolated axis before (get_or old n d)) (take n old)) ≡ Ok part → IsPoint (get_or old n d)
-    → IsRun axis before first old (part ++ drop n old) (record { len = n + 1; last = get_or old n d })
+    → IsRun axis before first old (part ++ drop n old) (n + 1) (get_or old n d)
 run_goes axis before first old part n d inside none here made sound =
     let t = get_or old n d in
     let f = interpolated axis before t in
@@ -102,7 +102,7 @@ run_goes axis before first old part n d inside none here made sound =
       bound = omega arith;
       so_far = rw (split, past.0, run, is) made_so;
       rest = rw split (past.1);
-      last = sound;
+      valid = sound;
     }
 
 pub run_goes_outside : (axis : Axis) (before first : Point) (old : List Point) (n : ℕ) (d : Point) (fault : Why)
@@ -113,3 +113,39 @@ run_goes_outside axis before first old n d fault inside none here bad =
     rw (to_point axis before first old n d inside none here) (limited_before axis
     (map (interpolated axis before (get_or old n d)) (take n old))
     (get_or old n d ∷ swept axis (get_or old n d) first (drop (n + 1) old)) fault bad)
+
+-- a run up to a touched point, by what it leaves of the points
+pub run_reaches : (axis : Axis) (before first after : Point) (old new : List Point) (n : ℕ) (d : Point) → n < length old
+    → first_touched axis (take n old) ≡ None → is_touched axis (get_or old n d) ≡ true → after ≡ get_or old n d
+    → limited axis (map (interpolated axis before after) (take n old)) ≡ Ok (take n new) → drop n new ≡ drop n old
+    → IsPoint (get_or old n d) → IsRun axis before first old new (n + 1) after
+run_reaches axis before first after old new n d inside none here is made back valid =
+    let run = run_goes axis before first old (take n new) n d inside none here (rw is at made) valid in
+    let whole : take n new ++ drop n old ≡ new = rw (← back) (take-append-drop n new) in
+    rw is (rw whole at run)
+
+pub run_reaches_outside : (axis : Axis) (before first after : Point) (old : List Point) (n : ℕ) (d : Point)
+    (fault : Why)
+    → n < length old → first_touched axis (take n old) ≡ None → is_touched axis (get_or old n d) ≡ true
+    → after ≡ get_or old n d → limited axis (map (interpolated axis before after) (take n old)) ≡ Err fault
+    → limited axis (swept axis before first old) ≡ Err fault
+run_reaches_outside axis before first after old n d fault inside none here is bad =
+    run_goes_outside axis before first old n d fault inside none here (rw is at bad)
+
+-- a run to the end, by what it leaves of the points
+pub run_finishes : (axis : Axis) (before first : Point) (old new : List Point) (n : ℕ) → 0 < length old
+    → n ≡ length old → length new ≡ length old → first_touched axis (take n old) ≡ None
+    → limited axis (map (interpolated axis before first) (take n old)) ≡ Ok (take n new) → IsPoint before
+    → IsRun axis before first old new n before
+run_finishes axis before first old new n some long same none made valid =
+    let all = take_all n old (omega arith) in
+    let now = take_all n new (omega arith) in
+    run_ends axis before first old new n some long none (rw (all, now) at made) valid
+
+pub run_finishes_outside : (axis : Axis) (before first : Point) (old : List Point) (n : ℕ) (fault : Why)
+    → n ≡ length old → first_touched axis (take n old) ≡ None
+    → limited axis (map (interpolated axis before first) (take n old)) ≡ Err fault
+    → limited axis (swept axis before first old) ≡ Err fault
+run_finishes_outside axis before first old n fault long none bad =
+    let all = take_all n old (omega arith) in
+    run_ends_outside axis before first old n fault long none (rw all at bad)

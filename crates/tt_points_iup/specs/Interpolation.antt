@@ -11,31 +11,34 @@ use Rattle.tt_state.specs.declared.graphics_state.Axis.TheVariants as axis
 use Rattle.tt_state.specs.declared.point.Point.{Point}
 use Rattle.tt_points_zones.specs.Points.{cur, org, is_touched, put, is_coordinate}
 use Rattle.tt_points_zones.specs.Zones.{ZoneLists}
-use Rattle.tt_points_iup.specs.declared.place.Place.{Place}
 
--- where a point stands along an axis, and where it stood before the program
-abbrev pub place_of : Axis → Point → Place
-place_of axis p = record { org = org axis p; cur = cur axis p }
+-- where a point stood along an axis before the program, and where it stands
+pub record Position : Type 0 where
+  pub org : ℤ
+  pub cur : ℤ
 
--- as far from one place to another as it was from the one's original to the other's
-abbrev pub in_proportion : ℤ → Place → Place → ℤ
+abbrev pub position_at : Axis → Point → Position
+position_at axis p = record { org = org axis p; cur = cur axis p }
+
+-- as far from one position to another as it was from the one's original to the other's
+abbrev pub in_proportion : ℤ → Position → Position → ℤ
 in_proportion u lo hi =
     lo.cur +ℤ rounded_quotient ((u -ℤ lo.org) *ℤ (hi.cur -ℤ lo.cur)) (hi.org -ℤ lo.org)
 
--- an original coordinate, moved as the lower place where it is not above it, as the upper one where it is not below it,
+-- an original coordinate, moved as the lower position where it is not above it, as the upper one where it is not below it,
 -- and else in proportion
-abbrev pub following : ℤ → Place → Place → ℤ
+abbrev pub following : ℤ → Position → Position → ℤ
 following u lo hi =
     if int_le u lo.org then u +ℤ (lo.cur -ℤ lo.org)
     else (if int_le hi.org u then u +ℤ (hi.cur -ℤ hi.org) else in_proportion u lo hi)
 
--- the place with the lower original is the lower one
-abbrev pub between : ℤ → Place → Place → ℤ
+-- the position with the lower original is the lower one
+abbrev pub between : ℤ → Position → Position → ℤ
 between u a b = if int_lt b.org a.org then following u b a else following u a b
 
 -- an untouched point between two touched ones; it stays untouched
 unfoldable pub interpolated : Axis → Point → Point → Point → Point
-interpolated axis a b p = put axis (between (org axis p) (place_of axis a) (place_of axis b)) p
+interpolated axis a b p = put axis (between (org axis p) (position_at axis a) (position_at axis b)) p
 
 abbrev pub first_touched : Axis → List Point → Option Point
 first_touched axis [] = None
@@ -52,13 +55,13 @@ interpolated_by axis (Some a) (Some b) p = interpolated axis a b p
 interpolated_by axis (Some a) None p = p
 interpolated_by axis None b p = p
 
--- a point, and the others of its contour from the one behind it round to the one before it
+-- a point, and the others of its contour from the one after it round to the one before it
 abbrev pub interpolated_among : Axis → List Point → Point → Point
 interpolated_among axis others p =
     if is_touched axis p then p
     else interpolated_by axis (last_touched axis None others) (first_touched axis others) p
 
--- the points of a contour behind those of its front, each among the others as they were
+-- the points of a contour after those of its front, each among the others as they were
 abbrev pub contour_from : Axis → List Point → List Point → List Point
 contour_from axis front [] = []
 contour_from axis front (p ∷ back) =
@@ -67,7 +70,7 @@ contour_from axis front (p ∷ back) =
 unfoldable pub contour : Axis → List Point → List Point
 contour axis ps = contour_from axis [] ps
 
--- each contour by itself; the points behind the last, the phantom points, stay
+-- each contour by itself; the points after the last, the phantom points, stay
 abbrev pub contours : Axis → ℕ → List (ℕ × ℕ) → List Point → List Point
 contours axis at [] ps = drop at ps
 contours axis at (c ∷ cs) ps = contour axis (slice_range ps c.0 c.1) ++ contours axis c.1 cs ps

@@ -1,5 +1,5 @@
 pub mod Interpolation
 pub mod Readings
-pub mod Places
+pub mod Positions
 pub mod Sweeps
 pub mod Neighbours

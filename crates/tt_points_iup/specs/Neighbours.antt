@@ -15,7 +15,7 @@ pub record IsTouchedAt (axis : Axis) (ps : List Point) (d : Point) (i k : ℕ) :
   pub once : k < length ps
   pub touched : is_touched axis (get_or ps (round_from (length ps) i k) d) ≡ true
 
--- the nearest touched point behind a point: none is touched between the two
+-- the nearest touched point after a point: none is touched between the two
 pub record IsNextTouched (axis : Axis) (ps : List Point) (d : Point) (i k : ℕ) : Type 0 where
   pub there : IsTouchedAt axis ps d i k
   pub nearest : (j : ℕ) → 0 < j → j < k → is_touched axis (get_or ps (round_from (length ps) i j) d) ≡ false
@@ -24,6 +24,13 @@ pub record IsNextTouched (axis : Axis) (ps : List Point) (d : Point) (i k : ℕ)
 pub record IsLastTouched (axis : Axis) (ps : List Point) (d : Point) (i k : ℕ) : Type 0 where
   pub there : IsTouchedAt axis ps d i k
   pub nearest : (j : ℕ) → k < j → j < length ps → is_touched axis (get_or ps (round_from (length ps) i j) d) ≡ false
+
+-- a touched point before a point, and one after it; perhaps the same
+pub record HasNeighbours (axis : Axis) (ps : List Point) (d : Point) (i : ℕ) : Type 0 where
+  pub before : ℕ
+  pub last : IsLastTouched axis ps d i before
+  pub after : ℕ
+  pub next : IsNextTouched axis ps d i after
 
 -- worked values
 goes_round : round_from 5 3 2 ≡ 0

@@ -1,88 +1,109 @@
 //! Once round a contour, from each touched point to the next one.
 
-ghost use Rattle.std.specs.Prelude.{◌≡◌, ◌+◌, ◌*◌, ◌^◌, ◌<◌, ◌≤◌, length, map, Err, All, IfOk, IfErr};
+ghost use Rattle.std.specs.Prelude.{◌≡◌, ◌+◌, ◌*◌, ◌^◌, ◌<◌, ◌≤◌, length, map, take, drop, Err, All, IfOk, IfErr};
 ghost use Rattle.tt_core.specs.Outcomes.{Gives};
 ghost use Rattle.tt_points_zones.specs.Zones.{IsPoint};
 ghost use Rattle.tt_points_iup.specs.Interpolation as is;
 ghost use Rattle.tt_points_iup.specs.Readings.{of_contour};
 ghost use Rattle.tt_points_iup.specs.Sweeps.{swept, IsRun};
 
+use crate::counted::{Contour, PlainPoint};
 use crate::place::interpolated;
 use crate::search::{first_touched, last_touched, untouched};
 use tt_core::Why;
-use tt_state::{Axis, Point};
 
-/// Points one behind the other: how many, and the last touched one among them or before them.
+/// Points in a row: how many, and the last touched one among them or before them.
 #[derive(Clone, Copy)]
 struct Run {
     len: usize,
-    last: Point,
+    last: PlainPoint,
 }
 
-/// Puts untouched points between the touched ones before and behind them. Error: ValueRange.
-fn fill(points: &mut [Point], axis: Axis, before: Point, after: Point) -> Result<(), Why>
-    requires points { All IsPoint points.old }
-    requires before { IsPoint before }
-    requires after { IsPoint after }
-    ensures exact { Gives (λ u. points.new) result
-        (is.limited axis (map (is.interpolated axis before after) points.old)) }
-    ensures sound { All IsPoint points.new }
+/// Puts `len` untouched points, from the one numbered `start`, between the touched ones before and after them. Error:
+/// ValueRange.
+fn fill(
+    contour: &mut Contour<'_>,
+    start: usize,
+    len: usize,
+    before: PlainPoint,
+    after: PlainPoint,
+) -> Result<(), Why>
+    requires range { start + len ≤ length contour.old.points.now }
+    requires points { All IsPoint contour.old.points.now }
+    requires before { IsPoint before.point }
+    requires after { IsPoint after.point }
+    ensures exact { Gives (λ u. take len (drop start contour.new.points.now)) result
+        (is.limited contour.old.axis (map (is.interpolated contour.old.axis before.point after.point)
+        (take len (drop start contour.old.points.now)))) }
+    ensures front { IfOk result (λ u. take start contour.new.points.now ≡ take start contour.old.points.now) }
+    ensures back { IfOk result (λ u.
+        drop len (drop start contour.new.points.now) ≡ drop len (drop start contour.old.points.now)) }
+    ensures count { IfOk result (λ u. contour.new.reads ≡ contour.old.reads) }
+    ensures valid { All IsPoint contour.new.points.now }
+    ensures many { IfOk result (λ u. length contour.new.points.now ≡ length contour.old.points.now) }
+    ensures axis { contour.new.axis ≡ contour.old.axis }
+    ensures same_reference { contour.new.points.ghost_name ≡ contour.old.points.ghost_name }
 {
-    for p in points.iter_mut() {
-        *p = interpolated(*p, axis, before, after)?;
+    let axis = contour.axis();
+    for k in 0..len {
+        let p = interpolated(contour.at(start + k), axis, before, after)?;
+        contour.set(start + k, p);
     }
     Ok(())
 }
 
-/// Goes on to the next touched point, or to the end where there is none. `before` is the touched point before the
-/// points, `first` the first one of the contour. Error: ValueRange.
+/// Goes on from the point numbered `start` to the next touched point, or to the end where there is none. `before` is the
+/// touched point before the points, `first` the first one of the contour. Error: ValueRange.
 fn next_run(
-    points: &mut [Point],
-    axis: Axis,
-    before: Point,
-    first: Point,
-    reads: &mut u64,
+    contour: &mut Contour<'_>,
+    start: usize,
+    before: PlainPoint,
+    first: PlainPoint,
 ) -> Result<Run, Why>
-    requires some { 0 < length points.old }
-    requires points { All IsPoint points.old }
-    requires before { IsPoint before }
-    requires first { IsPoint first }
-    requires room { reads.old + length points.old < 2 ^ 64 }
-    ensures run { IfOk result (IsRun axis before first points.old points.new) }
-    ensures count { IfOk result (λ run. reads.new ≡ reads.old + run.len) }
-    ensures fault { IfErr result (λ why. is.limited axis (swept axis before first points.old) ≡ Err why) }
-    ensures sound { All IsPoint points.new }
+    requires start { start < length contour.old.points.now }
+    requires points { All IsPoint contour.old.points.now }
+    requires before { IsPoint before.point }
+    requires first { IsPoint first.point }
+    requires room { contour.old.reads + length contour.old.points.now < 2 ^ 64 + start }
+    ensures run { IfOk result (λ run. IsRun contour.old.axis before.point first.point (drop start contour.old.points.now)
+        (drop start contour.new.points.now) run.len run.last.point) }
+    ensures front { IfOk result (λ u. take start contour.new.points.now ≡ take start contour.old.points.now) }
+    ensures count { IfOk result (λ run. contour.new.reads ≡ contour.old.reads + run.len) }
+    ensures fault { IfErr result (λ why.
+        is.limited contour.old.axis (swept contour.old.axis before.point first.point (drop start contour.old.points.now))
+        ≡ Err why) }
+    ensures valid { All IsPoint contour.new.points.now }
+    ensures many { IfOk result (λ u. length contour.new.points.now ≡ length contour.old.points.now) }
+    ensures axis { contour.new.axis ≡ contour.old.axis }
+    ensures same_reference { contour.new.points.ghost_name ≡ contour.old.points.ghost_name }
 {
-    let len = untouched(points, axis, reads);
-    if len == points.len() {
-        fill(points, axis, before, first)?;
+    let len = untouched(contour, start);
+    if start + len == contour.len() {
+        fill(contour, start, len, before, first)?;
         return Ok(Run { len, last: before });
     }
-    let last = points[len];
-    fill(&mut points[..len], axis, before, last)?;
+    let last = contour.at(start + len);
+    fill(contour, start, len, before, last)?;
     Ok(Run { len: len + 1, last })
 }
 
-/// Goes on to the end of a contour, from the touched point before the points. Error: ValueRange.
-fn sweep(
-    points: &mut [Point],
-    axis: Axis,
-    last: Point,
-    first: Point,
-    reads: &mut u64,
-) -> Result<(), Why>
-    requires points { All IsPoint points.old }
-    requires last { IsPoint last }
-    requires first { IsPoint first }
-    requires room { reads.old + length points.old < 2 ^ 64 }
-    ensures exact { Gives (λ u. points.new) result (is.limited axis (swept axis last first points.old)) }
-    ensures count { IfOk result (λ u. reads.new ≡ reads.old + length points.old) }
-    ensures sound { All IsPoint points.new }
+/// Goes from the first point of a contour to its end: `last` and `first` are its last and its first touched point.
+/// Error: ValueRange.
+fn sweep(contour: &mut Contour<'_>, last: PlainPoint, first: PlainPoint) -> Result<(), Why>
+    requires points { All IsPoint contour.old.points.now }
+    requires last { IsPoint last.point }
+    requires first { IsPoint first.point }
+    requires room { contour.old.reads + length contour.old.points.now < 2 ^ 64 }
+    ensures exact { Gives (λ u. contour.new.points.now) result
+        (is.limited contour.old.axis (swept contour.old.axis last.point first.point contour.old.points.now)) }
+    ensures count { IfOk result (λ u. contour.new.reads ≡ contour.old.reads + length contour.old.points.now) }
+    ensures valid { All IsPoint contour.new.points.now }
+    ensures same_reference { contour.new.points.ghost_name ≡ contour.old.points.ghost_name }
 {
     let mut start = 0;
     let mut before = last;
-    while start < points.len() {
-        let run = next_run(&mut points[start..], axis, before, first, reads)?;
+    while start < contour.len() {
+        let run = next_run(contour, start, before, first)?;
         start += run.len;
         before = run.last;
     }
@@ -90,19 +111,22 @@ fn sweep(
 }
 
 /// Interpolates the points of a contour. Error: ValueRange.
-pub(crate) fn contour(points: &mut [Point], axis: Axis, reads: &mut u64) -> Result<(), Why>
-    requires points { All IsPoint points.old }
-    requires room { reads.old + 3 * length points.old < 2 ^ 64 }
-    ensures exact { Gives (λ u. points.new) result (is.limited axis (is.contour axis points.old)) }
-    ensures count { IfOk result (λ u. reads.new ≡ reads.old + of_contour axis points.old) }
-    ensures few { IfOk result (λ u. reads.new ≤ reads.old + 3 * length points.old) }
-    ensures sound { All IsPoint points.new }
+pub(crate) fn interpolate_contour(contour: &mut Contour<'_>) -> Result<(), Why>
+    requires points { All IsPoint contour.old.points.now }
+    requires room { contour.old.reads + 3 * length contour.old.points.now < 2 ^ 64 }
+    ensures exact { Gives (λ u. contour.new.points.now) result
+        (is.limited contour.old.axis (is.contour contour.old.axis contour.old.points.now)) }
+    ensures count { IfOk result (λ u.
+        contour.new.reads ≡ contour.old.reads + of_contour contour.old.axis contour.old.points.now) }
+    ensures few { IfOk result (λ u. contour.new.reads ≤ contour.old.reads + 3 * length contour.old.points.now) }
+    ensures valid { All IsPoint contour.new.points.now }
+    ensures same_reference { contour.new.points.ghost_name ≡ contour.old.points.ghost_name }
 {
-    let Some(first) = first_touched(points, axis, reads) else {
+    let Some(first) = first_touched(contour) else {
         return Ok(());
     };
-    let Some(last) = last_touched(points, axis, reads) else {
+    let Some(last) = last_touched(contour) else {
         return Ok(());
     };
-    sweep(points, axis, last, first, reads)
+    sweep(contour, last, first)
 }

@@ -6,7 +6,7 @@ ghost use Rattle.tt_state.specs.declared.point.Point.{Point};
 ghost use Rattle.tt_points_zones.specs.Points.{is_touched};
 ghost use Rattle.tt_points_zones.specs.Zones.{ZoneLists, AreContours, KeepsShape};
 ghost use Rattle.tt_points_iup.specs.Interpolation as is;
-ghost use Rattle.tt_points_iup.specs.Neighbours.{round_from, IsNextTouched, IsLastTouched};
+ghost use Rattle.tt_points_iup.specs.Neighbours.{round_from, IsNextTouched, IsLastTouched, HasNeighbours};
 
 /// Takes nothing and gives nothing: its clauses hold of all contours.
 pub fn point_by_point()
@@ -14,7 +14,10 @@ pub fn point_by_point()
     // A touched point stays.
     ensures touched { (axis : Axis) (ps : List Point) (d : Point) (i : ℕ) → i < length ps
         → is_touched axis (get_or ps i d) ≡ true → get_or (is.contour axis ps) i d ≡ get_or ps i d }
-    // An untouched point goes by the nearest touched ones before it and behind it, round the contour, as they were.
+    // Where a point of the contour is touched, each untouched one has touched neighbours.
+    ensures there { (axis : Axis) (ps : List Point) (d : Point) (i j : ℕ) → i < length ps → j < length ps
+        → is_touched axis (get_or ps i d) ≡ false → is_touched axis (get_or ps j d) ≡ true → HasNeighbours axis ps d i }
+    // An untouched point goes by the nearest touched ones before it and after it, round the contour, as they were.
     ensures between { (axis : Axis) (ps : List Point) (d : Point) (i before after : ℕ) → i < length ps
         → is_touched axis (get_or ps i d) ≡ false → IsLastTouched axis ps d i before → IsNextTouched axis ps d i after
         → get_or (is.contour axis ps) i d

@@ -3,6 +3,7 @@
 #![tactic(auto)]
 
 mod contour;
+mod counted;
 mod interpolation;
 pub mod laws;
 mod place;

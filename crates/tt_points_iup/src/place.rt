@@ -7,53 +7,22 @@ ghost use Rattle.tt_core.specs.Outcomes.{Gives};
 ghost use Rattle.tt_points_zones.specs.Points.{put as put_to};
 ghost use Rattle.tt_points_zones.specs.Zones.{IsPoint};
 ghost use Rattle.tt_points_iup.specs.Interpolation as is;
-ghost use Rattle.tt_points_iup.specs.Places.{IsPlace};
+ghost use Rattle.tt_points_iup.specs.Positions.{IsPosition, position_of};
 
+use crate::counted::PlainPoint;
 use tt_core::{Why, rq};
-use tt_points_zones::{cur, is_coordinate, org, put};
-use tt_state::{Axis, Point};
+use tt_points_zones::{distance_between, is_coordinate, product};
+use tt_state::Axis;
 
 /// Where a point stood along an axis before the program, and where it stands.
 #[derive(Clone, Copy)]
-pub(crate) struct Place {
+pub(crate) struct Position {
     pub(crate) org: i32,
     pub(crate) cur: i32,
 }
 
 #[derive(Clone, Copy)]
-struct Distance(i64);
-
-#[derive(Clone, Copy)]
 struct Coordinate(i64);
-
-fn place_of(p: Point, axis: Axis) -> Place
-    requires { IsPoint p }
-    ensures exact { result ≡ is.place_of axis p }
-    ensures sound { IsPlace result }
-{
-    Place {
-        org: org(p, axis),
-        cur: cur(p, axis),
-    }
-}
-
-fn distance_between(from: i32, to: i32) -> Distance
-    requires from { unsigned_abs from ≤ coordinate_limit }
-    requires to { unsigned_abs to ≤ coordinate_limit }
-    ensures exact { result.0 ≡ to -ℤ from }
-    ensures bound { unsigned_abs result.0 < 2 ^ 23 }
-{
-    Distance(i64::from(to) - i64::from(from))
-}
-
-fn product(a: Distance, b: Distance) -> i64
-    requires left { unsigned_abs a.0 < 2 ^ 23 }
-    requires right { unsigned_abs b.0 < 2 ^ 23 }
-    ensures exact { result ≡ a.0 *ℤ b.0 }
-    ensures bound { unsigned_abs result < 2 ^ 46 }
-{
-    a.0 * b.0
-}
 
 fn added(a: i32, b: i64) -> i64
     requires { unsigned_abs b < 2 ^ 61 }
@@ -62,20 +31,20 @@ fn added(a: i32, b: i64) -> i64
     i64::from(a) + b
 }
 
-/// `u`, moved as far as a place.
-fn moved_as(u: i32, place: Place) -> i64
-    requires { IsPlace place }
-    ensures { result ≡ u +ℤ (place.cur -ℤ place.org) }
+/// `u`, moved as far as a position.
+fn moved_as(u: i32, position: Position) -> i64
+    requires { IsPosition (position_of position) }
+    ensures { result ≡ u +ℤ (position.cur -ℤ position.org) }
 {
-    added(u, distance_between(place.org, place.cur).0)
+    added(u, distance_between(position.org, position.cur).0)
 }
 
-fn in_proportion(u: i32, lo: Place, hi: Place) -> i64
+fn in_proportion(u: i32, lo: Position, hi: Position) -> i64
     requires from { unsigned_abs u ≤ coordinate_limit }
-    requires low { IsPlace lo }
-    requires high { IsPlace hi }
+    requires low { IsPosition (position_of lo) }
+    requires high { IsPosition (position_of hi) }
     requires order { lo.org <ℤ hi.org }
-    ensures { result ≡ is.in_proportion u lo hi }
+    ensures { result ≡ is.in_proportion u (position_of lo) (position_of hi) }
 {
     let n = product(
         distance_between(lo.org, u),
@@ -84,11 +53,11 @@ fn in_proportion(u: i32, lo: Place, hi: Place) -> i64
     added(lo.cur, rq(n, distance_between(lo.org, hi.org).0))
 }
 
-fn following(u: i32, lo: Place, hi: Place) -> i64
+fn following(u: i32, lo: Position, hi: Position) -> i64
     requires from { unsigned_abs u ≤ coordinate_limit }
-    requires low { IsPlace lo }
-    requires high { IsPlace hi }
-    ensures { result ≡ is.following u lo hi }
+    requires low { IsPosition (position_of lo) }
+    requires high { IsPosition (position_of hi) }
+    ensures { result ≡ is.following u (position_of lo) (position_of hi) }
 {
     if u <= lo.org {
         moved_as(u, lo)
@@ -99,11 +68,11 @@ fn following(u: i32, lo: Place, hi: Place) -> i64
     }
 }
 
-fn between(p: Place, a: Place, b: Place) -> Coordinate
-    requires point { IsPlace p }
-    requires before { IsPlace a }
-    requires after { IsPlace b }
-    ensures { result.0 ≡ is.between p.org a b }
+fn between(p: Position, a: Position, b: Position) -> Coordinate
+    requires point { IsPosition (position_of p) }
+    requires before { IsPosition (position_of a) }
+    requires after { IsPosition (position_of b) }
+    ensures { result.0 ≡ is.between p.org (position_of a) (position_of b) }
 {
     if b.org < a.org {
         Coordinate(following(p.org, b, a))
@@ -112,34 +81,40 @@ fn between(p: Place, a: Place, b: Place) -> Coordinate
     }
 }
 
-fn placed(p: Point, axis: Axis, to: Coordinate) -> Result<Point, Why>
-    requires { IsPoint p }
-    ensures exact { Gives (λ q. q) result (is.limited_point axis (put_to axis to.0 p)) }
-    ensures sound { IfOk result IsPoint }
+fn placed(p: PlainPoint, axis: Axis, to: Coordinate) -> Result<PlainPoint, Why>
+    requires { IsPoint p.point }
+    ensures exact { Gives (λ q. q.point) result (is.limited_point axis (put_to axis to.0 p.point)) }
+    ensures valid { IfOk result (λ q. IsPoint q.point) }
 {
     if is_coordinate(to.0) {
-        Ok(put(p, axis, to.0))
+        Ok(p.put(axis, to.0))
     } else {
         Err(Why::ValueRange)
     }
 }
 
-/// An untouched point between the touched points before and behind it. Error: ValueRange past the limit of coordinates.
+/// An untouched point between the touched points before and after it. Error: ValueRange past the limit of coordinates.
 #[tactic(auto, unfolding(crate::specs::Interpolation::interpolated))]
-pub(crate) fn interpolated(p: Point, axis: Axis, before: Point, after: Point) -> Result<Point, Why>
-    requires point { IsPoint p }
-    requires before { IsPoint before }
-    requires after { IsPoint after }
-    ensures exact { Gives (λ q. q) result (is.limited_point axis (is.interpolated axis before after p)) }
-    ensures sound { IfOk result IsPoint }
+pub(crate) fn interpolated(
+    p: PlainPoint,
+    axis: Axis,
+    before: PlainPoint,
+    after: PlainPoint,
+) -> Result<PlainPoint, Why>
+    requires point { IsPoint p.point }
+    requires before { IsPoint before.point }
+    requires after { IsPoint after.point }
+    ensures exact { Gives (λ q. q.point) result
+        (is.limited_point axis (is.interpolated axis before.point after.point p.point)) }
+    ensures valid { IfOk result (λ q. IsPoint q.point) }
 {
     placed(
         p,
         axis,
         between(
-            place_of(p, axis),
-            place_of(before, axis),
-            place_of(after, axis),
+            p.position(axis),
+            before.position(axis),
+            after.position(axis),
         ),
     )
 }

@@ -1,69 +1,72 @@
-//! Which points of a contour are touched. Each reading of a point's touch is counted.
+//! Which points of a contour are touched.
 
-ghost use Rattle.std.specs.Prelude.{◌≡◌, ◌+◌, ◌^◌, ◌<◌, ◌≤◌, length, get_or, take, true, None, All, IfSome};
+ghost use Rattle.std.specs.Prelude.{◌≡◌, ◌+◌, ◌^◌, ◌<◌, ◌≤◌, length, get_or, take, drop, true, None, All, IfSome};
 ghost use Rattle.tt_state.specs.declared.point.Point.{Point as IsAPoint};
 ghost use Rattle.tt_points_zones.specs.Points.{is_touched as touched};
 ghost use Rattle.tt_points_zones.specs.Zones.{IsPoint};
 ghost use Rattle.tt_points_iup.specs.Interpolation as is;
+ghost use Rattle.tt_points_iup.specs.Positions.{point_of};
 ghost use Rattle.tt_points_iup.specs.Readings.{up_to_first};
 
-use tt_points_zones::is_touched;
-use tt_state::{Axis, Point};
+use crate::counted::{Contour, PlainPoint};
 
-fn read(p: Point, axis: Axis, reads: &mut u64) -> bool
-    requires { reads.old + 1 < 2 ^ 64 }
-    ensures touched { result ≡ touched axis p }
-    ensures count { reads.new ≡ reads.old + 1 }
+pub(crate) fn first_touched(contour: &mut Contour<'_>) -> Option<PlainPoint>
+    requires points { All IsPoint contour.old.points.now }
+    requires room { contour.old.reads + length contour.old.points.now < 2 ^ 64 }
+    ensures exact { point_of result ≡ is.first_touched contour.old.axis contour.old.points.now }
+    ensures count { contour.new.reads ≡ contour.old.reads + up_to_first contour.old.axis contour.old.points.now }
+    ensures few { contour.new.reads ≤ contour.old.reads + length contour.old.points.now }
+    ensures valid { IfSome result (λ p. IsPoint p.point) }
+    ensures axis { contour.new.axis ≡ contour.old.axis }
+    ensures unchanged { contour.new.points.now ≡ contour.old.points.now }
+    ensures same_reference { contour.new.points.ghost_name ≡ contour.old.points.ghost_name }
 {
-    *reads += 1;
-    is_touched(p, axis)
-}
-
-pub(crate) fn first_touched(points: &[Point], axis: Axis, reads: &mut u64) -> Option<Point>
-    requires points { All IsPoint points.now }
-    requires room { reads.old + length points.now < 2 ^ 64 }
-    ensures exact { result ≡ is.first_touched axis points.now }
-    ensures count { reads.new ≡ reads.old + up_to_first axis points.now }
-    ensures few { reads.new ≤ reads.old + length points.now }
-    ensures sound { IfSome result IsPoint }
-{
-    for p in points {
-        if read(*p, axis, reads) {
-            return Some(*p);
+    for i in 0..contour.len() {
+        if contour.is_touched(i) {
+            return Some(contour.at(i));
         }
     }
     None
 }
 
-pub(crate) fn last_touched(points: &[Point], axis: Axis, reads: &mut u64) -> Option<Point>
-    requires points { All IsPoint points.now }
-    requires room { reads.old + length points.now < 2 ^ 64 }
-    ensures exact { result ≡ is.last_touched axis None points.now }
-    ensures count { reads.new ≡ reads.old + length points.now }
-    ensures sound { IfSome result IsPoint }
+pub(crate) fn last_touched(contour: &mut Contour<'_>) -> Option<PlainPoint>
+    requires points { All IsPoint contour.old.points.now }
+    requires room { contour.old.reads + length contour.old.points.now < 2 ^ 64 }
+    ensures exact { point_of result ≡ is.last_touched contour.old.axis None contour.old.points.now }
+    ensures count { contour.new.reads ≡ contour.old.reads + length contour.old.points.now }
+    ensures valid { IfSome result (λ p. IsPoint p.point) }
+    ensures axis { contour.new.axis ≡ contour.old.axis }
+    ensures unchanged { contour.new.points.now ≡ contour.old.points.now }
+    ensures same_reference { contour.new.points.ghost_name ≡ contour.old.points.ghost_name }
 {
     let mut last = None;
-    for p in points {
-        if read(*p, axis, reads) {
-            last = Some(*p);
+    for i in 0..contour.len() {
+        if contour.is_touched(i) {
+            last = Some(contour.at(i));
         }
     }
     last
 }
 
-/// How many points there are before the first touched one.
-pub(crate) fn untouched(points: &[Point], axis: Axis, reads: &mut u64) -> usize
-    requires { reads.old + length points.now < 2 ^ 64 }
-    ensures bound { result ≤ length points.now }
-    ensures read { result < length points.now → reads.new ≡ reads.old + result + 1 }
-    ensures all { result ≡ length points.now → reads.new ≡ reads.old + result }
-    ensures none { is.first_touched axis (take result points.now) ≡ None }
-    ensures end { (d : IsAPoint) → result < length points.now → touched axis (get_or points.now result d) ≡ true }
+/// How many points there are from the one with this number up to the next touched one, or to the end.
+pub(crate) fn untouched(contour: &mut Contour<'_>, start: usize) -> usize
+    requires start { start ≤ length contour.old.points.now }
+    requires room { contour.old.reads + length contour.old.points.now < 2 ^ 64 + start }
+    ensures bound { start + result ≤ length contour.old.points.now }
+    ensures asked { start + result < length contour.old.points.now → contour.new.reads ≡ contour.old.reads + result + 1 }
+    ensures all { start + result ≡ length contour.old.points.now → contour.new.reads ≡ contour.old.reads + result }
+    ensures none { is.first_touched contour.old.axis (take result (drop start contour.old.points.now)) ≡ None }
+    ensures end { (d : IsAPoint) → start + result < length contour.old.points.now
+        → touched contour.old.axis (get_or (drop start contour.old.points.now) result d) ≡ true }
+    ensures axis { contour.new.axis ≡ contour.old.axis }
+    ensures unchanged { contour.new.points.now ≡ contour.old.points.now }
+    ensures same_reference { contour.new.points.ghost_name ≡ contour.old.points.ghost_name }
 {
-    for i in 0..points.len() {
-        if read(points[i], axis, reads) {
-            return i;
+    let left = contour.len() - start;
+    for k in 0..left {
+        if contour.is_touched(start + k) {
+            return k;
         }
     }
-    points.len()
+    left
 }

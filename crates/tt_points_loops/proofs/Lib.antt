@@ -1,4 +1,3 @@
 pub mod Contours
 pub mod Kept
 pub mod Ranges
-pub mod Shapes

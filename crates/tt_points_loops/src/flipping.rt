@@ -23,28 +23,28 @@ fn flip(zones: &mut Zones, n: i32) -> Result<(), Why>
     Ok(())
 }
 
-fn flip_all(zones: &mut Zones, points: &[i32]) -> Result<(), Why>
+fn flip_all(zones: &mut Zones, numbers: &[i32]) -> Result<(), Why>
     requires { IsZones (zones_view zones.old) }
     ensures exact { Gives (λ u. zones_view zones.new) result
-        (one_by_one is.flip (reverse points.now) (zones_view zones.old)) }
+        (one_by_one is.flip (reverse numbers.now) (zones_view zones.old)) }
     ensures zones { IsZones (zones_view zones.new) }
 {
-    for i in (0..points.len()).rev() {
-        flip(zones, points[i])?;
+    for i in (0..numbers.len()).rev() {
+        flip(zones, numbers[i])?;
     }
     Ok(())
 }
 
-/// FLIPPT[], 0x80: loop points -> each is off the curve where it was on it, and the other way. Error: PointRange.
-pub fn flippt(zones: &mut Zones, state: &mut GraphicsState, points: &[i32]) -> Result<(), Why>
+/// FLIPPT[]: loop points -> each is off the curve where it was on it, and the other way. Error: PointRange.
+pub fn flippt(zones: &mut Zones, state: &mut GraphicsState, numbers: &[i32]) -> Result<(), Why>
     requires zones { IsZones (zones_view zones.old) }
     requires state { IsGraphicsState state.old }
     ensures exact { Gives (λ u. (zones_view zones.new, state.new)) result
-        (is.flippt points.now (zones_view zones.old) state.old) }
+        (is.flippt numbers.now (zones_view zones.old) state.old) }
     ensures zones { IsZones (zones_view zones.new) }
     ensures state { IsGraphicsState state.new }
 {
-    flip_all(zones, points)?;
+    flip_all(zones, numbers)?;
     state.loops = 1;
     Ok(())
 }
@@ -81,7 +81,7 @@ fn flip_range(zones: &mut Zones, low: i32, high: i32, on: bool) -> Result<(), Wh
     Ok(())
 }
 
-/// FLIPRGON[], 0x81: low, high -> the points of the range are on the curve. Error: PointRange.
+/// FLIPRGON[]: low, high -> the points of the range are on the curve. Error: PointRange.
 pub fn fliprgon(zones: &mut Zones, low: i32, high: i32) -> Result<(), Why>
     requires { IsZones (zones_view zones.old) }
     ensures exact { Gives (λ u. zones_view zones.new) result (is.fliprgon low high (zones_view zones.old)) }
@@ -90,7 +90,7 @@ pub fn fliprgon(zones: &mut Zones, low: i32, high: i32) -> Result<(), Why>
     flip_range(zones, low, high, true)
 }
 
-/// FLIPRGOFF[], 0x82: low, high -> the points of the range are off the curve. Error: PointRange.
+/// FLIPRGOFF[]: low, high -> the points of the range are off the curve. Error: PointRange.
 pub fn fliprgoff(zones: &mut Zones, low: i32, high: i32) -> Result<(), Why>
     requires { IsZones (zones_view zones.old) }
     ensures exact { Gives (λ u. zones_view zones.new) result (is.fliprgoff low high (zones_view zones.old)) }

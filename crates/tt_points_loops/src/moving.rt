@@ -81,29 +81,29 @@ fn align(zones: &mut Zones, state: &GraphicsState, n: i32) -> Result<(), Why>
     Ok(())
 }
 
-fn align_all(zones: &mut Zones, state: &GraphicsState, points: &[i32]) -> Result<(), Why>
+fn align_all(zones: &mut Zones, state: &GraphicsState, numbers: &[i32]) -> Result<(), Why>
     requires { IsZones (zones_view zones.old) }
     ensures exact { Gives (λ u. zones_view zones.new) result
-        (one_by_one (is.align state.now) (reverse points.now) (zones_view zones.old)) }
+        (one_by_one (is.align state.now) (reverse numbers.now) (zones_view zones.old)) }
     ensures zones { IsZones (zones_view zones.new) }
 {
-    for i in (0..points.len()).rev() {
-        align(zones, state, points[i])?;
+    for i in (0..numbers.len()).rev() {
+        align(zones, state, numbers[i])?;
     }
     Ok(())
 }
 
-/// ALIGNRP[], 0x3C: loop points of zp1 -> each is moved to the coordinate of rp0, in zp0. Errors: PointRange,
+/// ALIGNRP[]: loop points of zp1 -> each is moved to the coordinate of rp0, in zp0. Errors: PointRange,
 /// Perpendicular, ValueRange.
-pub fn alignrp(zones: &mut Zones, state: &mut GraphicsState, points: &[i32]) -> Result<(), Why>
+pub fn alignrp(zones: &mut Zones, state: &mut GraphicsState, numbers: &[i32]) -> Result<(), Why>
     requires zones { IsZones (zones_view zones.old) }
     requires state { IsGraphicsState state.old }
     ensures exact { Gives (λ u. (zones_view zones.new, state.new)) result
-        (is.alignrp points.now (zones_view zones.old) state.old) }
+        (is.alignrp numbers.now (zones_view zones.old) state.old) }
     ensures zones { IsZones (zones_view zones.new) }
     ensures state { IsGraphicsState state.new }
 {
-    align_all(zones, state, points)?;
+    align_all(zones, state, numbers)?;
     state.loops = 1;
     Ok(())
 }
@@ -216,29 +216,29 @@ fn interpolate(zones: &mut Zones, state: &GraphicsState, n: i32) -> Result<(), W
     Ok(())
 }
 
-fn interpolate_all(zones: &mut Zones, state: &GraphicsState, points: &[i32]) -> Result<(), Why>
+fn interpolate_all(zones: &mut Zones, state: &GraphicsState, numbers: &[i32]) -> Result<(), Why>
     requires { IsZones (zones_view zones.old) }
     ensures exact { Gives (λ u. zones_view zones.new) result
-        (one_by_one (is.interpolate state.now) (reverse points.now) (zones_view zones.old)) }
+        (one_by_one (is.interpolate state.now) (reverse numbers.now) (zones_view zones.old)) }
     ensures zones { IsZones (zones_view zones.new) }
 {
-    for i in (0..points.len()).rev() {
-        interpolate(zones, state, points[i])?;
+    for i in (0..numbers.len()).rev() {
+        interpolate(zones, state, numbers[i])?;
     }
     Ok(())
 }
 
-/// IP[], 0x39: loop points of zp2 -> each is moved to where it keeps its place between rp1, in zp0, and rp2, in zp1.
+/// IP[]: loop points of zp2 -> each is moved to where it keeps its place between rp1, in zp0, and rp2, in zp1.
 /// Errors: PointRange, Perpendicular, ValueRange.
-pub fn ip(zones: &mut Zones, state: &mut GraphicsState, points: &[i32]) -> Result<(), Why>
+pub fn ip(zones: &mut Zones, state: &mut GraphicsState, numbers: &[i32]) -> Result<(), Why>
     requires zones { IsZones (zones_view zones.old) }
     requires state { IsGraphicsState state.old }
     ensures exact { Gives (λ u. (zones_view zones.new, state.new)) result
-        (is.ip points.now (zones_view zones.old) state.old) }
+        (is.ip numbers.now (zones_view zones.old) state.old) }
     ensures zones { IsZones (zones_view zones.new) }
     ensures state { IsGraphicsState state.new }
 {
-    interpolate_all(zones, state, points)?;
+    interpolate_all(zones, state, numbers)?;
     state.loops = 1;
     Ok(())
 }
@@ -270,36 +270,36 @@ fn push_all(
     zones: &mut Zones,
     state: &GraphicsState,
     by: Distance,
-    points: &[i32],
+    numbers: &[i32],
 ) -> Result<(), Why>
     requires zones { IsZones (zones_view zones.old) }
     requires small { unsigned_abs by.0 < 2 ^ 60 }
     ensures exact { Gives (λ u. zones_view zones.new) result
-        (one_by_one (is.push by.0 state.now) (reverse points.now) (zones_view zones.old)) }
+        (one_by_one (is.push by.0 state.now) (reverse numbers.now) (zones_view zones.old)) }
     ensures zones { IsZones (zones_view zones.new) }
 {
-    for i in (0..points.len()).rev() {
-        push(zones, state, by, points[i])?;
+    for i in (0..numbers.len()).rev() {
+        push(zones, state, by, numbers[i])?;
     }
     Ok(())
 }
 
-/// SHPIX[], 0x38: loop points of zp2, amount -> each is moved by the amount along the freedom vector. Errors:
+/// SHPIX[]: loop points of zp2, amount -> each is moved by the amount along the freedom vector. Errors:
 /// PointRange, ValueRange.
 pub fn shpix(
     zones: &mut Zones,
     state: &mut GraphicsState,
-    points: &[i32],
+    numbers: &[i32],
     amount: i32,
 ) -> Result<(), Why>
     requires zones { IsZones (zones_view zones.old) }
     requires state { IsGraphicsState state.old }
     ensures exact { Gives (λ u. (zones_view zones.new, state.new)) result
-        (is.shpix points.now amount (zones_view zones.old) state.old) }
+        (is.shpix numbers.now amount (zones_view zones.old) state.old) }
     ensures zones { IsZones (zones_view zones.new) }
     ensures state { IsGraphicsState state.new }
 {
-    push_all(zones, state, Distance(i64::from(amount)), points)?;
+    push_all(zones, state, Distance(i64::from(amount)), numbers)?;
     state.loops = 1;
     Ok(())
 }

@@ -126,16 +126,16 @@ fn shift_all(
     zones: &mut Zones,
     state: &GraphicsState,
     before: Result<Point, Why>,
-    points: &[i32],
+    numbers: &[i32],
 ) -> Result<(), Why>
     requires zones { IsZones (zones_view zones.old) }
     requires before { IfOk before IsPoint }
     ensures exact { Gives (λ u. zones_view zones.new) result
-        (one_by_one (is.shift state.now before) (reverse points.now) (zones_view zones.old)) }
+        (one_by_one (is.shift state.now before) (reverse numbers.now) (zones_view zones.old)) }
     ensures zones { IsZones (zones_view zones.new) }
 {
-    for i in (0..points.len()).rev() {
-        shift(zones, state, before, points[i])?;
+    for i in (0..numbers.len()).rev() {
+        shift(zones, state, before, numbers[i])?;
     }
     Ok(())
 }
@@ -146,17 +146,17 @@ pub fn shp(
     zones: &mut Zones,
     state: &mut GraphicsState,
     which: ReferencePoint,
-    points: &[i32],
+    numbers: &[i32],
 ) -> Result<(), Why>
     requires zones { IsZones (zones_view zones.old) }
     requires state { IsGraphicsState state.old }
     ensures exact { Gives (λ u. (zones_view zones.new, state.new)) result
-        (is.shp which points.now (zones_view zones.old) state.old) }
+        (is.shp which numbers.now (zones_view zones.old) state.old) }
     ensures zones { IsZones (zones_view zones.new) }
     ensures state { IsGraphicsState state.new }
 {
     let before = reference(zones, state, which);
-    shift_all(zones, state, before, points)?;
+    shift_all(zones, state, before, numbers)?;
     state.loops = 1;
     Ok(())
 }

@@ -1,2 +1,3 @@
 pub mod Zones
 pub mod Points
+pub mod ZoneNumbers

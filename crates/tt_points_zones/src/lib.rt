@@ -1,8 +1,12 @@
 //! The zones of the TrueType interpreter: points by their numbers, and how one is moved.
 #![tactic(auto)]
 
+mod distances;
 mod points;
+mod zone_numbers;
 mod zones;
 
+pub use distances::{Distance, current_distance, distance_between, original_distance, product};
 pub use points::{cur, direction, is_coordinate, is_touched, moved, org, put, shifted};
+pub use zone_numbers::zone_of;
 pub use zones::Zones;

@@ -12,7 +12,7 @@ use tt_core::Why;
 use tt_state::{Point, Zone};
 
 /// Both zones. A contour is a range of glyph points, the first and one past the last; the first contour begins at 0 and
-/// each other where the one before it ends. The glyph points behind the last contour are its phantom points.
+/// each other where the one before it ends. The glyph points after the last contour are its phantom points.
 #[derive(Debug, Drop)]
 pub struct Zones {
     pub twilight: Vec<Point>,

@@ -6,7 +6,7 @@ ghost use Rattle.clap.specs.Words.{ReadsOne, first_value, found_of, one_text};
 
 use clap::{Arg, ArgAction, ArgMatches, Command, value_parser};
 use std::alloc::{AllocError, Global};
-use tt_program_decisions::{FITS, Lookup, Request, request_of};
+use tt_program_decisions::{Arguments, FITS, FULL, Request, request_of};
 
 /// `tt_render map FONT TEXT` and `tt_render draw --size N [--margin N] [--fit full|none|fallback] FONT TEXT`.
 pub(crate) fn command<'a>(alloc: Global) -> Result<Command<'a>, AllocError> {
@@ -77,19 +77,19 @@ fn fit<'a>(alloc: Global) -> Arg<'a> {
         .long("fit")
         .value_name("HOW")
         .value_parser(FITS.as_slice())
-        .default_value("full")
+        .default_value(FULL)
         .help(
             "full: by the font's programs; none: scaled points only; fallback: full where that serves",
         )
 }
 
-/// The words of a subcommand, as clap found them.
+/// The arguments of a subcommand, as clap found them.
 #[derive(Drop)]
 struct Found<'m, 'a> {
     matches: &'m ArgMatches<'a>,
 }
 
-impl<'m, 'a> Lookup<'a> for Found<'m, 'a> {
+impl<'m, 'a> Arguments<'a> for Found<'m, 'a> {
     ghost text = { λ f name. first_value (found_of f.matches.now) name };
 
     ghost IsNumber = { λ f name n. (one_text (found_of f.matches.now) name ≡ None → n ≡ None)

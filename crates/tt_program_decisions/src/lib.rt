@@ -7,5 +7,5 @@ mod stopping;
 mod telling;
 
 pub use performing::perform;
-pub use request::{FITS, Lookup, Request, Words, job_of, request_of};
+pub use request::{Arguments, FITS, FULL, Request, Words, job_of, request_of};
 pub use stopping::{Stop, stop_of_open, stop_of_words, tell_stop};

@@ -22,7 +22,7 @@ pub fn perform<R: Source, W: Sink, E: Sink>(
     requires font { R.has_failed font.old ≡ false }
     requires out { W.has_failed out.old ≡ false }
     requires error { E.has_failed error.old ≡ false }
-    ensures range { result ≤ 5 }
+    ensures bound { result ≤ 5 }
     // Some answer stands for what went through the devices, and the status and the lines are told of that answer.
     ensures outcome { Performs request.now (traffic_of R.left R.has_failed W.written W.has_failed font.old font.new out.old out.new) (errors_of E.written E.has_failed error.old error.new) result }
 {

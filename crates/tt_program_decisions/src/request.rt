@@ -27,8 +27,8 @@ impl<'a> Request<'a> {
     }
 }
 
-/// What a parser of command lines found for the names of a subcommand's words.
-pub trait Lookup<'a> {
+/// The arguments of a subcommand by their names, as a parser of command lines found them.
+pub trait Arguments<'a> {
     // The text that stands for a name.
     ghost text: { Self → List ℕ → Option (List ℕ) };
 
@@ -44,21 +44,21 @@ pub trait Lookup<'a> {
         ensures { IsNumber self.now name.now result };
 }
 
-/// What a subcommand with these words asks for; None where there is no subcommand of that name, a word lacks, or the way
-/// to fit has no such name.
-pub fn request_of<'a, L: Lookup<'a>>(subcommand: &str, words: &L) -> Option<Request<'a>>
-    ensures map { subcommand.now ≡ codes "map" → option_map asked_of result ≡ map_asked (L.text words.now (codes "FONT")) (L.text words.now (codes "TEXT")) }
-    ensures draw { subcommand.now ≡ codes "draw" → (size margin : Option ℕ) × L.IsNumber words.now (codes "size") size × L.IsNumber words.now (codes "margin") margin × (option_map asked_of result ≡ draw_asked (L.text words.now (codes "FONT")) (L.text words.now (codes "TEXT")) size margin (L.text words.now (codes "fit"))) }
+/// What a subcommand with these arguments asks for; None where there is no subcommand of that name, an argument lacks, or
+/// the way to fit has no such name.
+pub fn request_of<'a, A: Arguments<'a>>(subcommand: &str, arguments: &A) -> Option<Request<'a>>
+    ensures map { subcommand.now ≡ codes "map" → option_map asked_of result ≡ map_asked (A.text arguments.now (codes "FONT")) (A.text arguments.now (codes "TEXT")) }
+    ensures draw { subcommand.now ≡ codes "draw" → (size margin : Option ℕ) × A.IsNumber arguments.now (codes "size") size × A.IsNumber arguments.now (codes "margin") margin × (option_map asked_of result ≡ draw_asked (A.text arguments.now (codes "FONT")) (A.text arguments.now (codes "TEXT")) size margin (A.text arguments.now (codes "fit"))) }
     ensures other { subcommand.now ≢ codes "map" → subcommand.now ≢ codes "draw" → result ≡ None }
 {
     match subcommand {
-        "map" => map_of(words.text_for("FONT"), words.text_for("TEXT")),
+        "map" => map_of(arguments.text_for("FONT"), arguments.text_for("TEXT")),
         "draw" => draw_of(
-            words.text_for("FONT"),
-            words.text_for("TEXT"),
-            words.number_for("size"),
-            words.number_for("margin"),
-            words.text_for("fit"),
+            arguments.text_for("FONT"),
+            arguments.text_for("TEXT"),
+            arguments.number_for("size"),
+            arguments.number_for("margin"),
+            arguments.text_for("fit"),
         ),
         _ => None,
     }
@@ -118,7 +118,8 @@ pub fn job_of<'a>(words: &Words<'a>) -> Option<Job<'a>>
     })
 }
 
-const FULL: &str = "full";
+/// The way to fit that is taken where none is asked for.
+pub const FULL: &str = "full";
 
 const NONE: &str = "none";
 

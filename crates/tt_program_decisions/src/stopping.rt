@@ -51,7 +51,7 @@ pub fn stop_of_open(kind: ErrorKind) -> Stop
 #[tactic(auto, using(crate::proofs::Statuses::stop_within))]
 pub fn tell_stop<E: Sink>(stop: Stop, error: &mut E) -> u8
     requires { E.has_failed error.old ≡ false }
-    ensures range { result ≤ 5 }
+    ensures bound { result ≤ 5 }
     ensures status { result ≡ stop_status stop }
     ensures text { Prints (errors_of E.written E.has_failed error.old error.new) (stop_text stop) }
 {

@@ -16,7 +16,7 @@ pub(crate) const NO_MEMORY: &str = "tt_render: out of memory\n";
 /// Tells the answer of `map` on standard error; answers the exit status.
 pub(crate) fn tell<E: Sink>(alloc: Global, answer: &Result<(), RunFault>, error: &mut E) -> u8
     requires { E.has_failed error.old ≡ false }
-    ensures range { result ≤ 5 }
+    ensures bound { result ≤ 5 }
     ensures told { Tells (λ v. []) answer.now result (errors_of E.written E.has_failed error.old error.new) }
 {
     match answer {
@@ -32,7 +32,7 @@ pub(crate) fn tell_picture<E: Sink>(
     error: &mut E,
 ) -> u8
     requires { E.has_failed error.old ≡ false }
-    ensures range { result ≤ 5 }
+    ensures bound { result ≤ 5 }
     ensures told { Tells (λ r. r.unfitted.items) answer.now result (errors_of E.written E.has_failed error.old error.new) }
 {
     match answer {
@@ -44,7 +44,7 @@ pub(crate) fn tell_picture<E: Sink>(
 /// Tells which glyphs are not fitted, or want of memory where that is refused for their lines.
 fn tell_report<E: Sink>(alloc: Global, unfitted: &[Unfitted], error: &mut E) -> u8
     requires { E.has_failed error.old ≡ false }
-    ensures range { result ≤ 5 }
+    ensures bound { result ≤ 5 }
     ensures told { TellsReport unfitted.now result (errors_of E.written E.has_failed error.old error.new) }
 {
     if unfitted.is_empty() {
@@ -57,7 +57,7 @@ fn tell_report<E: Sink>(alloc: Global, unfitted: &[Unfitted], error: &mut E) -> 
 fn tell_text<E: Sink>(text: Result<String, AllocError>, status_then: u8, error: &mut E) -> u8
     requires status { status_then ≤ 5 }
     requires error { E.has_failed error.old ≡ false }
-    ensures range { result ≤ 5 }
+    ensures bound { result ≤ 5 }
     ensures told { IfOk text (λ t. (result ≡ status_then) × Prints (errors_of E.written E.has_failed error.old error.new) (string_bytes t)) }
     ensures refused { IfErr text (λ e. TellsFault Memory result (errors_of E.written E.has_failed error.old error.new)) }
 {
@@ -89,7 +89,7 @@ fn report_lines(alloc: Global, unfitted: &[Unfitted]) -> Result<String, AllocErr
 #[tactic(auto, using(crate::proofs::Statuses::status_within))]
 fn tell_fault<E: Sink>(alloc: Global, fault: &RunFault, error: &mut E) -> u8
     requires { E.has_failed error.old ≡ false }
-    ensures range { result ≤ 5 }
+    ensures bound { result ≤ 5 }
     ensures told { TellsFailure fault.now result (errors_of E.written E.has_failed error.old error.new) }
 {
     tell_text(ended_line(alloc, fault), status(fault), error)

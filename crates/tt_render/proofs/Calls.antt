@@ -66,8 +66,8 @@ pub job_fails : (w : Wanted) (j : JobFault) (left out : Option (List ℕ)) (read
     → ((file : List ℕ) → w.bytes file ≡ Err (job j)) → needs_font j ≡ false → read ≡ false → write ≡ false
     → CallFails (run.Job j)
     (record { left_before = left; left_after = left; read_failed = read; out_before = out; out_after = out; write_failed = write }) w
-job_fails w j left out read write refused whatever first sound_in sound_out = rw first
-    ((refused, whatever), (keeps_same left, sound_in), (keeps_same out, sound_out))
+job_fails w j left out read write refused whatever first reader_serves writer_serves = rw first
+    ((refused, whatever), (keeps_same left, reader_serves), (keeps_same out, writer_serves))
 
 -- what was read to the end is all that the outcome depends on
 pub outcome_known : (w : Wanted) (made : List ℕ → Result (List ℕ) Refused) → IsOfFont w made
@@ -81,23 +81,23 @@ pub reading_fails : (w : Wanted) (made : List ℕ → Result (List ℕ) Refused)
     (before after out : Option (List ℕ)) (read write : Bool) → ReadFails e before after read → write ≡ false
     → CallFails e (record
     { left_before = before; left_after = after; read_failed = read; out_before = out; out_after = out; write_failed = write }) w
-reading_fails w made of_made (run.Font f) before after out read write fails sound = absurd fails
-reading_fails w made of_made (run.Job j) before after out read write fails sound = absurd fails
-reading_fails w made of_made run.Read before after out read write fails sound =
-    (of_made.tested, fails, (keeps_same out, sound))
-reading_fails w made of_made run.FontLarge before after out read write fails sound =
-    (of_made.tested, if_some_more before (λ file. font_limit < length file) (λ file. w.bytes file ≡ Err large) (λ file big. of_made.same file ∙ too_large made file big) fails.0, (fails.1, fails.2), (keeps_same out, sound))
-reading_fails w made of_made (run.Write sent) before after out read write fails sound = absurd fails
-reading_fails w made of_made run.Memory before after out read write fails sound =
-    (of_made.tested, fails, (keeps_same out, sound))
+reading_fails w made of_made (run.Font f) before after out read write fails serves = absurd fails
+reading_fails w made of_made (run.Job j) before after out read write fails serves = absurd fails
+reading_fails w made of_made run.Read before after out read write fails serves =
+    (of_made.tested, fails, (keeps_same out, serves))
+reading_fails w made of_made run.FontLarge before after out read write fails serves =
+    (of_made.tested, if_some_more before (λ file. font_limit < length file) (λ file. w.bytes file ≡ Err large) (λ file big. of_made.same file ∙ too_large made file big) fails.0, (fails.1, fails.2), (keeps_same out, serves))
+reading_fails w made of_made (run.Write sent) before after out read write fails serves = absurd fails
+reading_fails w made of_made run.Memory before after out read write fails serves =
+    (of_made.tested, fails, (keeps_same out, serves))
 
 -- what the reader had, read to its end, and nothing written
 pub record IsRead (before after : Option (List ℕ)) (file : List ℕ) (read write : Bool) : Type 0 where
   pub taken : Consumes before after file
   pub end : IsAtEnd after
   pub small : length file ≤ font_limit
-  pub sound_in : read ≡ false
-  pub sound_out : write ≡ false
+  pub reader_serves : read ≡ false
+  pub writer_serves : write ≡ false
 
 -- what stops the making of the bytes stops the call
 pub font_fails : (w : Wanted) (made : List ℕ → Result (List ℕ) Refused) → IsOfFont w made
@@ -105,21 +105,21 @@ pub font_fails : (w : Wanted) (made : List ℕ → Result (List ℕ) Refused) �
     → IsRead before after file read write → made file ≡ Err (font f) → CallFails (run.Font f)
     (record { left_before = before; left_after = after; read_failed = read; out_before = out; out_after = out; write_failed = write }) w
 font_fails w made of_made f before after out file read write r fails =
-    (of_made.tested, if_some_more before (λ all. w.bytes all ≡ made file) (λ all. w.bytes all ≡ Err (font f)) (λ all h. h ∙ fails) (outcome_known w made of_made before after file r.taken r.end r.small), (r.end, r.sound_in), (keeps_same out, r.sound_out))
+    (of_made.tested, if_some_more before (λ all. w.bytes all ≡ made file) (λ all. w.bytes all ≡ Err (font f)) (λ all h. h ∙ fails) (outcome_known w made of_made before after file r.taken r.end r.small), (r.end, r.reader_serves), (keeps_same out, r.writer_serves))
 
 pub late_job_fails : (w : Wanted) (made : List ℕ → Result (List ℕ) Refused) → IsOfFont w made → (j : JobFault)
     (before after out : Option (List ℕ)) (file : List ℕ) (read write : Bool) → IsRead before after file read write
     → made file ≡ Err (job j) → needs_font j ≡ true → CallFails (run.Job j)
     (record { left_before = before; left_after = after; read_failed = read; out_before = out; out_after = out; write_failed = write }) w
 late_job_fails w made of_made j before after out file read write r fails late =
-    rw late (of_made.tested, if_some_more before (λ all. w.bytes all ≡ made file) (λ all. w.bytes all ≡ Err (job j)) (λ all h. h ∙ fails) (outcome_known w made of_made before after file r.taken r.end r.small), (r.end, r.sound_in), (keeps_same out, r.sound_out))
+    rw late (of_made.tested, if_some_more before (λ all. w.bytes all ≡ made file) (λ all. w.bytes all ≡ Err (job j)) (λ all h. h ∙ fails) (outcome_known w made of_made before after file r.taken r.end r.small), (r.end, r.reader_serves), (keeps_same out, r.writer_serves))
 
 pub memory_fails : (w : Wanted) (made : List ℕ → Result (List ℕ) Refused) → IsOfFont w made
     → (before after out : Option (List ℕ)) (file : List ℕ) (read write : Bool) → IsRead before after file read write
     → CallFails run.Memory
     (record { left_before = before; left_after = after; read_failed = read; out_before = out; out_after = out; write_failed = write }) w
 memory_fails w made of_made before after out file read write r =
-    (of_made.tested, ((file, r.taken), r.sound_in), (keeps_same out, r.sound_out))
+    (of_made.tested, ((file, r.taken), r.reader_serves), (keeps_same out, r.writer_serves))
 
 -- what holds of the bytes that were made holds of those that are to be written
 pub with_bytes : (w : Wanted) (made : List ℕ → Result (List ℕ) Refused) → IsOfFont w made → (Q : List ℕ → Type 0)

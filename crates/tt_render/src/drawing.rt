@@ -67,7 +67,7 @@ fn draw_line(alloc: Global, face: &Face, job: &Job, line: &Line) -> Result<Pictu
     requires known { All (λ g. g.0 < glyphs_of face.now.metrics) line.now.glyphs.items }
     requires count { length line.now.glyphs.items ≤ text_limit }
     ensures exact { FontGives picture_bytes result (drawn (face_view face.now) (job_view job.now) (placement_of line.now)) }
-    ensures ready { IfOk result IsReady }
+    ensures valid { IfOk result IsReady }
     ensures report { IfOk result (λ p. line_report (face_view face.now) (job_view job.now) (placement_of line.now) ≡ Ok p.report.unfitted.items) }
     ensures once { IfOk result (λ p. ListsOnce p.report.unfitted.items) }
     ensures defects { TellsDefects font_fault (IsLineDefect (face_view face.now) (job_view job.now) (map (λ g. g.0) line.now.glyphs.items)) result }
@@ -91,7 +91,7 @@ fn ready(alloc: Global, frame: Frame, glyphs: Vec<Glyph>) -> Result<Picture, All
     ensures frame { IfOk result (λ p. p.frame ≡ frame) }
     ensures glyphs { IfOk result (λ p. p.glyphs.items ≡ glyphs.items) }
     ensures report { IfOk result (λ p. p.report.unfitted.items ≡ unfitted_standing glyphs.items) }
-    ensures ready { IfOk result IsReady }
+    ensures valid { IfOk result IsReady }
 {
     let most = most_edges(&glyphs);
     let report = report_on(alloc, &glyphs)?;
@@ -113,7 +113,7 @@ pub(crate) fn draw(alloc: Global, file: &[u8], job: &Job) -> Result<Picture, Dra
     requires size { length file.now ≤ font_limit }
     requires asked { IsJob (job_view job.now) }
     ensures exact { GivesUnless refusal picture_bytes result (pictured (job_view job.now) file.now) }
-    ensures ready { IfOk result IsReady }
+    ensures valid { IfOk result IsReady }
     ensures report { IfOk result (λ p. report_of (job_view job.now) file.now ≡ Ok p.report.unfitted.items) }
     ensures once { IfOk result (λ p. ListsOnce p.report.unfitted.items) }
     ensures defects { TellsDefects draw_font_fault (IsRunDefect (job_view job.now) file.now) result }

@@ -22,7 +22,7 @@ use tt_scan::{Frame, Tape};
 pub(crate) struct Glyph {
     number: u16,
     pub(crate) tape: Tape,
-    /// Where it stands, in pixels.
+    /// Where it stands in the line, in pixels from the left end.
     pub(crate) pens: Vec<u32>,
     /// The fault for which its outline is not fitted.
     unfitted: Option<Fault>,
@@ -37,7 +37,7 @@ impl Model for Glyph {
 }
 
 impl Glyph {
-    /// A glyph that stands nowhere yet. Errors: those of its outline, Memory.
+    /// A glyph without a pen. Errors: those of its outline, Memory.
     pub(crate) fn new(
         alloc: Global,
         fitter: &Fitter,
@@ -48,7 +48,7 @@ impl Glyph {
         requires frame { FrameFits frame }
         ensures number { IfOk result (λ g. g.number ≡ number) }
         ensures pens { IfOk result (λ g. g.pens ≡ []) }
-        ensures drawn { IfOk result (IsDrawn fitter.now frame) }
+        ensures valid { IfOk result (IsDrawn fitter.now frame) }
         ensures fault { IfTold font_fault result (λ f. fitted_outline fitter.now number ≡ Err f) }
     {
         // The outline is given up once the tape stands.
@@ -75,7 +75,7 @@ impl Glyph {
         }
     }
 
-    /// Has the glyph stand at one more pen.
+    /// Adds a pen at which the glyph stands, in pixels. Error: Memory.
     pub(crate) fn stand(&mut self, pen: u32) -> Result<(), AllocError>
         ensures { OnOk result (self.new ≡ record self.old { pens = self.old.pens ++ pen ∷ [] }) }
     {
@@ -95,7 +95,7 @@ fn tape_of(alloc: Global, outline: &Outline, frame: Frame) -> Result<Tape, Alloc
     requires frame { FrameFits frame }
     requires outline { IsOutline (outline_of outline.now) }
     ensures exact { IfOk result (λ t. t ≡ record { frame = frame; edges = edges_at 0 (outline_of outline.now); crosses = 0 }) }
-    ensures fits { IfOk result (TapeFits frame 0) }
+    ensures valid { IfOk result (TapeFits frame 0) }
 {
     let origin = outline.phantom[0].0;
     chords(alloc, outline, -i64::from(origin), 0, frame)

@@ -67,7 +67,7 @@ impl Glyphs {
         Ok(())
     }
 
-    /// Where a glyph is kept; it is made if it is not there, and stands nowhere yet.
+    /// Where a glyph is kept; where it is not, it is made, without a pen. Errors: those of its outline, Memory.
     fn keep(
         &mut self,
         alloc: Global,
@@ -78,9 +78,9 @@ impl Glyphs {
         requires known { number < fitter.now.tables.glyphs }
         requires frame { FrameFits frame }
         requires few { length self.old.kept.items < text_limit }
-        requires kept { AreKept fitter.now frame self.old.places.items self.old.kept.items }
+        requires valid { AreKept fitter.now frame self.old.places.items self.old.kept.items }
         ensures found { IfOk result (λ i. (i < length self.new.kept.items) × (slice_index (numbers_of self.new.kept.items) i ≡ number)) }
-        ensures kept { OnOk result (AreKept fitter.now frame self.new.places.items self.new.kept.items) }
+        ensures valid { OnOk result (AreKept fitter.now frame self.new.places.items self.new.kept.items) }
         ensures few { OnOk result (length self.new.kept.items ≤ length self.old.kept.items + 1) }
         ensures numbers { OnOk result (numbers_of self.new.kept.items ≡ with_glyph (numbers_of self.old.kept.items) number) }
         ensures black { OnOk result ((c r : ℕ) → is_black_by frame (stamps_in self.new.kept.items) c r ≡ is_black_by frame (stamps_in self.old.kept.items) c r) }
@@ -93,7 +93,7 @@ impl Glyphs {
         Ok(self.kept.len() - 1)
     }
 
-    /// Has a glyph stand at a pen.
+    /// Adds a pen of a glyph, which is made where it is not kept yet. Errors: those of its outline, Memory.
     fn place(
         &mut self,
         alloc: Global,
@@ -104,8 +104,8 @@ impl Glyphs {
         requires known { placed.0 < fitter.now.tables.glyphs }
         requires frame { FrameFits frame }
         requires few { length self.old.kept.items < text_limit }
-        requires kept { AreKept fitter.now frame self.old.places.items self.old.kept.items }
-        ensures kept { OnOk result (AreKept fitter.now frame self.new.places.items self.new.kept.items) }
+        requires valid { AreKept fitter.now frame self.old.places.items self.old.kept.items }
+        ensures valid { OnOk result (AreKept fitter.now frame self.new.places.items self.new.kept.items) }
         ensures few { OnOk result (length self.new.kept.items ≤ length self.old.kept.items + 1) }
         ensures numbers { OnOk result (numbers_of self.new.kept.items ≡ with_glyph (numbers_of self.old.kept.items) placed.0) }
         ensures black { OnOk result (IsOkAnd (glyph_edges fitter.now placed) (Adds frame self.old.kept.items self.new.kept.items)) }
@@ -131,7 +131,7 @@ pub(crate) fn line_glyphs(
     requires known { All (λ g. g.0 < glyphs) line.now }
     requires count { length line.now ≤ text_limit }
     requires frame { FrameFits frame }
-    ensures drawn { IfOk result (λ v. All (IsDrawn fitter.now frame) v.items) }
+    ensures valid { IfOk result (λ v. All (IsDrawn fitter.now frame) v.items) }
     ensures numbers { IfOk result (λ v. numbers_of v.items ≡ distinct (map (λ g. g.0) line.now)) }
     ensures black { IfOk result (λ v. IsOkAnd (each (glyph_edges fitter.now) line.now) (Blacken frame v.items)) }
     ensures fault { IfTold font_fault result (λ f. each (glyph_edges fitter.now) line.now ≡ Err f) }

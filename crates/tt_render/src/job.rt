@@ -25,7 +25,7 @@ pub struct Job<'a> {
 #[tactic(auto, unfolding(crate::specs::Job::tested))]
 pub(crate) fn test_job(job: &Job) -> Result<(), JobFault>
     ensures exact { Gives (λ u. u) result (tested (job_view job.now)) }
-    ensures asked { OnOk result (IsJob (job_view job.now)) }
+    ensures valid { OnOk result (IsJob (job_view job.now)) }
     ensures first { IfErr result (λ j. needs_font j ≡ false) }
     ensures refused { IfErr result (IsTestRefusal (job_view job.now)) }
 {
@@ -42,7 +42,7 @@ pub(crate) fn test_job(job: &Job) -> Result<(), JobFault>
 #[tactic(auto, unfolding(crate::specs::Job::text_tested))]
 pub(crate) fn test_text(text: &str) -> Result<(), JobFault>
     ensures exact { Gives (λ u. u) result (text_tested text.now) }
-    ensures short { OnOk result (length (chars text.now) ≤ text_limit) }
+    ensures few { OnOk result (length (chars text.now) ≤ text_limit) }
     ensures first { IfErr result (λ j. needs_font j ≡ false) }
     ensures refused { IfErr result (λ j. (j ≡ TextLong) × (text_limit < length (chars text.now))) }
 {

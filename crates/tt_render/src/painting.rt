@@ -11,7 +11,7 @@ use crate::glyph::Glyph;
 use tt_scan::{Frame, Sweep};
 
 impl Glyph {
-    /// Whether a row of the picture is to be looked at.
+    /// Whether some edge of the glyph may meet a row of the picture; without one it blackens nothing there.
     fn meets(&self, r: u32) -> bool
         requires { r < self.now.tape.frame.height }
         ensures { result ≡ false → (c : ℤ) → is_black self.now.tape.edges (column_x self.now.tape.frame.margin c) (row_y self.now.tape.frame (pos r)) ≡ false }

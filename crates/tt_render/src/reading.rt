@@ -41,7 +41,7 @@ fn read_behind<R: Source>(font: &mut R, buf: &mut [u8], filled: usize) -> Result
     ensures bound { IfOk result (λ n. filled + n ≤ length buf.new) }
     ensures bytes { IfOk result (λ n. Consumes (R.left font.old) (R.left font.new) (take n (drop filled buf.new))) }
     ensures end { IfOk result (λ n. n ≡ 0 → IsAtEnd (R.left font.new)) }
-    ensures kept { OnErr result (Keeps (R.left font.old) (R.left font.new)) }
+    ensures unchanged { OnErr result (Keeps (R.left font.old) (R.left font.new)) }
     ensures failure { RemembersFailure (R.has_failed font.old) (R.has_failed font.new) result }
 {
     font.read(&mut buf[filled..])

@@ -57,7 +57,7 @@ fn write_rows<W: Sink>(
     ensures all { OnOk result (Appends (W.written out.old) (W.written out.new) (all_rows frame glyphs.old)) }
     ensures part { IfErr result (λ cut. Appends (W.written out.old) (W.written out.new) (take cut.sent (all_rows frame glyphs.old))) }
     ensures within { IfErr result (λ cut. cut.sent < length (all_rows frame glyphs.old)) }
-    ensures small { IfErr result (λ cut. cut.sent < 2 ^ 32) }
+    ensures bound { IfErr result (λ cut. cut.sent < 2 ^ 32) }
     ensures failure { W.has_failed out.new ≡ is_err result }
 {
     let mut sent = 0;

@@ -4,6 +4,7 @@ use Rattle.std.proofs.lemmas.Int.{ints}
 use Rattle.tt_scan.specs.declared.edge.Edge.{Edge}
 use Rattle.tt_scan.specs.Tape.{edge_at}
 use Rattle.tt_scan.specs.Winding.{winding, turned, is_between, lies_on, lies_on_one, rows_met}
+use Rattle.tt_scan.proofs.Bools.{or_false, or_or}
 
 pub winding_more : (es : List Edge) (i : ℕ) (x y : ℤ) → i < length es → winding (take (i + 1) es) x y ≡ winding (take i es) x y +ℤ turned (edge_at es i) x y
 winding_more [] i x y below = absurd (omega arith)
@@ -12,14 +13,6 @@ winding_more (e ∷ es) (suc i) x y below =
     let next : suc i + 1 ≡ suc (i + 1) = omega arith in
     let more = winding_more es i x y (omega arith) in
     rw next (omega (arith, ints))
-
-or_false : (b : Bool) → (b || false) ≡ b
-or_false true = refl
-or_false false = refl
-
-or_or : (a b c : Bool) → (a || (b || c)) ≡ ((a || b) || c)
-or_or true b c = refl
-or_or false b c = refl
 
 pub clear_more : (es : List Edge) (i : ℕ) (x y : ℤ) → i < length es → lies_on_one (take (i + 1) es) x y ≡ (lies_on_one (take i es) x y || lies_on (edge_at es i) x y)
 clear_more [] i x y below = absurd (omega arith)

@@ -1,4 +1,5 @@
 mod Edges
+pub mod Bools
 pub mod ActiveEdges
 pub mod Columns
 pub mod Crosses

@@ -17,6 +17,7 @@ use Rattle.tt_scan.specs.Tape.{edge_at}
 use Rattle.tt_scan.specs.Winding.{row_y, side, is_zero, is_between, lies_on, lies_on_one, turned, winding, rows_met}
 use Rattle.tt_scan.proofs.Crosses.{third_false}
 use Rattle.tt_scan.proofs.Edges.{rows_few}
+use Rattle.tt_scan.proofs.Bools.{or_false, or_or}
 
 -- the entries of an edge table, one more at a time, and in another order
 
@@ -250,14 +251,6 @@ few_stand es f r active stands =
     omega arith
 
 -- one edge more of the list
-
-or_false : (b : Bool) → (b || false) ≡ b
-or_false true = refl
-or_false false = refl
-
-or_or : (a b c : Bool) → (a || (b || c)) ≡ ((a || b) || c)
-or_or true b c = refl
-or_or false b c = refl
 
 on_push : (es : List Edge) (e : Edge) (x y : ℤ) → lies_on_one (es ++ e ∷ []) x y ≡ (lies_on_one es x y || lies_on e x y)
 on_push [] e x y = or_false (lies_on e x y)

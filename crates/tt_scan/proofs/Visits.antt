@@ -8,16 +8,9 @@ use Rattle.std.proofs.lemmas.List.{drop_more}
 use Rattle.tt_scan.specs.declared.mark.Span.{Span}
 use Rattle.tt_scan.specs.Marks.{covers, turn_of}
 use Rattle.tt_scan.specs.Winding.{is_zero}
+use Rattle.tt_scan.proofs.Bools.{or_false, or_or}
 
 -- one span more
-
-or_false : (b : Bool) → (b || false) ≡ b
-or_false true = refl
-or_false false = refl
-
-or_or : (a b c : Bool) → (a || (b || c)) ≡ ((a || b) || c)
-or_or true b c = refl
-or_or false b c = refl
 
 pub covers_more : (ss : List Span) (s : Span) (c : ℤ)
     → covers (ss ++ s ∷ []) c ≡ (covers ss c || (int_le s.first c && int_le c s.last))

@@ -9,6 +9,7 @@ use Rattle.std.proofs.lemmas.Nat.Bits.{bit_at_above, bit_at_cat_low, ones_shr, b
 use Rattle.tt_core.specs.Bits.{bit}
 use Rattle.tt_scan.specs.Stamps.{in_word}
 use Rattle.tt_scan.proofs.Columns.{or_bit}
+use Rattle.tt_scan.proofs.Bools.{or_false}
 
 -- a word with columns
 
@@ -94,10 +95,6 @@ column_bit word at i k fits free within here = elim (cases_lt k at) [
         rw (none, on, out) refl
   ]
 ]
-
-or_false : (b : Bool) → (b || false) ≡ b
-or_false true = refl
-or_false false = refl
 
 pub word_step : (word at i k mask : ℕ) (old row new : Bool) → word < 2 ^ 64 → ((b : ℕ) → b < 7 → bit_at word b ≡ 0) → i < 8
     → ((b : ℕ) → b < 8 → bit_at mask b ≡ bit_at word ((56 + at % 8 - 8 * i) + b))

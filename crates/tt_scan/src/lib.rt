@@ -1,5 +1,18 @@
 //! Scan conversion: the edges of a glyph, and which pixels they blacken. OpenType, "TrueType Fundamentals", the scan
 //! converter's rules 1 and 2.
+//!
+//! The way of a row, from edges to black pixels:
+//!
+//! ```text
+//! edge_table.rt   the active edges, those that meet the row
+//! counted.rt      each of them is crossed, and each crossing is counted
+//! crossing.rt     what an edge does at the height of the row: the columns that it touches, and where it turns
+//! collect.rt      touched columns are black spans (rule 2), turns are marks
+//! stretch.rt      the marks in order of their columns, and black spans where their sum isn't 0 (rule 1)
+//! paint.rt        the spans in a row of bytes; stamp.rt the same for a narrow glyph, by one word
+//! ```
+//!
+//! `pixel.rt` asks all edges for one pixel: slow, and the rule itself.
 #![tactic(auto)]
 
 mod bytes;

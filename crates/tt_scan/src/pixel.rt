@@ -16,7 +16,7 @@ impl Tape {
         requires count { self.old.crosses + length self.old.edges ≤ 2 ^ 63 }
         ensures black { result ≡ is_black self.old.edges (column_x self.old.frame.margin c) (row_y self.old.frame r) }
         ensures kept { self.new ≡ record self.old { crosses = self.new.crosses } }
-        ensures counted { self.new.crosses ≤ self.old.crosses + length self.old.edges }
+        ensures count { self.new.crosses ≤ self.old.crosses + length self.old.edges }
     {
         let mut winding = 0;
         for i in 0..self.edges() {

@@ -151,7 +151,7 @@ impl Tape {
         requires count { self.old.crosses < 2 ^ 63 }
         ensures exact { IsCross (edge_at self.old.edges i) self.old.frame.margin (row_y self.old.frame row) result }
         ensures bound { unsigned_abs result.turn ≤ 1 }
-        ensures counted { self.new ≡ record self.old { crosses = self.old.crosses + 1 } }
+        ensures count { self.new ≡ record self.old { crosses = self.old.crosses + 1 } }
     {
         self.edges
             .cross(i, self.frame.margin, row_height(self.frame, row))

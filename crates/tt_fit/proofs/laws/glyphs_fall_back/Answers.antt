@@ -1,4 +1,4 @@
-use Rattle.tt_fit.proofs.Falling.{fallback-fits, fallback-scales, fallback-refuses, fallback-keeps, others-never-fall-back}
+use Rattle.tt_fit.proofs.Falling.{fallback-fits, fallback-scales, fallback-refuses, fallback-unfits-all, others-never-fall-back}
 use Rattle.tt_fit.proofs.laws.glyphs_fall_back.Goals as goal
 
 pub returns-clause-fitted : goal.returns-clause-fitted
@@ -10,8 +10,8 @@ returns-clause-scaled c = fallback-scales
 pub returns-clause-refused : goal.returns-clause-refused
 returns-clause-refused c = fallback-refuses
 
-pub returns-clause-kept : goal.returns-clause-kept
-returns-clause-kept c = fallback-keeps
+pub returns-clause-unfitted : goal.returns-clause-unfitted
+returns-clause-unfitted c = fallback-unfits-all
 
 pub returns-clause-never : goal.returns-clause-never
 returns-clause-never c = others-never-fall-back

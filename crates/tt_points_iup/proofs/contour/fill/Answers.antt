@@ -1,41 +1,59 @@
-use Rattle.std.proofs.Common.{◌≡◌, ◌<◌, length, map, arith}
-use Rattle.std.proofs.lemmas.List.{take_all}
+use Rattle.std.proofs.Common.{◌≡◌, ◌∙◌, ◌+◌, ◌<◌, ◌≤◌, length, length-set, get_or, arith}
 use Rattle.std.proofs.lemmas.List.Elements.{All-set}
 use Rattle.std.proofs.lemmas.Result.{err_from_is_err_and}
 use Rattle.tt_points_zones.specs.Zones.{IsPoint}
 use Rattle.tt_points_iup.specs.Interpolation as is
-use Rattle.tt_points_iup.proofs.Filled.{blank, same_point, filled_more, rest_more}
-use Rattle.tt_points_iup.proofs.Limits.{limited_ok, one_outside, point_ok}
+use Rattle.tt_points_iup.proofs.Filled.{blank, filled_at, next_outside, all_made}
+use Rattle.tt_points_iup.proofs.Limits.{point_ok}
 use Rattle.tt_points_iup.proofs.contour.fill.Goals as goal
+
+pub interpolated-requires-clause-point : goal.interpolated-requires-clause-point
+interpolated-requires-clause-point c =
+    let here : c.args.start + c.loop-k.k < length c.loop-k.contour.points.now =
+    omega (arith, c.loop-k-test.true, c.requires.range, c.loop-k.invariant.many) in
+    rw (c.at.ensures blank) (c.loop-k.invariant.valid (c.args.start + c.loop-k.k) blank here)
 
 pub returns-in_err-p-clause-exact : goal.returns-in_err-p-clause-exact
 returns-in_err-p-clause-exact c =
-    let f = is.interpolated c.args.axis c.args.before c.args.after in
-    let here : c.loop-p.p-index < length c.loop-p.points = omega arith in
-    let there : c.loop-p.p-index < length c.args.points.now = omega arith in
-    let same = same_point c.loop-p.points c.args.points.now c.loop-p.p-index blank here there c.loop-p.invariant.rest in
-    let bad = rw same at c.in_err-p.ensures.exact in
-    let all = one_outside c.args.axis f c.args.points.now c.loop-p.p-index _ _ there bad in
+    let axis = c.args.contour.now.axis in
+    let f = is.interpolated axis c.args.before.point c.args.after.point in
+    let now = c.loop-k.contour.points.now in
+    let old = c.args.contour.now.points.now in
+    let inside : c.args.start + c.args.len ≤ length now = omega (arith, c.requires.range, c.loop-k.invariant.many) in
+    let bad = rw (c.at.ensures blank, c.loop-k.invariant.along) at c.in_err-p.ensures.exact in
+    let all = next_outside axis f now old c.args.start c.loop-k.k c.args.len _ c.loop-k-test.true inside
+    c.loop-k.invariant.many c.loop-k.invariant.filled bad in
     let p = err_from_is_err_and c.from_residual.result c.from_residual.ensures.1 in
     rw (p.1, p.2) all
 
-pub loop-p-preserved : goal.loop-p-preserved
-loop-p-preserved c =
-    let f = is.interpolated c.args.axis c.args.before c.args.after in
-    let here : c.loop-p.p-index < length c.loop-p.points = omega arith in
-    let there : c.loop-p.p-index < length c.args.points.now = omega arith in
+pub loop-k-preserved : goal.loop-k-preserved
+loop-k-preserved c =
+    let axis = c.args.contour.now.axis in
+    let f = is.interpolated axis c.args.before.point c.args.after.point in
+    let now = c.loop-k.contour.points.now in
+    let old = c.args.contour.now.points.now in
+    let at = c.args.start + c.loop-k.k in
+    let q = c.in_ok-p.p.point in
+    let here : at < length now = omega (arith, c.loop-k-test.true, c.requires.range, c.loop-k.invariant.many) in
+    let there : at < length old = omega (arith, c.loop-k-test.true, c.requires.range) in
+    let made = point_ok axis (f (get_or now at blank)) q (rw (c.at.ensures blank, c.loop-k.invariant.along) at
+    c.in_ok-p.ensures.exact) in
     record {
-      so_far = filled_more f c.loop-p.points c.args.points.now c.loop-p.p-index _ c.in_ok-p.field-0 here there
-          c.loop-p.invariant.so_far c.loop-p.invariant.rest (point_ok c.args.axis _ _ c.in_ok-p.ensures.exact);
-      rest = rest_more c.loop-p.points c.args.points.now c.loop-p.p-index c.in_ok-p.field-0 c.loop-p.invariant.rest;
-      sound = All-set IsPoint c.loop-p.points c.loop-p.p-index c.in_ok-p.field-0 c.in_ok-p.ensures.sound
-          c.loop-p.invariant.sound;
+      along = c.loop-k.invariant.along;
+      filled = rw c.set.ensures.exact (filled_at f now old c.args.start c.loop-k.k q here there
+          c.loop-k.invariant.filled
+          made);
+      valid = rw c.set.ensures.exact (All-set IsPoint now at q c.in_ok-p.ensures.valid c.loop-k.invariant.valid);
+      many = rw c.set.ensures.exact (length-set now at q ∙ c.loop-k.invariant.many);
+      reads = c.set.ensures.count ∙ c.loop-k.invariant.reads;
+      axis = c.set.ensures.axis ∙ c.loop-k.invariant.axis;
+      name = c.set.ensures.same_reference ∙ c.loop-k.invariant.name;
     }
 
 pub returns-clause-exact : goal.returns-clause-exact
 returns-clause-exact c =
-    let f = is.interpolated c.args.axis c.args.before c.args.after in
-    let now = take_all c.loop-p.p-index c.loop-p.points (omega arith) in
-    let old = take_all c.loop-p.p-index c.args.points.now c.loop-p-test.false in
-    let all : c.loop-p.points ≡ map f c.args.points.now = rw (now, old) at c.loop-p.invariant.so_far in
-    rw (← all) (limited_ok c.args.axis c.loop-p.points c.loop-p.invariant.sound)
+    let axis = c.args.contour.now.axis in
+    let f = is.interpolated axis c.args.before.point c.args.after.point in
+    let all : c.loop-k.k ≡ c.args.len = omega (arith, c.loop-k-test.false, c.loop-k.auto.k-end) in
+    all_made axis f c.loop-k.contour.points.now c.args.contour.now.points.now c.args.start c.args.len
+    (rw all at c.loop-k.invariant.filled) c.loop-k.invariant.valid

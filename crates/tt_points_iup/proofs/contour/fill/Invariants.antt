@@ -1,12 +1,18 @@
-use Rattle.std.proofs.Common.{◌≡◌, map, take, drop, All}
+use Rattle.std.proofs.Common.{◌≡◌, length, All}
 use Rattle.tt_points_zones.specs.Zones.{IsPoint}
 use Rattle.tt_points_iup.specs.Interpolation as is
+use Rattle.tt_points_iup.proofs.Filled.{Filled}
 use Rattle.tt_points_iup.proofs.contour.fill.Given as goal
 
 -- the points so far are interpolated, the others as they were
-abbrev pub invariant-loop-p : goal.invariant-loop-p
-invariant-loop-p l = record {
-  so_far : take l.p-index l.points ≡ map (is.interpolated l.axis l.before l.after) (take l.p-index l.fn.points);
-  rest : drop l.p-index l.points ≡ drop l.p-index l.fn.points;
-  sound : All IsPoint l.points;
+abbrev pub invariant-loop-k : goal.invariant-loop-k
+invariant-loop-k l = record {
+  along : l.axis ≡ l.fn.contour.axis;
+  filled : Filled (is.interpolated l.fn.contour.axis l.before.point l.after.point) l.contour.points.now
+      l.fn.contour.points.now l.start l.k;
+  valid : All IsPoint l.contour.points.now;
+  many : length l.contour.points.now ≡ length l.fn.contour.points.now;
+  reads : l.contour.reads ≡ l.fn.contour.reads;
+  axis : l.contour.axis ≡ l.fn.contour.axis;
+  name : l.contour.points.ghost_name ≡ l.fn.contour.points.ghost_name;
 }

@@ -3,17 +3,21 @@ use Rattle.tt_points_zones.specs.Zones.{IsPoint}
 use Rattle.tt_points_iup.specs.Sweeps.{swept}
 use Rattle.tt_points_iup.proofs.contour.sweep.Given as goal
 
--- the points so far, and what is swept behind them, are what is swept in all
+-- the points so far, and what is swept after them, are what is swept in all
 abbrev pub invariant-loop-start : goal.invariant-loop-start
 invariant-loop-start l = record {
-  place : l.start ≤ length l.fn.points;
-  so_far : take l.start l.points ++ swept l.axis l.before l.first (drop l.start l.fn.points)
-      ≡ swept l.axis l.fn.last l.first l.fn.points;
-  rest : drop l.start l.points ≡ drop l.start l.fn.points;
-  before : IsPoint l.before;
-  sound : All IsPoint l.points;
-  read : l.reads ≡ l.fn.reads + l.start;
+  place : l.start ≤ length l.fn.contour.points.now;
+  so_far : take l.start l.contour.points.now
+      ++ swept l.fn.contour.axis l.before.point l.first.point (drop l.start l.fn.contour.points.now)
+      ≡ swept l.fn.contour.axis l.fn.last.point l.first.point l.fn.contour.points.now;
+  rest : drop l.start l.contour.points.now ≡ drop l.start l.fn.contour.points.now;
+  before : IsPoint l.before.point;
+  valid : All IsPoint l.contour.points.now;
+  many : length l.contour.points.now ≡ length l.fn.contour.points.now;
+  reads : l.contour.reads ≡ l.fn.contour.reads + l.start;
+  axis : l.contour.axis ≡ l.fn.contour.axis;
+  name : l.contour.points.ghost_name ≡ l.fn.contour.points.ghost_name;
 }
 
 abbrev pub decreases-loop-start : goal.decreases-loop-start
-decreases-loop-start l = length l.initial.points - l.start
+decreases-loop-start l = length l.fn.contour.points.now - l.start

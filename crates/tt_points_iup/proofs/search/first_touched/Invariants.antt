@@ -3,10 +3,15 @@ use Rattle.tt_points_iup.specs.Interpolation as is
 use Rattle.tt_points_iup.specs.Readings.{up_to_first}
 use Rattle.tt_points_iup.proofs.search.first_touched.Given as goal
 
--- the first of those that are left is the first of all, and each of the others was read
-abbrev pub invariant-loop-p : goal.invariant-loop-p
-invariant-loop-p l = record {
-  same : is.first_touched l.axis (drop l.p-index l.points) ≡ is.first_touched l.axis l.points;
-  left : l.reads + up_to_first l.axis (drop l.p-index l.points) ≡ l.fn.reads + up_to_first l.axis l.points;
-  read : l.reads ≡ l.fn.reads + l.p-index;
+-- the first of those that are left is the first of all, and of each of the others it was asked
+abbrev pub invariant-loop-i : goal.invariant-loop-i
+invariant-loop-i l = record {
+  same : is.first_touched l.fn.contour.axis (drop l.i l.fn.contour.points.now)
+      ≡ is.first_touched l.fn.contour.axis l.fn.contour.points.now;
+  left : l.contour.reads + up_to_first l.fn.contour.axis (drop l.i l.fn.contour.points.now)
+      ≡ l.fn.contour.reads + up_to_first l.fn.contour.axis l.fn.contour.points.now;
+  asked : l.contour.reads ≡ l.fn.contour.reads + l.i;
+  points : l.contour.points.now ≡ l.fn.contour.points.now;
+  axis : l.contour.axis ≡ l.fn.contour.axis;
+  name : l.contour.points.ghost_name ≡ l.fn.contour.points.ghost_name;
 }

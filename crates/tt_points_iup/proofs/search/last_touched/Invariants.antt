@@ -1,12 +1,17 @@
 use Rattle.std.proofs.Common.{◌≡◌, ◌+◌, None, drop, IfSome}
 use Rattle.tt_points_zones.specs.Zones.{IsPoint}
 use Rattle.tt_points_iup.specs.Interpolation as is
+use Rattle.tt_points_iup.specs.Positions.{point_of}
 use Rattle.tt_points_iup.proofs.search.last_touched.Given as goal
 
--- the last of those that are left, behind what was found, is the last of all
-abbrev pub invariant-loop-p : goal.invariant-loop-p
-invariant-loop-p l = record {
-  same : is.last_touched l.axis l.last (drop l.p-index l.points) ≡ is.last_touched l.axis None l.points;
-  sound : IfSome l.last IsPoint;
-  read : l.reads ≡ l.fn.reads + l.p-index;
+-- the last of those that are left, after what was found, is the last of all
+abbrev pub invariant-loop-i : goal.invariant-loop-i
+invariant-loop-i l = record {
+  same : is.last_touched l.fn.contour.axis (point_of l.last) (drop l.i l.fn.contour.points.now)
+      ≡ is.last_touched l.fn.contour.axis None l.fn.contour.points.now;
+  valid : IfSome l.last (λ p. IsPoint p.point);
+  asked : l.contour.reads ≡ l.fn.contour.reads + l.i;
+  points : l.contour.points.now ≡ l.fn.contour.points.now;
+  axis : l.contour.axis ≡ l.fn.contour.axis;
+  name : l.contour.points.ghost_name ≡ l.fn.contour.points.ghost_name;
 }

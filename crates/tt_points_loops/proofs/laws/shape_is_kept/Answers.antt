@@ -1,4 +1,4 @@
-use Rattle.tt_points_loops.proofs.Shapes.{shape_kept}
+use Rattle.tt_points_loops.specs.Shapes.{shape_kept}
 use Rattle.tt_points_loops.proofs.laws.shape_is_kept.Goals as goal
 
 pub returns : goal.returns

@@ -63,7 +63,7 @@ returns-clause-report c =
     let glyphs = c.in_ok-glyphs.glyphs.items in
     let numbers = rw c.deref.ensures.value at c.in_ok-glyphs.ensures.numbers in
     let entries = of_line s _ glyphs c.args.line.now.glyphs.items c.in_ok-ready.field-0.report.unfitted.items
-    c.in_ok-glyphs.ensures.drawn numbers c.in_ok-ready.ensures.report in
+    c.in_ok-glyphs.ensures.valid numbers c.in_ok-ready.ensures.report in
     rw (there, entries) refl
 
 pub returns-clause-once : goal.returns-clause-once
@@ -73,5 +73,5 @@ returns-clause-once c =
     let line = c.args.line.now.glyphs.items in
     let numbers = rw c.deref.ensures.value at c.in_ok-glyphs.ensures.numbers in
     let entries = of_line s _ glyphs line c.in_ok-ready.field-0.report.unfitted.items
-    c.in_ok-glyphs.ensures.drawn numbers c.in_ok-ready.ensures.report in
+    c.in_ok-glyphs.ensures.valid numbers c.in_ok-ready.ensures.report in
     rw entries (lists_once s (map (λ g. g.0) line))

@@ -19,7 +19,7 @@ loop-placed-preserved c =
     let numbers = rw whole at so_far.numbers in
     record {
       few = omega (arith, so_far.few, one.few);
-      kept = one.kept;
+      valid = one.valid;
       numbers = rw (add-one, one.numbers) numbers;
       black = (
         so_far.black.0 ++ made.0 ∷ [],

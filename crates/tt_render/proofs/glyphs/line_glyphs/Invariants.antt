@@ -10,7 +10,7 @@ use Rattle.tt_render.proofs.glyphs.line_glyphs.Given as goal
 abbrev pub invariant-loop-placed : goal.invariant-loop-placed
 invariant-loop-placed l = record {
   few : length l.kept.kept.items ≤ l.placed-index;
-  kept : AreKept l.fitter l.frame l.kept.places.items l.kept.kept.items;
+  valid : AreKept l.fitter l.frame l.kept.places.items l.kept.kept.items;
   numbers : distinct_after (numbers_of l.kept.kept.items) (map (λ g. g.0) (drop l.placed-index l.line))
       ≡ distinct (map (λ g. g.0) l.line);
   black : (edges : List (List Edge)) × (after_each (glyph_edges l.fitter) (drop l.placed-index l.line) edges

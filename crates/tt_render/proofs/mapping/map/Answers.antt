@@ -68,7 +68,7 @@ returns-in_err-lines-clause-outcome g c =
     let fails = rw c.deref.ensures.value at c.in_err-lines.ensures.exact in
     let read : IsRead (left c.args.font.now) (left c.read_font.new.font) file.file.items
     (g.R.Source.has_failed c.read_font.new.font) (g.W.Sink.has_failed c.args.out.now) =
-    record { taken = file.ensures.0; end = file.ensures.1; small = file.ensures.2; sound_in = file.ensures.3; sound_out = c.requires.out } in
+    record { taken = file.ensures.0; end = file.ensures.1; small = file.ensures.2; reader_serves = file.ensures.3; writer_serves = c.requires.out } in
     rw (p.1, p.2) (lines_fail (map_wanted text) (λ file. lines_of file text)
     (map_is_of_font text c.in_ok-test_text.ensures.exact) c.in_err-lines.field-0.0 (left c.args.font.now)
     (left c.read_font.new.font) (g.W.Sink.written c.args.out.now) file.file.items

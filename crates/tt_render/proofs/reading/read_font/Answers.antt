@@ -35,7 +35,7 @@ pieces-preserved g c =
       known = search rules;
       limit = search rules;
       bytes = rw whole known;
-      sound = search rules;
+      serves = search rules;
     }
 
 pub returns-in-Ok-eq0 : goal.returns-in-Ok-eq0

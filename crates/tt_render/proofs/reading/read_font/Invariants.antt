@@ -10,7 +10,7 @@ invariant-pieces g l = record {
   known : l.filled ≤ font_limit;
   limit : vec_len l.file ≤ font_limit + 1;
   bytes : Consumes (g.R.Source.left l.fn.font) (g.R.Source.left l.font) (take l.filled l.file.items);
-  sound : g.R.Source.has_failed l.font ≡ false;
+  serves : g.R.Source.has_failed l.font ≡ false;
 }
 
 abbrev pub decreases-pieces : goal.decreases-pieces

@@ -66,7 +66,7 @@ returns-in_err-picture-clause-outcome g c =
     let extent = rw c.deref.ensures.value at c.in_err-picture.ensures.extent in
     let read : IsRead (left c.args.font.now) (left c.read_font.new.font) file.file.items
     (g.R.Source.has_failed c.read_font.new.font) (g.W.Sink.has_failed c.args.out.now) =
-    record { taken = file.ensures.0; end = file.ensures.1; small = file.ensures.2; sound_in = file.ensures.3; sound_out = c.requires.out } in
+    record { taken = file.ensures.0; end = file.ensures.1; small = file.ensures.2; reader_serves = file.ensures.3; writer_serves = c.requires.out } in
     rw (p.1, p.2) (drawing_fails (run_wanted a) (pictured a) (run_is_of_font a c.in_ok-test_job.ensures.exact) a
     c.in_err-picture.field-0.0 (left c.args.font.now) (left c.read_font.new.font)
     (g.W.Sink.written c.args.out.now) file.file.items (g.R.Source.has_failed c.read_font.new.font)

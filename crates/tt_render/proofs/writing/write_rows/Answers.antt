@@ -15,7 +15,7 @@ loop-r-init g c = record {
   sent = omega arith;
   out = appends_none (g.W.Sink.written c.args.out.now) c.args.frame.width
       (is_black_by c.args.frame (stamps_in c.args.glyphs.now)) _ (omega arith);
-  sound = c.requires.out;
+  serves = c.requires.out;
 }
 
 pub loop-r-preserved : goal.loop-r-preserved
@@ -37,7 +37,7 @@ loop-r-preserved g c =
           (rows_by f gs 0 (stride f.width * r)) (row_of f gs r) (rows_by f gs 0 (stride f.width * (r + 1))) so_far.out
           all
           (rows_next f.width r (is_black_by f (stamps_in gs)) (row_of f gs r) refl);
-      sound = c.in-Ok.ensures.failure;
+      serves = c.in-Ok.ensures.failure;
     }
 
 pub returns-in-Err-clause-part : goal.returns-in-Err-clause-part
@@ -64,8 +64,8 @@ returns-in-Err-clause-within g c =
     let within = c.in-Err.ensures.within in
     omega (arith, so_far.sent, ends, many, within)
 
-pub returns-in-Err-clause-small : goal.returns-in-Err-clause-small
-returns-in-Err-clause-small g c =
+pub returns-in-Err-clause-bound : goal.returns-in-Err-clause-bound
+returns-in-Err-clause-bound g c =
     let so_far = c.loop-r.invariant in
     let f = c.args.frame in
     let ends = row_ends f.width f.height c.loop-r.r c.loop-r-test.true in

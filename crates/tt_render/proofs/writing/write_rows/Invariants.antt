@@ -15,5 +15,5 @@ invariant-loop-r g l = record {
   sent : l.sent ≡ stride l.frame.width * l.r;
   out : Appends (g.W.Sink.written l.fn.out) (g.W.Sink.written l.out)
       (rows_by l.frame l.fn.glyphs 0 (stride l.frame.width * l.r));
-  sound : g.W.Sink.has_failed l.out ≡ false;
+  serves : g.W.Sink.has_failed l.out ≡ false;
 }

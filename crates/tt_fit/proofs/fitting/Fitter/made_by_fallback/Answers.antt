@@ -6,5 +6,5 @@ use Rattle.tt_fit.proofs.fitting.Fitter.made_by_fallback.Goals as goal
 pub returns-in-Everywhere-clause-unfitted : goal.returns-in-Everywhere-clause-unfitted
 returns-in-Everywhere-clause-unfitted c =
     let fault = c.in-Everywhere.fault in
-    let kept : c.args.self.now.fallback ≡ everywhere fault = grind (arith, c.self.view_is, c.in-Everywhere.is) in
-    rw (unfitted-everywhere c.args.self.now c.args.g fault kept) c.made-in-Everywhere.ensures.unfitted
+    let everywhere_so : c.args.self.now.fallback ≡ everywhere fault = grind (arith, c.self.view_is, c.in-Everywhere.is) in
+    rw (unfitted-everywhere c.args.self.now c.args.g fault everywhere_so) c.made-in-Everywhere.ensures.unfitted

@@ -17,15 +17,15 @@ returns-in-Some-clause-numbers c =
     below found.1 in
     rw here refl
 
-pub returns-clause-kept : goal.returns-clause-kept
-returns-clause-kept c =
+pub returns-clause-valid : goal.returns-clause-valid
+returns-clause-valid c =
     let s = c.args.fitter.now in
     let kept = c.args.self.now.kept.items in
     record {
-      room = c.in_ok-add.ensures.room ∙ c.requires.kept.room;
+      room = c.in_ok-add.ensures.room ∙ c.requires.valid.room;
       places = c.in_ok-add.ensures.places;
       drawn = rw c.in_ok-add.ensures.kept (All-push (IsDrawn s c.args.frame) kept c.in_ok-new.field-0
-          c.requires.kept.drawn c.in_ok-new.ensures.drawn);
+          c.requires.valid.drawn c.in_ok-new.ensures.valid);
     }
 
 pub returns-clause-numbers : goal.returns-clause-numbers

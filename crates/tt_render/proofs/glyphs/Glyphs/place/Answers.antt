@@ -2,12 +2,12 @@ use Rattle.std.proofs.Common.{◌++◌, ◌∷◌, [], ◌∙◌}
 use Rattle.tt_render.proofs.Standings.{adds_at, numbers_stood, number_is, drawn_is, kept_stood}
 use Rattle.tt_render.proofs.glyphs.Glyphs.place.Goals as goal
 
-pub returns-clause-kept : goal.returns-clause-kept
-returns-clause-kept c =
+pub returns-clause-valid : goal.returns-clause-valid
+returns-clause-valid c =
     let g = c.index_mut.result.now in
     let at = c.in_ok-at in
     rw c.in_ok-stand.ensures (kept_stood c.args.fitter.now c.args.frame c.keep.new.self.places.items
-    c.keep.new.self.kept.items at.at g (g.pens ++ c.args.placed.1 ∷ []) at.ensures.kept at.ensures.found.0
+    c.keep.new.self.kept.items at.at g (g.pens ++ c.args.placed.1 ∷ []) at.ensures.valid at.ensures.found.0
     c.index_mut.ensures.value)
 
 pub returns-clause-numbers : goal.returns-clause-numbers
@@ -24,5 +24,5 @@ returns-clause-black c =
     let at = c.in_ok-at in
     let is = c.index_mut.ensures.value in
     rw c.in_ok-stand.ensures (adds_at s c.args.frame c.args.self.now.kept.items gs at.at g c.args.placed at.ensures.black
-    at.ensures.found.0 is (drawn_is s c.args.frame c.keep.new.self.places.items gs at.at g at.ensures.kept
+    at.ensures.found.0 is (drawn_is s c.args.frame c.keep.new.self.places.items gs at.at g at.ensures.valid
     at.ensures.found.0 is) (number_is gs at.at g c.args.placed.0 at.ensures.found.0 is at.ensures.found.1))

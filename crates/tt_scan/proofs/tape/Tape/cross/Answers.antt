@@ -6,8 +6,8 @@ cross-requires-clause-edge c =
     let within : c.args.i < length c.self.inside.edges.edges = rw (← c.self.view_is) at c.requires.within in
     c.self.invariant.1 c.args.i _ within
 
-pub returns-clause-counted : goal.returns-clause-counted
-returns-clause-counted c = grind (arith, c.self.view_is)
+pub returns-clause-count : goal.returns-clause-count
+returns-clause-count c = grind (arith, c.self.view_is)
 
 pub invariant_of-self : goal.invariant_of-self
 invariant_of-self c = rw c.cross.ensures.count c.self.invariant

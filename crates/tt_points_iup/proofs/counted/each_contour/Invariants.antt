@@ -2,7 +2,7 @@ use Rattle.std.proofs.Common.{◌≡◌, ◌+◌, ◌*◌, ◌≤◌, ◌++◌, 
 use Rattle.tt_points_zones.specs.Zones.{IsPoint, AreContours}
 use Rattle.tt_points_iup.specs.Interpolation as is
 use Rattle.tt_points_iup.specs.Readings.{of_contours}
-use Rattle.tt_points_iup.proofs.interpolation.contours.Given as goal
+use Rattle.tt_points_iup.proofs.counted.each_contour.Given as goal
 
 -- the contours so far, and what is made of the others, are what is made of all
 abbrev pub invariant-loop-range : goal.invariant-loop-range
@@ -11,8 +11,8 @@ invariant-loop-range l = record {
   so_far : take l.start l.points ++ is.contours l.axis l.start (drop l.range-index l.contours) l.fn.points
       ≡ is.contours l.axis 0 l.contours l.fn.points;
   rest : drop l.start l.points ≡ drop l.start l.fn.points;
-  sound : All IsPoint l.points;
+  valid : All IsPoint l.points;
   read : l.reads + of_contours l.axis (drop l.range-index l.contours) l.fn.points
-      ≡ l.fn.reads + of_contours l.axis l.contours l.fn.points;
-  few : l.reads ≤ l.fn.reads + 3 * l.start;
+      ≡ of_contours l.axis l.contours l.fn.points;
+  few : l.reads ≤ 3 * l.start;
 }

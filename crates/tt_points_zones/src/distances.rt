@@ -1,0 +1,53 @@
+//! Distances along an axis, in 26.6 pixels. Apple TrueType Reference Manual, "Instructing TrueType Glyphs".
+
+ghost use Rattle.std.specs.Prelude.{◌≡◌, ◌<◌, ◌≤◌, ◌^◌, ◌-ℤ◌, ◌*ℤ◌, unsigned_abs};
+ghost use Rattle.tt_core.specs.Limits.{coordinate_limit};
+ghost use Rattle.tt_points_zones.specs.Points as point;
+ghost use Rattle.tt_points_zones.specs.Zones.{IsPoint};
+
+use crate::points::{cur, org};
+use tt_state::{Axis, Point};
+
+/// A distance in 26.6 pixels.
+#[derive(Clone, Copy)]
+pub struct Distance(pub i64);
+
+/// How far a coordinate lies from another.
+pub fn distance_between(from: i32, to: i32) -> Distance
+    requires from { unsigned_abs from ≤ coordinate_limit }
+    requires to { unsigned_abs to ≤ coordinate_limit }
+    ensures exact { result.0 ≡ to -ℤ from }
+    ensures few { unsigned_abs result.0 < 2 ^ 22 }
+{
+    Distance(i64::from(to) - i64::from(from))
+}
+
+/// How far a point stands from another.
+pub fn current_distance(from: Point, to: Point, axis: Axis) -> Distance
+    requires from { IsPoint from }
+    requires to { IsPoint to }
+    ensures exact { result.0 ≡ point.cur axis to -ℤ point.cur axis from }
+    ensures few { unsigned_abs result.0 < 2 ^ 22 }
+{
+    distance_between(cur(from, axis), cur(to, axis))
+}
+
+/// How far a point stood from another before the program.
+pub fn original_distance(from: Point, to: Point, axis: Axis) -> Distance
+    requires from { IsPoint from }
+    requires to { IsPoint to }
+    ensures exact { result.0 ≡ point.org axis to -ℤ point.org axis from }
+    ensures few { unsigned_abs result.0 < 2 ^ 22 }
+{
+    distance_between(org(from, axis), org(to, axis))
+}
+
+/// `a * b`.
+pub fn product(a: Distance, b: Distance) -> i64
+    requires a { unsigned_abs a.0 < 2 ^ 22 }
+    requires b { unsigned_abs b.0 < 2 ^ 22 }
+    ensures exact { result ≡ a.0 *ℤ b.0 }
+    ensures few { unsigned_abs result < 2 ^ 44 }
+{
+    a.0 * b.0
+}
