@@ -1,4 +1,4 @@
-use Rattle.std.proofs.Common.{◌<◌, ◌≤◌, ◌+◌, ◌-◌, ◌/◌, ◌^◌, refl, arith}
+use Rattle.std.proofs.Common.{◌<◌, ◌≤◌, ◌+◌, ◌-◌, ◌/◌, refl, arith}
 use Rattle.tt_cmap.specs.Ranges.{range_count, range_end, subtable_view, ends_read, most_ends, IfSegments}
 use Rattle.tt_cmap.proofs.Halves.{IsLeft, all-left, has-room, goes-on, plane-below, goes-back, found, nothing-found, few-ends, all-read}
 use Rattle.tt_cmap.proofs.ranges.Subtable.search.Goals as goal
