@@ -9,11 +9,11 @@ ghost use Rattle.tt_points_zones.specs.Zones.{IsPoint, IsZones, zones_view};
 ghost use Rattle.tt_points.specs.ControlValues as is;
 ghost use Rattle.tt_points.specs.Distances as distances;
 
-use crate::distances::{Distance, Keeping, cut_in, flipped, rounded_by, single_width, spaced_by};
-use crate::moving::{kept, original_distance, refer};
+use crate::distances::{Keeping, cut_in, flipped, given, rounded_by, single_width, spaced_by};
+use crate::moving::{kept, original_from, refer};
 use crate::twilight::{make, placed};
 use tt_core::Why;
-use tt_points_zones::{Zones, cur, direction, moved};
+use tt_points_zones::{Distance, Zones, cur, direction, moved};
 use tt_state::{Axis, GraphicsState, Point, Zone};
 
 /// Where both coordinates are 0.
@@ -113,7 +113,7 @@ pub fn miap(
 {
     let q = zones.point(state.zp0, p)?;
     let axis = direction(state)?;
-    let c = Distance::new(c);
+    let c = given(c);
     let q = placed_at(state.zp0, q, axis, c)?;
     zones.set(state.zp0, p, set_at(round, state, q, axis, c)?);
     state.rp0 = p;
@@ -180,7 +180,7 @@ fn choose_from(
 {
     let q = zones.point(state.zp1, p)?;
     let r = zones.point(state.zp0, state.rp0)?;
-    let d = mirp_distance(keeping, state, original_distance(q, r, axis), c);
+    let d = mirp_distance(keeping, state, original_from(q, r, axis), c);
     zones.set(state.zp1, p, kept(q, axis, d, r)?);
     Ok(())
 }

@@ -4,19 +4,15 @@
 ghost use Rattle.std.specs.Prelude.{◌≡◌, ◌<◌, ◌≤◌, ◌^◌, pos, ◌≤ℤ◌, unsigned_abs};
 ghost use Rattle.tt_points.specs.Distances as is;
 
+use tt_points_zones::Distance;
 use tt_state::GraphicsState;
 
-/// A distance in 26.6 pixels.
-#[derive(Clone, Copy)]
-pub(crate) struct Distance(pub(crate) i64);
-
-impl Distance {
-    pub(crate) fn new(d: i32) -> Distance
-        ensures exact { result.0 ≡ d }
-        ensures bound { unsigned_abs result.0 < 2 ^ 32 }
-    {
-        Distance(i64::from(d))
-    }
+/// A distance as the stack or the control value table has it.
+pub(crate) fn given(d: i32) -> Distance
+    ensures exact { result.0 ≡ d }
+    ensures bound { unsigned_abs result.0 < 2 ^ 32 }
+{
+    Distance(i64::from(d))
 }
 
 /// What MDRP and MIRP do with the distance that they keep, and with the point. The type of the distance, which an

@@ -10,7 +10,9 @@ ghost use Rattle.tt_points.specs.Measuring as is;
 
 use crate::twilight::settled_in;
 use tt_core::Why;
-use tt_points_zones::{Zones, cur, direction, moved, org};
+use tt_points_zones::{
+    Distance, Zones, cur, current_distance, direction, moved, org, original_distance,
+};
 use tt_state::{Axis, GraphicsState, Point};
 
 /// Which place of a point is measured.
@@ -35,22 +37,12 @@ pub fn gc(zones: &Zones, state: &GraphicsState, of: Position, p: i32) -> Result<
     }
 }
 
-fn current_distance(b: Point, a: Point, axis: Axis) -> i32
-    requires b { IsPoint b }
-    requires a { IsPoint a }
-    ensures exact { result ≡ point.cur axis b -ℤ point.cur axis a }
-    ensures bound { unsigned_abs result ≤ 2 ^ 22 }
+/// A distance as the stack holds it.
+fn stack_value(d: Distance) -> i32
+    requires { unsigned_abs d.0 < 2 ^ 22 }
+    ensures { result ≡ d.0 }
 {
-    cur(b, axis) - cur(a, axis)
-}
-
-fn original_distance(b: Point, a: Point, axis: Axis) -> i32
-    requires b { IsPoint b }
-    requires a { IsPoint a }
-    ensures exact { result ≡ point.org axis b -ℤ point.org axis a }
-    ensures bound { unsigned_abs result ≤ 2 ^ 22 }
-{
-    org(b, axis) - org(a, axis)
+    d.0 as i32
 }
 
 /// MD[a]: p2, p1 -> the distance from point p1 of zone pointer 1 to point p2 of zone pointer 0. Error: PointRange.
@@ -68,8 +60,8 @@ pub fn md(
     let a = zones.point(state.zp1, p1)?;
     let b = zones.point(state.zp0, p2)?;
     match between {
-        Position::Current => Ok(current_distance(b, a, state.proj)),
-        Position::Original => Ok(original_distance(b, a, state.proj)),
+        Position::Current => Ok(stack_value(current_distance(a, b, state.proj))),
+        Position::Original => Ok(stack_value(original_distance(a, b, state.proj))),
     }
 }
 

@@ -9,30 +9,23 @@ ghost use Rattle.tt_points_zones.specs.Points as point;
 ghost use Rattle.tt_points_zones.specs.Zones.{IsPoint, IsZones, zones_view};
 ghost use Rattle.tt_points.specs.Moving as is;
 
-use crate::distances::{Distance, Keeping, rounded_by, single_width, spaced_by};
+use crate::distances::{Keeping, given, rounded_by, single_width, spaced_by};
 use crate::twilight::make;
 use tt_core::Why;
-use tt_points_zones::{Zones, cur, direction, moved, org};
+use tt_points_zones::{
+    Distance, Zones, cur, current_distance, direction, moved, original_distance,
+};
 use tt_state::{Axis, GraphicsState, Point};
 
-/// The original distance of a point from another.
+/// The original distance of a point from a reference point.
 #[tactic(auto, unfolding(crate::specs::Moving::original_distance))]
-pub(crate) fn original_distance(q: Point, r: Point, axis: Axis) -> Distance
+pub(crate) fn original_from(q: Point, r: Point, axis: Axis) -> Distance
     requires q { IsPoint q }
     requires r { IsPoint r }
     ensures exact { result.0 ≡ is.original_distance axis q r }
     ensures bound { unsigned_abs result.0 < 2 ^ 23 }
 {
-    Distance(i64::from(org(q, axis)) - i64::from(org(r, axis)))
-}
-
-fn current_distance(q: Point, r: Point, axis: Axis) -> i64
-    requires q { IsPoint q }
-    requires r { IsPoint r }
-    ensures exact { result ≡ point.cur axis q -ℤ point.cur axis r }
-    ensures bound { unsigned_abs result < 2 ^ 23 }
-{
-    i64::from(cur(q, axis)) - i64::from(cur(r, axis))
+    original_distance(r, q, axis)
 }
 
 /// How much the distance of a point from another is short of `d`.
@@ -43,7 +36,7 @@ fn short_of(d: Distance, q: Point, r: Point, axis: Axis) -> i64
     ensures exact { result ≡ d.0 -ℤ (point.cur axis q -ℤ point.cur axis r) }
     ensures bound { unsigned_abs result < 2 ^ 34 }
 {
-    d.0 - current_distance(q, r, axis)
+    d.0 - current_distance(r, q, axis).0
 }
 
 /// A point moved so that its distance from another is `d`. Error: ValueRange.
@@ -156,7 +149,7 @@ pub fn msirp(
     zones.point(state.zp1, p)?;
     let r = zones.point(state.zp0, state.rp0)?;
     let axis = direction(state)?;
-    let d = Distance::new(d);
+    let d = given(d);
     make(zones, state.zp1, p, axis, d, r)?;
     keep_from(zones, state, p, axis, d)?;
     refer(state, set_rp0, p);
@@ -202,7 +195,7 @@ pub fn mdrp(
     let q = zones.point(state.zp1, p)?;
     let r = zones.point(state.zp0, state.rp0)?;
     let axis = direction(state)?;
-    let d = mdrp_distance(keeping, state, original_distance(q, r, axis));
+    let d = mdrp_distance(keeping, state, original_from(q, r, axis));
     zones.set(state.zp1, p, kept(q, axis, d, r)?);
     refer(state, keeping.set_rp0, p);
     Ok(())

@@ -5,9 +5,8 @@ ghost use Rattle.tt_core.specs.Outcomes.{Gives};
 ghost use Rattle.tt_points_zones.specs.Zones.{IsPoint, IsZones, zones_view};
 ghost use Rattle.tt_points.specs.Twilight as is;
 
-use crate::distances::Distance;
 use tt_core::Why;
-use tt_points_zones::{Zones, shifted};
+use tt_points_zones::{Distance, Zones, shifted};
 use tt_state::{Axis, Point, Zone};
 
 /// The place where a point stands becomes its original one.

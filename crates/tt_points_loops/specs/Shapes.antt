@@ -7,6 +7,7 @@ use Rattle.tt_state.specs.declared.graphics_state.Zone.{Zone}
 use Rattle.tt_state.specs.declared.graphics_state.Zone.TheVariants as zone
 use Rattle.tt_state.specs.declared.point.Point.{Point}
 use Rattle.tt_points_zones.specs.Points.{cur, moved, direction, point_in, points_in, with_point}
+use Rattle.tt_points_zones.specs.ZoneNumbers.{zone_of}
 use Rattle.tt_points_zones.specs.Zones.{ZoneLists, SameShape, KeepsShape, KeepsShapeBefore}
 use Rattle.tt_points_loops.specs.declared.deltas.DeltaRange.{DeltaRange}
 use Rattle.tt_points_loops.specs.declared.shifting.ReferencePoint.{ReferencePoint}
@@ -14,7 +15,7 @@ use Rattle.tt_points_loops.specs.Deltas.{delta_of, move_by, except, pairs_of}
 use Rattle.tt_points_loops.specs.Flipping.{flipped, flip, put_on, flip_range}
 use Rattle.tt_points_loops.specs.Moving.{align, in_between, interpolate, push}
 use Rattle.tt_points_loops.specs.Series.{one_by_one, looped, set_back, each_from_to}
-use Rattle.tt_points_loops.specs.Shifting.{reference_zone, reference_number, reference, follow, number_in, follow_but, shift, shift_range, follow_in, with_points, contour_in, zone_of, outline_in, shc, shz}
+use Rattle.tt_points_loops.specs.Shifting.{reference_zone, reference_number, reference, follow, number_in, follow_but, shift, shift_range, follow_in, with_points, contour_in, outline_in, shc, shz}
 use Rattle.tt_points_loops.specs.Deltas as deltas
 use Rattle.tt_points_loops.specs.Flipping as flipping
 use Rattle.tt_points_loops.specs.Moving as moving

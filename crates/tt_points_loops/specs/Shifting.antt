@@ -14,6 +14,7 @@ use Rattle.tt_state.specs.declared.graphics_state.Zone.{Zone}
 use Rattle.tt_state.specs.declared.graphics_state.Zone.TheVariants as zone
 use Rattle.tt_state.specs.declared.point.Point.{Point}
 use Rattle.tt_points_zones.specs.Points.{cur, org, shifted, moved, direction, points_in, point_in, with_point}
+use Rattle.tt_points_zones.specs.ZoneNumbers.{zone_of}
 use Rattle.tt_points_zones.specs.Zones.{ZoneLists}
 use Rattle.tt_points_loops.specs.declared.shifting.ReferencePoint.{ReferencePoint}
 use Rattle.tt_points_loops.specs.declared.shifting.ReferencePoint.TheVariants as by
@@ -104,10 +105,6 @@ end_of (Some contour) = contour.1
 
 abbrev pub contours_end : List (ℕ × ℕ) → ℕ
 contours_end contours = end_of (slice_get contours (length contours - 1))
-
-abbrev pub zone_of : ℤ → Result Zone Why
-zone_of e =
-    if int_eq e (pos 0) then Ok zone.Twilight else (if int_eq e (pos 1) then Ok zone.Glyph else Err why.ZoneRange)
 
 abbrev pub outline_in : Zone → ZoneLists → ℕ × ℕ
 outline_in zone.Twilight z = (0, length z.twilight)

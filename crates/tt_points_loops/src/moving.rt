@@ -6,46 +6,15 @@ ghost use Rattle.tt_core.specs.Outcomes.{Gives};
 ghost use Rattle.tt_points_loops.specs.Moving as is;
 ghost use Rattle.tt_points_loops.specs.Series.{one_by_one};
 ghost use Rattle.tt_points_zones.specs.Points as point;
-ghost use Rattle.tt_points_zones.specs.Points.{cur, org};
+ghost use Rattle.tt_points_zones.specs.Points.{cur};
 ghost use Rattle.tt_points_zones.specs.Zones.{IsPoint, IsZones, zones_view};
 ghost use Rattle.tt_state.specs.GraphicsState.{IsGraphicsState};
 
 use tt_core::{Why, rq};
-use tt_points_zones::{Zones, cur, direction, moved, org};
+use tt_points_zones::{
+    Distance, Zones, cur, current_distance, direction, moved, original_distance, product,
+};
 use tt_state::{Axis, GraphicsState, Point};
-
-/// A distance between two points along an axis.
-#[derive(Clone, Copy)]
-struct Distance(i64);
-
-fn between(from: i32, to: i32) -> Distance
-    requires from { unsigned_abs from < 2 ^ 21 }
-    requires to { unsigned_abs to < 2 ^ 21 }
-    ensures exact { result.0 ≡ to -ℤ from }
-    ensures bound { unsigned_abs result.0 < 2 ^ 22 }
-{
-    Distance(i64::from(to) - i64::from(from))
-}
-
-/// Between where two points stand.
-fn distance_now(a: Point, b: Point, axis: Axis) -> Distance
-    requires a { IsPoint a }
-    requires b { IsPoint b }
-    ensures exact { result.0 ≡ cur axis b -ℤ cur axis a }
-    ensures bound { unsigned_abs result.0 < 2 ^ 22 }
-{
-    between(cur(a, axis), cur(b, axis))
-}
-
-/// Between where two points stood before the program.
-fn distance_before(a: Point, b: Point, axis: Axis) -> Distance
-    requires a { IsPoint a }
-    requires b { IsPoint b }
-    ensures exact { result.0 ≡ org axis b -ℤ org axis a }
-    ensures bound { unsigned_abs result.0 < 2 ^ 22 }
-{
-    between(org(a, axis), org(b, axis))
-}
 
 /// Errors: ValueRange.
 fn moved_by(p: Point, axis: Axis, by: Distance) -> Result<Point, Why>
@@ -64,7 +33,7 @@ fn aligned(p: Point, r: Point, axis: Axis) -> Result<Point, Why>
     ensures exact { Gives (λ q. q) result (point.moved axis (cur axis r -ℤ cur axis p) p) }
     ensures valid { IfOk result IsPoint }
 {
-    moved_by(p, axis, distance_now(p, r, axis))
+    moved_by(p, axis, current_distance(p, r, axis))
 }
 
 /// A point of zp1 is moved to rp0.
@@ -108,16 +77,6 @@ pub fn alignrp(zones: &mut Zones, state: &mut GraphicsState, numbers: &[i32]) ->
     Ok(())
 }
 
-/// `a * b`.
-fn product(a: Distance, b: Distance) -> i64
-    requires a { unsigned_abs a.0 < 2 ^ 22 }
-    requires b { unsigned_abs b.0 < 2 ^ 22 }
-    ensures exact { result ≡ a.0 *ℤ b.0 }
-    ensures bound { unsigned_abs result < 2 ^ 44 }
-{
-    a.0 * b.0
-}
-
 /// A distance in the proportion in which a range was stretched; the same where the range was 0.
 fn stretched(o: Distance, range: Distance, now: Distance) -> Distance
     requires o { unsigned_abs o.0 < 2 ^ 22 }
@@ -159,9 +118,9 @@ fn interpolated(p: Point, a: Point, b: Point, axis: Axis) -> Distance
     ensures bound { unsigned_abs result.0 < 2 ^ 45 }
 {
     let from_a = stretched(
-        distance_before(a, p, axis),
-        distance_before(a, b, axis),
-        distance_now(a, b, axis),
+        original_distance(a, p, axis),
+        original_distance(a, b, axis),
+        current_distance(a, b, axis),
     );
     sum(cur(a, axis), from_a)
 }

@@ -11,7 +11,7 @@ ghost use Rattle.tt_state.specs.GraphicsState.{IsGraphicsState};
 ghost use Rattle.tt_state.specs.declared.graphics_state.Zone.TheVariants as zone;
 
 use tt_core::Why;
-use tt_points_zones::{Zones, cur, direction, moved, org, shifted};
+use tt_points_zones::{Zones, cur, direction, moved, org, shifted, zone_of};
 use tt_state::{Axis, GraphicsState, Point, Zone};
 
 /// Which reference point others follow.
@@ -351,16 +351,6 @@ fn contours_end(contours: &[(u32, u32)]) -> usize
     match contours.last() {
         Some(contour) => contour.1 as usize,
         None => 0,
-    }
-}
-
-fn zone_of(e: i32) -> Result<Zone, Why>
-    ensures { Gives (λ zone. zone) result (is.zone_of e) }
-{
-    match e {
-        0 => Ok(Zone::Twilight),
-        1 => Ok(Zone::Glyph),
-        _ => Err(Why::ZoneRange),
     }
 }
 

@@ -11,7 +11,7 @@ returns-in_err-make-clause-exact c =
     let rp0 : SFits w32 c.args.state.now.rp0 = search rules in
     let q = simp to_z-of_z at c.in_ok-point.ensures.exact in
     let r = simp to_z-of_z at c.in_ok-r.ensures.exact in
-    let d = simp to_z-of_z at c.new-d.ensures.exact in
+    let d = simp to_z-of_z at c.given-d.ensures.exact in
     let made = rw d at (simp to_z-of_z at c.in_err-make.ensures.exact) in
     rw (msirp, q, r, c.in_ok-axis.ensures, made) (search rules)
 
@@ -23,7 +23,7 @@ returns-in_err-keep_from-clause-exact c =
     let rp0 : SFits w32 c.args.state.now.rp0 = search rules in
     let q = simp to_z-of_z at c.in_ok-point.ensures.exact in
     let r = simp to_z-of_z at c.in_ok-r.ensures.exact in
-    let d = simp to_z-of_z at c.new-d.ensures.exact in
+    let d = simp to_z-of_z at c.given-d.ensures.exact in
     let made = rw d at (simp to_z-of_z at c.in_ok-make.ensures.exact) in
     let kept = rw d at (simp to_z-of_z at c.in_err-keep_from.ensures.exact) in
     rw (msirp, q, r, c.in_ok-axis.ensures, made, kept) (search rules)

@@ -9,7 +9,7 @@ returns-clause-exact c =
     sum ∙ rw (
       c.cur.ensures.exact,
       c.stretched-from_a.ensures.exact,
-      c.distance_before.ensures.exact,
-      c.distance_before-2.ensures.exact,
-      c.distance_now.ensures.exact,
+      c.original_distance.ensures.exact,
+      c.original_distance-2.ensures.exact,
+      c.current_distance.ensures.exact,
     ) refl
