@@ -99,7 +99,7 @@ impl<'a> Machine<'a> {
             return Err(ExecFault::Failed);
         }
         laws::sizes_are_kept();
-        self.state.points.are_sound();
+        self.state.points.are_valid();
         self.state.begin(code, kind_of(code.table));
         match self.state.go() {
             Ok(steps) => Ok(steps),

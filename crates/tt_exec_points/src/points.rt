@@ -32,7 +32,7 @@ impl Points {
 
     /// Does nothing: its clause tells what holds of all points that a machine has.
     #[inline(always)]
-    pub fn are_sound(&self)
+    pub fn are_valid(&self)
         ensures { IsZones self.now }
     {
         let _ = &self.zones;
@@ -40,7 +40,7 @@ impl Points {
 
     pub fn into_zones(self) -> Zones
         ensures exact { zones_view result ≡ self }
-        ensures sound { IsZones (zones_view result) }
+        ensures valid { IsZones (zones_view result) }
     {
         self.zones
     }

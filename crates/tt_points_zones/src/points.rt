@@ -56,7 +56,7 @@ pub fn put(p: Point, axis: Axis, v: i64) -> Point
     requires point { IsPoint p }
     requires limit { unsigned_abs v ≤ coordinate_limit }
     ensures exact { result ≡ is.put axis v p }
-    ensures sound { IsPoint result }
+    ensures valid { IsPoint result }
 {
     match axis {
         Axis::X => Point { x: v as i32, ..p },
@@ -67,7 +67,7 @@ pub fn put(p: Point, axis: Axis, v: i64) -> Point
 fn touch(p: Point, axis: Axis) -> Point
     requires { IsPoint p }
     ensures exact { result ≡ is.touch axis p }
-    ensures sound { IsPoint result }
+    ensures valid { IsPoint result }
 {
     match axis {
         Axis::X => Point {
@@ -95,7 +95,7 @@ pub fn shifted(p: Point, axis: Axis, d: i64) -> Result<Point, Why>
     requires point { IsPoint p }
     requires small { unsigned_abs d < 2 ^ 60 }
     ensures exact { Gives (λ q. q) result (is.shifted axis d p) }
-    ensures sound { IfOk result IsPoint }
+    ensures valid { IfOk result IsPoint }
 {
     let to = further(p, axis, d);
     if !is_coordinate(to) {
@@ -109,7 +109,7 @@ pub fn moved(p: Point, axis: Axis, d: i64) -> Result<Point, Why>
     requires point { IsPoint p }
     requires small { unsigned_abs d < 2 ^ 60 }
     ensures exact { Gives (λ q. q) result (is.moved axis d p) }
-    ensures sound { IfOk result IsPoint }
+    ensures valid { IfOk result IsPoint }
 {
     Ok(touch(shifted(p, axis, d)?, axis))
 }

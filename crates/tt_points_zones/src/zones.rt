@@ -35,7 +35,7 @@ impl Zones {
     fn points(&self, zone: Zone) -> &[Point]
         requires { IsZones (zones_view self.now) }
         ensures exact { result.now ≡ points_in zone (zones_view self.now) }
-        ensures sound { All IsPoint result.now }
+        ensures valid { All IsPoint result.now }
     {
         match zone {
             Zone::Twilight => &self.twilight,
@@ -47,7 +47,7 @@ impl Zones {
     pub fn point(&self, zone: Zone, n: i32) -> Result<Point, Why>
         requires { IsZones (zones_view self.now) }
         ensures exact { Gives (λ p. p) result (point_in zone n (zones_view self.now)) }
-        ensures sound { IfOk result IsPoint }
+        ensures valid { IfOk result IsPoint }
         ensures there { IfOk result (λ p. HasPoint zone n (zones_view self.now)) }
     {
         point_at(self.points(zone), n)
@@ -59,7 +59,7 @@ impl Zones {
         requires there { HasPoint zone n (zones_view self.old) }
         requires point { IsPoint p }
         ensures exact { zones_view self.new ≡ with_point zone n p (zones_view self.old) }
-        ensures sound { IsZones (zones_view self.new) }
+        ensures valid { IsZones (zones_view self.new) }
     {
         match zone {
             Zone::Twilight => set_at(&mut self.twilight, n, p),
@@ -72,7 +72,7 @@ impl Zones {
 fn point_at(points: &[Point], n: i32) -> Result<Point, Why>
     requires { All IsPoint points.now }
     ensures exact { Gives (λ p. p) result (is.point_at n points.now) }
-    ensures sound { IfOk result IsPoint }
+    ensures valid { IfOk result IsPoint }
     ensures sign { IfOk result (λ p. pos 0 ≤ℤ n) }
     ensures within { IfOk result (λ p. unsigned_abs n < length points.now) }
 {
@@ -88,7 +88,7 @@ fn set_at(points: &mut [Point], n: i32, p: Point)
     requires within { unsigned_abs n < length points.old }
     requires point { IsPoint p }
     ensures exact { points.new ≡ slice_set points.old (unsigned_abs n) p }
-    ensures sound { All IsPoint points.new }
+    ensures valid { All IsPoint points.new }
     ensures count { length points.new ≡ length points.old }
 {
     points[n as usize] = p;

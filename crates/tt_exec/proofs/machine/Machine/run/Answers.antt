@@ -22,7 +22,7 @@ pub returns-in-Ok-clause-shape : goal.returns-in-Ok-clause-shape
 returns-in-Ok-clause-shape c =
     let from : state_of c.begin.new.self ≡ run_from (code_of c.args.code) c.args.self.now.state =
     rw (c.begin.ensures, c.kind_of.ensures, sym c.self.view_is) refl in
-    let has : HasContours c.args.self.now.state.zones = rw (sym c.self.view_is) c.are_sound.ensures.contours in
+    let has : HasContours c.args.self.now.state.zones = rw (sym c.self.view_is) c.are_valid.ensures.contours in
     c.sizes_are_kept.ensures.shape (run_from (code_of c.args.code) c.args.self.now.state)
     (state_of c.go.new.self) c.in-Ok.steps has (rw from at c.in-Ok.ensures.ends)
 
@@ -30,7 +30,7 @@ pub returns-in-Ok-clause-sizes : goal.returns-in-Ok-clause-sizes
 returns-in-Ok-clause-sizes c =
     let from : state_of c.begin.new.self ≡ run_from (code_of c.args.code) c.args.self.now.state =
     rw (c.begin.ensures, c.kind_of.ensures, sym c.self.view_is) refl in
-    let has : HasContours c.args.self.now.state.zones = rw (sym c.self.view_is) c.are_sound.ensures.contours in
+    let has : HasContours c.args.self.now.state.zones = rw (sym c.self.view_is) c.are_valid.ensures.contours in
     let same =
     c.sizes_are_kept.ensures.sizes (run_from (code_of c.args.code) c.args.self.now.state)
     (state_of c.go.new.self) c.in-Ok.steps has (rw from at c.in-Ok.ensures.ends) in
