@@ -15,7 +15,9 @@ pub(crate) struct Point {
 /// How far a glyph stands from where its outline has it, in 26.6.
 #[derive(Clone, Copy)]
 pub(crate) struct Offset {
+    /// Rightwards.
     pub(crate) dx: i64,
+    /// Upwards.
     pub(crate) dy: i64,
 }
 

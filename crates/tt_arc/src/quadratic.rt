@@ -35,30 +35,6 @@ pub(crate) struct Quadratic {
     pub(crate) to: CurveEnd,
 }
 
-/// An end of an edge, in 1/8192 pixel.
-#[derive(Clone, Copy)]
-pub(crate) struct EdgeEnd {
-    pub(crate) x: i64,
-    pub(crate) y: i64,
-}
-
-/// The coordinates of a quadratic along one axis: of its ends in 1/128 pixel, of its control point in 26.6.
-#[derive(Clone, Copy)]
-struct Coordinates {
-    from: i64,
-    control: i64,
-    to: i64,
-}
-
-/// Where a chord ends along one axis, how far it is from there to the end of the next chord, and how much further to
-/// the end of the one after it: in 1/8192 pixel.
-#[derive(Clone, Copy)]
-struct Differences {
-    value: i64,
-    first: i64,
-    second: i64,
-}
-
 /// The end that the quadratic of a point off the curve has towards a neighbour: the neighbour, or where that is off the
 /// curve too the point midway.
 #[inline(always)]
@@ -97,6 +73,17 @@ pub(crate) fn quadratic_of(before: Point, p: Point, after: Point) -> Quadratic
     }
 }
 
+/// The coordinates of a quadratic along one axis.
+#[derive(Clone, Copy)]
+struct Coordinates {
+    /// Where it begins, in 1/128 pixel.
+    from: i64,
+    /// Of its control point, in 26.6.
+    control: i64,
+    /// Where it ends, in 1/128 pixel.
+    to: i64,
+}
+
 /// The coordinates of a quadratic along x.
 #[inline(always)]
 fn along_x(curve: Quadratic) -> Coordinates
@@ -119,6 +106,15 @@ fn along_y(curve: Quadratic) -> Coordinates
         control: curve.control.y,
         to: curve.to.y,
     }
+}
+
+/// Where a chord ends along one axis, how far it is from there to the end of the next chord, and how much further to
+/// the end of the one after it: in 1/8192 pixel.
+#[derive(Clone, Copy)]
+struct Differences {
+    value: i64,
+    first: i64,
+    second: i64,
 }
 
 /// The coordinate and the differences where a quadratic begins.
@@ -150,6 +146,15 @@ fn next(s: Differences) -> Differences
         first: s.first + s.second,
         second: s.second,
     }
+}
+
+/// An end of an edge, in 1/8192 pixel.
+#[derive(Clone, Copy)]
+pub(crate) struct EdgeEnd {
+    /// Rightwards from the left edge of the picture.
+    pub(crate) x: i64,
+    /// Upwards from the base line.
+    pub(crate) y: i64,
 }
 
 /// Where a chord ends.

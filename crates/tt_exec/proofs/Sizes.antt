@@ -19,7 +19,7 @@ use Rattle.tt_exec_stack.specs.Pushing.{pushed_bytes, pushed_words}
 use Rattle.tt_exec_state.specs.Queries.{answered}
 use Rattle.tt_exec_state.specs.Settings.{state_set}
 use Rattle.tt_exec_state.specs.Vectors.{vectors_accessed}
-use Rattle.tt_exec_state.specs.declared.stored_values.StoredValues.{StoredValues}
+use Rattle.tt_exec_state.specs.declared.instruction.StoredValues.{StoredValues}
 use Rattle.tt_core.specs.Limits.{call_limit}
 use Rattle.tt_exec.specs.Flags.{flagged, instctrl}
 use Rattle.tt_exec.specs.Flow.{goes_to, skipped, jumped, if_from, jmpr, jrot, jrof}

@@ -3,13 +3,13 @@
 use Rattle.std.specs.Prelude.{◌≡◌, ℕ, zero, suc, ◌/◌, ◌%◌, ◌==◌, nat_lt, Bool, true, false, if◌then◌else◌, List, [], ◌∷◌, refl}
 use Rattle.tt_state.specs.declared.graphics_state.Axis.TheVariants as axis
 use Rattle.tt_state.specs.declared.rounding.Round.TheVariants as round
-use Rattle.tt_exec_stack.specs.declared.arithmetic.Arithmetic.TheVariants as arithmetic
-use Rattle.tt_exec_stack.specs.declared.logic.Logic.TheVariants as logic
-use Rattle.tt_exec_stack.specs.declared.managing.Managing.TheVariants as managing
-use Rattle.tt_exec_state.specs.declared.stored_values.StoredValues.TheVariants as places
-use Rattle.tt_exec_state.specs.declared.queries.Query.TheVariants as query
-use Rattle.tt_exec_state.specs.declared.settings.Setting.TheVariants as setting
-use Rattle.tt_exec_state.specs.declared.vectors.Vectors.TheVariants as vectors
+use Rattle.tt_exec_stack.specs.declared.instruction.Arithmetic.TheVariants as arithmetic
+use Rattle.tt_exec_stack.specs.declared.instruction.Logic.TheVariants as logic
+use Rattle.tt_exec_stack.specs.declared.instruction.Managing.TheVariants as managing
+use Rattle.tt_exec_state.specs.declared.instruction.StoredValues.TheVariants as places
+use Rattle.tt_exec_state.specs.declared.instruction.Query.TheVariants as query
+use Rattle.tt_exec_state.specs.declared.instruction.Setting.TheVariants as setting
+use Rattle.tt_exec_state.specs.declared.instruction.Vectors.TheVariants as vectors
 use Rattle.tt_code.specs.Decoding.{takes_data}
 use Rattle.tt_points.specs.Distances.{keeping}
 use Rattle.tt_points.specs.declared.distances.Keeping.{Keeping}

@@ -1,12 +1,12 @@
 -- No part of the standard: an instruction, by the family whose file defines it. Each family's variants are in the
 -- manual's names.
-use Rattle.tt_exec_stack.specs.declared.arithmetic.Arithmetic.{Arithmetic}
-use Rattle.tt_exec_stack.specs.declared.logic.Logic.{Logic}
-use Rattle.tt_exec_stack.specs.declared.managing.Managing.{Managing}
-use Rattle.tt_exec_state.specs.declared.stored_values.StoredValues.{StoredValues}
-use Rattle.tt_exec_state.specs.declared.queries.Query.{Query}
-use Rattle.tt_exec_state.specs.declared.settings.Setting.{Setting}
-use Rattle.tt_exec_state.specs.declared.vectors.Vectors.{Vectors}
+use Rattle.tt_exec_stack.specs.declared.instruction.Arithmetic.{Arithmetic}
+use Rattle.tt_exec_stack.specs.declared.instruction.Logic.{Logic}
+use Rattle.tt_exec_stack.specs.declared.instruction.Managing.{Managing}
+use Rattle.tt_exec_state.specs.declared.instruction.StoredValues.{StoredValues}
+use Rattle.tt_exec_state.specs.declared.instruction.Query.{Query}
+use Rattle.tt_exec_state.specs.declared.instruction.Setting.{Setting}
+use Rattle.tt_exec_state.specs.declared.instruction.Vectors.{Vectors}
 use Rattle.tt_exec_points.specs.declared.instruction.PointInstruction.{PointInstruction}
 
 pub data Operation : Type 0 where

@@ -7,8 +7,8 @@ use Rattle.tt_core.specs.declared.fault.Why.{Why}
 use Rattle.tt_core.specs.declared.fault.Why.TheVariants as why
 use Rattle.tt_state.specs.declared.rounding.Round.{Round}
 use Rattle.tt_state.specs.Rounding.{rounded}
-use Rattle.tt_exec_stack.specs.declared.arithmetic.Arithmetic.{Arithmetic}
-use Rattle.tt_exec_stack.specs.declared.arithmetic.Arithmetic.TheVariants as op
+use Rattle.tt_exec_stack.specs.declared.instruction.Arithmetic.{Arithmetic}
+use Rattle.tt_exec_stack.specs.declared.instruction.Arithmetic.TheVariants as op
 use Rattle.tt_exec_stack.specs.Stack.{pushed}
 
 -- a / b, cut toward zero (profile)

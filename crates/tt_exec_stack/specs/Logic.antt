@@ -8,8 +8,8 @@ use Rattle.tt_core.specs.declared.fault.Why.TheVariants as why
 use Rattle.tt_state.specs.declared.rounding.Round.{Round}
 use Rattle.tt_state.specs.declared.rounding.Round.TheVariants as round
 use Rattle.tt_state.specs.Rounding.{rounded}
-use Rattle.tt_exec_stack.specs.declared.logic.Logic.{Logic}
-use Rattle.tt_exec_stack.specs.declared.logic.Logic.TheVariants as op
+use Rattle.tt_exec_stack.specs.declared.instruction.Logic.{Logic}
+use Rattle.tt_exec_stack.specs.declared.instruction.Logic.TheVariants as op
 use Rattle.tt_exec_stack.specs.Stack.{pushed}
 
 abbrev pub truth : Bool → ℤ

@@ -3,8 +3,8 @@ use Rattle.std.specs.Prelude.{◌≡◌, ◌-◌, ℤ, pos, unsigned_abs, List, 
 use Rattle.tt_core.specs.Outcomes.{◌>>=◌}
 use Rattle.tt_core.specs.declared.fault.Why.{Why}
 use Rattle.tt_core.specs.declared.fault.Why.TheVariants as why
-use Rattle.tt_exec_stack.specs.declared.managing.Managing.{Managing}
-use Rattle.tt_exec_stack.specs.declared.managing.Managing.TheVariants as op
+use Rattle.tt_exec_stack.specs.declared.instruction.Managing.{Managing}
+use Rattle.tt_exec_stack.specs.declared.instruction.Managing.TheVariants as op
 use Rattle.tt_exec_stack.specs.Stack.{kth, pushed}
 
 abbrev pub dup : List ℤ → Result (List ℤ) Why

@@ -4,26 +4,10 @@ ghost use Rattle.std.specs.Prelude.{◌≡◌, ◌≢◌, ◌^◌, ◌<◌, ◌�
 ghost use Rattle.tt_exec_stack.specs.Stack.{Does};
 ghost use Rattle.tt_exec_stack.specs.Arithmetic as is;
 
+use crate::instruction::Arithmetic;
 use crate::stack::Stack;
 use tt_core::Why;
 use tt_state::Round;
-
-/// The instructions that compute.
-#[derive(Clone, Copy)]
-pub enum Arithmetic {
-    Add,
-    Sub,
-    Div,
-    Mul,
-    Abs,
-    Neg,
-    Floor,
-    Ceiling,
-    Round,
-    Nround,
-    Max,
-    Min,
-}
 
 /// ADD[], 0x60: a, b -> a + b.
 fn add(stack: &mut Stack) -> Result<(), Why>

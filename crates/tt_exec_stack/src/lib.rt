@@ -3,13 +3,15 @@
 #![tactic(auto)]
 
 mod arithmetic;
+mod instruction;
 mod logic;
 mod managing;
 mod pushing;
 mod stack;
 
-pub use arithmetic::{Arithmetic, compute};
-pub use logic::{Logic, evaluate};
-pub use managing::{Managing, manage};
+pub use arithmetic::compute;
+pub use instruction::{Arithmetic, Logic, Managing};
+pub use logic::evaluate;
+pub use managing::manage;
 pub use pushing::{push_bytes, push_words};
 pub use stack::Stack;

@@ -4,25 +4,10 @@ ghost use Rattle.std.specs.Prelude.{◌≡◌, ◌^◌, ◌<◌, unsigned_abs};
 ghost use Rattle.tt_exec_stack.specs.Stack.{Does};
 ghost use Rattle.tt_exec_stack.specs.Logic as is;
 
+use crate::instruction::Logic;
 use crate::stack::Stack;
 use tt_core::Why;
 use tt_state::Round;
-
-/// The instructions whose answer is 1 for true or 0 for false.
-#[derive(Clone, Copy)]
-pub enum Logic {
-    Lt,
-    Lteq,
-    Gt,
-    Gteq,
-    Eq,
-    Neq,
-    Odd,
-    Even,
-    And,
-    Or,
-    Not,
-}
 
 fn truth(holds: bool) -> i64
     ensures { result ≡ is.truth holds }

@@ -3,21 +3,9 @@
 ghost use Rattle.tt_exec_stack.specs.Stack.{Does};
 ghost use Rattle.tt_exec_stack.specs.Managing as is;
 
+use crate::instruction::Managing;
 use crate::stack::Stack;
 use tt_core::Why;
-
-/// The instructions that manage the stack.
-#[derive(Clone, Copy)]
-pub enum Managing {
-    Dup,
-    Pop,
-    Clear,
-    Swap,
-    Depth,
-    Cindex,
-    Mindex,
-    Roll,
-}
 
 /// DUP[], 0x20: e -> e, e.
 fn dup(stack: &mut Stack) -> Result<(), Why>

@@ -5,8 +5,8 @@ use Rattle.tt_core.specs.declared.fault.Why.{Why}
 use Rattle.tt_core.specs.declared.fault.Why.TheVariants as why
 use Rattle.tt_exec_state.specs.StoredValues.{place, ws, rs, wcvtp, wcvtf, rcvt, values_accessed}
 use Rattle.tt_exec_state.specs.Size.{in_pixels}
-use Rattle.tt_exec_state.specs.declared.stored_values.StoredValues.{StoredValues}
-use Rattle.tt_exec_state.specs.declared.stored_values.StoredValues.TheVariants as op
+use Rattle.tt_exec_state.specs.declared.instruction.StoredValues.{StoredValues}
+use Rattle.tt_exec_state.specs.declared.instruction.StoredValues.TheVariants as op
 
 -- what holds whatever comes first holds after it
 after : {A B : Type 0} (P : B → Type 0) (r : Result A Why) (f : A → Result B Why) → ((x : A) → IfOk (f x) P)

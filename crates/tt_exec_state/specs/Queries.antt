@@ -5,8 +5,8 @@ use Rattle.std.specs.Int.{int_rem_euclid}
 use Rattle.std.specs.Ordering.{int_eq}
 use Rattle.tt_core.specs.declared.fault.Why.{Why}
 use Rattle.tt_core.specs.declared.fault.Why.TheVariants as why
-use Rattle.tt_exec_state.specs.declared.queries.Query.{Query}
-use Rattle.tt_exec_state.specs.declared.queries.Query.TheVariants as op
+use Rattle.tt_exec_state.specs.declared.instruction.Query.{Query}
+use Rattle.tt_exec_state.specs.declared.instruction.Query.TheVariants as op
 use Rattle.tt_exec_stack.specs.Stack.{pushed}
 
 abbrev pub mppem : ℕ → List ℤ → Result (List ℤ) Why

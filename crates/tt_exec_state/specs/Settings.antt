@@ -1,7 +1,6 @@
 -- Apple TrueType Reference Manual, "Instruction set": managing the graphics state. The top of the stack stands first.
 use Rattle.std.specs.Prelude.{◌≡◌, ℕ, ℤ, pos, int_lt, unsigned_abs, Bool, ◌||◌, if◌then◌else◌, List, [], ◌∷◌, Result, Ok, Err, refl}
 use Rattle.std.specs.Int.{int_rem_euclid}
-use Rattle.std.specs.Ordering.{int_eq}
 use Rattle.tt_core.specs.Outcomes.{◌>>=◌}
 use Rattle.tt_core.specs.declared.fault.Why.{Why}
 use Rattle.tt_core.specs.declared.fault.Why.TheVariants as why
@@ -10,8 +9,8 @@ use Rattle.tt_state.specs.declared.rounding.Round.{Round}
 use Rattle.tt_state.specs.GraphicsState.{default_state}
 use Rattle.tt_state.specs.Rounding.{super_state}
 use Rattle.tt_points_zones.specs.ZoneNumbers.{zone_of}
-use Rattle.tt_exec_state.specs.declared.settings.Setting.{Setting}
-use Rattle.tt_exec_state.specs.declared.settings.Setting.TheVariants as op
+use Rattle.tt_exec_state.specs.declared.instruction.Setting.{Setting}
+use Rattle.tt_exec_state.specs.declared.instruction.Setting.TheVariants as op
 use Rattle.tt_exec_state.specs.Size.{in_pixels}
 
 -- what a setting leaves, or its refusal

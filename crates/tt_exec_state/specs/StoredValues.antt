@@ -4,8 +4,8 @@ use Rattle.std.specs.Prelude.{◌≡◌, ℕ, ℤ, pos, int_lt, unsigned_abs, �
 use Rattle.tt_core.specs.Outcomes.{◌>>=◌}
 use Rattle.tt_core.specs.declared.fault.Why.{Why}
 use Rattle.tt_core.specs.declared.fault.Why.TheVariants as why
-use Rattle.tt_exec_state.specs.declared.stored_values.StoredValues.{StoredValues}
-use Rattle.tt_exec_state.specs.declared.stored_values.StoredValues.TheVariants as op
+use Rattle.tt_exec_state.specs.declared.instruction.StoredValues.{StoredValues}
+use Rattle.tt_exec_state.specs.declared.instruction.StoredValues.TheVariants as op
 use Rattle.tt_exec_state.specs.Size.{in_pixels}
 use Rattle.tt_exec_stack.specs.Stack.{pushed}
 

@@ -8,8 +8,8 @@ use Rattle.tt_core.specs.declared.fault.Why.TheVariants as why
 use Rattle.tt_state.specs.declared.graphics_state.Axis.{Axis}
 use Rattle.tt_state.specs.declared.graphics_state.Axis.TheVariants as axis
 use Rattle.tt_state.specs.declared.graphics_state.GraphicsState.{GraphicsState}
-use Rattle.tt_exec_state.specs.declared.vectors.Vectors.{Vectors}
-use Rattle.tt_exec_state.specs.declared.vectors.Vectors.TheVariants as op
+use Rattle.tt_exec_state.specs.declared.instruction.Vectors.{Vectors}
+use Rattle.tt_exec_state.specs.declared.instruction.Vectors.TheVariants as op
 use Rattle.tt_exec_stack.specs.Stack.{pushed}
 
 -- the axis of a unit vector, in 2.14

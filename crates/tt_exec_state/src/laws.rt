@@ -2,7 +2,7 @@
 
 ghost use Rattle.std.specs.Prelude.{◌≡◌, ℕ, ℤ, List, length, IfOk};
 ghost use Rattle.tt_exec_state.specs.StoredValues.{values_accessed};
-ghost use Rattle.tt_exec_state.specs.declared.stored_values.StoredValues.{StoredValues};
+ghost use Rattle.tt_exec_state.specs.declared.instruction.StoredValues.{StoredValues};
 
 /// Takes nothing and gives nothing: no instruction makes or drops a place of the storage area or a control value.
 pub fn sizes_are_kept()

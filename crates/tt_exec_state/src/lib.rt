@@ -4,6 +4,7 @@
 #![tactic(auto)]
 
 mod graphics;
+mod instruction;
 pub mod laws;
 mod queries;
 mod settings;
@@ -12,8 +13,9 @@ mod stored_values;
 mod vectors;
 
 pub use graphics::Graphics;
-pub use queries::{Query, answer};
-pub use settings::{Setting, set_state};
+pub use instruction::{Query, Setting, StoredValues, Vectors};
+pub use queries::answer;
+pub use settings::set_state;
 pub use size::Size;
-pub use stored_values::{StoredValues, access_values};
-pub use vectors::{Vectors, access_vectors};
+pub use stored_values::access_values;
+pub use vectors::access_vectors;

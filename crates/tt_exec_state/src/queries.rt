@@ -4,17 +4,10 @@ ghost use Rattle.std.specs.Prelude.{◌≡◌};
 ghost use Rattle.tt_exec_stack.specs.Stack.{Does};
 ghost use Rattle.tt_exec_state.specs.Queries as is;
 
+use crate::instruction::Query;
 use crate::size::Size;
 use tt_core::Why;
 use tt_exec_stack::Stack;
-
-/// The instructions that ask for the size or the engine.
-#[derive(Clone, Copy)]
-pub enum Query {
-    Mppem,
-    Mps,
-    Getinfo,
-}
 
 /// MPPEM[], 0x4B: -> pixels per em.
 fn mppem(size: Size, stack: &mut Stack) -> Result<(), Why>

@@ -6,34 +6,12 @@ ghost use Rattle.tt_exec_stack.specs.Stack.{Does};
 ghost use Rattle.tt_exec_state.specs.Settings as is;
 
 use crate::graphics::Graphics;
+use crate::instruction::Setting;
 use crate::size::Size;
 use tt_core::Why;
 use tt_exec_stack::Stack;
 use tt_points_zones::zone_of;
 use tt_state::{GraphicsState, Round};
-
-/// The instructions that set a variable of the graphics state.
-#[derive(Clone, Copy)]
-pub enum Setting {
-    Srp0,
-    Srp1,
-    Srp2,
-    Szp0,
-    Szp1,
-    Szp2,
-    Szps,
-    Sloop,
-    RoundTo(Round),
-    Sround,
-    Smd,
-    Scvtci,
-    Sswci,
-    Ssw,
-    Flip(bool),
-    Sdb,
-    Sds,
-    Ignored,
-}
 
 /// SRP0[], 0x10: p -> reference point 0, which is tested where it is used.
 fn srp0(stack: &mut Stack, graphics: &mut Graphics) -> Result<(), Why>

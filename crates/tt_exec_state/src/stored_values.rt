@@ -5,19 +5,10 @@ ghost use Rattle.tt_core.specs.Outcomes.{Gives};
 ghost use Rattle.tt_exec_stack.specs.Stack.{Does};
 ghost use Rattle.tt_exec_state.specs.StoredValues as is;
 
+use crate::instruction::StoredValues;
 use crate::size::Size;
 use tt_core::Why;
 use tt_exec_stack::Stack;
-
-/// The instructions that write and read the storage area and the control values.
-#[derive(Clone, Copy)]
-pub enum StoredValues {
-    Ws,
-    Rs,
-    Wcvtp,
-    Wcvtf,
-    Rcvt,
-}
 
 /// `n` as an index below `len`. Error: `why`, where it is none.
 fn place(n: i32, len: usize, why: Why) -> Result<usize, Why>

@@ -7,22 +7,10 @@ ghost use Rattle.tt_exec_stack.specs.Stack.{Does};
 ghost use Rattle.tt_exec_state.specs.Vectors as is;
 
 use crate::graphics::Graphics;
+use crate::instruction::Vectors;
 use tt_core::Why;
 use tt_exec_stack::Stack;
 use tt_state::{Axis, GraphicsState};
-
-/// The instructions that set or tell the projection and the freedom vector.
-#[derive(Clone, Copy)]
-pub enum Vectors {
-    Svtca(Axis),
-    Spvtca(Axis),
-    Sfvtca(Axis),
-    Spvfs,
-    Sfvfs,
-    Gpv,
-    Gfv,
-    Sfvtpv,
-}
 
 /// SVTCA[a], 0x00 and 0x01: both vectors along y, x.
 fn svtca(axis: Axis, graphics: &mut Graphics)

@@ -93,10 +93,7 @@ impl<'a> GlyphBytes<'a> {
         ensures room { IfOk result (λ n. at + 2 ≤ length self.now.bytes) }
         ensures limit { length self.now.bytes ≤ font_limit }
     {
-        match u16_at(self.bytes, at) {
-            Some(n) => Ok(n),
-            None => Err(self.short()),
-        }
+        u16_at(self.bytes, at).ok_or(self.short())
     }
 
     /// Error: GlyphShort.
@@ -107,10 +104,7 @@ impl<'a> GlyphBytes<'a> {
         ensures room { IfOk result (λ n. at + 2 ≤ length self.now.bytes) }
         ensures limit { length self.now.bytes ≤ font_limit }
     {
-        match i16_at(self.bytes, at) {
-            Some(n) => Ok(n),
-            None => Err(self.short()),
-        }
+        i16_at(self.bytes, at).ok_or(self.short())
     }
 
     /// So many bytes from a place on. Error: GlyphShort.

@@ -126,7 +126,9 @@ fn coordinate_at(
 /// The coordinates of all points along one axis, and the place after their deltas.
 #[derive(Drop)]
 pub(crate) struct Coordinates {
+    /// One for each point, in font units.
     pub(crate) values: Vec<i16>,
+    /// Where the next list of the glyph begins.
     pub(crate) next: usize,
 }
 

@@ -60,6 +60,15 @@ pub(crate) fn has_flag(flags: u8, flag: PointFlags) -> bool
     PointFlags::from_bits_retain(flags).contains(flag)
 }
 
+/// The flags of all points, and the place after them.
+#[derive(Drop)]
+pub(crate) struct FlagList {
+    /// One for each point: a repeated flag stands here as often as it holds.
+    pub(crate) flags: Vec<u8>,
+    /// Where the x coordinates begin in the glyph.
+    pub(crate) next: usize,
+}
+
 /// A flag and its count, two bytes, stand for at most 256 points.
 const POINTS_A_BYTE: usize = 128;
 
@@ -111,13 +120,6 @@ fn push_copies(flags: &mut Vec<u8>, flag: u8, n: usize) -> Result<(), AllocError
     }
     flags.resize(flags.len() + n, flag)?;
     Ok(())
-}
-
-/// The flags of all points, and the place after them.
-#[derive(Drop)]
-pub(crate) struct FlagList {
-    pub(crate) flags: Vec<u8>,
-    pub(crate) next: usize,
 }
 
 /// Errors: GlyphShort, FlagRun, Memory.

@@ -11,7 +11,7 @@ use Rattle.tt_state.specs.declared.graphics_state.GraphicsState.{GraphicsState}
 use Rattle.tt_state.specs.declared.point.Point.{Point}
 use Rattle.tt_state.specs.GraphicsState.{default_state}
 use Rattle.tt_points_zones.specs.Zones.{ZoneLists}
-use Rattle.tt_points_zones.specs.Points.{cur, org, direction, moved, point_in, with_point}
+use Rattle.tt_points_zones.specs.Points.{cur, org, direction, marked, moved, point_in, with_point}
 use Rattle.tt_points.specs.declared.measuring.Position.{Position}
 use Rattle.tt_points.specs.declared.measuring.Position.TheVariants as position
 use Rattle.tt_points.specs.Twilight.{settled_in, origin}
@@ -35,13 +35,9 @@ unfoldable pub scfs : ℤ → ℤ → ZoneLists → GraphicsState → Result Zon
 scfs p v z g = point_in g.zp2 p z >>= λ q. direction g >>= λ axis. moved axis (v -ℤ cur axis q) q >>= λ m.
     Ok (with_point g.zp2 p (settled_in g.zp2 m) z)
 
-abbrev pub untouched : Axis → Point → Point
-untouched axis.X p = record p { touched_x = false }
-untouched axis.Y p = record p { touched_y = false }
-
 -- along the freedom vector
 unfoldable pub utp : ℤ → ZoneLists → GraphicsState → Result ZoneLists Why
-utp p z g = point_in g.zp0 p z >>= λ q. Ok (with_point g.zp0 p (untouched g.free q) z)
+utp p z g = point_in g.zp0 p z >>= λ q. Ok (with_point g.zp0 p (marked g.free false q) z)
 
 -- worked values: a point moved from 0 to 10 along x, and one from 100 to 210
 abbrev from_to : ℤ → ℤ → Point

@@ -1,5 +1,5 @@
 -- No part of the standard: no instruction on a single point makes a point or drops one.
-use Rattle.std.proofs.Common.{◌∙◌, ℤ, Bool, ◌-ℤ◌, Result, Ok, Err, IfOk, refl, length-set}
+use Rattle.std.proofs.Common.{ℤ, Bool, false, ◌-ℤ◌, Result, Ok, Err}
 use Rattle.tt_core.specs.Outcomes.{◌>>=◌}
 use Rattle.tt_core.specs.declared.fault.Why.{Why}
 use Rattle.tt_state.specs.declared.graphics_state.Axis.{Axis}
@@ -7,13 +7,13 @@ use Rattle.tt_state.specs.declared.graphics_state.GraphicsState.{GraphicsState}
 use Rattle.tt_state.specs.declared.graphics_state.Zone.{Zone}
 use Rattle.tt_state.specs.declared.graphics_state.Zone.TheVariants as zone
 use Rattle.tt_state.specs.declared.point.Point.{Point}
-use Rattle.tt_points_zones.specs.Points.{cur, moved, direction, point_in, with_point}
+use Rattle.tt_points_zones.specs.Points.{cur, marked, moved, direction, point_in, with_point}
 use Rattle.tt_points_loops.specs.Shapes.{whatever, through, same, joined, put_one, put}
 use Rattle.tt_points_zones.specs.Zones.{ZoneLists, SameShape, KeepsShape, KeepsShapeBefore}
 use Rattle.tt_points.specs.declared.distances.Keeping.{Keeping}
 use Rattle.tt_points.specs.ControlValues.{placed_at, set_at, miap, mirp_distance, chosen_from, mirp}
 use Rattle.tt_points.specs.Distances.{single_width}
-use Rattle.tt_points.specs.Measuring.{untouched, scfs, utp}
+use Rattle.tt_points.specs.Measuring.{scfs, utp}
 use Rattle.tt_points.specs.Moving.{original_distance, kept, referred, mdap_distance, mdap, kept_from, msirp, mdrp_distance, mdrp}
 use Rattle.tt_points.specs.Twilight.{settled_in, placed, made}
 use Rattle.tt_points.specs.ControlValues as by_value
@@ -110,7 +110,7 @@ scfs_kept p v z g =
 
 utp_kept : (p : ℤ) (z : ZoneLists) (g : GraphicsState) → KeepsShape z (utp p z g)
 unfolding utp
-utp_kept p z g = whatever (SameShape z) (point_in g.zp0 p z) _ (λ q. put_one g.zp0 p (untouched g.free q) z)
+utp_kept p z g = whatever (SameShape z) (point_in g.zp0 p z) _ (λ q. put_one g.zp0 p (marked g.free false q) z)
 
 pub record ShapeIsKept (z : ZoneLists) (g : GraphicsState) : Type 0 where
   pub mdap : (round : Bool) (p : ℤ) → KeepsShapeBefore z (moving.mdap round p z g)

@@ -11,7 +11,7 @@ ghost use Rattle.tt_points.specs.Measuring as is;
 use crate::twilight::settled_in;
 use tt_core::Why;
 use tt_points_zones::{
-    Distance, Zones, cur, current_distance, direction, moved, org, original_distance,
+    Distance, Zones, cur, current_distance, direction, marked, moved, org, original_distance,
 };
 use tt_state::{Axis, GraphicsState, Point};
 
@@ -89,23 +89,6 @@ pub fn scfs(zones: &mut Zones, state: &GraphicsState, p: i32, v: i32) -> Result<
     Ok(())
 }
 
-fn untouched(p: Point, axis: Axis) -> Point
-    requires { IsPoint p }
-    ensures exact { result ≡ is.untouched axis p }
-    ensures valid { IsPoint result }
-{
-    match axis {
-        Axis::X => Point {
-            touched_x: false,
-            ..p
-        },
-        Axis::Y => Point {
-            touched_y: false,
-            ..p
-        },
-    }
-}
-
 /// UTP[], 0x29: p -> point p of zone pointer 0 is untouched along the freedom vector. Error: PointRange.
 #[tactic(auto, unfolding(crate::specs::Measuring::utp))]
 pub fn utp(zones: &mut Zones, state: &GraphicsState, p: i32) -> Result<(), Why>
@@ -114,6 +97,6 @@ pub fn utp(zones: &mut Zones, state: &GraphicsState, p: i32) -> Result<(), Why>
     ensures zones { IsZones (zones_view zones.new) }
 {
     let q = zones.point(state.zp0, p)?;
-    zones.set(state.zp0, p, untouched(q, state.free));
+    zones.set(state.zp0, p, marked(q, state.free, false));
     Ok(())
 }

@@ -216,44 +216,6 @@ fn follow_all(
     Ok(())
 }
 
-fn follow_twilight(
-    zones: &mut Zones,
-    first: usize,
-    past: usize,
-    by: Leader,
-    state: &GraphicsState,
-) -> Result<(), Why>
-    requires zones { IsZones (zones_view zones.old) }
-    requires reference { IsPoint by.reference }
-    requires past { past ≤ length (zones_view zones.old).twilight }
-    ensures exact { Gives (λ u. zones_view zones.new) result
-        (is.follow_in zone.Twilight first past (is.follow_but by.but by.touch state.now by.reference)
-        (zones_view zones.old)) }
-    ensures zones { IsZones (zones_view zones.new) }
-{
-    follow_all(&mut zones.twilight, first, past, by, state)?;
-    Ok(())
-}
-
-fn follow_glyph(
-    zones: &mut Zones,
-    first: usize,
-    past: usize,
-    by: Leader,
-    state: &GraphicsState,
-) -> Result<(), Why>
-    requires zones { IsZones (zones_view zones.old) }
-    requires reference { IsPoint by.reference }
-    requires past { past ≤ length (zones_view zones.old).glyph }
-    ensures exact { Gives (λ u. zones_view zones.new) result
-        (is.follow_in zone.Glyph first past (is.follow_but by.but by.touch state.now by.reference)
-        (zones_view zones.old)) }
-    ensures zones { IsZones (zones_view zones.new) }
-{
-    follow_all(&mut zones.glyph, first, past, by, state)?;
-    Ok(())
-}
-
 /// A range of points of a zone.
 #[derive(Clone, Copy)]
 struct Range {
@@ -288,8 +250,8 @@ fn shift_range(
         touch,
     };
     match range.zone {
-        Zone::Twilight => follow_twilight(zones, range.first, range.past, by, state),
-        Zone::Glyph => follow_glyph(zones, range.first, range.past, by, state),
+        Zone::Twilight => follow_all(&mut zones.twilight, range.first, range.past, by, state),
+        Zone::Glyph => follow_all(&mut zones.glyph, range.first, range.past, by, state),
     }
 }
 

@@ -1,6 +1,6 @@
 -- Apple TrueType Reference Manual, "Instructing TrueType Glyphs" (zones, touched points) and "Graphics State"
 -- (vectors): a point by its number in a zone, its coordinates along an axis, and how it is moved. Coordinates are in 26.6 pixels.
-use Rattle.std.specs.Prelude.{◌≡◌, ℕ, ◌≤◌, ◌<◌, nat_le, ℤ, pos, negsuc, ◌+ℤ◌, ◌≤ℤ◌, int_lt, unsigned_abs, slice_get, Bool, true, false, if◌then◌else◌, List, [], ◌∷◌, length, slice_set, Result, Ok, Err, refl}
+use Rattle.std.specs.Prelude.{◌≡◌, ◌<◌, nat_le, ℤ, pos, negsuc, ◌+ℤ◌, ◌≤ℤ◌, int_lt, unsigned_abs, slice_get, Bool, true, false, if◌then◌else◌, List, [], ◌∷◌, length, slice_set, Result, Ok, Err, refl}
 use Rattle.std.specs.Option.{ok_or}
 use Rattle.tt_core.specs.Limits.{coordinate_limit}
 use Rattle.tt_core.specs.Outcomes.{◌>>=◌}
@@ -32,9 +32,10 @@ abbrev pub put : Axis → ℤ → Point → Point
 put axis.X v p = record p { x = v }
 put axis.Y v p = record p { y = v }
 
-abbrev pub touch : Axis → Point → Point
-touch axis.X p = record p { touched_x = true }
-touch axis.Y p = record p { touched_y = true }
+-- a point touched along an axis, or untouched
+abbrev pub marked : Axis → Bool → Point → Point
+marked axis.X touched p = record p { touched_x = touched }
+marked axis.Y touched p = record p { touched_y = touched }
 
 -- a coordinate within the limit (profile)
 abbrev pub is_coordinate : ℤ → Bool
@@ -47,7 +48,7 @@ shifted axis d p =
 
 -- a point moved by a distance, perhaps 0, and touched
 abbrev pub moved : Axis → ℤ → Point → Result Point Why
-moved axis d p = shifted axis d p >>= λ q. Ok (touch axis q)
+moved axis d p = shifted axis d p >>= λ q. Ok (marked axis true q)
 
 -- Points move along the projection vector; where the freedom vector is another, they are refused (profile).
 abbrev pub along_both : Axis → Axis → Result Axis Why

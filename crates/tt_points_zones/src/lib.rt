@@ -7,6 +7,6 @@ mod zone_numbers;
 mod zones;
 
 pub use distances::{Distance, current_distance, distance_between, original_distance, product};
-pub use points::{cur, direction, is_coordinate, is_touched, moved, org, put, shifted};
+pub use points::{cur, direction, is_coordinate, is_touched, marked, moved, org, put, shifted};
 pub use zone_numbers::zone_of;
 pub use zones::Zones;

@@ -64,18 +64,19 @@ pub fn put(p: Point, axis: Axis, v: i64) -> Point
     }
 }
 
-fn touch(p: Point, axis: Axis) -> Point
+/// The point touched along an axis, or untouched.
+pub fn marked(p: Point, axis: Axis, touched: bool) -> Point
     requires { IsPoint p }
-    ensures exact { result ≡ is.touch axis p }
+    ensures exact { result ≡ is.marked axis touched p }
     ensures valid { IsPoint result }
 {
     match axis {
         Axis::X => Point {
-            touched_x: true,
+            touched_x: touched,
             ..p
         },
         Axis::Y => Point {
-            touched_y: true,
+            touched_y: touched,
             ..p
         },
     }
@@ -111,7 +112,7 @@ pub fn moved(p: Point, axis: Axis, d: i64) -> Result<Point, Why>
     ensures exact { Gives (λ q. q) result (is.moved axis d p) }
     ensures valid { IfOk result IsPoint }
 {
-    Ok(touch(shifted(p, axis, d)?, axis))
+    Ok(marked(shifted(p, axis, d)?, axis, true))
 }
 
 /// The axis along which points move. Error: Perpendicular where the vectors differ.

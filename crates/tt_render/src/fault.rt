@@ -5,7 +5,7 @@ ghost use Rattle.tt_render.specs.declared.fault.DrawFault.TheVariants as draw;
 ghost use Rattle.tt_render.specs.declared.fault.RunFault.TheVariants.{Job, Memory, Write};
 ghost use Rattle.tt_render.specs.Views.{run_fault_of_font, run_fault_of_draw, draw_fault_of_font, draw_fault_of_line};
 
-use std::alloc::{AllocError, AllocFailed};
+use std::alloc::AllocError;
 use thiserror::Error;
 use tt_core::{Fault, FontFault, JobFault};
 use tt_line::LineFault;
@@ -77,14 +77,6 @@ impl From<AllocError> for RunFault {
     ghost from_gives = { λ _ e. e ≡ Memory };
 
     fn from(_e: AllocError) -> RunFault {
-        RunFault::Memory
-    }
-}
-
-impl<T: Drop> From<AllocFailed<T>> for RunFault {
-    ghost from_gives = { λ _ e. e ≡ Memory };
-
-    fn from(_e: AllocFailed<T>) -> RunFault {
         RunFault::Memory
     }
 }

@@ -4,57 +4,36 @@ ghost use Rattle.std.specs.Prelude.{◌≡◌, ◌≤◌, length};
 
 use std::io::{self, ErrorKind, Read, Write};
 
-/// A device that is interrupted `times` times, and then gives a byte 7, or takes one byte.
+/// A device whose first `times` calls fail so, and which then gives a byte 7, or takes one byte.
 #[derive(Drop)]
-pub(crate) struct Interrupted {
+pub(crate) struct Failing {
     pub(crate) times: u32,
+    pub(crate) kind: ErrorKind,
 }
 
-impl Read for Interrupted {
+impl Failing {
+    fn fails(&mut self) -> bool {
+        if self.times == 0 {
+            return false;
+        }
+        self.times -= 1;
+        true
+    }
+}
+
+impl Read for Failing {
     fn read(&mut self, buf: &mut [u8]) -> io::Result<usize> {
-        if self.times > 0 {
-            self.times -= 1;
-            return Err(io::Error::from(ErrorKind::Interrupted));
+        if self.fails() {
+            return Err(io::Error::from(self.kind));
         }
         Ok(first_of(buf))
     }
 }
 
-impl Write for Interrupted {
+impl Write for Failing {
     fn write(&mut self, buf: &[u8]) -> io::Result<usize> {
-        if self.times > 0 {
-            self.times -= 1;
-            return Err(io::Error::from(ErrorKind::Interrupted));
-        }
-        Ok(buf.len().min(1))
-    }
-
-    fn flush(&mut self) -> io::Result<()> {
-        Ok(())
-    }
-}
-
-/// A device whose first `times` calls fail, and which then gives a byte 7, or takes one byte.
-#[derive(Drop)]
-pub(crate) struct Broken {
-    pub(crate) times: u32,
-}
-
-impl Read for Broken {
-    fn read(&mut self, buf: &mut [u8]) -> io::Result<usize> {
-        if self.times > 0 {
-            self.times -= 1;
-            return Err(io::Error::from(ErrorKind::BrokenPipe));
-        }
-        Ok(first_of(buf))
-    }
-}
-
-impl Write for Broken {
-    fn write(&mut self, buf: &[u8]) -> io::Result<usize> {
-        if self.times > 0 {
-            self.times -= 1;
-            return Err(io::Error::from(ErrorKind::BrokenPipe));
+        if self.fails() {
+            return Err(io::Error::from(self.kind));
         }
         Ok(buf.len().min(1))
     }

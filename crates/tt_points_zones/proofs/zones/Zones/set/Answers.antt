@@ -1,4 +1,4 @@
-use Rattle.std.proofs.Common.{length, ◌∙◌, ap, arith}
+use Rattle.std.proofs.Common.{length, ◌∙◌, ap}
 use Rattle.std.proofs.lemmas.List.{with_items_is}
 use Rattle.tt_points_zones.proofs.zones.Zones.set.Goals as goal
 use Rattle.tt_points_zones.proofs.Kept.{glyph_kept}

@@ -1,0 +1,58 @@
+//! The instructions that set or read what a program works with, by what they set or read. Apple TrueType Reference
+//! Manual, "Instruction set".
+
+use tt_state::{Axis, Round};
+
+/// The instructions that set a variable of the graphics state.
+#[derive(Clone, Copy)]
+pub enum Setting {
+    Srp0,
+    Srp1,
+    Srp2,
+    Szp0,
+    Szp1,
+    Szp2,
+    Szps,
+    Sloop,
+    RoundTo(Round),
+    Sround,
+    Smd,
+    Scvtci,
+    Sswci,
+    Ssw,
+    Flip(bool),
+    Sdb,
+    Sds,
+    Ignored,
+}
+
+/// The instructions that write and read the storage area and the control values.
+#[derive(Clone, Copy)]
+pub enum StoredValues {
+    Ws,
+    Rs,
+    Wcvtp,
+    Wcvtf,
+    Rcvt,
+}
+
+/// The instructions that ask for the size or the engine.
+#[derive(Clone, Copy)]
+pub enum Query {
+    Mppem,
+    Mps,
+    Getinfo,
+}
+
+/// The instructions that set or tell the projection and the freedom vector.
+#[derive(Clone, Copy)]
+pub enum Vectors {
+    Svtca(Axis),
+    Spvtca(Axis),
+    Sfvtca(Axis),
+    Spvfs,
+    Sfvfs,
+    Gpv,
+    Gfv,
+    Sfvtpv,
+}
