@@ -82,7 +82,7 @@ impl MachineState<'_> {
         requires { at ≤ length self.old.frame.code.bytes.now }
         ensures { Does (is.operate (operation.evaluate op) at (state_of self.old)) (state_of self.new) result }
     {
-        let round = self.graphics.state().round;
+        let round = self.graphics.round;
         done_at!(self, at, evaluate(op, round, &mut self.stack))
     }
 
@@ -91,7 +91,7 @@ impl MachineState<'_> {
         requires { at ≤ length self.old.frame.code.bytes.now }
         ensures { Does (is.operate (operation.compute op) at (state_of self.old)) (state_of self.new) result }
     {
-        let round = self.graphics.state().round;
+        let round = self.graphics.round;
         done_at!(self, at, compute(op, round, &mut self.stack))
     }
 

@@ -3,7 +3,6 @@
 ghost use Rattle.std.specs.Prelude.{◌≡◌, ◌<◌, ◌≤◌, length, reverse, true, false, IfOk, IfSome};
 ghost use Rattle.std.specs.Option.{option_map};
 ghost use Rattle.tt_core.specs.Limits.{size_limit};
-ghost use Rattle.tt_state.specs.GraphicsState.{IsGraphicsState};
 ghost use Rattle.tt_points_zones.specs.Zones.{zones_view, IsZones, SameShape};
 ghost use Rattle.tt_core.specs.Limits.{stack_limit};
 ghost use Rattle.tt_exec.specs.Machines.{fresh, kind_of, run_from, GivesParts, OutcomeIs, RunGives};
@@ -23,7 +22,7 @@ use std::alloc::{AllocError, Global};
 use std::marker::Model;
 use tt_exec_points::Points;
 use tt_exec_stack::Stack;
-use tt_exec_state::{Graphics, Size};
+use tt_exec_state::Size;
 
 /// A machine, which runs programs one after the other. A clause sees what it holds, and whether a run failed.
 #[derive(Drop)]
@@ -61,7 +60,6 @@ impl<'a> Machine<'a> {
         requires size { parts.ppem ≤ size_limit }
         requires units { 0 < parts.em }
         requires zones { IsZones (zones_view parts.zones) }
-        requires graphics { IsGraphicsState parts.state }
         ensures { IfOk result (λ m. m ≡ record { state = fresh (parts_of parts.entry); failed = false }) }
     {
         let state = MachineState {
@@ -71,7 +69,7 @@ impl<'a> Machine<'a> {
             functions: Bodies::new(parts.functions),
             storage: parts.storage,
             cvt: parts.cvt,
-            graphics: Graphics::new(parts.state),
+            graphics: parts.state,
             points: Points::new(parts.zones),
             skip_glyphs: parts.skip_glyphs,
             default_state: parts.default_state,
@@ -124,7 +122,6 @@ impl<'a> Machine<'a> {
         ensures size { IfSome result (λ p. p.ppem ≤ size_limit) }
         ensures units { IfSome result (λ p. 0 < p.em) }
         ensures zones { IfSome result (λ p. IsZones (zones_view p.zones)) }
-        ensures graphics { IfSome result (λ p. IsGraphicsState p.state) }
     {
         if self.failed {
             return None;

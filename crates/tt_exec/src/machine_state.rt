@@ -2,7 +2,6 @@
 
 ghost use Rattle.std.specs.Prelude.{◌≡◌, ◌<◌, ◌≤◌, length};
 ghost use Rattle.tt_core.specs.Limits.{size_limit};
-ghost use Rattle.tt_state.specs.GraphicsState.{IsGraphicsState};
 ghost use Rattle.tt_points_zones.specs.Zones.{zones_view, IsZones};
 ghost use Rattle.tt_exec.specs.Machines.{begun, parts_in};
 ghost use Rattle.tt_exec.specs.MachineState.{fault_in};
@@ -17,7 +16,8 @@ use crate::program::{Code, Frame};
 use tt_core::{Fault, Why};
 use tt_exec_points::Points;
 use tt_exec_stack::Stack;
-use tt_exec_state::{Graphics, Size};
+use tt_exec_state::Size;
+use tt_state::GraphicsState;
 
 /// Which program is run: it says where functions may be defined and flags set.
 #[derive(Clone, Copy)]
@@ -39,7 +39,7 @@ pub(crate) struct MachineState<'a> {
     pub(crate) functions: Bodies<'a>,
     pub(crate) storage: Vec<i32>,
     pub(crate) cvt: Vec<i32>,
-    pub(crate) graphics: Graphics,
+    pub(crate) graphics: GraphicsState,
     pub(crate) points: Points,
     pub(crate) skip_glyphs: bool,
     pub(crate) default_state: bool,
@@ -64,7 +64,6 @@ impl<'a> MachineState<'a> {
         ensures size { result.ppem ≤ size_limit }
         ensures units { 0 < result.em }
         ensures zones { IsZones (zones_view result.zones) }
-        ensures graphics { IsGraphicsState result.state }
     {
         Parts {
             em: self.size.units_per_em,
@@ -73,7 +72,7 @@ impl<'a> MachineState<'a> {
             storage: self.storage,
             zones: self.points.into_zones(),
             functions: self.functions.into_map(),
-            state: self.graphics.state(),
+            state: self.graphics,
             skip_glyphs: self.skip_glyphs,
             default_state: self.default_state,
         }

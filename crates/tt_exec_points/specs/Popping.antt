@@ -25,7 +25,7 @@ taken n s = top n s >>= λ entries. Ok (entries, drop n s)
 
 -- the points that an instruction loops over, and what is left
 abbrev pub looped : List ℤ → GraphicsState → Result (List ℤ × List ℤ) Why
-looped s g = taken (unsigned_abs g.loops) s
+looped s g = taken g.loops s
 
 -- how many entries as many pairs are as the top entry says, and the stack below that
 abbrev pub pairs_counted : List ℤ → Result (ℕ × List ℤ) Why

@@ -3,12 +3,10 @@
 ghost use Rattle.std.specs.Prelude.{◌+◌, ◌+ℤ◌, ◌*◌, ◌<◌, pos, length, get_or};
 ghost use Rattle.tt_core.specs.Outcomes.{Gives};
 ghost use Rattle.tt_exec_points.specs.ControlValues as is;
-ghost use Rattle.tt_state.specs.GraphicsState.{IsGraphicsState};
 
 use crate::instruction::pairs_counted;
 use tt_core::Why;
 use tt_exec_stack::Stack;
-use tt_exec_state::Graphics;
 use tt_points_loops::deltas::{DeltaRange, delta_of};
 use tt_state::GraphicsState;
 
@@ -42,7 +40,6 @@ fn change(
     i: usize,
     cvt: &mut [i32],
 ) -> Result<(), Why>
-    requires state { IsGraphicsState state.now }
     requires there { 2 * i + 1 < length pairs.now }
     ensures { Gives (λ u. cvt.new) result (is.change range ppem state.now
         (get_or pairs.now (2 * i) (pos 0), get_or pairs.now (2 * i + 1) (pos 0)) cvt.old) }
@@ -59,7 +56,6 @@ fn change_all(
     pairs: &[i32],
     cvt: &mut [i32],
 ) -> Result<(), Why>
-    requires { IsGraphicsState state.now }
     ensures { Gives (λ u. cvt.new) result (is.changes range ppem state.now (is.popped pairs.now) cvt.old) }
 {
     for i in (0..pairs.len() / 2).rev() {
@@ -73,14 +69,14 @@ pub(crate) fn deltac(
     range: DeltaRange,
     ppem: u32,
     stack: &mut Stack,
-    graphics: &Graphics,
+    graphics: &GraphicsState,
     cvt: &mut [i32],
 ) -> Result<(), Why>
     ensures { Gives (λ u. (stack.new, cvt.new)) result (is.deltac range ppem stack.old graphics.now cvt.old) }
 {
     let many = pairs_counted(stack)?;
     let pairs = stack.top(many)?;
-    change_all(range, ppem, &graphics.state(), pairs, cvt)?;
+    change_all(range, ppem, graphics, pairs, cvt)?;
     stack.discard(many);
     Ok(())
 }

@@ -12,7 +12,7 @@ use crate::control_values::deltac;
 use crate::points::Points;
 use tt_core::Why;
 use tt_exec_stack::Stack;
-use tt_exec_state::{Graphics, Size};
+use tt_exec_state::Size;
 use tt_points::control_values::{miap, mirp};
 use tt_points::measuring::{Position, gc, md, scfs, utp};
 use tt_points::moving::{mdap, mdrp, msirp};
@@ -21,7 +21,7 @@ use tt_points_loops::deltas::{DeltaRange, deltap};
 use tt_points_loops::flipping::{flippt, fliprgoff, fliprgon};
 use tt_points_loops::moving::{alignrp, ip, shpix};
 use tt_points_loops::shifting::{ReferencePoint, shc, shp, shz};
-use tt_state::Axis;
+use tt_state::{Axis, GraphicsState};
 
 /// An instruction on points, or DELTAC, by the manual's name.
 #[derive(Clone, Copy)]
@@ -49,25 +49,13 @@ pub enum PointInstruction {
     Mirp(Keeping),
 }
 
-/// Does what changes a graphics state, and sets what it leaves.
-macro_rules! changing {
-    ($graphics:ident, $state:ident => $change:expr) => {{
-        let mut $state = $graphics.state();
-        $change?;
-        $graphics.set($state);
-        Ok(())
-    }};
-}
-
-/// The same with the points' numbers on the stack, as many as the loop variable says. Error: StackShort.
+/// Does what works on the points whose numbers stand on the stack, as many as the loop variable says. Error: StackShort.
 macro_rules! looped {
-    ($stack:ident, $graphics:ident, ($state:ident, $numbers:ident) => $change:expr) => {{
-        let mut $state = $graphics.state();
-        let many = $state.loops as usize;
+    ($stack:ident, $graphics:ident, $numbers:ident => $change:expr) => {{
+        let many = $graphics.loops as usize;
         let $numbers = $stack.top(many)?;
         $change?;
         $stack.discard(many);
-        $graphics.set($state);
         Ok(())
     }};
 }
@@ -109,12 +97,12 @@ impl Points {
         &mut self,
         round: bool,
         stack: &mut Stack,
-        graphics: &mut Graphics,
+        graphics: &mut GraphicsState,
     ) -> Result<(), Why>
         ensures { Gives (λ u. (stack.new, self.new, graphics.new)) result (is.mdap round stack.old self.old graphics.old) }
     {
         let p = stack.pop()?;
-        changing!(graphics, state => mdap(&mut self.zones, &mut state, round, p))
+        mdap(&mut self.zones, graphics, round, p)
     }
 
     /// MDRP[abcde]: p -> . Errors: PointRange, Perpendicular, ValueRange.
@@ -122,12 +110,12 @@ impl Points {
         &mut self,
         keeping: Keeping,
         stack: &mut Stack,
-        graphics: &mut Graphics,
+        graphics: &mut GraphicsState,
     ) -> Result<(), Why>
         ensures { Gives (λ u. (stack.new, self.new, graphics.new)) result (is.mdrp keeping stack.old self.old graphics.old) }
     {
         let p = stack.pop()?;
-        changing!(graphics, state => mdrp(&mut self.zones, &mut state, keeping, p))
+        mdrp(&mut self.zones, graphics, keeping, p)
     }
 
     /// MSIRP[a]: p, d -> . Errors: PointRange, Perpendicular, ValueRange.
@@ -135,13 +123,13 @@ impl Points {
         &mut self,
         set_rp0: bool,
         stack: &mut Stack,
-        graphics: &mut Graphics,
+        graphics: &mut GraphicsState,
     ) -> Result<(), Why>
         ensures { Gives (λ u. (stack.new, self.new, graphics.new)) result (is.msirp set_rp0 stack.old self.old graphics.old) }
     {
         let d = stack.pop()?;
         let p = stack.pop()?;
-        changing!(graphics, state => msirp(&mut self.zones, &mut state, set_rp0, p, d))
+        msirp(&mut self.zones, graphics, set_rp0, p, d)
     }
 
     /// MIAP[r]: p, n -> . Errors: CvtRange, PointRange, Perpendicular, ValueRange.
@@ -150,13 +138,13 @@ impl Points {
         round: bool,
         cvt: &[i32],
         stack: &mut Stack,
-        graphics: &mut Graphics,
+        graphics: &mut GraphicsState,
     ) -> Result<(), Why>
         ensures { let given = is.miap round cvt.now stack.old self.old graphics.old in
             Gives (λ u. (stack.new, self.new, graphics.new)) result given }
     {
         let (p, c) = point_and_value(stack, cvt)?;
-        changing!(graphics, state => miap(&mut self.zones, &mut state, round, p, c))
+        miap(&mut self.zones, graphics, round, p, c)
     }
 
     /// MIRP[abcde]: p, n -> . Errors: CvtRange, PointRange, Perpendicular, ValueRange.
@@ -165,38 +153,43 @@ impl Points {
         keeping: Keeping,
         cvt: &[i32],
         stack: &mut Stack,
-        graphics: &mut Graphics,
+        graphics: &mut GraphicsState,
     ) -> Result<(), Why>
         ensures { let given = is.mirp keeping cvt.now stack.old self.old graphics.old in
             Gives (λ u. (stack.new, self.new, graphics.new)) result given }
     {
         let (p, c) = point_and_value(stack, cvt)?;
-        changing!(graphics, state => mirp(&mut self.zones, &mut state, keeping, p, c))
+        mirp(&mut self.zones, graphics, keeping, p, c)
     }
 
     /// SCFS[]: p, v -> . Errors: PointRange, Perpendicular, ValueRange.
-    pub(crate) fn scfs(&mut self, stack: &mut Stack, graphics: &Graphics) -> Result<(), Why>
+    pub(crate) fn scfs(&mut self, stack: &mut Stack, graphics: &GraphicsState) -> Result<(), Why>
         ensures { Gives (λ u. (stack.new, self.new, graphics.now)) result (is.scfs stack.old self.old graphics.now) }
     {
         let v = stack.pop()?;
         let p = stack.pop()?;
-        scfs(&mut self.zones, &graphics.state(), p, v)
+        scfs(&mut self.zones, graphics, p, v)
     }
 
     /// UTP[]: p -> . Error: PointRange.
-    pub(crate) fn utp(&mut self, stack: &mut Stack, graphics: &Graphics) -> Result<(), Why>
+    pub(crate) fn utp(&mut self, stack: &mut Stack, graphics: &GraphicsState) -> Result<(), Why>
         ensures { Gives (λ u. (stack.new, self.new, graphics.now)) result (is.utp stack.old self.old graphics.now) }
     {
         let p = stack.pop()?;
-        utp(&mut self.zones, &graphics.state(), p)
+        utp(&mut self.zones, graphics, p)
     }
 
     /// GC[a]: p -> c. Error: PointRange.
-    pub(crate) fn gc(&self, of: Position, stack: &mut Stack, graphics: &Graphics) -> Result<(), Why>
+    pub(crate) fn gc(
+        &self,
+        of: Position,
+        stack: &mut Stack,
+        graphics: &GraphicsState,
+    ) -> Result<(), Why>
         ensures { Gives (λ u. stack.new) result (is.gc of stack.old self.now graphics.now) }
     {
         let p = stack.pop()?;
-        let value = gc(&self.zones, &graphics.state(), of, p)?;
+        let value = gc(&self.zones, graphics, of, p)?;
         stack.push(i64::from(value))
     }
 
@@ -205,28 +198,32 @@ impl Points {
         &self,
         between: Position,
         stack: &mut Stack,
-        graphics: &Graphics,
+        graphics: &GraphicsState,
     ) -> Result<(), Why>
         ensures { Gives (λ u. stack.new) result (is.md between stack.old self.now graphics.now) }
     {
         let p1 = stack.pop()?;
         let p2 = stack.pop()?;
-        let value = md(&self.zones, &graphics.state(), between, p2, p1)?;
+        let value = md(&self.zones, graphics, between, p2, p1)?;
         stack.push(i64::from(value))
     }
 
     /// ALIGNRP[]: as many points as the loop says -> .
-    pub(crate) fn alignrp(&mut self, stack: &mut Stack, graphics: &mut Graphics) -> Result<(), Why>
+    pub(crate) fn alignrp(
+        &mut self,
+        stack: &mut Stack,
+        graphics: &mut GraphicsState,
+    ) -> Result<(), Why>
         ensures { Gives (λ u. (stack.new, self.new, graphics.new)) result (is.alignrp stack.old self.old graphics.old) }
     {
-        looped!(stack, graphics, (state, numbers) => alignrp(&mut self.zones, &mut state, numbers))
+        looped!(stack, graphics, numbers => alignrp(&mut self.zones, graphics, numbers))
     }
 
     /// IP[]: as many points as the loop says -> .
-    pub(crate) fn ip(&mut self, stack: &mut Stack, graphics: &mut Graphics) -> Result<(), Why>
+    pub(crate) fn ip(&mut self, stack: &mut Stack, graphics: &mut GraphicsState) -> Result<(), Why>
         ensures { Gives (λ u. (stack.new, self.new, graphics.new)) result (is.ip stack.old self.old graphics.old) }
     {
-        looped!(stack, graphics, (state, numbers) => ip(&mut self.zones, &mut state, numbers))
+        looped!(stack, graphics, numbers => ip(&mut self.zones, graphics, numbers))
     }
 
     /// SHP[a]: as many points as the loop says -> .
@@ -234,30 +231,42 @@ impl Points {
         &mut self,
         which: ReferencePoint,
         stack: &mut Stack,
-        graphics: &mut Graphics,
+        graphics: &mut GraphicsState,
     ) -> Result<(), Why>
         ensures { Gives (λ u. (stack.new, self.new, graphics.new)) result (is.shp which stack.old self.old graphics.old) }
     {
-        looped!(stack, graphics, (state, numbers) => shp(&mut self.zones, &mut state, which, numbers))
+        looped!(stack, graphics, numbers => shp(&mut self.zones, graphics, which, numbers))
     }
 
     /// SHPIX[]: as many points as the loop says, amount -> .
-    pub(crate) fn shpix(&mut self, stack: &mut Stack, graphics: &mut Graphics) -> Result<(), Why>
+    pub(crate) fn shpix(
+        &mut self,
+        stack: &mut Stack,
+        graphics: &mut GraphicsState,
+    ) -> Result<(), Why>
         ensures { Gives (λ u. (stack.new, self.new, graphics.new)) result (is.shpix stack.old self.old graphics.old) }
     {
         let amount = stack.pop()?;
-        looped!(stack, graphics, (state, numbers) => shpix(&mut self.zones, &mut state, numbers, amount))
+        looped!(stack, graphics, numbers => shpix(&mut self.zones, graphics, numbers, amount))
     }
 
     /// FLIPPT[]: as many points as the loop says -> .
-    pub(crate) fn flippt(&mut self, stack: &mut Stack, graphics: &mut Graphics) -> Result<(), Why>
+    pub(crate) fn flippt(
+        &mut self,
+        stack: &mut Stack,
+        graphics: &mut GraphicsState,
+    ) -> Result<(), Why>
         ensures { Gives (λ u. (stack.new, self.new, graphics.new)) result (is.flippt stack.old self.old graphics.old) }
     {
-        looped!(stack, graphics, (state, numbers) => flippt(&mut self.zones, &mut state, numbers))
+        looped!(stack, graphics, numbers => flippt(&mut self.zones, graphics, numbers))
     }
 
     /// FLIPRGON[]: low, high -> . Error: PointRange.
-    pub(crate) fn fliprgon(&mut self, stack: &mut Stack, graphics: &Graphics) -> Result<(), Why>
+    pub(crate) fn fliprgon(
+        &mut self,
+        stack: &mut Stack,
+        graphics: &GraphicsState,
+    ) -> Result<(), Why>
         ensures { Gives (λ u. (stack.new, self.new, graphics.now)) result (is.fliprgon stack.old self.old graphics.now) }
     {
         let high = stack.pop()?;
@@ -266,7 +275,11 @@ impl Points {
     }
 
     /// FLIPRGOFF[]: low, high -> . Error: PointRange.
-    pub(crate) fn fliprgoff(&mut self, stack: &mut Stack, graphics: &Graphics) -> Result<(), Why>
+    pub(crate) fn fliprgoff(
+        &mut self,
+        stack: &mut Stack,
+        graphics: &GraphicsState,
+    ) -> Result<(), Why>
         ensures { Gives (λ u. (stack.new, self.new, graphics.now)) result (is.fliprgoff stack.old self.old graphics.now) }
     {
         let high = stack.pop()?;
@@ -279,12 +292,12 @@ impl Points {
         &mut self,
         which: ReferencePoint,
         stack: &mut Stack,
-        graphics: &Graphics,
+        graphics: &GraphicsState,
     ) -> Result<(), Why>
         ensures { Gives (λ u. (stack.new, self.new, graphics.now)) result (is.shc which stack.old self.old graphics.now) }
     {
         let contour = stack.pop()?;
-        shc(&mut self.zones, &graphics.state(), which, contour)
+        shc(&mut self.zones, graphics, which, contour)
     }
 
     /// SHZ[a]: zone -> . Errors: ZoneRange, PointRange, Perpendicular, ValueRange.
@@ -292,12 +305,12 @@ impl Points {
         &mut self,
         which: ReferencePoint,
         stack: &mut Stack,
-        graphics: &Graphics,
+        graphics: &GraphicsState,
     ) -> Result<(), Why>
         ensures { Gives (λ u. (stack.new, self.new, graphics.now)) result (is.shz which stack.old self.old graphics.now) }
     {
         let zone = stack.pop()?;
-        shz(&mut self.zones, &graphics.state(), which, zone)?;
+        shz(&mut self.zones, graphics, which, zone)?;
         Ok(())
     }
 
@@ -307,13 +320,13 @@ impl Points {
         range: DeltaRange,
         ppem: u32,
         stack: &mut Stack,
-        graphics: &Graphics,
+        graphics: &GraphicsState,
     ) -> Result<(), Why>
         ensures { Gives (λ u. (stack.new, self.new, graphics.now)) result (is.deltap range ppem stack.old self.old graphics.now) }
     {
         let many = pairs_counted(stack)?;
         let pairs = stack.top(many)?;
-        deltap(&mut self.zones, &graphics.state(), range, ppem, pairs)?;
+        deltap(&mut self.zones, graphics, range, ppem, pairs)?;
         stack.discard(many);
         Ok(())
     }
@@ -332,7 +345,7 @@ pub fn on_points(
     size: Size,
     stack: &mut Stack,
     points: &mut Points,
-    graphics: &mut Graphics,
+    graphics: &mut GraphicsState,
     cvt: &mut [i32],
 ) -> Result<(), Why>
     ensures { let given = is.on_points op size.ppem stack.old points.old graphics.old cvt.old in

@@ -46,7 +46,7 @@ szps (n ∷ s) g = zone_of n >>= λ z. Ok (s, record g { zp0 = z; zp1 = z; zp2 =
 szps [] g = Err why.StackShort
 
 abbrev pub sloop : List ℤ → GraphicsState → Set
-sloop (n ∷ s) g = if int_lt n (pos 0) then Err why.BadArgument else Ok (s, record g { loops = n })
+sloop (n ∷ s) g = if int_lt n (pos 0) then Err why.BadArgument else Ok (s, record g { loops = unsigned_abs n })
 sloop [] g = Err why.StackShort
 
 abbrev pub round_to : Round → GraphicsState → GraphicsState
@@ -82,7 +82,8 @@ sdb [] g = Err why.StackShort
 
 abbrev pub sds : List ℤ → GraphicsState → Set
 sds (n ∷ s) g =
-    if int_lt n (pos 0) || int_lt (pos 6) n then Err why.BadArgument else Ok (s, record g { delta_shift = n })
+    if int_lt n (pos 0) || int_lt (pos 6) n then Err why.BadArgument else
+    Ok (s, record g { delta_shift = unsigned_abs n })
 sds [] g = Err why.StackShort
 
 -- SCANCTRL, SCANTYPE, SANGW and AA

@@ -3,7 +3,6 @@
 //! "Instruction set".
 #![tactic(auto)]
 
-mod graphics;
 mod instruction;
 pub mod laws;
 mod queries;
@@ -12,7 +11,6 @@ mod size;
 mod stored_values;
 mod vectors;
 
-pub use graphics::Graphics;
 pub use instruction::{Query, Setting, StoredValues, Vectors};
 pub use queries::answer;
 pub use settings::set_state;

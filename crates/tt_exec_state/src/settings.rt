@@ -5,7 +5,6 @@ ghost use Rattle.std.specs.Prelude.{◌≡◌};
 ghost use Rattle.tt_exec_stack.specs.Stack.{Does};
 ghost use Rattle.tt_exec_state.specs.Settings as is;
 
-use crate::graphics::Graphics;
 use crate::instruction::Setting;
 use crate::size::Size;
 use tt_core::Why;
@@ -14,101 +13,85 @@ use tt_points_zones::zone_of;
 use tt_state::{GraphicsState, Round};
 
 /// SRP0[], 0x10: p -> reference point 0, which is tested where it is used.
-fn srp0(stack: &mut Stack, graphics: &mut Graphics) -> Result<(), Why>
+fn srp0(stack: &mut Stack, graphics: &mut GraphicsState) -> Result<(), Why>
     ensures { Does (is.srp0 stack.old graphics.old) (stack.new, graphics.new) result }
 {
-    let rp0 = stack.pop()?;
-    graphics.set(GraphicsState {
-        rp0,
-        ..graphics.state()
-    });
+    graphics.rp0 = stack.pop()?;
     Ok(())
 }
 
 /// SRP1[], 0x11: p -> reference point 1.
-fn srp1(stack: &mut Stack, graphics: &mut Graphics) -> Result<(), Why>
+fn srp1(stack: &mut Stack, graphics: &mut GraphicsState) -> Result<(), Why>
     ensures { Does (is.srp1 stack.old graphics.old) (stack.new, graphics.new) result }
 {
-    let rp1 = stack.pop()?;
-    graphics.set(GraphicsState {
-        rp1,
-        ..graphics.state()
-    });
+    graphics.rp1 = stack.pop()?;
     Ok(())
 }
 
 /// SRP2[], 0x12: p -> reference point 2.
-fn srp2(stack: &mut Stack, graphics: &mut Graphics) -> Result<(), Why>
+fn srp2(stack: &mut Stack, graphics: &mut GraphicsState) -> Result<(), Why>
     ensures { Does (is.srp2 stack.old graphics.old) (stack.new, graphics.new) result }
 {
-    let rp2 = stack.pop()?;
-    graphics.set(GraphicsState {
-        rp2,
-        ..graphics.state()
-    });
+    graphics.rp2 = stack.pop()?;
     Ok(())
 }
 
 /// SZP0[], 0x13: n -> zone pointer 0.
-fn szp0(stack: &mut Stack, graphics: &mut Graphics) -> Result<(), Why>
+fn szp0(stack: &mut Stack, graphics: &mut GraphicsState) -> Result<(), Why>
     ensures { Does (is.szp0 stack.old graphics.old) (stack.new, graphics.new) result }
 {
-    let n = stack.pop()?;
-    graphics.set_zp0(zone_of(n)?);
+    graphics.zp0 = zone_of(stack.pop()?)?;
     Ok(())
 }
 
 /// SZP1[], 0x14: n -> zone pointer 1.
-fn szp1(stack: &mut Stack, graphics: &mut Graphics) -> Result<(), Why>
+fn szp1(stack: &mut Stack, graphics: &mut GraphicsState) -> Result<(), Why>
     ensures { Does (is.szp1 stack.old graphics.old) (stack.new, graphics.new) result }
 {
-    let n = stack.pop()?;
-    graphics.set_zp1(zone_of(n)?);
+    graphics.zp1 = zone_of(stack.pop()?)?;
     Ok(())
 }
 
 /// SZP2[], 0x15: n -> zone pointer 2.
-fn szp2(stack: &mut Stack, graphics: &mut Graphics) -> Result<(), Why>
+fn szp2(stack: &mut Stack, graphics: &mut GraphicsState) -> Result<(), Why>
     ensures { Does (is.szp2 stack.old graphics.old) (stack.new, graphics.new) result }
 {
-    let n = stack.pop()?;
-    graphics.set_zp2(zone_of(n)?);
+    graphics.zp2 = zone_of(stack.pop()?)?;
     Ok(())
 }
 
 /// SZPS[], 0x16: n -> all three zone pointers.
-fn szps(stack: &mut Stack, graphics: &mut Graphics) -> Result<(), Why>
+fn szps(stack: &mut Stack, graphics: &mut GraphicsState) -> Result<(), Why>
     ensures { Does (is.szps stack.old graphics.old) (stack.new, graphics.new) result }
 {
-    let n = stack.pop()?;
-    graphics.set_zps(zone_of(n)?);
+    let zone = zone_of(stack.pop()?)?;
+    graphics.zp0 = zone;
+    graphics.zp1 = zone;
+    graphics.zp2 = zone;
     Ok(())
 }
 
 /// SLOOP[], 0x17: n -> the loop variable. Error: BadArgument where it is negative.
-fn sloop(stack: &mut Stack, graphics: &mut Graphics) -> Result<(), Why>
+fn sloop(stack: &mut Stack, graphics: &mut GraphicsState) -> Result<(), Why>
     ensures { Does (is.sloop stack.old graphics.old) (stack.new, graphics.new) result }
 {
     let loops = stack.pop()?;
     if loops < 0 {
         return Err(Why::BadArgument);
     }
-    graphics.set(GraphicsState {
-        loops,
-        ..graphics.state()
-    });
+    graphics.loops = loops as u32;
     Ok(())
 }
 
 /// RTG[], 0x18; RTHG[], 0x19; RTDG[], 0x3D; ROFF[], 0x7A; RUTG[], 0x7C; RDTG[], 0x7D: the round state.
-fn round_to(round: Round, graphics: &mut Graphics)
+fn round_to(round: Round, graphics: &mut GraphicsState)
     ensures { graphics.new ≡ is.round_to round graphics.old }
 {
-    graphics.set_round(round);
+    graphics.round = round;
 }
 
 /// SROUND[], 0x76: n -> the round state, by the low byte of n.
-fn sround(stack: &mut Stack, graphics: &mut Graphics) -> Result<(), Why>
+fn sround(stack: &mut Stack, graphics: &mut GraphicsState) -> Result<(), Why>
     ensures { Does (is.sround stack.old graphics.old) (stack.new, graphics.new) result }
 {
     let n = stack.pop()?;
@@ -117,81 +100,62 @@ fn sround(stack: &mut Stack, graphics: &mut Graphics) -> Result<(), Why>
 }
 
 /// SMD[], 0x1A: d -> the minimum distance.
-fn smd(stack: &mut Stack, graphics: &mut Graphics) -> Result<(), Why>
+fn smd(stack: &mut Stack, graphics: &mut GraphicsState) -> Result<(), Why>
     ensures { Does (is.smd stack.old graphics.old) (stack.new, graphics.new) result }
 {
-    let min_distance = stack.pop()?;
-    graphics.set(GraphicsState {
-        min_distance,
-        ..graphics.state()
-    });
+    graphics.min_distance = stack.pop()?;
     Ok(())
 }
 
 /// SCVTCI[], 0x1D: n -> the control-value cut-in.
-fn scvtci(stack: &mut Stack, graphics: &mut Graphics) -> Result<(), Why>
+fn scvtci(stack: &mut Stack, graphics: &mut GraphicsState) -> Result<(), Why>
     ensures { Does (is.scvtci stack.old graphics.old) (stack.new, graphics.new) result }
 {
-    let cut_in = stack.pop()?;
-    graphics.set(GraphicsState {
-        cut_in,
-        ..graphics.state()
-    });
+    graphics.cut_in = stack.pop()?;
     Ok(())
 }
 
 /// SSWCI[], 0x1E: n -> the single-width cut-in.
-fn sswci(stack: &mut Stack, graphics: &mut Graphics) -> Result<(), Why>
+fn sswci(stack: &mut Stack, graphics: &mut GraphicsState) -> Result<(), Why>
     ensures { Does (is.sswci stack.old graphics.old) (stack.new, graphics.new) result }
 {
-    let single_cut_in = stack.pop()?;
-    graphics.set(GraphicsState {
-        single_cut_in,
-        ..graphics.state()
-    });
+    graphics.single_cut_in = stack.pop()?;
     Ok(())
 }
 
 /// SSW[], 0x1F: n -> the single-width value, n font units scaled. Error: ValueRange.
-fn ssw(size: Size, stack: &mut Stack, graphics: &mut Graphics) -> Result<(), Why>
+fn ssw(size: Size, stack: &mut Stack, graphics: &mut GraphicsState) -> Result<(), Why>
     ensures { Does (is.ssw size.ppem size.units_per_em stack.old graphics.old) (stack.new, graphics.new) result }
 {
     let units = stack.pop()?;
-    graphics.set_single_width(size.in_pixels(units)?);
+    graphics.single_width = size.in_pixels(units)?;
     Ok(())
 }
 
 /// FLIPON[], 0x4D, and FLIPOFF[], 0x4E: auto flip.
-fn flip(on: bool, graphics: &mut Graphics)
+fn flip(on: bool, graphics: &mut GraphicsState)
     ensures { graphics.new ≡ is.flip on graphics.old }
 {
-    graphics.set_auto_flip(on);
+    graphics.auto_flip = on;
 }
 
 /// SDB[], 0x5E: n -> the delta base.
-fn sdb(stack: &mut Stack, graphics: &mut Graphics) -> Result<(), Why>
+fn sdb(stack: &mut Stack, graphics: &mut GraphicsState) -> Result<(), Why>
     ensures { Does (is.sdb stack.old graphics.old) (stack.new, graphics.new) result }
 {
-    let delta_base = stack.pop()?;
-    graphics.set(GraphicsState {
-        delta_base,
-        ..graphics.state()
-    });
+    graphics.delta_base = stack.pop()?;
     Ok(())
 }
 
 /// SDS[], 0x5F: n -> the delta shift. Error: BadArgument where it is not 0 to 6.
-fn sds(stack: &mut Stack, graphics: &mut Graphics) -> Result<(), Why>
+fn sds(stack: &mut Stack, graphics: &mut GraphicsState) -> Result<(), Why>
     ensures { Does (is.sds stack.old graphics.old) (stack.new, graphics.new) result }
 {
     let delta_shift = stack.pop()?;
     if delta_shift < 0 || delta_shift > 6 {
         return Err(Why::BadArgument);
     }
-    graphics.set(GraphicsState {
-        delta_shift,
-        ..graphics.state()
-    });
+    graphics.delta_shift = delta_shift as u32;
     Ok(())
 }
 
@@ -209,7 +173,7 @@ pub fn set_state(
     op: Setting,
     size: Size,
     stack: &mut Stack,
-    graphics: &mut Graphics,
+    graphics: &mut GraphicsState,
 ) -> Result<(), Why>
     ensures { let given = is.state_set op size.ppem size.units_per_em stack.old graphics.old in
         Does given (stack.new, graphics.new) result }

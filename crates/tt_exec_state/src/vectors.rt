@@ -6,41 +6,31 @@ ghost use Rattle.tt_core.specs.Outcomes.{Gives};
 ghost use Rattle.tt_exec_stack.specs.Stack.{Does};
 ghost use Rattle.tt_exec_state.specs.Vectors as is;
 
-use crate::graphics::Graphics;
 use crate::instruction::Vectors;
 use tt_core::Why;
 use tt_exec_stack::Stack;
 use tt_state::{Axis, GraphicsState};
 
 /// SVTCA[a], 0x00 and 0x01: both vectors along y, x.
-fn svtca(axis: Axis, graphics: &mut Graphics)
+fn svtca(axis: Axis, graphics: &mut GraphicsState)
     ensures { graphics.new ≡ is.svtca axis graphics.old }
 {
-    graphics.set(GraphicsState {
-        proj: axis,
-        free: axis,
-        ..graphics.state()
-    });
+    graphics.proj = axis;
+    graphics.free = axis;
 }
 
 /// SPVTCA[a], 0x02 and 0x03: the projection vector along y, x.
-fn spvtca(axis: Axis, graphics: &mut Graphics)
+fn spvtca(axis: Axis, graphics: &mut GraphicsState)
     ensures { graphics.new ≡ is.spvtca axis graphics.old }
 {
-    graphics.set(GraphicsState {
-        proj: axis,
-        ..graphics.state()
-    });
+    graphics.proj = axis;
 }
 
 /// SFVTCA[a], 0x04 and 0x05: the freedom vector along y, x.
-fn sfvtca(axis: Axis, graphics: &mut Graphics)
+fn sfvtca(axis: Axis, graphics: &mut GraphicsState)
     ensures { graphics.new ≡ is.sfvtca axis graphics.old }
 {
-    graphics.set(GraphicsState {
-        free: axis,
-        ..graphics.state()
-    });
+    graphics.free = axis;
 }
 
 /// The axis of a unit vector, whose numbers are in 2.14. Error: OffProfile where it lies along none.
@@ -57,7 +47,7 @@ fn axis_of(x: i32, y: i32) -> Result<Axis, Why>
 }
 
 /// SPVFS[], 0x0A: x, y -> the projection vector.
-fn spvfs(stack: &mut Stack, graphics: &mut Graphics) -> Result<(), Why>
+fn spvfs(stack: &mut Stack, graphics: &mut GraphicsState) -> Result<(), Why>
     ensures { Does (is.spvfs stack.old graphics.old) (stack.new, graphics.new) result }
 {
     let y = stack.pop()?;
@@ -67,7 +57,7 @@ fn spvfs(stack: &mut Stack, graphics: &mut Graphics) -> Result<(), Why>
 }
 
 /// SFVFS[], 0x0B: x, y -> the freedom vector.
-fn sfvfs(stack: &mut Stack, graphics: &mut Graphics) -> Result<(), Why>
+fn sfvfs(stack: &mut Stack, graphics: &mut GraphicsState) -> Result<(), Why>
     ensures { Does (is.sfvfs stack.old graphics.old) (stack.new, graphics.new) result }
 {
     let y = stack.pop()?;
@@ -93,29 +83,33 @@ fn push_vector(axis: Axis, stack: &mut Stack) -> Result<(), Why>
 }
 
 /// GPV[], 0x0C: -> the projection vector.
-fn gpv(stack: &mut Stack, graphics: &Graphics) -> Result<(), Why>
+fn gpv(stack: &mut Stack, graphics: &GraphicsState) -> Result<(), Why>
     ensures { Does (is.gpv stack.old graphics.now) (stack.new, graphics.now) result }
 {
-    push_vector(graphics.state().proj, stack)
+    push_vector(graphics.proj, stack)
 }
 
 /// GFV[], 0x0D: -> the freedom vector.
-fn gfv(stack: &mut Stack, graphics: &Graphics) -> Result<(), Why>
+fn gfv(stack: &mut Stack, graphics: &GraphicsState) -> Result<(), Why>
     ensures { Does (is.gfv stack.old graphics.now) (stack.new, graphics.now) result }
 {
-    push_vector(graphics.state().free, stack)
+    push_vector(graphics.free, stack)
 }
 
 /// SFVTPV[], 0x0E: the freedom vector becomes the projection vector.
-fn sfvtpv(graphics: &mut Graphics)
+fn sfvtpv(graphics: &mut GraphicsState)
     ensures { graphics.new ≡ is.sfvtpv graphics.old }
 {
-    sfvtca(graphics.state().proj, graphics);
+    sfvtca(graphics.proj, graphics);
 }
 
 /// Errors: StackShort; OffProfile of a vector off the axes; StackFull.
 #[inline(always)]
-pub fn access_vectors(op: Vectors, stack: &mut Stack, graphics: &mut Graphics) -> Result<(), Why>
+pub fn access_vectors(
+    op: Vectors,
+    stack: &mut Stack,
+    graphics: &mut GraphicsState,
+) -> Result<(), Why>
     ensures { Does (is.vectors_accessed op stack.old graphics.old) (stack.new, graphics.new) result }
 {
     match op {

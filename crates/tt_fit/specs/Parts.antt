@@ -9,7 +9,7 @@ use Rattle.tt_metrics.specs.Metrics.{Metrics, storage_of, twilight_of, units_per
 use Rattle.tt_points_zones.specs.Zones.{ZoneLists, IsZones}
 use Rattle.tt_state.specs.declared.graphics_state.GraphicsState.{GraphicsState}
 use Rattle.tt_state.specs.declared.point.Point.{Point}
-use Rattle.tt_state.specs.GraphicsState.{default_state, IsGraphicsState}
+use Rattle.tt_state.specs.GraphicsState.{default_state}
 use Rattle.tt_fit.specs.GlyphZone.{untouched, glyph_zone, contours_from}
 use Rattle.tt_fit.specs.Outline.{Outline, PhantomPoints}
 use Rattle.tt_fit.specs.Size.{FontSize, scale}
@@ -19,7 +19,6 @@ pub record AreParts (parts : Parts) : Type 0 where
   pub size : parts.ppem ≤ size_limit
   pub units : 0 < parts.em
   pub zones : IsZones parts.zones
-  pub graphics : IsGraphicsState parts.state
 
 -- a control value is a signed word in font units; an odd last byte is ignored
 abbrev pub control_value : FontSize → List ℕ → ℕ → ℤ

@@ -9,7 +9,6 @@ ghost use Rattle.tt_fit.specs.Size.{scale};
 ghost use Rattle.tt_fit.specs.Views.{size_view};
 ghost use Rattle.tt_metrics.specs.Metrics.{units_per_em_of};
 ghost use Rattle.tt_points_zones.specs.Zones.{zones_view, IsZones};
-ghost use Rattle.tt_state.specs.GraphicsState.{IsGraphicsState};
 
 use crate::glyph_zone::{contours, glyph_zone, untouched};
 use crate::outline::Outline;
@@ -82,9 +81,7 @@ pub(crate) fn begun_parts<'a>(
 
 /// The vectors, the reference points, the zone pointers and the loop as they are by default.
 fn pointers_set_back(state: GraphicsState) -> GraphicsState
-    requires { IsGraphicsState state }
-    ensures exact { result ≡ pointers_set_back state }
-    ensures valid { IsGraphicsState result }
+    ensures { result ≡ pointers_set_back state }
 {
     let default = GraphicsState::new();
     GraphicsState {

@@ -3,7 +3,6 @@
 
 ghost use Rattle.std.specs.Prelude.{◌≡◌, ◌-ℤ◌, ◌<◌, ◌^◌, unsigned_abs, IfOk};
 ghost use Rattle.tt_core.specs.Outcomes.{Gives};
-ghost use Rattle.tt_state.specs.GraphicsState.{IsGraphicsState};
 ghost use Rattle.tt_points_zones.specs.Points as point;
 ghost use Rattle.tt_points_zones.specs.Zones.{IsPoint, IsZones, zones_view};
 ghost use Rattle.tt_points.specs.ControlValues as is;
@@ -105,11 +104,9 @@ pub fn miap(
     c: i32,
 ) -> Result<(), Why>
     requires zones { IsZones (zones_view zones.old) }
-    requires state { IsGraphicsState state.old }
     ensures exact { Gives (λ u. (zones_view zones.new, state.new)) result
         (is.miap round p c (zones_view zones.old) state.old) }
     ensures zones { IsZones (zones_view zones.new) }
-    ensures state { IsGraphicsState state.new }
 {
     let q = zones.point(state.zp0, p)?;
     let axis = direction(state)?;
@@ -205,11 +202,9 @@ pub fn mirp(
     c: i32,
 ) -> Result<(), Why>
     requires zones { IsZones (zones_view zones.old) }
-    requires state { IsGraphicsState state.old }
     ensures exact { Gives (λ u. (zones_view zones.new, state.new)) result
         (is.mirp keeping p c (zones_view zones.old) state.old) }
     ensures zones { IsZones (zones_view zones.new) }
-    ensures state { IsGraphicsState state.new }
 {
     zones.point(state.zp1, p)?;
     let r = zones.point(state.zp0, state.rp0)?;

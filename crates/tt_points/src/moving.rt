@@ -3,7 +3,6 @@
 
 ghost use Rattle.std.specs.Prelude.{◌≡◌, ◌-ℤ◌, ◌<◌, ◌≤◌, ◌^◌, unsigned_abs, IfOk};
 ghost use Rattle.tt_core.specs.Outcomes.{Gives};
-ghost use Rattle.tt_state.specs.GraphicsState.{IsGraphicsState};
 ghost use Rattle.tt_state.specs.Rounding.{rounded};
 ghost use Rattle.tt_points_zones.specs.Points as point;
 ghost use Rattle.tt_points_zones.specs.Zones.{IsPoint, IsZones, zones_view};
@@ -53,9 +52,7 @@ pub(crate) fn kept(q: Point, axis: Axis, d: Distance, r: Point) -> Result<Point,
 
 /// The reference points after a move that kept a distance.
 pub(crate) fn refer(state: &mut GraphicsState, rp0: bool, p: i32)
-    requires { IsGraphicsState state.old }
-    ensures exact { state.new ≡ is.referred rp0 p state.old }
-    ensures state { IsGraphicsState state.new }
+    ensures { state.new ≡ is.referred rp0 p state.old }
 {
     state.rp1 = state.rp0;
     state.rp2 = p;
@@ -92,11 +89,9 @@ fn mdap_distance(round: bool, state: &GraphicsState, q: Point, axis: Axis) -> i6
 #[tactic(auto, unfolding(crate::specs::Moving::mdap))]
 pub fn mdap(zones: &mut Zones, state: &mut GraphicsState, round: bool, p: i32) -> Result<(), Why>
     requires zones { IsZones (zones_view zones.old) }
-    requires state { IsGraphicsState state.old }
     ensures exact { Gives (λ u. (zones_view zones.new, state.new)) result
         (is.mdap round p (zones_view zones.old) state.old) }
     ensures zones { IsZones (zones_view zones.new) }
-    ensures state { IsGraphicsState state.new }
 {
     let q = zones.point(state.zp0, p)?;
     let axis = direction(state)?;
@@ -140,11 +135,9 @@ pub fn msirp(
     d: i32,
 ) -> Result<(), Why>
     requires zones { IsZones (zones_view zones.old) }
-    requires state { IsGraphicsState state.old }
     ensures exact { Gives (λ u. (zones_view zones.new, state.new)) result
         (is.msirp set_rp0 p d (zones_view zones.old) state.old) }
     ensures zones { IsZones (zones_view zones.new) }
-    ensures state { IsGraphicsState state.new }
 {
     zones.point(state.zp1, p)?;
     let r = zones.point(state.zp0, state.rp0)?;
@@ -186,11 +179,9 @@ pub fn mdrp(
     p: i32,
 ) -> Result<(), Why>
     requires zones { IsZones (zones_view zones.old) }
-    requires state { IsGraphicsState state.old }
     ensures exact { Gives (λ u. (zones_view zones.new, state.new)) result
         (is.mdrp keeping p (zones_view zones.old) state.old) }
     ensures zones { IsZones (zones_view zones.new) }
-    ensures state { IsGraphicsState state.new }
 {
     let q = zones.point(state.zp1, p)?;
     let r = zones.point(state.zp0, state.rp0)?;

@@ -1,6 +1,6 @@
 -- Apple TrueType Reference Manual, "Instruction set": managing exceptions (DELTAP1 to DELTAP3, DELTAC1 to DELTAC3).
 -- Distances are in 26.6 pixels, sizes in pixels per em.
-use Rattle.std.specs.Prelude.{◌≡◌, ℕ, ◌/◌, ◌%◌, ◌^◌, ◌||◌, nat_lt, ℤ, pos, negsuc, ◌+ℤ◌, ◌-ℤ◌, ◌*ℤ◌, int_lt, unsigned_abs, Bool, true, false, if◌then◌else◌, List, [], ◌∷◌, reverse, Option, Some, None, Result, Ok, Err, refl}
+use Rattle.std.specs.Prelude.{◌≡◌, ℕ, ◌/◌, ◌%◌, ◌-◌, ◌^◌, ◌||◌, nat_lt, ℤ, pos, negsuc, ◌+ℤ◌, ◌-ℤ◌, ◌*ℤ◌, int_lt, unsigned_abs, Bool, true, false, if◌then◌else◌, List, [], ◌∷◌, reverse, Option, Some, None, Result, Ok, Err, refl}
 use Rattle.std.specs.Ordering.{int_eq}
 use Rattle.tt_core.specs.Outcomes.{◌>>=◌}
 use Rattle.tt_core.specs.declared.fault.Why.{Why}
@@ -29,9 +29,9 @@ abbrev pub steps_of : ℕ → ℤ
 steps_of argument =
     if nat_lt (argument % 16) 8 then pos (argument % 16) -ℤ pos 8 else pos (argument % 16) -ℤ pos 7
 
--- one step
+-- one step; SDS refuses a shift past 6
 abbrev pub step_of : GraphicsState → ℤ
-step_of g = pos (64 / 2 ^ unsigned_abs g.delta_shift)
+step_of g = pos (2 ^ (6 - g.delta_shift))
 
 -- the exception that an argument is at a size, None at others. Past a byte it has no meaning (profile).
 abbrev pub delta_of : DeltaRange → ℤ → ℕ → GraphicsState → Result (Option ℤ) Why
@@ -62,7 +62,7 @@ deltap range ppem pairs z g = one_by_one (except range ppem g) (reverse (pairs_o
 eight_steps_up : delta_of ranges.First (pos 0x7F) 16 default_state ≡ Ok (Some (pos 64))
 eight_steps_up = refl
 
-eight_steps_down : delta_of ranges.Second (pos 0x70) 32 (record default_state { delta_shift = pos 6 }) ≡ Ok (Some (negsuc 7))
+eight_steps_down : delta_of ranges.Second (pos 0x70) 32 (record default_state { delta_shift = 6 }) ≡ Ok (Some (negsuc 7))
 eight_steps_down = refl
 
 another_size : delta_of ranges.Third (pos 0x7F) 16 default_state ≡ Ok None

@@ -46,7 +46,7 @@ abbrev glyph : List Point → ZoneLists
 glyph ps = record { twilight = []; glyph = ps; contours = [] }
 
 twice_the_same : flippt (pos 0 ∷ pos 1 ∷ pos 1 ∷ []) (glyph (point true ∷ point true ∷ []))
-    (record default_state { loops = pos 3 }) ≡ Ok (glyph (point false ∷ point true ∷ []), default_state)
+    (record default_state { loops = 3 }) ≡ Ok (glyph (point false ∷ point true ∷ []), default_state)
 twice_the_same = refl
 
 glyph_points_whatever_zp0 : flippt (pos 0 ∷ []) (glyph (point true ∷ [])) (record default_state { zp0 = zone.Twilight })

@@ -81,10 +81,10 @@ to_where_it_stands : alignrp (pos 1 ∷ []) (glyph (point (pos 5) (pos 7) ∷ po
 to_where_it_stands = refl
 
 crossed_before_a_bad_point : alignrp (pos 9 ∷ pos 1 ∷ []) (glyph (point (pos 5) (pos 7) ∷ point (pos 1) (pos 2) ∷ []))
-    (record default_state { free = axis.Y; loops = pos 2 }) ≡ Err why.Perpendicular
+    (record default_state { free = axis.Y; loops = 2 }) ≡ Err why.Perpendicular
 crossed_before_a_bad_point = refl
 
-no_point_no_refusal : alignrp [] (glyph []) (record default_state { free = axis.Y; rp0 = negsuc 0; loops = pos 0 })
+no_point_no_refusal : alignrp [] (glyph []) (record default_state { free = axis.Y; rp0 = negsuc 0; loops = 0 })
     ≡ Ok (glyph [], record default_state { free = axis.Y; rp0 = negsuc 0 })
 no_point_no_refusal = refl
 

@@ -1,5 +1,5 @@
 -- Apple TrueType Reference Manual, "Graphics State" (loop): an instruction that works on several points, one by one.
-use Rattle.std.specs.Prelude.{ℕ, suc, nat_le, nat_lt, ℤ, pos, ◌&&◌, if◌then◌else◌, List, [], ◌∷◌, reverse, Result, Ok}
+use Rattle.std.specs.Prelude.{ℕ, suc, nat_le, nat_lt, ℤ, ◌&&◌, if◌then◌else◌, List, [], ◌∷◌, reverse, Result, Ok}
 use Rattle.tt_core.specs.Outcomes.{◌>>=◌}
 use Rattle.tt_core.specs.declared.fault.Why.{Why}
 use Rattle.tt_state.specs.declared.graphics_state.GraphicsState.{GraphicsState}
@@ -13,7 +13,7 @@ one_by_one step (n ∷ ns) s = step n s >>= λ t. one_by_one step ns t
 
 -- the loop variable, set back by each instruction that obeys it
 abbrev pub set_back : GraphicsState → GraphicsState
-set_back g = record g { loops = pos 1 }
+set_back g = record g { loops = 1 }
 
 -- what is done with each point that is popped; the last of the list is popped first
 abbrev pub looped : (ℤ → ZoneLists → Result ZoneLists Why) → List ℤ → ZoneLists → GraphicsState

@@ -5,7 +5,6 @@ ghost use Rattle.std.specs.Prelude.{◌≡◌, Some, get_or, ◌*◌, ◌+◌, �
 ghost use Rattle.tt_core.specs.Outcomes.{Gives};
 ghost use Rattle.tt_points_loops.specs.Deltas as is;
 ghost use Rattle.tt_points_zones.specs.Zones.{IsZones, zones_view};
-ghost use Rattle.tt_state.specs.GraphicsState.{IsGraphicsState};
 
 use tt_core::Why;
 use tt_points_zones::{Zones, direction, moved};
@@ -50,7 +49,6 @@ fn steps_of(argument: u8) -> i32
 
 /// One step.
 fn step_of(state: &GraphicsState) -> i32
-    requires { IsGraphicsState state.now }
     ensures exact { result ≡ is.step_of state.now }
     ensures low { pos 1 ≤ℤ result }
     ensures high { result ≤ℤ pos 64 }
@@ -78,7 +76,6 @@ fn product(steps: i32, step: i32) -> i32
 
 /// The exception of a byte at its size.
 fn exception(argument: u8, state: &GraphicsState) -> i32
-    requires { IsGraphicsState state.now }
     ensures exact { result ≡ is.steps_of argument *ℤ is.step_of state.now }
     ensures bound { unsigned_abs result ≤ 512 }
 {
@@ -93,7 +90,6 @@ pub fn delta_of(
     ppem: u32,
     state: &GraphicsState,
 ) -> Result<Option<i32>, Why>
-    requires { IsGraphicsState state.now }
     ensures exact { Gives (λ d. d) result (is.delta_of range argument ppem state.now) }
     ensures bound { IfOk result (λ d. IfSome d (λ by. unsigned_abs by ≤ 512)) }
 {
@@ -129,7 +125,6 @@ fn except(
     i: usize,
 ) -> Result<(), Why>
     requires zones { IsZones (zones_view zones.old) }
-    requires state { IsGraphicsState state.now }
     requires there { 2 * i + 1 < length pairs.now }
     ensures exact { Gives (λ u. zones_view zones.new) result
         (is.except range ppem state.now (get_or pairs.now (2 * i) (pos 0), get_or pairs.now (2 * i + 1) (pos 0))
@@ -153,7 +148,6 @@ pub fn deltap(
     pairs: &[i32],
 ) -> Result<(), Why>
     requires zones { IsZones (zones_view zones.old) }
-    requires state { IsGraphicsState state.now }
     ensures exact { Gives (λ u. zones_view zones.new) result
         (is.deltap range ppem pairs.now (zones_view zones.old) state.now) }
     ensures zones { IsZones (zones_view zones.new) }

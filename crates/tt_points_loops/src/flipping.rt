@@ -6,7 +6,6 @@ ghost use Rattle.tt_core.specs.Outcomes.{Gives};
 ghost use Rattle.tt_points_loops.specs.Flipping as is;
 ghost use Rattle.tt_points_loops.specs.Series.{each_from_to, one_by_one};
 ghost use Rattle.tt_points_zones.specs.Zones.{IsPoint, IsZones, zones_view};
-ghost use Rattle.tt_state.specs.GraphicsState.{IsGraphicsState};
 
 use tt_core::Why;
 use tt_points_zones::Zones;
@@ -38,11 +37,9 @@ fn flip_all(zones: &mut Zones, numbers: &[i32]) -> Result<(), Why>
 /// FLIPPT[]: loop points -> each is off the curve where it was on it, and the other way. Error: PointRange.
 pub fn flippt(zones: &mut Zones, state: &mut GraphicsState, numbers: &[i32]) -> Result<(), Why>
     requires zones { IsZones (zones_view zones.old) }
-    requires state { IsGraphicsState state.old }
     ensures exact { Gives (λ u. (zones_view zones.new, state.new)) result
         (is.flippt numbers.now (zones_view zones.old) state.old) }
     ensures zones { IsZones (zones_view zones.new) }
-    ensures state { IsGraphicsState state.new }
 {
     flip_all(zones, numbers)?;
     state.loops = 1;

@@ -8,7 +8,6 @@ ghost use Rattle.tt_points_loops.specs.Series.{one_by_one};
 ghost use Rattle.tt_points_zones.specs.Points as point;
 ghost use Rattle.tt_points_zones.specs.Points.{cur};
 ghost use Rattle.tt_points_zones.specs.Zones.{IsPoint, IsZones, zones_view};
-ghost use Rattle.tt_state.specs.GraphicsState.{IsGraphicsState};
 
 use tt_core::{Why, rq};
 use tt_points_zones::{
@@ -66,11 +65,9 @@ fn align_all(zones: &mut Zones, state: &GraphicsState, numbers: &[i32]) -> Resul
 /// Perpendicular, ValueRange.
 pub fn alignrp(zones: &mut Zones, state: &mut GraphicsState, numbers: &[i32]) -> Result<(), Why>
     requires zones { IsZones (zones_view zones.old) }
-    requires state { IsGraphicsState state.old }
     ensures exact { Gives (λ u. (zones_view zones.new, state.new)) result
         (is.alignrp numbers.now (zones_view zones.old) state.old) }
     ensures zones { IsZones (zones_view zones.new) }
-    ensures state { IsGraphicsState state.new }
 {
     align_all(zones, state, numbers)?;
     state.loops = 1;
@@ -191,11 +188,9 @@ fn interpolate_all(zones: &mut Zones, state: &GraphicsState, numbers: &[i32]) ->
 /// Errors: PointRange, Perpendicular, ValueRange.
 pub fn ip(zones: &mut Zones, state: &mut GraphicsState, numbers: &[i32]) -> Result<(), Why>
     requires zones { IsZones (zones_view zones.old) }
-    requires state { IsGraphicsState state.old }
     ensures exact { Gives (λ u. (zones_view zones.new, state.new)) result
         (is.ip numbers.now (zones_view zones.old) state.old) }
     ensures zones { IsZones (zones_view zones.new) }
-    ensures state { IsGraphicsState state.new }
 {
     interpolate_all(zones, state, numbers)?;
     state.loops = 1;
@@ -252,11 +247,9 @@ pub fn shpix(
     amount: i32,
 ) -> Result<(), Why>
     requires zones { IsZones (zones_view zones.old) }
-    requires state { IsGraphicsState state.old }
     ensures exact { Gives (λ u. (zones_view zones.new, state.new)) result
         (is.shpix numbers.now amount (zones_view zones.old) state.old) }
     ensures zones { IsZones (zones_view zones.new) }
-    ensures state { IsGraphicsState state.new }
 {
     push_all(zones, state, Distance(i64::from(amount)), numbers)?;
     state.loops = 1;

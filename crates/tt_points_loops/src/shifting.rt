@@ -7,7 +7,6 @@ ghost use Rattle.tt_points_loops.specs.Series.{each_from_to, one_by_one};
 ghost use Rattle.tt_points_loops.specs.Shifting as is;
 ghost use Rattle.tt_points_zones.specs.Points.{cur, org, points_in};
 ghost use Rattle.tt_points_zones.specs.Zones.{AreContours, IsPoint, IsZones, zones_view};
-ghost use Rattle.tt_state.specs.GraphicsState.{IsGraphicsState};
 ghost use Rattle.tt_state.specs.declared.graphics_state.Zone.TheVariants as zone;
 
 use tt_core::Why;
@@ -149,11 +148,9 @@ pub fn shp(
     numbers: &[i32],
 ) -> Result<(), Why>
     requires zones { IsZones (zones_view zones.old) }
-    requires state { IsGraphicsState state.old }
     ensures exact { Gives (λ u. (zones_view zones.new, state.new)) result
         (is.shp which numbers.now (zones_view zones.old) state.old) }
     ensures zones { IsZones (zones_view zones.new) }
-    ensures state { IsGraphicsState state.new }
 {
     let before = reference(zones, state, which);
     shift_all(zones, state, before, numbers)?;
@@ -297,7 +294,6 @@ pub fn shc(
     contour: i32,
 ) -> Result<(), Why>
     requires zones { IsZones (zones_view zones.old) }
-    requires state { IsGraphicsState state.now }
     ensures exact { Gives (λ u. zones_view zones.new) result (is.shc which contour (zones_view zones.old) state.now) }
     ensures zones { IsZones (zones_view zones.new) }
 {
@@ -344,7 +340,6 @@ pub fn shz(
     zone: i32,
 ) -> Result<(), Why>
     requires zones { IsZones (zones_view zones.old) }
-    requires state { IsGraphicsState state.now }
     ensures exact { Gives (λ u. zones_view zones.new) result (is.shz which zone (zones_view zones.old) state.now) }
     ensures zones { IsZones (zones_view zones.new) }
 {

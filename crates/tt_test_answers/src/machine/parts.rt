@@ -3,7 +3,6 @@
 ghost use Rattle.std.specs.Prelude.{◌<◌, ◌≤◌, ◌^◌, All, length, unsigned_abs, IfOk, IsTrue};
 ghost use Rattle.tt_core.specs.Faults.{is_ascii};
 ghost use Rattle.tt_core.specs.Limits.{coordinate_limit, size_limit};
-ghost use Rattle.tt_state.specs.GraphicsState.{IsGraphicsState};
 ghost use Rattle.tt_points_zones.specs.Zones.{AreContours, IsPoint, IsZones, zones_view};
 
 use crate::words::{MOST, Words};
@@ -141,7 +140,6 @@ fn zones_in(alloc: Global, words: &mut Words) -> Result<Zones>
 
 pub(crate) fn parts_in<'a>(alloc: Global, words: &mut Words) -> Result<Parts<'a>>
     ensures zones { IfOk result (λ p. IsZones (zones_view p.zones)) }
-    ensures state { IfOk result (λ p. IsGraphicsState p.state) }
     ensures em { IfOk result (λ p. 16 ≤ p.em) }
     ensures ppem { IfOk result (λ p. p.ppem ≤ size_limit) }
 {

@@ -5,5 +5,4 @@ new-requires c = record {
   size = c.requires.size;
   units = c.requires.units;
   zones = c.requires.zones;
-  graphics = c.requires.state;
 }
