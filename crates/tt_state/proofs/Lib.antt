@@ -1,1 +1,2 @@
 mod Eighths
+mod Pixels

@@ -1,3 +1,4 @@
 pub mod GraphicsState
+pub mod Laws
 pub mod Rounding
 pub mod Sround

@@ -1,9 +1,9 @@
 -- Apple TrueType Reference Manual, "Graphics State" (round state) and "Instruction Set" (RTG, RTHG, RTDG, RDTG, RUTG,
--- ROFF, SROUND). Distances are in 26.6 pixels.
+-- ROFF, SROUND, S45ROUND). Distances are in 26.6 pixels.
 use Rattle.std.specs.Prelude.{◌≡◌, ℕ, if◌then◌else◌, ℤ, pos, negsuc, ◌+ℤ◌, neg_ℤ, int_lt, refl}
 use Rattle.tt_state.specs.declared.rounding.Round.{Round}
 use Rattle.tt_state.specs.declared.rounding.Round.TheVariants as round
-use Rattle.tt_state.specs.Sround.{cut_to, super_of, rounded_by}
+use Rattle.tt_state.specs.Sround.{cut_to, a_pixel, half_a_diagonal, super_of, rounded_by}
 
 -- a magnitude rounded
 abbrev pub rounded_magnitude : Round → ℤ → ℤ
@@ -22,7 +22,11 @@ rounded state v =
 
 -- the state that SROUND sets by a byte
 abbrev pub super_state : ℕ → Round
-super_state byte = round.Super (super_of byte)
+super_state byte = round.Super (super_of a_pixel byte)
+
+-- the state that S45ROUND sets by a byte
+abbrev pub super_state_at_45 : ℕ → Round
+super_state_at_45 byte = round.Super (super_of half_a_diagonal byte)
 
 -- worked values
 half_a_pixel : rounded round.Grid (pos 32) ≡ pos 64
@@ -51,3 +55,18 @@ down = refl
 
 minus_ten : rounded (super_state 0x59) (negsuc 9) ≡ negsuc 15
 minus_ten = refl
+
+at_45 : rounded (super_state_at_45 0x48) (pos 67) ≡ pos 45
+at_45 = refl
+
+half_a_period_at_45 : rounded (super_state_at_45 0x48) (pos 68) ≡ pos 90
+half_a_period_at_45 = refl
+
+minus_half_a_period_at_45 : rounded (super_state_at_45 0x48) (negsuc 22) ≡ negsuc 44
+minus_half_a_period_at_45 = refl
+
+up_at_45 : rounded (super_state_at_45 0x40) (pos 46) ≡ pos 90
+up_at_45 = refl
+
+none_at_45 : rounded (super_state_at_45 0x40) (pos 0) ≡ pos 0
+none_at_45 = refl

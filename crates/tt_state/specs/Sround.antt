@@ -1,8 +1,23 @@
--- Apple TrueType Reference Manual, "Instruction Set" (SROUND). Distances are in 26.6 pixels.
-use Rattle.std.specs.Prelude.{◌≡◌, ℕ, ◌-◌, ◌*◌, ◌/◌, ◌%◌, ◌<◌, ◌≤◌, ◌==◌, if◌then◌else◌, ℤ, pos, negsuc, ◌+ℤ◌, ◌-ℤ◌, ◌*ℤ◌, ◌≤ℤ◌, int_lt, refl}
-use Rattle.std.specs.Int.{int_rem_euclid}
+-- Apple TrueType Reference Manual, "Instruction Set" (SROUND, S45ROUND): one rule, by the period of a grid. Distances
+-- are in 26.6 pixels, but a grid period and what is called fine in 2.14.
+use Rattle.std.specs.Prelude.{◌≡◌, ℕ, ◌+◌, ◌-◌, ◌*◌, ◌/◌, ◌%◌, ◌<◌, ◌≤◌, ◌==◌, nat_le, true, false, if◌then◌else◌, ℤ, pos, negsuc, ◌+ℤ◌, ◌-ℤ◌, ◌*ℤ◌, ◌≤ℤ◌, int_lt, refl}
+use Rattle.std.specs.Int.{int_div_euclid, int_rem_euclid}
+use Rattle.tt_state.specs.declared.sround.GridPeriod.{GridPeriod}
+use Rattle.tt_state.specs.declared.sround.GridPeriod.TheVariants as grid_period
 
--- what SROUND sets
+-- the grid period of SROUND
+abbrev pub a_pixel : ℕ
+a_pixel = 16384
+
+-- the grid period of S45ROUND, half the root of 2: cut (profile)
+abbrev pub half_a_diagonal : ℕ
+half_a_diagonal = 11585
+
+abbrev pub length_of : GridPeriod → ℕ
+length_of grid_period.Pixel = a_pixel
+length_of grid_period.HalfDiagonal = half_a_diagonal
+
+-- what SROUND and S45ROUND set
 pub record Super : Type 0 where
   pub period : ℕ
   pub phase : ℕ
@@ -10,7 +25,7 @@ pub record Super : Type 0 where
 
 -- what each such state meets
 pub record IsSuper (period phase : ℕ) (threshold : ℤ) : Type 0 where
-  pub some : 32 ≤ period
+  pub some : 22 ≤ period
   pub few : period ≤ 128
   pub within : phase < period
   pub low : pos 0 ≤ℤ (threshold +ℤ pos period)
@@ -21,20 +36,27 @@ abbrev pub cut_to : ℕ → ℤ → ℤ
 cut_to k n = n -ℤ int_rem_euclid n (pos k)
 
 -- bits 7 and 6 of the byte; their fourth code counts as the second (profile)
+abbrev pub fine_period_of : ℕ → ℕ → ℕ
+fine_period_of grid byte = if byte / 64 == 0 then grid / 2 else (if byte / 64 == 2 then 2 * grid else grid)
+
 abbrev pub period_of : ℕ → ℕ
-period_of byte = if byte / 64 == 0 then 32 else (if byte / 64 == 2 then 128 else 64)
+period_of fine = fine / 256
 
 -- bits 5 and 4: quarters of the period
-abbrev pub phase_of : ℕ → ℕ
-phase_of byte = period_of byte / 4 * (byte / 16 % 4)
+abbrev pub phase_of : ℕ → ℕ → ℕ
+phase_of fine byte = fine * (byte / 16 % 4) / 4 / 256
 
--- bits 3 to 0: 0 is one less than the period, any other n is n - 4 eighths of it
-abbrev pub threshold_of : ℕ → ℤ
-threshold_of byte =
-    if byte % 16 == 0 then pos (period_of byte - 1) else pos (period_of byte / 8) *ℤ (pos (byte % 16) -ℤ pos 4)
+-- bits 3 to 0: 0 is one less than the period, any other n is n - 4 eighths of it, rounded down
+abbrev pub threshold_of : ℕ → ℕ → ℤ
+threshold_of fine byte =
+    if byte % 16 == 0 then pos (period_of fine - 1)
+    else int_div_euclid (pos fine *ℤ (pos (byte % 16) -ℤ pos 4)) (pos 2048)
 
-abbrev pub super_of : ℕ → Super
-super_of byte = record { period = period_of byte; phase = phase_of byte; threshold = threshold_of byte }
+-- the state that a byte sets, by a grid period
+abbrev pub super_of : ℕ → ℕ → Super
+super_of grid byte =
+    let fine = fine_period_of grid byte in
+    record { period = period_of fine; phase = phase_of fine byte; threshold = threshold_of fine byte }
 
 -- a magnitude rounded: the phase where it would be below 0
 abbrev pub rounded_by : Super → ℤ → ℤ
@@ -43,20 +65,48 @@ rounded_by s m =
     if int_lt rounded (pos 0) then pos s.phase else rounded
 
 -- worked values
-a_byte : super_of 0x59 ≡ record { period = 64; phase = 16; threshold = pos 40 }
+a_byte : super_of a_pixel 0x59 ≡ record { period = 64; phase = 16; threshold = pos 40 }
 a_byte = refl
 
-ten : rounded_by (super_of 0x59) (pos 10) ≡ pos 16
+ten : rounded_by (super_of a_pixel 0x59) (pos 10) ≡ pos 16
 ten = refl
 
-hundred : rounded_by (super_of 0x59) (pos 100) ≡ pos 80
+hundred : rounded_by (super_of a_pixel 0x59) (pos 100) ≡ pos 80
 hundred = refl
 
-no_threshold : super_of 0xB0 ≡ record { period = 128; phase = 96; threshold = pos 127 }
+no_threshold : super_of a_pixel 0xB0 ≡ record { period = 128; phase = 96; threshold = pos 127 }
 no_threshold = refl
 
-kept_back : super_of 0xC1 ≡ record { period = 64; phase = 0; threshold = negsuc 23 }
+kept_back : super_of a_pixel 0xC1 ≡ record { period = 64; phase = 0; threshold = negsuc 23 }
 kept_back = refl
 
-below_the_phase : rounded_by (super_of 0x71) (pos 0) ≡ pos 48
+below_the_phase : rounded_by (super_of a_pixel 0x71) (pos 0) ≡ pos 48
 below_the_phase = refl
+
+-- half the root of 2 is the root of a half
+not_above_the_root : nat_le (2 * (half_a_diagonal * half_a_diagonal)) (a_pixel * a_pixel) ≡ true
+not_above_the_root = refl
+
+next_above_the_root : nat_le (2 * ((half_a_diagonal + 1) * (half_a_diagonal + 1))) (a_pixel * a_pixel) ≡ false
+next_above_the_root = refl
+
+half_a_period_at_45 : super_of half_a_diagonal 0x00 ≡ record { period = 22; phase = 0; threshold = pos 21 }
+half_a_period_at_45 = refl
+
+no_threshold_at_45 : super_of half_a_diagonal 0xB0 ≡ record { period = 90; phase = 67; threshold = pos 89 }
+no_threshold_at_45 = refl
+
+nearest_at_45 : super_of half_a_diagonal 0x48 ≡ record { period = 45; phase = 0; threshold = pos 22 }
+nearest_at_45 = refl
+
+rounded_down_at_45 : super_of half_a_diagonal 0x41 ≡ record { period = 45; phase = 0; threshold = negsuc 16 }
+rounded_down_at_45 = refl
+
+a_quarter_at_45 : super_of half_a_diagonal 0x58 ≡ record { period = 45; phase = 11; threshold = pos 22 }
+a_quarter_at_45 = refl
+
+three_quarters_at_45 : super_of half_a_diagonal 0x78 ≡ record { period = 45; phase = 33; threshold = pos 22 }
+three_quarters_at_45 = refl
+
+kept_back_at_45 : super_of half_a_diagonal 0xC8 ≡ record { period = 45; phase = 0; threshold = pos 22 }
+kept_back_at_45 = refl

@@ -2,6 +2,7 @@
 #![tactic(auto)]
 
 mod graphics_state;
+pub mod laws;
 mod point;
 mod rounding;
 mod sround;

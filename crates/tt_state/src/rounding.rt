@@ -1,10 +1,10 @@
 //! Rounding by the round state. Apple TrueType Reference Manual, "Graphics State" (round state) and "Instruction Set"
-//! (RTG, RTHG, RTDG, RDTG, RUTG, ROFF, SROUND).
+//! (RTG, RTHG, RTDG, RDTG, RUTG, ROFF, SROUND, S45ROUND).
 
 ghost use Rattle.std.specs.Prelude.{◌≡◌, ◌+◌, ◌^◌, ◌<◌, ◌≤◌, pos, ◌+ℤ◌, ◌<ℤ◌, ◌≤ℤ◌, unsigned_abs};
-ghost use Rattle.tt_state.specs.Rounding.{super_state, rounded_magnitude, rounded};
+ghost use Rattle.tt_state.specs.Rounding.{super_state, super_state_at_45, rounded_magnitude, rounded};
 
-use crate::sround::{Super, cut};
+use crate::sround::{GridPeriod, Super, cut};
 
 /// The round state: how the instructions that round do it.
 #[derive(Clone, Copy, Debug, PartialEq, Eq)]
@@ -21,7 +21,7 @@ pub enum Round {
     Up,
     /// ROFF: not at all.
     Off,
-    /// SROUND: by a period, a phase and a threshold.
+    /// SROUND and S45ROUND: by a period, a phase and a threshold.
     Super(Super),
 }
 
@@ -30,7 +30,14 @@ impl Round {
     pub fn from_byte(byte: u8) -> Round
         ensures { result ≡ super_state byte }
     {
-        Round::Super(Super::from_byte(byte))
+        Round::Super(Super::from_byte(GridPeriod::Pixel, byte))
+    }
+
+    /// The state that S45ROUND sets by the low byte of what it pops.
+    pub fn from_byte_at_45(byte: u8) -> Round
+        ensures { result ≡ super_state_at_45 byte }
+    {
+        Round::Super(Super::from_byte(GridPeriod::HalfDiagonal, byte))
     }
 
     /// A magnitude rounded.

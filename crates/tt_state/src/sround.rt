@@ -1,13 +1,36 @@
-//! What SROUND sets. Apple TrueType Reference Manual, "Instruction Set" (SROUND).
+//! What SROUND and S45ROUND set. Apple TrueType Reference Manual, "Instruction Set" (SROUND, S45ROUND).
 
 ghost use Rattle.std.specs.Prelude.{◌≡◌, ◌+◌, ◌*◌, ◌^◌, ◌<◌, ◌≤◌, pos, ◌+ℤ◌, ◌-ℤ◌, ◌*ℤ◌, ◌<ℤ◌, ◌≤ℤ◌, unsigned_abs};
-ghost use Rattle.tt_state.specs.Sround.{cut_to, period_of, phase_of, threshold_of, super_of, rounded_by};
+ghost use Rattle.tt_state.specs.Sround.{a_pixel, half_a_diagonal, length_of, cut_to, fine_period_of, period_of, phase_of, threshold_of, super_of, rounded_by};
 
 use std::marker::Model;
 
-/// The round state of SROUND, in 26.6 pixels: the distance between the magnitudes that rounding gives, the least of
-/// them, and what is added to a magnitude before it is cut. It is made of SROUND's byte alone, so its period is 32 to
-/// 128.
+/// How far apart the lines of a grid stand that SROUND and S45ROUND round to.
+#[derive(Clone, Copy)]
+pub(crate) enum GridPeriod {
+    /// SROUND's: one pixel.
+    Pixel,
+    /// S45ROUND's: half the diagonal of a pixel, for distances at 45 degrees to the axes.
+    HalfDiagonal,
+}
+
+impl GridPeriod {
+    /// In 2.14 pixels; half the root of 2 is cut (profile).
+    fn length(self) -> u32
+        ensures exact { result ≡ length_of self }
+        ensures low { half_a_diagonal ≤ result }
+        ensures high { result ≤ a_pixel }
+    {
+        match self {
+            GridPeriod::Pixel => 16384,
+            GridPeriod::HalfDiagonal => 11585,
+        }
+    }
+}
+
+/// The round state of SROUND and S45ROUND, in 26.6 pixels: the distance between the magnitudes that rounding gives,
+/// the least of them, and what is added to a magnitude before it is cut. It is made of a byte and one of two grids
+/// alone, so its period is 22 to 128.
 #[derive(Clone, Copy, Debug, PartialEq, Eq)]
 pub struct Super {
     period: u32,
@@ -38,65 +61,70 @@ pub(crate) fn cut(n: i64, k: u32) -> i64
     n - n.rem_euclid(i64::from(k))
 }
 
-/// Bits 7 and 6 of SROUND's byte. Their fourth code, which the standard keeps back, counts as the second (profile).
-fn period_of(byte: u8) -> u32
-    ensures exact { result ≡ period_of byte }
-    ensures low { 32 ≤ result }
-    ensures high { result ≤ 128 }
+/// Bits 7 and 6 of the byte: the period in 2.14 pixels. Their fourth code, which the standard keeps back, counts as the
+/// second (profile).
+fn fine_period_of(grid: u32, byte: u8) -> u32
+    requires low { half_a_diagonal ≤ grid }
+    requires high { grid ≤ a_pixel }
+    ensures exact { result ≡ fine_period_of grid byte }
+    ensures low { 5792 ≤ result }
+    ensures high { result ≤ 32768 }
 {
     match byte / 64 {
-        0 => 32,
-        2 => 128,
-        _ => 64,
+        0 => grid / 2,
+        2 => 2 * grid,
+        _ => grid,
     }
 }
 
-/// Bits 5 and 4: quarters of the period.
-fn phase_of(byte: u8, period: u32) -> u32
-    requires { period ≤ 128 }
-    ensures exact { period ≡ period_of byte → result ≡ phase_of byte }
-    ensures within { 4 ≤ period → result < period }
+/// Bits 5 and 4: quarters of the period, which is given in 2.14 pixels.
+fn phase_of(fine: u32, byte: u8) -> u32
+    requires low { 5792 ≤ fine }
+    requires high { fine ≤ 32768 }
+    ensures exact { result ≡ phase_of fine byte }
+    ensures within { result < period_of fine }
 {
-    period / 4 * (u32::from(byte) / 16 % 4)
+    fine * (u32::from(byte) / 16 % 4) / 4 / 256
 }
 
-/// `n - 4` eighths of a period.
-fn eighths(eighth: u32, n: u8) -> i32
-    requires some { eighth ≤ 16 }
+/// `n - 4` times a period.
+fn eighths(fine: u32, n: u8) -> i32
+    requires some { fine ≤ 32768 }
     requires few { n < 16 }
-    ensures exact { result ≡ pos eighth *ℤ (pos n -ℤ pos 4) }
-    ensures low { pos 0 ≤ℤ (result +ℤ pos (4 * eighth)) }
-    ensures high { result ≤ℤ pos (12 * eighth) }
+    ensures exact { result ≡ pos fine *ℤ (pos n -ℤ pos 4) }
+    ensures low { pos 0 ≤ℤ (result +ℤ pos (4 * fine)) }
+    ensures high { result ≤ℤ pos (12 * fine) }
 {
-    eighth as i32 * (i32::from(n) - 4)
+    fine as i32 * (i32::from(n) - 4)
 }
 
-/// Bits 3 to 0: 0 is one less than the period, any other n is n - 4 eighths of it.
-fn threshold_of(byte: u8, period: u32) -> i32
-    requires some { 32 ≤ period }
-    requires few { period ≤ 128 }
-    ensures exact { period ≡ period_of byte → result ≡ threshold_of byte }
-    ensures low { pos 0 ≤ℤ (result +ℤ pos period) }
-    ensures high { result ≤ℤ pos (2 * period) }
+/// Bits 3 to 0: 0 is one less than the period, any other n is n - 4 eighths of it, rounded down. The period is given in
+/// 2.14 pixels.
+fn threshold_of(fine: u32, byte: u8) -> i32
+    requires low { 5792 ≤ fine }
+    requires high { fine ≤ 32768 }
+    ensures exact { result ≡ threshold_of fine byte }
+    ensures low { pos 0 ≤ℤ (result +ℤ pos (period_of fine)) }
+    ensures high { result ≤ℤ pos (2 * period_of fine) }
 {
     let n = byte % 16;
     if n == 0 {
-        period as i32 - 1
+        (fine / 256) as i32 - 1
     } else {
-        eighths(period / 8, n)
+        eighths(fine, n).div_euclid(2048)
     }
 }
 
 impl Super {
-    /// The state that SROUND sets by the low byte of what it pops.
-    pub(crate) fn from_byte(byte: u8) -> Super
-        ensures { result ≡ super_of byte }
+    /// The state that a byte sets by a grid: SROUND's and S45ROUND's, by the low byte of what they pop.
+    pub(crate) fn from_byte(grid: GridPeriod, byte: u8) -> Super
+        ensures { result ≡ super_of (length_of grid) byte }
     {
-        let period = period_of(byte);
+        let fine = fine_period_of(grid.length(), byte);
         Super {
-            period,
-            phase: phase_of(byte, period),
-            threshold: threshold_of(byte, period),
+            period: fine / 256,
+            phase: phase_of(fine, byte),
+            threshold: threshold_of(fine, byte),
         }
     }
 
