@@ -1,3 +1,4 @@
 pub mod Zones
 pub mod Points
 pub mod ZoneNumbers
+pub mod Meeting

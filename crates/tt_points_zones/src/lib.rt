@@ -2,11 +2,14 @@
 #![tactic(auto)]
 
 mod distances;
+mod meeting;
 mod points;
+mod way;
 mod zone_numbers;
 mod zones;
 
 pub use distances::{Distance, current_distance, distance_between, original_distance, product};
+pub use meeting::{Line, Place, met};
 pub use points::{cur, direction, is_coordinate, is_touched, marked, moved, org, put, shifted};
 pub use zone_numbers::zone_of;
 pub use zones::Zones;
