@@ -1,6 +1,9 @@
--- Laws of the definitions. Apple TrueType Reference Manual, "Instruction Set" (SROUND): its numbers in 26.6 pixels.
-use Rattle.std.specs.Prelude.{◌≡◌, ℕ, ◌-◌, ◌*◌, ◌/◌, ◌%◌, ◌==◌, if◌then◌else◌, ℤ, pos, ◌-ℤ◌, ◌*ℤ◌}
+-- Laws of the definitions, each said once: what SROUND sets, what vectors come to on the axes, and what a part of a unit
+-- vector is. Apple TrueType Reference Manual, "Instruction Set" (SROUND) and "Graphics State" (vectors).
+use Rattle.std.specs.Prelude.{◌≡◌, ℕ, ◌+◌, ◌-◌, ◌*◌, ◌/◌, ◌%◌, ◌^◌, ◌<◌, ◌≤◌, ◌==◌, if◌then◌else◌, ℤ, pos, negsuc, ◌-ℤ◌, ◌*ℤ◌, unsigned_abs}
+use Rattle.tt_state.specs.Axes.{pair_of, vector_of}
 use Rattle.tt_state.specs.Sround.{a_pixel, super_of}
+use Rattle.tt_state.specs.Vectors.{Pair, pair, square, part, unit, project, along, dot}
 
 -- bits 7 and 6 of the byte: half a pixel, a pixel or two
 abbrev pub whole_period_of : ℕ → ℕ
@@ -19,3 +22,41 @@ PixelsAreWhole = (byte : ℕ) → super_of a_pixel byte ≡ record {
   phase = whole_period_of byte / 4 * (byte / 16 % 4);
   threshold = whole_threshold_of byte;
 }
+
+abbrev pub x_axis : Pair
+x_axis = pair (pos 16384) (pos 0)
+
+abbrev pub y_axis : Pair
+y_axis = pair (pos 0) (pos 16384)
+
+-- along x a projection is the coordinate, a distance goes that far on x and not on y, and the dot with itself is 1
+pub record OnX (x y d : ℤ) : Type 0 where
+  pub projected : project x_axis x y ≡ x
+  pub moved : along x_axis d ≡ pair d (pos 0)
+  pub whole : dot x_axis x_axis ≡ pos 16384
+
+-- the same along y
+pub record OnY (x y d : ℤ) : Type 0 where
+  pub projected : project y_axis x y ≡ y
+  pub moved : along y_axis d ≡ pair (pos 0) d
+  pub whole : dot y_axis y_axis ≡ pos 16384
+
+-- the axes, either way, are unit vectors already
+pub record AxesAreUnits : Type 0 where
+  pub x : unit (pos 16384) (pos 0) ≡ x_axis
+  pub y : unit (pos 0) (pos 16384) ≡ y_axis
+  pub minus_x : unit (negsuc 16383) (pos 0) ≡ pair (negsuc 16383) (pos 0)
+  pub minus_y : unit (pos 0) (negsuc 16383) ≡ pair (pos 0) (negsuc 16383)
+
+-- a is the greatest whole number for which a a l is not above 2^28 s
+pub record IsGreatest (a s l : ℕ) : Type 0 where
+  pub low : a * a * l ≤ 2 ^ 28 * s
+  pub high : 2 ^ 28 * s < (a + 1) * (a + 1) * l
+
+-- a part is in magnitude the greatest whole number that leaves the vector no longer than 1
+abbrev pub PartsAreGreatest : Type 0
+PartsAreGreatest = (v : ℤ) (l : ℕ) → 0 < l → square v ≤ l → IsGreatest (unsigned_abs (part v l)) (square v) l
+
+-- a vector made of parts has these parts
+abbrev pub VectorsKeepParts : Type 0
+VectorsKeepParts = (p : Pair) → pair_of (vector_of p) ≡ p

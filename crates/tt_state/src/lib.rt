@@ -1,4 +1,5 @@
-//! The state of the TrueType interpreter: the graphics state, how it rounds, and a point as programs see it.
+//! The state of the TrueType interpreter: the graphics state, how it rounds, unit vectors, and a point as programs see
+//! it.
 #![tactic(auto)]
 
 mod graphics_state;
@@ -6,8 +7,11 @@ pub mod laws;
 mod point;
 mod rounding;
 mod sround;
+mod unit;
+mod vector;
 
 pub use graphics_state::{Axis, GraphicsState, Zone};
 pub use point::Point;
 pub use rounding::Round;
 pub use sround::Super;
+pub use vector::{Slope, Vector, dot};

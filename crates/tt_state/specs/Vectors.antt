@@ -1,0 +1,164 @@
+-- Apple TrueType Reference Manual, "Graphics State" (projection vector, freedom vector, dual projection vector) and
+-- "Instruction Set" (SPVTL, SFVTL, SDPVTL, SPVFS, SFVFS). Coordinates and distances are in 26.6 pixels; the parts of a
+-- unit vector are in 2.14, in which 16384 is 1.
+use Rattle.std.specs.Prelude.{◌≡◌, ℕ, zero, suc, ◌+◌, ◌*◌, ◌/◌, ◌^◌, ◌<◌, ◌≤◌, ◌==◌, nat_lt, nat_le, max, Bool, true, false, if◌then◌else◌, ℤ, pos, negsuc, ◌+ℤ◌, ◌-ℤ◌, ◌*ℤ◌, neg_ℤ, int_lt, unsigned_abs, refl}
+use Rattle.tt_core.specs.Numbers.{rounded_quotient}
+
+-- the parts of a vector, or the coordinates of a place
+pub record Pair : Type 0 where
+  pub x : ℤ
+  pub y : ℤ
+
+abbrev pub pair : ℤ → ℤ → Pair
+pair x y = record { x = x; y = y }
+
+-- what each unit vector meets: neither a part nor the length is above 1, and a part is at least half the root of 2
+pub record IsUnit (x y : ℤ) : Type 0 where
+  pub across : unsigned_abs x ≤ 16384
+  pub upward : unsigned_abs y ≤ 16384
+  pub short : unsigned_abs x * unsigned_abs x + unsigned_abs y * unsigned_abs y ≤ 2 ^ 28
+  pub long : 11585 ≤ max (unsigned_abs x) (unsigned_abs y)
+
+-- the greatest whole number whose square is not above n, for an n below 4 ^ k: that of n / 4, and one more binary digit
+unfoldable pub root : ℕ → ℕ → ℕ
+root zero n = 0
+root (suc k) n = let r = 2 * root k (n / 4) in if nat_le ((r + 1) * (r + 1)) n then r + 1 else r
+
+abbrev pub square : ℤ → ℕ
+square v = unsigned_abs v * unsigned_abs v
+
+-- what a part is in magnitude, whose square was s in a vector whose length squared was l: 16384 root s / root l, cut
+-- (profile)
+abbrev pub magnitude : ℕ → ℕ → ℕ
+magnitude s l = root 15 (2 ^ 28 * s / l)
+
+abbrev pub part : ℤ → ℕ → ℤ
+part v l = if int_lt v (pos 0) then neg_ℤ (pos (magnitude (square v) l)) else pos (magnitude (square v) l)
+
+-- the unit vector of a direction; the x axis where there is none (profile)
+unfoldable pub unit : ℤ → ℤ → Pair
+unit x y =
+    let l = square x + square y in
+    if l == 0 then pair (pos 16384) (pos 0) else pair (part x l) (part y l)
+
+-- the unit vector of a line from a place to another, or turned a quarter to the left; the x axis, turned or not, where
+-- the places are one (profile)
+abbrev pub line : Pair → Pair → Bool → Pair
+line from to turned =
+    if turned then unit (neg_ℤ (to.y -ℤ from.y)) (to.x -ℤ from.x) else unit (to.x -ℤ from.x) (to.y -ℤ from.y)
+
+-- how far a place reaches along a unit vector: the sum is rounded, once (profile)
+unfoldable pub project : Pair → ℤ → ℤ → ℤ
+project v x y = rounded_quotient (x *ℤ v.x +ℤ y *ℤ v.y) (pos 16384)
+
+-- how far along each axis a distance along a unit vector goes
+unfoldable pub along : Pair → ℤ → Pair
+along v d = pair (rounded_quotient (d *ℤ v.x) (pos 16384)) (rounded_quotient (d *ℤ v.y) (pos 16384))
+
+-- how far the freedom vector reaches along the projection vector, in 2.14; below a sixteenth it counts as 1 (profile)
+abbrev pub counted : ℤ → ℤ
+counted whole = if nat_lt (unsigned_abs whole) 1024 then pos 16384 else whole
+
+abbrev pub dot : Pair → Pair → ℤ
+dot projection freedom = counted (project projection freedom.x freedom.y)
+
+-- worked values
+three_four : unit (pos 3) (pos 4) ≡ pair (pos 9830) (pos 13107)
+unfolding unit root
+three_four = refl
+
+straight_down : unit (pos 0) (negsuc 4) ≡ pair (pos 0) (negsuc 16383)
+unfolding unit root
+straight_down = refl
+
+diagonal : unit (pos 1) (pos 1) ≡ pair (pos 11585) (pos 11585)
+unfolding unit root
+diagonal = refl
+
+one_two : unit (pos 1) (pos 2) ≡ pair (pos 7327) (pos 14654)
+unfolding unit root
+one_two = refl
+
+downward : unit (pos 2) (negsuc 0) ≡ pair (pos 14654) (negsuc 7326)
+unfolding unit root
+downward = refl
+
+one_in_a_thousand : unit (pos 1) (pos 1000) ≡ pair (pos 16) (pos 16383)
+unfolding unit root
+one_in_a_thousand = refl
+
+never_the_axis : unit (pos 4194302) (pos 1) ≡ pair (pos 16383) (pos 0)
+unfolding unit root
+never_the_axis = refl
+
+near_the_axis : unit (pos 16382) (pos 255) ≡ pair (pos 16382) (pos 255)
+unfolding unit root
+near_the_axis = refl
+
+no_direction : unit (pos 0) (pos 0) ≡ pair (pos 16384) (pos 0)
+unfolding unit root
+no_direction = refl
+
+upward_line : line (pair (pos 0) (pos 0)) (pair (pos 100) (pos 200)) false ≡ pair (pos 7327) (pos 14654)
+unfolding unit root
+upward_line = refl
+
+turned_left : line (pair (pos 0) (pos 0)) (pair (pos 100) (pos 200)) true ≡ pair (negsuc 14653) (pos 7327)
+unfolding unit root
+turned_left = refl
+
+one_place : line (pair (pos 100) (pos 200)) (pair (pos 100) (pos 200)) true ≡ pair (pos 16384) (pos 0)
+unfolding unit root
+one_place = refl
+
+slanted : project (pair (pos 7327) (pos 14654)) (pos 100) (pos 200) ≡ pos 224
+unfolding project
+slanted = refl
+
+at_right_angles : project (pair (pos 7327) (pos 14654)) (pos 200) (negsuc 99) ≡ pos 0
+unfolding project
+at_right_angles = refl
+
+one_pixel : project (pair (pos 7327) (pos 14654)) (pos 64) (pos 0) ≡ pos 29
+unfolding project
+one_pixel = refl
+
+minus_one_pixel : project (pair (pos 7327) (pos 14654)) (negsuc 63) (pos 0) ≡ negsuc 28
+unfolding project
+minus_one_pixel = refl
+
+below_a_half : project (pair (pos 7327) (pos 14654)) (pos 1) (pos 0) ≡ pos 0
+unfolding project
+below_a_half = refl
+
+pixel_along : along (pair (pos 7327) (pos 14654)) (pos 64) ≡ pair (pos 29) (pos 57)
+unfolding along
+pixel_along = refl
+
+least_along : along (pair (pos 7327) (pos 14654)) (pos 1) ≡ pair (pos 0) (pos 1)
+unfolding along
+least_along = refl
+
+dot_with_x : dot (pair (pos 7327) (pos 14654)) (pair (pos 16384) (pos 0)) ≡ pos 7327
+unfolding project
+dot_with_x = refl
+
+dot_with_itself : dot (pair (pos 7327) (pos 14654)) (pair (pos 7327) (pos 14654)) ≡ pos 16383
+unfolding project
+dot_with_itself = refl
+
+below_a_sixteenth : dot (pair (pos 16352) (pos 1013)) (pair (pos 0) (pos 16384)) ≡ pos 16384
+unfolding project
+below_a_sixteenth = refl
+
+above_a_sixteenth : dot (pair (pos 16351) (pos 1030)) (pair (pos 0) (pos 16384)) ≡ pos 1030
+unfolding project
+above_a_sixteenth = refl
+
+dot_of_axes : dot (pair (pos 16384) (pos 0)) (pair (pos 0) (pos 16384)) ≡ pos 16384
+unfolding project
+dot_of_axes = refl
+
+dot_of_opposites : dot (pair (pos 16384) (pos 0)) (pair (negsuc 16383) (pos 0)) ≡ negsuc 16383
+unfolding project
+dot_of_opposites = refl

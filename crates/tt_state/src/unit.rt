@@ -1,0 +1,110 @@
+//! Unit vectors of any directions. Apple TrueType Reference Manual, "Instruction Set" (SPVTL, SFVTL, SDPVTL, SPVFS,
+//! SFVFS).
+
+ghost use Rattle.std.specs.Prelude.{◌≡◌, ◌+◌, ◌*◌, ◌/◌, ◌^◌, ◌<◌, ◌≤◌, ◌-ℤ◌, neg_ℤ, unsigned_abs};
+ghost use Rattle.tt_core.specs.Limits.{coordinate_limit};
+ghost use Rattle.tt_state.specs.Vectors as is;
+ghost use Rattle.tt_state.specs.Axes.{vector_of};
+
+use crate::vector::{Part, Vector, Wide, widened};
+
+/// 2^28 `s` / `l`, cut, in two divisions, so that no product passes 2^59.
+fn quotient(s: u64, l: u64) -> u64
+    requires some { 0 < l }
+    requires within { s ≤ l }
+    requires small { l < 2 ^ 45 }
+    ensures exact { result ≡ 2 ^ 28 * s / l }
+    ensures bound { result ≤ 2 ^ 28 }
+{
+    let n = 16384 * s;
+    n / l * 16384 + n % l * 16384 / l
+}
+
+/// What a part of a unit vector is in magnitude, in 2.14: its square was `s` in a vector whose length squared was `l`.
+fn magnitude(s: u64, l: u64) -> u64
+    requires some { 0 < l }
+    requires within { s ≤ l }
+    requires small { l < 2 ^ 45 }
+    ensures exact { result ≡ is.magnitude s l }
+    ensures bound { result ≤ 16384 }
+{
+    quotient(s, l).isqrt()
+}
+
+fn square(v: Wide) -> u64
+    requires { unsigned_abs v.0 ≤ 2 * coordinate_limit }
+    ensures exact { result ≡ is.square v.0 }
+    ensures bound { result < 2 ^ 44 }
+{
+    let m = v.0.unsigned_abs();
+    m * m
+}
+
+/// A part of a unit vector: it was `v` in a vector whose length squared was `l`.
+fn part_of(v: Wide, l: u64) -> Part
+    requires small { unsigned_abs v.0 ≤ 2 * coordinate_limit }
+    requires some { 0 < l }
+    requires within { is.square v.0 ≤ l }
+    requires few { l < 2 ^ 45 }
+    ensures { result.0 ≡ is.part v.0 l }
+{
+    let m = magnitude(square(v), l) as i16;
+    if v.0 < 0 { Part(-m) } else { Part(m) }
+}
+
+fn unit_of(x: Wide, y: Wide) -> Vector
+    requires x { unsigned_abs x.0 ≤ 2 * coordinate_limit }
+    requires y { unsigned_abs y.0 ≤ 2 * coordinate_limit }
+    ensures { result ≡ vector_of (is.unit x.0 y.0) }
+{
+    let l = square(x) + square(y);
+    if l == 0 {
+        return Vector::X;
+    }
+    Vector::of(part_of(x, l), part_of(y, l))
+}
+
+fn difference(from: i32, to: i32) -> Wide
+    requires from { unsigned_abs from ≤ coordinate_limit }
+    requires to { unsigned_abs to ≤ coordinate_limit }
+    ensures exact { result.0 ≡ to -ℤ from }
+    ensures bound { unsigned_abs result.0 ≤ 2 * coordinate_limit }
+{
+    Wide(i64::from(to) - i64::from(from))
+}
+
+fn negated(v: Wide) -> Wide
+    requires { unsigned_abs v.0 ≤ 2 * coordinate_limit }
+    ensures exact { result.0 ≡ neg_ℤ v.0 }
+    ensures bound { unsigned_abs result.0 ≤ 2 * coordinate_limit }
+{
+    Wide(-v.0)
+}
+
+impl Vector {
+    /// The unit vector of a direction, its parts in 2.14, cut; the x axis where `x` and `y` are 0 (profile).
+    pub fn unit(x: i32, y: i32) -> Vector
+        requires x { unsigned_abs x ≤ 2 * coordinate_limit }
+        requires y { unsigned_abs y ≤ 2 * coordinate_limit }
+        ensures { result ≡ vector_of (is.unit x y) }
+    {
+        unit_of(widened(x), widened(y))
+    }
+
+    /// The unit vector of a line, or turned a quarter to the left; the x axis where the line has no length (profile).
+    pub fn line(from: (i32, i32), to: (i32, i32), turned: bool) -> Vector
+        requires from_x { unsigned_abs from.0 ≤ coordinate_limit }
+        requires from_y { unsigned_abs from.1 ≤ coordinate_limit }
+        requires to_x { unsigned_abs to.0 ≤ coordinate_limit }
+        requires to_y { unsigned_abs to.1 ≤ coordinate_limit }
+        ensures { result ≡ vector_of (is.line (is.pair from.0 from.1) (is.pair to.0 to.1) turned) }
+    {
+        let dx = difference(from.0, to.0);
+        let dy = difference(from.1, to.1);
+        if turned {
+            unit_of(negated(dy), dx)
+        } else {
+            unit_of(dx, dy)
+        }
+    }
+}
