@@ -4,7 +4,6 @@ use Rattle.std.proofs.lemmas.Bool.{and_parts, false_from_ne_true}
 use Rattle.std.proofs.lemmas.Bool.Decides.{Decides-int_eq}
 use Rattle.tt_state.specs.Vectors.{Pair, pair}
 use Rattle.tt_state.specs.Axes.{pair_of, vector_of}
-use Rattle.tt_state.specs.declared.vector.Vector.{Vector}
 use Rattle.tt_state.specs.declared.vector.Vector.TheVariants as vector
 
 same_parts : (p : Pair) (a b : ℤ) → (int_eq p.x a && int_eq p.y b) ≡ true → pair a b ≡ p

@@ -3,8 +3,8 @@ use Rattle.std.proofs.Common.{◌≡◌, ℕ, zero, suc, ◌+◌, ◌*◌, ◌/�
 use Rattle.std.specs.Prelude.{int_lt}
 use Rattle.std.proofs.lemmas.Bool.{cases_lt, ne_eqb}
 use Rattle.std.proofs.lemmas.Nat.{mul-le}
-use Rattle.std.proofs.Math.Nat.{mul-le-mul_left, mul-le-mul_right, le_of_mul-le-mul_left, div-le_of_le-mul}
-use Rattle.tt_state.specs.Vectors.{IsUnit, pair, root, square, magnitude, part, unit}
+use Rattle.std.proofs.Math.Nat.{mul-le-mul_right, le_of_mul-le-mul_left, div-le_of_le-mul}
+use Rattle.tt_state.specs.Vectors.{IsUnit, pair, square, magnitude, part, unit}
 use Rattle.tt_state.specs.Axes.{vector_of}
 use Rattle.tt_state.specs.declared.vector.Vector.TheVariants as vector
 use Rattle.tt_state.specs.Laws.{IsGreatest}

@@ -1,7 +1,7 @@
 -- Apple TrueType Reference Manual, "Graphics State" (projection vector, freedom vector, dual projection vector) and
 -- "Instruction Set" (SPVTL, SFVTL, SDPVTL, SPVFS, SFVFS). Coordinates and distances are in 26.6 pixels; the parts of a
 -- unit vector are in 2.14, in which 16384 is 1.
-use Rattle.std.specs.Prelude.{◌≡◌, ℕ, zero, suc, ◌+◌, ◌*◌, ◌/◌, ◌^◌, ◌<◌, ◌≤◌, ◌==◌, nat_lt, nat_le, max, Bool, true, false, if◌then◌else◌, ℤ, pos, negsuc, ◌+ℤ◌, ◌-ℤ◌, ◌*ℤ◌, neg_ℤ, int_lt, unsigned_abs, refl}
+use Rattle.std.specs.Prelude.{◌≡◌, ℕ, zero, suc, ◌+◌, ◌*◌, ◌/◌, ◌^◌, ◌≤◌, ◌==◌, nat_lt, nat_le, max, Bool, true, false, if◌then◌else◌, ℤ, pos, negsuc, ◌+ℤ◌, ◌-ℤ◌, ◌*ℤ◌, neg_ℤ, int_lt, unsigned_abs, refl}
 use Rattle.tt_core.specs.Numbers.{rounded_quotient}
 
 -- the parts of a vector, or the coordinates of a place

@@ -1,4 +1,4 @@
-use Rattle.std.proofs.Common.{◌≡◌, ◌*◌, ◌/◌, ◌^◌, ◌<◌, ◌≤◌, arith}
+use Rattle.std.proofs.Common.{◌*◌, ◌/◌, ◌^◌, ◌<◌, arith}
 use Rattle.tt_state.proofs.Roots.{root_is, one_root, at_most}
 use Rattle.tt_state.proofs.unit.magnitude.Goals as goal
 

@@ -1,6 +1,4 @@
-use Rattle.std.proofs.Common.{◌≡◌, ◌*◌, ◌/◌, ◌%◌, ◌^◌, ◌≤◌, ap, ◌∙◌, arith}
-use Rattle.std.proofs.Math.Nat.{div-le_of_le-mul}
-use Rattle.std.proofs.lemmas.Nat.{mod_below}
+use Rattle.std.proofs.Common.{◌*◌, ◌/◌, ap, ◌∙◌, arith}
 use Rattle.tt_state.proofs.Roots.{two_divisions}
 use Rattle.tt_state.proofs.Units.{quotient_few}
 use Rattle.tt_state.proofs.unit.quotient.Goals as goal

@@ -1,4 +1,4 @@
-use Rattle.std.proofs.Common.{◌+◌, ◌<◌, ap, sym, refl, arith}
+use Rattle.std.proofs.Common.{◌+◌, ◌<◌, ap, sym, arith}
 use Rattle.tt_state.specs.Vectors.{square}
 use Rattle.tt_state.specs.Axes.{vector_of}
 use Rattle.tt_state.proofs.Units.{parts_are, unit_nowhere, unit_somewhere}
