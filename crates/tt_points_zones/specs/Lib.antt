@@ -2,3 +2,5 @@ pub mod Zones
 pub mod Points
 pub mod ZoneNumbers
 pub mod Meeting
+pub mod Motions
+pub mod Laws

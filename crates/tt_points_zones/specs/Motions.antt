@@ -1,0 +1,107 @@
+-- Apple TrueType Reference Manual, "Graphics State" (projection, dual projection and freedom vector) and "Instructing
+-- TrueType Glyphs" (touched points): how points are measured and moved along any vectors. Coordinates and distances are
+-- in 26.6 pixels.
+use Rattle.std.specs.Prelude.{◌≡◌, ℤ, pos, ◌+ℤ◌, ◌-ℤ◌, ◌*ℤ◌, Bool, true, false, if◌then◌else◌, Result, Ok, Err, refl}
+use Rattle.std.specs.Ordering.{int_eq}
+use Rattle.tt_core.specs.Numbers.{rounded_quotient}
+use Rattle.tt_core.specs.Outcomes.{◌>>=◌}
+use Rattle.tt_core.specs.declared.fault.Why.{Why}
+use Rattle.tt_core.specs.declared.fault.Why.TheVariants as why
+use Rattle.tt_state.specs.declared.graphics_state.Axis.{Axis}
+use Rattle.tt_state.specs.declared.graphics_state.Axis.TheVariants as axis
+use Rattle.tt_state.specs.declared.point.Point.{Point}
+use Rattle.tt_state.specs.declared.vector.Vector.{Vector}
+use Rattle.tt_state.specs.declared.vector.Vector.TheVariants as vector
+use Rattle.tt_state.specs.Vectors.{Pair, pair, project, dot}
+use Rattle.tt_state.specs.Axes.{pair_of, vector_of}
+use Rattle.tt_points_zones.specs.Points.{is_coordinate}
+use Rattle.tt_points_zones.specs.declared.motion.Motion.{Motion}
+
+-- all three vectors along one axis
+abbrev pub along : Axis → Motion
+along axis.X = record { proj = vector.X; dual = vector.X; free = vector.X }
+along axis.Y = record { proj = vector.Y; dual = vector.Y; free = vector.Y }
+
+-- where a point stands, measured along the projection vector, and where it stood before the program, along the dual one
+abbrev pub cur : Motion → Point → ℤ
+cur m p = project (pair_of m.proj) p.x p.y
+
+abbrev pub org : Motion → Point → ℤ
+org m p = project (pair_of m.dual) p.org_x p.org_y
+
+-- how far a point stands from another, and stood: the way between them is measured
+abbrev pub current_distance : Motion → Point → Point → ℤ
+current_distance m from to = project (pair_of m.proj) (to.x -ℤ from.x) (to.y -ℤ from.y)
+
+abbrev pub original_distance : Motion → Point → Point → ℤ
+original_distance m from to = project (pair_of m.dual) (to.org_x -ℤ from.org_x) (to.org_y -ℤ from.org_y)
+
+-- a coordinate further by a distance, where the freedom vector has a part along its axis
+abbrev pub pushed_to : ℤ → ℤ → ℤ → Result ℤ Why
+pushed_to part by at =
+    if int_eq part (pos 0) then Ok at
+    else (if is_coordinate (at +ℤ by) then Ok (at +ℤ by) else Err why.ValueRange)
+
+-- a point put further by distances along x and y, which leaves it as touched as it was
+abbrev pub put_further : Vector → Pair → Point → Result Point Why
+put_further free by p =
+    pushed_to (pair_of free).x by.x p.x >>= λ x.
+    pushed_to (pair_of free).y by.y p.y >>= λ y.
+    Ok (record p { x = x; y = y })
+
+-- a point touched, or untouched, along each axis along which the freedom vector has a part
+abbrev pub marked : Vector → Bool → Point → Point
+marked free touched p = record p {
+  touched_x = if int_eq (pair_of free).x (pos 0) then p.touched_x else touched;
+  touched_y = if int_eq (pair_of free).y (pos 0) then p.touched_y else touched;
+}
+
+-- how far along x and y a point goes along the freedom vector, so that along the projection vector it goes so far
+abbrev pub steps : Motion → ℤ → Pair
+steps m d =
+    let whole = dot (pair_of m.proj) (pair_of m.free) in
+    pair (rounded_quotient (d *ℤ (pair_of m.free).x) whole) (rounded_quotient (d *ℤ (pair_of m.free).y) whole)
+
+-- a point moved by a distance, perhaps 0, and left as touched as it was
+abbrev pub shifted : Motion → ℤ → Point → Result Point Why
+shifted m d p = put_further m.free (steps m d) p
+
+-- a point moved by distances along x and y, and touched
+abbrev pub pushed : Vector → Pair → Point → Result Point Why
+pushed free by p = put_further free by p >>= λ q. Ok (marked free true q)
+
+-- a point moved by a distance, and touched
+abbrev pub moved : Motion → ℤ → Point → Result Point Why
+moved m d p = pushed m.free (steps m d) p
+
+-- worked values: a projection vector, or all vectors, along a line that rises by 2 in 1
+abbrev a_point : Point
+a_point = record { org_x = pos 0; org_y = pos 0; x = pos 50; y = pos 90; touched_x = false; touched_y = false; on = true }
+
+abbrev rising : Vector
+rising = vector_of (pair (pos 7327) (pos 14654))
+
+measured : cur (record { proj = rising; dual = vector.X; free = vector.X }) a_point ≡ pos 103
+unfolding project vector_of
+measured = refl
+
+a_pixel_along_it : steps (record { proj = rising; dual = rising; free = rising }) (pos 64) ≡ pair (pos 29) (pos 57)
+unfolding project vector_of
+a_pixel_along_it = refl
+
+a_pixel_along_x : steps (record { proj = rising; dual = rising; free = vector.X }) (pos 64) ≡ pair (pos 143) (pos 0)
+unfolding project vector_of
+a_pixel_along_x = refl
+
+at_right_angles : steps (record { proj = vector.X; dual = vector.X; free = vector.Y }) (pos 64) ≡ pair (pos 0) (pos 64)
+unfolding project
+at_right_angles = refl
+
+moved_along_y : moved (record { proj = rising; dual = rising; free = vector.Y }) (pos 64) a_point
+    ≡ Ok (record a_point { y = pos 162; touched_y = true })
+unfolding project vector_of
+moved_along_y = refl
+
+past_the_limit : moved (along axis.X) (pos 2097102) a_point ≡ Err why.ValueRange
+unfolding project
+past_the_limit = refl

@@ -1,0 +1,201 @@
+//! How points are measured and moved along vectors. Apple TrueType Reference Manual, "Graphics State" (projection, dual
+//! projection and freedom vector) and "Instructing TrueType Glyphs" (touched points). Coordinates and distances are in
+//! 26.6 pixels.
+
+ghost use Rattle.std.specs.Prelude.{◌≡◌, ◌≢◌, ◌*◌, ◌^◌, ◌<◌, ◌≤◌, pos, ◌-ℤ◌, ◌*ℤ◌, unsigned_abs, IfOk};
+ghost use Rattle.tt_core.specs.Limits.{coordinate_limit};
+ghost use Rattle.tt_core.specs.Numbers.{rounded_quotient};
+ghost use Rattle.tt_core.specs.Outcomes.{Gives};
+ghost use Rattle.tt_points_zones.specs.Motions as is;
+ghost use Rattle.tt_points_zones.specs.Zones.{IsPoint};
+ghost use Rattle.tt_state.specs.Vectors.{pair};
+
+use crate::distances::Distance;
+use crate::points::is_coordinate;
+use tt_core::{Why, rq};
+use tt_state::{Point, Vector, dot, laws};
+
+/// The vectors by which an instruction measures and moves points.
+#[derive(Clone, Copy)]
+pub struct Motion {
+    /// The projection vector: where points stand is measured along it.
+    pub proj: Vector,
+    /// The dual projection vector: where points stood before the program is measured along it.
+    pub dual: Vector,
+    /// The freedom vector: points move along it.
+    pub free: Vector,
+}
+
+/// How far a coordinate lies from another.
+fn way(from: i32, to: i32) -> i32
+    requires from { unsigned_abs from ≤ coordinate_limit }
+    requires to { unsigned_abs to ≤ coordinate_limit }
+    ensures exact { result ≡ to -ℤ from }
+    ensures bound { unsigned_abs result ≤ 2 * coordinate_limit }
+{
+    to - from
+}
+
+/// A coordinate further by `by`, where the freedom vector has this part along its axis. Error: ValueRange past the limit
+/// of coordinates.
+fn pushed_to(part: i32, by: i64, at: i32) -> Result<i32, Why>
+    requires at { unsigned_abs at ≤ coordinate_limit }
+    requires small { unsigned_abs by < 2 ^ 62 }
+    ensures exact { Gives (λ v. v) result (is.pushed_to part by at) }
+    ensures limit { IfOk result (λ v. unsigned_abs v ≤ coordinate_limit) }
+{
+    if part == 0 {
+        return Ok(at);
+    }
+    let to = i64::from(at) + by;
+    if !is_coordinate(to) {
+        return Err(Why::ValueRange);
+    }
+    Ok(to as i32)
+}
+
+/// A distance times a part of a unit vector.
+fn scaled(d: i64, part: i64) -> i64
+    requires d { unsigned_abs d < 2 ^ 47 }
+    requires part { unsigned_abs part ≤ 2 ^ 14 }
+    ensures exact { result ≡ d *ℤ part }
+    ensures bound { unsigned_abs result < 2 ^ 61 }
+{
+    d * part
+}
+
+/// How far a point goes along an axis, along which the freedom vector has this part.
+fn step(d: i64, part: i32, whole: i32) -> i64
+    requires d { unsigned_abs d < 2 ^ 47 }
+    requires part { unsigned_abs part ≤ 16384 }
+    requires low { 1024 ≤ unsigned_abs whole }
+    ensures exact { result ≡ rounded_quotient (d *ℤ part) whole }
+    ensures bound { unsigned_abs result < 2 ^ 61 }
+{
+    rq(scaled(d, i64::from(part)), i64::from(whole))
+}
+
+impl Motion {
+    /// Where a point stands.
+    pub fn cur(&self, p: Point) -> i32
+        requires { IsPoint p }
+        ensures exact { result ≡ is.cur self.now p }
+        ensures bound { unsigned_abs result ≤ 2 * coordinate_limit }
+    {
+        self.proj.project(p.x, p.y) as i32
+    }
+
+    /// Where a point stood before the program.
+    pub fn org(&self, p: Point) -> i32
+        requires { IsPoint p }
+        ensures exact { result ≡ is.org self.now p }
+        ensures bound { unsigned_abs result ≤ 2 * coordinate_limit }
+    {
+        self.dual.project(p.org_x, p.org_y) as i32
+    }
+
+    /// How far a point stands from another.
+    pub fn current_distance(&self, from: Point, to: Point) -> Distance
+        requires from { IsPoint from }
+        requires to { IsPoint to }
+        ensures exact { result.0 ≡ is.current_distance self.now from to }
+        ensures few { unsigned_abs result.0 ≤ 4 * coordinate_limit }
+    {
+        Distance(self.proj.project(way(from.x, to.x), way(from.y, to.y)))
+    }
+
+    /// How far a point stood from another before the program.
+    pub fn original_distance(&self, from: Point, to: Point) -> Distance
+        requires from { IsPoint from }
+        requires to { IsPoint to }
+        ensures exact { result.0 ≡ is.original_distance self.now from to }
+        ensures few { unsigned_abs result.0 ≤ 4 * coordinate_limit }
+    {
+        Distance(
+            self.dual
+                .project(way(from.org_x, to.org_x), way(from.org_y, to.org_y)),
+        )
+    }
+
+    /// The point put further by `by` along x and y, where the freedom vector has a part along these, and left as touched
+    /// as it was. Error: ValueRange past the limit of coordinates.
+    fn put_further(&self, p: Point, by: (i64, i64)) -> Result<Point, Why>
+        requires point { IsPoint p }
+        requires x { unsigned_abs by.0 < 2 ^ 62 }
+        requires y { unsigned_abs by.1 < 2 ^ 62 }
+        ensures exact { Gives (λ q. q) result (is.put_further self.now.free (pair by.0 by.1) p) }
+        ensures valid { IfOk result IsPoint }
+    {
+        Ok(Point {
+            x: pushed_to(self.free.x(), by.0, p.x)?,
+            y: pushed_to(self.free.y(), by.1, p.y)?,
+            ..p
+        })
+    }
+
+    /// The point touched along each axis along which the freedom vector has a part, or untouched.
+    pub fn marked(&self, p: Point, touched: bool) -> Point
+        requires { IsPoint p }
+        ensures exact { result ≡ is.marked self.now.free touched p }
+        ensures valid { IsPoint result }
+    {
+        let (x, y) = (self.free.x(), self.free.y());
+        Point {
+            touched_x: if x == 0 { p.touched_x } else { touched },
+            touched_y: if y == 0 { p.touched_y } else { touched },
+            ..p
+        }
+    }
+
+    /// How far along x and y a point goes that goes by `d` along the projection vector.
+    fn steps(&self, d: i64) -> (i64, i64)
+        requires { unsigned_abs d < 2 ^ 47 }
+        ensures exact { pair result.0 result.1 ≡ is.steps self.now d }
+        ensures x { unsigned_abs result.0 < 2 ^ 61 }
+        ensures y { unsigned_abs result.1 < 2 ^ 61 }
+    {
+        laws::on_axes();
+        match (self.proj, self.free) {
+            (Vector::X, Vector::X) => (d, 0),
+            (Vector::Y, Vector::Y) => (0, d),
+            _ => {
+                let whole = dot(self.proj, self.free);
+                (step(d, self.free.x(), whole), step(d, self.free.y(), whole))
+            }
+        }
+    }
+
+    /// The point moved along the freedom vector by `d` along the projection vector, and left as touched as it was.
+    /// Error: ValueRange past the limit of coordinates.
+    pub fn shifted(&self, p: Point, d: i64) -> Result<Point, Why>
+        requires point { IsPoint p }
+        requires small { unsigned_abs d < 2 ^ 47 }
+        ensures exact { Gives (λ q. q) result (is.shifted self.now d p) }
+        ensures valid { IfOk result IsPoint }
+    {
+        self.put_further(p, self.steps(d))
+    }
+
+    /// The point moved by `by` along x and y, where the freedom vector has a part along these, and touched there. Error:
+    /// ValueRange past the limit of coordinates.
+    pub fn pushed(&self, p: Point, by: (i64, i64)) -> Result<Point, Why>
+        requires point { IsPoint p }
+        requires x { unsigned_abs by.0 < 2 ^ 62 }
+        requires y { unsigned_abs by.1 < 2 ^ 62 }
+        ensures exact { Gives (λ q. q) result (is.pushed self.now.free (pair by.0 by.1) p) }
+        ensures valid { IfOk result IsPoint }
+    {
+        Ok(self.marked(self.put_further(p, by)?, true))
+    }
+
+    /// The point moved along the freedom vector by `d` along the projection vector, and touched. Error: ValueRange past
+    /// the limit of coordinates.
+    pub fn moved(&self, p: Point, d: i64) -> Result<Point, Why>
+        requires point { IsPoint p }
+        requires small { unsigned_abs d < 2 ^ 47 }
+        ensures exact { Gives (λ q. q) result (is.moved self.now d p) }
+        ensures valid { IfOk result IsPoint }
+    {
+        self.pushed(p, self.steps(d))
+    }
+}
