@@ -5,6 +5,7 @@ use Rattle.tt_core.specs.declared.fault.Why.{Why}
 use Rattle.tt_core.specs.declared.fault.Why.TheVariants as why
 use Rattle.tt_state.specs.declared.graphics_state.Axis.{Axis}
 use Rattle.tt_state.specs.declared.graphics_state.Axis.TheVariants as axis
+use Rattle.tt_state.specs.declared.graphics_state.GraphicsState.{GraphicsState}
 use Rattle.tt_state.specs.declared.point.Point.{Point}
 use Rattle.tt_state.specs.declared.vector.Vector.TheVariants as vector
 use Rattle.tt_state.specs.Laws.{OnX, OnY}
@@ -13,7 +14,8 @@ use Rattle.tt_state.specs.Vectors.{pair}
 use Rattle.tt_points_zones.specs.Points as coordinate
 use Rattle.tt_points_zones.specs.Points.{is_coordinate}
 use Rattle.tt_points_zones.specs.Motions as motions
-use Rattle.tt_points_zones.specs.Laws.{OnAxis}
+use Rattle.tt_points_zones.specs.Laws as laws
+use Rattle.tt_points_zones.specs.Laws.{OnAxis, AlongBoth}
 
 -- a coordinate that is tested before what is made of it, or with it
 through : {A B : Type 0} (b : Bool) (v : A) (f : A → Result B Why)
@@ -27,11 +29,11 @@ put_x d p = through (is_coordinate (p.x +ℤ d)) (p.x +ℤ d) (λ x. Ok (record 
 put_y : (d : ℤ) (p : Point) → motions.put_further vector.Y (pair (pos 0) d) p ≡ coordinate.shifted axis.Y d p
 put_y d p = through (is_coordinate (p.y +ℤ d)) (p.y +ℤ d) (λ y. Ok (record p { y = y }))
 
-steps_x : (d : ℤ) → OnX (pos 0) (pos 0) d → motions.steps (motions.along axis.X) d ≡ pair d (pos 0)
+steps_x : (d : ℤ) → OnX (pos 0) (pos 0) d → motions.steps (laws.on axis.X) d ≡ pair d (pos 0)
 unfolding vectors.along
 steps_x d law = rw law.whole law.moved
 
-steps_y : (d : ℤ) → OnY (pos 0) (pos 0) d → motions.steps (motions.along axis.Y) d ≡ pair (pos 0) d
+steps_y : (d : ℤ) → OnY (pos 0) (pos 0) d → motions.steps (laws.on axis.Y) d ≡ pair (pos 0) d
 unfolding vectors.along
 steps_y d law = rw law.whole law.moved
 
@@ -40,24 +42,39 @@ pub on_axis : ((x y d : ℤ) → OnX x y d) → ((x y d : ℤ) → OnY x y d)
 on_axis on_x on_y axis.X p q d touched =
     let steps = steps_x d (on_x (pos 0) (pos 0) d) in
     let further = ap (λ by. motions.put_further vector.X by p) steps ∙ put_x d p in
+    let slid = ap (λ by. motions.put_further vector.X by p) (on_x (pos 0) (pos 0) d).moved ∙ put_x d p in
     record {
       current = (on_x p.x p.y d).projected;
       original = (on_x p.org_x p.org_y d).projected;
       current_way = (on_x (q.x -ℤ p.x) (q.y -ℤ p.y) d).projected;
       original_way = (on_x (q.org_x -ℤ p.org_x) (q.org_y -ℤ p.org_y) d).projected;
-      shifted = further;
+      offset = (on_x (p.x -ℤ p.org_x) (p.y -ℤ p.org_y) d).projected;
       marked = refl;
+      shifted = further;
       moved = ap (λ given. given >>= λ r. Ok (motions.marked vector.X true r)) further;
+      shifted_along = slid;
+      moved_along = ap (λ given. given >>= λ r. Ok (motions.marked vector.X true r)) slid;
     }
 on_axis on_x on_y axis.Y p q d touched =
     let steps = steps_y d (on_y (pos 0) (pos 0) d) in
     let further = ap (λ by. motions.put_further vector.Y by p) steps ∙ put_y d p in
+    let slid = ap (λ by. motions.put_further vector.Y by p) (on_y (pos 0) (pos 0) d).moved ∙ put_y d p in
     record {
       current = (on_y p.x p.y d).projected;
       original = (on_y p.org_x p.org_y d).projected;
       current_way = (on_y (q.x -ℤ p.x) (q.y -ℤ p.y) d).projected;
       original_way = (on_y (q.org_x -ℤ p.org_x) (q.org_y -ℤ p.org_y) d).projected;
-      shifted = further;
+      offset = (on_y (p.x -ℤ p.org_x) (p.y -ℤ p.org_y) d).projected;
       marked = refl;
+      shifted = further;
       moved = ap (λ given. given >>= λ r. Ok (motions.marked vector.Y true r)) further;
+      shifted_along = slid;
+      moved_along = ap (λ given. given >>= λ r. Ok (motions.marked vector.Y true r)) slid;
     }
+
+pub along_both : (g : GraphicsState) (projection freedom : Axis) → AlongBoth g projection freedom
+unfolding motions.direction
+along_both g axis.X axis.X = refl
+along_both g axis.Y axis.Y = refl
+along_both g axis.X axis.Y = refl
+along_both g axis.Y axis.X = refl

@@ -1,26 +1,32 @@
 -- Apple TrueType Reference Manual, "Graphics State" (projection, dual projection and freedom vector) and "Instructing
 -- TrueType Glyphs" (touched points): how points are measured and moved along any vectors. Coordinates and distances are
 -- in 26.6 pixels.
-use Rattle.std.specs.Prelude.{◌≡◌, ℤ, pos, ◌+ℤ◌, ◌-ℤ◌, ◌*ℤ◌, Bool, true, false, if◌then◌else◌, Result, Ok, Err, refl}
+use Rattle.std.specs.Prelude.{◌≡◌, ℤ, pos, ◌+ℤ◌, ◌-ℤ◌, ◌*ℤ◌, Bool, true, false, ◌&&◌, ◌||◌, if◌then◌else◌, Result, Ok, Err, refl}
 use Rattle.std.specs.Ordering.{int_eq}
 use Rattle.tt_core.specs.Numbers.{rounded_quotient}
 use Rattle.tt_core.specs.Outcomes.{◌>>=◌}
 use Rattle.tt_core.specs.declared.fault.Why.{Why}
 use Rattle.tt_core.specs.declared.fault.Why.TheVariants as why
-use Rattle.tt_state.specs.declared.graphics_state.Axis.{Axis}
-use Rattle.tt_state.specs.declared.graphics_state.Axis.TheVariants as axis
+use Rattle.tt_state.specs.declared.graphics_state.GraphicsState.{GraphicsState}
 use Rattle.tt_state.specs.declared.point.Point.{Point}
 use Rattle.tt_state.specs.declared.vector.Vector.{Vector}
 use Rattle.tt_state.specs.declared.vector.Vector.TheVariants as vector
-use Rattle.tt_state.specs.Vectors.{Pair, pair, project, dot}
+use Rattle.tt_state.specs.Vectors.{Pair, pair, project, along, dot}
 use Rattle.tt_state.specs.Axes.{pair_of, vector_of}
 use Rattle.tt_points_zones.specs.Points.{is_coordinate}
 use Rattle.tt_points_zones.specs.declared.motion.Motion.{Motion}
 
--- all three vectors along one axis
-abbrev pub along : Axis → Motion
-along axis.X = record { proj = vector.X; dual = vector.X; free = vector.X }
-along axis.Y = record { proj = vector.Y; dual = vector.Y; free = vector.Y }
+-- the vectors of a graphics state
+abbrev pub vectors_of : GraphicsState → Motion
+vectors_of g = record { proj = g.proj; dual = g.dual; free = g.free }
+
+abbrev pub is_same : Vector → Vector → Bool
+is_same v w = int_eq (pair_of v).x (pair_of w).x && int_eq (pair_of v).y (pair_of w).y
+
+-- Without the whole instruction set points move along the projection vector alone: another freedom vector is refused
+-- (profile).
+unfoldable pub direction : GraphicsState → Result Motion Why
+direction g = if g.whole || is_same g.proj g.free then Ok (vectors_of g) else Err why.Perpendicular
 
 -- where a point stands, measured along the projection vector, and where it stood before the program, along the dual one
 abbrev pub cur : Motion → Point → ℤ
@@ -35,6 +41,10 @@ current_distance m from to = project (pair_of m.proj) (to.x -ℤ from.x) (to.y -
 
 abbrev pub original_distance : Motion → Point → Point → ℤ
 original_distance m from to = project (pair_of m.dual) (to.org_x -ℤ from.org_x) (to.org_y -ℤ from.org_y)
+
+-- how far a point stands from where it stood: the projection vector measures both
+abbrev pub offset : Motion → Point → ℤ
+offset m p = project (pair_of m.proj) (p.x -ℤ p.org_x) (p.y -ℤ p.org_y)
 
 -- a coordinate further by a distance, where the freedom vector has a part along its axis
 abbrev pub pushed_to : ℤ → ℤ → ℤ → Result ℤ Why
@@ -74,6 +84,14 @@ pushed free by p = put_further free by p >>= λ q. Ok (marked free true q)
 abbrev pub moved : Motion → ℤ → Point → Result Point Why
 moved m d p = pushed m.free (steps m d) p
 
+-- a point put further by a distance along the freedom vector, however far that is along the projection vector; and
+-- moved so
+abbrev pub shifted_along : Vector → ℤ → Point → Result Point Why
+shifted_along free d p = put_further free (along (pair_of free) d) p
+
+abbrev pub moved_along : Vector → ℤ → Point → Result Point Why
+moved_along free d p = pushed free (along (pair_of free) d) p
+
 -- worked values: a projection vector, or all vectors, along a line that rises by 2 in 1
 abbrev a_point : Point
 a_point = record { org_x = pos 0; org_y = pos 0; x = pos 50; y = pos 90; touched_x = false; touched_y = false; on = true }
@@ -102,6 +120,12 @@ moved_along_y : moved (record { proj = rising; dual = rising; free = vector.Y })
 unfolding project vector_of
 moved_along_y = refl
 
-past_the_limit : moved (along axis.X) (pos 2097102) a_point ≡ Err why.ValueRange
+a_pixel_along_the_freedom_vector : moved_along rising (pos 64) a_point
+    ≡ Ok (record a_point { x = pos 79; y = pos 147; touched_x = true; touched_y = true })
+unfolding along vector_of
+a_pixel_along_the_freedom_vector = refl
+
+past_the_limit : moved (record { proj = vector.X; dual = vector.X; free = vector.X }) (pos 2097102) a_point
+    ≡ Err why.ValueRange
 unfolding project
 past_the_limit = refl

@@ -10,7 +10,6 @@ use Rattle.tt_state.specs.declared.graphics_state.Axis.{Axis}
 use Rattle.tt_state.specs.declared.graphics_state.Axis.TheVariants as axis
 use Rattle.tt_state.specs.declared.graphics_state.Zone.{Zone}
 use Rattle.tt_state.specs.declared.graphics_state.Zone.TheVariants as zone
-use Rattle.tt_state.specs.declared.graphics_state.GraphicsState.{GraphicsState}
 use Rattle.tt_state.specs.declared.point.Point.{Point}
 use Rattle.tt_points_zones.specs.Zones.{ZoneLists}
 
@@ -49,16 +48,6 @@ shifted axis d p =
 -- a point moved by a distance, perhaps 0, and touched
 abbrev pub moved : Axis → ℤ → Point → Result Point Why
 moved axis d p = shifted axis d p >>= λ q. Ok (marked axis true q)
-
--- Points move along the projection vector; where the freedom vector is another, they are refused (profile).
-abbrev pub along_both : Axis → Axis → Result Axis Why
-along_both axis.X axis.X = Ok axis.X
-along_both axis.Y axis.Y = Ok axis.Y
-along_both axis.X axis.Y = Err why.Perpendicular
-along_both axis.Y axis.X = Err why.Perpendicular
-
-abbrev pub direction : GraphicsState → Result Axis Why
-direction g = along_both g.proj g.free
 
 -- the point with a number, phantom points among them
 abbrev pub point_at : ℤ → List Point → Result Point Why

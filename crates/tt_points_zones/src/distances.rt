@@ -2,11 +2,6 @@
 
 ghost use Rattle.std.specs.Prelude.{◌≡◌, ◌<◌, ◌≤◌, ◌^◌, ◌-ℤ◌, ◌*ℤ◌, unsigned_abs};
 ghost use Rattle.tt_core.specs.Limits.{coordinate_limit};
-ghost use Rattle.tt_points_zones.specs.Points as point;
-ghost use Rattle.tt_points_zones.specs.Zones.{IsPoint};
-
-use crate::points::{cur, org};
-use tt_state::{Axis, Point};
 
 /// A distance in 26.6 pixels.
 #[derive(Clone, Copy)]
@@ -20,26 +15,6 @@ pub fn distance_between(from: i32, to: i32) -> Distance
     ensures few { unsigned_abs result.0 < 2 ^ 22 }
 {
     Distance(i64::from(to) - i64::from(from))
-}
-
-/// How far a point stands from another.
-pub fn current_distance(from: Point, to: Point, axis: Axis) -> Distance
-    requires from { IsPoint from }
-    requires to { IsPoint to }
-    ensures exact { result.0 ≡ point.cur axis to -ℤ point.cur axis from }
-    ensures few { unsigned_abs result.0 < 2 ^ 22 }
-{
-    distance_between(cur(from, axis), cur(to, axis))
-}
-
-/// How far a point stood from another before the program.
-pub fn original_distance(from: Point, to: Point, axis: Axis) -> Distance
-    requires from { IsPoint from }
-    requires to { IsPoint to }
-    ensures exact { result.0 ≡ point.org axis to -ℤ point.org axis from }
-    ensures few { unsigned_abs result.0 < 2 ^ 22 }
-{
-    distance_between(org(from, axis), org(to, axis))
 }
 
 /// `a * b`.

@@ -10,9 +10,9 @@ mod way;
 mod zone_numbers;
 mod zones;
 
-pub use distances::{Distance, current_distance, distance_between, original_distance, product};
+pub use distances::{Distance, distance_between, product};
 pub use meeting::{Line, Place, met};
-pub use motion::Motion;
-pub use points::{cur, direction, is_coordinate, is_touched, marked, moved, org, put, shifted};
+pub use motion::{Motion, direction};
+pub use points::{cur, is_coordinate, is_touched, org, put};
 pub use zone_numbers::zone_of;
 pub use zones::Zones;

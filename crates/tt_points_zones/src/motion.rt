@@ -13,7 +13,7 @@ ghost use Rattle.tt_state.specs.Vectors.{pair};
 use crate::distances::Distance;
 use crate::points::is_coordinate;
 use tt_core::{Why, rq};
-use tt_state::{Point, Vector, dot, laws};
+use tt_state::{GraphicsState, Point, Vector, dot, laws};
 
 /// The vectors by which an instruction measures and moves points.
 #[derive(Clone, Copy)]
@@ -75,7 +75,37 @@ fn step(d: i64, part: i32, whole: i32) -> i64
     rq(scaled(d, i64::from(part)), i64::from(whole))
 }
 
+fn is_same(v: &Vector, w: &Vector) -> bool
+    ensures { result ≡ is.is_same v.now w.now }
+{
+    v.x() == w.x() && v.y() == w.y()
+}
+
+/// The vectors by which points are moved. Without the whole instruction set points move along the projection vector
+/// alone. Error: Perpendicular where the freedom vector is another then (profile).
+#[tactic(auto, unfolding(crate::specs::Motions::direction))]
+pub fn direction(state: &GraphicsState) -> Result<Motion, Why>
+    ensures { Gives (λ m. m) result (is.direction state.now) }
+{
+    if state.whole || is_same(&state.proj, &state.free) {
+        Ok(Motion::of(state))
+    } else {
+        Err(Why::Perpendicular)
+    }
+}
+
 impl Motion {
+    /// The vectors of a graphics state.
+    pub fn of(state: &GraphicsState) -> Motion
+        ensures { result ≡ is.vectors_of state.now }
+    {
+        Motion {
+            proj: state.proj,
+            dual: state.dual,
+            free: state.free,
+        }
+    }
+
     /// Where a point stands.
     pub fn cur(&self, p: Point) -> i32
         requires { IsPoint p }
@@ -115,6 +145,15 @@ impl Motion {
             self.dual
                 .project(way(from.org_x, to.org_x), way(from.org_y, to.org_y)),
         )
+    }
+
+    /// How far a point stands from where it stood: along the projection vector both times.
+    pub fn offset(&self, p: Point) -> i64
+        requires { IsPoint p }
+        ensures exact { result ≡ is.offset self.now p }
+        ensures few { unsigned_abs result ≤ 4 * coordinate_limit }
+    {
+        self.proj.project(way(p.org_x, p.x), way(p.org_y, p.y))
     }
 
     /// The point put further by `by` along x and y, where the freedom vector has a part along these, and left as touched
@@ -176,9 +215,20 @@ impl Motion {
         self.put_further(p, self.steps(d))
     }
 
+    /// The point put further along the freedom vector by `d`, however far that is along the projection vector, and left
+    /// as touched as it was. Error: ValueRange past the limit of coordinates.
+    pub fn shifted_along(&self, p: Point, d: i64) -> Result<Point, Why>
+        requires point { IsPoint p }
+        requires small { unsigned_abs d ≤ 2 ^ 32 }
+        ensures exact { Gives (λ q. q) result (is.shifted_along self.now.free d p) }
+        ensures valid { IfOk result IsPoint }
+    {
+        self.put_further(p, self.free.along(d))
+    }
+
     /// The point moved by `by` along x and y, where the freedom vector has a part along these, and touched there. Error:
     /// ValueRange past the limit of coordinates.
-    pub fn pushed(&self, p: Point, by: (i64, i64)) -> Result<Point, Why>
+    fn pushed(&self, p: Point, by: (i64, i64)) -> Result<Point, Why>
         requires point { IsPoint p }
         requires x { unsigned_abs by.0 < 2 ^ 62 }
         requires y { unsigned_abs by.1 < 2 ^ 62 }
@@ -197,5 +247,15 @@ impl Motion {
         ensures valid { IfOk result IsPoint }
     {
         self.pushed(p, self.steps(d))
+    }
+    /// The point moved along the freedom vector by `d`, however far that is along the projection vector, and touched.
+    /// Error: ValueRange past the limit of coordinates.
+    pub fn moved_along(&self, p: Point, d: i64) -> Result<Point, Why>
+        requires point { IsPoint p }
+        requires small { unsigned_abs d ≤ 2 ^ 32 }
+        ensures exact { Gives (λ q. q) result (is.moved_along self.now.free d p) }
+        ensures valid { IfOk result IsPoint }
+    {
+        self.pushed(p, self.free.along(d))
     }
 }

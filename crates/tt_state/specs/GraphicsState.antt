@@ -1,15 +1,16 @@
 -- Apple TrueType Reference Manual, "Graphics State": the state variables and their defaults.
-use Rattle.std.specs.Prelude.{true, pos}
-use Rattle.tt_state.specs.declared.graphics_state.Axis.TheVariants as axis
+use Rattle.std.specs.Prelude.{Bool, true, false, pos}
 use Rattle.tt_state.specs.declared.graphics_state.Zone.TheVariants as zone
 use Rattle.tt_state.specs.declared.graphics_state.GraphicsState.{GraphicsState}
 use Rattle.tt_state.specs.declared.rounding.Round.TheVariants as round
+use Rattle.tt_state.specs.declared.vector.Vector.TheVariants as vector
 
 -- the defaults. The standard gives a control-value cut-in of 17/16 pixel and a minimum distance of one.
-abbrev pub default_state : GraphicsState
-default_state = record {
-  proj = axis.X;
-  free = axis.X;
+abbrev pub default_of : Bool → GraphicsState
+default_of whole = record {
+  proj = vector.X;
+  dual = vector.X;
+  free = vector.X;
   rp0 = pos 0;
   rp1 = pos 0;
   rp2 = pos 0;
@@ -25,4 +26,9 @@ default_state = record {
   auto_flip = true;
   delta_base = pos 9;
   delta_shift = 3;
+  whole = whole;
 }
+
+-- those of a machine without the whole instruction set
+abbrev pub default_state : GraphicsState
+default_state = default_of false

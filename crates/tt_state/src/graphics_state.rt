@@ -1,11 +1,12 @@
 //! The graphics state and its defaults. Apple TrueType Reference Manual, "Graphics State".
 
 ghost use Rattle.std.specs.Prelude.{◌≡◌};
-ghost use Rattle.tt_state.specs.GraphicsState.{default_state};
+ghost use Rattle.tt_state.specs.GraphicsState.{default_of};
 
 use crate::rounding::Round;
+use crate::vector::Vector;
 
-/// The direction of the projection or the freedom vector. Others are not supported (profile).
+/// A coordinate axis.
 #[derive(Clone, Copy, Debug, PartialEq, Eq)]
 pub enum Axis {
     X,
@@ -22,10 +23,12 @@ pub enum Zone {
 /// The state variables that instructions read and set. Distances are in 26.6 pixels.
 #[derive(Clone, Copy, Debug, PartialEq, Eq)]
 pub struct GraphicsState {
-    /// The projection vector: along it distances are measured.
-    pub proj: Axis,
-    /// The freedom vector: along it points move.
-    pub free: Axis,
+    /// The projection vector: where points stand is measured along it.
+    pub proj: Vector,
+    /// The dual projection vector: where points stood before the program is measured along it.
+    pub dual: Vector,
+    /// The freedom vector: points move along it.
+    pub free: Vector,
     /// The reference points, by number; tested against their zones where they are used.
     pub rp0: i32,
     pub rp1: i32,
@@ -49,16 +52,19 @@ pub struct GraphicsState {
     pub delta_base: i32,
     /// Into how many parts a pixel is cut by a delta, as a power of 2; SDS sets 0 to 6.
     pub delta_shift: u32,
+    /// Whether the whole instruction set is there, with vectors off the axes. No instruction sets it.
+    pub whole: bool,
 }
 
 impl GraphicsState {
     /// The defaults, with which a font program starts.
-    pub fn new() -> GraphicsState
-        ensures { result ≡ default_state }
+    pub fn new(whole: bool) -> GraphicsState
+        ensures { result ≡ default_of whole }
     {
         GraphicsState {
-            proj: Axis::X,
-            free: Axis::X,
+            proj: Vector::X,
+            dual: Vector::X,
+            free: Vector::X,
             rp0: 0,
             rp1: 0,
             rp2: 0,
@@ -74,6 +80,7 @@ impl GraphicsState {
             auto_flip: true,
             delta_base: 9,
             delta_shift: 3,
+            whole,
         }
     }
 }

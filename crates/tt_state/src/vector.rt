@@ -55,7 +55,7 @@ pub(crate) fn widened(v: i32) -> Wide
 
 /// `a * b`, where `b` is a part of a unit vector.
 fn product(a: Wide, b: Wide) -> i64
-    requires a { unsigned_abs a.0 ≤ 2 ^ 31 }
+    requires a { unsigned_abs a.0 ≤ 2 ^ 32 }
     requires b { unsigned_abs b.0 ≤ 16384 }
     ensures exact { result ≡ a.0 *ℤ b.0 }
     ensures bound { unsigned_abs result ≤ 16384 * unsigned_abs a.0 }
@@ -163,18 +163,18 @@ impl Vector {
 
     /// How far along x and along y a distance `d` along the vector goes, in 26.6 pixels.
     #[tactic(auto, unfolding(crate::specs::Vectors::along), using(crate::proofs::OnAxes::whole, crate::proofs::OnAxes::nothing))]
-    pub fn along(&self, d: i32) -> (i64, i64)
-        ensures x { result.0 ≡ (is.along (pair_of self.now) d).x }
-        ensures y { result.1 ≡ (is.along (pair_of self.now) d).y }
-        ensures few_x { unsigned_abs result.0 ≤ 2 ^ 31 }
-        ensures few_y { unsigned_abs result.1 ≤ 2 ^ 31 }
+    pub fn along(&self, d: i64) -> (i64, i64)
+        requires { unsigned_abs d ≤ 2 ^ 32 }
+        ensures exact { is.pair result.0 result.1 ≡ is.along (pair_of self.now) d }
+        ensures few_x { unsigned_abs result.0 ≤ 2 ^ 32 }
+        ensures few_y { unsigned_abs result.1 ≤ 2 ^ 32 }
     {
         match self {
-            Vector::X => (i64::from(d), 0),
-            Vector::Y => (0, i64::from(d)),
+            Vector::X => (d, 0),
+            Vector::Y => (0, d),
             Vector::Off(s) => (
-                rounded(product(widened(d), s.x())),
-                rounded(product(widened(d), s.y())),
+                rounded(product(Wide(d), s.x())),
+                rounded(product(Wide(d), s.y())),
             ),
         }
     }

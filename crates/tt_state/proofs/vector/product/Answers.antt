@@ -8,7 +8,7 @@ returns-clause-exact c =
     let b : SFits w64 c.args.b.0 = omega (arith, ints, c.requires.b) in
     let right : unsigned_abs c.args.b.0 ≤ 2 ^ 14 = omega (arith, c.requires.b) in
     let product : SFits w64 (c.args.a.0 *ℤ c.args.b.0) =
-    fits_signed_mul w64 c.args.a.0 c.args.b.0 (2 ^ 31) (2 ^ 14) c.requires.a right (omega arith) in
+    fits_signed_mul w64 c.args.a.0 c.args.b.0 (2 ^ 32) (2 ^ 14) c.requires.a right (omega arith) in
     simp to_z-of_z
 
 pub returns-clause-bound : goal.returns-clause-bound
