@@ -6,6 +6,7 @@ use Rattle.tt_core.specs.Outcomes.{◌>>=◌}
 use Rattle.tt_core.specs.declared.fault.Why.{Why}
 use Rattle.tt_core.specs.declared.fault.Why.TheVariants as why
 use Rattle.tt_state.specs.GraphicsState.{default_state}
+use Rattle.tt_state.specs.Vectors.{project}
 use Rattle.tt_state.specs.declared.graphics_state.GraphicsState.{GraphicsState}
 use Rattle.tt_state.specs.declared.point.Point.{Point}
 use Rattle.tt_points_zones.specs.Motions.{direction, moved}
@@ -82,6 +83,7 @@ glyph ps = record { twilight = []; glyph = ps; contours = [] }
 a_point_at_its_size : deltap ranges.First 16 (pos 0x7F ∷ pos 0 ∷ pos 0x6F ∷ pos 9 ∷ [])
     (glyph (point (pos 1) false ∷ [])) default_state
     ≡ Ok (glyph (point (pos 65) true ∷ []))
+unfolding direction project
 a_point_at_its_size = refl
 
 last_pair_first : deltap ranges.First 16 (pos 256 ∷ pos 0 ∷ pos 0x7F ∷ pos 1 ∷ [])

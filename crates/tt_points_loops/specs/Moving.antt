@@ -21,10 +21,12 @@ use Rattle.tt_points_zones.specs.declared.motion.Motion.{Motion}
 use Rattle.tt_points_loops.specs.Series.{looped}
 
 -- ALIGNRP: points of zp1 are moved to where rp0, in zp0, stands
+abbrev pub aligned : GraphicsState → Point → Point → Result Point Why
+aligned g r p = direction g >>= λ m. moved m (current_distance m p r) p
+
 abbrev pub align : GraphicsState → ℤ → ZoneLists → Result ZoneLists Why
 align g n z =
-    point_in g.zp1 n z >>= λ p. point_in g.zp0 g.rp0 z >>= λ r.
-    direction g >>= λ m. moved m (current_distance m p r) p >>= λ q. Ok (with_point g.zp1 n q z)
+    point_in g.zp1 n z >>= λ p. point_in g.zp0 g.rp0 z >>= λ r. aligned g r p >>= λ q. Ok (with_point g.zp1 n q z)
 
 abbrev pub alignrp : List ℤ → ZoneLists → GraphicsState → Result (ZoneLists × GraphicsState) Why
 alignrp points z g = looped (align g) points z g

@@ -6,7 +6,7 @@ use Rattle.tt_state.specs.declared.graphics_state.GraphicsState.{GraphicsState}
 use Rattle.tt_state.specs.declared.graphics_state.Zone.{Zone}
 use Rattle.tt_state.specs.declared.graphics_state.Zone.TheVariants as zone
 use Rattle.tt_state.specs.declared.point.Point.{Point}
-use Rattle.tt_points_zones.specs.Motions.{direction, current_distance, moved, moved_along}
+use Rattle.tt_points_zones.specs.Motions.{direction, moved, moved_along}
 use Rattle.tt_points_zones.specs.Points.{point_in, points_in, with_point}
 use Rattle.tt_points_zones.specs.ZoneNumbers.{zone_of}
 use Rattle.tt_points_zones.specs.Zones.{ZoneLists, SameShape, KeepsShape, KeepsShapeBefore}
@@ -117,8 +117,7 @@ excepted range ppem g pair z = whatever (SameShape z) (delta_of range (pair.0) p
 aligned : (g : GraphicsState) (n : ℤ) (z : ZoneLists) → KeepsShape z (align g n z)
 aligned g n z =
     whatever (SameShape z) (point_in g.zp1 n z) _ (λ p.
-    whatever (SameShape z) (point_in g.zp0 g.rp0 z) _ (λ r.
-    whatever (SameShape z) (direction g) _ (λ m. put g.zp1 n z (moved m (current_distance m p r) p))))
+    whatever (SameShape z) (point_in g.zp0 g.rp0 z) _ (λ r. put g.zp1 n z (moving.aligned g r p)))
 
 interpolated : (g : GraphicsState) (n : ℤ) (z : ZoneLists) → KeepsShape z (interpolate g n z)
 interpolated g n z = whatever (SameShape z) (point_in g.zp2 n z) _ (λ p. put g.zp2 n z (in_between g z p))

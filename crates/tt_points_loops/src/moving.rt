@@ -22,14 +22,26 @@ fn moved_by(p: Point, m: &Motion, by: Distance) -> Result<Point, Why>
     m.moved(p, by.0)
 }
 
-/// The point moved to where another stands.
-fn aligned(p: Point, r: Point, m: &Motion) -> Result<Point, Why>
+/// The point moved to where another stands. Error: ValueRange.
+fn moved_to(p: Point, r: Point, m: &Motion) -> Result<Point, Why>
     requires p { IsPoint p }
     requires r { IsPoint r }
     ensures exact { Gives (λ q. q) result (motion.moved m.now (motion.current_distance m.now p r) p) }
     ensures valid { IfOk result IsPoint }
 {
     moved_by(p, m, m.current_distance(p, r))
+}
+
+/// The same by the vectors of the graphics state. Errors: Perpendicular, ValueRange.
+fn aligned(p: Point, r: Point, state: &GraphicsState) -> Result<Point, Why>
+    requires p { IsPoint p }
+    requires r { IsPoint r }
+    ensures exact { Gives (λ q. q) result (is.aligned state.now r p) }
+    ensures valid { IfOk result IsPoint }
+{
+    may_move(state)?;
+    let motion = Motion::of(state);
+    moved_to(p, r, &motion)
 }
 
 /// A point of zp1 is moved to rp0.
@@ -40,9 +52,7 @@ fn align(zones: &mut Zones, state: &GraphicsState, n: i32) -> Result<(), Why>
 {
     let p = zones.point(state.zp1, n)?;
     let reference = zones.point(state.zp0, state.rp0)?;
-    may_move(state)?;
-    let motion = Motion::of(state);
-    let moved = aligned(p, reference, &motion)?;
+    let moved = aligned(p, reference, state)?;
     zones.set(state.zp1, n, moved);
     Ok(())
 }
@@ -126,7 +136,7 @@ fn moved_between(p: Point, a: Point, b: Point, m: &Motion) -> Result<Point, Why>
     )
 }
 
-/// The same along the vectors. Errors: Perpendicular, ValueRange.
+/// The same by the vectors of the graphics state. Errors: Perpendicular, ValueRange.
 fn kept_between(p: Point, a: Point, b: Point, state: &GraphicsState) -> Result<Point, Why>
     requires p { IsPoint p }
     requires a { IsPoint a }
