@@ -4,3 +4,4 @@ pub mod Moving
 pub mod Twilight
 pub mod ControlValues
 pub mod Shapes
+pub mod WithAll

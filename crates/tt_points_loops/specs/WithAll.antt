@@ -33,7 +33,7 @@ abbrev pub StaysBeside : {A : Type 0} → Result (A × GraphicsState) Why → Re
 StaysBeside r with = Stays beside r with
 
 -- a point that is moved by the vectors, and one that is put in the place of another
-by_vectors : {A : Type 0} (g : GraphicsState) (f : Motion → Result A Why)
+pub by_vectors : {A : Type 0} (g : GraphicsState) (f : Motion → Result A Why)
     → StaysSame (direction g >>= f) (direction (with_all g) >>= f)
 by_vectors g f = chained (λ m. m) (λ a. a) (direction g) (direction (with_all g)) f f (directed g) (λ m. same (f m))
 
