@@ -3,4 +3,5 @@ pub mod Measuring
 pub mod Moving
 pub mod Twilight
 pub mod ControlValues
+pub mod Lines
 pub mod Shapes
