@@ -25,6 +25,7 @@ const NO_PROGRAMS: Programs<'static> = Programs {
     cvt: &[],
     fpgm: &[],
     prep: &[],
+    whole: false,
 };
 
 /// Prints what the words ask of a font: first the size and how outlines are fitted.

@@ -41,6 +41,7 @@ pub(crate) fn programs_of(font: &[u8]) -> Result<Programs<'_>>
         cvt: table_or_nothing(&dir, *b"cvt ")?,
         fpgm: table_or_nothing(&dir, *b"fpgm")?,
         prep: table_or_nothing(&dir, *b"prep")?,
+        whole: false,
     })
 }
 

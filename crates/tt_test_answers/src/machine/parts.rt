@@ -155,7 +155,8 @@ pub(crate) fn parts_in<'a>(alloc: Global, words: &mut Words) -> Result<Parts<'a>
         storage,
         zones,
         functions: BTreeMap::new(alloc),
-        state: GraphicsState::new(),
+        instructions: BTreeMap::new(alloc),
+        state: GraphicsState::new(false),
         skip_glyphs: false,
         default_state: false,
     })
