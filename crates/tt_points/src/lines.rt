@@ -10,7 +10,7 @@ ghost use Rattle.tt_state.specs.Axes.{vector_of};
 ghost use Rattle.tt_points.specs.Lines as is;
 
 use tt_core::Why;
-use tt_points_zones::{Distance, Line, Motion, Place, Zones, direction, met};
+use tt_points_zones::{Distance, Line, Motion, Place, Zones, may_move, met};
 use tt_state::{GraphicsState, Point, Vector, Zone};
 
 /// The numbers of two points, through which a line goes.
@@ -215,11 +215,9 @@ pub fn alignpts(zones: &mut Zones, state: &GraphicsState, p1: i32, p2: i32) -> R
 {
     let a = zones.point(state.zp1, p1)?;
     let b = zones.point(state.zp0, p2)?;
-    let m = match direction(state) {
-        Ok(m) => m,
-        Err(why) => return Err(why),
-    };
-    let h = half(m.current_distance(a, b));
-    move_by(zones, state.zp1, p1, &m, h)?;
-    move_by(zones, state.zp0, p2, &m, opposite(h))
+    may_move(state)?;
+    let motion = Motion::of(state);
+    let h = half(motion.current_distance(a, b));
+    move_by(zones, state.zp1, p1, &motion, h)?;
+    move_by(zones, state.zp0, p2, &motion, opposite(h))
 }
