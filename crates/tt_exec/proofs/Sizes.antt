@@ -1,5 +1,5 @@
 -- No instruction makes or drops a point, a place of the storage area or a control value.
-use Rattle.std.proofs.Common.{◌≡◌, ◌∙◌, ℕ, zero, suc, ◌+◌, ◌==◌, nat_le, nat_lt, ℤ, pos, ◌+ℤ◌, int_le, int_lt, Bool, true, false, ◌&&◌, if◌then◌else◌, List, [], ◌∷◌, length, Option, Some, None, Result, Ok, Err, IfOk, subst, refl}
+use Rattle.std.proofs.Common.{◌≡◌, ◌∙◌, ℕ, zero, suc, ◌+◌, ◌==◌, nat_le, nat_lt, ℤ, pos, ◌+ℤ◌, int_le, int_lt, unsigned_abs, Bool, true, false, ◌&&◌, if◌then◌else◌, List, [], ◌∷◌, length, Option, Some, None, Result, Ok, Err, IfOk, subst, refl}
 use Rattle.std.specs.Ordering.{int_eq}
 use Rattle.tt_core.specs.Faults.{Fault}
 use Rattle.tt_core.specs.declared.fault.Why.{Why}
@@ -160,13 +160,13 @@ defined_kept at d m (Err halt) = tt
 fdef_from_kept : (s : List ℤ) (at : ℕ) (m : MachineState) → Keeps m (fdef_from s at m)
 fdef_from_kept (n ∷ s) at m =
     either (Keeps m) (is_number n) _ _
-    (defined_kept at _ (record m { stack = s }) (definition_end m.frame.code.bytes at)) tt
+    (defined_kept at (definition.Function (unsigned_abs n)) (record m { stack = s }) (definition_end m.frame.code.bytes at)) tt
 fdef_from_kept [] at m = tt
 
 idef_from_kept : (s : List ℤ) (at : ℕ) (m : MachineState) → Keeps m (idef_from s at m)
 idef_from_kept (n ∷ s) at m =
     either (Keeps m) (is_opcode n) _ _
-    (defined_kept at _ (record m { stack = s }) (definition_end m.frame.code.bytes at)) tt
+    (defined_kept at (definition.Instruction (unsigned_abs n)) (record m { stack = s }) (definition_end m.frame.code.bytes at)) tt
 idef_from_kept [] at m = tt
 
 endf_kept : (callers : List Frame) (at : ℕ) (m : MachineState) → Keeps m (endf callers at m)

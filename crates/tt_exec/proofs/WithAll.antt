@@ -1,5 +1,5 @@
 -- A run without the whole instruction set is the same run with it, but for the refusals of the profile.
-use Rattle.std.proofs.Common.{◌≡◌, ℕ, zero, suc, ◌+◌, ◌==◌, nat_le, nat_lt, ℤ, pos, ◌+ℤ◌, int_le, int_lt, Bool, true, false, ◌&&◌, if◌then◌else◌, List, [], ◌∷◌, length, Option, Some, None, Result, Ok, Err, refl}
+use Rattle.std.proofs.Common.{◌≡◌, ℕ, zero, suc, ◌+◌, ◌==◌, nat_le, nat_lt, ℤ, pos, ◌+ℤ◌, int_le, int_lt, unsigned_abs, Bool, true, false, ◌&&◌, if◌then◌else◌, List, [], ◌∷◌, length, Option, Some, None, Result, Ok, Err, refl}
 use Rattle.std.specs.Ordering.{int_eq}
 use Rattle.tt_core.specs.Faults.{Fault}
 use Rattle.tt_core.specs.Limits.{call_limit, step_limit}
@@ -155,13 +155,13 @@ defined_stays at d m (Err halt) = λ other. refl
 
 fdef_from_stays : (s : List ℤ) (at : ℕ) (m : MachineState) → RunStays (fdef_from s at m) (fdef_from s at (with_all_in m))
 fdef_from_stays (n ∷ s) at m =
-    either (is_number n) _ _ _ _ (defined_stays at _ (record m { stack = s }) (definition_end m.frame.code.bytes at))
+    either (is_number n) _ _ _ _ (defined_stays at (definition.Function (unsigned_abs n)) (record m { stack = s }) (definition_end m.frame.code.bytes at))
     (refused m at why.BadArgument)
 fdef_from_stays [] at m = λ other. refl
 
 idef_from_stays : (s : List ℤ) (at : ℕ) (m : MachineState) → RunStays (idef_from s at m) (idef_from s at (with_all_in m))
 idef_from_stays (n ∷ s) at m =
-    either (is_opcode n) _ _ _ _ (defined_stays at _ (record m { stack = s }) (definition_end m.frame.code.bytes at))
+    either (is_opcode n) _ _ _ _ (defined_stays at (definition.Instruction (unsigned_abs n)) (record m { stack = s }) (definition_end m.frame.code.bytes at))
     (refused m at why.BadArgument)
 idef_from_stays [] at m = λ other. refl
 
