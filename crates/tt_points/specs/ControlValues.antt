@@ -121,21 +121,27 @@ unfolding mirp made chosen_from mirp_distance kept single_width direction projec
 a_distance_along_it = refl
 
 a_twilight_point_along_it : miap false (pos 1) (pos 100) before (record (slanted rising) { zp0 = zone.Twilight })
-    ≡ Ok (with_twilight (touched_at (pos 45) (pos 89) (pos 45) (pos 89) true true),
-      record (slanted rising) { zp0 = zone.Twilight; rp0 = pos 1; rp1 = pos 1 })
+    ≡ Ok (
+      with_twilight (touched_at (pos 45) (pos 89) (pos 45) (pos 89) true true),
+      record (slanted rising) { zp0 = zone.Twilight; rp0 = pos 1; rp1 = pos 1 },
+    )
 unfolding miap set_at miap_distance placed_at placed direction project along
 a_twilight_point_along_it = refl
 
 -- placed along the freedom vector, and moved to where the projection vector measures 100
 a_twilight_point_moved_on : miap false (pos 1) (pos 100) before (record (slanted vector.X) { zp0 = zone.Twilight })
-    ≡ Ok (with_twilight (touched_at (pos 100) (pos 0) (pos 223) (pos 0) true false),
-      record (slanted vector.X) { zp0 = zone.Twilight; rp0 = pos 1; rp1 = pos 1 })
+    ≡ Ok (
+      with_twilight (touched_at (pos 100) (pos 0) (pos 223) (pos 0) true false),
+      record (slanted vector.X) { zp0 = zone.Twilight; rp0 = pos 1; rp1 = pos 1 },
+    )
 unfolding miap set_at miap_distance placed_at placed direction project along
 a_twilight_point_moved_on = refl
 
 a_twilight_point_at_a_slanted_distance : mirp (keeping false false false) (pos 1) (pos 100) before
     (record (slanted rising) { zp1 = zone.Twilight })
-    ≡ Ok (with_twilight (touched_at (pos 45) (pos 89) (pos 45) (pos 89) true true),
-      record (slanted rising) { zp1 = zone.Twilight; rp2 = pos 1 })
+    ≡ Ok (
+      with_twilight (touched_at (pos 45) (pos 89) (pos 45) (pos 89) true true),
+      record (slanted rising) { zp1 = zone.Twilight; rp2 = pos 1 },
+    )
 unfolding mirp made placed chosen_from mirp_distance kept single_width direction project along
 a_twilight_point_at_a_slanted_distance = refl

@@ -1,6 +1,6 @@
 -- Apple TrueType Reference Manual, "Instruction Set" (SPVTL, SFVTL, SDPVTL, ISECT, ALIGNPTS): vectors set by the line
 -- through two points, where two lines meet, and points aligned. Coordinates are in 26.6 pixels.
-use Rattle.std.specs.Prelude.{◌≡◌, ℤ, pos, negsuc, neg_ℤ, int_div, Bool, true, false, [], ◌∷◌, Result, Ok, Err, refl}
+use Rattle.std.specs.Prelude.{◌≡◌, ℤ, pos, negsuc, neg_ℤ, int_div, Bool, true, false, Result, Ok, Err, refl}
 use Rattle.tt_core.specs.Outcomes.{◌>>=◌}
 use Rattle.tt_core.specs.declared.fault.Why.{Why}
 use Rattle.tt_core.specs.declared.fault.Why.TheVariants as why
@@ -19,7 +19,7 @@ use Rattle.tt_points_zones.specs.Meeting.{met, meeting, are_parallel, crossing, 
 use Rattle.tt_points_zones.specs.declared.meeting.Line.{Line}
 use Rattle.tt_points_zones.specs.declared.meeting.Place.{Place}
 use Rattle.tt_points_zones.specs.declared.motion.Motion.{Motion}
-use Rattle.tt_points.specs.Slanted.{rising, across, slanted, touched_at, third, fourth, fourth_at, points, with_fourth, before}
+use Rattle.tt_points.specs.Slanted.{rising, across, slanted, touched_at, fourth_at, points, with_fourth, before}
 use Rattle.tt_points.specs.Twilight.{origin}
 use Rattle.tt_points.specs.declared.lines.Ends.{Ends}
 

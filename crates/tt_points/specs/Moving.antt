@@ -134,7 +134,9 @@ set_apart_along_it = refl
 
 -- a twilight point whose distance is 64 as the projection vector measures it
 a_twilight_point_set_apart : msirp false (pos 1) (pos 64) before (record (slanted vector.X) { zp1 = zone.Twilight })
-    ≡ Ok (with_twilight (touched_at (pos 143) (pos 0) (pos 143) (pos 0) true false),
-      record (slanted vector.X) { zp1 = zone.Twilight; rp2 = pos 1 })
+    ≡ Ok (
+      with_twilight (touched_at (pos 143) (pos 0) (pos 143) (pos 0) true false),
+      record (slanted vector.X) { zp1 = zone.Twilight; rp2 = pos 1 },
+    )
 unfolding msirp made placed kept_from kept direction project
 a_twilight_point_set_apart = refl

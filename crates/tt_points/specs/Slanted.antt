@@ -1,5 +1,5 @@
 -- No part of the standard: points and vectors off the axes, for worked values. Coordinates are in 26.6 pixels.
-use Rattle.std.specs.Prelude.{ℤ, pos, negsuc, Bool, true, false, [], ◌∷◌}
+use Rattle.std.specs.Prelude.{ℤ, pos, negsuc, Bool, true, [], ◌∷◌}
 use Rattle.tt_state.specs.declared.graphics_state.GraphicsState.{GraphicsState}
 use Rattle.tt_state.specs.declared.point.Point.{Point}
 use Rattle.tt_state.specs.declared.vector.Vector.{Vector}

@@ -21,12 +21,7 @@ pub struct Ends {
 }
 
 /// Point `p1` of zone pointer 2 and point `p2` of zone pointer 1. Error: PointRange.
-fn two_points(
-    zones: &Zones,
-    state: &GraphicsState,
-    p1: i32,
-    p2: i32,
-) -> Result<(Point, Point), Why>
+fn two_points(zones: &Zones, state: &GraphicsState, p1: i32, p2: i32) -> Result<(Point, Point), Why>
     requires { IsZones (zones_view zones.now) }
     ensures exact { Gives (λ t. t) result (is.two_points p1 p2 (zones_view zones.now) state.now) }
     ensures first { IfOk result (λ t. IsPoint t.0) }
@@ -156,13 +151,7 @@ fn put_to(q: Point, place: Place) -> Point
 /// b0 to point b1 of zone pointer 0. Where the lines are parallel, or nearly so, the point is put into the middle of
 /// these four. Errors: PointRange of b1, b0, a1, a0, p; ValueRange.
 #[tactic(auto, unfolding(crate::specs::Lines::isect))]
-pub fn isect(
-    zones: &mut Zones,
-    state: &GraphicsState,
-    p: i32,
-    a: Ends,
-    b: Ends,
-) -> Result<(), Why>
+pub fn isect(zones: &mut Zones, state: &GraphicsState, p: i32, a: Ends, b: Ends) -> Result<(), Why>
     requires { IsZones (zones_view zones.old) }
     ensures exact { Gives (λ u. zones_view zones.new) result (is.isect p a b (zones_view zones.old) state.now) }
     ensures zones { IsZones (zones_view zones.new) }
