@@ -25,6 +25,7 @@ const NO_PROGRAMS: Programs<'static> = Programs {
     cvt: &[],
     fpgm: &[],
     prep: &[],
+    whole: false,
 };
 
 /// Prints what the words ask of a font: first the size and how outlines are fitted.
@@ -34,10 +35,10 @@ pub(crate) fn print_table<R: Print + Eprint + AllocGlobal>(
     words: &mut Words,
 ) -> Result<()> {
     let size = words.number(1, SIZE)? as u32;
-    let fit = words.fit()?;
+    let (fit, whole) = words.fit()?;
     let (metrics, glyphs) = tables_of(font)?;
     let programs = match fit {
-        Fit::Full | Fit::Fallback => programs_of(font)?,
+        Fit::Full | Fit::Fallback => programs_of(font, whole)?,
         Fit::None => NO_PROGRAMS,
     };
     match Fitter::new(rt.alloc(), &metrics, glyphs, programs, size, fit) {
