@@ -25,6 +25,7 @@ its_parts = record {
   storage = pos 0 ∷ [];
   zones = record { twilight = []; glyph = []; contours = [] };
   functions = [];
+  instructions = [];
   state = default_state;
   skip_glyphs = false;
   default_state = false;

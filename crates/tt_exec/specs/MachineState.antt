@@ -25,12 +25,14 @@ pub record Frame : Type 0 where
   pub start : ℕ
   pub left : ℕ
 
--- The stack has its top first, the callers the innermost first. Functions are listed by their numbers.
+-- The stack has its top first, the callers the innermost first. Functions are listed by their
+-- numbers, and instructions that programs define by their opcodes.
 pub record MachineState : Type 0 where
   pub stack : List ℤ
   pub frame : Frame
   pub callers : List Frame
   pub functions : List (ℕ × Body)
+  pub instructions : List (ℕ × Body)
   pub storage : List ℤ
   pub cvt : List ℤ
   pub graphics : GraphicsState

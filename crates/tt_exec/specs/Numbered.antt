@@ -9,6 +9,10 @@ use Rattle.tt_exec.specs.MachineState.{Body}
 abbrev pub is_number : ℤ → Bool
 is_number n = int_le (pos 0) n && int_le n (pos 65535)
 
+-- a number that is an opcode
+abbrev pub is_opcode : ℤ → Bool
+is_opcode n = int_le (pos 0) n && int_le n (pos 255)
+
 -- the function of a number
 abbrev pub function_at : ℤ → List (ℕ × Body) → Option Body
 function_at n functions = if is_number n then lookup (is_at (nat_cmp (unsigned_abs n))) functions else None

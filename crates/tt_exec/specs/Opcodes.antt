@@ -1,5 +1,6 @@
--- Apple TrueType Reference Manual, "Instruction set": the instruction of each opcode. Vectors off the axes,
--- crossings of lines and definitions of instructions are not supported (profile).
+-- Apple TrueType Reference Manual, "Instruction set": the instruction of each opcode. Vectors off the axes, crossings of
+-- lines and definitions of instructions are beyond the profile: the machine has them where the whole instruction set is
+-- there.
 use Rattle.std.specs.Prelude.{◌≡◌, ℕ, zero, suc, ◌/◌, ◌%◌, ◌==◌, nat_lt, Bool, true, false, if◌then◌else◌, List, [], ◌∷◌, refl}
 use Rattle.tt_state.specs.declared.graphics_state.Axis.TheVariants as axis
 use Rattle.tt_state.specs.declared.rounding.Round.TheVariants as round
@@ -22,7 +23,7 @@ use Rattle.tt_exec.specs.Operation as op
 
 -- the instruction that a table has for an opcode
 abbrev pub named : ℕ → List (ℕ × Operation) → Operation
-named opcode [] = op.unnamed
+named opcode [] = op.unnamed opcode
 named opcode (e ∷ es) = if opcode == e.0 then e.1 else named opcode es
 
 -- 0x00 to 0x1F
@@ -34,16 +35,16 @@ opcodes_00 =
     (0x03, op.access_vectors (vectors.Spvtca axis.X)) ∷
     (0x04, op.access_vectors (vectors.Sfvtca axis.Y)) ∷
     (0x05, op.access_vectors (vectors.Sfvtca axis.X)) ∷
-    (0x06, op.off_profile) ∷
-    (0x07, op.off_profile) ∷
-    (0x08, op.off_profile) ∷
-    (0x09, op.off_profile) ∷
+    (0x06, op.beyond (op.on_points (on.Spvtl false))) ∷
+    (0x07, op.beyond (op.on_points (on.Spvtl true))) ∷
+    (0x08, op.beyond (op.on_points (on.Sfvtl false))) ∷
+    (0x09, op.beyond (op.on_points (on.Sfvtl true))) ∷
     (0x0A, op.access_vectors vectors.Spvfs) ∷
     (0x0B, op.access_vectors vectors.Sfvfs) ∷
     (0x0C, op.access_vectors vectors.Gpv) ∷
     (0x0D, op.access_vectors vectors.Gfv) ∷
     (0x0E, op.access_vectors vectors.Sfvtpv) ∷
-    (0x0F, op.off_profile) ∷
+    (0x0F, op.beyond (op.on_points on.Isect)) ∷
     (0x10, op.set_state setting.Srp0) ∷
     (0x11, op.set_state setting.Srp1) ∷
     (0x12, op.set_state setting.Srp2) ∷
@@ -72,7 +73,7 @@ opcodes_20 =
     (0x24, op.manage managing.Depth) ∷
     (0x25, op.manage managing.Cindex) ∷
     (0x26, op.manage managing.Mindex) ∷
-    (0x27, op.off_profile) ∷
+    (0x27, op.beyond (op.on_points on.Alignpts)) ∷
     (0x29, op.on_points on.Utp) ∷
     (0x2A, op.loopcall) ∷
     (0x2B, op.call) ∷
@@ -114,7 +115,7 @@ opcodes_40 =
     (0x4C, op.answer query.Mps) ∷
     (0x4D, op.set_state (setting.Flip true)) ∷
     (0x4E, op.set_state (setting.Flip false)) ∷
-    (0x4F, op.off_profile) ∷
+    (0x4F, op.beyond (op.set_state setting.Ignored)) ∷
     (0x50, op.evaluate logic.Lt) ∷
     (0x51, op.evaluate logic.Lteq) ∷
     (0x52, op.evaluate logic.Gt) ∷
@@ -159,7 +160,7 @@ opcodes_60 =
     (0x74, op.on_points (on.Deltac ranges.Second)) ∷
     (0x75, op.on_points (on.Deltac ranges.Third)) ∷
     (0x76, op.set_state setting.Sround) ∷
-    (0x77, op.off_profile) ∷
+    (0x77, op.beyond (op.set_state setting.S45round)) ∷
     (0x78, op.jrot) ∷
     (0x79, op.jrof) ∷
     (0x7A, op.set_state (setting.RoundTo round.Off)) ∷
@@ -176,10 +177,10 @@ opcodes_80 =
     (0x81, op.on_points on.Fliprgon) ∷
     (0x82, op.on_points on.Fliprgoff) ∷
     (0x85, op.set_state setting.Ignored) ∷
-    (0x86, op.off_profile) ∷
-    (0x87, op.off_profile) ∷
+    (0x86, op.beyond (op.on_points (on.Sdpvtl false))) ∷
+    (0x87, op.beyond (op.on_points (on.Sdpvtl true))) ∷
     (0x88, op.answer query.Getinfo) ∷
-    (0x89, op.off_profile) ∷
+    (0x89, op.beyond op.idef) ∷
     (0x8A, op.manage managing.Roll) ∷
     (0x8B, op.compute arithmetic.Max) ∷
     (0x8C, op.compute arithmetic.Min) ∷
@@ -220,21 +221,46 @@ those test (opcode ∷ opcodes) =
     if test (operation_of opcode) then opcode ∷ those test opcodes else those test opcodes)
 
 abbrev is_unnamed : Operation → Bool
-is_unnamed op.unnamed = true
+is_unnamed (op.unnamed n) = true
 is_unnamed _ = false
 
-abbrev is_off_profile : Operation → Bool
-is_off_profile op.off_profile = true
-is_off_profile _ = false
+abbrev is_beyond : Operation → Bool
+is_beyond (op.beyond o) = true
+is_beyond _ = false
 
 -- every opcode that has no instruction: an opcode that is left out of the table shows here
 no_instruction : those is_unnamed (from 0 256) ≡ 0x28 ∷ 0x7B ∷ 0x83 ∷ 0x84 ∷ from 0x8F 33
 no_instruction = refl
 
--- SPVTL, SFVTL, ISECT, ALIGNPTS, DEBUG, S45ROUND, SDPVTL and IDEF, every opcode that is not supported
-not_supported : those is_off_profile (from 0 256)
+-- SPVTL, SFVTL, ISECT, ALIGNPTS, DEBUG, S45ROUND, SDPVTL and IDEF: every opcode that is beyond the profile
+beyond_the_profile : those is_beyond (from 0 256)
     ≡ 0x06 ∷ 0x07 ∷ 0x08 ∷ 0x09 ∷ 0x0F ∷ 0x27 ∷ 0x4F ∷ 0x77 ∷ 0x86 ∷ 0x87 ∷ 0x89 ∷ []
-not_supported = refl
+beyond_the_profile = refl
+
+-- beyond the profile
+spvtl_turned : operation_of 0x07 ≡ op.beyond (op.on_points (on.Spvtl true))
+spvtl_turned = refl
+
+sfvtl : operation_of 0x08 ≡ op.beyond (op.on_points (on.Sfvtl false))
+sfvtl = refl
+
+isect : operation_of 0x0F ≡ op.beyond (op.on_points on.Isect)
+isect = refl
+
+alignpts : operation_of 0x27 ≡ op.beyond (op.on_points on.Alignpts)
+alignpts = refl
+
+debug : operation_of 0x4F ≡ op.beyond (op.set_state setting.Ignored)
+debug = refl
+
+s45round : operation_of 0x77 ≡ op.beyond (op.set_state setting.S45round)
+s45round = refl
+
+sdpvtl_turned : operation_of 0x87 ≡ op.beyond (op.on_points (on.Sdpvtl true))
+sdpvtl_turned = refl
+
+idef : operation_of 0x89 ≡ op.beyond op.idef
+idef = refl
 
 -- on the stack and on what a program sets
 svtca_x : operation_of 0x01 ≡ op.access_vectors (vectors.Svtca axis.X)

@@ -1,5 +1,6 @@
 -- No part of the standard: an instruction, by the family whose file defines it. Each family's variants are in the
 -- manual's names.
+use Rattle.std.specs.Prelude.{ℕ}
 use Rattle.tt_exec_stack.specs.declared.instruction.Arithmetic.{Arithmetic}
 use Rattle.tt_exec_stack.specs.declared.instruction.Logic.{Logic}
 use Rattle.tt_exec_stack.specs.declared.instruction.Managing.{Managing}
@@ -22,6 +23,8 @@ pub data Operation : Type 0 where
   fdef endf call loopcall : Operation
   -- an instruction that works on points, or DELTAC
   on_points : PointInstruction → Operation
-  -- SPVTL, SFVTL, ISECT, ALIGNPTS, DEBUG, S45ROUND, SDPVTL, IDEF, which are not supported (profile)
-  off_profile : Operation
-  unnamed : Operation
+  idef : Operation
+  -- an instruction that is refused without the whole instruction set (profile)
+  beyond : Operation → Operation
+  -- an opcode that has no name: a program may define it
+  unnamed : ℕ → Operation

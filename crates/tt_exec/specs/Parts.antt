@@ -13,6 +13,7 @@ pub record Parts : Type 0 where
   pub storage : List ℤ
   pub zones : ZoneLists
   pub functions : List (ℕ × Body)
+  pub instructions : List (ℕ × Body)
   pub state : GraphicsState
   pub skip_glyphs : Bool
   pub default_state : Bool
@@ -25,6 +26,7 @@ parts_of p = record {
   storage = p.storage.items;
   zones = zones_view p.zones;
   functions = map entry_of p.functions.entries;
+  instructions = map entry_of p.instructions.entries;
   state = p.state;
   skip_glyphs = p.skip_glyphs;
   default_state = p.default_state;

@@ -9,6 +9,7 @@ state_of m = record {
   frame = frame_of m.frame;
   callers = m.callers;
   functions = m.functions;
+  instructions = m.instructions;
   storage = m.storage.items;
   cvt = m.cvt.items;
   graphics = m.graphics;

@@ -1,6 +1,6 @@
 -- Apple TrueType Reference Manual, "Instruction set": one step, the instruction at the state's place. Each family's
 -- definitions stand in a file of their own; this one has them work on a whole state.
-use Rattle.std.specs.Prelude.{ℕ, ◌+◌, nat_le, ℤ, Bool, false, ◌==◌, ◌||◌, ◌&&◌, List, length, if◌then◌else◌, Result, Ok, Err}
+use Rattle.std.specs.Prelude.{ℕ, ◌+◌, nat_le, ℤ, pos, Bool, false, ◌==◌, ◌||◌, ◌&&◌, List, length, if◌then◌else◌, Result, Ok, Err}
 use Rattle.tt_core.specs.Faults.{Fault}
 use Rattle.tt_core.specs.declared.fault.Why.{Why}
 use Rattle.tt_core.specs.declared.fault.Why.TheVariants as why
@@ -17,7 +17,8 @@ use Rattle.tt_exec_state.specs.Settings.{state_set}
 use Rattle.tt_exec_state.specs.Vectors.{vectors_accessed}
 use Rattle.tt_exec.specs.Flags.{instctrl}
 use Rattle.tt_exec.specs.Flow.{goes_to, if_from, else_from, jmpr, jrot, jrof}
-use Rattle.tt_exec.specs.Functions.{fdef, endf, call, loopcall}
+use Rattle.tt_exec.specs.Functions.{fdef, idef, endf, call, loopcall, instruction_called}
+use Rattle.tt_exec.specs.Numbered.{function_at}
 use Rattle.tt_exec.specs.MachineState.{MachineState, fault_in}
 use Rattle.tt_exec.specs.OnPoints.{on_points}
 use Rattle.tt_exec.specs.Opcodes.{operation_of}
@@ -68,8 +69,9 @@ operate op.endf at m = endf m.callers at m
 operate op.call at m = call m.stack at m
 operate op.loopcall at m = loopcall m.stack at m
 operate (op.on_points o) at m = on_points o at m
-operate op.off_profile at m = Err (fault_in m.frame at why.OffProfile)
-operate op.unnamed at m = Err (fault_in m.frame at why.BadOpcode)
+operate op.idef at m = idef at m
+operate (op.beyond o) at m = if m.graphics.whole then operate o at m else Err (fault_in m.frame at why.OffProfile)
+operate (op.unnamed opcode) at m = instruction_called at m (function_at (pos opcode) m.instructions)
 
 -- what stands at the state's place is done, or data there passes the end
 abbrev pub done : MachineState → Result Instr Halt → Result MachineState Fault

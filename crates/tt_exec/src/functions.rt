@@ -1,20 +1,33 @@
 //! Defining and using functions. Apple TrueType Reference Manual, "Instruction set". An instruction stands at `at`, and
 //! the frame's place is behind it.
 
-ghost use Rattle.std.specs.Prelude.{◌≡◌, ◌+◌, ◌<◌, ◌≤◌, ◌^◌, length};
+ghost use Rattle.std.specs.Prelude.{◌≡◌, ◌+◌, ◌<◌, ◌≤◌, ◌^◌, pos, length, OnOk};
 ghost use Rattle.tt_core.specs.Outcomes.{Leaves};
 ghost use Rattle.tt_exec_stack.specs.Stack.{Does};
 ghost use Rattle.tt_exec.specs.Functions as is;
+ghost use Rattle.tt_exec.specs.Numbered.{function_at};
 ghost use Rattle.tt_exec.specs.Views.{body_of};
 ghost use Rattle.tt_exec.specs.States.{state_of};
 ghost use Rattle.std.specs.Prelude.{Some};
 
 use crate::machine_state::{Kind, MachineState};
-use crate::program::{Body, Frame};
+use crate::program::{Body, Definition, Frame};
+use std::alloc::AllocError;
 use tt_code::skip_def;
 use tt_core::{CALL_LIMIT, Fault, FontFault, Why};
 
+/// Whether an opcode has no name, so that a program may define it.
+fn has_no_name(op: u8) -> bool
+    ensures { result ≡ is.has_no_name op }
+{
+    match op {
+        0x28 | 0x7B | 0x83 | 0x84 => true,
+        _ => 0x8F <= op && op <= 0xAF,
+    }
+}
+
 impl<'a> MachineState<'a> {
+    /// Whether functions and instructions may be defined.
     fn may_define(&self) -> bool
         ensures { result ≡ is.may_define self.now.kind self.now.callers }
     {
@@ -24,16 +37,29 @@ impl<'a> MachineState<'a> {
         }
     }
 
-    /// Defines a function that starts behind the FDEF at `at`. Errors: CodeShort, NoEndf; Memory.
-    fn define(&mut self, at: usize, n: u16) -> Result<(), FontFault>
+    /// Keeps a definition; one of an opcode that has a name is passed over. Error: Memory.
+    fn keep(&mut self, definition: Definition, body: Body<'a>) -> Result<(), AllocError>
+        ensures { OnOk result (state_of self.new ≡ is.with_definition definition (body_of body.entry) (state_of self.old)) }
+    {
+        match definition {
+            Definition::Function(n) => self.functions.set(n, body),
+            Definition::Instruction(op) if has_no_name(op) => {
+                self.instructions.set(u16::from(op), body)
+            }
+            Definition::Instruction(_) => Ok(()),
+        }
+    }
+
+    /// Defines what starts after the FDEF or IDEF at `at`. Errors: CodeShort, NoEndf; Memory.
+    fn define(&mut self, at: usize, definition: Definition) -> Result<(), FontFault>
         requires { at < length self.old.frame.code.bytes.now }
-        ensures { Leaves result (state_of self.new) (is.define at n (state_of self.old)) }
+        ensures { Leaves result (state_of self.new) (is.define at definition (state_of self.old)) }
     {
         match skip_def(self.frame.code.bytes, at) {
             Ok(place) => {
                 let code = self.frame.code;
-                self.functions.set(
-                    n,
+                self.keep(
+                    definition,
                     Body {
                         code,
                         start: at + 1,
@@ -58,7 +84,24 @@ impl<'a> MachineState<'a> {
         }
         let n = self.popped(at)?;
         match u16::try_from(n) {
-            Ok(n) => self.define(at, n),
+            Ok(n) => self.define(at, Definition::Function(n)),
+            Err(_) => Err(FontFault::Font(self.fault(at, Why::BadArgument))),
+        }
+    }
+
+    /// IDEF[], 0x89: opcode -> nothing; the instruction of an opcode without a name starts after it, and the program goes
+    /// on after its ENDF. Errors: DefinitionPlace outside fpgm and prep and in calls; StackShort; BadArgument of a number
+    /// that is not 0 to 255; CodeShort, NoEndf; Memory.
+    pub(crate) fn idef(&mut self, at: usize) -> Result<(), FontFault>
+        requires { at < length self.old.frame.code.bytes.now }
+        ensures { Leaves result (state_of self.new) (is.idef at (state_of self.old)) }
+    {
+        if !self.may_define() {
+            return Err(FontFault::Font(self.fault(at, Why::DefinitionPlace)));
+        }
+        let n = self.popped(at)?;
+        match u8::try_from(n) {
+            Ok(op) => self.define(at, Definition::Instruction(op)),
             Err(_) => Err(FontFault::Font(self.fault(at, Why::BadArgument))),
         }
     }
@@ -125,5 +168,19 @@ impl<'a> MachineState<'a> {
             return Ok(());
         }
         self.enter(at, body, (count - 1) as u32)
+    }
+
+    /// An opcode that has no name: calls the instruction that a program defined for it. Errors: BadOpcode where none did,
+    /// CallDepth.
+    #[cold]
+    pub(crate) fn call_instruction(&mut self, op: u8, at: usize) -> Result<(), Fault>
+        requires { at < length self.old.frame.code.bytes.now }
+        ensures { let given = is.instruction_called at (state_of self.old) (function_at (pos op) self.old.instructions) in
+            Does given (state_of self.new) result }
+    {
+        match self.instructions.get(i32::from(op)) {
+            Some(body) => self.enter(at, body, 0),
+            None => Err(self.fault(at, Why::BadOpcode)),
+        }
     }
 }

@@ -67,6 +67,7 @@ impl<'a> Machine<'a> {
             frame: Frame::idle(),
             callers: Callers::new(alloc),
             functions: Bodies::new(parts.functions),
+            instructions: Bodies::new(parts.instructions),
             storage: parts.storage,
             cvt: parts.cvt,
             graphics: parts.state,

@@ -37,6 +37,8 @@ pub(crate) struct MachineState<'a> {
     /// What waits for it.
     pub(crate) callers: Callers<'a>,
     pub(crate) functions: Bodies<'a>,
+    /// By opcode.
+    pub(crate) instructions: Bodies<'a>,
     pub(crate) storage: Vec<i32>,
     pub(crate) cvt: Vec<i32>,
     pub(crate) graphics: GraphicsState,
@@ -72,6 +74,7 @@ impl<'a> MachineState<'a> {
             storage: self.storage,
             zones: self.points.into_zones(),
             functions: self.functions.into_map(),
+            instructions: self.instructions.into_map(),
             state: self.graphics,
             skip_glyphs: self.skip_glyphs,
             default_state: self.default_state,

@@ -3,9 +3,11 @@
 
 ghost use Rattle.std.specs.Prelude.{◌≡◌, ◌<◌, length, Err};
 ghost use Rattle.tt_core.specs.Outcomes.{Leaves};
+ghost use Rattle.tt_core.specs.declared.fault.Why.TheVariants as why;
 ghost use Rattle.tt_core.specs.declared.font_fault.FontFault.TheVariants as font;
 ghost use Rattle.tt_exec.specs.MachineState.{fault_in};
 ghost use Rattle.tt_exec.specs.Opcodes as table;
+ghost use Rattle.tt_exec.specs.Operation as operation;
 ghost use Rattle.tt_exec.specs.States.{state_of};
 ghost use Rattle.tt_exec.specs.Step as is;
 ghost use Rattle.tt_exec.specs.Views.{frame_of};
@@ -43,13 +45,49 @@ fn keeping(op: u8) -> Keeping
 }
 
 impl MachineState<'_> {
-    /// An instruction that is none, or not supported.
+    /// An instruction that is refused without the whole instruction set.
     #[cold]
-    fn refuse(&self, at: usize, why: Why) -> Result<(), FontFault>
+    fn refuse(&self, at: usize) -> Result<(), FontFault>
         requires { at < length self.now.frame.code.bytes.now }
-        ensures { result ≡ Err (font.Font (fault_in (frame_of self.now.frame) at why)) }
+        ensures { result ≡ Err (font.Font (fault_in (frame_of self.now.frame) at why.OffProfile)) }
     {
-        Err(FontFault::Font(self.fault(at, why)))
+        Err(FontFault::Font(self.fault(at, Why::OffProfile)))
+    }
+
+    /// SPVTL[], SFVTL[], SDPVTL[], ISECT[] and ALIGNPTS[]. Error: OffProfile without the whole instruction set.
+    fn on_lines(&mut self, op: PointInstruction, at: usize) -> Result<(), FontFault>
+        requires { at < length self.old.frame.code.bytes.now }
+        ensures { let given = is.operate (operation.beyond (operation.on_points op)) at (state_of self.old) in
+            Leaves result (state_of self.new) given }
+    {
+        if !self.graphics.whole {
+            return self.refuse(at);
+        }
+        self.on_points(op, at)
+    }
+
+    /// S45ROUND[] and DEBUG[]. Error: OffProfile without the whole instruction set.
+    fn set_beyond(&mut self, op: Setting, at: usize) -> Result<(), FontFault>
+        requires { at < length self.old.frame.code.bytes.now }
+        ensures { let given = is.operate (operation.beyond (operation.set_state op)) at (state_of self.old) in
+            Leaves result (state_of self.new) given }
+    {
+        if !self.graphics.whole {
+            return self.refuse(at);
+        }
+        Ok(self.set_state(op, at)?)
+    }
+
+    /// IDEF[]. Error: OffProfile without the whole instruction set.
+    fn define_instruction(&mut self, at: usize) -> Result<(), FontFault>
+        requires { at < length self.old.frame.code.bytes.now }
+        ensures { let given = is.operate (operation.beyond operation.idef) at (state_of self.old) in
+            Leaves result (state_of self.new) given }
+    {
+        if !self.graphics.whole {
+            return self.refuse(at);
+        }
+        self.idef(at)
     }
 
     /// 0x00 to 0x1F.
@@ -66,16 +104,16 @@ impl MachineState<'_> {
             0x03 => Ok(self.access_vectors(Vectors::Spvtca(Axis::X), at)?),
             0x04 => Ok(self.access_vectors(Vectors::Sfvtca(Axis::Y), at)?),
             0x05 => Ok(self.access_vectors(Vectors::Sfvtca(Axis::X), at)?),
-            0x06 => self.refuse(at, Why::OffProfile),
-            0x07 => self.refuse(at, Why::OffProfile),
-            0x08 => self.refuse(at, Why::OffProfile),
-            0x09 => self.refuse(at, Why::OffProfile),
+            0x06 => self.on_lines(PointInstruction::Spvtl { turned: false }, at),
+            0x07 => self.on_lines(PointInstruction::Spvtl { turned: true }, at),
+            0x08 => self.on_lines(PointInstruction::Sfvtl { turned: false }, at),
+            0x09 => self.on_lines(PointInstruction::Sfvtl { turned: true }, at),
             0x0A => Ok(self.access_vectors(Vectors::Spvfs, at)?),
             0x0B => Ok(self.access_vectors(Vectors::Sfvfs, at)?),
             0x0C => Ok(self.access_vectors(Vectors::Gpv, at)?),
             0x0D => Ok(self.access_vectors(Vectors::Gfv, at)?),
             0x0E => Ok(self.access_vectors(Vectors::Sfvtpv, at)?),
-            0x0F => self.refuse(at, Why::OffProfile),
+            0x0F => self.on_lines(PointInstruction::Isect, at),
             0x10 => Ok(self.set_state(Setting::Srp0, at)?),
             0x11 => Ok(self.set_state(Setting::Srp1, at)?),
             0x12 => Ok(self.set_state(Setting::Srp2, at)?),
@@ -92,7 +130,7 @@ impl MachineState<'_> {
             0x1D => Ok(self.set_state(Setting::Scvtci, at)?),
             0x1E => Ok(self.set_state(Setting::Sswci, at)?),
             0x1F => Ok(self.set_state(Setting::Ssw, at)?),
-            _ => self.refuse(at, Why::BadOpcode),
+            _ => Ok(self.call_instruction(op, at)?),
         }
     }
 
@@ -111,7 +149,7 @@ impl MachineState<'_> {
             0x24 => Ok(self.manage(Managing::Depth, at)?),
             0x25 => Ok(self.manage(Managing::Cindex, at)?),
             0x26 => Ok(self.manage(Managing::Mindex, at)?),
-            0x27 => self.refuse(at, Why::OffProfile),
+            0x27 => self.on_lines(PointInstruction::Alignpts, at),
             0x29 => self.on_points(PointInstruction::Utp, at),
             0x2A => Ok(self.loopcall(at)?),
             0x2B => Ok(self.call(at)?),
@@ -135,7 +173,7 @@ impl MachineState<'_> {
             0x3D => Ok(self.set_state(Setting::RoundTo(Round::Double), at)?),
             0x3E => self.on_points(PointInstruction::Miap { round: false }, at),
             0x3F => self.on_points(PointInstruction::Miap { round: true }, at),
-            _ => self.refuse(at, Why::BadOpcode),
+            _ => Ok(self.call_instruction(op, at)?),
         }
     }
 
@@ -160,7 +198,7 @@ impl MachineState<'_> {
             0x4C => Ok(self.answer(Query::Mps, at)?),
             0x4D => Ok(self.set_state(Setting::Flip(true), at)?),
             0x4E => Ok(self.set_state(Setting::Flip(false), at)?),
-            0x4F => self.refuse(at, Why::OffProfile),
+            0x4F => self.set_beyond(Setting::Ignored, at),
             0x50 => Ok(self.evaluate(Logic::Lt, at)?),
             0x51 => Ok(self.evaluate(Logic::Lteq, at)?),
             0x52 => Ok(self.evaluate(Logic::Gt, at)?),
@@ -177,7 +215,7 @@ impl MachineState<'_> {
             0x5D => self.on_points(PointInstruction::Deltap(DeltaRange::First), at),
             0x5E => Ok(self.set_state(Setting::Sdb, at)?),
             0x5F => Ok(self.set_state(Setting::Sds, at)?),
-            _ => self.refuse(at, Why::BadOpcode),
+            _ => Ok(self.call_instruction(op, at)?),
         }
     }
 
@@ -212,7 +250,7 @@ impl MachineState<'_> {
             0x74 => self.on_points(PointInstruction::Deltac(DeltaRange::Second), at),
             0x75 => self.on_points(PointInstruction::Deltac(DeltaRange::Third), at),
             0x76 => Ok(self.set_state(Setting::Sround, at)?),
-            0x77 => self.refuse(at, Why::OffProfile),
+            0x77 => self.set_beyond(Setting::S45round, at),
             0x78 => Ok(self.jrot(at)?),
             0x79 => Ok(self.jrof(at)?),
             0x7A => Ok(self.set_state(Setting::RoundTo(Round::Off), at)?),
@@ -220,7 +258,7 @@ impl MachineState<'_> {
             0x7D => Ok(self.set_state(Setting::RoundTo(Round::Down), at)?),
             0x7E => Ok(self.set_state(Setting::Ignored, at)?),
             0x7F => Ok(self.set_state(Setting::Ignored, at)?),
-            _ => self.refuse(at, Why::BadOpcode),
+            _ => Ok(self.call_instruction(op, at)?),
         }
     }
 
@@ -236,16 +274,16 @@ impl MachineState<'_> {
             0x81 => self.on_points(PointInstruction::Fliprgon, at),
             0x82 => self.on_points(PointInstruction::Fliprgoff, at),
             0x85 => Ok(self.set_state(Setting::Ignored, at)?),
-            0x86 => self.refuse(at, Why::OffProfile),
-            0x87 => self.refuse(at, Why::OffProfile),
+            0x86 => self.on_lines(PointInstruction::Sdpvtl { turned: false }, at),
+            0x87 => self.on_lines(PointInstruction::Sdpvtl { turned: true }, at),
             0x88 => Ok(self.answer(Query::Getinfo, at)?),
-            0x89 => self.refuse(at, Why::OffProfile),
+            0x89 => self.define_instruction(at),
             0x8A => Ok(self.manage(Managing::Roll, at)?),
             0x8B => Ok(self.compute(Arithmetic::Max, at)?),
             0x8C => Ok(self.compute(Arithmetic::Min, at)?),
             0x8D => Ok(self.set_state(Setting::Ignored, at)?),
             0x8E => Ok(self.instctrl(at)?),
-            _ => self.refuse(at, Why::BadOpcode),
+            _ => Ok(self.call_instruction(op, at)?),
         }
     }
 

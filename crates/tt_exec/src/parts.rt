@@ -22,6 +22,8 @@ pub struct Parts<'a> {
     pub storage: Vec<i32>,
     pub zones: Zones,
     pub functions: BTreeMap<u16, Body<'a>>,
+    /// The instructions that IDEF defined, by opcode.
+    pub instructions: BTreeMap<u16, Body<'a>>,
     pub state: GraphicsState,
     /// The control value program said that glyph programs are not to be run.
     pub skip_glyphs: bool,
@@ -41,6 +43,7 @@ impl<'a> Parts<'a> {
             storage: self.storage.clone()?,
             zones: self.zones.copy()?,
             functions: self.functions.clone()?,
+            instructions: self.instructions.clone()?,
             state: self.state,
             skip_glyphs: self.skip_glyphs,
             default_state: self.default_state,

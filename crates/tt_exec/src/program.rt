@@ -14,12 +14,22 @@ pub struct Code<'a> {
     pub ghost fits: { base + length bytes.now < 2 ^ 32 },
 }
 
-/// A function: the program that defines it, and the place there behind its FDEF.
+/// A function, or an instruction of a program's own: the program that defines it, and the place there after its FDEF or
+/// IDEF.
 #[derive(Clone, Copy)]
 pub struct Body<'a> {
     pub code: Code<'a>,
     pub start: usize,
     pub ghost within: { start ≤ length code.bytes.now },
+}
+
+/// What a definition defines.
+#[derive(Clone, Copy)]
+pub(crate) enum Definition {
+    /// FDEF: the function of this number.
+    Function(u16),
+    /// IDEF: the instruction of this opcode.
+    Instruction(u8),
 }
 
 /// Where a program or a call stands: its program, the place of the next instruction, where it began, and how often it

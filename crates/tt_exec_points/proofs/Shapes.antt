@@ -8,6 +8,7 @@ use Rattle.tt_points.specs.declared.distances.Keeping.{Keeping}
 use Rattle.tt_points_loops.specs.declared.deltas.DeltaRange.{DeltaRange}
 use Rattle.tt_points_loops.specs.declared.shifting.ReferencePoint.{ReferencePoint}
 use Rattle.tt_points.specs.ControlValues as by_value
+use Rattle.tt_points.specs.Lines as lines
 use Rattle.tt_points.specs.Measuring as measuring
 use Rattle.tt_points.specs.Moving as single_moving
 use Rattle.tt_points.specs.Shapes as on_single
@@ -91,6 +92,39 @@ scfs k [] z g = tt
 utp : Single → (s : List ℤ) (z : ZoneLists) (g : GraphicsState) → Keeps z (is.utp s z g)
 utp k (p ∷ s) z g = changed s g z (measuring.utp p z g) ((k z g).utp p)
 utp k [] z g = tt
+
+set : (s : List ℤ) (z : ZoneLists) (r : Result GraphicsState Why) → Keeps z (is.after_setting s z r)
+set s z (Ok g) = same z
+set s z (Err why) = tt
+
+spvtl : (turned : Bool) (s : List ℤ) (z : ZoneLists) (g : GraphicsState) → Keeps z (is.spvtl turned s z g)
+spvtl turned (p1 ∷ p2 ∷ s) z g = set s z (lines.spvtl turned p1 p2 z g)
+spvtl turned (p1 ∷ []) z g = tt
+spvtl turned [] z g = tt
+
+sfvtl : (turned : Bool) (s : List ℤ) (z : ZoneLists) (g : GraphicsState) → Keeps z (is.sfvtl turned s z g)
+sfvtl turned (p1 ∷ p2 ∷ s) z g = set s z (lines.sfvtl turned p1 p2 z g)
+sfvtl turned (p1 ∷ []) z g = tt
+sfvtl turned [] z g = tt
+
+sdpvtl : (turned : Bool) (s : List ℤ) (z : ZoneLists) (g : GraphicsState) → Keeps z (is.sdpvtl turned s z g)
+sdpvtl turned (p1 ∷ p2 ∷ s) z g = set s z (lines.sdpvtl turned p1 p2 z g)
+sdpvtl turned (p1 ∷ []) z g = tt
+sdpvtl turned [] z g = tt
+
+isect : Single → (s : List ℤ) (z : ZoneLists) (g : GraphicsState) → Keeps z (is.isect s z g)
+isect k (b1 ∷ b0 ∷ a1 ∷ a0 ∷ p ∷ s) z g =
+    changed s g z (lines.isect p (a0, a1) (b0, b1) z g) ((k z g).isect p (a0, a1) (b0, b1))
+isect k (b1 ∷ b0 ∷ a1 ∷ a0 ∷ []) z g = tt
+isect k (b1 ∷ b0 ∷ a1 ∷ []) z g = tt
+isect k (b1 ∷ b0 ∷ []) z g = tt
+isect k (b1 ∷ []) z g = tt
+isect k [] z g = tt
+
+alignpts : Single → (s : List ℤ) (z : ZoneLists) (g : GraphicsState) → Keeps z (is.alignpts s z g)
+alignpts k (p1 ∷ p2 ∷ s) z g = changed s g z (lines.alignpts p1 p2 z g) ((k z g).alignpts p1 p2)
+alignpts k (p1 ∷ []) z g = tt
+alignpts k [] z g = tt
 
 -- on several points
 alignrp : Many → (s : List ℤ) (z : ZoneLists) (g : GraphicsState) → Keeps z (is.alignrp s z g)
@@ -206,3 +240,8 @@ sizes_kept one many i instruction.Fliprgon ppem s z g cvt has = valued z cvt _ (
 sizes_kept one many i instruction.Fliprgoff ppem s z g cvt has = valued z cvt _ (fliprgoff many s z g)
 sizes_kept one many i (instruction.Mdrp keeping) ppem s z g cvt has = valued z cvt _ (mdrp one keeping s z g)
 sizes_kept one many i (instruction.Mirp keeping) ppem s z g cvt has = valued z cvt _ (mirp one keeping cvt s z g)
+sizes_kept one many i (instruction.Spvtl turned) ppem s z g cvt has = valued z cvt _ (spvtl turned s z g)
+sizes_kept one many i (instruction.Sfvtl turned) ppem s z g cvt has = valued z cvt _ (sfvtl turned s z g)
+sizes_kept one many i (instruction.Sdpvtl turned) ppem s z g cvt has = valued z cvt _ (sdpvtl turned s z g)
+sizes_kept one many i instruction.Isect ppem s z g cvt has = valued z cvt _ (isect one s z g)
+sizes_kept one many i instruction.Alignpts ppem s z g cvt has = valued z cvt _ (alignpts one s z g)

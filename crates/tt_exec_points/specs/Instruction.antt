@@ -16,6 +16,7 @@ use Rattle.tt_points_loops.specs.Shifting as shifting
 use Rattle.tt_points.specs.declared.distances.Keeping.{Keeping}
 use Rattle.tt_points.specs.declared.measuring.Position.{Position}
 use Rattle.tt_points.specs.ControlValues as by_value
+use Rattle.tt_points.specs.Lines as lines
 use Rattle.tt_points.specs.Measuring as measuring
 use Rattle.tt_points.specs.Moving as single_moving
 use Rattle.tt_points_zones.specs.Zones.{ZoneLists}
@@ -104,6 +105,30 @@ shz which [] z g = Err why.StackShort
 abbrev pub deltap : DeltaRange → ℕ → List ℤ → ZoneLists → GraphicsState → Left
 deltap range ppem s z g = counted s >>= λ t. after_move t.1 g (deltas.deltap range ppem t.0 z g)
 
+-- after an instruction that changes the graphics state alone
+abbrev pub after_setting : List ℤ → ZoneLists → Result GraphicsState Why → Left
+after_setting s z given = given >>= λ g. Ok (s, z, g)
+
+abbrev pub spvtl : Bool → List ℤ → ZoneLists → GraphicsState → Left
+spvtl turned (p1 ∷ p2 ∷ s) z g = after_setting s z (lines.spvtl turned p1 p2 z g)
+spvtl turned _ z g = Err why.StackShort
+
+abbrev pub sfvtl : Bool → List ℤ → ZoneLists → GraphicsState → Left
+sfvtl turned (p1 ∷ p2 ∷ s) z g = after_setting s z (lines.sfvtl turned p1 p2 z g)
+sfvtl turned _ z g = Err why.StackShort
+
+abbrev pub sdpvtl : Bool → List ℤ → ZoneLists → GraphicsState → Left
+sdpvtl turned (p1 ∷ p2 ∷ s) z g = after_setting s z (lines.sdpvtl turned p1 p2 z g)
+sdpvtl turned _ z g = Err why.StackShort
+
+abbrev pub isect : List ℤ → ZoneLists → GraphicsState → Left
+isect (b1 ∷ b0 ∷ a1 ∷ a0 ∷ p ∷ s) z g = after_move s g (lines.isect p (a0, a1) (b0, b1) z g)
+isect _ z g = Err why.StackShort
+
+abbrev pub alignpts : List ℤ → ZoneLists → GraphicsState → Left
+alignpts (p1 ∷ p2 ∷ s) z g = after_move s g (lines.alignpts p1 p2 z g)
+alignpts _ z g = Err why.StackShort
+
 -- the stack, the zones, the graphics state and the control values, or a refusal
 abbrev pub LeftOfAll : Type 0
 LeftOfAll = Result (List ℤ × ZoneLists × GraphicsState × List ℤ) Why
@@ -137,3 +162,8 @@ on_points instruction.Fliprgon ppem s z g cvt = with_values cvt (fliprgon s z g)
 on_points instruction.Fliprgoff ppem s z g cvt = with_values cvt (fliprgoff s z g)
 on_points (instruction.Mdrp keeping) ppem s z g cvt = with_values cvt (mdrp keeping s z g)
 on_points (instruction.Mirp keeping) ppem s z g cvt = with_values cvt (mirp keeping cvt s z g)
+on_points (instruction.Spvtl turned) ppem s z g cvt = with_values cvt (spvtl turned s z g)
+on_points (instruction.Sfvtl turned) ppem s z g cvt = with_values cvt (sfvtl turned s z g)
+on_points (instruction.Sdpvtl turned) ppem s z g cvt = with_values cvt (sdpvtl turned s z g)
+on_points instruction.Isect ppem s z g cvt = with_values cvt (isect s z g)
+on_points instruction.Alignpts ppem s z g cvt = with_values cvt (alignpts s z g)

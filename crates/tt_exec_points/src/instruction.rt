@@ -14,6 +14,7 @@ use tt_core::Why;
 use tt_exec_stack::Stack;
 use tt_exec_state::Size;
 use tt_points::control_values::{miap, mirp};
+use tt_points::lines::{alignpts, isect, sdpvtl, sfvtl, spvtl};
 use tt_points::measuring::{Position, gc, md, scfs, utp};
 use tt_points::moving::{mdap, mdrp, msirp};
 use tt_points::{Keeping, iup};
@@ -47,6 +48,11 @@ pub enum PointInstruction {
     Fliprgoff,
     Mdrp(Keeping),
     Mirp(Keeping),
+    Spvtl { turned: bool },
+    Sfvtl { turned: bool },
+    Sdpvtl { turned: bool },
+    Isect,
+    Alignpts,
 }
 
 /// Does what works on the points whose numbers stand on the stack, as many as the loop variable says. Error: StackShort.
@@ -331,6 +337,73 @@ impl Points {
         Ok(())
     }
 
+    /// SPVTL[a]: p2, p1 -> . Error: PointRange.
+    pub(crate) fn spvtl(
+        &self,
+        turned: bool,
+        stack: &mut Stack,
+        graphics: &mut GraphicsState,
+    ) -> Result<(), Why>
+        ensures { Gives (λ u. (stack.new, self.now, graphics.new)) result (is.spvtl turned stack.old self.now graphics.old) }
+    {
+        let p1 = stack.pop()?;
+        let p2 = stack.pop()?;
+        spvtl(&self.zones, graphics, turned, p1, p2)
+    }
+
+    /// SFVTL[a]: p2, p1 -> . Error: PointRange.
+    pub(crate) fn sfvtl(
+        &self,
+        turned: bool,
+        stack: &mut Stack,
+        graphics: &mut GraphicsState,
+    ) -> Result<(), Why>
+        ensures { Gives (λ u. (stack.new, self.now, graphics.new)) result (is.sfvtl turned stack.old self.now graphics.old) }
+    {
+        let p1 = stack.pop()?;
+        let p2 = stack.pop()?;
+        sfvtl(&self.zones, graphics, turned, p1, p2)
+    }
+
+    /// SDPVTL[a]: p2, p1 -> . Error: PointRange.
+    pub(crate) fn sdpvtl(
+        &self,
+        turned: bool,
+        stack: &mut Stack,
+        graphics: &mut GraphicsState,
+    ) -> Result<(), Why>
+        ensures { Gives (λ u. (stack.new, self.now, graphics.new)) result (is.sdpvtl turned stack.old self.now graphics.old) }
+    {
+        let p1 = stack.pop()?;
+        let p2 = stack.pop()?;
+        sdpvtl(&self.zones, graphics, turned, p1, p2)
+    }
+
+    /// ISECT[]: p, a0, a1, b0, b1 -> . Errors: PointRange, ValueRange.
+    pub(crate) fn isect(&mut self, stack: &mut Stack, graphics: &GraphicsState) -> Result<(), Why>
+        ensures { Gives (λ u. (stack.new, self.new, graphics.now)) result (is.isect stack.old self.old graphics.now) }
+    {
+        let b1 = stack.pop()?;
+        let b0 = stack.pop()?;
+        let a1 = stack.pop()?;
+        let a0 = stack.pop()?;
+        let p = stack.pop()?;
+        isect(&mut self.zones, graphics, p, (a0, a1), (b0, b1))
+    }
+
+    /// ALIGNPTS[]: p2, p1 -> . Errors: PointRange, Perpendicular, ValueRange.
+    pub(crate) fn alignpts(
+        &mut self,
+        stack: &mut Stack,
+        graphics: &GraphicsState,
+    ) -> Result<(), Why>
+        ensures { Gives (λ u. (stack.new, self.new, graphics.now)) result (is.alignpts stack.old self.old graphics.now) }
+    {
+        let p1 = stack.pop()?;
+        let p2 = stack.pop()?;
+        alignpts(&mut self.zones, graphics, p1, p2)
+    }
+
     /// IUP[a]. Error: ValueRange.
     pub(crate) fn iup(&mut self, axis: Axis) -> Result<(), Why>
         ensures { Gives (λ u. self.new) result (interpolation.iup axis self.old) }
@@ -373,5 +446,10 @@ pub fn on_points(
         PointInstruction::Fliprgoff => points.fliprgoff(stack, graphics),
         PointInstruction::Mdrp(keeping) => points.mdrp(keeping, stack, graphics),
         PointInstruction::Mirp(keeping) => points.mirp(keeping, cvt, stack, graphics),
+        PointInstruction::Spvtl { turned } => points.spvtl(turned, stack, graphics),
+        PointInstruction::Sfvtl { turned } => points.sfvtl(turned, stack, graphics),
+        PointInstruction::Sdpvtl { turned } => points.sdpvtl(turned, stack, graphics),
+        PointInstruction::Isect => points.isect(stack, graphics),
+        PointInstruction::Alignpts => points.alignpts(stack, graphics),
     }
 }

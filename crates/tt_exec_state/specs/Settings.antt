@@ -7,7 +7,7 @@ use Rattle.tt_core.specs.declared.fault.Why.TheVariants as why
 use Rattle.tt_state.specs.declared.graphics_state.GraphicsState.{GraphicsState}
 use Rattle.tt_state.specs.declared.rounding.Round.{Round}
 use Rattle.tt_state.specs.GraphicsState.{default_state}
-use Rattle.tt_state.specs.Rounding.{super_state}
+use Rattle.tt_state.specs.Rounding.{super_state, super_state_at_45}
 use Rattle.tt_points_zones.specs.ZoneNumbers.{zone_of}
 use Rattle.tt_exec_state.specs.declared.instruction.Setting.{Setting}
 use Rattle.tt_exec_state.specs.declared.instruction.Setting.TheVariants as op
@@ -57,6 +57,10 @@ abbrev pub sround : List ℤ → GraphicsState → Set
 sround (n ∷ s) g = Ok (s, round_to (super_state (unsigned_abs (int_rem_euclid n (pos 256)))) g)
 sround [] g = Err why.StackShort
 
+abbrev pub s45round : List ℤ → GraphicsState → Set
+s45round (n ∷ s) g = Ok (s, round_to (super_state_at_45 (unsigned_abs (int_rem_euclid n (pos 256)))) g)
+s45round [] g = Err why.StackShort
+
 abbrev pub smd : List ℤ → GraphicsState → Set
 smd (d ∷ s) g = Ok (s, record g { min_distance = d })
 smd [] g = Err why.StackShort
@@ -86,7 +90,7 @@ sds (n ∷ s) g =
     Ok (s, record g { delta_shift = unsigned_abs n })
 sds [] g = Err why.StackShort
 
--- SCANCTRL, SCANTYPE, SANGW and AA
+-- SCANCTRL, SCANTYPE, SANGW, AA and DEBUG
 abbrev pub ignored : List ℤ → Result (List ℤ) Why
 ignored (n ∷ s) = Ok s
 ignored [] = Err why.StackShort
@@ -102,6 +106,7 @@ state_set op.Szps ppem em s g = szps s g
 state_set op.Sloop ppem em s g = sloop s g
 state_set (op.RoundTo round) ppem em s g = Ok (s, round_to round g)
 state_set op.Sround ppem em s g = sround s g
+state_set op.S45round ppem em s g = s45round s g
 state_set op.Smd ppem em s g = smd s g
 state_set op.Scvtci ppem em s g = scvtci s g
 state_set op.Sswci ppem em s g = sswci s g

@@ -1,43 +1,63 @@
--- Apple TrueType Reference Manual, "Instruction set": managing the graphics state, the vectors. Each lies along an axis
--- (profile). The top of the stack stands first.
-use Rattle.std.specs.Prelude.{◌≡◌, ℤ, pos, ◌&&◌, if◌then◌else◌, List, ◌∷◌, Result, Ok, Err, refl}
+-- Apple TrueType Reference Manual, "Instruction set": managing the graphics state, the vectors. The top of the stack
+-- stands first.
+use Rattle.std.specs.Prelude.{◌≡◌, ◌+◌, ℤ, pos, negsuc, unsigned_abs, Bool, true, false, ◌&&◌, if◌then◌else◌, List, [], ◌∷◌, Result, Ok, Err, refl}
+use Rattle.std.specs.Int.{int_rem_euclid}
 use Rattle.std.specs.Ordering.{int_eq}
+use Rattle.tt_core.specs.Numbers.{signed16}
 use Rattle.tt_core.specs.Outcomes.{◌>>=◌}
 use Rattle.tt_core.specs.declared.fault.Why.{Why}
 use Rattle.tt_core.specs.declared.fault.Why.TheVariants as why
+use Rattle.tt_state.specs.Axes.{pair_of, vector_of}
+use Rattle.tt_state.specs.GraphicsState.{default_of}
+use Rattle.tt_state.specs.Vectors.{pair, unit, root}
 use Rattle.tt_state.specs.declared.graphics_state.Axis.{Axis}
 use Rattle.tt_state.specs.declared.graphics_state.Axis.TheVariants as axis
 use Rattle.tt_state.specs.declared.graphics_state.GraphicsState.{GraphicsState}
+use Rattle.tt_state.specs.declared.vector.Vector.{Vector}
+use Rattle.tt_state.specs.declared.vector.Vector.TheVariants as vector
 use Rattle.tt_exec_state.specs.declared.instruction.Vectors.{Vectors}
 use Rattle.tt_exec_state.specs.declared.instruction.Vectors.TheVariants as op
 use Rattle.tt_exec_stack.specs.Stack.{pushed}
 
--- the axis of a unit vector, in 2.14
-abbrev pub axis_of : ℤ → ℤ → Result Axis Why
-axis_of x y =
-    if int_eq x (pos 16384) && int_eq y (pos 0) then Ok axis.X else (
-    if int_eq x (pos 0) && int_eq y (pos 16384) then Ok axis.Y else Err why.OffProfile)
+abbrev pub along : Axis → Vector
+along axis.X = vector.X
+along axis.Y = vector.Y
 
--- the vector along an axis, its x first
-abbrev pub vector_pushed : Axis → List ℤ → Result (List ℤ) Why
-vector_pushed axis.X s = pushed (pos 16384) s >>= λ t. pushed (pos 0) t
-vector_pushed axis.Y s = pushed (pos 0) s >>= λ t. pushed (pos 16384) t
+-- the projection vector and the dual one with it
+abbrev pub projects_along : Vector → GraphicsState → GraphicsState
+projects_along v g = record g { proj = v; dual = v }
+
+-- of a number on the stack the low 16 bits, in two's complement (profile)
+unfoldable pub part : ℤ → ℤ
+part n = signed16 (unsigned_abs (int_rem_euclid n (pos 65536)))
+
+-- the unit vector in the direction of a pair (profile: the manual leaves a pair that is no unit vector to the font);
+-- without the whole instruction set the pair of an axis, in 2.14, alone (profile)
+abbrev pub vector_given : ℤ → ℤ → Bool → Result Vector Why
+vector_given x y true = Ok (vector_of (unit (part x) (part y)))
+vector_given x y false =
+    if int_eq x (pos 16384) && int_eq y (pos 0) then Ok vector.X else (
+    if int_eq x (pos 0) && int_eq y (pos 16384) then Ok vector.Y else Err why.OffProfile)
+
+-- a vector's parts, its x first
+abbrev pub vector_pushed : Vector → List ℤ → Result (List ℤ) Why
+vector_pushed v s = pushed (pair_of v).x s >>= λ t. pushed (pair_of v).y t
 
 abbrev pub svtca : Axis → GraphicsState → GraphicsState
-svtca axis g = record g { proj = axis; free = axis }
+svtca axis g = record (projects_along (along axis) g) { free = along axis }
 
 abbrev pub spvtca : Axis → GraphicsState → GraphicsState
-spvtca axis g = record g { proj = axis }
+spvtca axis g = projects_along (along axis) g
 
 abbrev pub sfvtca : Axis → GraphicsState → GraphicsState
-sfvtca axis g = record g { free = axis }
+sfvtca axis g = record g { free = along axis }
 
 abbrev pub spvfs : List ℤ → GraphicsState → Result (List ℤ × GraphicsState) Why
-spvfs (y ∷ x ∷ s) g = axis_of x y >>= λ axis. Ok (s, spvtca axis g)
+spvfs (y ∷ x ∷ s) g = vector_given x y g.whole >>= λ v. Ok (s, projects_along v g)
 spvfs _ g = Err why.StackShort
 
 abbrev pub sfvfs : List ℤ → GraphicsState → Result (List ℤ × GraphicsState) Why
-sfvfs (y ∷ x ∷ s) g = axis_of x y >>= λ axis. Ok (s, sfvtca axis g)
+sfvfs (y ∷ x ∷ s) g = vector_given x y g.whole >>= λ v. Ok (s, record g { free = v })
 sfvfs _ g = Err why.StackShort
 
 abbrev pub gpv : List ℤ → GraphicsState → Result (List ℤ × GraphicsState) Why
@@ -47,7 +67,7 @@ abbrev pub gfv : List ℤ → GraphicsState → Result (List ℤ × GraphicsStat
 gfv s g = vector_pushed g.free s >>= λ t. Ok (t, g)
 
 abbrev pub sfvtpv : GraphicsState → GraphicsState
-sfvtpv g = sfvtca g.proj g
+sfvtpv g = record g { free = g.proj }
 
 abbrev pub vectors_accessed : Vectors → List ℤ → GraphicsState → Result (List ℤ × GraphicsState) Why
 vectors_accessed (op.Svtca axis) s g = Ok (s, svtca axis g)
@@ -60,8 +80,25 @@ vectors_accessed op.Gfv s g = gfv s g
 vectors_accessed op.Sfvtpv s g = Ok (s, sfvtpv g)
 
 -- worked values
-y_on_top : axis_of (pos 0) (pos 16384) ≡ Ok axis.Y
+y_on_top : vector_given (pos 0) (pos 16384) false ≡ Ok vector.Y
 y_on_top = refl
 
-a_diagonal : axis_of (pos 11585) (pos 11585) ≡ Err why.OffProfile
-a_diagonal = refl
+a_diagonal_off_the_profile : vector_given (pos 11585) (pos 11585) false ≡ Err why.OffProfile
+a_diagonal_off_the_profile = refl
+
+three_four : spvfs (pos 4 ∷ pos 3 ∷ []) (default_of true)
+    ≡ Ok ([], projects_along (vector_of (pair (pos 9830) (pos 13107))) (default_of true))
+unfolding unit root part vector_of
+three_four = refl
+
+low_words : vector_given (negsuc 11584) (pos (65536 + 11585)) true ≡ Ok (vector_of (pair (negsuc 11584) (pos 11585)))
+unfolding unit root part vector_of
+low_words = refl
+
+no_direction : vector_given (pos 65536) (pos 0) true ≡ Ok vector.X
+unfolding unit root part vector_of
+no_direction = refl
+
+its_parts : vector_pushed (vector_of (pair (pos 7327) (pos 14654))) [] ≡ Ok (pos 14654 ∷ pos 7327 ∷ [])
+unfolding vector_of pushed
+its_parts = refl

@@ -16,6 +16,7 @@ pub enum Setting {
     Sloop,
     RoundTo(Round),
     Sround,
+    S45round,
     Smd,
     Scvtci,
     Sswci,

@@ -99,6 +99,15 @@ fn sround(stack: &mut Stack, graphics: &mut GraphicsState) -> Result<(), Why>
     Ok(())
 }
 
+/// S45ROUND[], 0x77: n -> the round state, by the low byte of n and a grid of half a diagonal.
+fn s45round(stack: &mut Stack, graphics: &mut GraphicsState) -> Result<(), Why>
+    ensures { Does (is.s45round stack.old graphics.old) (stack.new, graphics.new) result }
+{
+    let n = stack.pop()?;
+    round_to(Round::from_byte_at_45(n.rem_euclid(256) as u8), graphics);
+    Ok(())
+}
+
 /// SMD[], 0x1A: d -> the minimum distance.
 fn smd(stack: &mut Stack, graphics: &mut GraphicsState) -> Result<(), Why>
     ensures { Does (is.smd stack.old graphics.old) (stack.new, graphics.new) result }
@@ -159,7 +168,7 @@ fn sds(stack: &mut Stack, graphics: &mut GraphicsState) -> Result<(), Why>
     Ok(())
 }
 
-/// SCANCTRL[], 0x85; SCANTYPE[], 0x8D; SANGW[], 0x7E; AA[], 0x7F: n -> nothing.
+/// SCANCTRL[], 0x85; SCANTYPE[], 0x8D; SANGW[], 0x7E; AA[], 0x7F; DEBUG[], 0x4F: n -> nothing.
 fn ignored(stack: &mut Stack) -> Result<(), Why>
     ensures { Does (is.ignored stack.old) stack.new result }
 {
@@ -192,6 +201,7 @@ pub fn set_state(
             Ok(())
         }
         Setting::Sround => sround(stack, graphics),
+        Setting::S45round => s45round(stack, graphics),
         Setting::Smd => smd(stack, graphics),
         Setting::Scvtci => scvtci(stack, graphics),
         Setting::Sswci => sswci(stack, graphics),

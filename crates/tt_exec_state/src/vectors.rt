@@ -1,58 +1,92 @@
-//! Managing the graphics state: the vectors. Apple TrueType Reference Manual, "Instruction set". Vectors along the axes
-//! alone are supported (profile).
+//! Managing the graphics state: the vectors. Apple TrueType Reference Manual, "Instruction set". Without the whole
+//! instruction set vectors lie along the axes alone (profile).
 
-ghost use Rattle.std.specs.Prelude.{◌≡◌};
+ghost use Rattle.std.specs.Prelude.{◌≡◌, ◌<◌, ◌≤◌, unsigned_abs};
 ghost use Rattle.tt_core.specs.Outcomes.{Gives};
 ghost use Rattle.tt_exec_stack.specs.Stack.{Does};
 ghost use Rattle.tt_exec_state.specs.Vectors as is;
+ghost use Rattle.tt_state.specs.Axes.{pair_of};
 
 use crate::instruction::Vectors;
 use tt_core::Why;
 use tt_exec_stack::Stack;
-use tt_state::{Axis, GraphicsState};
+use tt_state::{Axis, GraphicsState, Vector};
 
-/// SVTCA[a], 0x00 and 0x01: both vectors along y, x.
+/// The unit vector along an axis.
+fn along(axis: Axis) -> Vector
+    ensures { result ≡ is.along axis }
+{
+    match axis {
+        Axis::X => Vector::X,
+        Axis::Y => Vector::Y,
+    }
+}
+
+/// The projection vector, by which the dual one goes.
+fn project_along(vector: Vector, graphics: &mut GraphicsState)
+    ensures { graphics.new ≡ is.projects_along vector graphics.old }
+{
+    graphics.proj = vector;
+    graphics.dual = graphics.proj;
+}
+
+/// SVTCA[a], 0x00 and 0x01: all vectors along y, x.
 fn svtca(axis: Axis, graphics: &mut GraphicsState)
     ensures { graphics.new ≡ is.svtca axis graphics.old }
 {
-    graphics.proj = axis;
-    graphics.free = axis;
+    project_along(along(axis), graphics);
+    graphics.free = along(axis);
 }
 
-/// SPVTCA[a], 0x02 and 0x03: the projection vector along y, x.
+/// SPVTCA[a], 0x02 and 0x03: the projection vectors along y, x.
 fn spvtca(axis: Axis, graphics: &mut GraphicsState)
     ensures { graphics.new ≡ is.spvtca axis graphics.old }
 {
-    graphics.proj = axis;
+    project_along(along(axis), graphics);
 }
 
 /// SFVTCA[a], 0x04 and 0x05: the freedom vector along y, x.
 fn sfvtca(axis: Axis, graphics: &mut GraphicsState)
     ensures { graphics.new ≡ is.sfvtca axis graphics.old }
 {
-    graphics.free = axis;
+    graphics.free = along(axis);
 }
 
-/// The axis of a unit vector, whose numbers are in 2.14. Error: OffProfile where it lies along none.
-fn axis_of(x: i32, y: i32) -> Result<Axis, Why>
-    ensures exact { Gives (λ a. a) result (is.axis_of x y) }
+/// A part as the stack has it: the low 16 bits, in two's complement (profile).
+#[tactic(auto, unfolding(crate::specs::Vectors::part))]
+fn part(n: i32) -> i32
+    ensures exact { result ≡ is.part n }
+    ensures bound { unsigned_abs result ≤ 32768 }
 {
+    let low = n.rem_euclid(65536);
+    if low < 32768 { low } else { low - 65536 }
+}
+
+/// The unit vector in the direction of a pair; without the whole instruction set the pair of an axis, in 2.14, alone.
+/// Error: OffProfile of another pair then.
+fn vector_given(x: i32, y: i32, whole: bool) -> Result<Vector, Why>
+    ensures exact { Gives (λ v. v) result (is.vector_given x y whole) }
+{
+    if whole {
+        return Ok(Vector::unit(part(x), part(y)));
+    }
     if x == 16384 && y == 0 {
-        return Ok(Axis::X);
+        return Ok(Vector::X);
     }
     if x == 0 && y == 16384 {
-        return Ok(Axis::Y);
+        return Ok(Vector::Y);
     }
     Err(Why::OffProfile)
 }
 
-/// SPVFS[], 0x0A: x, y -> the projection vector.
+/// SPVFS[], 0x0A: x, y -> the projection vectors.
 fn spvfs(stack: &mut Stack, graphics: &mut GraphicsState) -> Result<(), Why>
     ensures { Does (is.spvfs stack.old graphics.old) (stack.new, graphics.new) result }
 {
     let y = stack.pop()?;
     let x = stack.pop()?;
-    spvtca(axis_of(x, y)?, graphics);
+    let vector = vector_given(x, y, graphics.whole)?;
+    project_along(vector, graphics);
     Ok(())
 }
 
@@ -62,48 +96,40 @@ fn sfvfs(stack: &mut Stack, graphics: &mut GraphicsState) -> Result<(), Why>
 {
     let y = stack.pop()?;
     let x = stack.pop()?;
-    sfvtca(axis_of(x, y)?, graphics);
+    graphics.free = vector_given(x, y, graphics.whole)?;
     Ok(())
 }
 
-/// The vector along an axis: -> x, y in 2.14.
-fn push_vector(axis: Axis, stack: &mut Stack) -> Result<(), Why>
-    ensures { Does (is.vector_pushed axis stack.old) stack.new result }
+/// A vector: -> x, y in 2.14.
+fn push_vector(vector: &Vector, stack: &mut Stack) -> Result<(), Why>
+    ensures { Does (is.vector_pushed vector.now stack.old) stack.new result }
 {
-    match axis {
-        Axis::X => {
-            stack.push(16384)?;
-            stack.push(0)
-        }
-        Axis::Y => {
-            stack.push(0)?;
-            stack.push(16384)
-        }
-    }
+    stack.push(i64::from(vector.x()))?;
+    stack.push(i64::from(vector.y()))
 }
 
 /// GPV[], 0x0C: -> the projection vector.
 fn gpv(stack: &mut Stack, graphics: &GraphicsState) -> Result<(), Why>
     ensures { Does (is.gpv stack.old graphics.now) (stack.new, graphics.now) result }
 {
-    push_vector(graphics.proj, stack)
+    push_vector(&graphics.proj, stack)
 }
 
 /// GFV[], 0x0D: -> the freedom vector.
 fn gfv(stack: &mut Stack, graphics: &GraphicsState) -> Result<(), Why>
     ensures { Does (is.gfv stack.old graphics.now) (stack.new, graphics.now) result }
 {
-    push_vector(graphics.free, stack)
+    push_vector(&graphics.free, stack)
 }
 
 /// SFVTPV[], 0x0E: the freedom vector becomes the projection vector.
 fn sfvtpv(graphics: &mut GraphicsState)
     ensures { graphics.new ≡ is.sfvtpv graphics.old }
 {
-    sfvtca(graphics.proj, graphics);
+    graphics.free = graphics.proj;
 }
 
-/// Errors: StackShort; OffProfile of a vector off the axes; StackFull.
+/// Errors: StackShort; OffProfile of a vector off the axes without the whole instruction set; StackFull.
 #[inline(always)]
 pub fn access_vectors(
     op: Vectors,

@@ -94,7 +94,7 @@ fits-by m tables ppem s g o (Err f) is made = absurd cc
 pub fallback-fits : FallbackFits
 unfolding fitter_of prepared
 fallback-fits m tables programs ppem s g o is made =
-    fits-by m tables ppem s g o (left_by_programs (begun_parts m programs.cvt ppem) programs) is made
+    fits-by m tables ppem s g o (left_by_programs (begun_parts m programs.cvt ppem programs.whole) programs) is made
 
 scales-by : (m : Metrics) (tables : Glyf) (ppem : ℕ) (s : Fitter) (g : ℕ) (f : Fault)
     (left : Result Hinting Fault) → setting_by m tables ppem fit.Fallback left ≡ Ok s
@@ -116,7 +116,7 @@ scales-by m tables ppem s g f (Err told) is fails of_program =
 pub fallback-scales : FallbackScales
 unfolding fitter_of prepared
 fallback-scales m tables programs ppem s g f is fails of_program =
-    scales-by m tables ppem s g f (left_by_programs (begun_parts m programs.cvt ppem) programs) is fails of_program
+    scales-by m tables ppem s g f (left_by_programs (begun_parts m programs.cvt ppem programs.whole) programs) is fails of_program
 
 refuses-by : (m : Metrics) (tables : Glyf) (ppem : ℕ) (full s : Fitter) (g : ℕ) (f : Fault)
     (left : Result Hinting Fault) → setting_by m tables ppem fit.Fallback left ≡ Ok s
@@ -135,7 +135,7 @@ refuses-by m tables ppem full s g f (Err told) is made fails of_table = absurd c
 pub fallback-refuses : FallbackRefuses
 unfolding fitter_of prepared
 fallback-refuses m tables programs ppem full s g f is made fails of_table =
-    refuses-by m tables ppem full s g f (left_by_programs (begun_parts m programs.cvt ppem) programs) is made fails
+    refuses-by m tables ppem full s g f (left_by_programs (begun_parts m programs.cvt ppem programs.whole) programs) is made fails
     of_table
 
 unfits-by : (m : Metrics) (tables : Glyf) (ppem : ℕ) (s : Fitter) (g : ℕ) (f : Fault)
@@ -153,7 +153,7 @@ unfits-by m tables ppem s g f (Err told) is fails =
 pub fallback-unfits-all : FallbackUnfitsAll
 unfolding fitter_of prepared
 fallback-unfits-all m tables programs ppem s g f is fails =
-    unfits-by m tables ppem s g f (left_by_programs (begun_parts m programs.cvt ppem) programs) is fails
+    unfits-by m tables ppem s g f (left_by_programs (begun_parts m programs.cvt ppem programs.whole) programs) is fails
 
 others-by : (m : Metrics) (tables : Glyf) (ppem : ℕ) (how : Fit) (s : Fitter) (g : ℕ)
     (left : Result Hinting Fault) → setting_by m tables ppem how left ≡ Ok s → how ≢ fit.Fallback
@@ -170,4 +170,4 @@ others-by m tables ppem fit.Fallback s g left is other = absurd (other refl)
 pub others-never-fall-back : OthersNeverFallBack
 unfolding fitter_of prepared
 others-never-fall-back m tables programs ppem how s g is other =
-    others-by m tables ppem how s g (left_by_programs (begun_parts m programs.cvt ppem) programs) is other
+    others-by m tables ppem how s g (left_by_programs (begun_parts m programs.cvt ppem programs.whole) programs) is other

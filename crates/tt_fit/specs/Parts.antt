@@ -1,6 +1,6 @@
 -- Apple TrueType Reference Manual, "Instructing TrueType Glyphs": what a machine is made of when the font program, the
 -- control value program or a glyph's program begins.
-use Rattle.std.specs.Prelude.{◌≡◌, ℕ, ◌*◌, ◌/◌, ◌<◌, ◌≤◌, true, false, if◌then◌else◌, ℤ, pos, negsuc, List, [], ◌∷◌, length, map, replicate, refl}
+use Rattle.std.specs.Prelude.{◌≡◌, ℕ, ◌*◌, ◌/◌, ◌<◌, ◌≤◌, Bool, true, false, if◌then◌else◌, ℤ, pos, negsuc, List, [], ◌∷◌, length, map, replicate, refl}
 use Rattle.std.specs.List.{range_with_len}
 use Rattle.tt_core.specs.Limits.{size_limit}
 use Rattle.tt_core.specs.Numbers.{unsigned_at, signed16}
@@ -9,7 +9,7 @@ use Rattle.tt_metrics.specs.Metrics.{Metrics, storage_of, twilight_of, units_per
 use Rattle.tt_points_zones.specs.Zones.{ZoneLists, IsZones}
 use Rattle.tt_state.specs.declared.graphics_state.GraphicsState.{GraphicsState}
 use Rattle.tt_state.specs.declared.point.Point.{Point}
-use Rattle.tt_state.specs.GraphicsState.{default_state}
+use Rattle.tt_state.specs.GraphicsState.{default_of, default_state}
 use Rattle.tt_fit.specs.GlyphZone.{untouched, glyph_zone, contours_from}
 use Rattle.tt_fit.specs.Outline.{Outline, PhantomPoints}
 use Rattle.tt_fit.specs.Size.{FontSize, scale}
@@ -32,15 +32,16 @@ abbrev pub origin : Point
 origin = untouched (pos 0, pos 0) (pos 0, pos 0) true
 
 -- what the font program and the control value program begin with; both have no glyph
-abbrev pub begun_parts : Metrics → List ℕ → ℕ → Parts
-begun_parts m cvt ppem = record {
+abbrev pub begun_parts : Metrics → List ℕ → ℕ → Bool → Parts
+begun_parts m cvt ppem whole = record {
   em = units_per_em_of m;
   ppem = ppem;
   cvt = control_values (record { ppem = ppem; units_per_em = units_per_em_of m }) cvt;
   storage = replicate (storage_of m) (pos 0);
   zones = record { twilight = replicate (twilight_of m) origin; glyph = []; contours = [] };
   functions = [];
-  state = default_state;
+  instructions = [];
+  state = default_of whole;
   skip_glyphs = false;
   default_state = false;
 }
@@ -49,6 +50,7 @@ begun_parts m cvt ppem = record {
 abbrev pub pointers_set_back : GraphicsState → GraphicsState
 pointers_set_back g = record g {
   proj = default_state.proj;
+  dual = default_state.dual;
   free = default_state.free;
   rp0 = default_state.rp0;
   rp1 = default_state.rp1;
@@ -59,9 +61,10 @@ pointers_set_back g = record g {
   loops = default_state.loops;
 }
 
--- the graphics state in which the programs of glyphs begin; the control value program can ask for the defaults
+-- the graphics state in which the programs of glyphs begin; the control value program can ask for the defaults. The
+-- instruction set is no variable of it.
 abbrev pub glyph_graphics : Parts → GraphicsState
-glyph_graphics parts = if parts.default_state then default_state else pointers_set_back parts.state
+glyph_graphics parts = if parts.default_state then default_of parts.state.whole else pointers_set_back parts.state
 
 -- what the control value program leaves to the glyphs
 abbrev pub left_to_glyphs : Parts → Parts

@@ -1,7 +1,7 @@
 -- Apple TrueType Reference Manual, "Instructing TrueType Glyphs": what the font program and the control value program
 -- leave before the first glyph. Without programs they are not looked at. That a control value program begins with
--- nothing of the font program but its functions, and what is kept of it, is this project's own choice (profile).
-use Rattle.std.specs.Prelude.{ℕ, List, codes, Result, Ok, Err}
+-- nothing of the font program but its definitions, and what is kept of it, is this project's own choice (profile).
+use Rattle.std.specs.Prelude.{ℕ, Bool, List, codes, Result, Ok, Err}
 use Rattle.tt_core.specs.Faults.{Fault}
 use Rattle.tt_core.specs.Outcomes.{◌>>=◌}
 use Rattle.tt_exec.specs.MachineState.{Code}
@@ -16,14 +16,16 @@ use Rattle.tt_fit.specs.Fitting.{Fitter}
 use Rattle.tt_fit.specs.Hinting.{Hinting, off, ready, run_of}
 use Rattle.tt_fit.specs.Parts.{begun_parts, left_to_glyphs}
 
--- the control values, the font program and the control value program
+-- the control values, the font program and the control value program, and whether they are run with the whole
+-- instruction set
 pub record ProgramTables : Type 0 where
   pub cvt : List ℕ
   pub fpgm : List ℕ
   pub prep : List ℕ
+  pub whole : Bool
 
 abbrev pub program_tables : declared.Programs → ProgramTables
-program_tables p = record { cvt = p.cvt.now; fpgm = p.fpgm.now; prep = p.prep.now }
+program_tables p = record { cvt = p.cvt.now; fpgm = p.fpgm.now; prep = p.prep.now; whole = p.whole }
 
 abbrev pub font_program : List ℕ → Code
 font_program fpgm = record { table = codes "fpgm"; base = 0; bytes = fpgm }
@@ -31,14 +33,14 @@ font_program fpgm = record { table = codes "fpgm"; base = 0; bytes = fpgm }
 abbrev pub control_value_program : List ℕ → Code
 control_value_program prep = record { table = codes "prep"; base = 0; bytes = prep }
 
--- what the control value program begins with: of the font program only the functions are kept
-abbrev pub with_functions : Parts → Parts → Parts
-with_functions parts font = record parts { functions = font.functions }
+-- what the control value program begins with: of the font program only its definitions are kept
+abbrev pub with_definitions : Parts → Parts → Parts
+with_definitions parts font = record parts { functions = font.functions; instructions = font.instructions }
 
 -- what the two programs leave at a size, or their first fault
 unfoldable pub left_by_programs : Parts → ProgramTables → Result Hinting Fault
 left_by_programs parts programs = run_of (font_program programs.fpgm) parts >>= λ font.
-    run_of (control_value_program programs.prep) (with_functions parts font) >>= λ left. Ok
+    run_of (control_value_program programs.prep) (with_definitions parts font) >>= λ left. Ok
     (ready (left_to_glyphs left))
 
 -- what the programs of glyphs begin with, and which glyphs are unfitted
@@ -61,7 +63,7 @@ prepared_by fit.Full by_programs = by_programs >>= λ hinting. Ok (without_fallb
 prepared_by fit.Fallback by_programs = Ok (with_fallback by_programs)
 
 unfoldable pub prepared : Metrics → ProgramTables → ℕ → Fit → Result Preparation Fault
-prepared m programs ppem fit = prepared_by fit (left_by_programs (begun_parts m programs.cvt ppem) programs)
+prepared m programs ppem fit = prepared_by fit (left_by_programs (begun_parts m programs.cvt ppem programs.whole) programs)
 
 -- what the outlines of a font at a size are made from
 unfoldable pub fitter_of : Metrics → Glyf → ProgramTables → ℕ → Fit → Result Fitter Fault

@@ -1,7 +1,7 @@
 -- Worked values: a font whose programs are refused, at 16 pixels, by each way of fitting. Glyph 1 is the square
 -- (64,0), (64,128), (192,128), (192,0) with a program of SPVTL, which is not supported, glyph 2 has glyph 1 as its one
 -- component, and glyph 3 ends too early.
-use Rattle.std.specs.Prelude.{◌≡◌, true, pos, neg_ℤ, codes, [], ◌∷◌, Some, Ok, Err, refl}
+use Rattle.std.specs.Prelude.{◌≡◌, true, false, pos, neg_ℤ, codes, [], ◌∷◌, Some, Ok, Err, refl}
 use Rattle.tt_core.specs.Faults.{Fault, fault_at, why_number}
 use Rattle.tt_core.specs.declared.fault.Why.TheVariants as why
 use Rattle.tt_exec.specs.Runs.{run_within, run_outcome}
@@ -44,7 +44,7 @@ its_setting fallback = record {
   };
   metrics = its_metrics;
   ppem = 16;
-  hinting = ready (begun_parts its_metrics [] 16);
+  hinting = ready (begun_parts its_metrics [] 16 false);
   fallback = fallback;
 }
 
@@ -96,7 +96,7 @@ short_is_refused = refl
 
 -- a font program of SPVTL
 abbrev its_programs : ProgramTables
-its_programs = record { cvt = []; fpgm = 6 ∷ []; prep = [] }
+its_programs = record { cvt = []; fpgm = 6 ∷ []; prep = []; whole = false }
 
 abbrev font_fault : Fault
 font_fault = fault_at (codes "fpgm") 0 why.OffProfile

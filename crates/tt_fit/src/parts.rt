@@ -12,6 +12,7 @@ ghost use Rattle.tt_points_zones.specs.Zones.{zones_view, IsZones};
 
 use crate::glyph_zone::{contours, glyph_zone, untouched};
 use crate::outline::Outline;
+use crate::programs::Programs;
 use crate::size::FontSize;
 use std::alloc::{AllocError, Global};
 use std::collections::BTreeMap;
@@ -59,21 +60,22 @@ fn zones_without_glyph(alloc: Global, twilight: u16) -> Result<Zones, AllocError
 pub(crate) fn begun_parts<'a>(
     alloc: Global,
     metrics: &Metrics,
-    cvt: &[u8],
+    programs: Programs,
     size: FontSize,
 ) -> Result<Parts<'a>, AllocError>
     requires { size.units_per_em ≡ units_per_em_of metrics.now }
-    ensures exact { IfOk result (λ p. parts_of p ≡ begun_parts metrics.now cvt.now size.ppem) }
+    ensures exact { IfOk result (λ p. parts_of p ≡ begun_parts metrics.now programs.cvt.now size.ppem programs.whole) }
     ensures valid { IfOk result (λ p. AreParts (parts_of p)) }
 {
     Ok(Parts {
         em: size.units_per_em,
         ppem: size.ppem,
-        cvt: control_values(alloc, size, cvt)?,
+        cvt: control_values(alloc, size, programs.cvt)?,
         storage: vec![in alloc; 0; usize::from(metrics.storage())]?,
         zones: zones_without_glyph(alloc, metrics.twilight())?,
         functions: BTreeMap::new(alloc),
-        state: GraphicsState::new(),
+        instructions: BTreeMap::new(alloc),
+        state: GraphicsState::new(programs.whole),
         skip_glyphs: false,
         default_state: false,
     })
@@ -83,9 +85,10 @@ pub(crate) fn begun_parts<'a>(
 fn pointers_set_back(state: GraphicsState) -> GraphicsState
     ensures { result ≡ pointers_set_back state }
 {
-    let default = GraphicsState::new();
+    let default = GraphicsState::new(state.whole);
     GraphicsState {
         proj: default.proj,
+        dual: default.dual,
         free: default.free,
         rp0: default.rp0,
         rp1: default.rp1,
@@ -105,7 +108,7 @@ pub(crate) fn left_to_glyphs<'a>(left: Parts<'a>) -> Parts<'a>
     ensures valid { AreParts (parts_of result) }
 {
     let state = if left.default_state {
-        GraphicsState::new()
+        GraphicsState::new(left.state.whole)
     } else {
         pointers_set_back(left.state)
     };
@@ -152,6 +155,7 @@ pub(crate) fn with_glyph<'a>(
         storage,
         zones,
         functions,
+        instructions,
         state,
         skip_glyphs,
         default_state,
@@ -163,6 +167,7 @@ pub(crate) fn with_glyph<'a>(
         storage,
         zones: glyph_zones(alloc, zones, outline, grid)?,
         functions,
+        instructions,
         state,
         skip_glyphs,
         default_state,

@@ -55,13 +55,14 @@ fn left_by_programs<'a>(
     requires units { size.units_per_em ≡ units_per_em_of metrics.now }
     requires fpgm { length programs.fpgm.now ≤ font_limit }
     requires prep { length programs.prep.now ≤ font_limit }
-    ensures exact { FontGives hinting_view result (left_by_programs (begun_parts metrics.now programs.entry.cvt.now size.ppem) (program_tables programs.entry)) }
+    ensures exact { FontGives hinting_view result (left_by_programs (begun_parts metrics.now programs.entry.cvt.now size.ppem programs.entry.whole) (program_tables programs.entry)) }
     ensures valid { IfOk result (λ h. IsHinting (hinting_view h)) }
 {
-    let begun = begun_parts(alloc, metrics, programs.cvt, size)?;
+    let begun = begun_parts(alloc, metrics, programs, size)?;
     let font = run(alloc, begun, whole_table(*b"fpgm", programs.fpgm))?;
-    let mut prep_parts = begun_parts(alloc, metrics, programs.cvt, size)?;
+    let mut prep_parts = begun_parts(alloc, metrics, programs, size)?;
     prep_parts.functions = font.functions;
+    prep_parts.instructions = font.instructions;
     let left = run(alloc, prep_parts, whole_table(*b"prep", programs.prep))?;
     Ok(Hinting::Ready(left_to_glyphs(left)))
 }
@@ -88,7 +89,7 @@ fn with_fallback<'a>(
     requires units { size.units_per_em ≡ units_per_em_of metrics.now }
     requires fpgm { length programs.fpgm.now ≤ font_limit }
     requires prep { length programs.prep.now ≤ font_limit }
-    ensures exact { FontGives preparation_view result (prepared_by fit.Fallback (left_by_programs (begun_parts metrics.now programs.entry.cvt.now size.ppem) (program_tables programs.entry))) }
+    ensures exact { FontGives preparation_view result (prepared_by fit.Fallback (left_by_programs (begun_parts metrics.now programs.entry.cvt.now size.ppem programs.entry.whole) (program_tables programs.entry))) }
     ensures valid { IfOk result (λ p. IsHinting (hinting_view p.hinting)) }
 {
     match left_by_programs(alloc, metrics, programs, size) {

@@ -11,7 +11,7 @@ pub enum Fit {
     Fallback,
 }
 
-/// The tables with a font's programs, each empty where the font has none.
+/// The tables with a font's programs, each empty where the font has none, and what runs them.
 #[derive(Clone, Copy)]
 pub struct Programs<'a> {
     /// The control values.
@@ -20,4 +20,6 @@ pub struct Programs<'a> {
     pub fpgm: &'a [u8],
     /// The control value program.
     pub prep: &'a [u8],
+    /// Whether they are run with the whole instruction set.
+    pub whole: bool,
 }

@@ -79,7 +79,12 @@ fn all_programs<'a>(dir: &Dir<'a>) -> Result<Programs<'a>, Fault>
     let cvt = optional(dir, *b"cvt ")?;
     let fpgm = optional(dir, *b"fpgm")?;
     let prep = optional(dir, *b"prep")?;
-    Ok(Programs { cvt, fpgm, prep })
+    Ok(Programs {
+        cvt,
+        fpgm,
+        prep,
+        whole: false,
+    })
 }
 
 /// The programs that outlines are fitted by; without fitting none is looked at. Error: TableRange.
@@ -97,6 +102,7 @@ pub(crate) fn open_programs<'a>(dir: &Dir<'a>, fit: Fit) -> Result<Programs<'a>,
             cvt: &[],
             fpgm: &[],
             prep: &[],
+            whole: false,
         }),
     }
 }
