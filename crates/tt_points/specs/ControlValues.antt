@@ -3,19 +3,22 @@
 use Rattle.std.specs.Prelude.{◌≡◌, ℤ, pos, negsuc, ◌-ℤ◌, Bool, true, false, ◌&&◌, if◌then◌else◌, [], ◌∷◌, Result, Ok, refl}
 use Rattle.tt_core.specs.Outcomes.{◌>>=◌}
 use Rattle.tt_core.specs.declared.fault.Why.{Why}
-use Rattle.tt_state.specs.declared.graphics_state.Axis.{Axis}
 use Rattle.tt_state.specs.declared.graphics_state.Zone.{Zone}
 use Rattle.tt_state.specs.declared.graphics_state.Zone.TheVariants as zone
 use Rattle.tt_state.specs.declared.graphics_state.GraphicsState.{GraphicsState}
 use Rattle.tt_state.specs.declared.point.Point.{Point}
 use Rattle.tt_state.specs.GraphicsState.{default_state}
 use Rattle.tt_state.specs.Rounding.{rounded}
+use Rattle.tt_state.specs.Vectors.{project, along}
 use Rattle.tt_points_zones.specs.Zones.{ZoneLists}
-use Rattle.tt_points_zones.specs.Points.{cur, direction, moved, point_in, with_point}
+use Rattle.tt_points_zones.specs.Points.{point_in, with_point}
+use Rattle.tt_points_zones.specs.Motions.{cur, original_distance, direction, moved}
+use Rattle.tt_points_zones.specs.declared.motion.Motion.{Motion}
 use Rattle.tt_points.specs.declared.distances.Keeping.{Keeping}
 use Rattle.tt_points.specs.Distances.{keeping, single_width, rounded_by, spaced_by, flipped, cut_in}
-use Rattle.tt_points.specs.Moving.{kept, original_distance, referred, zero_and, zero_and_touched}
+use Rattle.tt_points.specs.Moving.{kept, referred, zero_and, zero_and_touched}
 use Rattle.tt_points.specs.Twilight.{made, placed, origin}
+use Rattle.tt_points.specs.declared.twilight.Along.TheVariants as by
 
 -- a control value cut in by where a point stands, and rounded
 abbrev pub rounded_in : GraphicsState → ℤ → ℤ → ℤ
@@ -26,17 +29,17 @@ unfoldable pub miap_distance : Bool → GraphicsState → ℤ → ℤ → ℤ
 miap_distance round g at c = if round then rounded_in g at c -ℤ at else c -ℤ at
 
 -- a twilight point is placed at the control value first
-unfoldable pub placed_at : Zone → Axis → ℤ → Point → Result Point Why
-placed_at zone.Twilight axis c q = placed axis c origin q
-placed_at zone.Glyph axis c q = Ok q
+unfoldable pub placed_at : Zone → Motion → ℤ → Point → Result Point Why
+placed_at zone.Twilight m c q = placed by.Freedom m c origin q
+placed_at zone.Glyph m c q = Ok q
 
 -- moved to the control value
-unfoldable pub set_at : Bool → GraphicsState → Axis → ℤ → Point → Result Point Why
-set_at round g axis c q = moved axis (miap_distance round g (cur axis q) c) q
+unfoldable pub set_at : Bool → GraphicsState → Motion → ℤ → Point → Result Point Why
+set_at round g m c q = moved m (miap_distance round g (cur m q) c) q
 
 unfoldable pub miap : Bool → ℤ → ℤ → ZoneLists → GraphicsState → Result (ZoneLists × GraphicsState) Why
-miap round p c z g = point_in g.zp0 p z >>= λ q. direction g >>= λ axis. placed_at g.zp0 axis c q >>= λ n.
-    set_at round g axis c n >>= λ m. Ok (with_point g.zp0 p m z, record g { rp0 = p; rp1 = p })
+miap round p c z g = point_in g.zp0 p z >>= λ q. direction g >>= λ m. placed_at g.zp0 m c q >>= λ n.
+    set_at round g m c n >>= λ o. Ok (with_point g.zp0 p o z, record g { rp0 = p; rp1 = p })
 
 abbrev pub is_same : Zone → Zone → Bool
 is_same zone.Twilight zone.Twilight = true
@@ -57,14 +60,15 @@ unfoldable pub mirp_distance : Keeping → GraphicsState → ℤ → ℤ → ℤ
 mirp_distance k g d c = spaced_by k g d (rounded_by k g (chosen k g d c))
 
 -- point p of zone pointer 1 moved to the distance c from reference point 0, as these rules have it
-unfoldable pub chosen_from : Keeping → Axis → ℤ → ℤ → ZoneLists → GraphicsState → Result ZoneLists Why
-chosen_from k axis p c z g = point_in g.zp1 p z >>= λ q. point_in g.zp0 g.rp0 z >>= λ r.
-    kept axis (mirp_distance k g (original_distance axis q r) c) q r >>= λ m. Ok (with_point g.zp1 p m z)
+unfoldable pub chosen_from : Keeping → Motion → ℤ → ℤ → ZoneLists → GraphicsState → Result ZoneLists Why
+chosen_from k m p c z g = point_in g.zp1 p z >>= λ q. point_in g.zp0 g.rp0 z >>= λ r.
+    kept m (mirp_distance k g (original_distance m r q) c) q r >>= λ n. Ok (with_point g.zp1 p n z)
 
--- a twilight point is placed first, so that it stands at that distance from where reference point 0 originally was
+-- a twilight point is placed first, so that it stands at that distance along the freedom vector from where reference
+-- point 0 originally was
 unfoldable pub mirp : Keeping → ℤ → ℤ → ZoneLists → GraphicsState → Result (ZoneLists × GraphicsState) Why
-mirp k p c z g = point_in g.zp1 p z >>= λ q. point_in g.zp0 g.rp0 z >>= λ r. direction g >>= λ axis.
-    made g.zp1 axis p (single_width g c) r z >>= λ y. chosen_from k axis p (single_width g c) y g >>= λ w.
+mirp k p c z g = point_in g.zp1 p z >>= λ q. point_in g.zp0 g.rp0 z >>= λ r. direction g >>= λ m.
+    made g.zp1 by.Freedom m p (single_width g c) r z >>= λ y. chosen_from k m p (single_width g c) y g >>= λ w.
     Ok (w, referred k.set_rp0 p g)
 
 -- worked values
@@ -76,23 +80,23 @@ at_hundred x = record origin { org_x = pos 100; x = x; touched_x = true }
 
 a_twilight_point_rounded : miap true (pos 0) (pos 100) (zero_and (pos 0)) in_twilight
     ≡ Ok (record (zero_and (pos 0)) { twilight = at_hundred (pos 128) ∷ [] }, in_twilight)
-unfolding miap set_at miap_distance placed_at placed
+unfolding miap set_at miap_distance placed_at placed direction project along
 a_twilight_point_rounded = refl
 
 -- a point at 100, by a control value of 200
 cut_in_to_the_original : mirp (keeping false false true) (pos 1) (pos 200) (zero_and (pos 100)) default_state
     ≡ Ok (zero_and_touched (pos 100) (pos 128), record default_state { rp2 = pos 1 })
-unfolding mirp made chosen_from mirp_distance original_distance kept single_width
+unfolding mirp made chosen_from mirp_distance kept single_width direction project along
 cut_in_to_the_original = refl
 
 not_across_zones : mirp (keeping false false true) (pos 1) (pos 200) (zero_and (pos 100)) (record default_state { zp0 = zone.Twilight })
     ≡ Ok (zero_and_touched (pos 100) (pos 192), record default_state { zp0 = zone.Twilight; rp2 = pos 1 })
-unfolding mirp made chosen_from mirp_distance original_distance kept single_width
+unfolding mirp made chosen_from mirp_distance kept single_width direction project along
 not_across_zones = refl
 
 a_value_turned : mirp (keeping true false false) (pos 1) (pos 70) (zero_and (negsuc 99)) default_state
     ≡ Ok (zero_and_touched (negsuc 99) (negsuc 69), record default_state { rp0 = pos 1; rp2 = pos 1 })
-unfolding mirp made chosen_from mirp_distance original_distance kept single_width
+unfolding mirp made chosen_from mirp_distance kept single_width direction project along
 a_value_turned = refl
 
 abbrev to_twilight : GraphicsState
@@ -100,5 +104,5 @@ to_twilight = record default_state { zp1 = zone.Twilight }
 
 a_twilight_point_at_a_distance : mirp (keeping false false false) (pos 0) (pos 100) (zero_and (pos 0)) to_twilight
     ≡ Ok (record (zero_and (pos 0)) { twilight = at_hundred (pos 100) ∷ [] }, to_twilight)
-unfolding mirp made placed chosen_from mirp_distance original_distance kept single_width
+unfolding mirp made placed chosen_from mirp_distance kept single_width direction project along
 a_twilight_point_at_a_distance = refl

@@ -3,4 +3,6 @@ pub mod Measuring
 pub mod Moving
 pub mod Twilight
 pub mod ControlValues
+pub mod Lines
 pub mod Shapes
+pub mod WithAll

@@ -4,36 +4,41 @@ use Rattle.std.specs.Prelude.{◌≡◌, ℤ, pos, ◌-ℤ◌, true, false, [], 
 use Rattle.tt_core.specs.Outcomes.{◌>>=◌}
 use Rattle.tt_core.specs.declared.fault.Why.{Why}
 use Rattle.tt_core.specs.declared.fault.Why.TheVariants as why
-use Rattle.tt_state.specs.declared.graphics_state.Axis.{Axis}
-use Rattle.tt_state.specs.declared.graphics_state.Axis.TheVariants as axis
 use Rattle.tt_state.specs.declared.graphics_state.Zone.TheVariants as zone
 use Rattle.tt_state.specs.declared.graphics_state.GraphicsState.{GraphicsState}
 use Rattle.tt_state.specs.declared.point.Point.{Point}
+use Rattle.tt_state.specs.declared.vector.Vector.TheVariants as vector
 use Rattle.tt_state.specs.GraphicsState.{default_state}
+use Rattle.tt_state.specs.Vectors.{project}
 use Rattle.tt_points_zones.specs.Zones.{ZoneLists}
-use Rattle.tt_points_zones.specs.Points.{cur, org, direction, marked, moved, point_in, with_point}
+use Rattle.tt_points_zones.specs.Points.{point_in, with_point}
+use Rattle.tt_points_zones.specs.Motions.{vectors_of, cur, org, current_distance, original_distance, direction, marked, moved}
+use Rattle.tt_points_zones.specs.declared.motion.Motion.{Motion}
 use Rattle.tt_points.specs.declared.measuring.Position.{Position}
 use Rattle.tt_points.specs.declared.measuring.Position.TheVariants as position
 use Rattle.tt_points.specs.Twilight.{settled_in, origin}
 
--- a coordinate along an axis
-abbrev pub coordinate : Position → Axis → Point → ℤ
-coordinate position.Current axis q = cur axis q
-coordinate position.Original axis q = org axis q
+-- where a point stands along the projection vector, or stood along the dual one
+abbrev pub coordinate : Position → Motion → Point → ℤ
+coordinate position.Current m q = cur m q
+coordinate position.Original m q = org m q
 
--- along the projection vector: the current coordinate, or the original one
 unfoldable pub gc : Position → ℤ → ZoneLists → GraphicsState → Result ℤ Why
-gc of p z g = point_in g.zp2 p z >>= λ q. Ok (coordinate of g.proj q)
+gc of p z g = point_in g.zp2 p z >>= λ q. Ok (coordinate of (vectors_of g) q)
 
--- from p1 to p2: the distance between their current places, or between their original ones
+-- how far a point stands from another along the projection vector, or stood along the dual one
+abbrev pub distance : Position → Motion → Point → Point → ℤ
+distance position.Current m a b = current_distance m a b
+distance position.Original m a b = original_distance m a b
+
+-- from p1 to p2
 unfoldable pub md : Position → ℤ → ℤ → ZoneLists → GraphicsState → Result ℤ Why
-md between p2 p1 z g = point_in g.zp1 p1 z >>= λ a. point_in g.zp0 p2 z >>= λ b.
-    Ok (coordinate between g.proj b -ℤ coordinate between g.proj a)
+md between p2 p1 z g = point_in g.zp1 p1 z >>= λ a. point_in g.zp0 p2 z >>= λ b. Ok (distance between (vectors_of g) a b)
 
 -- moved to a coordinate
 unfoldable pub scfs : ℤ → ℤ → ZoneLists → GraphicsState → Result ZoneLists Why
-scfs p v z g = point_in g.zp2 p z >>= λ q. direction g >>= λ axis. moved axis (v -ℤ cur axis q) q >>= λ m.
-    Ok (with_point g.zp2 p (settled_in g.zp2 m) z)
+scfs p v z g = point_in g.zp2 p z >>= λ q. direction g >>= λ m. moved m (v -ℤ cur m q) q >>= λ n.
+    Ok (with_point g.zp2 p (settled_in g.zp2 n) z)
 
 -- along the freedom vector
 unfoldable pub utp : ℤ → ZoneLists → GraphicsState → Result ZoneLists Why
@@ -51,31 +56,31 @@ two_points = record {
 }
 
 its_coordinate : gc position.Current (pos 1) two_points default_state ≡ Ok (pos 210)
-unfolding gc
+unfolding gc project
 its_coordinate = refl
 
 its_original_coordinate : gc position.Original (pos 1) two_points default_state ≡ Ok (pos 100)
-unfolding gc
+unfolding gc project
 its_original_coordinate = refl
 
 now_apart : md position.Current (pos 1) (pos 0) two_points default_state ≡ Ok (pos 200)
-unfolding md
+unfolding md project
 now_apart = refl
 
 once_apart : md position.Original (pos 1) (pos 0) two_points default_state ≡ Ok (pos 100)
-unfolding md
+unfolding md project
 once_apart = refl
 
 no_twilight_point : gc position.Current (pos 1) two_points (record default_state { zp2 = zone.Twilight }) ≡ Err why.PointRange
-unfolding gc
+unfolding gc project
 no_twilight_point = refl
 
 settled_there : scfs (pos 0) (pos 30) two_points (record default_state { zp2 = zone.Twilight })
     ≡ Ok (record two_points { twilight = from_to (pos 30) (pos 30) ∷ [] })
-unfolding scfs
+unfolding scfs direction project
 settled_there = refl
 
-untouched_along_y : utp (pos 0) two_points (record default_state { zp0 = zone.Twilight; free = axis.Y })
+untouched_along_y : utp (pos 0) two_points (record default_state { zp0 = zone.Twilight; free = vector.Y })
     ≡ Ok (record two_points { twilight = record (from_to (pos 0) (pos 10)) { touched_y = false } ∷ [] })
 unfolding utp
 untouched_along_y = refl

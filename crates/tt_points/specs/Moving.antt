@@ -4,25 +4,24 @@ use Rattle.std.specs.Prelude.{◌≡◌, ℤ, pos, negsuc, ◌-ℤ◌, Bool, tru
 use Rattle.tt_core.specs.Outcomes.{◌>>=◌}
 use Rattle.tt_core.specs.declared.fault.Why.{Why}
 use Rattle.tt_core.specs.declared.fault.Why.TheVariants as why
-use Rattle.tt_state.specs.declared.graphics_state.Axis.{Axis}
-use Rattle.tt_state.specs.declared.graphics_state.Axis.TheVariants as axis
 use Rattle.tt_state.specs.declared.graphics_state.GraphicsState.{GraphicsState}
 use Rattle.tt_state.specs.declared.point.Point.{Point}
+use Rattle.tt_state.specs.declared.vector.Vector.TheVariants as vector
 use Rattle.tt_state.specs.GraphicsState.{default_state}
 use Rattle.tt_state.specs.Rounding.{rounded}
+use Rattle.tt_state.specs.Vectors.{project}
 use Rattle.tt_points_zones.specs.Zones.{ZoneLists}
-use Rattle.tt_points_zones.specs.Points.{cur, org, direction, moved, point_in, with_point}
+use Rattle.tt_points_zones.specs.Points.{point_in, with_point}
+use Rattle.tt_points_zones.specs.Motions.{cur, current_distance, original_distance, direction, moved}
+use Rattle.tt_points_zones.specs.declared.motion.Motion.{Motion}
 use Rattle.tt_points.specs.declared.distances.Keeping.{Keeping}
 use Rattle.tt_points.specs.Distances.{keeping, single_width, rounded_by, spaced_by}
 use Rattle.tt_points.specs.Twilight.{made, origin}
-
--- the original distance of a point from another
-unfoldable pub original_distance : Axis → Point → Point → ℤ
-original_distance axis q r = org axis q -ℤ org axis r
+use Rattle.tt_points.specs.declared.twilight.Along.TheVariants as along
 
 -- a point moved so that its distance from another is d
-unfoldable pub kept : Axis → ℤ → Point → Point → Result Point Why
-kept axis d q r = moved axis (d -ℤ (cur axis q -ℤ cur axis r)) q
+unfoldable pub kept : Motion → ℤ → Point → Point → Result Point Why
+kept m d q r = moved m (d -ℤ current_distance m r q) q
 
 -- the reference points after a move that kept a distance
 abbrev pub referred : Bool → ℤ → GraphicsState → GraphicsState
@@ -33,19 +32,19 @@ unfoldable pub mdap_distance : Bool → GraphicsState → ℤ → ℤ
 mdap_distance round g at = if round then rounded g.round at -ℤ at else pos 0
 
 unfoldable pub mdap : Bool → ℤ → ZoneLists → GraphicsState → Result (ZoneLists × GraphicsState) Why
-mdap round p z g = point_in g.zp0 p z >>= λ q. direction g >>= λ axis.
-    moved axis (mdap_distance round g (cur axis q)) q >>= λ m.
-    Ok (with_point g.zp0 p m z, record g { rp0 = p; rp1 = p })
+mdap round p z g = point_in g.zp0 p z >>= λ q. direction g >>= λ m.
+    moved m (mdap_distance round g (cur m q)) q >>= λ n.
+    Ok (with_point g.zp0 p n z, record g { rp0 = p; rp1 = p })
 
 -- point p of zone pointer 1 moved to the distance d from reference point 0
-unfoldable pub kept_from : Axis → ℤ → ℤ → ZoneLists → GraphicsState → Result ZoneLists Why
-kept_from axis p d z g = point_in g.zp1 p z >>= λ q. point_in g.zp0 g.rp0 z >>= λ r. kept axis d q r >>= λ m.
-    Ok (with_point g.zp1 p m z)
+unfoldable pub kept_from : Motion → ℤ → ℤ → ZoneLists → GraphicsState → Result ZoneLists Why
+kept_from m p d z g = point_in g.zp1 p z >>= λ q. point_in g.zp0 g.rp0 z >>= λ r. kept m d q r >>= λ n.
+    Ok (with_point g.zp1 p n z)
 
 -- a twilight point is placed first, so that it stands at that distance from where reference point 0 originally was
 unfoldable pub msirp : Bool → ℤ → ℤ → ZoneLists → GraphicsState → Result (ZoneLists × GraphicsState) Why
-msirp set_rp0 p d z g = point_in g.zp1 p z >>= λ q. point_in g.zp0 g.rp0 z >>= λ r. direction g >>= λ axis.
-    made g.zp1 axis p d r z >>= λ y. kept_from axis p d y g >>= λ w. Ok (w, referred set_rp0 p g)
+msirp set_rp0 p d z g = point_in g.zp1 p z >>= λ q. point_in g.zp0 g.rp0 z >>= λ r. direction g >>= λ m.
+    made g.zp1 along.Projection m p d r z >>= λ y. kept_from m p d y g >>= λ w. Ok (w, referred set_rp0 p g)
 
 -- what is kept of an original distance, after the single width, and of the distance before it
 abbrev pub mdrp_kept : Keeping → GraphicsState → ℤ → ℤ
@@ -56,9 +55,9 @@ mdrp_distance k g d = mdrp_kept k g (single_width g d)
 
 -- moved to its original distance from reference point 0
 unfoldable pub mdrp : Keeping → ℤ → ZoneLists → GraphicsState → Result (ZoneLists × GraphicsState) Why
-mdrp k p z g = point_in g.zp1 p z >>= λ q. point_in g.zp0 g.rp0 z >>= λ r. direction g >>= λ axis.
-    kept axis (mdrp_distance k g (original_distance axis q r)) q r >>= λ m.
-    Ok (with_point g.zp1 p m z, referred k.set_rp0 p g)
+mdrp k p z g = point_in g.zp1 p z >>= λ q. point_in g.zp0 g.rp0 z >>= λ r. direction g >>= λ m.
+    kept m (mdrp_distance k g (original_distance m r q)) q r >>= λ n.
+    Ok (with_point g.zp1 p n z, referred k.set_rp0 p g)
 
 -- worked values: two points, one at 0 and one at a coordinate along x, where they originally were
 abbrev at_x : ℤ → Point
@@ -73,24 +72,24 @@ zero_and_touched org x =
 
 ten_to_a_pixel : mdrp (keeping false true true) (pos 1) (zero_and (pos 10)) default_state
     ≡ Ok (zero_and_touched (pos 10) (pos 64), record default_state { rp2 = pos 1 })
-unfolding mdrp mdrp_distance original_distance kept single_width
+unfolding mdrp mdrp_distance kept single_width direction project
 ten_to_a_pixel = refl
 
 minus_ten_to_a_pixel : mdrp (keeping false true true) (pos 1) (zero_and (negsuc 9)) default_state
     ≡ Ok (zero_and_touched (negsuc 9) (negsuc 63), record default_state { rp2 = pos 1 })
-unfolding mdrp mdrp_distance original_distance kept single_width
+unfolding mdrp mdrp_distance kept single_width direction project
 minus_ten_to_a_pixel = refl
 
 rounded_where_it_is : mdap true (pos 1) (zero_and (pos 40)) default_state
     ≡ Ok (zero_and_touched (pos 40) (pos 64), record default_state { rp0 = pos 1; rp1 = pos 1 })
-unfolding mdap mdap_distance
+unfolding mdap mdap_distance direction project
 rounded_where_it_is = refl
 
-other_vectors : mdap false (pos 1) (zero_and (pos 40)) (record default_state { free = axis.Y }) ≡ Err why.Perpendicular
-unfolding mdap mdap_distance
+other_vectors : mdap false (pos 1) (zero_and (pos 40)) (record default_state { free = vector.Y }) ≡ Err why.Perpendicular
+unfolding mdap mdap_distance direction project
 other_vectors = refl
 
 set_apart : msirp true (pos 1) (negsuc 6) (zero_and (pos 40)) default_state
     ≡ Ok (zero_and_touched (pos 40) (negsuc 6), record default_state { rp0 = pos 1; rp2 = pos 1 })
-unfolding msirp made kept_from kept
+unfolding msirp made kept_from kept direction project
 set_apart = refl

@@ -4,12 +4,15 @@
 use Rattle.std.specs.Prelude.{ℤ, pos, true, false, Result, Ok}
 use Rattle.tt_core.specs.Outcomes.{◌>>=◌}
 use Rattle.tt_core.specs.declared.fault.Why.{Why}
-use Rattle.tt_state.specs.declared.graphics_state.Axis.{Axis}
 use Rattle.tt_state.specs.declared.graphics_state.Zone.{Zone}
 use Rattle.tt_state.specs.declared.graphics_state.Zone.TheVariants as zone
 use Rattle.tt_state.specs.declared.point.Point.{Point}
 use Rattle.tt_points_zones.specs.Zones.{ZoneLists}
-use Rattle.tt_points_zones.specs.Points.{shifted, point_in, with_point}
+use Rattle.tt_points_zones.specs.Points.{point_in, with_point}
+use Rattle.tt_points_zones.specs.Motions.{shifted, shifted_along}
+use Rattle.tt_points_zones.specs.declared.motion.Motion.{Motion}
+use Rattle.tt_points.specs.declared.twilight.Along.{Along}
+use Rattle.tt_points.specs.declared.twilight.Along.TheVariants as along
 
 -- the place where a point stands becomes its original one
 abbrev pub settled : Point → Point
@@ -19,9 +22,15 @@ abbrev pub settled_in : Zone → Point → Point
 settled_in zone.Twilight p = settled p
 settled_in zone.Glyph p = p
 
+-- a point put further along the freedom vector, by a distance that the projection vector measures, or by one along the
+-- freedom vector itself
+abbrev pub further : Along → Motion → ℤ → Point → Result Point Why
+further along.Projection m d p = shifted m d p
+further along.Freedom m d p = shifted_along m.free d p
+
 -- a point put where another originally stood, and further by a distance; that is its original place
-unfoldable pub placed : Axis → ℤ → Point → Point → Result Point Why
-placed axis d r p = shifted axis d (record p { x = r.org_x; y = r.org_y }) >>= λ q. Ok (settled q)
+unfoldable pub placed : Along → Motion → ℤ → Point → Point → Result Point Why
+placed by m d r p = further by m d (record p { x = r.org_x; y = r.org_y }) >>= λ q. Ok (settled q)
 
 -- where both coordinates are 0
 abbrev pub origin : Point
@@ -36,7 +45,7 @@ origin = record {
 }
 
 -- a twilight point by its number, placed so; glyph points stay
-unfoldable pub made : Zone → Axis → ℤ → ℤ → Point → ZoneLists → Result ZoneLists Why
-made zone.Twilight axis p d r z =
-    point_in zone.Twilight p z >>= λ q. placed axis d r q >>= λ m. Ok (with_point zone.Twilight p m z)
-made zone.Glyph axis p d r z = Ok z
+unfoldable pub made : Zone → Along → Motion → ℤ → ℤ → Point → ZoneLists → Result ZoneLists Why
+made zone.Twilight by m p d r z =
+    point_in zone.Twilight p z >>= λ q. placed by m d r q >>= λ n. Ok (with_point zone.Twilight p n z)
+made zone.Glyph by m p d r z = Ok z

@@ -3,17 +3,17 @@
 
 ghost use Rattle.std.specs.Prelude.{◌≡◌, ◌-ℤ◌, ◌<◌, ◌^◌, unsigned_abs, IfOk};
 ghost use Rattle.tt_core.specs.Outcomes.{Gives};
-ghost use Rattle.tt_points_zones.specs.Points as point;
+ghost use Rattle.tt_points_zones.specs.Motions as motion;
 ghost use Rattle.tt_points_zones.specs.Zones.{IsPoint, IsZones, zones_view};
 ghost use Rattle.tt_points.specs.ControlValues as is;
 ghost use Rattle.tt_points.specs.Distances as distances;
 
 use crate::distances::{Keeping, cut_in, flipped, given, rounded_by, single_width, spaced_by};
-use crate::moving::{kept, original_from, refer};
-use crate::twilight::{make, placed};
+use crate::moving::{kept, refer};
+use crate::twilight::{Along, make, placed};
 use tt_core::Why;
-use tt_points_zones::{Distance, Zones, cur, direction, moved};
-use tt_state::{Axis, GraphicsState, Point, Zone};
+use tt_points_zones::{Distance, Motion, Zones, direction};
+use tt_state::{GraphicsState, Point, Zone};
 
 /// Where both coordinates are 0.
 const ORIGIN: Point = Point {
@@ -53,25 +53,25 @@ fn miap_distance(round: bool, state: &GraphicsState, at: Distance, c: Distance) 
 
 /// A twilight point is placed at the control value first. Error: ValueRange.
 #[tactic(auto, unfolding(crate::specs::ControlValues::placed_at))]
-fn placed_at(zone: Zone, q: Point, axis: Axis, c: Distance) -> Result<Point, Why>
+fn placed_at(zone: Zone, q: Point, m: &Motion, c: Distance) -> Result<Point, Why>
     requires q { IsPoint q }
     requires small { unsigned_abs c.0 < 2 ^ 32 }
-    ensures exact { Gives (λ p. p) result (is.placed_at zone axis c.0 q) }
+    ensures exact { Gives (λ p. p) result (is.placed_at zone m.now c.0 q) }
     ensures valid { IfOk result IsPoint }
 {
     match zone {
-        Zone::Twilight => placed(q, axis, c, ORIGIN),
+        Zone::Twilight => placed(q, m, Along::Freedom, c, ORIGIN),
         Zone::Glyph => Ok(q),
     }
 }
 
-/// Where a point stands along an axis, as a distance.
-fn standing(q: Point, axis: Axis) -> Distance
+/// Where a point stands along the projection vector, as a distance.
+fn standing(q: Point, m: &Motion) -> Distance
     requires { IsPoint q }
-    ensures exact { result.0 ≡ point.cur axis q }
+    ensures exact { result.0 ≡ motion.cur m.now q }
     ensures bound { unsigned_abs result.0 < 2 ^ 22 }
 {
-    Distance(i64::from(cur(q, axis)))
+    Distance(i64::from(m.cur(q)))
 }
 
 /// A point moved by MIAP's rule. Error: ValueRange.
@@ -80,15 +80,15 @@ fn set_at(
     round: bool,
     state: &GraphicsState,
     q: Point,
-    axis: Axis,
+    m: &Motion,
     c: Distance,
 ) -> Result<Point, Why>
     requires q { IsPoint q }
     requires small { unsigned_abs c.0 < 2 ^ 32 }
-    ensures exact { Gives (λ p. p) result (is.set_at round state.now axis c.0 q) }
+    ensures exact { Gives (λ p. p) result (is.set_at round state.now m.now c.0 q) }
     ensures valid { IfOk result IsPoint }
 {
-    moved(q, axis, miap_distance(round, state, standing(q, axis), c))
+    m.moved(q, miap_distance(round, state, standing(q, m), c))
 }
 
 /// MIAP[r]: p, n -> point p of zone pointer 0 is moved to `c`, the control value of that number. In the twilight zone it
@@ -109,10 +109,13 @@ pub fn miap(
     ensures zones { IsZones (zones_view zones.new) }
 {
     let q = zones.point(state.zp0, p)?;
-    let axis = direction(state)?;
+    let m = match direction(state) {
+        Ok(m) => m,
+        Err(why) => return Err(why),
+    };
     let c = given(c);
-    let q = placed_at(state.zp0, q, axis, c)?;
-    zones.set(state.zp0, p, set_at(round, state, q, axis, c)?);
+    let q = placed_at(state.zp0, q, &m, c)?;
+    zones.set(state.zp0, p, set_at(round, state, q, &m, c)?);
     state.rp0 = p;
     state.rp1 = p;
     Ok(())
@@ -166,19 +169,19 @@ fn choose_from(
     state: &GraphicsState,
     keeping: Keeping,
     p: i32,
-    axis: Axis,
+    m: &Motion,
     c: Distance,
 ) -> Result<(), Why>
     requires zones { IsZones (zones_view zones.old) }
     requires small { unsigned_abs c.0 < 2 ^ 32 }
     ensures exact { Gives (λ u. zones_view zones.new) result
-        (is.chosen_from keeping axis p c.0 (zones_view zones.old) state.now) }
+        (is.chosen_from keeping m.now p c.0 (zones_view zones.old) state.now) }
     ensures zones { IsZones (zones_view zones.new) }
 {
     let q = zones.point(state.zp1, p)?;
     let r = zones.point(state.zp0, state.rp0)?;
-    let d = mirp_distance(keeping, state, original_from(q, r, axis), c);
-    zones.set(state.zp1, p, kept(q, axis, d, r)?);
+    let d = mirp_distance(keeping, state, m.original_distance(r, q), c);
+    zones.set(state.zp1, p, kept(q, m, d, r)?);
     Ok(())
 }
 
@@ -208,10 +211,13 @@ pub fn mirp(
 {
     zones.point(state.zp1, p)?;
     let r = zones.point(state.zp0, state.rp0)?;
-    let axis = direction(state)?;
+    let m = match direction(state) {
+        Ok(m) => m,
+        Err(why) => return Err(why),
+    };
     let c = single_width_of(state, c);
-    make(zones, state.zp1, p, axis, c, r)?;
-    choose_from(zones, state, keeping, p, axis, c)?;
+    make(zones, state.zp1, p, &m, Along::Freedom, c, r)?;
+    choose_from(zones, state, keeping, p, &m, c)?;
     refer(state, keeping.set_rp0, p);
     Ok(())
 }

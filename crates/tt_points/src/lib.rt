@@ -7,6 +7,7 @@
 pub mod control_values;
 mod distances;
 pub mod laws;
+pub mod lines;
 pub mod measuring;
 pub mod moving;
 mod twilight;

@@ -1,19 +1,17 @@
 //! Coordinates read and set, and a touch undone. Apple TrueType Reference Manual, "Instruction Set". Coordinates are in
 //! 26.6 pixels.
 
-ghost use Rattle.std.specs.Prelude.{◌≡◌, ◌-ℤ◌, ◌<◌, ◌≤◌, ◌^◌, unsigned_abs};
+ghost use Rattle.std.specs.Prelude.{◌≡◌, ◌-ℤ◌, ◌<◌, ◌≤◌, ◌*◌, ◌^◌, unsigned_abs};
 ghost use Rattle.tt_core.specs.Limits.{coordinate_limit};
 ghost use Rattle.tt_core.specs.Outcomes.{Gives};
-ghost use Rattle.tt_points_zones.specs.Points as point;
+ghost use Rattle.tt_points_zones.specs.Motions as motion;
 ghost use Rattle.tt_points_zones.specs.Zones.{IsPoint, IsZones, zones_view};
 ghost use Rattle.tt_points.specs.Measuring as is;
 
 use crate::twilight::settled_in;
 use tt_core::Why;
-use tt_points_zones::{
-    Distance, Zones, cur, current_distance, direction, marked, moved, org, original_distance,
-};
-use tt_state::{Axis, GraphicsState, Point};
+use tt_points_zones::{Distance, Motion, Zones, direction};
+use tt_state::{GraphicsState, Point};
 
 /// Which place of a point is measured.
 #[derive(Clone, Copy)]
@@ -31,15 +29,16 @@ pub fn gc(zones: &Zones, state: &GraphicsState, of: Position, p: i32) -> Result<
     ensures { Gives (λ c. c) result (is.gc of p (zones_view zones.now) state.now) }
 {
     let q = zones.point(state.zp2, p)?;
+    let m = Motion::of(state);
     match of {
-        Position::Current => Ok(cur(q, state.proj)),
-        Position::Original => Ok(org(q, state.proj)),
+        Position::Current => Ok(m.cur(q)),
+        Position::Original => Ok(m.org(q)),
     }
 }
 
 /// A distance as the stack holds it.
 fn stack_value(d: Distance) -> i32
-    requires { unsigned_abs d.0 < 2 ^ 22 }
+    requires { unsigned_abs d.0 ≤ 4 * coordinate_limit }
     ensures { result ≡ d.0 }
 {
     d.0 as i32
@@ -59,19 +58,20 @@ pub fn md(
 {
     let a = zones.point(state.zp1, p1)?;
     let b = zones.point(state.zp0, p2)?;
+    let m = Motion::of(state);
     match between {
-        Position::Current => Ok(stack_value(current_distance(a, b, state.proj))),
-        Position::Original => Ok(stack_value(original_distance(a, b, state.proj))),
+        Position::Current => Ok(stack_value(m.current_distance(a, b))),
+        Position::Original => Ok(stack_value(m.original_distance(a, b))),
     }
 }
 
 /// How far a point is from a coordinate.
-fn short_of(v: i32, q: Point, axis: Axis) -> i64
+fn short_of(v: i32, q: Point, m: &Motion) -> i64
     requires { IsPoint q }
-    ensures exact { result ≡ v -ℤ point.cur axis q }
+    ensures exact { result ≡ v -ℤ motion.cur m.now q }
     ensures bound { unsigned_abs result < 2 ^ 33 }
 {
-    i64::from(v) - i64::from(cur(q, axis))
+    i64::from(v) - i64::from(m.cur(q))
 }
 
 /// SCFS[], 0x48: p, v -> point p of zone pointer 2 moved to the coordinate v. In the twilight zone it is as if it had
@@ -83,9 +83,12 @@ pub fn scfs(zones: &mut Zones, state: &GraphicsState, p: i32, v: i32) -> Result<
     ensures zones { IsZones (zones_view zones.new) }
 {
     let q = zones.point(state.zp2, p)?;
-    let axis = direction(state)?;
-    let m = moved(q, axis, short_of(v, q, axis))?;
-    zones.set(state.zp2, p, settled_in(state.zp2, m));
+    let m = match direction(state) {
+        Ok(m) => m,
+        Err(why) => return Err(why),
+    };
+    let q = m.moved(q, short_of(v, q, &m))?;
+    zones.set(state.zp2, p, settled_in(state.zp2, q));
     Ok(())
 }
 
@@ -97,6 +100,6 @@ pub fn utp(zones: &mut Zones, state: &GraphicsState, p: i32) -> Result<(), Why>
     ensures zones { IsZones (zones_view zones.new) }
 {
     let q = zones.point(state.zp0, p)?;
-    zones.set(state.zp0, p, marked(q, state.free, false));
+    zones.set(state.zp0, p, Motion::of(state).marked(q, false));
     Ok(())
 }

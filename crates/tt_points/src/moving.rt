@@ -4,50 +4,37 @@
 ghost use Rattle.std.specs.Prelude.{◌≡◌, ◌-ℤ◌, ◌<◌, ◌≤◌, ◌^◌, unsigned_abs, IfOk};
 ghost use Rattle.tt_core.specs.Outcomes.{Gives};
 ghost use Rattle.tt_state.specs.Rounding.{rounded};
-ghost use Rattle.tt_points_zones.specs.Points as point;
+ghost use Rattle.tt_points_zones.specs.Motions as motion;
 ghost use Rattle.tt_points_zones.specs.Zones.{IsPoint, IsZones, zones_view};
 ghost use Rattle.tt_points.specs.Moving as is;
 
 use crate::distances::{Keeping, given, rounded_by, single_width, spaced_by};
-use crate::twilight::make;
+use crate::twilight::{Along, make};
 use tt_core::Why;
-use tt_points_zones::{
-    Distance, Zones, cur, current_distance, direction, moved, original_distance,
-};
-use tt_state::{Axis, GraphicsState, Point};
-
-/// The original distance of a point from a reference point.
-#[tactic(auto, unfolding(crate::specs::Moving::original_distance))]
-pub(crate) fn original_from(q: Point, r: Point, axis: Axis) -> Distance
-    requires q { IsPoint q }
-    requires r { IsPoint r }
-    ensures exact { result.0 ≡ is.original_distance axis q r }
-    ensures bound { unsigned_abs result.0 < 2 ^ 23 }
-{
-    original_distance(r, q, axis)
-}
+use tt_points_zones::{Distance, Motion, Zones, direction};
+use tt_state::{GraphicsState, Point};
 
 /// How much the distance of a point from another is short of `d`.
-fn short_of(d: Distance, q: Point, r: Point, axis: Axis) -> i64
+fn short_of(d: Distance, q: Point, r: Point, m: &Motion) -> i64
     requires q { IsPoint q }
     requires r { IsPoint r }
     requires small { unsigned_abs d.0 < 2 ^ 33 }
-    ensures exact { result ≡ d.0 -ℤ (point.cur axis q -ℤ point.cur axis r) }
+    ensures exact { result ≡ d.0 -ℤ motion.current_distance m.now r q }
     ensures bound { unsigned_abs result < 2 ^ 34 }
 {
-    d.0 - current_distance(r, q, axis).0
+    d.0 - m.current_distance(r, q).0
 }
 
 /// A point moved so that its distance from another is `d`. Error: ValueRange.
 #[tactic(auto, unfolding(crate::specs::Moving::kept))]
-pub(crate) fn kept(q: Point, axis: Axis, d: Distance, r: Point) -> Result<Point, Why>
+pub(crate) fn kept(q: Point, m: &Motion, d: Distance, r: Point) -> Result<Point, Why>
     requires q { IsPoint q }
     requires r { IsPoint r }
     requires small { unsigned_abs d.0 < 2 ^ 33 }
-    ensures exact { Gives (λ p. p) result (is.kept axis d.0 q r) }
+    ensures exact { Gives (λ p. p) result (is.kept m.now d.0 q r) }
     ensures valid { IfOk result IsPoint }
 {
-    moved(q, axis, short_of(d, q, r, axis))
+    m.moved(q, short_of(d, q, r, m))
 }
 
 /// The reference points after a move that kept a distance.
@@ -72,13 +59,13 @@ fn to_rounded(state: &GraphicsState, at: Distance) -> i64
 
 /// How far a point is moved that is touched where it is, or rounded.
 #[tactic(auto, unfolding(crate::specs::Moving::mdap_distance))]
-fn mdap_distance(round: bool, state: &GraphicsState, q: Point, axis: Axis) -> i64
+fn mdap_distance(round: bool, state: &GraphicsState, q: Point, m: &Motion) -> i64
     requires { IsPoint q }
-    ensures exact { result ≡ is.mdap_distance round state.now (point.cur axis q) }
+    ensures exact { result ≡ is.mdap_distance round state.now (motion.cur m.now q) }
     ensures bound { unsigned_abs result < 2 ^ 33 }
 {
     if round {
-        to_rounded(state, Distance(i64::from(cur(q, axis))))
+        to_rounded(state, Distance(i64::from(m.cur(q))))
     } else {
         0
     }
@@ -94,8 +81,11 @@ pub fn mdap(zones: &mut Zones, state: &mut GraphicsState, round: bool, p: i32) -
     ensures zones { IsZones (zones_view zones.new) }
 {
     let q = zones.point(state.zp0, p)?;
-    let axis = direction(state)?;
-    let q = moved(q, axis, mdap_distance(round, state, q, axis))?;
+    let m = match direction(state) {
+        Ok(m) => m,
+        Err(why) => return Err(why),
+    };
+    let q = m.moved(q, mdap_distance(round, state, q, &m))?;
     zones.set(state.zp0, p, q);
     state.rp0 = p;
     state.rp1 = p;
@@ -108,18 +98,18 @@ fn keep_from(
     zones: &mut Zones,
     state: &GraphicsState,
     p: i32,
-    axis: Axis,
+    m: &Motion,
     d: Distance,
 ) -> Result<(), Why>
     requires zones { IsZones (zones_view zones.old) }
     requires small { unsigned_abs d.0 < 2 ^ 33 }
     ensures exact { Gives (λ u. zones_view zones.new) result
-        (is.kept_from axis p d.0 (zones_view zones.old) state.now) }
+        (is.kept_from m.now p d.0 (zones_view zones.old) state.now) }
     ensures zones { IsZones (zones_view zones.new) }
 {
     let q = zones.point(state.zp1, p)?;
     let r = zones.point(state.zp0, state.rp0)?;
-    zones.set(state.zp1, p, kept(q, axis, d, r)?);
+    zones.set(state.zp1, p, kept(q, m, d, r)?);
     Ok(())
 }
 
@@ -141,10 +131,13 @@ pub fn msirp(
 {
     zones.point(state.zp1, p)?;
     let r = zones.point(state.zp0, state.rp0)?;
-    let axis = direction(state)?;
+    let m = match direction(state) {
+        Ok(m) => m,
+        Err(why) => return Err(why),
+    };
     let d = given(d);
-    make(zones, state.zp1, p, axis, d, r)?;
-    keep_from(zones, state, p, axis, d)?;
+    make(zones, state.zp1, p, &m, Along::Projection, d, r)?;
+    keep_from(zones, state, p, &m, d)?;
     refer(state, set_rp0, p);
     Ok(())
 }
@@ -185,9 +178,12 @@ pub fn mdrp(
 {
     let q = zones.point(state.zp1, p)?;
     let r = zones.point(state.zp0, state.rp0)?;
-    let axis = direction(state)?;
-    let d = mdrp_distance(keeping, state, original_from(q, r, axis));
-    zones.set(state.zp1, p, kept(q, axis, d, r)?);
+    let m = match direction(state) {
+        Ok(m) => m,
+        Err(why) => return Err(why),
+    };
+    let d = mdrp_distance(keeping, state, m.original_distance(r, q));
+    zones.set(state.zp1, p, kept(q, &m, d, r)?);
     refer(state, keeping.set_rp0, p);
     Ok(())
 }

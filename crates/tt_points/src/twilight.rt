@@ -6,8 +6,17 @@ ghost use Rattle.tt_points_zones.specs.Zones.{IsPoint, IsZones, zones_view};
 ghost use Rattle.tt_points.specs.Twilight as is;
 
 use tt_core::Why;
-use tt_points_zones::{Distance, Zones, shifted};
-use tt_state::{Axis, Point, Zone};
+use tt_points_zones::{Distance, Motion, Zones};
+use tt_state::{Point, Zone};
+
+/// The vector along which the distance is that a twilight point is placed at.
+#[derive(Clone, Copy)]
+pub(crate) enum Along {
+    /// The point is so far away as the projection vector measures it.
+    Projection,
+    /// The point is so far away along the freedom vector itself.
+    Freedom,
+}
 
 /// The place where a point stands becomes its original one.
 fn settled(p: Point) -> Point
@@ -48,16 +57,35 @@ fn at_original(p: Point, r: Point) -> Point
     }
 }
 
-/// A point put where another originally stood, and further by `d`; that is its original place. Error: ValueRange.
-#[tactic(auto, unfolding(crate::specs::Twilight::placed))]
-pub(crate) fn placed(p: Point, axis: Axis, d: Distance, r: Point) -> Result<Point, Why>
+/// A point put further by `d` along a vector. Error: ValueRange.
+fn further(p: Point, m: &Motion, along: Along, d: Distance) -> Result<Point, Why>
     requires p { IsPoint p }
-    requires r { IsPoint r }
-    requires small { unsigned_abs d.0 < 2 ^ 40 }
-    ensures exact { Gives (λ q. q) result (is.placed axis d.0 r p) }
+    requires small { unsigned_abs d.0 < 2 ^ 32 }
+    ensures exact { Gives (λ q. q) result (is.further along m.now d.0 p) }
     ensures valid { IfOk result IsPoint }
 {
-    Ok(settled(shifted(at_original(p, r), axis, d.0)?))
+    match along {
+        Along::Projection => m.shifted(p, d.0),
+        Along::Freedom => m.shifted_along(p, d.0),
+    }
+}
+
+/// A point put where another originally stood, and further by `d`; that is its original place. Error: ValueRange.
+#[tactic(auto, unfolding(crate::specs::Twilight::placed))]
+pub(crate) fn placed(
+    p: Point,
+    m: &Motion,
+    along: Along,
+    d: Distance,
+    r: Point,
+) -> Result<Point, Why>
+    requires p { IsPoint p }
+    requires r { IsPoint r }
+    requires small { unsigned_abs d.0 < 2 ^ 32 }
+    ensures exact { Gives (λ q. q) result (is.placed along m.now d.0 r p) }
+    ensures valid { IfOk result IsPoint }
+{
+    Ok(settled(further(at_original(p, r), m, along, d)?))
 }
 
 /// Places a twilight point so, by its number; glyph points stay. Errors: PointRange, ValueRange.
@@ -66,20 +94,22 @@ pub(crate) fn make(
     zones: &mut Zones,
     zone: Zone,
     p: i32,
-    axis: Axis,
+    m: &Motion,
+    along: Along,
     d: Distance,
     r: Point,
 ) -> Result<(), Why>
     requires zones { IsZones (zones_view zones.old) }
     requires r { IsPoint r }
-    requires small { unsigned_abs d.0 < 2 ^ 40 }
-    ensures exact { Gives (λ u. zones_view zones.new) result (is.made zone axis p d.0 r (zones_view zones.old)) }
+    requires small { unsigned_abs d.0 < 2 ^ 32 }
+    ensures exact { Gives (λ u. zones_view zones.new) result
+        (is.made zone along m.now p d.0 r (zones_view zones.old)) }
     ensures zones { IsZones (zones_view zones.new) }
 {
     match zone {
         Zone::Twilight => {
             let q = zones.point(Zone::Twilight, p)?;
-            zones.set(Zone::Twilight, p, placed(q, axis, d, r)?);
+            zones.set(Zone::Twilight, p, placed(q, m, along, d, r)?);
             Ok(())
         }
         Zone::Glyph => Ok(()),

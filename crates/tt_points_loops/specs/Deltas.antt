@@ -6,9 +6,11 @@ use Rattle.tt_core.specs.Outcomes.{◌>>=◌}
 use Rattle.tt_core.specs.declared.fault.Why.{Why}
 use Rattle.tt_core.specs.declared.fault.Why.TheVariants as why
 use Rattle.tt_state.specs.GraphicsState.{default_state}
+use Rattle.tt_state.specs.Vectors.{project}
 use Rattle.tt_state.specs.declared.graphics_state.GraphicsState.{GraphicsState}
 use Rattle.tt_state.specs.declared.point.Point.{Point}
-use Rattle.tt_points_zones.specs.Points.{moved, direction, point_in, with_point}
+use Rattle.tt_points_zones.specs.Motions.{direction, moved}
+use Rattle.tt_points_zones.specs.Points.{point_in, with_point}
 use Rattle.tt_points_zones.specs.Zones.{ZoneLists}
 use Rattle.tt_points_loops.specs.declared.deltas.DeltaRange.{DeltaRange}
 use Rattle.tt_points_loops.specs.declared.deltas.DeltaRange.TheVariants as ranges
@@ -44,7 +46,7 @@ delta_of range argument ppem g =
 abbrev pub move_by : Option ℤ → GraphicsState → ℤ → ZoneLists → Result ZoneLists Why
 move_by None g n z = Ok z
 move_by (Some d) g n z =
-    point_in g.zp0 n z >>= λ p. direction g >>= λ axis. moved axis d p >>= λ q. Ok (with_point g.zp0 n q z)
+    point_in g.zp0 n z >>= λ p. direction g >>= λ m. moved m d p >>= λ q. Ok (with_point g.zp0 n q z)
 
 abbrev pub except : DeltaRange → ℕ → GraphicsState → ℤ × ℤ → ZoneLists → Result ZoneLists Why
 except range ppem g pair z = delta_of range pair.0 ppem g >>= λ d. move_by d g pair.1 z
@@ -81,6 +83,7 @@ glyph ps = record { twilight = []; glyph = ps; contours = [] }
 a_point_at_its_size : deltap ranges.First 16 (pos 0x7F ∷ pos 0 ∷ pos 0x6F ∷ pos 9 ∷ [])
     (glyph (point (pos 1) false ∷ [])) default_state
     ≡ Ok (glyph (point (pos 65) true ∷ []))
+unfolding direction project
 a_point_at_its_size = refl
 
 last_pair_first : deltap ranges.First 16 (pos 256 ∷ pos 0 ∷ pos 0x7F ∷ pos 1 ∷ [])

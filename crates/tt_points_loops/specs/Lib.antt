@@ -4,4 +4,5 @@ pub mod Moving
 pub mod Shifting
 pub mod Deltas
 pub mod Turns
+pub mod WithAll
 pub mod Shapes

@@ -1,25 +1,32 @@
 -- Apple TrueType Reference Manual, "Instruction set": managing outlines (ALIGNRP, IP, SHPIX). Distances are in 26.6
 -- pixels.
-use Rattle.std.specs.Prelude.{◌≡◌, ℤ, pos, negsuc, ◌+ℤ◌, ◌-ℤ◌, ◌*ℤ◌, true, false, if◌then◌else◌, List, [], ◌∷◌, Result, Ok, Err, refl}
+use Rattle.std.specs.Prelude.{◌≡◌, ℤ, pos, negsuc, ◌-ℤ◌, ◌*ℤ◌, true, false, if◌then◌else◌, List, [], ◌∷◌, Result, Ok, Err, refl}
 use Rattle.std.specs.Ordering.{int_eq}
 use Rattle.tt_core.specs.Numbers.{rounded_quotient}
 use Rattle.tt_core.specs.Outcomes.{◌>>=◌}
 use Rattle.tt_core.specs.declared.fault.Why.{Why}
 use Rattle.tt_core.specs.declared.fault.Why.TheVariants as why
 use Rattle.tt_state.specs.GraphicsState.{default_state}
-use Rattle.tt_state.specs.declared.graphics_state.Axis.{Axis}
-use Rattle.tt_state.specs.declared.graphics_state.Axis.TheVariants as axis
 use Rattle.tt_state.specs.declared.graphics_state.GraphicsState.{GraphicsState}
 use Rattle.tt_state.specs.declared.point.Point.{Point}
-use Rattle.tt_points_zones.specs.Points.{cur, org, moved, direction, point_in, with_point}
+use Rattle.tt_state.specs.declared.vector.Vector.{Vector}
+use Rattle.tt_state.specs.declared.vector.Vector.TheVariants as vector
+use Rattle.tt_state.specs.Axes.{vector_of}
+use Rattle.tt_state.specs.GraphicsState.{default_of}
+use Rattle.tt_state.specs.Vectors.{pair, project, along}
+use Rattle.tt_points_zones.specs.Motions.{direction, current_distance, original_distance, moved, moved_along}
+use Rattle.tt_points_zones.specs.Points.{point_in, with_point}
 use Rattle.tt_points_zones.specs.Zones.{ZoneLists}
+use Rattle.tt_points_zones.specs.declared.motion.Motion.{Motion}
 use Rattle.tt_points_loops.specs.Series.{looped}
 
--- ALIGNRP: points of zp1 are moved to the coordinate of rp0, in zp0
+-- ALIGNRP: points of zp1 are moved to where rp0, in zp0, stands
+abbrev pub aligned : GraphicsState → Point → Point → Result Point Why
+aligned g r p = direction g >>= λ m. moved m (current_distance m p r) p
+
 abbrev pub align : GraphicsState → ℤ → ZoneLists → Result ZoneLists Why
 align g n z =
-    point_in g.zp1 n z >>= λ p. point_in g.zp0 g.rp0 z >>= λ r.
-    direction g >>= λ axis. moved axis (cur axis r -ℤ cur axis p) p >>= λ q. Ok (with_point g.zp1 n q z)
+    point_in g.zp1 n z >>= λ p. point_in g.zp0 g.rp0 z >>= λ r. aligned g r p >>= λ q. Ok (with_point g.zp1 n q z)
 
 abbrev pub alignrp : List ℤ → ZoneLists → GraphicsState → Result (ZoneLists × GraphicsState) Why
 alignrp points z g = looped (align g) points z g
@@ -28,13 +35,12 @@ alignrp points z g = looped (align g) points z g
 abbrev pub stretched : ℤ → ℤ → ℤ → ℤ
 stretched o range now = if int_eq range (pos 0) then o else rounded_quotient (o *ℤ now) range
 
--- where a point stands that keeps its place between two others
-abbrev pub interpolated : Axis → Point → Point → Point → ℤ
-interpolated axis a b p =
-    cur axis a +ℤ stretched (org axis p -ℤ org axis a) (org axis b -ℤ org axis a) (cur axis b -ℤ cur axis a)
+-- how far from the first of two others a point stands that keeps its place between them
+abbrev pub interpolated : Motion → Point → Point → Point → ℤ
+interpolated m a b p = stretched (original_distance m a p) (original_distance m a b) (current_distance m a b)
 
 abbrev pub kept_between : GraphicsState → Point → Point → Point → Result Point Why
-kept_between g a b p = direction g >>= λ axis. moved axis (interpolated axis a b p -ℤ cur axis p) p
+kept_between g a b p = direction g >>= λ m. moved m (interpolated m a b p -ℤ current_distance m a p) p
 
 -- IP: points of zp2 are moved to where they keep their places between rp1, in zp0, and rp2, in zp1
 abbrev pub in_between : GraphicsState → ZoneLists → Point → Result Point Why
@@ -48,7 +54,7 @@ ip points z g = looped (interpolate g) points z g
 
 -- SHPIX: points of zp2 are moved by an amount along the freedom vector, whatever the projection vector is (profile)
 abbrev pub push : ℤ → GraphicsState → ℤ → ZoneLists → Result ZoneLists Why
-push amount g n z = point_in g.zp2 n z >>= λ p. moved g.free amount p >>= λ q. Ok (with_point g.zp2 n q z)
+push amount g n z = point_in g.zp2 n z >>= λ p. moved_along g.free amount p >>= λ q. Ok (with_point g.zp2 n q z)
 
 abbrev pub shpix : List ℤ → ℤ → ZoneLists → GraphicsState → Result (ZoneLists × GraphicsState) Why
 shpix points amount z g = looped (push amount g) points z g
@@ -69,26 +75,68 @@ between = record default_state { rp1 = pos 0; rp2 = pos 1 }
 in_proportion : ip (pos 2 ∷ [])
     (glyph (point (pos 0) (pos 10) ∷ point (pos 100) (pos 210) ∷ point (pos 25) (pos 25) ∷ [])) between
     ≡ Ok (glyph (point (pos 0) (pos 10) ∷ point (pos 100) (pos 210) ∷ moved_to (pos 25) (pos 60) ∷ []), between)
+unfolding direction project along
 in_proportion = refl
 
 no_range : ip (pos 2 ∷ [])
     (glyph (point (pos 0) (pos 10) ∷ point (pos 0) (pos 210) ∷ point (pos 25) (pos 25) ∷ [])) between
     ≡ Ok (glyph (point (pos 0) (pos 10) ∷ point (pos 0) (pos 210) ∷ moved_to (pos 25) (pos 35) ∷ []), between)
+unfolding direction project along
 no_range = refl
 
 to_where_it_stands : alignrp (pos 1 ∷ []) (glyph (point (pos 5) (pos 7) ∷ point (pos 1) (pos 2) ∷ [])) default_state
     ≡ Ok (glyph (point (pos 5) (pos 7) ∷ moved_to (pos 1) (pos 7) ∷ []), default_state)
+unfolding direction project along
 to_where_it_stands = refl
 
 crossed_before_a_bad_point : alignrp (pos 9 ∷ pos 1 ∷ []) (glyph (point (pos 5) (pos 7) ∷ point (pos 1) (pos 2) ∷ []))
-    (record default_state { free = axis.Y; loops = 2 }) ≡ Err why.Perpendicular
+    (record default_state { free = vector.Y; loops = 2 }) ≡ Err why.Perpendicular
+unfolding direction
 crossed_before_a_bad_point = refl
 
-no_point_no_refusal : alignrp [] (glyph []) (record default_state { free = axis.Y; rp0 = negsuc 0; loops = 0 })
-    ≡ Ok (glyph [], record default_state { free = axis.Y; rp0 = negsuc 0 })
+no_point_no_refusal : alignrp [] (glyph []) (record default_state { free = vector.Y; rp0 = negsuc 0; loops = 0 })
+    ≡ Ok (glyph [], record default_state { free = vector.Y; rp0 = negsuc 0 })
 no_point_no_refusal = refl
 
 along_the_freedom_vector : shpix (pos 0 ∷ []) (negsuc 2) (glyph (point (pos 5) (pos 7) ∷ []))
-    (record default_state { proj = axis.Y })
-    ≡ Ok (glyph (moved_to (pos 5) (pos 4) ∷ []), record default_state { proj = axis.Y })
+    (record default_state { proj = vector.Y; dual = vector.Y })
+    ≡ Ok (glyph (moved_to (pos 5) (pos 4) ∷ []), record default_state { proj = vector.Y; dual = vector.Y })
+unfolding along
 along_the_freedom_vector = refl
+
+-- worked values, along a line that rises by 2 in 1: points where they were and where they are
+abbrev rising : Vector
+rising = vector_of (pair (pos 7327) (pos 14654))
+
+abbrev slightly : Vector
+slightly = vector_of (pair (pos 1256) (pos 16335))
+
+abbrev along_it : GraphicsState
+along_it = record (default_of true) { proj = rising; dual = rising; free = rising }
+
+abbrev at : ℤ → ℤ → Point
+at x y = record { org_x = x; org_y = y; x = x; y = y; touched_x = false; touched_y = false; on = true }
+
+abbrev touched_at : ℤ → ℤ → Point
+touched_at x y = record (at (pos 50) (pos 90)) { x = x; y = y; touched_x = true; touched_y = true }
+
+aligned_along_y : alignrp (pos 1 ∷ []) (glyph (at (pos 100) (pos 200) ∷ at (pos 50) (pos 90) ∷ []))
+    (record along_it { free = vector.Y })
+    ≡ Ok (glyph (at (pos 100) (pos 200) ∷ record (touched_at (pos 50) (pos 225)) { touched_x = false } ∷ []),
+    record along_it { free = vector.Y })
+unfolding direction project vector_of
+aligned_along_y = refl
+
+-- the originals are measured along the dual vector, here the y axis
+between_originals_along_y : ip (pos 2 ∷ [])
+    (glyph (at (pos 0) (pos 0) ∷ record (at (pos 0) (pos 100)) { x = pos 10; y = pos 130 } ∷ at (pos 50) (pos 90) ∷ []))
+    (record (default_of true) { rp2 = pos 1; proj = slightly; dual = vector.Y; free = slightly })
+    ≡ Ok (glyph (at (pos 0) (pos 0) ∷ record (at (pos 0) (pos 100)) { x = pos 10; y = pos 130 }
+    ∷ touched_at (pos 52) (pos 113) ∷ []), record (default_of true) { rp2 = pos 1; proj = slightly; dual = vector.Y; free = slightly })
+unfolding direction project vector_of
+between_originals_along_y = refl
+
+a_pixel_along_it : shpix (pos 0 ∷ []) (pos 64) (glyph (at (pos 50) (pos 90) ∷ [])) along_it
+    ≡ Ok (glyph (touched_at (pos 79) (pos 147) ∷ []), along_it)
+unfolding along vector_of
+a_pixel_along_it = refl

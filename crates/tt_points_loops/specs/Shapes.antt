@@ -1,12 +1,13 @@
 -- No part of the standard: no instruction on several points makes a point or drops one.
-use Rattle.std.proofs.Common.{◌≡◌, ◌∙◌, ℕ, suc, ◌+◌, nat_le, nat_lt, ℤ, ◌-ℤ◌, unsigned_abs, Bool, true, false, ◌&&◌, if◌then◌else◌, List, [], ◌∷◌, length, reverse, Option, Some, None, Result, Ok, Err, IfOk, ap, refl, length-set}
+use Rattle.std.proofs.Common.{◌≡◌, ◌∙◌, ℕ, suc, ◌+◌, nat_le, nat_lt, ℤ, unsigned_abs, Bool, true, false, ◌&&◌, if◌then◌else◌, List, [], ◌∷◌, length, reverse, Option, Some, None, Result, Ok, Err, IfOk, ap, refl, length-set}
 use Rattle.tt_core.specs.Outcomes.{◌>>=◌}
 use Rattle.tt_core.specs.declared.fault.Why.{Why}
 use Rattle.tt_state.specs.declared.graphics_state.GraphicsState.{GraphicsState}
 use Rattle.tt_state.specs.declared.graphics_state.Zone.{Zone}
 use Rattle.tt_state.specs.declared.graphics_state.Zone.TheVariants as zone
 use Rattle.tt_state.specs.declared.point.Point.{Point}
-use Rattle.tt_points_zones.specs.Points.{cur, moved, direction, point_in, points_in, with_point}
+use Rattle.tt_points_zones.specs.Motions.{direction, moved, moved_along}
+use Rattle.tt_points_zones.specs.Points.{point_in, points_in, with_point}
 use Rattle.tt_points_zones.specs.ZoneNumbers.{zone_of}
 use Rattle.tt_points_zones.specs.Zones.{ZoneLists, SameShape, KeepsShape, KeepsShapeBefore}
 use Rattle.tt_points_loops.specs.declared.deltas.DeltaRange.{DeltaRange}
@@ -108,7 +109,7 @@ moved_by : (d : Option ℤ) (g : GraphicsState) (n : ℤ) (z : ZoneLists) → Ke
 moved_by None g n z = same z
 moved_by (Some d) g n z =
     whatever (SameShape z) (point_in g.zp0 n z) _ (λ p.
-    whatever (SameShape z) (direction g) _ (λ axis. put g.zp0 n z (moved axis d p)))
+    whatever (SameShape z) (direction g) _ (λ m. put g.zp0 n z (moved m d p)))
 
 excepted : (range : DeltaRange) (ppem : ℕ) (g : GraphicsState) (pair : ℤ × ℤ) (z : ZoneLists) → KeepsShape z (except range ppem g pair z)
 excepted range ppem g pair z = whatever (SameShape z) (delta_of range (pair.0) ppem g) _ (λ d. moved_by d g (pair.1) z)
@@ -116,14 +117,13 @@ excepted range ppem g pair z = whatever (SameShape z) (delta_of range (pair.0) p
 aligned : (g : GraphicsState) (n : ℤ) (z : ZoneLists) → KeepsShape z (align g n z)
 aligned g n z =
     whatever (SameShape z) (point_in g.zp1 n z) _ (λ p.
-    whatever (SameShape z) (point_in g.zp0 g.rp0 z) _ (λ r.
-    whatever (SameShape z) (direction g) _ (λ axis. put g.zp1 n z (moved axis (cur axis r -ℤ cur axis p) p))))
+    whatever (SameShape z) (point_in g.zp0 g.rp0 z) _ (λ r. put g.zp1 n z (moving.aligned g r p)))
 
 interpolated : (g : GraphicsState) (n : ℤ) (z : ZoneLists) → KeepsShape z (interpolate g n z)
 interpolated g n z = whatever (SameShape z) (point_in g.zp2 n z) _ (λ p. put g.zp2 n z (in_between g z p))
 
 pushed : (amount : ℤ) (g : GraphicsState) (n : ℤ) (z : ZoneLists) → KeepsShape z (push amount g n z)
-pushed amount g n z = whatever (SameShape z) (point_in g.zp2 n z) _ (λ p. put g.zp2 n z (moved g.free amount p))
+pushed amount g n z = whatever (SameShape z) (point_in g.zp2 n z) _ (λ p. put g.zp2 n z (moved_along g.free amount p))
 
 turned : (n : ℤ) (z : ZoneLists) → KeepsShape z (flip n z)
 turned n z = whatever (SameShape z) (point_in zone.Glyph n z) _ (λ p. put_one zone.Glyph n (flipped p) z)

@@ -6,16 +6,19 @@ use Rattle.std.specs.Ordering.{int_eq}
 use Rattle.tt_core.specs.Outcomes.{◌>>=◌}
 use Rattle.tt_core.specs.declared.fault.Why.{Why}
 use Rattle.tt_core.specs.declared.fault.Why.TheVariants as why
-use Rattle.tt_state.specs.GraphicsState.{default_state}
-use Rattle.tt_state.specs.declared.graphics_state.Axis.{Axis}
-use Rattle.tt_state.specs.declared.graphics_state.Axis.TheVariants as axis
+use Rattle.tt_state.specs.GraphicsState.{default_of, default_state}
 use Rattle.tt_state.specs.declared.graphics_state.GraphicsState.{GraphicsState}
 use Rattle.tt_state.specs.declared.graphics_state.Zone.{Zone}
 use Rattle.tt_state.specs.declared.graphics_state.Zone.TheVariants as zone
 use Rattle.tt_state.specs.declared.point.Point.{Point}
-use Rattle.tt_points_zones.specs.Points.{cur, org, shifted, moved, direction, points_in, point_in, with_point}
+use Rattle.tt_state.specs.declared.vector.Vector.TheVariants as vector
+use Rattle.tt_state.specs.Axes.{vector_of}
+use Rattle.tt_state.specs.Vectors.{pair, project}
+use Rattle.tt_points_zones.specs.Motions.{direction, offset, shifted, moved}
+use Rattle.tt_points_zones.specs.Points.{points_in, point_in, with_point}
 use Rattle.tt_points_zones.specs.ZoneNumbers.{zone_of}
 use Rattle.tt_points_zones.specs.Zones.{ZoneLists}
+use Rattle.tt_points_zones.specs.declared.motion.Motion.{Motion}
 use Rattle.tt_points_loops.specs.declared.shifting.ReferencePoint.{ReferencePoint}
 use Rattle.tt_points_loops.specs.declared.shifting.ReferencePoint.TheVariants as by
 use Rattle.tt_points_loops.specs.Series.{each_from_to, looped}
@@ -32,19 +35,15 @@ reference_number by.Rp2 g = g.rp2
 abbrev pub reference : ReferencePoint → GraphicsState → ZoneLists → Result Point Why
 reference which g z = point_in (reference_zone which g) (reference_number which g) z
 
--- how far a point stands from where it stood
-abbrev pub offset : Axis → Point → ℤ
-offset axis r = cur axis r -ℤ org axis r
+-- a point moved as far as a reference point stands from where it stood, or only put there, as touched as it was
+abbrev pub moved_as : Motion → Point → Point → Result Point Why
+moved_as m r p = moved m (offset m r) p
 
--- a point moved as far as a reference point, or only put there, as touched as it was
-abbrev pub moved_as : Axis → Point → Point → Result Point Why
-moved_as axis r p = moved axis (offset axis r) p
-
-abbrev pub shifted_as : Axis → Point → Point → Result Point Why
-shifted_as axis r p = shifted axis (offset axis r) p
+abbrev pub shifted_as : Motion → Point → Point → Result Point Why
+shifted_as m r p = shifted m (offset m r) p
 
 abbrev pub follow : Bool → GraphicsState → Point → Point → Result Point Why
-follow touch g r p = direction g >>= λ axis. if touch then moved_as axis r p else shifted_as axis r p
+follow touch g r p = direction g >>= λ m. if touch then moved_as m r p else shifted_as m r p
 
 -- SHP: points of zp2 are moved as far as the reference point stood from its place before the first of them was moved
 abbrev pub shift : GraphicsState → Result Point Why → ℤ → ZoneLists → Result ZoneLists Why
@@ -127,17 +126,19 @@ glyph ps = record { twilight = []; glyph = ps; contours = (0, 2) ∷ [] }
 -- rp2 itself is among the points: it is moved, and the next point by no more than before
 taken_once : shp by.Rp2 (pos 1 ∷ pos 0 ∷ []) (glyph (point (pos 5) (pos 7) ∷ point (pos 1) (pos 2) ∷ [])) default_state
     ≡ Ok (glyph (moved_to (pos 5) (pos 9) ∷ moved_to (pos 1) (pos 4) ∷ []), default_state)
+unfolding direction project
 taken_once = refl
 
 all_but_the_reference : shc by.Rp2 (pos 0)
     (glyph (point (pos 5) (pos 7) ∷ point (pos 1) (pos 2) ∷ point (pos 1) (pos 2) ∷ [])) default_state
     ≡ Ok (glyph (point (pos 5) (pos 7) ∷ moved_to (pos 1) (pos 4) ∷ point (pos 1) (pos 2) ∷ []))
+unfolding direction project
 all_but_the_reference = refl
 
 untouched : shz by.Rp1 (pos 1)
     (glyph (point (pos 5) (pos 7) ∷ point (pos 1) (pos 2) ∷ point (pos 1) (pos 2) ∷ [])) default_state
     ≡ Ok (glyph (point (pos 5) (pos 7) ∷ point (pos 1) (pos 4) ∷ point (pos 1) (pos 2) ∷ []))
-unfolding shz
+unfolding shz direction project
 untouched = refl
 
 no_contour_one : shc by.Rp2 (pos 1) (glyph []) (record default_state { rp2 = negsuc 0 }) ≡ Err why.ContourRange
@@ -148,6 +149,24 @@ unfolding shz
 no_reference = refl
 
 nothing_to_move : shc by.Rp2 (pos 0) (glyph (point (pos 5) (pos 7) ∷ []))
-    (record default_state { zp2 = zone.Twilight; free = axis.Y })
+    (record default_state { zp2 = zone.Twilight; free = vector.Y })
     ≡ Ok (glyph (point (pos 5) (pos 7) ∷ []))
 nothing_to_move = refl
+
+-- a reference point that stood at (0, 100) and stands at (10, 130), along a line that rises by 2 in 1
+abbrev along_a_line : GraphicsState
+along_a_line =
+    let rising = vector_of (pair (pos 7327) (pos 14654)) in
+    record (default_of true) { proj = rising; dual = rising; free = rising; rp2 = pos 1 }
+
+abbrev moved_reference : Point
+moved_reference = record (point (pos 0) (pos 10)) { org_y = pos 100; y = pos 130 }
+
+abbrev its_follower : Point
+its_follower = record (point (pos 50) (pos 50)) { org_y = pos 90; y = pos 90 }
+
+along_both_axes : shp by.Rp2 (pos 0 ∷ []) (glyph (its_follower ∷ moved_reference ∷ [])) along_a_line
+    ≡ Ok (glyph (record its_follower { x = pos 64; y = pos 118; touched_x = true; touched_y = true }
+    ∷ moved_reference ∷ []), along_a_line)
+unfolding direction project vector_of
+along_both_axes = refl

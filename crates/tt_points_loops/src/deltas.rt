@@ -7,7 +7,7 @@ ghost use Rattle.tt_points_loops.specs.Deltas as is;
 ghost use Rattle.tt_points_zones.specs.Zones.{IsZones, zones_view};
 
 use tt_core::Why;
-use tt_points_zones::{Zones, direction, moved};
+use tt_points_zones::{Motion, Zones, may_move};
 use tt_state::GraphicsState;
 
 /// Which 16 sizes above the delta base an instruction is for: DELTAP1 and DELTAC1 have the first ones.
@@ -109,8 +109,9 @@ fn move_by(zones: &mut Zones, state: &GraphicsState, d: i32, n: i32) -> Result<(
     ensures zones { IsZones (zones_view zones.new) }
 {
     let p = zones.point(state.zp0, n)?;
-    let axis = direction(state)?;
-    let q = moved(p, axis, i64::from(d))?;
+    may_move(state)?;
+    let motion = Motion::of(state);
+    let q = motion.moved(p, i64::from(d))?;
     zones.set(state.zp0, n, q);
     Ok(())
 }

@@ -1,38 +1,47 @@
 //! Points moved one by one: ALIGNRP, IP, SHPIX. Apple TrueType Reference Manual, "Instruction set": managing outlines.
 //! Distances are in 26.6 pixels.
 
-ghost use Rattle.std.specs.Prelude.{◌≡◌, ◌^◌, ◌<◌, ◌≤◌, reverse, unsigned_abs, IfOk, ◌-ℤ◌, ◌*ℤ◌, ◌+ℤ◌};
+ghost use Rattle.std.specs.Prelude.{◌≡◌, ◌^◌, ◌<◌, ◌≤◌, reverse, unsigned_abs, IfOk, ◌-ℤ◌};
 ghost use Rattle.tt_core.specs.Outcomes.{Gives};
 ghost use Rattle.tt_points_loops.specs.Moving as is;
 ghost use Rattle.tt_points_loops.specs.Series.{one_by_one};
-ghost use Rattle.tt_points_zones.specs.Points as point;
-ghost use Rattle.tt_points_zones.specs.Points.{cur};
+ghost use Rattle.tt_points_zones.specs.Motions as motion;
 ghost use Rattle.tt_points_zones.specs.Zones.{IsPoint, IsZones, zones_view};
 
 use tt_core::{Why, rq};
-use tt_points_zones::{
-    Distance, Zones, cur, current_distance, direction, moved, original_distance, product,
-};
-use tt_state::{Axis, GraphicsState, Point};
+use tt_points_zones::{Distance, Motion, Zones, may_move, product};
+use tt_state::{GraphicsState, Point};
 
-/// Errors: ValueRange.
-fn moved_by(p: Point, axis: Axis, by: Distance) -> Result<Point, Why>
+/// A distance that a point is moved by. Error: ValueRange.
+fn moved_by(p: Point, m: &Motion, by: Distance) -> Result<Point, Why>
     requires point { IsPoint p }
-    requires small { unsigned_abs by.0 < 2 ^ 60 }
-    ensures exact { Gives (λ q. q) result (point.moved axis by.0 p) }
+    requires small { unsigned_abs by.0 < 2 ^ 47 }
+    ensures exact { Gives (λ q. q) result (motion.moved m.now by.0 p) }
     ensures valid { IfOk result IsPoint }
 {
-    moved(p, axis, by.0)
+    m.moved(p, by.0)
 }
 
-/// The point moved to where another stands.
-fn aligned(p: Point, r: Point, axis: Axis) -> Result<Point, Why>
+/// The point moved to where another stands. Error: ValueRange.
+fn moved_to(p: Point, r: Point, m: &Motion) -> Result<Point, Why>
     requires p { IsPoint p }
     requires r { IsPoint r }
-    ensures exact { Gives (λ q. q) result (point.moved axis (cur axis r -ℤ cur axis p) p) }
+    ensures exact { Gives (λ q. q) result (motion.moved m.now (motion.current_distance m.now p r) p) }
     ensures valid { IfOk result IsPoint }
 {
-    moved_by(p, axis, current_distance(p, r, axis))
+    moved_by(p, m, m.current_distance(p, r))
+}
+
+/// The same by the vectors of the graphics state. Errors: Perpendicular, ValueRange.
+fn aligned(p: Point, r: Point, state: &GraphicsState) -> Result<Point, Why>
+    requires p { IsPoint p }
+    requires r { IsPoint r }
+    ensures exact { Gives (λ q. q) result (is.aligned state.now r p) }
+    ensures valid { IfOk result IsPoint }
+{
+    may_move(state)?;
+    let motion = Motion::of(state);
+    moved_to(p, r, &motion)
 }
 
 /// A point of zp1 is moved to rp0.
@@ -43,8 +52,7 @@ fn align(zones: &mut Zones, state: &GraphicsState, n: i32) -> Result<(), Why>
 {
     let p = zones.point(state.zp1, n)?;
     let reference = zones.point(state.zp0, state.rp0)?;
-    let axis = direction(state)?;
-    let moved = aligned(p, reference, axis)?;
+    let moved = aligned(p, reference, state)?;
     zones.set(state.zp1, n, moved);
     Ok(())
 }
@@ -61,7 +69,7 @@ fn align_all(zones: &mut Zones, state: &GraphicsState, numbers: &[i32]) -> Resul
     Ok(())
 }
 
-/// ALIGNRP[]: loop points of zp1 -> each is moved to the coordinate of rp0, in zp0. Errors: PointRange,
+/// ALIGNRP[]: loop points of zp1 -> each is moved to where rp0, in zp0, stands. Errors: PointRange,
 /// Perpendicular, ValueRange.
 pub fn alignrp(zones: &mut Zones, state: &mut GraphicsState, numbers: &[i32]) -> Result<(), Why>
     requires zones { IsZones (zones_view zones.old) }
@@ -76,11 +84,11 @@ pub fn alignrp(zones: &mut Zones, state: &mut GraphicsState, numbers: &[i32]) ->
 
 /// A distance in the proportion in which a range was stretched; the same where the range was 0.
 fn stretched(o: Distance, range: Distance, now: Distance) -> Distance
-    requires o { unsigned_abs o.0 < 2 ^ 22 }
-    requires range { unsigned_abs range.0 < 2 ^ 22 }
-    requires now { unsigned_abs now.0 < 2 ^ 22 }
+    requires o { unsigned_abs o.0 < 2 ^ 23 }
+    requires range { unsigned_abs range.0 < 2 ^ 23 }
+    requires now { unsigned_abs now.0 < 2 ^ 23 }
     ensures exact { result.0 ≡ is.stretched o.0 range.0 now.0 }
-    ensures bound { unsigned_abs result.0 < 2 ^ 44 }
+    ensures bound { unsigned_abs result.0 < 2 ^ 46 }
 {
     if range.0 == 0 {
         return o;
@@ -88,56 +96,47 @@ fn stretched(o: Distance, range: Distance, now: Distance) -> Distance
     Distance(rq(product(o, now), range.0))
 }
 
-fn sum(a: i32, b: Distance) -> Distance
-    requires a { unsigned_abs a < 2 ^ 21 }
-    requires b { unsigned_abs b.0 < 2 ^ 44 }
-    ensures exact { result.0 ≡ a +ℤ b.0 }
-    ensures bound { unsigned_abs result.0 < 2 ^ 45 }
+fn difference(a: Distance, b: Distance) -> Distance
+    requires a { unsigned_abs a.0 < 2 ^ 46 }
+    requires b { unsigned_abs b.0 < 2 ^ 23 }
+    ensures exact { result.0 ≡ a.0 -ℤ b.0 }
+    ensures bound { unsigned_abs result.0 < 2 ^ 47 }
 {
-    Distance(i64::from(a) + b.0)
+    Distance(a.0 - b.0)
 }
 
-fn difference(a: Distance, b: i32) -> Distance
-    requires a { unsigned_abs a.0 < 2 ^ 45 }
-    requires b { unsigned_abs b < 2 ^ 21 }
-    ensures exact { result.0 ≡ a.0 -ℤ b }
+/// How far from the first of two others a point stands that keeps its place between them.
+fn interpolated(p: Point, a: Point, b: Point, m: &Motion) -> Distance
+    requires p { IsPoint p }
+    requires a { IsPoint a }
+    requires b { IsPoint b }
+    ensures exact { result.0 ≡ is.interpolated m.now a b p }
     ensures bound { unsigned_abs result.0 < 2 ^ 46 }
 {
-    Distance(a.0 - i64::from(b))
+    stretched(
+        m.original_distance(a, p),
+        m.original_distance(a, b),
+        m.current_distance(a, b),
+    )
 }
 
-/// Where a point stands that keeps its place between two others.
-fn interpolated(p: Point, a: Point, b: Point, axis: Axis) -> Distance
+/// The point moved to where it keeps its place between two others.
+fn moved_between(p: Point, a: Point, b: Point, m: &Motion) -> Result<Point, Why>
     requires p { IsPoint p }
     requires a { IsPoint a }
     requires b { IsPoint b }
-    ensures exact { result.0 ≡ is.interpolated axis a b p }
-    ensures bound { unsigned_abs result.0 < 2 ^ 45 }
-{
-    let from_a = stretched(
-        original_distance(a, p, axis),
-        original_distance(a, b, axis),
-        current_distance(a, b, axis),
-    );
-    sum(cur(a, axis), from_a)
-}
-
-/// The point moved along an axis to where it keeps its place between two others.
-fn moved_between(p: Point, a: Point, b: Point, axis: Axis) -> Result<Point, Why>
-    requires p { IsPoint p }
-    requires a { IsPoint a }
-    requires b { IsPoint b }
-    ensures exact { Gives (λ q. q) result (point.moved axis (is.interpolated axis a b p -ℤ cur axis p) p) }
+    ensures exact { Gives (λ q. q) result
+        (motion.moved m.now (is.interpolated m.now a b p -ℤ motion.current_distance m.now a p) p) }
     ensures valid { IfOk result IsPoint }
 {
     moved_by(
         p,
-        axis,
-        difference(interpolated(p, a, b, axis), cur(p, axis)),
+        m,
+        difference(interpolated(p, a, b, m), m.current_distance(a, p)),
     )
 }
 
-/// The same along the vectors. Errors: Perpendicular, ValueRange.
+/// The same by the vectors of the graphics state. Errors: Perpendicular, ValueRange.
 fn kept_between(p: Point, a: Point, b: Point, state: &GraphicsState) -> Result<Point, Why>
     requires p { IsPoint p }
     requires a { IsPoint a }
@@ -145,7 +144,9 @@ fn kept_between(p: Point, a: Point, b: Point, state: &GraphicsState) -> Result<P
     ensures exact { Gives (λ q. q) result (is.kept_between state.now a b p) }
     ensures valid { IfOk result IsPoint }
 {
-    moved_between(p, a, b, direction(state)?)
+    may_move(state)?;
+    let motion = Motion::of(state);
+    moved_between(p, a, b, &motion)
 }
 
 /// The point moved to where it keeps its place between rp1 and rp2. Errors: PointRange, Perpendicular, ValueRange.
@@ -200,17 +201,17 @@ pub fn ip(zones: &mut Zones, state: &mut GraphicsState, numbers: &[i32]) -> Resu
 /// The point moved along the freedom vector.
 fn pushed(p: Point, by: Distance, state: &GraphicsState) -> Result<Point, Why>
     requires point { IsPoint p }
-    requires small { unsigned_abs by.0 < 2 ^ 60 }
-    ensures exact { Gives (λ q. q) result (point.moved state.now.free by.0 p) }
+    requires small { unsigned_abs by.0 ≤ 2 ^ 32 }
+    ensures exact { Gives (λ q. q) result (motion.moved_along state.now.free by.0 p) }
     ensures valid { IfOk result IsPoint }
 {
-    moved_by(p, state.free, by)
+    Motion::of(state).moved_along(p, by.0)
 }
 
 /// A point of zp2 is moved along the freedom vector.
 fn push(zones: &mut Zones, state: &GraphicsState, by: Distance, n: i32) -> Result<(), Why>
     requires zones { IsZones (zones_view zones.old) }
-    requires small { unsigned_abs by.0 < 2 ^ 60 }
+    requires small { unsigned_abs by.0 ≤ 2 ^ 32 }
     ensures exact { Gives (λ u. zones_view zones.new) result (is.push by.0 state.now n (zones_view zones.old)) }
     ensures zones { IsZones (zones_view zones.new) }
 {
@@ -227,7 +228,7 @@ fn push_all(
     numbers: &[i32],
 ) -> Result<(), Why>
     requires zones { IsZones (zones_view zones.old) }
-    requires small { unsigned_abs by.0 < 2 ^ 60 }
+    requires small { unsigned_abs by.0 ≤ 2 ^ 32 }
     ensures exact { Gives (λ u. zones_view zones.new) result
         (one_by_one (is.push by.0 state.now) (reverse numbers.now) (zones_view zones.old)) }
     ensures zones { IsZones (zones_view zones.new) }

@@ -1,17 +1,17 @@
 //! Points that follow a reference point: SHP, SHC, SHZ. Apple TrueType Reference Manual, "Instruction set": managing
 //! outlines. Distances are in 26.6 pixels.
 
-ghost use Rattle.std.specs.Prelude.{◌≡◌, ℕ, ◌<◌, ◌≤◌, ◌^◌, ◌-ℤ◌, ◌≤ℤ◌, pos, All, IfOk, length, reverse, unsigned_abs};
+ghost use Rattle.std.specs.Prelude.{◌≡◌, ℕ, ◌≤◌, ◌≤ℤ◌, pos, All, IfOk, length, reverse};
 ghost use Rattle.tt_core.specs.Outcomes.{Gives};
 ghost use Rattle.tt_points_loops.specs.Series.{each_from_to, one_by_one};
 ghost use Rattle.tt_points_loops.specs.Shifting as is;
-ghost use Rattle.tt_points_zones.specs.Points.{cur, org, points_in};
+ghost use Rattle.tt_points_zones.specs.Points.{points_in};
 ghost use Rattle.tt_points_zones.specs.Zones.{AreContours, IsPoint, IsZones, zones_view};
 ghost use Rattle.tt_state.specs.declared.graphics_state.Zone.TheVariants as zone;
 
 use tt_core::Why;
-use tt_points_zones::{Zones, cur, direction, moved, org, shifted, zone_of};
-use tt_state::{Axis, GraphicsState, Point, Zone};
+use tt_points_zones::{Motion, Zones, may_move, zone_of};
+use tt_state::{GraphicsState, Point, Zone};
 
 /// Which reference point others follow.
 #[derive(Clone, Copy)]
@@ -50,42 +50,24 @@ fn reference(zones: &Zones, state: &GraphicsState, which: ReferencePoint) -> Res
     zones.point(reference_zone(state, which), reference_number(state, which))
 }
 
-fn difference(to: i32, from: i32) -> i64
-    requires to { unsigned_abs to < 2 ^ 21 }
-    requires from { unsigned_abs from < 2 ^ 21 }
-    ensures exact { result ≡ to -ℤ from }
-    ensures bound { unsigned_abs result < 2 ^ 22 }
-{
-    i64::from(to) - i64::from(from)
-}
-
-/// How far a point stands from where it stood.
-fn offset(r: Point, axis: Axis) -> i64
-    requires { IsPoint r }
-    ensures exact { result ≡ is.offset axis r }
-    ensures bound { unsigned_abs result < 2 ^ 22 }
-{
-    difference(cur(r, axis), org(r, axis))
-}
-
-/// The point moved as far as a reference point.
-fn moved_as(p: Point, r: Point, axis: Axis) -> Result<Point, Why>
+/// The point moved as far as a reference point stands from where it stood.
+fn moved_as(p: Point, r: Point, m: &Motion) -> Result<Point, Why>
     requires p { IsPoint p }
     requires r { IsPoint r }
-    ensures exact { Gives (λ q. q) result (is.moved_as axis r p) }
+    ensures exact { Gives (λ q. q) result (is.moved_as m.now r p) }
     ensures valid { IfOk result IsPoint }
 {
-    moved(p, axis, offset(r, axis))
+    m.moved(p, m.offset(r))
 }
 
 /// The same, as touched as it was.
-fn shifted_as(p: Point, r: Point, axis: Axis) -> Result<Point, Why>
+fn shifted_as(p: Point, r: Point, m: &Motion) -> Result<Point, Why>
     requires p { IsPoint p }
     requires r { IsPoint r }
-    ensures exact { Gives (λ q. q) result (is.shifted_as axis r p) }
+    ensures exact { Gives (λ q. q) result (is.shifted_as m.now r p) }
     ensures valid { IfOk result IsPoint }
 {
-    shifted(p, axis, offset(r, axis))
+    m.shifted(p, m.offset(r))
 }
 
 /// The point that follows a reference point, touched by it or not. Errors: Perpendicular, ValueRange.
@@ -95,11 +77,12 @@ fn follow(p: Point, r: Point, touch: bool, state: &GraphicsState) -> Result<Poin
     ensures exact { Gives (λ q. q) result (is.follow touch state.now r p) }
     ensures valid { IfOk result IsPoint }
 {
-    let axis = direction(state)?;
+    may_move(state)?;
+    let motion = Motion::of(state);
     if touch {
-        moved_as(p, r, axis)
+        moved_as(p, r, &motion)
     } else {
-        shifted_as(p, r, axis)
+        shifted_as(p, r, &motion)
     }
 }
 

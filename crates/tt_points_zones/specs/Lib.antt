@@ -1,3 +1,4 @@
+pub mod WithAll
 pub mod Zones
 pub mod Points
 pub mod ZoneNumbers

@@ -19,10 +19,10 @@ pub fn distance_between(from: i32, to: i32) -> Distance
 
 /// `a * b`.
 pub fn product(a: Distance, b: Distance) -> i64
-    requires a { unsigned_abs a.0 < 2 ^ 22 }
-    requires b { unsigned_abs b.0 < 2 ^ 22 }
+    requires a { unsigned_abs a.0 < 2 ^ 23 }
+    requires b { unsigned_abs b.0 < 2 ^ 23 }
     ensures exact { result ≡ a.0 *ℤ b.0 }
-    ensures few { unsigned_abs result < 2 ^ 44 }
+    ensures few { unsigned_abs result < 2 ^ 46 }
 {
     a.0 * b.0
 }

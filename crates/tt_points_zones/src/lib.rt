@@ -12,7 +12,7 @@ mod zones;
 
 pub use distances::{Distance, distance_between, product};
 pub use meeting::{Line, Place, met};
-pub use motion::{Motion, direction};
+pub use motion::{Motion, may_move};
 pub use points::{cur, is_coordinate, is_touched, org, put};
 pub use zone_numbers::zone_of;
 pub use zones::Zones;

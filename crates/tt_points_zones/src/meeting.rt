@@ -47,7 +47,7 @@ fn way_between(from: Place, to: Place) -> Way
 #[tactic(auto, unfolding(crate::specs::Meeting::cross))]
 fn cross(a: Way, b: Way) -> i64
     ensures exact { result ≡ is.cross (way_view a) (way_view b) }
-    ensures few { unsigned_abs result < 2 ^ 45 }
+    ensures few { unsigned_abs result < 2 ^ 47 }
 {
     product(a.x, b.y) - product(a.y, b.x)
 }
@@ -55,7 +55,7 @@ fn cross(a: Way, b: Way) -> i64
 #[tactic(auto, unfolding(crate::specs::Meeting::dot))]
 fn dot(a: Way, b: Way) -> i64
     ensures exact { result ≡ is.dot (way_view a) (way_view b) }
-    ensures few { unsigned_abs result < 2 ^ 45 }
+    ensures few { unsigned_abs result < 2 ^ 47 }
 {
     product(a.x, b.x) + product(a.y, b.y)
 }
@@ -72,17 +72,17 @@ fn are_parallel(a: Way, b: Way) -> bool
 
 /// `n * d`, past 64 bits.
 fn long_product(n: i64, d: Distance) -> i128
-    requires n { unsigned_abs n < 2 ^ 45 }
+    requires n { unsigned_abs n < 2 ^ 47 }
     requires d { unsigned_abs d.0 < 2 ^ 22 }
     ensures exact { result ≡ n *ℤ d.0 }
-    ensures few { unsigned_abs result < 2 ^ 67 }
+    ensures few { unsigned_abs result < 2 ^ 69 }
 {
     i128::from(n) * i128::from(d.0)
 }
 
 fn long_nearest(n: i128, d: i128) -> i128
-    requires numerator { unsigned_abs n < 2 ^ 67 }
-    requires denominator { unsigned_abs d < 2 ^ 45 }
+    requires numerator { unsigned_abs n < 2 ^ 69 }
+    requires denominator { unsigned_abs d < 2 ^ 47 }
     requires positive { pos 0 <ℤ d }
     ensures exact { result ≡ nearest_quotient n d }
     ensures few { unsigned_abs result ≤ unsigned_abs n }
@@ -92,8 +92,8 @@ fn long_nearest(n: i128, d: i128) -> i128
 
 /// `n / d` rounded to the nearest whole number, a half upwards, past 64 bits.
 fn long_rq(n: i128, d: i128) -> i128
-    requires numerator { unsigned_abs n < 2 ^ 67 }
-    requires denominator { unsigned_abs d < 2 ^ 45 }
+    requires numerator { unsigned_abs n < 2 ^ 69 }
+    requires denominator { unsigned_abs d < 2 ^ 47 }
     requires nonzero { d ≢ pos 0 }
     ensures exact { result ≡ rounded_quotient n d }
     ensures few { unsigned_abs result ≤ unsigned_abs n }
@@ -109,14 +109,14 @@ fn long_rq(n: i128, d: i128) -> i128
 fn part_of(way: Distance, part: Fraction) -> i128
     requires { unsigned_abs way.0 < 2 ^ 22 }
     ensures exact { result ≡ rounded_quotient (part.n *ℤ way.0) part.d }
-    ensures few { unsigned_abs result < 2 ^ 67 }
+    ensures few { unsigned_abs result < 2 ^ 69 }
 {
     long_rq(long_product(part.n, way), i128::from(part.d))
 }
 
 /// A coordinate further by `by`.
 fn further(from: i32, by: i128) -> i128
-    requires { unsigned_abs by < 2 ^ 67 }
+    requires { unsigned_abs by < 2 ^ 69 }
     ensures { result ≡ from +ℤ by }
 {
     i128::from(from) + by

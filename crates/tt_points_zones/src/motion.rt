@@ -81,14 +81,14 @@ fn is_same(v: &Vector, w: &Vector) -> bool
     v.x() == w.x() && v.y() == w.y()
 }
 
-/// The vectors by which points are moved. Without the whole instruction set points move along the projection vector
-/// alone. Error: Perpendicular where the freedom vector is another then (profile).
+/// Whether points may be moved by the vectors, `Motion::of`. Without the whole instruction set they move along the
+/// projection vector alone. Error: Perpendicular where the freedom vector is another then (profile).
 #[tactic(auto, unfolding(crate::specs::Motions::direction))]
-pub fn direction(state: &GraphicsState) -> Result<Motion, Why>
-    ensures { Gives (λ m. m) result (is.direction state.now) }
+pub fn may_move(state: &GraphicsState) -> Result<(), Why>
+    ensures { Gives (λ u. is.vectors_of state.now) result (is.direction state.now) }
 {
     if state.whole || is_same(&state.proj, &state.free) {
-        Ok(Motion::of(state))
+        Ok(())
     } else {
         Err(Why::Perpendicular)
     }

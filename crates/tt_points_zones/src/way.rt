@@ -18,7 +18,7 @@ pub(crate) struct Way {
 pub(crate) struct Fraction {
     pub(crate) n: i64,
     pub(crate) d: i64,
-    ghost few_n: { unsigned_abs n < 2 ^ 45 },
-    ghost few_d: { unsigned_abs d < 2 ^ 45 },
+    ghost few_n: { unsigned_abs n < 2 ^ 47 },
+    ghost few_d: { unsigned_abs d < 2 ^ 47 },
     ghost nonzero: { d ≢ pos 0 },
 }

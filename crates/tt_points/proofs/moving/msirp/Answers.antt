@@ -13,7 +13,7 @@ returns-in_err-make-clause-exact c =
     let r = simp to_z-of_z at c.in_ok-r.ensures.exact in
     let d = simp to_z-of_z at c.given-d.ensures.exact in
     let made = rw d at (simp to_z-of_z at c.in_err-make.ensures.exact) in
-    rw (msirp, q, r, c.in_ok-axis.ensures, made) (search rules)
+    rw (msirp, q, r, c.in-Ok.ensures, made) (search rules)
 
 pub returns-in_err-keep_from-clause-exact : goal.returns-in_err-keep_from-clause-exact
 unfolding msirp
@@ -26,4 +26,4 @@ returns-in_err-keep_from-clause-exact c =
     let d = simp to_z-of_z at c.given-d.ensures.exact in
     let made = rw d at (simp to_z-of_z at c.in_ok-make.ensures.exact) in
     let kept = rw d at (simp to_z-of_z at c.in_err-keep_from.ensures.exact) in
-    rw (msirp, q, r, c.in_ok-axis.ensures, made, kept) (search rules)
+    rw (msirp, q, r, c.in-Ok.ensures, made, kept) (search rules)

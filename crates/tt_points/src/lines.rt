@@ -1,0 +1,225 @@
+//! Lines through points: vectors set by them, where two meet, and points aligned. Apple TrueType Reference Manual,
+//! "Instruction Set" (SPVTL, SFVTL, SDPVTL, ISECT, ALIGNPTS). Coordinates are in 26.6 pixels.
+
+ghost use Rattle.std.specs.Prelude.{◌≡◌, ◌<◌, ◌≤◌, ◌*◌, ◌^◌, neg_ℤ, unsigned_abs, IfOk};
+ghost use Rattle.tt_core.specs.Limits.{coordinate_limit};
+ghost use Rattle.tt_core.specs.Outcomes.{Gives};
+ghost use Rattle.tt_points_zones.specs.Meeting.{IsLine, IsPlace};
+ghost use Rattle.tt_points_zones.specs.Zones.{IsPoint, IsZones, zones_view};
+ghost use Rattle.tt_state.specs.Axes.{vector_of};
+ghost use Rattle.tt_points.specs.Lines as is;
+
+use tt_core::Why;
+use tt_points_zones::{Distance, Line, Motion, Place, Zones, direction, met};
+use tt_state::{GraphicsState, Point, Vector, Zone};
+
+/// The numbers of two points, through which a line goes.
+#[derive(Clone, Copy)]
+pub struct Ends {
+    pub from: i32,
+    pub to: i32,
+}
+
+/// Point `p1` of zone pointer 2 and point `p2` of zone pointer 1. Error: PointRange.
+fn two_points(
+    zones: &Zones,
+    state: &GraphicsState,
+    p1: i32,
+    p2: i32,
+) -> Result<(Point, Point), Why>
+    requires { IsZones (zones_view zones.now) }
+    ensures exact { Gives (λ t. t) result (is.two_points p1 p2 (zones_view zones.now) state.now) }
+    ensures first { IfOk result (λ t. IsPoint t.0) }
+    ensures second { IfOk result (λ t. IsPoint t.1) }
+{
+    let a = zones.point(state.zp2, p1)?;
+    let b = zones.point(state.zp1, p2)?;
+    Ok((a, b))
+}
+
+/// The unit vector of the line from where a point stands to where another does, or turned a quarter to the left.
+fn current_line(turned: bool, a: Point, b: Point) -> Vector
+    requires a { IsPoint a }
+    requires b { IsPoint b }
+    ensures { result ≡ is.current_line turned a b }
+{
+    Vector::line((a.x, a.y), (b.x, b.y), turned)
+}
+
+/// The same of where they stood before the program.
+fn original_line(turned: bool, a: Point, b: Point) -> Vector
+    requires a { IsPoint a }
+    requires b { IsPoint b }
+    ensures { result ≡ is.original_line turned a b }
+{
+    Vector::line((a.org_x, a.org_y), (b.org_x, b.org_y), turned)
+}
+
+/// SPVTL[a], 0x06 and 0x07: p2, p1 -> the projection and the dual projection vector lie along the line from point p1 of
+/// zone pointer 2 to point p2 of zone pointer 1, `turned` a quarter to the left. Error: PointRange.
+#[tactic(auto, unfolding(crate::specs::Lines::spvtl))]
+pub fn spvtl(
+    zones: &Zones,
+    state: &mut GraphicsState,
+    turned: bool,
+    p1: i32,
+    p2: i32,
+) -> Result<(), Why>
+    requires { IsZones (zones_view zones.now) }
+    ensures { Gives (λ u. state.new) result (is.spvtl turned p1 p2 (zones_view zones.now) state.old) }
+{
+    let (a, b) = two_points(zones, state, p1, p2)?;
+    state.proj = current_line(turned, a, b);
+    state.dual = state.proj;
+    Ok(())
+}
+
+/// SFVTL[a], 0x08 and 0x09: p2, p1 -> the freedom vector lies along that line, `turned` a quarter to the left. Error:
+/// PointRange.
+#[tactic(auto, unfolding(crate::specs::Lines::sfvtl))]
+pub fn sfvtl(
+    zones: &Zones,
+    state: &mut GraphicsState,
+    turned: bool,
+    p1: i32,
+    p2: i32,
+) -> Result<(), Why>
+    requires { IsZones (zones_view zones.now) }
+    ensures { Gives (λ u. state.new) result (is.sfvtl turned p1 p2 (zones_view zones.now) state.old) }
+{
+    let (a, b) = two_points(zones, state, p1, p2)?;
+    state.free = current_line(turned, a, b);
+    Ok(())
+}
+
+/// SDPVTL[a], 0x86 and 0x87: p2, p1 -> the projection vector lies along that line, and the dual projection vector along
+/// the line on which these points stood before the program, both `turned` a quarter to the left. Where one of the lines
+/// has no length, its vector alone becomes the x axis (profile). Error: PointRange.
+#[tactic(auto, unfolding(crate::specs::Lines::sdpvtl))]
+pub fn sdpvtl(
+    zones: &Zones,
+    state: &mut GraphicsState,
+    turned: bool,
+    p1: i32,
+    p2: i32,
+) -> Result<(), Why>
+    requires { IsZones (zones_view zones.now) }
+    ensures { Gives (λ u. state.new) result (is.sdpvtl turned p1 p2 (zones_view zones.now) state.old) }
+{
+    let (a, b) = two_points(zones, state, p1, p2)?;
+    state.dual = original_line(turned, a, b);
+    state.proj = current_line(turned, a, b);
+    Ok(())
+}
+
+/// Where a point stands.
+fn place_of(q: Point) -> Place
+    requires { IsPoint q }
+    ensures exact { result ≡ is.place_of q }
+    ensures valid { IsPlace result }
+{
+    Place { x: q.x, y: q.y }
+}
+
+/// The line through two points of a zone, as they stand. Error: PointRange, of the second point first.
+fn line_through(zones: &Zones, zone: Zone, ends: Ends) -> Result<Line, Why>
+    requires { IsZones (zones_view zones.now) }
+    ensures exact { Gives (λ l. l) result (is.line_through zone ends (zones_view zones.now)) }
+    ensures valid { IfOk result IsLine }
+{
+    let to = zones.point(zone, ends.to)?;
+    let from = zones.point(zone, ends.from)?;
+    Ok(Line {
+        from: place_of(from),
+        to: place_of(to),
+    })
+}
+
+/// A point put to a place, and touched along both axes.
+fn put_to(q: Point, place: Place) -> Point
+    requires q { IsPoint q }
+    requires place { IsPlace place }
+    ensures exact { result ≡ is.put_to place q }
+    ensures valid { IsPoint result }
+{
+    Point {
+        x: place.x,
+        y: place.y,
+        touched_x: true,
+        touched_y: true,
+        ..q
+    }
+}
+
+/// ISECT[], 0x0F: p, a0, a1, b0, b1 -> point p of zone pointer 2 is put where line a meets line b, and is touched along
+/// both axes, whatever the freedom vector is. Line a goes from point a0 to point a1 of zone pointer 1, line b from point
+/// b0 to point b1 of zone pointer 0. Where the lines are parallel, or nearly so, the point is put into the middle of
+/// these four. Errors: PointRange of b1, b0, a1, a0, p; ValueRange.
+#[tactic(auto, unfolding(crate::specs::Lines::isect))]
+pub fn isect(
+    zones: &mut Zones,
+    state: &GraphicsState,
+    p: i32,
+    a: Ends,
+    b: Ends,
+) -> Result<(), Why>
+    requires { IsZones (zones_view zones.old) }
+    ensures exact { Gives (λ u. zones_view zones.new) result (is.isect p a b (zones_view zones.old) state.now) }
+    ensures zones { IsZones (zones_view zones.new) }
+{
+    let b = line_through(zones, state.zp0, b)?;
+    let a = line_through(zones, state.zp1, a)?;
+    let q = zones.point(state.zp2, p)?;
+    zones.set(state.zp2, p, put_to(q, met(a, b)?));
+    Ok(())
+}
+
+/// Half a distance, cut toward 0.
+fn half(d: Distance) -> Distance
+    requires { unsigned_abs d.0 ≤ 4 * coordinate_limit }
+    ensures exact { result.0 ≡ is.half d.0 }
+    ensures bound { unsigned_abs result.0 < 2 ^ 23 }
+{
+    Distance(d.0 / 2)
+}
+
+fn opposite(d: Distance) -> Distance
+    requires { unsigned_abs d.0 < 2 ^ 23 }
+    ensures exact { result.0 ≡ neg_ℤ d.0 }
+    ensures bound { unsigned_abs result.0 < 2 ^ 23 }
+{
+    Distance(-d.0)
+}
+
+/// A point moved by its number. Errors: PointRange, ValueRange.
+#[tactic(auto, unfolding(crate::specs::Lines::move_by))]
+fn move_by(zones: &mut Zones, zone: Zone, p: i32, m: &Motion, d: Distance) -> Result<(), Why>
+    requires zones { IsZones (zones_view zones.old) }
+    requires small { unsigned_abs d.0 < 2 ^ 23 }
+    ensures exact { Gives (λ u. zones_view zones.new) result (is.move_by zone p m.now d.0 (zones_view zones.old)) }
+    ensures zones { IsZones (zones_view zones.new) }
+{
+    let q = zones.point(zone, p)?;
+    zones.set(zone, p, m.moved(q, d.0)?);
+    Ok(())
+}
+
+/// ALIGNPTS[], 0x27: p2, p1 -> point p1 of zone pointer 1 and point p2 of zone pointer 0 are moved to the middle between
+/// them, as the projection vector measures it: each by half the distance, cut toward 0. Errors: PointRange of p1, of p2;
+/// Perpendicular, ValueRange.
+#[tactic(auto, unfolding(crate::specs::Lines::alignpts))]
+pub fn alignpts(zones: &mut Zones, state: &GraphicsState, p1: i32, p2: i32) -> Result<(), Why>
+    requires { IsZones (zones_view zones.old) }
+    ensures exact { Gives (λ u. zones_view zones.new) result (is.alignpts p1 p2 (zones_view zones.old) state.now) }
+    ensures zones { IsZones (zones_view zones.new) }
+{
+    let a = zones.point(state.zp1, p1)?;
+    let b = zones.point(state.zp0, p2)?;
+    let m = match direction(state) {
+        Ok(m) => m,
+        Err(why) => return Err(why),
+    };
+    let h = half(m.current_distance(a, b));
+    move_by(zones, state.zp1, p1, &m, h)?;
+    move_by(zones, state.zp0, p2, &m, opposite(h))
+}

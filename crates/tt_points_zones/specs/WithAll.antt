@@ -1,0 +1,52 @@
+-- No part of the standard: what is given without the whole instruction set is given with it too, unless it is a refusal
+-- of what the profile has not.
+use Rattle.std.proofs.Common.{◌≡◌, Bool, true, false, ◌||◌, if◌then◌else◌, Result, Ok, Err, refl}
+use Rattle.tt_core.specs.Outcomes.{◌>>=◌}
+use Rattle.tt_core.specs.declared.fault.Why.{Why}
+use Rattle.tt_core.specs.declared.fault.Why.TheVariants as why
+use Rattle.tt_state.specs.declared.graphics_state.GraphicsState.{GraphicsState}
+use Rattle.tt_points_zones.specs.Motions.{direction, is_same, vectors_of}
+use Rattle.tt_points_zones.specs.declared.motion.Motion.{Motion}
+
+-- a graphics state with the whole instruction set
+abbrev pub with_all : GraphicsState → GraphicsState
+with_all g = record g { whole = true }
+
+-- the refusals that come without the whole instruction set alone
+abbrev pub is_of_profile : Why → Bool
+is_of_profile why.OffProfile = true
+is_of_profile why.Perpendicular = true
+is_of_profile _ = false
+
+-- two answers, without the whole instruction set and with it: the second is the first, changed so, or its refusal
+abbrev pub Stays : {A : Type 0} → (A → A) → Result A Why → Result A Why → Type 0
+Stays all (Ok a) with = with ≡ Ok (all a)
+Stays all (Err e) with = is_of_profile e ≡ false → with ≡ Err e
+
+-- an answer that has nothing of a graphics state
+abbrev pub StaysSame : {A : Type 0} → Result A Why → Result A Why → Type 0
+StaysSame r with = Stays (λ a. a) r with
+
+pub same : {A : Type 0} (r : Result A Why) → StaysSame r r
+same (Ok a) = refl
+same (Err e) = λ other. refl
+
+-- one answer after another
+pub chained : {A B : Type 0} (all : A → A) (more : B → B) (r with : Result A Why) (f g : A → Result B Why)
+    → Stays all r with → ((a : A) → Stays more (f a) (g (all a))) → Stays more (r >>= f) (with >>= g)
+chained all more (Ok a) with f g stays next = rw stays (next a)
+chained all more (Err e) with f g stays next = λ other. rw (stays other) refl
+
+-- an answer after one that has nothing of a graphics state
+pub after : {A B : Type 0} (more : B → B) (r : Result A Why) (f g : A → Result B Why)
+    → ((a : A) → Stays more (f a) (g a)) → Stays more (r >>= f) (r >>= g)
+after more (Ok a) f g next = next a
+after more (Err e) f g next = λ other. refl
+
+permitted : (b : Bool) (m : Motion) → StaysSame (if b then Ok m else Err why.Perpendicular) (Ok m)
+permitted true m = refl
+permitted false m = λ other. absurd cc
+
+pub directed : (g : GraphicsState) → StaysSame (direction g) (direction (with_all g))
+unfolding direction
+directed g = permitted (g.whole || is_same g.proj g.free) (vectors_of g)
