@@ -7,7 +7,8 @@
 The files RUNS.json, one for the machine without the whole instruction set and one for that with it, are not kept here:
 another program made them, an independent model of the whole instruction set that was written from the rules alone. For
 each run they have the parts of the machine, the program, and the parts after it or the fault. This script only writes
-the same values as lines. What a line holds stands at the head of cases.txt.
+the same values as lines. What a line holds stands at the head of cases.txt. Left out and told are runs that begin with
+a point past the limit of coordinates, which no machine has: none of the first file, and 8 of the second.
 """
 import json
 import re
@@ -26,6 +27,9 @@ HEAD_OF_WHOLE = """\
 # crates/tt_test_answers/src/machine.rt. A line `font BASE CODE` is the font program whose functions and instructions the
 # runs after it have.
 """
+
+# The greatest magnitude of a coordinate, in 26.6 pixels.
+LIMIT = 2097151
 
 
 def flags(point):
@@ -56,6 +60,11 @@ def ends(contours):
         assert first == start <= end
         start = end
     return [end for _, end in contours]
+
+
+def is_possible(case):
+    """Returns whether all points with which a run begins are within the limit."""
+    return all(abs(v) <= LIMIT for point in case["twilight"] + case["glyph"] for v in point[:4])
 
 
 def round_state(value):
@@ -114,6 +123,9 @@ def main():
     print(f"font {runs['fpgm_base']} {runs['fpgm']}")
     for case in runs["cases"]:
         name = re.sub(r"\W+", "_", case["name"])
+        if not is_possible(case):
+            print(f"{name} is left out: it begins with a point past the limit", file=sys.stderr)
+            continue
         print(f"{name}|{'whole ' if whole else ''}{question(case)}|{answer(case, whole)}")
 
 
