@@ -7,6 +7,7 @@ use Rattle.tt_state.specs.declared.graphics_state.Zone.{Zone}
 use Rattle.tt_state.specs.declared.graphics_state.Zone.TheVariants as zone
 use Rattle.tt_state.specs.declared.graphics_state.GraphicsState.{GraphicsState}
 use Rattle.tt_state.specs.declared.point.Point.{Point}
+use Rattle.tt_state.specs.declared.vector.Vector.TheVariants as vector
 use Rattle.tt_state.specs.GraphicsState.{default_state}
 use Rattle.tt_state.specs.Rounding.{rounded}
 use Rattle.tt_state.specs.Vectors.{project, along}
@@ -16,6 +17,7 @@ use Rattle.tt_points_zones.specs.Motions.{cur, original_distance, direction, mov
 use Rattle.tt_points_zones.specs.declared.motion.Motion.{Motion}
 use Rattle.tt_points.specs.declared.distances.Keeping.{Keeping}
 use Rattle.tt_points.specs.Distances.{keeping, single_width, rounded_by, spaced_by, flipped, cut_in}
+use Rattle.tt_points.specs.Slanted.{rising, slanted, fourth_at, with_fourth, with_twilight, before, touched_at}
 use Rattle.tt_points.specs.Moving.{kept, referred, zero_and, zero_and_touched}
 use Rattle.tt_points.specs.Twilight.{made, placed, origin}
 use Rattle.tt_points.specs.declared.twilight.Along.TheVariants as by
@@ -106,3 +108,40 @@ a_twilight_point_at_a_distance : mirp (keeping false false false) (pos 0) (pos 1
     ≡ Ok (record (zero_and (pos 0)) { twilight = at_hundred (pos 100) ∷ [] }, to_twilight)
 unfolding mirp made placed chosen_from mirp_distance kept single_width direction project along
 a_twilight_point_at_a_distance = refl
+
+-- along a line that rises by 2 in 1, by a control value of 100
+a_value_along_it : miap true (pos 4) (pos 100) before (slanted rising)
+    ≡ Ok (with_fourth (fourth_at (pos 61) (pos 112) true true), record (slanted rising) { rp0 = pos 4; rp1 = pos 4 })
+unfolding miap set_at miap_distance placed_at direction project
+a_value_along_it = refl
+
+a_distance_along_it : mirp (keeping false false true) (pos 4) (pos 100) before (slanted rising)
+    ≡ Ok (with_fourth (fourth_at (pos 61) (pos 112) true true), record (slanted rising) { rp2 = pos 4 })
+unfolding mirp made chosen_from mirp_distance kept single_width direction project
+a_distance_along_it = refl
+
+a_twilight_point_along_it : miap false (pos 1) (pos 100) before (record (slanted rising) { zp0 = zone.Twilight })
+    ≡ Ok (
+      with_twilight (touched_at (pos 45) (pos 89) (pos 45) (pos 89) true true),
+      record (slanted rising) { zp0 = zone.Twilight; rp0 = pos 1; rp1 = pos 1 },
+    )
+unfolding miap set_at miap_distance placed_at placed direction project along
+a_twilight_point_along_it = refl
+
+-- placed along the freedom vector, and moved to where the projection vector measures 100
+a_twilight_point_moved_on : miap false (pos 1) (pos 100) before (record (slanted vector.X) { zp0 = zone.Twilight })
+    ≡ Ok (
+      with_twilight (touched_at (pos 100) (pos 0) (pos 223) (pos 0) true false),
+      record (slanted vector.X) { zp0 = zone.Twilight; rp0 = pos 1; rp1 = pos 1 },
+    )
+unfolding miap set_at miap_distance placed_at placed direction project along
+a_twilight_point_moved_on = refl
+
+a_twilight_point_at_a_slanted_distance : mirp (keeping false false false) (pos 1) (pos 100) before
+    (record (slanted rising) { zp1 = zone.Twilight })
+    ≡ Ok (
+      with_twilight (touched_at (pos 45) (pos 89) (pos 45) (pos 89) true true),
+      record (slanted rising) { zp1 = zone.Twilight; rp2 = pos 1 },
+    )
+unfolding mirp made placed chosen_from mirp_distance kept single_width direction project along
+a_twilight_point_at_a_slanted_distance = refl

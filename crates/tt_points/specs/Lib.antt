@@ -2,6 +2,7 @@ pub mod Distances
 pub mod Measuring
 pub mod Moving
 pub mod Twilight
+pub mod Slanted
 pub mod ControlValues
 pub mod Lines
 pub mod Shapes

@@ -1,21 +1,26 @@
 -- Apple TrueType Reference Manual, "Instruction Set" (SPVTL, SFVTL, SDPVTL, ISECT, ALIGNPTS): vectors set by the line
 -- through two points, where two lines meet, and points aligned. Coordinates are in 26.6 pixels.
-use Rattle.std.specs.Prelude.{◌≡◌, ℤ, pos, negsuc, neg_ℤ, int_div, Bool, true, false, [], ◌∷◌, Result, Ok, Err, refl}
+use Rattle.std.specs.Prelude.{◌≡◌, ℤ, pos, negsuc, neg_ℤ, int_div, Bool, true, false, Result, Ok, Err, refl}
 use Rattle.tt_core.specs.Outcomes.{◌>>=◌}
 use Rattle.tt_core.specs.declared.fault.Why.{Why}
+use Rattle.tt_core.specs.declared.fault.Why.TheVariants as why
 use Rattle.tt_state.specs.declared.graphics_state.GraphicsState.{GraphicsState}
 use Rattle.tt_state.specs.declared.graphics_state.Zone.{Zone}
 use Rattle.tt_state.specs.declared.point.Point.{Point}
 use Rattle.tt_state.specs.declared.vector.Vector.{Vector}
+use Rattle.tt_state.specs.declared.vector.Vector.TheVariants as vector
 use Rattle.tt_state.specs.Axes.{vector_of}
-use Rattle.tt_state.specs.Vectors.{pair, line}
+use Rattle.tt_state.specs.Vectors.{pair, line, unit, root, project}
+use Rattle.tt_state.specs.GraphicsState.{default_of, default_state}
 use Rattle.tt_points_zones.specs.Zones.{ZoneLists}
 use Rattle.tt_points_zones.specs.Points.{point_in, with_point}
 use Rattle.tt_points_zones.specs.Motions.{current_distance, direction, moved}
-use Rattle.tt_points_zones.specs.Meeting.{met}
+use Rattle.tt_points_zones.specs.Meeting.{met, meeting, are_parallel, crossing, middle, cross, dot}
 use Rattle.tt_points_zones.specs.declared.meeting.Line.{Line}
 use Rattle.tt_points_zones.specs.declared.meeting.Place.{Place}
 use Rattle.tt_points_zones.specs.declared.motion.Motion.{Motion}
+use Rattle.tt_points.specs.Slanted.{rising, across, slanted, touched_at, fourth_at, points, with_fourth, before}
+use Rattle.tt_points.specs.Twilight.{origin}
 use Rattle.tt_points.specs.declared.lines.Ends.{Ends}
 
 -- point p1 of zone pointer 2 and point p2 of zone pointer 1
@@ -73,3 +78,64 @@ unfoldable pub alignpts : ℤ → ℤ → ZoneLists → GraphicsState → Result
 alignpts p1 p2 z g = point_in g.zp1 p1 z >>= λ a. point_in g.zp0 p2 z >>= λ b. direction g >>= λ m.
     move_by g.zp1 p1 m (half (current_distance m a b)) z >>= λ y.
     move_by g.zp0 p2 m (neg_ℤ (half (current_distance m a b))) y
+
+-- worked values: points 0 and 1 lie on a line that rises by 2 in 1
+abbrev all : GraphicsState
+all = default_of true
+
+abbrev off : ℤ → ℤ → Vector
+off x y = vector.Off (pair x y)
+
+upward : spvtl false (pos 0) (pos 1) before all ≡ Ok (record all { proj = rising; dual = rising })
+unfolding spvtl vector_of unit root
+upward = refl
+
+downward : spvtl false (pos 1) (pos 0) before all
+    ≡ Ok (record all { proj = off (negsuc 7326) (negsuc 14653); dual = off (negsuc 7326) (negsuc 14653) })
+unfolding spvtl vector_of unit root
+downward = refl
+
+turned_left : spvtl true (pos 0) (pos 1) before all ≡ Ok (record all { proj = across; dual = across })
+unfolding spvtl vector_of unit root
+turned_left = refl
+
+of_length_0 : spvtl true (pos 1) (pos 1) before all ≡ Ok all
+unfolding spvtl vector_of unit root
+of_length_0 = refl
+
+freedom_turned_left : sfvtl true (pos 2) (pos 3) before all ≡ Ok (record all { free = off (negsuc 11584) (pos 11585) })
+unfolding sfvtl vector_of unit root
+freedom_turned_left = refl
+
+each_line_by_itself : sdpvtl false (pos 0) (pos 5) before all
+    ≡ Ok (record all { proj = off (pos 1256) (pos 16335); dual = vector.Y })
+unfolding sdpvtl vector_of unit root
+each_line_by_itself = refl
+
+both_turned_left : sdpvtl true (pos 0) (pos 5) before all
+    ≡ Ok (record all { proj = off (negsuc 16334) (pos 1256); dual = off (negsuc 16383) (pos 0) })
+unfolding sdpvtl vector_of unit root
+both_turned_left = refl
+
+abbrev ends : ℤ → ℤ → Ends
+ends from to = record { from = from; to = to }
+
+where_lines_meet : isect (pos 4) (ends (pos 0) (pos 1)) (ends (pos 2) (pos 3)) before all
+    ≡ Ok (with_fourth (fourth_at (negsuc 235) (negsuc 471) true true))
+unfolding isect met meeting are_parallel crossing middle cross dot
+where_lines_meet = refl
+
+no_such_line : isect (pos 4) (ends (pos 0) (pos 1)) (ends (pos 2) (pos 6)) before all ≡ Err why.PointRange
+unfolding isect
+no_such_line = refl
+
+aligned_along_it : alignpts (pos 4) (pos 3) before (slanted rising)
+    ≡ Ok (points (touched_at (pos 428) (pos 192) (pos 370) (pos 76) true true)
+    (fourth_at (pos 108) (pos 206) true true) origin)
+unfolding alignpts move_by direction project
+aligned_along_it = refl
+
+refused_before_it_is_moved : alignpts (pos 4) (pos 3) before (record default_state { free = vector.Y })
+    ≡ Err why.Perpendicular
+unfolding alignpts direction
+refused_before_it_is_moved = refl

@@ -16,6 +16,7 @@ use Rattle.tt_points_zones.specs.Motions.{vectors_of, cur, org, current_distance
 use Rattle.tt_points_zones.specs.declared.motion.Motion.{Motion}
 use Rattle.tt_points.specs.declared.measuring.Position.{Position}
 use Rattle.tt_points.specs.declared.measuring.Position.TheVariants as position
+use Rattle.tt_points.specs.Slanted.{rising, slanted, dual_upward, fourth_at, with_fourth, before}
 use Rattle.tt_points.specs.Twilight.{settled_in, origin}
 
 -- where a point stands along the projection vector, or stood along the dual one
@@ -84,3 +85,35 @@ untouched_along_y : utp (pos 0) two_points (record default_state { zp0 = zone.Tw
     ≡ Ok (record two_points { twilight = record (from_to (pos 0) (pos 10)) { touched_y = false } ∷ [] })
 unfolding utp
 untouched_along_y = refl
+
+-- along a line that rises by 2 in 1
+along_it : gc position.Current (pos 4) before (slanted vector.X) ≡ Ok (pos 103)
+unfolding gc project
+along_it = refl
+
+by_the_dual_vector : gc position.Original (pos 5) before dual_upward ≡ Ok (pos 100)
+unfolding gc project
+by_the_dual_vector = refl
+
+apart_along_it : md position.Current (pos 3) (pos 1) before (slanted vector.X) ≡ Ok (pos 140)
+unfolding md project
+apart_along_it = refl
+
+apart_by_the_dual_vector : md position.Original (pos 5) (pos 4) before dual_upward ≡ Ok (pos 10)
+unfolding md project
+apart_by_the_dual_vector = refl
+
+moved_along_x_to_a_coordinate : scfs (pos 4) (pos 128) before (slanted vector.X)
+    ≡ Ok (with_fourth (fourth_at (pos 106) (pos 90) true false))
+unfolding scfs direction project
+moved_along_x_to_a_coordinate = refl
+
+untouched_along_x : utp (pos 4) (with_fourth (fourth_at (pos 50) (pos 90) true true)) (slanted vector.X)
+    ≡ Ok (with_fourth (fourth_at (pos 50) (pos 90) false true))
+unfolding utp
+untouched_along_x = refl
+
+untouched_along_both : utp (pos 4) (with_fourth (fourth_at (pos 50) (pos 90) true true)) (slanted rising)
+    ≡ Ok (with_fourth (fourth_at (pos 50) (pos 90) false false))
+unfolding utp
+untouched_along_both = refl

@@ -4,6 +4,7 @@ use Rattle.std.specs.Prelude.{◌≡◌, ℤ, pos, negsuc, ◌-ℤ◌, Bool, tru
 use Rattle.tt_core.specs.Outcomes.{◌>>=◌}
 use Rattle.tt_core.specs.declared.fault.Why.{Why}
 use Rattle.tt_core.specs.declared.fault.Why.TheVariants as why
+use Rattle.tt_state.specs.declared.graphics_state.Zone.TheVariants as zone
 use Rattle.tt_state.specs.declared.graphics_state.GraphicsState.{GraphicsState}
 use Rattle.tt_state.specs.declared.point.Point.{Point}
 use Rattle.tt_state.specs.declared.vector.Vector.TheVariants as vector
@@ -16,7 +17,8 @@ use Rattle.tt_points_zones.specs.Motions.{cur, current_distance, original_distan
 use Rattle.tt_points_zones.specs.declared.motion.Motion.{Motion}
 use Rattle.tt_points.specs.declared.distances.Keeping.{Keeping}
 use Rattle.tt_points.specs.Distances.{keeping, single_width, rounded_by, spaced_by}
-use Rattle.tt_points.specs.Twilight.{made, origin}
+use Rattle.tt_points.specs.Slanted.{rising, across, slanted, fourth_at, with_fourth, with_twilight, before, touched_at}
+use Rattle.tt_points.specs.Twilight.{made, placed, origin}
 use Rattle.tt_points.specs.declared.twilight.Along.TheVariants as along
 
 -- a point moved so that its distance from another is d
@@ -93,3 +95,48 @@ set_apart : msirp true (pos 1) (negsuc 6) (zero_and (pos 40)) default_state
     ≡ Ok (zero_and_touched (pos 40) (negsuc 6), record default_state { rp0 = pos 1; rp2 = pos 1 })
 unfolding msirp made kept_from kept direction project
 set_apart = refl
+
+-- along a line that rises by 2 in 1
+rounded_along_it : mdap true (pos 4) before (slanted rising)
+    ≡ Ok (with_fourth (fourth_at (pos 61) (pos 112) true true), record (slanted rising) { rp0 = pos 4; rp1 = pos 4 })
+unfolding mdap mdap_distance direction project
+rounded_along_it = refl
+
+rounded_and_moved_along_x : mdap true (pos 4) before (slanted vector.X)
+    ≡ Ok (with_fourth (fourth_at (pos 106) (pos 90) true false), record (slanted vector.X) { rp0 = pos 4; rp1 = pos 4 })
+unfolding mdap mdap_distance direction project
+rounded_and_moved_along_x = refl
+
+rounded_and_moved_along_y : mdap true (pos 4) before (slanted vector.Y)
+    ≡ Ok (with_fourth (fourth_at (pos 50) (pos 118) false true), record (slanted vector.Y) { rp0 = pos 4; rp1 = pos 4 })
+unfolding mdap mdap_distance direction project
+rounded_and_moved_along_y = refl
+
+touched_where_it_is : mdap false (pos 4) before (slanted rising)
+    ≡ Ok (with_fourth (fourth_at (pos 50) (pos 90) true true), record (slanted rising) { rp0 = pos 4; rp1 = pos 4 })
+unfolding mdap mdap_distance direction project
+touched_where_it_is = refl
+
+touched_at_right_angles : mdap false (pos 4) before (slanted across)
+    ≡ Ok (with_fourth (fourth_at (pos 50) (pos 90) true true), record (slanted across) { rp0 = pos 4; rp1 = pos 4 })
+unfolding mdap mdap_distance direction project
+touched_at_right_angles = refl
+
+original_distance_kept : mdrp (keeping false false true) (pos 4) before (slanted rising)
+    ≡ Ok (with_fourth (fourth_at (pos 61) (pos 112) true true), record (slanted rising) { rp2 = pos 4 })
+unfolding mdrp mdrp_distance kept single_width direction project
+original_distance_kept = refl
+
+set_apart_along_it : msirp false (pos 4) (pos 100) before (slanted rising)
+    ≡ Ok (with_fourth (fourth_at (pos 49) (pos 87) true true), record (slanted rising) { rp2 = pos 4 })
+unfolding msirp made kept_from kept direction project
+set_apart_along_it = refl
+
+-- a twilight point whose distance is 64 as the projection vector measures it
+a_twilight_point_set_apart : msirp false (pos 1) (pos 64) before (record (slanted vector.X) { zp1 = zone.Twilight })
+    ≡ Ok (
+      with_twilight (touched_at (pos 143) (pos 0) (pos 143) (pos 0) true false),
+      record (slanted vector.X) { zp1 = zone.Twilight; rp2 = pos 1 },
+    )
+unfolding msirp made placed kept_from kept direction project
+a_twilight_point_set_apart = refl

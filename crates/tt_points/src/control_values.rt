@@ -12,7 +12,7 @@ use crate::distances::{Keeping, cut_in, flipped, given, rounded_by, single_width
 use crate::moving::{kept, refer};
 use crate::twilight::{Along, make, placed};
 use tt_core::Why;
-use tt_points_zones::{Distance, Motion, Zones, direction};
+use tt_points_zones::{Distance, Motion, Zones, may_move};
 use tt_state::{GraphicsState, Point, Zone};
 
 /// Where both coordinates are 0.
@@ -109,13 +109,11 @@ pub fn miap(
     ensures zones { IsZones (zones_view zones.new) }
 {
     let q = zones.point(state.zp0, p)?;
-    let m = match direction(state) {
-        Ok(m) => m,
-        Err(why) => return Err(why),
-    };
+    may_move(state)?;
+    let motion = Motion::of(state);
     let c = given(c);
-    let q = placed_at(state.zp0, q, &m, c)?;
-    zones.set(state.zp0, p, set_at(round, state, q, &m, c)?);
+    let q = placed_at(state.zp0, q, &motion, c)?;
+    zones.set(state.zp0, p, set_at(round, state, q, &motion, c)?);
     state.rp0 = p;
     state.rp1 = p;
     Ok(())
@@ -211,13 +209,11 @@ pub fn mirp(
 {
     zones.point(state.zp1, p)?;
     let r = zones.point(state.zp0, state.rp0)?;
-    let m = match direction(state) {
-        Ok(m) => m,
-        Err(why) => return Err(why),
-    };
+    may_move(state)?;
+    let motion = Motion::of(state);
     let c = single_width_of(state, c);
-    make(zones, state.zp1, p, &m, Along::Freedom, c, r)?;
-    choose_from(zones, state, keeping, p, &m, c)?;
+    make(zones, state.zp1, p, &motion, Along::Freedom, c, r)?;
+    choose_from(zones, state, keeping, p, &motion, c)?;
     refer(state, keeping.set_rp0, p);
     Ok(())
 }

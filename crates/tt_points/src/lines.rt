@@ -10,7 +10,7 @@ ghost use Rattle.tt_state.specs.Axes.{vector_of};
 ghost use Rattle.tt_points.specs.Lines as is;
 
 use tt_core::Why;
-use tt_points_zones::{Distance, Line, Motion, Place, Zones, direction, met};
+use tt_points_zones::{Distance, Line, Motion, Place, Zones, may_move, met};
 use tt_state::{GraphicsState, Point, Vector, Zone};
 
 /// The numbers of two points, through which a line goes.
@@ -21,12 +21,7 @@ pub struct Ends {
 }
 
 /// Point `p1` of zone pointer 2 and point `p2` of zone pointer 1. Error: PointRange.
-fn two_points(
-    zones: &Zones,
-    state: &GraphicsState,
-    p1: i32,
-    p2: i32,
-) -> Result<(Point, Point), Why>
+fn two_points(zones: &Zones, state: &GraphicsState, p1: i32, p2: i32) -> Result<(Point, Point), Why>
     requires { IsZones (zones_view zones.now) }
     ensures exact { Gives (λ t. t) result (is.two_points p1 p2 (zones_view zones.now) state.now) }
     ensures first { IfOk result (λ t. IsPoint t.0) }
@@ -156,13 +151,7 @@ fn put_to(q: Point, place: Place) -> Point
 /// b0 to point b1 of zone pointer 0. Where the lines are parallel, or nearly so, the point is put into the middle of
 /// these four. Errors: PointRange of b1, b0, a1, a0, p; ValueRange.
 #[tactic(auto, unfolding(crate::specs::Lines::isect))]
-pub fn isect(
-    zones: &mut Zones,
-    state: &GraphicsState,
-    p: i32,
-    a: Ends,
-    b: Ends,
-) -> Result<(), Why>
+pub fn isect(zones: &mut Zones, state: &GraphicsState, p: i32, a: Ends, b: Ends) -> Result<(), Why>
     requires { IsZones (zones_view zones.old) }
     ensures exact { Gives (λ u. zones_view zones.new) result (is.isect p a b (zones_view zones.old) state.now) }
     ensures zones { IsZones (zones_view zones.new) }
@@ -215,11 +204,9 @@ pub fn alignpts(zones: &mut Zones, state: &GraphicsState, p1: i32, p2: i32) -> R
 {
     let a = zones.point(state.zp1, p1)?;
     let b = zones.point(state.zp0, p2)?;
-    let m = match direction(state) {
-        Ok(m) => m,
-        Err(why) => return Err(why),
-    };
-    let h = half(m.current_distance(a, b));
-    move_by(zones, state.zp1, p1, &m, h)?;
-    move_by(zones, state.zp0, p2, &m, opposite(h))
+    may_move(state)?;
+    let motion = Motion::of(state);
+    let h = half(motion.current_distance(a, b));
+    move_by(zones, state.zp1, p1, &motion, h)?;
+    move_by(zones, state.zp0, p2, &motion, opposite(h))
 }

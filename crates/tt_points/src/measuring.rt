@@ -10,7 +10,7 @@ ghost use Rattle.tt_points.specs.Measuring as is;
 
 use crate::twilight::settled_in;
 use tt_core::Why;
-use tt_points_zones::{Distance, Motion, Zones, direction};
+use tt_points_zones::{Distance, Motion, Zones, may_move};
 use tt_state::{GraphicsState, Point};
 
 /// Which place of a point is measured.
@@ -29,10 +29,10 @@ pub fn gc(zones: &Zones, state: &GraphicsState, of: Position, p: i32) -> Result<
     ensures { Gives (λ c. c) result (is.gc of p (zones_view zones.now) state.now) }
 {
     let q = zones.point(state.zp2, p)?;
-    let m = Motion::of(state);
+    let motion = Motion::of(state);
     match of {
-        Position::Current => Ok(m.cur(q)),
-        Position::Original => Ok(m.org(q)),
+        Position::Current => Ok(motion.cur(q)),
+        Position::Original => Ok(motion.org(q)),
     }
 }
 
@@ -58,10 +58,10 @@ pub fn md(
 {
     let a = zones.point(state.zp1, p1)?;
     let b = zones.point(state.zp0, p2)?;
-    let m = Motion::of(state);
+    let motion = Motion::of(state);
     match between {
-        Position::Current => Ok(stack_value(m.current_distance(a, b))),
-        Position::Original => Ok(stack_value(m.original_distance(a, b))),
+        Position::Current => Ok(stack_value(motion.current_distance(a, b))),
+        Position::Original => Ok(stack_value(motion.original_distance(a, b))),
     }
 }
 
@@ -83,11 +83,9 @@ pub fn scfs(zones: &mut Zones, state: &GraphicsState, p: i32, v: i32) -> Result<
     ensures zones { IsZones (zones_view zones.new) }
 {
     let q = zones.point(state.zp2, p)?;
-    let m = match direction(state) {
-        Ok(m) => m,
-        Err(why) => return Err(why),
-    };
-    let q = m.moved(q, short_of(v, q, &m))?;
+    may_move(state)?;
+    let motion = Motion::of(state);
+    let q = motion.moved(q, short_of(v, q, &motion))?;
     zones.set(state.zp2, p, settled_in(state.zp2, q));
     Ok(())
 }

@@ -11,7 +11,7 @@ ghost use Rattle.tt_points.specs.Moving as is;
 use crate::distances::{Keeping, given, rounded_by, single_width, spaced_by};
 use crate::twilight::{Along, make};
 use tt_core::Why;
-use tt_points_zones::{Distance, Motion, Zones, direction};
+use tt_points_zones::{Distance, Motion, Zones, may_move};
 use tt_state::{GraphicsState, Point};
 
 /// How much the distance of a point from another is short of `d`.
@@ -81,11 +81,9 @@ pub fn mdap(zones: &mut Zones, state: &mut GraphicsState, round: bool, p: i32) -
     ensures zones { IsZones (zones_view zones.new) }
 {
     let q = zones.point(state.zp0, p)?;
-    let m = match direction(state) {
-        Ok(m) => m,
-        Err(why) => return Err(why),
-    };
-    let q = m.moved(q, mdap_distance(round, state, q, &m))?;
+    may_move(state)?;
+    let motion = Motion::of(state);
+    let q = motion.moved(q, mdap_distance(round, state, q, &motion))?;
     zones.set(state.zp0, p, q);
     state.rp0 = p;
     state.rp1 = p;
@@ -131,13 +129,11 @@ pub fn msirp(
 {
     zones.point(state.zp1, p)?;
     let r = zones.point(state.zp0, state.rp0)?;
-    let m = match direction(state) {
-        Ok(m) => m,
-        Err(why) => return Err(why),
-    };
+    may_move(state)?;
+    let motion = Motion::of(state);
     let d = given(d);
-    make(zones, state.zp1, p, &m, Along::Projection, d, r)?;
-    keep_from(zones, state, p, &m, d)?;
+    make(zones, state.zp1, p, &motion, Along::Projection, d, r)?;
+    keep_from(zones, state, p, &motion, d)?;
     refer(state, set_rp0, p);
     Ok(())
 }
@@ -178,12 +174,10 @@ pub fn mdrp(
 {
     let q = zones.point(state.zp1, p)?;
     let r = zones.point(state.zp0, state.rp0)?;
-    let m = match direction(state) {
-        Ok(m) => m,
-        Err(why) => return Err(why),
-    };
-    let d = mdrp_distance(keeping, state, m.original_distance(r, q));
-    zones.set(state.zp1, p, kept(q, &m, d, r)?);
+    may_move(state)?;
+    let motion = Motion::of(state);
+    let d = mdrp_distance(keeping, state, motion.original_distance(r, q));
+    zones.set(state.zp1, p, kept(q, &motion, d, r)?);
     refer(state, keeping.set_rp0, p);
     Ok(())
 }

@@ -1,4 +1,5 @@
 pub mod Series
+pub mod Slanted
 pub mod Flipping
 pub mod Moving
 pub mod Shifting

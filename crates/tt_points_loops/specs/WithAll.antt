@@ -1,12 +1,12 @@
 -- No part of the standard: what an instruction on several points gives without the whole instruction set it gives with
 -- it too.
-use Rattle.std.proofs.Common.{◌≡◌, ℕ, suc, nat_le, nat_lt, ℤ, ◌-ℤ◌, Bool, true, false, ◌&&◌, if◌then◌else◌, List, [], ◌∷◌, reverse, Option, Some, None, Result, Ok, Err, refl}
+use Rattle.std.proofs.Common.{ℕ, suc, nat_le, nat_lt, ℤ, ◌-ℤ◌, Bool, true, false, ◌&&◌, if◌then◌else◌, List, [], ◌∷◌, reverse, Option, Some, None, Result, Ok, refl}
 use Rattle.tt_core.specs.Outcomes.{◌>>=◌}
 use Rattle.tt_core.specs.declared.fault.Why.{Why}
 use Rattle.tt_state.specs.declared.graphics_state.GraphicsState.{GraphicsState}
 use Rattle.tt_state.specs.declared.graphics_state.Zone.{Zone}
 use Rattle.tt_state.specs.declared.point.Point.{Point}
-use Rattle.tt_points_zones.specs.Motions.{direction, current_distance, moved, moved_along}
+use Rattle.tt_points_zones.specs.Motions.{direction, current_distance, moved}
 use Rattle.tt_points_zones.specs.Points.{points_in, point_in, with_point}
 use Rattle.tt_points_zones.specs.WithAll.{with_all, Stays, StaysSame, same, chained, after, directed}
 use Rattle.tt_points_zones.specs.declared.motion.Motion.{Motion}
@@ -40,7 +40,8 @@ by_vectors g f = chained (λ m. m) (λ a. a) (direction g) (direction (with_all 
 put : (zone : Zone) (n : ℤ) (z : ZoneLists) (r with : Result Point Why) → StaysSame r with
     → StaysSame (r >>= λ q. Ok (with_point zone n q z)) (with >>= λ q. Ok (with_point zone n q z))
 put zone n z r with stays =
-    chained (λ q. q) (λ w. w) r with (λ q. Ok (with_point zone n q z)) (λ q. Ok (with_point zone n q z)) stays (λ q. refl)
+    chained (λ q. q) (λ w. w) r with (λ q. Ok (with_point zone n q z)) (λ q. Ok (with_point zone n q z)) stays
+    (λ q. refl)
 
 -- one after the other, and looped
 series : {N S : Type 0} (step all : N → S → Result S Why) → ((n : N) (s : S) → StaysSame (step n s) (all n s))
@@ -55,7 +56,8 @@ loop : (step all : ℤ → ZoneLists → Result ZoneLists Why) → ((n : ℤ) (z
     → StaysBeside (looped step points z g) (looped all points z (with_all g))
 loop step all stays points z g =
     chained (λ w. w) beside (one_by_one step (reverse points) z) (one_by_one all (reverse points) z)
-    (λ w. Ok (w, set_back g)) (λ w. Ok (w, set_back (with_all g))) (series step all stays (reverse points) z) (λ w. refl)
+    (λ w. Ok (w, set_back g)) (λ w. Ok (w, set_back (with_all g))) (series step all stays (reverse points) z)
+    (λ w. refl)
 
 -- the points of a range
 chosen : (b : Bool) (p : Point) (move all : Result Point Why) → StaysSame move all
@@ -96,7 +98,8 @@ aligns g n z =
     after (λ w. w) (point_in g.zp0 g.rp0 z) _ _ (λ r.
     put g.zp1 n z (aligned g r p) (aligned (with_all g) r p) (by_vectors g (λ m. moved m (current_distance m p r) p))))
 
-interpolates : (g : GraphicsState) (n : ℤ) (z : ZoneLists) → StaysSame (interpolate g n z) (interpolate (with_all g) n z)
+interpolates : (g : GraphicsState) (n : ℤ) (z : ZoneLists)
+    → StaysSame (interpolate g n z) (interpolate (with_all g) n z)
 interpolates g n z =
     after (λ w. w) (point_in g.zp2 n z) _ _ (λ p.
     put g.zp2 n z (in_between g z p) (in_between (with_all g) z p)
@@ -114,13 +117,15 @@ follows touch g r p = by_vectors g (λ m. if touch then moved_as m r p else shif
 
 follows_but : (but : Option ℕ) (touch : Bool) (g : GraphicsState) (r : Point) (i : ℕ) (p : Point)
     → StaysSame (follow_but but touch g r i p) (follow_but but touch (with_all g) r i p)
-follows_but but touch g r i p = unless (is_but but i) p (follow touch g r p) (follow touch (with_all g) r p) (follows touch g r p)
+follows_but but touch g r i p =
+    unless (is_but but i) p (follow touch g r p) (follow touch (with_all g) r p) (follows touch g r p)
 
 shifts : (g : GraphicsState) (before : Result Point Why) (n : ℤ) (z : ZoneLists)
     → StaysSame (shift g before n z) (shift (with_all g) before n z)
 shifts g before n z =
     after (λ w. w) (point_in g.zp2 n z) _ _ (λ p.
-    after (λ w. w) before _ _ (λ r. put g.zp2 n z (follow true g r p) (follow true (with_all g) r p) (follows true g r p)))
+    after (λ w. w) before _ _ (λ r.
+    put g.zp2 n z (follow true g r p) (follow true (with_all g) r p) (follows true g r p)))
 
 shifts_range : (touch : Bool) (which : ReferencePoint) (zone : Zone) (r : ℕ × ℕ) (z : ZoneLists) (g : GraphicsState)
     → StaysSame (shift_range touch which zone r z g) (shift_range touch which zone r z (with_all g))
@@ -175,8 +180,10 @@ pub record SeveralStay (z : ZoneLists) (g : GraphicsState) : Type 0 where
   pub flippt : (points : List ℤ) → StaysBeside (flipping.flippt points z g) (flipping.flippt points z (with_all g))
   pub shp : (which : ReferencePoint) (points : List ℤ)
       → StaysBeside (shifting.shp which points z g) (shifting.shp which points z (with_all g))
-  pub shc : (which : ReferencePoint) (c : ℤ) → StaysSame (shifting.shc which c z g) (shifting.shc which c z (with_all g))
-  pub shz : (which : ReferencePoint) (e : ℤ) → StaysSame (shifting.shz which e z g) (shifting.shz which e z (with_all g))
+  pub shc : (which : ReferencePoint) (c : ℤ)
+      → StaysSame (shifting.shc which c z g) (shifting.shc which c z (with_all g))
+  pub shz : (which : ReferencePoint) (e : ℤ)
+      → StaysSame (shifting.shz which e z g) (shifting.shz which e z (with_all g))
   pub deltap : (range : DeltaRange) (ppem : ℕ) (pairs : List ℤ)
       → StaysSame (deltas.deltap range ppem pairs z g) (deltas.deltap range ppem pairs z (with_all g))
 

@@ -11,8 +11,8 @@ returns-in_err-q-2-clause-exact c =
     let q = simp to_z-of_z at c.in_ok-q.ensures.exact in
     let far : SFits w64 c.short_of.result = search rules in
     let short = simp to_z-of_z at c.short_of.ensures.exact in
-    let moved = rw short at (simp to_z-of_z at c.in_err-q-2.ensures.exact) in
-    rw (scfs, q, c.in-Ok.ensures, moved) (search rules)
+    let moved = rw (short, c.of-motion.ensures) at (simp to_z-of_z at c.in_err-q-2.ensures.exact) in
+    rw (scfs, q, c.in_ok-may_move.ensures, moved) (search rules)
 
 pub returns-clause-exact : goal.returns-clause-exact
 unfolding scfs
@@ -22,5 +22,5 @@ returns-clause-exact c =
     let q = simp to_z-of_z at c.in_ok-q.ensures.exact in
     let far : SFits w64 c.short_of.result = search rules in
     let short = simp to_z-of_z at c.short_of.ensures.exact in
-    let moved = rw short at (simp to_z-of_z at c.in_ok-q-2.ensures.exact) in
-    rw (scfs, q, c.in-Ok.ensures, moved) (search rules)
+    let moved = rw (short, c.of-motion.ensures) at (simp to_z-of_z at c.in_ok-q-2.ensures.exact) in
+    rw (scfs, q, c.in_ok-may_move.ensures, moved) (search rules)

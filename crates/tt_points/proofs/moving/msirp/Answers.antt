@@ -12,8 +12,8 @@ returns-in_err-make-clause-exact c =
     let q = simp to_z-of_z at c.in_ok-point.ensures.exact in
     let r = simp to_z-of_z at c.in_ok-r.ensures.exact in
     let d = simp to_z-of_z at c.given-d.ensures.exact in
-    let made = rw d at (simp to_z-of_z at c.in_err-make.ensures.exact) in
-    rw (msirp, q, r, c.in-Ok.ensures, made) (search rules)
+    let made = rw (d, c.of-motion.ensures) at (simp to_z-of_z at c.in_err-make.ensures.exact) in
+    rw (msirp, q, r, c.in_ok-may_move.ensures, made) (search rules)
 
 pub returns-in_err-keep_from-clause-exact : goal.returns-in_err-keep_from-clause-exact
 unfolding msirp
@@ -24,6 +24,6 @@ returns-in_err-keep_from-clause-exact c =
     let q = simp to_z-of_z at c.in_ok-point.ensures.exact in
     let r = simp to_z-of_z at c.in_ok-r.ensures.exact in
     let d = simp to_z-of_z at c.given-d.ensures.exact in
-    let made = rw d at (simp to_z-of_z at c.in_ok-make.ensures.exact) in
-    let kept = rw d at (simp to_z-of_z at c.in_err-keep_from.ensures.exact) in
-    rw (msirp, q, r, c.in-Ok.ensures, made, kept) (search rules)
+    let made = rw (d, c.of-motion.ensures) at (simp to_z-of_z at c.in_ok-make.ensures.exact) in
+    let kept = rw (d, c.of-motion.ensures) at (simp to_z-of_z at c.in_err-keep_from.ensures.exact) in
+    rw (msirp, q, r, c.in_ok-may_move.ensures, made, kept) (search rules)
