@@ -63,12 +63,12 @@ pointers_set_back g = record g {
 
 -- the graphics state in which the programs of glyphs begin; the control value program can ask for the defaults. The
 -- instruction set is no variable of it.
-abbrev pub glyph_graphics : Parts → GraphicsState
-glyph_graphics parts = if parts.default_state then default_of parts.state.whole else pointers_set_back parts.state
+abbrev pub glyph_state : Bool → GraphicsState → GraphicsState
+glyph_state by_default g = if by_default then default_of g.whole else pointers_set_back g
 
 -- what the control value program leaves to the glyphs
 abbrev pub left_to_glyphs : Parts → Parts
-left_to_glyphs parts = record parts { state = glyph_graphics parts }
+left_to_glyphs parts = record parts { state = glyph_state parts.default_state parts.state }
 
 abbrev pub zones_of : List Point → Outline → PhantomPoints → ZoneLists
 zones_of twilight o grid =

@@ -4,7 +4,7 @@
 ghost use Rattle.std.specs.Prelude.{◌≡◌, ◌+◌, ◌*◌, ◌≤◌, [], length, replicate, IfOk};
 ghost use Rattle.tt_exec.specs.Parts.{parts_of};
 ghost use Rattle.tt_fit.specs.Outline.{outline_of, phantom_of, ArePhantom, IsOutline};
-ghost use Rattle.tt_fit.specs.Parts.{AreParts, begun_parts, control_value, control_values, left_to_glyphs, origin, parts_with, pointers_set_back, zones_of};
+ghost use Rattle.tt_fit.specs.Parts.{AreParts, begun_parts, control_value, control_values, glyph_state, left_to_glyphs, origin, parts_with, pointers_set_back, zones_of};
 ghost use Rattle.tt_fit.specs.Size.{scale};
 ghost use Rattle.tt_fit.specs.Views.{size_view};
 ghost use Rattle.tt_metrics.specs.Metrics.{units_per_em_of};
@@ -64,7 +64,7 @@ pub(crate) fn begun_parts<'a>(
     size: FontSize,
 ) -> Result<Parts<'a>, AllocError>
     requires { size.units_per_em ≡ units_per_em_of metrics.now }
-    ensures exact { IfOk result (λ p. parts_of p ≡ begun_parts metrics.now programs.cvt.now size.ppem programs.whole) }
+    ensures exact { IfOk result (λ p. parts_of p ≡ begun_parts metrics.now programs.entry.cvt.now size.ppem programs.entry.whole) }
     ensures valid { IfOk result (λ p. AreParts (parts_of p)) }
 {
     Ok(Parts {
@@ -101,17 +101,23 @@ fn pointers_set_back(state: GraphicsState) -> GraphicsState
     }
 }
 
+/// The graphics state in which the programs of glyphs begin: the defaults, where the control value program asked for them.
+fn glyph_state(by_default: bool, state: GraphicsState) -> GraphicsState
+    ensures { result ≡ glyph_state by_default state }
+{
+    if by_default {
+        return GraphicsState::new(state.whole);
+    }
+    pointers_set_back(state)
+}
+
 /// What the control value program leaves to the glyphs.
 pub(crate) fn left_to_glyphs<'a>(left: Parts<'a>) -> Parts<'a>
     requires { AreParts (parts_of left) }
     ensures exact { parts_of result ≡ left_to_glyphs (parts_of left.entry) }
     ensures valid { AreParts (parts_of result) }
 {
-    let state = if left.default_state {
-        GraphicsState::new(left.state.whole)
-    } else {
-        pointers_set_back(left.state)
-    };
+    let state = glyph_state(left.default_state, left.state);
     Parts { state, ..left }
 }
 
