@@ -1,15 +1,15 @@
-# Compares outlines with FreeType's. Files are told apart by what=answers, lines of `tt_test_answers outlines` with the
-# size in front; what=listed, lines SIZE GLYPH MOST of the differences that are known; and what=table, lines of
-# fitted_by_freetype.c, which says what they hold. For each glyph and size of the table prints a line, SIZE GLYPH and
-# the greatest difference of a coordinate in 1/64 pixel, or `other` and why the two can't be compared; `known` stands
-# behind a difference that is listed.
+# Compares outlines with FreeType's, at the four sizes that `sizes` has, with commas. Files are told apart by
+# what=answers, lines of `tt_test_answers outlines` with the size in front; what=listed, lines SIZE GLYPH MOST of the
+# differences that are known; and what=table, lines of fitted_by_freetype.c, which says what they hold. For each glyph
+# and size of the table prints a line, SIZE GLYPH and the greatest difference of a coordinate in 1/64 pixel, or `other`
+# and why the two can't be compared; `known` stands behind a difference that is listed.
 what == "answers" { answer[$1 " " $2] = $0 }
 what == "listed" { known[$1 " " $2] = $3 }
 what == "table" {
-  for (i = 0; i < 4; i++) print size[i], $1, judged(size[i] " " $1, $2, $(3 + 3 * i), $(4 + 3 * i), $(5 + 3 * i))
+  for (i = 1; i <= 4; i++) print size[i], $1, judged(size[i] " " $1, $2, $(3 * i), $(3 * i + 1), $(3 * i + 2))
 }
 
-BEGIN { split("9 12 16 40", sizes); for (i in sizes) size[i - 1] = sizes[i] }
+BEGIN { split(sizes, size, ",") }
 
 # Leaves the coordinates that the differences of a text lead to in the list, and in flags whether the point is on the
 # curve, and returns how many they are.

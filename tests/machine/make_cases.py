@@ -1,13 +1,17 @@
 #!/usr/bin/env python3
-"""Makes cases.txt: runs of the bytecode machine, with what each leaves or why it stops.
+"""Makes cases.txt and whole.txt: runs of the bytecode machine, with what each leaves or why it stops.
 
   python3 tests/machine/make_cases.py RUNS.json > tests/machine/cases.txt
+  python3 tests/machine/make_cases.py RUNS.json whole > tests/machine/whole.txt
 
-RUNS.json is not kept here: another program made it, an independent model of the whole instruction set that was written
-from the rules alone. For each run it has the parts of the machine, the program, and the parts after it or the fault.
-This script only writes the same values as lines. What a line holds stands at the head of cases.txt.
+The files RUNS.json, one for the machine without the whole instruction set and one for that with it, are not kept here:
+another program made them, an independent model of the whole instruction set that was written from the rules alone. For
+each run they have the parts of the machine, the program, and the parts after it or the fault. This script only writes
+the same values as lines. What a line holds stands at the head of cases.txt. Left out and told are runs that begin with
+a point past the limit of coordinates, which no machine has: none of the first file, and 8 of the second.
 """
 import json
+import re
 import sys
 
 HEAD = """\
@@ -16,6 +20,16 @@ HEAD = """\
 # the opcode under test. The words of question and answer stand at the head of crates/tt_test_answers/src/machine.rt. A
 # line `font BASE CODE` is the font program whose functions the runs after it have.
 """
+HEAD_OF_WHOLE = """\
+# Runs of the bytecode machine with the whole instruction set; the answers are values by another program, an independent
+# model of it that was written from the rules alone. Made by make_cases.py. A run is a line NAME|QUESTION|ANSWER, where
+# NAME has the opcode under test, or says what reaches a limit. The words of question and answer stand at the head of
+# crates/tt_test_answers/src/machine.rt. A line `font BASE CODE` is the font program whose functions and instructions the
+# runs after it have.
+"""
+
+# The greatest magnitude of a coordinate, in 26.6 pixels.
+LIMIT = 2097151
 
 
 def flags(point):
@@ -48,6 +62,11 @@ def ends(contours):
     return [end for _, end in contours]
 
 
+def is_possible(case):
+    """Returns whether all points with which a run begins are within the limit."""
+    return all(abs(v) <= LIMIT for point in case["twilight"] + case["glyph"] for v in point[:4])
+
+
 def round_state(value):
     if isinstance(value, str):
         return value
@@ -55,12 +74,17 @@ def round_state(value):
     return f"Super({state['period']},{state['phase']},{state['threshold']})"
 
 
-def settings(state):
-    names = ["proj", "free", "rp0", "rp1", "rp2", "zp0", "zp1", "zp2", "loops", "round", "min_distance", "cut_in",
-             "single_width", "single_cut_in", "auto_flip", "delta_base", "delta_shift"]
-    assert sorted(names) == sorted(state)
+def vector(value):
+    """Returns an axis as it is, or a pair of parts."""
+    return value if isinstance(value, str) else ",".join(map(str, value))
+
+
+def settings(state, vectors):
+    names = ["rp0", "rp1", "rp2", "zp0", "zp1", "zp2", "loops", "round", "min_distance", "cut_in", "single_width",
+             "single_cut_in", "auto_flip", "delta_base", "delta_shift"]
+    assert sorted(vectors + names) == sorted(state)
     written = {**state, "round": round_state(state["round"]), "auto_flip": str(state["auto_flip"]).lower()}
-    return " ".join(str(written[name]) for name in names)
+    return " ".join([*(vector(state[name]) for name in vectors), *(str(written[name]) for name in names)])
 
 
 def changed(before, after, write=str):
@@ -68,7 +92,11 @@ def changed(before, after, write=str):
     return "".join(f" {i} {write(new)}" for i, (old, new) in enumerate(zip(before, after)) if old != new)
 
 
-def answer(case):
+def bodies(name, defined):
+    return name + "".join(f" {number} {table} {start}" for number, table, start in defined)
+
+
+def answer(case, whole):
     want = case["want"]
     if "fault" in want:
         table, offset, number, name = want["fault"]
@@ -76,12 +104,13 @@ def answer(case):
     parts = [
         f"{want['steps']} steps",
         "stack" + "".join(f" {v}" for v in want["stack"]),
-        settings(want["state"]),
+        settings(want["state"], ["proj", "dual", "free"] if whole else ["proj", "free"]),
         "cvt" + changed(case["cvt"], want["cvt"]),
         "storage" + changed(case["storage"], want["storage"]),
         "twilight" + changed(case["twilight"], want["twilight"], words_of),
         "glyph" + changed(case["glyph"], want["glyph"], words_of),
-        "functions" + "".join(f" {number} {table} {start}" for number, table, start in want["functions"]),
+        bodies("functions", want["functions"]),
+        *([bodies("instructions", want["instructions"])] if whole else []),
         f"flags {want['skip_glyphs']} {want['default_state']}".lower(),
     ]
     return "; ".join(parts)
@@ -89,10 +118,15 @@ def answer(case):
 
 def main():
     runs = json.load(open(sys.argv[1]))
-    print(HEAD, end="")
+    whole = sys.argv[2:] == ["whole"]
+    print(HEAD_OF_WHOLE if whole else HEAD, end="")
     print(f"font {runs['fpgm_base']} {runs['fpgm']}")
     for case in runs["cases"]:
-        print(f"{case['name'].replace(' #', '_')}|{question(case)}|{answer(case)}")
+        name = re.sub(r"\W+", "_", case["name"])
+        if not is_possible(case):
+            print(f"{name} is left out: it begins with a point past the limit", file=sys.stderr)
+            continue
+        print(f"{name}|{'whole ' if whole else ''}{question(case)}|{answer(case, whole)}")
 
 
 main()

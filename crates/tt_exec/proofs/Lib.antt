@@ -3,3 +3,4 @@ pub mod Entries
 pub mod Single
 pub mod Sizes
 pub mod Steps
+pub mod WithAll

@@ -1,5 +1,5 @@
 -- No instruction makes or drops a point, a place of the storage area or a control value.
-use Rattle.std.proofs.Common.{◌≡◌, ◌∙◌, ℕ, zero, suc, ◌+◌, ◌==◌, nat_le, nat_lt, ℤ, pos, ◌+ℤ◌, int_le, int_lt, Bool, true, false, ◌&&◌, if◌then◌else◌, List, [], ◌∷◌, length, Option, Some, None, Result, Ok, Err, IfOk, subst, refl}
+use Rattle.std.proofs.Common.{◌≡◌, ◌∙◌, ℕ, zero, suc, ◌+◌, ◌==◌, nat_le, nat_lt, ℤ, pos, ◌+ℤ◌, int_le, int_lt, unsigned_abs, Bool, true, false, ◌&&◌, if◌then◌else◌, List, [], ◌∷◌, length, Option, Some, None, Result, Ok, Err, IfOk, subst, refl}
 use Rattle.std.specs.Ordering.{int_eq}
 use Rattle.tt_core.specs.Faults.{Fault}
 use Rattle.tt_core.specs.declared.fault.Why.{Why}
@@ -23,16 +23,18 @@ use Rattle.tt_exec_state.specs.declared.instruction.StoredValues.{StoredValues}
 use Rattle.tt_core.specs.Limits.{call_limit}
 use Rattle.tt_exec.specs.Flags.{flagged, instctrl}
 use Rattle.tt_exec.specs.Flow.{goes_to, skipped, jumped, if_from, jmpr, jrot, jrof}
-use Rattle.tt_exec.specs.Functions.{may_define, defined, fdef_from, endf, called, call, called_often, loopcall}
+use Rattle.tt_exec.specs.Functions.{may_define, has_no_name, with_definition, defined, fdef_from, idef_from, endf, called, call, instruction_called, called_often, loopcall}
 use Rattle.tt_exec.specs.MachineState.{Body, Frame, MachineState}
 use Rattle.tt_exec.specs.OnPoints.{left_by, on_points}
-use Rattle.tt_exec.specs.Numbered.{is_number, function_at}
+use Rattle.tt_exec.specs.Numbered.{is_number, is_opcode, function_at}
 use Rattle.tt_exec.specs.Opcodes.{operation_of}
 use Rattle.tt_exec.specs.Operation.{Operation}
 use Rattle.tt_exec.specs.Operation as op
 use Rattle.tt_exec.specs.Runs.{Leads, Ends}
 use Rattle.tt_exec.specs.Sizes.{HasContours, SameSizes}
 use Rattle.tt_exec.specs.Step.{on_stack, on_graphics, on_places, pushes_words, operate, done, step}
+use Rattle.tt_exec.specs.declared.program.Definition.{Definition}
+use Rattle.tt_exec.specs.declared.program.Definition.TheVariants as definition
 use Rattle.tt_exec.specs.declared.machine_state.Kind.{Kind}
 use Rattle.tt_exec.specs.declared.machine_state.Kind.TheVariants as kind
 
@@ -147,15 +149,25 @@ jrof_kept (condition ∷ []) at m = tt
 jrof_kept [] at m = tt
 
 -- functions
-defined_kept : (at n : ℕ) (m : MachineState) (r : Result ℕ Halt) → Keeps m (defined at n m r)
-defined_kept at n m (Ok place) = same m
-defined_kept at n m (Err halt) = tt
+with_definition_kept : (d : Definition) (f : Body) (m : MachineState) → Kept m (with_definition d f m)
+with_definition_kept (definition.Function n) f m = same m
+with_definition_kept (definition.Instruction opcode) f m = either (Kept m) (has_no_name opcode) _ _ (same m) (same m)
+
+defined_kept : (at : ℕ) (d : Definition) (m : MachineState) (r : Result ℕ Halt) → Keeps m (defined at d m r)
+defined_kept at d m (Ok place) = with_definition_kept d _ m
+defined_kept at d m (Err halt) = tt
 
 fdef_from_kept : (s : List ℤ) (at : ℕ) (m : MachineState) → Keeps m (fdef_from s at m)
 fdef_from_kept (n ∷ s) at m =
     either (Keeps m) (is_number n) _ _
-    (defined_kept at _ (record m { stack = s }) (definition_end m.frame.code.bytes at)) tt
+    (defined_kept at (definition.Function (unsigned_abs n)) (record m { stack = s }) (definition_end m.frame.code.bytes at)) tt
 fdef_from_kept [] at m = tt
+
+idef_from_kept : (s : List ℤ) (at : ℕ) (m : MachineState) → Keeps m (idef_from s at m)
+idef_from_kept (n ∷ s) at m =
+    either (Keeps m) (is_opcode n) _ _
+    (defined_kept at (definition.Instruction (unsigned_abs n)) (record m { stack = s }) (definition_end m.frame.code.bytes at)) tt
+idef_from_kept [] at m = tt
 
 endf_kept : (callers : List Frame) (at : ℕ) (m : MachineState) → Keeps m (endf callers at m)
 endf_kept [] at m = tt
@@ -179,6 +191,10 @@ loopcall_kept (n ∷ count ∷ s) at m =
     called_often_kept at count (record m { stack = s }) (function_at n m.functions)
 loopcall_kept (n ∷ []) at m = tt
 loopcall_kept [] at m = tt
+
+instruction_called_kept : (at : ℕ) (m : MachineState) (f : Option Body) → Keeps m (instruction_called at m f)
+instruction_called_kept at m (Some f) = called_kept at 0 m (Some f)
+instruction_called_kept at m None = tt
 
 -- a step
 operate_kept : OnPoints → OnPlaces → (o : Operation) (at : ℕ) (m : MachineState) → HasContours m.zones
@@ -206,8 +222,12 @@ operate_kept k j op.endf at m has = endf_kept m.callers at m
 operate_kept k j op.call at m has = call_kept m.stack at m
 operate_kept k j op.loopcall at m has = loopcall_kept m.stack at m
 operate_kept k j (op.on_points o) at m has = on_points_kept k o at m has
-operate_kept k j op.off_profile at m has = tt
-operate_kept k j op.unnamed at m has = tt
+operate_kept k j op.idef at m has =
+    either (Keeps m) (may_define m.kind m.callers) _ _ (idef_from_kept m.stack at m) tt
+operate_kept k j (op.beyond o) at m has =
+    either (Keeps m) m.graphics.whole _ _ (operate_kept k j o at m has) tt
+operate_kept k j (op.unnamed opcode) at m has =
+    instruction_called_kept at m (function_at (pos opcode) m.instructions)
 
 done_kept : OnPoints → OnPlaces → (m : MachineState) (r : Result Instr Halt) → HasContours m.zones
     → Keeps m (done m r)

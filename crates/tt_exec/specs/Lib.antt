@@ -15,3 +15,4 @@ pub mod Sizes
 pub mod States
 pub mod Step
 pub mod Views
+pub mod WithAll

@@ -6,6 +6,7 @@ ghost use Rattle.tt_exec.specs.MachineState.{MachineState};
 ghost use Rattle.tt_exec.specs.Outcomes.{HasOneOutcome};
 ghost use Rattle.tt_exec.specs.Runs.{Ends};
 ghost use Rattle.tt_exec.specs.Sizes.{HasContours, SameSizes};
+ghost use Rattle.tt_exec.specs.WithAll.{RunsStay};
 
 /// A run from any state either ends, after one number of steps and at one state, or halts with one fault, never both.
 pub fn one_outcome()
@@ -20,4 +21,13 @@ pub fn sizes_are_kept()
 {
     tt_exec_points::laws::sizes_are_kept();
     tt_exec_state::laws::sizes_are_kept();
+}
+
+/// A run that ends without the whole instruction set ends with it too, and leaves the same; and one that halts halts with
+/// the same fault, unless that is OffProfile or Perpendicular.
+pub fn runs_stay()
+    ensures { RunsStay }
+{
+    tt_exec_state::laws::settings_stay();
+    tt_exec_points::laws::points_stay();
 }

@@ -60,10 +60,10 @@ impl MachineState<'_> {
         ensures { let given = is.operate (operation.beyond (operation.on_points op)) at (state_of self.old) in
             Leaves result (state_of self.new) given }
     {
-        if !self.graphics.whole {
-            return self.refuse(at);
+        if self.graphics.whole {
+            return self.on_points(op, at);
         }
-        self.on_points(op, at)
+        self.refuse(at)
     }
 
     /// S45ROUND[] and DEBUG[]. Error: OffProfile without the whole instruction set.

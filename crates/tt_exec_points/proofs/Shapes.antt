@@ -114,7 +114,7 @@ sdpvtl turned [] z g = tt
 
 isect : Single → (s : List ℤ) (z : ZoneLists) (g : GraphicsState) → Keeps z (is.isect s z g)
 isect k (b1 ∷ b0 ∷ a1 ∷ a0 ∷ p ∷ s) z g =
-    changed s g z (lines.isect p (a0, a1) (b0, b1) z g) ((k z g).isect p (a0, a1) (b0, b1))
+    changed s g z (lines.isect p (is.ends a0 a1) (is.ends b0 b1) z g) ((k z g).isect p (is.ends a0 a1) (is.ends b0 b1))
 isect k (b1 ∷ b0 ∷ a1 ∷ a0 ∷ []) z g = tt
 isect k (b1 ∷ b0 ∷ a1 ∷ []) z g = tt
 isect k (b1 ∷ b0 ∷ []) z g = tt

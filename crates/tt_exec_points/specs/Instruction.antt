@@ -14,6 +14,7 @@ use Rattle.tt_points_loops.specs.Flipping as flipping
 use Rattle.tt_points_loops.specs.Moving as moving
 use Rattle.tt_points_loops.specs.Shifting as shifting
 use Rattle.tt_points.specs.declared.distances.Keeping.{Keeping}
+use Rattle.tt_points.specs.declared.lines.Ends.{Ends}
 use Rattle.tt_points.specs.declared.measuring.Position.{Position}
 use Rattle.tt_points.specs.ControlValues as by_value
 use Rattle.tt_points.specs.Lines as lines
@@ -121,8 +122,11 @@ abbrev pub sdpvtl : Bool → List ℤ → ZoneLists → GraphicsState → Left
 sdpvtl turned (p1 ∷ p2 ∷ s) z g = after_setting s z (lines.sdpvtl turned p1 p2 z g)
 sdpvtl turned _ z g = Err why.StackShort
 
+abbrev pub ends : ℤ → ℤ → Ends
+ends from to = record { from = from; to = to }
+
 abbrev pub isect : List ℤ → ZoneLists → GraphicsState → Left
-isect (b1 ∷ b0 ∷ a1 ∷ a0 ∷ p ∷ s) z g = after_move s g (lines.isect p (a0, a1) (b0, b1) z g)
+isect (b1 ∷ b0 ∷ a1 ∷ a0 ∷ p ∷ s) z g = after_move s g (lines.isect p (ends a0 a1) (ends b0 b1) z g)
 isect _ z g = Err why.StackShort
 
 abbrev pub alignpts : List ℤ → ZoneLists → GraphicsState → Left

@@ -14,7 +14,7 @@ use tt_core::Why;
 use tt_exec_stack::Stack;
 use tt_exec_state::Size;
 use tt_points::control_values::{miap, mirp};
-use tt_points::lines::{alignpts, isect, sdpvtl, sfvtl, spvtl};
+use tt_points::lines::{Ends, alignpts, isect, sdpvtl, sfvtl, spvtl};
 use tt_points::measuring::{Position, gc, md, scfs, utp};
 use tt_points::moving::{mdap, mdrp, msirp};
 use tt_points::{Keeping, iup};
@@ -388,7 +388,13 @@ impl Points {
         let a1 = stack.pop()?;
         let a0 = stack.pop()?;
         let p = stack.pop()?;
-        isect(&mut self.zones, graphics, p, (a0, a1), (b0, b1))
+        isect(
+            &mut self.zones,
+            graphics,
+            p,
+            Ends { from: a0, to: a1 },
+            Ends { from: b0, to: b1 },
+        )
     }
 
     /// ALIGNPTS[]: p2, p1 -> . Errors: PointRange, Perpendicular, ValueRange.

@@ -1,2 +1,3 @@
 pub mod Beside
 pub mod Sizes
+mod WithAll

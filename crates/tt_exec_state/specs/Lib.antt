@@ -3,3 +3,4 @@ pub mod Settings
 pub mod Size
 pub mod StoredValues
 pub mod Vectors
+pub mod WithAll

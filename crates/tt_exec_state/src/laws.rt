@@ -1,11 +1,24 @@
-//! What the instructions of this crate leave as it is.
+//! What the instructions of this crate leave as it is, and what they give with the whole instruction set.
 
 ghost use Rattle.std.specs.Prelude.{◌≡◌, ℕ, ℤ, List, length, IfOk};
 ghost use Rattle.tt_exec_state.specs.StoredValues.{values_accessed};
+ghost use Rattle.tt_exec_state.specs.WithAll.{VectorsStay, SettingsStay, AxesAreKept};
 ghost use Rattle.tt_exec_state.specs.declared.instruction.StoredValues.{StoredValues};
 
 /// Takes nothing and gives nothing: no instruction makes or drops a place of the storage area or a control value.
 pub fn sizes_are_kept()
     ensures { (o : StoredValues) (ppem em : ℕ) (s storage cvt : List ℤ) → IfOk (values_accessed o ppem em s storage cvt)
         (λ t. (length t.1 ≡ length storage) × (length t.2 ≡ length cvt)) }
+{}
+
+/// What sets the graphics state without the whole instruction set does the same with it.
+pub fn settings_stay()
+    ensures vectors { VectorsStay }
+    ensures settings { SettingsStay }
+{}
+
+/// Without the whole instruction set vectors on the axes stay on the axes, and the dual projection vector with the
+/// projection vector.
+pub fn axes_are_kept()
+    ensures { AxesAreKept }
 {}

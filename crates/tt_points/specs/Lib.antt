@@ -6,3 +6,4 @@ pub mod Slanted
 pub mod ControlValues
 pub mod Lines
 pub mod Shapes
+pub mod WithAll

@@ -15,6 +15,7 @@ use Rattle.tt_points_zones.specs.Zones.{ZoneLists}
 use Rattle.tt_points_loops.specs.declared.deltas.DeltaRange.{DeltaRange}
 use Rattle.tt_points_loops.specs.declared.deltas.DeltaRange.TheVariants as ranges
 use Rattle.tt_points_loops.specs.Series.{one_by_one}
+use Rattle.tt_points_loops.specs.Slanted.{rising, slanted, at_first, moved_on}
 
 -- how far above the delta base the sizes of a range begin
 abbrev pub sizes_passed : DeltaRange → ℤ
@@ -64,7 +65,8 @@ deltap range ppem pairs z g = one_by_one (except range ppem g) (reverse (pairs_o
 eight_steps_up : delta_of ranges.First (pos 0x7F) 16 default_state ≡ Ok (Some (pos 64))
 eight_steps_up = refl
 
-eight_steps_down : delta_of ranges.Second (pos 0x70) 32 (record default_state { delta_shift = 6 }) ≡ Ok (Some (negsuc 7))
+eight_steps_down : delta_of ranges.Second (pos 0x70) 32 (record default_state { delta_shift = 6 })
+    ≡ Ok (Some (negsuc 7))
 eight_steps_down = refl
 
 another_size : delta_of ranges.Third (pos 0x7F) 16 default_state ≡ Ok None
@@ -90,3 +92,8 @@ last_pair_first : deltap ranges.First 16 (pos 256 ∷ pos 0 ∷ pos 0x7F ∷ pos
     (glyph (point (pos 1) false ∷ [])) default_state
     ≡ Err why.PointRange
 last_pair_first = refl
+
+four_steps_along_a_line : deltap ranges.First 16 (pos 0x7B ∷ pos 0 ∷ []) (glyph (at_first ∷ [])) (slanted rising)
+    ≡ Ok (glyph (moved_on (pos 64) (pos 119) true true ∷ []))
+unfolding direction project
+four_steps_along_a_line = refl

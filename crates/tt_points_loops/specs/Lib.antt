@@ -1,7 +1,9 @@
 pub mod Series
+pub mod Slanted
 pub mod Flipping
 pub mod Moving
 pub mod Shifting
 pub mod Deltas
 pub mod Turns
+pub mod WithAll
 pub mod Shapes

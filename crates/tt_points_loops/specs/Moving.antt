@@ -6,19 +6,17 @@ use Rattle.tt_core.specs.Numbers.{rounded_quotient}
 use Rattle.tt_core.specs.Outcomes.{◌>>=◌}
 use Rattle.tt_core.specs.declared.fault.Why.{Why}
 use Rattle.tt_core.specs.declared.fault.Why.TheVariants as why
-use Rattle.tt_state.specs.GraphicsState.{default_state}
+use Rattle.tt_state.specs.GraphicsState.{default_of, default_state}
 use Rattle.tt_state.specs.declared.graphics_state.GraphicsState.{GraphicsState}
 use Rattle.tt_state.specs.declared.point.Point.{Point}
-use Rattle.tt_state.specs.declared.vector.Vector.{Vector}
 use Rattle.tt_state.specs.declared.vector.Vector.TheVariants as vector
-use Rattle.tt_state.specs.Axes.{vector_of}
-use Rattle.tt_state.specs.GraphicsState.{default_of}
-use Rattle.tt_state.specs.Vectors.{pair, project, along}
+use Rattle.tt_state.specs.Vectors.{project, along}
 use Rattle.tt_points_zones.specs.Motions.{direction, current_distance, original_distance, moved, moved_along}
 use Rattle.tt_points_zones.specs.Points.{point_in, with_point}
 use Rattle.tt_points_zones.specs.Zones.{ZoneLists}
 use Rattle.tt_points_zones.specs.declared.motion.Motion.{Motion}
 use Rattle.tt_points_loops.specs.Series.{looped}
+use Rattle.tt_points_loops.specs.Slanted.{rising, slanted, dual_upward, still, risen, at_first, moved_on}
 
 -- ALIGNRP: points of zp1 are moved to where rp0, in zp0, stands
 abbrev pub aligned : GraphicsState → Point → Point → Result Point Why
@@ -75,18 +73,18 @@ between = record default_state { rp1 = pos 0; rp2 = pos 1 }
 in_proportion : ip (pos 2 ∷ [])
     (glyph (point (pos 0) (pos 10) ∷ point (pos 100) (pos 210) ∷ point (pos 25) (pos 25) ∷ [])) between
     ≡ Ok (glyph (point (pos 0) (pos 10) ∷ point (pos 100) (pos 210) ∷ moved_to (pos 25) (pos 60) ∷ []), between)
-unfolding direction project along
+unfolding direction project
 in_proportion = refl
 
 no_range : ip (pos 2 ∷ [])
     (glyph (point (pos 0) (pos 10) ∷ point (pos 0) (pos 210) ∷ point (pos 25) (pos 25) ∷ [])) between
     ≡ Ok (glyph (point (pos 0) (pos 10) ∷ point (pos 0) (pos 210) ∷ moved_to (pos 25) (pos 35) ∷ []), between)
-unfolding direction project along
+unfolding direction project
 no_range = refl
 
 to_where_it_stands : alignrp (pos 1 ∷ []) (glyph (point (pos 5) (pos 7) ∷ point (pos 1) (pos 2) ∷ [])) default_state
     ≡ Ok (glyph (point (pos 5) (pos 7) ∷ moved_to (pos 1) (pos 7) ∷ []), default_state)
-unfolding direction project along
+unfolding direction project
 to_where_it_stands = refl
 
 crossed_before_a_bad_point : alignrp (pos 9 ∷ pos 1 ∷ []) (glyph (point (pos 5) (pos 7) ∷ point (pos 1) (pos 2) ∷ []))
@@ -104,39 +102,29 @@ along_the_freedom_vector : shpix (pos 0 ∷ []) (negsuc 2) (glyph (point (pos 5)
 unfolding along
 along_the_freedom_vector = refl
 
--- worked values, along a line that rises by 2 in 1: points where they were and where they are
-abbrev rising : Vector
-rising = vector_of (pair (pos 7327) (pos 14654))
-
-abbrev slightly : Vector
-slightly = vector_of (pair (pos 1256) (pos 16335))
-
-abbrev along_it : GraphicsState
-along_it = record (default_of true) { proj = rising; dual = rising; free = rising }
-
-abbrev at : ℤ → ℤ → Point
-at x y = record { org_x = x; org_y = y; x = x; y = y; touched_x = false; touched_y = false; on = true }
-
-abbrev touched_at : ℤ → ℤ → Point
-touched_at x y = record (at (pos 50) (pos 90)) { x = x; y = y; touched_x = true; touched_y = true }
-
-aligned_along_y : alignrp (pos 1 ∷ []) (glyph (at (pos 100) (pos 200) ∷ at (pos 50) (pos 90) ∷ []))
-    (record along_it { free = vector.Y })
-    ≡ Ok (glyph (at (pos 100) (pos 200) ∷ record (touched_at (pos 50) (pos 225)) { touched_x = false } ∷ []),
-    record along_it { free = vector.Y })
-unfolding direction project vector_of
+-- worked values, off the axes
+aligned_along_y : alignrp (pos 1 ∷ []) (glyph (still (pos 100) (pos 200) ∷ at_first ∷ [])) (slanted vector.Y)
+    ≡ Ok (glyph (still (pos 100) (pos 200) ∷ moved_on (pos 50) (pos 225) false true ∷ []), slanted vector.Y)
+unfolding direction project
 aligned_along_y = refl
 
--- the originals are measured along the dual vector, here the y axis
-between_originals_along_y : ip (pos 2 ∷ [])
-    (glyph (at (pos 0) (pos 0) ∷ record (at (pos 0) (pos 100)) { x = pos 10; y = pos 130 } ∷ at (pos 50) (pos 90) ∷ []))
-    (record (default_of true) { rp2 = pos 1; proj = slightly; dual = vector.Y; free = slightly })
-    ≡ Ok (glyph (at (pos 0) (pos 0) ∷ record (at (pos 0) (pos 100)) { x = pos 10; y = pos 130 }
-    ∷ touched_at (pos 52) (pos 113) ∷ []), record (default_of true) { rp2 = pos 1; proj = slightly; dual = vector.Y; free = slightly })
-unfolding direction project vector_of
-between_originals_along_y = refl
+-- with the whole instruction set crossed vectors are no refusal
+crossed_with_the_whole_set : alignrp (pos 9 ∷ pos 1 ∷ []) (glyph (still (pos 100) (pos 200) ∷ at_first ∷ []))
+    (record (default_of true) { free = vector.Y; loops = 2 }) ≡ Err why.PointRange
+unfolding direction project
+crossed_with_the_whole_set = refl
 
-a_pixel_along_it : shpix (pos 0 ∷ []) (pos 64) (glyph (at (pos 50) (pos 90) ∷ [])) along_it
-    ≡ Ok (glyph (touched_at (pos 79) (pos 147) ∷ []), along_it)
-unfolding along vector_of
-a_pixel_along_it = refl
+-- the originals are measured along the dual vector
+originals_along_y : ip (pos 2 ∷ []) (glyph (still (pos 0) (pos 0) ∷ risen ∷ at_first ∷ []))
+    (record dual_upward { rp2 = pos 1 })
+    ≡ Ok (
+      glyph (still (pos 0) (pos 0) ∷ risen ∷ moved_on (pos 52) (pos 113) true true ∷ []),
+      record dual_upward { rp2 = pos 1 },
+    )
+unfolding direction project
+originals_along_y = refl
+
+a_pixel_along_a_line : shpix (pos 0 ∷ []) (pos 64) (glyph (at_first ∷ [])) (record (default_of true) { free = rising })
+    ≡ Ok (glyph (moved_on (pos 79) (pos 147) true true ∷ []), record (default_of true) { free = rising })
+unfolding along
+a_pixel_along_a_line = refl

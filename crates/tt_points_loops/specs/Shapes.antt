@@ -65,7 +65,8 @@ put zone n z (Ok q) = put_one zone n q z
 put zone n z (Err why) = tt
 
 series : {N : Type 0} (step : N → ZoneLists → Result ZoneLists Why)
-    → ((n : N) (z : ZoneLists) → KeepsShape z (step n z)) → (ns : List N) (z : ZoneLists) → KeepsShape z (one_by_one step ns z)
+    → ((n : N) (z : ZoneLists) → KeepsShape z (step n z)) → (ns : List N) (z : ZoneLists)
+    → KeepsShape z (one_by_one step ns z)
 series step kept [] z = same z
 series step kept (n ∷ ns) z =
     through (SameShape z) (SameShape z) (step n z) (one_by_one step ns) (kept n z)
@@ -111,7 +112,8 @@ moved_by (Some d) g n z =
     whatever (SameShape z) (point_in g.zp0 n z) _ (λ p.
     whatever (SameShape z) (direction g) _ (λ m. put g.zp0 n z (moved m d p)))
 
-excepted : (range : DeltaRange) (ppem : ℕ) (g : GraphicsState) (pair : ℤ × ℤ) (z : ZoneLists) → KeepsShape z (except range ppem g pair z)
+excepted : (range : DeltaRange) (ppem : ℕ) (g : GraphicsState) (pair : ℤ × ℤ) (z : ZoneLists)
+    → KeepsShape z (except range ppem g pair z)
 excepted range ppem g pair z = whatever (SameShape z) (delta_of range (pair.0) ppem g) _ (λ d. moved_by d g (pair.1) z)
 
 aligned : (g : GraphicsState) (n : ℤ) (z : ZoneLists) → KeepsShape z (align g n z)

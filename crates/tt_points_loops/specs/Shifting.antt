@@ -1,19 +1,18 @@
 -- Apple TrueType Reference Manual, "Instruction set": managing outlines (SHP, SHC, SHZ): points follow a reference
 -- point. Distances are in 26.6 pixels.
-use Rattle.std.specs.Prelude.{◌≡◌, ℕ, ◌-◌, ◌==◌, ℤ, pos, negsuc, ◌-ℤ◌, int_lt, unsigned_abs, slice_get, Bool, true, false, if◌then◌else◌, List, [], ◌∷◌, length, Option, Some, None, Result, Ok, Err, refl}
+use Rattle.std.specs.Prelude.{◌≡◌, ℕ, ◌-◌, ◌==◌, ℤ, pos, negsuc, int_lt, unsigned_abs, slice_get, Bool, true, false, if◌then◌else◌, List, [], ◌∷◌, length, Option, Some, None, Result, Ok, Err, refl}
 use Rattle.std.specs.Option.{ok_or}
 use Rattle.std.specs.Ordering.{int_eq}
 use Rattle.tt_core.specs.Outcomes.{◌>>=◌}
 use Rattle.tt_core.specs.declared.fault.Why.{Why}
 use Rattle.tt_core.specs.declared.fault.Why.TheVariants as why
-use Rattle.tt_state.specs.GraphicsState.{default_of, default_state}
+use Rattle.tt_state.specs.GraphicsState.{default_state}
 use Rattle.tt_state.specs.declared.graphics_state.GraphicsState.{GraphicsState}
 use Rattle.tt_state.specs.declared.graphics_state.Zone.{Zone}
 use Rattle.tt_state.specs.declared.graphics_state.Zone.TheVariants as zone
 use Rattle.tt_state.specs.declared.point.Point.{Point}
 use Rattle.tt_state.specs.declared.vector.Vector.TheVariants as vector
-use Rattle.tt_state.specs.Axes.{vector_of}
-use Rattle.tt_state.specs.Vectors.{pair, project}
+use Rattle.tt_state.specs.Vectors.{project}
 use Rattle.tt_points_zones.specs.Motions.{direction, offset, shifted, moved}
 use Rattle.tt_points_zones.specs.Points.{points_in, point_in, with_point}
 use Rattle.tt_points_zones.specs.ZoneNumbers.{zone_of}
@@ -22,6 +21,7 @@ use Rattle.tt_points_zones.specs.declared.motion.Motion.{Motion}
 use Rattle.tt_points_loops.specs.declared.shifting.ReferencePoint.{ReferencePoint}
 use Rattle.tt_points_loops.specs.declared.shifting.ReferencePoint.TheVariants as by
 use Rattle.tt_points_loops.specs.Series.{each_from_to, looped}
+use Rattle.tt_points_loops.specs.Slanted.{rising, slanted, risen, at_first, moved_on}
 
 -- the reference point: rp1 in zp0, or rp2 in zp1
 abbrev pub reference_zone : ReferencePoint → GraphicsState → Zone
@@ -153,20 +153,24 @@ nothing_to_move : shc by.Rp2 (pos 0) (glyph (point (pos 5) (pos 7) ∷ []))
     ≡ Ok (glyph (point (pos 5) (pos 7) ∷ []))
 nothing_to_move = refl
 
--- a reference point that stood at (0, 100) and stands at (10, 130), along a line that rises by 2 in 1
+-- worked values, along a line that rises by 2 in 1: the reference point stood at (0, 100) and stands at (10, 130)
 abbrev along_a_line : GraphicsState
-along_a_line =
-    let rising = vector_of (pair (pos 7327) (pos 14654)) in
-    record (default_of true) { proj = rising; dual = rising; free = rising; rp2 = pos 1 }
+along_a_line = record (slanted rising) { rp2 = pos 1 }
 
-abbrev moved_reference : Point
-moved_reference = record (point (pos 0) (pos 10)) { org_y = pos 100; y = pos 130 }
+abbrev outline : Point → ZoneLists
+outline p = glyph (p ∷ risen ∷ [])
 
-abbrev its_follower : Point
-its_follower = record (point (pos 50) (pos 50)) { org_y = pos 90; y = pos 90 }
-
-along_both_axes : shp by.Rp2 (pos 0 ∷ []) (glyph (its_follower ∷ moved_reference ∷ [])) along_a_line
-    ≡ Ok (glyph (record its_follower { x = pos 64; y = pos 118; touched_x = true; touched_y = true }
-    ∷ moved_reference ∷ []), along_a_line)
-unfolding direction project vector_of
+along_both_axes : shp by.Rp2 (pos 0 ∷ []) (outline at_first) along_a_line
+    ≡ Ok (outline (moved_on (pos 64) (pos 118) true true), along_a_line)
+unfolding direction project
 along_both_axes = refl
+
+a_contour_along_both_axes : shc by.Rp2 (pos 0) (outline at_first) along_a_line
+    ≡ Ok (outline (moved_on (pos 64) (pos 118) true true))
+unfolding direction project
+a_contour_along_both_axes = refl
+
+untouched_along_both_axes : shz by.Rp2 (pos 1) (outline at_first) along_a_line
+    ≡ Ok (outline (moved_on (pos 64) (pos 118) false false))
+unfolding shz direction project
+untouched_along_both_axes = refl

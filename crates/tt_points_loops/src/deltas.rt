@@ -82,8 +82,8 @@ fn exception(argument: u8, state: &GraphicsState) -> i32
     product(steps_of(argument), step_of(state))
 }
 
-/// What a DELTAP and a DELTAC instruction make of an argument: a distance in 26.6 pixels of 1 to 8 steps to either side;
-/// None where the argument is for another size than `ppem`. Error: BadArgument where it is no byte.
+/// What a DELTAP and a DELTAC instruction make of an argument: a distance in 26.6 pixels of 1 to 8 steps to either
+/// side; None where the argument is for another size than `ppem`. Error: BadArgument where it is no byte.
 pub fn delta_of(
     range: DeltaRange,
     argument: i32,
@@ -138,9 +138,9 @@ fn except(
     }
 }
 
-/// DELTAP1[], DELTAP2[] and DELTAP3[]: pairs of an argument and a point of zp0 -> each point is
-/// moved by the exception that its argument is at `ppem` pixels per em, if it is one. The last pair comes first. Errors:
-/// BadArgument, PointRange, Perpendicular, ValueRange.
+/// DELTAP1[], DELTAP2[] and DELTAP3[]: pairs of an argument and a point of zp0 -> each point is moved by the exception
+/// that its argument is at `ppem` pixels per em, if it is one. The last pair comes first. Errors: BadArgument,
+/// PointRange, Perpendicular, ValueRange.
 pub fn deltap(
     zones: &mut Zones,
     state: &GraphicsState,

@@ -35,10 +35,10 @@ pub(crate) fn print_table<R: Print + Eprint + AllocGlobal>(
     words: &mut Words,
 ) -> Result<()> {
     let size = words.number(1, SIZE)? as u32;
-    let fit = words.fit()?;
+    let (fit, whole) = words.fit()?;
     let (metrics, glyphs) = tables_of(font)?;
     let programs = match fit {
-        Fit::Full | Fit::Fallback => programs_of(font)?,
+        Fit::Full | Fit::Fallback => programs_of(font, whole)?,
         Fit::None => NO_PROGRAMS,
     };
     match Fitter::new(rt.alloc(), &metrics, glyphs, programs, size, fit) {

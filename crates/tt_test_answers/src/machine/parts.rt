@@ -138,7 +138,7 @@ fn zones_in(alloc: Global, words: &mut Words) -> Result<Zones>
     })
 }
 
-pub(crate) fn parts_in<'a>(alloc: Global, words: &mut Words) -> Result<Parts<'a>>
+pub(crate) fn parts_in<'a>(alloc: Global, words: &mut Words, whole: bool) -> Result<Parts<'a>>
     ensures zones { IfOk result (λ p. IsZones (zones_view p.zones)) }
     ensures em { IfOk result (λ p. 16 ≤ p.em) }
     ensures ppem { IfOk result (λ p. p.ppem ≤ size_limit) }
@@ -156,7 +156,7 @@ pub(crate) fn parts_in<'a>(alloc: Global, words: &mut Words) -> Result<Parts<'a>
         zones,
         functions: BTreeMap::new(alloc),
         instructions: BTreeMap::new(alloc),
-        state: GraphicsState::new(false),
+        state: GraphicsState::new(whole),
         skip_glyphs: false,
         default_state: false,
     })

@@ -2,9 +2,10 @@
 
 use crate::tables::Refusal;
 use anyhow::{Result, bail};
+use std::collections::BTreeMap;
 use std::io::Write;
 use tt_exec::{Body, Code, ExecFault, Machine, Parts};
-use tt_state::{GraphicsState, Point, Round};
+use tt_state::{GraphicsState, Point, Round, Vector};
 
 /// Runs a program, and prints what it leaves of the parts that were there before.
 pub(crate) fn print_run<'a, W: Write>(
@@ -55,8 +56,10 @@ fn print_parts<W: Write>(out: &mut W, before: &Parts, after: &Parts) -> Result<(
     write!(out, "; glyph")?;
     print_moved(out, old.glyph.as_slice(), new.glyph.as_slice())?;
     write!(out, "; functions")?;
-    for (number, body) in after.functions.iter() {
-        print_function(out, *number, body)?;
+    print_bodies(out, &after.functions)?;
+    if after.state.whole {
+        write!(out, "; instructions")?;
+        print_bodies(out, &after.instructions)?;
     }
     let (skip_glyphs, default_state) = (after.skip_glyphs, after.default_state);
     write!(out, "; flags {skip_glyphs} {default_state}")?;
@@ -64,14 +67,11 @@ fn print_parts<W: Write>(out: &mut W, before: &Parts, after: &Parts) -> Result<(
 }
 
 fn print_state<W: Write>(out: &mut W, state: &GraphicsState) -> Result<()> {
-    let (proj, free) = (state.proj, state.free);
+    print_vectors(out, state)?;
     let (rp0, rp1, rp2) = (state.rp0, state.rp1, state.rp2);
     let (zp0, zp1, zp2) = (state.zp0, state.zp1, state.zp2);
     let loops = state.loops;
-    write!(
-        out,
-        "{proj:?} {free:?} {rp0} {rp1} {rp2} {zp0:?} {zp1:?} {zp2:?} {loops} "
-    )?;
+    write!(out, " {rp0} {rp1} {rp2} {zp0:?} {zp1:?} {zp2:?} {loops} ")?;
     print_round(out, &state.round)?;
     let (minimum, cut_in) = (state.min_distance, state.cut_in);
     let (single, single_cut_in) = (state.single_width, state.single_cut_in);
@@ -80,6 +80,26 @@ fn print_state<W: Write>(out: &mut W, state: &GraphicsState) -> Result<()> {
         out,
         " {minimum} {cut_in} {single} {single_cut_in} {flip} {base} {shift}"
     )?;
+    Ok(())
+}
+
+/// Prints the two vectors that may differ on the axes, or all three by their parts.
+fn print_vectors<W: Write>(out: &mut W, state: &GraphicsState) -> Result<()> {
+    let (proj, free) = (state.proj, state.free);
+    if !state.whole {
+        write!(out, "{proj:?} {free:?}")?;
+        return Ok(());
+    }
+    print_vector(out, proj)?;
+    write!(out, " ")?;
+    print_vector(out, state.dual)?;
+    write!(out, " ")?;
+    print_vector(out, free)
+}
+
+fn print_vector<W: Write>(out: &mut W, vector: Vector) -> Result<()> {
+    let (x, y) = (vector.x(), vector.y());
+    write!(out, "{x},{y}")?;
     Ok(())
 }
 
@@ -123,7 +143,15 @@ fn print_point<W: Write>(out: &mut W, point: &Point) -> Result<()> {
     Ok(())
 }
 
-fn print_function<W: Write>(out: &mut W, number: u16, body: &Body) -> Result<()> {
+/// Prints what each number of a function or an opcode stands for.
+fn print_bodies<W: Write>(out: &mut W, bodies: &BTreeMap<u16, Body>) -> Result<()> {
+    for (number, body) in bodies.iter() {
+        print_body(out, *number, body)?;
+    }
+    Ok(())
+}
+
+fn print_body<W: Write>(out: &mut W, number: u16, body: &Body) -> Result<()> {
     write!(out, " {number} ")?;
     for byte in &body.code.table {
         let letter = char::from(*byte);

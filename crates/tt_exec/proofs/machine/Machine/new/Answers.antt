@@ -9,6 +9,7 @@ returns c =
       c.new-2.ensures,
       c.new-3.ensures,
       c.new-4.ensures,
-      c.new-5.ensures.ppem,
-      c.new-5.ensures.units,
+      c.new-5.ensures,
+      c.new-6.ensures.ppem,
+      c.new-6.ensures.units,
     ) refl

@@ -15,4 +15,6 @@ returns c =
     let cvt = same_items _ (λ x y same. same) c.args.self.now.cvt.items _ c.in_ok-clone.ensures.cases.0 in
     let storage = same_items _ (λ x y same. same) c.args.self.now.storage.items _ c.in_ok-clone-2.ensures.cases.0 in
     let functions = entries_from_clone _ _ (λ x y same. same) (λ v w same. same) _ _ c.in_ok-clone-3.ensures.cases in
-    rw (cvt, storage, c.in_ok-copy.ensures, functions) refl
+    let instructions =
+    entries_from_clone _ _ (λ x y same. same) (λ v w same. same) _ _ c.in_ok-clone-4.ensures.cases in
+    rw (cvt, storage, c.in_ok-copy.ensures, functions, instructions) refl

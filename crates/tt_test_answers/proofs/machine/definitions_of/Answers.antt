@@ -1,4 +1,4 @@
-use Rattle.tt_test_answers.proofs.machine.functions_of.Goals as goal
+use Rattle.tt_test_answers.proofs.machine.definitions_of.Goals as goal
 
 pub new-requires : goal.new-requires
 new-requires c = record {

@@ -1,0 +1,40 @@
+-- Laws of what sets the graphics state, each said once: what is given without the whole instruction set is given with it
+-- too, and without it vectors stay on the axes.
+use Rattle.std.specs.Prelude.{◌≡◌, ℕ, ℤ, false, List, Result, IfOk}
+use Rattle.tt_core.specs.declared.fault.Why.{Why}
+use Rattle.tt_state.specs.declared.graphics_state.GraphicsState.{GraphicsState}
+use Rattle.tt_state.specs.declared.vector.Vector.{Vector}
+use Rattle.tt_state.specs.declared.vector.Vector.TheVariants as vector
+use Rattle.tt_points_zones.specs.WithAll.{with_all, Stays}
+use Rattle.tt_exec_state.specs.Settings.{state_set}
+use Rattle.tt_exec_state.specs.Vectors.{vectors_accessed}
+use Rattle.tt_exec_state.specs.declared.instruction.Setting.{Setting}
+use Rattle.tt_exec_state.specs.declared.instruction.Vectors.{Vectors}
+
+-- the graphics state beside the stack
+abbrev pub beside : List ℤ × GraphicsState → List ℤ × GraphicsState
+beside t = (t.0, with_all t.1)
+
+abbrev pub VectorsStay : Type 0
+VectorsStay = (o : Vectors) (s : List ℤ) (g : GraphicsState)
+    → Stays beside (vectors_accessed o s g) (vectors_accessed o s (with_all g))
+
+abbrev pub SettingsStay : Type 0
+SettingsStay = (o : Setting) (ppem em : ℕ) (s : List ℤ) (g : GraphicsState)
+    → Stays beside (state_set o ppem em s g) (state_set o ppem em s (with_all g))
+
+abbrev pub IsAxis : Vector → Type 0
+IsAxis vector.X = Unit {0}
+IsAxis vector.Y = Unit {0}
+IsAxis (vector.Off s) = ⊥
+
+-- vectors on the axes, the dual projection vector with the projection vector
+pub record AreOnAxes (g : GraphicsState) : Type 0 where
+  pub whole : g.whole ≡ false
+  pub projection : IsAxis g.proj
+  pub dual : g.dual ≡ g.proj
+  pub freedom : IsAxis g.free
+
+abbrev pub AxesAreKept : Type 0
+AxesAreKept = (o : Vectors) (s : List ℤ) (g : GraphicsState) → AreOnAxes g
+    → IfOk (vectors_accessed o s g) (λ t. AreOnAxes t.1)
