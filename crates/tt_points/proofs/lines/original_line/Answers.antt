@@ -1,4 +1,4 @@
-use Rattle.std.proofs.Common.{SFits, w32, rules, refl}
+use Rattle.std.proofs.Common.{SFits, w32, rules}
 use Rattle.std.proofs.lemmas.Int.{to_z-of_z}
 use Rattle.tt_points.proofs.lines.original_line.Goals as goal
 
