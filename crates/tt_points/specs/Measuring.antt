@@ -34,7 +34,8 @@ distance position.Original m a b = original_distance m a b
 
 -- from p1 to p2
 unfoldable pub md : Position → ℤ → ℤ → ZoneLists → GraphicsState → Result ℤ Why
-md between p2 p1 z g = point_in g.zp1 p1 z >>= λ a. point_in g.zp0 p2 z >>= λ b. Ok (distance between (vectors_of g) a b)
+md between p2 p1 z g = point_in g.zp1 p1 z >>= λ a. point_in g.zp0 p2 z >>= λ b.
+    Ok (distance between (vectors_of g) a b)
 
 -- moved to a coordinate
 unfoldable pub scfs : ℤ → ℤ → ZoneLists → GraphicsState → Result ZoneLists Why

@@ -87,7 +87,8 @@ rounded_where_it_is : mdap true (pos 1) (zero_and (pos 40)) default_state
 unfolding mdap mdap_distance direction project
 rounded_where_it_is = refl
 
-other_vectors : mdap false (pos 1) (zero_and (pos 40)) (record default_state { free = vector.Y }) ≡ Err why.Perpendicular
+other_vectors : mdap false (pos 1) (zero_and (pos 40)) (record default_state { free = vector.Y })
+    ≡ Err why.Perpendicular
 unfolding mdap mdap_distance direction project
 other_vectors = refl
 

@@ -1,8 +1,6 @@
 -- No part of the standard: what an instruction on a single point, or on lines, gives without the whole instruction set it
 -- gives with it too.
-use Rattle.std.proofs.Common.{◌≡◌, ℤ, ◌-ℤ◌, neg_ℤ, Bool, Result, Ok, Err, refl}
-use Rattle.tt_core.specs.Outcomes.{◌>>=◌}
-use Rattle.tt_core.specs.declared.fault.Why.{Why}
+use Rattle.std.proofs.Common.{ℤ, Bool, refl}
 use Rattle.tt_state.specs.declared.graphics_state.GraphicsState.{GraphicsState}
 use Rattle.tt_points_loops.specs.WithAll.{beside, StaysBeside, by_vectors}
 use Rattle.tt_points_zones.specs.Motions.{direction, cur, moved}

@@ -147,9 +147,9 @@ fn put_to(q: Point, place: Place) -> Point
 }
 
 /// ISECT[], 0x0F: p, a0, a1, b0, b1 -> point p of zone pointer 2 is put where line a meets line b, and is touched along
-/// both axes, whatever the freedom vector is. Line a goes from point a0 to point a1 of zone pointer 1, line b from point
-/// b0 to point b1 of zone pointer 0. Where the lines are parallel, or nearly so, the point is put into the middle of
-/// these four. Errors: PointRange of b1, b0, a1, a0, p; ValueRange.
+/// both axes, whatever the freedom vector is. Line a goes through points a0 and a1 of zone pointer 1, line b through
+/// points b0 and b1 of zone pointer 0. Where the lines are parallel, or nearly so (profile), the point is put into the
+/// middle of these four. Errors: PointRange of b1, b0, a1, a0, p; ValueRange.
 #[tactic(auto, unfolding(crate::specs::Lines::isect))]
 pub fn isect(zones: &mut Zones, state: &GraphicsState, p: i32, a: Ends, b: Ends) -> Result<(), Why>
     requires { IsZones (zones_view zones.old) }
@@ -193,9 +193,9 @@ fn move_by(zones: &mut Zones, zone: Zone, p: i32, m: &Motion, d: Distance) -> Re
     Ok(())
 }
 
-/// ALIGNPTS[], 0x27: p2, p1 -> point p1 of zone pointer 1 and point p2 of zone pointer 0 are moved to the middle between
-/// them, as the projection vector measures it: each by half the distance, cut toward 0. Errors: PointRange of p1, of p2;
-/// Perpendicular, ValueRange.
+/// ALIGNPTS[], 0x27: p2, p1 -> point p1 of zone pointer 1 and point p2 of zone pointer 0 are moved to the middle
+/// between them, as the projection vector measures it: each by half the distance, cut toward 0 (profile). Errors:
+/// PointRange of p1, of p2; Perpendicular, ValueRange.
 #[tactic(auto, unfolding(crate::specs::Lines::alignpts))]
 pub fn alignpts(zones: &mut Zones, state: &GraphicsState, p1: i32, p2: i32) -> Result<(), Why>
     requires { IsZones (zones_view zones.old) }
