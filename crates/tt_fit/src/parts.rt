@@ -82,8 +82,8 @@ pub(crate) fn begun_parts<'a>(
 }
 
 /// The vectors, the reference points, the zone pointers and the loop as they are by default.
-fn pointers_set_back(state: GraphicsState) -> GraphicsState
-    ensures { result ≡ pointers_set_back state }
+fn pointers_set_back(state: &GraphicsState) -> GraphicsState
+    ensures { result ≡ pointers_set_back state.now }
 {
     let default = GraphicsState::new(state.whole);
     GraphicsState {
@@ -97,13 +97,13 @@ fn pointers_set_back(state: GraphicsState) -> GraphicsState
         zp1: default.zp1,
         zp2: default.zp2,
         loops: default.loops,
-        ..state
+        ..*state
     }
 }
 
 /// The graphics state in which the programs of glyphs begin: the defaults, where the control value program asked for them.
-fn glyph_state(by_default: bool, state: GraphicsState) -> GraphicsState
-    ensures { result ≡ glyph_state by_default state }
+fn glyph_state(by_default: bool, state: &GraphicsState) -> GraphicsState
+    ensures { result ≡ glyph_state by_default state.now }
 {
     if by_default {
         return GraphicsState::new(state.whole);
@@ -117,7 +117,7 @@ pub(crate) fn left_to_glyphs<'a>(left: Parts<'a>) -> Parts<'a>
     ensures exact { parts_of result ≡ left_to_glyphs (parts_of left.entry) }
     ensures valid { AreParts (parts_of result) }
 {
-    let state = glyph_state(left.default_state, left.state);
+    let state = glyph_state(left.default_state, &left.state);
     Parts { state, ..left }
 }
 
