@@ -45,7 +45,6 @@ impl MachineState<'_> {
         }
     }
 
-    #[inline(always)]
     pub(crate) fn access_vectors(&mut self, op: Vectors, at: usize) -> Result<(), Fault>
         requires { at ≤ length self.old.frame.code.bytes.now }
         ensures { Does (is.operate (operation.access_vectors op) at (state_of self.old)) (state_of self.new) result }

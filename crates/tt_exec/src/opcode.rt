@@ -55,6 +55,7 @@ impl MachineState<'_> {
     }
 
     /// SPVTL[], SFVTL[], SDPVTL[], ISECT[] and ALIGNPTS[]. Error: OffProfile without the whole instruction set.
+    #[cold]
     fn on_lines(&mut self, op: PointInstruction, at: usize) -> Result<(), FontFault>
         requires { at < length self.old.frame.code.bytes.now }
         ensures { let given = is.operate (operation.beyond (operation.on_points op)) at (state_of self.old) in
@@ -67,6 +68,7 @@ impl MachineState<'_> {
     }
 
     /// S45ROUND[] and DEBUG[]. Error: OffProfile without the whole instruction set.
+    #[cold]
     fn set_beyond(&mut self, op: Setting, at: usize) -> Result<(), FontFault>
         requires { at < length self.old.frame.code.bytes.now }
         ensures { let given = is.operate (operation.beyond (operation.set_state op)) at (state_of self.old) in
@@ -79,6 +81,7 @@ impl MachineState<'_> {
     }
 
     /// IDEF[]. Error: OffProfile without the whole instruction set.
+    #[cold]
     fn define_instruction(&mut self, at: usize) -> Result<(), FontFault>
         requires { at < length self.old.frame.code.bytes.now }
         ensures { let given = is.operate (operation.beyond operation.idef) at (state_of self.old) in
