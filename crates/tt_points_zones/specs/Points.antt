@@ -1,6 +1,6 @@
 -- Apple TrueType Reference Manual, "Instructing TrueType Glyphs" (zones, touched points) and "Graphics State"
 -- (vectors): a point by its number in a zone, its coordinates along an axis, and how it is moved. Coordinates are in 26.6 pixels.
-use Rattle.std.specs.Prelude.{◌≡◌, ◌<◌, nat_le, ℤ, pos, negsuc, ◌+ℤ◌, ◌≤ℤ◌, int_lt, unsigned_abs, slice_get, Bool, true, false, if◌then◌else◌, List, [], ◌∷◌, length, slice_set, Result, Ok, Err, refl}
+use Rattle.std.specs.Prelude.{◌≡◌, ◌<◌, nat_le, ℤ, pos, negsuc, ◌+ℤ◌, ◌≤ℤ◌, int_lt, unsigned_abs, slice_get, Bool, true, false, if◌then◌else◌, List, [], ◌∷◌, length, slice_set, is_ok, Result, Ok, Err, refl}
 use Rattle.std.specs.Option.{ok_or}
 use Rattle.tt_core.specs.Limits.{coordinate_limit}
 use Rattle.tt_core.specs.Outcomes.{◌>>=◌}
@@ -59,6 +59,9 @@ points_in zone.Glyph z = z.glyph
 
 abbrev pub point_in : Zone → ℤ → ZoneLists → Result Point Why
 point_in zone n z = point_at n (points_in zone z)
+
+abbrev pub has_point : Zone → ℤ → ZoneLists → Bool
+has_point zone n z = is_ok (point_in zone n z)
 
 -- the zones with another point in the place of one that is there
 abbrev pub with_point : Zone → ℤ → Point → ZoneLists → ZoneLists

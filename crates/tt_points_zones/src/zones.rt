@@ -53,6 +53,14 @@ impl Zones {
         point_at(self.points(zone), n)
     }
 
+    /// Whether there is a point with a number in a zone.
+    pub fn has(&self, zone: Zone, n: i32) -> bool
+        requires { IsZones (zones_view self.now) }
+        ensures { result ≡ is.has_point zone n (zones_view self.now) }
+    {
+        self.point(zone, n).is_ok()
+    }
+
     /// Puts another point in the place of one.
     pub fn set(&mut self, zone: Zone, n: i32, p: Point)
         requires zones { IsZones (zones_view self.old) }

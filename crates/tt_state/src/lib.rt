@@ -7,6 +7,7 @@ pub mod laws;
 mod point;
 mod rounding;
 mod sround;
+mod tolerance;
 mod unit;
 mod vector;
 
@@ -14,4 +15,5 @@ pub use graphics_state::{Axis, GraphicsState, Zone};
 pub use point::Point;
 pub use rounding::Round;
 pub use sround::Super;
+pub use tolerance::Tolerance;
 pub use vector::{Slope, Vector, dot};
