@@ -1,7 +1,7 @@
 //! Points moved along the projection vector by a value of the control value table. Apple TrueType Reference Manual,
 //! "Instruction Set". Coordinates are in 26.6 pixels.
 
-ghost use Rattle.std.specs.Prelude.{◌≡◌, ◌-ℤ◌, ◌<◌, ◌^◌, unsigned_abs, IfOk};
+ghost use Rattle.std.specs.Prelude.{◌≡◌, ◌-ℤ◌, ◌<◌, ◌^◌, unsigned_abs, IfOk, IfErr};
 ghost use Rattle.tt_core.specs.Outcomes.{Gives};
 ghost use Rattle.tt_points_zones.specs.Motions as motion;
 ghost use Rattle.tt_points_zones.specs.Zones.{IsPoint, IsZones, zones_view};
@@ -107,6 +107,7 @@ pub fn miap(
     ensures exact { Gives (λ u. (zones_view zones.new, state.new)) result
         (is.miap round p c (zones_view zones.old) state.old) }
     ensures zones { IsZones (zones_view zones.new) }
+    ensures kept { IfErr result (λ why. (zones_view zones.new ≡ zones_view zones.old) × (state.new ≡ state.old)) }
 {
     let q = zones.point(state.zp0, p)?;
     may_move(state)?;

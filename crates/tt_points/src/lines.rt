@@ -1,7 +1,7 @@
 //! Lines through points: vectors set by them, where two meet, and points aligned. Apple TrueType Reference Manual,
 //! "Instruction Set" (SPVTL, SFVTL, SDPVTL, ISECT, ALIGNPTS). Coordinates are in 26.6 pixels.
 
-ghost use Rattle.std.specs.Prelude.{◌≡◌, ◌<◌, ◌≤◌, ◌*◌, ◌^◌, neg_ℤ, unsigned_abs, IfOk};
+ghost use Rattle.std.specs.Prelude.{◌≡◌, ◌<◌, ◌≤◌, ◌*◌, ◌^◌, neg_ℤ, unsigned_abs, IfOk, IfErr};
 ghost use Rattle.tt_core.specs.Limits.{coordinate_limit};
 ghost use Rattle.tt_core.specs.Outcomes.{Gives};
 ghost use Rattle.tt_points_zones.specs.Meeting.{IsLine, IsPlace};
@@ -61,7 +61,8 @@ pub fn spvtl(
     p2: i32,
 ) -> Result<(), Why>
     requires { IsZones (zones_view zones.now) }
-    ensures { Gives (λ u. state.new) result (is.spvtl turned p1 p2 (zones_view zones.now) state.old) }
+    ensures exact { Gives (λ u. state.new) result (is.spvtl turned p1 p2 (zones_view zones.now) state.old) }
+    ensures kept { IfErr result (λ why. state.new ≡ state.old) }
 {
     let (a, b) = two_points(zones, state, p1, p2)?;
     state.proj = current_line(turned, a, b);
@@ -80,7 +81,8 @@ pub fn sfvtl(
     p2: i32,
 ) -> Result<(), Why>
     requires { IsZones (zones_view zones.now) }
-    ensures { Gives (λ u. state.new) result (is.sfvtl turned p1 p2 (zones_view zones.now) state.old) }
+    ensures exact { Gives (λ u. state.new) result (is.sfvtl turned p1 p2 (zones_view zones.now) state.old) }
+    ensures kept { IfErr result (λ why. state.new ≡ state.old) }
 {
     let (a, b) = two_points(zones, state, p1, p2)?;
     state.free = current_line(turned, a, b);
@@ -99,7 +101,8 @@ pub fn sdpvtl(
     p2: i32,
 ) -> Result<(), Why>
     requires { IsZones (zones_view zones.now) }
-    ensures { Gives (λ u. state.new) result (is.sdpvtl turned p1 p2 (zones_view zones.now) state.old) }
+    ensures exact { Gives (λ u. state.new) result (is.sdpvtl turned p1 p2 (zones_view zones.now) state.old) }
+    ensures kept { IfErr result (λ why. state.new ≡ state.old) }
 {
     let (a, b) = two_points(zones, state, p1, p2)?;
     state.dual = original_line(turned, a, b);
@@ -155,6 +158,7 @@ pub fn isect(zones: &mut Zones, state: &GraphicsState, p: i32, a: Ends, b: Ends)
     requires { IsZones (zones_view zones.old) }
     ensures exact { Gives (λ u. zones_view zones.new) result (is.isect p a b (zones_view zones.old) state.now) }
     ensures zones { IsZones (zones_view zones.new) }
+    ensures kept { IfErr result (λ why. zones_view zones.new ≡ zones_view zones.old) }
 {
     let b = line_through(zones, state.zp0, b)?;
     let a = line_through(zones, state.zp1, a)?;

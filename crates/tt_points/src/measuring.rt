@@ -1,7 +1,7 @@
 //! Coordinates read and set, and a touch undone. Apple TrueType Reference Manual, "Instruction Set". Coordinates are in
 //! 26.6 pixels.
 
-ghost use Rattle.std.specs.Prelude.{◌≡◌, ◌-ℤ◌, ◌<◌, ◌≤◌, ◌*◌, ◌^◌, unsigned_abs};
+ghost use Rattle.std.specs.Prelude.{◌≡◌, ◌-ℤ◌, ◌<◌, ◌≤◌, ◌*◌, ◌^◌, unsigned_abs, IfErr};
 ghost use Rattle.tt_core.specs.Limits.{coordinate_limit};
 ghost use Rattle.tt_core.specs.Outcomes.{Gives};
 ghost use Rattle.tt_points_zones.specs.Motions as motion;
@@ -81,6 +81,7 @@ pub fn scfs(zones: &mut Zones, state: &GraphicsState, p: i32, v: i32) -> Result<
     requires { IsZones (zones_view zones.old) }
     ensures exact { Gives (λ u. zones_view zones.new) result (is.scfs p v (zones_view zones.old) state.now) }
     ensures zones { IsZones (zones_view zones.new) }
+    ensures kept { IfErr result (λ why. zones_view zones.new ≡ zones_view zones.old) }
 {
     let q = zones.point(state.zp2, p)?;
     may_move(state)?;
@@ -96,6 +97,7 @@ pub fn utp(zones: &mut Zones, state: &GraphicsState, p: i32) -> Result<(), Why>
     requires { IsZones (zones_view zones.old) }
     ensures exact { Gives (λ u. zones_view zones.new) result (is.utp p (zones_view zones.old) state.now) }
     ensures zones { IsZones (zones_view zones.new) }
+    ensures kept { IfErr result (λ why. zones_view zones.new ≡ zones_view zones.old) }
 {
     let q = zones.point(state.zp0, p)?;
     zones.set(state.zp0, p, Motion::of(state).marked(q, false));

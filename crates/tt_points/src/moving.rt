@@ -1,7 +1,7 @@
 //! Points moved along the projection vector, without a control value. Apple TrueType Reference Manual, "Instruction
 //! Set". Coordinates are in 26.6 pixels.
 
-ghost use Rattle.std.specs.Prelude.{◌≡◌, ◌-ℤ◌, ◌<◌, ◌≤◌, ◌^◌, unsigned_abs, IfOk};
+ghost use Rattle.std.specs.Prelude.{◌≡◌, ◌-ℤ◌, ◌<◌, ◌≤◌, ◌^◌, unsigned_abs, IfOk, IfErr};
 ghost use Rattle.tt_core.specs.Outcomes.{Gives};
 ghost use Rattle.tt_state.specs.Rounding.{rounded};
 ghost use Rattle.tt_points_zones.specs.Motions as motion;
@@ -38,7 +38,7 @@ pub(crate) fn kept(q: Point, m: &Motion, d: Distance, r: Point) -> Result<Point,
 }
 
 /// The reference points after a move that kept a distance.
-pub(crate) fn refer(state: &mut GraphicsState, rp0: bool, p: i32)
+pub fn refer(state: &mut GraphicsState, rp0: bool, p: i32)
     ensures { state.new ≡ is.referred rp0 p state.old }
 {
     state.rp1 = state.rp0;
@@ -79,6 +79,7 @@ pub fn mdap(zones: &mut Zones, state: &mut GraphicsState, round: bool, p: i32) -
     ensures exact { Gives (λ u. (zones_view zones.new, state.new)) result
         (is.mdap round p (zones_view zones.old) state.old) }
     ensures zones { IsZones (zones_view zones.new) }
+    ensures kept { IfErr result (λ why. (zones_view zones.new ≡ zones_view zones.old) × (state.new ≡ state.old)) }
 {
     let q = zones.point(state.zp0, p)?;
     may_move(state)?;
@@ -171,6 +172,7 @@ pub fn mdrp(
     ensures exact { Gives (λ u. (zones_view zones.new, state.new)) result
         (is.mdrp keeping p (zones_view zones.old) state.old) }
     ensures zones { IsZones (zones_view zones.new) }
+    ensures kept { IfErr result (λ why. (zones_view zones.new ≡ zones_view zones.old) × (state.new ≡ state.old)) }
 {
     let q = zones.point(state.zp1, p)?;
     let r = zones.point(state.zp0, state.rp0)?;
