@@ -5,5 +5,6 @@ pub mod Twilight
 pub mod Slanted
 pub mod ControlValues
 pub mod Lines
+pub mod Pairs
 pub mod Shapes
 pub mod WithAll

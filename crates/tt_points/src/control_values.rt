@@ -7,10 +7,12 @@ ghost use Rattle.tt_points_zones.specs.Motions as motion;
 ghost use Rattle.tt_points_zones.specs.Zones.{IsPoint, IsZones, zones_view};
 ghost use Rattle.tt_points.specs.ControlValues as is;
 ghost use Rattle.tt_points.specs.Distances as distances;
+ghost use Rattle.tt_points.specs.Pairs as pairs;
 
 use crate::distances::{Keeping, cut_in, flipped, given, rounded_by, single_width, spaced_by};
 use crate::moving::{kept, refer};
-use crate::twilight::{Along, make, placed};
+use crate::pairs::seen;
+use crate::twilight::{Along, placed, placed_in};
 use tt_core::Why;
 use tt_points_zones::{Distance, Motion, Zones, may_move};
 use tt_state::{GraphicsState, Point, Zone};
@@ -160,28 +162,45 @@ fn mirp_distance(keeping: Keeping, state: &GraphicsState, d: Distance, c: Distan
     ))
 }
 
-/// Point `p` of zone pointer 1 moved by MIRP's rule, `c` being the control value after the single width. Errors:
-/// PointRange, ValueRange.
-#[tactic(auto, unfolding(crate::specs::ControlValues::chosen_from))]
-fn choose_from(
-    zones: &mut Zones,
-    state: &GraphicsState,
+/// A point moved by MIRP's rule from `r`, `c` being the control value after the single width. Error: ValueRange.
+#[tactic(auto, unfolding(crate::specs::Pairs::chosen_between))]
+fn chosen_between(
     keeping: Keeping,
+    state: &GraphicsState,
+    m: &Motion,
+    c: Distance,
+    q: Point,
+    r: Point,
+) -> Result<Point, Why>
+    requires q { IsPoint q }
+    requires r { IsPoint r }
+    requires small { unsigned_abs c.0 < 2 ^ 32 }
+    ensures exact { Gives (λ n. n) result (pairs.chosen_between keeping state.now m.now c.0 q r) }
+    ensures valid { IfOk result IsPoint }
+{
+    let d = mirp_distance(keeping, state, m.original_distance(r, q), c);
+    kept(q, m, d, r)
+}
+
+/// What MIRP makes of `q`, the point `p` of zone pointer 1, with reference point 0 at `r`. Error: ValueRange.
+#[tactic(auto, unfolding(crate::specs::Pairs::placed_and_chosen))]
+fn placed_and_chosen(
+    keeping: Keeping,
+    state: &GraphicsState,
     p: i32,
     m: &Motion,
     c: Distance,
-) -> Result<(), Why>
-    requires zones { IsZones (zones_view zones.old) }
+    q: Point,
+    r: Point,
+) -> Result<Point, Why>
+    requires q { IsPoint q }
+    requires r { IsPoint r }
     requires small { unsigned_abs c.0 < 2 ^ 32 }
-    ensures exact { Gives (λ u. zones_view zones.new) result
-        (is.chosen_from keeping m.now p c.0 (zones_view zones.old) state.now) }
-    ensures zones { IsZones (zones_view zones.new) }
+    ensures exact { Gives (λ n. n) result (pairs.placed_and_chosen keeping state.now p m.now c.0 q r) }
+    ensures valid { IfOk result IsPoint }
 {
-    let q = zones.point(state.zp1, p)?;
-    let r = zones.point(state.zp0, state.rp0)?;
-    let d = mirp_distance(keeping, state, m.original_distance(r, q), c);
-    zones.set(state.zp1, p, kept(q, m, d, r)?);
-    Ok(())
+    let q = placed_in(state.zp1, q, m, Along::Freedom, c, r)?;
+    chosen_between(keeping, state, m, c, q, seen(state, state.rp0, r, p, q))
 }
 
 fn single_width_of(state: &GraphicsState, c: i32) -> Distance
@@ -207,14 +226,15 @@ pub fn mirp(
     ensures exact { Gives (λ u. (zones_view zones.new, state.new)) result
         (is.mirp keeping p c (zones_view zones.old) state.old) }
     ensures zones { IsZones (zones_view zones.new) }
+    ensures kept { IfErr result (λ why. (zones_view zones.new ≡ zones_view zones.old) × (state.new ≡ state.old)) }
 {
-    zones.point(state.zp1, p)?;
+    let q = zones.point(state.zp1, p)?;
     let r = zones.point(state.zp0, state.rp0)?;
     may_move(state)?;
     let motion = Motion::of(state);
     let c = single_width_of(state, c);
-    make(zones, state.zp1, p, &motion, Along::Freedom, c, r)?;
-    choose_from(zones, state, keeping, p, &motion, c)?;
+    let q = placed_and_chosen(keeping, state, p, &motion, c, q, r)?;
+    zones.set(state.zp1, p, q);
     refer(state, keeping.set_rp0, p);
     Ok(())
 }

@@ -10,6 +10,7 @@ pub mod laws;
 pub mod lines;
 pub mod measuring;
 pub mod moving;
+mod pairs;
 mod twilight;
 
 pub use distances::Keeping;

@@ -9,6 +9,7 @@ ghost use Rattle.tt_points_zones.specs.Zones.{IsPoint, IsZones, zones_view};
 ghost use Rattle.tt_state.specs.Axes.{vector_of};
 ghost use Rattle.tt_points.specs.Lines as is;
 
+use crate::pairs::seen;
 use tt_core::Why;
 use tt_points_zones::{Distance, Line, Motion, Place, Zones, may_move, met};
 use tt_state::{GraphicsState, Point, Vector, Zone};
@@ -184,19 +185,6 @@ fn opposite(d: Distance) -> Distance
     Distance(-d.0)
 }
 
-/// A point moved by its number. Errors: PointRange, ValueRange.
-#[tactic(auto, unfolding(crate::specs::Lines::move_by))]
-fn move_by(zones: &mut Zones, zone: Zone, p: i32, m: &Motion, d: Distance) -> Result<(), Why>
-    requires zones { IsZones (zones_view zones.old) }
-    requires small { unsigned_abs d.0 < 2 ^ 23 }
-    ensures exact { Gives (λ u. zones_view zones.new) result (is.move_by zone p m.now d.0 (zones_view zones.old)) }
-    ensures zones { IsZones (zones_view zones.new) }
-{
-    let q = zones.point(zone, p)?;
-    zones.set(zone, p, m.moved(q, d.0)?);
-    Ok(())
-}
-
 /// ALIGNPTS[], 0x27: p2, p1 -> point p1 of zone pointer 1 and point p2 of zone pointer 0 are moved to the middle
 /// between them, as the projection vector measures it: each by half the distance, cut toward 0 (profile). Errors:
 /// PointRange of p1, of p2; Perpendicular, ValueRange.
@@ -205,12 +193,16 @@ pub fn alignpts(zones: &mut Zones, state: &GraphicsState, p1: i32, p2: i32) -> R
     requires { IsZones (zones_view zones.old) }
     ensures exact { Gives (λ u. zones_view zones.new) result (is.alignpts p1 p2 (zones_view zones.old) state.now) }
     ensures zones { IsZones (zones_view zones.new) }
+    ensures kept { IfErr result (λ why. zones_view zones.new ≡ zones_view zones.old) }
 {
     let a = zones.point(state.zp1, p1)?;
     let b = zones.point(state.zp0, p2)?;
     may_move(state)?;
     let motion = Motion::of(state);
     let h = half(motion.current_distance(a, b));
-    move_by(zones, state.zp1, p1, &motion, h)?;
-    move_by(zones, state.zp0, p2, &motion, opposite(h))
+    let a = motion.moved(a, h.0)?;
+    let b = motion.moved(seen(state, p2, b, p1, a), opposite(h).0)?;
+    zones.set(state.zp1, p1, a);
+    zones.set(state.zp0, p2, b);
+    Ok(())
 }

@@ -7,9 +7,11 @@ ghost use Rattle.tt_state.specs.Rounding.{rounded};
 ghost use Rattle.tt_points_zones.specs.Motions as motion;
 ghost use Rattle.tt_points_zones.specs.Zones.{IsPoint, IsZones, zones_view};
 ghost use Rattle.tt_points.specs.Moving as is;
+ghost use Rattle.tt_points.specs.Pairs as pairs;
 
 use crate::distances::{Keeping, given, rounded_by, single_width, spaced_by};
-use crate::twilight::{Along, make};
+use crate::pairs::seen;
+use crate::twilight::{Along, placed_in};
 use tt_core::Why;
 use tt_points_zones::{Distance, Motion, Zones, may_move};
 use tt_state::{GraphicsState, Point};
@@ -91,25 +93,24 @@ pub fn mdap(zones: &mut Zones, state: &mut GraphicsState, round: bool, p: i32) -
     Ok(())
 }
 
-/// Point `p` of zone pointer 1 moved to the distance `d` from reference point 0. Errors: PointRange, ValueRange.
-#[tactic(auto, unfolding(crate::specs::Moving::kept_from))]
-fn keep_from(
-    zones: &mut Zones,
+/// What MSIRP makes of `q`, the point `p` of zone pointer 1, with reference point 0 at `r`. Error: ValueRange.
+#[tactic(auto, unfolding(crate::specs::Pairs::placed_and_kept))]
+fn placed_and_kept(
     state: &GraphicsState,
     p: i32,
     m: &Motion,
     d: Distance,
-) -> Result<(), Why>
-    requires zones { IsZones (zones_view zones.old) }
-    requires small { unsigned_abs d.0 < 2 ^ 33 }
-    ensures exact { Gives (λ u. zones_view zones.new) result
-        (is.kept_from m.now p d.0 (zones_view zones.old) state.now) }
-    ensures zones { IsZones (zones_view zones.new) }
+    q: Point,
+    r: Point,
+) -> Result<Point, Why>
+    requires q { IsPoint q }
+    requires r { IsPoint r }
+    requires small { unsigned_abs d.0 < 2 ^ 32 }
+    ensures exact { Gives (λ n. n) result (pairs.placed_and_kept state.now p m.now d.0 q r) }
+    ensures valid { IfOk result IsPoint }
 {
-    let q = zones.point(state.zp1, p)?;
-    let r = zones.point(state.zp0, state.rp0)?;
-    zones.set(state.zp1, p, kept(q, m, d, r)?);
-    Ok(())
+    let q = placed_in(state.zp1, q, m, Along::Projection, d, r)?;
+    kept(q, m, d, seen(state, state.rp0, r, p, q))
 }
 
 /// MSIRP[a]: p, d -> point p of zone pointer 1 is moved to the distance d from reference point 0, of
@@ -127,14 +128,14 @@ pub fn msirp(
     ensures exact { Gives (λ u. (zones_view zones.new, state.new)) result
         (is.msirp set_rp0 p d (zones_view zones.old) state.old) }
     ensures zones { IsZones (zones_view zones.new) }
+    ensures kept { IfErr result (λ why. (zones_view zones.new ≡ zones_view zones.old) × (state.new ≡ state.old)) }
 {
-    zones.point(state.zp1, p)?;
+    let q = zones.point(state.zp1, p)?;
     let r = zones.point(state.zp0, state.rp0)?;
     may_move(state)?;
     let motion = Motion::of(state);
-    let d = given(d);
-    make(zones, state.zp1, p, &motion, Along::Projection, d, r)?;
-    keep_from(zones, state, p, &motion, d)?;
+    let q = placed_and_kept(state, p, &motion, given(d), q, r)?;
+    zones.set(state.zp1, p, q);
     refer(state, set_rp0, p);
     Ok(())
 }

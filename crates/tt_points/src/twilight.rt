@@ -2,11 +2,12 @@
 
 ghost use Rattle.std.specs.Prelude.{◌≡◌, ◌<◌, ◌^◌, unsigned_abs, IfOk};
 ghost use Rattle.tt_core.specs.Outcomes.{Gives};
-ghost use Rattle.tt_points_zones.specs.Zones.{IsPoint, IsZones, zones_view};
+ghost use Rattle.tt_points_zones.specs.Zones.{IsPoint};
+ghost use Rattle.tt_points.specs.Pairs as pairs;
 ghost use Rattle.tt_points.specs.Twilight as is;
 
 use tt_core::Why;
-use tt_points_zones::{Distance, Motion, Zones};
+use tt_points_zones::{Distance, Motion};
 use tt_state::{Point, Zone};
 
 /// The vector along which the distance is that a twilight point is placed at.
@@ -88,30 +89,24 @@ pub(crate) fn placed(
     Ok(settled(further(at_original(p, r), m, along, d)?))
 }
 
-/// Places a twilight point so, by its number; glyph points stay. Errors: PointRange, ValueRange.
-#[tactic(auto, unfolding(crate::specs::Twilight::made))]
-pub(crate) fn make(
-    zones: &mut Zones,
+/// The same of a point that is a twilight point; a glyph's point stays. Error: ValueRange.
+#[tactic(auto, unfolding(crate::specs::Pairs::placed_in))]
+pub(crate) fn placed_in(
     zone: Zone,
-    p: i32,
+    p: Point,
     m: &Motion,
     along: Along,
     d: Distance,
     r: Point,
-) -> Result<(), Why>
-    requires zones { IsZones (zones_view zones.old) }
+) -> Result<Point, Why>
+    requires p { IsPoint p }
     requires r { IsPoint r }
     requires small { unsigned_abs d.0 < 2 ^ 32 }
-    ensures exact { Gives (λ u. zones_view zones.new) result
-        (is.made zone along m.now p d.0 r (zones_view zones.old)) }
-    ensures zones { IsZones (zones_view zones.new) }
+    ensures exact { Gives (λ q. q) result (pairs.placed_in zone along m.now d.0 r p) }
+    ensures valid { IfOk result IsPoint }
 {
     match zone {
-        Zone::Twilight => {
-            let q = zones.point(Zone::Twilight, p)?;
-            zones.set(Zone::Twilight, p, placed(q, m, along, d, r)?);
-            Ok(())
-        }
-        Zone::Glyph => Ok(()),
+        Zone::Twilight => placed(p, m, along, d, r),
+        Zone::Glyph => Ok(p),
     }
 }
