@@ -7,3 +7,4 @@ pub mod Deltas
 pub mod Turns
 pub mod WithAll
 pub mod Shapes
+pub mod Total
