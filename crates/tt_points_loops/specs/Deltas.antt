@@ -50,6 +50,7 @@ abbrev pub exception_at : DeltaRange → ℕ → ℕ → GraphicsState → Optio
 exception_at range byte ppem g =
     if int_eq (size_of range byte g) (pos ppem) then Some (steps_of byte *ℤ step_of g) else None
 
+-- the exception that an argument is at a size
 abbrev pub delta_of : Tolerance → DeltaRange → ℤ → ℕ → GraphicsState → Result (Option ℤ) Why
 delta_of t range argument ppem g = byte_of t argument >>= λ byte. Ok (exception_at range byte ppem g)
 

@@ -8,3 +8,4 @@ pub mod Turns
 pub mod WithAll
 pub mod Shapes
 pub mod Total
+pub mod Loosened

@@ -97,7 +97,8 @@ unfolding direction project
 to_where_it_stands = refl
 
 crossed_before_a_bad_point : alignrp tolerance.Strict (pos 9 ∷ pos 1 ∷ [])
-    (glyph (point (pos 5) (pos 7) ∷ point (pos 1) (pos 2) ∷ [])) (record default_state { free = vector.Y; loops = 2 }) ≡ Err why.Perpendicular
+    (glyph (point (pos 5) (pos 7) ∷ point (pos 1) (pos 2) ∷ [])) (record default_state { free = vector.Y; loops = 2 })
+    ≡ Err why.Perpendicular
 unfolding direction
 crossed_before_a_bad_point = refl
 
@@ -155,7 +156,8 @@ aligned_along_y = refl
 
 -- with the whole instruction set crossed vectors are no refusal
 crossed_with_the_whole_set : alignrp tolerance.Strict (pos 9 ∷ pos 1 ∷ [])
-    (glyph (still (pos 100) (pos 200) ∷ at_first ∷ [])) (record (default_of true) { free = vector.Y; loops = 2 }) ≡ Err why.PointRange
+    (glyph (still (pos 100) (pos 200) ∷ at_first ∷ [])) (record (default_of true) { free = vector.Y; loops = 2 })
+    ≡ Err why.PointRange
 unfolding direction project
 crossed_with_the_whole_set = refl
 
