@@ -1,6 +1,7 @@
 -- Apple TrueType Reference Manual, "Instruction set": managing exceptions (DELTAP1 to DELTAP3, DELTAC1 to DELTAC3).
 -- Distances are in 26.6 pixels, sizes in pixels per em.
 use Rattle.std.specs.Prelude.{◌≡◌, ℕ, ◌/◌, ◌%◌, ◌-◌, ◌^◌, ◌||◌, nat_lt, ℤ, pos, negsuc, ◌+ℤ◌, ◌-ℤ◌, ◌*ℤ◌, int_lt, unsigned_abs, Bool, true, false, if◌then◌else◌, List, [], ◌∷◌, reverse, Option, Some, None, Result, Ok, Err, refl}
+use Rattle.std.specs.Int.{int_rem_euclid}
 use Rattle.std.specs.Ordering.{int_eq}
 use Rattle.tt_core.specs.Outcomes.{◌>>=◌}
 use Rattle.tt_core.specs.declared.fault.Why.{Why}
@@ -9,12 +10,14 @@ use Rattle.tt_state.specs.GraphicsState.{default_state}
 use Rattle.tt_state.specs.Vectors.{project}
 use Rattle.tt_state.specs.declared.graphics_state.GraphicsState.{GraphicsState}
 use Rattle.tt_state.specs.declared.point.Point.{Point}
+use Rattle.tt_state.specs.declared.tolerance.Tolerance.{Tolerance}
+use Rattle.tt_state.specs.declared.tolerance.Tolerance.TheVariants as tolerance
 use Rattle.tt_points_zones.specs.Motions.{direction, moved}
 use Rattle.tt_points_zones.specs.Points.{point_in, with_point}
 use Rattle.tt_points_zones.specs.Zones.{ZoneLists}
 use Rattle.tt_points_loops.specs.declared.deltas.DeltaRange.{DeltaRange}
 use Rattle.tt_points_loops.specs.declared.deltas.DeltaRange.TheVariants as ranges
-use Rattle.tt_points_loops.specs.Series.{one_by_one}
+use Rattle.tt_points_loops.specs.Series.{one_by_one, passing_over}
 use Rattle.tt_points_loops.specs.Slanted.{rising, slanted, at_first, moved_on}
 
 -- how far above the delta base the sizes of a range begin
@@ -36,12 +39,20 @@ steps_of argument =
 abbrev pub step_of : GraphicsState → ℤ
 step_of g = pos (2 ^ (6 - g.delta_shift))
 
--- the exception that an argument is at a size, None at others. Past a byte it has no meaning (profile).
-abbrev pub delta_of : DeltaRange → ℤ → ℕ → GraphicsState → Result (Option ℤ) Why
-delta_of range argument ppem g =
-    if int_lt argument (pos 0) || int_lt (pos 255) argument then Err why.BadArgument
-    else Ok (if int_eq (size_of range (unsigned_abs argument) g) (pos ppem)
-    then Some (steps_of (unsigned_abs argument) *ℤ step_of g) else None)
+-- An argument as a byte. Past one it has no meaning (profile), and a tolerant machine takes its low byte.
+abbrev pub byte_of : Tolerance → ℤ → Result ℕ Why
+byte_of tolerance.Strict argument =
+    if int_lt argument (pos 0) || int_lt (pos 255) argument then Err why.BadArgument else Ok (unsigned_abs argument)
+byte_of tolerance.Tolerant argument = Ok (unsigned_abs (int_rem_euclid argument (pos 256)))
+
+-- the exception that a byte is at a size, None at others
+abbrev pub exception_at : DeltaRange → ℕ → ℕ → GraphicsState → Option ℤ
+exception_at range byte ppem g =
+    if int_eq (size_of range byte g) (pos ppem) then Some (steps_of byte *ℤ step_of g) else None
+
+-- the exception that an argument is at a size
+abbrev pub delta_of : Tolerance → DeltaRange → ℤ → ℕ → GraphicsState → Result (Option ℤ) Why
+delta_of t range argument ppem g = byte_of t argument >>= λ byte. Ok (exception_at range byte ppem g)
 
 -- a point of zp0 moved by an exception, if there is one
 abbrev pub move_by : Option ℤ → GraphicsState → ℤ → ZoneLists → Result ZoneLists Why
@@ -49,8 +60,8 @@ move_by None g n z = Ok z
 move_by (Some d) g n z =
     point_in g.zp0 n z >>= λ p. direction g >>= λ m. moved m d p >>= λ q. Ok (with_point g.zp0 n q z)
 
-abbrev pub except : DeltaRange → ℕ → GraphicsState → ℤ × ℤ → ZoneLists → Result ZoneLists Why
-except range ppem g pair z = delta_of range pair.0 ppem g >>= λ d. move_by d g pair.1 z
+abbrev pub except : Tolerance → DeltaRange → ℕ → GraphicsState → ℤ × ℤ → ZoneLists → Result ZoneLists Why
+except t range ppem g pair z = delta_of t range pair.0 ppem g >>= λ d. move_by d g pair.1 z
 
 -- arguments and numbers of points, as they stand on the stack
 abbrev pub pairs_of : List ℤ → List (ℤ × ℤ)
@@ -58,22 +69,28 @@ pairs_of (argument ∷ n ∷ rest) = (argument, n) ∷ pairs_of rest
 pairs_of _ = []
 
 -- DELTAP1, DELTAP2 and DELTAP3; the last pair is popped first
-abbrev pub deltap : DeltaRange → ℕ → List ℤ → ZoneLists → GraphicsState → Result ZoneLists Why
-deltap range ppem pairs z g = one_by_one (except range ppem g) (reverse (pairs_of pairs)) z
+abbrev pub deltap : Tolerance → DeltaRange → ℕ → List ℤ → ZoneLists → GraphicsState → Result ZoneLists Why
+deltap t range ppem pairs z g = one_by_one (passing_over t (except t range ppem g)) (reverse (pairs_of pairs)) z
 
 -- worked values
-eight_steps_up : delta_of ranges.First (pos 0x7F) 16 default_state ≡ Ok (Some (pos 64))
+eight_steps_up : delta_of tolerance.Strict ranges.First (pos 0x7F) 16 default_state ≡ Ok (Some (pos 64))
 eight_steps_up = refl
 
-eight_steps_down : delta_of ranges.Second (pos 0x70) 32 (record default_state { delta_shift = 6 })
+eight_steps_down : delta_of tolerance.Strict ranges.Second (pos 0x70) 32 (record default_state { delta_shift = 6 })
     ≡ Ok (Some (negsuc 7))
 eight_steps_down = refl
 
-another_size : delta_of ranges.Third (pos 0x7F) 16 default_state ≡ Ok None
+another_size : delta_of tolerance.Strict ranges.Third (pos 0x7F) 16 default_state ≡ Ok None
 another_size = refl
 
-past_a_byte : delta_of ranges.First (pos 256) 1 default_state ≡ Err why.BadArgument
+past_a_byte : delta_of tolerance.Strict ranges.First (pos 256) 1 default_state ≡ Err why.BadArgument
 past_a_byte = refl
+
+the_low_byte : delta_of tolerance.Tolerant ranges.First (pos 0x17F) 16 default_state ≡ Ok (Some (pos 64))
+the_low_byte = refl
+
+below_0 : delta_of tolerance.Tolerant ranges.First (negsuc 0) 24 default_state ≡ Ok (Some (pos 64))
+below_0 = refl
 
 abbrev point : ℤ → Bool → Point
 point x touched =
@@ -82,18 +99,25 @@ point x touched =
 abbrev glyph : List Point → ZoneLists
 glyph ps = record { twilight = []; glyph = ps; contours = [] }
 
-a_point_at_its_size : deltap ranges.First 16 (pos 0x7F ∷ pos 0 ∷ pos 0x6F ∷ pos 9 ∷ [])
+a_point_at_its_size : deltap tolerance.Strict ranges.First 16 (pos 0x7F ∷ pos 0 ∷ pos 0x6F ∷ pos 9 ∷ [])
     (glyph (point (pos 1) false ∷ [])) default_state
     ≡ Ok (glyph (point (pos 65) true ∷ []))
 unfolding direction project
 a_point_at_its_size = refl
 
-last_pair_first : deltap ranges.First 16 (pos 256 ∷ pos 0 ∷ pos 0x7F ∷ pos 1 ∷ [])
+last_pair_first : deltap tolerance.Strict ranges.First 16 (pos 256 ∷ pos 0 ∷ pos 0x7F ∷ pos 1 ∷ [])
     (glyph (point (pos 1) false ∷ [])) default_state
     ≡ Err why.PointRange
 last_pair_first = refl
 
-four_steps_along_a_line : deltap ranges.First 16 (pos 0x7B ∷ pos 0 ∷ []) (glyph (at_first ∷ [])) (slanted rising)
+a_point_passed_over : deltap tolerance.Tolerant ranges.First 16 (pos 0x7F ∷ pos 50 ∷ pos 0x7F ∷ pos 0 ∷ [])
+    (glyph (point (pos 192) false ∷ [])) default_state
+    ≡ Ok (glyph (point (pos 256) true ∷ []))
+unfolding direction project
+a_point_passed_over = refl
+
+four_steps_along_a_line : deltap tolerance.Strict ranges.First 16 (pos 0x7B ∷ pos 0 ∷ []) (glyph (at_first ∷ []))
+    (slanted rising)
     ≡ Ok (glyph (moved_on (pos 64) (pos 119) true true ∷ []))
 unfolding direction project
 four_steps_along_a_line = refl

@@ -8,6 +8,8 @@ use Rattle.tt_state.specs.GraphicsState.{default_state}
 use Rattle.tt_state.specs.declared.graphics_state.GraphicsState.{GraphicsState}
 use Rattle.tt_state.specs.declared.graphics_state.Zone.TheVariants as zone
 use Rattle.tt_state.specs.declared.point.Point.{Point}
+use Rattle.tt_state.specs.declared.tolerance.Tolerance.{Tolerance}
+use Rattle.tt_state.specs.declared.tolerance.Tolerance.TheVariants as tolerance
 use Rattle.tt_points_zones.specs.Points.{point_in, with_point}
 use Rattle.tt_points_zones.specs.Zones.{ZoneLists}
 use Rattle.tt_points_loops.specs.Series.{each_from_to, looped}
@@ -19,8 +21,8 @@ abbrev pub flip : ℤ → ZoneLists → Result ZoneLists Why
 flip n z = point_in zone.Glyph n z >>= λ p. Ok (with_point zone.Glyph n (flipped p) z)
 
 -- FLIPPT: points on the curve are off it, and the other way
-abbrev pub flippt : List ℤ → ZoneLists → GraphicsState → Result (ZoneLists × GraphicsState) Why
-flippt points z g = looped flip points z g
+abbrev pub flippt : Tolerance → List ℤ → ZoneLists → GraphicsState → Result (ZoneLists × GraphicsState) Why
+flippt t points z g = looped t flip points z g
 
 abbrev pub put_on : Bool → Point → Point
 put_on on p = record p { on = on }
@@ -45,13 +47,22 @@ point on = record { org_x = pos 0; org_y = pos 0; x = pos 0; y = pos 0; touched_
 abbrev glyph : List Point → ZoneLists
 glyph ps = record { twilight = []; glyph = ps; contours = [] }
 
-twice_the_same : flippt (pos 0 ∷ pos 1 ∷ pos 1 ∷ []) (glyph (point true ∷ point true ∷ []))
+twice_the_same : flippt tolerance.Strict (pos 0 ∷ pos 1 ∷ pos 1 ∷ []) (glyph (point true ∷ point true ∷ []))
     (record default_state { loops = 3 }) ≡ Ok (glyph (point false ∷ point true ∷ []), default_state)
 twice_the_same = refl
 
-glyph_points_whatever_zp0 : flippt (pos 0 ∷ []) (glyph (point true ∷ [])) (record default_state { zp0 = zone.Twilight })
+glyph_points_whatever_zp0 : flippt tolerance.Strict (pos 0 ∷ []) (glyph (point true ∷ []))
+    (record default_state { zp0 = zone.Twilight })
     ≡ Ok (glyph (point false ∷ []), record default_state { zp0 = zone.Twilight })
 glyph_points_whatever_zp0 = refl
+
+a_point_refused : flippt tolerance.Strict (pos 0 ∷ pos 50 ∷ []) (glyph (point true ∷ []))
+    (record default_state { loops = 2 }) ≡ Err why.PointRange
+a_point_refused = refl
+
+a_point_passed_over : flippt tolerance.Tolerant (pos 0 ∷ pos 50 ∷ []) (glyph (point true ∷ []))
+    (record default_state { loops = 2 }) ≡ Ok (glyph (point false ∷ []), default_state)
+a_point_passed_over = refl
 
 both_ends : fliprgon (pos 1) (pos 2) (glyph (point false ∷ point false ∷ point false ∷ point false ∷ []))
     ≡ Ok (glyph (point false ∷ point true ∷ point true ∷ point false ∷ []))

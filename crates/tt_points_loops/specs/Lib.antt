@@ -7,3 +7,5 @@ pub mod Deltas
 pub mod Turns
 pub mod WithAll
 pub mod Shapes
+pub mod Total
+pub mod Loosened

@@ -9,7 +9,10 @@ use Rattle.tt_core.specs.declared.fault.Why.TheVariants as why
 use Rattle.tt_state.specs.GraphicsState.{default_of, default_state}
 use Rattle.tt_state.specs.declared.graphics_state.GraphicsState.{GraphicsState}
 use Rattle.tt_state.specs.declared.point.Point.{Point}
+use Rattle.tt_state.specs.declared.tolerance.Tolerance.{Tolerance}
+use Rattle.tt_state.specs.declared.tolerance.Tolerance.TheVariants as tolerance
 use Rattle.tt_state.specs.declared.vector.Vector.TheVariants as vector
+use Rattle.tt_state.specs.Tolerance.{unless_missing}
 use Rattle.tt_state.specs.Vectors.{project, along}
 use Rattle.tt_points_zones.specs.Motions.{direction, current_distance, original_distance, moved, moved_along}
 use Rattle.tt_points_zones.specs.Points.{point_in, with_point}
@@ -26,8 +29,8 @@ abbrev pub align : GraphicsState → ℤ → ZoneLists → Result ZoneLists Why
 align g n z =
     point_in g.zp1 n z >>= λ p. point_in g.zp0 g.rp0 z >>= λ r. aligned g r p >>= λ q. Ok (with_point g.zp1 n q z)
 
-abbrev pub alignrp : List ℤ → ZoneLists → GraphicsState → Result (ZoneLists × GraphicsState) Why
-alignrp points z g = looped (align g) points z g
+abbrev pub alignrp : Tolerance → List ℤ → ZoneLists → GraphicsState → Result (ZoneLists × GraphicsState) Why
+alignrp t points z g = looped t (align g) points z g
 
 -- a distance after it, in the proportion in which a range was stretched; the same where the range was 0
 abbrev pub stretched : ℤ → ℤ → ℤ → ℤ
@@ -40,22 +43,27 @@ interpolated m a b p = stretched (original_distance m a p) (original_distance m 
 abbrev pub kept_between : GraphicsState → Point → Point → Point → Result Point Why
 kept_between g a b p = direction g >>= λ m. moved m (interpolated m a b p -ℤ current_distance m a p) p
 
+-- The second of the points between which others keep their places. Where it is not there, a tolerant machine takes the
+-- first one in its place (profile): the range was 0 then, and each point gets its original distance from the first.
+abbrev pub other_end : Tolerance → GraphicsState → ZoneLists → Point → Result Point Why
+other_end t g z a = unless_missing t a (point_in g.zp1 g.rp2 z)
+
 -- IP: points of zp2 are moved to where they keep their places between rp1, in zp0, and rp2, in zp1
-abbrev pub in_between : GraphicsState → ZoneLists → Point → Result Point Why
-in_between g z p = point_in g.zp0 g.rp1 z >>= λ a. point_in g.zp1 g.rp2 z >>= λ b. kept_between g a b p
+abbrev pub in_between : Tolerance → GraphicsState → ZoneLists → Point → Result Point Why
+in_between t g z p = point_in g.zp0 g.rp1 z >>= λ a. other_end t g z a >>= λ b. kept_between g a b p
 
-abbrev pub interpolate : GraphicsState → ℤ → ZoneLists → Result ZoneLists Why
-interpolate g n z = point_in g.zp2 n z >>= λ p. in_between g z p >>= λ q. Ok (with_point g.zp2 n q z)
+abbrev pub interpolate : Tolerance → GraphicsState → ℤ → ZoneLists → Result ZoneLists Why
+interpolate t g n z = point_in g.zp2 n z >>= λ p. in_between t g z p >>= λ q. Ok (with_point g.zp2 n q z)
 
-abbrev pub ip : List ℤ → ZoneLists → GraphicsState → Result (ZoneLists × GraphicsState) Why
-ip points z g = looped (interpolate g) points z g
+abbrev pub ip : Tolerance → List ℤ → ZoneLists → GraphicsState → Result (ZoneLists × GraphicsState) Why
+ip t points z g = looped t (interpolate t g) points z g
 
 -- SHPIX: points of zp2 are moved by an amount along the freedom vector, whatever the projection vector is (profile)
 abbrev pub push : ℤ → GraphicsState → ℤ → ZoneLists → Result ZoneLists Why
 push amount g n z = point_in g.zp2 n z >>= λ p. moved_along g.free amount p >>= λ q. Ok (with_point g.zp2 n q z)
 
-abbrev pub shpix : List ℤ → ℤ → ZoneLists → GraphicsState → Result (ZoneLists × GraphicsState) Why
-shpix points amount z g = looped (push amount g) points z g
+abbrev pub shpix : Tolerance → List ℤ → ℤ → ZoneLists → GraphicsState → Result (ZoneLists × GraphicsState) Why
+shpix t points amount z g = looped t (push amount g) points z g
 
 -- worked values, along x
 abbrev point : ℤ → ℤ → Point
@@ -70,52 +78,91 @@ glyph ps = record { twilight = []; glyph = ps; contours = [] }
 abbrev between : GraphicsState
 between = record default_state { rp1 = pos 0; rp2 = pos 1 }
 
-in_proportion : ip (pos 2 ∷ [])
+in_proportion : ip tolerance.Strict (pos 2 ∷ [])
     (glyph (point (pos 0) (pos 10) ∷ point (pos 100) (pos 210) ∷ point (pos 25) (pos 25) ∷ [])) between
     ≡ Ok (glyph (point (pos 0) (pos 10) ∷ point (pos 100) (pos 210) ∷ moved_to (pos 25) (pos 60) ∷ []), between)
 unfolding direction project
 in_proportion = refl
 
-no_range : ip (pos 2 ∷ [])
+no_range : ip tolerance.Strict (pos 2 ∷ [])
     (glyph (point (pos 0) (pos 10) ∷ point (pos 0) (pos 210) ∷ point (pos 25) (pos 25) ∷ [])) between
     ≡ Ok (glyph (point (pos 0) (pos 10) ∷ point (pos 0) (pos 210) ∷ moved_to (pos 25) (pos 35) ∷ []), between)
 unfolding direction project
 no_range = refl
 
-to_where_it_stands : alignrp (pos 1 ∷ []) (glyph (point (pos 5) (pos 7) ∷ point (pos 1) (pos 2) ∷ [])) default_state
+to_where_it_stands : alignrp tolerance.Strict (pos 1 ∷ [])
+    (glyph (point (pos 5) (pos 7) ∷ point (pos 1) (pos 2) ∷ [])) default_state
     ≡ Ok (glyph (point (pos 5) (pos 7) ∷ moved_to (pos 1) (pos 7) ∷ []), default_state)
 unfolding direction project
 to_where_it_stands = refl
 
-crossed_before_a_bad_point : alignrp (pos 9 ∷ pos 1 ∷ []) (glyph (point (pos 5) (pos 7) ∷ point (pos 1) (pos 2) ∷ []))
-    (record default_state { free = vector.Y; loops = 2 }) ≡ Err why.Perpendicular
+crossed_before_a_bad_point : alignrp tolerance.Strict (pos 9 ∷ pos 1 ∷ [])
+    (glyph (point (pos 5) (pos 7) ∷ point (pos 1) (pos 2) ∷ [])) (record default_state { free = vector.Y; loops = 2 })
+    ≡ Err why.Perpendicular
 unfolding direction
 crossed_before_a_bad_point = refl
 
-no_point_no_refusal : alignrp [] (glyph []) (record default_state { free = vector.Y; rp0 = negsuc 0; loops = 0 })
+no_point_no_refusal : alignrp tolerance.Strict [] (glyph [])
+    (record default_state { free = vector.Y; rp0 = negsuc 0; loops = 0 })
     ≡ Ok (glyph [], record default_state { free = vector.Y; rp0 = negsuc 0 })
 no_point_no_refusal = refl
 
-along_the_freedom_vector : shpix (pos 0 ∷ []) (negsuc 2) (glyph (point (pos 5) (pos 7) ∷ []))
+along_the_freedom_vector : shpix tolerance.Strict (pos 0 ∷ []) (negsuc 2) (glyph (point (pos 5) (pos 7) ∷ []))
     (record default_state { proj = vector.Y; dual = vector.Y })
     ≡ Ok (glyph (moved_to (pos 5) (pos 4) ∷ []), record default_state { proj = vector.Y; dual = vector.Y })
 unfolding along
 along_the_freedom_vector = refl
 
+-- worked values of a tolerant machine
+a_point_passed_over : shpix tolerance.Tolerant (pos 2 ∷ pos 50 ∷ []) (pos 32)
+    (glyph (point (pos 64) (pos 64) ∷ point (pos 64) (pos 64) ∷ point (pos 192) (pos 192) ∷ []))
+    (record default_state { loops = 2 })
+    ≡ Ok (
+      glyph (point (pos 64) (pos 64) ∷ point (pos 64) (pos 64) ∷ moved_to (pos 192) (pos 224) ∷ []),
+      default_state,
+    )
+unfolding along
+a_point_passed_over = refl
+
+a_point_refused : shpix tolerance.Strict (pos 0 ∷ pos 50 ∷ []) (pos 32) (glyph (point (pos 64) (pos 64) ∷ []))
+    (record default_state { loops = 2 }) ≡ Err why.PointRange
+a_point_refused = refl
+
+abbrev half_between : GraphicsState
+half_between = record default_state { rp1 = pos 0; rp2 = pos 50 }
+
+as_far_from_the_first : ip tolerance.Tolerant (pos 1 ∷ [])
+    (glyph (point (pos 64) (pos 96) ∷ point (pos 192) (pos 200) ∷ [])) half_between
+    ≡ Ok (glyph (point (pos 64) (pos 96) ∷ moved_to (pos 192) (pos 224) ∷ []), half_between)
+unfolding direction project
+as_far_from_the_first = refl
+
+nothing_to_be_between : ip tolerance.Tolerant (pos 0 ∷ []) (glyph (point (pos 64) (pos 96) ∷ []))
+    (record half_between { rp1 = pos 50 })
+    ≡ Ok (glyph (point (pos 64) (pos 96) ∷ []), record half_between { rp1 = pos 50 })
+nothing_to_be_between = refl
+
+nothing_to_align_to : alignrp tolerance.Tolerant (pos 0 ∷ []) (glyph (point (pos 64) (pos 96) ∷ []))
+    (record default_state { rp0 = pos 50 })
+    ≡ Ok (glyph (point (pos 64) (pos 96) ∷ []), record default_state { rp0 = pos 50 })
+nothing_to_align_to = refl
+
 -- worked values, off the axes
-aligned_along_y : alignrp (pos 1 ∷ []) (glyph (still (pos 100) (pos 200) ∷ at_first ∷ [])) (slanted vector.Y)
+aligned_along_y : alignrp tolerance.Strict (pos 1 ∷ []) (glyph (still (pos 100) (pos 200) ∷ at_first ∷ []))
+    (slanted vector.Y)
     ≡ Ok (glyph (still (pos 100) (pos 200) ∷ moved_on (pos 50) (pos 225) false true ∷ []), slanted vector.Y)
 unfolding direction project
 aligned_along_y = refl
 
 -- with the whole instruction set crossed vectors are no refusal
-crossed_with_the_whole_set : alignrp (pos 9 ∷ pos 1 ∷ []) (glyph (still (pos 100) (pos 200) ∷ at_first ∷ []))
-    (record (default_of true) { free = vector.Y; loops = 2 }) ≡ Err why.PointRange
+crossed_with_the_whole_set : alignrp tolerance.Strict (pos 9 ∷ pos 1 ∷ [])
+    (glyph (still (pos 100) (pos 200) ∷ at_first ∷ [])) (record (default_of true) { free = vector.Y; loops = 2 })
+    ≡ Err why.PointRange
 unfolding direction project
 crossed_with_the_whole_set = refl
 
 -- the originals are measured along the dual vector
-originals_along_y : ip (pos 2 ∷ []) (glyph (still (pos 0) (pos 0) ∷ risen ∷ at_first ∷ []))
+originals_along_y : ip tolerance.Strict (pos 2 ∷ []) (glyph (still (pos 0) (pos 0) ∷ risen ∷ at_first ∷ []))
     (record dual_upward { rp2 = pos 1 })
     ≡ Ok (
       glyph (still (pos 0) (pos 0) ∷ risen ∷ moved_on (pos 52) (pos 113) true true ∷ []),
@@ -124,7 +171,8 @@ originals_along_y : ip (pos 2 ∷ []) (glyph (still (pos 0) (pos 0) ∷ risen �
 unfolding direction project
 originals_along_y = refl
 
-a_pixel_along_a_line : shpix (pos 0 ∷ []) (pos 64) (glyph (at_first ∷ [])) (record (default_of true) { free = rising })
+a_pixel_along_a_line : shpix tolerance.Strict (pos 0 ∷ []) (pos 64) (glyph (at_first ∷ []))
+    (record (default_of true) { free = rising })
     ≡ Ok (glyph (moved_on (pos 79) (pos 147) true true ∷ []), record (default_of true) { free = rising })
 unfolding along
 a_pixel_along_a_line = refl

@@ -2,10 +2,12 @@
 use Rattle.std.proofs.Common.{◌≡◌, ◌∙◌, ℕ, suc, ◌+◌, nat_le, nat_lt, ℤ, unsigned_abs, Bool, true, false, ◌&&◌, if◌then◌else◌, List, [], ◌∷◌, length, reverse, Option, Some, None, Result, Ok, Err, IfOk, ap, refl, length-set}
 use Rattle.tt_core.specs.Outcomes.{◌>>=◌}
 use Rattle.tt_core.specs.declared.fault.Why.{Why}
+use Rattle.tt_state.specs.Tolerance.{passes_over, unless_missing}
 use Rattle.tt_state.specs.declared.graphics_state.GraphicsState.{GraphicsState}
 use Rattle.tt_state.specs.declared.graphics_state.Zone.{Zone}
 use Rattle.tt_state.specs.declared.graphics_state.Zone.TheVariants as zone
 use Rattle.tt_state.specs.declared.point.Point.{Point}
+use Rattle.tt_state.specs.declared.tolerance.Tolerance.{Tolerance}
 use Rattle.tt_points_zones.specs.Motions.{direction, moved, moved_along}
 use Rattle.tt_points_zones.specs.Points.{point_in, points_in, with_point}
 use Rattle.tt_points_zones.specs.ZoneNumbers.{zone_of}
@@ -15,7 +17,7 @@ use Rattle.tt_points_loops.specs.declared.shifting.ReferencePoint.{ReferencePoin
 use Rattle.tt_points_loops.specs.Deltas.{delta_of, move_by, except, pairs_of}
 use Rattle.tt_points_loops.specs.Flipping.{flipped, flip, put_on, flip_range}
 use Rattle.tt_points_loops.specs.Moving.{align, in_between, interpolate, push}
-use Rattle.tt_points_loops.specs.Series.{one_by_one, looped, set_back, each_from_to}
+use Rattle.tt_points_loops.specs.Series.{one_by_one, passing_over, looped, set_back, each_from_to}
 use Rattle.tt_points_loops.specs.Shifting.{reference_zone, reference_number, reference, follow, number_in, follow_but, shift, shift_range, follow_in, with_points, contour_in, outline_in, shc, shz}
 use Rattle.tt_points_loops.specs.Deltas as deltas
 use Rattle.tt_points_loops.specs.Flipping as flipping
@@ -64,6 +66,16 @@ pub put : (zone : Zone) (n : ℤ) (z : ZoneLists) (r : Result Point Why)
 put zone n z (Ok q) = put_one zone n q z
 put zone n z (Err why) = tt
 
+-- nothing is done in the place of a refusal that is passed over
+instead : (b : Bool) (why : Why) (z : ZoneLists) → KeepsShape z (if b then Ok z else Err why)
+instead true why z = same z
+instead false why z = tt
+
+pub passed : (t : Tolerance) (z : ZoneLists) (r : Result ZoneLists Why) → KeepsShape z r
+    → KeepsShape z (unless_missing t z r)
+passed t z (Ok w) kept = kept
+passed t z (Err why) kept = instead (passes_over t why) why z
+
 series : {N : Type 0} (step : N → ZoneLists → Result ZoneLists Why)
     → ((n : N) (z : ZoneLists) → KeepsShape z (step n z)) → (ns : List N) (z : ZoneLists)
     → KeepsShape z (one_by_one step ns z)
@@ -72,11 +84,17 @@ series step kept (n ∷ ns) z =
     through (SameShape z) (SameShape z) (step n z) (one_by_one step ns) (kept n z)
     (λ w here. weaker (one_by_one step ns w) z w here (series step kept ns w))
 
-loop : (step : ℤ → ZoneLists → Result ZoneLists Why) → ((n : ℤ) (z : ZoneLists) → KeepsShape z (step n z))
-    → (points : List ℤ) (z : ZoneLists) (g : GraphicsState) → KeepsShapeBefore z (looped step points z g)
-loop step kept points z g =
-    through (SameShape z) (λ t. SameShape z t.0) (one_by_one step (reverse points) z) (λ w. Ok (w, set_back g))
-    (series step kept (reverse points) z) (λ w here. here)
+passing : {N : Type 0} (t : Tolerance) (step : N → ZoneLists → Result ZoneLists Why)
+    → ((n : N) (z : ZoneLists) → KeepsShape z (step n z)) → (ns : List N) (z : ZoneLists)
+    → KeepsShape z (one_by_one (passing_over t step) ns z)
+passing t step kept ns z = series (passing_over t step) (λ n w. passed t w (step n w) (kept n w)) ns z
+
+loop : (t : Tolerance) (step : ℤ → ZoneLists → Result ZoneLists Why)
+    → ((n : ℤ) (z : ZoneLists) → KeepsShape z (step n z)) → (points : List ℤ) (z : ZoneLists) (g : GraphicsState)
+    → KeepsShapeBefore z (looped t step points z g)
+loop t step kept points z g =
+    through (SameShape z) (λ u. SameShape z u.0) (one_by_one (passing_over t step) (reverse points) z)
+    (λ w. Ok (w, set_back g)) (passing t step kept (reverse points) z) (λ w here. here)
 
 count : (low past : ℕ) (move : ℕ → Point → Result Point Why) (i : ℕ) (ps : List Point)
     → IfOk (each_from_to low past move i ps) (λ qs. length qs ≡ length ps)
@@ -112,17 +130,18 @@ moved_by (Some d) g n z =
     whatever (SameShape z) (point_in g.zp0 n z) _ (λ p.
     whatever (SameShape z) (direction g) _ (λ m. put g.zp0 n z (moved m d p)))
 
-excepted : (range : DeltaRange) (ppem : ℕ) (g : GraphicsState) (pair : ℤ × ℤ) (z : ZoneLists)
-    → KeepsShape z (except range ppem g pair z)
-excepted range ppem g pair z = whatever (SameShape z) (delta_of range (pair.0) ppem g) _ (λ d. moved_by d g (pair.1) z)
+excepted : (t : Tolerance) (range : DeltaRange) (ppem : ℕ) (g : GraphicsState) (pair : ℤ × ℤ) (z : ZoneLists)
+    → KeepsShape z (except t range ppem g pair z)
+excepted t range ppem g pair z =
+    whatever (SameShape z) (delta_of t range (pair.0) ppem g) _ (λ d. moved_by d g (pair.1) z)
 
 aligned : (g : GraphicsState) (n : ℤ) (z : ZoneLists) → KeepsShape z (align g n z)
 aligned g n z =
     whatever (SameShape z) (point_in g.zp1 n z) _ (λ p.
     whatever (SameShape z) (point_in g.zp0 g.rp0 z) _ (λ r. put g.zp1 n z (moving.aligned g r p)))
 
-interpolated : (g : GraphicsState) (n : ℤ) (z : ZoneLists) → KeepsShape z (interpolate g n z)
-interpolated g n z = whatever (SameShape z) (point_in g.zp2 n z) _ (λ p. put g.zp2 n z (in_between g z p))
+interpolated : (t : Tolerance) (g : GraphicsState) (n : ℤ) (z : ZoneLists) → KeepsShape z (interpolate t g n z)
+interpolated t g n z = whatever (SameShape z) (point_in g.zp2 n z) _ (λ p. put g.zp2 n z (in_between t g z p))
 
 pushed : (amount : ℤ) (g : GraphicsState) (n : ℤ) (z : ZoneLists) → KeepsShape z (push amount g n z)
 pushed amount g n z = whatever (SameShape z) (point_in g.zp2 n z) _ (λ p. put g.zp2 n z (moved_along g.free amount p))
@@ -145,27 +164,31 @@ shifted_contour which c z g =
     whatever (SameShape z) (contour_in g.zp2 c z) _ (λ r. shifted_range true which g.zp2 r z g)
 
 pub record ShapeIsKept (z : ZoneLists) (g : GraphicsState) : Type 0 where
-  pub alignrp : (points : List ℤ) → KeepsShapeBefore z (moving.alignrp points z g)
-  pub ip : (points : List ℤ) → KeepsShapeBefore z (moving.ip points z g)
-  pub shpix : (points : List ℤ) (amount : ℤ) → KeepsShapeBefore z (moving.shpix points amount z g)
-  pub flippt : (points : List ℤ) → KeepsShapeBefore z (flipping.flippt points z g)
+  pub alignrp : (t : Tolerance) (points : List ℤ) → KeepsShapeBefore z (moving.alignrp t points z g)
+  pub ip : (t : Tolerance) (points : List ℤ) → KeepsShapeBefore z (moving.ip t points z g)
+  pub shpix : (t : Tolerance) (points : List ℤ) (amount : ℤ)
+      → KeepsShapeBefore z (moving.shpix t points amount z g)
+  pub flippt : (t : Tolerance) (points : List ℤ) → KeepsShapeBefore z (flipping.flippt t points z g)
   pub fliprgon : (low high : ℤ) → KeepsShape z (flipping.fliprgon low high z)
   pub fliprgoff : (low high : ℤ) → KeepsShape z (flipping.fliprgoff low high z)
-  pub shp : (which : ReferencePoint) (points : List ℤ) → KeepsShapeBefore z (shifting.shp which points z g)
+  pub shp : (t : Tolerance) (which : ReferencePoint) (points : List ℤ)
+      → KeepsShapeBefore z (shifting.shp t which points z g)
   pub shc : (which : ReferencePoint) (c : ℤ) → KeepsShape z (shifting.shc which c z g)
   pub shz : (which : ReferencePoint) (e : ℤ) → KeepsShape z (shifting.shz which e z g)
-  pub deltap : (range : DeltaRange) (ppem : ℕ) (pairs : List ℤ) → KeepsShape z (deltas.deltap range ppem pairs z g)
+  pub deltap : (t : Tolerance) (range : DeltaRange) (ppem : ℕ) (pairs : List ℤ)
+      → KeepsShape z (deltas.deltap t range ppem pairs z g)
 
 pub shape_kept : (z : ZoneLists) (g : GraphicsState) → ShapeIsKept z g
 shape_kept z g = record {
-  alignrp = λ points. loop (align g) (aligned g) points z g;
-  ip = λ points. loop (interpolate g) (interpolated g) points z g;
-  shpix = λ points amount. loop (push amount g) (pushed amount g) points z g;
-  flippt = λ points. loop flip turned points z g;
+  alignrp = λ t points. loop t (align g) (aligned g) points z g;
+  ip = λ t points. loop t (interpolate t g) (interpolated t g) points z g;
+  shpix = λ t points amount. loop t (push amount g) (pushed amount g) points z g;
+  flippt = λ t points. loop t flip turned points z g;
   fliprgon = λ low high. flipped_range true low high z;
   fliprgoff = λ low high. flipped_range false low high z;
-  shp = λ which points. loop (shift g (reference which g z)) (shifted g (reference which g z)) points z g;
+  shp = λ t which points. loop t (shift g (reference which g z)) (shifted g (reference which g z)) points z g;
   shc = λ which c. shifted_contour which c z g;
   shz = λ which e. shifted_zone which e z g;
-  deltap = λ range ppem pairs. series (except range ppem g) (excepted range ppem g) (reverse (pairs_of pairs)) z;
+  deltap = λ t range ppem pairs.
+      passing t (except t range ppem g) (excepted t range ppem g) (reverse (pairs_of pairs)) z;
 }

@@ -11,6 +11,8 @@ use Rattle.tt_state.specs.declared.graphics_state.GraphicsState.{GraphicsState}
 use Rattle.tt_state.specs.declared.graphics_state.Zone.{Zone}
 use Rattle.tt_state.specs.declared.graphics_state.Zone.TheVariants as zone
 use Rattle.tt_state.specs.declared.point.Point.{Point}
+use Rattle.tt_state.specs.declared.tolerance.Tolerance.{Tolerance}
+use Rattle.tt_state.specs.declared.tolerance.Tolerance.TheVariants as tolerance
 use Rattle.tt_state.specs.declared.vector.Vector.TheVariants as vector
 use Rattle.tt_state.specs.Vectors.{project}
 use Rattle.tt_points_zones.specs.Motions.{direction, offset, shifted, moved}
@@ -50,8 +52,9 @@ abbrev pub shift : GraphicsState → Result Point Why → ℤ → ZoneLists → 
 shift g before n z =
     point_in g.zp2 n z >>= λ p. before >>= λ r. follow true g r p >>= λ q. Ok (with_point g.zp2 n q z)
 
-abbrev pub shp : ReferencePoint → List ℤ → ZoneLists → GraphicsState → Result (ZoneLists × GraphicsState) Why
-shp which points z g = looped (shift g (reference which g z)) points z g
+abbrev pub shp : Tolerance → ReferencePoint → List ℤ → ZoneLists → GraphicsState
+    → Result (ZoneLists × GraphicsState) Why
+shp t which points z g = looped t (shift g (reference which g z)) points z g
 
 -- the number of the reference point, where it is a point of this zone
 abbrev pub number_in : Zone → Zone → ℤ → Option ℕ
@@ -124,10 +127,22 @@ abbrev glyph : List Point → ZoneLists
 glyph ps = record { twilight = []; glyph = ps; contours = (0, 2) ∷ [] }
 
 -- rp2 itself is among the points: it is moved, and the next point by no more than before
-taken_once : shp by.Rp2 (pos 1 ∷ pos 0 ∷ []) (glyph (point (pos 5) (pos 7) ∷ point (pos 1) (pos 2) ∷ [])) default_state
+taken_once : shp tolerance.Strict by.Rp2 (pos 1 ∷ pos 0 ∷ [])
+    (glyph (point (pos 5) (pos 7) ∷ point (pos 1) (pos 2) ∷ [])) default_state
     ≡ Ok (glyph (moved_to (pos 5) (pos 9) ∷ moved_to (pos 1) (pos 4) ∷ []), default_state)
 unfolding direction project
 taken_once = refl
+
+a_point_passed_over : shp tolerance.Tolerant by.Rp2 (pos 9 ∷ pos 1 ∷ [])
+    (glyph (point (pos 5) (pos 7) ∷ point (pos 1) (pos 2) ∷ [])) (record default_state { loops = 2 })
+    ≡ Ok (glyph (point (pos 5) (pos 7) ∷ moved_to (pos 1) (pos 4) ∷ []), default_state)
+unfolding direction project
+a_point_passed_over = refl
+
+no_reference_no_move : shp tolerance.Tolerant by.Rp2 (pos 0 ∷ []) (glyph (point (pos 5) (pos 7) ∷ []))
+    (record default_state { rp2 = pos 50 })
+    ≡ Ok (glyph (point (pos 5) (pos 7) ∷ []), record default_state { rp2 = pos 50 })
+no_reference_no_move = refl
 
 all_but_the_reference : shc by.Rp2 (pos 0)
     (glyph (point (pos 5) (pos 7) ∷ point (pos 1) (pos 2) ∷ point (pos 1) (pos 2) ∷ [])) default_state
@@ -160,7 +175,7 @@ along_a_line = record (slanted rising) { rp2 = pos 1 }
 abbrev outline : Point → ZoneLists
 outline p = glyph (p ∷ risen ∷ [])
 
-along_both_axes : shp by.Rp2 (pos 0 ∷ []) (outline at_first) along_a_line
+along_both_axes : shp tolerance.Strict by.Rp2 (pos 0 ∷ []) (outline at_first) along_a_line
     ≡ Ok (outline (moved_on (pos 64) (pos 118) true true), along_a_line)
 unfolding direction project
 along_both_axes = refl

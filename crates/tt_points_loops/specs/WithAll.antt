@@ -6,9 +6,10 @@ use Rattle.tt_core.specs.declared.fault.Why.{Why}
 use Rattle.tt_state.specs.declared.graphics_state.GraphicsState.{GraphicsState}
 use Rattle.tt_state.specs.declared.graphics_state.Zone.{Zone}
 use Rattle.tt_state.specs.declared.point.Point.{Point}
+use Rattle.tt_state.specs.declared.tolerance.Tolerance.{Tolerance}
 use Rattle.tt_points_zones.specs.Motions.{direction, current_distance, moved}
 use Rattle.tt_points_zones.specs.Points.{points_in, point_in, with_point}
-use Rattle.tt_points_zones.specs.WithAll.{with_all, Stays, StaysSame, same, chained, after, directed}
+use Rattle.tt_points_zones.specs.WithAll.{with_all, Stays, StaysSame, same, chained, after, directed, passed_over}
 use Rattle.tt_points_zones.specs.declared.motion.Motion.{Motion}
 use Rattle.tt_points_zones.specs.ZoneNumbers.{zone_of}
 use Rattle.tt_points_zones.specs.Zones.{ZoneLists}
@@ -17,8 +18,8 @@ use Rattle.tt_points_loops.specs.declared.shifting.ReferencePoint.{ReferencePoin
 use Rattle.tt_points_loops.specs.declared.shifting.ReferencePoint.TheVariants as by
 use Rattle.tt_points_loops.specs.Deltas.{delta_of, move_by, except, pairs_of}
 use Rattle.tt_points_loops.specs.Flipping.{flip}
-use Rattle.tt_points_loops.specs.Moving.{aligned, align, interpolated, kept_between, in_between, interpolate, push}
-use Rattle.tt_points_loops.specs.Series.{one_by_one, looped, set_back, each_from_to}
+use Rattle.tt_points_loops.specs.Moving.{aligned, align, interpolated, kept_between, other_end, in_between, interpolate, push}
+use Rattle.tt_points_loops.specs.Series.{one_by_one, passing_over, looped, set_back, each_from_to}
 use Rattle.tt_points_loops.specs.Shifting.{reference_zone, reference_number, reference, moved_as, shifted_as, follow, number_in, is_but, follow_but, shift, shift_range, follow_in, with_points, contour_in, outline_in, shc, shz}
 use Rattle.tt_points_loops.specs.Deltas as deltas
 use Rattle.tt_points_loops.specs.Flipping as flipping
@@ -51,13 +52,20 @@ series step all stays (n ∷ ns) s =
     chained (λ t. t) (λ t. t) (step n s) (all n s) (one_by_one step ns) (one_by_one all ns) (stays n s)
     (λ t. series step all stays ns t)
 
-loop : (step all : ℤ → ZoneLists → Result ZoneLists Why) → ((n : ℤ) (z : ZoneLists) → StaysSame (step n z) (all n z))
-    → (points : List ℤ) (z : ZoneLists) (g : GraphicsState)
-    → StaysBeside (looped step points z g) (looped all points z (with_all g))
-loop step all stays points z g =
-    chained (λ w. w) beside (one_by_one step (reverse points) z) (one_by_one all (reverse points) z)
-    (λ w. Ok (w, set_back g)) (λ w. Ok (w, set_back (with_all g))) (series step all stays (reverse points) z)
-    (λ w. refl)
+passing : {N S : Type 0} (t : Tolerance) (step all : N → S → Result S Why)
+    → ((n : N) (s : S) → StaysSame (step n s) (all n s)) → (ns : List N) (s : S)
+    → StaysSame (one_by_one (passing_over t step) ns s) (one_by_one (passing_over t all) ns s)
+passing t step all stays ns s =
+    series (passing_over t step) (passing_over t all)
+    (λ n w. passed_over (λ a. a) t w (step n w) (all n w) (stays n w)) ns s
+
+loop : (t : Tolerance) (step all : ℤ → ZoneLists → Result ZoneLists Why)
+    → ((n : ℤ) (z : ZoneLists) → StaysSame (step n z) (all n z)) → (points : List ℤ) (z : ZoneLists) (g : GraphicsState)
+    → StaysBeside (looped t step points z g) (looped t all points z (with_all g))
+loop t step all stays points z g =
+    chained (λ w. w) beside (one_by_one (passing_over t step) (reverse points) z)
+    (one_by_one (passing_over t all) (reverse points) z) (λ w. Ok (w, set_back g)) (λ w. Ok (w, set_back (with_all g)))
+    (passing t step all stays (reverse points) z) (λ w. refl)
 
 -- the points of a range
 chosen : (b : Bool) (p : Point) (move all : Result Point Why) → StaysSame move all
@@ -98,13 +106,13 @@ aligns g n z =
     after (λ w. w) (point_in g.zp0 g.rp0 z) _ _ (λ r.
     put g.zp1 n z (aligned g r p) (aligned (with_all g) r p) (by_vectors g (λ m. moved m (current_distance m p r) p))))
 
-interpolates : (g : GraphicsState) (n : ℤ) (z : ZoneLists)
-    → StaysSame (interpolate g n z) (interpolate (with_all g) n z)
-interpolates g n z =
+interpolates : (t : Tolerance) (g : GraphicsState) (n : ℤ) (z : ZoneLists)
+    → StaysSame (interpolate t g n z) (interpolate t (with_all g) n z)
+interpolates t g n z =
     after (λ w. w) (point_in g.zp2 n z) _ _ (λ p.
-    put g.zp2 n z (in_between g z p) (in_between (with_all g) z p)
+    put g.zp2 n z (in_between t g z p) (in_between t (with_all g) z p)
     (after (λ q. q) (point_in g.zp0 g.rp1 z) _ _ (λ a.
-    after (λ q. q) (point_in g.zp1 g.rp2 z) _ _ (λ b.
+    after (λ q. q) (other_end t g z a) _ _ (λ b.
     by_vectors g (λ m. moved m (interpolated m a b p -ℤ current_distance m a p) p)))))
 
 pushes : (amount : ℤ) (g : GraphicsState) (n : ℤ) (z : ZoneLists)
@@ -140,14 +148,14 @@ shifts_range touch by.Rp2 zone r z g =
     (follow_but (number_in zone g.zp1 g.rp2) touch (with_all g) p)
     (follows_but (number_in zone g.zp1 g.rp2) touch g p) z)
 
-shp_stays : (which : ReferencePoint) (points : List ℤ) (z : ZoneLists) (g : GraphicsState)
-    → StaysBeside (shifting.shp which points z g) (shifting.shp which points z (with_all g))
-shp_stays by.Rp1 points z g =
-    loop (shift g (reference by.Rp1 g z)) (shift (with_all g) (reference by.Rp1 g z)) (shifts g (reference by.Rp1 g z))
-    points z g
-shp_stays by.Rp2 points z g =
-    loop (shift g (reference by.Rp2 g z)) (shift (with_all g) (reference by.Rp2 g z)) (shifts g (reference by.Rp2 g z))
-    points z g
+shp_stays : (t : Tolerance) (which : ReferencePoint) (points : List ℤ) (z : ZoneLists) (g : GraphicsState)
+    → StaysBeside (shifting.shp t which points z g) (shifting.shp t which points z (with_all g))
+shp_stays t by.Rp1 points z g =
+    loop t (shift g (reference by.Rp1 g z)) (shift (with_all g) (reference by.Rp1 g z))
+    (shifts g (reference by.Rp1 g z)) points z g
+shp_stays t by.Rp2 points z g =
+    loop t (shift g (reference by.Rp2 g z)) (shift (with_all g) (reference by.Rp2 g z))
+    (shifts g (reference by.Rp2 g z)) points z g
 
 shz_stays : (which : ReferencePoint) (e : ℤ) (z : ZoneLists) (g : GraphicsState)
     → StaysSame (shz which e z g) (shz which e z (with_all g))
@@ -167,35 +175,38 @@ moves_by (Some d) g n z =
     after (λ w. w) (point_in g.zp0 n z) _ _ (λ p.
     by_vectors g (λ m. moved m d p >>= λ q. Ok (with_point g.zp0 n q z)))
 
-excepts : (range : DeltaRange) (ppem : ℕ) (g : GraphicsState) (pair : ℤ × ℤ) (z : ZoneLists)
-    → StaysSame (except range ppem g pair z) (except range ppem (with_all g) pair z)
-excepts range ppem g pair z =
-    after (λ w. w) (delta_of range (pair.0) ppem g) _ _ (λ d. moves_by d g (pair.1) z)
+excepts : (t : Tolerance) (range : DeltaRange) (ppem : ℕ) (g : GraphicsState) (pair : ℤ × ℤ) (z : ZoneLists)
+    → StaysSame (except t range ppem g pair z) (except t range ppem (with_all g) pair z)
+excepts t range ppem g pair z =
+    after (λ w. w) (delta_of t range (pair.0) ppem g) _ _ (λ d. moves_by d g (pair.1) z)
 
 pub record SeveralStay (z : ZoneLists) (g : GraphicsState) : Type 0 where
-  pub alignrp : (points : List ℤ) → StaysBeside (moving.alignrp points z g) (moving.alignrp points z (with_all g))
-  pub ip : (points : List ℤ) → StaysBeside (moving.ip points z g) (moving.ip points z (with_all g))
-  pub shpix : (points : List ℤ) (amount : ℤ)
-      → StaysBeside (moving.shpix points amount z g) (moving.shpix points amount z (with_all g))
-  pub flippt : (points : List ℤ) → StaysBeside (flipping.flippt points z g) (flipping.flippt points z (with_all g))
-  pub shp : (which : ReferencePoint) (points : List ℤ)
-      → StaysBeside (shifting.shp which points z g) (shifting.shp which points z (with_all g))
+  pub alignrp : (t : Tolerance) (points : List ℤ)
+      → StaysBeside (moving.alignrp t points z g) (moving.alignrp t points z (with_all g))
+  pub ip : (t : Tolerance) (points : List ℤ) → StaysBeside (moving.ip t points z g) (moving.ip t points z (with_all g))
+  pub shpix : (t : Tolerance) (points : List ℤ) (amount : ℤ)
+      → StaysBeside (moving.shpix t points amount z g) (moving.shpix t points amount z (with_all g))
+  pub flippt : (t : Tolerance) (points : List ℤ)
+      → StaysBeside (flipping.flippt t points z g) (flipping.flippt t points z (with_all g))
+  pub shp : (t : Tolerance) (which : ReferencePoint) (points : List ℤ)
+      → StaysBeside (shifting.shp t which points z g) (shifting.shp t which points z (with_all g))
   pub shc : (which : ReferencePoint) (c : ℤ)
       → StaysSame (shifting.shc which c z g) (shifting.shc which c z (with_all g))
   pub shz : (which : ReferencePoint) (e : ℤ)
       → StaysSame (shifting.shz which e z g) (shifting.shz which e z (with_all g))
-  pub deltap : (range : DeltaRange) (ppem : ℕ) (pairs : List ℤ)
-      → StaysSame (deltas.deltap range ppem pairs z g) (deltas.deltap range ppem pairs z (with_all g))
+  pub deltap : (t : Tolerance) (range : DeltaRange) (ppem : ℕ) (pairs : List ℤ)
+      → StaysSame (deltas.deltap t range ppem pairs z g) (deltas.deltap t range ppem pairs z (with_all g))
 
 pub several_stay : (z : ZoneLists) (g : GraphicsState) → SeveralStay z g
 several_stay z g = record {
-  alignrp = λ points. loop (align g) (align (with_all g)) (aligns g) points z g;
-  ip = λ points. loop (interpolate g) (interpolate (with_all g)) (interpolates g) points z g;
-  shpix = λ points amount. loop (push amount g) (push amount (with_all g)) (pushes amount g) points z g;
-  flippt = λ points. loop flip flip (λ n w. same (flip n w)) points z g;
-  shp = λ which points. shp_stays which points z g;
+  alignrp = λ t points. loop t (align g) (align (with_all g)) (aligns g) points z g;
+  ip = λ t points. loop t (interpolate t g) (interpolate t (with_all g)) (interpolates t g) points z g;
+  shpix = λ t points amount. loop t (push amount g) (push amount (with_all g)) (pushes amount g) points z g;
+  flippt = λ t points. loop t flip flip (λ n w. same (flip n w)) points z g;
+  shp = λ t which points. shp_stays t which points z g;
   shc = λ which c. shc_stays which c z g;
   shz = λ which e. shz_stays which e z g;
-  deltap = λ range ppem pairs.
-      series (except range ppem g) (except range ppem (with_all g)) (excepts range ppem g) (reverse (pairs_of pairs)) z;
+  deltap = λ t range ppem pairs.
+      passing t (except t range ppem g) (except t range ppem (with_all g)) (excepts t range ppem g)
+      (reverse (pairs_of pairs)) z;
 }

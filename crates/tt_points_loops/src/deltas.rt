@@ -1,14 +1,16 @@
 //! Exceptions at single sizes: DELTAP1 to DELTAP3, and what they share with DELTAC1 to DELTAC3. Apple TrueType
 //! Reference Manual, "Instruction set": managing exceptions. Distances are in 26.6 pixels, sizes in pixels per em.
 
-ghost use Rattle.std.specs.Prelude.{◌≡◌, Some, get_or, ◌*◌, ◌+◌, ◌<◌, ◌≤◌, pos, ◌*ℤ◌, ◌≤ℤ◌, unsigned_abs, IfOk, IfSome, length};
+ghost use Rattle.std.specs.Prelude.{◌≡◌, Some, get_or, ◌*◌, ◌+◌, ◌<◌, ◌≤◌, pos, ◌*ℤ◌, ◌≤ℤ◌, unsigned_abs};
+ghost use Rattle.std.specs.Prelude.{IfErr, IfOk, IfSome, length};
 ghost use Rattle.tt_core.specs.Outcomes.{Gives};
 ghost use Rattle.tt_points_loops.specs.Deltas as is;
+ghost use Rattle.tt_points_loops.specs.Series.{passing_over};
 ghost use Rattle.tt_points_zones.specs.Zones.{IsZones, zones_view};
 
 use tt_core::Why;
 use tt_points_zones::{Motion, Zones, may_move};
-use tt_state::GraphicsState;
+use tt_state::{GraphicsState, Tolerance};
 
 /// Which 16 sizes above the delta base an instruction is for: DELTAP1 and DELTAC1 have the first ones.
 #[derive(Clone, Copy)]
@@ -82,20 +84,30 @@ fn exception(argument: u8, state: &GraphicsState) -> i32
     product(steps_of(argument), step_of(state))
 }
 
+/// An argument as a byte: its low byte, where the machine is tolerant. Error: BadArgument where it is no byte.
+fn byte_of(tolerance: Tolerance, argument: i32) -> Result<u8, Why>
+    ensures { Gives (λ b. b) result (is.byte_of tolerance argument) }
+{
+    match tolerance {
+        Tolerance::Strict => u8::try_from(argument).map_err(|_| Why::BadArgument),
+        Tolerance::Tolerant => Ok(argument.rem_euclid(256) as u8),
+    }
+}
+
 /// What a DELTAP and a DELTAC instruction make of an argument: a distance in 26.6 pixels of 1 to 8 steps to either
-/// side; None where the argument is for another size than `ppem`. Error: BadArgument where it is no byte.
+/// side; None where the argument is for another size than `ppem`. Error: BadArgument where it is no byte, unless the
+/// machine is tolerant.
 pub fn delta_of(
+    tolerance: Tolerance,
     range: DeltaRange,
     argument: i32,
     ppem: u32,
     state: &GraphicsState,
 ) -> Result<Option<i32>, Why>
-    ensures exact { Gives (λ d. d) result (is.delta_of range argument ppem state.now) }
+    ensures exact { Gives (λ d. d) result (is.delta_of tolerance range argument ppem state.now) }
     ensures bound { IfOk result (λ d. IfSome d (λ by. unsigned_abs by ≤ 512)) }
 {
-    let Ok(argument) = u8::try_from(argument) else {
-        return Err(Why::BadArgument);
-    };
+    let argument = byte_of(tolerance, argument)?;
     if size_of(range, argument, state) != i64::from(ppem) {
         return Ok(None);
     }
@@ -107,6 +119,7 @@ fn move_by(zones: &mut Zones, state: &GraphicsState, d: i32, n: i32) -> Result<(
     requires zones { IsZones (zones_view zones.old) }
     ensures exact { Gives (λ u. zones_view zones.new) result (is.move_by (Some d) state.now n (zones_view zones.old)) }
     ensures zones { IsZones (zones_view zones.new) }
+    ensures kept { IfErr result (λ why. zones_view zones.new ≡ zones_view zones.old) }
 {
     let p = zones.point(state.zp0, n)?;
     may_move(state)?;
@@ -120,6 +133,7 @@ fn move_by(zones: &mut Zones, state: &GraphicsState, d: i32, n: i32) -> Result<(
 fn except(
     zones: &mut Zones,
     state: &GraphicsState,
+    tolerance: Tolerance,
     range: DeltaRange,
     ppem: u32,
     pairs: &[i32],
@@ -128,33 +142,58 @@ fn except(
     requires zones { IsZones (zones_view zones.old) }
     requires there { 2 * i + 1 < length pairs.now }
     ensures exact { Gives (λ u. zones_view zones.new) result
-        (is.except range ppem state.now (get_or pairs.now (2 * i) (pos 0), get_or pairs.now (2 * i + 1) (pos 0))
-        (zones_view zones.old)) }
+        (is.except tolerance range ppem state.now
+        (get_or pairs.now (2 * i) (pos 0), get_or pairs.now (2 * i + 1) (pos 0)) (zones_view zones.old)) }
     ensures zones { IsZones (zones_view zones.new) }
+    ensures kept { IfErr result (λ why. zones_view zones.new ≡ zones_view zones.old) }
 {
-    match delta_of(range, pairs[2 * i], ppem, state)? {
+    match delta_of(tolerance, range, pairs[2 * i], ppem, state)? {
         Some(d) => move_by(zones, state, d, pairs[2 * i + 1]),
         None => Ok(()),
     }
 }
 
+/// The same, passed over by a tolerant machine where the point is not there.
+fn except_or_pass(
+    zones: &mut Zones,
+    state: &GraphicsState,
+    tolerance: Tolerance,
+    range: DeltaRange,
+    ppem: u32,
+    pairs: &[i32],
+    i: usize,
+) -> Result<(), Why>
+    requires zones { IsZones (zones_view zones.old) }
+    requires there { 2 * i + 1 < length pairs.now }
+    ensures exact { Gives (λ u. zones_view zones.new) result
+        (passing_over tolerance (is.except tolerance range ppem state.now)
+        (get_or pairs.now (2 * i) (pos 0), get_or pairs.now (2 * i + 1) (pos 0)) (zones_view zones.old)) }
+    ensures zones { IsZones (zones_view zones.new) }
+{
+    match except(zones, state, tolerance, range, ppem, pairs, i) {
+        Err(why) if tolerance.passes_over(why) => Ok(()),
+        answer => answer,
+    }
+}
+
 /// DELTAP1[], DELTAP2[] and DELTAP3[]: pairs of an argument and a point of zp0 -> each point is moved by the exception
-/// that its argument is at `ppem` pixels per em, if it is one. The last pair comes first. Errors: BadArgument,
-/// PointRange, Perpendicular, ValueRange.
+/// that its argument is at `ppem` pixels per em, if it is one. The last pair comes first. A tolerant machine passes
+/// over each point that is not there. Errors: BadArgument, PointRange, Perpendicular, ValueRange.
 pub fn deltap(
     zones: &mut Zones,
     state: &GraphicsState,
+    tolerance: Tolerance,
     range: DeltaRange,
     ppem: u32,
     pairs: &[i32],
 ) -> Result<(), Why>
     requires zones { IsZones (zones_view zones.old) }
     ensures exact { Gives (λ u. zones_view zones.new) result
-        (is.deltap range ppem pairs.now (zones_view zones.old) state.now) }
+        (is.deltap tolerance range ppem pairs.now (zones_view zones.old) state.now) }
     ensures zones { IsZones (zones_view zones.new) }
 {
     for i in (0..pairs.len() / 2).rev() {
-        except(zones, state, range, ppem, pairs, i)?;
+        except_or_pass(zones, state, tolerance, range, ppem, pairs, i)?;
     }
     Ok(())
 }

@@ -1,47 +1,66 @@
 //! Points on the curve and off it: FLIPPT, FLIPRGON, FLIPRGOFF. Apple TrueType Reference Manual, "Instruction set":
 //! managing outlines. They work on the glyph's points, wherever the zone pointers point (profile).
 
-ghost use Rattle.std.specs.Prelude.{◌≡◌, ◌≤◌, Ok, All, length, reverse};
+ghost use Rattle.std.specs.Prelude.{◌≡◌, ◌≤◌, Ok, All, IfErr, length, reverse};
 ghost use Rattle.tt_core.specs.Outcomes.{Gives};
 ghost use Rattle.tt_points_loops.specs.Flipping as is;
-ghost use Rattle.tt_points_loops.specs.Series.{each_from_to, one_by_one};
+ghost use Rattle.tt_points_loops.specs.Series.{each_from_to, one_by_one, passing_over};
 ghost use Rattle.tt_points_zones.specs.Zones.{IsPoint, IsZones, zones_view};
 
 use tt_core::Why;
 use tt_points_zones::Zones;
-use tt_state::{GraphicsState, Point, Zone};
+use tt_state::{GraphicsState, Point, Tolerance, Zone};
 
 /// One point on the curve is off it, or the other way.
 fn flip(zones: &mut Zones, n: i32) -> Result<(), Why>
     requires { IsZones (zones_view zones.old) }
     ensures exact { Gives (λ u. zones_view zones.new) result (is.flip n (zones_view zones.old)) }
     ensures zones { IsZones (zones_view zones.new) }
+    ensures kept { IfErr result (λ why. zones_view zones.new ≡ zones_view zones.old) }
 {
     let p = zones.point(Zone::Glyph, n)?;
     zones.set(Zone::Glyph, n, Point { on: !p.on, ..p });
     Ok(())
 }
 
-fn flip_all(zones: &mut Zones, numbers: &[i32]) -> Result<(), Why>
+/// The same, passed over by a tolerant machine where the point is not there.
+fn flip_or_pass(zones: &mut Zones, tolerance: Tolerance, n: i32) -> Result<(), Why>
+    requires { IsZones (zones_view zones.old) }
+    ensures exact { Gives (λ u. zones_view zones.new) result (passing_over tolerance is.flip n (zones_view zones.old)) }
+    ensures zones { IsZones (zones_view zones.new) }
+{
+    match flip(zones, n) {
+        Err(why) if tolerance.passes_over(why) => Ok(()),
+        answer => answer,
+    }
+}
+
+fn flip_all(zones: &mut Zones, tolerance: Tolerance, numbers: &[i32]) -> Result<(), Why>
     requires { IsZones (zones_view zones.old) }
     ensures exact { Gives (λ u. zones_view zones.new) result
-        (one_by_one is.flip (reverse numbers.now) (zones_view zones.old)) }
+        (one_by_one (passing_over tolerance is.flip) (reverse numbers.now) (zones_view zones.old)) }
     ensures zones { IsZones (zones_view zones.new) }
 {
     for i in (0..numbers.len()).rev() {
-        flip(zones, numbers[i])?;
+        flip_or_pass(zones, tolerance, numbers[i])?;
     }
     Ok(())
 }
 
-/// FLIPPT[]: loop points -> each is off the curve where it was on it, and the other way. Error: PointRange.
-pub fn flippt(zones: &mut Zones, state: &mut GraphicsState, numbers: &[i32]) -> Result<(), Why>
+/// FLIPPT[]: loop points -> each is off the curve where it was on it, and the other way. A tolerant machine passes over
+/// each that is not there. Error: PointRange.
+pub fn flippt(
+    zones: &mut Zones,
+    state: &mut GraphicsState,
+    tolerance: Tolerance,
+    numbers: &[i32],
+) -> Result<(), Why>
     requires zones { IsZones (zones_view zones.old) }
     ensures exact { Gives (λ u. (zones_view zones.new, state.new)) result
-        (is.flippt numbers.now (zones_view zones.old) state.old) }
+        (is.flippt tolerance numbers.now (zones_view zones.old) state.old) }
     ensures zones { IsZones (zones_view zones.new) }
 {
-    flip_all(zones, numbers)?;
+    flip_all(zones, tolerance, numbers)?;
     state.loops = 1;
     Ok(())
 }
@@ -71,6 +90,7 @@ fn flip_range(zones: &mut Zones, low: i32, high: i32, on: bool) -> Result<(), Wh
     requires { IsZones (zones_view zones.old) }
     ensures exact { Gives (λ u. zones_view zones.new) result (is.flip_range on low high (zones_view zones.old)) }
     ensures zones { IsZones (zones_view zones.new) }
+    ensures kept { IfErr result (λ why. zones_view zones.new ≡ zones_view zones.old) }
 {
     zones.point(Zone::Glyph, high)?;
     zones.point(Zone::Glyph, low)?;
@@ -83,6 +103,7 @@ pub fn fliprgon(zones: &mut Zones, low: i32, high: i32) -> Result<(), Why>
     requires { IsZones (zones_view zones.old) }
     ensures exact { Gives (λ u. zones_view zones.new) result (is.fliprgon low high (zones_view zones.old)) }
     ensures zones { IsZones (zones_view zones.new) }
+    ensures kept { IfErr result (λ why. zones_view zones.new ≡ zones_view zones.old) }
 {
     flip_range(zones, low, high, true)
 }
@@ -92,6 +113,7 @@ pub fn fliprgoff(zones: &mut Zones, low: i32, high: i32) -> Result<(), Why>
     requires { IsZones (zones_view zones.old) }
     ensures exact { Gives (λ u. zones_view zones.new) result (is.fliprgoff low high (zones_view zones.old)) }
     ensures zones { IsZones (zones_view zones.new) }
+    ensures kept { IfErr result (λ why. zones_view zones.new ≡ zones_view zones.old) }
 {
     flip_range(zones, low, high, false)
 }

@@ -1,16 +1,16 @@
 //! Points moved one by one: ALIGNRP, IP, SHPIX. Apple TrueType Reference Manual, "Instruction set": managing outlines.
 //! Distances are in 26.6 pixels.
 
-ghost use Rattle.std.specs.Prelude.{◌≡◌, ◌^◌, ◌<◌, ◌≤◌, reverse, unsigned_abs, IfOk, ◌-ℤ◌};
+ghost use Rattle.std.specs.Prelude.{◌≡◌, ◌^◌, ◌<◌, ◌≤◌, reverse, unsigned_abs, IfErr, IfOk, ◌-ℤ◌};
 ghost use Rattle.tt_core.specs.Outcomes.{Gives};
 ghost use Rattle.tt_points_loops.specs.Moving as is;
-ghost use Rattle.tt_points_loops.specs.Series.{one_by_one};
+ghost use Rattle.tt_points_loops.specs.Series.{one_by_one, passing_over};
 ghost use Rattle.tt_points_zones.specs.Motions as motion;
 ghost use Rattle.tt_points_zones.specs.Zones.{IsPoint, IsZones, zones_view};
 
 use tt_core::{Why, rq};
 use tt_points_zones::{Distance, Motion, Zones, may_move, product};
-use tt_state::{GraphicsState, Point};
+use tt_state::{GraphicsState, Point, Tolerance};
 
 /// A distance that a point is moved by. Error: ValueRange.
 fn moved_by(p: Point, m: &Motion, by: Distance) -> Result<Point, Why>
@@ -49,6 +49,7 @@ fn align(zones: &mut Zones, state: &GraphicsState, n: i32) -> Result<(), Why>
     requires { IsZones (zones_view zones.old) }
     ensures exact { Gives (λ u. zones_view zones.new) result (is.align state.now n (zones_view zones.old)) }
     ensures zones { IsZones (zones_view zones.new) }
+    ensures kept { IfErr result (λ why. zones_view zones.new ≡ zones_view zones.old) }
 {
     let p = zones.point(state.zp1, n)?;
     let reference = zones.point(state.zp0, state.rp0)?;
@@ -57,27 +58,55 @@ fn align(zones: &mut Zones, state: &GraphicsState, n: i32) -> Result<(), Why>
     Ok(())
 }
 
-fn align_all(zones: &mut Zones, state: &GraphicsState, numbers: &[i32]) -> Result<(), Why>
+/// The same, passed over by a tolerant machine where something is not there.
+fn align_or_pass(
+    zones: &mut Zones,
+    state: &GraphicsState,
+    tolerance: Tolerance,
+    n: i32,
+) -> Result<(), Why>
     requires { IsZones (zones_view zones.old) }
     ensures exact { Gives (λ u. zones_view zones.new) result
-        (one_by_one (is.align state.now) (reverse numbers.now) (zones_view zones.old)) }
+        (passing_over tolerance (is.align state.now) n (zones_view zones.old)) }
+    ensures zones { IsZones (zones_view zones.new) }
+{
+    match align(zones, state, n) {
+        Err(why) if tolerance.passes_over(why) => Ok(()),
+        answer => answer,
+    }
+}
+
+fn align_all(
+    zones: &mut Zones,
+    state: &GraphicsState,
+    tolerance: Tolerance,
+    numbers: &[i32],
+) -> Result<(), Why>
+    requires { IsZones (zones_view zones.old) }
+    ensures exact { Gives (λ u. zones_view zones.new) result
+        (one_by_one (passing_over tolerance (is.align state.now)) (reverse numbers.now) (zones_view zones.old)) }
     ensures zones { IsZones (zones_view zones.new) }
 {
     for i in (0..numbers.len()).rev() {
-        align(zones, state, numbers[i])?;
+        align_or_pass(zones, state, tolerance, numbers[i])?;
     }
     Ok(())
 }
 
-/// ALIGNRP[]: loop points of zp1 -> each is moved to where rp0, in zp0, stands. Errors: PointRange,
-/// Perpendicular, ValueRange.
-pub fn alignrp(zones: &mut Zones, state: &mut GraphicsState, numbers: &[i32]) -> Result<(), Why>
+/// ALIGNRP[]: loop points of zp1 -> each is moved to where rp0, in zp0, stands. A tolerant machine passes over each for
+/// which something is not there. Errors: PointRange, Perpendicular, ValueRange.
+pub fn alignrp(
+    zones: &mut Zones,
+    state: &mut GraphicsState,
+    tolerance: Tolerance,
+    numbers: &[i32],
+) -> Result<(), Why>
     requires zones { IsZones (zones_view zones.old) }
     ensures exact { Gives (λ u. (zones_view zones.new, state.new)) result
-        (is.alignrp numbers.now (zones_view zones.old) state.old) }
+        (is.alignrp tolerance numbers.now (zones_view zones.old) state.old) }
     ensures zones { IsZones (zones_view zones.new) }
 {
-    align_all(zones, state, numbers)?;
+    align_all(zones, state, tolerance, numbers)?;
     state.loops = 1;
     Ok(())
 }
@@ -149,51 +178,112 @@ fn kept_between(p: Point, a: Point, b: Point, state: &GraphicsState) -> Result<P
     moved_between(p, a, b, &motion)
 }
 
+/// The second of the points between which others keep their places; a tolerant machine takes the first one, `a`, where
+/// it is not there. Error: PointRange.
+fn other_end(
+    zones: &Zones,
+    state: &GraphicsState,
+    tolerance: Tolerance,
+    a: Point,
+) -> Result<Point, Why>
+    requires zones { IsZones (zones_view zones.now) }
+    requires a { IsPoint a }
+    ensures exact { Gives (λ b. b) result (is.other_end tolerance state.now (zones_view zones.now) a) }
+    ensures valid { IfOk result IsPoint }
+{
+    match zones.point(state.zp1, state.rp2) {
+        Err(why) if tolerance.passes_over(why) => Ok(a),
+        b => b,
+    }
+}
+
 /// The point moved to where it keeps its place between rp1 and rp2. Errors: PointRange, Perpendicular, ValueRange.
-fn in_between(zones: &Zones, state: &GraphicsState, p: Point) -> Result<Point, Why>
+fn in_between(
+    zones: &Zones,
+    state: &GraphicsState,
+    tolerance: Tolerance,
+    p: Point,
+) -> Result<Point, Why>
     requires zones { IsZones (zones_view zones.now) }
     requires point { IsPoint p }
-    ensures exact { Gives (λ q. q) result (is.in_between state.now (zones_view zones.now) p) }
+    ensures exact { Gives (λ q. q) result (is.in_between tolerance state.now (zones_view zones.now) p) }
     ensures valid { IfOk result IsPoint }
 {
     let a = zones.point(state.zp0, state.rp1)?;
-    let b = zones.point(state.zp1, state.rp2)?;
+    let b = other_end(zones, state, tolerance, a)?;
     kept_between(p, a, b, state)
 }
 
 /// A point of zp2 keeps its place between rp1 and rp2.
-fn interpolate(zones: &mut Zones, state: &GraphicsState, n: i32) -> Result<(), Why>
+fn interpolate(
+    zones: &mut Zones,
+    state: &GraphicsState,
+    tolerance: Tolerance,
+    n: i32,
+) -> Result<(), Why>
     requires { IsZones (zones_view zones.old) }
-    ensures exact { Gives (λ u. zones_view zones.new) result (is.interpolate state.now n (zones_view zones.old)) }
+    ensures exact { Gives (λ u. zones_view zones.new) result
+        (is.interpolate tolerance state.now n (zones_view zones.old)) }
     ensures zones { IsZones (zones_view zones.new) }
+    ensures kept { IfErr result (λ why. zones_view zones.new ≡ zones_view zones.old) }
 {
     let p = zones.point(state.zp2, n)?;
-    let q = in_between(zones, state, p)?;
+    let q = in_between(zones, state, tolerance, p)?;
     zones.set(state.zp2, n, q);
     Ok(())
 }
 
-fn interpolate_all(zones: &mut Zones, state: &GraphicsState, numbers: &[i32]) -> Result<(), Why>
+/// The same, passed over by a tolerant machine where something is not there.
+fn interpolate_or_pass(
+    zones: &mut Zones,
+    state: &GraphicsState,
+    tolerance: Tolerance,
+    n: i32,
+) -> Result<(), Why>
     requires { IsZones (zones_view zones.old) }
     ensures exact { Gives (λ u. zones_view zones.new) result
-        (one_by_one (is.interpolate state.now) (reverse numbers.now) (zones_view zones.old)) }
+        (passing_over tolerance (is.interpolate tolerance state.now) n (zones_view zones.old)) }
+    ensures zones { IsZones (zones_view zones.new) }
+{
+    match interpolate(zones, state, tolerance, n) {
+        Err(why) if tolerance.passes_over(why) => Ok(()),
+        answer => answer,
+    }
+}
+
+fn interpolate_all(
+    zones: &mut Zones,
+    state: &GraphicsState,
+    tolerance: Tolerance,
+    numbers: &[i32],
+) -> Result<(), Why>
+    requires { IsZones (zones_view zones.old) }
+    ensures exact { Gives (λ u. zones_view zones.new) result
+        (one_by_one (passing_over tolerance (is.interpolate tolerance state.now)) (reverse numbers.now)
+        (zones_view zones.old)) }
     ensures zones { IsZones (zones_view zones.new) }
 {
     for i in (0..numbers.len()).rev() {
-        interpolate(zones, state, numbers[i])?;
+        interpolate_or_pass(zones, state, tolerance, numbers[i])?;
     }
     Ok(())
 }
 
-/// IP[]: loop points of zp2 -> each is moved to where it keeps its place between rp1, in zp0, and rp2, in zp1.
+/// IP[]: loop points of zp2 -> each is moved to where it keeps its place between rp1, in zp0, and rp2, in zp1. A
+/// tolerant machine takes rp1 for an rp2 that is not there, and passes over each point for which something else is not.
 /// Errors: PointRange, Perpendicular, ValueRange.
-pub fn ip(zones: &mut Zones, state: &mut GraphicsState, numbers: &[i32]) -> Result<(), Why>
+pub fn ip(
+    zones: &mut Zones,
+    state: &mut GraphicsState,
+    tolerance: Tolerance,
+    numbers: &[i32],
+) -> Result<(), Why>
     requires zones { IsZones (zones_view zones.old) }
     ensures exact { Gives (λ u. (zones_view zones.new, state.new)) result
-        (is.ip numbers.now (zones_view zones.old) state.old) }
+        (is.ip tolerance numbers.now (zones_view zones.old) state.old) }
     ensures zones { IsZones (zones_view zones.new) }
 {
-    interpolate_all(zones, state, numbers)?;
+    interpolate_all(zones, state, tolerance, numbers)?;
     state.loops = 1;
     Ok(())
 }
@@ -214,6 +304,7 @@ fn push(zones: &mut Zones, state: &GraphicsState, by: Distance, n: i32) -> Resul
     requires small { unsigned_abs by.0 ≤ 2 ^ 32 }
     ensures exact { Gives (λ u. zones_view zones.new) result (is.push by.0 state.now n (zones_view zones.old)) }
     ensures zones { IsZones (zones_view zones.new) }
+    ensures kept { IfErr result (λ why. zones_view zones.new ≡ zones_view zones.old) }
 {
     let p = zones.point(state.zp2, n)?;
     let moved = pushed(p, by, state)?;
@@ -221,38 +312,61 @@ fn push(zones: &mut Zones, state: &GraphicsState, by: Distance, n: i32) -> Resul
     Ok(())
 }
 
+/// The same, passed over by a tolerant machine where something is not there.
+fn push_or_pass(
+    zones: &mut Zones,
+    state: &GraphicsState,
+    tolerance: Tolerance,
+    by: Distance,
+    n: i32,
+) -> Result<(), Why>
+    requires zones { IsZones (zones_view zones.old) }
+    requires small { unsigned_abs by.0 ≤ 2 ^ 32 }
+    ensures exact { Gives (λ u. zones_view zones.new) result
+        (passing_over tolerance (is.push by.0 state.now) n (zones_view zones.old)) }
+    ensures zones { IsZones (zones_view zones.new) }
+{
+    match push(zones, state, by, n) {
+        Err(why) if tolerance.passes_over(why) => Ok(()),
+        answer => answer,
+    }
+}
+
 fn push_all(
     zones: &mut Zones,
     state: &GraphicsState,
+    tolerance: Tolerance,
     by: Distance,
     numbers: &[i32],
 ) -> Result<(), Why>
     requires zones { IsZones (zones_view zones.old) }
     requires small { unsigned_abs by.0 ≤ 2 ^ 32 }
     ensures exact { Gives (λ u. zones_view zones.new) result
-        (one_by_one (is.push by.0 state.now) (reverse numbers.now) (zones_view zones.old)) }
+        (one_by_one (passing_over tolerance (is.push by.0 state.now)) (reverse numbers.now) (zones_view zones.old)) }
     ensures zones { IsZones (zones_view zones.new) }
 {
     for i in (0..numbers.len()).rev() {
-        push(zones, state, by, numbers[i])?;
+        push_or_pass(zones, state, tolerance, by, numbers[i])?;
     }
     Ok(())
 }
 
-/// SHPIX[]: loop points of zp2, amount -> each is moved by the amount along the freedom vector. Errors:
-/// PointRange, ValueRange.
+/// SHPIX[]: loop points of zp2, amount -> each is moved by the amount along the freedom vector. A tolerant machine
+/// passes over each that is not there. Errors: PointRange, ValueRange.
 pub fn shpix(
     zones: &mut Zones,
     state: &mut GraphicsState,
+    tolerance: Tolerance,
     numbers: &[i32],
     amount: i32,
 ) -> Result<(), Why>
     requires zones { IsZones (zones_view zones.old) }
     ensures exact { Gives (λ u. (zones_view zones.new, state.new)) result
-        (is.shpix numbers.now amount (zones_view zones.old) state.old) }
+        (is.shpix tolerance numbers.now amount (zones_view zones.old) state.old) }
     ensures zones { IsZones (zones_view zones.new) }
 {
-    push_all(zones, state, Distance(i64::from(amount)), numbers)?;
+    let by = Distance(i64::from(amount));
+    push_all(zones, state, tolerance, by, numbers)?;
     state.loops = 1;
     Ok(())
 }

@@ -1,17 +1,18 @@
 //! Points that follow a reference point: SHP, SHC, SHZ. Apple TrueType Reference Manual, "Instruction set": managing
 //! outlines. Distances are in 26.6 pixels.
 
-ghost use Rattle.std.specs.Prelude.{◌≡◌, ℕ, ◌≤◌, ◌≤ℤ◌, pos, All, IfOk, length, reverse};
+ghost use Rattle.std.specs.Prelude.{◌≡◌, ℕ, ◌≤◌, ◌≤ℤ◌, pos, true, false, All, IfErr, IfOk, length, reverse};
 ghost use Rattle.tt_core.specs.Outcomes.{Gives};
-ghost use Rattle.tt_points_loops.specs.Series.{each_from_to, one_by_one};
+ghost use Rattle.tt_points_loops.specs.Series.{each_from_to, one_by_one, passing_over};
 ghost use Rattle.tt_points_loops.specs.Shifting as is;
 ghost use Rattle.tt_points_zones.specs.Points.{points_in};
 ghost use Rattle.tt_points_zones.specs.Zones.{AreContours, IsPoint, IsZones, zones_view};
+ghost use Rattle.tt_state.specs.Tolerance.{is_missing};
 ghost use Rattle.tt_state.specs.declared.graphics_state.Zone.TheVariants as zone;
 
 use tt_core::Why;
 use tt_points_zones::{Motion, Zones, may_move, zone_of};
-use tt_state::{GraphicsState, Point, Zone};
+use tt_state::{GraphicsState, Point, Tolerance, Zone};
 
 /// Which reference point others follow.
 #[derive(Clone, Copy)]
@@ -22,7 +23,8 @@ pub enum ReferencePoint {
     Rp2,
 }
 
-fn reference_zone(state: &GraphicsState, which: ReferencePoint) -> Zone
+/// The zone that a reference point is in.
+pub fn reference_zone(state: &GraphicsState, which: ReferencePoint) -> Zone
     ensures { result ≡ is.reference_zone which state.now }
 {
     match which {
@@ -31,7 +33,8 @@ fn reference_zone(state: &GraphicsState, which: ReferencePoint) -> Zone
     }
 }
 
-fn reference_number(state: &GraphicsState, which: ReferencePoint) -> i32
+/// The number of a reference point.
+pub fn reference_number(state: &GraphicsState, which: ReferencePoint) -> i32
     ensures { result ≡ is.reference_number which state.now }
 {
     match which {
@@ -97,6 +100,7 @@ fn shift(
     requires before { IfOk before IsPoint }
     ensures exact { Gives (λ u. zones_view zones.new) result (is.shift state.now before n (zones_view zones.old)) }
     ensures zones { IsZones (zones_view zones.new) }
+    ensures kept { IfErr result (λ why. zones_view zones.new ≡ zones_view zones.old) }
 {
     let p = zones.point(state.zp2, n)?;
     let q = follow(p, before?, true, state)?;
@@ -104,39 +108,61 @@ fn shift(
     Ok(())
 }
 
+/// The same, passed over by a tolerant machine where something is not there.
+fn shift_or_pass(
+    zones: &mut Zones,
+    state: &GraphicsState,
+    tolerance: Tolerance,
+    before: Result<Point, Why>,
+    n: i32,
+) -> Result<(), Why>
+    requires zones { IsZones (zones_view zones.old) }
+    requires before { IfOk before IsPoint }
+    ensures exact { Gives (λ u. zones_view zones.new) result
+        (passing_over tolerance (is.shift state.now before) n (zones_view zones.old)) }
+    ensures zones { IsZones (zones_view zones.new) }
+{
+    match shift(zones, state, before, n) {
+        Err(why) if tolerance.passes_over(why) => Ok(()),
+        answer => answer,
+    }
+}
+
 fn shift_all(
     zones: &mut Zones,
     state: &GraphicsState,
+    tolerance: Tolerance,
     before: Result<Point, Why>,
     numbers: &[i32],
 ) -> Result<(), Why>
     requires zones { IsZones (zones_view zones.old) }
     requires before { IfOk before IsPoint }
     ensures exact { Gives (λ u. zones_view zones.new) result
-        (one_by_one (is.shift state.now before) (reverse numbers.now) (zones_view zones.old)) }
+        (one_by_one (passing_over tolerance (is.shift state.now before)) (reverse numbers.now) (zones_view zones.old)) }
     ensures zones { IsZones (zones_view zones.new) }
 {
     for i in (0..numbers.len()).rev() {
-        shift(zones, state, before, numbers[i])?;
+        shift_or_pass(zones, state, tolerance, before, numbers[i])?;
     }
     Ok(())
 }
 
-/// SHP[a]: loop points of zp2 -> each is moved as far as the reference point stands from its original.
-/// Errors: PointRange, Perpendicular, ValueRange.
+/// SHP[a]: loop points of zp2 -> each is moved as far as the reference point stands from its original. A tolerant
+/// machine passes over each for which something is not there. Errors: PointRange, Perpendicular, ValueRange.
 pub fn shp(
     zones: &mut Zones,
     state: &mut GraphicsState,
+    tolerance: Tolerance,
     which: ReferencePoint,
     numbers: &[i32],
 ) -> Result<(), Why>
     requires zones { IsZones (zones_view zones.old) }
     ensures exact { Gives (λ u. (zones_view zones.new, state.new)) result
-        (is.shp which numbers.now (zones_view zones.old) state.old) }
+        (is.shp tolerance which numbers.now (zones_view zones.old) state.old) }
     ensures zones { IsZones (zones_view zones.new) }
 {
     let before = reference(zones, state, which);
-    shift_all(zones, state, before, numbers)?;
+    shift_all(zones, state, tolerance, before, numbers)?;
     state.loops = 1;
     Ok(())
 }
@@ -189,6 +215,7 @@ fn follow_all(
         (each_from_to first past (is.follow_but by.but by.touch state.now by.reference) 0 points.old) }
     ensures valid { All IsPoint points.new }
     ensures count { length points.new ≡ length points.old }
+    ensures other { IfErr result (λ why. is_missing why ≡ false) }
 {
     for i in first..past {
         points[i] = follow_but(points[i], i, by, state)?;
@@ -217,6 +244,7 @@ fn shift_range(
     ensures exact { Gives (λ u. zones_view zones.new) result
         (is.shift_range touch which range.zone (range.first, range.past) (zones_view zones.old) state.now) }
     ensures zones { IsZones (zones_view zones.new) }
+    ensures kept { IfErr result (λ why. is_missing why ≡ true → zones_view zones.new ≡ zones_view zones.old) }
 {
     let reference = reference(zones, state, which)?;
     let but = number_in(
@@ -279,6 +307,7 @@ pub fn shc(
     requires zones { IsZones (zones_view zones.old) }
     ensures exact { Gives (λ u. zones_view zones.new) result (is.shc which contour (zones_view zones.old) state.now) }
     ensures zones { IsZones (zones_view zones.new) }
+    ensures kept { IfErr result (λ why. is_missing why ≡ true → zones_view zones.new ≡ zones_view zones.old) }
 {
     let range = contour_in(zones, state.zp2, contour)?;
     shift_range(zones, state, which, range, true)
@@ -325,6 +354,7 @@ pub fn shz(
     requires zones { IsZones (zones_view zones.old) }
     ensures exact { Gives (λ u. zones_view zones.new) result (is.shz which zone (zones_view zones.old) state.now) }
     ensures zones { IsZones (zones_view zones.new) }
+    ensures kept { IfErr result (λ why. is_missing why ≡ true → zones_view zones.new ≡ zones_view zones.old) }
 {
     let zone = zone_of(zone)?;
     let outline = outline_in(zones, zone);

@@ -4,7 +4,10 @@ use Rattle.std.proofs.Common.{◌≡◌, Bool, true, false, ◌||◌, if◌then�
 use Rattle.tt_core.specs.Outcomes.{◌>>=◌}
 use Rattle.tt_core.specs.declared.fault.Why.{Why}
 use Rattle.tt_core.specs.declared.fault.Why.TheVariants as why
+use Rattle.tt_state.specs.Tolerance.{is_missing, passes_over, unless_missing}
 use Rattle.tt_state.specs.declared.graphics_state.GraphicsState.{GraphicsState}
+use Rattle.tt_state.specs.declared.tolerance.Tolerance.{Tolerance}
+use Rattle.tt_state.specs.declared.tolerance.Tolerance.TheVariants as tolerance
 use Rattle.tt_points_zones.specs.Motions.{direction, is_same, vectors_of}
 use Rattle.tt_points_zones.specs.declared.motion.Motion.{Motion}
 
@@ -42,6 +45,32 @@ pub after : {A B : Type 0} (more : B → B) (r : Result A Why) (f g : A → Resu
     → ((a : A) → Stays more (f a) (g a)) → Stays more (r >>= f) (r >>= g)
 after more (Ok a) f g next = next a
 after more (Err e) f g next = λ other. refl
+
+-- an answer, or another where something is not there
+of_profile : (e : Why) → is_missing e ≡ true → is_of_profile e ≡ false
+of_profile why.PointRange missing = refl
+of_profile why.ContourRange missing = refl
+of_profile why.ZoneRange missing = refl
+of_profile why.CvtRange missing = refl
+of_profile why.StorageRange missing = refl
+of_profile why.OffProfile missing = absurd cc
+of_profile why.Perpendicular missing = absurd cc
+of_profile _ missing = refl
+
+missing_of : (t : Tolerance) (e : Why) → passes_over t e ≡ true → is_missing e ≡ true
+missing_of tolerance.Strict e passed = absurd cc
+missing_of tolerance.Tolerant e passed = passed
+
+refused : {A : Type 0} (all : A → A) (t : Tolerance) (instead : A) (e : Why) (with : Result A Why) (passes : Bool)
+    → passes_over t e ≡ passes → (is_of_profile e ≡ false → with ≡ Err e)
+    → Stays all (if passes then Ok instead else Err e) (unless_missing t (all instead) with)
+refused all t instead e with true is stays = rw (stays (of_profile e (missing_of t e is))) (rw is refl)
+refused all t instead e with false is stays = λ other. rw (stays other) (rw is refl)
+
+pub passed_over : {A : Type 0} (all : A → A) (t : Tolerance) (instead : A) (r with : Result A Why) → Stays all r with
+    → Stays all (unless_missing t instead r) (unless_missing t (all instead) with)
+passed_over all t instead (Ok a) with stays = rw stays refl
+passed_over all t instead (Err e) with stays = refused all t instead e with (passes_over t e) refl stays
 
 permitted : (b : Bool) (m : Motion) → StaysSame (if b then Ok m else Err why.Perpendicular) (Ok m)
 permitted true m = refl

@@ -1,13 +1,15 @@
 use Rattle.std.proofs.Common.{◌≡◌, reverse, take}
 use Rattle.tt_points_loops.specs.Deltas.{except, pairs_of}
-use Rattle.tt_points_loops.specs.Series.{one_by_one}
+use Rattle.tt_points_loops.specs.Series.{one_by_one, passing_over}
 use Rattle.tt_points_zones.specs.Zones.{IsZones, zones_view}
 use Rattle.tt_points_loops.proofs.deltas.deltap.Given as goal
 
 -- what is left to do, done to what there is, is the whole
 abbrev pub invariant-loop-i : goal.invariant-loop-i
 invariant-loop-i l = record {
-  same : one_by_one (except l.range l.ppem l.state) (reverse (take l.i (pairs_of l.pairs))) (zones_view l.zones)
-      ≡ one_by_one (except l.range l.ppem l.state) (reverse (pairs_of l.pairs)) (zones_view l.fn.zones);
+  same : one_by_one (passing_over l.tolerance (except l.tolerance l.range l.ppem l.state))
+      (reverse (take l.i (pairs_of l.pairs))) (zones_view l.zones)
+      ≡ one_by_one (passing_over l.tolerance (except l.tolerance l.range l.ppem l.state)) (reverse (pairs_of l.pairs))
+      (zones_view l.fn.zones);
   zones : IsZones (zones_view l.zones);
 }

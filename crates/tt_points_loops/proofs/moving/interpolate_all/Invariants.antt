@@ -1,13 +1,15 @@
 use Rattle.std.proofs.Common.{◌≡◌, reverse, take}
 use Rattle.tt_points_loops.specs.Moving.{interpolate}
-use Rattle.tt_points_loops.specs.Series.{one_by_one}
+use Rattle.tt_points_loops.specs.Series.{one_by_one, passing_over}
 use Rattle.tt_points_zones.specs.Zones.{IsZones, zones_view}
 use Rattle.tt_points_loops.proofs.moving.interpolate_all.Given as goal
 
 -- what is left to do, done to what there is, is the whole
 abbrev pub invariant-loop-i : goal.invariant-loop-i
 invariant-loop-i l = record {
-  same : one_by_one (interpolate l.state) (reverse (take l.i l.numbers)) (zones_view l.zones)
-      ≡ one_by_one (interpolate l.state) (reverse l.numbers) (zones_view l.fn.zones);
+  same : one_by_one (passing_over l.tolerance (interpolate l.tolerance l.state)) (reverse (take l.i l.numbers))
+      (zones_view l.zones)
+      ≡ one_by_one (passing_over l.tolerance (interpolate l.tolerance l.state)) (reverse l.numbers)
+      (zones_view l.fn.zones);
   zones : IsZones (zones_view l.zones);
 }
