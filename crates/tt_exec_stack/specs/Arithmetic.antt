@@ -1,6 +1,6 @@
 -- Apple TrueType Reference Manual, "Instruction set": arithmetic and mathematical functions. Numbers are in 26.6, so 64
 -- is one pixel. The top of the stack stands first.
-use Rattle.std.specs.Prelude.{◌≡◌, ◌+◌, ◌/◌, suc, ℤ, pos, negsuc, neg_ℤ, ◌+ℤ◌, ◌-ℤ◌, ◌*ℤ◌, int_div, unsigned_abs, if◌then◌else◌, List, [], ◌∷◌, Result, Ok, Err, refl}
+use Rattle.std.specs.Prelude.{◌≡◌, ℕ, ◌+◌, ◌/◌, suc, ℤ, pos, negsuc, neg_ℤ, ◌+ℤ◌, ◌-ℤ◌, ◌*ℤ◌, int_div, unsigned_abs, if◌then◌else◌, List, [], ◌∷◌, Result, Ok, Err, refl}
 use Rattle.std.specs.Int.{int_div_euclid, int_max, int_min}
 use Rattle.std.specs.Ordering.{int_eq}
 use Rattle.tt_core.specs.declared.fault.Why.{Why}
@@ -94,6 +94,21 @@ computed op.Round state s = round state s
 computed op.Nround state s = nround s
 computed op.Max state s = max s
 computed op.Min state s = min s
+
+-- how many values an instruction takes
+abbrev pub takes : Arithmetic → ℕ
+takes op.Add = 2
+takes op.Sub = 2
+takes op.Div = 2
+takes op.Mul = 2
+takes op.Abs = 1
+takes op.Neg = 1
+takes op.Floor = 1
+takes op.Ceiling = 1
+takes op.Round = 1
+takes op.Nround = 1
+takes op.Max = 2
+takes op.Min = 2
 
 -- worked values
 minus_eight_times_36 : mul (pos 36 ∷ neg_ℤ (pos 8) ∷ []) ≡ Ok (neg_ℤ (pos 5) ∷ [])

@@ -1,4 +1,5 @@
 pub mod Arithmetic
+pub mod Laws
 pub mod Logic
 pub mod Managing
 pub mod Pushing

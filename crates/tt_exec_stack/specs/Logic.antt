@@ -1,6 +1,6 @@
 -- Apple TrueType Reference Manual, "Instruction set": logical functions. 1 is pushed for true and 0 for false; of a
 -- popped value, 0 is false and any other is true. The top of the stack stands first.
-use Rattle.std.specs.Prelude.{◌≡◌, ℤ, pos, neg_ℤ, int_lt, int_le, Bool, true, false, not, ◌&&◌, ◌||◌, List, [], ◌∷◌, Result, Ok, Err, refl}
+use Rattle.std.specs.Prelude.{◌≡◌, ℕ, ℤ, pos, neg_ℤ, int_lt, int_le, Bool, true, false, not, ◌&&◌, ◌||◌, List, [], ◌∷◌, Result, Ok, Err, refl}
 use Rattle.std.specs.Int.{int_div_euclid, int_rem_euclid}
 use Rattle.std.specs.Ordering.{int_eq}
 use Rattle.tt_core.specs.declared.fault.Why.{Why}
@@ -79,6 +79,20 @@ evaluated op.Even round s = even round s
 evaluated op.And round s = and s
 evaluated op.Or round s = or s
 evaluated op.Not round s = negated s
+
+-- how many values an instruction takes
+abbrev pub takes : Logic → ℕ
+takes op.Lt = 2
+takes op.Lteq = 2
+takes op.Gt = 2
+takes op.Gteq = 2
+takes op.Eq = 2
+takes op.Neq = 2
+takes op.Odd = 1
+takes op.Even = 1
+takes op.And = 2
+takes op.Or = 2
+takes op.Not = 1
 
 -- worked values: the second entry is compared with the top
 one_is_less_than_two : lt (pos 2 ∷ pos 1 ∷ []) ≡ Ok (pos 1 ∷ [])

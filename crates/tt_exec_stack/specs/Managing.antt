@@ -1,8 +1,11 @@
 -- Apple TrueType Reference Manual, "Instruction set": managing the stack. The top of the stack stands first.
-use Rattle.std.specs.Prelude.{◌≡◌, ◌-◌, ℤ, pos, unsigned_abs, List, [], ◌∷◌, ◌++◌, length, take, drop, Result, Ok, Err, refl}
+use Rattle.std.specs.Prelude.{◌≡◌, ℕ, ◌-◌, ℤ, pos, unsigned_abs, if◌then◌else◌, List, [], ◌∷◌, ◌++◌, length, take, drop, Result, Ok, Err, refl}
 use Rattle.tt_core.specs.Outcomes.{◌>>=◌}
 use Rattle.tt_core.specs.declared.fault.Why.{Why}
 use Rattle.tt_core.specs.declared.fault.Why.TheVariants as why
+use Rattle.tt_state.specs.Tolerance.{is_tolerant}
+use Rattle.tt_state.specs.declared.tolerance.Tolerance.{Tolerance}
+use Rattle.tt_state.specs.declared.tolerance.Tolerance.TheVariants as tolerance
 use Rattle.tt_exec_stack.specs.declared.instruction.Managing.{Managing}
 use Rattle.tt_exec_stack.specs.declared.instruction.Managing.TheVariants as op
 use Rattle.tt_exec_stack.specs.Stack.{kth, pushed}
@@ -25,38 +28,79 @@ swap _ = Err why.StackShort
 abbrev pub depth : List ℤ → Result (List ℤ) Why
 depth s = pushed (pos (length s)) s
 
-abbrev pub cindex : List ℤ → Result (List ℤ) Why
-cindex (k ∷ s) = kth k s >>= λ e. pushed e s
-cindex [] = Err why.StackShort
+-- an answer, or what a tolerant machine goes on with in the place of a refusal (profile)
+abbrev pub unless_refused : {A : Type 0} → Tolerance → A → Result A Why → Result A Why
+unless_refused t instead (Ok a) = Ok a
+unless_refused t instead (Err e) = if is_tolerant t then Ok instead else Err e
 
-abbrev pub mindex : List ℤ → Result (List ℤ) Why
-mindex (k ∷ s) = kth k s >>= λ e. Ok (e ∷ (take (unsigned_abs k - 1) s ++ drop (unsigned_abs k) s))
-mindex [] = Err why.StackShort
+-- a tolerant machine takes an entry that is not there as 0 (profile)
+abbrev pub cindex : Tolerance → List ℤ → Result (List ℤ) Why
+cindex t (k ∷ s) = unless_refused t (pos 0) (kth k s) >>= λ e. pushed e s
+cindex t [] = Err why.StackShort
+
+-- a tolerant machine moves no entry where there is none such (profile)
+abbrev pub mindex : Tolerance → List ℤ → Result (List ℤ) Why
+mindex t (k ∷ s) =
+    unless_refused t s (kth k s >>= λ e. Ok (e ∷ (take (unsigned_abs k - 1) s ++ drop (unsigned_abs k) s)))
+mindex t [] = Err why.StackShort
 
 abbrev pub roll : List ℤ → Result (List ℤ) Why
 roll (c ∷ b ∷ a ∷ s) = Ok (a ∷ c ∷ b ∷ s)
 roll _ = Err why.StackShort
 
-abbrev pub managed : Managing → List ℤ → Result (List ℤ) Why
-managed op.Dup s = dup s
-managed op.Pop s = pop s
-managed op.Clear s = clear s
-managed op.Swap s = swap s
-managed op.Depth s = depth s
-managed op.Cindex s = cindex s
-managed op.Mindex s = mindex s
-managed op.Roll s = roll s
+abbrev pub managed : Managing → Tolerance → List ℤ → Result (List ℤ) Why
+managed op.Dup t s = dup s
+managed op.Pop t s = pop s
+managed op.Clear t s = clear s
+managed op.Swap t s = swap s
+managed op.Depth t s = depth s
+managed op.Cindex t s = cindex t s
+managed op.Mindex t s = mindex t s
+managed op.Roll t s = roll s
+
+-- how many values an instruction takes at once
+abbrev pub takes : Managing → ℕ
+takes op.Dup = 1
+takes op.Pop = 1
+takes op.Clear = 0
+takes op.Swap = 2
+takes op.Depth = 0
+takes op.Cindex = 1
+takes op.Mindex = 1
+takes op.Roll = 3
 
 -- worked values: 10, 20, 30 with 30 on top
-the_second_copied : cindex (pos 2 ∷ pos 30 ∷ pos 20 ∷ pos 10 ∷ []) ≡ Ok (pos 20 ∷ pos 30 ∷ pos 20 ∷ pos 10 ∷ [])
+the_second_copied : cindex tolerance.Strict (pos 2 ∷ pos 30 ∷ pos 20 ∷ pos 10 ∷ [])
+    ≡ Ok (pos 20 ∷ pos 30 ∷ pos 20 ∷ pos 10 ∷ [])
 unfolding pushed
 the_second_copied = refl
 
-the_third_moved : mindex (pos 3 ∷ pos 30 ∷ pos 20 ∷ pos 10 ∷ []) ≡ Ok (pos 10 ∷ pos 30 ∷ pos 20 ∷ [])
+the_third_moved : mindex tolerance.Strict (pos 3 ∷ pos 30 ∷ pos 20 ∷ pos 10 ∷ []) ≡ Ok (pos 10 ∷ pos 30 ∷ pos 20 ∷ [])
 the_third_moved = refl
 
-no_fourth : mindex (pos 4 ∷ pos 30 ∷ pos 20 ∷ pos 10 ∷ []) ≡ Err why.StackShort
+no_fourth : mindex tolerance.Strict (pos 4 ∷ pos 30 ∷ pos 20 ∷ pos 10 ∷ []) ≡ Err why.StackShort
 no_fourth = refl
 
 the_third_comes_up : roll (pos 30 ∷ pos 20 ∷ pos 10 ∷ []) ≡ Ok (pos 10 ∷ pos 30 ∷ pos 20 ∷ [])
 the_third_comes_up = refl
+
+-- the fifth of one, and of two
+no_fifth_copied : cindex tolerance.Strict (pos 5 ∷ pos 7 ∷ []) ≡ Err why.StackShort
+no_fifth_copied = refl
+
+no_fifth_is_zero : cindex tolerance.Tolerant (pos 5 ∷ pos 7 ∷ []) ≡ Ok (pos 0 ∷ pos 7 ∷ [])
+unfolding pushed
+no_fifth_is_zero = refl
+
+no_fifth_moved : mindex tolerance.Strict (pos 5 ∷ pos 32 ∷ pos 0 ∷ []) ≡ Err why.StackShort
+no_fifth_moved = refl
+
+no_fifth_left_out : mindex tolerance.Tolerant (pos 5 ∷ pos 32 ∷ pos 0 ∷ []) ≡ Ok (pos 32 ∷ pos 0 ∷ [])
+no_fifth_left_out = refl
+
+the_zeroth_refused : cindex tolerance.Strict (pos 0 ∷ pos 7 ∷ []) ≡ Err why.BadArgument
+the_zeroth_refused = refl
+
+the_zeroth_is_zero : cindex tolerance.Tolerant (pos 0 ∷ pos 7 ∷ []) ≡ Ok (pos 0 ∷ pos 7 ∷ [])
+unfolding pushed
+the_zeroth_is_zero = refl

@@ -1,6 +1,6 @@
 -- Apple TrueType Reference Manual, "Instructing TrueType Glyphs": the interpreter's stack is a list of numbers of 32
 -- bits, here with the top first.
-use Rattle.std.specs.Prelude.{◌≡◌, ℕ, ◌-◌, ◌^◌, ℤ, pos, negsuc, neg_ℤ, int_lt, int_le, unsigned_abs, slice_get, Bool, ◌&&◌, nat_lt, if◌then◌else◌, List, [], ◌∷◌, length, take, reverse, Result, Ok, Err, refl}
+use Rattle.std.specs.Prelude.{◌≡◌, ℕ, ◌-◌, ◌^◌, ℤ, pos, negsuc, neg_ℤ, int_lt, int_le, unsigned_abs, slice_get, Bool, ◌&&◌, nat_lt, if◌then◌else◌, List, [], ◌∷◌, length, take, reverse, replicate, Result, Ok, Err, refl}
 use Rattle.std.specs.Option.{ok_or}
 use Rattle.tt_core.specs.Limits.{stack_limit}
 use Rattle.tt_core.specs.declared.fault.Why.{Why}
@@ -24,6 +24,11 @@ kth k s = if int_lt k (pos 1) then Err why.BadArgument else ok_or (slice_get s (
 abbrev pub top : ℕ → List ℤ → Result (List ℤ) Why
 top n s = if nat_lt (length s) n then Err why.StackShort else Ok (reverse (take n s))
 
+-- what stands where an instruction takes so many values. Too few values count as 0, and those that are there are lost
+-- (profile).
+abbrev pub padded : ℕ → List ℤ → List ℤ
+padded n s = if nat_lt (length s) n then replicate n (pos 0) else s
+
 -- the top entry that a call took, or that there is none
 abbrev pub Pops : List ℤ → Result ℤ Why → List ℤ → Type 0
 Pops old (Ok x) new = old ≡ x ∷ new
@@ -43,3 +48,9 @@ the_least = refl
 past_the_greatest : pushed (pos 2147483648) [] ≡ Err why.ValueRange
 unfolding pushed
 past_the_greatest = refl
+
+one_of_two_is_lost : padded 2 (pos 5 ∷ []) ≡ pos 0 ∷ pos 0 ∷ []
+one_of_two_is_lost = refl
+
+two_are_enough : padded 2 (pos 5 ∷ pos 6 ∷ []) ≡ pos 5 ∷ pos 6 ∷ []
+two_are_enough = refl

@@ -4,6 +4,7 @@
 
 mod arithmetic;
 mod instruction;
+pub mod laws;
 mod logic;
 mod managing;
 mod pushing;

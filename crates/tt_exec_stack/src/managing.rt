@@ -6,6 +6,7 @@ ghost use Rattle.tt_exec_stack.specs.Managing as is;
 use crate::instruction::Managing;
 use crate::stack::Stack;
 use tt_core::Why;
+use tt_state::Tolerance;
 
 /// DUP[], 0x20: e -> e, e.
 fn dup(stack: &mut Stack) -> Result<(), Why>
@@ -51,21 +52,30 @@ fn depth(stack: &mut Stack) -> Result<(), Why>
     stack.push(depth as i64)
 }
 
-/// CINDEX[], 0x25: k -> a copy of the k-th entry.
-fn cindex(stack: &mut Stack) -> Result<(), Why>
-    ensures { Does (is.cindex stack.old) stack.new result }
+/// CINDEX[], 0x25: k -> a copy of the k-th entry. A tolerant machine takes 0 where it is not there (profile).
+fn cindex(tolerance: Tolerance, stack: &mut Stack) -> Result<(), Why>
+    ensures { Does (is.cindex tolerance stack.old) stack.new result }
 {
     let k = stack.pop()?;
-    let e = stack.kth(k)?;
+    let e = match stack.kth(k) {
+        Ok(e) => e,
+        Err(_) if tolerance.is_tolerant() => 0,
+        Err(why) => return Err(why),
+    };
     stack.push(i64::from(e))
 }
 
-/// MINDEX[], 0x26: k -> the k-th entry, which is no longer where it was.
-fn mindex(stack: &mut Stack) -> Result<(), Why>
-    ensures { Does (is.mindex stack.old) stack.new result }
+/// MINDEX[], 0x26: k -> the k-th entry, which is no longer where it was. A tolerant machine takes k alone where that
+/// entry is not there (profile).
+fn mindex(tolerance: Tolerance, stack: &mut Stack) -> Result<(), Why>
+    ensures { Does (is.mindex tolerance stack.old) stack.new result }
 {
     let k = stack.pop()?;
-    let e = stack.kth(k)?;
+    let e = match stack.kth(k) {
+        Ok(e) => e,
+        Err(_) if tolerance.is_tolerant() => return Ok(()),
+        Err(why) => return Err(why),
+    };
     stack.remove(k as usize);
     stack.put(e);
     Ok(())
@@ -84,10 +94,11 @@ fn roll(stack: &mut Stack) -> Result<(), Why>
     Ok(())
 }
 
-/// Errors: StackShort; StackFull; of CINDEX and MINDEX also BadArgument.
+/// Errors: StackShort; StackFull; of CINDEX and MINDEX also BadArgument. A tolerant machine's CINDEX and MINDEX have
+/// StackShort of an empty stack alone, and no BadArgument.
 #[inline(always)]
-pub fn manage(op: Managing, stack: &mut Stack) -> Result<(), Why>
-    ensures { Does (is.managed op stack.old) stack.new result }
+pub fn manage(op: Managing, tolerance: Tolerance, stack: &mut Stack) -> Result<(), Why>
+    ensures { Does (is.managed op tolerance stack.old) stack.new result }
 {
     match op {
         Managing::Dup => dup(stack),
@@ -95,8 +106,8 @@ pub fn manage(op: Managing, stack: &mut Stack) -> Result<(), Why>
         Managing::Clear => clear(stack),
         Managing::Swap => swap(stack),
         Managing::Depth => depth(stack),
-        Managing::Cindex => cindex(stack),
-        Managing::Mindex => mindex(stack),
+        Managing::Cindex => cindex(tolerance, stack),
+        Managing::Mindex => mindex(tolerance, stack),
         Managing::Roll => roll(stack),
     }
 }

@@ -1,10 +1,10 @@
 //! The interpreter's stack. Apple TrueType Reference Manual, "Instructing TrueType Glyphs".
 
-ghost use Rattle.std.specs.Prelude.{◌≡◌, ◌-◌, ◌<◌, ◌≤◌, [], ◌∷◌, length, reverse, take, drop, ◌++◌, pos, IfOk, OnOk};
+ghost use Rattle.std.specs.Prelude.{◌≡◌, ◌-◌, ◌<◌, ◌≤◌, [], ◌∷◌, length, reverse, take, drop, replicate, ◌++◌, pos, IfOk, OnOk};
 ghost use Rattle.tt_core.specs.Limits.{stack_limit};
 ghost use Rattle.tt_core.specs.declared.fault.Why.TheVariants.{StackShort};
 ghost use Rattle.tt_core.specs.Outcomes.{Gives};
-ghost use Rattle.tt_exec_stack.specs.Stack.{Does, Pops, kth, pushed, top};
+ghost use Rattle.tt_exec_stack.specs.Stack.{Does, Pops, kth, padded, pushed, top};
 
 use std::alloc::{AllocError, Global};
 use std::marker::Model;
@@ -51,6 +51,31 @@ impl Stack {
         ensures { self.new ≡ [] }
     {
         self.items.clear();
+    }
+
+    /// What an instruction finds that takes `n` values: where fewer are there they are lost, and there are `n` zeros
+    /// (profile).
+    #[inline(always)]
+    pub fn pad(&mut self, n: usize)
+        requires { n ≤ stack_limit }
+        ensures exact { self.new ≡ padded n self.old }
+        ensures enough { n ≤ length self.new }
+    {
+        if self.items.len() < n {
+            self.put_zeros(n);
+        }
+    }
+
+    /// So many zeros, and nothing else.
+    #[cold]
+    fn put_zeros(&mut self, n: usize)
+        requires { n ≤ stack_limit }
+        ensures { self.new ≡ replicate n (pos 0) }
+    {
+        self.clear();
+        for _ in 0..n {
+            self.put(0);
+        }
     }
 
     /// How many entries there are.

@@ -1,3 +1,4 @@
 pub mod Beside
 pub mod Sizes
+pub mod Tolerant
 mod WithAll

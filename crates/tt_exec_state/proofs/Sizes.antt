@@ -1,9 +1,11 @@
 -- No instruction makes or drops a place of the storage area or a control value.
-use Rattle.std.proofs.Common.{◌≡◌, ℕ, ℤ, List, [], ◌∷◌, length, Result, Ok, Err, IfOk, refl, length-set}
+use Rattle.std.proofs.Common.{◌≡◌, ℕ, ℤ, Bool, true, false, if◌then◌else◌, List, [], ◌∷◌, length, Result, Ok, Err, IfOk, refl, length-set}
 use Rattle.tt_core.specs.Outcomes.{◌>>=◌}
 use Rattle.tt_core.specs.declared.fault.Why.{Why}
 use Rattle.tt_core.specs.declared.fault.Why.TheVariants as why
-use Rattle.tt_exec_state.specs.StoredValues.{place, ws, rs, wcvtp, wcvtf, rcvt, values_accessed}
+use Rattle.tt_state.specs.Tolerance.{passes_over, unless_missing}
+use Rattle.tt_state.specs.declared.tolerance.Tolerance.{Tolerance}
+use Rattle.tt_exec_state.specs.StoredValues.{place, value_set, ws, rs, wcvtp, wcvtf, rcvt, values_accessed}
 use Rattle.tt_exec_state.specs.Size.{in_pixels}
 use Rattle.tt_exec_state.specs.declared.instruction.StoredValues.{StoredValues}
 use Rattle.tt_exec_state.specs.declared.instruction.StoredValues.TheVariants as op
@@ -14,50 +16,73 @@ after : {A B : Type 0} (P : B → Type 0) (r : Result A Why) (f : A → Result B
 after P (Ok x) f every = every x
 after P (Err why) f every = tt
 
+chosen : {A : Type 0} (P : A → Type 0) (over : Bool) (instead : A) (e : Why) → P instead
+    → IfOk {E = Why} (if over then Ok instead else Err e) P
+chosen P true instead e first = first
+chosen P false instead e first = tt
+
+-- what holds of an answer and of what is given in its place
+unless : {A : Type 0} (P : A → Type 0) (t : Tolerance) (instead : A) (r : Result A Why) → P instead → IfOk r P
+    → IfOk (unless_missing t instead r) P
+unless P t instead (Ok a) first holds = holds
+unless P t instead (Err e) first holds = chosen P (passes_over t e) instead e first
+
 -- what is left of the stack, and a list that is as long as it was
 abbrev AsLong : List ℤ → List ℤ × List ℤ → Type 0
-AsLong xs t = length t.1 ≡ length xs
+AsLong xs r = length r.1 ≡ length xs
 
-ws_kept : (s storage : List ℤ) → IfOk (ws s storage) (AsLong storage)
-ws_kept (value ∷ n ∷ s) storage =
-    after (AsLong storage) (place n (length storage) why.StorageRange) _ (λ i. length-set storage i value)
-ws_kept (n ∷ []) storage = tt
-ws_kept [] storage = tt
+-- a list with another value at a place is as long
+set_kept : (t : Tolerance) (n value : ℤ) (values : List ℤ) (why : Why)
+    → IfOk (value_set t n value values why) (λ r. length r ≡ length values)
+set_kept t n value values why =
+    let long : List ℤ → Type 0 = λ r. length r ≡ length values in
+    unless long t values _ refl
+    (after long (place n (length values) why) _ (λ i. length-set values i value))
 
-wcvtp_kept : (s cvt : List ℤ) → IfOk (wcvtp s cvt) (AsLong cvt)
-wcvtp_kept (value ∷ n ∷ s) cvt =
-    after (AsLong cvt) (place n (length cvt) why.CvtRange) _ (λ i. length-set cvt i value)
-wcvtp_kept (n ∷ []) cvt = tt
-wcvtp_kept [] cvt = tt
+beside : (s values : List ℤ) (r : Result (List ℤ) Why) → IfOk r (λ r. length r ≡ length values)
+    → IfOk (r >>= λ r. Ok (s, r)) (AsLong values)
+beside s values (Ok r) long = long
+beside s values (Err e) long = tt
 
-wcvtf_kept : (ppem em : ℕ) (s cvt : List ℤ) → IfOk (wcvtf ppem em s cvt) (AsLong cvt)
-wcvtf_kept ppem em (units ∷ n ∷ s) cvt =
-    after (AsLong cvt) (place n (length cvt) why.CvtRange) _ (λ i.
-    after (AsLong cvt) (in_pixels ppem em units) _ (λ v. length-set cvt i v))
-wcvtf_kept ppem em (n ∷ []) cvt = tt
-wcvtf_kept ppem em [] cvt = tt
+ws_kept : (t : Tolerance) (s storage : List ℤ) → IfOk (ws t s storage) (AsLong storage)
+ws_kept t (value ∷ n ∷ s) storage = beside s storage _ (set_kept t n value storage why.StorageRange)
+ws_kept t (n ∷ []) storage = tt
+ws_kept t [] storage = tt
+
+wcvtp_kept : (t : Tolerance) (s cvt : List ℤ) → IfOk (wcvtp t s cvt) (AsLong cvt)
+wcvtp_kept t (value ∷ n ∷ s) cvt = beside s cvt _ (set_kept t n value cvt why.CvtRange)
+wcvtp_kept t (n ∷ []) cvt = tt
+wcvtp_kept t [] cvt = tt
+
+wcvtf_kept : (ppem em : ℕ) (t : Tolerance) (s cvt : List ℤ) → IfOk (wcvtf ppem em t s cvt) (AsLong cvt)
+wcvtf_kept ppem em t (units ∷ n ∷ s) cvt =
+    unless (AsLong cvt) t (s, cvt) _ refl
+    (after (AsLong cvt) (place n (length cvt) why.CvtRange) _ (λ i.
+    after (AsLong cvt) (in_pixels ppem em units) _ (λ v. length-set cvt i v)))
+wcvtf_kept ppem em t (n ∷ []) cvt = tt
+wcvtf_kept ppem em t [] cvt = tt
 
 abbrev Both : List ℤ → List ℤ → List ℤ × List ℤ × List ℤ → Type 0
-Both storage cvt t = (length t.1 ≡ length storage) × (length t.2 ≡ length cvt)
+Both storage cvt r = (length r.1 ≡ length storage) × (length r.2 ≡ length cvt)
 
 stored : (storage cvt : List ℤ) (r : Result (List ℤ × List ℤ) Why) → IfOk r (AsLong storage)
-    → IfOk (r >>= λ t. Ok (t.0, t.1, cvt)) (Both storage cvt)
-stored storage cvt (Ok t) long = (long, refl)
+    → IfOk (r >>= λ r. Ok (r.0, r.1, cvt)) (Both storage cvt)
+stored storage cvt (Ok r) long = (long, refl)
 stored storage cvt (Err why) long = tt
 
 set : (storage cvt : List ℤ) (r : Result (List ℤ × List ℤ) Why) → IfOk r (AsLong cvt)
-    → IfOk (r >>= λ t. Ok (t.0, storage, t.1)) (Both storage cvt)
-set storage cvt (Ok t) long = (refl, long)
+    → IfOk (r >>= λ r. Ok (r.0, storage, r.1)) (Both storage cvt)
+set storage cvt (Ok r) long = (refl, long)
 set storage cvt (Err why) long = tt
 
-read : (storage cvt : List ℤ) (r : Result (List ℤ) Why) → IfOk (r >>= λ t. Ok (t, storage, cvt)) (Both storage cvt)
+read : (storage cvt : List ℤ) (r : Result (List ℤ) Why) → IfOk (r >>= λ r. Ok (r, storage, cvt)) (Both storage cvt)
 read storage cvt (Ok s) = (refl, refl)
 read storage cvt (Err why) = tt
 
-pub sizes_kept : (o : StoredValues) (ppem em : ℕ) (s storage cvt : List ℤ)
-    → IfOk (values_accessed o ppem em s storage cvt) (Both storage cvt)
-sizes_kept op.Ws ppem em s storage cvt = stored storage cvt (ws s storage) (ws_kept s storage)
-sizes_kept op.Rs ppem em s storage cvt = read storage cvt (rs s storage)
-sizes_kept op.Wcvtp ppem em s storage cvt = set storage cvt (wcvtp s cvt) (wcvtp_kept s cvt)
-sizes_kept op.Wcvtf ppem em s storage cvt = set storage cvt (wcvtf ppem em s cvt) (wcvtf_kept ppem em s cvt)
-sizes_kept op.Rcvt ppem em s storage cvt = read storage cvt (rcvt s cvt)
+pub sizes_kept : (o : StoredValues) (ppem em : ℕ) (t : Tolerance) (s storage cvt : List ℤ)
+    → IfOk (values_accessed o ppem em t s storage cvt) (Both storage cvt)
+sizes_kept op.Ws ppem em t s storage cvt = stored storage cvt (ws t s storage) (ws_kept t s storage)
+sizes_kept op.Rs ppem em t s storage cvt = read storage cvt (rs t s storage)
+sizes_kept op.Wcvtp ppem em t s storage cvt = set storage cvt (wcvtp t s cvt) (wcvtp_kept t s cvt)
+sizes_kept op.Wcvtf ppem em t s storage cvt = set storage cvt (wcvtf ppem em t s cvt) (wcvtf_kept ppem em t s cvt)
+sizes_kept op.Rcvt ppem em t s storage cvt = read storage cvt (rcvt t s cvt)

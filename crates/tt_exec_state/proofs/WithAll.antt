@@ -1,5 +1,5 @@
 -- What is given without the whole instruction set is given with it too; without it vectors stay on the axes.
-use Rattle.std.proofs.Common.{◌≡◌, ◌+◌, ℕ, ℤ, pos, Bool, true, false, ◌&&◌, ◌||◌, if◌then◌else◌, int_eq, int_lt, List, [], ◌∷◌, Result, Ok, Err, IfOk, refl}
+use Rattle.std.proofs.Common.{◌≡◌, ℤ, pos, Bool, true, false, ◌&&◌, ◌||◌, if◌then◌else◌, int_eq, int_lt, List, [], ◌∷◌, Result, Ok, Err, IfOk, refl}
 use Rattle.std.proofs.lemmas.Bool.{and_parts}
 use Rattle.std.proofs.lemmas.Bool.Decides.{Decides-int_eq}
 use Rattle.tt_core.specs.Outcomes.{◌>>=◌}
@@ -10,18 +10,17 @@ use Rattle.tt_state.specs.Vectors.{unit, root}
 use Rattle.tt_state.specs.declared.graphics_state.Axis.{Axis}
 use Rattle.tt_state.specs.declared.graphics_state.Axis.TheVariants as axis
 use Rattle.tt_state.specs.declared.graphics_state.GraphicsState.{GraphicsState}
+use Rattle.tt_state.specs.Tolerance.{is_missing, passes_over, unless_missing}
+use Rattle.tt_state.specs.declared.tolerance.Tolerance.{Tolerance}
+use Rattle.tt_state.specs.declared.tolerance.Tolerance.TheVariants as tolerance
 use Rattle.tt_state.specs.declared.vector.Vector.{Vector}
 use Rattle.tt_state.specs.declared.vector.Vector.TheVariants as vector
-use Rattle.tt_points_zones.specs.WithAll.{with_all, Stays, StaysSame, chained, after}
+use Rattle.tt_points_zones.specs.WithAll.{with_all, is_of_profile, Stays, StaysSame, chained, after}
 use Rattle.tt_points_zones.specs.ZoneNumbers.{zone_of}
-use Rattle.tt_exec_stack.specs.Stack.{pushed}
 use Rattle.tt_exec_state.specs.Size.{in_pixels}
-use Rattle.tt_exec_state.specs.Settings.{state_set}
 use Rattle.tt_exec_state.specs.Vectors.{along, part, vector_given, vector_pushed, vectors_accessed}
 use Rattle.tt_exec_state.specs.WithAll.{beside, VectorsStay, SettingsStay, IsAxis, AreOnAxes, AxesAreKept}
-use Rattle.tt_exec_state.specs.declared.instruction.Setting.{Setting}
 use Rattle.tt_exec_state.specs.declared.instruction.Setting.TheVariants as setting
-use Rattle.tt_exec_state.specs.declared.instruction.Vectors.{Vectors}
 use Rattle.tt_exec_state.specs.declared.instruction.Vectors.TheVariants as op
 
 -- a pair that is an axis, in 2.14, is its unit vector
@@ -80,43 +79,66 @@ tested : {A : Type 0} (all : A → A) (b : Bool) (a : A) (e : Why)
 tested all true a e = λ other. refl
 tested all false a e = refl
 
+-- what is not there is no refusal of the profile
+not_of_profile : (e : Why) → is_missing e ≡ true → is_of_profile e ≡ false
+not_of_profile why.OffProfile missing = absurd cc
+not_of_profile why.Perpendicular missing = absurd cc
+not_of_profile _ missing = refl
+
+over_is_missing : (t : Tolerance) (e : Why) → passes_over t e ≡ true → is_missing e ≡ true
+over_is_missing tolerance.Strict e over = absurd cc
+over_is_missing tolerance.Tolerant e over = over
+
+-- what is given in the place of a refusal is given with the whole instruction set too
+replaced : {A : Type 0} (all : A → A) (t : Tolerance) (instead : A) (e : Why) (over : Bool) → passes_over t e ≡ over
+    → (with : Result A Why) → (is_of_profile e ≡ false → with ≡ Err e)
+    → Stays all (if over then Ok instead else Err e) (unless_missing t (all instead) with)
+replaced all t instead e true is with stays =
+    rw (stays (not_of_profile e (over_is_missing t e is))) (rw is refl)
+replaced all t instead e false is with stays = λ other. rw (stays other) (rw is refl)
+
+passed_over : {A : Type 0} (all : A → A) (t : Tolerance) (instead : A) (r with : Result A Why) → Stays all r with
+    → Stays all (unless_missing t instead r) (unless_missing t (all instead) with)
+passed_over all t instead (Ok a) with stays = rw stays refl
+passed_over all t instead (Err e) with stays = replaced all t instead e (passes_over t e) refl with stays
+
 pub settings_stay : SettingsStay
-settings_stay setting.Srp0 ppem em (p ∷ s) g = refl
-settings_stay setting.Srp0 ppem em [] g = λ other. refl
-settings_stay setting.Srp1 ppem em (p ∷ s) g = refl
-settings_stay setting.Srp1 ppem em [] g = λ other. refl
-settings_stay setting.Srp2 ppem em (p ∷ s) g = refl
-settings_stay setting.Srp2 ppem em [] g = λ other. refl
-settings_stay setting.Szp0 ppem em (n ∷ s) g = after beside (zone_of n) _ _ (λ z. refl)
-settings_stay setting.Szp0 ppem em [] g = λ other. refl
-settings_stay setting.Szp1 ppem em (n ∷ s) g = after beside (zone_of n) _ _ (λ z. refl)
-settings_stay setting.Szp1 ppem em [] g = λ other. refl
-settings_stay setting.Szp2 ppem em (n ∷ s) g = after beside (zone_of n) _ _ (λ z. refl)
-settings_stay setting.Szp2 ppem em [] g = λ other. refl
-settings_stay setting.Szps ppem em (n ∷ s) g = after beside (zone_of n) _ _ (λ z. refl)
-settings_stay setting.Szps ppem em [] g = λ other. refl
-settings_stay setting.Sloop ppem em (n ∷ s) g = tested beside (int_lt n (pos 0)) _ why.BadArgument
-settings_stay setting.Sloop ppem em [] g = λ other. refl
-settings_stay (setting.RoundTo round) ppem em s g = refl
-settings_stay setting.Sround ppem em (n ∷ s) g = refl
-settings_stay setting.Sround ppem em [] g = λ other. refl
-settings_stay setting.S45round ppem em (n ∷ s) g = refl
-settings_stay setting.S45round ppem em [] g = λ other. refl
-settings_stay setting.Smd ppem em (d ∷ s) g = refl
-settings_stay setting.Smd ppem em [] g = λ other. refl
-settings_stay setting.Scvtci ppem em (n ∷ s) g = refl
-settings_stay setting.Scvtci ppem em [] g = λ other. refl
-settings_stay setting.Sswci ppem em (n ∷ s) g = refl
-settings_stay setting.Sswci ppem em [] g = λ other. refl
-settings_stay setting.Ssw ppem em (n ∷ s) g = after beside (in_pixels ppem em n) _ _ (λ w. refl)
-settings_stay setting.Ssw ppem em [] g = λ other. refl
-settings_stay (setting.Flip on) ppem em s g = refl
-settings_stay setting.Sdb ppem em (n ∷ s) g = refl
-settings_stay setting.Sdb ppem em [] g = λ other. refl
-settings_stay setting.Sds ppem em (n ∷ s) g = tested beside (int_lt n (pos 0) || int_lt (pos 6) n) _ why.BadArgument
-settings_stay setting.Sds ppem em [] g = λ other. refl
-settings_stay setting.Ignored ppem em (n ∷ s) g = refl
-settings_stay setting.Ignored ppem em [] g = λ other. refl
+settings_stay setting.Srp0 ppem em t (p ∷ s) g = refl
+settings_stay setting.Srp0 ppem em t [] g = λ other. refl
+settings_stay setting.Srp1 ppem em t (p ∷ s) g = refl
+settings_stay setting.Srp1 ppem em t [] g = λ other. refl
+settings_stay setting.Srp2 ppem em t (p ∷ s) g = refl
+settings_stay setting.Srp2 ppem em t [] g = λ other. refl
+settings_stay setting.Szp0 ppem em t (n ∷ s) g = passed_over beside t (s, g) _ _ (after beside (zone_of n) _ _ (λ z. refl))
+settings_stay setting.Szp0 ppem em t [] g = λ other. refl
+settings_stay setting.Szp1 ppem em t (n ∷ s) g = passed_over beside t (s, g) _ _ (after beside (zone_of n) _ _ (λ z. refl))
+settings_stay setting.Szp1 ppem em t [] g = λ other. refl
+settings_stay setting.Szp2 ppem em t (n ∷ s) g = passed_over beside t (s, g) _ _ (after beside (zone_of n) _ _ (λ z. refl))
+settings_stay setting.Szp2 ppem em t [] g = λ other. refl
+settings_stay setting.Szps ppem em t (n ∷ s) g = passed_over beside t (s, g) _ _ (after beside (zone_of n) _ _ (λ z. refl))
+settings_stay setting.Szps ppem em t [] g = λ other. refl
+settings_stay setting.Sloop ppem em t (n ∷ s) g = tested beside (int_lt n (pos 0)) _ why.BadArgument
+settings_stay setting.Sloop ppem em t [] g = λ other. refl
+settings_stay (setting.RoundTo round) ppem em t s g = refl
+settings_stay setting.Sround ppem em t (n ∷ s) g = refl
+settings_stay setting.Sround ppem em t [] g = λ other. refl
+settings_stay setting.S45round ppem em t (n ∷ s) g = refl
+settings_stay setting.S45round ppem em t [] g = λ other. refl
+settings_stay setting.Smd ppem em t (d ∷ s) g = refl
+settings_stay setting.Smd ppem em t [] g = λ other. refl
+settings_stay setting.Scvtci ppem em t (n ∷ s) g = refl
+settings_stay setting.Scvtci ppem em t [] g = λ other. refl
+settings_stay setting.Sswci ppem em t (n ∷ s) g = refl
+settings_stay setting.Sswci ppem em t [] g = λ other. refl
+settings_stay setting.Ssw ppem em t (n ∷ s) g = after beside (in_pixels ppem em n) _ _ (λ w. refl)
+settings_stay setting.Ssw ppem em t [] g = λ other. refl
+settings_stay (setting.Flip on) ppem em t s g = refl
+settings_stay setting.Sdb ppem em t (n ∷ s) g = refl
+settings_stay setting.Sdb ppem em t [] g = λ other. refl
+settings_stay setting.Sds ppem em t (n ∷ s) g = tested beside (int_lt n (pos 0) || int_lt (pos 6) n) _ why.BadArgument
+settings_stay setting.Sds ppem em t [] g = λ other. refl
+settings_stay setting.Ignored ppem em t (n ∷ s) g = refl
+settings_stay setting.Ignored ppem em t [] g = λ other. refl
 
 -- the axes
 along_is : (a : Axis) → IsAxis (along a)

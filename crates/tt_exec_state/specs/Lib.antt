@@ -1,3 +1,4 @@
+pub mod Laws
 pub mod Queries
 pub mod Settings
 pub mod Size

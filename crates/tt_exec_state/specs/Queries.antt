@@ -27,6 +27,12 @@ answered op.Mppem ppem s = mppem ppem s
 answered op.Mps ppem s = mps ppem s
 answered op.Getinfo ppem s = getinfo s
 
+-- how many values an instruction takes
+abbrev pub takes : Query → ℕ
+takes op.Mppem = 0
+takes op.Mps = 0
+takes op.Getinfo = 1
+
 -- worked values
 all_bits_set : getinfo (neg_ℤ (pos 1) ∷ []) ≡ Ok (pos 35 ∷ [])
 unfolding pushed

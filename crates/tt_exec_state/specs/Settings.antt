@@ -6,8 +6,11 @@ use Rattle.tt_core.specs.declared.fault.Why.{Why}
 use Rattle.tt_core.specs.declared.fault.Why.TheVariants as why
 use Rattle.tt_state.specs.declared.graphics_state.GraphicsState.{GraphicsState}
 use Rattle.tt_state.specs.declared.rounding.Round.{Round}
+use Rattle.tt_state.specs.declared.tolerance.Tolerance.{Tolerance}
+use Rattle.tt_state.specs.declared.tolerance.Tolerance.TheVariants as tolerance
 use Rattle.tt_state.specs.GraphicsState.{default_state}
 use Rattle.tt_state.specs.Rounding.{super_state, super_state_at_45}
+use Rattle.tt_state.specs.Tolerance.{unless_missing}
 use Rattle.tt_points_zones.specs.ZoneNumbers.{zone_of}
 use Rattle.tt_exec_state.specs.declared.instruction.Setting.{Setting}
 use Rattle.tt_exec_state.specs.declared.instruction.Setting.TheVariants as op
@@ -29,21 +32,22 @@ abbrev pub srp2 : List ℤ → GraphicsState → Set
 srp2 (p ∷ s) g = Ok (s, record g { rp2 = p })
 srp2 [] g = Err why.StackShort
 
-abbrev pub szp0 : List ℤ → GraphicsState → Set
-szp0 (n ∷ s) g = zone_of n >>= λ z. Ok (s, record g { zp0 = z })
-szp0 [] g = Err why.StackShort
+-- SZP0, SZP1, SZP2 and SZPS: a tolerant machine leaves the zone pointers where there is no such zone (profile)
+abbrev pub szp0 : Tolerance → List ℤ → GraphicsState → Set
+szp0 t (n ∷ s) g = unless_missing t (s, g) (zone_of n >>= λ z. Ok (s, record g { zp0 = z }))
+szp0 t [] g = Err why.StackShort
 
-abbrev pub szp1 : List ℤ → GraphicsState → Set
-szp1 (n ∷ s) g = zone_of n >>= λ z. Ok (s, record g { zp1 = z })
-szp1 [] g = Err why.StackShort
+abbrev pub szp1 : Tolerance → List ℤ → GraphicsState → Set
+szp1 t (n ∷ s) g = unless_missing t (s, g) (zone_of n >>= λ z. Ok (s, record g { zp1 = z }))
+szp1 t [] g = Err why.StackShort
 
-abbrev pub szp2 : List ℤ → GraphicsState → Set
-szp2 (n ∷ s) g = zone_of n >>= λ z. Ok (s, record g { zp2 = z })
-szp2 [] g = Err why.StackShort
+abbrev pub szp2 : Tolerance → List ℤ → GraphicsState → Set
+szp2 t (n ∷ s) g = unless_missing t (s, g) (zone_of n >>= λ z. Ok (s, record g { zp2 = z }))
+szp2 t [] g = Err why.StackShort
 
-abbrev pub szps : List ℤ → GraphicsState → Set
-szps (n ∷ s) g = zone_of n >>= λ z. Ok (s, record g { zp0 = z; zp1 = z; zp2 = z })
-szps [] g = Err why.StackShort
+abbrev pub szps : Tolerance → List ℤ → GraphicsState → Set
+szps t (n ∷ s) g = unless_missing t (s, g) (zone_of n >>= λ z. Ok (s, record g { zp0 = z; zp1 = z; zp2 = z }))
+szps t [] g = Err why.StackShort
 
 abbrev pub sloop : List ℤ → GraphicsState → Set
 sloop (n ∷ s) g = if int_lt n (pos 0) then Err why.BadArgument else Ok (s, record g { loops = unsigned_abs n })
@@ -95,30 +99,58 @@ abbrev pub ignored : List ℤ → Result (List ℤ) Why
 ignored (n ∷ s) = Ok s
 ignored [] = Err why.StackShort
 
-abbrev pub state_set : Setting → ℕ → ℕ → List ℤ → GraphicsState → Set
-state_set op.Srp0 ppem em s g = srp0 s g
-state_set op.Srp1 ppem em s g = srp1 s g
-state_set op.Srp2 ppem em s g = srp2 s g
-state_set op.Szp0 ppem em s g = szp0 s g
-state_set op.Szp1 ppem em s g = szp1 s g
-state_set op.Szp2 ppem em s g = szp2 s g
-state_set op.Szps ppem em s g = szps s g
-state_set op.Sloop ppem em s g = sloop s g
-state_set (op.RoundTo round) ppem em s g = Ok (s, round_to round g)
-state_set op.Sround ppem em s g = sround s g
-state_set op.S45round ppem em s g = s45round s g
-state_set op.Smd ppem em s g = smd s g
-state_set op.Scvtci ppem em s g = scvtci s g
-state_set op.Sswci ppem em s g = sswci s g
-state_set op.Ssw ppem em s g = ssw ppem em s g
-state_set (op.Flip on) ppem em s g = Ok (s, flip on g)
-state_set op.Sdb ppem em s g = sdb s g
-state_set op.Sds ppem em s g = sds s g
-state_set op.Ignored ppem em s g = ignored s >>= λ t. Ok (t, g)
+abbrev pub state_set : Setting → ℕ → ℕ → Tolerance → List ℤ → GraphicsState → Set
+state_set op.Srp0 ppem em t s g = srp0 s g
+state_set op.Srp1 ppem em t s g = srp1 s g
+state_set op.Srp2 ppem em t s g = srp2 s g
+state_set op.Szp0 ppem em t s g = szp0 t s g
+state_set op.Szp1 ppem em t s g = szp1 t s g
+state_set op.Szp2 ppem em t s g = szp2 t s g
+state_set op.Szps ppem em t s g = szps t s g
+state_set op.Sloop ppem em t s g = sloop s g
+state_set (op.RoundTo round) ppem em t s g = Ok (s, round_to round g)
+state_set op.Sround ppem em t s g = sround s g
+state_set op.S45round ppem em t s g = s45round s g
+state_set op.Smd ppem em t s g = smd s g
+state_set op.Scvtci ppem em t s g = scvtci s g
+state_set op.Sswci ppem em t s g = sswci s g
+state_set op.Ssw ppem em t s g = ssw ppem em s g
+state_set (op.Flip on) ppem em t s g = Ok (s, flip on g)
+state_set op.Sdb ppem em t s g = sdb s g
+state_set op.Sds ppem em t s g = sds s g
+state_set op.Ignored ppem em t s g = ignored s >>= λ t. Ok (t, g)
+
+-- how many values an instruction takes
+abbrev pub takes : Setting → ℕ
+takes op.Srp0 = 1
+takes op.Srp1 = 1
+takes op.Srp2 = 1
+takes op.Szp0 = 1
+takes op.Szp1 = 1
+takes op.Szp2 = 1
+takes op.Szps = 1
+takes op.Sloop = 1
+takes (op.RoundTo round) = 0
+takes op.Sround = 1
+takes op.S45round = 1
+takes op.Smd = 1
+takes op.Scvtci = 1
+takes op.Sswci = 1
+takes op.Ssw = 1
+takes (op.Flip on) = 0
+takes op.Sdb = 1
+takes op.Sds = 1
+takes op.Ignored = 1
 
 -- worked values
-no_zone_two : szp0 (pos 2 ∷ []) default_state ≡ Err why.ZoneRange
+no_zone_two : szp0 tolerance.Strict (pos 2 ∷ []) default_state ≡ Err why.ZoneRange
 no_zone_two = refl
+
+no_zone_two_passed_over : szp0 tolerance.Tolerant (pos 2 ∷ []) default_state ≡ Ok ([], default_state)
+no_zone_two_passed_over = refl
+
+no_zone_two_for_all : szps tolerance.Tolerant (pos 2 ∷ []) default_state ≡ Ok ([], default_state)
+no_zone_two_for_all = refl
 
 no_shift_seven : sds (pos 7 ∷ []) default_state ≡ Err why.BadArgument
 no_shift_seven = refl

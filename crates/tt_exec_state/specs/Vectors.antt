@@ -1,6 +1,6 @@
 -- Apple TrueType Reference Manual, "Instruction set": managing the graphics state, the vectors. The top of the stack
 -- stands first.
-use Rattle.std.specs.Prelude.{◌≡◌, ◌+◌, ℤ, pos, negsuc, unsigned_abs, Bool, true, false, ◌&&◌, if◌then◌else◌, List, [], ◌∷◌, Result, Ok, Err, refl}
+use Rattle.std.specs.Prelude.{◌≡◌, ℕ, ◌+◌, ℤ, pos, negsuc, unsigned_abs, Bool, true, false, ◌&&◌, if◌then◌else◌, List, [], ◌∷◌, Result, Ok, Err, refl}
 use Rattle.std.specs.Int.{int_rem_euclid}
 use Rattle.std.specs.Ordering.{int_eq}
 use Rattle.tt_core.specs.Numbers.{signed16}
@@ -78,6 +78,17 @@ vectors_accessed op.Sfvfs s g = sfvfs s g
 vectors_accessed op.Gpv s g = gpv s g
 vectors_accessed op.Gfv s g = gfv s g
 vectors_accessed op.Sfvtpv s g = Ok (s, sfvtpv g)
+
+-- how many values an instruction takes
+abbrev pub takes : Vectors → ℕ
+takes (op.Svtca axis) = 0
+takes (op.Spvtca axis) = 0
+takes (op.Sfvtca axis) = 0
+takes op.Spvfs = 2
+takes op.Sfvfs = 2
+takes op.Gpv = 0
+takes op.Gfv = 0
+takes op.Sfvtpv = 0
 
 -- worked values
 y_on_top : vector_given (pos 0) (pos 16384) false ≡ Ok vector.Y

@@ -1,8 +1,8 @@
 -- Laws of what sets the graphics state, each said once: what is given without the whole instruction set is given with it
 -- too, and without it vectors stay on the axes.
-use Rattle.std.specs.Prelude.{◌≡◌, ℕ, ℤ, false, List, Result, IfOk}
-use Rattle.tt_core.specs.declared.fault.Why.{Why}
+use Rattle.std.specs.Prelude.{◌≡◌, ℕ, ℤ, false, List, IfOk}
 use Rattle.tt_state.specs.declared.graphics_state.GraphicsState.{GraphicsState}
+use Rattle.tt_state.specs.declared.tolerance.Tolerance.{Tolerance}
 use Rattle.tt_state.specs.declared.vector.Vector.{Vector}
 use Rattle.tt_state.specs.declared.vector.Vector.TheVariants as vector
 use Rattle.tt_points_zones.specs.WithAll.{with_all, Stays}
@@ -20,8 +20,8 @@ VectorsStay = (o : Vectors) (s : List ℤ) (g : GraphicsState)
     → Stays beside (vectors_accessed o s g) (vectors_accessed o s (with_all g))
 
 abbrev pub SettingsStay : Type 0
-SettingsStay = (o : Setting) (ppem em : ℕ) (s : List ℤ) (g : GraphicsState)
-    → Stays beside (state_set o ppem em s g) (state_set o ppem em s (with_all g))
+SettingsStay = (o : Setting) (ppem em : ℕ) (t : Tolerance) (s : List ℤ) (g : GraphicsState)
+    → Stays beside (state_set o ppem em t s g) (state_set o ppem em t s (with_all g))
 
 abbrev pub IsAxis : Vector → Type 0
 IsAxis vector.X = Unit {0}

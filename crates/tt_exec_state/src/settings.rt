@@ -10,7 +10,7 @@ use crate::size::Size;
 use tt_core::Why;
 use tt_exec_stack::Stack;
 use tt_points_zones::zone_of;
-use tt_state::{GraphicsState, Round};
+use tt_state::{GraphicsState, Round, Tolerance};
 
 /// SRP0[], 0x10: p -> reference point 0, which is tested where it is used.
 fn srp0(stack: &mut Stack, graphics: &mut GraphicsState) -> Result<(), Why>
@@ -36,38 +36,55 @@ fn srp2(stack: &mut Stack, graphics: &mut GraphicsState) -> Result<(), Why>
     Ok(())
 }
 
-/// SZP0[], 0x13: n -> zone pointer 0.
-fn szp0(stack: &mut Stack, graphics: &mut GraphicsState) -> Result<(), Why>
-    ensures { Does (is.szp0 stack.old graphics.old) (stack.new, graphics.new) result }
+/// SZP0[], 0x13: n -> zone pointer 0. Error: ZoneRange.
+fn szp0(tolerance: Tolerance, stack: &mut Stack, graphics: &mut GraphicsState) -> Result<(), Why>
+    ensures { Does (is.szp0 tolerance stack.old graphics.old) (stack.new, graphics.new) result }
 {
-    graphics.zp0 = zone_of(stack.pop()?)?;
+    match zone_of(stack.pop()?) {
+        Ok(zone) => graphics.zp0 = zone,
+        Err(why) if tolerance.passes_over(why) => {}
+        Err(why) => return Err(why),
+    }
     Ok(())
 }
 
-/// SZP1[], 0x14: n -> zone pointer 1.
-fn szp1(stack: &mut Stack, graphics: &mut GraphicsState) -> Result<(), Why>
-    ensures { Does (is.szp1 stack.old graphics.old) (stack.new, graphics.new) result }
+/// SZP1[], 0x14: n -> zone pointer 1. Error: ZoneRange.
+fn szp1(tolerance: Tolerance, stack: &mut Stack, graphics: &mut GraphicsState) -> Result<(), Why>
+    ensures { Does (is.szp1 tolerance stack.old graphics.old) (stack.new, graphics.new) result }
 {
-    graphics.zp1 = zone_of(stack.pop()?)?;
+    match zone_of(stack.pop()?) {
+        Ok(zone) => graphics.zp1 = zone,
+        Err(why) if tolerance.passes_over(why) => {}
+        Err(why) => return Err(why),
+    }
     Ok(())
 }
 
-/// SZP2[], 0x15: n -> zone pointer 2.
-fn szp2(stack: &mut Stack, graphics: &mut GraphicsState) -> Result<(), Why>
-    ensures { Does (is.szp2 stack.old graphics.old) (stack.new, graphics.new) result }
+/// SZP2[], 0x15: n -> zone pointer 2. Error: ZoneRange.
+fn szp2(tolerance: Tolerance, stack: &mut Stack, graphics: &mut GraphicsState) -> Result<(), Why>
+    ensures { Does (is.szp2 tolerance stack.old graphics.old) (stack.new, graphics.new) result }
 {
-    graphics.zp2 = zone_of(stack.pop()?)?;
+    match zone_of(stack.pop()?) {
+        Ok(zone) => graphics.zp2 = zone,
+        Err(why) if tolerance.passes_over(why) => {}
+        Err(why) => return Err(why),
+    }
     Ok(())
 }
 
-/// SZPS[], 0x16: n -> all three zone pointers.
-fn szps(stack: &mut Stack, graphics: &mut GraphicsState) -> Result<(), Why>
-    ensures { Does (is.szps stack.old graphics.old) (stack.new, graphics.new) result }
+/// SZPS[], 0x16: n -> all three zone pointers. Error: ZoneRange.
+fn szps(tolerance: Tolerance, stack: &mut Stack, graphics: &mut GraphicsState) -> Result<(), Why>
+    ensures { Does (is.szps tolerance stack.old graphics.old) (stack.new, graphics.new) result }
 {
-    let zone = zone_of(stack.pop()?)?;
-    graphics.zp0 = zone;
-    graphics.zp1 = zone;
-    graphics.zp2 = zone;
+    match zone_of(stack.pop()?) {
+        Ok(zone) => {
+            graphics.zp0 = zone;
+            graphics.zp1 = zone;
+            graphics.zp2 = zone;
+        }
+        Err(why) if tolerance.passes_over(why) => {}
+        Err(why) => return Err(why),
+    }
     Ok(())
 }
 
@@ -176,25 +193,26 @@ fn ignored(stack: &mut Stack) -> Result<(), Why>
     Ok(())
 }
 
-/// Errors: StackShort; BadArgument of SLOOP and SDS; ZoneRange; ValueRange of SSW.
+/// Errors: StackShort; BadArgument of SLOOP and SDS; ZoneRange of a strict machine; ValueRange of SSW.
 #[inline(always)]
 pub fn set_state(
     op: Setting,
     size: Size,
+    tolerance: Tolerance,
     stack: &mut Stack,
     graphics: &mut GraphicsState,
 ) -> Result<(), Why>
-    ensures { let given = is.state_set op size.ppem size.units_per_em stack.old graphics.old in
+    ensures { let given = is.state_set op size.ppem size.units_per_em tolerance stack.old graphics.old in
         Does given (stack.new, graphics.new) result }
 {
     match op {
         Setting::Srp0 => srp0(stack, graphics),
         Setting::Srp1 => srp1(stack, graphics),
         Setting::Srp2 => srp2(stack, graphics),
-        Setting::Szp0 => szp0(stack, graphics),
-        Setting::Szp1 => szp1(stack, graphics),
-        Setting::Szp2 => szp2(stack, graphics),
-        Setting::Szps => szps(stack, graphics),
+        Setting::Szp0 => szp0(tolerance, stack, graphics),
+        Setting::Szp1 => szp1(tolerance, stack, graphics),
+        Setting::Szp2 => szp2(tolerance, stack, graphics),
+        Setting::Szps => szps(tolerance, stack, graphics),
         Setting::Sloop => sloop(stack, graphics),
         Setting::RoundTo(round) => {
             round_to(round, graphics);

@@ -9,6 +9,7 @@ use crate::instruction::StoredValues;
 use crate::size::Size;
 use tt_core::Why;
 use tt_exec_stack::Stack;
+use tt_state::Tolerance;
 
 /// `n` as an index below `len`. Error: `why`, where it is none.
 fn place(n: i32, len: usize, why: Why) -> Result<usize, Why>
@@ -21,74 +22,107 @@ fn place(n: i32, len: usize, why: Why) -> Result<usize, Why>
     Ok(n as usize)
 }
 
+/// What stands at a place of `values`; 0 where there is no such place, and that is passed over. Error: `why` where it is
+/// not.
+#[inline(always)]
+fn value_at(tolerance: Tolerance, n: i32, values: &[i32], why: Why) -> Result<i32, Why>
+    ensures { Gives (λ v. v) result (is.value_at tolerance n values.now why) }
+{
+    match place(n, values.len(), why) {
+        Ok(i) => Ok(values[i]),
+        Err(why) if tolerance.passes_over(why) => Ok(0),
+        Err(why) => Err(why),
+    }
+}
+
+/// Puts a value at a place of `values`; nothing where there is no such place, and that is passed over. Error: `why`
+/// where it is not.
+#[inline(always)]
+fn set_value(
+    tolerance: Tolerance,
+    n: i32,
+    value: i32,
+    values: &mut [i32],
+    why: Why,
+) -> Result<(), Why>
+    ensures { Does (is.value_set tolerance n value values.old why) values.new result }
+{
+    match place(n, values.len(), why) {
+        Ok(i) => values[i] = value,
+        Err(why) if tolerance.passes_over(why) => {}
+        Err(why) => return Err(why),
+    }
+    Ok(())
+}
+
 /// WS[], 0x42: place, value -> the value in storage. Error: StorageRange.
-fn ws(stack: &mut Stack, storage: &mut [i32]) -> Result<(), Why>
-    ensures { Does (is.ws stack.old storage.old) (stack.new, storage.new) result }
+fn ws(tolerance: Tolerance, stack: &mut Stack, storage: &mut [i32]) -> Result<(), Why>
+    ensures { Does (is.ws tolerance stack.old storage.old) (stack.new, storage.new) result }
 {
     let value = stack.pop()?;
     let n = stack.pop()?;
-    let i = place(n, storage.len(), Why::StorageRange)?;
-    storage[i] = value;
-    Ok(())
+    set_value(tolerance, n, value, storage, Why::StorageRange)
 }
 
 /// RS[], 0x43: place -> the value in storage. Error: StorageRange.
-fn rs(stack: &mut Stack, storage: &[i32]) -> Result<(), Why>
-    ensures { Does (is.rs stack.old storage.now) stack.new result }
+fn rs(tolerance: Tolerance, stack: &mut Stack, storage: &[i32]) -> Result<(), Why>
+    ensures { Does (is.rs tolerance stack.old storage.now) stack.new result }
 {
     let n = stack.pop()?;
-    let i = place(n, storage.len(), Why::StorageRange)?;
-    stack.push(i64::from(storage[i]))
+    let value = value_at(tolerance, n, storage, Why::StorageRange)?;
+    stack.push(i64::from(value))
 }
 
 /// WCVTP[], 0x44: place, value -> the control value, in 26.6. Error: CvtRange.
-fn wcvtp(stack: &mut Stack, cvt: &mut [i32]) -> Result<(), Why>
-    ensures { Does (is.wcvtp stack.old cvt.old) (stack.new, cvt.new) result }
+fn wcvtp(tolerance: Tolerance, stack: &mut Stack, cvt: &mut [i32]) -> Result<(), Why>
+    ensures { Does (is.wcvtp tolerance stack.old cvt.old) (stack.new, cvt.new) result }
 {
     let value = stack.pop()?;
     let n = stack.pop()?;
-    let i = place(n, cvt.len(), Why::CvtRange)?;
-    cvt[i] = value;
-    Ok(())
+    set_value(tolerance, n, value, cvt, Why::CvtRange)
 }
 
 /// WCVTF[], 0x70: place, value -> the control value, font units scaled. Errors: CvtRange, ValueRange.
-fn wcvtf(size: Size, stack: &mut Stack, cvt: &mut [i32]) -> Result<(), Why>
-    ensures { Does (is.wcvtf size.ppem size.units_per_em stack.old cvt.old) (stack.new, cvt.new) result }
+fn wcvtf(size: Size, tolerance: Tolerance, stack: &mut Stack, cvt: &mut [i32]) -> Result<(), Why>
+    ensures { Does (is.wcvtf size.ppem size.units_per_em tolerance stack.old cvt.old) (stack.new, cvt.new) result }
 {
     let units = stack.pop()?;
     let n = stack.pop()?;
-    let i = place(n, cvt.len(), Why::CvtRange)?;
-    cvt[i] = size.in_pixels(units)?;
+    match place(n, cvt.len(), Why::CvtRange) {
+        Ok(i) => cvt[i] = size.in_pixels(units)?,
+        Err(why) if tolerance.passes_over(why) => {}
+        Err(why) => return Err(why),
+    }
     Ok(())
 }
 
 /// RCVT[], 0x45: place -> the control value. Error: CvtRange.
-fn rcvt(stack: &mut Stack, cvt: &[i32]) -> Result<(), Why>
-    ensures { Does (is.rcvt stack.old cvt.now) stack.new result }
+fn rcvt(tolerance: Tolerance, stack: &mut Stack, cvt: &[i32]) -> Result<(), Why>
+    ensures { Does (is.rcvt tolerance stack.old cvt.now) stack.new result }
 {
     let n = stack.pop()?;
-    let i = place(n, cvt.len(), Why::CvtRange)?;
-    stack.push(i64::from(cvt[i]))
+    let value = value_at(tolerance, n, cvt, Why::CvtRange)?;
+    stack.push(i64::from(value))
 }
 
-/// Errors: StackShort; CvtRange; StorageRange; ValueRange of WCVTF.
+/// Errors: StackShort; CvtRange and StorageRange of a strict machine; ValueRange of WCVTF.
 #[inline(always)]
 pub fn access_values(
     op: StoredValues,
     size: Size,
+    tolerance: Tolerance,
     stack: &mut Stack,
     storage: &mut [i32],
     cvt: &mut [i32],
 ) -> Result<(), Why>
-    ensures { let given = is.values_accessed op size.ppem size.units_per_em stack.old storage.old cvt.old in
+    ensures { let given = is.values_accessed op size.ppem size.units_per_em tolerance stack.old storage.old cvt.old in
         Does given (stack.new, storage.new, cvt.new) result }
 {
     match op {
-        StoredValues::Ws => ws(stack, storage),
-        StoredValues::Rs => rs(stack, storage),
-        StoredValues::Wcvtp => wcvtp(stack, cvt),
-        StoredValues::Wcvtf => wcvtf(size, stack, cvt),
-        StoredValues::Rcvt => rcvt(stack, cvt),
+        StoredValues::Ws => ws(tolerance, stack, storage),
+        StoredValues::Rs => rs(tolerance, stack, storage),
+        StoredValues::Wcvtp => wcvtp(tolerance, stack, cvt),
+        StoredValues::Wcvtf => wcvtf(size, tolerance, stack, cvt),
+        StoredValues::Rcvt => rcvt(tolerance, stack, cvt),
     }
 }
