@@ -6,6 +6,9 @@ use Rattle.tt_core.specs.declared.fault.Why.{Why}
 use Rattle.tt_core.specs.declared.fault.Why.TheVariants as why
 use Rattle.tt_state.specs.GraphicsState.{default_state}
 use Rattle.tt_state.specs.declared.graphics_state.GraphicsState.{GraphicsState}
+use Rattle.tt_state.specs.Tolerance.{unless_missing}
+use Rattle.tt_state.specs.declared.tolerance.Tolerance.{Tolerance}
+use Rattle.tt_state.specs.declared.tolerance.Tolerance.TheVariants as tolerance
 use Rattle.tt_exec_state.specs.StoredValues.{place}
 use Rattle.tt_exec_stack.specs.Stack.{is_value}
 use Rattle.tt_points_loops.specs.declared.deltas.DeltaRange.{DeltaRange}
@@ -25,28 +28,36 @@ change_by (Some d) n cvt = place n (length cvt) why.CvtRange >>= λ i.
     value_of (get_or cvt i (pos 0) +ℤ d) >>= λ v. Ok (slice_set cvt i v)
 
 -- a pair of an argument and a number
-abbrev pub change : DeltaRange → ℕ → GraphicsState → ℤ × ℤ → List ℤ → Result (List ℤ) Why
-change range ppem g pair cvt = delta_of range pair.0 ppem g >>= λ d. change_by d pair.1 cvt
+abbrev pub change_pair : Tolerance → DeltaRange → ℕ → GraphicsState → ℤ × ℤ → List ℤ → Result (List ℤ) Why
+change_pair t range ppem g pair cvt = delta_of t range pair.0 ppem g >>= λ d. change_by d pair.1 cvt
+
+-- one whose control value is not there is passed over by a tolerant machine
+abbrev pub change : Tolerance → DeltaRange → ℕ → GraphicsState → ℤ × ℤ → List ℤ → Result (List ℤ) Why
+change t range ppem g pair cvt = unless_missing t cvt (change_pair t range ppem g pair cvt)
 
 -- each pair in turn: an earlier one is done where a later one is refused
-abbrev pub changes : DeltaRange → ℕ → GraphicsState → List (ℤ × ℤ) → List ℤ → Result (List ℤ) Why
-changes range ppem g pairs cvt = one_by_one (change range ppem g) pairs cvt
+abbrev pub changes : Tolerance → DeltaRange → ℕ → GraphicsState → List (ℤ × ℤ) → List ℤ → Result (List ℤ) Why
+changes t range ppem g pairs cvt = one_by_one (change t range ppem g) pairs cvt
 
 -- pairs as they stand on the stack, in the order in which they are popped
 abbrev pub popped : List ℤ → List (ℤ × ℤ)
 popped entries = reverse (pairs_of entries)
 
 -- the stack and the control values
-abbrev pub deltac : DeltaRange → ℕ → List ℤ → GraphicsState → List ℤ → Result (List ℤ × List ℤ) Why
-deltac range ppem s g cvt = counted s >>= λ t. changes range ppem g (popped t.0) cvt >>= λ c. Ok (t.1, c)
+abbrev pub deltac : Tolerance → DeltaRange → ℕ → List ℤ → GraphicsState → List ℤ → Result (List ℤ × List ℤ) Why
+deltac t range ppem s g cvt = counted t s >>= λ c. changes t range ppem g (popped c.0) cvt >>= λ values. Ok (c.1, values)
 
 -- worked values
-a_value_at_its_size : deltac ranges.First 16 (pos 1 ∷ pos 0 ∷ pos 0x7F ∷ []) default_state (pos 100 ∷ []) ≡ Ok ([], pos 164 ∷ [])
+a_value_at_its_size : deltac tolerance.Strict ranges.First 16 (pos 1 ∷ pos 0 ∷ pos 0x7F ∷ []) default_state (pos 100 ∷ []) ≡ Ok ([], pos 164 ∷ [])
 a_value_at_its_size = refl
 
-no_value_one : deltac ranges.First 16 (pos 1 ∷ pos 1 ∷ pos 0x7F ∷ []) default_state (pos 100 ∷ []) ≡ Err why.CvtRange
+no_value_one : deltac tolerance.Strict ranges.First 16 (pos 1 ∷ pos 1 ∷ pos 0x7F ∷ []) default_state (pos 100 ∷ []) ≡ Err why.CvtRange
 no_value_one = refl
 
-no_value_needed_at_other_sizes : deltac ranges.First 17 (pos 1 ∷ pos 1 ∷ pos 0x7F ∷ []) default_state (pos 100 ∷ [])
+no_value_needed_at_other_sizes : deltac tolerance.Strict ranges.First 17 (pos 1 ∷ pos 1 ∷ pos 0x7F ∷ []) default_state (pos 100 ∷ [])
     ≡ Ok ([], pos 100 ∷ [])
 no_value_needed_at_other_sizes = refl
+
+no_value_one_passed_over : deltac tolerance.Tolerant ranges.First 16
+    (pos 2 ∷ pos 0 ∷ pos 0x7F ∷ pos 1 ∷ pos 0x7F ∷ []) default_state (pos 100 ∷ []) ≡ Ok ([], pos 164 ∷ [])
+no_value_one_passed_over = refl

@@ -2,7 +2,7 @@
 //! does to its points stands in the crate tt_points and below it, by the same name. Apple TrueType Reference Manual,
 //! "Instruction set".
 
-ghost use Rattle.std.specs.Prelude.{◌≡◌, ◌≤◌, length, unsigned_abs, IfOk};
+ghost use Rattle.std.specs.Prelude.{◌≡◌, ◌≤◌, length, unsigned_abs, IfErr, IfOk};
 ghost use Rattle.tt_core.specs.Outcomes.{Gives};
 ghost use Rattle.tt_exec_points.specs.Instruction as is;
 ghost use Rattle.tt_exec_points.specs.Popping as popping;
@@ -16,13 +16,13 @@ use tt_exec_state::Size;
 use tt_points::control_values::{miap, mirp};
 use tt_points::lines::{Ends, alignpts, isect, sdpvtl, sfvtl, spvtl};
 use tt_points::measuring::{Position, gc, md, scfs, utp};
-use tt_points::moving::{mdap, mdrp, msirp};
+use tt_points::moving::{mdap, mdrp, msirp, refer};
 use tt_points::{Keeping, iup};
 use tt_points_loops::deltas::{DeltaRange, deltap};
 use tt_points_loops::flipping::{flippt, fliprgoff, fliprgon};
 use tt_points_loops::moving::{alignrp, ip, shpix};
-use tt_points_loops::shifting::{ReferencePoint, shc, shp, shz};
-use tt_state::{Axis, GraphicsState};
+use tt_points_loops::shifting::{ReferencePoint, reference_number, reference_zone, shc, shp, shz};
+use tt_state::{Axis, GraphicsState, Tolerance};
 
 /// An instruction on points, or DELTAC, by the manual's name.
 #[derive(Clone, Copy)]
@@ -55,15 +55,37 @@ pub enum PointInstruction {
     Alignpts,
 }
 
+/// What is done, unless something that it asks for is not there for a tolerant machine: then this is.
+macro_rules! unless_missing {
+    ($tolerance:expr, $done:expr, $instead:expr) => {
+        match $done {
+            Err(why) if $tolerance.passes_over(why) => Ok($instead),
+            done => done,
+        }
+    };
+}
+
 /// Does what works on the points whose numbers stand on the stack, as many as the loop variable says. Error: StackShort.
+/// A tolerant machine takes none of them where the reference point is not there, or there are fewer.
 macro_rules! looped {
-    ($stack:ident, $graphics:ident, $numbers:ident => $change:expr) => {{
+    ($tolerance:ident, $referred:expr, $stack:ident, $graphics:ident, $numbers:ident => $change:expr) => {{
+        if $tolerance.is_tolerant() && does_nothing($referred, $stack, $graphics) {
+            $graphics.loops = 1;
+            return Ok(());
+        }
         let many = $graphics.loops as usize;
         let $numbers = $stack.top(many)?;
         $change?;
         $stack.discard(many);
         Ok(())
     }};
+}
+
+/// Whether no point is looped over: the reference point is not there, or fewer points than the loop variable says.
+fn does_nothing(referred: bool, stack: &Stack, graphics: &GraphicsState) -> bool
+    ensures { result ≡ popping.too_little referred stack.now graphics.now }
+{
+    !referred || stack.len() < graphics.loops as usize
 }
 
 /// The control value with a number. Error: CvtRange.
@@ -76,14 +98,14 @@ fn control_value(n: i32, cvt: &[i32]) -> Result<i32, Why>
     Ok(cvt[n as usize])
 }
 
-/// A point's number, and the control value with the number on top. Errors: StackShort, CvtRange.
-fn point_and_value(stack: &mut Stack, cvt: &[i32]) -> Result<(i32, i32), Why>
-    ensures { Gives (λ t. (t.0, t.1, stack.new)) result (is.point_and_value stack.old cvt.now) }
+/// The control value with a number, for MIRP. Error: CvtRange.
+fn mirp_value(tolerance: Tolerance, n: i32, cvt: &[i32]) -> Result<i32, Why>
+    ensures { Gives (λ c. c) result (is.mirp_value tolerance n cvt.now) }
 {
-    let n = stack.pop()?;
-    let p = stack.pop()?;
-    let c = control_value(n, cvt)?;
-    Ok((p, c))
+    if tolerance.is_tolerant() && n == -1 {
+        return Ok(0);
+    }
+    control_value(n, cvt)
 }
 
 /// How many entries the top one counts in pairs. Errors: StackShort, BadArgument below 0.
@@ -97,317 +119,384 @@ pub(crate) fn pairs_counted(stack: &mut Stack) -> Result<usize, Why>
     Ok(2 * n as usize)
 }
 
+/// How many of so many entries there are in whole pairs: all of them, but for a tolerant machine.
+pub(crate) fn pairs_there(tolerance: Tolerance, many: usize, stack: &Stack) -> usize
+    ensures { result ≡ popping.pairs_there tolerance many stack.now }
+{
+    if tolerance.is_tolerant() && stack.len() < many {
+        return stack.len() / 2 * 2;
+    }
+    many
+}
+
+/// The reference points after MIAP.
+fn refer_to(graphics: &mut GraphicsState, p: i32)
+    ensures { graphics.new ≡ is.referred_to p graphics.old }
+{
+    graphics.rp0 = p;
+    graphics.rp1 = p;
+}
+
 impl Points {
     /// MDAP[r]: p -> . Errors: PointRange, Perpendicular, ValueRange.
     pub(crate) fn mdap(
         &mut self,
+        tolerance: Tolerance,
         round: bool,
         stack: &mut Stack,
         graphics: &mut GraphicsState,
     ) -> Result<(), Why>
-        ensures { Gives (λ u. (stack.new, self.new, graphics.new)) result (is.mdap round stack.old self.old graphics.old) }
+        ensures { Gives (λ u. (stack.new, self.new, graphics.new)) result (is.mdap tolerance round stack.old self.old graphics.old) }
     {
         let p = stack.pop()?;
-        mdap(&mut self.zones, graphics, round, p)
+        unless_missing!(tolerance, mdap(&mut self.zones, graphics, round, p), ())
     }
 
     /// MDRP[abcde]: p -> . Errors: PointRange, Perpendicular, ValueRange.
     pub(crate) fn mdrp(
         &mut self,
+        tolerance: Tolerance,
         keeping: Keeping,
         stack: &mut Stack,
         graphics: &mut GraphicsState,
     ) -> Result<(), Why>
-        ensures { Gives (λ u. (stack.new, self.new, graphics.new)) result (is.mdrp keeping stack.old self.old graphics.old) }
+        ensures { Gives (λ u. (stack.new, self.new, graphics.new)) result (is.mdrp tolerance keeping stack.old self.old graphics.old) }
     {
         let p = stack.pop()?;
-        mdrp(&mut self.zones, graphics, keeping, p)
+        let done = mdrp(&mut self.zones, graphics, keeping, p);
+        unless_missing!(tolerance, done, refer(graphics, keeping.set_rp0, p))
     }
 
     /// MSIRP[a]: p, d -> . Errors: PointRange, Perpendicular, ValueRange.
     pub(crate) fn msirp(
         &mut self,
+        tolerance: Tolerance,
         set_rp0: bool,
         stack: &mut Stack,
         graphics: &mut GraphicsState,
     ) -> Result<(), Why>
-        ensures { Gives (λ u. (stack.new, self.new, graphics.new)) result (is.msirp set_rp0 stack.old self.old graphics.old) }
+        ensures { Gives (λ u. (stack.new, self.new, graphics.new)) result (is.msirp tolerance set_rp0 stack.old self.old graphics.old) }
     {
         let d = stack.pop()?;
         let p = stack.pop()?;
-        msirp(&mut self.zones, graphics, set_rp0, p, d)
+        unless_missing!(tolerance, msirp(&mut self.zones, graphics, set_rp0, p, d), ())
+    }
+
+    /// MIAP by a control value, if it is there. Errors: why it is not; PointRange, Perpendicular, ValueRange.
+    fn miap_by(
+        &mut self,
+        round: bool,
+        p: i32,
+        c: Result<i32, Why>,
+        graphics: &mut GraphicsState,
+    ) -> Result<(), Why>
+        ensures exact { Gives (λ u. (self.new, graphics.new)) result (is.miap_by round p c self.old graphics.old) }
+        ensures kept { IfErr result (λ why. (self.new ≡ self.old) × (graphics.new ≡ graphics.old)) }
+    {
+        miap(&mut self.zones, graphics, round, p, c?)
     }
 
     /// MIAP[r]: p, n -> . Errors: CvtRange, PointRange, Perpendicular, ValueRange.
     pub(crate) fn miap(
         &mut self,
+        tolerance: Tolerance,
         round: bool,
         cvt: &[i32],
         stack: &mut Stack,
         graphics: &mut GraphicsState,
     ) -> Result<(), Why>
-        ensures { let given = is.miap round cvt.now stack.old self.old graphics.old in
+        ensures { let given = is.miap tolerance round cvt.now stack.old self.old graphics.old in
             Gives (λ u. (stack.new, self.new, graphics.new)) result given }
     {
-        let (p, c) = point_and_value(stack, cvt)?;
-        miap(&mut self.zones, graphics, round, p, c)
+        let n = stack.pop()?;
+        let p = stack.pop()?;
+        let done = self.miap_by(round, p, control_value(n, cvt), graphics);
+        unless_missing!(tolerance, done, refer_to(graphics, p))
+    }
+
+    /// MIRP by a control value, if it is there. Errors: why it is not; PointRange, Perpendicular, ValueRange.
+    fn mirp_by(
+        &mut self,
+        keeping: Keeping,
+        p: i32,
+        c: Result<i32, Why>,
+        graphics: &mut GraphicsState,
+    ) -> Result<(), Why>
+        ensures exact { Gives (λ u. (self.new, graphics.new)) result (is.mirp_by keeping p c self.old graphics.old) }
+        ensures kept { IfErr result (λ why. (self.new ≡ self.old) × (graphics.new ≡ graphics.old)) }
+    {
+        mirp(&mut self.zones, graphics, keeping, p, c?)
     }
 
     /// MIRP[abcde]: p, n -> . Errors: CvtRange, PointRange, Perpendicular, ValueRange.
     pub(crate) fn mirp(
         &mut self,
+        tolerance: Tolerance,
         keeping: Keeping,
         cvt: &[i32],
         stack: &mut Stack,
         graphics: &mut GraphicsState,
     ) -> Result<(), Why>
-        ensures { let given = is.mirp keeping cvt.now stack.old self.old graphics.old in
+        ensures { let given = is.mirp tolerance keeping cvt.now stack.old self.old graphics.old in
             Gives (λ u. (stack.new, self.new, graphics.new)) result given }
     {
-        let (p, c) = point_and_value(stack, cvt)?;
-        mirp(&mut self.zones, graphics, keeping, p, c)
+        let n = stack.pop()?;
+        let p = stack.pop()?;
+        let done = self.mirp_by(keeping, p, mirp_value(tolerance, n, cvt), graphics);
+        unless_missing!(tolerance, done, refer(graphics, keeping.set_rp0, p))
     }
 
     /// SCFS[]: p, v -> . Errors: PointRange, Perpendicular, ValueRange.
-    pub(crate) fn scfs(&mut self, stack: &mut Stack, graphics: &GraphicsState) -> Result<(), Why>
-        ensures { Gives (λ u. (stack.new, self.new, graphics.now)) result (is.scfs stack.old self.old graphics.now) }
+    pub(crate) fn scfs(&mut self, tolerance: Tolerance, stack: &mut Stack, graphics: &GraphicsState) -> Result<(), Why>
+        ensures { Gives (λ u. (stack.new, self.new, graphics.now)) result (is.scfs tolerance stack.old self.old graphics.now) }
     {
         let v = stack.pop()?;
         let p = stack.pop()?;
-        scfs(&mut self.zones, graphics, p, v)
+        unless_missing!(tolerance, scfs(&mut self.zones, graphics, p, v), ())
     }
 
     /// UTP[]: p -> . Error: PointRange.
-    pub(crate) fn utp(&mut self, stack: &mut Stack, graphics: &GraphicsState) -> Result<(), Why>
-        ensures { Gives (λ u. (stack.new, self.new, graphics.now)) result (is.utp stack.old self.old graphics.now) }
+    pub(crate) fn utp(&mut self, tolerance: Tolerance, stack: &mut Stack, graphics: &GraphicsState) -> Result<(), Why>
+        ensures { Gives (λ u. (stack.new, self.new, graphics.now)) result (is.utp tolerance stack.old self.old graphics.now) }
     {
         let p = stack.pop()?;
-        utp(&mut self.zones, graphics, p)
+        unless_missing!(tolerance, utp(&mut self.zones, graphics, p), ())
     }
 
     /// GC[a]: p -> c. Error: PointRange.
     pub(crate) fn gc(
         &self,
+        tolerance: Tolerance,
         of: Position,
         stack: &mut Stack,
         graphics: &GraphicsState,
     ) -> Result<(), Why>
-        ensures { Gives (λ u. stack.new) result (is.gc of stack.old self.now graphics.now) }
+        ensures { Gives (λ u. stack.new) result (is.gc tolerance of stack.old self.now graphics.now) }
     {
         let p = stack.pop()?;
-        let value = gc(&self.zones, graphics, of, p)?;
-        stack.push(i64::from(value))
+        let measured = unless_missing!(tolerance, gc(&self.zones, graphics, of, p), 0);
+        stack.push(i64::from(measured?))
     }
 
     /// MD[a]: p2, p1 -> d. Error: PointRange.
     pub(crate) fn md(
         &self,
+        tolerance: Tolerance,
         between: Position,
         stack: &mut Stack,
         graphics: &GraphicsState,
     ) -> Result<(), Why>
-        ensures { Gives (λ u. stack.new) result (is.md between stack.old self.now graphics.now) }
+        ensures { Gives (λ u. stack.new) result (is.md tolerance between stack.old self.now graphics.now) }
     {
         let p1 = stack.pop()?;
         let p2 = stack.pop()?;
-        let value = md(&self.zones, graphics, between, p2, p1)?;
-        stack.push(i64::from(value))
+        let measured = unless_missing!(tolerance, md(&self.zones, graphics, between, p2, p1), 0);
+        stack.push(i64::from(measured?))
     }
 
     /// ALIGNRP[]: as many points as the loop says -> .
     pub(crate) fn alignrp(
         &mut self,
+        tolerance: Tolerance,
         stack: &mut Stack,
         graphics: &mut GraphicsState,
     ) -> Result<(), Why>
-        ensures { Gives (λ u. (stack.new, self.new, graphics.new)) result (is.alignrp stack.old self.old graphics.old) }
+        ensures { Gives (λ u. (stack.new, self.new, graphics.new)) result (is.alignrp tolerance stack.old self.old graphics.old) }
     {
-        looped!(stack, graphics, numbers => alignrp(&mut self.zones, graphics, numbers))
+        looped!(tolerance, self.zones.has(graphics.zp0, graphics.rp0), stack, graphics, numbers => alignrp(&mut self.zones, graphics, tolerance, numbers))
     }
 
     /// IP[]: as many points as the loop says -> .
-    pub(crate) fn ip(&mut self, stack: &mut Stack, graphics: &mut GraphicsState) -> Result<(), Why>
-        ensures { Gives (λ u. (stack.new, self.new, graphics.new)) result (is.ip stack.old self.old graphics.old) }
+    pub(crate) fn ip(&mut self, tolerance: Tolerance, stack: &mut Stack, graphics: &mut GraphicsState) -> Result<(), Why>
+        ensures { Gives (λ u. (stack.new, self.new, graphics.new)) result (is.ip tolerance stack.old self.old graphics.old) }
     {
-        looped!(stack, graphics, numbers => ip(&mut self.zones, graphics, numbers))
+        looped!(tolerance, self.zones.has(graphics.zp0, graphics.rp1), stack, graphics, numbers => ip(&mut self.zones, graphics, tolerance, numbers))
     }
 
     /// SHP[a]: as many points as the loop says -> .
     pub(crate) fn shp(
         &mut self,
+        tolerance: Tolerance,
         which: ReferencePoint,
         stack: &mut Stack,
         graphics: &mut GraphicsState,
     ) -> Result<(), Why>
-        ensures { Gives (λ u. (stack.new, self.new, graphics.new)) result (is.shp which stack.old self.old graphics.old) }
+        ensures { Gives (λ u. (stack.new, self.new, graphics.new)) result (is.shp tolerance which stack.old self.old graphics.old) }
     {
-        looped!(stack, graphics, numbers => shp(&mut self.zones, graphics, which, numbers))
+        let (zone, number) = (reference_zone(graphics, which), reference_number(graphics, which));
+        looped!(tolerance, self.zones.has(zone, number), stack, graphics, numbers => shp(&mut self.zones, graphics, tolerance, which, numbers))
     }
 
     /// SHPIX[]: as many points as the loop says, amount -> .
     pub(crate) fn shpix(
         &mut self,
+        tolerance: Tolerance,
         stack: &mut Stack,
         graphics: &mut GraphicsState,
     ) -> Result<(), Why>
-        ensures { Gives (λ u. (stack.new, self.new, graphics.new)) result (is.shpix stack.old self.old graphics.old) }
+        ensures { Gives (λ u. (stack.new, self.new, graphics.new)) result (is.shpix tolerance stack.old self.old graphics.old) }
     {
         let amount = stack.pop()?;
-        looped!(stack, graphics, numbers => shpix(&mut self.zones, graphics, numbers, amount))
+        looped!(tolerance, true, stack, graphics, numbers => shpix(&mut self.zones, graphics, tolerance, numbers, amount))
     }
 
     /// FLIPPT[]: as many points as the loop says -> .
     pub(crate) fn flippt(
         &mut self,
+        tolerance: Tolerance,
         stack: &mut Stack,
         graphics: &mut GraphicsState,
     ) -> Result<(), Why>
-        ensures { Gives (λ u. (stack.new, self.new, graphics.new)) result (is.flippt stack.old self.old graphics.old) }
+        ensures { Gives (λ u. (stack.new, self.new, graphics.new)) result (is.flippt tolerance stack.old self.old graphics.old) }
     {
-        looped!(stack, graphics, numbers => flippt(&mut self.zones, graphics, numbers))
+        looped!(tolerance, true, stack, graphics, numbers => flippt(&mut self.zones, graphics, tolerance, numbers))
     }
 
     /// FLIPRGON[]: low, high -> . Error: PointRange.
     pub(crate) fn fliprgon(
         &mut self,
+        tolerance: Tolerance,
         stack: &mut Stack,
         graphics: &GraphicsState,
     ) -> Result<(), Why>
-        ensures { Gives (λ u. (stack.new, self.new, graphics.now)) result (is.fliprgon stack.old self.old graphics.now) }
+        ensures { Gives (λ u. (stack.new, self.new, graphics.now)) result (is.fliprgon tolerance stack.old self.old graphics.now) }
     {
         let high = stack.pop()?;
         let low = stack.pop()?;
-        fliprgon(&mut self.zones, low, high)
+        unless_missing!(tolerance, fliprgon(&mut self.zones, low, high), ())
     }
 
     /// FLIPRGOFF[]: low, high -> . Error: PointRange.
     pub(crate) fn fliprgoff(
         &mut self,
+        tolerance: Tolerance,
         stack: &mut Stack,
         graphics: &GraphicsState,
     ) -> Result<(), Why>
-        ensures { Gives (λ u. (stack.new, self.new, graphics.now)) result (is.fliprgoff stack.old self.old graphics.now) }
+        ensures { Gives (λ u. (stack.new, self.new, graphics.now)) result (is.fliprgoff tolerance stack.old self.old graphics.now) }
     {
         let high = stack.pop()?;
         let low = stack.pop()?;
-        fliprgoff(&mut self.zones, low, high)
+        unless_missing!(tolerance, fliprgoff(&mut self.zones, low, high), ())
     }
 
     /// SHC[a]: contour -> . Errors: ContourRange, PointRange, Perpendicular, ValueRange.
     pub(crate) fn shc(
         &mut self,
+        tolerance: Tolerance,
         which: ReferencePoint,
         stack: &mut Stack,
         graphics: &GraphicsState,
     ) -> Result<(), Why>
-        ensures { Gives (λ u. (stack.new, self.new, graphics.now)) result (is.shc which stack.old self.old graphics.now) }
+        ensures { Gives (λ u. (stack.new, self.new, graphics.now)) result (is.shc tolerance which stack.old self.old graphics.now) }
     {
         let contour = stack.pop()?;
-        shc(&mut self.zones, graphics, which, contour)
+        unless_missing!(tolerance, shc(&mut self.zones, graphics, which, contour), ())
     }
 
     /// SHZ[a]: zone -> . Errors: ZoneRange, PointRange, Perpendicular, ValueRange.
     pub(crate) fn shz(
         &mut self,
+        tolerance: Tolerance,
         which: ReferencePoint,
         stack: &mut Stack,
         graphics: &GraphicsState,
     ) -> Result<(), Why>
-        ensures { Gives (λ u. (stack.new, self.new, graphics.now)) result (is.shz which stack.old self.old graphics.now) }
+        ensures { Gives (λ u. (stack.new, self.new, graphics.now)) result (is.shz tolerance which stack.old self.old graphics.now) }
     {
         let zone = stack.pop()?;
-        shz(&mut self.zones, graphics, which, zone)?;
-        Ok(())
+        unless_missing!(tolerance, shz(&mut self.zones, graphics, which, zone), ())
     }
 
     /// DELTAP1[] to DELTAP3[]: n pairs of an argument and a point, n -> .
     pub(crate) fn deltap(
         &mut self,
+        tolerance: Tolerance,
         range: DeltaRange,
         ppem: u32,
         stack: &mut Stack,
         graphics: &GraphicsState,
     ) -> Result<(), Why>
-        ensures { Gives (λ u. (stack.new, self.new, graphics.now)) result (is.deltap range ppem stack.old self.old graphics.now) }
+        ensures { Gives (λ u. (stack.new, self.new, graphics.now)) result (is.deltap tolerance range ppem stack.old self.old graphics.now) }
     {
         let many = pairs_counted(stack)?;
-        let pairs = stack.top(many)?;
-        deltap(&mut self.zones, graphics, range, ppem, pairs)?;
-        stack.discard(many);
+        let there = pairs_there(tolerance, many, stack);
+        let pairs = stack.top(there)?;
+        deltap(&mut self.zones, graphics, tolerance, range, ppem, pairs)?;
+        stack.discard(many.min(stack.len()));
         Ok(())
     }
 
     /// SPVTL[a]: p2, p1 -> . Error: PointRange.
     pub(crate) fn spvtl(
         &self,
+        tolerance: Tolerance,
         turned: bool,
         stack: &mut Stack,
         graphics: &mut GraphicsState,
     ) -> Result<(), Why>
-        ensures { Gives (λ u. (stack.new, self.now, graphics.new)) result (is.spvtl turned stack.old self.now graphics.old) }
+        ensures { Gives (λ u. (stack.new, self.now, graphics.new)) result (is.spvtl tolerance turned stack.old self.now graphics.old) }
     {
         let p1 = stack.pop()?;
         let p2 = stack.pop()?;
-        spvtl(&self.zones, graphics, turned, p1, p2)
+        unless_missing!(tolerance, spvtl(&self.zones, graphics, turned, p1, p2), ())
     }
 
     /// SFVTL[a]: p2, p1 -> . Error: PointRange.
     pub(crate) fn sfvtl(
         &self,
+        tolerance: Tolerance,
         turned: bool,
         stack: &mut Stack,
         graphics: &mut GraphicsState,
     ) -> Result<(), Why>
-        ensures { Gives (λ u. (stack.new, self.now, graphics.new)) result (is.sfvtl turned stack.old self.now graphics.old) }
+        ensures { Gives (λ u. (stack.new, self.now, graphics.new)) result (is.sfvtl tolerance turned stack.old self.now graphics.old) }
     {
         let p1 = stack.pop()?;
         let p2 = stack.pop()?;
-        sfvtl(&self.zones, graphics, turned, p1, p2)
+        unless_missing!(tolerance, sfvtl(&self.zones, graphics, turned, p1, p2), ())
     }
 
     /// SDPVTL[a]: p2, p1 -> . Error: PointRange.
     pub(crate) fn sdpvtl(
         &self,
+        tolerance: Tolerance,
         turned: bool,
         stack: &mut Stack,
         graphics: &mut GraphicsState,
     ) -> Result<(), Why>
-        ensures { Gives (λ u. (stack.new, self.now, graphics.new)) result (is.sdpvtl turned stack.old self.now graphics.old) }
+        ensures { Gives (λ u. (stack.new, self.now, graphics.new)) result (is.sdpvtl tolerance turned stack.old self.now graphics.old) }
     {
         let p1 = stack.pop()?;
         let p2 = stack.pop()?;
-        sdpvtl(&self.zones, graphics, turned, p1, p2)
+        unless_missing!(tolerance, sdpvtl(&self.zones, graphics, turned, p1, p2), ())
     }
 
     /// ISECT[]: p, a0, a1, b0, b1 -> . Errors: PointRange, ValueRange.
-    pub(crate) fn isect(&mut self, stack: &mut Stack, graphics: &GraphicsState) -> Result<(), Why>
-        ensures { Gives (λ u. (stack.new, self.new, graphics.now)) result (is.isect stack.old self.old graphics.now) }
+    pub(crate) fn isect(&mut self, tolerance: Tolerance, stack: &mut Stack, graphics: &GraphicsState) -> Result<(), Why>
+        ensures { Gives (λ u. (stack.new, self.new, graphics.now)) result (is.isect tolerance stack.old self.old graphics.now) }
     {
         let b1 = stack.pop()?;
         let b0 = stack.pop()?;
         let a1 = stack.pop()?;
         let a0 = stack.pop()?;
         let p = stack.pop()?;
-        isect(
-            &mut self.zones,
-            graphics,
-            p,
-            Ends { from: a0, to: a1 },
-            Ends { from: b0, to: b1 },
-        )
+        let (a, b) = (Ends { from: a0, to: a1 }, Ends { from: b0, to: b1 });
+        unless_missing!(tolerance, isect(&mut self.zones, graphics, p, a, b), ())
     }
 
     /// ALIGNPTS[]: p2, p1 -> . Errors: PointRange, Perpendicular, ValueRange.
     pub(crate) fn alignpts(
         &mut self,
+        tolerance: Tolerance,
         stack: &mut Stack,
         graphics: &GraphicsState,
     ) -> Result<(), Why>
-        ensures { Gives (λ u. (stack.new, self.new, graphics.now)) result (is.alignpts stack.old self.old graphics.now) }
+        ensures { Gives (λ u. (stack.new, self.new, graphics.now)) result (is.alignpts tolerance stack.old self.old graphics.now) }
     {
         let p1 = stack.pop()?;
         let p2 = stack.pop()?;
-        alignpts(&mut self.zones, graphics, p1, p2)
+        unless_missing!(tolerance, alignpts(&mut self.zones, graphics, p1, p2), ())
     }
 
     /// IUP[a]. Error: ValueRange.
@@ -420,6 +509,7 @@ impl Points {
 
 /// Does an instruction. Errors: StackShort; those of the instruction.
 pub fn on_points(
+    tolerance: Tolerance,
     op: PointInstruction,
     size: Size,
     stack: &mut Stack,
@@ -427,35 +517,35 @@ pub fn on_points(
     graphics: &mut GraphicsState,
     cvt: &mut [i32],
 ) -> Result<(), Why>
-    ensures { let given = is.on_points op size.ppem stack.old points.old graphics.old cvt.old in
+    ensures { let given = is.on_points tolerance op size.ppem stack.old points.old graphics.old cvt.old in
         Gives (λ u. (stack.new, points.new, graphics.new, cvt.new)) result given }
 {
     match op {
-        PointInstruction::Utp => points.utp(stack, graphics),
-        PointInstruction::Mdap { round } => points.mdap(round, stack, graphics),
+        PointInstruction::Utp => points.utp(tolerance, stack, graphics),
+        PointInstruction::Mdap { round } => points.mdap(tolerance, round, stack, graphics),
         PointInstruction::Iup(axis) => points.iup(axis),
-        PointInstruction::Shp(which) => points.shp(which, stack, graphics),
-        PointInstruction::Shc(which) => points.shc(which, stack, graphics),
-        PointInstruction::Shz(which) => points.shz(which, stack, graphics),
-        PointInstruction::Shpix => points.shpix(stack, graphics),
-        PointInstruction::Ip => points.ip(stack, graphics),
-        PointInstruction::Msirp { set_rp0 } => points.msirp(set_rp0, stack, graphics),
-        PointInstruction::Alignrp => points.alignrp(stack, graphics),
-        PointInstruction::Miap { round } => points.miap(round, cvt, stack, graphics),
-        PointInstruction::Gc(of) => points.gc(of, stack, graphics),
-        PointInstruction::Scfs => points.scfs(stack, graphics),
-        PointInstruction::Md(between) => points.md(between, stack, graphics),
-        PointInstruction::Deltap(range) => points.deltap(range, size.ppem, stack, graphics),
-        PointInstruction::Deltac(range) => deltac(range, size.ppem, stack, graphics, cvt),
-        PointInstruction::Flippt => points.flippt(stack, graphics),
-        PointInstruction::Fliprgon => points.fliprgon(stack, graphics),
-        PointInstruction::Fliprgoff => points.fliprgoff(stack, graphics),
-        PointInstruction::Mdrp(keeping) => points.mdrp(keeping, stack, graphics),
-        PointInstruction::Mirp(keeping) => points.mirp(keeping, cvt, stack, graphics),
-        PointInstruction::Spvtl { turned } => points.spvtl(turned, stack, graphics),
-        PointInstruction::Sfvtl { turned } => points.sfvtl(turned, stack, graphics),
-        PointInstruction::Sdpvtl { turned } => points.sdpvtl(turned, stack, graphics),
-        PointInstruction::Isect => points.isect(stack, graphics),
-        PointInstruction::Alignpts => points.alignpts(stack, graphics),
+        PointInstruction::Shp(which) => points.shp(tolerance, which, stack, graphics),
+        PointInstruction::Shc(which) => points.shc(tolerance, which, stack, graphics),
+        PointInstruction::Shz(which) => points.shz(tolerance, which, stack, graphics),
+        PointInstruction::Shpix => points.shpix(tolerance, stack, graphics),
+        PointInstruction::Ip => points.ip(tolerance, stack, graphics),
+        PointInstruction::Msirp { set_rp0 } => points.msirp(tolerance, set_rp0, stack, graphics),
+        PointInstruction::Alignrp => points.alignrp(tolerance, stack, graphics),
+        PointInstruction::Miap { round } => points.miap(tolerance, round, cvt, stack, graphics),
+        PointInstruction::Gc(of) => points.gc(tolerance, of, stack, graphics),
+        PointInstruction::Scfs => points.scfs(tolerance, stack, graphics),
+        PointInstruction::Md(between) => points.md(tolerance, between, stack, graphics),
+        PointInstruction::Deltap(range) => points.deltap(tolerance, range, size.ppem, stack, graphics),
+        PointInstruction::Deltac(range) => deltac(tolerance, range, size.ppem, stack, graphics, cvt),
+        PointInstruction::Flippt => points.flippt(tolerance, stack, graphics),
+        PointInstruction::Fliprgon => points.fliprgon(tolerance, stack, graphics),
+        PointInstruction::Fliprgoff => points.fliprgoff(tolerance, stack, graphics),
+        PointInstruction::Mdrp(keeping) => points.mdrp(tolerance, keeping, stack, graphics),
+        PointInstruction::Mirp(keeping) => points.mirp(tolerance, keeping, cvt, stack, graphics),
+        PointInstruction::Spvtl { turned } => points.spvtl(tolerance, turned, stack, graphics),
+        PointInstruction::Sfvtl { turned } => points.sfvtl(tolerance, turned, stack, graphics),
+        PointInstruction::Sdpvtl { turned } => points.sdpvtl(tolerance, turned, stack, graphics),
+        PointInstruction::Isect => points.isect(tolerance, stack, graphics),
+        PointInstruction::Alignpts => points.alignpts(tolerance, stack, graphics),
     }
 }
