@@ -2,6 +2,7 @@
 -- instruction, which stands at a place of its own. The top of the stack stands first.
 use Rattle.std.specs.Prelude.{◌≡◌, ℕ, ℤ, pos, ◌+ℤ◌, int_le, unsigned_abs, ◌&&◌, if◌then◌else◌, List, [], ◌∷◌, length, Result, Ok, Err}
 use Rattle.tt_core.specs.Faults.{Fault}
+use Rattle.tt_core.specs.declared.fault.Why.{Why}
 use Rattle.tt_core.specs.declared.fault.Why.TheVariants as why
 use Rattle.tt_code.specs.declared.decoding.Halt.{Halt}
 use Rattle.tt_code.specs.Skips.{if_end, else_end}
@@ -51,6 +52,6 @@ jrof (condition ∷ offset ∷ s) at m =
 jrof _ at m = Err (fault_in m.frame at why.StackShort)
 
 -- the top entry that a call took from a state, or that there is none
-abbrev pub TakesTop : ℕ → MachineState → Result ℤ Fault → MachineState → Type 0
-TakesTop at old (Ok x) new = old ≡ record new { stack = x ∷ new.stack }
-TakesTop at old (Err fault) new = (old.stack ≡ []) × (fault ≡ fault_in old.frame at why.StackShort)
+abbrev pub TakesTop : MachineState → Result ℤ Why → MachineState → Type 0
+TakesTop old (Ok x) new = old ≡ record new { stack = x ∷ new.stack }
+TakesTop old (Err e) new = (old.stack ≡ []) × (e ≡ why.StackShort) × (new.frame ≡ old.frame)

@@ -14,5 +14,6 @@ pub mod Runs
 pub mod Sizes
 pub mod States
 pub mod Step
+pub mod Stops
 pub mod Views
 pub mod WithAll

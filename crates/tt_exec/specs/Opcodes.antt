@@ -21,10 +21,33 @@ use Rattle.tt_exec_points.specs.declared.instruction.PointInstruction.TheVariant
 use Rattle.tt_exec.specs.Operation.{Operation}
 use Rattle.tt_exec.specs.Operation as op
 
--- the instruction that a table has for an opcode
+-- the instruction that a table has for an opcode, or else another
+abbrev pub found : Operation → ℕ → List (ℕ × Operation) → Operation
+found other opcode [] = other
+found other opcode (e ∷ es) = if opcode == e.0 then e.1 else found other opcode es
+
+-- beyond the profile
+abbrev pub opcodes_beyond : List (ℕ × Operation)
+opcodes_beyond =
+    (0x06, op.beyond (op.on_points (on.Spvtl false))) ∷
+    (0x07, op.beyond (op.on_points (on.Spvtl true))) ∷
+    (0x08, op.beyond (op.on_points (on.Sfvtl false))) ∷
+    (0x09, op.beyond (op.on_points (on.Sfvtl true))) ∷
+    (0x0F, op.beyond (op.on_points on.Isect)) ∷
+    (0x27, op.beyond (op.on_points on.Alignpts)) ∷
+    (0x4F, op.beyond (op.set_state setting.Ignored)) ∷
+    (0x77, op.beyond (op.set_state setting.S45round)) ∷
+    (0x86, op.beyond (op.on_points (on.Sdpvtl false))) ∷
+    (0x87, op.beyond (op.on_points (on.Sdpvtl true))) ∷
+    (0x89, op.beyond op.idef) ∷
+    []
+
+-- an opcode that is in no table of the profile
+abbrev pub apart : ℕ → Operation
+apart opcode = found (op.unnamed opcode) opcode opcodes_beyond
+
 abbrev pub named : ℕ → List (ℕ × Operation) → Operation
-named opcode [] = op.unnamed opcode
-named opcode (e ∷ es) = if opcode == e.0 then e.1 else named opcode es
+named opcode table = found (apart opcode) opcode table
 
 -- 0x00 to 0x1F
 abbrev pub opcodes_00 : List (ℕ × Operation)
@@ -35,16 +58,11 @@ opcodes_00 =
     (0x03, op.access_vectors (vectors.Spvtca axis.X)) ∷
     (0x04, op.access_vectors (vectors.Sfvtca axis.Y)) ∷
     (0x05, op.access_vectors (vectors.Sfvtca axis.X)) ∷
-    (0x06, op.beyond (op.on_points (on.Spvtl false))) ∷
-    (0x07, op.beyond (op.on_points (on.Spvtl true))) ∷
-    (0x08, op.beyond (op.on_points (on.Sfvtl false))) ∷
-    (0x09, op.beyond (op.on_points (on.Sfvtl true))) ∷
     (0x0A, op.access_vectors vectors.Spvfs) ∷
     (0x0B, op.access_vectors vectors.Sfvfs) ∷
     (0x0C, op.access_vectors vectors.Gpv) ∷
     (0x0D, op.access_vectors vectors.Gfv) ∷
     (0x0E, op.access_vectors vectors.Sfvtpv) ∷
-    (0x0F, op.beyond (op.on_points on.Isect)) ∷
     (0x10, op.set_state setting.Srp0) ∷
     (0x11, op.set_state setting.Srp1) ∷
     (0x12, op.set_state setting.Srp2) ∷
@@ -73,7 +91,6 @@ opcodes_20 =
     (0x24, op.manage managing.Depth) ∷
     (0x25, op.manage managing.Cindex) ∷
     (0x26, op.manage managing.Mindex) ∷
-    (0x27, op.beyond (op.on_points on.Alignpts)) ∷
     (0x29, op.on_points on.Utp) ∷
     (0x2A, op.loopcall) ∷
     (0x2B, op.call) ∷
@@ -115,7 +132,6 @@ opcodes_40 =
     (0x4C, op.answer query.Mps) ∷
     (0x4D, op.set_state (setting.Flip true)) ∷
     (0x4E, op.set_state (setting.Flip false)) ∷
-    (0x4F, op.beyond (op.set_state setting.Ignored)) ∷
     (0x50, op.evaluate logic.Lt) ∷
     (0x51, op.evaluate logic.Lteq) ∷
     (0x52, op.evaluate logic.Gt) ∷
@@ -160,7 +176,6 @@ opcodes_60 =
     (0x74, op.on_points (on.Deltac ranges.Second)) ∷
     (0x75, op.on_points (on.Deltac ranges.Third)) ∷
     (0x76, op.set_state setting.Sround) ∷
-    (0x77, op.beyond (op.set_state setting.S45round)) ∷
     (0x78, op.jrot) ∷
     (0x79, op.jrof) ∷
     (0x7A, op.set_state (setting.RoundTo round.Off)) ∷
@@ -177,10 +192,7 @@ opcodes_80 =
     (0x81, op.on_points on.Fliprgon) ∷
     (0x82, op.on_points on.Fliprgoff) ∷
     (0x85, op.set_state setting.Ignored) ∷
-    (0x86, op.beyond (op.on_points (on.Sdpvtl false))) ∷
-    (0x87, op.beyond (op.on_points (on.Sdpvtl true))) ∷
     (0x88, op.answer query.Getinfo) ∷
-    (0x89, op.beyond op.idef) ∷
     (0x8A, op.manage managing.Roll) ∷
     (0x8B, op.compute arithmetic.Max) ∷
     (0x8C, op.compute arithmetic.Min) ∷

@@ -3,14 +3,13 @@
 //! "Instruction set".
 
 ghost use Rattle.std.specs.Prelude.{◌≤◌, length};
-ghost use Rattle.tt_core.specs.Outcomes.{Leaves};
-ghost use Rattle.tt_exec_stack.specs.Stack.{Does};
 ghost use Rattle.tt_exec.specs.Operation as operation;
 ghost use Rattle.tt_exec.specs.States.{state_of};
 ghost use Rattle.tt_exec.specs.Step as is;
+ghost use Rattle.tt_exec.specs.Stops.{DoesAt};
 
 use crate::machine_state::MachineState;
-use tt_core::{Fault, FontFault};
+use tt_core::Why;
 use tt_exec_stack::{
     Arithmetic, Logic, Managing, compute, evaluate, manage, push_bytes, push_words,
 };
@@ -18,105 +17,86 @@ use tt_exec_state::{
     Query, Setting, StoredValues, Vectors, access_values, access_vectors, answer, set_state,
 };
 
-/// What an instruction at a place did; its refusal is a fault there.
-macro_rules! done_at {
-    ($machine:expr, $at:expr, $done:expr) => {
-        match $done {
-            Ok(()) => Ok(()),
-            Err(why) => Err($machine.fault($at, why)),
-        }
-    };
-}
-
 impl MachineState<'_> {
     /// NPUSHB[], NPUSHW[], PUSHB[n] and PUSHW[n].
     #[inline(always)]
-    pub(crate) fn push(&mut self, op: u8, args: &[u8], at: usize) -> Result<(), FontFault>
+    pub(crate) fn push(&mut self, op: u8, args: &[u8], at: usize) -> Result<(), Why>
         requires { at ≤ length self.old.frame.code.bytes.now }
-        ensures { Leaves result (state_of self.new) (is.push op args.now at (state_of self.old)) }
+        ensures { DoesAt (is.push op args.now at (state_of self.old)) at (state_of self.new) result }
     {
-        let pushed = match op {
+        match op {
             0x41 | 0xB8..=0xBF => push_words(args, &mut self.stack),
             _ => push_bytes(args, &mut self.stack),
-        };
-        match pushed {
-            Ok(()) => Ok(()),
-            Err(why) => Err(FontFault::Font(self.fault(at, why))),
         }
     }
 
-    pub(crate) fn access_vectors(&mut self, op: Vectors, at: usize) -> Result<(), Fault>
+    pub(crate) fn access_vectors(&mut self, op: Vectors, at: usize) -> Result<(), Why>
         requires { at ≤ length self.old.frame.code.bytes.now }
-        ensures { Does (is.operate (operation.access_vectors op) at (state_of self.old)) (state_of self.new) result }
+        ensures { let given = is.operate (operation.access_vectors op) at (state_of self.old) in
+            DoesAt given at (state_of self.new) result }
     {
-        done_at!(
-            self,
-            at,
-            access_vectors(op, &mut self.stack, &mut self.graphics)
-        )
+        access_vectors(op, &mut self.stack, &mut self.graphics)
     }
 
     #[inline(always)]
-    pub(crate) fn set_state(&mut self, op: Setting, at: usize) -> Result<(), Fault>
+    pub(crate) fn set_state(&mut self, op: Setting, at: usize) -> Result<(), Why>
         requires { at ≤ length self.old.frame.code.bytes.now }
-        ensures { Does (is.operate (operation.set_state op) at (state_of self.old)) (state_of self.new) result }
+        ensures { let given = is.operate (operation.set_state op) at (state_of self.old) in
+            DoesAt given at (state_of self.new) result }
     {
-        done_at!(
-            self,
-            at,
-            set_state(op, self.size, &mut self.stack, &mut self.graphics)
-        )
+        set_state(op, self.size, &mut self.stack, &mut self.graphics)
     }
 
     #[inline(always)]
-    pub(crate) fn manage(&mut self, op: Managing, at: usize) -> Result<(), Fault>
+    pub(crate) fn manage(&mut self, op: Managing, at: usize) -> Result<(), Why>
         requires { at ≤ length self.old.frame.code.bytes.now }
-        ensures { Does (is.operate (operation.manage op) at (state_of self.old)) (state_of self.new) result }
+        ensures { let given = is.operate (operation.manage op) at (state_of self.old) in
+            DoesAt given at (state_of self.new) result }
     {
-        done_at!(self, at, manage(op, &mut self.stack))
+        manage(op, &mut self.stack)
     }
 
     #[inline(always)]
-    pub(crate) fn evaluate(&mut self, op: Logic, at: usize) -> Result<(), Fault>
+    pub(crate) fn evaluate(&mut self, op: Logic, at: usize) -> Result<(), Why>
         requires { at ≤ length self.old.frame.code.bytes.now }
-        ensures { Does (is.operate (operation.evaluate op) at (state_of self.old)) (state_of self.new) result }
+        ensures { let given = is.operate (operation.evaluate op) at (state_of self.old) in
+            DoesAt given at (state_of self.new) result }
     {
         let round = self.graphics.round;
-        done_at!(self, at, evaluate(op, round, &mut self.stack))
+        evaluate(op, round, &mut self.stack)
     }
 
     #[inline(always)]
-    pub(crate) fn compute(&mut self, op: Arithmetic, at: usize) -> Result<(), Fault>
+    pub(crate) fn compute(&mut self, op: Arithmetic, at: usize) -> Result<(), Why>
         requires { at ≤ length self.old.frame.code.bytes.now }
-        ensures { Does (is.operate (operation.compute op) at (state_of self.old)) (state_of self.new) result }
+        ensures { let given = is.operate (operation.compute op) at (state_of self.old) in
+            DoesAt given at (state_of self.new) result }
     {
         let round = self.graphics.round;
-        done_at!(self, at, compute(op, round, &mut self.stack))
+        compute(op, round, &mut self.stack)
     }
 
     #[inline(always)]
-    pub(crate) fn access_values(&mut self, op: StoredValues, at: usize) -> Result<(), Fault>
+    pub(crate) fn access_values(&mut self, op: StoredValues, at: usize) -> Result<(), Why>
         requires { at ≤ length self.old.frame.code.bytes.now }
-        ensures { Does (is.operate (operation.access_values op) at (state_of self.old)) (state_of self.new) result }
+        ensures { let given = is.operate (operation.access_values op) at (state_of self.old) in
+            DoesAt given at (state_of self.new) result }
     {
-        done_at!(
-            self,
-            at,
-            access_values(
+        access_values(
                 op,
                 self.size,
                 &mut self.stack,
                 &mut self.storage,
                 &mut self.cvt
             )
-        )
     }
 
     #[inline(always)]
-    pub(crate) fn answer(&mut self, op: Query, at: usize) -> Result<(), Fault>
+    pub(crate) fn answer(&mut self, op: Query, at: usize) -> Result<(), Why>
         requires { at ≤ length self.old.frame.code.bytes.now }
-        ensures { Does (is.operate (operation.answer op) at (state_of self.old)) (state_of self.new) result }
+        ensures { let given = is.operate (operation.answer op) at (state_of self.old) in
+            DoesAt given at (state_of self.new) result }
     {
-        done_at!(self, at, answer(op, self.size, &mut self.stack))
+        answer(op, self.size, &mut self.stack)
     }
 }

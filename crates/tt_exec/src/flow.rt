@@ -2,33 +2,31 @@
 //! the frame's place is behind it.
 
 ghost use Rattle.std.specs.Prelude.{◌≡◌, ◌<◌, length};
-ghost use Rattle.tt_exec_stack.specs.Stack.{Does};
 ghost use Rattle.tt_exec.specs.Flow as flow;
 ghost use Rattle.tt_exec.specs.Flags as flags;
 ghost use Rattle.tt_exec.specs.States.{state_of};
+ghost use Rattle.tt_exec.specs.Stops.{DoesAt, StopsAt};
 
 use crate::machine_state::{Kind, MachineState};
+use crate::stop::Stop;
 use tt_code::{skip_else, skip_if};
-use tt_core::{Fault, Why};
+use tt_core::Why;
 
 impl MachineState<'_> {
     /// Takes the top of the stack. Error: StackShort.
-    pub(crate) fn popped(&mut self, at: usize) -> Result<i32, Fault>
-        requires { at < length self.old.frame.code.bytes.now }
-        ensures { flow.TakesTop at (state_of self.old) result (state_of self.new) }
+    #[inline(always)]
+    pub(crate) fn popped(&mut self) -> Result<i32, Why>
+        ensures { flow.TakesTop (state_of self.old) result (state_of self.new) }
     {
-        match self.stack.pop() {
-            Ok(value) => Ok(value),
-            Err(why) => Err(self.fault(at, why)),
-        }
+        self.stack.pop()
     }
 
     /// IF[], 0x58: e -> nothing; goes on behind its ELSE or EIF where e is 0.
-    pub(crate) fn if_from(&mut self, at: usize) -> Result<(), Fault>
+    pub(crate) fn if_from(&mut self, at: usize) -> Result<(), Stop>
         requires { at < length self.old.frame.code.bytes.now }
-        ensures { Does (flow.if_from self.old.stack at (state_of self.old)) (state_of self.new) result }
+        ensures { StopsAt (flow.if_from self.old.stack at (state_of self.old)) at (state_of self.new) result }
     {
-        if self.popped(at)? != 0 {
+        if self.popped()? != 0 {
             return Ok(());
         }
         match skip_if(self.frame.code.bytes, at) {
@@ -36,53 +34,59 @@ impl MachineState<'_> {
                 self.frame.place = place;
                 Ok(())
             }
-            Err(halt) => Err(self.fault(halt.at, halt.why)),
+            Err(halt) => {
+                self.frame.place = halt.at;
+                Err(Stop::There(halt.why))
+            }
         }
     }
 
     /// ELSE[], 0x1B: come to behind the part of a true IF, goes on behind the EIF.
-    pub(crate) fn else_from(&mut self, at: usize) -> Result<(), Fault>
+    pub(crate) fn else_from(&mut self, at: usize) -> Result<(), Stop>
         requires { at < length self.old.frame.code.bytes.now }
-        ensures { Does (flow.else_from at (state_of self.old)) (state_of self.new) result }
+        ensures { StopsAt (flow.else_from at (state_of self.old)) at (state_of self.new) result }
     {
         match skip_else(self.frame.code.bytes, at) {
             Ok(place) => {
                 self.frame.place = place;
                 Ok(())
             }
-            Err(halt) => Err(self.fault(halt.at, halt.why)),
+            Err(halt) => {
+                self.frame.place = halt.at;
+                Err(Stop::There(halt.why))
+            }
         }
     }
 
     /// Error: JumpRange.
-    fn jump(&mut self, at: usize, offset: i32) -> Result<(), Fault>
+    fn jump(&mut self, at: usize, offset: i32) -> Result<(), Why>
         requires { at < length self.old.frame.code.bytes.now }
-        ensures { Does (flow.jumped at offset (state_of self.old)) (state_of self.new) result }
+        ensures { DoesAt (flow.jumped at offset (state_of self.old)) at (state_of self.new) result }
     {
         let target = at as i64 + i64::from(offset);
         if target < 0 || target > self.frame.code.bytes.len() as i64 {
-            return Err(self.fault(at, Why::JumpRange));
+            return Err(Why::JumpRange);
         }
         self.frame.place = target as usize;
         Ok(())
     }
 
     /// JMPR[], 0x1C: offset -> nothing; goes on at this opcode's place and the offset.
-    pub(crate) fn jmpr(&mut self, at: usize) -> Result<(), Fault>
+    pub(crate) fn jmpr(&mut self, at: usize) -> Result<(), Why>
         requires { at < length self.old.frame.code.bytes.now }
-        ensures { Does (flow.jmpr self.old.stack at (state_of self.old)) (state_of self.new) result }
+        ensures { DoesAt (flow.jmpr self.old.stack at (state_of self.old)) at (state_of self.new) result }
     {
-        let offset = self.popped(at)?;
+        let offset = self.popped()?;
         self.jump(at, offset)
     }
 
     /// JROT[], 0x78: offset, e -> nothing; jumps where e is not 0.
-    pub(crate) fn jrot(&mut self, at: usize) -> Result<(), Fault>
+    pub(crate) fn jrot(&mut self, at: usize) -> Result<(), Why>
         requires { at < length self.old.frame.code.bytes.now }
-        ensures { Does (flow.jrot self.old.stack at (state_of self.old)) (state_of self.new) result }
+        ensures { DoesAt (flow.jrot self.old.stack at (state_of self.old)) at (state_of self.new) result }
     {
-        let condition = self.popped(at)?;
-        let offset = self.popped(at)?;
+        let condition = self.popped()?;
+        let offset = self.popped()?;
         if condition != 0 {
             self.jump(at, offset)
         } else {
@@ -91,12 +95,12 @@ impl MachineState<'_> {
     }
 
     /// JROF[], 0x79: offset, e -> nothing; jumps where e is 0.
-    pub(crate) fn jrof(&mut self, at: usize) -> Result<(), Fault>
+    pub(crate) fn jrof(&mut self, at: usize) -> Result<(), Why>
         requires { at < length self.old.frame.code.bytes.now }
-        ensures { Does (flow.jrof self.old.stack at (state_of self.old)) (state_of self.new) result }
+        ensures { DoesAt (flow.jrof self.old.stack at (state_of self.old)) at (state_of self.new) result }
     {
-        let condition = self.popped(at)?;
-        let offset = self.popped(at)?;
+        let condition = self.popped()?;
+        let offset = self.popped()?;
         if condition != 0 {
             Ok(())
         } else {
@@ -120,12 +124,12 @@ impl MachineState<'_> {
     }
 
     /// INSTCTRL[], 0x8E: value, selector -> nothing; the control value program sets a flag.
-    pub(crate) fn instctrl(&mut self, at: usize) -> Result<(), Fault>
+    pub(crate) fn instctrl(&mut self, at: usize) -> Result<(), Why>
         requires { at < length self.old.frame.code.bytes.now }
-        ensures { Does (flags.instctrl self.old.stack at (state_of self.old)) (state_of self.new) result }
+        ensures { DoesAt (flags.instctrl self.old.stack at (state_of self.old)) at (state_of self.new) result }
     {
-        let selector = self.popped(at)?;
-        let value = self.popped(at)?;
+        let selector = self.popped()?;
+        let value = self.popped()?;
         self.set_flag(selector, value != 0);
         Ok(())
     }

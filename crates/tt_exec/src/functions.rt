@@ -2,19 +2,19 @@
 //! the frame's place is behind it.
 
 ghost use Rattle.std.specs.Prelude.{◌≡◌, ◌+◌, ◌<◌, ◌≤◌, ◌^◌, pos, length, OnOk};
-ghost use Rattle.tt_core.specs.Outcomes.{Leaves};
-ghost use Rattle.tt_exec_stack.specs.Stack.{Does};
 ghost use Rattle.tt_exec.specs.Functions as is;
 ghost use Rattle.tt_exec.specs.Numbered.{function_at};
 ghost use Rattle.tt_exec.specs.Views.{body_of};
 ghost use Rattle.tt_exec.specs.States.{state_of};
+ghost use Rattle.tt_exec.specs.Stops.{DoesAt, StopsAt};
 ghost use Rattle.std.specs.Prelude.{Some};
 
 use crate::machine_state::{Kind, MachineState};
 use crate::program::{Body, Definition, Frame};
+use crate::stop::Stop;
 use std::alloc::AllocError;
 use tt_code::skip_def;
-use tt_core::{CALL_LIMIT, Fault, FontFault, Why};
+use tt_core::{CALL_LIMIT, Why};
 
 /// Whether an opcode has no name, so that a program may define it.
 fn has_no_name(op: u8) -> bool
@@ -51,9 +51,9 @@ impl<'a> MachineState<'a> {
     }
 
     /// Defines what starts after the FDEF or IDEF at `at`. Errors: CodeShort, NoEndf; Memory.
-    fn define(&mut self, at: usize, definition: Definition) -> Result<(), FontFault>
+    fn define(&mut self, at: usize, definition: Definition) -> Result<(), Stop>
         requires { at < length self.old.frame.code.bytes.now }
-        ensures { Leaves result (state_of self.new) (is.define at definition (state_of self.old)) }
+        ensures { StopsAt (is.define at definition (state_of self.old)) at (state_of self.new) result }
     {
         match skip_def(self.frame.code.bytes, at) {
             Ok(place) => {
@@ -68,48 +68,51 @@ impl<'a> MachineState<'a> {
                 self.frame.place = place;
                 Ok(())
             }
-            Err(halt) => Err(FontFault::Font(self.fault(halt.at, halt.why))),
+            Err(halt) => {
+                self.frame.place = halt.at;
+                Err(Stop::There(halt.why))
+            }
         }
     }
 
     /// FDEF[], 0x2C: n -> nothing; function n starts behind it, and the program goes on behind its ENDF. Errors:
     /// DefinitionPlace outside fpgm and prep and in calls; StackShort; BadArgument of a number that is not 0 to 65535;
     /// CodeShort, NoEndf; Memory.
-    pub(crate) fn fdef(&mut self, at: usize) -> Result<(), FontFault>
+    pub(crate) fn fdef(&mut self, at: usize) -> Result<(), Stop>
         requires { at < length self.old.frame.code.bytes.now }
-        ensures { Leaves result (state_of self.new) (is.fdef at (state_of self.old)) }
+        ensures { StopsAt (is.fdef at (state_of self.old)) at (state_of self.new) result }
     {
         if !self.may_define() {
-            return Err(FontFault::Font(self.fault(at, Why::DefinitionPlace)));
+            return Err(Stop::Here(Why::DefinitionPlace));
         }
-        let n = self.popped(at)?;
+        let n = self.popped()?;
         match u16::try_from(n) {
             Ok(n) => self.define(at, Definition::Function(n)),
-            Err(_) => Err(FontFault::Font(self.fault(at, Why::BadArgument))),
+            Err(_) => Err(Stop::Here(Why::BadArgument)),
         }
     }
 
     /// IDEF[], 0x89: opcode -> nothing; the instruction of an opcode without a name starts after it, and the program goes
     /// on after its ENDF. Errors: DefinitionPlace outside fpgm and prep and in calls; StackShort; BadArgument of a number
     /// that is not 0 to 255; CodeShort, NoEndf; Memory.
-    pub(crate) fn idef(&mut self, at: usize) -> Result<(), FontFault>
+    pub(crate) fn idef(&mut self, at: usize) -> Result<(), Stop>
         requires { at < length self.old.frame.code.bytes.now }
-        ensures { Leaves result (state_of self.new) (is.idef at (state_of self.old)) }
+        ensures { StopsAt (is.idef at (state_of self.old)) at (state_of self.new) result }
     {
         if !self.may_define() {
-            return Err(FontFault::Font(self.fault(at, Why::DefinitionPlace)));
+            return Err(Stop::Here(Why::DefinitionPlace));
         }
-        let n = self.popped(at)?;
+        let n = self.popped()?;
         match u8::try_from(n) {
             Ok(op) => self.define(at, Definition::Instruction(op)),
-            Err(_) => Err(FontFault::Font(self.fault(at, Why::BadArgument))),
+            Err(_) => Err(Stop::Here(Why::BadArgument)),
         }
     }
 
     /// ENDF[], 0x2D: ends a call, or begins the next round of a LOOPCALL. Error: DefinitionPlace outside calls.
-    pub(crate) fn endf(&mut self, at: usize) -> Result<(), Fault>
+    pub(crate) fn endf(&mut self, at: usize) -> Result<(), Why>
         requires { at < length self.old.frame.code.bytes.now }
-        ensures { Does (is.endf self.old.callers at (state_of self.old)) (state_of self.new) result }
+        ensures { DoesAt (is.endf self.old.callers at (state_of self.old)) at (state_of self.new) result }
     {
         if self.frame.left > 0 && self.callers.len() > 0 {
             self.frame.place = self.frame.start;
@@ -117,19 +120,20 @@ impl<'a> MachineState<'a> {
             return Ok(());
         }
         let Some(caller) = self.callers.pop() else {
-            return Err(self.fault(at, Why::DefinitionPlace));
+            return Err(Why::DefinitionPlace);
         };
         self.frame = caller;
         Ok(())
     }
 
     /// Calls a function, and again so often. Error: CallDepth.
-    fn enter(&mut self, at: usize, body: Body<'a>, again: u32) -> Result<(), Fault>
+    fn enter(&mut self, at: usize, body: Body<'a>, again: u32) -> Result<(), Why>
         requires { at < length self.old.frame.code.bytes.now }
-        ensures { let f = body_of body.entry in Does (is.called at again (state_of self.old) (Some f)) (state_of self.new) result }
+        ensures { let f = body_of body.entry in
+            DoesAt (is.called at again (state_of self.old) (Some f)) at (state_of self.new) result }
     {
         if self.callers.len() >= CALL_LIMIT {
-            return Err(self.fault(at, Why::CallDepth));
+            return Err(Why::CallDepth);
         }
         self.callers.push(self.frame);
         self.frame = Frame {
@@ -142,27 +146,27 @@ impl<'a> MachineState<'a> {
     }
 
     /// CALL[], 0x2B: n -> nothing; goes on in function n, whose ENDF comes back. Errors: NoFunction, CallDepth.
-    pub(crate) fn call(&mut self, at: usize) -> Result<(), Fault>
+    pub(crate) fn call(&mut self, at: usize) -> Result<(), Why>
         requires { at < length self.old.frame.code.bytes.now }
-        ensures { Does (is.call self.old.stack at (state_of self.old)) (state_of self.new) result }
+        ensures { DoesAt (is.call self.old.stack at (state_of self.old)) at (state_of self.new) result }
     {
-        let n = self.popped(at)?;
+        let n = self.popped()?;
         match self.functions.get(n) {
             Some(body) => self.enter(at, body, 0),
-            None => Err(self.fault(at, Why::NoFunction)),
+            None => Err(Why::NoFunction),
         }
     }
 
     /// LOOPCALL[], 0x2A: count, n -> nothing; calls function n so often, perhaps never. Errors: NoFunction whatever the
     /// count is, CallDepth.
-    pub(crate) fn loopcall(&mut self, at: usize) -> Result<(), Fault>
+    pub(crate) fn loopcall(&mut self, at: usize) -> Result<(), Why>
         requires { at < length self.old.frame.code.bytes.now }
-        ensures { Does (is.loopcall self.old.stack at (state_of self.old)) (state_of self.new) result }
+        ensures { DoesAt (is.loopcall self.old.stack at (state_of self.old)) at (state_of self.new) result }
     {
-        let n = self.popped(at)?;
-        let count = self.popped(at)?;
+        let n = self.popped()?;
+        let count = self.popped()?;
         let Some(body) = self.functions.get(n) else {
-            return Err(self.fault(at, Why::NoFunction));
+            return Err(Why::NoFunction);
         };
         if count < 1 {
             return Ok(());
@@ -172,15 +176,14 @@ impl<'a> MachineState<'a> {
 
     /// An opcode that has no name: calls the instruction that a program defined for it. Errors: BadOpcode where none did,
     /// CallDepth.
-    #[cold]
-    pub(crate) fn call_instruction(&mut self, op: u8, at: usize) -> Result<(), Fault>
+    pub(crate) fn call_instruction(&mut self, op: u8, at: usize) -> Result<(), Why>
         requires { at < length self.old.frame.code.bytes.now }
         ensures { let given = is.instruction_called at (state_of self.old) (function_at (pos op) self.old.instructions) in
-            Does given (state_of self.new) result }
+            DoesAt given at (state_of self.new) result }
     {
         match self.instructions.get(i32::from(op)) {
             Some(body) => self.enter(at, body, 0),
-            None => Err(self.fault(at, Why::BadOpcode)),
+            None => Err(Why::BadOpcode),
         }
     }
 }

@@ -16,6 +16,7 @@ mod opcode;
 mod parts;
 mod program;
 mod stepping;
+mod stop;
 
 pub use fault::ExecFault;
 pub use machine::Machine;

@@ -3,32 +3,29 @@
 //! "Instruction set".
 
 ghost use Rattle.std.specs.Prelude.{◌<◌, length};
-ghost use Rattle.tt_core.specs.Outcomes.{Leaves};
 ghost use Rattle.tt_exec.specs.OnPoints as is;
 ghost use Rattle.tt_exec.specs.States.{state_of};
+ghost use Rattle.tt_exec.specs.Stops.{DoesAt};
 
 use crate::machine_state::MachineState;
-use tt_core::FontFault;
+use tt_core::Why;
 use tt_exec_points::{PointInstruction, on_points};
 
 impl MachineState<'_> {
     /// An instruction that works on points, or DELTAC[].
     #[inline(always)]
     #[tactic(auto, unfolding(crate::specs::OnPoints::on_points))]
-    pub(crate) fn on_points(&mut self, op: PointInstruction, at: usize) -> Result<(), FontFault>
+    pub(crate) fn on_points(&mut self, op: PointInstruction, at: usize) -> Result<(), Why>
         requires { at < length self.old.frame.code.bytes.now }
-        ensures { Leaves result (state_of self.new) (is.on_points op at (state_of self.old)) }
+        ensures { DoesAt (is.on_points op at (state_of self.old)) at (state_of self.new) result }
     {
-        match on_points(
+        on_points(
             op,
             self.size,
             &mut self.stack,
             &mut self.points,
             &mut self.graphics,
             &mut self.cvt,
-        ) {
-            Ok(()) => Ok(()),
-            Err(why) => Err(FontFault::Font(self.fault(at, why))),
-        }
+        )
     }
 }

@@ -1,19 +1,16 @@
 //! The instruction of each opcode, done. Apple TrueType Reference Manual, "Instruction set". An instruction stands at
 //! `at`, and the frame's place is behind it.
 
-ghost use Rattle.std.specs.Prelude.{◌≡◌, ◌<◌, length, Err};
-ghost use Rattle.tt_core.specs.Outcomes.{Leaves};
-ghost use Rattle.tt_core.specs.declared.fault.Why.TheVariants as why;
-ghost use Rattle.tt_core.specs.declared.font_fault.FontFault.TheVariants as font;
-ghost use Rattle.tt_exec.specs.MachineState.{fault_in};
+ghost use Rattle.std.specs.Prelude.{◌≡◌, ◌<◌, length};
 ghost use Rattle.tt_exec.specs.Opcodes as table;
 ghost use Rattle.tt_exec.specs.Operation as operation;
 ghost use Rattle.tt_exec.specs.States.{state_of};
 ghost use Rattle.tt_exec.specs.Step as is;
-ghost use Rattle.tt_exec.specs.Views.{frame_of};
+ghost use Rattle.tt_exec.specs.Stops.{StopsAt};
 
 use crate::machine_state::MachineState;
-use tt_core::{FontFault, Why};
+use crate::stop::Stop;
+use tt_core::Why;
 use tt_exec_points::PointInstruction;
 use tt_exec_stack::{Arithmetic, Logic, Managing};
 use tt_exec_state::{Query, Setting, StoredValues, Vectors};
@@ -45,60 +42,73 @@ fn keeping(op: u8) -> Keeping
 }
 
 impl MachineState<'_> {
-    /// An instruction that is refused without the whole instruction set.
-    #[cold]
-    fn refuse(&self, at: usize) -> Result<(), FontFault>
-        requires { at < length self.now.frame.code.bytes.now }
-        ensures { result ≡ Err (font.Font (fault_in (frame_of self.now.frame) at why.OffProfile)) }
-    {
-        Err(FontFault::Font(self.fault(at, Why::OffProfile)))
-    }
-
     /// SPVTL[], SFVTL[], SDPVTL[], ISECT[] and ALIGNPTS[]. Error: OffProfile without the whole instruction set.
-    #[cold]
-    fn on_lines(&mut self, op: PointInstruction, at: usize) -> Result<(), FontFault>
+    fn on_lines(&mut self, op: PointInstruction, at: usize) -> Result<(), Stop>
         requires { at < length self.old.frame.code.bytes.now }
         ensures { let given = is.operate (operation.beyond (operation.on_points op)) at (state_of self.old) in
-            Leaves result (state_of self.new) given }
+            StopsAt given at (state_of self.new) result }
     {
         if self.graphics.whole {
-            return self.on_points(op, at);
+            return Ok(self.on_points(op, at)?);
         }
-        self.refuse(at)
+        Err(Stop::Here(Why::OffProfile))
     }
 
     /// S45ROUND[] and DEBUG[]. Error: OffProfile without the whole instruction set.
-    #[cold]
-    fn set_beyond(&mut self, op: Setting, at: usize) -> Result<(), FontFault>
+    fn set_beyond(&mut self, op: Setting, at: usize) -> Result<(), Stop>
         requires { at < length self.old.frame.code.bytes.now }
         ensures { let given = is.operate (operation.beyond (operation.set_state op)) at (state_of self.old) in
-            Leaves result (state_of self.new) given }
+            StopsAt given at (state_of self.new) result }
     {
         if !self.graphics.whole {
-            return self.refuse(at);
+            return Err(Stop::Here(Why::OffProfile));
         }
         Ok(self.set_state(op, at)?)
     }
 
     /// IDEF[]. Error: OffProfile without the whole instruction set.
-    #[cold]
-    fn define_instruction(&mut self, at: usize) -> Result<(), FontFault>
+    fn define_instruction(&mut self, at: usize) -> Result<(), Stop>
         requires { at < length self.old.frame.code.bytes.now }
         ensures { let given = is.operate (operation.beyond operation.idef) at (state_of self.old) in
-            Leaves result (state_of self.new) given }
+            StopsAt given at (state_of self.new) result }
     {
         if !self.graphics.whole {
-            return self.refuse(at);
+            return Err(Stop::Here(Why::OffProfile));
         }
         self.idef(at)
     }
 
+    /// SPVTL[], SFVTL[], SDPVTL[], ISECT[], ALIGNPTS[], S45ROUND[], DEBUG[] and IDEF[], and an opcode without a name.
+    /// Seldom done, so that the others are one function. Errors: OffProfile of those that have a name, without the whole
+    /// instruction set; those of the instruction.
+    #[cold]
+    #[tactic(auto, unfolding(crate::specs::Opcodes::apart))]
+    fn operate_apart(&mut self, op: u8, at: usize) -> Result<(), Stop>
+        requires { at < length self.old.frame.code.bytes.now }
+        ensures { StopsAt (is.operate (table.apart op) at (state_of self.old)) at (state_of self.new) result }
+    {
+        match op {
+            0x06 => self.on_lines(PointInstruction::Spvtl { turned: false }, at),
+            0x07 => self.on_lines(PointInstruction::Spvtl { turned: true }, at),
+            0x08 => self.on_lines(PointInstruction::Sfvtl { turned: false }, at),
+            0x09 => self.on_lines(PointInstruction::Sfvtl { turned: true }, at),
+            0x0F => self.on_lines(PointInstruction::Isect, at),
+            0x27 => self.on_lines(PointInstruction::Alignpts, at),
+            0x4F => self.set_beyond(Setting::Ignored, at),
+            0x77 => self.set_beyond(Setting::S45round, at),
+            0x86 => self.on_lines(PointInstruction::Sdpvtl { turned: false }, at),
+            0x87 => self.on_lines(PointInstruction::Sdpvtl { turned: true }, at),
+            0x89 => self.define_instruction(at),
+            _ => Ok(self.call_instruction(op, at)?),
+        }
+    }
+
     /// 0x00 to 0x1F.
     #[inline(always)]
-    fn operate_00(&mut self, op: u8, at: usize) -> Result<(), FontFault>
+    fn operate_00(&mut self, op: u8, at: usize) -> Result<(), Stop>
         requires { at < length self.old.frame.code.bytes.now }
         ensures { let given = is.operate (table.named op table.opcodes_00) at (state_of self.old) in
-            Leaves result (state_of self.new) given }
+            StopsAt given at (state_of self.new) result }
     {
         match op {
             0x00 => Ok(self.access_vectors(Vectors::Svtca(Axis::Y), at)?),
@@ -107,16 +117,11 @@ impl MachineState<'_> {
             0x03 => Ok(self.access_vectors(Vectors::Spvtca(Axis::X), at)?),
             0x04 => Ok(self.access_vectors(Vectors::Sfvtca(Axis::Y), at)?),
             0x05 => Ok(self.access_vectors(Vectors::Sfvtca(Axis::X), at)?),
-            0x06 => self.on_lines(PointInstruction::Spvtl { turned: false }, at),
-            0x07 => self.on_lines(PointInstruction::Spvtl { turned: true }, at),
-            0x08 => self.on_lines(PointInstruction::Sfvtl { turned: false }, at),
-            0x09 => self.on_lines(PointInstruction::Sfvtl { turned: true }, at),
             0x0A => Ok(self.access_vectors(Vectors::Spvfs, at)?),
             0x0B => Ok(self.access_vectors(Vectors::Sfvfs, at)?),
             0x0C => Ok(self.access_vectors(Vectors::Gpv, at)?),
             0x0D => Ok(self.access_vectors(Vectors::Gfv, at)?),
             0x0E => Ok(self.access_vectors(Vectors::Sfvtpv, at)?),
-            0x0F => self.on_lines(PointInstruction::Isect, at),
             0x10 => Ok(self.set_state(Setting::Srp0, at)?),
             0x11 => Ok(self.set_state(Setting::Srp1, at)?),
             0x12 => Ok(self.set_state(Setting::Srp2, at)?),
@@ -133,16 +138,16 @@ impl MachineState<'_> {
             0x1D => Ok(self.set_state(Setting::Scvtci, at)?),
             0x1E => Ok(self.set_state(Setting::Sswci, at)?),
             0x1F => Ok(self.set_state(Setting::Ssw, at)?),
-            _ => Ok(self.call_instruction(op, at)?),
+            _ => self.operate_apart(op, at),
         }
     }
 
     /// 0x20 to 0x3F.
     #[inline(always)]
-    fn operate_20(&mut self, op: u8, at: usize) -> Result<(), FontFault>
+    fn operate_20(&mut self, op: u8, at: usize) -> Result<(), Stop>
         requires { at < length self.old.frame.code.bytes.now }
         ensures { let given = is.operate (table.named op table.opcodes_20) at (state_of self.old) in
-            Leaves result (state_of self.new) given }
+            StopsAt given at (state_of self.new) result }
     {
         match op {
             0x20 => Ok(self.manage(Managing::Dup, at)?),
@@ -152,56 +157,54 @@ impl MachineState<'_> {
             0x24 => Ok(self.manage(Managing::Depth, at)?),
             0x25 => Ok(self.manage(Managing::Cindex, at)?),
             0x26 => Ok(self.manage(Managing::Mindex, at)?),
-            0x27 => self.on_lines(PointInstruction::Alignpts, at),
-            0x29 => self.on_points(PointInstruction::Utp, at),
+            0x29 => Ok(self.on_points(PointInstruction::Utp, at)?),
             0x2A => Ok(self.loopcall(at)?),
             0x2B => Ok(self.call(at)?),
             0x2C => self.fdef(at),
             0x2D => Ok(self.endf(at)?),
-            0x2E => self.on_points(PointInstruction::Mdap { round: false }, at),
-            0x2F => self.on_points(PointInstruction::Mdap { round: true }, at),
-            0x30 => self.on_points(PointInstruction::Iup(Axis::Y), at),
-            0x31 => self.on_points(PointInstruction::Iup(Axis::X), at),
-            0x32 => self.on_points(PointInstruction::Shp(ReferencePoint::Rp2), at),
-            0x33 => self.on_points(PointInstruction::Shp(ReferencePoint::Rp1), at),
-            0x34 => self.on_points(PointInstruction::Shc(ReferencePoint::Rp2), at),
-            0x35 => self.on_points(PointInstruction::Shc(ReferencePoint::Rp1), at),
-            0x36 => self.on_points(PointInstruction::Shz(ReferencePoint::Rp2), at),
-            0x37 => self.on_points(PointInstruction::Shz(ReferencePoint::Rp1), at),
-            0x38 => self.on_points(PointInstruction::Shpix, at),
-            0x39 => self.on_points(PointInstruction::Ip, at),
-            0x3A => self.on_points(PointInstruction::Msirp { set_rp0: false }, at),
-            0x3B => self.on_points(PointInstruction::Msirp { set_rp0: true }, at),
-            0x3C => self.on_points(PointInstruction::Alignrp, at),
+            0x2E => Ok(self.on_points(PointInstruction::Mdap { round: false }, at)?),
+            0x2F => Ok(self.on_points(PointInstruction::Mdap { round: true }, at)?),
+            0x30 => Ok(self.on_points(PointInstruction::Iup(Axis::Y), at)?),
+            0x31 => Ok(self.on_points(PointInstruction::Iup(Axis::X), at)?),
+            0x32 => Ok(self.on_points(PointInstruction::Shp(ReferencePoint::Rp2), at)?),
+            0x33 => Ok(self.on_points(PointInstruction::Shp(ReferencePoint::Rp1), at)?),
+            0x34 => Ok(self.on_points(PointInstruction::Shc(ReferencePoint::Rp2), at)?),
+            0x35 => Ok(self.on_points(PointInstruction::Shc(ReferencePoint::Rp1), at)?),
+            0x36 => Ok(self.on_points(PointInstruction::Shz(ReferencePoint::Rp2), at)?),
+            0x37 => Ok(self.on_points(PointInstruction::Shz(ReferencePoint::Rp1), at)?),
+            0x38 => Ok(self.on_points(PointInstruction::Shpix, at)?),
+            0x39 => Ok(self.on_points(PointInstruction::Ip, at)?),
+            0x3A => Ok(self.on_points(PointInstruction::Msirp { set_rp0: false }, at)?),
+            0x3B => Ok(self.on_points(PointInstruction::Msirp { set_rp0: true }, at)?),
+            0x3C => Ok(self.on_points(PointInstruction::Alignrp, at)?),
             0x3D => Ok(self.set_state(Setting::RoundTo(Round::Double), at)?),
-            0x3E => self.on_points(PointInstruction::Miap { round: false }, at),
-            0x3F => self.on_points(PointInstruction::Miap { round: true }, at),
-            _ => Ok(self.call_instruction(op, at)?),
+            0x3E => Ok(self.on_points(PointInstruction::Miap { round: false }, at)?),
+            0x3F => Ok(self.on_points(PointInstruction::Miap { round: true }, at)?),
+            _ => self.operate_apart(op, at),
         }
     }
 
     /// 0x40 to 0x5F.
     #[inline(always)]
-    fn operate_40(&mut self, op: u8, at: usize) -> Result<(), FontFault>
+    fn operate_40(&mut self, op: u8, at: usize) -> Result<(), Stop>
         requires { at < length self.old.frame.code.bytes.now }
         ensures { let given = is.operate (table.named op table.opcodes_40) at (state_of self.old) in
-            Leaves result (state_of self.new) given }
+            StopsAt given at (state_of self.new) result }
     {
         match op {
             0x42 => Ok(self.access_values(StoredValues::Ws, at)?),
             0x43 => Ok(self.access_values(StoredValues::Rs, at)?),
             0x44 => Ok(self.access_values(StoredValues::Wcvtp, at)?),
             0x45 => Ok(self.access_values(StoredValues::Rcvt, at)?),
-            0x46 => self.on_points(PointInstruction::Gc(Position::Current), at),
-            0x47 => self.on_points(PointInstruction::Gc(Position::Original), at),
-            0x48 => self.on_points(PointInstruction::Scfs, at),
-            0x49 => self.on_points(PointInstruction::Md(Position::Current), at),
-            0x4A => self.on_points(PointInstruction::Md(Position::Original), at),
+            0x46 => Ok(self.on_points(PointInstruction::Gc(Position::Current), at)?),
+            0x47 => Ok(self.on_points(PointInstruction::Gc(Position::Original), at)?),
+            0x48 => Ok(self.on_points(PointInstruction::Scfs, at)?),
+            0x49 => Ok(self.on_points(PointInstruction::Md(Position::Current), at)?),
+            0x4A => Ok(self.on_points(PointInstruction::Md(Position::Original), at)?),
             0x4B => Ok(self.answer(Query::Mppem, at)?),
             0x4C => Ok(self.answer(Query::Mps, at)?),
             0x4D => Ok(self.set_state(Setting::Flip(true), at)?),
             0x4E => Ok(self.set_state(Setting::Flip(false), at)?),
-            0x4F => self.set_beyond(Setting::Ignored, at),
             0x50 => Ok(self.evaluate(Logic::Lt, at)?),
             0x51 => Ok(self.evaluate(Logic::Lteq, at)?),
             0x52 => Ok(self.evaluate(Logic::Gt, at)?),
@@ -215,19 +218,19 @@ impl MachineState<'_> {
             0x5A => Ok(self.evaluate(Logic::And, at)?),
             0x5B => Ok(self.evaluate(Logic::Or, at)?),
             0x5C => Ok(self.evaluate(Logic::Not, at)?),
-            0x5D => self.on_points(PointInstruction::Deltap(DeltaRange::First), at),
+            0x5D => Ok(self.on_points(PointInstruction::Deltap(DeltaRange::First), at)?),
             0x5E => Ok(self.set_state(Setting::Sdb, at)?),
             0x5F => Ok(self.set_state(Setting::Sds, at)?),
-            _ => Ok(self.call_instruction(op, at)?),
+            _ => self.operate_apart(op, at),
         }
     }
 
     /// 0x60 to 0x7F.
     #[inline(always)]
-    fn operate_60(&mut self, op: u8, at: usize) -> Result<(), FontFault>
+    fn operate_60(&mut self, op: u8, at: usize) -> Result<(), Stop>
         requires { at < length self.old.frame.code.bytes.now }
         ensures { let given = is.operate (table.named op table.opcodes_60) at (state_of self.old) in
-            Leaves result (state_of self.new) given }
+            StopsAt given at (state_of self.new) result }
     {
         match op {
             0x60 => Ok(self.compute(Arithmetic::Add, at)?),
@@ -247,13 +250,12 @@ impl MachineState<'_> {
             0x6E => Ok(self.compute(Arithmetic::Nround, at)?),
             0x6F => Ok(self.compute(Arithmetic::Nround, at)?),
             0x70 => Ok(self.access_values(StoredValues::Wcvtf, at)?),
-            0x71 => self.on_points(PointInstruction::Deltap(DeltaRange::Second), at),
-            0x72 => self.on_points(PointInstruction::Deltap(DeltaRange::Third), at),
-            0x73 => self.on_points(PointInstruction::Deltac(DeltaRange::First), at),
-            0x74 => self.on_points(PointInstruction::Deltac(DeltaRange::Second), at),
-            0x75 => self.on_points(PointInstruction::Deltac(DeltaRange::Third), at),
+            0x71 => Ok(self.on_points(PointInstruction::Deltap(DeltaRange::Second), at)?),
+            0x72 => Ok(self.on_points(PointInstruction::Deltap(DeltaRange::Third), at)?),
+            0x73 => Ok(self.on_points(PointInstruction::Deltac(DeltaRange::First), at)?),
+            0x74 => Ok(self.on_points(PointInstruction::Deltac(DeltaRange::Second), at)?),
+            0x75 => Ok(self.on_points(PointInstruction::Deltac(DeltaRange::Third), at)?),
             0x76 => Ok(self.set_state(Setting::Sround, at)?),
-            0x77 => self.set_beyond(Setting::S45round, at),
             0x78 => Ok(self.jrot(at)?),
             0x79 => Ok(self.jrof(at)?),
             0x7A => Ok(self.set_state(Setting::RoundTo(Round::Off), at)?),
@@ -261,40 +263,37 @@ impl MachineState<'_> {
             0x7D => Ok(self.set_state(Setting::RoundTo(Round::Down), at)?),
             0x7E => Ok(self.set_state(Setting::Ignored, at)?),
             0x7F => Ok(self.set_state(Setting::Ignored, at)?),
-            _ => Ok(self.call_instruction(op, at)?),
+            _ => self.operate_apart(op, at),
         }
     }
 
     /// 0x80 to 0xBF.
     #[inline(always)]
-    fn operate_80(&mut self, op: u8, at: usize) -> Result<(), FontFault>
+    fn operate_80(&mut self, op: u8, at: usize) -> Result<(), Stop>
         requires { at < length self.old.frame.code.bytes.now }
         ensures { let given = is.operate (table.named op table.opcodes_80) at (state_of self.old) in
-            Leaves result (state_of self.new) given }
+            StopsAt given at (state_of self.new) result }
     {
         match op {
-            0x80 => self.on_points(PointInstruction::Flippt, at),
-            0x81 => self.on_points(PointInstruction::Fliprgon, at),
-            0x82 => self.on_points(PointInstruction::Fliprgoff, at),
+            0x80 => Ok(self.on_points(PointInstruction::Flippt, at)?),
+            0x81 => Ok(self.on_points(PointInstruction::Fliprgon, at)?),
+            0x82 => Ok(self.on_points(PointInstruction::Fliprgoff, at)?),
             0x85 => Ok(self.set_state(Setting::Ignored, at)?),
-            0x86 => self.on_lines(PointInstruction::Sdpvtl { turned: false }, at),
-            0x87 => self.on_lines(PointInstruction::Sdpvtl { turned: true }, at),
             0x88 => Ok(self.answer(Query::Getinfo, at)?),
-            0x89 => self.define_instruction(at),
             0x8A => Ok(self.manage(Managing::Roll, at)?),
             0x8B => Ok(self.compute(Arithmetic::Max, at)?),
             0x8C => Ok(self.compute(Arithmetic::Min, at)?),
             0x8D => Ok(self.set_state(Setting::Ignored, at)?),
             0x8E => Ok(self.instctrl(at)?),
-            _ => Ok(self.call_instruction(op, at)?),
+            _ => self.operate_apart(op, at),
         }
     }
 
     /// Does the instruction of an opcode that has no data.
     #[inline(always)]
-    pub(crate) fn operate(&mut self, op: u8, at: usize) -> Result<(), FontFault>
+    pub(crate) fn operate(&mut self, op: u8, at: usize) -> Result<(), Stop>
         requires { at < length self.old.frame.code.bytes.now }
-        ensures { Leaves result (state_of self.new) (is.operate (table.operation_of op) at (state_of self.old)) }
+        ensures { StopsAt (is.operate (table.operation_of op) at (state_of self.old)) at (state_of self.new) result }
     {
         match op {
             0x00..=0x1F => self.operate_00(op, at),
@@ -302,8 +301,8 @@ impl MachineState<'_> {
             0x40..=0x5F => self.operate_40(op, at),
             0x60..=0x7F => self.operate_60(op, at),
             0x80..=0xBF => self.operate_80(op, at),
-            0xC0..=0xDF => self.on_points(PointInstruction::Mdrp(keeping(op)), at),
-            _ => self.on_points(PointInstruction::Mirp(keeping(op)), at),
+            0xC0..=0xDF => Ok(self.on_points(PointInstruction::Mdrp(keeping(op)), at)?),
+            _ => Ok(self.on_points(PointInstruction::Mirp(keeping(op)), at)?),
         }
     }
 }

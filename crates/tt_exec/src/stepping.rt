@@ -5,12 +5,28 @@ ghost use Rattle.tt_core.specs.Outcomes.{Leaves, font_fault};
 ghost use Rattle.tt_exec.specs.Runs.{Ends, Halts};
 ghost use Rattle.tt_exec.specs.States.{state_of};
 ghost use Rattle.tt_exec.specs.Step as is;
+ghost use Rattle.tt_exec.specs.Stops.{IfHere, halted};
+ghost use Rattle.tt_exec.specs.Views.{frame_of};
 
 use crate::machine_state::MachineState;
+use crate::stop::Stop;
 use tt_code::{decode, plain_opcode};
 use tt_core::{FontFault, STEP_LIMIT, Why};
 
 impl MachineState<'_> {
+    /// Why a run halts, where an instruction at a place is not done.
+    #[cold]
+    fn halted(&self, at: usize, stop: Stop) -> FontFault
+        requires { IfHere stop (at ≤ length self.now.frame.code.bytes.now) }
+        ensures { result ≡ halted (frame_of self.now.frame) at stop }
+    {
+        match stop {
+            Stop::Here(why) => FontFault::Font(self.fault(at, why)),
+            Stop::There(why) => FontFault::Font(self.fault(self.frame.place, why)),
+            Stop::Memory => FontFault::Memory,
+        }
+    }
+
     /// Does the instruction at the frame's place. Errors: CodeShort where its data passes the program's end or the
     /// place is that end; those of the instruction.
     #[inline(always)]
@@ -24,12 +40,18 @@ impl MachineState<'_> {
         }
         if let Some(op) = plain_opcode(bytes, at) {
             self.frame.place = at + 1;
-            return self.operate(op, at);
+            return match self.operate(op, at) {
+                Ok(()) => Ok(()),
+                Err(stop) => Err(self.halted(at, stop)),
+            };
         }
         match decode(bytes, at) {
             Ok(i) => {
                 self.frame.place = at + i.len;
-                self.push(i.op, i.args, at)
+                match self.push(i.op, i.args, at) {
+                    Ok(()) => Ok(()),
+                    Err(why) => Err(FontFault::Font(self.fault(at, why))),
+                }
             }
             Err(halt) => Err(FontFault::Font(self.fault(halt.at, halt.why))),
         }
