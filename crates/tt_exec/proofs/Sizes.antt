@@ -13,7 +13,11 @@ use Rattle.tt_exec_points.specs.Instruction as points
 use Rattle.tt_exec_points.specs.Shapes as shapes
 use Rattle.tt_exec_stack.specs.Arithmetic.{computed}
 use Rattle.tt_exec_stack.specs.Logic.{is_true, evaluated}
+use Rattle.tt_state.specs.Tolerance.{is_tolerant}
+use Rattle.tt_state.specs.declared.tolerance.Tolerance.{Tolerance}
 use Rattle.tt_exec_stack.specs.Managing.{managed}
+use Rattle.tt_exec_stack.specs.Stack.{padded}
+use Rattle.tt_exec.specs.Operation.{takes}
 use Rattle.tt_exec_state.specs.StoredValues.{values_accessed}
 use Rattle.tt_exec_stack.specs.Pushing.{pushed_bytes, pushed_words}
 use Rattle.tt_exec_state.specs.Queries.{answered}
@@ -40,11 +44,12 @@ use Rattle.tt_exec.specs.declared.machine_state.Kind.TheVariants as kind
 
 -- the laws of the instructions on points, and of those on storage and control values
 abbrev pub OnPoints : Type 0
-OnPoints = (o : PointInstruction) (ppem : ℕ) (s : List ℤ) (z : ZoneLists) (g : GraphicsState) (cvt : List ℤ) → HasContours z
-    → IfOk (points.on_points o ppem s z g cvt) (shapes.SameSizes z cvt)
+OnPoints = (t : Tolerance) (o : PointInstruction) (ppem : ℕ) (s : List ℤ) (z : ZoneLists) (g : GraphicsState) (cvt : List ℤ) → HasContours z
+    → IfOk (points.on_points t o ppem s z g cvt) (shapes.SameSizes z cvt)
 
 abbrev pub OnPlaces : Type 0
-OnPlaces = (o : StoredValues) (ppem em : ℕ) (s storage cvt : List ℤ) → IfOk (values_accessed o ppem em s storage cvt)
+OnPlaces = (o : StoredValues) (ppem em : ℕ) (t : Tolerance) (s storage cvt : List ℤ)
+    → IfOk (values_accessed o ppem em t s storage cvt)
     (λ t. (length t.1 ≡ length storage) × (length t.2 ≡ length cvt))
 
 -- what a step keeps
@@ -101,8 +106,8 @@ left_by_kept at m (Err why) sizes = tt
 on_points_kept : OnPoints → (o : PointInstruction) (at : ℕ) (m : MachineState) → HasContours m.zones → Keeps m (on_points o at m)
 unfolding on_points
 on_points_kept k o at m has =
-    left_by_kept at m (points.on_points o m.ppem m.stack m.zones m.graphics m.cvt)
-    (k o m.ppem m.stack m.zones m.graphics m.cvt has)
+    left_by_kept at m (points.on_points m.tolerance o m.ppem m.stack m.zones m.graphics m.cvt)
+    (k m.tolerance o m.ppem m.stack m.zones m.graphics m.cvt has)
 
 flagged_kept : (k : Kind) (selector : ℤ) (on : Bool) (m : MachineState) → Kept m (flagged k selector on m)
 flagged_kept kind.Font selector on m = same m
@@ -201,13 +206,13 @@ operate_kept : OnPoints → OnPlaces → (o : Operation) (at : ℕ) (m : Machine
     → Keeps m (operate o at m)
 operate_kept k j (op.access_vectors o) at m has = on_graphics_kept at m (vectors_accessed o m.stack m.graphics)
 operate_kept k j (op.set_state o) at m has =
-    on_graphics_kept at m (state_set o m.ppem m.units_per_em m.stack m.graphics)
-operate_kept k j (op.manage o) at m has = on_stack_kept at m (managed o m.stack)
+    on_graphics_kept at m (state_set o m.ppem m.units_per_em m.tolerance m.stack m.graphics)
+operate_kept k j (op.manage o) at m has = on_stack_kept at m (managed o m.tolerance m.stack)
 operate_kept k j (op.evaluate o) at m has = on_stack_kept at m (evaluated o m.graphics.round m.stack)
 operate_kept k j (op.compute o) at m has = on_stack_kept at m (computed o m.graphics.round m.stack)
 operate_kept k j (op.access_values o) at m has =
-    on_places_kept at m (values_accessed o m.ppem m.units_per_em m.stack m.storage m.cvt)
-    (j o m.ppem m.units_per_em m.stack m.storage m.cvt)
+    on_places_kept at m (values_accessed o m.ppem m.units_per_em m.tolerance m.stack m.storage m.cvt)
+    (j o m.ppem m.units_per_em m.tolerance m.stack m.storage m.cvt)
 operate_kept k j (op.answer o) at m has = on_stack_kept at m (answered o m.ppem m.stack)
 operate_kept k j op.instctrl at m has = instctrl_kept m.stack at m
 operate_kept k j op.if_from at m has = if_kept m.stack at m
@@ -229,6 +234,12 @@ operate_kept k j (op.beyond o) at m has =
 operate_kept k j (op.unnamed opcode) at m has =
     instruction_called_kept at m (function_at (pos opcode) m.instructions)
 
+-- with the stack filled for it
+filled_kept : OnPoints → OnPlaces → (o : Operation) (at : ℕ) (m : MachineState) → HasContours m.zones → (tolerant : Bool)
+    → Keeps m (operate o at (if tolerant then record m { stack = padded (takes o) m.stack } else m))
+filled_kept k j o at m has true = operate_kept k j o at (record m { stack = padded (takes o) m.stack }) has
+filled_kept k j o at m has false = operate_kept k j o at m has
+
 done_kept : OnPoints → OnPlaces → (m : MachineState) (r : Result Instr Halt) → HasContours m.zones
     → Keeps m (done m r)
 done_kept k j m (Ok i) has =
@@ -236,7 +247,7 @@ done_kept k j m (Ok i) has =
     either (Keeps m) (takes_data i.op) _ _
     (on_stack_kept m.frame.place next
     (if pushes_words i.op then pushed_words i.args m.stack else pushed_bytes i.args m.stack))
-    (operate_kept k j (operation_of i.op) m.frame.place next has)
+    (filled_kept k j (operation_of i.op) m.frame.place next has (is_tolerant m.tolerance))
 done_kept k j m (Err halt) has = tt
 
 step_kept : OnPoints → OnPlaces → (m : MachineState) → HasContours m.zones → Keeps m (step m)

@@ -36,7 +36,8 @@ use Rattle.tt_exec.specs.Opcodes.{operation_of}
 use Rattle.tt_exec.specs.Operation.{Operation}
 use Rattle.tt_exec.specs.Operation as op
 use Rattle.tt_exec.specs.Runs.{run_within, run_outcome}
-use Rattle.tt_exec.specs.Step.{on_stack, on_graphics, on_places, pushes_words, operate, done, step, is_ended}
+use Rattle.tt_state.specs.Tolerance.{is_tolerant}
+use Rattle.tt_exec.specs.Step.{filled, on_stack, on_graphics, on_places, pushes_words, operate, done, step, is_ended}
 use Rattle.tt_exec.specs.WithAll.{with_all_in, RunStays, RunsStay}
 use Rattle.tt_exec.specs.declared.machine_state.Kind.{Kind}
 use Rattle.tt_exec.specs.declared.machine_state.Kind.TheVariants as kind
@@ -85,9 +86,9 @@ points_stay : PointsStay → (o : PointInstruction) (at : ℕ) (m : MachineState
     → RunStays (on_points o at m) (on_points o at (with_all_in m))
 unfolding on_points
 points_stay k o at m =
-    left_stays at m (points.on_points o m.ppem m.stack m.zones m.graphics m.cvt)
-    (points.on_points o m.ppem m.stack m.zones (with_all m.graphics) m.cvt)
-    (k o m.ppem m.stack m.zones m.graphics m.cvt)
+    left_stays at m (points.on_points m.tolerance o m.ppem m.stack m.zones m.graphics m.cvt)
+    (points.on_points m.tolerance o m.ppem m.stack m.zones (with_all m.graphics) m.cvt)
+    (k m.tolerance o m.ppem m.stack m.zones m.graphics m.cvt)
 
 flag : (b : Bool) (x y x' y' : MachineState) → x' ≡ with_all_in x → y' ≡ with_all_in y
     → (if b then x' else y') ≡ with_all_in (if b then x else y)
@@ -208,13 +209,13 @@ operate_stays : Families → (o : Operation) (at : ℕ) (m : MachineState)
 operate_stays k (op.access_vectors o) at m =
     graphics_stay at m (vectors_accessed o m.stack m.graphics) _ (k.vectors o m.stack m.graphics)
 operate_stays k (op.set_state o) at m =
-    graphics_stay at m (state_set o m.ppem m.units_per_em m.stack m.graphics) _
-    (k.settings o m.ppem m.units_per_em m.stack m.graphics)
-operate_stays k (op.manage o) at m = stack_stays at m (managed o m.stack)
+    graphics_stay at m (state_set o m.ppem m.units_per_em m.tolerance m.stack m.graphics) _
+    (k.settings o m.ppem m.units_per_em m.tolerance m.stack m.graphics)
+operate_stays k (op.manage o) at m = stack_stays at m (managed o m.tolerance m.stack)
 operate_stays k (op.evaluate o) at m = stack_stays at m (evaluated o m.graphics.round m.stack)
 operate_stays k (op.compute o) at m = stack_stays at m (computed o m.graphics.round m.stack)
 operate_stays k (op.access_values o) at m =
-    places_stay at m (values_accessed o m.ppem m.units_per_em m.stack m.storage m.cvt)
+    places_stay at m (values_accessed o m.ppem m.units_per_em m.tolerance m.stack m.storage m.cvt)
 operate_stays k (op.answer o) at m = stack_stays at m (answered o m.ppem m.stack)
 operate_stays k op.instctrl at m = instctrl_stays m.stack at m
 operate_stays k op.if_from at m = if_stays m.stack at m
@@ -236,13 +237,17 @@ operate_stays k (op.beyond o) at m =
 operate_stays k (op.unnamed opcode) at m =
     instruction_called_stays at m (function_at (pos opcode) m.instructions)
 
+filled_stays : (o : Operation) (m : MachineState) → filled o (with_all_in m) ≡ with_all_in (filled o m)
+filled_stays o m = flag (is_tolerant m.tolerance) _ _ _ _ refl refl
+
 done_stays : Families → (m : MachineState) (r : Result Instr Halt) → RunStays (done m r) (done (with_all_in m) r)
 done_stays k m (Ok i) =
     let next = goes_to (m.frame.place + i.len) m in
     either (takes_data i.op) _ _ _ _
     (stack_stays m.frame.place next
     (if pushes_words i.op then pushed_words i.args m.stack else pushed_bytes i.args m.stack))
-    (operate_stays k (operation_of i.op) m.frame.place next)
+    (rw (filled_stays (operation_of i.op) next)
+    (operate_stays k (operation_of i.op) m.frame.place (filled (operation_of i.op) next)))
 done_stays k m (Err halt) = λ other. refl
 
 step_stays : Families → (m : MachineState) → RunStays (step m) (step (with_all_in m))

@@ -5,6 +5,7 @@ use Rattle.tt_core.specs.Faults.{Fault, fault_at}
 use Rattle.tt_core.specs.Outcomes.{◌>>=◌}
 use Rattle.tt_core.specs.declared.fault.Why.TheVariants as why
 use Rattle.tt_state.specs.GraphicsState.{default_state}
+use Rattle.tt_state.specs.declared.tolerance.Tolerance.TheVariants as tolerance
 use Rattle.tt_exec_stack.specs.Stack.{pushed}
 use Rattle.tt_exec.specs.Machines.{fresh, run_from}
 use Rattle.tt_exec.specs.MachineState.{MachineState}
@@ -27,6 +28,7 @@ its_parts = record {
   functions = [];
   instructions = [];
   state = default_state;
+  tolerance = tolerance.Strict;
   skip_glyphs = false;
   default_state = false;
 }

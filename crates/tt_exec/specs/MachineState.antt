@@ -3,6 +3,7 @@ use Rattle.std.specs.Prelude.{ℕ, ◌+◌, ℤ, Bool, List}
 use Rattle.tt_core.specs.Faults.{Fault, fault_at}
 use Rattle.tt_core.specs.declared.fault.Why.{Why}
 use Rattle.tt_state.specs.declared.graphics_state.GraphicsState.{GraphicsState}
+use Rattle.tt_state.specs.declared.tolerance.Tolerance.{Tolerance}
 use Rattle.tt_points_zones.specs.Zones.{ZoneLists}
 use Rattle.tt_exec.specs.declared.machine_state.Kind.{Kind}
 
@@ -36,6 +37,7 @@ pub record MachineState : Type 0 where
   pub storage : List ℤ
   pub cvt : List ℤ
   pub graphics : GraphicsState
+  pub tolerance : Tolerance
   pub zones : ZoneLists
   pub skip_glyphs : Bool
   pub default_state : Bool

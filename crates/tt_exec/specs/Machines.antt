@@ -30,6 +30,7 @@ fresh p = record {
   storage = p.storage;
   cvt = p.cvt;
   graphics = p.state;
+  tolerance = p.tolerance;
   zones = p.zones;
   skip_glyphs = p.skip_glyphs;
   default_state = p.default_state;
@@ -49,6 +50,7 @@ parts_in m = record {
   functions = m.functions;
   instructions = m.instructions;
   state = m.graphics;
+  tolerance = m.tolerance;
   skip_glyphs = m.skip_glyphs;
   default_state = m.default_state;
 }

@@ -17,4 +17,4 @@ left_by at m (Err why) = Err (fault_in m.frame at why)
 
 unfoldable pub on_points : PointInstruction → ℕ → MachineState → Result MachineState Fault
 on_points o at m =
-    left_by at m (is.on_points o m.ppem m.stack m.zones m.graphics m.cvt)
+    left_by at m (is.on_points m.tolerance o m.ppem m.stack m.zones m.graphics m.cvt)

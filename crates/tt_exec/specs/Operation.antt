@@ -9,6 +9,14 @@ use Rattle.tt_exec_state.specs.declared.instruction.Query.{Query}
 use Rattle.tt_exec_state.specs.declared.instruction.Setting.{Setting}
 use Rattle.tt_exec_state.specs.declared.instruction.Vectors.{Vectors}
 use Rattle.tt_exec_points.specs.declared.instruction.PointInstruction.{PointInstruction}
+use Rattle.tt_exec_stack.specs.Arithmetic as arithmetic
+use Rattle.tt_exec_stack.specs.Logic as logic
+use Rattle.tt_exec_stack.specs.Managing as managing
+use Rattle.tt_exec_state.specs.Queries as queries
+use Rattle.tt_exec_state.specs.Settings as settings
+use Rattle.tt_exec_state.specs.StoredValues as values
+use Rattle.tt_exec_state.specs.Vectors as vectors
+use Rattle.tt_exec_points.specs.Taking as points
 
 pub data Operation : Type 0 where
   access_vectors : Vectors → Operation
@@ -28,3 +36,28 @@ pub data Operation : Type 0 where
   beyond : Operation → Operation
   -- an opcode that has no name: a program may define it
   unnamed : ℕ → Operation
+
+-- how many values an instruction takes at once, before the points or pairs that it goes through one by one
+abbrev pub takes : Operation → ℕ
+takes (access_vectors o) = vectors.takes o
+takes (set_state o) = settings.takes o
+takes (manage o) = managing.takes o
+takes (evaluate o) = logic.takes o
+takes (compute o) = arithmetic.takes o
+takes (access_values o) = values.takes o
+takes (answer o) = queries.takes o
+takes instctrl = 2
+takes if_from = 1
+takes else_from = 0
+takes eif = 0
+takes jmpr = 1
+takes jrot = 2
+takes jrof = 2
+takes fdef = 1
+takes endf = 0
+takes call = 1
+takes loopcall = 2
+takes (on_points o) = points.takes o
+takes idef = 1
+takes (beyond o) = takes o
+takes (unnamed opcode) = 0

@@ -1,6 +1,7 @@
 -- No part of the standard: what a machine is made of and keeps between runs, as contracts see it.
 use Rattle.std.specs.Prelude.{ℕ, ℤ, Bool, List, map}
 use Rattle.tt_state.specs.declared.graphics_state.GraphicsState.{GraphicsState}
+use Rattle.tt_state.specs.declared.tolerance.Tolerance.{Tolerance}
 use Rattle.tt_points_zones.specs.Zones.{ZoneLists, zones_view}
 use Rattle.tt_exec.specs.declared.parts.Parts as declared
 use Rattle.tt_exec.specs.MachineState.{Body}
@@ -15,6 +16,7 @@ pub record Parts : Type 0 where
   pub functions : List (ℕ × Body)
   pub instructions : List (ℕ × Body)
   pub state : GraphicsState
+  pub tolerance : Tolerance
   pub skip_glyphs : Bool
   pub default_state : Bool
 
@@ -28,6 +30,7 @@ parts_of p = record {
   functions = map entry_of p.functions.entries;
   instructions = map entry_of p.instructions.entries;
   state = p.state;
+  tolerance = p.tolerance;
   skip_glyphs = p.skip_glyphs;
   default_state = p.default_state;
 }

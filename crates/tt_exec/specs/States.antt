@@ -13,6 +13,7 @@ state_of m = record {
   storage = m.storage.items;
   cvt = m.cvt.items;
   graphics = m.graphics;
+  tolerance = m.tolerance;
   zones = m.points;
   skip_glyphs = m.skip_glyphs;
   default_state = m.default_state;

@@ -7,10 +7,12 @@ use Rattle.tt_core.specs.declared.fault.Why.TheVariants as why
 use Rattle.tt_code.specs.declared.decoding.Halt.{Halt}
 use Rattle.tt_code.specs.Decoding.{Instr, instruction_at, takes_data}
 use Rattle.tt_state.specs.declared.graphics_state.GraphicsState.{GraphicsState}
+use Rattle.tt_state.specs.Tolerance.{is_tolerant}
 use Rattle.tt_exec_stack.specs.Arithmetic.{computed}
 use Rattle.tt_exec_stack.specs.Logic.{evaluated}
 use Rattle.tt_exec_stack.specs.Managing.{managed}
 use Rattle.tt_exec_state.specs.StoredValues.{values_accessed}
+use Rattle.tt_exec_stack.specs.Stack.{padded}
 use Rattle.tt_exec_stack.specs.Pushing.{pushed_bytes, pushed_words}
 use Rattle.tt_exec_state.specs.Queries.{answered}
 use Rattle.tt_exec_state.specs.Settings.{state_set}
@@ -22,7 +24,7 @@ use Rattle.tt_exec.specs.Numbered.{function_at}
 use Rattle.tt_exec.specs.MachineState.{MachineState, fault_in}
 use Rattle.tt_exec.specs.OnPoints.{on_points}
 use Rattle.tt_exec.specs.Opcodes.{operation_of}
-use Rattle.tt_exec.specs.Operation.{Operation}
+use Rattle.tt_exec.specs.Operation.{Operation, takes}
 use Rattle.tt_exec.specs.Operation as op
 
 -- what an instruction leaves of the stack; of the stack and the graphics state; of the stack, the storage and the
@@ -51,11 +53,12 @@ push opcode args at m =
 -- an operation that stands at a place; the state's place is behind it
 abbrev pub operate : Operation → ℕ → MachineState → Result MachineState Fault
 operate (op.access_vectors o) at m = on_graphics at m (vectors_accessed o m.stack m.graphics)
-operate (op.set_state o) at m = on_graphics at m (state_set o m.ppem m.units_per_em m.stack m.graphics)
-operate (op.manage o) at m = on_stack at m (managed o m.stack)
+operate (op.set_state o) at m = on_graphics at m (state_set o m.ppem m.units_per_em m.tolerance m.stack m.graphics)
+operate (op.manage o) at m = on_stack at m (managed o m.tolerance m.stack)
 operate (op.evaluate o) at m = on_stack at m (evaluated o m.graphics.round m.stack)
 operate (op.compute o) at m = on_stack at m (computed o m.graphics.round m.stack)
-operate (op.access_values o) at m = on_places at m (values_accessed o m.ppem m.units_per_em m.stack m.storage m.cvt)
+operate (op.access_values o) at m = on_places at m 
+    (values_accessed o m.ppem m.units_per_em m.tolerance m.stack m.storage m.cvt)
 operate (op.answer o) at m = on_stack at m (answered o m.ppem m.stack)
 operate op.instctrl at m = instctrl m.stack at m
 operate op.if_from at m = if_from m.stack at m
@@ -73,12 +76,16 @@ operate op.idef at m = idef at m
 operate (op.beyond o) at m = if m.graphics.whole then operate o at m else Err (fault_in m.frame at why.OffProfile)
 operate (op.unnamed opcode) at m = instruction_called at m (function_at (pos opcode) m.instructions)
 
+-- the values that an instruction takes: where a tolerant machine finds fewer, all of them count as 0 (profile)
+abbrev pub filled : Operation → MachineState → MachineState
+filled o m = if is_tolerant m.tolerance then record m { stack = padded (takes o) m.stack } else m
+
 -- what stands at the state's place is done, or data there passes the end
 abbrev pub done : MachineState → Result Instr Halt → Result MachineState Fault
 done m (Ok i) =
     let next = goes_to (m.frame.place + i.len) m in
     if takes_data i.op then push i.op i.args m.frame.place next
-    else operate (operation_of i.op) m.frame.place next
+    else operate (operation_of i.op) m.frame.place (filled (operation_of i.op) next)
 done m (Err halt) = Err (fault_in m.frame halt.at halt.why)
 
 -- The program's end inside a call is no instruction.

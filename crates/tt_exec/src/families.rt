@@ -44,7 +44,13 @@ impl MachineState<'_> {
         ensures { let given = is.operate (operation.set_state op) at (state_of self.old) in
             DoesAt given at (state_of self.new) result }
     {
-        set_state(op, self.size, &mut self.stack, &mut self.graphics)
+        set_state(
+            op,
+            self.size,
+            self.tolerance,
+            &mut self.stack,
+            &mut self.graphics,
+        )
     }
 
     #[inline(always)]
@@ -53,7 +59,7 @@ impl MachineState<'_> {
         ensures { let given = is.operate (operation.manage op) at (state_of self.old) in
             DoesAt given at (state_of self.new) result }
     {
-        manage(op, &mut self.stack)
+        manage(op, self.tolerance, &mut self.stack)
     }
 
     #[inline(always)]
@@ -83,12 +89,13 @@ impl MachineState<'_> {
             DoesAt given at (state_of self.new) result }
     {
         access_values(
-                op,
-                self.size,
-                &mut self.stack,
-                &mut self.storage,
-                &mut self.cvt
-            )
+            op,
+            self.size,
+            self.tolerance,
+            &mut self.stack,
+            &mut self.storage,
+            &mut self.cvt,
+        )
     }
 
     #[inline(always)]

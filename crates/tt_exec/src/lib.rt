@@ -17,6 +17,7 @@ mod parts;
 mod program;
 mod stepping;
 mod stop;
+mod taking;
 
 pub use fault::ExecFault;
 pub use machine::Machine;

@@ -71,6 +71,7 @@ impl<'a> Machine<'a> {
             storage: parts.storage,
             cvt: parts.cvt,
             graphics: parts.state,
+            tolerance: parts.tolerance,
             points: Points::new(parts.zones),
             skip_glyphs: parts.skip_glyphs,
             default_state: parts.default_state,

@@ -17,7 +17,7 @@ use tt_core::{Fault, Why};
 use tt_exec_points::Points;
 use tt_exec_stack::Stack;
 use tt_exec_state::Size;
-use tt_state::GraphicsState;
+use tt_state::{GraphicsState, Tolerance};
 
 /// Which program is run: it says where functions may be defined and flags set.
 #[derive(Clone, Copy)]
@@ -42,6 +42,7 @@ pub(crate) struct MachineState<'a> {
     pub(crate) storage: Vec<i32>,
     pub(crate) cvt: Vec<i32>,
     pub(crate) graphics: GraphicsState,
+    pub(crate) tolerance: Tolerance,
     pub(crate) points: Points,
     pub(crate) skip_glyphs: bool,
     pub(crate) default_state: bool,
@@ -76,6 +77,7 @@ impl<'a> MachineState<'a> {
             functions: self.functions.into_map(),
             instructions: self.instructions.into_map(),
             state: self.graphics,
+            tolerance: self.tolerance,
             skip_glyphs: self.skip_glyphs,
             default_state: self.default_state,
         }

@@ -20,6 +20,7 @@ impl MachineState<'_> {
         ensures { DoesAt (is.on_points op at (state_of self.old)) at (state_of self.new) result }
     {
         on_points(
+            self.tolerance,
             op,
             self.size,
             &mut self.stack,

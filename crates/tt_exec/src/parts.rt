@@ -7,7 +7,7 @@ use crate::program::Body;
 use std::alloc::AllocError;
 use std::collections::BTreeMap;
 use tt_points::Zones;
-use tt_state::GraphicsState;
+use tt_state::{GraphicsState, Tolerance};
 
 /// What a machine is made of, and what a run leaves. Distances are in 26.6 pixels.
 #[derive(Drop)]
@@ -25,6 +25,8 @@ pub struct Parts<'a> {
     /// The instructions that IDEF defined, by opcode.
     pub instructions: BTreeMap<u16, Body<'a>>,
     pub state: GraphicsState,
+    /// What becomes of an instruction that asks for what is not there. No program sets it.
+    pub tolerance: Tolerance,
     /// The control value program said that glyph programs are not to be run.
     pub skip_glyphs: bool,
     /// The control value program said that glyph programs are to start from the default graphics state.
@@ -45,6 +47,7 @@ impl<'a> Parts<'a> {
             functions: self.functions.clone()?,
             instructions: self.instructions.clone()?,
             state: self.state,
+            tolerance: self.tolerance,
             skip_glyphs: self.skip_glyphs,
             default_state: self.default_state,
         })

@@ -1,7 +1,9 @@
 //! One step, and a whole run. Apple TrueType Reference Manual, "Instructing TrueType Glyphs".
 
-ghost use Rattle.std.specs.Prelude.{◌≡◌, ◌<◌, ◌≤◌, length, IfErr, IfOk, IfSome};
+ghost use Rattle.std.specs.Prelude.{◌≡◌, ◌<◌, ◌≤◌, length, IfErr, IfOk, IfSome, IsTrue};
 ghost use Rattle.tt_core.specs.Outcomes.{Leaves, font_fault};
+ghost use Rattle.tt_state.specs.Tolerance.{is_tolerant};
+ghost use Rattle.tt_exec.specs.Opcodes.{operation_of};
 ghost use Rattle.tt_exec.specs.Runs.{Ends, Halts};
 ghost use Rattle.tt_exec.specs.States.{state_of};
 ghost use Rattle.tt_exec.specs.Step as is;
@@ -10,6 +12,7 @@ ghost use Rattle.tt_exec.specs.Views.{frame_of};
 
 use crate::machine_state::MachineState;
 use crate::stop::Stop;
+use crate::taking::taken_by;
 use tt_code::{decode, plain_opcode};
 use tt_core::{FontFault, STEP_LIMIT, Why};
 
@@ -27,6 +30,15 @@ impl MachineState<'_> {
         }
     }
 
+    /// Has the values on the stack that an instruction takes, for a tolerant machine.
+    #[cold]
+    fn fill_stack(&mut self, op: u8)
+        requires { IsTrue (is_tolerant self.old.tolerance) }
+        ensures { state_of self.new ≡ is.filled (operation_of op) (state_of self.old) }
+    {
+        self.stack.pad(taken_by(op));
+    }
+
     /// Does the instruction at the frame's place. Errors: CodeShort where its data passes the program's end or the
     /// place is that end; those of the instruction.
     #[inline(always)]
@@ -40,6 +52,9 @@ impl MachineState<'_> {
         }
         if let Some(op) = plain_opcode(bytes, at) {
             self.frame.place = at + 1;
+            if self.tolerance.is_tolerant() {
+                self.fill_stack(op);
+            }
             return match self.operate(op, at) {
                 Ok(()) => Ok(()),
                 Err(stop) => Err(self.halted(at, stop)),
