@@ -1,11 +1,11 @@
 //! One step, and a whole run. Apple TrueType Reference Manual, "Instructing TrueType Glyphs".
 
 ghost use Rattle.std.specs.Prelude.{◌≡◌, ◌<◌, ◌≤◌, length, IfErr, IfOk, IfSome};
-ghost use Rattle.tt_core.specs.Outcomes.{Leaves, font_fault};
+ghost use Rattle.tt_core.specs.Outcomes.{font_fault};
 ghost use Rattle.tt_exec.specs.Runs.{Ends, Halts};
 ghost use Rattle.tt_exec.specs.States.{state_of};
 ghost use Rattle.tt_exec.specs.Step as is;
-ghost use Rattle.tt_exec.specs.Stops.{IfHere, halted};
+ghost use Rattle.tt_exec.specs.Stops.{IfHere, StopsAt, halted};
 ghost use Rattle.tt_exec.specs.Views.{frame_of};
 
 use crate::machine_state::MachineState;
@@ -30,30 +30,27 @@ impl MachineState<'_> {
     /// Does the instruction at the frame's place. Errors: CodeShort where its data passes the program's end or the
     /// place is that end; those of the instruction.
     #[inline(always)]
-    fn step(&mut self) -> Result<(), FontFault>
-        ensures { Leaves result (state_of self.new) (is.step (state_of self.old)) }
+    fn step(&mut self) -> Result<(), Stop>
+        ensures { StopsAt (is.step (state_of self.old)) self.old.frame.place (state_of self.new) result }
     {
         let at = self.frame.place;
         let bytes = self.frame.code.bytes;
         if at >= bytes.len() {
-            return Err(FontFault::Font(self.fault(at, Why::CodeShort)));
+            return Err(Stop::Here(Why::CodeShort));
         }
         if let Some(op) = plain_opcode(bytes, at) {
             self.frame.place = at + 1;
-            return match self.operate(op, at) {
-                Ok(()) => Ok(()),
-                Err(stop) => Err(self.halted(at, stop)),
-            };
+            return self.operate(op, at);
         }
         match decode(bytes, at) {
             Ok(i) => {
                 self.frame.place = at + i.len;
                 match self.push(i.op, i.args, at) {
                     Ok(()) => Ok(()),
-                    Err(why) => Err(FontFault::Font(self.fault(at, why))),
+                    Err(why) => Err(Stop::Here(why)),
                 }
             }
-            Err(halt) => Err(FontFault::Font(self.fault(halt.at, halt.why))),
+            Err(halt) => Err(Stop::Here(halt.why)),
         }
     }
 
@@ -74,7 +71,10 @@ impl MachineState<'_> {
             if n == STEP_LIMIT {
                 return Err(FontFault::Font(self.fault(self.frame.place, Why::StepLimit)));
             }
-            self.step()?;
+            let at = self.frame.place;
+            if let Err(stop) = self.step() {
+                return Err(self.halted(at, stop));
+            }
             n += 1;
         }
         Ok(n)
