@@ -1,6 +1,5 @@
 pub mod Computed
 pub mod Entries
-pub mod Halting
 pub mod Single
 pub mod Sizes
 pub mod Steps

@@ -5,38 +5,38 @@ ghost use Rattle.tt_core.specs.Outcomes.{font_fault};
 ghost use Rattle.tt_exec.specs.Runs.{Ends, Halts};
 ghost use Rattle.tt_exec.specs.States.{state_of};
 ghost use Rattle.tt_exec.specs.Step as is;
-ghost use Rattle.tt_exec.specs.Stops.{IfHere, StopsAt, halted};
+ghost use Rattle.tt_exec.specs.Outcome.{ComesTo, IsRefusal, halted};
 ghost use Rattle.tt_exec.specs.Views.{frame_of};
 
 use crate::machine_state::MachineState;
-use crate::stop::Stop;
+use crate::outcome::Outcome;
 use tt_code::{decode, plain_opcode};
 use tt_core::{FontFault, STEP_LIMIT, Why};
 
 impl MachineState<'_> {
     /// Why a run halts, where an instruction at a place is not done.
     #[cold]
-    fn halted(&self, at: usize, stop: Stop) -> FontFault
-        requires { IfHere stop (at ≤ length self.now.frame.code.bytes.now) }
-        ensures { result ≡ halted (frame_of self.now.frame) at stop }
+    fn halted(&self, at: usize, outcome: Outcome) -> FontFault
+        requires { IsRefusal at (frame_of self.now.frame) outcome }
+        ensures { result ≡ halted (frame_of self.now.frame) at outcome }
     {
-        match stop {
-            Stop::Here(why) => FontFault::Font(self.fault(at, why)),
-            Stop::There(why) => FontFault::Font(self.fault(self.frame.place, why)),
-            Stop::Memory => FontFault::Memory,
+        match outcome {
+            Outcome::Refused(why) => FontFault::Font(self.fault(at, why)),
+            Outcome::SkipRefused(why) => FontFault::Font(self.fault(self.frame.place, why)),
+            _ => FontFault::Memory,
         }
     }
 
     /// Does the instruction at the frame's place. Errors: CodeShort where its data passes the program's end or the
     /// place is that end; those of the instruction.
     #[inline(always)]
-    fn step(&mut self) -> Result<(), Stop>
-        ensures { StopsAt (is.step (state_of self.old)) self.old.frame.place (state_of self.new) result }
+    fn step(&mut self) -> Outcome
+        ensures { ComesTo (is.step (state_of self.old)) self.old.frame.place (state_of self.new) result }
     {
         let at = self.frame.place;
         let bytes = self.frame.code.bytes;
         if at >= bytes.len() {
-            return Err(Stop::Here(Why::CodeShort));
+            return Outcome::Refused(Why::CodeShort);
         }
         if let Some(op) = plain_opcode(bytes, at) {
             self.frame.place = at + 1;
@@ -45,12 +45,9 @@ impl MachineState<'_> {
         match decode(bytes, at) {
             Ok(i) => {
                 self.frame.place = at + i.len;
-                match self.push(i.op, i.args, at) {
-                    Ok(()) => Ok(()),
-                    Err(why) => Err(Stop::Here(why)),
-                }
+                self.push(i.op, i.args, at)
             }
-            Err(halt) => Err(Stop::Here(halt.why)),
+            Err(halt) => Outcome::Refused(halt.why),
         }
     }
 
@@ -72,10 +69,10 @@ impl MachineState<'_> {
                 return Err(FontFault::Font(self.fault(self.frame.place, Why::StepLimit)));
             }
             let at = self.frame.place;
-            if let Err(stop) = self.step() {
-                return Err(self.halted(at, stop));
+            match self.step() {
+                Outcome::Done => n += 1,
+                outcome => return Err(self.halted(at, outcome)),
             }
-            n += 1;
         }
         Ok(n)
     }

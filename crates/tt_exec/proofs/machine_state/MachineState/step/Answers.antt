@@ -3,18 +3,10 @@ use Rattle.std.proofs.lemmas.Bool.Decides.{nat_tests}
 use Rattle.tt_code.specs.Decoding.{takes_data}
 use Rattle.tt_exec.proofs.machine_state.MachineState.step.Goals as goal
 
-pub returns-in-Ok-push : goal.returns-in-Ok-push
-returns-in-Ok-push c =
+pub returns-in-Ok : goal.returns-in-Ok
+returns-in-Ok c =
     let frame = c.args.self.now.frame in
     let within : nat_le (length frame.code.bytes.now) frame.place ≡ false =
     grind (arith, nat_tests, c.if-at-bytes.false) in
     let more : takes_data c.in-Ok.i.op ≡ true = rw c.in-Ok.ensures.opcode c.in_default.ensures.none in
-    rw (within, c.in-Ok.ensures.exact, more) c.in-Ok-push.ensures
-
-pub returns-in-Err-push : goal.returns-in-Err-push
-returns-in-Err-push c =
-    let frame = c.args.self.now.frame in
-    let within : nat_le (length frame.code.bytes.now) frame.place ≡ false =
-    grind (arith, nat_tests, c.if-at-bytes.false) in
-    let more : takes_data c.in-Ok.i.op ≡ true = rw c.in-Ok.ensures.opcode c.in_default.ensures.none in
-    rw (within, c.in-Ok.ensures.exact, more) c.in-Err-push.ensures
+    rw (within, c.in-Ok.ensures.exact, more) c.push.ensures
