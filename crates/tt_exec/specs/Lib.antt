@@ -8,12 +8,12 @@ pub mod OnPoints
 pub mod Numbered
 pub mod Opcodes
 pub mod Operation
+pub mod Outcome
 pub mod Outcomes
 pub mod Parts
 pub mod Runs
 pub mod Sizes
 pub mod States
 pub mod Step
-pub mod Stops
 pub mod Views
 pub mod WithAll

@@ -6,10 +6,10 @@ ghost use Rattle.std.specs.Prelude.{◌≤◌, length};
 ghost use Rattle.tt_exec.specs.Operation as operation;
 ghost use Rattle.tt_exec.specs.States.{state_of};
 ghost use Rattle.tt_exec.specs.Step as is;
-ghost use Rattle.tt_exec.specs.Stops.{DoesAt};
+ghost use Rattle.tt_exec.specs.Outcome.{ComesTo};
 
 use crate::machine_state::MachineState;
-use tt_core::Why;
+use crate::outcome::Outcome;
 use tt_exec_stack::{
     Arithmetic, Logic, Managing, compute, evaluate, manage, push_bytes, push_words,
 };
@@ -17,93 +17,103 @@ use tt_exec_state::{
     Query, Setting, StoredValues, Vectors, access_values, access_vectors, answer, set_state,
 };
 
+/// What comes of an instruction that did so.
+macro_rules! outcome {
+    ($done:expr) => {
+        match $done {
+            Ok(()) => Outcome::Done,
+            Err(why) => Outcome::Refused(why),
+        }
+    };
+}
+
 impl MachineState<'_> {
     /// NPUSHB[], NPUSHW[], PUSHB[n] and PUSHW[n].
     #[inline(always)]
-    pub(crate) fn push(&mut self, op: u8, args: &[u8], at: usize) -> Result<(), Why>
+    pub(crate) fn push(&mut self, op: u8, args: &[u8], at: usize) -> Outcome
         requires { at ≤ length self.old.frame.code.bytes.now }
-        ensures { DoesAt (is.push op args.now at (state_of self.old)) at (state_of self.new) result }
+        ensures { ComesTo (is.push op args.now at (state_of self.old)) at (state_of self.new) result }
     {
         match op {
-            0x41 | 0xB8..=0xBF => push_words(args, &mut self.stack),
-            _ => push_bytes(args, &mut self.stack),
+            0x41 | 0xB8..=0xBF => outcome!(push_words(args, &mut self.stack)),
+            _ => outcome!(push_bytes(args, &mut self.stack)),
         }
     }
 
-    pub(crate) fn access_vectors(&mut self, op: Vectors, at: usize) -> Result<(), Why>
+    pub(crate) fn access_vectors(&mut self, op: Vectors, at: usize) -> Outcome
         requires { at ≤ length self.old.frame.code.bytes.now }
         ensures { let given = is.operate (operation.access_vectors op) at (state_of self.old) in
-            DoesAt given at (state_of self.new) result }
+            ComesTo given at (state_of self.new) result }
     {
-        access_vectors(op, &mut self.stack, &mut self.graphics)
+        outcome!(access_vectors(op, &mut self.stack, &mut self.graphics))
     }
 
     #[inline(always)]
-    pub(crate) fn set_state(&mut self, op: Setting, at: usize) -> Result<(), Why>
+    pub(crate) fn set_state(&mut self, op: Setting, at: usize) -> Outcome
         requires { at ≤ length self.old.frame.code.bytes.now }
         ensures { let given = is.operate (operation.set_state op) at (state_of self.old) in
-            DoesAt given at (state_of self.new) result }
+            ComesTo given at (state_of self.new) result }
     {
-        set_state(
+        outcome!(set_state(
             op,
             self.size,
             self.tolerance,
             &mut self.stack,
-            &mut self.graphics,
-        )
+            &mut self.graphics
+        ))
     }
 
     #[inline(always)]
-    pub(crate) fn manage(&mut self, op: Managing, at: usize) -> Result<(), Why>
+    pub(crate) fn manage(&mut self, op: Managing, at: usize) -> Outcome
         requires { at ≤ length self.old.frame.code.bytes.now }
         ensures { let given = is.operate (operation.manage op) at (state_of self.old) in
-            DoesAt given at (state_of self.new) result }
+            ComesTo given at (state_of self.new) result }
     {
-        manage(op, self.tolerance, &mut self.stack)
+        outcome!(manage(op, self.tolerance, &mut self.stack))
     }
 
     #[inline(always)]
-    pub(crate) fn evaluate(&mut self, op: Logic, at: usize) -> Result<(), Why>
+    pub(crate) fn evaluate(&mut self, op: Logic, at: usize) -> Outcome
         requires { at ≤ length self.old.frame.code.bytes.now }
         ensures { let given = is.operate (operation.evaluate op) at (state_of self.old) in
-            DoesAt given at (state_of self.new) result }
+            ComesTo given at (state_of self.new) result }
     {
         let round = self.graphics.round;
-        evaluate(op, round, &mut self.stack)
+        outcome!(evaluate(op, round, &mut self.stack))
     }
 
     #[inline(always)]
-    pub(crate) fn compute(&mut self, op: Arithmetic, at: usize) -> Result<(), Why>
+    pub(crate) fn compute(&mut self, op: Arithmetic, at: usize) -> Outcome
         requires { at ≤ length self.old.frame.code.bytes.now }
         ensures { let given = is.operate (operation.compute op) at (state_of self.old) in
-            DoesAt given at (state_of self.new) result }
+            ComesTo given at (state_of self.new) result }
     {
         let round = self.graphics.round;
-        compute(op, round, &mut self.stack)
+        outcome!(compute(op, round, &mut self.stack))
     }
 
     #[inline(always)]
-    pub(crate) fn access_values(&mut self, op: StoredValues, at: usize) -> Result<(), Why>
+    pub(crate) fn access_values(&mut self, op: StoredValues, at: usize) -> Outcome
         requires { at ≤ length self.old.frame.code.bytes.now }
         ensures { let given = is.operate (operation.access_values op) at (state_of self.old) in
-            DoesAt given at (state_of self.new) result }
+            ComesTo given at (state_of self.new) result }
     {
-        access_values(
+        outcome!(access_values(
             op,
             self.size,
             self.tolerance,
             &mut self.stack,
             &mut self.storage,
-            &mut self.cvt,
-        )
+            &mut self.cvt
+        ))
     }
 
     #[inline(always)]
-    pub(crate) fn answer(&mut self, op: Query, at: usize) -> Result<(), Why>
+    pub(crate) fn answer(&mut self, op: Query, at: usize) -> Outcome
         requires { at ≤ length self.old.frame.code.bytes.now }
         ensures { let given = is.operate (operation.answer op) at (state_of self.old) in
-            DoesAt given at (state_of self.new) result }
+            ComesTo given at (state_of self.new) result }
     {
-        answer(op, self.size, &mut self.stack)
+        outcome!(answer(op, self.size, &mut self.stack))
     }
 }

@@ -5,10 +5,10 @@ ghost use Rattle.std.specs.Prelude.{◌≡◌, ◌<◌, length};
 ghost use Rattle.tt_exec.specs.Flow as flow;
 ghost use Rattle.tt_exec.specs.Flags as flags;
 ghost use Rattle.tt_exec.specs.States.{state_of};
-ghost use Rattle.tt_exec.specs.Stops.{DoesAt, StopsAt};
+ghost use Rattle.tt_exec.specs.Outcome.{ComesTo};
 
 use crate::machine_state::{Kind, MachineState};
-use crate::stop::Stop;
+use crate::outcome::Outcome;
 use tt_code::{skip_else, skip_if};
 use tt_core::Why;
 
@@ -22,87 +22,100 @@ impl MachineState<'_> {
     }
 
     /// IF[], 0x58: e -> nothing; goes on behind its ELSE or EIF where e is 0.
-    pub(crate) fn if_from(&mut self, at: usize) -> Result<(), Stop>
+    pub(crate) fn if_from(&mut self, at: usize) -> Outcome
         requires { at < length self.old.frame.code.bytes.now }
-        ensures { StopsAt (flow.if_from self.old.stack at (state_of self.old)) at (state_of self.new) result }
+        ensures { ComesTo (flow.if_from self.old.stack at (state_of self.old)) at (state_of self.new) result }
     {
-        if self.popped()? != 0 {
-            return Ok(());
+        let Ok(condition) = self.popped() else {
+            return Outcome::Refused(Why::StackShort);
+        };
+        if condition != 0 {
+            return Outcome::Done;
         }
         match skip_if(self.frame.code.bytes, at) {
             Ok(place) => {
                 self.frame.place = place;
-                Ok(())
+                Outcome::Done
             }
             Err(halt) => {
                 self.frame.place = halt.at;
-                Err(Stop::There(halt.why))
+                Outcome::SkipRefused(halt.why)
             }
         }
     }
 
     /// ELSE[], 0x1B: come to behind the part of a true IF, goes on behind the EIF.
-    pub(crate) fn else_from(&mut self, at: usize) -> Result<(), Stop>
+    pub(crate) fn else_from(&mut self, at: usize) -> Outcome
         requires { at < length self.old.frame.code.bytes.now }
-        ensures { StopsAt (flow.else_from at (state_of self.old)) at (state_of self.new) result }
+        ensures { ComesTo (flow.else_from at (state_of self.old)) at (state_of self.new) result }
     {
         match skip_else(self.frame.code.bytes, at) {
             Ok(place) => {
                 self.frame.place = place;
-                Ok(())
+                Outcome::Done
             }
             Err(halt) => {
                 self.frame.place = halt.at;
-                Err(Stop::There(halt.why))
+                Outcome::SkipRefused(halt.why)
             }
         }
     }
 
     /// Error: JumpRange.
-    fn jump(&mut self, at: usize, offset: i32) -> Result<(), Why>
+    fn jump(&mut self, at: usize, offset: i32) -> Outcome
         requires { at < length self.old.frame.code.bytes.now }
-        ensures { DoesAt (flow.jumped at offset (state_of self.old)) at (state_of self.new) result }
+        ensures { ComesTo (flow.jumped at offset (state_of self.old)) at (state_of self.new) result }
     {
         let target = at as i64 + i64::from(offset);
         if target < 0 || target > self.frame.code.bytes.len() as i64 {
-            return Err(Why::JumpRange);
+            return Outcome::Refused(Why::JumpRange);
         }
         self.frame.place = target as usize;
-        Ok(())
+        Outcome::Done
     }
 
     /// JMPR[], 0x1C: offset -> nothing; goes on at this opcode's place and the offset.
-    pub(crate) fn jmpr(&mut self, at: usize) -> Result<(), Why>
+    pub(crate) fn jmpr(&mut self, at: usize) -> Outcome
         requires { at < length self.old.frame.code.bytes.now }
-        ensures { DoesAt (flow.jmpr self.old.stack at (state_of self.old)) at (state_of self.new) result }
+        ensures { ComesTo (flow.jmpr self.old.stack at (state_of self.old)) at (state_of self.new) result }
     {
-        let offset = self.popped()?;
+        let Ok(offset) = self.popped() else {
+            return Outcome::Refused(Why::StackShort);
+        };
         self.jump(at, offset)
     }
 
     /// JROT[], 0x78: offset, e -> nothing; jumps where e is not 0.
-    pub(crate) fn jrot(&mut self, at: usize) -> Result<(), Why>
+    pub(crate) fn jrot(&mut self, at: usize) -> Outcome
         requires { at < length self.old.frame.code.bytes.now }
-        ensures { DoesAt (flow.jrot self.old.stack at (state_of self.old)) at (state_of self.new) result }
+        ensures { ComesTo (flow.jrot self.old.stack at (state_of self.old)) at (state_of self.new) result }
     {
-        let condition = self.popped()?;
-        let offset = self.popped()?;
+        let Ok(condition) = self.popped() else {
+            return Outcome::Refused(Why::StackShort);
+        };
+        let Ok(offset) = self.popped() else {
+            return Outcome::Refused(Why::StackShort);
+        };
         if condition != 0 {
             self.jump(at, offset)
         } else {
-            Ok(())
+            Outcome::Done
         }
     }
 
     /// JROF[], 0x79: offset, e -> nothing; jumps where e is 0.
-    pub(crate) fn jrof(&mut self, at: usize) -> Result<(), Why>
+    pub(crate) fn jrof(&mut self, at: usize) -> Outcome
         requires { at < length self.old.frame.code.bytes.now }
-        ensures { DoesAt (flow.jrof self.old.stack at (state_of self.old)) at (state_of self.new) result }
+        ensures { ComesTo (flow.jrof self.old.stack at (state_of self.old)) at (state_of self.new) result }
     {
-        let condition = self.popped()?;
-        let offset = self.popped()?;
+        let Ok(condition) = self.popped() else {
+            return Outcome::Refused(Why::StackShort);
+        };
+        let Ok(offset) = self.popped() else {
+            return Outcome::Refused(Why::StackShort);
+        };
         if condition != 0 {
-            Ok(())
+            Outcome::Done
         } else {
             self.jump(at, offset)
         }
@@ -124,13 +137,17 @@ impl MachineState<'_> {
     }
 
     /// INSTCTRL[], 0x8E: value, selector -> nothing; the control value program sets a flag.
-    pub(crate) fn instctrl(&mut self, at: usize) -> Result<(), Why>
+    pub(crate) fn instctrl(&mut self, at: usize) -> Outcome
         requires { at < length self.old.frame.code.bytes.now }
-        ensures { DoesAt (flags.instctrl self.old.stack at (state_of self.old)) at (state_of self.new) result }
+        ensures { ComesTo (flags.instctrl self.old.stack at (state_of self.old)) at (state_of self.new) result }
     {
-        let selector = self.popped()?;
-        let value = self.popped()?;
+        let Ok(selector) = self.popped() else {
+            return Outcome::Refused(Why::StackShort);
+        };
+        let Ok(value) = self.popped() else {
+            return Outcome::Refused(Why::StackShort);
+        };
         self.set_flag(selector, value != 0);
-        Ok(())
+        Outcome::Done
     }
 }

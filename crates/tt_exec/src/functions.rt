@@ -6,12 +6,12 @@ ghost use Rattle.tt_exec.specs.Functions as is;
 ghost use Rattle.tt_exec.specs.Numbered.{function_at};
 ghost use Rattle.tt_exec.specs.Views.{body_of};
 ghost use Rattle.tt_exec.specs.States.{state_of};
-ghost use Rattle.tt_exec.specs.Stops.{DoesAt, StopsAt};
+ghost use Rattle.tt_exec.specs.Outcome.{ComesTo};
 ghost use Rattle.std.specs.Prelude.{Some};
 
 use crate::machine_state::{Kind, MachineState};
 use crate::program::{Body, Definition, Frame};
-use crate::stop::Stop;
+use crate::outcome::Outcome;
 use std::alloc::AllocError;
 use tt_code::skip_def;
 use tt_core::{CALL_LIMIT, Why};
@@ -51,26 +51,26 @@ impl<'a> MachineState<'a> {
     }
 
     /// Defines what starts after the FDEF or IDEF at `at`. Errors: CodeShort, NoEndf; Memory.
-    fn define(&mut self, at: usize, definition: Definition) -> Result<(), Stop>
+    fn define(&mut self, at: usize, definition: Definition) -> Outcome
         requires { at < length self.old.frame.code.bytes.now }
-        ensures { StopsAt (is.define at definition (state_of self.old)) at (state_of self.new) result }
+        ensures { ComesTo (is.define at definition (state_of self.old)) at (state_of self.new) result }
     {
         match skip_def(self.frame.code.bytes, at) {
             Ok(place) => {
                 let code = self.frame.code;
-                self.keep(
-                    definition,
-                    Body {
-                        code,
-                        start: at + 1,
-                    },
-                )?;
+                let body = Body {
+                    code,
+                    start: at + 1,
+                };
+                if self.keep(definition, body).is_err() {
+                    return Outcome::NoMemory;
+                }
                 self.frame.place = place;
-                Ok(())
+                Outcome::Done
             }
             Err(halt) => {
                 self.frame.place = halt.at;
-                Err(Stop::There(halt.why))
+                Outcome::SkipRefused(halt.why)
             }
         }
     }
@@ -78,62 +78,66 @@ impl<'a> MachineState<'a> {
     /// FDEF[], 0x2C: n -> nothing; function n starts behind it, and the program goes on behind its ENDF. Errors:
     /// DefinitionPlace outside fpgm and prep and in calls; StackShort; BadArgument of a number that is not 0 to 65535;
     /// CodeShort, NoEndf; Memory.
-    pub(crate) fn fdef(&mut self, at: usize) -> Result<(), Stop>
+    pub(crate) fn fdef(&mut self, at: usize) -> Outcome
         requires { at < length self.old.frame.code.bytes.now }
-        ensures { StopsAt (is.fdef at (state_of self.old)) at (state_of self.new) result }
+        ensures { ComesTo (is.fdef at (state_of self.old)) at (state_of self.new) result }
     {
         if !self.may_define() {
-            return Err(Stop::Here(Why::DefinitionPlace));
+            return Outcome::Refused(Why::DefinitionPlace);
         }
-        let n = self.popped()?;
+        let Ok(n) = self.popped() else {
+            return Outcome::Refused(Why::StackShort);
+        };
         match u16::try_from(n) {
             Ok(n) => self.define(at, Definition::Function(n)),
-            Err(_) => Err(Stop::Here(Why::BadArgument)),
+            Err(_) => Outcome::Refused(Why::BadArgument),
         }
     }
 
     /// IDEF[], 0x89: opcode -> nothing; the instruction of an opcode without a name starts after it, and the program goes
     /// on after its ENDF. Errors: DefinitionPlace outside fpgm and prep and in calls; StackShort; BadArgument of a number
     /// that is not 0 to 255; CodeShort, NoEndf; Memory.
-    pub(crate) fn idef(&mut self, at: usize) -> Result<(), Stop>
+    pub(crate) fn idef(&mut self, at: usize) -> Outcome
         requires { at < length self.old.frame.code.bytes.now }
-        ensures { StopsAt (is.idef at (state_of self.old)) at (state_of self.new) result }
+        ensures { ComesTo (is.idef at (state_of self.old)) at (state_of self.new) result }
     {
         if !self.may_define() {
-            return Err(Stop::Here(Why::DefinitionPlace));
+            return Outcome::Refused(Why::DefinitionPlace);
         }
-        let n = self.popped()?;
+        let Ok(n) = self.popped() else {
+            return Outcome::Refused(Why::StackShort);
+        };
         match u8::try_from(n) {
             Ok(op) => self.define(at, Definition::Instruction(op)),
-            Err(_) => Err(Stop::Here(Why::BadArgument)),
+            Err(_) => Outcome::Refused(Why::BadArgument),
         }
     }
 
     /// ENDF[], 0x2D: ends a call, or begins the next round of a LOOPCALL. Error: DefinitionPlace outside calls.
-    pub(crate) fn endf(&mut self, at: usize) -> Result<(), Why>
+    pub(crate) fn endf(&mut self, at: usize) -> Outcome
         requires { at < length self.old.frame.code.bytes.now }
-        ensures { DoesAt (is.endf self.old.callers at (state_of self.old)) at (state_of self.new) result }
+        ensures { ComesTo (is.endf self.old.callers at (state_of self.old)) at (state_of self.new) result }
     {
         if self.frame.left > 0 && self.callers.len() > 0 {
             self.frame.place = self.frame.start;
             self.frame.left -= 1;
-            return Ok(());
+            return Outcome::Done;
         }
         let Some(caller) = self.callers.pop() else {
-            return Err(Why::DefinitionPlace);
+            return Outcome::Refused(Why::DefinitionPlace);
         };
         self.frame = caller;
-        Ok(())
+        Outcome::Done
     }
 
     /// Calls a function, and again so often. Error: CallDepth.
-    fn enter(&mut self, at: usize, body: Body<'a>, again: u32) -> Result<(), Why>
+    fn enter(&mut self, at: usize, body: Body<'a>, again: u32) -> Outcome
         requires { at < length self.old.frame.code.bytes.now }
         ensures { let f = body_of body.entry in
-            DoesAt (is.called at again (state_of self.old) (Some f)) at (state_of self.new) result }
+            ComesTo (is.called at again (state_of self.old) (Some f)) at (state_of self.new) result }
     {
         if self.callers.len() >= CALL_LIMIT {
-            return Err(Why::CallDepth);
+            return Outcome::Refused(Why::CallDepth);
         }
         self.callers.push(self.frame);
         self.frame = Frame {
@@ -142,48 +146,54 @@ impl<'a> MachineState<'a> {
             start: body.start,
             left: again,
         };
-        Ok(())
+        Outcome::Done
     }
 
     /// CALL[], 0x2B: n -> nothing; goes on in function n, whose ENDF comes back. Errors: NoFunction, CallDepth.
-    pub(crate) fn call(&mut self, at: usize) -> Result<(), Why>
+    pub(crate) fn call(&mut self, at: usize) -> Outcome
         requires { at < length self.old.frame.code.bytes.now }
-        ensures { DoesAt (is.call self.old.stack at (state_of self.old)) at (state_of self.new) result }
+        ensures { ComesTo (is.call self.old.stack at (state_of self.old)) at (state_of self.new) result }
     {
-        let n = self.popped()?;
+        let Ok(n) = self.popped() else {
+            return Outcome::Refused(Why::StackShort);
+        };
         match self.functions.get(n) {
             Some(body) => self.enter(at, body, 0),
-            None => Err(Why::NoFunction),
+            None => Outcome::Refused(Why::NoFunction),
         }
     }
 
     /// LOOPCALL[], 0x2A: count, n -> nothing; calls function n so often, perhaps never. Errors: NoFunction whatever the
     /// count is, CallDepth.
-    pub(crate) fn loopcall(&mut self, at: usize) -> Result<(), Why>
+    pub(crate) fn loopcall(&mut self, at: usize) -> Outcome
         requires { at < length self.old.frame.code.bytes.now }
-        ensures { DoesAt (is.loopcall self.old.stack at (state_of self.old)) at (state_of self.new) result }
+        ensures { ComesTo (is.loopcall self.old.stack at (state_of self.old)) at (state_of self.new) result }
     {
-        let n = self.popped()?;
-        let count = self.popped()?;
+        let Ok(n) = self.popped() else {
+            return Outcome::Refused(Why::StackShort);
+        };
+        let Ok(count) = self.popped() else {
+            return Outcome::Refused(Why::StackShort);
+        };
         let Some(body) = self.functions.get(n) else {
-            return Err(Why::NoFunction);
+            return Outcome::Refused(Why::NoFunction);
         };
         if count < 1 {
-            return Ok(());
+            return Outcome::Done;
         }
         self.enter(at, body, (count - 1) as u32)
     }
 
     /// An opcode that has no name: calls the instruction that a program defined for it. Errors: BadOpcode where none did,
     /// CallDepth.
-    pub(crate) fn call_instruction(&mut self, op: u8, at: usize) -> Result<(), Why>
+    pub(crate) fn call_instruction(&mut self, op: u8, at: usize) -> Outcome
         requires { at < length self.old.frame.code.bytes.now }
         ensures { let given = is.instruction_called at (state_of self.old) (function_at (pos op) self.old.instructions) in
-            DoesAt given at (state_of self.new) result }
+            ComesTo given at (state_of self.new) result }
     {
         match self.instructions.get(i32::from(op)) {
             Some(body) => self.enter(at, body, 0),
-            None => Err(Why::BadOpcode),
+            None => Outcome::Refused(Why::BadOpcode),
         }
     }
 }

@@ -13,10 +13,10 @@ mod machine;
 mod machine_state;
 mod on_points;
 mod opcode;
+mod outcome;
 mod parts;
 mod program;
 mod stepping;
-mod stop;
 mod taking;
 
 pub use fault::ExecFault;

@@ -5,21 +5,21 @@
 ghost use Rattle.std.specs.Prelude.{◌<◌, length};
 ghost use Rattle.tt_exec.specs.OnPoints as is;
 ghost use Rattle.tt_exec.specs.States.{state_of};
-ghost use Rattle.tt_exec.specs.Stops.{DoesAt};
+ghost use Rattle.tt_exec.specs.Outcome.{ComesTo};
 
 use crate::machine_state::MachineState;
-use tt_core::Why;
+use crate::outcome::Outcome;
 use tt_exec_points::{PointInstruction, on_points};
 
 impl MachineState<'_> {
     /// An instruction that works on points, or DELTAC[].
     #[inline(always)]
     #[tactic(auto, unfolding(crate::specs::OnPoints::on_points))]
-    pub(crate) fn on_points(&mut self, op: PointInstruction, at: usize) -> Result<(), Why>
+    pub(crate) fn on_points(&mut self, op: PointInstruction, at: usize) -> Outcome
         requires { at < length self.old.frame.code.bytes.now }
-        ensures { DoesAt (is.on_points op at (state_of self.old)) at (state_of self.new) result }
+        ensures { ComesTo (is.on_points op at (state_of self.old)) at (state_of self.new) result }
     {
-        on_points(
+        match on_points(
             self.tolerance,
             op,
             self.size,
@@ -27,6 +27,9 @@ impl MachineState<'_> {
             &mut self.points,
             &mut self.graphics,
             &mut self.cvt,
-        )
+        ) {
+            Ok(()) => Outcome::Done,
+            Err(why) => Outcome::Refused(why),
+        }
     }
 }

@@ -1,17 +1,17 @@
 //! One step, and a whole run. Apple TrueType Reference Manual, "Instructing TrueType Glyphs".
 
 ghost use Rattle.std.specs.Prelude.{◌≡◌, ◌<◌, ◌≤◌, length, IfErr, IfOk, IfSome, IsTrue};
-ghost use Rattle.tt_core.specs.Outcomes.{Leaves, font_fault};
+ghost use Rattle.tt_core.specs.Outcomes.{font_fault};
 ghost use Rattle.tt_state.specs.Tolerance.{is_tolerant};
 ghost use Rattle.tt_exec.specs.Opcodes.{operation_of};
 ghost use Rattle.tt_exec.specs.Runs.{Ends, Halts};
 ghost use Rattle.tt_exec.specs.States.{state_of};
 ghost use Rattle.tt_exec.specs.Step as is;
-ghost use Rattle.tt_exec.specs.Stops.{IfHere, halted};
+ghost use Rattle.tt_exec.specs.Outcome.{ComesTo, IsRefusal, halted};
 ghost use Rattle.tt_exec.specs.Views.{frame_of};
 
 use crate::machine_state::MachineState;
-use crate::stop::Stop;
+use crate::outcome::Outcome;
 use crate::taking::taken_by;
 use tt_code::{decode, plain_opcode};
 use tt_core::{FontFault, STEP_LIMIT, Why};
@@ -19,14 +19,14 @@ use tt_core::{FontFault, STEP_LIMIT, Why};
 impl MachineState<'_> {
     /// Why a run halts, where an instruction at a place is not done.
     #[cold]
-    fn halted(&self, at: usize, stop: Stop) -> FontFault
-        requires { IfHere stop (at ≤ length self.now.frame.code.bytes.now) }
-        ensures { result ≡ halted (frame_of self.now.frame) at stop }
+    fn halted(&self, at: usize, outcome: Outcome) -> FontFault
+        requires { IsRefusal at (frame_of self.now.frame) outcome }
+        ensures { result ≡ halted (frame_of self.now.frame) at outcome }
     {
-        match stop {
-            Stop::Here(why) => FontFault::Font(self.fault(at, why)),
-            Stop::There(why) => FontFault::Font(self.fault(self.frame.place, why)),
-            Stop::Memory => FontFault::Memory,
+        match outcome {
+            Outcome::Refused(why) => FontFault::Font(self.fault(at, why)),
+            Outcome::SkipRefused(why) => FontFault::Font(self.fault(self.frame.place, why)),
+            _ => FontFault::Memory,
         }
     }
 
@@ -34,7 +34,8 @@ impl MachineState<'_> {
     #[cold]
     fn fill_stack(&mut self, op: u8)
         requires { IsTrue (is_tolerant self.old.tolerance) }
-        ensures { state_of self.new ≡ is.filled (operation_of op) (state_of self.old) }
+        ensures exact { state_of self.new ≡ is.filled (operation_of op) (state_of self.old) }
+        ensures frame { self.new.frame ≡ self.old.frame }
     {
         self.stack.pad(taken_by(op));
     }
@@ -42,33 +43,27 @@ impl MachineState<'_> {
     /// Does the instruction at the frame's place. Errors: CodeShort where its data passes the program's end or the
     /// place is that end; those of the instruction.
     #[inline(always)]
-    fn step(&mut self) -> Result<(), FontFault>
-        ensures { Leaves result (state_of self.new) (is.step (state_of self.old)) }
+    fn step(&mut self) -> Outcome
+        ensures { ComesTo (is.step (state_of self.old)) self.old.frame.place (state_of self.new) result }
     {
         let at = self.frame.place;
         let bytes = self.frame.code.bytes;
         if at >= bytes.len() {
-            return Err(FontFault::Font(self.fault(at, Why::CodeShort)));
+            return Outcome::Refused(Why::CodeShort);
         }
         if let Some(op) = plain_opcode(bytes, at) {
             self.frame.place = at + 1;
             if self.tolerance.is_tolerant() {
                 self.fill_stack(op);
             }
-            return match self.operate(op, at) {
-                Ok(()) => Ok(()),
-                Err(stop) => Err(self.halted(at, stop)),
-            };
+            return self.operate(op, at);
         }
         match decode(bytes, at) {
             Ok(i) => {
                 self.frame.place = at + i.len;
-                match self.push(i.op, i.args, at) {
-                    Ok(()) => Ok(()),
-                    Err(why) => Err(FontFault::Font(self.fault(at, why))),
-                }
+                self.push(i.op, i.args, at)
             }
-            Err(halt) => Err(FontFault::Font(self.fault(halt.at, halt.why))),
+            Err(halt) => Outcome::Refused(halt.why),
         }
     }
 
@@ -89,8 +84,11 @@ impl MachineState<'_> {
             if n == STEP_LIMIT {
                 return Err(FontFault::Font(self.fault(self.frame.place, Why::StepLimit)));
             }
-            self.step()?;
-            n += 1;
+            let at = self.frame.place;
+            match self.step() {
+                Outcome::Done => n += 1,
+                outcome => return Err(self.halted(at, outcome)),
+            }
         }
         Ok(n)
     }

@@ -10,6 +10,7 @@ use tt_core::Why;
 use tt_state::Round;
 
 /// ADD[], 0x60: a, b -> a + b.
+#[inline(always)]
 fn add(stack: &mut Stack) -> Result<(), Why>
     ensures { Does (is.add stack.old) stack.new result }
 {
@@ -19,6 +20,7 @@ fn add(stack: &mut Stack) -> Result<(), Why>
 }
 
 /// SUB[], 0x61: a, b -> a - b.
+#[inline(always)]
 fn sub(stack: &mut Stack) -> Result<(), Why>
     ensures { Does (is.sub stack.old) stack.new result }
 {

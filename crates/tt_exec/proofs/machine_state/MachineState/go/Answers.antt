@@ -8,7 +8,7 @@ steps-preserved c = record {
   few = omega arith;
   leads =
       one_more c.steps.n _ (state_of c.steps.self) (state_of c.step.new.self)
-      c.steps.invariant.leads c.in_ok-step.ensures;
+      c.steps.invariant.leads c.in-Done.ensures;
 }
 
 pub steps-init : goal.steps-init
