@@ -1,2 +1,1 @@
-pub mod Shapes
-mod WithAll
+mod Missing

@@ -2,4 +2,3 @@ pub mod Popping
 pub mod ControlValues
 pub mod Instruction
 pub mod Shapes
-pub mod WithAll

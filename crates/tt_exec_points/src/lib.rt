@@ -3,7 +3,6 @@
 
 mod control_values;
 mod instruction;
-pub mod laws;
 mod points;
 
 pub use instruction::{PointInstruction, on_points};
