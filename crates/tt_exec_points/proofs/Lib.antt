@@ -1,1 +1,3 @@
 mod Missing
+pub mod Shapes
+mod WithAll

@@ -2,3 +2,4 @@ pub mod Popping
 pub mod ControlValues
 pub mod Instruction
 pub mod Shapes
+pub mod WithAll

@@ -65,8 +65,8 @@ macro_rules! unless_missing {
     };
 }
 
-/// Does what works on the points whose numbers stand on the stack, as many as the loop variable says. A tolerant machine
-/// takes none of them where the reference point is not there, or there are fewer. Error: StackShort.
+/// Does what works on the points whose numbers stand on the stack, as many as the loop variable says. A tolerant
+/// machine takes none of them where the reference point is not there, or there are fewer. Error: StackShort.
 macro_rules! looped {
     ($tolerance:ident, $referred:expr, $stack:ident, $graphics:ident, $numbers:ident => $change:expr) => {{
         if $tolerance.is_tolerant() && does_nothing($referred, $stack, $graphics) {

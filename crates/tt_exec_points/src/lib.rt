@@ -3,6 +3,7 @@
 
 mod control_values;
 mod instruction;
+pub mod laws;
 mod points;
 
 pub use instruction::{PointInstruction, on_points};
