@@ -1,2 +1,3 @@
+mod Missing
 pub mod Shapes
 mod WithAll

@@ -1,7 +1,9 @@
 -- What an instruction on points gives without the whole instruction set it gives with it too.
-use Rattle.std.proofs.Common.{◌≡◌, ℕ, ℤ, Bool, List, [], ◌∷◌, Result, Ok, Err, refl}
+use Rattle.std.proofs.Common.{◌≡◌, ℕ, ℤ, pos, Bool, true, false, ◌&&◌, if◌then◌else◌, List, [], ◌∷◌, Result, Ok, Err, refl}
 use Rattle.tt_core.specs.declared.fault.Why.{Why}
+use Rattle.tt_state.specs.Tolerance.{is_tolerant, unless_missing}
 use Rattle.tt_state.specs.declared.graphics_state.GraphicsState.{GraphicsState}
+use Rattle.tt_state.specs.declared.tolerance.Tolerance.{Tolerance}
 use Rattle.tt_points.specs.ControlValues as by_value
 use Rattle.tt_points.specs.Lines as lines
 use Rattle.tt_points.specs.Measuring as measuring
@@ -18,14 +20,16 @@ use Rattle.tt_points_loops.specs.WithAll.{SeveralStay, StaysBeside}
 use Rattle.tt_points_loops.specs.WithAll as zones
 use Rattle.tt_points_loops.specs.declared.deltas.DeltaRange.{DeltaRange}
 use Rattle.tt_points_loops.specs.declared.shifting.ReferencePoint.{ReferencePoint}
-use Rattle.tt_points_zones.specs.WithAll.{with_all, Stays, StaysSame, same, chained}
+use Rattle.tt_points_loops.specs.declared.shifting.ReferencePoint.TheVariants as by
+use Rattle.tt_points_zones.specs.WithAll.{with_all, Stays, StaysSame, same, chained, passed_over}
 use Rattle.tt_points_zones.specs.WithAll as given
+use Rattle.tt_points_zones.specs.Points.{has_point}
 use Rattle.tt_points_zones.specs.Zones.{ZoneLists}
 use Rattle.tt_exec_stack.specs.Stack.{pushed}
 use Rattle.tt_exec_points.specs.ControlValues.{deltac}
-use Rattle.tt_exec_points.specs.Instruction.{after_setting, with_values, with_points, on_points}
+use Rattle.tt_exec_points.specs.Instruction.{after_setting, has_reference, with_values, with_points, on_points}
 use Rattle.tt_exec_points.specs.Instruction as is
-use Rattle.tt_exec_points.specs.Popping.{Left, after, after_move, looped, counted}
+use Rattle.tt_exec_points.specs.Popping.{Left, after, after_move, taken, too_little, looped, counted}
 use Rattle.tt_exec_points.specs.WithAll.{beside, PointsStay}
 use Rattle.tt_exec_points.specs.declared.instruction.PointInstruction.{PointInstruction}
 use Rattle.tt_exec_points.specs.declared.instruction.PointInstruction.TheVariants as instruction
@@ -56,178 +60,229 @@ set : (s : List ℤ) (z : ZoneLists) (r with : Result GraphicsState Why) → Sta
     → StaysThird (after_setting s z r) (after_setting s z with)
 set s z r with stays = chained with_all third r with _ _ stays (λ g. refl)
 
+passed : (t : Tolerance) (s : List ℤ) (z : ZoneLists) (g : GraphicsState) (r with : Left) → StaysThird r with
+    → StaysThird (unless_missing t (s, z, g) r) (unless_missing t (s, z, with_all g) with)
+passed t s z g r with stays = passed_over third t (s, z, g) r with stays
+
+either : (b : Bool) (instead : List ℤ × ZoneLists × GraphicsState) (r with : Left) → StaysThird r with
+    → StaysThird (if b then Ok instead else r) (if b then Ok (third instead) else with)
+either true instead r with stays = refl
+either false instead r with stays = stays
+
+loop : (t : Tolerance) (referred : Bool) (s : List ℤ) (z : ZoneLists) (g : GraphicsState)
+    (change all : List ℤ → Result (ZoneLists × GraphicsState) Why)
+    → ((points : List ℤ) → StaysBeside (change points) (all points))
+    → StaysThird (looped t referred s z g change) (looped t referred s z (with_all g) all)
+loop t referred s z g change all stays =
+    either (is_tolerant t && too_little referred s g) _ _ _
+    (given.after third (taken g.loops s) _ _ (λ p. changed p.1 (change p.0) (all p.0) (stays p.0)))
+
 -- on single points
-mdap : Single → (round : Bool) (s : List ℤ) (z : ZoneLists) (g : GraphicsState)
-    → StaysThird (is.mdap round s z g) (is.mdap round s z (with_all g))
-mdap k round (p ∷ s) z g = changed s (single_moving.mdap round p z g) _ ((k z g).mdap round p)
-mdap k round [] z g = λ other. refl
+mdap : Single → (t : Tolerance) (round : Bool) (s : List ℤ) (z : ZoneLists) (g : GraphicsState)
+    → StaysThird (is.mdap t round s z g) (is.mdap t round s z (with_all g))
+mdap k t round (p ∷ s) z g = passed t s z _ _ _ (changed s (single_moving.mdap round p z g) _ ((k z g).mdap round p))
+mdap k t round [] z g = λ other. refl
 
-mdrp : Single → (keeping : Keeping) (s : List ℤ) (z : ZoneLists) (g : GraphicsState)
-    → StaysThird (is.mdrp keeping s z g) (is.mdrp keeping s z (with_all g))
-mdrp k keeping (p ∷ s) z g = changed s (single_moving.mdrp keeping p z g) _ ((k z g).mdrp keeping p)
-mdrp k keeping [] z g = λ other. refl
+mdrp : Single → (t : Tolerance) (keeping : Keeping) (s : List ℤ) (z : ZoneLists) (g : GraphicsState)
+    → StaysThird (is.mdrp t keeping s z g) (is.mdrp t keeping s z (with_all g))
+mdrp k t keeping (p ∷ s) z g =
+    passed t s z _ _ _ (changed s (single_moving.mdrp keeping p z g) _ ((k z g).mdrp keeping p))
+mdrp k t keeping [] z g = λ other. refl
 
-msirp : Single → (set_rp0 : Bool) (s : List ℤ) (z : ZoneLists) (g : GraphicsState)
-    → StaysThird (is.msirp set_rp0 s z g) (is.msirp set_rp0 s z (with_all g))
-msirp k set_rp0 (d ∷ p ∷ s) z g = changed s (single_moving.msirp set_rp0 p d z g) _ ((k z g).msirp set_rp0 p d)
-msirp k set_rp0 (d ∷ []) z g = λ other. refl
-msirp k set_rp0 [] z g = λ other. refl
+msirp : Single → (t : Tolerance) (set_rp0 : Bool) (s : List ℤ) (z : ZoneLists) (g : GraphicsState)
+    → StaysThird (is.msirp t set_rp0 s z g) (is.msirp t set_rp0 s z (with_all g))
+msirp k t set_rp0 (d ∷ p ∷ s) z g =
+    passed t s z _ _ _ (changed s (single_moving.msirp set_rp0 p d z g) _ ((k z g).msirp set_rp0 p d))
+msirp k t set_rp0 (d ∷ []) z g = λ other. refl
+msirp k t set_rp0 [] z g = λ other. refl
 
-miap : Single → (round : Bool) (cvt s : List ℤ) (z : ZoneLists) (g : GraphicsState)
-    → StaysThird (is.miap round cvt s z g) (is.miap round cvt s z (with_all g))
-miap k round cvt s z g =
-    given.after third (is.point_and_value s cvt) _ _
-    (λ t. changed t.2 (by_value.miap round t.0 t.1 z g) _ ((k z g).miap round t.0 t.1))
+miap : Single → (t : Tolerance) (round : Bool) (cvt s : List ℤ) (z : ZoneLists) (g : GraphicsState)
+    → StaysThird (is.miap t round cvt s z g) (is.miap t round cvt s z (with_all g))
+miap k t round cvt (n ∷ p ∷ s) z g =
+    passed t s z _ _ _ (changed s (is.miap_by round p (is.control_value n cvt) z g) _
+    (given.after zones.beside (is.control_value n cvt) _ _ (λ c. (k z g).miap round p c)))
+miap k t round cvt (n ∷ []) z g = λ other. refl
+miap k t round cvt [] z g = λ other. refl
 
-mirp : Single → (keeping : Keeping) (cvt s : List ℤ) (z : ZoneLists) (g : GraphicsState)
-    → StaysThird (is.mirp keeping cvt s z g) (is.mirp keeping cvt s z (with_all g))
-mirp k keeping cvt s z g =
-    given.after third (is.point_and_value s cvt) _ _
-    (λ t. changed t.2 (by_value.mirp keeping t.0 t.1 z g) _ ((k z g).mirp keeping t.0 t.1))
+mirp : Single → (t : Tolerance) (keeping : Keeping) (cvt s : List ℤ) (z : ZoneLists) (g : GraphicsState)
+    → StaysThird (is.mirp t keeping cvt s z g) (is.mirp t keeping cvt s z (with_all g))
+mirp k t keeping cvt (n ∷ p ∷ s) z g =
+    passed t s z _ _ _ (changed s (is.mirp_by keeping p (is.mirp_value t n cvt) z g) _
+    (given.after zones.beside (is.mirp_value t n cvt) _ _ (λ c. (k z g).mirp keeping p c)))
+mirp k t keeping cvt (n ∷ []) z g = λ other. refl
+mirp k t keeping cvt [] z g = λ other. refl
 
-scfs : Single → (s : List ℤ) (z : ZoneLists) (g : GraphicsState) → StaysThird (is.scfs s z g) (is.scfs s z (with_all g))
-scfs k (v ∷ p ∷ s) z g = moved s g (measuring.scfs p v z g) _ ((k z g).scfs p v)
-scfs k (v ∷ []) z g = λ other. refl
-scfs k [] z g = λ other. refl
+scfs : Single → (t : Tolerance) (s : List ℤ) (z : ZoneLists) (g : GraphicsState)
+    → StaysThird (is.scfs t s z g) (is.scfs t s z (with_all g))
+scfs k t (v ∷ p ∷ s) z g = passed t s z _ _ _ (moved s g (measuring.scfs p v z g) _ ((k z g).scfs p v))
+scfs k t (v ∷ []) z g = λ other. refl
+scfs k t [] z g = λ other. refl
 
-utp : Single → (s : List ℤ) (z : ZoneLists) (g : GraphicsState) → StaysThird (is.utp s z g) (is.utp s z (with_all g))
-utp k (p ∷ s) z g = moved s g (measuring.utp p z g) _ ((k z g).utp p)
-utp k [] z g = λ other. refl
+utp : Single → (t : Tolerance) (s : List ℤ) (z : ZoneLists) (g : GraphicsState)
+    → StaysThird (is.utp t s z g) (is.utp t s z (with_all g))
+utp k t (p ∷ s) z g = passed t s z _ _ _ (moved s g (measuring.utp p z g) _ ((k z g).utp p))
+utp k t [] z g = λ other. refl
 
-gc : Single → (of : Position) (s : List ℤ) (z : ZoneLists) (g : GraphicsState)
-    → StaysSame (is.gc of s z g) (is.gc of s z (with_all g))
-gc k of (p ∷ s) z g =
-    chained (λ c. c) (λ t. t) (measuring.gc of p z g) _ _ _ ((k z g).gc of p) (λ c. same (pushed c s))
-gc k of [] z g = λ other. refl
+gc : Single → (t : Tolerance) (of : Position) (s : List ℤ) (z : ZoneLists) (g : GraphicsState)
+    → StaysSame (is.gc t of s z g) (is.gc t of s z (with_all g))
+gc k t of (p ∷ s) z g =
+    chained (λ c. c) (λ r. r) (unless_missing t (pos 0) (measuring.gc of p z g)) _ _ _
+    (passed_over (λ c. c) t (pos 0) (measuring.gc of p z g) _ ((k z g).gc of p)) (λ c. same (pushed c s))
+gc k t of [] z g = λ other. refl
 
-md : Single → (between : Position) (s : List ℤ) (z : ZoneLists) (g : GraphicsState)
-    → StaysSame (is.md between s z g) (is.md between s z (with_all g))
-md k between (p1 ∷ p2 ∷ s) z g =
-    chained (λ d. d) (λ t. t) (measuring.md between p2 p1 z g) _ _ _ ((k z g).md between p2 p1) (λ d. same (pushed d s))
-md k between (p1 ∷ []) z g = λ other. refl
-md k between [] z g = λ other. refl
+md : Single → (t : Tolerance) (between : Position) (s : List ℤ) (z : ZoneLists) (g : GraphicsState)
+    → StaysSame (is.md t between s z g) (is.md t between s z (with_all g))
+md k t between (p1 ∷ p2 ∷ s) z g =
+    chained (λ d. d) (λ r. r) (unless_missing t (pos 0) (measuring.md between p2 p1 z g)) _ _ _
+    (passed_over (λ d. d) t (pos 0) (measuring.md between p2 p1 z g) _ ((k z g).md between p2 p1))
+    (λ d. same (pushed d s))
+md k t between (p1 ∷ []) z g = λ other. refl
+md k t between [] z g = λ other. refl
 
 -- on lines
-spvtl : Single → (turned : Bool) (s : List ℤ) (z : ZoneLists) (g : GraphicsState)
-    → StaysThird (is.spvtl turned s z g) (is.spvtl turned s z (with_all g))
-spvtl k turned (p1 ∷ p2 ∷ s) z g = set s z (lines.spvtl turned p1 p2 z g) _ ((k z g).spvtl turned p1 p2)
-spvtl k turned (p1 ∷ []) z g = λ other. refl
-spvtl k turned [] z g = λ other. refl
+spvtl : Single → (t : Tolerance) (turned : Bool) (s : List ℤ) (z : ZoneLists) (g : GraphicsState)
+    → StaysThird (is.spvtl t turned s z g) (is.spvtl t turned s z (with_all g))
+spvtl k t turned (p1 ∷ p2 ∷ s) z g =
+    passed t s z _ _ _ (set s z (lines.spvtl turned p1 p2 z g) _ ((k z g).spvtl turned p1 p2))
+spvtl k t turned (p1 ∷ []) z g = λ other. refl
+spvtl k t turned [] z g = λ other. refl
 
-sfvtl : Single → (turned : Bool) (s : List ℤ) (z : ZoneLists) (g : GraphicsState)
-    → StaysThird (is.sfvtl turned s z g) (is.sfvtl turned s z (with_all g))
-sfvtl k turned (p1 ∷ p2 ∷ s) z g = set s z (lines.sfvtl turned p1 p2 z g) _ ((k z g).sfvtl turned p1 p2)
-sfvtl k turned (p1 ∷ []) z g = λ other. refl
-sfvtl k turned [] z g = λ other. refl
+sfvtl : Single → (t : Tolerance) (turned : Bool) (s : List ℤ) (z : ZoneLists) (g : GraphicsState)
+    → StaysThird (is.sfvtl t turned s z g) (is.sfvtl t turned s z (with_all g))
+sfvtl k t turned (p1 ∷ p2 ∷ s) z g =
+    passed t s z _ _ _ (set s z (lines.sfvtl turned p1 p2 z g) _ ((k z g).sfvtl turned p1 p2))
+sfvtl k t turned (p1 ∷ []) z g = λ other. refl
+sfvtl k t turned [] z g = λ other. refl
 
-sdpvtl : Single → (turned : Bool) (s : List ℤ) (z : ZoneLists) (g : GraphicsState)
-    → StaysThird (is.sdpvtl turned s z g) (is.sdpvtl turned s z (with_all g))
-sdpvtl k turned (p1 ∷ p2 ∷ s) z g = set s z (lines.sdpvtl turned p1 p2 z g) _ ((k z g).sdpvtl turned p1 p2)
-sdpvtl k turned (p1 ∷ []) z g = λ other. refl
-sdpvtl k turned [] z g = λ other. refl
+sdpvtl : Single → (t : Tolerance) (turned : Bool) (s : List ℤ) (z : ZoneLists) (g : GraphicsState)
+    → StaysThird (is.sdpvtl t turned s z g) (is.sdpvtl t turned s z (with_all g))
+sdpvtl k t turned (p1 ∷ p2 ∷ s) z g =
+    passed t s z _ _ _ (set s z (lines.sdpvtl turned p1 p2 z g) _ ((k z g).sdpvtl turned p1 p2))
+sdpvtl k t turned (p1 ∷ []) z g = λ other. refl
+sdpvtl k t turned [] z g = λ other. refl
 
-isect : Single → (s : List ℤ) (z : ZoneLists) (g : GraphicsState)
-    → StaysThird (is.isect s z g) (is.isect s z (with_all g))
-isect k (b1 ∷ b0 ∷ a1 ∷ a0 ∷ p ∷ s) z g =
-    moved s g (lines.isect p (is.ends a0 a1) (is.ends b0 b1) z g) _ ((k z g).isect p (is.ends a0 a1) (is.ends b0 b1))
-isect k (b1 ∷ b0 ∷ a1 ∷ a0 ∷ []) z g = λ other. refl
-isect k (b1 ∷ b0 ∷ a1 ∷ []) z g = λ other. refl
-isect k (b1 ∷ b0 ∷ []) z g = λ other. refl
-isect k (b1 ∷ []) z g = λ other. refl
-isect k [] z g = λ other. refl
+isect : Single → (t : Tolerance) (s : List ℤ) (z : ZoneLists) (g : GraphicsState)
+    → StaysThird (is.isect t s z g) (is.isect t s z (with_all g))
+isect k t (b1 ∷ b0 ∷ a1 ∷ a0 ∷ p ∷ s) z g =
+    passed t s z _ _ _
+    (moved s g (lines.isect p (is.ends a0 a1) (is.ends b0 b1) z g) _
+    ((k z g).isect p (is.ends a0 a1) (is.ends b0 b1)))
+isect k t (b1 ∷ b0 ∷ a1 ∷ a0 ∷ []) z g = λ other. refl
+isect k t (b1 ∷ b0 ∷ a1 ∷ []) z g = λ other. refl
+isect k t (b1 ∷ b0 ∷ []) z g = λ other. refl
+isect k t (b1 ∷ []) z g = λ other. refl
+isect k t [] z g = λ other. refl
 
-alignpts : Single → (s : List ℤ) (z : ZoneLists) (g : GraphicsState)
-    → StaysThird (is.alignpts s z g) (is.alignpts s z (with_all g))
-alignpts k (p1 ∷ p2 ∷ s) z g = moved s g (lines.alignpts p1 p2 z g) _ ((k z g).alignpts p1 p2)
-alignpts k (p1 ∷ []) z g = λ other. refl
-alignpts k [] z g = λ other. refl
+alignpts : Single → (t : Tolerance) (s : List ℤ) (z : ZoneLists) (g : GraphicsState)
+    → StaysThird (is.alignpts t s z g) (is.alignpts t s z (with_all g))
+alignpts k t (p1 ∷ p2 ∷ s) z g = passed t s z _ _ _ (moved s g (lines.alignpts p1 p2 z g) _ ((k z g).alignpts p1 p2))
+alignpts k t (p1 ∷ []) z g = λ other. refl
+alignpts k t [] z g = λ other. refl
 
 -- on several points
-alignrp : Many → (s : List ℤ) (z : ZoneLists) (g : GraphicsState)
-    → StaysThird (is.alignrp s z g) (is.alignrp s z (with_all g))
-alignrp k s z g =
-    given.after third (looped s g) _ _ (λ t. changed t.1 (moving.alignrp t.0 z g) _ ((k z g).alignrp t.0))
+alignrp : Many → (t : Tolerance) (s : List ℤ) (z : ZoneLists) (g : GraphicsState)
+    → StaysThird (is.alignrp t s z g) (is.alignrp t s z (with_all g))
+alignrp k t s z g =
+    loop t (has_point g.zp0 g.rp0 z) s z g (λ points. moving.alignrp t points z g)
+    (λ points. moving.alignrp t points z (with_all g)) ((k z g).alignrp t)
 
-ip : Many → (s : List ℤ) (z : ZoneLists) (g : GraphicsState) → StaysThird (is.ip s z g) (is.ip s z (with_all g))
-ip k s z g = given.after third (looped s g) _ _ (λ t. changed t.1 (moving.ip t.0 z g) _ ((k z g).ip t.0))
+ip : Many → (t : Tolerance) (s : List ℤ) (z : ZoneLists) (g : GraphicsState)
+    → StaysThird (is.ip t s z g) (is.ip t s z (with_all g))
+ip k t s z g =
+    loop t (has_point g.zp0 g.rp1 z) s z g (λ points. moving.ip t points z g)
+    (λ points. moving.ip t points z (with_all g)) ((k z g).ip t)
 
-shp : Many → (which : ReferencePoint) (s : List ℤ) (z : ZoneLists) (g : GraphicsState)
-    → StaysThird (is.shp which s z g) (is.shp which s z (with_all g))
-shp k which s z g =
-    given.after third (looped s g) _ _ (λ t. changed t.1 (shifting.shp which t.0 z g) _ ((k z g).shp which t.0))
+-- the whole instruction set has no part in which point is referred to
+referred : (which : ReferencePoint) (z : ZoneLists) (g : GraphicsState)
+    → is.has_reference which z (with_all g) ≡ is.has_reference which z g
+unfolding has_reference
+referred by.Rp1 z g = refl
+referred by.Rp2 z g = refl
 
-shpix : Many → (s : List ℤ) (z : ZoneLists) (g : GraphicsState)
-    → StaysThird (is.shpix s z g) (is.shpix s z (with_all g))
-shpix k (amount ∷ s) z g =
-    given.after third (looped s g) _ _ (λ t. changed t.1 (moving.shpix t.0 amount z g) _ ((k z g).shpix t.0 amount))
-shpix k [] z g = λ other. refl
+shp : Many → (t : Tolerance) (which : ReferencePoint) (s : List ℤ) (z : ZoneLists) (g : GraphicsState)
+    → StaysThird (is.shp t which s z g) (is.shp t which s z (with_all g))
+shp k t which s z g =
+    rw (referred which z g)
+    (loop t (is.has_reference which z g) s z g (λ points. shifting.shp t which points z g)
+    (λ points. shifting.shp t which points z (with_all g)) ((k z g).shp t which))
 
-flippt : Many → (s : List ℤ) (z : ZoneLists) (g : GraphicsState)
-    → StaysThird (is.flippt s z g) (is.flippt s z (with_all g))
-flippt k s z g =
-    given.after third (looped s g) _ _ (λ t. changed t.1 (flipping.flippt t.0 z g) _ ((k z g).flippt t.0))
+shpix : Many → (t : Tolerance) (s : List ℤ) (z : ZoneLists) (g : GraphicsState)
+    → StaysThird (is.shpix t s z g) (is.shpix t s z (with_all g))
+shpix k t (amount ∷ s) z g =
+    loop t true s z g (λ points. moving.shpix t points amount z g)
+    (λ points. moving.shpix t points amount z (with_all g)) (λ points. (k z g).shpix t points amount)
+shpix k t [] z g = λ other. refl
 
-fliprgon : (s : List ℤ) (z : ZoneLists) (g : GraphicsState)
-    → StaysThird (is.fliprgon s z g) (is.fliprgon s z (with_all g))
-fliprgon (high ∷ low ∷ s) z g = moved s g (flipping.fliprgon low high z) _ (same (flipping.fliprgon low high z))
-fliprgon (high ∷ []) z g = λ other. refl
-fliprgon [] z g = λ other. refl
+flippt : Many → (t : Tolerance) (s : List ℤ) (z : ZoneLists) (g : GraphicsState)
+    → StaysThird (is.flippt t s z g) (is.flippt t s z (with_all g))
+flippt k t s z g =
+    loop t true s z g (λ points. flipping.flippt t points z g)
+    (λ points. flipping.flippt t points z (with_all g)) ((k z g).flippt t)
 
-fliprgoff : (s : List ℤ) (z : ZoneLists) (g : GraphicsState)
-    → StaysThird (is.fliprgoff s z g) (is.fliprgoff s z (with_all g))
-fliprgoff (high ∷ low ∷ s) z g = moved s g (flipping.fliprgoff low high z) _ (same (flipping.fliprgoff low high z))
-fliprgoff (high ∷ []) z g = λ other. refl
-fliprgoff [] z g = λ other. refl
+fliprgon : (t : Tolerance) (s : List ℤ) (z : ZoneLists) (g : GraphicsState)
+    → StaysThird (is.fliprgon t s z g) (is.fliprgon t s z (with_all g))
+fliprgon t (high ∷ low ∷ s) z g =
+    passed t s z _ _ _ (moved s g (flipping.fliprgon low high z) _ (same (flipping.fliprgon low high z)))
+fliprgon t (high ∷ []) z g = λ other. refl
+fliprgon t [] z g = λ other. refl
 
-shc : Many → (which : ReferencePoint) (s : List ℤ) (z : ZoneLists) (g : GraphicsState)
-    → StaysThird (is.shc which s z g) (is.shc which s z (with_all g))
-shc k which (c ∷ s) z g = moved s g (shifting.shc which c z g) _ ((k z g).shc which c)
-shc k which [] z g = λ other. refl
+fliprgoff : (t : Tolerance) (s : List ℤ) (z : ZoneLists) (g : GraphicsState)
+    → StaysThird (is.fliprgoff t s z g) (is.fliprgoff t s z (with_all g))
+fliprgoff t (high ∷ low ∷ s) z g =
+    passed t s z _ _ _ (moved s g (flipping.fliprgoff low high z) _ (same (flipping.fliprgoff low high z)))
+fliprgoff t (high ∷ []) z g = λ other. refl
+fliprgoff t [] z g = λ other. refl
 
-shz : Many → (which : ReferencePoint) (s : List ℤ) (z : ZoneLists) (g : GraphicsState)
-    → StaysThird (is.shz which s z g) (is.shz which s z (with_all g))
-shz k which (e ∷ s) z g = moved s g (shifting.shz which e z g) _ ((k z g).shz which e)
-shz k which [] z g = λ other. refl
+shc : Many → (t : Tolerance) (which : ReferencePoint) (s : List ℤ) (z : ZoneLists) (g : GraphicsState)
+    → StaysThird (is.shc t which s z g) (is.shc t which s z (with_all g))
+shc k t which (c ∷ s) z g = passed t s z _ _ _ (moved s g (shifting.shc which c z g) _ ((k z g).shc which c))
+shc k t which [] z g = λ other. refl
 
-deltap : Many → (range : DeltaRange) (ppem : ℕ) (s : List ℤ) (z : ZoneLists) (g : GraphicsState)
-    → StaysThird (is.deltap range ppem s z g) (is.deltap range ppem s z (with_all g))
-deltap k range ppem s z g =
-    given.after third (counted s) _ _
-    (λ t. moved t.1 g (deltas.deltap range ppem t.0 z g) _ ((k z g).deltap range ppem t.0))
+shz : Many → (t : Tolerance) (which : ReferencePoint) (s : List ℤ) (z : ZoneLists) (g : GraphicsState)
+    → StaysThird (is.shz t which s z g) (is.shz t which s z (with_all g))
+shz k t which (e ∷ s) z g = passed t s z _ _ _ (moved s g (shifting.shz which e z g) _ ((k z g).shz which e))
+shz k t which [] z g = λ other. refl
+
+deltap : Many → (t : Tolerance) (range : DeltaRange) (ppem : ℕ) (s : List ℤ) (z : ZoneLists) (g : GraphicsState)
+    → StaysThird (is.deltap t range ppem s z g) (is.deltap t range ppem s z (with_all g))
+deltap k t range ppem s z g =
+    given.after third (counted t s) _ _
+    (λ c. moved c.1 g (deltas.deltap t range ppem c.0 z g) _ ((k z g).deltap t range ppem c.0))
 
 -- what is left of everything
 valued : (cvt : List ℤ) (r with : Left) → StaysThird r with → Stays beside (with_values cvt r) (with_values cvt with)
-valued cvt r with stays = chained third beside r with _ _ stays (λ t. refl)
+valued cvt r with stays = chained third beside r with _ _ stays (λ u. refl)
 
 told : (z : ZoneLists) (g : GraphicsState) (cvt : List ℤ) (r with : Result (List ℤ) Why) → StaysSame r with
     → Stays beside (with_points z g cvt r) (with_points z (with_all g) cvt with)
 told z g cvt r with stays = chained (λ s. s) beside r with _ _ stays (λ s. refl)
 
 pub points_stay : Single → Many → PointsStay
-points_stay one many instruction.Utp ppem s z g cvt = valued cvt _ _ (utp one s z g)
-points_stay one many (instruction.Mdap round) ppem s z g cvt = valued cvt _ _ (mdap one round s z g)
-points_stay one many (instruction.Iup axis) ppem s z g cvt = valued cvt _ _ (moved s g (iup axis z) _ (same (iup axis z)))
-points_stay one many (instruction.Shp which) ppem s z g cvt = valued cvt _ _ (shp many which s z g)
-points_stay one many (instruction.Shc which) ppem s z g cvt = valued cvt _ _ (shc many which s z g)
-points_stay one many (instruction.Shz which) ppem s z g cvt = valued cvt _ _ (shz many which s z g)
-points_stay one many instruction.Shpix ppem s z g cvt = valued cvt _ _ (shpix many s z g)
-points_stay one many instruction.Ip ppem s z g cvt = valued cvt _ _ (ip many s z g)
-points_stay one many (instruction.Msirp set_rp0) ppem s z g cvt = valued cvt _ _ (msirp one set_rp0 s z g)
-points_stay one many instruction.Alignrp ppem s z g cvt = valued cvt _ _ (alignrp many s z g)
-points_stay one many (instruction.Miap round) ppem s z g cvt = valued cvt _ _ (miap one round cvt s z g)
-points_stay one many (instruction.Gc of) ppem s z g cvt = told z g cvt _ _ (gc one of s z g)
-points_stay one many instruction.Scfs ppem s z g cvt = valued cvt _ _ (scfs one s z g)
-points_stay one many (instruction.Md between) ppem s z g cvt = told z g cvt _ _ (md one between s z g)
-points_stay one many (instruction.Deltap range) ppem s z g cvt = valued cvt _ _ (deltap many range ppem s z g)
-points_stay one many (instruction.Deltac range) ppem s z g cvt =
-    given.after beside (deltac range ppem s g cvt) _ _ (λ t. refl)
-points_stay one many instruction.Flippt ppem s z g cvt = valued cvt _ _ (flippt many s z g)
-points_stay one many instruction.Fliprgon ppem s z g cvt = valued cvt _ _ (fliprgon s z g)
-points_stay one many instruction.Fliprgoff ppem s z g cvt = valued cvt _ _ (fliprgoff s z g)
-points_stay one many (instruction.Mdrp keeping) ppem s z g cvt = valued cvt _ _ (mdrp one keeping s z g)
-points_stay one many (instruction.Mirp keeping) ppem s z g cvt = valued cvt _ _ (mirp one keeping cvt s z g)
-points_stay one many (instruction.Spvtl turned) ppem s z g cvt = valued cvt _ _ (spvtl one turned s z g)
-points_stay one many (instruction.Sfvtl turned) ppem s z g cvt = valued cvt _ _ (sfvtl one turned s z g)
-points_stay one many (instruction.Sdpvtl turned) ppem s z g cvt = valued cvt _ _ (sdpvtl one turned s z g)
-points_stay one many instruction.Isect ppem s z g cvt = valued cvt _ _ (isect one s z g)
-points_stay one many instruction.Alignpts ppem s z g cvt = valued cvt _ _ (alignpts one s z g)
+points_stay one many t instruction.Utp ppem s z g cvt = valued cvt _ _ (utp one t s z g)
+points_stay one many t (instruction.Mdap round) ppem s z g cvt = valued cvt _ _ (mdap one t round s z g)
+points_stay one many t (instruction.Iup axis) ppem s z g cvt =
+    valued cvt _ _ (moved s g (iup axis z) _ (same (iup axis z)))
+points_stay one many t (instruction.Shp which) ppem s z g cvt = valued cvt _ _ (shp many t which s z g)
+points_stay one many t (instruction.Shc which) ppem s z g cvt = valued cvt _ _ (shc many t which s z g)
+points_stay one many t (instruction.Shz which) ppem s z g cvt = valued cvt _ _ (shz many t which s z g)
+points_stay one many t instruction.Shpix ppem s z g cvt = valued cvt _ _ (shpix many t s z g)
+points_stay one many t instruction.Ip ppem s z g cvt = valued cvt _ _ (ip many t s z g)
+points_stay one many t (instruction.Msirp set_rp0) ppem s z g cvt = valued cvt _ _ (msirp one t set_rp0 s z g)
+points_stay one many t instruction.Alignrp ppem s z g cvt = valued cvt _ _ (alignrp many t s z g)
+points_stay one many t (instruction.Miap round) ppem s z g cvt = valued cvt _ _ (miap one t round cvt s z g)
+points_stay one many t (instruction.Gc of) ppem s z g cvt = told z g cvt _ _ (gc one t of s z g)
+points_stay one many t instruction.Scfs ppem s z g cvt = valued cvt _ _ (scfs one t s z g)
+points_stay one many t (instruction.Md between) ppem s z g cvt = told z g cvt _ _ (md one t between s z g)
+points_stay one many t (instruction.Deltap range) ppem s z g cvt = valued cvt _ _ (deltap many t range ppem s z g)
+points_stay one many t (instruction.Deltac range) ppem s z g cvt =
+    given.after beside (deltac t range ppem s g cvt) _ _ (λ u. refl)
+points_stay one many t instruction.Flippt ppem s z g cvt = valued cvt _ _ (flippt many t s z g)
+points_stay one many t instruction.Fliprgon ppem s z g cvt = valued cvt _ _ (fliprgon t s z g)
+points_stay one many t instruction.Fliprgoff ppem s z g cvt = valued cvt _ _ (fliprgoff t s z g)
+points_stay one many t (instruction.Mdrp keeping) ppem s z g cvt = valued cvt _ _ (mdrp one t keeping s z g)
+points_stay one many t (instruction.Mirp keeping) ppem s z g cvt = valued cvt _ _ (mirp one t keeping cvt s z g)
+points_stay one many t (instruction.Spvtl turned) ppem s z g cvt = valued cvt _ _ (spvtl one t turned s z g)
+points_stay one many t (instruction.Sfvtl turned) ppem s z g cvt = valued cvt _ _ (sfvtl one t turned s z g)
+points_stay one many t (instruction.Sdpvtl turned) ppem s z g cvt = valued cvt _ _ (sdpvtl one t turned s z g)
+points_stay one many t instruction.Isect ppem s z g cvt = valued cvt _ _ (isect one t s z g)
+points_stay one many t instruction.Alignpts ppem s z g cvt = valued cvt _ _ (alignpts one t s z g)

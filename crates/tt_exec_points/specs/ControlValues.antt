@@ -45,19 +45,21 @@ popped entries = reverse (pairs_of entries)
 
 -- the stack and the control values
 abbrev pub deltac : Tolerance → DeltaRange → ℕ → List ℤ → GraphicsState → List ℤ → Result (List ℤ × List ℤ) Why
-deltac t range ppem s g cvt = counted t s >>= λ c. changes t range ppem g (popped c.0) cvt >>= λ values. Ok (c.1, values)
+deltac t range ppem s g cvt = counted t s >>= λ c. changes t range ppem g (popped c.0) cvt >>= λ v. Ok (c.1, v)
 
 -- worked values
-a_value_at_its_size : deltac tolerance.Strict ranges.First 16 (pos 1 ∷ pos 0 ∷ pos 0x7F ∷ []) default_state (pos 100 ∷ []) ≡ Ok ([], pos 164 ∷ [])
+abbrev first : Tolerance → ℕ → List ℤ → Result (List ℤ × List ℤ) Why
+first t ppem s = deltac t ranges.First ppem s default_state (pos 100 ∷ [])
+
+a_value_at_its_size : first tolerance.Strict 16 (pos 1 ∷ pos 0 ∷ pos 0x7F ∷ []) ≡ Ok ([], pos 164 ∷ [])
 a_value_at_its_size = refl
 
-no_value_one : deltac tolerance.Strict ranges.First 16 (pos 1 ∷ pos 1 ∷ pos 0x7F ∷ []) default_state (pos 100 ∷ []) ≡ Err why.CvtRange
+no_value_one : first tolerance.Strict 16 (pos 1 ∷ pos 1 ∷ pos 0x7F ∷ []) ≡ Err why.CvtRange
 no_value_one = refl
 
-no_value_needed_at_other_sizes : deltac tolerance.Strict ranges.First 17 (pos 1 ∷ pos 1 ∷ pos 0x7F ∷ []) default_state (pos 100 ∷ [])
-    ≡ Ok ([], pos 100 ∷ [])
+no_value_needed_at_other_sizes : first tolerance.Strict 17 (pos 1 ∷ pos 1 ∷ pos 0x7F ∷ []) ≡ Ok ([], pos 100 ∷ [])
 no_value_needed_at_other_sizes = refl
 
-no_value_one_passed_over : deltac tolerance.Tolerant ranges.First 16
-    (pos 2 ∷ pos 0 ∷ pos 0x7F ∷ pos 1 ∷ pos 0x7F ∷ []) default_state (pos 100 ∷ []) ≡ Ok ([], pos 164 ∷ [])
+no_value_one_passed_over : first tolerance.Tolerant 16 (pos 2 ∷ pos 0 ∷ pos 0x7F ∷ pos 1 ∷ pos 0x7F ∷ [])
+    ≡ Ok ([], pos 164 ∷ [])
 no_value_one_passed_over = refl

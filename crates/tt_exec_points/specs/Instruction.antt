@@ -1,14 +1,17 @@
 -- Apple TrueType Reference Manual, "Instruction set": the instructions that move or measure points, and those that
 -- change control values by exceptions, with the stack, which has its top first. What each does to its points stands in
 -- the crates tt_points, tt_points_loops and tt_points_iup, by the same names.
-use Rattle.std.specs.Prelude.{ℕ, ℤ, pos, negsuc, Bool, true, ◌&&◌, if◌then◌else◌, List, [], ◌∷◌, length, get_or, Result, Ok, Err}
+use Rattle.std.specs.Prelude.{◌≡◌, ℕ, ℤ, pos, negsuc, Bool, true, false, ◌&&◌, if◌then◌else◌, List, [], ◌∷◌, length, get_or, Result, Ok, Err, refl}
 use Rattle.std.specs.Ordering.{int_eq}
 use Rattle.tt_core.specs.Outcomes.{◌>>=◌}
 use Rattle.tt_core.specs.declared.fault.Why.{Why}
 use Rattle.tt_core.specs.declared.fault.Why.TheVariants as why
+use Rattle.tt_state.specs.GraphicsState.{default_state}
+use Rattle.tt_state.specs.Vectors.{project, along}
 use Rattle.tt_state.specs.declared.graphics_state.GraphicsState.{GraphicsState}
 use Rattle.tt_state.specs.Tolerance.{is_tolerant, unless_missing}
 use Rattle.tt_state.specs.declared.tolerance.Tolerance.{Tolerance}
+use Rattle.tt_state.specs.declared.tolerance.Tolerance.TheVariants as tolerance
 use Rattle.tt_points_iup.specs.Interpolation.{iup}
 use Rattle.tt_points_loops.specs.declared.deltas.DeltaRange.{DeltaRange}
 use Rattle.tt_points_loops.specs.declared.shifting.ReferencePoint.{ReferencePoint}
@@ -19,11 +22,16 @@ use Rattle.tt_points_loops.specs.Shifting as shifting
 use Rattle.tt_points.specs.declared.distances.Keeping.{Keeping}
 use Rattle.tt_points.specs.declared.lines.Ends.{Ends}
 use Rattle.tt_points.specs.declared.measuring.Position.{Position}
+use Rattle.tt_points.specs.declared.measuring.Position.TheVariants as position
 use Rattle.tt_points.specs.ControlValues as by_value
 use Rattle.tt_points.specs.Lines as lines
 use Rattle.tt_points.specs.Measuring as measuring
 use Rattle.tt_points.specs.Moving as single_moving
-use Rattle.tt_points.specs.Moving.{referred}
+use Rattle.tt_points.specs.ControlValues.{chosen_from, mirp_distance}
+use Rattle.tt_points.specs.Distances.{keeping, single_width}
+use Rattle.tt_points.specs.Moving.{kept, referred, zero_and, zero_and_touched}
+use Rattle.tt_points.specs.Twilight.{made}
+use Rattle.tt_points_zones.specs.Motions.{direction}
 use Rattle.tt_points_zones.specs.Points.{has_point}
 use Rattle.tt_points_zones.specs.Zones.{ZoneLists}
 use Rattle.tt_exec_stack.specs.Stack.{pushed}
@@ -101,9 +109,12 @@ alignrp t s z g = looped t (has_point g.zp0 g.rp0 z) s z g (λ points. moving.al
 abbrev pub ip : Tolerance → List ℤ → ZoneLists → GraphicsState → Left
 ip t s z g = looped t (has_point g.zp0 g.rp1 z) s z g (λ points. moving.ip t points z g)
 
+-- whether the reference point is there that others follow
+unfoldable pub has_reference : ReferencePoint → ZoneLists → GraphicsState → Bool
+has_reference which z g = has_point (shifting.reference_zone which g) (shifting.reference_number which g) z
+
 abbrev pub shp : Tolerance → ReferencePoint → List ℤ → ZoneLists → GraphicsState → Left
-shp t which s z g = looped t (has_point (shifting.reference_zone which g) (shifting.reference_number which g) z) s z g
-    (λ points. shifting.shp t which points z g)
+shp t which s z g = looped t (has_reference which z g) s z g (λ points. shifting.shp t which points z g)
 
 abbrev pub shpix : Tolerance → List ℤ → ZoneLists → GraphicsState → Left
 shpix t (amount ∷ s) z g = looped t true s z g (λ points. moving.shpix t points amount z g)
@@ -197,3 +208,74 @@ on_points t (instruction.Sfvtl turned) ppem s z g cvt = with_values cvt (sfvtl t
 on_points t (instruction.Sdpvtl turned) ppem s z g cvt = with_values cvt (sdpvtl t turned s z g)
 on_points t instruction.Isect ppem s z g cvt = with_values cvt (isect t s z g)
 on_points t instruction.Alignpts ppem s z g cvt = with_values cvt (alignpts t s z g)
+
+-- how many values an instruction takes at once, before points and pairs of which the program says how many
+abbrev pub takes : PointInstruction → ℕ
+takes instruction.Utp = 1
+takes (instruction.Mdap round) = 1
+takes (instruction.Iup axis) = 0
+takes (instruction.Shp which) = 0
+takes (instruction.Shc which) = 1
+takes (instruction.Shz which) = 1
+takes instruction.Shpix = 1
+takes instruction.Ip = 0
+takes (instruction.Msirp set_rp0) = 2
+takes instruction.Alignrp = 0
+takes (instruction.Miap round) = 2
+takes (instruction.Gc of) = 1
+takes instruction.Scfs = 2
+takes (instruction.Md between) = 2
+takes (instruction.Deltap range) = 1
+takes (instruction.Deltac range) = 1
+takes instruction.Flippt = 0
+takes instruction.Fliprgon = 2
+takes instruction.Fliprgoff = 2
+takes (instruction.Mdrp keeping) = 1
+takes (instruction.Mirp keeping) = 2
+takes (instruction.Spvtl turned) = 2
+takes (instruction.Sfvtl turned) = 2
+takes (instruction.Sdpvtl turned) = 2
+takes instruction.Isect = 5
+takes instruction.Alignpts = 2
+
+-- worked values: what a tolerant machine does with two points, one at 0 and one at 40 along x, where these have no more
+abbrev two : ZoneLists
+two = zero_and (pos 40)
+
+no_point_fifty : mdap tolerance.Tolerant true (pos 50 ∷ []) two default_state ≡ Ok ([], two, default_state)
+unfolding single_moving.mdap
+no_point_fifty = refl
+
+a_missing_point_is_referred_to : mdrp tolerance.Tolerant (keeping true false false) (pos 50 ∷ []) two default_state
+    ≡ Ok ([], two, record default_state { rp0 = pos 50; rp1 = pos 0; rp2 = pos 50 })
+unfolding single_moving.mdrp
+a_missing_point_is_referred_to = refl
+
+no_value_three : miap tolerance.Tolerant true (pos 10 ∷ pos 20 ∷ pos 30 ∷ []) (pos 3 ∷ pos 1 ∷ []) two default_state
+    ≡ Ok ([], two, record default_state { rp0 = pos 1; rp1 = pos 1 })
+no_value_three = refl
+
+minus_one_is_zero : mirp tolerance.Tolerant (keeping false false false) [] (negsuc 0 ∷ pos 1 ∷ []) two default_state
+    ≡ Ok ([], zero_and_touched (pos 40) (pos 0), record default_state { rp2 = pos 1 })
+unfolding by_value.mirp made chosen_from mirp_distance kept single_width direction project along
+minus_one_is_zero = refl
+
+minus_one_is_no_value : mirp tolerance.Strict (keeping false false false) [] (negsuc 0 ∷ pos 1 ∷ []) two default_state
+    ≡ Err why.CvtRange
+minus_one_is_no_value = refl
+
+no_point_is_at_zero : gc tolerance.Tolerant position.Current (pos 50 ∷ []) two default_state ≡ Ok (pos 0 ∷ [])
+unfolding measuring.gc pushed
+no_point_is_at_zero = refl
+
+no_point_is_popped : alignrp tolerance.Tolerant (pos 1 ∷ []) two (record default_state { rp0 = pos 50 })
+    ≡ Ok (pos 1 ∷ [], two, record default_state { rp0 = pos 50 })
+no_point_is_popped = refl
+
+two_points_of_three : shpix tolerance.Tolerant (pos 32 ∷ pos 1 ∷ pos 0 ∷ []) two (record default_state { loops = 3 })
+    ≡ Ok (pos 1 ∷ pos 0 ∷ [], two, default_state)
+two_points_of_three = refl
+
+two_points_refused : shpix tolerance.Strict (pos 32 ∷ pos 1 ∷ pos 0 ∷ []) two (record default_state { loops = 3 })
+    ≡ Err why.StackShort
+two_points_refused = refl

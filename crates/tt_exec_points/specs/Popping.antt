@@ -35,8 +35,8 @@ nothing_looped s z g = (s, z, set_back g)
 abbrev pub too_little : Bool → List ℤ → GraphicsState → Bool
 too_little referred s g = not referred || nat_lt (length s) g.loops
 
--- what an instruction does with the points that it loops over, where its reference point is there, or is not. A tolerant
--- machine takes no point where there is too little (profile).
+-- what an instruction does with the points that it loops over, where its reference point is there, or is not: a
+-- tolerant machine takes no point where there is too little (profile)
 abbrev pub looped : Tolerance → Bool → List ℤ → ZoneLists → GraphicsState
     → (List ℤ → Result (ZoneLists × GraphicsState) Why) → Left
 looped t referred s z g change =

@@ -1,6 +1,7 @@
 -- No part of the standard: what an instruction on points gives without the whole instruction set it gives with it too.
 use Rattle.std.specs.Prelude.{ℕ, ℤ, List}
 use Rattle.tt_state.specs.declared.graphics_state.GraphicsState.{GraphicsState}
+use Rattle.tt_state.specs.declared.tolerance.Tolerance.{Tolerance}
 use Rattle.tt_points_zones.specs.WithAll.{with_all, Stays}
 use Rattle.tt_points_zones.specs.Zones.{ZoneLists}
 use Rattle.tt_exec_points.specs.Instruction.{on_points}
@@ -11,5 +12,5 @@ abbrev pub beside : List ℤ × ZoneLists × GraphicsState × List ℤ → List 
 beside t = (t.0, t.1, with_all t.2, t.3)
 
 abbrev pub PointsStay : Type 0
-PointsStay = (o : PointInstruction) (ppem : ℕ) (s : List ℤ) (z : ZoneLists) (g : GraphicsState) (cvt : List ℤ)
-    → Stays beside (on_points o ppem s z g cvt) (on_points o ppem s z (with_all g) cvt)
+PointsStay = (t : Tolerance) (o : PointInstruction) (ppem : ℕ) (s : List ℤ) (z : ZoneLists) (g : GraphicsState)
+    (cvt : List ℤ) → Stays beside (on_points t o ppem s z g cvt) (on_points t o ppem s z (with_all g) cvt)

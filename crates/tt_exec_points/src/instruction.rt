@@ -1,6 +1,6 @@
-//! The instructions on points, and those that change control values by exceptions, with the interpreter's stack. What each
-//! does to its points stands in the crate tt_points and below it, by the same name. Apple TrueType Reference Manual,
-//! "Instruction set".
+//! The instructions on points, and those that change control values by exceptions, with the interpreter's stack. What
+//! each does to its points stands in the crate tt_points and below it, by the same name. Apple TrueType Reference
+//! Manual, "Instruction set".
 
 ghost use Rattle.std.specs.Prelude.{◌≡◌, ◌≤◌, length, unsigned_abs, IfErr, IfOk};
 ghost use Rattle.tt_core.specs.Outcomes.{Gives};
@@ -65,8 +65,8 @@ macro_rules! unless_missing {
     };
 }
 
-/// Does what works on the points whose numbers stand on the stack, as many as the loop variable says. Error: StackShort.
-/// A tolerant machine takes none of them where the reference point is not there, or there are fewer.
+/// Does what works on the points whose numbers stand on the stack, as many as the loop variable says. A tolerant
+/// machine takes none of them where the reference point is not there, or there are fewer. Error: StackShort.
 macro_rules! looped {
     ($tolerance:ident, $referred:expr, $stack:ident, $graphics:ident, $numbers:ident => $change:expr) => {{
         if $tolerance.is_tolerant() && does_nothing($referred, $stack, $graphics) {
@@ -146,7 +146,8 @@ impl Points {
         stack: &mut Stack,
         graphics: &mut GraphicsState,
     ) -> Result<(), Why>
-        ensures { Gives (λ u. (stack.new, self.new, graphics.new)) result (is.mdap tolerance round stack.old self.old graphics.old) }
+        ensures { let given = is.mdap tolerance round stack.old self.old graphics.old in
+            Gives (λ u. (stack.new, self.new, graphics.new)) result given }
     {
         let p = stack.pop()?;
         unless_missing!(tolerance, mdap(&mut self.zones, graphics, round, p), ())
@@ -160,7 +161,8 @@ impl Points {
         stack: &mut Stack,
         graphics: &mut GraphicsState,
     ) -> Result<(), Why>
-        ensures { Gives (λ u. (stack.new, self.new, graphics.new)) result (is.mdrp tolerance keeping stack.old self.old graphics.old) }
+        ensures { let given = is.mdrp tolerance keeping stack.old self.old graphics.old in
+            Gives (λ u. (stack.new, self.new, graphics.new)) result given }
     {
         let p = stack.pop()?;
         let done = mdrp(&mut self.zones, graphics, keeping, p);
@@ -175,11 +177,16 @@ impl Points {
         stack: &mut Stack,
         graphics: &mut GraphicsState,
     ) -> Result<(), Why>
-        ensures { Gives (λ u. (stack.new, self.new, graphics.new)) result (is.msirp tolerance set_rp0 stack.old self.old graphics.old) }
+        ensures { let given = is.msirp tolerance set_rp0 stack.old self.old graphics.old in
+            Gives (λ u. (stack.new, self.new, graphics.new)) result given }
     {
         let d = stack.pop()?;
         let p = stack.pop()?;
-        unless_missing!(tolerance, msirp(&mut self.zones, graphics, set_rp0, p, d), ())
+        unless_missing!(
+            tolerance,
+            msirp(&mut self.zones, graphics, set_rp0, p, d),
+            ()
+        )
     }
 
     /// MIAP by a control value, if it is there. Errors: why it is not; PointRange, Perpendicular, ValueRange.
@@ -247,8 +254,14 @@ impl Points {
     }
 
     /// SCFS[]: p, v -> . Errors: PointRange, Perpendicular, ValueRange.
-    pub(crate) fn scfs(&mut self, tolerance: Tolerance, stack: &mut Stack, graphics: &GraphicsState) -> Result<(), Why>
-        ensures { Gives (λ u. (stack.new, self.new, graphics.now)) result (is.scfs tolerance stack.old self.old graphics.now) }
+    pub(crate) fn scfs(
+        &mut self,
+        tolerance: Tolerance,
+        stack: &mut Stack,
+        graphics: &GraphicsState,
+    ) -> Result<(), Why>
+        ensures { let given = is.scfs tolerance stack.old self.old graphics.now in
+            Gives (λ u. (stack.new, self.new, graphics.now)) result given }
     {
         let v = stack.pop()?;
         let p = stack.pop()?;
@@ -256,8 +269,14 @@ impl Points {
     }
 
     /// UTP[]: p -> . Error: PointRange.
-    pub(crate) fn utp(&mut self, tolerance: Tolerance, stack: &mut Stack, graphics: &GraphicsState) -> Result<(), Why>
-        ensures { Gives (λ u. (stack.new, self.new, graphics.now)) result (is.utp tolerance stack.old self.old graphics.now) }
+    pub(crate) fn utp(
+        &mut self,
+        tolerance: Tolerance,
+        stack: &mut Stack,
+        graphics: &GraphicsState,
+    ) -> Result<(), Why>
+        ensures { let given = is.utp tolerance stack.old self.old graphics.now in
+            Gives (λ u. (stack.new, self.new, graphics.now)) result given }
     {
         let p = stack.pop()?;
         unless_missing!(tolerance, utp(&mut self.zones, graphics, p), ())
@@ -301,16 +320,36 @@ impl Points {
         stack: &mut Stack,
         graphics: &mut GraphicsState,
     ) -> Result<(), Why>
-        ensures { Gives (λ u. (stack.new, self.new, graphics.new)) result (is.alignrp tolerance stack.old self.old graphics.old) }
+        ensures { let given = is.alignrp tolerance stack.old self.old graphics.old in
+            Gives (λ u. (stack.new, self.new, graphics.new)) result given }
     {
-        looped!(tolerance, self.zones.has(graphics.zp0, graphics.rp0), stack, graphics, numbers => alignrp(&mut self.zones, graphics, tolerance, numbers))
+        looped!(tolerance, self.zones.has(graphics.zp0, graphics.rp0), stack, graphics, numbers =>
+            alignrp(&mut self.zones, graphics, tolerance, numbers))
     }
 
     /// IP[]: as many points as the loop says -> .
-    pub(crate) fn ip(&mut self, tolerance: Tolerance, stack: &mut Stack, graphics: &mut GraphicsState) -> Result<(), Why>
-        ensures { Gives (λ u. (stack.new, self.new, graphics.new)) result (is.ip tolerance stack.old self.old graphics.old) }
+    pub(crate) fn ip(
+        &mut self,
+        tolerance: Tolerance,
+        stack: &mut Stack,
+        graphics: &mut GraphicsState,
+    ) -> Result<(), Why>
+        ensures { let given = is.ip tolerance stack.old self.old graphics.old in
+            Gives (λ u. (stack.new, self.new, graphics.new)) result given }
     {
-        looped!(tolerance, self.zones.has(graphics.zp0, graphics.rp1), stack, graphics, numbers => ip(&mut self.zones, graphics, tolerance, numbers))
+        looped!(tolerance, self.zones.has(graphics.zp0, graphics.rp1), stack, graphics, numbers =>
+            ip(&mut self.zones, graphics, tolerance, numbers))
+    }
+
+    /// Whether the reference point is there that others follow.
+    #[tactic(auto, unfolding(crate::specs::Instruction::has_reference))]
+    fn has_reference(&self, which: ReferencePoint, graphics: &GraphicsState) -> bool
+        ensures { result ≡ is.has_reference which self.now graphics.now }
+    {
+        self.zones.has(
+            reference_zone(graphics, which),
+            reference_number(graphics, which),
+        )
     }
 
     /// SHP[a]: as many points as the loop says -> .
@@ -321,10 +360,11 @@ impl Points {
         stack: &mut Stack,
         graphics: &mut GraphicsState,
     ) -> Result<(), Why>
-        ensures { Gives (λ u. (stack.new, self.new, graphics.new)) result (is.shp tolerance which stack.old self.old graphics.old) }
+        ensures { let given = is.shp tolerance which stack.old self.old graphics.old in
+            Gives (λ u. (stack.new, self.new, graphics.new)) result given }
     {
-        let (zone, number) = (reference_zone(graphics, which), reference_number(graphics, which));
-        looped!(tolerance, self.zones.has(zone, number), stack, graphics, numbers => shp(&mut self.zones, graphics, tolerance, which, numbers))
+        looped!(tolerance, self.has_reference(which, graphics), stack, graphics, numbers =>
+            shp(&mut self.zones, graphics, tolerance, which, numbers))
     }
 
     /// SHPIX[]: as many points as the loop says, amount -> .
@@ -334,10 +374,12 @@ impl Points {
         stack: &mut Stack,
         graphics: &mut GraphicsState,
     ) -> Result<(), Why>
-        ensures { Gives (λ u. (stack.new, self.new, graphics.new)) result (is.shpix tolerance stack.old self.old graphics.old) }
+        ensures { let given = is.shpix tolerance stack.old self.old graphics.old in
+            Gives (λ u. (stack.new, self.new, graphics.new)) result given }
     {
         let amount = stack.pop()?;
-        looped!(tolerance, true, stack, graphics, numbers => shpix(&mut self.zones, graphics, tolerance, numbers, amount))
+        looped!(tolerance, true, stack, graphics, numbers =>
+            shpix(&mut self.zones, graphics, tolerance, numbers, amount))
     }
 
     /// FLIPPT[]: as many points as the loop says -> .
@@ -347,7 +389,8 @@ impl Points {
         stack: &mut Stack,
         graphics: &mut GraphicsState,
     ) -> Result<(), Why>
-        ensures { Gives (λ u. (stack.new, self.new, graphics.new)) result (is.flippt tolerance stack.old self.old graphics.old) }
+        ensures { let given = is.flippt tolerance stack.old self.old graphics.old in
+            Gives (λ u. (stack.new, self.new, graphics.new)) result given }
     {
         looped!(tolerance, true, stack, graphics, numbers => flippt(&mut self.zones, graphics, tolerance, numbers))
     }
@@ -359,7 +402,8 @@ impl Points {
         stack: &mut Stack,
         graphics: &GraphicsState,
     ) -> Result<(), Why>
-        ensures { Gives (λ u. (stack.new, self.new, graphics.now)) result (is.fliprgon tolerance stack.old self.old graphics.now) }
+        ensures { let given = is.fliprgon tolerance stack.old self.old graphics.now in
+            Gives (λ u. (stack.new, self.new, graphics.now)) result given }
     {
         let high = stack.pop()?;
         let low = stack.pop()?;
@@ -373,7 +417,8 @@ impl Points {
         stack: &mut Stack,
         graphics: &GraphicsState,
     ) -> Result<(), Why>
-        ensures { Gives (λ u. (stack.new, self.new, graphics.now)) result (is.fliprgoff tolerance stack.old self.old graphics.now) }
+        ensures { let given = is.fliprgoff tolerance stack.old self.old graphics.now in
+            Gives (λ u. (stack.new, self.new, graphics.now)) result given }
     {
         let high = stack.pop()?;
         let low = stack.pop()?;
@@ -388,10 +433,15 @@ impl Points {
         stack: &mut Stack,
         graphics: &GraphicsState,
     ) -> Result<(), Why>
-        ensures { Gives (λ u. (stack.new, self.new, graphics.now)) result (is.shc tolerance which stack.old self.old graphics.now) }
+        ensures { let given = is.shc tolerance which stack.old self.old graphics.now in
+            Gives (λ u. (stack.new, self.new, graphics.now)) result given }
     {
         let contour = stack.pop()?;
-        unless_missing!(tolerance, shc(&mut self.zones, graphics, which, contour), ())
+        unless_missing!(
+            tolerance,
+            shc(&mut self.zones, graphics, which, contour),
+            ()
+        )
     }
 
     /// SHZ[a]: zone -> . Errors: ZoneRange, PointRange, Perpendicular, ValueRange.
@@ -402,7 +452,8 @@ impl Points {
         stack: &mut Stack,
         graphics: &GraphicsState,
     ) -> Result<(), Why>
-        ensures { Gives (λ u. (stack.new, self.new, graphics.now)) result (is.shz tolerance which stack.old self.old graphics.now) }
+        ensures { let given = is.shz tolerance which stack.old self.old graphics.now in
+            Gives (λ u. (stack.new, self.new, graphics.now)) result given }
     {
         let zone = stack.pop()?;
         unless_missing!(tolerance, shz(&mut self.zones, graphics, which, zone), ())
@@ -417,7 +468,8 @@ impl Points {
         stack: &mut Stack,
         graphics: &GraphicsState,
     ) -> Result<(), Why>
-        ensures { Gives (λ u. (stack.new, self.new, graphics.now)) result (is.deltap tolerance range ppem stack.old self.old graphics.now) }
+        ensures { let given = is.deltap tolerance range ppem stack.old self.old graphics.now in
+            Gives (λ u. (stack.new, self.new, graphics.now)) result given }
     {
         let many = pairs_counted(stack)?;
         let there = pairs_there(tolerance, many, stack);
@@ -435,7 +487,8 @@ impl Points {
         stack: &mut Stack,
         graphics: &mut GraphicsState,
     ) -> Result<(), Why>
-        ensures { Gives (λ u. (stack.new, self.now, graphics.new)) result (is.spvtl tolerance turned stack.old self.now graphics.old) }
+        ensures { let given = is.spvtl tolerance turned stack.old self.now graphics.old in
+            Gives (λ u. (stack.new, self.now, graphics.new)) result given }
     {
         let p1 = stack.pop()?;
         let p2 = stack.pop()?;
@@ -450,7 +503,8 @@ impl Points {
         stack: &mut Stack,
         graphics: &mut GraphicsState,
     ) -> Result<(), Why>
-        ensures { Gives (λ u. (stack.new, self.now, graphics.new)) result (is.sfvtl tolerance turned stack.old self.now graphics.old) }
+        ensures { let given = is.sfvtl tolerance turned stack.old self.now graphics.old in
+            Gives (λ u. (stack.new, self.now, graphics.new)) result given }
     {
         let p1 = stack.pop()?;
         let p2 = stack.pop()?;
@@ -465,7 +519,8 @@ impl Points {
         stack: &mut Stack,
         graphics: &mut GraphicsState,
     ) -> Result<(), Why>
-        ensures { Gives (λ u. (stack.new, self.now, graphics.new)) result (is.sdpvtl tolerance turned stack.old self.now graphics.old) }
+        ensures { let given = is.sdpvtl tolerance turned stack.old self.now graphics.old in
+            Gives (λ u. (stack.new, self.now, graphics.new)) result given }
     {
         let p1 = stack.pop()?;
         let p2 = stack.pop()?;
@@ -473,8 +528,14 @@ impl Points {
     }
 
     /// ISECT[]: p, a0, a1, b0, b1 -> . Errors: PointRange, ValueRange.
-    pub(crate) fn isect(&mut self, tolerance: Tolerance, stack: &mut Stack, graphics: &GraphicsState) -> Result<(), Why>
-        ensures { Gives (λ u. (stack.new, self.new, graphics.now)) result (is.isect tolerance stack.old self.old graphics.now) }
+    pub(crate) fn isect(
+        &mut self,
+        tolerance: Tolerance,
+        stack: &mut Stack,
+        graphics: &GraphicsState,
+    ) -> Result<(), Why>
+        ensures { let given = is.isect tolerance stack.old self.old graphics.now in
+            Gives (λ u. (stack.new, self.new, graphics.now)) result given }
     {
         let b1 = stack.pop()?;
         let b0 = stack.pop()?;
@@ -492,7 +553,8 @@ impl Points {
         stack: &mut Stack,
         graphics: &GraphicsState,
     ) -> Result<(), Why>
-        ensures { Gives (λ u. (stack.new, self.new, graphics.now)) result (is.alignpts tolerance stack.old self.old graphics.now) }
+        ensures { let given = is.alignpts tolerance stack.old self.old graphics.now in
+            Gives (λ u. (stack.new, self.new, graphics.now)) result given }
     {
         let p1 = stack.pop()?;
         let p2 = stack.pop()?;
@@ -535,8 +597,12 @@ pub fn on_points(
         PointInstruction::Gc(of) => points.gc(tolerance, of, stack, graphics),
         PointInstruction::Scfs => points.scfs(tolerance, stack, graphics),
         PointInstruction::Md(between) => points.md(tolerance, between, stack, graphics),
-        PointInstruction::Deltap(range) => points.deltap(tolerance, range, size.ppem, stack, graphics),
-        PointInstruction::Deltac(range) => deltac(tolerance, range, size.ppem, stack, graphics, cvt),
+        PointInstruction::Deltap(range) => points.deltap(
+            tolerance, range, size.ppem, stack, graphics,
+        ),
+        PointInstruction::Deltac(range) => deltac(
+            tolerance, range, size.ppem, stack, graphics, cvt,
+        ),
         PointInstruction::Flippt => points.flippt(tolerance, stack, graphics),
         PointInstruction::Fliprgon => points.fliprgon(tolerance, stack, graphics),
         PointInstruction::Fliprgoff => points.fliprgoff(tolerance, stack, graphics),

@@ -2,6 +2,7 @@
 
 ghost use Rattle.std.specs.Prelude.{ℕ, ℤ, List, length, IfOk};
 ghost use Rattle.tt_state.specs.declared.graphics_state.GraphicsState.{GraphicsState};
+ghost use Rattle.tt_state.specs.declared.tolerance.Tolerance.{Tolerance};
 ghost use Rattle.tt_points_zones.specs.Zones.{ZoneLists, AreContours};
 ghost use Rattle.tt_exec_points.specs.declared.instruction.PointInstruction.{PointInstruction};
 ghost use Rattle.tt_exec_points.specs.Instruction as is;
@@ -11,8 +12,9 @@ ghost use Rattle.tt_exec_points.specs.WithAll.{PointsStay};
 /// Takes nothing and gives nothing: no instruction makes or drops a point or a control value, where the contours are
 /// those of the glyph's points.
 pub fn sizes_are_kept()
-    ensures { (op : PointInstruction) (ppem : ℕ) (s : List ℤ) (z : ZoneLists) (g : GraphicsState) (cvt : List ℤ)
-        → AreContours 0 z.contours (length z.glyph) → IfOk (is.on_points op ppem s z g cvt) (SameSizes z cvt) }
+    ensures { (t : Tolerance) (op : PointInstruction) (ppem : ℕ) (s : List ℤ) (z : ZoneLists) (g : GraphicsState)
+        (cvt : List ℤ) → AreContours 0 z.contours (length z.glyph)
+        → IfOk (is.on_points t op ppem s z g cvt) (SameSizes z cvt) }
 {
     tt_points::laws::shape_is_kept();
     tt_points_loops::laws::shape_is_kept();

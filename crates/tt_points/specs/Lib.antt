@@ -8,3 +8,4 @@ pub mod Lines
 pub mod Pairs
 pub mod Shapes
 pub mod WithAll
+pub mod Enough
