@@ -33,8 +33,8 @@ pub fn answers_are_loosened()
     ensures values { ValuesAreLoosened }
 {}
 
-/// With as many values as it takes, no instruction of a tolerant machine is short of values, nor of anything that is not
-/// there.
+/// With as many values as it takes, no instruction of a tolerant machine is short of values, or refused for something
+/// that is not there.
 pub fn answers_are_total()
     ensures settings { SettingIsTotal }
     ensures values { ValuesAreTotal }

@@ -22,8 +22,8 @@ fn place(n: i32, len: usize, why: Why) -> Result<usize, Why>
     Ok(n as usize)
 }
 
-/// What stands at a place of `values`; 0 where there is no such place, and that is passed over. Error: `why` where it is
-/// not.
+/// What stands at a place of `values`; 0 where there is no such place, and that is passed over. Error: `why`, where it
+/// is not passed over.
 #[inline(always)]
 fn value_at(tolerance: Tolerance, n: i32, values: &[i32], why: Why) -> Result<i32, Why>
     ensures { Gives (λ v. v) result (is.value_at tolerance n values.now why) }
@@ -35,8 +35,8 @@ fn value_at(tolerance: Tolerance, n: i32, values: &[i32], why: Why) -> Result<i3
     }
 }
 
-/// Puts a value at a place of `values`; nothing where there is no such place, and that is passed over. Error: `why`
-/// where it is not.
+/// Puts a value at a place of `values`; nothing where there is no such place, and that is passed over. Error: `why`,
+/// where it is not passed over.
 #[inline(always)]
 fn set_value(
     tolerance: Tolerance,
