@@ -16,7 +16,7 @@ use Rattle.tt_exec_state.specs.Queries as queries
 use Rattle.tt_exec_state.specs.Settings as settings
 use Rattle.tt_exec_state.specs.StoredValues as values
 use Rattle.tt_exec_state.specs.Vectors as vectors
-use Rattle.tt_exec_points.specs.Taking as points
+use Rattle.tt_exec_points.specs.Instruction as points
 
 pub data Operation : Type 0 where
   access_vectors : Vectors → Operation

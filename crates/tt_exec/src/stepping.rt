@@ -1,8 +1,7 @@
 //! One step, and a whole run. Apple TrueType Reference Manual, "Instructing TrueType Glyphs".
 
-ghost use Rattle.std.specs.Prelude.{◌≡◌, ◌<◌, ◌≤◌, length, IfErr, IfOk, IfSome, IsTrue};
+ghost use Rattle.std.specs.Prelude.{◌≡◌, ◌<◌, ◌≤◌, length, IfErr, IfOk, IfSome};
 ghost use Rattle.tt_core.specs.Outcomes.{font_fault};
-ghost use Rattle.tt_state.specs.Tolerance.{is_tolerant};
 ghost use Rattle.tt_exec.specs.Opcodes.{operation_of};
 ghost use Rattle.tt_exec.specs.Runs.{Ends, Halts};
 ghost use Rattle.tt_exec.specs.States.{state_of};
@@ -31,13 +30,14 @@ impl MachineState<'_> {
     }
 
     /// Has the values on the stack that an instruction takes, for a tolerant machine.
-    #[cold]
+    #[inline(always)]
     fn fill_stack(&mut self, op: u8)
-        requires { IsTrue (is_tolerant self.old.tolerance) }
         ensures exact { state_of self.new ≡ is.filled (operation_of op) (state_of self.old) }
         ensures frame { self.new.frame ≡ self.old.frame }
     {
-        self.stack.pad(taken_by(op));
+        if self.tolerance.is_tolerant() {
+            self.stack.pad(taken_by(op));
+        }
     }
 
     /// Does the instruction at the frame's place. Errors: CodeShort where its data passes the program's end or the
@@ -53,9 +53,7 @@ impl MachineState<'_> {
         }
         if let Some(op) = plain_opcode(bytes, at) {
             self.frame.place = at + 1;
-            if self.tolerance.is_tolerant() {
-                self.fill_stack(op);
-            }
+            self.fill_stack(op);
             return self.operate(op, at);
         }
         match decode(bytes, at) {
