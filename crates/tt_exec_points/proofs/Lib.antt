@@ -1,3 +1,6 @@
 mod Missing
 pub mod Shapes
 mod WithAll
+mod Loosened
+mod Total
+mod Short

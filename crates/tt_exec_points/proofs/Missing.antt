@@ -1,5 +1,5 @@
 -- What is passed over is not there.
-use Rattle.std.proofs.Common.{◌≡◌, Bool, true}
+use Rattle.std.proofs.Common.{◌≡◌, true}
 use Rattle.tt_core.specs.declared.fault.Why.{Why}
 use Rattle.tt_state.specs.Tolerance.{is_missing, passes_over}
 use Rattle.tt_state.specs.declared.tolerance.Tolerance.{Tolerance}

@@ -9,7 +9,6 @@ use Rattle.tt_state.specs.declared.tolerance.Tolerance.{Tolerance}
 use Rattle.tt_points.specs.declared.distances.Keeping.{Keeping}
 use Rattle.tt_points_loops.specs.declared.deltas.DeltaRange.{DeltaRange}
 use Rattle.tt_points_loops.specs.declared.shifting.ReferencePoint.{ReferencePoint}
-use Rattle.tt_points.specs.ControlValues as by_value
 use Rattle.tt_points.specs.Lines as lines
 use Rattle.tt_points.specs.Measuring as measuring
 use Rattle.tt_points.specs.Moving as single_moving
@@ -261,7 +260,8 @@ told z g cvt (Ok s) = record { zones = same z; control_values = refl }
 told z g cvt (Err why) = tt
 
 pub sizes_kept : Single → Many → Interpolated → (t : Tolerance) (op : PointInstruction) (ppem : ℕ) (s : List ℤ)
-    (z : ZoneLists) (g : GraphicsState) (cvt : List ℤ) → HasContours z → IfOk (on_points t op ppem s z g cvt) (SameSizes z cvt)
+    (z : ZoneLists) (g : GraphicsState) (cvt : List ℤ) → HasContours z
+    → IfOk (on_points t op ppem s z g cvt) (SameSizes z cvt)
 sizes_kept one many i t instruction.Utp ppem s z g cvt has = valued z cvt _ (utp one t s z g)
 sizes_kept one many i t (instruction.Mdap round) ppem s z g cvt has = valued z cvt _ (mdap one t round s z g)
 sizes_kept one many i t (instruction.Iup axis) ppem s z g cvt has =

@@ -1,10 +1,9 @@
 -- What an instruction on points gives without the whole instruction set it gives with it too.
-use Rattle.std.proofs.Common.{◌≡◌, ℕ, ℤ, pos, Bool, true, false, ◌&&◌, if◌then◌else◌, List, [], ◌∷◌, Result, Ok, Err, refl}
+use Rattle.std.proofs.Common.{◌≡◌, ℕ, ℤ, pos, Bool, true, false, ◌&&◌, if◌then◌else◌, List, [], ◌∷◌, Result, Ok, refl}
 use Rattle.tt_core.specs.declared.fault.Why.{Why}
 use Rattle.tt_state.specs.Tolerance.{is_tolerant, unless_missing}
 use Rattle.tt_state.specs.declared.graphics_state.GraphicsState.{GraphicsState}
 use Rattle.tt_state.specs.declared.tolerance.Tolerance.{Tolerance}
-use Rattle.tt_points.specs.ControlValues as by_value
 use Rattle.tt_points.specs.Lines as lines
 use Rattle.tt_points.specs.Measuring as measuring
 use Rattle.tt_points.specs.Moving as single_moving
@@ -31,7 +30,6 @@ use Rattle.tt_exec_points.specs.Instruction.{after_setting, has_reference, with_
 use Rattle.tt_exec_points.specs.Instruction as is
 use Rattle.tt_exec_points.specs.Popping.{Left, after, after_move, taken, too_little, looped, counted}
 use Rattle.tt_exec_points.specs.WithAll.{beside, PointsStay}
-use Rattle.tt_exec_points.specs.declared.instruction.PointInstruction.{PointInstruction}
 use Rattle.tt_exec_points.specs.declared.instruction.PointInstruction.TheVariants as instruction
 
 -- the laws of the instructions

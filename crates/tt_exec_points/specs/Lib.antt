@@ -3,3 +3,4 @@ pub mod ControlValues
 pub mod Instruction
 pub mod Shapes
 pub mod WithAll
+pub mod Laws

@@ -1,4 +1,4 @@
-use Rattle.std.proofs.Common.{◌≡◌, rules, true, sym, ◌∙◌}
+use Rattle.std.proofs.Common.{rules, sym, ◌∙◌}
 use Rattle.tt_exec_points.proofs.Missing.{missing}
 use Rattle.tt_exec_points.proofs.points.Points.shz.Goals as goal
 use Rattle.tt_exec_points.proofs.points.Points.shz.Goals.{in-Err, in_default-2, in_default}
