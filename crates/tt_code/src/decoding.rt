@@ -60,15 +60,15 @@ fn head_length(op: u8) -> usize
     }
 }
 
-/// How many bytes of data the instruction at a byte has, by its opcode.
-fn data_length(op: u8, code: &[u8], at: usize) -> usize
-    requires { at < length code.now }
-    ensures exact { result ≡ data_length op (slice_index code.now (at + 1)) }
+/// How many bytes of data an instruction has.
+fn data_length(op: u8, count: usize) -> usize
+    requires { count < 256 }
+    ensures exact { result ≡ data_length op count }
     ensures high { result ≤ 512 }
 {
     match op {
-        NPUSHB => count(code, at),
-        NPUSHW => 2 * count(code, at),
+        NPUSHB => count,
+        NPUSHW => 2 * count,
         PUSHB..=PUSHB_LAST => usize::from(op - PUSHB) + 1,
         PUSHW..=PUSHW_LAST => 2 * (usize::from(op - PUSHW) + 1),
         _ => 0,
@@ -102,7 +102,7 @@ pub fn decode<'a>(code: &'a [u8], at: usize) -> Result<Instr<'a>, Halt>
 {
     let op = code[at];
     let head = head_length(op);
-    let data = data_length(op, code, at);
+    let data = data_length(op, count(code, at));
     if code.len() - at < head + data {
         return Err(Halt {
             at,

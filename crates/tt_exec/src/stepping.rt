@@ -48,7 +48,7 @@ impl MachineState<'_> {
     {
         let at = self.frame.place;
         let bytes = self.frame.code.bytes;
-        if at >= bytes.len() {
+        if at == bytes.len() {
             return Outcome::Refused(Why::CodeShort);
         }
         if let Some(op) = plain_opcode(bytes, at) {
