@@ -1,14 +1,16 @@
 #!/usr/bin/env python3
-"""Makes cases.txt and whole.txt: runs of the bytecode machine, with what each leaves or why it stops.
+"""Makes cases.txt, whole.txt and tolerant.txt: runs of the bytecode machine, with what each leaves or why it stops.
 
   python3 tests/machine/make_cases.py RUNS.json > tests/machine/cases.txt
   python3 tests/machine/make_cases.py RUNS.json whole > tests/machine/whole.txt
+  python3 tests/machine/make_cases.py RUNS.json tolerant > tests/machine/tolerant.txt
 
-The files RUNS.json, one for the machine without the whole instruction set and one for that with it, are not kept here:
-another program made them, an independent model of the whole instruction set that was written from the rules alone. For
-each run they have the parts of the machine, the program, and the parts after it or the fault. This script only writes
-the same values as lines. What a line holds stands at the head of cases.txt. Left out and told are runs that begin with
-a point past the limit of coordinates, which no machine has: none of the first file, and 8 of the second.
+The files RUNS.json, one for the machine without the whole instruction set, one for that with it, and one for the
+tolerant machine, are not kept here: another program made them, an independent model of the three that was written from
+the rules alone. For each run they have the parts of the machine, the program, and the parts after it or the fault; the
+third also has the fault of a machine that isn't tolerant. This script only writes the same values as lines. What a line
+holds stands at the head of each file. Left out and told are runs that begin with a point past the limit of coordinates,
+which no machine has: none of the first file, 8 of the second, and none of the third.
 """
 import json
 import re
@@ -27,6 +29,17 @@ HEAD_OF_WHOLE = """\
 # crates/tt_test_answers/src/machine.rt. A line `font BASE CODE` is the font program whose functions and instructions the
 # runs after it have.
 """
+HEAD_OF_TOLERANT = """\
+# Runs of the bytecode machine that a tolerant one goes on with; the answers are values by another program, an
+# independent model of it that was written from the rules alone. Made by make_cases.py. A run is a line
+# NAME|QUESTION|ANSWER|REFUSAL, where NAME has the opcode under test, and REFUSAL is the answer to the same question
+# with `whole` in the place of `tolerant`. The words of question and answer stand at the head of
+# crates/tt_test_answers/src/machine.rt. A line `font BASE CODE` is the font program whose functions and instructions
+# the runs after it have.
+"""
+
+# What stands at the head of the file, by the word with which its questions begin.
+HEADS = {"": HEAD, "whole": HEAD_OF_WHOLE, "tolerant": HEAD_OF_TOLERANT}
 
 # The greatest magnitude of a coordinate, in 26.6 pixels.
 LIMIT = 2097151
@@ -96,11 +109,15 @@ def bodies(name, defined):
     return name + "".join(f" {number} {table} {start}" for number, table, start in defined)
 
 
+def refusal(fault):
+    table, offset, number, name = fault
+    return f"{table}+{offset}: {number} {name}"
+
+
 def answer(case, whole):
     want = case["want"]
     if "fault" in want:
-        table, offset, number, name = want["fault"]
-        return f"{table}+{offset}: {number} {name}"
+        return refusal(want["fault"])
     parts = [
         f"{want['steps']} steps",
         "stack" + "".join(f" {v}" for v in want["stack"]),
@@ -116,17 +133,25 @@ def answer(case, whole):
     return "; ".join(parts)
 
 
+def line(name, case, rules):
+    """Returns the line of a run by these rules, which are the first word of its question if they have a name."""
+    columns = [name, f"{rules} {question(case)}".lstrip(), answer(case, whole=rules != "")]
+    if rules == "tolerant":
+        columns.append(refusal(case["strict"]))
+    return "|".join(columns)
+
+
 def main():
     runs = json.load(open(sys.argv[1]))
-    whole = sys.argv[2:] == ["whole"]
-    print(HEAD_OF_WHOLE if whole else HEAD, end="")
+    rules = sys.argv[2] if len(sys.argv) > 2 else ""
+    print(HEADS[rules], end="")
     print(f"font {runs['fpgm_base']} {runs['fpgm']}")
     for case in runs["cases"]:
         name = re.sub(r"\W+", "_", case["name"])
         if not is_possible(case):
             print(f"{name} is left out: it begins with a point past the limit", file=sys.stderr)
             continue
-        print(f"{name}|{'whole ' if whole else ''}{question(case)}|{answer(case, whole)}")
+        print(line(name, case, rules))
 
 
 main()

@@ -3,6 +3,7 @@
 //!
 //!     TABLE BASE CODE EM PPEM CVT STORAGE TWILIGHT GLYPH ENDS
 //!     whole TABLE BASE CODE EM PPEM CVT STORAGE TWILIGHT GLYPH ENDS
+//!     tolerant TABLE BASE CODE EM PPEM CVT STORAGE TWILIGHT GLYPH ENDS
 //!     font BASE CODE
 //!
 //! The program of TABLE (fpgm, prep or glyf) begins at the offset BASE there; CODE is its bytes in hexadecimal, or `-`.
@@ -10,7 +11,8 @@
 //! point; each begins with its count. A point is `OX OY X Y FLAGS`, its original and its current place in 26.6 pixels,
 //! and the sum of 1 if it is touched along x, 2 if along y, and 4 if it is on the curve. The graphics state is the
 //! default one, and the functions are those that the font program defines, run with the same parts. After `whole` both
-//! programs have the whole instruction set, and the instructions too are those that the font program defines.
+//! programs have the whole instruction set, and the instructions too are those that the font program defines. After
+//! `tolerant` they have it too, and both are run by a tolerant machine.
 //!
 //! The answer of a question is a line too: the fault, or what the run leaves, with a semicolon between the parts: the
 //! number of steps, the stack from the bottom, the fields of the graphics state, of each list the places and values
@@ -27,7 +29,7 @@ ghost use Rattle.tt_points_zones.specs.Zones.{IsZones, zones_view};
 mod parts;
 mod telling;
 
-use self::parts::{Program, parts_in, program_in};
+use self::parts::{Program, Rules, parts_in, program_in};
 use self::telling::print_run;
 use crate::lines::Answers;
 use crate::words::Words;
@@ -54,17 +56,18 @@ impl Runs {
 impl Answers for Runs {
     fn take<W: Write>(&mut self, rt: &HostRuntime, out: &mut W, words: &mut Words) -> Result<()> {
         let alloc = rt.alloc();
-        let (whole, table) = match words.word()? {
+        let (rules, table) = match words.word()? {
             "font" => {
                 self.font = program_in(alloc, words)?;
                 return words.end();
             }
-            "whole" => (true, words.word()?),
-            table => (false, table),
+            "whole" => (Rules::Whole, words.word()?),
+            "tolerant" => (Rules::Tolerant, words.word()?),
+            table => (Rules::Profile, table),
         };
         let table = table_named(table)?;
         let program = program_in(alloc, words)?;
-        let parts = parts_in(alloc, words, whole)?;
+        let parts = parts_in(alloc, words, rules)?;
         words.end()?;
         let font = self.font.code(*b"fpgm");
         answer(alloc, out, font, program.code(table), parts)?;

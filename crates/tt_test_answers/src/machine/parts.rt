@@ -12,7 +12,7 @@ use std::collections::BTreeMap;
 use tt_core::{COORDINATE_LIMIT, SIZE_LIMIT};
 use tt_exec::{Code, Parts};
 use tt_points::Zones;
-use tt_state::{GraphicsState, Point};
+use tt_state::{GraphicsState, Point, Tolerance};
 
 const SIZE: i64 = SIZE_LIMIT as i64;
 
@@ -138,7 +138,36 @@ fn zones_in(alloc: Global, words: &mut Words) -> Result<Zones>
     })
 }
 
-pub(crate) fn parts_in<'a>(alloc: Global, words: &mut Words, whole: bool) -> Result<Parts<'a>>
+/// By which rules a machine runs its programs.
+#[derive(Clone, Copy)]
+pub(crate) enum Rules {
+    /// It has the instructions of the profile.
+    Profile,
+    /// It has the whole instruction set.
+    Whole,
+    /// It has the whole instruction set, and goes on where too few values are there, or what an instruction asks for
+    /// is not.
+    Tolerant,
+}
+
+impl Rules {
+    fn are_whole(self) -> bool {
+        match self {
+            Rules::Profile => false,
+            Rules::Whole | Rules::Tolerant => true,
+        }
+    }
+
+    fn tolerance(self) -> Tolerance {
+        match self {
+            Rules::Profile | Rules::Whole => Tolerance::Strict,
+            Rules::Tolerant => Tolerance::Tolerant,
+        }
+    }
+}
+
+/// The parts that the next words are, of a machine by these rules.
+pub(crate) fn parts_in<'a>(alloc: Global, words: &mut Words, rules: Rules) -> Result<Parts<'a>>
     ensures zones { IfOk result (λ p. IsZones (zones_view p.zones)) }
     ensures em { IfOk result (λ p. 16 ≤ p.em) }
     ensures ppem { IfOk result (λ p. p.ppem ≤ size_limit) }
@@ -156,7 +185,8 @@ pub(crate) fn parts_in<'a>(alloc: Global, words: &mut Words, whole: bool) -> Res
         zones,
         functions: BTreeMap::new(alloc),
         instructions: BTreeMap::new(alloc),
-        state: GraphicsState::new(whole),
+        state: GraphicsState::new(rules.are_whole()),
+        tolerance: rules.tolerance(),
         skip_glyphs: false,
         default_state: false,
     })
