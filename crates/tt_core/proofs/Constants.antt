@@ -1,7 +1,7 @@
 -- The code's limits are those of the specifications.
 use Rattle.std.proofs.Common.{◌≡◌, pos, refl}
-use Rattle.tt_core.specs.Limits.{font_limit, text_limit, size_limit, margin_limit, width_limit, height_limit, point_limit, component_limit, level_limit, coordinate_limit, step_limit, call_limit, stack_limit}
-use Rattle.tt_core.specs.declared.limits.TheConstants.{FONT_LIMIT, TEXT_LIMIT, SIZE_LIMIT, MARGIN_LIMIT, WIDTH_LIMIT, HEIGHT_LIMIT, POINT_LIMIT, COMPONENT_LIMIT, LEVEL_LIMIT, COORDINATE_LIMIT, STEP_LIMIT, CALL_LIMIT, STACK_LIMIT}
+use Rattle.tt_core.specs.Limits.{font_limit, text_limit, size_limit, margin_limit, width_limit, height_limit, point_limit, component_limit, level_limit, best_level_limit, coordinate_limit, step_limit, call_limit, stack_limit}
+use Rattle.tt_core.specs.declared.limits.TheConstants.{FONT_LIMIT, TEXT_LIMIT, SIZE_LIMIT, MARGIN_LIMIT, WIDTH_LIMIT, HEIGHT_LIMIT, POINT_LIMIT, COMPONENT_LIMIT, LEVEL_LIMIT, BEST_LEVEL_LIMIT, COORDINATE_LIMIT, STEP_LIMIT, CALL_LIMIT, STACK_LIMIT}
 
 font_is : FONT_LIMIT ≡ font_limit
 font_is = refl
@@ -29,6 +29,9 @@ components_are = refl
 
 levels_are : LEVEL_LIMIT ≡ level_limit
 levels_are = refl
+
+best_levels_are : BEST_LEVEL_LIMIT ≡ best_level_limit
+best_levels_are = refl
 
 coordinate_is : COORDINATE_LIMIT ≡ pos coordinate_limit
 coordinate_is = refl

@@ -36,6 +36,10 @@ component_limit = 32
 abbrev pub level_limit : ℕ
 level_limit = 4
 
+-- and where as many glyphs as possible are to be fitted
+abbrev pub best_level_limit : ℕ
+best_level_limit = 8
+
 -- a coordinate in magnitude, in 26.6 pixels
 abbrev pub coordinate_limit : ℕ
 coordinate_limit = 2097151

@@ -27,6 +27,9 @@ pub const COMPONENT_LIMIT: usize = 32;
 /// How deep components may be nested.
 pub const LEVEL_LIMIT: u32 = 4;
 
+/// How deep components may be nested, where as many glyphs as possible are to be fitted.
+pub const BEST_LEVEL_LIMIT: u32 = 8;
+
 /// A coordinate in magnitude, in 26.6 pixels: two of them and a pen are below 2^23, so that every product of a scan
 /// conversion fits 64 bits.
 pub const COORDINATE_LIMIT: i32 = 2_097_151;

@@ -4,7 +4,6 @@ use Rattle.std.specs.Prelude.{IsOkAnd}
 use Rattle.std.specs.List.{slice_get}
 use Rattle.tt_core.specs.Chains.{came-through, was-err}
 use Rattle.tt_core.specs.Faults.{Fault}
-use Rattle.tt_core.specs.Limits.{level_limit}
 use Rattle.tt_core.specs.Outcomes.{◌>>=◌}
 use Rattle.tt_glyf.specs.declared.raw.Record.{Record}
 use Rattle.tt_glyf.specs.GlyphData.{glyph_data_of}
@@ -216,11 +215,11 @@ pub faults-stand : OutlineFaultsStand
 unfolding fitted_outline IsOutlineDefect
 faults-stand s g f was =
     let t = glyph_fitter s g in
-    outline-broke t (added t level_limit) (IsBadComponent t level_limit) (component-broke t level_limit) g f was
+    outline-broke t (added t t.levels) (IsBadComponent t t.levels) (component-broke t t.levels) g f was
 
 pub outlines-whole : OutlinesAreWhole
 unfolding fitted_outline IsOutlineDefect
 outlines-whole s g o was = λ f bad.
     let t = glyph_fitter s g in
-    outline-whole t (added t level_limit) (IsBadComponent t level_limit) (component-whole t level_limit) g o f
+    outline-whole t (added t t.levels) (IsBadComponent t t.levels) (component-whole t t.levels) g o f
     was bad

@@ -4,7 +4,7 @@ use Rattle.std.specs.Prelude.{◌≡◌, ℕ, zero, suc, ◌+◌, ◌<◌, Bool,
 use Rattle.std.specs.List.{slice_get}
 use Rattle.tt_core.specs.Faults.{Fault}
 use Rattle.tt_core.specs.declared.fault.Why.TheVariants as why
-use Rattle.tt_core.specs.Limits.{coordinate_limit, level_limit, point_limit}
+use Rattle.tt_core.specs.Limits.{coordinate_limit, point_limit}
 use Rattle.tt_core.specs.Outcomes.{◌>>=◌}
 use Rattle.tt_glyf.specs.Format.{args_are_xy_values, has}
 use Rattle.tt_glyf.specs.declared.raw.RawPoint.{RawPoint}
@@ -138,4 +138,4 @@ IsDefectAt s levels g fault = IsDefectBy s (added s levels) (IsBadComponent s le
 
 -- one of a character's glyph, as it is made: of an unfitted one, a defect that stands without programs
 unfoldable pub IsOutlineDefect : Fitter → ℕ → Fault → Type 0
-IsOutlineDefect s g fault = IsDefectAt (glyph_fitter s g) level_limit g fault
+IsOutlineDefect s g fault = IsDefectAt (glyph_fitter s g) s.levels g fault

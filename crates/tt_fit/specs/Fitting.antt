@@ -28,13 +28,14 @@ use Rattle.tt_fit.specs.Scaling.{glyf_fault, phantom_points, blank, scaled_outli
 use Rattle.tt_fit.specs.Size.{FontSize}
 
 -- what outlines are made from: the glyph data and the metrics of a font, the pixels per em, what its programs leave,
--- and which glyphs are unfitted
+-- which glyphs are unfitted, and how deep components may be nested
 pub record Fitter : Type 0 where
   pub tables : Glyf
   pub metrics : Metrics
   pub ppem : ℕ
   pub hinting : Hinting
   pub fallback : Fallback
+  pub levels : ℕ
 
 -- the glyph data is that of the metrics, the size is one that is supported, and what the programs leave is what they
 -- can leave
@@ -90,7 +91,7 @@ outline_at s levels g = outline_by s (added s levels) g
 
 -- the fault for which a character's glyph is made with its scaled points, its components too
 unfoldable pub unfitted_fault : Fitter → ℕ → Option Fault
-unfitted_fault s g = unfitted_by s.fallback (outline_at (with_hinting s s.hinting) level_limit g)
+unfitted_fault s g = unfitted_by s.fallback (outline_at (with_hinting s s.hinting) s.levels g)
 
 -- what a character's glyph is made from
 abbrev pub glyph_fitter : Fitter → ℕ → Fitter
@@ -98,7 +99,7 @@ glyph_fitter s g = with_hinting s (hinting_for (unfitted_fault s g) s.hinting)
 
 -- the outline of a character's glyph, or the fault that comes first
 unfoldable pub fitted_outline : Fitter → ℕ → Result Outline Fault
-fitted_outline s g = outline_at (glyph_fitter s g) level_limit g
+fitted_outline s g = outline_at (glyph_fitter s g) s.levels g
 
 -- worked values: three glyphs at 16 pixels, 256 units in an em, each 256 wide; the bearing of glyph 1 alone is 64
 abbrev its_metrics : Metrics
@@ -123,6 +124,7 @@ its_setting third = record {
   ppem = 16;
   hinting = off;
   fallback = never;
+  levels = level_limit;
 }
 
 abbrev its_phantom_points : ℤ → PhantomPoints

@@ -10,6 +10,7 @@ pub mod Outline
 pub mod Parts
 pub mod Preparation
 pub mod Refusals
+pub mod Rules
 pub mod Scaling
 pub mod Size
 pub mod Views

@@ -1,7 +1,7 @@
 -- Apple TrueType Reference Manual, "Instructing TrueType Glyphs": what the font program and the control value program
 -- leave before the first glyph. Without programs they are not looked at. That a control value program begins with
 -- nothing of the font program but its definitions, and what is kept of it, is this project's own choice (profile).
-use Rattle.std.specs.Prelude.{ℕ, Bool, List, codes, Result, Ok, Err}
+use Rattle.std.specs.Prelude.{ℕ, List, codes, Result, Ok, Err}
 use Rattle.tt_core.specs.Faults.{Fault}
 use Rattle.tt_core.specs.Outcomes.{◌>>=◌}
 use Rattle.tt_exec.specs.MachineState.{Code}
@@ -15,17 +15,16 @@ use Rattle.tt_fit.specs.Fallback.{Fallback, never, where_refused, everywhere}
 use Rattle.tt_fit.specs.Fitting.{Fitter}
 use Rattle.tt_fit.specs.Hinting.{Hinting, off, ready, run_of}
 use Rattle.tt_fit.specs.Parts.{begun_parts, left_to_glyphs}
+use Rattle.tt_fit.specs.Rules.{is_whole, levels_of}
 
--- the control values, the font program and the control value program, and whether they are run with the whole
--- instruction set
+-- the control values, the font program and the control value program
 pub record ProgramTables : Type 0 where
   pub cvt : List ℕ
   pub fpgm : List ℕ
   pub prep : List ℕ
-  pub whole : Bool
 
 abbrev pub program_tables : declared.Programs → ProgramTables
-program_tables p = record { cvt = p.cvt.now; fpgm = p.fpgm.now; prep = p.prep.now; whole = p.whole }
+program_tables p = record { cvt = p.cvt.now; fpgm = p.fpgm.now; prep = p.prep.now }
 
 abbrev pub font_program : List ℕ → Code
 font_program fpgm = record { table = codes "fpgm"; base = 0; bytes = fpgm }
@@ -61,12 +60,28 @@ abbrev pub prepared_by : Fit → Result Hinting Fault → Result Preparation Fau
 prepared_by fit.None by_programs = Ok (without_fallback off)
 prepared_by fit.Full by_programs = by_programs >>= λ hinting. Ok (without_fallback hinting)
 prepared_by fit.Fallback by_programs = Ok (with_fallback by_programs)
+prepared_by fit.Best by_programs = Ok (with_fallback by_programs)
+
+-- what the two programs leave at a size by the rules of a way of fitting
+abbrev pub left_at : Metrics → ProgramTables → ℕ → Fit → Result Hinting Fault
+left_at m programs ppem fit = left_by_programs (begun_parts m programs.cvt ppem (is_whole fit)) programs
 
 unfoldable pub prepared : Metrics → ProgramTables → ℕ → Fit → Result Preparation Fault
-prepared m programs ppem fit = prepared_by fit (left_by_programs (begun_parts m programs.cvt ppem programs.whole) programs)
+prepared m programs ppem fit = prepared_by fit (left_at m programs ppem fit)
+
+-- what outlines are made from, by what the two programs leave
+abbrev pub fitter_with : Metrics → Glyf → ℕ → Fit → Hinting → Fallback → Fitter
+fitter_with m tables ppem fit hinting fallback = record {
+  tables = tables;
+  metrics = m;
+  ppem = ppem;
+  hinting = hinting;
+  fallback = fallback;
+  levels = levels_of fit;
+}
 
 -- what the outlines of a font at a size are made from
 unfoldable pub fitter_of : Metrics → Glyf → ProgramTables → ℕ → Fit → Result Fitter Fault
 fitter_of m tables programs ppem fit = do
   p ← prepared m programs ppem fit
-  Ok (record { tables = tables; metrics = m; ppem = ppem; hinting = p.hinting; fallback = p.fallback })
+  Ok (fitter_with m tables ppem fit p.hinting p.fallback)

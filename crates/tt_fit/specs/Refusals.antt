@@ -4,6 +4,7 @@
 use Rattle.std.specs.Prelude.{◌≡◌, true, false, pos, neg_ℤ, codes, [], ◌∷◌, Some, Ok, Err, refl}
 use Rattle.tt_core.specs.Faults.{Fault, fault_at, why_number}
 use Rattle.tt_core.specs.declared.fault.Why.TheVariants as why
+use Rattle.tt_core.specs.Limits.{level_limit}
 use Rattle.tt_exec.specs.Runs.{run_within, run_outcome}
 use Rattle.tt_glyf.specs.Bytes.{byte_in, word_in, signed_in, slice_in}
 use Rattle.tt_glyf.specs.Composite.{transform_at, argument_at, arguments_at, unscaled, known_glyph, record_at, records_from, program_of, composite_of}
@@ -46,6 +47,7 @@ its_setting fallback = record {
   ppem = 16;
   hinting = ready (begun_parts its_metrics [] 16 false);
   fallback = fallback;
+  levels = level_limit;
 }
 
 abbrev its_fault : Fault
@@ -96,7 +98,7 @@ short_is_refused = refl
 
 -- a font program of SPVTL
 abbrev its_programs : ProgramTables
-its_programs = record { cvt = []; fpgm = 6 ∷ []; prep = []; whole = false }
+its_programs = record { cvt = []; fpgm = 6 ∷ []; prep = [] }
 
 abbrev font_fault : Fault
 font_fault = fault_at (codes "fpgm") 0 why.OffProfile
@@ -110,7 +112,13 @@ by_it_every_glyph_is_unfitted : prepared its_metrics its_programs 16 fit.Fallbac
 unfolding prepared left_by_programs run_of run_outcome run_within
 by_it_every_glyph_is_unfitted = refl
 
--- by it a glyph that has no program is unfitted as well
+-- with best by an opcode that nothing defines
+with_best_every_glyph_is_unfitted : prepared its_metrics (record its_programs { fpgm = 0xA0 ∷ [] }) 16 fit.Best ≡ Ok
+    (record { hinting = off; fallback = everywhere (fault_at (codes "fpgm") 0 why.BadOpcode) })
+unfolding prepared left_by_programs run_of run_outcome run_within
+with_best_every_glyph_is_unfitted = refl
+
+-- by such a fault a glyph that has no program is unfitted as well
 empty_is_unfitted : unfitted_fault (its_setting (everywhere font_fault)) 0 ≡ Some font_fault
 unfolding unfitted_fault
 empty_is_unfitted = refl

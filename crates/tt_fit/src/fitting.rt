@@ -2,7 +2,7 @@
 
 ghost use Rattle.std.specs.Prelude.{◌≡◌, ◌+◌, ◌<◌, ◌≤◌, ◌^◌, IsTrue, IfOk, IfErr, OnOk, length, All};
 ghost use Rattle.tt_core.specs.Directory.{HasNo};
-ghost use Rattle.tt_core.specs.Limits.{font_limit, level_limit, point_limit, size_limit};
+ghost use Rattle.tt_core.specs.Limits.{font_limit, point_limit, size_limit};
 ghost use Rattle.tt_core.specs.Outcomes.{FontGives, Gives, IfTold, font_fault};
 ghost use Rattle.tt_glyf.specs.Loca.{glyph_offset};
 ghost use Rattle.tt_glyf.specs.Meaning.{AreEnds as EndContours, HasArguments};
@@ -23,16 +23,17 @@ use crate::joining::placed;
 use crate::outline::Outline;
 use crate::preparation::{Preparation, prepared};
 use crate::programs::{Fit, Programs};
+use crate::rules::levels_of;
 use crate::scaling::{blank, glyf_fault, phantom_points, scaled_outline};
 use crate::size::FontSize;
 use std::alloc::Global;
 use std::marker::Model;
-use tt_core::{Fault, FontFault, LEVEL_LIMIT, Why};
+use tt_core::{Fault, FontFault, Why};
 use tt_glyf::{Glyf, Raw, RawPoint, Record};
 use tt_metrics::Metrics;
 
 /// Makes the outlines of a font at a size. A clause sees it as the glyph data, the metrics, the size,
-/// what the font's programs left, and which glyphs are unfitted.
+/// what the font's programs left, which glyphs are unfitted, and how deep components may be nested.
 #[derive(Drop)]
 pub struct Fitter<'a> {
     alloc: Global,
@@ -41,6 +42,7 @@ pub struct Fitter<'a> {
     ppem: u32,
     hinting: Hinting<'a>,
     fallback: Fallback,
+    levels: u32,
 }
 
 impl<'a> Model for Fitter<'a> {
@@ -50,15 +52,16 @@ impl<'a> Model for Fitter<'a> {
 
     ghost Value = { fitting.Fitter };
 
-    ghost view = { λ f. record { tables = f.glyf; metrics = f.metrics; ppem = f.ppem; hinting = hinting_view f.hinting; fallback = fallback_view f.fallback } };
+    ghost view = { λ f. record { tables = f.glyf; metrics = f.metrics; ppem = f.ppem; hinting = hinting_view f.hinting; fallback = fallback_view f.fallback; levels = f.levels } };
 
-    ghost invariant = { λ f. IsFitter (record { tables = f.glyf; metrics = f.metrics; ppem = f.ppem; hinting = hinting_view f.hinting; fallback = fallback_view f.fallback }) };
+    ghost invariant = { λ f. IsFitter (record { tables = f.glyf; metrics = f.metrics; ppem = f.ppem; hinting = hinting_view f.hinting; fallback = fallback_view f.fallback; levels = f.levels }) };
 }
 
 impl<'a> Fitter<'a> {
     /// Takes the metrics and the glyph data of a font, and its programs. With `Fit::Full` the font program and the
     /// control value program are run at this size, in pixels per em; with `Fit::None` they are not looked at. Errors:
-    /// those of the two programs, Memory. With `Fit::Fallback` by a fault of the two every glyph is unfitted.
+    /// those of the two programs, Memory. With `Fit::Fallback` and `Fit::Best` by a fault of the two every glyph is
+    /// unfitted.
     #[tactic(auto, unfolding(crate::specs::Preparation::fitter_of))]
     pub fn new(
         alloc: Global,
@@ -89,12 +92,14 @@ impl<'a> Fitter<'a> {
             ppem,
             hinting,
             fallback,
+            levels: levels_of(fit),
         })
     }
 
     /// The outline of a glyph, in 26.6 pixels. Errors: those of reading a glyph, CoordRange, ComponentDepth,
-    /// MatchPoint, PointLimit, those of the programs of the glyph and its components, Memory. With `Fit::Fallback` a
-    /// program's fault is told with the outline, which then is made with its scaled points, components included.
+    /// MatchPoint, PointLimit, those of the programs of the glyph and its components, Memory. With `Fit::Fallback` and
+    /// `Fit::Best` a program's fault is told with the outline, which then is made with its scaled points, components
+    /// included.
     pub fn fitted(&self, g: u16) -> Result<Outline, FontFault>
         requires { g < self.now.tables.glyphs }
         ensures exact { FontGives outline_of result (fitted_outline self.now g) }
@@ -149,7 +154,7 @@ impl<'a> Fitter<'a> {
     fn refused(&self, g: u16, fault: Fault) -> Result<Outline, FontFault>
         requires known { g < self.now.tables.glyphs }
         requires fallback { self.now.fallback ≡ where_refused }
-        requires fault { outline_at (with_hinting self.now self.now.hinting) level_limit g ≡ Err fault }
+        requires fault { outline_at (with_hinting self.now self.now.hinting) self.now.levels g ≡ Err fault }
         ensures exact { FontGives outline_of result (fitted_outline self.now g) }
         ensures unfitted { IfOk result (λ o. o.unfitted ≡ unfitted_fault self.now g) }
         ensures valid { IfOk result (λ o. IsOutline (outline_of o)) }
@@ -169,11 +174,11 @@ impl<'a> Fitter<'a> {
     ) -> Result<Outline, FontFault>
         requires hinting { IsHinting (hinting_view hinting.now) }
         requires known { g < self.now.tables.glyphs }
-        ensures exact { FontGives outline_of result (outline_at (with_hinting self.now (hinting_view hinting.now)) level_limit g) }
+        ensures exact { FontGives outline_of result (outline_at (with_hinting self.now (hinting_view hinting.now)) self.now.levels g) }
         ensures unfitted { IfOk result (λ o. o.unfitted ≡ unfitted) }
         ensures valid { IfOk result (λ o. IsOutline (outline_of o)) }
     {
-        let outline = self.outline(hinting, LEVEL_LIMIT, g)?;
+        let outline = self.outline(hinting, self.levels, g)?;
         Ok(Outline {
             unfitted,
             ..outline

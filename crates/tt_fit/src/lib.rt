@@ -13,6 +13,7 @@ mod parts;
 mod position;
 mod preparation;
 mod programs;
+mod rules;
 mod scaling;
 mod size;
 

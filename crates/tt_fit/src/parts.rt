@@ -12,7 +12,6 @@ ghost use Rattle.tt_points_zones.specs.Zones.{zones_view, IsZones};
 
 use crate::glyph_zone::{contours, glyph_zone, untouched};
 use crate::outline::Outline;
-use crate::programs::Programs;
 use crate::size::FontSize;
 use std::alloc::{AllocError, Global};
 use std::collections::BTreeMap;
@@ -60,22 +59,23 @@ fn zones_without_glyph(alloc: Global, twilight: u16) -> Result<Zones, AllocError
 pub(crate) fn begun_parts<'a>(
     alloc: Global,
     metrics: &Metrics,
-    programs: Programs,
+    cvt: &[u8],
     size: FontSize,
+    whole: bool,
 ) -> Result<Parts<'a>, AllocError>
     requires { size.units_per_em ≡ units_per_em_of metrics.now }
-    ensures exact { IfOk result (λ p. parts_of p ≡ begun_parts metrics.now programs.entry.cvt.now size.ppem programs.entry.whole) }
+    ensures exact { IfOk result (λ p. parts_of p ≡ begun_parts metrics.now cvt.now size.ppem whole) }
     ensures valid { IfOk result (λ p. AreParts (parts_of p)) }
 {
     Ok(Parts {
         em: size.units_per_em,
         ppem: size.ppem,
-        cvt: control_values(alloc, size, programs.cvt)?,
+        cvt: control_values(alloc, size, cvt)?,
         storage: vec![in alloc; 0; usize::from(metrics.storage())]?,
         zones: zones_without_glyph(alloc, metrics.twilight())?,
         functions: BTreeMap::new(alloc),
         instructions: BTreeMap::new(alloc),
-        state: GraphicsState::new(programs.whole),
+        state: GraphicsState::new(whole),
         skip_glyphs: false,
         default_state: false,
     })

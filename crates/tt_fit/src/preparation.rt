@@ -1,16 +1,16 @@
 //! What the font program and the control value program leave to the glyphs. Apple TrueType Reference Manual,
 //! "Instructing TrueType Glyphs".
 
-ghost use Rattle.std.specs.Prelude.{◌≡◌, ◌+◌, ◌*◌, ◌≤◌, [], length, replicate, IfOk, IsTrue};
+ghost use Rattle.std.specs.Prelude.{◌≡◌, ◌+◌, ◌*◌, ◌≤◌, [], length, replicate, Ok, IfOk, IsTrue};
 ghost use Rattle.tt_core.specs.Faults.{is_ascii};
 ghost use Rattle.tt_core.specs.Limits.{font_limit};
 ghost use Rattle.tt_core.specs.Outcomes.{FontGives};
 ghost use Rattle.tt_exec.specs.Parts.{parts_of};
 ghost use Rattle.tt_exec.specs.Views.{code_of};
 ghost use Rattle.tt_fit.specs.Parts.{AreParts, begun_parts, left_to_glyphs};
-ghost use Rattle.tt_fit.specs.Preparation.{program_tables, left_by_programs, without_fallback, prepared_by, prepared};
+ghost use Rattle.tt_fit.specs.Preparation.{program_tables, left_by_programs, without_fallback, with_fallback, prepared};
 ghost use Rattle.tt_fit.specs.Hinting.{IsHinting};
-ghost use Rattle.tt_fit.specs.declared.programs.Fit.TheVariants as fit;
+ghost use Rattle.tt_fit.specs.Rules.{is_whole};
 ghost use Rattle.tt_fit.specs.Views.{hinting_view, preparation_view, size_view};
 ghost use Rattle.tt_metrics.specs.Metrics.{units_per_em_of};
 
@@ -18,6 +18,7 @@ use crate::fallback::{Fallback, told};
 use crate::hinting::{Hinting, run};
 use crate::parts::{begun_parts, left_to_glyphs};
 use crate::programs::{Fit, Programs};
+use crate::rules::is_whole;
 use crate::size::FontSize;
 use std::alloc::Global;
 use tt_core::FontFault;
@@ -51,16 +52,18 @@ fn left_by_programs<'a>(
     metrics: &Metrics,
     programs: Programs<'a>,
     size: FontSize,
+    fit: Fit,
 ) -> Result<Hinting<'a>, FontFault>
     requires units { size.units_per_em ≡ units_per_em_of metrics.now }
     requires fpgm { length programs.fpgm.now ≤ font_limit }
     requires prep { length programs.prep.now ≤ font_limit }
-    ensures exact { FontGives hinting_view result (left_by_programs (begun_parts metrics.now programs.entry.cvt.now size.ppem programs.entry.whole) (program_tables programs.entry)) }
+    ensures exact { FontGives hinting_view result (left_by_programs (begun_parts metrics.now programs.entry.cvt.now size.ppem (is_whole fit)) (program_tables programs.entry)) }
     ensures valid { IfOk result (λ h. IsHinting (hinting_view h)) }
 {
-    let begun = begun_parts(alloc, metrics, programs, size)?;
+    let whole = is_whole(fit);
+    let begun = begun_parts(alloc, metrics, programs.cvt, size, whole)?;
     let font = run(alloc, begun, whole_table(*b"fpgm", programs.fpgm))?;
-    let mut prep_parts = begun_parts(alloc, metrics, programs, size)?;
+    let mut prep_parts = begun_parts(alloc, metrics, programs.cvt, size, whole)?;
     prep_parts.functions = font.functions;
     prep_parts.instructions = font.instructions;
     let left = run(alloc, prep_parts, whole_table(*b"prep", programs.prep))?;
@@ -85,14 +88,15 @@ fn with_fallback<'a>(
     metrics: &Metrics,
     programs: Programs<'a>,
     size: FontSize,
+    fit: Fit,
 ) -> Result<Preparation<'a>, FontFault>
     requires units { size.units_per_em ≡ units_per_em_of metrics.now }
     requires fpgm { length programs.fpgm.now ≤ font_limit }
     requires prep { length programs.prep.now ≤ font_limit }
-    ensures exact { FontGives preparation_view result (prepared_by fit.Fallback (left_by_programs (begun_parts metrics.now programs.entry.cvt.now size.ppem programs.entry.whole) (program_tables programs.entry))) }
+    ensures exact { FontGives preparation_view result (Ok (with_fallback (left_by_programs (begun_parts metrics.now programs.entry.cvt.now size.ppem (is_whole fit)) (program_tables programs.entry)))) }
     ensures valid { IfOk result (λ p. IsHinting (hinting_view p.hinting)) }
 {
-    match left_by_programs(alloc, metrics, programs, size) {
+    match left_by_programs(alloc, metrics, programs, size, fit) {
         Ok(hinting) => Ok(Preparation {
             hinting,
             fallback: Fallback::WhereRefused,
@@ -107,7 +111,8 @@ fn with_fallback<'a>(
     }
 }
 
-/// What the programs leave to the glyphs at a size. Errors: those of the programs, but for `Fit::Fallback`; Memory.
+/// What the programs leave to the glyphs at a size. Errors: those of the programs, but for `Fit::Fallback` and
+/// `Fit::Best`; Memory.
 #[tactic(auto, unfolding(crate::specs::Preparation::prepared))]
 pub(crate) fn prepared<'a>(
     alloc: Global,
@@ -123,8 +128,8 @@ pub(crate) fn prepared<'a>(
     ensures valid { IfOk result (λ p. IsHinting (hinting_view p.hinting)) }
 {
     match fit {
-        Fit::Full => Ok(without_fallback(left_by_programs(alloc, metrics, programs, size)?)),
+        Fit::Full => Ok(without_fallback(left_by_programs(alloc, metrics, programs, size, fit)?)),
         Fit::None => Ok(without_fallback(Hinting::Off)),
-        Fit::Fallback => with_fallback(alloc, metrics, programs, size),
+        Fit::Fallback | Fit::Best => with_fallback(alloc, metrics, programs, size, fit),
     }
 }

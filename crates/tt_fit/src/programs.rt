@@ -1,4 +1,4 @@
-//! The tables of a font's programs, and whether they are run.
+//! The tables of a font's programs, and how they are run.
 
 /// How outlines are fitted to the grid.
 #[derive(Clone, Copy, Debug, PartialEq, Eq)]
@@ -9,9 +9,11 @@ pub enum Fit {
     None,
     /// By the font's programs; a glyph for which one of them is refused, not at all.
     Fallback,
+    /// As with `Fallback`, but programs have the whole instruction set, and components may be nested deeper.
+    Best,
 }
 
-/// The tables with a font's programs, each empty where the font has none, and what runs them.
+/// The tables with a font's programs, each empty where the font has none.
 #[derive(Clone, Copy)]
 pub struct Programs<'a> {
     /// The control values.
@@ -20,6 +22,4 @@ pub struct Programs<'a> {
     pub fpgm: &'a [u8],
     /// The control value program.
     pub prep: &'a [u8],
-    /// Whether they are run with the whole instruction set.
-    pub whole: bool,
 }

@@ -21,7 +21,8 @@ abbrev pub fit_named : List ℕ → Option Fit
 fit_named name =
     if bytes_eq name (codes "full") then Some fit.Full
     else (if bytes_eq name (codes "none") then Some fit.None
-    else (if bytes_eq name (codes "fallback") then Some fit.Fallback else None))
+    else (if bytes_eq name (codes "fallback") then Some fit.Fallback
+    else (if bytes_eq name (codes "best") then Some fit.Best else None)))
 
 -- the job of a text at a size, with a margin, fitted in the way of this name
 abbrev pub job_asked : List ℕ → ℕ → ℕ → List ℕ → Option Job

@@ -125,8 +125,10 @@ const NONE: &str = "none";
 
 const FALLBACK: &str = "fallback";
 
+const BEST: &str = "best";
+
 /// The words of `--fit`.
-pub static FITS: [&str; 3] = [FULL, NONE, FALLBACK];
+pub static FITS: [&str; 4] = [FULL, NONE, FALLBACK, BEST];
 
 /// The way to fit that has this name.
 fn way_of(name: &str) -> Option<Fit>
@@ -136,6 +138,7 @@ fn way_of(name: &str) -> Option<Fit>
         FULL => Some(Fit::Full),
         NONE => Some(Fit::None),
         FALLBACK => Some(Fit::Fallback),
+        BEST => Some(Fit::Best),
         _ => None,
     }
 }

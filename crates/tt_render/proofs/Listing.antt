@@ -1,12 +1,12 @@
 -- The glyphs that are not fitted, each once: what a search of the kept glyphs lists, and that none is listed twice.
-use Rattle.std.proofs.Common.{◌≡◌, ◌≢◌, ℕ, ◌+◌, ◌<◌, Bool, true, false, not, ◌&&◌, ◌||◌, ◌==◌, List, [], ◌∷◌, ◌++◌, length, map, drop, get_or, Option, Some, None, Result, Ok, All, refl, ap, ◌∙◌, arith, append_assoc, add-one, drop-cons}
+use Rattle.std.proofs.Common.{◌≡◌, ℕ, ◌+◌, ◌<◌, Bool, true, false, not, ◌&&◌, ◌||◌, ◌==◌, List, [], ◌∷◌, ◌++◌, length, map, drop, get_or, Option, Some, None, Result, Ok, All, refl, ap, ◌∙◌, arith, append_assoc, add-one, drop-cons}
 use Rattle.std.proofs.lemmas.Bool.Decides.{nat_tests}
 use Rattle.std.proofs.lemmas.List.Elements.{All-head, All-tail}
 use Rattle.tt_core.specs.Faults.{Fault}
 use Rattle.tt_fit.specs.Fitting.{Fitter, unfitted_fault}
 use Rattle.tt_core.specs.Chains.{came-through}
-use Rattle.tt_fit.specs.declared.programs.Fit.TheVariants as fit
 use Rattle.tt_fit.specs.Laws.{OthersNeverFallBack}
+use Rattle.tt_fit.specs.Rules.{falls_back}
 use Rattle.tt_line.specs.Layout.{Placement, placement}
 use Rattle.tt_scan.specs.declared.edge.Frame.{Frame}
 use Rattle.tt_render.specs.Job.{Job}
@@ -132,7 +132,7 @@ ok_empty : (xs entries : List Unfitted) → ◌≡◌ {A = Result (List Unfitted
 ok_empty xs entries was empty = cc
 
 line_lists_nothing : OthersNeverFallBack → (face : Face) (a : Job) (line : Placement) (entries : List Unfitted)
-    → line_report face a line ≡ Ok entries → a.fit ≢ fit.Fallback → entries ≡ []
+    → line_report face a line ≡ Ok entries → falls_back a.fit ≡ false → entries ≡ []
 unfolding line_report setting_in
 line_lists_nothing law face a line entries was other =
     let by_setting = came-through (setting_in face a) _ entries was in
@@ -140,7 +140,7 @@ line_lists_nothing law face a line entries was other =
     let by_tables = came-through (glyphs_in face.directory face.metrics) _ s by_setting.first in
     let by_programs = came-through (programs_in face.directory a.fit) _ s by_tables.rest in
     let none : (g : ℕ) → unfitted_fault s g ≡ None = λ g. law face.metrics by_tables.value by_programs.value a.ppem a.fit s g
-    by_programs.rest other in
+    other by_programs.rest in
     let empty = none_listed s (distinct (map (λ g. g.0) line.glyphs)) none in
     ok_empty _ entries by_setting.rest empty
 

@@ -108,6 +108,7 @@ unfolding programs_in
 programs-whole directory fit.None programs was = λ fault defect. absurd defect
 programs-whole directory fit.Full programs was = all-programs-whole directory programs was
 programs-whole directory fit.Fallback programs was = all-programs-whole directory programs was
+programs-whole directory fit.Best programs was = all-programs-whole directory programs was
 
 setting-whole : FontLaws → (face : Face) (a : Job) (s : Fitter) → setting_in face a ≡ Ok s
     → HasNo (IsSettingDefect face a)

@@ -46,9 +46,10 @@ abbrev pub IsProgramTableDefect : List ℕ → Fit → Fault → Type 0
 IsProgramTableDefect directory fit.None fault = ⊥
 IsProgramTableDefect directory fit.Full fault = HasProgramPastEnd directory fault
 IsProgramTableDefect directory fit.Fallback fault = HasProgramPastEnd directory fault
+IsProgramTableDefect directory fit.Best fault = HasProgramPastEnd directory fault
 
--- what the font program and the control value program leave at the size is this fault; with fallback it is kept, and no
--- defect
+-- what the font program and the control value program leave at the size is this fault; with fallback and best it is
+-- kept, and no defect
 abbrev pub IsPreparationDefect : Face → Job → Fault → Type 0
 IsPreparationDefect face a fault = IsOkAnd (programs_in face.directory a.fit)
     (λ programs. prepared face.metrics programs a.ppem a.fit ≡ Err fault)

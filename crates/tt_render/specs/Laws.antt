@@ -1,8 +1,8 @@
--- Laws of the definitions: where there are bytes to be written, the font has no defect; only fallback leaves a glyph
--- that is not fitted.
-use Rattle.std.specs.Prelude.{◌≡◌, ◌≢◌, ℕ, List, [], Ok}
+-- Laws of the definitions: where there are bytes to be written, the font has no defect; only fallback and best leave a
+-- glyph that is not fitted.
+use Rattle.std.specs.Prelude.{◌≡◌, ℕ, false, List, [], Ok}
 use Rattle.tt_core.specs.Directory.{HasNo}
-use Rattle.tt_fit.specs.declared.programs.Fit.TheVariants as fit
+use Rattle.tt_fit.specs.Rules.{falls_back}
 use Rattle.tt_render.specs.Job.{Job}
 use Rattle.tt_render.specs.declared.report.Unfitted.{Unfitted}
 use Rattle.tt_render.specs.Defects.{IsFaceDefect, IsRunDefect}
@@ -18,7 +18,7 @@ DrawnFontsAreWhole = (a : Job) (file bytes : List ℕ) → run_outcome a file �
 abbrev pub MappedFontsAreWhole : Type 0
 MappedFontsAreWhole = (text file bytes : List ℕ) → map_outcome text file ≡ Ok bytes → HasNo (IsFaceDefect file)
 
--- where glyphs are fitted in another way than with fallback, none is listed as not fitted
+-- where glyphs are fitted in a way that doesn't fall back, none is listed as not fitted
 abbrev pub OthersListNothing : Type 0
 OthersListNothing = (a : Job) (file : List ℕ) (entries : List Unfitted) → report_of a file ≡ Ok entries
-    → a.fit ≢ fit.Fallback → entries ≡ []
+    → falls_back a.fit ≡ false → entries ≡ []

@@ -2,7 +2,7 @@
 -- glyphs' data, and the programs. Apple TrueType Reference Manual, "The Font Directory", "The 'cvt ' table", "The 'fpgm'
 -- table", "The 'prep' table"; OpenType, "cmap", "loca", "glyf". A font may lack each of the last three; without fitting
 -- none of these is looked at.
-use Rattle.std.specs.Prelude.{◌≡◌, refl, ℕ, false, List, [], ◌∷◌, take, codes, Option, Some, None, Result, Ok, Err}
+use Rattle.std.specs.Prelude.{◌≡◌, refl, ℕ, List, [], ◌∷◌, take, codes, Option, Some, None, Result, Ok, Err}
 use Rattle.tt_cmap.specs.Lookup.{Cmap, cmap_of}
 use Rattle.tt_core.specs.declared.fault.Why.TheVariants as why
 use Rattle.tt_core.specs.Directory.{directory_of, table_of, needed_table}
@@ -65,21 +65,22 @@ unfoldable pub optional_table : List ℕ → List ℕ → Result (List ℕ) Faul
 optional_table directory tag = table_of directory tag >>= λ table. Ok (or_empty table)
 
 abbrev pub no_programs : ProgramTables
-no_programs = record { cvt = []; fpgm = []; prep = []; whole = false }
+no_programs = record { cvt = []; fpgm = []; prep = [] }
 
--- the three tables; no fit runs them with the whole instruction set yet
+-- the three tables
 unfoldable pub all_programs_in : List ℕ → Result ProgramTables Fault
 all_programs_in directory = do
   cvt ← optional_table directory cvt_tag
   fpgm ← optional_table directory fpgm_tag
   prep ← optional_table directory prep_tag
-  Ok (record { cvt = cvt; fpgm = fpgm; prep = prep; whole = false })
+  Ok (record { cvt = cvt; fpgm = fpgm; prep = prep })
 
 -- the programs that outlines are fitted by
 unfoldable pub programs_in : List ℕ → Fit → Result ProgramTables Fault
 programs_in directory fit.None = Ok no_programs
 programs_in directory fit.Full = all_programs_in directory
 programs_in directory fit.Fallback = all_programs_in directory
+programs_in directory fit.Best = all_programs_in directory
 
 -- worked values: a file with two bytes of control values, and no program
 abbrev two_bytes : List ℕ
@@ -87,7 +88,7 @@ two_bytes =
     0 ∷ 1 ∷ 0 ∷ 0 ∷ 0 ∷ 1 ∷ 0 ∷ 0 ∷ 0 ∷ 0 ∷ 0 ∷ 0
     ∷ 99 ∷ 118 ∷ 116 ∷ 32 ∷ 0 ∷ 0 ∷ 0 ∷ 0 ∷ 0 ∷ 0 ∷ 0 ∷ 28 ∷ 0 ∷ 0 ∷ 0 ∷ 2 ∷ 7 ∷ 8 ∷ []
 
-control_values_alone : programs_in two_bytes fit.Full ≡ Ok (record { cvt = 7 ∷ 8 ∷ []; fpgm = []; prep = []; whole = false })
+control_values_alone : programs_in two_bytes fit.Full ≡ Ok (record { cvt = 7 ∷ 8 ∷ []; fpgm = []; prep = [] })
 unfolding programs_in all_programs_in optional_table table_of
 control_values_alone = refl
 

@@ -15,7 +15,8 @@ pub fn fonts_are_whole()
     tt_line::laws::glyphs_are_placed();
 }
 
-/// Where the definition of what `run` is to report gives a list, it is empty unless the job's fit is `Fit::Fallback`.
+/// Where the definition of what `run` is to report gives a list, it is empty unless the job's fit is `Fit::Fallback`
+/// or `Fit::Best`.
 pub fn others_list_nothing()
     ensures { OthersListNothing }
 {

@@ -17,8 +17,8 @@ pub struct Unfitted {
 /// What there is to know of a picture beside its pixels.
 #[derive(Drop)]
 pub struct Report {
-    /// With `Fit::Fallback` the distinct glyphs of the text that are not fitted, in order of first appearance. With
-    /// any other way of fitting there are none.
+    /// With `Fit::Fallback` and `Fit::Best` the distinct glyphs of the text that are not fitted, in order of first
+    /// appearance. With any other way of fitting there are none.
     pub unfitted: Vec<Unfitted>,
 }
 

@@ -34,8 +34,8 @@ pub fn run<R: Source, W: Sink>(
     requires font { R.has_failed font.old ≡ false }
     requires out { W.has_failed out.old ≡ false }
     ensures outcome { CallGives result (traffic_of R.left R.has_failed W.written W.has_failed font.old font.new out.old out.new) (run_wanted (job_view job.now)) }
-    // With fallback each glyph of the text that is not fitted is listed once, in order of first appearance, with its
-    // fault; with the other ways of fitting none is.
+    // With fallback and best each glyph of the text that is not fitted is listed once, in order of first appearance,
+    // with its fault; with the other ways of fitting none is.
     ensures report { IfOk result (λ r. IfSome (R.left font.old) (λ file. report_of (job_view job.now) file ≡ Ok r.unfitted.items)) }
     ensures once { IfOk result (λ r. ListsOnce r.unfitted.items) }
     ensures defects { TellsDefectsOf (R.left font.old) (IsRunDefect (job_view job.now)) result }

@@ -79,12 +79,7 @@ fn all_programs<'a>(dir: &Dir<'a>) -> Result<Programs<'a>, Fault>
     let cvt = optional(dir, *b"cvt ")?;
     let fpgm = optional(dir, *b"fpgm")?;
     let prep = optional(dir, *b"prep")?;
-    Ok(Programs {
-        cvt,
-        fpgm,
-        prep,
-        whole: false,
-    })
+    Ok(Programs { cvt, fpgm, prep })
 }
 
 /// The programs that outlines are fitted by; without fitting none is looked at. Error: TableRange.
@@ -97,12 +92,11 @@ pub(crate) fn open_programs<'a>(dir: &Dir<'a>, fit: Fit) -> Result<Programs<'a>,
     ensures fault { IfErr result (IsProgramTableDefect dir.now fit) }
 {
     match fit {
-        Fit::Full | Fit::Fallback => all_programs(dir),
+        Fit::Full | Fit::Fallback | Fit::Best => all_programs(dir),
         Fit::None => Ok(Programs {
             cvt: &[],
             fpgm: &[],
             prep: &[],
-            whole: false,
         }),
     }
 }

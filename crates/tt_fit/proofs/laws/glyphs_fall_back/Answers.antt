@@ -1,4 +1,4 @@
-use Rattle.tt_fit.proofs.Falling.{fallback-fits, fallback-scales, fallback-refuses, fallback-unfits-all, others-never-fall-back}
+use Rattle.tt_fit.proofs.Falling.{fallback-fits, fallback-scales, fallback-refuses, fallback-unfits-all, others-never-fall-back, full-is-by-programs, none-is-without-programs}
 use Rattle.tt_fit.proofs.laws.glyphs_fall_back.Goals as goal
 
 pub returns-clause-fitted : goal.returns-clause-fitted
@@ -15,3 +15,9 @@ returns-clause-unfitted c = fallback-unfits-all
 
 pub returns-clause-never : goal.returns-clause-never
 returns-clause-never c = others-never-fall-back
+
+pub returns-clause-full : goal.returns-clause-full
+returns-clause-full c = full-is-by-programs
+
+pub returns-clause-none : goal.returns-clause-none
+returns-clause-none c = none-is-without-programs

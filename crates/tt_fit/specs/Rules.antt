@@ -1,0 +1,33 @@
+-- No part of the standard: by which rules each way of fitting makes outlines (profile).
+use Rattle.std.specs.Prelude.{◌≡◌, ℕ, Bool, true, false, refl}
+use Rattle.tt_core.specs.Limits.{level_limit, best_level_limit}
+use Rattle.tt_fit.specs.declared.programs.Fit.{Fit}
+use Rattle.tt_fit.specs.declared.programs.Fit.TheVariants as fit
+
+-- the ways in which a glyph is unfitted where a program is refused
+abbrev pub falls_back : Fit → Bool
+falls_back fit.Full = false
+falls_back fit.None = false
+falls_back fit.Fallback = true
+falls_back fit.Best = true
+
+-- the way in which programs are run with the whole instruction set
+abbrev pub is_whole : Fit → Bool
+is_whole fit.Full = false
+is_whole fit.None = false
+is_whole fit.Fallback = false
+is_whole fit.Best = true
+
+-- how deep components may be nested
+abbrev pub levels_of : Fit → ℕ
+levels_of fit.Full = level_limit
+levels_of fit.None = level_limit
+levels_of fit.Fallback = level_limit
+levels_of fit.Best = best_level_limit
+
+-- worked values
+four_by_default : levels_of fit.Full ≡ 4
+four_by_default = refl
+
+eight_with_best : levels_of fit.Best ≡ 8
+eight_with_best = refl
