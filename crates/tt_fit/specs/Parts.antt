@@ -12,6 +12,7 @@ use Rattle.tt_state.specs.declared.point.Point.{Point}
 use Rattle.tt_state.specs.GraphicsState.{default_of, default_state}
 use Rattle.tt_fit.specs.GlyphZone.{untouched, glyph_zone, contours_from}
 use Rattle.tt_fit.specs.Outline.{Outline, PhantomPoints}
+use Rattle.tt_fit.specs.declared.rules.Rules.{Rules}
 use Rattle.tt_fit.specs.Size.{FontSize, scale}
 
 -- what a machine can be made of
@@ -32,8 +33,8 @@ abbrev pub origin : Point
 origin = untouched (pos 0, pos 0) (pos 0, pos 0) true
 
 -- what the font program and the control value program begin with; both have no glyph
-abbrev pub begun_parts : Metrics → List ℕ → ℕ → Bool → Parts
-begun_parts m cvt ppem whole = record {
+abbrev pub begun_parts : Metrics → List ℕ → ℕ → Rules → Parts
+begun_parts m cvt ppem rules = record {
   em = units_per_em_of m;
   ppem = ppem;
   cvt = control_values (record { ppem = ppem; units_per_em = units_per_em_of m }) cvt;
@@ -41,7 +42,8 @@ begun_parts m cvt ppem whole = record {
   zones = record { twilight = replicate (twilight_of m) origin; glyph = []; contours = [] };
   functions = [];
   instructions = [];
-  state = default_of whole;
+  state = default_of rules.whole;
+  tolerance = rules.tolerance;
   skip_glyphs = false;
   default_state = false;
 }

@@ -12,6 +12,7 @@ ghost use Rattle.tt_points_zones.specs.Zones.{zones_view, IsZones};
 
 use crate::glyph_zone::{contours, glyph_zone, untouched};
 use crate::outline::Outline;
+use crate::rules::Rules;
 use crate::size::FontSize;
 use std::alloc::{AllocError, Global};
 use std::collections::BTreeMap;
@@ -61,10 +62,10 @@ pub(crate) fn begun_parts<'a>(
     metrics: &Metrics,
     cvt: &[u8],
     size: FontSize,
-    whole: bool,
+    rules: Rules,
 ) -> Result<Parts<'a>, AllocError>
     requires { size.units_per_em ≡ units_per_em_of metrics.now }
-    ensures exact { IfOk result (λ p. parts_of p ≡ begun_parts metrics.now cvt.now size.ppem whole) }
+    ensures exact { IfOk result (λ p. parts_of p ≡ begun_parts metrics.now cvt.now size.ppem rules) }
     ensures valid { IfOk result (λ p. AreParts (parts_of p)) }
 {
     Ok(Parts {
@@ -75,7 +76,8 @@ pub(crate) fn begun_parts<'a>(
         zones: zones_without_glyph(alloc, metrics.twilight())?,
         functions: BTreeMap::new(alloc),
         instructions: BTreeMap::new(alloc),
-        state: GraphicsState::new(whole),
+        state: GraphicsState::new(rules.whole),
+        tolerance: rules.tolerance,
         skip_glyphs: false,
         default_state: false,
     })
@@ -163,6 +165,7 @@ pub(crate) fn with_glyph<'a>(
         functions,
         instructions,
         state,
+        tolerance,
         skip_glyphs,
         default_state,
     } = parts.copy()?;
@@ -175,6 +178,7 @@ pub(crate) fn with_glyph<'a>(
         functions,
         instructions,
         state,
+        tolerance,
         skip_glyphs,
         default_state,
     })
