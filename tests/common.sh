@@ -7,7 +7,7 @@ trap 'echo "tests: ${BASH_SOURCE[0]##*/}, line $LINENO: a command of the script 
 root=$(cd -- "$(dirname -- "${BASH_SOURCE[0]}")/.." && pwd)
 
 # Each way to fit.
-fits=(full none fallback)
+fits=(full none fallback best)
 export TT_FITS=${fits[*]}
 
 room=$(mktemp -d)

@@ -151,7 +151,7 @@ def why_no_picture(font, kind, count, lines, tables):
     """Says what is wrong with an answer of status 0, or returns None."""
     if kind != "map" and count == 0:
         return "is a picture without a byte"
-    if kind == "fallback":
+    if kind in ("fallback", "best"):
         for line in lines.split("|")[:-1]:
             why = why_no_fault(font, UNFITTED_LINE.fullmatch(line + "|"), OF_PROGRAMS, tables)
             if why:
@@ -183,23 +183,27 @@ def why_wrong(font, kind, answer, tables=None):
 def why_not_alike(answers):
     """Says what is wrong with the answers to a font and a text, by their kinds, or returns None. What `map` refuses,
     and a picture's size, are refused alike by all; and what is refused without programs is refused with them, but for
-    coordinates, which programs may bring back. The way to fit that falls back does so where a program is refused."""
-    if "fallback" in answers:
-        full, fallback = answers["full"], answers["fallback"]
+    coordinates, which programs may bring back, and the depth of components, of which best allows more. The ways to fit
+    that fall back do so where a program is refused."""
+    for kind, other in (("fallback", r": (3[0-9]|4[0-9]|50) "), ("best", r": (17|3[0-9]|4[0-9]|50) ")):
+        if kind not in answers:
+            continue
+        full, falling = answers["full"], answers[kind]
         # What a program does is not refused: a glyph is drawn without it, or refused for another reason.
-        if not re.search(r": (3[0-9]|4[0-9]|50) ", full):
-            wrong = fallback != full
+        if not re.search(other, full):
+            wrong = falling != full
         else:
-            wrong = not fallback.startswith("0 ") and not re.search(r": (1?[0-9]|2[0-3]) ", fallback)
+            wrong = not falling.startswith("0 ") and not re.search(r": (1?[0-9]|2[0-3]) ", falling)
         if wrong:
-            return f"has '{fallback}' as fallback, and '{full}'"
+            return f"has '{falling}' as {kind}, and '{full}'"
     without = answers["none"]
     alike = without.startswith("2 ")
     if "map" in answers and answers["map"].startswith("1 "):
         without, alike = answers["map"], True
     if not without.startswith("0 ") and "23 CoordRange" not in without:
+        deep = ("map", "best") if "17 ComponentDepth" in without else ("map",)
         for kind, answer in answers.items():
-            if kind != "map" and (answer != without if alike else not answer.startswith("1 ")):
+            if kind not in deep and (answer != without if alike else not answer.startswith("1 ")):
                 return f"has '{answer}' as {kind}, and '{without}'"
     return None
 
@@ -224,7 +228,7 @@ class Row(NamedTuple):
 
 
 # The kind of the rows of each file.
-KINDS = {"map": "map", "draw": "none", "fitted": "full", "fallback": "fallback"}
+KINDS = {"map": "map", "draw": "none", "fitted": "full", "fallback": "fallback", "best": "best"}
 
 
 def field(word):

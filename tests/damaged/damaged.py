@@ -139,6 +139,7 @@ BAD = [
 # Answers to one font beside each other, and whether they pass.
 REFUSED = f"1 {NOTHING}|tt_render: glyf+22: 14 GlyphShort|"
 OFF_PROFILE = f"1 {NOTHING}|tt_render: glyf+14: 35 OffProfile|"
+TOO_DEEP = f"1 {NOTHING}|tt_render: glyf+32: 17 ComponentDepth|"
 UNFITTED = "tt_render: glyph 1 unfitted: glyf+14: 35 OffProfile|"
 ALIKE = [
     ({"map": "0 13 1|", "none": "0 11 1|", "full": REFUSED}, True),
@@ -154,6 +155,12 @@ ALIKE = [
     ({"none": "0 11 1|", "full": OFF_PROFILE, "fallback": OFF_PROFILE}, False),
     ({"none": REFUSED, "full": OFF_PROFILE, "fallback": REFUSED}, True),
     ({"none": REFUSED, "full": REFUSED, "fallback": "0 11 1|"}, False),
+    ({"none": "0 11 1|", "full": OFF_PROFILE, "best": "0 11 2|"}, True),
+    ({"none": "0 11 1|", "full": OFF_PROFILE, "best": f"0 11 1|{UNFITTED}"}, True),
+    ({"none": "0 11 1|", "full": OFF_PROFILE, "best": OFF_PROFILE}, False),
+    ({"none": "0 11 1|", "full": "0 11 2|", "best": "0 11 1|"}, False),
+    ({"none": TOO_DEEP, "full": TOO_DEEP, "best": "0 11 1|"}, True),
+    ({"none": REFUSED, "full": REFUSED, "best": "0 11 1|"}, False),
 ]
 
 

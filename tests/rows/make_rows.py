@@ -1,6 +1,6 @@
 #!/usr/bin/env python3
-"""Makes map.txt, draw.txt, fitted.txt and fallback.txt of cases.txt, which stands beside this file and says at its head
-what a case is.
+"""Makes map.txt, draw.txt, fitted.txt, fallback.txt and best.txt of cases.txt, which stands beside this file and says at
+its head what a case is.
 
   python3 tests/rows/make_rows.py
 
@@ -11,6 +11,9 @@ side bearing is the xMin of its glyph where none is named.
 With fallback a glyph whose program is refused, and no other, is drawn without programs and told, by a line for each
 distinct glyph. So the answer to `fallback` follows from those to `fitted` and `unfitted` where the text is one
 character repeated, and a case need not say it; of another text it must.
+
+With best it is the answer to `fallback`, unless a program is refused that the whole instruction set may run, or
+components are nested too deep for the others: such a case says what it is.
 """
 import ast
 import pathlib
@@ -32,15 +35,19 @@ HEADS = {
     "draw": ("draw --fit none", "SIZE MARGIN ", A_LINE, " SIZE and MARGIN are in pixels."),
     "fitted": ("draw", "SIZE MARGIN ", A_LINE, " SIZE and MARGIN are in pixels."),
     "fallback": ("draw --fit fallback", "SIZE MARGIN ", LINES, " SIZE and MARGIN are in pixels."),
+    "best": ("draw --fit best", "SIZE MARGIN ", LINES, " SIZE and MARGIN are in pixels."),
 }
 # The files in which each question stands.
 FILES = {
     "map": ["map"],
-    "draw": ["draw", "fitted", "fallback"],
+    "draw": ["draw", "fitted", "fallback", "best"],
     "unfitted": ["draw"],
     "fitted": ["fitted"],
     "fallback": ["fallback"],
+    "best": ["best"],
 }
+# The refusals of a program that best need not share.
+OF_FULL = "35 OffProfile", "49 Perpendicular"
 # Of the letters of a test font whose cmap is its own.
 GLYPHS = {'"A"': 1, '"B"': 2, '"AA"': 1}
 
@@ -171,6 +178,25 @@ def fallen_back(questions):
         yield "fallback", words, lines
 
 
+def told_by(lines):
+    """Tells whether an answer names a refusal that best need not share."""
+    return any(" ".join(words).endswith(OF_FULL) for words in lines)
+
+
+def by_best(name, questions):
+    """Yields the questions of `best`, the answers that a case leaves out too."""
+    known = {(command, *words): lines for command, words, lines in questions}
+    for (command, *words), lines in known.items():
+        if command == "best":
+            if lines[0][0] == "told":
+                lines = [*known["unfitted", *words], *lines]
+            yield "best", words, lines
+        elif command == "fallback" and ("best", *words) not in known:
+            if told_by(lines) or told_by(known.get(("fitted", *words), [])):
+                raise SystemExit(f"{name} does not say what best answers to {words}")
+            yield "best", words, lines
+
+
 def main():
     base, whole, made = Font(), b"", {table: [] for table in HEADS}
     for lines in paragraphs():
@@ -197,7 +223,9 @@ def main():
             file = font.file()
             place = f"cut:{cut}" if cut is not None else "whole" if file == whole else file.hex()
             questions = list(asked(lines))
-            for command, words, lines in [*questions, *fallen_back(questions)]:
+            questions += fallen_back(questions)
+            others = [it for it in questions if it[0] != "best"]
+            for command, words, lines in [*others, *by_best(name, questions)]:
                 status, stdout, line = answer(command, lines)
                 fields = [name, place, hexadecimal(text_of(words[0])), *words[1:], status, hexadecimal(stdout), line]
                 for table in FILES[command]:

@@ -8,7 +8,8 @@ use clap::{Arg, ArgAction, ArgMatches, Command, value_parser};
 use std::alloc::{AllocError, Global};
 use tt_program_decisions::{Arguments, FITS, FULL, Request, request_of};
 
-/// `tt_render map FONT TEXT` and `tt_render draw --size N [--margin N] [--fit full|none|fallback] FONT TEXT`.
+/// `tt_render map FONT TEXT` and `tt_render draw --size N [--margin N] [--fit full|none|fallback|best] FONT
+/// TEXT`.
 pub(crate) fn command<'a>(alloc: Global) -> Result<Command<'a>, AllocError> {
     Command::new(alloc, "tt_render")
         .bin_name("tt_render")?
@@ -79,7 +80,8 @@ fn fit<'a>(alloc: Global) -> Arg<'a> {
         .value_parser(FITS.as_slice())
         .default_value(FULL)
         .help(
-            "full: by the font's programs; none: scaled points only; fallback: full where that serves",
+            "full: by the font's programs; none: scaled points only; fallback: full where that serves; \
+             best: fallback with the whole instruction set",
         )
 }
 

@@ -8,10 +8,9 @@
 //!     tt_test_answers machine
 //!     tt_test_answers fonts
 //!
-//! FIT is `full`, and the font's programs are run, `whole`, and they are with the whole instruction set, `fallback`, or
-//! `none`. `pixels`, of edges and pixels, `machine`, of runs of the bytecode machine, and `fonts`, of all that the
-//! program does, read their questions from standard input. The module of each word says what its lines hold. A glyph for
-//! which memory was refused is told on standard error, and asked for again.
+//! FIT is `full`, `none`, `fallback` or `best`. `pixels`, of edges and pixels, `machine`, of runs of the bytecode
+//! machine, and `fonts`, of all that the program does, read their questions from standard input. The module of each word
+//! says what its lines hold. A glyph for which memory was refused is told on standard error, and asked for again.
 #![tactic(auto)]
 
 mod fonts;

@@ -2,7 +2,8 @@
 //! outline is a line `GLYPH phantom X Y X Y X Y X Y ends END .. points X Y ON ..`, in 26.6 pixels, where ON is 1 for a
 //! point on the curve and else 0; a glyph that is refused has the line `GLYPH TABLE+OFFSET: NUMBER NAME`. A picture is
 //! a line for each row, with '#' for a black pixel and '.' for a white one, and its glyph stands with its left phantom
-//! point at 0.
+//! point at 0. Of a glyph that falls back the outline's line has `unfitted TABLE+OFFSET: NUMBER NAME` behind the number,
+//! and a picture has the line `GLYPH unfitted TABLE+OFFSET: NUMBER NAME` before it.
 
 ghost use Rattle.std.specs.Prelude.{◌≡◌, ◌<◌, length, All, IfOk};
 ghost use Rattle.tt_fit.specs.Outline.{AreEnds, IsPoint};
@@ -25,7 +26,6 @@ const NO_PROGRAMS: Programs<'static> = Programs {
     cvt: &[],
     fpgm: &[],
     prep: &[],
-    whole: false,
 };
 
 /// Prints what the words ask of a font: first the size and how outlines are fitted.
@@ -35,10 +35,10 @@ pub(crate) fn print_table<R: Print + Eprint + AllocGlobal>(
     words: &mut Words,
 ) -> Result<()> {
     let size = words.number(1, SIZE)? as u32;
-    let (fit, whole) = words.fit()?;
+    let fit = words.fit()?;
     let (metrics, glyphs) = tables_of(font)?;
     let programs = match fit {
-        Fit::Full | Fit::Fallback => programs_of(font, whole)?,
+        Fit::Full | Fit::Fallback | Fit::Best => programs_of(font)?,
         Fit::None => NO_PROGRAMS,
     };
     match Fitter::new(rt.alloc(), &metrics, glyphs, programs, size, fit) {
@@ -127,7 +127,12 @@ fn print_refusal<W: Write>(out: &mut W, g: u16, fault: FontFault) -> Result<()> 
 }
 
 fn print_outline<W: Write>(out: &mut W, g: u16, outline: &Outline) -> Result<()> {
-    write!(out, "{g} phantom")?;
+    write!(out, "{g}")?;
+    if let Some(fault) = outline.unfitted {
+        let refusal = Refusal(fault);
+        write!(out, " unfitted {refusal}")?;
+    }
+    write!(out, " phantom")?;
     for (x, y) in &outline.phantom {
         write!(out, " {x} {y}")?;
     }
@@ -157,6 +162,10 @@ fn print_picture<R: Eprint + AllocGlobal, W: Write>(
     match fitted_twice(rt, fitter, g) {
         Ok(outline) => {
             let mut tape = chords_twice(rt, g, &outline, frame)?;
+            if let Some(fault) = outline.unfitted {
+                let refusal = Refusal(fault);
+                writeln!(out, "{g} unfitted {refusal}")?;
+            }
             print_pixels(out, &mut tape, frame, "\n")
         }
         Err(fault) => print_refusal(out, g, fault),

@@ -31,8 +31,8 @@ pub(crate) fn tables_of(font: &[u8]) -> Result<(Metrics<'_>, Glyf<'_>)>
     Ok((metrics, glyphs))
 }
 
-/// The tables of a font's programs, which are run with the whole instruction set or not.
-pub(crate) fn programs_of(font: &[u8], whole: bool) -> Result<Programs<'_>>
+/// The tables of a font's programs.
+pub(crate) fn programs_of(font: &[u8]) -> Result<Programs<'_>>
     ensures fpgm { IfOk result (λ p. length p.fpgm.now ≤ font_limit) }
     ensures prep { IfOk result (λ p. length p.prep.now ≤ font_limit) }
 {
@@ -41,7 +41,6 @@ pub(crate) fn programs_of(font: &[u8], whole: bool) -> Result<Programs<'_>>
         cvt: table_or_nothing(&dir, *b"cvt ")?,
         fpgm: table_or_nothing(&dir, *b"fpgm")?,
         prep: table_or_nothing(&dir, *b"prep")?,
-        whole,
     })
 }
 

@@ -73,13 +73,13 @@ impl<'a> Words<'a> {
         Ok(self.number(0, MOST as i64)? as u32)
     }
 
-    /// The next word, how outlines are fitted, and whether programs have the whole instruction set.
-    pub(crate) fn fit(&mut self) -> Result<(Fit, bool)> {
+    /// The next word, how outlines are fitted.
+    pub(crate) fn fit(&mut self) -> Result<Fit> {
         match self.word()? {
-            "full" => Ok((Fit::Full, false)),
-            "whole" => Ok((Fit::Full, true)),
-            "none" => Ok((Fit::None, false)),
-            "fallback" => Ok((Fit::Fallback, false)),
+            "full" => Ok(Fit::Full),
+            "none" => Ok(Fit::None),
+            "fallback" => Ok(Fit::Fallback),
+            "best" => Ok(Fit::Best),
             word => bail!("{word} is no way to fit"),
         }
     }
