@@ -57,7 +57,7 @@ operate (op.set_state o) at m = on_graphics at m (state_set o m.ppem m.units_per
 operate (op.manage o) at m = on_stack at m (managed o m.tolerance m.stack)
 operate (op.evaluate o) at m = on_stack at m (evaluated o m.graphics.round m.stack)
 operate (op.compute o) at m = on_stack at m (computed o m.graphics.round m.stack)
-operate (op.access_values o) at m = on_places at m 
+operate (op.access_values o) at m = on_places at m
     (values_accessed o m.ppem m.units_per_em m.tolerance m.stack m.storage m.cvt)
 operate (op.answer o) at m = on_stack at m (answered o m.ppem m.stack)
 operate op.instctrl at m = instctrl m.stack at m

@@ -10,8 +10,8 @@ ghost use Rattle.tt_exec.specs.Outcome.{ComesTo};
 ghost use Rattle.std.specs.Prelude.{Some};
 
 use crate::machine_state::{Kind, MachineState};
-use crate::program::{Body, Definition, Frame};
 use crate::outcome::Outcome;
+use crate::program::{Body, Definition, Frame};
 use std::alloc::AllocError;
 use tt_code::skip_def;
 use tt_core::{CALL_LIMIT, Why};

@@ -21,11 +21,7 @@ fn is_missing(why: Why) -> bool
 {
     matches!(
         why,
-        Why::PointRange
-            | Why::ContourRange
-            | Why::ZoneRange
-            | Why::CvtRange
-            | Why::StorageRange
+        Why::PointRange | Why::ContourRange | Why::ZoneRange | Why::CvtRange | Why::StorageRange
     )
 }
 
