@@ -1,5 +1,5 @@
 -- No part of the standard: no instruction on a single point, or on lines, is short of values, as it is given them.
-use Rattle.std.proofs.Common.{◌≡◌, ℤ, ◌-ℤ◌, neg_ℤ, Bool, true, Result, Ok, Err, refl}
+use Rattle.std.proofs.Common.{ℤ, ◌-ℤ◌, neg_ℤ, Bool, true, Result, Ok, Err, refl}
 use Rattle.tt_core.specs.Outcomes.{◌>>=◌}
 use Rattle.tt_core.specs.declared.fault.Why.{Why}
 use Rattle.tt_core.specs.declared.fault.Why.TheVariants as why
@@ -12,9 +12,9 @@ use Rattle.tt_state.specs.declared.graphics_state.Zone.TheVariants as zone
 use Rattle.tt_state.specs.declared.point.Point.{Point}
 use Rattle.tt_state.specs.declared.vector.Vector.{Vector}
 use Rattle.tt_points_loops.specs.Total.{enough_of, enough_of_either, point_enough, pushed_total, moved_total, direction_total}
-use Rattle.tt_points_zones.specs.Meeting.{met, meeting, limited, limited_place}
+use Rattle.tt_points_zones.specs.Meeting.{met, meeting, limited}
 use Rattle.tt_points_zones.specs.Motions.{direction, cur, current_distance, original_distance, put_further, marked, steps, moved}
-use Rattle.tt_points_zones.specs.Points.{is_coordinate, point_in, with_point}
+use Rattle.tt_points_zones.specs.Points.{is_coordinate, point_in}
 use Rattle.tt_points_zones.specs.Zones.{ZoneLists}
 use Rattle.tt_points_zones.specs.declared.meeting.Place.{Place}
 use Rattle.tt_points_zones.specs.declared.motion.Motion.{Motion}
