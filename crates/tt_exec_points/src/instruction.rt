@@ -1,6 +1,7 @@
 //! The instructions on points, and those that change control values by exceptions, with the interpreter's stack. What
-//! each does to its points stands in the crate tt_points and below it, by the same name. Apple TrueType Reference
-//! Manual, "Instruction set".
+//! each does to its points stands in the crate tt_points and below it, by the same name. A tolerant machine takes the
+//! values of an instruction that asks for what is not there, and does nothing else; but MIAP, MDRP and MIRP set the
+//! reference points all the same, and GC and MD measure 0 (profile). Apple TrueType Reference Manual, "Instruction set".
 
 ghost use Rattle.std.specs.Prelude.{◌≡◌, ◌≤◌, length, unsigned_abs, IfErr, IfOk};
 ghost use Rattle.tt_core.specs.Outcomes.{Gives};
@@ -569,7 +570,8 @@ impl Points {
     }
 }
 
-/// Does an instruction. Errors: StackShort; those of the instruction.
+/// Does an instruction. Errors: StackShort; those of the instruction, of which a tolerant machine has none of something
+/// that is not there.
 pub fn on_points(
     tolerance: Tolerance,
     op: PointInstruction,
