@@ -9,10 +9,10 @@ use Rattle.tt_metrics.specs.Metrics.{Metrics, storage_of, twilight_of, units_per
 use Rattle.tt_points_zones.specs.Zones.{ZoneLists, IsZones}
 use Rattle.tt_state.specs.declared.graphics_state.GraphicsState.{GraphicsState}
 use Rattle.tt_state.specs.declared.point.Point.{Point}
-use Rattle.tt_state.specs.declared.tolerance.Tolerance.TheVariants as tolerance
 use Rattle.tt_state.specs.GraphicsState.{default_of, default_state}
 use Rattle.tt_fit.specs.GlyphZone.{untouched, glyph_zone, contours_from}
 use Rattle.tt_fit.specs.Outline.{Outline, PhantomPoints}
+use Rattle.tt_fit.specs.declared.rules.Rules.{Rules}
 use Rattle.tt_fit.specs.Size.{FontSize, scale}
 
 -- what a machine can be made of
@@ -32,10 +32,9 @@ control_values z cvt = map (control_value z cvt) (range_with_len 0 (length cvt /
 abbrev pub origin : Point
 origin = untouched (pos 0, pos 0) (pos 0, pos 0) true
 
--- what the font program and the control value program begin with; both have no glyph. The machine is strict: no way of
--- fitting asks for a tolerant one yet.
-abbrev pub begun_parts : Metrics → List ℕ → ℕ → Bool → Parts
-begun_parts m cvt ppem whole = record {
+-- what the font program and the control value program begin with; both have no glyph
+abbrev pub begun_parts : Metrics → List ℕ → ℕ → Rules → Parts
+begun_parts m cvt ppem rules = record {
   em = units_per_em_of m;
   ppem = ppem;
   cvt = control_values (record { ppem = ppem; units_per_em = units_per_em_of m }) cvt;
@@ -43,8 +42,8 @@ begun_parts m cvt ppem whole = record {
   zones = record { twilight = replicate (twilight_of m) origin; glyph = []; contours = [] };
   functions = [];
   instructions = [];
-  state = default_of whole;
-  tolerance = tolerance.Strict;
+  state = default_of rules.whole;
+  tolerance = rules.tolerance;
   skip_glyphs = false;
   default_state = false;
 }

@@ -15,7 +15,7 @@ use Rattle.tt_fit.specs.Fallback.{Fallback, never, where_refused, everywhere}
 use Rattle.tt_fit.specs.Fitting.{Fitter}
 use Rattle.tt_fit.specs.Hinting.{Hinting, off, ready, run_of}
 use Rattle.tt_fit.specs.Parts.{begun_parts, left_to_glyphs}
-use Rattle.tt_fit.specs.Rules.{is_whole, levels_of}
+use Rattle.tt_fit.specs.Rules.{rules_of, levels_of}
 
 -- the control values, the font program and the control value program
 pub record ProgramTables : Type 0 where
@@ -64,7 +64,7 @@ prepared_by fit.Best by_programs = Ok (with_fallback by_programs)
 
 -- what the two programs leave at a size by the rules of a way of fitting
 abbrev pub left_at : Metrics → ProgramTables → ℕ → Fit → Result Hinting Fault
-left_at m programs ppem fit = left_by_programs (begun_parts m programs.cvt ppem (is_whole fit)) programs
+left_at m programs ppem fit = left_by_programs (begun_parts m programs.cvt ppem (rules_of fit)) programs
 
 unfoldable pub prepared : Metrics → ProgramTables → ℕ → Fit → Result Preparation Fault
 prepared m programs ppem fit = prepared_by fit (left_at m programs ppem fit)

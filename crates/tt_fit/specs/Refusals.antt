@@ -23,6 +23,7 @@ use Rattle.tt_fit.specs.Fitting.{Fitter, added, fitted_outline, unfitted_fault}
 use Rattle.tt_fit.specs.GlyphZone.{on_grid_at}
 use Rattle.tt_fit.specs.Preparation.{ProgramTables, left_by_programs, prepared}
 use Rattle.tt_fit.specs.Parts.{begun_parts}
+use Rattle.tt_fit.specs.Rules.{of_profile}
 use Rattle.tt_fit.specs.Hinting.{off, ready, run_of, by_program}
 use Rattle.tt_fit.specs.Scaling.{blank, scaled_outline, settled}
 
@@ -45,7 +46,7 @@ its_setting fallback = record {
   };
   metrics = its_metrics;
   ppem = 16;
-  hinting = ready (begun_parts its_metrics [] 16 false);
+  hinting = ready (begun_parts its_metrics [] 16 of_profile);
   fallback = fallback;
   levels = level_limit;
 }

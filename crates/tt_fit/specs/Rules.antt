@@ -1,8 +1,10 @@
 -- No part of the standard: by which rules each way of fitting makes outlines (profile).
 use Rattle.std.specs.Prelude.{◌≡◌, ℕ, Bool, true, false, refl}
 use Rattle.tt_core.specs.Limits.{level_limit, best_level_limit}
+use Rattle.tt_state.specs.declared.tolerance.Tolerance.TheVariants as tolerance
 use Rattle.tt_fit.specs.declared.programs.Fit.{Fit}
 use Rattle.tt_fit.specs.declared.programs.Fit.TheVariants as fit
+use Rattle.tt_fit.specs.declared.rules.Rules.{Rules}
 
 -- the ways in which a glyph is unfitted where a program is refused
 abbrev pub falls_back : Fit → Bool
@@ -11,12 +13,15 @@ falls_back fit.None = false
 falls_back fit.Fallback = true
 falls_back fit.Best = true
 
--- the way in which programs are run with the whole instruction set
-abbrev pub is_whole : Fit → Bool
-is_whole fit.Full = false
-is_whole fit.None = false
-is_whole fit.Fallback = false
-is_whole fit.Best = true
+-- by which rules programs are run: those of the profile, or the whole instruction set and tolerance
+abbrev pub of_profile : Rules
+of_profile = record { whole = false; tolerance = tolerance.Strict }
+
+abbrev pub rules_of : Fit → Rules
+rules_of fit.Full = of_profile
+rules_of fit.None = of_profile
+rules_of fit.Fallback = of_profile
+rules_of fit.Best = record { whole = true; tolerance = tolerance.Tolerant }
 
 -- how deep components may be nested
 abbrev pub levels_of : Fit → ℕ

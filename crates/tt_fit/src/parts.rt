@@ -12,6 +12,7 @@ ghost use Rattle.tt_points_zones.specs.Zones.{zones_view, IsZones};
 
 use crate::glyph_zone::{contours, glyph_zone, untouched};
 use crate::outline::Outline;
+use crate::rules::Rules;
 use crate::size::FontSize;
 use std::alloc::{AllocError, Global};
 use std::collections::BTreeMap;
@@ -19,7 +20,7 @@ use tt_core::i16_at;
 use tt_exec::Parts;
 use tt_metrics::Metrics;
 use tt_points_zones::Zones;
-use tt_state::{GraphicsState, Tolerance};
+use tt_state::GraphicsState;
 
 /// A control value in 26.6 pixels.
 fn control_value(size: FontSize, cvt: &[u8], i: usize) -> i32
@@ -61,10 +62,10 @@ pub(crate) fn begun_parts<'a>(
     metrics: &Metrics,
     cvt: &[u8],
     size: FontSize,
-    whole: bool,
+    rules: Rules,
 ) -> Result<Parts<'a>, AllocError>
     requires { size.units_per_em ≡ units_per_em_of metrics.now }
-    ensures exact { IfOk result (λ p. parts_of p ≡ begun_parts metrics.now cvt.now size.ppem whole) }
+    ensures exact { IfOk result (λ p. parts_of p ≡ begun_parts metrics.now cvt.now size.ppem rules) }
     ensures valid { IfOk result (λ p. AreParts (parts_of p)) }
 {
     Ok(Parts {
@@ -75,9 +76,8 @@ pub(crate) fn begun_parts<'a>(
         zones: zones_without_glyph(alloc, metrics.twilight())?,
         functions: BTreeMap::new(alloc),
         instructions: BTreeMap::new(alloc),
-        state: GraphicsState::new(whole),
-        // No way of fitting runs programs on a tolerant machine yet.
-        tolerance: Tolerance::Strict,
+        state: GraphicsState::new(rules.whole),
+        tolerance: rules.tolerance,
         skip_glyphs: false,
         default_state: false,
     })

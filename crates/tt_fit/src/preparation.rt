@@ -10,7 +10,7 @@ ghost use Rattle.tt_exec.specs.Views.{code_of};
 ghost use Rattle.tt_fit.specs.Parts.{AreParts, begun_parts, left_to_glyphs};
 ghost use Rattle.tt_fit.specs.Preparation.{program_tables, left_by_programs, without_fallback, with_fallback, prepared};
 ghost use Rattle.tt_fit.specs.Hinting.{IsHinting};
-ghost use Rattle.tt_fit.specs.Rules.{is_whole};
+ghost use Rattle.tt_fit.specs.Rules.{rules_of};
 ghost use Rattle.tt_fit.specs.Views.{hinting_view, preparation_view, size_view};
 ghost use Rattle.tt_metrics.specs.Metrics.{units_per_em_of};
 
@@ -18,7 +18,7 @@ use crate::fallback::{Fallback, told};
 use crate::hinting::{Hinting, run};
 use crate::parts::{begun_parts, left_to_glyphs};
 use crate::programs::{Fit, Programs};
-use crate::rules::is_whole;
+use crate::rules::rules_of;
 use crate::size::FontSize;
 use std::alloc::Global;
 use tt_core::FontFault;
@@ -57,13 +57,13 @@ fn left_by_programs<'a>(
     requires units { size.units_per_em ≡ units_per_em_of metrics.now }
     requires fpgm { length programs.fpgm.now ≤ font_limit }
     requires prep { length programs.prep.now ≤ font_limit }
-    ensures exact { FontGives hinting_view result (left_by_programs (begun_parts metrics.now programs.entry.cvt.now size.ppem (is_whole fit)) (program_tables programs.entry)) }
+    ensures exact { FontGives hinting_view result (left_by_programs (begun_parts metrics.now programs.entry.cvt.now size.ppem (rules_of fit)) (program_tables programs.entry)) }
     ensures valid { IfOk result (λ h. IsHinting (hinting_view h)) }
 {
-    let whole = is_whole(fit);
-    let begun = begun_parts(alloc, metrics, programs.cvt, size, whole)?;
+    let rules = rules_of(fit);
+    let begun = begun_parts(alloc, metrics, programs.cvt, size, rules)?;
     let font = run(alloc, begun, whole_table(*b"fpgm", programs.fpgm))?;
-    let mut prep_parts = begun_parts(alloc, metrics, programs.cvt, size, whole)?;
+    let mut prep_parts = begun_parts(alloc, metrics, programs.cvt, size, rules)?;
     prep_parts.functions = font.functions;
     prep_parts.instructions = font.instructions;
     let left = run(alloc, prep_parts, whole_table(*b"prep", programs.prep))?;
@@ -93,7 +93,7 @@ fn with_fallback<'a>(
     requires units { size.units_per_em ≡ units_per_em_of metrics.now }
     requires fpgm { length programs.fpgm.now ≤ font_limit }
     requires prep { length programs.prep.now ≤ font_limit }
-    ensures exact { FontGives preparation_view result (Ok (with_fallback (left_by_programs (begun_parts metrics.now programs.entry.cvt.now size.ppem (is_whole fit)) (program_tables programs.entry)))) }
+    ensures exact { FontGives preparation_view result (Ok (with_fallback (left_by_programs (begun_parts metrics.now programs.entry.cvt.now size.ppem (rules_of fit)) (program_tables programs.entry)))) }
     ensures valid { IfOk result (λ p. IsHinting (hinting_view p.hinting)) }
 {
     match left_by_programs(alloc, metrics, programs, size, fit) {

@@ -1,18 +1,33 @@
 //! By which rules each way of fitting makes outlines.
 
 ghost use Rattle.std.specs.Prelude.{◌≡◌};
-ghost use Rattle.tt_fit.specs.Rules.{is_whole, levels_of};
+ghost use Rattle.tt_fit.specs.Rules.{rules_of, levels_of};
 
 use crate::programs::Fit;
 use tt_core::{BEST_LEVEL_LIMIT, LEVEL_LIMIT};
+use tt_state::Tolerance;
 
-/// Whether programs are run with the whole instruction set.
-pub(crate) fn is_whole(fit: Fit) -> bool
-    ensures { result ≡ is_whole fit }
+/// By which rules programs are run.
+#[derive(Clone, Copy)]
+pub(crate) struct Rules {
+    /// Whether they have the whole instruction set.
+    pub(crate) whole: bool,
+    /// What becomes of an instruction that asks for what is not there.
+    pub(crate) tolerance: Tolerance,
+}
+
+pub(crate) fn rules_of(fit: Fit) -> Rules
+    ensures { result ≡ rules_of fit }
 {
     match fit {
-        Fit::Full | Fit::None | Fit::Fallback => false,
-        Fit::Best => true,
+        Fit::Full | Fit::None | Fit::Fallback => Rules {
+            whole: false,
+            tolerance: Tolerance::Strict,
+        },
+        Fit::Best => Rules {
+            whole: true,
+            tolerance: Tolerance::Tolerant,
+        },
     }
 }
 
