@@ -126,6 +126,10 @@ def is_place(font, table, offset, number, tables=None):
 
 # The numbers of a program's refusals.
 OF_PROGRAMS = range(30, 51)
+# Those with which best refuses no program: what is beyond the profile, and what is not there.
+NOT_OF_BEST = 32, 35, 42, 43, 44, 45, 46, 49
+# The numbers that may be told of a glyph that is drawn without programs, by the way to fit.
+TOLD = {"fallback": OF_PROGRAMS, "best": [it for it in OF_PROGRAMS if it not in NOT_OF_BEST]}
 # The numbers of refusals that may come, by the word of the question, which is `map` or a way to fit.
 NUMBERS = {"map": range(1, 12), **{fit: [*range(1, 24)] for fit in FITS}}
 NUMBERS["full"] += OF_PROGRAMS
@@ -151,9 +155,9 @@ def why_no_picture(font, kind, count, lines, tables):
     """Says what is wrong with an answer of status 0, or returns None."""
     if kind != "map" and count == 0:
         return "is a picture without a byte"
-    if kind in ("fallback", "best"):
+    if kind in TOLD:
         for line in lines.split("|")[:-1]:
-            why = why_no_fault(font, UNFITTED_LINE.fullmatch(line + "|"), OF_PROGRAMS, tables)
+            why = why_no_fault(font, UNFITTED_LINE.fullmatch(line + "|"), TOLD[kind], tables)
             if why:
                 return why
         return None

@@ -111,6 +111,8 @@ GOOD = [
     ("none", f"1 {NOTHING}|tt_render: glyf+22: 14 GlyphShort|"),
     ("map", f"1 {NOTHING}|tt_render: file+44: 4 TableRange|"),
     ("full", f"2 {NOTHING}|tt_render: 63 PictureLarge|"),
+    ("fallback", "0 11 1|tt_render: glyph 1 unfitted: glyf+14: 32 StackShort|"),
+    ("best", "0 11 1|tt_render: glyph 1 unfitted: glyf+14: 47 DivZero|"),
 ]
 BAD = [
     ("none", "0 0 1|"),
@@ -132,6 +134,9 @@ BAD = [
     ("full", f"3 {NOTHING}|tt_render: cannot read the font|"),
     ("full", f"4 {NOTHING}|tt_render: cannot write after 0 bytes|"),
     ("full", f"5 {NOTHING}|tt_render: out of memory|"),
+    ("best", "0 11 1|tt_render: glyph 1 unfitted: glyf+14: 32 StackShort|"),
+    ("best", "0 11 1|tt_render: glyph 1 unfitted: glyf+14: 35 OffProfile|"),
+    ("best", "0 11 1|tt_render: glyph 1 unfitted: glyf+14: 46 StorageRange|"),
     ("full", ""),
 ]
 
@@ -141,6 +146,7 @@ REFUSED = f"1 {NOTHING}|tt_render: glyf+22: 14 GlyphShort|"
 OFF_PROFILE = f"1 {NOTHING}|tt_render: glyf+14: 35 OffProfile|"
 TOO_DEEP = f"1 {NOTHING}|tt_render: glyf+32: 17 ComponentDepth|"
 UNFITTED = "tt_render: glyph 1 unfitted: glyf+14: 35 OffProfile|"
+UNFITTED_BY_BEST = "tt_render: glyph 1 unfitted: glyf+15: 47 DivZero|"
 ALIKE = [
     ({"map": "0 13 1|", "none": "0 11 1|", "full": REFUSED}, True),
     ({"map": "0 13 1|", "none": REFUSED, "full": OFF_PROFILE}, True),
@@ -156,7 +162,7 @@ ALIKE = [
     ({"none": REFUSED, "full": OFF_PROFILE, "fallback": REFUSED}, True),
     ({"none": REFUSED, "full": REFUSED, "fallback": "0 11 1|"}, False),
     ({"none": "0 11 1|", "full": OFF_PROFILE, "best": "0 11 2|"}, True),
-    ({"none": "0 11 1|", "full": OFF_PROFILE, "best": f"0 11 1|{UNFITTED}"}, True),
+    ({"none": "0 11 1|", "full": OFF_PROFILE, "best": f"0 11 1|{UNFITTED_BY_BEST}"}, True),
     ({"none": "0 11 1|", "full": OFF_PROFILE, "best": OFF_PROFILE}, False),
     ({"none": "0 11 1|", "full": "0 11 2|", "best": "0 11 1|"}, False),
     ({"none": TOO_DEEP, "full": TOO_DEEP, "best": "0 11 1|"}, True),

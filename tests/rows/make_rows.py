@@ -12,8 +12,8 @@ With fallback a glyph whose program is refused, and no other, is drawn without p
 distinct glyph. So the answer to `fallback` follows from those to `fitted` and `unfitted` where the text is one
 character repeated, and a case need not say it; of another text it must.
 
-With best it is the answer to `fallback`, unless a program is refused that the whole instruction set may run, or
-components are nested too deep for the others: such a case says what it is.
+With best it is the answer to `fallback`, unless a program is refused that the whole instruction set may run, or where
+something is not there, or components are nested too deep for the others: such a case says what it is.
 """
 import ast
 import pathlib
@@ -46,8 +46,17 @@ FILES = {
     "fallback": ["fallback"],
     "best": ["best"],
 }
-# The refusals of a program that best need not share.
-OF_FULL = "35 OffProfile", "49 Perpendicular"
+# The refusals of a program that best need not share: what is beyond the profile, and what is not there.
+OF_FULL = (
+    "32 StackShort",
+    "35 OffProfile",
+    "42 PointRange",
+    "43 ContourRange",
+    "44 ZoneRange",
+    "45 CvtRange",
+    "46 StorageRange",
+    "49 Perpendicular",
+)
 # Of the letters of a test font whose cmap is its own.
 GLYPHS = {'"A"': 1, '"B"': 2, '"AA"': 1}
 
