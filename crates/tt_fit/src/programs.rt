@@ -9,7 +9,8 @@ pub enum Fit {
     None,
     /// By the font's programs; a glyph for which one of them is refused, not at all.
     Fallback,
-    /// As with `Fallback`, but programs have the whole instruction set, and components may be nested deeper.
+    /// As with `Fallback`, but programs have the whole instruction set and go on where something is not there, and
+    /// components may be nested deeper.
     Best,
 }
 
