@@ -81,7 +81,7 @@ fn fit<'a>(alloc: Global) -> Arg<'a> {
         .default_value(FULL)
         .help(
             "full: by the font's programs; none: scaled points only; fallback: full where that serves; \
-             best: fallback with the whole instruction set",
+             best: fallback with the whole instruction set, and tolerant",
         )
 }
 
