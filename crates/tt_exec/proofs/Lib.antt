@@ -1,5 +1,6 @@
 pub mod Computed
 pub mod Entries
+pub mod Lacking
 pub mod Loosened
 pub mod Single
 pub mod Sizes

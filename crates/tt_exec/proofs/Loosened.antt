@@ -70,7 +70,7 @@ pub record Families : Type 0 where
   pub points : PointsAreLoosened
   pub points_short : PointsAreShort
 
-abbrev with_tolerance : Tolerance → MachineState → MachineState
+abbrev pub with_tolerance : Tolerance → MachineState → MachineState
 with_tolerance t m = record m { tolerance = t }
 
 -- a tolerant machine before an instruction, with its stack filled
@@ -145,7 +145,7 @@ in_tolerance : (t : Tolerance) (b : Bool) (x y x' y' : MachineState) → x' ≡ 
 in_tolerance t true x y x' y' one other = one
 in_tolerance t false x y x' y' one other = other
 
-flagged_in : (t : Tolerance) (k : Kind) (selector : ℤ) (on : Bool) (m : MachineState)
+pub flagged_in : (t : Tolerance) (k : Kind) (selector : ℤ) (on : Bool) (m : MachineState)
     → flagged k selector on (with_tolerance t m) ≡ with_tolerance t (flagged k selector on m)
 flagged_in t kind.Font selector on m = refl
 flagged_in t kind.Glyph selector on m = refl
@@ -209,7 +209,7 @@ jrof_loosens stays (condition ∷ []) at m = short m at _
 jrof_loosens stays [] at m = short m at _
 
 -- definitions and calls
-with_definition_in : (t : Tolerance) (d : Definition) (f : Body) (m : MachineState)
+pub with_definition_in : (t : Tolerance) (d : Definition) (f : Body) (m : MachineState)
     → with_definition d f (with_tolerance t m) ≡ with_tolerance t (with_definition d f m)
 with_definition_in t (definition.Function n) f m = refl
 with_definition_in t (definition.Instruction opcode) f m = in_tolerance t (has_no_name opcode) _ _ _ _ refl refl

@@ -3,7 +3,7 @@
 -- lifts.
 use Rattle.std.specs.Prelude.{◌≡◌, false, Result, Ok, Err}
 use Rattle.tt_core.specs.Faults.{Fault}
-use Rattle.tt_state.specs.Loosening.{is_lifted}
+use Rattle.tt_state.specs.Loosening.{is_lifted, is_never}
 use Rattle.tt_state.specs.declared.tolerance.Tolerance.TheVariants as tolerance
 use Rattle.tt_exec.specs.MachineState.{MachineState}
 use Rattle.tt_exec.specs.Runs.{run_outcome}
@@ -21,3 +21,12 @@ RunLoosens (Err fault) loose = is_lifted fault.why ≡ false → loose ≡ Err f
 
 abbrev pub RunsLoosen : Type 0
 RunsLoosen = (s : MachineState) → RunLoosens (run_outcome (strict_in s)) (run_outcome (tolerant_in s))
+
+-- the outcome of a run on a tolerant machine: it halts neither for too few values on its stack nor for something that
+-- is not there. A tolerant machine stays tolerant.
+abbrev pub LacksNothing : Result MachineState Fault → Type 0
+LacksNothing (Ok t) = t ≡ tolerant_in t
+LacksNothing (Err fault) = is_never fault.why ≡ false
+
+abbrev pub TolerantRunsLackNothing : Type 0
+TolerantRunsLackNothing = (s : MachineState) → LacksNothing (run_outcome (tolerant_in s))
