@@ -2,6 +2,7 @@ pub mod Examples
 pub mod Flags
 pub mod Flow
 pub mod Functions
+pub mod Loosened
 pub mod MachineState
 pub mod Machines
 pub mod OnPoints

@@ -2,6 +2,7 @@
 
 ghost use Rattle.std.specs.Prelude.{ℕ};
 ghost use Rattle.tt_points_zones.specs.Zones.{SameShape};
+ghost use Rattle.tt_exec.specs.Loosened.{RunsLoosen, TolerantRunsLackNothing};
 ghost use Rattle.tt_exec.specs.MachineState.{MachineState};
 ghost use Rattle.tt_exec.specs.Outcomes.{HasOneOutcome};
 ghost use Rattle.tt_exec.specs.Runs.{Ends};
@@ -30,4 +31,29 @@ pub fn runs_stay()
 {
     tt_exec_state::laws::settings_stay();
     tt_exec_points::laws::points_stay();
+}
+
+/// A run that ends on a strict machine ends on a tolerant one too, and leaves the same; and one that halts halts with
+/// the same fault, unless that is a refusal that tolerance lifts.
+pub fn runs_loosen()
+    ensures { RunsLoosen }
+{
+    tt_exec_stack::laws::padding_is_enough();
+    tt_exec_stack::laws::managing_is_loosened();
+    tt_exec_stack::laws::few_values_are_refused();
+    tt_exec_state::laws::answers_are_loosened();
+    tt_exec_state::laws::few_values_are_refused();
+    tt_exec_points::laws::points_loosened();
+    tt_exec_points::laws::few_values_are_refused();
+}
+
+/// A run on a tolerant machine never halts with StackShort, PointRange, ContourRange, ZoneRange, CvtRange or
+/// StorageRange.
+pub fn tolerant_runs_lack_nothing()
+    ensures { TolerantRunsLackNothing }
+{
+    tt_exec_stack::laws::padding_is_enough();
+    tt_exec_stack::laws::answers_are_total();
+    tt_exec_state::laws::answers_are_total();
+    tt_exec_points::laws::points_total();
 }
