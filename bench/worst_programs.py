@@ -13,6 +13,10 @@ has at most 32 records, components lie at most four deep, and a glyph has at mos
                                            values, storage, twilight points and functions, which each run gets a copy
                                            of, are as many as may be
     bench/worst_programs.py copies FONT    the same, and 32 records: 33 runs; at four depths they would be 50,209
+    bench/worst_programs.py deep FONT      no program; 32 records at each of eight depths, and the glyph below is empty
+    bench/worst_programs.py entries FONT   32 records at each of two depths; each third step is MINDEX of 7,900 entries
+    bench/worst_programs.py meeting FONT   the same; each third step is ISECT of lines at a slant
+    bench/worst_programs.py leaning FONT   the same; IP of 7,900 points, by vectors off the axes
 
 To be drawn by `tt_render draw --size 16 FONT A`.
 """
@@ -37,6 +41,37 @@ def long_program():
     return rounds(32767) * 5 + rounds(2826)
 
 
+# 7,905 entries, each 0.
+ENTRIES = (b"\x40\xff" + bytes(255)) * 31
+# SPVTL and SFVTL of the points 0 and 1, which lie at a slant; reference points 1 and 2 are 0 and 2.
+SLANTED = bytes.fromhex("B10001 06 B10001 08 B000 11 B002 12")
+# What function 0 does in each.
+BODIES = {
+    # PUSHW 7,900, MINDEX
+    "entries": b"\xb8" + small.words(7900) + b"\x26",
+    # PUSHB 3, 0, 1, 2, 3, ISECT
+    "meeting": bytes.fromhex("B4 03 00 01 02 03 0F"),
+    # 7,905 entries, PUSHW 7,900, SLOOP, IP, CLEAR
+    "leaning": ENTRIES + b"\xb8" + small.words(7900) + bytes.fromhex("17 39 22"),
+}
+
+
+def function(body):
+    """A font program that defines function 0."""
+    return bytes.fromhex("B000 2C") + body + b"\x2d"
+
+
+def calls(times, before=b""):
+    """What comes before, and then so many calls of function 0."""
+    return before + b"\xb8" + small.words(times) + bytes.fromhex("B000 2A")
+
+
+def slanted_with(code):
+    """A glyph of four points, at a slant, and a program."""
+    glyph = small.simple([(0, 0, 1), (150, 220, 1), (256, 40, 1), (70, 10, 1)])
+    return glyph[:12] + small.words(len(code)) + code + glyph[14:]
+
+
 def simple_with(code, points):
     """A glyph of so many points, in one contour, and a program."""
     glyph = small.dots(points)
@@ -49,10 +84,10 @@ def composite_of(glyphs, code):
     return small.composite(*records) + small.words(len(code)) + code
 
 
-def tree(depths, code):
-    """Glyph 1 is the composite; each depth below it is a glyph behind glyph 2."""
+def tree(depths, code, leaf=None):
+    """Glyph 1 is the composite; each depth below it is a glyph after glyph 2, the last one this leaf."""
     inner = [composite_of([it + 3] * 32, code) for it in range(1, depths)]
-    return [b"", composite_of([3] * 32, code), b"", *inner, simple_with(code, 1)]
+    return [b"", composite_of([3] * 32, code), b"", *inner, simple_with(code, 1) if leaf is None else leaf]
 
 
 def whole_tree(code):
@@ -100,9 +135,15 @@ def main():
         "skips": lambda: [b"", simple_with(skips_program(), 1), b""],
         "copy": lambda: [b"", simple_with(b"\x01", 1), b""],
         "copies": lambda: tree(1, b"\x01"),
+        "deep": lambda: tree(8, b"", b""),
+        "entries": lambda: tree(2, b"", slanted_with(calls(32767, ENTRIES))),
+        "meeting": lambda: tree(2, b"", slanted_with(calls(32767) * 10)),
+        "leaning": lambda: tree(2, b"", slanted_with(calls(25000, SLANTED))),
     }[sys.argv[1]]()
     metrics = [(0, 0), (256, 0)] + [(0, 0)] * (len(glyphs) - 2)
     others = large_tables(len(glyphs)) if sys.argv[1].startswith("cop") else {}
+    if sys.argv[1] in BODIES:
+        others = {"fpgm": function(BODIES[sys.argv[1]])}
     Path(sys.argv[2]).write_bytes(small.font(glyphs, metrics, others=others))
 
 

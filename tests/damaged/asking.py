@@ -179,7 +179,8 @@ def why_wrong(font, kind, answer, tables=None):
         return why_no_fault(font, FONT_LINE.fullmatch(lines), NUMBERS[kind], tables)
     if status == 2 and kind != "map":
         found = JOB_LINE.fullmatch(lines)
-        if found and (int(found[1]), found[2]) in ((62, "EmptyPicture"), (63, "PictureLarge")):
+        told = found and (int(found[1]), found[2])
+        if told in ((62, "EmptyPicture"), (63, "PictureLarge")) or (kind == "best" and told == (65, "WorkLarge")):
             return None
     return "has a status or a line that cannot come here"
 

@@ -1,8 +1,10 @@
 /* Prints glyphs as FreeType's bytecode interpreter fits them, for black and white and without its later ways (version
    35), at four sizes in pixels per em, with commas:
 
-     fitted_by_freetype FONT SIZES GLYPH ..
-     fitted_by_freetype FONT SIZES all
+     fitted_by_freetype FONT FIT SIZES GLYPH ..
+     fitted_by_freetype FONT FIT SIZES all
+
+   FIT is `full` or `best`, which passes over what a program asks for and is not there, such as a control value.
 
    A line is `GLYPH ENDS`, where ENDS are one past the last point of each contour, with commas, and for each size
    `ADVANCE X Y`: the distance of the first two phantom points, which FreeType rounds to a pixel, and the points, in
@@ -20,9 +22,8 @@
 
 enum { SIZES = 4 };
 
-/* Faults of programs are told, and the advance is that of the phantom points, whatever the table hdmx has. */
-static const FT_Int32 how = FT_LOAD_TARGET_MONO | FT_LOAD_NO_AUTOHINT | FT_LOAD_NO_BITMAP | FT_LOAD_PEDANTIC |
-                            FT_LOAD_COMPUTE_METRICS;
+/* The advance is that of the phantom points, whatever the table hdmx has. For `full`, faults of programs are told. */
+static FT_Int32 how = FT_LOAD_TARGET_MONO | FT_LOAD_NO_AUTOHINT | FT_LOAD_NO_BITMAP | FT_LOAD_COMPUTE_METRICS;
 
 static void need(FT_Error error, const char *what) {
   if (!error) return;
@@ -80,17 +81,21 @@ int main(int count, char **words) {
   FT_UInt version = 35;
   int sizes[SIZES];
 
-  if (count < 4) need(1, "a word is missing");
-  if (sscanf(words[2], "%d,%d,%d,%d", &sizes[0], &sizes[1], &sizes[2], &sizes[3]) != SIZES) need(1, "four sizes");
+  if (count < 5) need(1, "a word is missing");
+  if (strcmp(words[2], "full") == 0)
+    how |= FT_LOAD_PEDANTIC;
+  else if (strcmp(words[2], "best") != 0)
+    need(1, "full or best");
+  if (sscanf(words[3], "%d,%d,%d,%d", &sizes[0], &sizes[1], &sizes[2], &sizes[3]) != SIZES) need(1, "four sizes");
   need(FT_Init_FreeType(&library), "start");
   need(FT_Property_Set(library, "truetype", "interpreter-version", &version), "version 35");
   for (int i = 0; i < SIZES; i++) {
     need(FT_New_Face(library, words[1], 0, &faces[i]), words[1]);
     need(FT_Set_Pixel_Sizes(faces[i], 0, sizes[i]), "a size");
   }
-  if (strcmp(words[3], "all") == 0)
+  if (strcmp(words[4], "all") == 0)
     for (long glyph = 0; glyph < faces[0]->num_glyphs; glyph++) print_glyph(faces, glyph);
   else
-    for (int i = 3; i < count; i++) print_glyph(faces, atol(words[i]));
+    for (int i = 4; i < count; i++) print_glyph(faces, atol(words[i]));
   return 0;
 }

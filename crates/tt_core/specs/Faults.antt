@@ -123,6 +123,7 @@ job_number job.TextLong = 61
 job_number job.EmptyPicture = 62
 job_number job.PictureLarge = 63
 job_number job.MarginRange = 64
+job_number job.WorkLarge = 65
 
 unfoldable pub job_name : JobFault → List ℕ
 job_name job.SizeRange = codes "SizeRange"
@@ -130,3 +131,4 @@ job_name job.TextLong = codes "TextLong"
 job_name job.EmptyPicture = codes "EmptyPicture"
 job_name job.PictureLarge = codes "PictureLarge"
 job_name job.MarginRange = codes "MarginRange"
+job_name job.WorkLarge = codes "WorkLarge"

@@ -48,6 +48,18 @@ coordinate_limit = 2097151
 abbrev pub step_limit : ℕ
 step_limit = 1000000
 
+-- work of all programs of a job, where that is bounded
+abbrev pub work_limit : ℕ
+work_limit = 100000000
+
+-- points that the glyphs of a job are made of, with phantom points and one for each contour, where its work is bounded
+abbrev pub point_work_limit : ℕ
+point_work_limit = 4000000
+
+-- crossings of a job's glyphs with the rows of its picture, where its work is bounded
+abbrev pub crossing_limit : ℕ
+crossing_limit = 16000000
+
 -- calls of functions that may be open at once
 abbrev pub call_limit : ℕ
 call_limit = 64

@@ -224,6 +224,9 @@ pub enum JobFault {
     /// The margin is above 64 pixels.
     #[error("the margin is above 64 pixels")]
     MarginRange = 64,
+    /// Its glyphs would be too much work.
+    #[error("its glyphs would be too much work")]
+    WorkLarge = 65,
 }
 
 impl JobFault {
@@ -246,6 +249,7 @@ impl JobFault {
             JobFault::EmptyPicture => "EmptyPicture",
             JobFault::PictureLarge => "PictureLarge",
             JobFault::MarginRange => "MarginRange",
+            JobFault::WorkLarge => "WorkLarge",
         }
     }
 }

@@ -37,6 +37,17 @@ pub const COORDINATE_LIMIT: i32 = 2_097_151;
 /// Steps of one run of a program; a step is one instruction.
 pub const STEP_LIMIT: u32 = 1_000_000;
 
+/// Work of all programs of a job, where that is bounded: steps, points that instructions go over, bytes that skips pass,
+/// and what is copied for each run.
+pub const WORK_LIMIT: u64 = 100_000_000;
+
+/// Points that the glyphs of a job are made of, where its work is bounded: phantom points, and one for each contour, are
+/// counted with them.
+pub const POINT_WORK_LIMIT: u64 = 4_000_000;
+
+/// Crossings of a job's glyphs with the rows of its picture, where its work is bounded.
+pub const CROSSING_LIMIT: u64 = 16_000_000;
+
 /// Calls of functions that may be open at once.
 pub const CALL_LIMIT: usize = 64;
 

@@ -5,4 +5,6 @@ pub mod Loosened
 pub mod Single
 pub mod Sizes
 pub mod Steps
+pub mod StepsPaid
 pub mod WithAll
+pub mod WorkPaid

@@ -1,6 +1,6 @@
 -- Worked programs: the stack that so many steps leave, the top first, or the fault. Apple TrueType Reference Manual,
 -- "Instruction set".
-use Rattle.std.specs.Prelude.{◌≡◌, ℕ, zero, suc, ℤ, pos, negsuc, false, List, [], ◌∷◌, codes, Result, Ok, Err, refl}
+use Rattle.std.specs.Prelude.{◌≡◌, ℕ, zero, suc, ℤ, pos, negsuc, false, List, [], ◌∷◌, codes, Some, Result, Ok, Err, refl}
 use Rattle.tt_core.specs.Faults.{Fault, fault_at}
 use Rattle.tt_core.specs.Outcomes.{◌>>=◌}
 use Rattle.tt_core.specs.declared.fault.Why.TheVariants as why
@@ -12,6 +12,7 @@ use Rattle.tt_exec.specs.MachineState.{MachineState}
 use Rattle.tt_exec.specs.Parts.{Parts}
 use Rattle.tt_exec.specs.Runs.{run_within}
 use Rattle.tt_exec.specs.Step.{step}
+use Rattle.tt_exec.specs.Work.{enough, spent, work_within, run_work}
 
 -- the state that so many steps lead to
 abbrev after : ℕ → MachineState → Result MachineState Fault
@@ -85,3 +86,32 @@ two_steps_of_two = refl
 one_step_of_two : stack_within 1 (0xB1 ∷ 2 ∷ 3 ∷ 0x61 ∷ []) ≡ Err (fault_at (codes "prep") 43 why.StepLimit)
 unfolding its_parts pushed run_within
 one_step_of_two = refl
+
+-- a control value program where it begins
+abbrev begun_with : List ℕ → MachineState
+begun_with bytes = run_from (record { table = codes "prep"; base = 40; bytes = bytes }) (fresh its_parts)
+
+-- PUSHB 2, 3; SUB; POP
+three_paid : work_within 3 (begun_with (0xB1 ∷ 2 ∷ 3 ∷ 0x61 ∷ 0x21 ∷ [])) (Some 3) ≡ enough (Some 0)
+unfolding its_parts pushed work_within
+three_paid = refl
+
+two_of_three_paid : work_within 3 (begun_with (0xB1 ∷ 2 ∷ 3 ∷ 0x61 ∷ 0x21 ∷ [])) (Some 2)
+    ≡ spent (fault_at (codes "prep") 44 why.StepLimit)
+unfolding its_parts pushed work_within
+two_of_three_paid = refl
+
+-- PUSHB 0; IF; ELSE; PUSHB 5; EIF: four steps, and the ELSE that IF passes
+skip_paid : work_within 4 (begun_with (0xB0 ∷ 0 ∷ 0x58 ∷ 0x1B ∷ 0xB0 ∷ 5 ∷ 0x59 ∷ [])) (Some 7) ≡ enough (Some 2)
+unfolding its_parts pushed work_within
+skip_paid = refl
+
+-- PUSHB 9; POP; JMPR, which is refused: its step is paid
+refusal_paid : work_within 3 (begun_with (0xB0 ∷ 9 ∷ 0x21 ∷ 0x1C ∷ [])) (Some 7) ≡ enough (Some 4)
+unfolding its_parts pushed work_within
+refusal_paid = refl
+
+-- one place of the storage area was copied for the run
+copy_not_paid : run_work (begun_with []) (Some 0) ≡ spent (fault_at (codes "prep") 40 why.StepLimit)
+unfolding its_parts run_work
+copy_not_paid = refl

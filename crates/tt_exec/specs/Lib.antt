@@ -18,3 +18,5 @@ pub mod States
 pub mod Step
 pub mod Views
 pub mod WithAll
+pub mod Work
+pub mod Worked

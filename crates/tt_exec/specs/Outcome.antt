@@ -1,6 +1,6 @@
 -- No part of the standard: how what comes of an instruction's code is tied to a definition that answers a state or a
 -- fault. A refusal is told without its table and its offset, which are those of the frame that is left.
-use Rattle.std.specs.Prelude.{◌≡◌, ◌≤◌, ℕ, length, Result, Ok, Err}
+use Rattle.std.specs.Prelude.{◌≡◌, ◌≤◌, ℕ, Bool, true, false, length, Result, Ok, Err}
 use Rattle.tt_core.specs.Faults.{Fault}
 use Rattle.tt_core.specs.declared.fault.Why.{Why}
 use Rattle.tt_core.specs.declared.font_fault.FontFault.{FontFault}
@@ -24,6 +24,11 @@ ComesTo given at new outcome.Done = given ≡ Ok new
 ComesTo given at new (outcome.Refused why) = Refuses given at new why
 ComesTo given at new (outcome.SkipRefused why) = given ≡ Err (fault_in new.frame new.frame.place why)
 ComesTo given at new outcome.NoMemory = Unit {0}
+
+-- whether an instruction wanted memory: FDEF and IDEF alone take some
+abbrev pub wants_memory : Outcome → Bool
+wants_memory outcome.NoMemory = true
+wants_memory _ = false
 
 -- a refusal of the instruction itself is within the frame's program, and an instruction that is done is no refusal
 abbrev pub IsRefusal : ℕ → Frame → Outcome → Type 0

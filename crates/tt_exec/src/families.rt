@@ -2,11 +2,11 @@
 //! stands in the crates tt_exec_stack and tt_exec_state. An instruction stands at `at`. Apple TrueType Reference Manual,
 //! "Instruction set".
 
-ghost use Rattle.std.specs.Prelude.{◌≤◌, length};
+ghost use Rattle.std.specs.Prelude.{◌≡◌, ◌≤◌, length, false};
 ghost use Rattle.tt_exec.specs.Operation as operation;
 ghost use Rattle.tt_exec.specs.States.{state_of};
 ghost use Rattle.tt_exec.specs.Step as is;
-ghost use Rattle.tt_exec.specs.Outcome.{ComesTo};
+ghost use Rattle.tt_exec.specs.Outcome.{ComesTo, wants_memory};
 
 use crate::machine_state::MachineState;
 use crate::outcome::Outcome;
@@ -32,7 +32,8 @@ impl MachineState<'_> {
     #[inline(always)]
     pub(crate) fn push(&mut self, op: u8, args: &[u8], at: usize) -> Outcome
         requires { at ≤ length self.old.frame.code.bytes.now }
-        ensures { ComesTo (is.push op args.now at (state_of self.old)) at (state_of self.new) result }
+        ensures exact { ComesTo (is.push op args.now at (state_of self.old)) at (state_of self.new) result }
+        ensures memory { wants_memory result ≡ false }
     {
         match op {
             0x41 | 0xB8..=0xBF => outcome!(push_words(args, &mut self.stack)),
@@ -42,8 +43,9 @@ impl MachineState<'_> {
 
     pub(crate) fn access_vectors(&mut self, op: Vectors, at: usize) -> Outcome
         requires { at ≤ length self.old.frame.code.bytes.now }
-        ensures { let given = is.operate (operation.access_vectors op) at (state_of self.old) in
+        ensures exact { let given = is.operate (operation.access_vectors op) at (state_of self.old) in
             ComesTo given at (state_of self.new) result }
+        ensures memory { wants_memory result ≡ false }
     {
         outcome!(access_vectors(op, &mut self.stack, &mut self.graphics))
     }
@@ -51,8 +53,9 @@ impl MachineState<'_> {
     #[inline(always)]
     pub(crate) fn set_state(&mut self, op: Setting, at: usize) -> Outcome
         requires { at ≤ length self.old.frame.code.bytes.now }
-        ensures { let given = is.operate (operation.set_state op) at (state_of self.old) in
+        ensures exact { let given = is.operate (operation.set_state op) at (state_of self.old) in
             ComesTo given at (state_of self.new) result }
+        ensures memory { wants_memory result ≡ false }
     {
         outcome!(set_state(
             op,
@@ -66,8 +69,9 @@ impl MachineState<'_> {
     #[inline(always)]
     pub(crate) fn manage(&mut self, op: Managing, at: usize) -> Outcome
         requires { at ≤ length self.old.frame.code.bytes.now }
-        ensures { let given = is.operate (operation.manage op) at (state_of self.old) in
+        ensures exact { let given = is.operate (operation.manage op) at (state_of self.old) in
             ComesTo given at (state_of self.new) result }
+        ensures memory { wants_memory result ≡ false }
     {
         outcome!(manage(op, self.tolerance, &mut self.stack))
     }
@@ -75,8 +79,9 @@ impl MachineState<'_> {
     #[inline(always)]
     pub(crate) fn evaluate(&mut self, op: Logic, at: usize) -> Outcome
         requires { at ≤ length self.old.frame.code.bytes.now }
-        ensures { let given = is.operate (operation.evaluate op) at (state_of self.old) in
+        ensures exact { let given = is.operate (operation.evaluate op) at (state_of self.old) in
             ComesTo given at (state_of self.new) result }
+        ensures memory { wants_memory result ≡ false }
     {
         let round = self.graphics.round;
         outcome!(evaluate(op, round, &mut self.stack))
@@ -85,8 +90,9 @@ impl MachineState<'_> {
     #[inline(always)]
     pub(crate) fn compute(&mut self, op: Arithmetic, at: usize) -> Outcome
         requires { at ≤ length self.old.frame.code.bytes.now }
-        ensures { let given = is.operate (operation.compute op) at (state_of self.old) in
+        ensures exact { let given = is.operate (operation.compute op) at (state_of self.old) in
             ComesTo given at (state_of self.new) result }
+        ensures memory { wants_memory result ≡ false }
     {
         let round = self.graphics.round;
         outcome!(compute(op, round, &mut self.stack))
@@ -95,8 +101,9 @@ impl MachineState<'_> {
     #[inline(always)]
     pub(crate) fn access_values(&mut self, op: StoredValues, at: usize) -> Outcome
         requires { at ≤ length self.old.frame.code.bytes.now }
-        ensures { let given = is.operate (operation.access_values op) at (state_of self.old) in
+        ensures exact { let given = is.operate (operation.access_values op) at (state_of self.old) in
             ComesTo given at (state_of self.new) result }
+        ensures memory { wants_memory result ≡ false }
     {
         outcome!(access_values(
             op,
@@ -111,8 +118,9 @@ impl MachineState<'_> {
     #[inline(always)]
     pub(crate) fn answer(&mut self, op: Query, at: usize) -> Outcome
         requires { at ≤ length self.old.frame.code.bytes.now }
-        ensures { let given = is.operate (operation.answer op) at (state_of self.old) in
+        ensures exact { let given = is.operate (operation.answer op) at (state_of self.old) in
             ComesTo given at (state_of self.new) result }
+        ensures memory { wants_memory result ≡ false }
     {
         outcome!(answer(op, self.size, &mut self.stack))
     }

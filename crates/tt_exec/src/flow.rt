@@ -1,11 +1,11 @@
 //! Managing the flow of control. Apple TrueType Reference Manual, "Instruction set". An instruction stands at `at`, and
 //! the frame's place is behind it.
 
-ghost use Rattle.std.specs.Prelude.{◌≡◌, ◌<◌, length};
+ghost use Rattle.std.specs.Prelude.{◌≡◌, ◌<◌, length, false};
 ghost use Rattle.tt_exec.specs.Flow as flow;
 ghost use Rattle.tt_exec.specs.Flags as flags;
 ghost use Rattle.tt_exec.specs.States.{state_of};
-ghost use Rattle.tt_exec.specs.Outcome.{ComesTo};
+ghost use Rattle.tt_exec.specs.Outcome.{ComesTo, wants_memory};
 
 use crate::machine_state::{Kind, MachineState};
 use crate::outcome::Outcome;
@@ -24,7 +24,8 @@ impl MachineState<'_> {
     /// IF[], 0x58: e -> nothing; goes on behind its ELSE or EIF where e is 0.
     pub(crate) fn if_from(&mut self, at: usize) -> Outcome
         requires { at < length self.old.frame.code.bytes.now }
-        ensures { ComesTo (flow.if_from self.old.stack at (state_of self.old)) at (state_of self.new) result }
+        ensures exact { ComesTo (flow.if_from self.old.stack at (state_of self.old)) at (state_of self.new) result }
+        ensures memory { wants_memory result ≡ false }
     {
         let Ok(condition) = self.popped() else {
             return Outcome::Refused(Why::StackShort);
@@ -47,7 +48,8 @@ impl MachineState<'_> {
     /// ELSE[], 0x1B: come to behind the part of a true IF, goes on behind the EIF.
     pub(crate) fn else_from(&mut self, at: usize) -> Outcome
         requires { at < length self.old.frame.code.bytes.now }
-        ensures { ComesTo (flow.else_from at (state_of self.old)) at (state_of self.new) result }
+        ensures exact { ComesTo (flow.else_from at (state_of self.old)) at (state_of self.new) result }
+        ensures memory { wants_memory result ≡ false }
     {
         match skip_else(self.frame.code.bytes, at) {
             Ok(place) => {
@@ -64,7 +66,8 @@ impl MachineState<'_> {
     /// Error: JumpRange.
     fn jump(&mut self, at: usize, offset: i32) -> Outcome
         requires { at < length self.old.frame.code.bytes.now }
-        ensures { ComesTo (flow.jumped at offset (state_of self.old)) at (state_of self.new) result }
+        ensures exact { ComesTo (flow.jumped at offset (state_of self.old)) at (state_of self.new) result }
+        ensures memory { wants_memory result ≡ false }
     {
         let target = at as i64 + i64::from(offset);
         if target < 0 || target > self.frame.code.bytes.len() as i64 {
@@ -77,7 +80,8 @@ impl MachineState<'_> {
     /// JMPR[], 0x1C: offset -> nothing; goes on at this opcode's place and the offset.
     pub(crate) fn jmpr(&mut self, at: usize) -> Outcome
         requires { at < length self.old.frame.code.bytes.now }
-        ensures { ComesTo (flow.jmpr self.old.stack at (state_of self.old)) at (state_of self.new) result }
+        ensures exact { ComesTo (flow.jmpr self.old.stack at (state_of self.old)) at (state_of self.new) result }
+        ensures memory { wants_memory result ≡ false }
     {
         let Ok(offset) = self.popped() else {
             return Outcome::Refused(Why::StackShort);
@@ -88,7 +92,8 @@ impl MachineState<'_> {
     /// JROT[], 0x78: offset, e -> nothing; jumps where e is not 0.
     pub(crate) fn jrot(&mut self, at: usize) -> Outcome
         requires { at < length self.old.frame.code.bytes.now }
-        ensures { ComesTo (flow.jrot self.old.stack at (state_of self.old)) at (state_of self.new) result }
+        ensures exact { ComesTo (flow.jrot self.old.stack at (state_of self.old)) at (state_of self.new) result }
+        ensures memory { wants_memory result ≡ false }
     {
         let Ok(condition) = self.popped() else {
             return Outcome::Refused(Why::StackShort);
@@ -106,7 +111,8 @@ impl MachineState<'_> {
     /// JROF[], 0x79: offset, e -> nothing; jumps where e is 0.
     pub(crate) fn jrof(&mut self, at: usize) -> Outcome
         requires { at < length self.old.frame.code.bytes.now }
-        ensures { ComesTo (flow.jrof self.old.stack at (state_of self.old)) at (state_of self.new) result }
+        ensures exact { ComesTo (flow.jrof self.old.stack at (state_of self.old)) at (state_of self.new) result }
+        ensures memory { wants_memory result ≡ false }
     {
         let Ok(condition) = self.popped() else {
             return Outcome::Refused(Why::StackShort);
@@ -139,7 +145,8 @@ impl MachineState<'_> {
     /// INSTCTRL[], 0x8E: value, selector -> nothing; the control value program sets a flag.
     pub(crate) fn instctrl(&mut self, at: usize) -> Outcome
         requires { at < length self.old.frame.code.bytes.now }
-        ensures { ComesTo (flags.instctrl self.old.stack at (state_of self.old)) at (state_of self.new) result }
+        ensures exact { ComesTo (flags.instctrl self.old.stack at (state_of self.old)) at (state_of self.new) result }
+        ensures memory { wants_memory result ≡ false }
     {
         let Ok(selector) = self.popped() else {
             return Outcome::Refused(Why::StackShort);

@@ -1,7 +1,7 @@
 //! The functions that programs define, by number. Apple TrueType Reference Manual, "Instruction set" (defining and
 //! using functions).
 
-ghost use Rattle.std.specs.Prelude.{◌≡◌, map, OnOk, OnErr};
+ghost use Rattle.std.specs.Prelude.{◌≡◌, ◌^◌, ◌<◌, length, map, OnOk, OnErr};
 ghost use Rattle.std.specs.Option.{option_map};
 ghost use Rattle.tt_exec.specs.Numbered.{function_at, with_function};
 ghost use Rattle.tt_exec.specs.Views.{entry_of, body_of};
@@ -40,6 +40,14 @@ impl<'a> Bodies<'a> {
         ensures { map entry_of result.entries ≡ self.entry }
     {
         self.by_number
+    }
+
+    /// How many there are.
+    pub(crate) fn len(&self) -> usize
+        ensures exact { result ≡ length self.now }
+        ensures few { result < 2 ^ 63 }
+    {
+        self.by_number.len()
     }
 
     /// The function of a number.

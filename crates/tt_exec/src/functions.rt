@@ -1,12 +1,12 @@
 //! Defining and using functions. Apple TrueType Reference Manual, "Instruction set". An instruction stands at `at`, and
 //! the frame's place is behind it.
 
-ghost use Rattle.std.specs.Prelude.{◌≡◌, ◌+◌, ◌<◌, ◌≤◌, ◌^◌, pos, length, OnOk};
+ghost use Rattle.std.specs.Prelude.{◌≡◌, ◌+◌, ◌<◌, ◌≤◌, ◌^◌, pos, length, OnOk, false};
 ghost use Rattle.tt_exec.specs.Functions as is;
 ghost use Rattle.tt_exec.specs.Numbered.{function_at};
 ghost use Rattle.tt_exec.specs.Views.{body_of};
 ghost use Rattle.tt_exec.specs.States.{state_of};
-ghost use Rattle.tt_exec.specs.Outcome.{ComesTo};
+ghost use Rattle.tt_exec.specs.Outcome.{ComesTo, wants_memory};
 ghost use Rattle.std.specs.Prelude.{Some};
 
 use crate::machine_state::{Kind, MachineState};
@@ -116,7 +116,8 @@ impl<'a> MachineState<'a> {
     /// ENDF[], 0x2D: ends a call, or begins the next round of a LOOPCALL. Error: DefinitionPlace outside calls.
     pub(crate) fn endf(&mut self, at: usize) -> Outcome
         requires { at < length self.old.frame.code.bytes.now }
-        ensures { ComesTo (is.endf self.old.callers at (state_of self.old)) at (state_of self.new) result }
+        ensures exact { ComesTo (is.endf self.old.callers at (state_of self.old)) at (state_of self.new) result }
+        ensures memory { wants_memory result ≡ false }
     {
         if self.frame.left > 0 && self.callers.len() > 0 {
             self.frame.place = self.frame.start;
@@ -133,8 +134,9 @@ impl<'a> MachineState<'a> {
     /// Calls a function, and again so often. Error: CallDepth.
     fn enter(&mut self, at: usize, body: Body<'a>, again: u32) -> Outcome
         requires { at < length self.old.frame.code.bytes.now }
-        ensures { let f = body_of body.entry in
+        ensures exact { let f = body_of body.entry in
             ComesTo (is.called at again (state_of self.old) (Some f)) at (state_of self.new) result }
+        ensures memory { wants_memory result ≡ false }
     {
         if self.callers.len() >= CALL_LIMIT {
             return Outcome::Refused(Why::CallDepth);
@@ -152,7 +154,8 @@ impl<'a> MachineState<'a> {
     /// CALL[], 0x2B: n -> nothing; goes on in function n, whose ENDF comes back. Errors: NoFunction, CallDepth.
     pub(crate) fn call(&mut self, at: usize) -> Outcome
         requires { at < length self.old.frame.code.bytes.now }
-        ensures { ComesTo (is.call self.old.stack at (state_of self.old)) at (state_of self.new) result }
+        ensures exact { ComesTo (is.call self.old.stack at (state_of self.old)) at (state_of self.new) result }
+        ensures memory { wants_memory result ≡ false }
     {
         let Ok(n) = self.popped() else {
             return Outcome::Refused(Why::StackShort);
@@ -167,7 +170,8 @@ impl<'a> MachineState<'a> {
     /// count is, CallDepth.
     pub(crate) fn loopcall(&mut self, at: usize) -> Outcome
         requires { at < length self.old.frame.code.bytes.now }
-        ensures { ComesTo (is.loopcall self.old.stack at (state_of self.old)) at (state_of self.new) result }
+        ensures exact { ComesTo (is.loopcall self.old.stack at (state_of self.old)) at (state_of self.new) result }
+        ensures memory { wants_memory result ≡ false }
     {
         let Ok(n) = self.popped() else {
             return Outcome::Refused(Why::StackShort);
@@ -188,8 +192,9 @@ impl<'a> MachineState<'a> {
     /// CallDepth.
     pub(crate) fn call_instruction(&mut self, op: u8, at: usize) -> Outcome
         requires { at < length self.old.frame.code.bytes.now }
-        ensures { let given = is.instruction_called at (state_of self.old) (function_at (pos op) self.old.instructions) in
+        ensures exact { let given = is.instruction_called at (state_of self.old) (function_at (pos op) self.old.instructions) in
             ComesTo given at (state_of self.new) result }
+        ensures memory { wants_memory result ≡ false }
     {
         match self.instructions.get(i32::from(op)) {
             Some(body) => self.enter(at, body, 0),

@@ -8,6 +8,7 @@ ghost use Rattle.tt_exec.specs.Outcomes.{HasOneOutcome};
 ghost use Rattle.tt_exec.specs.Runs.{Ends};
 ghost use Rattle.tt_exec.specs.Sizes.{HasContours, SameSizes};
 ghost use Rattle.tt_exec.specs.WithAll.{RunsStay};
+ghost use Rattle.tt_exec.specs.Worked.{SpentWork, UnboundedWork, WorkFalls};
 
 /// A run from any state either ends, after one number of steps and at one state, or halts with one fault, never both.
 pub fn one_outcome()
@@ -57,3 +58,18 @@ pub fn tolerant_runs_lack_nothing()
     tt_exec_state::laws::answers_are_total();
     tt_exec_points::laws::points_total();
 }
+
+/// A run whose work is not bounded is never refused for it.
+pub fn unbounded_work()
+    ensures { UnboundedWork }
+{}
+
+/// A run that its work refuses halts with StepLimit.
+pub fn spent_work()
+    ensures { SpentWork }
+{}
+
+/// A run whose work is bounded leaves no more than there was.
+pub fn work_falls()
+    ensures { WorkFalls }
+{}

@@ -15,11 +15,14 @@ mod on_points;
 mod opcode;
 mod outcome;
 mod parts;
+mod paying;
 mod program;
 mod stepping;
 mod taking;
+mod work;
 
 pub use fault::ExecFault;
 pub use machine::Machine;
 pub use parts::Parts;
 pub use program::{Body, Code};
+pub use work::{Work, WorkFault};

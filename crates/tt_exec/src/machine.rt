@@ -10,6 +10,8 @@ ghost use Rattle.tt_exec.specs.Parts.{parts_of};
 ghost use Rattle.tt_exec.specs.Runs.{run_outcome};
 ghost use Rattle.tt_exec.specs.Sizes.{SameSizes};
 ghost use Rattle.tt_exec.specs.Views.{code_of};
+ghost use Rattle.tt_exec.specs.Work.{run_work};
+ghost use Rattle.tt_exec.specs.Worked.{OutcomeWithin, Paid, RunsWithin, WorkIs};
 
 use crate::callers::Callers;
 use crate::fault::ExecFault;
@@ -18,6 +20,7 @@ use crate::laws;
 use crate::machine_state::{Kind, MachineState};
 use crate::parts::Parts;
 use crate::program::{Code, Frame};
+use crate::work::{Work, WorkFault};
 use std::alloc::{AllocError, Global};
 use std::marker::Model;
 use tt_exec_points::Points;
@@ -95,17 +98,38 @@ impl<'a> Machine<'a> {
         ensures shape { IfOk result (λ n. SameShape self.old.state.zones self.new.state.zones) }
         ensures sizes { IfOk result (λ n. SameSizes self.old.state self.new.state) }
     {
+        laws::unbounded_work();
+        match self.run_within(code, &mut Work::unbounded()) {
+            Ok(steps) => Ok(steps),
+            Err(WorkFault::Run(fault)) => Err(fault),
+            Err(WorkFault::Spent(_)) => unreachable!(),
+        }
+    }
+
+    /// The same with what is left of a job's work, which pays for what is copied for a run, for each step, for the points
+    /// and stack entries that its instruction goes over, and for the bytes that a skip passes. Errors: Run with that of
+    /// a run whose work is not bounded; Spent, with StepLimit at the instruction for which less is left than it wants,
+    /// and then nothing is left and the machine has failed.
+    pub fn run_within(&mut self, code: Code<'a>, work: &mut Work) -> Result<u32, WorkFault>
+        ensures exact { RunsWithin (code_of code.entry) self.old result self.new }
+        ensures outcome { OutcomeWithin (run_outcome (run_from (code_of code.entry) self.old.state)) result self.new }
+        ensures work { WorkIs (run_work (run_from (code_of code.entry) self.old.state)) work.old.left result work.new.left }
+        // No more was done than was paid.
+        ensures paid { IfOk result (λ n. Paid n work.old.left work.new.left) }
+        ensures shape { IfOk result (λ n. SameShape self.old.state.zones self.new.state.zones) }
+        ensures sizes { IfOk result (λ n. SameSizes self.old.state self.new.state) }
+    {
         if self.failed {
-            return Err(ExecFault::Failed);
+            return Err(WorkFault::Run(ExecFault::Failed));
         }
         laws::sizes_are_kept();
         self.state.points.are_valid();
         self.state.begin(code, kind_of(code.table));
-        match self.state.go() {
+        match self.state.run(work) {
             Ok(steps) => Ok(steps),
-            Err(fault) => {
+            Err(stop) => {
                 self.failed = true;
-                Err(ExecFault::from(fault))
+                Err(WorkFault::from(stop))
             }
         }
     }

@@ -2,10 +2,10 @@
 //! tt_exec_points. An instruction stands at `at`, and the frame's place is after it. Apple TrueType Reference Manual,
 //! "Instruction set".
 
-ghost use Rattle.std.specs.Prelude.{◌<◌, length};
+ghost use Rattle.std.specs.Prelude.{◌≡◌, ◌<◌, length, false};
 ghost use Rattle.tt_exec.specs.OnPoints as is;
 ghost use Rattle.tt_exec.specs.States.{state_of};
-ghost use Rattle.tt_exec.specs.Outcome.{ComesTo};
+ghost use Rattle.tt_exec.specs.Outcome.{ComesTo, wants_memory};
 
 use crate::machine_state::MachineState;
 use crate::outcome::Outcome;
@@ -17,7 +17,8 @@ impl MachineState<'_> {
     #[tactic(auto, unfolding(crate::specs::OnPoints::on_points))]
     pub(crate) fn on_points(&mut self, op: PointInstruction, at: usize) -> Outcome
         requires { at < length self.old.frame.code.bytes.now }
-        ensures { ComesTo (is.on_points op at (state_of self.old)) at (state_of self.new) result }
+        ensures exact { ComesTo (is.on_points op at (state_of self.old)) at (state_of self.new) result }
+        ensures memory { wants_memory result ≡ false }
     {
         match on_points(
             self.tolerance,

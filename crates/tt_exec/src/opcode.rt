@@ -1,12 +1,12 @@
 //! The instruction of each opcode, done. Apple TrueType Reference Manual, "Instruction set". An instruction stands at
 //! `at`, and the frame's place is behind it.
 
-ghost use Rattle.std.specs.Prelude.{◌≡◌, ◌<◌, length};
+ghost use Rattle.std.specs.Prelude.{◌≡◌, ◌<◌, length, false};
 ghost use Rattle.tt_exec.specs.Opcodes as table;
 ghost use Rattle.tt_exec.specs.Operation as operation;
 ghost use Rattle.tt_exec.specs.States.{state_of};
 ghost use Rattle.tt_exec.specs.Step as is;
-ghost use Rattle.tt_exec.specs.Outcome.{ComesTo};
+ghost use Rattle.tt_exec.specs.Outcome.{ComesTo, wants_memory};
 
 use crate::machine_state::MachineState;
 use crate::outcome::Outcome;
@@ -45,8 +45,9 @@ impl MachineState<'_> {
     /// SPVTL[], SFVTL[], SDPVTL[], ISECT[] and ALIGNPTS[]. Error: OffProfile without the whole instruction set.
     fn on_lines(&mut self, op: PointInstruction, at: usize) -> Outcome
         requires { at < length self.old.frame.code.bytes.now }
-        ensures { let given = is.operate (operation.beyond (operation.on_points op)) at (state_of self.old) in
+        ensures exact { let given = is.operate (operation.beyond (operation.on_points op)) at (state_of self.old) in
             ComesTo given at (state_of self.new) result }
+        ensures memory { wants_memory result ≡ false }
     {
         if self.graphics.whole {
             return self.on_points(op, at);
@@ -57,8 +58,9 @@ impl MachineState<'_> {
     /// S45ROUND[] and DEBUG[]. Error: OffProfile without the whole instruction set.
     fn set_beyond(&mut self, op: Setting, at: usize) -> Outcome
         requires { at < length self.old.frame.code.bytes.now }
-        ensures { let given = is.operate (operation.beyond (operation.set_state op)) at (state_of self.old) in
+        ensures exact { let given = is.operate (operation.beyond (operation.set_state op)) at (state_of self.old) in
             ComesTo given at (state_of self.new) result }
+        ensures memory { wants_memory result ≡ false }
     {
         if !self.graphics.whole {
             return Outcome::Refused(Why::OffProfile);

@@ -1,19 +1,22 @@
 //! One step, and a whole run. Apple TrueType Reference Manual, "Instructing TrueType Glyphs".
 
 ghost use Rattle.std.specs.Prelude.{◌≡◌, ◌<◌, ◌≤◌, length, IfErr, IfOk, IfSome};
-ghost use Rattle.tt_core.specs.Outcomes.{font_fault};
+ghost use Rattle.tt_core.specs.Limits.{step_limit};
 ghost use Rattle.tt_exec.specs.Opcodes.{operation_of};
 ghost use Rattle.tt_exec.specs.Runs.{Ends, Halts};
 ghost use Rattle.tt_exec.specs.States.{state_of};
 ghost use Rattle.tt_exec.specs.Step as is;
 ghost use Rattle.tt_exec.specs.Outcome.{ComesTo, IsRefusal, halted};
 ghost use Rattle.tt_exec.specs.Views.{frame_of};
+ghost use Rattle.tt_exec.specs.Work.{over_at, run_work, work_within};
+ghost use Rattle.tt_exec.specs.Worked.{Paid, Pays, StopWorkIs, own_fault, work_ahead};
 
 use crate::machine_state::MachineState;
 use crate::outcome::Outcome;
 use crate::taking::taken_by;
+use crate::work::{Stop, Work};
 use tt_code::{decode, plain_opcode};
-use tt_core::{FontFault, STEP_LIMIT, Why};
+use tt_core::{Fault, FontFault, STEP_LIMIT, Why};
 
 impl MachineState<'_> {
     /// Why a run halts, where an instruction at a place is not done.
@@ -27,6 +30,14 @@ impl MachineState<'_> {
             Outcome::SkipRefused(why) => FontFault::Font(self.fault(self.frame.place, why)),
             _ => FontFault::Memory,
         }
+    }
+
+    /// StepLimit at the frame's place.
+    #[cold]
+    fn at_limit(&self) -> Fault
+        ensures { result ≡ over_at (state_of self.now) }
+    {
+        self.fault(self.frame.place, Why::StepLimit)
     }
 
     /// Has the values on the stack that an instruction takes, for a tolerant machine.
@@ -72,22 +83,75 @@ impl MachineState<'_> {
         self.frame.place == self.frame.code.bytes.len() && self.callers.len() == 0
     }
 
-    /// Runs on to the program's end, and tells the steps. Errors: StepLimit; those of a step.
-    pub(crate) fn go(&mut self) -> Result<u32, FontFault>
+    /// Pays for the next step after so many, as pay_next does, where work is bounded. A function of its own, so that a run
+    /// whose work is not bounded pays no more than one test for it.
+    #[cold]
+    #[inline(never)]
+    fn pay_bounded(&self, n: u32, work: &mut Work) -> bool
+        requires { n ≤ step_limit }
+        ensures { Pays (over_at (state_of self.now)) (work_ahead n (state_of self.now) work.old.left) result work.new.left }
+    {
+        if self.is_ended() {
+            return true;
+        }
+        if n == STEP_LIMIT {
+            return true;
+        }
+        self.pay_step(work)
+    }
+
+    /// Pays for the next step after so many, if one is to be made; false where less is left than it wants, and nothing
+    /// is left then. It is asked before the program's end is tested, so that the compiler joins that test with the
+    /// step's own.
+    #[inline(always)]
+    fn pay_next(&self, n: u32, work: &mut Work) -> bool
+        requires { n ≤ step_limit }
+        ensures { Pays (over_at (state_of self.now)) (work_ahead n (state_of self.now) work.old.left) result work.new.left }
+    {
+        if work.left.is_some() {
+            return self.pay_bounded(n, work);
+        }
+        true
+    }
+
+    /// Runs on to the program's end, and tells the steps, each of which is paid for. Errors: StepLimit; those of a step;
+    /// Spent where a step wants more work than is left.
+    #[inline(never)]
+    fn go(&mut self, work: &mut Work) -> Result<u32, Stop>
         ensures ends { IfOk result (λ n. Ends (state_of self.old) n (state_of self.new)) }
-        ensures halts { IfErr result (λ e. IfSome (font_fault e) (Halts (state_of self.old))) }
+        ensures halts { IfErr result (λ stop. IfSome (own_fault stop) (Halts (state_of self.old))) }
+        ensures work { StopWorkIs (work_within step_limit (state_of self.old)) work.old.left result work.new.left }
+        ensures paid { IfOk result (λ n. Paid n work.old.left work.new.left) }
     {
         let mut n = 0;
-        'steps: while !self.is_ended() {
+        'steps: loop {
+            if !self.pay_next(n, work) {
+                return Err(Stop::Spent(self.at_limit()));
+            }
+            if self.is_ended() {
+                return Ok(n);
+            }
             if n == STEP_LIMIT {
-                return Err(FontFault::Font(self.fault(self.frame.place, Why::StepLimit)));
+                return Err(Stop::Run(FontFault::Font(self.at_limit())));
             }
             let at = self.frame.place;
             match self.step() {
                 Outcome::Done => n += 1,
-                outcome => return Err(self.halted(at, outcome)),
+                outcome => return Err(Stop::Run(self.halted(at, outcome))),
             }
         }
-        Ok(n)
+    }
+
+    /// Runs on from the beginning of a run, for which what was copied is paid first.
+    pub(crate) fn run(&mut self, work: &mut Work) -> Result<u32, Stop>
+        ensures ends { IfOk result (λ n. Ends (state_of self.old) n (state_of self.new)) }
+        ensures halts { IfErr result (λ stop. IfSome (own_fault stop) (Halts (state_of self.old))) }
+        ensures work { StopWorkIs (run_work (state_of self.old)) work.old.left result work.new.left }
+        ensures paid { IfOk result (λ n. Paid n work.old.left work.new.left) }
+    {
+        if !self.pay_copies(work) {
+            return Err(Stop::Spent(self.at_limit()));
+        }
+        self.go(work)
     }
 }

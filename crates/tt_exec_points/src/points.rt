@@ -1,6 +1,6 @@
 //! The zones of a machine. Apple TrueType Reference Manual, "Instructing TrueType Glyphs" (zones).
 
-ghost use Rattle.std.specs.Prelude.{◌≡◌};
+ghost use Rattle.std.specs.Prelude.{◌≡◌, ◌^◌, ◌<◌, length};
 ghost use Rattle.tt_points_zones.specs.Zones.{zones_view, IsZones};
 
 use std::marker::Model;
@@ -36,6 +36,22 @@ impl Points {
         ensures { IsZones self.now }
     {
         let _ = &self.zones;
+    }
+
+    /// How many points the twilight zone has.
+    pub fn twilight_count(&self) -> usize
+        ensures exact { result ≡ length self.now.twilight }
+        ensures few { result < 2 ^ 62 }
+    {
+        self.zones.twilight.as_slice().len()
+    }
+
+    /// How many points the glyph has.
+    pub fn glyph_count(&self) -> usize
+        ensures exact { result ≡ length self.now.glyph }
+        ensures few { result < 2 ^ 62 }
+    {
+        self.zones.glyph.as_slice().len()
     }
 
     pub fn into_zones(self) -> Zones

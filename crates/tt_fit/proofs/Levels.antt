@@ -1,13 +1,17 @@
 -- One record more, one level of components, and a simple glyph.
-use Rattle.std.proofs.Common.{◌≡◌, ℕ, zero, suc, ◌+◌, ◌-◌, ◌<◌, List, length, drop, get_or, Result, Ok, refl, arith, add-one, drop-cons}
+use Rattle.std.proofs.Common.{◌≡◌, ℕ, zero, suc, ◌+◌, ◌-◌, ◌<◌, List, length, drop, get_or, Option, IfSome, Result, Ok, Err, refl, arith, add-one, drop-cons}
 use Rattle.tt_core.specs.Faults.{Fault}
 use Rattle.tt_core.specs.Outcomes.{◌>>=◌}
+use Rattle.tt_exec.specs.Work.{Worked, enough}
 use Rattle.tt_glyf.specs.declared.raw.Record.{Record}
+use Rattle.tt_fit.specs.declared.unmade.Unmade.{Unmade}
+use Rattle.tt_fit.specs.declared.unmade.Unmade.TheVariants as unmade
 use Rattle.tt_fit.specs.Joining.{placed}
 use Rattle.tt_glyf.specs.GlyphData.{glyph_data_of}
 use Rattle.tt_glyf.specs.Raw.{SimpleGlyph, simple}
-use Rattle.tt_fit.specs.Fitting.{Fitter, size_of, start, glyph_program, simple_outline, joined, added, outline_at}
+use Rattle.tt_fit.specs.Fitting.{Fitter, size_of, start, glyph_program, simple_outline, joined, added, outline_at, added_work, outline_work}
 use Rattle.tt_fit.specs.Outline.{Outline}
+use Rattle.tt_fit.specs.Work.{RefusalLeaves, joined_work, unmade_fault}
 
 pub one_record_more : (add : Record → Outline → Result Outline Fault) (rs : List Record) (i : ℕ) (d : Record)
     (o next : Outline) → i < length rs → add (get_or rs i d) o ≡ Ok next
@@ -33,3 +37,32 @@ pub simple_made : (s : Fitter) (levels g : ℕ) (d : SimpleGlyph) (o : Outline) 
     → start s d.x_min g ≡ Ok o
     → outline_at s levels g ≡ simple_outline s g d.points d.ends (glyph_program s g d.code d.code_at) o
 simple_made s levels g d o read begun = rw (read, begun) refl
+
+-- the work of one record more
+pub one_record_paid : (add : Record → Outline → Result Outline Fault) (work : Record → Option ℕ → Worked)
+    (rs : List Record) (i : ℕ) (d : Record) (o next : Outline) (left rest : Option ℕ) → i < length rs
+    → add (get_or rs i d) o ≡ Ok next → work (get_or rs i d) left ≡ enough rest
+    → joined_work add work (drop (i + 1) rs) next rest ≡ joined_work add work (drop i rs) o left
+one_record_paid add work rs i d o next left rest below gives pays =
+    rw (add-one, drop-cons rs i d below, pays, gives) refl
+
+-- of one that is refused
+pub one_record_refused : (add : Record → Outline → Result Outline Fault) (work : Record → Option ℕ → Worked)
+    (rs : List Record) (i : ℕ) (d : Record) (o : Outline) (left new : Option ℕ) (refusal : Unmade) → i < length rs
+    → IfSome (unmade_fault refusal) (λ f. add (get_or rs i d) o ≡ Err f)
+    → RefusalLeaves refusal new (work (get_or rs i d) left)
+    → RefusalLeaves refusal new (joined_work add work (drop i rs) o left)
+one_record_refused add work rs i d o left new (unmade.Font f) below fails pays =
+    rw (drop-cons rs i d below, pays, fails) refl
+one_record_refused add work rs i d o left new unmade.Memory below fails pays = tt
+one_record_refused add work rs i d o left new (unmade.Spent f) below fails pays =
+    rw (drop-cons rs i d below, pays) refl
+
+-- that of a record where a level is left
+pub one_level_work : (s : Fitter) (levels : ℕ) (r : Record) (left : Option ℕ) → 0 < levels
+    → added_work s levels r left ≡ outline_work s (levels - 1) r.glyph left
+unfolding added_work
+one_level_work s zero r left some = absurd (omega arith)
+one_level_work s (suc levels) r left some =
+    let fewer : suc levels - 1 ≡ levels = omega arith in
+    rw fewer refl

@@ -1,9 +1,15 @@
+pub mod Best
+pub mod BestParts
 pub mod Contours
 pub mod Falling
+pub mod Fewer
 pub mod GlyphPrograms
 pub mod Levels
 pub mod Lists
+pub mod Bounds
+pub mod Counts
 pub mod Outlines
 pub mod Placing
 pub mod Standing
+pub mod Unbounded
 pub mod Zones

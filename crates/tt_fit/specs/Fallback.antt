@@ -3,6 +3,7 @@
 use Rattle.std.specs.Prelude.{◌≡◌, Bool, true, false, ◌&&◌, nat_le, if◌then◌else◌, codes, Option, Some, None, Result, Ok, Err, refl}
 use Rattle.tt_core.specs.declared.fault.Why.TheVariants as why
 use Rattle.tt_core.specs.Faults.{Fault, fault_at, why_number}
+use Rattle.tt_exec.specs.Work.{Worked, enough, spent}
 use Rattle.tt_fit.specs.Outline.{Outline}
 use Rattle.tt_fit.specs.Hinting.{Hinting, off}
 
@@ -17,12 +18,13 @@ pub data Fallback : Type 0 where
   where_refused : Fallback
   everywhere : Fault → Fallback
 
--- the fault for which a glyph is unfitted, by what its outline with its program is
-abbrev pub unfitted_by : Fallback → Result Outline Fault → Option Fault
-unfitted_by never by_programs = None
-unfitted_by where_refused (Ok o) = None
-unfitted_by where_refused (Err fault) = if is_program_fault fault then Some fault else None
-unfitted_by (everywhere fault) by_programs = Some fault
+-- the fault for which a glyph is unfitted, by the work of its programs and by what its outline with them is
+abbrev pub unfitted_by : Fallback → Worked → Result Outline Fault → Option Fault
+unfitted_by never worked by_programs = None
+unfitted_by where_refused (spent fault) by_programs = Some fault
+unfitted_by where_refused (enough left) (Ok o) = None
+unfitted_by where_refused (enough left) (Err fault) = if is_program_fault fault then Some fault else None
+unfitted_by (everywhere fault) worked by_programs = Some fault
 
 -- what a glyph is made with, where it is unfitted for this fault, or for none
 abbrev pub hinting_for : Option Fault → Hinting → Hinting
@@ -49,10 +51,17 @@ refused = fault_at (codes "glyf") 14 why.OffProfile
 abbrev short : Fault
 short = fault_at (codes "glyf") 21 why.GlyphShort
 
-refused_is_unfitted : unfitted_by where_refused (Err refused) ≡ Some refused
+refused_is_unfitted : unfitted_by where_refused (enough None) (Err refused) ≡ Some refused
 unfolding is_program_fault why_number
 refused_is_unfitted = refl
 
-short_is_no_reason : unfitted_by where_refused (Err short) ≡ None
+short_is_no_reason : unfitted_by where_refused (enough None) (Err short) ≡ None
 unfolding is_program_fault why_number
 short_is_no_reason = refl
+
+-- one whose programs are more work than is left of a job's, whatever they would have made
+abbrev over : Fault
+over = fault_at (codes "glyf") 14 why.StepLimit
+
+spent_is_unfitted : unfitted_by where_refused (spent over) (Err short) ≡ Some over
+spent_is_unfitted = refl

@@ -1,11 +1,12 @@
 -- OpenType, "The 'glyf' table": the outline of a glyph at a size, its components made first, one record after the
 -- other.
-use Rattle.std.specs.Prelude.{◌≡◌, ℕ, zero, suc, ◌≤◌, true, ℤ, pos, neg_ℤ, ◌+ℤ◌, codes, List, [], ◌∷◌, Option, Result, Ok, Err, refl}
+use Rattle.std.specs.Prelude.{◌≡◌, ℕ, zero, suc, ◌≤◌, true, ℤ, pos, neg_ℤ, ◌+ℤ◌, codes, List, [], ◌∷◌, Option, None, Result, Ok, Err, refl}
 use Rattle.tt_core.specs.Faults.{Fault}
 use Rattle.tt_core.specs.declared.fault.Why.TheVariants as why
 use Rattle.tt_core.specs.Faults.{fault_at}
 use Rattle.tt_core.specs.Limits.{level_limit, size_limit}
 use Rattle.tt_core.specs.Outcomes.{◌>>=◌}
+use Rattle.tt_exec.specs.Work.{Worked, enough, then_work}
 use Rattle.tt_glyf.specs.Bytes.{byte_in, word_in, signed_in, slice_in}
 use Rattle.tt_glyf.specs.Composite.{transform_at, argument_at, arguments_at, unscaled, known_glyph, record_at, records_from, program_of, composite_of}
 use Rattle.tt_glyf.specs.Coordinates.{delta_at, within_words, coordinate_at, coordinates_from}
@@ -20,15 +21,17 @@ use Rattle.tt_glyf.specs.Raw.{Raw, empty, simple, composite}
 use Rattle.tt_metrics.specs.Metrics.{Metrics, units_per_em_of, loca_format_of, glyphs_of}
 use Rattle.tt_fit.specs.Component.{shift_of}
 use Rattle.tt_fit.specs.Joining.{placed, appended, within_point_limit}
-use Rattle.tt_fit.specs.Fallback.{Fallback, never, unfitted_by, hinting_for}
+use Rattle.tt_fit.specs.Fallback.{Fallback, never, where_refused, everywhere, unfitted_by, hinting_for}
 use Rattle.tt_fit.specs.Outline.{PhantomPoints, Outline}
 use Rattle.tt_fit.specs.GlyphZone.{GlyphProgram}
 use Rattle.tt_fit.specs.Hinting.{Hinting, off, IsHinting, hinted}
 use Rattle.tt_fit.specs.Scaling.{glyf_fault, phantom_points, blank, scaled_outline, settled}
 use Rattle.tt_fit.specs.Size.{FontSize}
+use Rattle.tt_fit.specs.Work.{if_ok, hinted_work, joined_work, left_in}
 
 -- what outlines are made from: the glyph data and the metrics of a font, the pixels per em, what its programs leave,
--- which glyphs are unfitted, and how deep components may be nested
+-- which glyphs are unfitted, how deep components may be nested, and what is left of the job's work, None where it is not
+-- bounded
 pub record Fitter : Type 0 where
   pub tables : Glyf
   pub metrics : Metrics
@@ -36,6 +39,7 @@ pub record Fitter : Type 0 where
   pub hinting : Hinting
   pub fallback : Fallback
   pub levels : ℕ
+  pub work : Option ℕ
 
 -- the glyph data is that of the metrics, the size is one that is supported, and what the programs leave is what they
 -- can leave
@@ -46,9 +50,10 @@ pub record IsFitter (s : Fitter) : Type 0 where
   pub high : s.ppem ≤ size_limit
   pub hinting : IsHinting s.hinting
 
--- the same with this in place of what the programs leave, and no glyph unfitted
+-- the same with this in place of what the programs leave, no glyph unfitted, and no bound of work: what an outline is
+-- made from
 abbrev pub with_hinting : Fitter → Hinting → Fitter
-with_hinting s hinting = record s { hinting = hinting; fallback = never }
+with_hinting s hinting = record s { hinting = hinting; fallback = never; work = None }
 
 abbrev pub size_of : Fitter → FontSize
 size_of s = record { ppem = s.ppem; units_per_em = units_per_em_of s.metrics }
@@ -89,9 +94,56 @@ added s (suc levels) r o = outline_by s (added s levels) r.glyph >>= λ componen
 abbrev pub outline_at : Fitter → ℕ → ℕ → Result Outline Fault
 outline_at s levels g = outline_by s (added s levels) g
 
+-- the work of a simple glyph's program, and of a composite glyph's, begun without points
+abbrev pub simple_work : Fitter → ℕ → List RawPoint → List ℕ → GlyphProgram → Outline → Option ℕ → Worked
+simple_work s g points ends program o = if_ok (scaled_outline (size_of s) (glyph_offset s.tables g) points ends o)
+    (hinted_work s.hinting program)
+
+abbrev pub composite_work : Fitter → (Record → Outline → Result Outline Fault) → (Record → Option ℕ → Worked)
+    → List Record → GlyphProgram → Outline → Option ℕ → Worked
+composite_work s add work records program o left =
+    then_work (joined_work add work records o left) (if_ok (joined add records o) (hinted_work s.hinting program))
+
+-- of the programs of a glyph, by what a record adds to the outline so far, and its work
+abbrev pub made_work : Fitter → (Record → Outline → Result Outline Fault) → (Record → Option ℕ → Worked) → ℕ → Raw
+    → Option ℕ → Worked
+made_work s add work g empty = enough
+made_work s add work g (simple d) = if_ok (start s d.x_min g)
+    (simple_work s g d.points d.ends (glyph_program s g d.code d.code_at))
+made_work s add work g (composite d) = if_ok (start s d.x_min g)
+    (composite_work s add work d.records (glyph_program s g d.code d.code_at))
+
+abbrev pub work_by : Fitter → (Record → Outline → Result Outline Fault) → (Record → Option ℕ → Worked) → ℕ → Option ℕ
+    → Worked
+work_by s add work g = if_ok (glyph_data_of s.tables g) (made_work s add work g)
+
+-- of a record, where so many levels of components are left: that of its component
+unfoldable pub added_work : Fitter → ℕ → Record → Option ℕ → Worked
+added_work s zero r left = enough left
+added_work s (suc levels) r left = work_by s (added s levels) (added_work s levels) r.glyph left
+
+-- of a glyph, where so many levels of components are left
+abbrev pub outline_work : Fitter → ℕ → ℕ → Option ℕ → Worked
+outline_work s levels g = work_by s (added s levels) (added_work s levels) g
+
+-- of a character's glyph
+abbrev pub glyph_work : Fitter → ℕ → Option ℕ → Worked
+glyph_work s g = outline_work (with_hinting s s.hinting) s.levels g
+
 -- the fault for which a character's glyph is made with its scaled points, its components too
 unfoldable pub unfitted_fault : Fitter → ℕ → Option Fault
-unfitted_fault s g = unfitted_by s.fallback (outline_at (with_hinting s s.hinting) s.levels g)
+unfitted_fault s g =
+    unfitted_by s.fallback (glyph_work s g s.work) (outline_at (with_hinting s s.hinting) s.levels g)
+
+-- what is left of the job's work after a glyph: where a refused program is the answer, or none is run, all
+abbrev pub left_after : Fallback → Worked → Option ℕ → Option ℕ
+left_after never worked left = left
+left_after where_refused worked left = left_in worked
+left_after (everywhere fault) worked left = left
+
+-- what the glyphs after a character's glyph are made from
+unfoldable pub after_glyph : Fitter → ℕ → Fitter
+after_glyph s g = record s { work = left_after s.fallback (glyph_work s g s.work) s.work }
 
 -- what a character's glyph is made from
 abbrev pub glyph_fitter : Fitter → ℕ → Fitter
@@ -125,6 +177,7 @@ its_setting third = record {
   hinting = off;
   fallback = never;
   levels = level_limit;
+  work = None;
 }
 
 abbrev its_phantom_points : ℤ → PhantomPoints

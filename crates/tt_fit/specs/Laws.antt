@@ -1,20 +1,23 @@
 -- Laws of the definitions: an outline that is given has no defect, and a fault is one; with a way of fitting that falls
 -- back what is made is what its programs make by themselves, or what is made without programs.
-use Rattle.std.specs.Prelude.{◌≡◌, ℕ, true, false, Some, None, Result, Ok, Err}
+use Rattle.std.specs.Prelude.{◌≡◌, ◌≢◌, ℕ, ◌≤◌, true, false, Option, Some, None, Result, Ok, Err}
 use Rattle.tt_core.specs.Directory.{HasNo}
 use Rattle.tt_core.specs.Faults.{Fault}
+use Rattle.tt_core.specs.Limits.{work_limit}
 use Rattle.tt_core.specs.Outcomes.{◌>>=◌}
+use Rattle.tt_exec.specs.Work.{enough, spent}
 use Rattle.tt_glyf.specs.Loca.{Glyf}
 use Rattle.tt_metrics.specs.Metrics.{Metrics}
 use Rattle.tt_fit.specs.declared.programs.Fit.{Fit}
 use Rattle.tt_fit.specs.declared.programs.Fit.TheVariants as fit
 use Rattle.tt_fit.specs.Defects.{IsOutlineDefect}
-use Rattle.tt_fit.specs.Fallback.{never, is_program_fault}
-use Rattle.tt_fit.specs.Fitting.{Fitter, fitted_outline, unfitted_fault}
+use Rattle.tt_fit.specs.Fallback.{never, where_refused, is_program_fault}
+use Rattle.tt_fit.specs.Fitting.{Fitter, with_hinting, outline_at, glyph_work, unfitted_fault, fitted_outline, after_glyph}
 use Rattle.tt_fit.specs.Hinting.{off}
 use Rattle.tt_fit.specs.Outline.{Outline}
-use Rattle.tt_fit.specs.Preparation.{ProgramTables, left_at, fitter_with, fitter_of}
+use Rattle.tt_fit.specs.Preparation.{ProgramTables, left_at, work_at, fitter_with, fitter_of}
 use Rattle.tt_fit.specs.Rules.{falls_back}
+use Rattle.tt_fit.specs.Work.{IsEnough}
 
 -- where a glyph's outline is given, no defect stands in the glyph or in a component of it
 abbrev pub OutlinesAreWhole : Type 0
@@ -27,11 +30,11 @@ OutlineFaultsStand = (s : Fitter) (g : ℕ) (fault : Fault) → fitted_outline s
 -- what outlines are made from by the programs alone, by the rules of a way of fitting: the first fault is the answer
 abbrev pub fitter_by_programs : Metrics → Glyf → ProgramTables → ℕ → Fit → Result Fitter Fault
 fitter_by_programs m tables programs ppem how =
-    left_at m programs ppem how >>= λ hinting. Ok (fitter_with m tables ppem how hinting never)
+    left_at m programs ppem how >>= λ hinting. Ok (fitter_with m tables ppem how hinting never None)
 
 -- and without programs
 abbrev pub fitter_without_programs : Metrics → Glyf → ℕ → Fit → Fitter
-fitter_without_programs m tables ppem how = fitter_with m tables ppem how off never
+fitter_without_programs m tables ppem how = fitter_with m tables ppem how off never None
 
 -- the outline of a glyph of a font at a size by its programs alone
 abbrev pub outline_by_programs : Metrics → Glyf → ProgramTables → ℕ → Fit → ℕ → Result Outline Fault
@@ -42,10 +45,19 @@ outline_by_programs m tables programs ppem how g =
 abbrev pub outline_without_programs : Metrics → Glyf → ℕ → Fit → ℕ → Result Outline Fault
 outline_without_programs m tables ppem how g = fitted_outline (fitter_without_programs m tables ppem how) g
 
+-- what is left of the job's work is as much as the programs of a glyph are
+abbrev pub HasWork : Fitter → ℕ → Type 0
+HasWork s g = IsEnough (glyph_work s g s.work)
+
+-- and at the beginning it is as much as the font's two programs are
+abbrev pub ProgramsHaveWork : Metrics → ProgramTables → ℕ → Fit → Type 0
+ProgramsHaveWork m programs ppem how = IsEnough (work_at m programs ppem how)
+
 -- with a way that falls back a glyph that has an outline by the programs has this one
 abbrev pub FallbackFits : Type 0
 FallbackFits = (m : Metrics) (tables : Glyf) (programs : ProgramTables) (ppem : ℕ) (how : Fit) (s : Fitter) (g : ℕ)
     (o : Outline) → falls_back how ≡ true → fitter_of m tables programs ppem how ≡ Ok s
+    → ProgramsHaveWork m programs ppem how → HasWork s g
     → outline_by_programs m tables programs ppem how g ≡ Ok o
     → (fitted_outline s g ≡ Ok o) × (unfitted_fault s g ≡ None)
 
@@ -53,6 +65,7 @@ FallbackFits = (m : Metrics) (tables : Glyf) (programs : ProgramTables) (ppem : 
 abbrev pub FallbackScales : Type 0
 FallbackScales = (m : Metrics) (tables : Glyf) (programs : ProgramTables) (ppem : ℕ) (how : Fit) (s : Fitter) (g : ℕ)
     (fault : Fault) → falls_back how ≡ true → fitter_of m tables programs ppem how ≡ Ok s
+    → ProgramsHaveWork m programs ppem how → HasWork s g
     → outline_by_programs m tables programs ppem how g ≡ Err fault → is_program_fault fault ≡ true
     → (fitted_outline s g ≡ outline_without_programs m tables ppem how g) × (unfitted_fault s g ≡ Some fault)
 
@@ -60,6 +73,7 @@ FallbackScales = (m : Metrics) (tables : Glyf) (programs : ProgramTables) (ppem 
 abbrev pub FallbackRefuses : Type 0
 FallbackRefuses = (m : Metrics) (tables : Glyf) (programs : ProgramTables) (ppem : ℕ) (how : Fit)
     (alone s : Fitter) (g : ℕ) (fault : Fault) → falls_back how ≡ true → fitter_of m tables programs ppem how ≡ Ok s
+    → ProgramsHaveWork m programs ppem how → HasWork s g
     → fitter_by_programs m tables programs ppem how ≡ Ok alone → fitted_outline alone g ≡ Err fault
     → is_program_fault fault ≡ false
     → (fitted_outline s g ≡ Err fault) × (unfitted_fault s g ≡ None)
@@ -68,7 +82,7 @@ FallbackRefuses = (m : Metrics) (tables : Glyf) (programs : ProgramTables) (ppem
 abbrev pub FallbackUnfitsAll : Type 0
 FallbackUnfitsAll = (m : Metrics) (tables : Glyf) (programs : ProgramTables) (ppem : ℕ) (how : Fit) (s : Fitter)
     (g : ℕ) (fault : Fault) → falls_back how ≡ true → fitter_of m tables programs ppem how ≡ Ok s
-    → fitter_by_programs m tables programs ppem how ≡ Err fault
+    → ProgramsHaveWork m programs ppem how → fitter_by_programs m tables programs ppem how ≡ Err fault
     → (fitted_outline s g ≡ outline_without_programs m tables ppem how g) × (unfitted_fault s g ≡ Some fault)
 
 -- with another way of fitting no glyph is unfitted
@@ -86,3 +100,41 @@ FullIsByPrograms = (m : Metrics) (tables : Glyf) (programs : ProgramTables) (ppe
 abbrev pub NoneIsWithoutPrograms : Type 0
 NoneIsWithoutPrograms = (m : Metrics) (tables : Glyf) (programs : ProgramTables) (ppem : ℕ)
     → fitter_of m tables programs ppem fit.None ≡ Ok (fitter_without_programs m tables ppem fit.Fallback)
+
+-- Work. Where it is not bounded it is always enough, so that it refuses no glyph.
+abbrev pub UnboundedIsEnough : Type 0
+UnboundedIsEnough = (s : Fitter) (g : ℕ) → glyph_work s g None ≡ enough None
+
+-- with every way but Best it is not bounded, nor is that of the font's two programs
+abbrev pub OthersAreUnbounded : Type 0
+OthersAreUnbounded = (m : Metrics) (tables : Glyf) (programs : ProgramTables) (ppem : ℕ) (how : Fit) (s : Fitter)
+    → how ≢ fit.Best → fitter_of m tables programs ppem how ≡ Ok s
+    → (s.work ≡ None) × ProgramsHaveWork m programs ppem how
+
+-- and a glyph leaves what the glyphs after are made from as it was
+abbrev pub UnboundedStays : Type 0
+UnboundedStays = (s : Fitter) (g : ℕ) → s.work ≡ None → HasWork s g × (after_glyph s g ≡ s)
+
+-- a glyph whose programs are more work than is left is made without them, and has that fault
+abbrev pub SpentWorkUnfits : Type 0
+SpentWorkUnfits = (s : Fitter) (g : ℕ) (fault : Fault) → s.fallback ≡ where_refused → glyph_work s g s.work ≡ spent fault
+    → (fitted_outline s g ≡ outline_at (with_hinting s off) s.levels g) × (unfitted_fault s g ≡ Some fault)
+
+-- and every glyph where the font's two programs are more than a job's work
+abbrev pub SpentProgramsUnfitAll : Type 0
+SpentProgramsUnfitAll = (m : Metrics) (tables : Glyf) (programs : ProgramTables) (ppem : ℕ) (how : Fit) (s : Fitter)
+    (g : ℕ) (fault : Fault) → falls_back how ≡ true → fitter_of m tables programs ppem how ≡ Ok s
+    → work_at m programs ppem how ≡ spent fault
+    → (fitted_outline s g ≡ outline_without_programs m tables ppem how g) × (unfitted_fault s g ≡ Some fault)
+
+-- at most so much is left
+abbrev pub Fewer : ℕ → Option ℕ → Type 0
+Fewer left after = (rest : ℕ) × (after ≡ Some rest) × (rest ≤ left)
+
+-- with Best a job begins with no more than its limit, and a glyph leaves no more than there was before
+abbrev pub BestIsBounded : Type 0
+BestIsBounded = (m : Metrics) (tables : Glyf) (programs : ProgramTables) (ppem : ℕ) (s : Fitter)
+    → fitter_of m tables programs ppem fit.Best ≡ Ok s → Fewer work_limit s.work
+
+abbrev pub WorkFalls : Type 0
+WorkFalls = (s : Fitter) (g left : ℕ) → s.work ≡ Some left → Fewer left (after_glyph s g).work

@@ -1,4 +1,6 @@
+pub mod Best
 pub mod Component
+pub mod Counting
 pub mod Defects
 pub mod Fallback
 pub mod Fitting
@@ -14,3 +16,4 @@ pub mod Rules
 pub mod Scaling
 pub mod Size
 pub mod Views
+pub mod Work

@@ -1,11 +1,12 @@
 -- Apple TrueType Reference Manual, "Instructing TrueType Glyphs": what the font program and the control value program
 -- leave before the first glyph. Without programs they are not looked at. That a control value program begins with
 -- nothing of the font program but its definitions, and what is kept of it, is this project's own choice (profile).
-use Rattle.std.specs.Prelude.{ℕ, List, codes, Result, Ok, Err}
+use Rattle.std.specs.Prelude.{ℕ, List, codes, Option, Some, None, Result, Ok, Err}
 use Rattle.tt_core.specs.Faults.{Fault}
 use Rattle.tt_core.specs.Outcomes.{◌>>=◌}
 use Rattle.tt_exec.specs.MachineState.{Code}
 use Rattle.tt_exec.specs.Parts.{Parts}
+use Rattle.tt_exec.specs.Work.{Worked, enough, spent, then_work}
 use Rattle.tt_glyf.specs.Loca.{Glyf}
 use Rattle.tt_metrics.specs.Metrics.{Metrics}
 use Rattle.tt_fit.specs.declared.programs.Fit.{Fit}
@@ -15,7 +16,8 @@ use Rattle.tt_fit.specs.Fallback.{Fallback, never, where_refused, everywhere}
 use Rattle.tt_fit.specs.Fitting.{Fitter}
 use Rattle.tt_fit.specs.Hinting.{Hinting, off, ready, run_of}
 use Rattle.tt_fit.specs.Parts.{begun_parts, left_to_glyphs}
-use Rattle.tt_fit.specs.Rules.{rules_of, levels_of}
+use Rattle.tt_fit.specs.Rules.{rules_of, levels_of, work_of}
+use Rattle.tt_fit.specs.Work.{if_ok, code_work}
 
 -- the control values, the font program and the control value program
 pub record ProgramTables : Type 0 where
@@ -42,46 +44,62 @@ left_by_programs parts programs = run_of (font_program programs.fpgm) parts >>= 
     run_of (control_value_program programs.prep) (with_definitions parts font) >>= λ left. Ok
     (ready (left_to_glyphs left))
 
--- what the programs of glyphs begin with, and which glyphs are unfitted
+-- and their work
+unfoldable pub programs_work : Parts → ProgramTables → Option ℕ → Worked
+programs_work parts programs left = then_work (code_work (font_program programs.fpgm) parts left)
+    (if_ok (run_of (font_program programs.fpgm) parts)
+    (λ font. code_work (control_value_program programs.prep) (with_definitions parts font)))
+
+-- what the programs of glyphs begin with, which glyphs are unfitted, and what is left of the job's work
 pub record Preparation : Type 0 where
   pub hinting : Hinting
   pub fallback : Fallback
+  pub work : Option ℕ
 
 -- no glyph is unfitted: the first fault is the answer
 abbrev pub without_fallback : Hinting → Preparation
-without_fallback hinting = record { hinting = hinting; fallback = never }
+without_fallback hinting = record { hinting = hinting; fallback = never; work = None }
 
 -- by a fault of one of the two programs every glyph is unfitted
 abbrev pub with_fallback : Result Hinting Fault → Preparation
-with_fallback (Ok hinting) = record { hinting = hinting; fallback = where_refused }
-with_fallback (Err fault) = record { hinting = off; fallback = everywhere fault }
+with_fallback (Ok hinting) = record { hinting = hinting; fallback = where_refused; work = None }
+with_fallback (Err fault) = record { hinting = off; fallback = everywhere fault; work = None }
 
-abbrev pub prepared_by : Fit → Result Hinting Fault → Result Preparation Fault
-prepared_by fit.None by_programs = Ok (without_fallback off)
-prepared_by fit.Full by_programs = by_programs >>= λ hinting. Ok (without_fallback hinting)
-prepared_by fit.Fallback by_programs = Ok (with_fallback by_programs)
-prepared_by fit.Best by_programs = Ok (with_fallback by_programs)
+-- and, where their work is bounded, for want of it too
+abbrev pub within_work : Worked → Result Hinting Fault → Preparation
+within_work (enough left) by_programs = record (with_fallback by_programs) { work = left }
+within_work (spent fault) by_programs = record { hinting = off; fallback = everywhere fault; work = Some 0 }
+
+abbrev pub prepared_by : Fit → Worked → Result Hinting Fault → Result Preparation Fault
+prepared_by fit.None worked by_programs = Ok (without_fallback off)
+prepared_by fit.Full worked by_programs = by_programs >>= λ hinting. Ok (without_fallback hinting)
+prepared_by fit.Fallback worked by_programs = Ok (with_fallback by_programs)
+prepared_by fit.Best worked by_programs = Ok (within_work worked by_programs)
 
 -- what the two programs leave at a size by the rules of a way of fitting
 abbrev pub left_at : Metrics → ProgramTables → ℕ → Fit → Result Hinting Fault
 left_at m programs ppem fit = left_by_programs (begun_parts m programs.cvt ppem (rules_of fit)) programs
 
+abbrev pub work_at : Metrics → ProgramTables → ℕ → Fit → Worked
+work_at m programs ppem fit = programs_work (begun_parts m programs.cvt ppem (rules_of fit)) programs (work_of fit)
+
 unfoldable pub prepared : Metrics → ProgramTables → ℕ → Fit → Result Preparation Fault
-prepared m programs ppem fit = prepared_by fit (left_at m programs ppem fit)
+prepared m programs ppem fit = prepared_by fit (work_at m programs ppem fit) (left_at m programs ppem fit)
 
 -- what outlines are made from, by what the two programs leave
-abbrev pub fitter_with : Metrics → Glyf → ℕ → Fit → Hinting → Fallback → Fitter
-fitter_with m tables ppem fit hinting fallback = record {
+abbrev pub fitter_with : Metrics → Glyf → ℕ → Fit → Hinting → Fallback → Option ℕ → Fitter
+fitter_with m tables ppem fit hinting fallback work = record {
   tables = tables;
   metrics = m;
   ppem = ppem;
   hinting = hinting;
   fallback = fallback;
   levels = levels_of fit;
+  work = work;
 }
 
 -- what the outlines of a font at a size are made from
 unfoldable pub fitter_of : Metrics → Glyf → ProgramTables → ℕ → Fit → Result Fitter Fault
 fitter_of m tables programs ppem fit = do
   p ← prepared m programs ppem fit
-  Ok (fitter_with m tables ppem fit p.hinting p.fallback)
+  Ok (fitter_with m tables ppem fit p.hinting p.fallback p.work)

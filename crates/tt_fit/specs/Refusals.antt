@@ -1,11 +1,12 @@
 -- Worked values: a font whose programs are refused, at 16 pixels, by each way of fitting. Glyph 1 is the square
 -- (64,0), (64,128), (192,128), (192,0) with a program of SPVTL, which is not supported, glyph 2 has glyph 1 as its one
 -- component, and glyph 3 ends too early.
-use Rattle.std.specs.Prelude.{◌≡◌, true, false, pos, neg_ℤ, codes, [], ◌∷◌, Some, Ok, Err, refl}
+use Rattle.std.specs.Prelude.{◌≡◌, true, pos, neg_ℤ, codes, [], ◌∷◌, Some, None, Ok, Err, refl}
 use Rattle.tt_core.specs.Faults.{Fault, fault_at, why_number}
 use Rattle.tt_core.specs.declared.fault.Why.TheVariants as why
 use Rattle.tt_core.specs.Limits.{level_limit}
 use Rattle.tt_exec.specs.Runs.{run_within, run_outcome}
+use Rattle.tt_exec.specs.Work.{run_work, work_within}
 use Rattle.tt_glyf.specs.Bytes.{byte_in, word_in, signed_in, slice_in}
 use Rattle.tt_glyf.specs.Composite.{transform_at, argument_at, arguments_at, unscaled, known_glyph, record_at, records_from, program_of, composite_of}
 use Rattle.tt_glyf.specs.Coordinates.{delta_at, within_words, coordinate_at, coordinates_from}
@@ -19,13 +20,14 @@ use Rattle.tt_fit.specs.declared.programs.Fit.TheVariants as fit
 use Rattle.tt_fit.specs.Component.{shift_of}
 use Rattle.tt_fit.specs.Joining.{placed, appended, within_point_limit}
 use Rattle.tt_fit.specs.Fallback.{Fallback, never, where_refused, everywhere, is_program_fault}
-use Rattle.tt_fit.specs.Fitting.{Fitter, added, fitted_outline, unfitted_fault}
+use Rattle.tt_fit.specs.Fitting.{Fitter, added, added_work, fitted_outline, unfitted_fault}
 use Rattle.tt_fit.specs.GlyphZone.{on_grid_at}
-use Rattle.tt_fit.specs.Preparation.{ProgramTables, left_by_programs, prepared}
+use Rattle.tt_fit.specs.Preparation.{ProgramTables, left_by_programs, programs_work, prepared}
 use Rattle.tt_fit.specs.Parts.{begun_parts}
 use Rattle.tt_fit.specs.Rules.{of_profile}
 use Rattle.tt_fit.specs.Hinting.{off, ready, run_of, by_program}
 use Rattle.tt_fit.specs.Scaling.{blank, scaled_outline, settled}
+use Rattle.tt_fit.specs.Work.{program_work}
 
 abbrev its_metrics : Metrics
 its_metrics = record {
@@ -49,6 +51,7 @@ its_setting fallback = record {
   hinting = ready (begun_parts its_metrics [] 16 of_profile);
   fallback = fallback;
   levels = level_limit;
+  work = None;
 }
 
 abbrev its_fault : Fault
@@ -64,7 +67,7 @@ square_is_unfitted : unfitted_fault (its_setting where_refused) 1 ≡ Some its_f
 unfolding unfitted_fault glyph_data_of glyph_bytes_of header_of described simple_of ends_from end_at
     points_within points_of flags_from run_at coordinates_from coordinate_at within_words delta_at byte_in word_in
     signed_in slice_in blank scaled_outline settled by_program on_grid_at run_of run_outcome run_within
-    is_program_fault why_number
+    is_program_fault why_number program_work run_work work_within
 square_is_unfitted = refl
 
 composite_is_unfitted : unfitted_fault (its_setting where_refused) 2 ≡ Some its_fault
@@ -72,7 +75,7 @@ unfolding unfitted_fault added glyph_data_of glyph_bytes_of header_of described 
     points_within points_of flags_from run_at coordinates_from coordinate_at within_words delta_at byte_in word_in
     signed_in slice_in blank scaled_outline settled by_program on_grid_at run_of run_outcome run_within
     composite_of records_from record_at known_glyph arguments_at argument_at transform_at unscaled program_of
-    is_program_fault why_number
+    is_program_fault why_number added_work program_work run_work work_within
 composite_is_unfitted = refl
 
 composite_is_scaled : fitted_outline (its_setting where_refused) 2 ≡ Ok (record {
@@ -89,7 +92,7 @@ unfolding fitted_outline unfitted_fault added placed appended shift_of within_po
     header_of described simple_of ends_from end_at points_within points_of flags_from run_at coordinates_from
     coordinate_at within_words delta_at byte_in word_in signed_in slice_in blank scaled_outline settled by_program
     on_grid_at run_of run_outcome run_within composite_of records_from record_at known_glyph arguments_at argument_at
-    transform_at unscaled program_of is_program_fault why_number
+    transform_at unscaled program_of is_program_fault why_number added_work program_work run_work work_within
 composite_is_scaled = refl
 
 short_is_refused : fitted_outline (its_setting where_refused) 3 ≡ Err (fault_at (codes "glyf") 44 why.GlyphShort)
@@ -109,14 +112,14 @@ unfolding prepared left_by_programs run_of run_outcome run_within
 font_program_is_refused = refl
 
 by_it_every_glyph_is_unfitted : prepared its_metrics its_programs 16 fit.Fallback ≡ Ok
-    (record { hinting = off; fallback = everywhere font_fault })
+    (record { hinting = off; fallback = everywhere font_fault; work = None })
 unfolding prepared left_by_programs run_of run_outcome run_within
 by_it_every_glyph_is_unfitted = refl
 
--- with best by an opcode that nothing defines
+-- with best by an opcode that nothing defines, whose step is work
 with_best_every_glyph_is_unfitted : prepared its_metrics (record its_programs { fpgm = 0xA0 ∷ [] }) 16 fit.Best ≡ Ok
-    (record { hinting = off; fallback = everywhere (fault_at (codes "fpgm") 0 why.BadOpcode) })
-unfolding prepared left_by_programs run_of run_outcome run_within
+    (record { hinting = off; fallback = everywhere (fault_at (codes "fpgm") 0 why.BadOpcode); work = Some 99999999 })
+unfolding prepared left_by_programs run_of run_outcome run_within programs_work run_work work_within
 with_best_every_glyph_is_unfitted = refl
 
 -- by such a fault a glyph that has no program is unfitted as well

@@ -1,6 +1,6 @@
 -- No part of the standard: by which rules each way of fitting makes outlines (profile).
-use Rattle.std.specs.Prelude.{◌≡◌, ℕ, Bool, true, false, refl}
-use Rattle.tt_core.specs.Limits.{level_limit, best_level_limit}
+use Rattle.std.specs.Prelude.{◌≡◌, ℕ, Bool, true, false, Option, Some, None, refl}
+use Rattle.tt_core.specs.Limits.{level_limit, best_level_limit, work_limit}
 use Rattle.tt_state.specs.declared.tolerance.Tolerance.TheVariants as tolerance
 use Rattle.tt_fit.specs.declared.programs.Fit.{Fit}
 use Rattle.tt_fit.specs.declared.programs.Fit.TheVariants as fit
@@ -30,9 +30,19 @@ levels_of fit.None = level_limit
 levels_of fit.Fallback = level_limit
 levels_of fit.Best = best_level_limit
 
+-- how much work the programs of a job may be, None where it is not bounded
+abbrev pub work_of : Fit → Option ℕ
+work_of fit.Full = None
+work_of fit.None = None
+work_of fit.Fallback = None
+work_of fit.Best = Some work_limit
+
 -- worked values
 four_by_default : levels_of fit.Full ≡ 4
 four_by_default = refl
 
 eight_with_best : levels_of fit.Best ≡ 8
 eight_with_best = refl
+
+best_is_bounded : work_of fit.Best ≡ Some 100000000
+best_is_bounded = refl

@@ -48,4 +48,4 @@ fallback_view falling.WhereRefused = where_refused
 fallback_view (falling.Everywhere fault) = everywhere fault
 
 abbrev pub preparation_view : preparation.Preparation → Preparation
-preparation_view p = record { hinting = hinting_view p.hinting; fallback = fallback_view p.fallback }
+preparation_view p = record { hinting = hinting_view p.hinting; fallback = fallback_view p.fallback; work = p.work.left }

@@ -1,10 +1,9 @@
 //! Which glyphs are unfitted: made with their scaled points, since a program of the font is refused.
 
 ghost use Rattle.std.specs.Prelude.{◌≡◌};
-ghost use Rattle.tt_core.specs.Outcomes.{font_fault};
 ghost use Rattle.tt_fit.specs.Fallback.{is_program_fault};
 
-use tt_core::{Fault, FontFault};
+use tt_core::Fault;
 
 /// Which glyphs are unfitted, that is have their points scaled only.
 #[derive(Clone, Copy)]
@@ -15,16 +14,6 @@ pub(crate) enum Fallback {
     WhereRefused,
     /// Every one, by this fault of the font program or the control value program.
     Everywhere(Fault),
-}
-
-/// What is wrong with the font, where memory did not run out.
-pub(crate) fn told(refusal: FontFault) -> Option<Fault>
-    ensures { result ≡ font_fault refusal }
-{
-    match refusal {
-        FontFault::Font(fault) => Some(fault),
-        FontFault::Memory => None,
-    }
 }
 
 /// Whether it is a program that is at fault, and not a table of the font.

@@ -1,22 +1,26 @@
 //! The outlines of a font at a size.
 
-ghost use Rattle.std.specs.Prelude.{◌≡◌, ◌+◌, ◌<◌, ◌≤◌, ◌^◌, IsTrue, IfOk, IfErr, OnOk, length, All};
+ghost use Rattle.std.specs.Prelude.{◌≡◌, ◌+◌, ◌<◌, ◌≤◌, ◌^◌, IsTrue, Err, IfOk, IfErr, IfSome, OnOk, OnErr, length, All};
 ghost use Rattle.tt_core.specs.Directory.{HasNo};
 ghost use Rattle.tt_core.specs.Limits.{font_limit, point_limit, size_limit};
 ghost use Rattle.tt_core.specs.Outcomes.{FontGives, Gives, IfTold, font_fault};
 ghost use Rattle.tt_glyf.specs.Loca.{glyph_offset};
 ghost use Rattle.tt_glyf.specs.Meaning.{AreEnds as EndContours, HasArguments};
 ghost use Rattle.tt_metrics.specs.Metrics.{loca_format_of, glyphs_of};
+ghost use Rattle.tt_fit.specs.Counting.{points_asked, counted};
 ghost use Rattle.tt_fit.specs.Joining.{placed};
 ghost use Rattle.tt_fit.specs.Defects.{IsOutlineDefect};
 ghost use Rattle.tt_fit.specs.Fallback.{never, where_refused};
-ghost use Rattle.tt_fit.specs.Fitting.{IsFitter, with_hinting, size_of, start, glyph_program, simple_outline, joined, added, outline_at, unfitted_fault, fitted_outline};
+ghost use Rattle.tt_fit.specs.Fitting.{IsFitter, with_hinting, size_of, start, glyph_program, simple_outline, joined, added, outline_at, simple_work, added_work, outline_work, glyph_work, unfitted_fault, fitted_outline, after_glyph};
 ghost use Rattle.tt_fit.specs.Outline.{outline_of, phantom_of, IsPoint, ArePhantom, AreEnds, IsOutline};
 ghost use Rattle.tt_fit.specs.Preparation.{program_tables, fitter_of};
 ghost use Rattle.tt_fit.specs.Hinting.{IsHinting};
 ghost use Rattle.tt_fit.specs.Views.{hinting_view, size_view, program_view};
+ghost use Rattle.tt_fit.specs.Work.{IsEnough, Makes, RefusalLeaves, WorkGives, joined_work, unmade_fault};
+ghost use Rattle.tt_exec.specs.Work.{spent};
 
-use crate::fallback::{Fallback, is_program_fault, told};
+use crate::counting::points_of;
+use crate::fallback::{Fallback, is_program_fault};
 use crate::glyph_zone::GlyphProgram;
 use crate::hinting::{Hinting, hinted};
 use crate::joining::placed;
@@ -26,14 +30,17 @@ use crate::programs::{Fit, Programs};
 use crate::rules::levels_of;
 use crate::scaling::{blank, glyf_fault, phantom_points, scaled_outline};
 use crate::size::FontSize;
-use std::alloc::Global;
+use crate::unmade::{Unmade, unbounded};
+use std::alloc::{AllocError, Global};
 use std::marker::Model;
 use tt_core::{Fault, FontFault, Why};
+use tt_exec::Work;
 use tt_glyf::{Glyf, Raw, RawPoint, Record};
 use tt_metrics::Metrics;
 
 /// Makes the outlines of a font at a size. A clause sees it as the glyph data, the metrics, the size,
-/// what the font's programs left, which glyphs are unfitted, and how deep components may be nested.
+/// what the font's programs left, which glyphs are unfitted, how deep components may be nested, and what is left of the
+/// job's work.
 #[derive(Drop)]
 pub struct Fitter<'a> {
     alloc: Global,
@@ -43,6 +50,7 @@ pub struct Fitter<'a> {
     hinting: Hinting<'a>,
     fallback: Fallback,
     levels: u32,
+    work: Work,
 }
 
 impl<'a> Model for Fitter<'a> {
@@ -52,9 +60,9 @@ impl<'a> Model for Fitter<'a> {
 
     ghost Value = { fitting.Fitter };
 
-    ghost view = { λ f. record { tables = f.glyf; metrics = f.metrics; ppem = f.ppem; hinting = hinting_view f.hinting; fallback = fallback_view f.fallback; levels = f.levels } };
+    ghost view = { λ f. record { tables = f.glyf; metrics = f.metrics; ppem = f.ppem; hinting = hinting_view f.hinting; fallback = fallback_view f.fallback; levels = f.levels; work = f.work.left } };
 
-    ghost invariant = { λ f. IsFitter (record { tables = f.glyf; metrics = f.metrics; ppem = f.ppem; hinting = hinting_view f.hinting; fallback = fallback_view f.fallback; levels = f.levels }) };
+    ghost invariant = { λ f. IsFitter (record { tables = f.glyf; metrics = f.metrics; ppem = f.ppem; hinting = hinting_view f.hinting; fallback = fallback_view f.fallback; levels = f.levels; work = f.work.left }) };
 }
 
 impl<'a> Fitter<'a> {
@@ -84,7 +92,11 @@ impl<'a> Fitter<'a> {
         ensures ppem { IfOk result (λ f. f.ppem ≡ ppem) }
     {
         let size = FontSize::of(metrics, ppem);
-        let Preparation { hinting, fallback } = prepared(alloc, metrics, programs, size, fit)?;
+        let Preparation {
+            hinting,
+            fallback,
+            work,
+        } = prepared(alloc, metrics, programs, size, fit)?;
         Ok(Fitter {
             alloc,
             metrics: metrics.copy(),
@@ -93,13 +105,24 @@ impl<'a> Fitter<'a> {
             hinting,
             fallback,
             levels: levels_of(fit),
+            work,
         })
+    }
+
+    /// How many points a glyph is made of, counted before it is made: its components as often as they are used, and with
+    /// each glyph its contours and its phantom points. None where they are more than `most`; no more than these are
+    /// counted. Error: want of memory.
+    pub fn points(&self, g: u16, most: u64) -> Result<Option<u64>, AllocError>
+        requires { g < self.now.tables.glyphs }
+        ensures exact { IfOk result (λ n. n ≡ counted most (points_asked self.now.tables self.now.levels g)) }
+    {
+        points_of(self.alloc, &self.glyf, self.levels, g, most)
     }
 
     /// The outline of a glyph, in 26.6 pixels. Errors: those of reading a glyph, CoordRange, ComponentDepth,
     /// MatchPoint, PointLimit, those of the programs of the glyph and its components, Memory. With `Fit::Fallback` and
     /// `Fit::Best` a program's fault is told with the outline, which then is made with its scaled points, components
-    /// included.
+    /// included; with `Fit::Best` so is StepLimit where the programs are more work than is left of the job's.
     pub fn fitted(&self, g: u16) -> Result<Outline, FontFault>
         requires { g < self.now.tables.glyphs }
         ensures exact { FontGives outline_of result (fitted_outline self.now g) }
@@ -113,39 +136,85 @@ impl<'a> Fitter<'a> {
         ensures ends { IfOk result (λ o. AreEnds (length o.points.items) o.ends.items) }
         ensures outline { IfOk result (λ o. IsOutline (outline_of o)) }
     {
-        self.made_by_fallback(g)
+        let mut work = self.work;
+        self.made_by_fallback(g, &mut work)
     }
 
-    /// The outline of a glyph, with the fault of a program for which it is made without.
+    /// The same, and what the programs were of the job's work is not left for the glyphs after, where it is bounded.
+    pub fn fit(&mut self, g: u16) -> Result<Outline, FontFault>
+        requires { g < self.old.tables.glyphs }
+        ensures exact { FontGives outline_of result (fitted_outline self.old g) }
+        ensures unfitted { IfOk result (λ o. o.unfitted ≡ unfitted_fault self.old g) }
+        // On Ok nothing is wrong with the glyph or with a component of it, and a fault tells what is.
+        ensures sound { OnOk result (HasNo (IsOutlineDefect self.old g)) }
+        ensures fault { IfTold font_fault result (IsOutlineDefect self.old g) }
+        ensures few { IfOk result (λ o. length o.points.items ≤ point_limit) }
+        ensures coordinates { IfOk result (λ o. All IsPoint o.points.items) }
+        ensures phantom { IfOk result (λ o. ArePhantom (phantom_of o.phantom)) }
+        ensures ends { IfOk result (λ o. AreEnds (length o.points.items) o.ends.items) }
+        ensures outline { IfOk result (λ o. IsOutline (outline_of o)) }
+        ensures after { OnOk result (self.new ≡ after_glyph self.old g) }
+        ensures kept { OnErr result (self.new ≡ self.old) }
+    {
+        let mut work = self.work;
+        let outline = self.made_by_fallback(g, &mut work)?;
+        self.work = work;
+        Ok(outline)
+    }
+
+    /// The outline of a glyph, with the fault of a program for which it is made without, by what is left of the job's
+    /// work.
     #[tactic(auto, unfolding(crate::specs::Fitting::fitted_outline, crate::specs::Fitting::unfitted_fault))]
-    fn made_by_fallback(&self, g: u16) -> Result<Outline, FontFault>
-        requires { g < self.now.tables.glyphs }
+    fn made_by_fallback(&self, g: u16, work: &mut Work) -> Result<Outline, FontFault>
+        requires known { g < self.now.tables.glyphs }
+        requires work { work.old.left ≡ self.now.work }
         ensures exact { FontGives outline_of result (fitted_outline self.now g) }
         ensures unfitted { IfOk result (λ o. o.unfitted ≡ unfitted_fault self.now g) }
         ensures valid { IfOk result (λ o. IsOutline (outline_of o)) }
+        ensures left { OnOk result (work.new.left ≡ (after_glyph self.now g).work) }
     {
         match self.fallback {
             Fallback::Never => self.made(&self.hinting, g, None),
-            Fallback::WhereRefused => self.made_or_unfitted(g),
+            Fallback::WhereRefused => self.made_or_unfitted(g, work),
             Fallback::Everywhere(fault) => self.made(&Hinting::Off, g, Some(fault)),
         }
     }
 
-    /// The outline of a glyph with its program, or, where one is refused, without.
+    /// The outline of a glyph with its program, or, where one is refused or more work than is left, without.
     #[tactic(auto, unfolding(crate::specs::Fitting::fitted_outline, crate::specs::Fitting::unfitted_fault))]
-    fn made_or_unfitted(&self, g: u16) -> Result<Outline, FontFault>
+    fn made_or_unfitted(&self, g: u16, work: &mut Work) -> Result<Outline, FontFault>
         requires known { g < self.now.tables.glyphs }
+        requires work { work.old.left ≡ self.now.work }
         requires fallback { self.now.fallback ≡ where_refused }
         ensures exact { FontGives outline_of result (fitted_outline self.now g) }
         ensures unfitted { IfOk result (λ o. o.unfitted ≡ unfitted_fault self.now g) }
         ensures valid { IfOk result (λ o. IsOutline (outline_of o)) }
+        ensures left { OnOk result (work.new.left ≡ (after_glyph self.now g).work) }
     {
-        match self.made(&self.hinting, g, None) {
+        match self.made_within(&self.hinting, g, None, work) {
             Ok(outline) => Ok(outline),
-            Err(refusal) => match told(refusal) {
-                Some(fault) => self.refused(g, fault),
-                None => Err(FontFault::Memory),
-            },
+            Err(refusal) => self.unmade(g, refusal, work),
+        }
+    }
+
+    /// The outline of a glyph that is not made with its program, or its fault.
+    fn unmade(&self, g: u16, refusal: Unmade, work: &mut Work) -> Result<Outline, FontFault>
+        requires known { g < self.now.tables.glyphs }
+        requires fallback { self.now.fallback ≡ where_refused }
+        requires work { RefusalLeaves refusal work.old.left (glyph_work self.now g self.now.work) }
+        requires fault { IfSome (unmade_fault refusal) (λ f. outline_at (with_hinting self.now self.now.hinting) self.now.levels g ≡ Err f) }
+        ensures exact { FontGives outline_of result (fitted_outline self.now g) }
+        ensures unfitted { IfOk result (λ o. o.unfitted ≡ unfitted_fault self.now g) }
+        ensures valid { IfOk result (λ o. IsOutline (outline_of o)) }
+        ensures left { OnOk result (work.new.left ≡ (after_glyph self.now g).work) }
+    {
+        match refusal {
+            Unmade::Font(fault) => self.refused(g, fault),
+            Unmade::Memory => Err(FontFault::Memory),
+            Unmade::Spent(fault) => {
+                *work = Work { left: Some(0) };
+                self.spent(g, fault)
+            }
         }
     }
 
@@ -154,6 +223,7 @@ impl<'a> Fitter<'a> {
     fn refused(&self, g: u16, fault: Fault) -> Result<Outline, FontFault>
         requires known { g < self.now.tables.glyphs }
         requires fallback { self.now.fallback ≡ where_refused }
+        requires work { IsEnough (glyph_work self.now g self.now.work) }
         requires fault { outline_at (with_hinting self.now self.now.hinting) self.now.levels g ≡ Err fault }
         ensures exact { FontGives outline_of result (fitted_outline self.now g) }
         ensures unfitted { IfOk result (λ o. o.unfitted ≡ unfitted_fault self.now g) }
@@ -165,7 +235,20 @@ impl<'a> Fitter<'a> {
         self.made(&Hinting::Off, g, Some(fault))
     }
 
-    /// The outline of a glyph by what the programs leave, with the fault for which it is unfitted.
+    /// The outline of a glyph whose programs are more work than is left, with this fault.
+    #[tactic(auto, unfolding(crate::specs::Fitting::fitted_outline, crate::specs::Fitting::unfitted_fault))]
+    fn spent(&self, g: u16, over: Fault) -> Result<Outline, FontFault>
+        requires known { g < self.now.tables.glyphs }
+        requires fallback { self.now.fallback ≡ where_refused }
+        requires work { glyph_work self.now g self.now.work ≡ spent over }
+        ensures exact { FontGives outline_of result (fitted_outline self.now g) }
+        ensures unfitted { IfOk result (λ o. o.unfitted ≡ unfitted_fault self.now g) }
+        ensures valid { IfOk result (λ o. IsOutline (outline_of o)) }
+    {
+        self.made(&Hinting::Off, g, Some(over))
+    }
+
+    /// The outline of a glyph by what the programs leave, with the fault for which it is unfitted. Work is not bounded.
     fn made(
         &self,
         hinting: &Hinting<'a>,
@@ -178,7 +261,29 @@ impl<'a> Fitter<'a> {
         ensures unfitted { IfOk result (λ o. o.unfitted ≡ unfitted) }
         ensures valid { IfOk result (λ o. IsOutline (outline_of o)) }
     {
-        let outline = self.outline(hinting, self.levels, g)?;
+        let mut work = Work { left: None };
+        match self.made_within(hinting, g, unfitted, &mut work) {
+            Ok(made) => Ok(made),
+            Err(refusal) => Err(unbounded(refusal)),
+        }
+    }
+
+    /// The same by what is left of the job's work.
+    fn made_within(
+        &self,
+        hinting: &Hinting<'a>,
+        g: u16,
+        unfitted: Option<Fault>,
+        work: &mut Work,
+    ) -> Result<Outline, Unmade>
+        requires hinting { IsHinting (hinting_view hinting.now) }
+        requires known { g < self.now.tables.glyphs }
+        ensures exact { Makes outline_of result (outline_at (with_hinting self.now (hinting_view hinting.now)) self.now.levels g) }
+        ensures work { WorkGives result work.new.left (outline_work (with_hinting self.now (hinting_view hinting.now)) self.now.levels g work.old.left) }
+        ensures unfitted { IfOk result (λ o. o.unfitted ≡ unfitted) }
+        ensures valid { IfOk result (λ o. IsOutline (outline_of o)) }
+    {
+        let outline = self.outline(hinting, self.levels, g, work)?;
         Ok(Outline {
             unfitted,
             ..outline
@@ -213,7 +318,7 @@ impl<'a> Fitter<'a> {
         }
     }
 
-    /// The outline of a simple glyph, begun without points. Errors: CoordRange, Memory.
+    /// The outline of a simple glyph, begun without points. Errors: CoordRange, those of its program, Memory, Spent.
     fn simple(
         &self,
         hinting: &Hinting<'a>,
@@ -222,26 +327,35 @@ impl<'a> Fitter<'a> {
         last_points: &[u16],
         program: GlyphProgram<'a>,
         start: Outline,
-    ) -> Result<Outline, FontFault>
+        work: &mut Work,
+    ) -> Result<Outline, Unmade>
         requires hinting { IsHinting (hinting_view hinting.now) }
         requires known { g < self.now.tables.glyphs }
         requires few { length points.now ≤ point_limit }
         requires ends { EndContours (length points.now) last_points.now }
         requires start { IsOutline (outline_of start) }
-        ensures exact { FontGives outline_of result (simple_outline (with_hinting self.now (hinting_view hinting.now)) g points.now last_points.now (program_view program.entry) (outline_of start)) }
+        ensures exact { Makes outline_of result (simple_outline (with_hinting self.now (hinting_view hinting.now)) g points.now last_points.now (program_view program.entry) (outline_of start)) }
+        ensures work { WorkGives result work.new.left (simple_work (with_hinting self.now (hinting_view hinting.now)) g points.now last_points.now (program_view program.entry) (outline_of start) work.old.left) }
         ensures valid { IfOk result (λ o. IsOutline (outline_of o)) }
     {
         let at = self.glyf.start(g);
         let scaled = scaled_outline(self.alloc, self.size(), at, points, last_points, start)?;
-        hinted(self.alloc, hinting, program, scaled)
+        hinted(self.alloc, hinting, program, scaled, work)
     }
 
     /// The outline of a glyph, where so many levels of components are left.
     #[cycle(fitting)]
-    fn outline(&self, hinting: &Hinting<'a>, levels: u32, g: u16) -> Result<Outline, FontFault>
+    fn outline(
+        &self,
+        hinting: &Hinting<'a>,
+        levels: u32,
+        g: u16,
+        work: &mut Work,
+    ) -> Result<Outline, Unmade>
         requires hinting { IsHinting (hinting_view hinting.now) }
         requires known { g < self.now.tables.glyphs }
-        ensures exact { FontGives outline_of result (outline_at (with_hinting self.now (hinting_view hinting.now)) levels g) }
+        ensures exact { Makes outline_of result (outline_at (with_hinting self.now (hinting_view hinting.now)) levels g) }
+        ensures work { WorkGives result work.new.left (outline_work (with_hinting self.now (hinting_view hinting.now)) levels g work.old.left) }
         ensures valid { IfOk result (λ o. IsOutline (outline_of o)) }
     {
         match self.glyf.read(self.alloc, g)? {
@@ -255,7 +369,7 @@ impl<'a> Fitter<'a> {
             } => {
                 let start = self.start(x_min, g)?;
                 let program = self.program(g, code, code_at);
-                self.simple(hinting, g, &points, &ends, program, start)
+                self.simple(hinting, g, &points, &ends, program, start, work)
             }
             Raw::Composite {
                 x_min,
@@ -264,8 +378,14 @@ impl<'a> Fitter<'a> {
                 code_at,
             } => {
                 let start = self.start(x_min, g)?;
-                let joined = self.joined(hinting, levels, records.as_slice(), start)?;
-                hinted(self.alloc, hinting, self.program(g, code, code_at), joined)
+                let joined = self.joined(hinting, levels, records.as_slice(), start, work)?;
+                hinted(
+                    self.alloc,
+                    hinting,
+                    self.program(g, code, code_at),
+                    joined,
+                    work,
+                )
             }
         }
     }
@@ -278,42 +398,46 @@ impl<'a> Fitter<'a> {
         levels: u32,
         records: &[Record],
         start: Outline,
-    ) -> Result<Outline, FontFault>
+        work: &mut Work,
+    ) -> Result<Outline, Unmade>
         requires hinting { IsHinting (hinting_view hinting.now) }
         requires known { All (λ r. r.glyph < self.now.tables.glyphs) records.now }
         requires arguments { All HasArguments records.now }
         requires start { IsOutline (outline_of start) }
-        ensures exact { FontGives outline_of result (joined (added (with_hinting self.now (hinting_view hinting.now)) levels) records.now (outline_of start)) }
+        ensures exact { Makes outline_of result (joined (added (with_hinting self.now (hinting_view hinting.now)) levels) records.now (outline_of start)) }
+        ensures work { WorkGives result work.new.left (joined_work (added (with_hinting self.now (hinting_view hinting.now)) levels) (added_work (with_hinting self.now (hinting_view hinting.now)) levels) records.now (outline_of start) work.old.left) }
         ensures valid { IfOk result (λ o. IsOutline (outline_of o)) }
     {
         let mut so_far = start;
         for part in records {
-            so_far = self.added(hinting, levels, *part, so_far)?;
+            so_far = self.added(hinting, levels, *part, so_far, work)?;
         }
         Ok(so_far)
     }
 
     /// One record: its component's own outline is made, placed, and dropped.
     #[cycle(fitting)]
-    #[tactic(auto, using(crate::proofs::Levels::one_level), unfolding(crate::specs::Fitting::added))]
+    #[tactic(auto, using(crate::proofs::Levels::one_level, crate::proofs::Levels::one_level_work), unfolding(crate::specs::Fitting::added, crate::specs::Fitting::added_work))]
     fn added(
         &self,
         hinting: &Hinting<'a>,
         levels: u32,
         part: Record,
         so_far: Outline,
-    ) -> Result<Outline, FontFault>
+        work: &mut Work,
+    ) -> Result<Outline, Unmade>
         requires hinting { IsHinting (hinting_view hinting.now) }
         requires known { part.glyph < self.now.tables.glyphs }
         requires arguments { HasArguments part }
         requires so_far { IsOutline (outline_of so_far) }
-        ensures exact { FontGives outline_of result (added (with_hinting self.now (hinting_view hinting.now)) levels part (outline_of so_far)) }
+        ensures exact { Makes outline_of result (added (with_hinting self.now (hinting_view hinting.now)) levels part (outline_of so_far)) }
+        ensures work { WorkGives result work.new.left (added_work (with_hinting self.now (hinting_view hinting.now)) levels part work.old.left) }
         ensures valid { IfOk result (λ o. IsOutline (outline_of o)) }
     {
         if levels == 0 {
-            return Err(FontFault::Font(glyf_fault(part.at, Why::ComponentDepth)));
+            return Err(Unmade::Font(glyf_fault(part.at, Why::ComponentDepth)));
         }
-        let component = self.outline(hinting, levels - 1, part.glyph)?;
-        placed(self.size(), part, &component, so_far)
+        let component = self.outline(hinting, levels - 1, part.glyph, work)?;
+        Ok(placed(self.size(), part, &component, so_far)?)
     }
 }

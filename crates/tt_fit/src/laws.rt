@@ -1,6 +1,8 @@
 //! Laws of the definitions. Each function takes nothing and gives nothing: its clauses hold of all glyphs.
 
-ghost use Rattle.tt_fit.specs.Laws.{OutlinesAreWhole, OutlineFaultsStand, FallbackFits, FallbackScales, FallbackRefuses, FallbackUnfitsAll, OthersNeverFallBack, FullIsByPrograms, NoneIsWithoutPrograms};
+ghost use Rattle.tt_fit.specs.Best.{BestDrawsAsFull, BestFitsAsFull};
+ghost use Rattle.tt_fit.specs.Laws.{OutlinesAreWhole, OutlineFaultsStand, FallbackFits, FallbackScales, FallbackRefuses, FallbackUnfitsAll, OthersNeverFallBack, FullIsByPrograms, NoneIsWithoutPrograms, UnboundedIsEnough, OthersAreUnbounded, UnboundedStays, SpentWorkUnfits, SpentProgramsUnfitAll, BestIsBounded, WorkFalls};
+ghost use Rattle.tt_fit.specs.Counting.{OutlinesAreCounted};
 
 /// Where the definition gives an outline, no defect stands in the glyph or in a component of it, and where it gives a
 /// fault, that one does.
@@ -9,9 +11,14 @@ pub fn outlines_are_whole()
     ensures fault { OutlineFaultsStand }
 {}
 
-/// What `Fit::Fallback` and `Fit::Best` make of a font at a size: the outline by the programs alone; where their fault
-/// is a program's, the answer without programs; any other fault still. With `Fit::Fallback` these two answers are those
-/// of `Fit::Full` and `Fit::None`.
+/// An outline that is given has no more points and contours than its glyph asks for by `Fitter::points`.
+pub fn outlines_are_counted()
+    ensures { OutlinesAreCounted }
+{}
+
+/// What `Fit::Fallback` and `Fit::Best` make of a font at a size, where work is enough: the outline by the programs
+/// alone; where their fault is a program's, the answer without programs; any other fault still. With `Fit::Fallback`
+/// these two answers are those of `Fit::Full` and `Fit::None`.
 pub fn glyphs_fall_back()
     ensures fitted { FallbackFits }
     ensures scaled { FallbackScales }
@@ -20,4 +27,32 @@ pub fn glyphs_fall_back()
     ensures never { OthersNeverFallBack }
     ensures full { FullIsByPrograms }
     ensures none { NoneIsWithoutPrograms }
+{}
+
+/// Where `Fit::Full` makes an outline of a glyph, the programs make the same one with `Fit::Best`, though these have the
+/// whole instruction set, run on a tolerant machine, and may nest components deeper; so no such glyph is unfitted with
+/// it, unless its programs, or those of the font, are more work than there is.
+pub fn best_draws_as_full()
+    ensures drawn { BestDrawsAsFull }
+    ensures fitted { BestFitsAsFull }
+{
+    tt_exec::laws::runs_stay();
+    tt_exec::laws::runs_loosen();
+}
+
+/// With every way of fitting but `Fit::Best` work is not bounded, and then it refuses no glyph. With `Fit::Best` a glyph
+/// whose programs are more work than is left is made without them, and so is every one where those of the font are.
+pub fn work_unfits()
+    ensures enough { UnboundedIsEnough }
+    ensures others { OthersAreUnbounded }
+    ensures stays { UnboundedStays }
+    ensures spent { SpentWorkUnfits }
+    ensures programs { SpentProgramsUnfitAll }
+{}
+
+/// With `Fit::Best` the programs of a font leave no more than the limit of a job's work, and those of a glyph leave no
+/// more than there was before.
+pub fn work_falls()
+    ensures begun { BestIsBounded }
+    ensures falls { WorkFalls }
 {}

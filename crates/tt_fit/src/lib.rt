@@ -2,6 +2,7 @@
 #![tactic(auto)]
 
 mod component;
+mod counting;
 mod fallback;
 mod fitting;
 mod glyph_zone;
@@ -16,6 +17,7 @@ mod programs;
 mod rules;
 mod scaling;
 mod size;
+mod unmade;
 
 pub use fitting::Fitter;
 pub use outline::Outline;

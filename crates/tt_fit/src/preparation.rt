@@ -8,28 +8,32 @@ ghost use Rattle.tt_core.specs.Outcomes.{FontGives};
 ghost use Rattle.tt_exec.specs.Parts.{parts_of};
 ghost use Rattle.tt_exec.specs.Views.{code_of};
 ghost use Rattle.tt_fit.specs.Parts.{AreParts, begun_parts, left_to_glyphs};
-ghost use Rattle.tt_fit.specs.Preparation.{program_tables, left_by_programs, without_fallback, with_fallback, prepared};
-ghost use Rattle.tt_fit.specs.Hinting.{IsHinting};
-ghost use Rattle.tt_fit.specs.Rules.{rules_of};
+ghost use Rattle.tt_fit.specs.Preparation.{program_tables, left_by_programs, programs_work, without_fallback, within_work, prepared};
+ghost use Rattle.tt_fit.specs.Fallback.{everywhere};
+ghost use Rattle.tt_fit.specs.Hinting.{IsHinting, off};
+ghost use Rattle.tt_fit.specs.Rules.{rules_of, work_of};
 ghost use Rattle.tt_fit.specs.Views.{hinting_view, preparation_view, size_view};
+ghost use Rattle.tt_fit.specs.Work.{Makes, WorkGives};
 ghost use Rattle.tt_metrics.specs.Metrics.{units_per_em_of};
 
-use crate::fallback::{Fallback, told};
+use crate::fallback::Fallback;
 use crate::hinting::{Hinting, run};
 use crate::parts::{begun_parts, left_to_glyphs};
 use crate::programs::{Fit, Programs};
-use crate::rules::rules_of;
+use crate::rules::{rules_of, work_of};
 use crate::size::FontSize;
+use crate::unmade::{Unmade, unbounded};
 use std::alloc::Global;
-use tt_core::FontFault;
-use tt_exec::Code;
+use tt_core::{Fault, FontFault};
+use tt_exec::{Code, Work};
 use tt_metrics::Metrics;
 
-/// What the programs of glyphs begin with, and which glyphs are unfitted.
+/// What the programs of glyphs begin with, which glyphs are unfitted, and what is left of the job's work.
 #[derive(Drop)]
 pub(crate) struct Preparation<'a> {
     pub(crate) hinting: Hinting<'a>,
     pub(crate) fallback: Fallback,
+    pub(crate) work: Work,
 }
 
 /// The program of a table that holds nothing else.
@@ -45,9 +49,36 @@ fn whole_table<'a>(table: [u8; 4], bytes: &'a [u8]) -> Code<'a>
     }
 }
 
-/// What both programs leave. Errors: theirs, Memory.
-#[tactic(auto, unfolding(crate::specs::Preparation::left_by_programs))]
+/// What both programs leave. Errors: theirs, Memory, Spent.
+#[tactic(auto, unfolding(crate::specs::Preparation::left_by_programs, crate::specs::Preparation::programs_work))]
 fn left_by_programs<'a>(
+    alloc: Global,
+    metrics: &Metrics,
+    programs: Programs<'a>,
+    size: FontSize,
+    fit: Fit,
+    work: &mut Work,
+) -> Result<Hinting<'a>, Unmade>
+    requires units { size.units_per_em ≡ units_per_em_of metrics.now }
+    requires fpgm { length programs.fpgm.now ≤ font_limit }
+    requires prep { length programs.prep.now ≤ font_limit }
+    ensures exact { Makes hinting_view result (left_by_programs (begun_parts metrics.now programs.entry.cvt.now size.ppem (rules_of fit)) (program_tables programs.entry)) }
+    ensures work { WorkGives result work.new.left (programs_work (begun_parts metrics.now programs.entry.cvt.now size.ppem (rules_of fit)) (program_tables programs.entry) work.old.left) }
+    ensures valid { IfOk result (λ h. IsHinting (hinting_view h)) }
+{
+    let rules = rules_of(fit);
+    let begun = begun_parts(alloc, metrics, programs.cvt, size, rules)?;
+    let font = run(alloc, begun, whole_table(*b"fpgm", programs.fpgm), work)?;
+    let mut prep_parts = begun_parts(alloc, metrics, programs.cvt, size, rules)?;
+    prep_parts.functions = font.functions;
+    prep_parts.instructions = font.instructions;
+    let prep = whole_table(*b"prep", programs.prep);
+    let left = run(alloc, prep_parts, prep, work)?;
+    Ok(Hinting::Ready(left_to_glyphs(left)))
+}
+
+/// The same, where their work is not bounded. Errors: theirs, Memory.
+fn left_unbounded<'a>(
     alloc: Global,
     metrics: &Metrics,
     programs: Programs<'a>,
@@ -60,14 +91,11 @@ fn left_by_programs<'a>(
     ensures exact { FontGives hinting_view result (left_by_programs (begun_parts metrics.now programs.entry.cvt.now size.ppem (rules_of fit)) (program_tables programs.entry)) }
     ensures valid { IfOk result (λ h. IsHinting (hinting_view h)) }
 {
-    let rules = rules_of(fit);
-    let begun = begun_parts(alloc, metrics, programs.cvt, size, rules)?;
-    let font = run(alloc, begun, whole_table(*b"fpgm", programs.fpgm))?;
-    let mut prep_parts = begun_parts(alloc, metrics, programs.cvt, size, rules)?;
-    prep_parts.functions = font.functions;
-    prep_parts.instructions = font.instructions;
-    let left = run(alloc, prep_parts, whole_table(*b"prep", programs.prep))?;
-    Ok(Hinting::Ready(left_to_glyphs(left)))
+    let mut work = Work { left: None };
+    match left_by_programs(alloc, metrics, programs, size, fit, &mut work) {
+        Ok(hinting) => Ok(hinting),
+        Err(refusal) => Err(unbounded(refusal)),
+    }
 }
 
 /// No glyph is unfitted.
@@ -79,6 +107,19 @@ fn without_fallback<'a>(hinting: Hinting<'a>) -> Preparation<'a>
     Preparation {
         hinting,
         fallback: Fallback::Never,
+        work: Work { left: None },
+    }
+}
+
+/// Every glyph is unfitted by this fault.
+fn all_unfitted<'a>(fault: Fault, work: Work) -> Preparation<'a>
+    ensures exact { preparation_view result ≡ record { hinting = off; fallback = everywhere fault; work = work.left } }
+    ensures valid { IsHinting (hinting_view result.hinting) }
+{
+    Preparation {
+        hinting: Hinting::Off,
+        fallback: Fallback::Everywhere(fault),
+        work,
     }
 }
 
@@ -93,20 +134,20 @@ fn with_fallback<'a>(
     requires units { size.units_per_em ≡ units_per_em_of metrics.now }
     requires fpgm { length programs.fpgm.now ≤ font_limit }
     requires prep { length programs.prep.now ≤ font_limit }
-    ensures exact { FontGives preparation_view result (Ok (with_fallback (left_by_programs (begun_parts metrics.now programs.entry.cvt.now size.ppem (rules_of fit)) (program_tables programs.entry)))) }
+    ensures exact { FontGives preparation_view result (Ok (within_work (programs_work (begun_parts metrics.now programs.entry.cvt.now size.ppem (rules_of fit)) (program_tables programs.entry) (work_of fit)) (left_by_programs (begun_parts metrics.now programs.entry.cvt.now size.ppem (rules_of fit)) (program_tables programs.entry)))) }
     ensures valid { IfOk result (λ p. IsHinting (hinting_view p.hinting)) }
 {
-    match left_by_programs(alloc, metrics, programs, size, fit) {
+    let mut work = work_of(fit);
+    match left_by_programs(alloc, metrics, programs, size, fit, &mut work) {
         Ok(hinting) => Ok(Preparation {
             hinting,
             fallback: Fallback::WhereRefused,
+            work,
         }),
-        Err(refusal) => match told(refusal) {
-            Some(fault) => Ok(Preparation {
-                hinting: Hinting::Off,
-                fallback: Fallback::Everywhere(fault),
-            }),
-            None => Err(FontFault::Memory),
+        Err(refusal) => match refusal {
+            Unmade::Font(fault) => Ok(all_unfitted(fault, work)),
+            Unmade::Memory => Err(FontFault::Memory),
+            Unmade::Spent(fault) => Ok(all_unfitted(fault, Work { left: Some(0) })),
         },
     }
 }
@@ -128,7 +169,7 @@ pub(crate) fn prepared<'a>(
     ensures valid { IfOk result (λ p. IsHinting (hinting_view p.hinting)) }
 {
     match fit {
-        Fit::Full => Ok(without_fallback(left_by_programs(alloc, metrics, programs, size, fit)?)),
+        Fit::Full => Ok(without_fallback(left_unbounded(alloc, metrics, programs, size, fit)?)),
         Fit::None => Ok(without_fallback(Hinting::Off)),
         Fit::Fallback | Fit::Best => with_fallback(alloc, metrics, programs, size, fit),
     }

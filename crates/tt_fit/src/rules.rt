@@ -1,10 +1,11 @@
 //! By which rules each way of fitting makes outlines.
 
 ghost use Rattle.std.specs.Prelude.{◌≡◌};
-ghost use Rattle.tt_fit.specs.Rules.{rules_of, levels_of};
+ghost use Rattle.tt_fit.specs.Rules.{rules_of, levels_of, work_of};
 
 use crate::programs::Fit;
-use tt_core::{BEST_LEVEL_LIMIT, LEVEL_LIMIT};
+use tt_core::{BEST_LEVEL_LIMIT, LEVEL_LIMIT, WORK_LIMIT};
+use tt_exec::Work;
 use tt_state::Tolerance;
 
 /// By which rules programs are run.
@@ -38,5 +39,15 @@ pub(crate) fn levels_of(fit: Fit) -> u32
     match fit {
         Fit::Full | Fit::None | Fit::Fallback => LEVEL_LIMIT,
         Fit::Best => BEST_LEVEL_LIMIT,
+    }
+}
+
+/// How much work the programs of a job may be.
+pub(crate) fn work_of(fit: Fit) -> Work
+    ensures { result.left ≡ work_of fit }
+{
+    match fit {
+        Fit::Full | Fit::None | Fit::Fallback => Work::unbounded(),
+        Fit::Best => Work::of(WORK_LIMIT),
     }
 }

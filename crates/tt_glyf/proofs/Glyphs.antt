@@ -281,7 +281,7 @@ described-was glyphs g d header was =
     described-cases glyphs g (unsigned_abs (contour_count g.bytes)) (int_lt (contour_count g.bytes) (pos 0))
     (unsigned_abs (contour_count g.bytes) == 0) d header refl refl refl was
 
-glyph-was : (glyphs : ℕ) (g : GlyphBytes) (d : Raw) → glyph_in glyphs g ≡ Ok d → IsRead glyphs g d
+pub glyph-was : (glyphs : ℕ) (g : GlyphBytes) (d : Raw) → glyph_in glyphs g ≡ Ok d → IsRead glyphs g d
 glyph-was glyphs g d was =
     let by_header = came-through (header_of g) (described glyphs g) d was in
     let header = header-was g by_header.value by_header.first in

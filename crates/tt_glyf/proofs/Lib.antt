@@ -16,3 +16,4 @@ pub mod Locations
 pub mod Places
 pub mod Glyphs
 pub mod Parts
+pub mod Headers

@@ -10,4 +10,5 @@ pub mod Loca
 pub mod Meaning
 pub mod Raw
 pub mod Simple
+pub mod Told
 pub mod Views

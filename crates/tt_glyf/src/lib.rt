@@ -14,6 +14,7 @@ pub mod laws;
 mod loca;
 mod raw;
 mod simple;
+mod told;
 
 pub use component_flags::ComponentFlags;
 pub use glyf::Glyf;

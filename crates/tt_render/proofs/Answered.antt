@@ -14,7 +14,7 @@ use Rattle.tt_render.specs.declared.fault.DrawFault.TheVariants as draw
 use Rattle.tt_render.specs.declared.fault.RunFault.{RunFault}
 use Rattle.tt_render.specs.declared.fault.RunFault.TheVariants as run
 use Rattle.tt_render.specs.Job.{Job}
-use Rattle.tt_render.specs.Defects.{TellsDefectsOf, IsExtentRefusal, IsJobRefusal, draw_font_fault, draw_job_fault}
+use Rattle.tt_render.specs.Defects.{TellsDefectsOf, IsFontRefusal, IsJobRefusal, draw_font_fault, draw_job_fault}
 use Rattle.tt_render.specs.Tables.{Face, face_of}
 use Rattle.tt_render.specs.Outcome.{Refused, Wanted, as_font, CallFails, IfJob, IfLarge, needs_font, refusal}
 use Rattle.tt_render.specs.Reading.{ReadFails}
@@ -51,15 +51,16 @@ reading_defects V run.FontLarge (Some file) after read IsOne fails = tt
 reading_defects V (run.Write sent) (Some file) after read IsOne fails = absurd fails
 reading_defects V run.Memory (Some file) after read IsOne fails = tt
 
--- a refused extent is known once the font is
-late_refusal : (face : Face) (a : Job) (j : JobFault) → IsExtentRefusal face a j → needs_font j ≡ true
+-- what the font refuses is known once the font is
+late_refusal : (face : Face) (a : Job) (j : JobFault) → IsFontRefusal face a j → needs_font j ≡ true
 late_refusal face a fault.SizeRange stands = absurd stands
 late_refusal face a fault.TextLong stands = absurd stands
 late_refusal face a fault.EmptyPicture stands = refl
 late_refusal face a fault.PictureLarge stands = refl
 late_refusal face a fault.MarginRange stands = absurd stands
+late_refusal face a fault.WorkLarge stands = refl
 
-late : (r : Result Face Fault) (a : Job) (j : JobFault) → IsOkAnd r (λ face. IsExtentRefusal face a j) → needs_font j
+late : (r : Result Face Fault) (a : Job) (j : JobFault) → IsOkAnd r (λ face. IsFontRefusal face a j) → needs_font j
     ≡ true
 late (Ok face) a j stands = late_refusal face a j stands
 late (Err f) a j stands = absurd stands
@@ -68,7 +69,7 @@ late (Err f) a j stands = absurd stands
 pub drawing_fails : (w : Wanted) (made : List ℕ → Result (List ℕ) Refused) → IsOfFont w made → (a : Job) (d : DrawFault)
     (before after out : Option (List ℕ)) (file : List ℕ) (read write : Bool) → IsRead before after file read write
     → IfSome (refusal d) (λ e. made file ≡ Err e) → IfSome (draw_job_fault d)
-    (λ j. IsOkAnd (face_of file) (λ face. IsExtentRefusal face a j)) → CallFails (run_fault_of_draw d)
+    (λ j. IsOkAnd (face_of file) (λ face. IsFontRefusal face a j)) → CallFails (run_fault_of_draw d)
     (record { left_before = before; left_after = after; read_failed = read; out_before = out; out_after = out; write_failed = write }) w
 drawing_fails w made of_made a (draw.Font f) before after out file read write r fails extent =
     font_fails w made of_made f before after out file read write r fails
@@ -79,12 +80,12 @@ drawing_fails w made of_made a draw.Memory before after out file read write r fa
 
 pub drawing_job : (a : Job) (d : DrawFault) (before after : Option (List ℕ)) (file : List ℕ)
     → Consumes before after file → IsAtEnd after → IfSome (draw_job_fault d)
-    (λ j. IsOkAnd (face_of file) (λ face. IsExtentRefusal face a j)) → IfJob {V = Unit {0}} (Err (run_fault_of_draw d))
+    (λ j. IsOkAnd (face_of file) (λ face. IsFontRefusal face a j)) → IfJob {V = Unit {0}} (Err (run_fault_of_draw d))
     (IsJobRefusal a before)
 drawing_job a (draw.Font f) before after file taken end extent = tt
 drawing_job a (draw.Job j) before after file taken end extent =
     rw (late (face_of file) a j extent) (known_of before after file
-    (λ file. IsOkAnd (face_of file) (λ face. IsExtentRefusal face a j)) taken end extent)
+    (λ file. IsOkAnd (face_of file) (λ face. IsFontRefusal face a j)) taken end extent)
 drawing_job a draw.Memory before after file taken end extent = tt
 
 pub drawing_large : (d : DrawFault) (P : Type 0) → IfLarge {V = Unit {0}} (Err (run_fault_of_draw d)) P

@@ -1,7 +1,7 @@
 -- Which glyphs are kept.
 use Rattle.std.proofs.Common.{◌≡◌, ◌≢◌, ℕ, zero, suc, ◌<◌, Bool, true, false, ◌||◌, ◌==◌, List, [], ◌∷◌, length, slice_index, All, refl, arith}
 use Rattle.std.proofs.lemmas.Bool.Decides.{nat_tests}
-use Rattle.tt_render.specs.Glyphs.{is_among}
+use Rattle.tt_render.specs.Distinct.{is_among}
 
 or_true : (b : Bool) → (b || true) ≡ true
 or_true true = refl

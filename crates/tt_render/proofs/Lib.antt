@@ -10,6 +10,8 @@ mod Pens
 pub mod Places
 mod Standings
 mod Seats
+mod Turns
+mod Crossed
 mod Alike
 mod Listing
 mod Whole

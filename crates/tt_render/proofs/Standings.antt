@@ -13,10 +13,11 @@ use Rattle.tt_fit.specs.Outline.{Outline}
 use Rattle.tt_scan.specs.declared.edge.Edge.{Edge}
 use Rattle.tt_scan.specs.declared.edge.Frame.{Frame}
 use Rattle.tt_scan.proofs.Moved.{black_in_columns}
-use Rattle.tt_scan.specs.Winding.{is_black, column_x, row_y, moved_edges}
-use Rattle.tt_render.specs.Glyphs.{Glyph, IsDrawn, AreKept, Blacken, Adds, stamps_in, numbers_of}
+use Rattle.tt_scan.specs.Winding.{is_black, column_x, row_y, crossings_of, moved_edges}
+use Rattle.tt_render.specs.Glyphs.{Glyph, IsDrawn, AreDrawn, AreKept, Adds, Stand, crossings_standing, stamps_in, numbers_of}
 use Rattle.tt_render.specs.Picture.{origin_of, edges_at, glyph_edges}
 use Rattle.tt_render.specs.Pixels.{is_black_from, is_black_by, some_black}
+use Rattle.tt_render.proofs.Crossed.{crossings_moved, crosses_at, crossings_more}
 use Rattle.tt_render.proofs.Places.{ok_and}
 
 or_false : (b : Bool) → (b || false) ≡ b
@@ -71,33 +72,52 @@ some_more (h ∷ hs) g x y = rw (some_more hs g x y) (or_or (is_black h x y) (so
 
 -- the edges so far, and those of one place more
 pub one_place_more : (f : Frame) (before after : List Glyph) (edges : List (List Edge)) (new : List Edge)
-    → Blacken f before edges → Adds f before after new → Blacken f after (edges ++ new ∷ [])
-one_place_more f before after edges new black adds = λ c r.
-    rw (adds c r, black c r) (sym (some_more edges new (column_x f.margin (pos c)) (row_y f (pos r))))
+    → Stand f before edges → Adds f before after new → Stand f after (edges ++ new ∷ [])
+one_place_more f before after edges new stand adds = record {
+  black = λ c r.
+      rw (adds.black c r, stand.black c r) (sym (some_more edges new (column_x f.margin (pos c)) (row_y f (pos r))));
+  crossings = let more = crossings_more f edges new in
+      omega (arith, adds.crossings, stand.crossings, more);
+}
 
--- what an outline blackens from a pen it blackens so far to the left from pen 0
+-- the edges of an outline at a pen are those at pen 0, moved
+at_pen : (o : Outline) (pen : ℕ) → edges_at pen o ≡ moved_edges (pos 8192 *ℤ pos pen) (edges_at 0 o)
+at_pen o pen =
+    let start : pos (64 * pen) -ℤ origin_of o ≡ (pos (64 * 0) -ℤ origin_of o) +ℤ pos 64 *ℤ pos pen = omega
+    (arith, ints) in
+    ap (λ x. chord_edges o.points o.ends x (pos 0)) start
+    ∙ outline_at o.points o.ends (pos (64 * 0) -ℤ origin_of o) (pos 0) (pos pen)
+
+-- what it blackens from a pen it blackens so far to the left from pen 0
 from_pen : (m : ℕ) (o : Outline) (pen : ℕ) (c y : ℤ) → is_black (edges_at pen o) (column_x m c) y
     ≡ is_black (edges_at 0 o) (column_x m (c -ℤ pos pen)) y
 from_pen m o pen c y =
-    let start : pos (64 * pen) -ℤ origin_of o ≡ (pos (64 * 0) -ℤ origin_of o) +ℤ pos 64 *ℤ pos pen = omega
-    (arith, ints) in
-    let edges : edges_at pen o ≡ moved_edges (pos 8192 *ℤ pos pen) (edges_at 0 o) =
-    ap (λ x. chord_edges o.points o.ends x (pos 0)) start
-    ∙ outline_at o.points o.ends (pos (64 * 0) -ℤ origin_of o) (pos 0) (pos pen) in
+    let edges = at_pen o pen in
     let back : (c -ℤ pos pen) +ℤ pos pen ≡ c = omega (arith, ints) in
     let moved = rw back at (black_in_columns (pos pen) (edges_at 0 o) m (c -ℤ pos pen) y) in
     rw edges moved
 
+-- and it crosses the rows as often
+crosses_from : (f : Frame) (o : Outline) (pen : ℕ) → crossings_of f (edges_at pen o) ≡ crossings_of f (edges_at 0 o)
+crosses_from f o pen = rw (at_pen o pen) (crossings_moved f (pos 8192 *ℤ pos pen) (edges_at 0 o))
+
 -- a drawn glyph stands at one more pen
-pub adds_at : (s : Fitter) (f : Frame) (before gs : List Glyph) (i : ℕ) (g : Glyph) (placed : ℕ × ℕ)
-    → ((c r : ℕ) → is_black_by f (stamps_in gs) c r ≡ is_black_by f (stamps_in before) c r) → i < length gs
-    → g ≡ get_or gs i g → IsDrawn s f g → g.number ≡ placed.0
-    → IsOkAnd (glyph_edges s placed) (Adds f before (set gs i (record g { pens = g.pens ++ placed.1 ∷ [] })))
-adds_at s f before gs i g placed same below is drawn number =
-    let made : fitted_outline s placed.0 ≡ Ok drawn.shape = rw number at drawn.outline in
-    rw made (λ c r.
-    let black = from_pen f.margin drawn.shape placed.1 (pos c) (row_y f (pos r)) in
-    stands_at f gs i g placed.1 c r below is ∙ rw (same c r, drawn.edges, black) refl)
+pub adds_at : (maker : ℕ → Fitter) (f : Frame) (before gs : List Glyph) (i : ℕ) (g : Glyph) (placed : ℕ × ℕ)
+    → ((c r : ℕ) → is_black_by f (stamps_in gs) c r ≡ is_black_by f (stamps_in before) c r)
+    → crossings_standing gs ≡ crossings_standing before → i < length gs
+    → g ≡ get_or gs i g → IsDrawn (maker g.number) f g → g.number ≡ placed.0
+    → IsOkAnd (glyph_edges maker placed) (Adds f before (set gs i (record g { pens = g.pens ++ placed.1 ∷ [] })))
+adds_at maker f before gs i g placed same as_often below is drawn number =
+    let made : fitted_outline (maker placed.0) placed.0 ≡ Ok drawn.shape = rw number at drawn.outline in
+    let one : crossings_of g.tape.frame g.tape.edges ≡ crossings_of f (edges_at placed.1 drawn.shape) =
+    rw (drawn.fits.frame, drawn.edges) (sym (crosses_from f drawn.shape placed.1)) in
+    let more = crosses_at gs i g placed.1 below is in
+    rw made (record {
+      black = λ c r.
+          let black = from_pen f.margin drawn.shape placed.1 (pos c) (row_y f (pos r)) in
+          stands_at f gs i g placed.1 c r below is ∙ rw (same c r, drawn.edges, black) refl;
+      crossings = more ∙ rw (as_often, one) refl;
+    })
 
 -- and is the glyph that it was
 pub numbers_stood : (gs : List Glyph) (i : ℕ) (g : Glyph) (ps : List ℕ) → g ≡ get_or gs i g
@@ -110,32 +130,32 @@ pub number_is : (gs : List Glyph) (i : ℕ) (g : Glyph) (n : ℕ) → i < length
 number_is gs i g n below is found = ap (λ (t : Glyph). t.number) is
     ∙ sym (get_or-map (λ (t : Glyph). t.number) gs i g 0 below) ∙ found
 
-pub drawn_is : (s : Fitter) (f : Frame) (table : List ℕ) (gs : List Glyph) (i : ℕ) (g : Glyph)
-    → AreKept s f table gs → i < length gs → g ≡ get_or gs i g → IsDrawn s f g
-drawn_is s f table gs i g kept below is = rw (← is) at (kept.drawn i g below)
+pub drawn_is : (maker : ℕ → Fitter) (f : Frame) (gs : List Glyph) (i : ℕ) (g : Glyph)
+    → AreDrawn maker f gs → i < length gs → g ≡ get_or gs i g → IsDrawn (maker g.number) f g
+drawn_is maker f gs i g drawn below is = rw (← is) at (drawn i g below)
 
-pub kept_stood : (s : Fitter) (f : Frame) (table : List ℕ) (gs : List Glyph) (i : ℕ) (g : Glyph) (ps : List ℕ)
-    → AreKept s f table gs → i < length gs → g ≡ get_or gs i g → AreKept s f table (set gs i (record g { pens = ps }))
-kept_stood s f table gs i g ps kept below is =
-    let drawn = drawn_is s f table gs i g kept below is in
+pub drawn_stood : (maker : ℕ → Fitter) (f : Frame) (gs : List Glyph) (i : ℕ) (g : Glyph) (ps : List ℕ)
+    → AreDrawn maker f gs → i < length gs → g ≡ get_or gs i g → AreDrawn maker f (set gs i (record g { pens = ps }))
+drawn_stood maker f gs i g ps all below is =
+    let drawn = drawn_is maker f gs i g all below is in
     let stood : Glyph = record g { pens = ps } in
-    let here : IsDrawn s f stood = record {
+    let here : IsDrawn (maker stood.number) f stood = record {
       shape = drawn.shape;
       unfitted = drawn.unfitted;
       outline = drawn.outline;
       edges = drawn.edges;
       fits = drawn.fits;
     } in
-    record {
-      room = kept.room;
-      places = rw (numbers_stood gs i g ps is) kept.places;
-      drawn = All-set (IsDrawn s f) gs i stood here kept.drawn;
-    }
+    All-set (λ g. IsDrawn (maker g.number) f g) gs i stood here all
+
+pub kept_stood : (glyphs : ℕ) (table : List ℕ) (gs : List Glyph) (i : ℕ) (g : Glyph) (ps : List ℕ)
+    → AreKept glyphs table gs → g ≡ get_or gs i g → AreKept glyphs table (set gs i (record g { pens = ps }))
+kept_stood glyphs table gs i g ps kept is = record { room = kept.room; places = rw (numbers_stood gs i g ps is) kept.places }
 
 -- what a place adds, at whatever pen that was asked for
-pub made_at : {pen : ℕ} (s : Fitter) (f : Frame) (before after : List Glyph) (g : ℕ × ℕ)
-    → IsOkAnd (glyph_edges s (g.0, pen)) (Adds f before after) → g ≡ (g.0, pen)
-    → (new : List Edge) × (glyph_edges s g ≡ Ok new) × Adds f before after new
-made_at {pen} s f before after g black is =
+pub made_at : {pen : ℕ} (maker : ℕ → Fitter) (f : Frame) (before after : List Glyph) (g : ℕ × ℕ)
+    → IsOkAnd (glyph_edges maker (g.0, pen)) (Adds f before after) → g ≡ (g.0, pen)
+    → (new : List Edge) × (glyph_edges maker g ≡ Ok new) × Adds f before after new
+made_at {pen} maker f before after g black is =
     let same : g.1 ≡ pen = ap (λ (g : ℕ × ℕ). g.1) is in
-    rw same (ok_and (glyph_edges s (g.0, pen)) (Adds f before after) black)
+    rw same (ok_and (glyph_edges maker (g.0, pen)) (Adds f before after) black)

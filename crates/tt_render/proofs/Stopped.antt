@@ -1,20 +1,28 @@
 -- What stopped a step of a drawing stops the picture.
-use Rattle.std.proofs.Common.{◌≡◌, ℕ, List, Ok, Err, refl}
+use Rattle.std.proofs.Common.{◌≡◌, ℕ, ◌<◌, nat_lt, Bool, true, false, ◌&&◌, if◌then◌else◌, List, Result, Ok, Err, refl, arith}
+use Rattle.std.proofs.lemmas.Bool.Decides.{nat_tests}
 use Rattle.std.specs.Prelude.{IfSome, IsOkAnd}
 use Rattle.tt_core.specs.declared.font_fault.FontFault.{FontFault}
 use Rattle.tt_core.specs.declared.font_fault.FontFault.TheVariants as font
 use Rattle.tt_core.specs.declared.fault.JobFault.{JobFault}
+use Rattle.tt_core.specs.declared.fault.JobFault.TheVariants as job_of
 use Rattle.tt_core.specs.Faults.{Fault}
-use Rattle.tt_core.specs.Outcomes.{font_fault}
+use Rattle.tt_core.specs.Limits.{crossing_limit}
+use Rattle.tt_core.specs.Outcomes.{FontGives, font_fault}
+use Rattle.tt_fit.specs.Fitting.{Fitter}
 use Rattle.tt_line.specs.declared.fault.LineFault.{LineFault}
 use Rattle.tt_line.specs.declared.fault.LineFault.TheVariants as line
 use Rattle.tt_line.specs.Layout.{Placement, placement, text_glyphs}
 use Rattle.tt_line.specs.Outcome.{job_fault}
 use Rattle.tt_render.specs.Job.{Job}
-use Rattle.tt_render.specs.Defects.{IsExtentRefusal, IsLineDefect, IsRunDefect, draw_font_fault, draw_job_fault}
+use Rattle.tt_render.specs.Defects.{CrossesTooOften, IsExtentRefusal, IsFontRefusal, IsLineDefect, IsRunDefect, draw_font_fault, draw_job_fault}
 use Rattle.tt_render.specs.Tables.{Face, face_of}
-use Rattle.tt_render.specs.Outcome.{refusal}
-use Rattle.tt_render.specs.Picture.{drawn, pictured}
+use Rattle.tt_render.specs.Outcome.{job, refusal}
+use Rattle.tt_render.specs.Picture.{crossings_tested, drawn, edges_in, frame_of, pictured, setting_in}
+use Rattle.tt_render.specs.declared.fault.DrawFault.{DrawFault}
+use Rattle.tt_render.specs.declared.fault.DrawFault.TheVariants as draw
+use Rattle.tt_scan.specs.declared.edge.Edge.{Edge}
+use Rattle.tt_render.specs.Work.{crossings_in, is_bounded, work_tested}
 use Rattle.tt_render.specs.Views.{draw_fault_of_font, draw_fault_of_line}
 use Rattle.tt_render.proofs.Telling.{line_tells}
 
@@ -25,24 +33,86 @@ unfolding pictured
 laying_stops a file face (line.Job j) there fails = rw (there, fails) refl
 laying_stops a file face line.Memory there fails = tt
 
-pub drawing_stops : (a : Job) (file : List ℕ) (face : Face) (l : Placement) (e : FontFault) → face_of file ≡ Ok face
+-- what stopped the making of a line's picture stops that of the text's
+pub drawing_stops : (a : Job) (file : List ℕ) (face : Face) (l : Placement) (e : DrawFault) → face_of file ≡ Ok face
     → placement face.metrics face.cmap a.text a.ppem a.margin ≡ Ok l
-    → IfSome (font_fault e) (λ f. drawn face a l ≡ Err f)
-    → IfSome (refusal (draw_fault_of_font e)) (λ r. pictured a file ≡ Err r)
+    → IfSome (refusal e) (λ r. drawn face a l ≡ Err r) → IfSome (refusal e) (λ r. pictured a file ≡ Err r)
 unfolding pictured
-drawing_stops a file face l (font.Font f) there laid fails = rw (there, laid, fails) refl
-drawing_stops a file face l font.Memory there laid fails = tt
+drawing_stops a file face l (draw.Font f) there laid fails = rw (there, laid) fails
+drawing_stops a file face l (draw.Job j) there laid fails = rw (there, laid) fails
+drawing_stops a file face l draw.Memory there laid fails = tt
 
-pub drawing_tells : (a : Job) (file : List ℕ) (face : Face) (gs : List ℕ) (e : FontFault) → face_of file ≡ Ok face
-    → gs ≡ text_glyphs face.cmap a.text → IfSome (font_fault e) (IsLineDefect face a gs)
-    → IfSome (draw_font_fault (draw_fault_of_font e)) (IsRunDefect a file)
-drawing_tells a file face gs (font.Font f) there glyphs stands = line_tells a file face gs f there glyphs stands
-drawing_tells a file face gs font.Memory there glyphs stands = tt
+pub drawing_tells : (a : Job) (file : List ℕ) (face : Face) (gs : List ℕ) (e : DrawFault) → face_of file ≡ Ok face
+    → gs ≡ text_glyphs face.cmap a.text → IfSome (draw_font_fault e) (IsLineDefect face a gs)
+    → IfSome (draw_font_fault e) (IsRunDefect a file)
+drawing_tells a file face gs (draw.Font f) there glyphs stands = line_tells a file face gs f there glyphs stands
+drawing_tells a file face gs (draw.Job j) there glyphs stands = tt
+drawing_tells a file face gs draw.Memory there glyphs stands = tt
+
+pub drawing_refuses : (a : Job) (file : List ℕ) (face : Face) (l : Placement) (e : DrawFault) → face_of file ≡ Ok face
+    → placement face.metrics face.cmap a.text a.ppem a.margin ≡ Ok l
+    → IfSome (draw_job_fault e) (λ j. (j ≡ job_of.WorkLarge) × CrossesTooOften face a l)
+    → IfSome (draw_job_fault e) (λ j. IsOkAnd (face_of file) (λ face. IsFontRefusal face a j))
+drawing_refuses a file face l (draw.Font f) there laid refused = tt
+drawing_refuses a file face l (draw.Job j) there laid refused = rw (there, refused.0, laid) refused.1
+drawing_refuses a file face l draw.Memory there laid refused = tt
+
+-- what stopped the making of the setting, or of a glyph, stops the line
+pub setting_stops : (face : Face) (a : Job) (l : Placement) (e : FontFault)
+    → FontGives {X = Fitter} (λ f. f) (Err e) (setting_in face a)
+    → IfSome (refusal (draw_fault_of_font e)) (λ r. drawn face a l ≡ Err r)
+unfolding drawn
+setting_stops face a l (font.Font f) fails = rw fails refl
+setting_stops face a l font.Memory fails = tt
+
+pub glyph_stops : (face : Face) (a : Job) (l : Placement) (s : Fitter) (e : FontFault) → setting_in face a ≡ Ok s
+    → IfSome (font_fault e) (λ f. edges_in s l ≡ Err f)
+    → IfSome (refusal (draw_fault_of_font e)) (λ r. drawn face a l ≡ Err r)
+unfolding drawn
+glyph_stops face a l s (font.Font f) there fails = rw (there, fails) refl
+glyph_stops face a l s font.Memory there fails = tt
+
+pub font_tells : (P : Fault → Type 0) (e : FontFault) → IfSome (font_fault e) P
+    → IfSome (draw_font_fault (draw_fault_of_font e)) P
+font_tells P (font.Font f) stands = stands
+font_tells P font.Memory stands = tt
+
+-- and so do crossings past the limit
+pub crossings_stop : (face : Face) (a : Job) (l : Placement) (s : Fitter) (glyphs : List (List Edge)) (j : JobFault)
+    → setting_in face a ≡ Ok s → edges_in s l ≡ Ok glyphs → crossings_tested a l glyphs ≡ Err j
+    → drawn face a l ≡ Err (job j)
+unfolding drawn
+crossings_stop face a l s glyphs j there made refused = rw (there, made, refused) refl
+
+tested_as : (bounded past : Bool) (j : JobFault)
+    → ◌≡◌ {A = Result (Unit {0}) JobFault} (if bounded && past then Err job_of.WorkLarge else Ok tt) (Err j)
+    → (j ≡ job_of.WorkLarge) × (bounded ≡ true) × (past ≡ true)
+tested_as true true j was = (cc, refl, refl)
+tested_as true false j was = absurd cc
+tested_as false past j was = absurd cc
+
+pub crossings_tell : (face : Face) (a : Job) (l : Placement) (s : Fitter) (glyphs : List (List Edge)) (j : JobFault)
+    → setting_in face a ≡ Ok s → edges_in s l ≡ Ok glyphs → crossings_tested a l glyphs ≡ Err j
+    → (j ≡ job_of.WorkLarge) × CrossesTooOften face a l
+unfolding work_tested
+crossings_tell face a l s glyphs j there made refused =
+    let parts = tested_as (is_bounded a.fit) (nat_lt crossing_limit (crossings_in (frame_of l a.margin) glyphs)) j refused in
+    let past : crossing_limit < crossings_in (frame_of l a.margin) glyphs = let is = parts.2 in grind (arith, nat_tests) in
+    (parts.0, (parts.1, rw (there, made) past))
+
+-- a refused extent is a refusal by the font
+of_extent : (face : Face) (a : Job) (j : JobFault) → IsExtentRefusal face a j → IsFontRefusal face a j
+of_extent face a job_of.SizeRange stands = stands
+of_extent face a job_of.TextLong stands = stands
+of_extent face a job_of.EmptyPicture stands = stands
+of_extent face a job_of.PictureLarge stands = stands
+of_extent face a job_of.MarginRange stands = stands
+of_extent face a job_of.WorkLarge stands = absurd stands
 
 pub laying_tells : (a : Job) (file : List ℕ) (face : Face) (e : LineFault) → face_of file ≡ Ok face
     → IfSome (job_fault e) (IsExtentRefusal face a)
-    → IfSome (draw_job_fault (draw_fault_of_line e)) (λ j. IsOkAnd (face_of file) (λ face. IsExtentRefusal face a j))
-laying_tells a file face (line.Job j) there stands = rw there stands
+    → IfSome (draw_job_fault (draw_fault_of_line e)) (λ j. IsOkAnd (face_of file) (λ face. IsFontRefusal face a j))
+laying_tells a file face (line.Job j) there stands = rw there (of_extent face a j stands)
 laying_tells a file face line.Memory there stands = tt
 
 -- laying out finds no defect of the font, and drawing refuses no job

@@ -21,13 +21,14 @@ use Rattle.tt_line.specs.Laws.{PlacesGlyphs}
 use Rattle.tt_line.specs.Layout.{Placement, placement}
 use Rattle.tt_metrics.specs.Laws.{MetricsAreWhole}
 use Rattle.tt_metrics.specs.Metrics.{Metrics, metrics_of, glyphs_of, IsMetricsDefect}
+use Rattle.tt_render.specs.Distinct.{line_fitter}
 use Rattle.tt_render.specs.Job.{Job, tested, text_tested}
 use Rattle.tt_render.specs.Defects.{IsFaceDefect, IsGlyphTableDefect, HasProgramPastEnd, IsProgramTableDefect, IsSettingDefect, IsLineDefect, IsRunDefect}
 use Rattle.tt_render.specs.Tables.{Face, cmap_tag, face_of, cvt_tag, fpgm_tag, prep_tag, or_empty, optional_table, all_programs_in, programs_in, glyphs_in}
 use Rattle.tt_render.specs.Laws.{DrawnFontsAreWhole, MappedFontsAreWhole}
 use Rattle.tt_render.specs.MapLines.{lines_of, map_outcome}
 use Rattle.tt_render.specs.Outcome.{Refused, as_font, as_job, outcome_of}
-use Rattle.tt_render.specs.Picture.{setting_in, glyph_edges, drawn, pictured, run_outcome}
+use Rattle.tt_render.specs.Picture.{setting_in, edges_in, line_edges, drawn, pictured, run_outcome}
 use Rattle.tt_render.proofs.Telling.{no_setting_defect, no_line_defect, no_run_defect}
 
 -- what the layers below say of what they give
@@ -120,16 +121,6 @@ setting-whole laws face a s was =
     (glyph-tables-whole laws face.directory face.metrics by_tables.value by_tables.first)
     (programs-whole face.directory a.fit by_programs.value by_programs.first) by_programs.first by_programs.rest
 
-line-whole : FontLaws → (face : Face) (a : Job) (line : Placement) (bytes : List ℕ) → drawn face a line ≡ Ok bytes
-    → HasNo (IsLineDefect face a (map (λ g. g.0) line.glyphs))
-unfolding drawn
-line-whole laws face a line bytes was =
-    let by_setting = came-through (setting_in face a) _ bytes was in
-    let s = by_setting.value in
-    let by_glyphs = came-through (each (glyph_edges s) line.glyphs) _ bytes by_setting.rest in
-    no_line_defect face a s line.glyphs by_glyphs.value by_setting.first
-    (setting-whole laws face a s by_setting.first) by_glyphs.first
-
 -- what was given of a font or of a job was not refused
 pub of-font : {X : Type 0} (r : Result X Fault) (x : X) → as_font r ≡ Ok x → r ≡ Ok x
 of-font (Ok y) x was = cc
@@ -138,6 +129,18 @@ of-font (Err f) x was = absurd cc
 pub of-job : {X : Type 0} (r : Result X JobFault) (x : X) → as_job r ≡ Ok x → r ≡ Ok x
 of-job (Ok y) x was = cc
 of-job (Err j) x was = absurd cc
+
+line-whole : FontLaws → (face : Face) (a : Job) (line : Placement) (bytes : List ℕ) → drawn face a line ≡ Ok bytes
+    → HasNo (IsLineDefect face a (map (λ g. g.0) line.glyphs))
+unfolding drawn
+line-whole laws face a line bytes was =
+    let by_setting = came-through (as_font (setting_in face a)) _ bytes was in
+    let s = by_setting.value in
+    let there = of-font (setting_in face a) s by_setting.first in
+    let by_edges = came-through (line_edges s a line) _ bytes by_setting.rest in
+    let by_glyphs = came-through (as_font (edges_in s line)) _ by_edges.value by_edges.first in
+    no_line_defect face a s line.glyphs by_glyphs.value there (setting-whole laws face a s there)
+    (of-font (edges_in s line) by_glyphs.value by_glyphs.first)
 
 picture-whole : FontLaws → (a : Job) (file bytes : List ℕ) → pictured a file ≡ Ok bytes → HasNo (IsRunDefect a file)
 unfolding pictured
@@ -151,7 +154,7 @@ picture-whole laws a file bytes was =
     let laid = of-job (placement face.metrics face.cmap a.text a.ppem a.margin) line by_line.first in
     no_run_defect a file face (map (λ g. g.0) line.glyphs) there (face-whole laws file face there)
     (laws.places face.metrics face.cmap a.text a.ppem a.margin line laid)
-    (line-whole laws face a line bytes (of-font (drawn face a line) bytes by_line.rest))
+    (line-whole laws face a line bytes by_line.rest)
 
 -- what was made of a file that is not too large
 made-of : (tests : Result (Unit {0}) JobFault) (made : List ℕ → Result (List ℕ) Refused) (file bytes : List ℕ)

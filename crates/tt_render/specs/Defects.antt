@@ -9,10 +9,13 @@ use Rattle.tt_fit.specs.Fitting.{Fitter}
 use Rattle.tt_fit.specs.Preparation.{prepared}
 use Rattle.tt_glyf.specs.Bytes.{glyf_tag}
 use Rattle.tt_glyf.specs.Loca.{loca_tag, IsLocaDefect}
-use Rattle.tt_line.specs.Layout.{text_glyphs, extent_of, IsRefusal}
+use Rattle.tt_line.specs.Layout.{Placement, placement, text_glyphs, extent_of, IsRefusal}
 use Rattle.tt_cmap.specs.Defects.{IsBadCmap}
 use Rattle.tt_metrics.specs.Metrics.{Metrics, IsMetricsDefect}
 use Rattle.tt_core.specs.declared.fault.JobFault.{JobFault}
+use Rattle.tt_core.specs.declared.fault.JobFault.TheVariants as fault
+use Rattle.tt_core.specs.Limits.{crossing_limit}
+use Rattle.tt_render.specs.Distinct.{line_fitter}
 use Rattle.tt_render.specs.Job.{Job, IsTestRefusal}
 use Rattle.tt_render.specs.declared.fault.DrawFault.{DrawFault}
 use Rattle.tt_render.specs.declared.fault.DrawFault.TheVariants as draw
@@ -20,7 +23,8 @@ use Rattle.tt_render.specs.declared.fault.RunFault.{RunFault}
 use Rattle.tt_render.specs.declared.fault.RunFault.TheVariants as run
 use Rattle.tt_render.specs.Tables.{Face, face_of, cmap_tag, cvt_tag, fpgm_tag, prep_tag, programs_in}
 use Rattle.tt_render.specs.Outcome.{needs_font}
-use Rattle.tt_render.specs.Picture.{setting_in}
+use Rattle.tt_render.specs.Picture.{setting_in, edges_in, frame_of}
+use Rattle.tt_render.specs.Work.{crossings_in, is_bounded}
 
 -- a defect of the directory, or of a table that every text is looked up in
 abbrev pub IsFaceDefect : List ℕ → Fault → Type 0
@@ -32,9 +36,10 @@ abbrev pub IsGlyphTableDefect : List ℕ → Metrics → Fault → Type 0
 IsGlyphTableDefect directory m fault = IsDefectIn directory loca_tag (λ loca. IsLocaDefect loca m) fault
     ⊎ IsTableDefect directory glyf_tag fault
 
--- a defect of one of some glyphs, or of a component that is reached from it
-abbrev pub IsGlyphDefect : Fitter → List ℕ → Fault → Type 0
-IsGlyphDefect s glyphs fault = (i : ℕ) × (i < length glyphs) × IsOutlineDefect s (slice_index glyphs i) fault
+-- a defect of one of some glyphs, or of a component that is reached from it, by what each is made from
+abbrev pub IsGlyphDefect : (ℕ → Fitter) → List ℕ → Fault → Type 0
+IsGlyphDefect maker glyphs fault = (i : ℕ) × (i < length glyphs)
+    × IsOutlineDefect (maker (slice_index glyphs i)) (slice_index glyphs i) fault
 
 -- the control values, the font program or the control value program pass the end of the file
 abbrev pub HasProgramPastEnd : List ℕ → Fault → Type 0
@@ -62,7 +67,7 @@ IsSettingDefect face a fault = IsGlyphTableDefect face.directory face.metrics fa
 -- a defect of what some glyphs are drawn from
 abbrev pub IsLineDefect : Face → Job → List ℕ → Fault → Type 0
 IsLineDefect face a glyphs fault = IsSettingDefect face a fault ⊎ IsOkAnd (setting_in face a)
-    (λ s. IsGlyphDefect s glyphs fault)
+    (λ s. IsGlyphDefect (line_fitter s glyphs) glyphs fault)
 
 -- a defect of what every text is looked up in, or of what the glyphs of this one are drawn from
 abbrev pub IsRunDefect : Job → List ℕ → Fault → Type 0
@@ -102,9 +107,20 @@ draw_job_fault draw.Memory = None
 abbrev pub IsExtentRefusal : Face → Job → JobFault → Type 0
 IsExtentRefusal face a j = IsRefusal (extent_of face.metrics a.ppem a.margin (text_glyphs face.cmap a.text)) j
 
--- the fact for which a job is refused, alone or by a font file: the extent comes second
+-- the work of the job is bounded, and the glyphs of a line that is laid out cross the rows of its picture too often
+abbrev pub CrossesTooOften : Face → Job → Placement → Type 0
+CrossesTooOften face a line = (is_bounded a.fit ≡ true) × IsOkAnd (setting_in face a)
+    (λ s. IsOkAnd (edges_in s line) (λ glyphs. crossing_limit < crossings_in (frame_of line a.margin) glyphs))
+
+-- the fact for which a job is refused by a font: the extent of its picture, or the work of its glyphs
+abbrev pub IsFontRefusal : Face → Job → JobFault → Type 0
+IsFontRefusal face a fault.WorkLarge = IsOkAnd (placement face.metrics face.cmap a.text a.ppem a.margin)
+    (CrossesTooOften face a)
+IsFontRefusal face a j = IsExtentRefusal face a j
+
+-- the fact for which a job is refused, alone or by a font file: the font comes second
 abbrev pub IsRefusedBy : Bool → Job → Option (List ℕ) → JobFault → Type 0
-IsRefusedBy true a left j = IfSome left (λ file. IsOkAnd (face_of file) (λ face. IsExtentRefusal face a j))
+IsRefusedBy true a left j = IfSome left (λ file. IsOkAnd (face_of file) (λ face. IsFontRefusal face a j))
 IsRefusedBy false a left j = IsTestRefusal a j
 
 abbrev pub IsJobRefusal : Job → Option (List ℕ) → JobFault → Type 0

@@ -1,5 +1,6 @@
 pub mod Job
 pub mod Defects
+pub mod Distinct
 pub mod Tables
 pub mod Glyphs
 pub mod Laws
@@ -11,3 +12,4 @@ pub mod Pixels
 pub mod Reading
 pub mod Report
 pub mod Views
+pub mod Work

@@ -119,10 +119,11 @@ WithBytes wanted Q file = (bytes : List ℕ) × (wanted file ≡ Ok bytes) × Q 
 abbrev pub WithBytesFor : Traffic → Wanted → (List ℕ → Type 0) → Type 0
 WithBytesFor t w Q = IfSome t.left_before (WithBytes w.bytes Q)
 
--- a job is tested before the font is read, but for the extent of its picture
+-- a job is tested before the font is read, but for the extent of its picture and the work of its glyphs
 abbrev pub needs_font : JobFault → Bool
 needs_font fault.EmptyPicture = true
 needs_font fault.PictureLarge = true
+needs_font fault.WorkLarge = true
 needs_font j = false
 
 -- a job that fails its tests is refused whatever the reader has

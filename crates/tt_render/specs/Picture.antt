@@ -1,8 +1,10 @@
 -- The picture of a line of text: each glyph's outline moved to its pen, blackened by the scan converter's rules
 -- (OpenType, "TrueType Fundamentals"), written as format P4 of Netpbm's PBM. Margins and limits are profile.
-use Rattle.std.specs.Prelude.{ℕ, ◌*◌, ℤ, pos, ◌-ℤ◌, List, Result, Ok}
+use Rattle.std.specs.Prelude.{ℕ, ◌*◌, ℤ, pos, ◌-ℤ◌, List, map, Result, Ok}
 use Rattle.tt_arc.specs.Chords.{chord_edges}
+use Rattle.tt_core.specs.declared.fault.JobFault.{JobFault}
 use Rattle.tt_core.specs.Faults.{Fault}
+use Rattle.tt_core.specs.Limits.{crossing_limit}
 use Rattle.tt_core.specs.Outcomes.{◌>>=◌, each}
 use Rattle.tt_fit.specs.Fitting.{Fitter, fitted_outline}
 use Rattle.tt_fit.specs.Outline.{Outline}
@@ -11,10 +13,12 @@ use Rattle.tt_line.specs.Layout.{Placement, placement}
 use Rattle.tt_pbm.specs.P4.{p4}
 use Rattle.tt_scan.specs.declared.edge.Edge.{Edge}
 use Rattle.tt_scan.specs.declared.edge.Frame.{Frame}
+use Rattle.tt_render.specs.Distinct.{line_fitter}
 use Rattle.tt_render.specs.Job.{Job, tested}
 use Rattle.tt_render.specs.Outcome.{Refused, Wanted, as_font, as_job, outcome_of}
 use Rattle.tt_render.specs.Pixels.{is_black_pixel}
 use Rattle.tt_render.specs.Tables.{Face, face_of, glyphs_in, programs_in}
+use Rattle.tt_render.specs.Work.{crossings_in, work_tested}
 
 -- what the outlines are made from: the glyph data, and what the font's programs leave at the size
 unfoldable pub setting_in : Face → Job → Result Fitter Fault
@@ -31,9 +35,9 @@ origin_of o = o.phantom.left.0
 abbrev pub edges_at : ℕ → Outline → List Edge
 edges_at pen o = chord_edges o.points o.ends (pos (64 * pen) -ℤ origin_of o) (pos 0)
 
--- the edges of a glyph at its pen
-abbrev pub glyph_edges : Fitter → ℕ × ℕ → Result (List Edge) Fault
-glyph_edges s g = fitted_outline s g.0 >>= λ o. Ok (edges_at g.1 o)
+-- the edges of a glyph at its pen, by what each glyph is made from
+abbrev pub glyph_edges : (ℕ → Fitter) → ℕ × ℕ → Result (List Edge) Fault
+glyph_edges maker g = fitted_outline (maker g.0) g.0 >>= λ o. Ok (edges_at g.1 o)
 
 -- where the picture of a line stands
 abbrev pub frame_of : Placement → ℕ → Frame
@@ -43,19 +47,32 @@ frame_of line margin = record { width = line.width; height = line.height; margin
 abbrev pub picture : Frame → List (List Edge) → List ℕ
 picture f glyphs = p4 f.width f.height (is_black_pixel f glyphs)
 
+-- the edges of the glyphs of a line that is laid out, made one after the other
+abbrev pub edges_in : Fitter → Placement → Result (List (List Edge)) Fault
+edges_in s line = each (glyph_edges (line_fitter s (map (λ g. g.0) line.glyphs))) line.glyphs
+
+-- that these cross the rows of its picture not too often for the job
+abbrev pub crossings_tested : Job → Placement → List (List Edge) → Result (Unit {0}) JobFault
+crossings_tested a line glyphs = work_tested a.fit crossing_limit (crossings_in (frame_of line a.margin) glyphs)
+
+-- the edges that are drawn for a job, or its first refusal
+abbrev pub line_edges : Fitter → Job → Placement → Result (List (List Edge)) Refused
+line_edges s a line =
+    as_font (edges_in s line) >>= λ glyphs. as_job (crossings_tested a line glyphs) >>= λ u. Ok glyphs
+
 -- the picture of a line that is laid out
-unfoldable pub drawn : Face → Job → Placement → Result (List ℕ) Fault
-drawn face a line = do
-  s ← setting_in face a
-  glyphs ← each (glyph_edges s) line.glyphs
-  Ok (picture (frame_of line a.margin) glyphs)
+unfoldable pub drawn : Face → Job → Placement → Result (List ℕ) Refused
+drawn face a line =
+    as_font (setting_in face a) >>= λ s.
+    line_edges s a line >>= λ glyphs.
+    Ok (picture (frame_of line a.margin) glyphs)
 
 -- the picture of a text by a font, or the first refusal
 unfoldable pub pictured : Job → List ℕ → Result (List ℕ) Refused
 pictured a file =
     as_font (face_of file) >>= λ face.
     as_job (placement face.metrics face.cmap a.text a.ppem a.margin) >>= λ line.
-    as_font (drawn face a line)
+    drawn face a line
 
 -- what is to be written for a job and a font file, or why nothing is: the job is tested first, then the file's size
 unfoldable pub run_outcome : Job → List ℕ → Result (List ℕ) Refused

@@ -9,30 +9,34 @@ use Rattle.tt_line.specs.Layout.{Placement, placement}
 use Rattle.tt_render.specs.Job.{Job}
 use Rattle.tt_render.specs.declared.report.Unfitted.{Unfitted}
 use Rattle.tt_render.specs.Tables.{Face, face_of}
-use Rattle.tt_render.specs.Glyphs.{Glyph, distinct, is_among}
+use Rattle.tt_render.specs.Distinct.{distinct, is_among, line_fitter}
+use Rattle.tt_render.specs.Glyphs.{Glyph}
 use Rattle.tt_render.specs.Outcome.{Refused, as_font, as_job}
-use Rattle.tt_render.specs.Picture.{setting_in}
+use Rattle.tt_render.specs.Picture.{setting_in, line_edges}
 
 -- a glyph before those after it, where a fault is why it is not fitted
 abbrev pub listed : ℕ → Option Fault → List Unfitted → List Unfitted
 listed g None others = others
 listed g (Some fault) others = record { glyph = g; fault = fault } ∷ others
 
--- those of some glyphs that are not fitted, in their order
-abbrev pub unfitted_among : Fitter → List ℕ → List Unfitted
-unfitted_among s [] = []
-unfitted_among s (g ∷ gs) = listed g (unfitted_fault s g) (unfitted_among s gs)
+-- those of some glyphs that are not fitted, in their order, by what each is made from
+abbrev pub unfitted_among : (ℕ → Fitter) → List ℕ → List Unfitted
+unfitted_among maker [] = []
+unfitted_among maker (g ∷ gs) = listed g (unfitted_fault (maker g) g) (unfitted_among maker gs)
 
--- those of a line, each once, in order of first appearance
-unfoldable pub line_report : Face → Job → Placement → Result (List Unfitted) Fault
-line_report face a line = setting_in face a >>= λ s. Ok (unfitted_among s (distinct (map (λ g. g.0) line.glyphs)))
+-- those of a line that is drawn, each once, in order of first appearance
+unfoldable pub line_report : Face → Job → Placement → Result (List Unfitted) Refused
+line_report face a line =
+    as_font (setting_in face a) >>= λ s.
+    line_edges s a line >>= λ glyphs.
+    Ok (unfitted_among (line_fitter s (map (λ g. g.0) line.glyphs)) (distinct (map (λ g. g.0) line.glyphs)))
 
 -- those of a text by a font, or the first refusal
 unfoldable pub report_of : Job → List ℕ → Result (List Unfitted) Refused
 report_of a file =
     as_font (face_of file) >>= λ face.
     as_job (placement face.metrics face.cmap a.text a.ppem a.margin) >>= λ line.
-    as_font (line_report face a line)
+    line_report face a line
 
 -- the same of glyphs that are kept
 abbrev pub unfitted_standing : List Glyph → List Unfitted

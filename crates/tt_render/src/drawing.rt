@@ -1,12 +1,13 @@
 //! The picture of a line.
 
 ghost use Rattle.std.specs.Prelude.{◌≡◌, ◌<◌, ◌≤◌, ◌^◌, length, map, unsigned_abs, All, Ok, IfOk, IsOkAnd};
+ghost use Rattle.tt_core.specs.declared.fault.JobFault.TheVariants.{WorkLarge};
 ghost use Rattle.tt_core.specs.Limits.{font_limit, text_limit, width_limit, height_limit};
 ghost use Rattle.tt_core.specs.Outcomes.{GivesUnless, FontGives, IfTold, font_fault};
 ghost use Rattle.tt_line.specs.Outcome.{placement_of};
 ghost use Rattle.tt_metrics.specs.Metrics.{glyphs_of};
 ghost use Rattle.tt_render.specs.Job.{job_view, IsJob};
-ghost use Rattle.tt_render.specs.Defects.{IsSettingDefect, IsLineDefect, IsRunDefect, IsExtentRefusal, TellsDefects, draw_font_fault, draw_job_fault};
+ghost use Rattle.tt_render.specs.Defects.{IsSettingDefect, IsLineDefect, IsRunDefect, IsFontRefusal, CrossesTooOften, TellsDefects, draw_font_fault, draw_job_fault};
 ghost use Rattle.tt_render.specs.Outcome.{refusal};
 ghost use Rattle.tt_render.specs.Picture.{drawn, pictured, setting_in};
 ghost use Rattle.tt_pbm.specs.P4.{header_bytes, p4_header_of};
@@ -23,6 +24,7 @@ use crate::job::Job;
 use crate::report::{Report, report_on};
 use crate::rows::most_edges;
 use crate::tables::{Face, open_face, open_glyf, open_programs};
+use crate::work::test_crossings;
 use std::alloc::{AllocError, Global};
 use tt_core::FontFault;
 use tt_fit::Fitter;
@@ -57,29 +59,32 @@ fn open_fitter<'a>(alloc: Global, face: &Face<'a>, job: &Job) -> Result<Fitter<'
 }
 
 /// The picture of a line that is laid out. Errors: those of loca and glyf, of the programs, of the glyphs in the order
-/// of the line, Memory.
+/// of the line; WorkLarge; Memory.
 #[tactic(auto, unfolding(crate::specs::Picture::drawn, crate::specs::Report::line_report))]
-fn draw_line(alloc: Global, face: &Face, job: &Job, line: &Line) -> Result<Picture, FontFault>
+fn draw_line(alloc: Global, face: &Face, job: &Job, line: &Line) -> Result<Picture, DrawFault>
     requires asked { IsJob (job_view job.now) }
     requires width { (1 ≤ line.now.width) × (line.now.width ≤ width_limit) }
     requires height { (1 ≤ line.now.height) × (line.now.height ≤ height_limit) }
     requires rise { unsigned_abs line.now.rise < 2 ^ 20 }
     requires known { All (λ g. g.0 < glyphs_of face.now.metrics) line.now.glyphs.items }
     requires count { length line.now.glyphs.items ≤ text_limit }
-    ensures exact { FontGives picture_bytes result (drawn (face_view face.now) (job_view job.now) (placement_of line.now)) }
+    ensures exact { GivesUnless refusal picture_bytes result (drawn (face_view face.now) (job_view job.now) (placement_of line.now)) }
     ensures valid { IfOk result IsReady }
     ensures report { IfOk result (λ p. line_report (face_view face.now) (job_view job.now) (placement_of line.now) ≡ Ok p.report.unfitted.items) }
     ensures once { IfOk result (λ p. ListsOnce p.report.unfitted.items) }
-    ensures defects { TellsDefects font_fault (IsLineDefect (face_view face.now) (job_view job.now) (map (λ g. g.0) line.now.glyphs.items)) result }
+    ensures defects { TellsDefects draw_font_fault (IsLineDefect (face_view face.now) (job_view job.now) (map (λ g. g.0) line.now.glyphs.items)) result }
+    ensures work { IfTold draw_job_fault result (λ j. (j ≡ WorkLarge) × CrossesTooOften (face_view face.now) (job_view job.now) (placement_of line.now)) }
 {
-    let fitter = open_fitter(alloc, face, job)?;
+    let mut fitter = open_fitter(alloc, face, job)?;
     let frame = Frame {
         width: line.width,
         height: line.height,
         margin: job.margin,
         rise: line.rise,
     };
-    let glyphs = line_glyphs(alloc, &fitter, face.metrics.glyphs(), &line.glyphs, frame)?;
+    let count = face.metrics.glyphs();
+    let glyphs = line_glyphs(alloc, &mut fitter, count, &line.glyphs, frame)?;
+    test_crossings(job.fit, &glyphs)?;
     Ok(ready(alloc, frame, glyphs)?)
 }
 
@@ -107,7 +112,7 @@ fn ready(alloc: Global, frame: Frame, glyphs: Vec<Glyph>) -> Result<Picture, All
 
 /// The picture of a job by a font file. Errors, the first of: those of the tables that every text is
 /// looked up in; EmptyPicture, PictureLarge; those of loca and glyf; those of the programs; those of the glyphs in the
-/// order of the text. Memory comes where a growth was refused.
+/// order of the text; WorkLarge. Memory comes where a growth was refused.
 #[tactic(auto, unfolding(crate::specs::Picture::pictured, crate::specs::Report::report_of))]
 pub(crate) fn draw(alloc: Global, file: &[u8], job: &Job) -> Result<Picture, DrawFault>
     requires size { length file.now ≤ font_limit }
@@ -117,7 +122,7 @@ pub(crate) fn draw(alloc: Global, file: &[u8], job: &Job) -> Result<Picture, Dra
     ensures report { IfOk result (λ p. report_of (job_view job.now) file.now ≡ Ok p.report.unfitted.items) }
     ensures once { IfOk result (λ p. ListsOnce p.report.unfitted.items) }
     ensures defects { TellsDefects draw_font_fault (IsRunDefect (job_view job.now) file.now) result }
-    ensures extent { IfTold draw_job_fault result (λ j. IsOkAnd (face_of file.now) (λ face. IsExtentRefusal face (job_view job.now) j)) }
+    ensures job { IfTold draw_job_fault result (λ j. IsOkAnd (face_of file.now) (λ face. IsFontRefusal face (job_view job.now) j)) }
 {
     let face = open_face(file)?;
     let line = lay(

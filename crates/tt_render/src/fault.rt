@@ -86,7 +86,7 @@ impl From<AllocError> for RunFault {
 pub(crate) enum DrawFault {
     /// The font has this defect.
     Font(Fault),
-    /// The picture of the job would have no pixel, or too many.
+    /// The picture of the job would have no pixel, or too many, or its glyphs would be too much work.
     Job(JobFault),
     /// Memory was refused.
     Memory,
@@ -108,6 +108,22 @@ impl From<FontFault> for DrawFault {
             FontFault::Font(fault) => DrawFault::Font(fault),
             FontFault::Memory => DrawFault::Memory,
         }
+    }
+}
+
+impl From<JobFault> for DrawFault {
+    ghost from_gives = { λ j e. e ≡ draw.Job j };
+
+    fn from(fault: JobFault) -> DrawFault {
+        DrawFault::Job(fault)
+    }
+}
+
+impl From<AllocError> for DrawFault {
+    ghost from_gives = { λ _ e. e ≡ draw.Memory };
+
+    fn from(_e: AllocError) -> DrawFault {
+        DrawFault::Memory
     }
 }
 

@@ -1,11 +1,11 @@
 //! A glyph of a line: made once, however often it stands in the line. How it is painted: painting.rt.
 
-ghost use Rattle.std.specs.Prelude.{◌≡◌, ◌<◌, ◌≤◌, ◌++◌, [], ◌∷◌, length, IfOk, IfSome, IfNone, OnOk, Some, None, Err};
+ghost use Rattle.std.specs.Prelude.{◌≡◌, ◌<◌, ◌≤◌, ◌-◌, ◌^◌, min, ◌++◌, [], ◌∷◌, length, IfOk, IfSome, IfNone, OnOk, Some, None, Err};
 ghost use Rattle.tt_core.specs.Outcomes.{IfTold, font_fault};
-ghost use Rattle.tt_fit.specs.Fitting.{fitted_outline};
+ghost use Rattle.tt_fit.specs.Fitting.{fitted_outline, after_glyph};
 ghost use Rattle.tt_fit.specs.Outline.{IsOutline, outline_of};
 ghost use Rattle.tt_scan.specs.Winding.{FrameFits};
-ghost use Rattle.tt_render.specs.Glyphs.{IsDrawn};
+ghost use Rattle.tt_render.specs.Glyphs.{IsDrawn, glyph_crossings};
 ghost use Rattle.tt_render.specs.Picture.{edges_at};
 ghost use Rattle.tt_render.specs.Pixels.{TapeFits};
 
@@ -37,22 +37,23 @@ impl Model for Glyph {
 }
 
 impl Glyph {
-    /// A glyph without a pen. Errors: those of its outline, Memory.
+    /// A glyph without a pen; the fitter is left to the glyphs after. Errors: those of its outline, Memory.
     pub(crate) fn new(
         alloc: Global,
-        fitter: &Fitter,
+        fitter: &mut Fitter,
         number: u16,
         frame: Frame,
     ) -> Result<Glyph, FontFault>
-        requires known { number < fitter.now.tables.glyphs }
+        requires known { number < fitter.old.tables.glyphs }
         requires frame { FrameFits frame }
         ensures number { IfOk result (λ g. g.number ≡ number) }
         ensures pens { IfOk result (λ g. g.pens ≡ []) }
-        ensures valid { IfOk result (IsDrawn fitter.now frame) }
-        ensures fault { IfTold font_fault result (λ f. fitted_outline fitter.now number ≡ Err f) }
+        ensures valid { IfOk result (IsDrawn fitter.old frame) }
+        ensures after { OnOk result (fitter.new ≡ after_glyph fitter.old number) }
+        ensures fault { IfTold font_fault result (λ f. fitted_outline fitter.old number ≡ Err f) }
     {
         // The outline is given up once the tape stands.
-        let outline = fitter.fitted(number)?;
+        let outline = fitter.fit(number)?;
         Ok(Glyph {
             number,
             tape: tape_of(alloc, &outline, frame)?,
@@ -80,6 +81,15 @@ impl Glyph {
         ensures { OnOk result (self.new ≡ record self.old { pens = self.old.pens ++ pen ∷ [] }) }
     {
         Ok(self.pens.push(pen)?)
+    }
+
+    /// How often it crosses the rows of the picture, at its pens; the greatest number stands for more.
+    pub(crate) fn crossings(&self) -> u64
+        requires few { length self.now.tape.edges ≤ 2 ^ 17 }
+        ensures { result ≡ min (glyph_crossings self.now) (2 ^ 64 - 1) }
+    {
+        let one_pen = self.tape.crossings();
+        one_pen.saturating_mul(self.pens.len() as u64)
     }
 
     /// How many edges it has.

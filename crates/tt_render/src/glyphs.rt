@@ -1,13 +1,13 @@
 //! The distinct glyphs of a line.
 
-ghost use Rattle.std.specs.Prelude.{◌≡◌, ◌≢◌, ℕ, ◌+◌, ◌-◌, ◌^◌, ◌<◌, ◌≤◌, ◌++◌, [], ◌∷◌, length, map, set, get_or, slice_index, replicate, All, IfOk, IfSome, IfNone, IsOkAnd, OnOk, Err};
+ghost use Rattle.std.specs.Prelude.{◌≡◌, ◌≢◌, false, ℕ, ◌+◌, ◌-◌, ◌^◌, ◌<◌, ◌≤◌, ◌++◌, [], ◌∷◌, length, map, set, get_or, slice_index, replicate, All, IfOk, IfSome, IfNone, IsOkAnd, OnOk, Err};
 ghost use Rattle.tt_core.specs.Limits.{text_limit};
 ghost use Rattle.tt_core.specs.Outcomes.{IfTold, each, font_fault};
-ghost use Rattle.tt_fit.specs.Fitting.{fitted_outline};
+ghost use Rattle.tt_fit.specs.Fitting.{Fitter, fitted_outline};
 ghost use Rattle.tt_scan.specs.Winding.{FrameFits};
 ghost use Rattle.tt_scan.specs.Winding.{is_black, column_x, row_y};
-ghost use Rattle.tt_render.specs.Glyphs.{IsDrawn, AreKept, Adds, Blacken, ArePlaces, numbers_of, stamps_in};
-ghost use Rattle.tt_render.specs.Glyphs.{with_glyph, distinct};
+ghost use Rattle.tt_render.specs.Distinct.{IsNext, distinct, fitter_past, is_among, line_fitter, with_glyph};
+ghost use Rattle.tt_render.specs.Glyphs.{AreDrawn, AreKept, Adds, ArePlaces, Stand, crossings_standing, numbers_of, stamps_in};
 ghost use Rattle.tt_render.specs.Picture.{glyph_edges};
 ghost use Rattle.tt_render.specs.Pixels.{is_black_by};
 
@@ -67,24 +67,29 @@ impl Glyphs {
         Ok(())
     }
 
-    /// Where a glyph is kept; where it is not, it is made, without a pen. Errors: those of its outline, Memory.
+    /// Where a glyph is kept; where it is not, it is made, without a pen, from what those before it left. Errors: those
+    /// of its outline, Memory.
     fn keep(
         &mut self,
         alloc: Global,
-        fitter: &Fitter,
+        fitter: &mut Fitter,
         number: u16,
         frame: Frame,
     ) -> Result<usize, FontFault>
-        requires known { number < fitter.now.tables.glyphs }
+        requires known { number < fitter.old.tables.glyphs }
         requires frame { FrameFits frame }
         requires few { length self.old.kept.items < text_limit }
-        requires valid { AreKept fitter.now frame self.old.places.items self.old.kept.items }
+        requires valid { AreKept fitter.old.tables.glyphs self.old.places.items self.old.kept.items }
         ensures found { IfOk result (λ i. (i < length self.new.kept.items) × (slice_index (numbers_of self.new.kept.items) i ≡ number)) }
-        ensures valid { OnOk result (AreKept fitter.now frame self.new.places.items self.new.kept.items) }
+        ensures valid { OnOk result (AreKept fitter.old.tables.glyphs self.new.places.items self.new.kept.items) }
+        ensures drawn { OnOk result ((maker : ℕ → Fitter) → IsNext maker fitter.old (numbers_of self.old.kept.items) number → AreDrawn maker frame self.old.kept.items → AreDrawn maker frame self.new.kept.items) }
+        ensures after { OnOk result (fitter.new ≡ fitter_past fitter.old (numbers_of self.old.kept.items) number) }
+        ensures tables { OnOk result (fitter.new.tables ≡ fitter.old.tables) }
         ensures few { OnOk result (length self.new.kept.items ≤ length self.old.kept.items + 1) }
         ensures numbers { OnOk result (numbers_of self.new.kept.items ≡ with_glyph (numbers_of self.old.kept.items) number) }
         ensures black { OnOk result ((c r : ℕ) → is_black_by frame (stamps_in self.new.kept.items) c r ≡ is_black_by frame (stamps_in self.old.kept.items) c r) }
-        ensures fault { IfTold font_fault result (λ f. fitted_outline fitter.now number ≡ Err f) }
+        ensures crossings { OnOk result (crossings_standing self.new.kept.items ≡ crossings_standing self.old.kept.items) }
+        ensures fault { IfTold font_fault result (λ f. (is_among number (numbers_of self.old.kept.items) ≡ false) × (fitted_outline fitter.old number ≡ Err f)) }
     {
         if let Some(i) = self.find(number) {
             return Ok(i);
@@ -97,19 +102,22 @@ impl Glyphs {
     fn place(
         &mut self,
         alloc: Global,
-        fitter: &Fitter,
+        fitter: &mut Fitter,
         placed: (u16, u32),
         frame: Frame,
     ) -> Result<(), FontFault>
-        requires known { placed.0 < fitter.now.tables.glyphs }
+        requires known { placed.0 < fitter.old.tables.glyphs }
         requires frame { FrameFits frame }
         requires few { length self.old.kept.items < text_limit }
-        requires valid { AreKept fitter.now frame self.old.places.items self.old.kept.items }
-        ensures valid { OnOk result (AreKept fitter.now frame self.new.places.items self.new.kept.items) }
+        requires valid { AreKept fitter.old.tables.glyphs self.old.places.items self.old.kept.items }
+        ensures valid { OnOk result (AreKept fitter.old.tables.glyphs self.new.places.items self.new.kept.items) }
+        ensures drawn { OnOk result ((maker : ℕ → Fitter) → IsNext maker fitter.old (numbers_of self.old.kept.items) placed.0 → AreDrawn maker frame self.old.kept.items → AreDrawn maker frame self.new.kept.items) }
+        ensures after { OnOk result (fitter.new ≡ fitter_past fitter.old (numbers_of self.old.kept.items) placed.0) }
+        ensures tables { OnOk result (fitter.new.tables ≡ fitter.old.tables) }
         ensures few { OnOk result (length self.new.kept.items ≤ length self.old.kept.items + 1) }
         ensures numbers { OnOk result (numbers_of self.new.kept.items ≡ with_glyph (numbers_of self.old.kept.items) placed.0) }
-        ensures black { OnOk result (IsOkAnd (glyph_edges fitter.now placed) (Adds frame self.old.kept.items self.new.kept.items)) }
-        ensures fault { IfTold font_fault result (λ f. glyph_edges fitter.now placed ≡ Err f) }
+        ensures adds { OnOk result ((maker : ℕ → Fitter) → IsNext maker fitter.old (numbers_of self.old.kept.items) placed.0 → AreDrawn maker frame self.old.kept.items → IsOkAnd (glyph_edges maker placed) (Adds frame self.old.kept.items self.new.kept.items)) }
+        ensures fault { IfTold font_fault result (λ f. (is_among placed.0 (numbers_of self.old.kept.items) ≡ false) × (fitted_outline fitter.old placed.0 ≡ Err f)) }
     {
         let (number, pen) = placed;
         let at = self.keep(alloc, fitter, number, frame)?;
@@ -122,19 +130,19 @@ impl Glyphs {
 /// Memory.
 pub(crate) fn line_glyphs(
     alloc: Global,
-    fitter: &Fitter,
+    fitter: &mut Fitter,
     glyphs: u16,
     line: &[(u16, u32)],
     frame: Frame,
 ) -> Result<Vec<Glyph>, FontFault>
-    requires glyphs { glyphs ≡ fitter.now.tables.glyphs }
+    requires glyphs { glyphs ≡ fitter.old.tables.glyphs }
     requires known { All (λ g. g.0 < glyphs) line.now }
     requires count { length line.now ≤ text_limit }
     requires frame { FrameFits frame }
-    ensures valid { IfOk result (λ v. All (IsDrawn fitter.now frame) v.items) }
+    ensures valid { IfOk result (λ v. AreDrawn (line_fitter fitter.old (map (λ g. g.0) line.now)) frame v.items) }
     ensures numbers { IfOk result (λ v. numbers_of v.items ≡ distinct (map (λ g. g.0) line.now)) }
-    ensures black { IfOk result (λ v. IsOkAnd (each (glyph_edges fitter.now) line.now) (Blacken frame v.items)) }
-    ensures fault { IfTold font_fault result (λ f. each (glyph_edges fitter.now) line.now ≡ Err f) }
+    ensures stand { IfOk result (λ v. IsOkAnd (each (glyph_edges (line_fitter fitter.old (map (λ g. g.0) line.now))) line.now) (Stand frame v.items)) }
+    ensures fault { IfTold font_fault result (λ f. each (glyph_edges (line_fitter fitter.old (map (λ g. g.0) line.now))) line.now ≡ Err f) }
 {
     let mut kept = Glyphs::new(alloc, glyphs)?;
     for placed in line {

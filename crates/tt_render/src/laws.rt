@@ -21,4 +21,5 @@ pub fn others_list_nothing()
     ensures { OthersListNothing }
 {
     tt_fit::laws::glyphs_fall_back();
+    tt_fit::laws::work_unfits();
 }

@@ -15,6 +15,7 @@ mod report;
 mod rows;
 mod running;
 mod tables;
+mod work;
 mod writing;
 
 pub use fault::RunFault;

@@ -24,7 +24,8 @@ use tt_core::{Sink, Source};
 ///
 /// Errors, the first of: Job (SizeRange, MarginRange, TextLong), before the font is read; Read, FontLarge;
 /// Font and Job (EmptyPicture, PictureLarge), in the order in which the bytes are read, the picture's size
-/// being known once cmap is; Write. Memory comes where a growth was refused.
+/// being known once cmap is; Job (WorkLarge), with `Fit::Best` alone, where the glyphs cross the rows of the picture too
+/// often; Write. Memory comes where a growth was refused.
 pub fn run<R: Source, W: Sink>(
     alloc: Global,
     font: &mut R,

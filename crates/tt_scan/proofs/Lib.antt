@@ -11,6 +11,7 @@ pub mod Sides
 pub mod Stamped
 pub mod Standing
 pub mod Stretches
+pub mod Totals
 pub mod Unmet
 pub mod Visits
 pub mod Words

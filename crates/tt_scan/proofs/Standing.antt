@@ -37,7 +37,7 @@ one_longer : (es : List Edge) (e : Edge) → length (es ++ e ∷ []) ≡ length 
 one_longer [] e = refl
 one_longer (d ∷ es) e = let rest = one_longer es e in omega arith
 
-same_sums : (g h : Entry → ℕ) (ms : List Entry) → All (λ m. g m ≡ h m) ms → sum_by g ms ≡ sum_by h ms
+pub same_sums : (g h : Entry → ℕ) (ms : List Entry) → All (λ m. g m ≡ h m) ms → sum_by g ms ≡ sum_by h ms
 same_sums g h [] same = refl
 same_sums g h (m ∷ ms) same =
     let rest = same_sums g h ms (λ k d below. same (suc k) d (omega arith)) in

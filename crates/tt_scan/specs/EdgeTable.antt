@@ -1,6 +1,6 @@
 -- No part of the standard: the edge table of a scan converter. Its entries are the edges that meet some row of the frame,
 -- and of these the active ones meet the row asked last.
-use Rattle.std.specs.Prelude.{◌≡◌, ℕ, ◌<◌, ◌≤◌, Bool, false, ℤ, pos, ◌<ℤ◌, ◌≤ℤ◌, List, map, length, get_or, sum_by, All}
+use Rattle.std.specs.Prelude.{◌≡◌, ℕ, ◌<◌, ◌≤◌, Bool, false, ℤ, pos, ◌<ℤ◌, ◌≤ℤ◌, ◌-ℤ◌, unsigned_abs, List, map, length, get_or, sum_by, All}
 use Rattle.tt_scan.specs.declared.edge.Edge.{Edge}
 use Rattle.tt_scan.specs.declared.edge.Frame.{Frame}
 use Rattle.tt_scan.specs.declared.edge_table.Entry.{Entry}
@@ -15,6 +15,10 @@ pub record EdgeTable : Type 0 where
 -- the edge of an entry meets a row
 abbrev pub meets_row : ℤ → Entry → Bool
 meets_row r m = has_row (m.first, m.past) r
+
+-- how many rows an entry has
+abbrev pub rows_in : Entry → ℕ
+rows_in m = unsigned_abs (m.past -ℤ m.first)
 
 -- the edge of an entry, of those of a tape
 abbrev pub edge_of : List Edge → Entry → Edge

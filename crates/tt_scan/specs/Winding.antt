@@ -2,7 +2,7 @@
 -- Letterform Designs": a point is inside where its winding number is not 0. All numbers here are in 1/8192 pixel, but for
 -- the numbers of columns and rows.
 use Rattle.std.specs.Prelude.{◌≡◌, ℕ, ◌+◌, ◌^◌, ◌<◌, ◌≤◌, Bool, true, false, ◌&&◌, ◌||◌, not, if◌then◌else◌, ℤ, pos, negsuc, ◌+ℤ◌, ◌-ℤ◌, ◌*ℤ◌, int_lt, int_le, unsigned_abs, List, [], ◌∷◌, map, refl}
-use Rattle.std.specs.List.{Any}
+use Rattle.std.specs.List.{Any, sum_by, range_with_len}
 use Rattle.tt_core.specs.Limits.{width_limit, height_limit, margin_limit}
 use Rattle.tt_scan.specs.declared.edge.Edge.{Edge}
 use Rattle.tt_scan.specs.declared.edge.Frame.{Frame}
@@ -79,6 +79,10 @@ abbrev pub rows_met : List Edge → ℤ → ℕ
 rows_met [] y = 0
 rows_met (e ∷ es) y = (if is_between e.ay e.by y then 1 else 0) + rows_met es y
 
+-- the crossings that all rows of a picture ask for: in each row every edge that meets it
+abbrev pub crossings_of : Frame → List Edge → ℕ
+crossings_of f es = sum_by (λ row. rows_met es (row_y f (pos row))) (range_with_len 0 f.height)
+
 -- an edge, and edges, moved to the right
 abbrev pub moved_edge : ℤ → Edge → Edge
 moved_edge d e = record { ax = e.ax +ℤ d; ay = e.ay; bx = e.bx +ℤ d; by = e.by }
@@ -125,6 +129,20 @@ its_middle_meets_two = refl
 above_it_meets_none : rows_met square (pos 4) ≡ 0
 unfolding square edge
 above_it_meets_none = refl
+
+-- a picture of three rows, whose centre lines stand at 12288, 4096 and -4096
+three_rows : Frame
+three_rows = record { width = 2; height = 3; margin = 0; rise = pos 2 }
+
+-- the first two rows meet the upright edge, and none the level one, between them
+between_rows_none_is_asked : crossings_of three_rows (edge (pos 0) (pos 0) (pos 0) (pos 16384) ∷ edge (pos 0) (pos 8192) (pos 9) (pos 8192) ∷ []) ≡ 2
+unfolding three_rows edge
+between_rows_none_is_asked = refl
+
+-- an edge from the last row's centre line to the first's, and a level one along the first's
+ends_meet_their_rows : crossings_of three_rows (edge (pos 0) (negsuc 4095) (pos 0) (pos 12288) ∷ edge (pos 0) (pos 12288) (pos 9) (pos 12288) ∷ []) ≡ 4
+unfolding three_rows edge
+ends_meet_their_rows = refl
 
 -- the square three to the right
 moved_its_left_edge_is_black : is_black (moved_edges (pos 3) square) (pos 4) (pos 2) ≡ true

@@ -1,8 +1,8 @@
 //! The edges of one glyph, in the frame of its picture. They stand in `counted.rt`, so that each crossing is counted.
 
 ghost use Rattle.std.specs.Prelude.{◌≡◌, ℕ, ℤ, false, int_lt, if◌then◌else◌, vec_capacity, ◌+◌, ◌*◌, ◌^◌, ◌<◌, ◌≤◌, ◌<ℤ◌, ◌≤ℤ◌, pos, length, [], ◌∷◌, ◌++◌, get_or, unsigned_abs, OnOk, OnErr};
-ghost use Rattle.tt_core.specs.Limits.{width_limit};
-ghost use Rattle.tt_scan.specs.Winding.{EdgeFits, FrameFits, is_black, column_x, row_y, lies_on_one, winding, rows_met};
+ghost use Rattle.tt_core.specs.Limits.{width_limit, height_limit};
+ghost use Rattle.tt_scan.specs.Winding.{EdgeFits, FrameFits, is_black, column_x, row_y, lies_on_one, winding, rows_met, crossings_of};
 ghost use Rattle.tt_scan.specs.Marks.{covers, turns};
 ghost use Rattle.tt_scan.specs.Crossing.{IsCross, AreRows, AreAllRows, has_row};
 ghost use Rattle.tt_scan.specs.Tape.{edge_at};
@@ -122,6 +122,17 @@ impl Tape {
         ensures { result ≡ self.now.crosses }
     {
         self.edges.crosses()
+    }
+
+    /// How many crossings the rows of the picture ask for, all together: in each row one of every edge that meets it.
+    /// None is made or counted here, so that this can be told before any row is cut.
+    pub fn crossings(&self) -> u64
+        // So that the sum fits.
+        requires few { length self.now.edges ≤ 2 ^ 32 }
+        ensures exact { result ≡ crossings_of self.now.frame self.now.edges }
+        ensures bound { result ≤ height_limit * length self.now.edges }
+    {
+        self.table.rows()
     }
 
     /// The first of the frame's rows whose centre line meets some edge, and one past the last; two equal numbers where

@@ -5,7 +5,7 @@ use Rattle.tt_render.specs.Job.{job_view}
 use Rattle.tt_render.specs.Tables.{face_view}
 use Rattle.tt_render.specs.Picture.{pictured}
 use Rattle.tt_render.specs.Report.{report_of}
-use Rattle.tt_render.proofs.Stopped.{laying_stops, laying_tells, laying_tells_no_defect, drawing_stops, drawing_tells, drawing_refuses_no_job}
+use Rattle.tt_render.proofs.Stopped.{laying_stops, laying_tells, laying_tells_no_defect, drawing_stops, drawing_tells, drawing_refuses}
 use Rattle.tt_render.proofs.Telling.{no_run_defect}
 use Rattle.tt_render.proofs.drawing.draw.Goals as goal
 
@@ -43,8 +43,8 @@ returns-in_err-line-clause-defects c =
     let p = err_from_is_err_and c.from_residual-in_err-line.result c.from_residual-in_err-line.ensures.1 in
     rw (p.1, p.2) (laying_tells_no_defect _ c.in_err-line.field-0.0)
 
-pub returns-in_err-line-clause-extent : goal.returns-in_err-line-clause-extent
-returns-in_err-line-clause-extent c =
+pub returns-in_err-line-clause-job : goal.returns-in_err-line-clause-job
+returns-in_err-line-clause-job c =
     let p = err_from_is_err_and c.from_residual-in_err-line.result c.from_residual-in_err-line.ensures.1 in
     rw (p.1, p.2) (laying_tells (job_view c.args.job.now) c.args.file.now (face_view c.in_ok-face.face)
     c.in_err-line.field-0.0 c.in_ok-face.ensures.exact c.in_err-line.ensures.fault)
@@ -63,7 +63,9 @@ returns-in_err-draw_line-clause-defects c =
     (map (λ g. g.0) c.in_ok-line.line.glyphs.items) c.in_err-draw_line.field-0.0 c.in_ok-face.ensures.exact
     c.in_ok-line.ensures.glyphs c.in_err-draw_line.ensures.defects)
 
-pub returns-in_err-draw_line-clause-extent : goal.returns-in_err-draw_line-clause-extent
-returns-in_err-draw_line-clause-extent c =
+pub returns-in_err-draw_line-clause-job : goal.returns-in_err-draw_line-clause-job
+returns-in_err-draw_line-clause-job c =
     let p = err_from_is_err_and c.from_residual-in_err-draw_line.result c.from_residual-in_err-draw_line.ensures.1 in
-    rw (p.1, p.2) (drawing_refuses_no_job _ c.in_err-draw_line.field-0.0)
+    rw (p.1, p.2) (drawing_refuses (job_view c.args.job.now) c.args.file.now (face_view c.in_ok-face.face)
+    (placement_of c.in_ok-line.line) c.in_err-draw_line.field-0.0 c.in_ok-face.ensures.exact c.in_ok-line.ensures.exact
+    c.in_err-draw_line.ensures.work)

@@ -1,5 +1,11 @@
-use Rattle.tt_render.proofs.Listing.{others_list_nothing}
+use Rattle.tt_render.proofs.Listing.{FitLaws, others_list_nothing}
 use Rattle.tt_render.proofs.laws.others_list_nothing.Goals as goal
 
 pub returns : goal.returns
-returns c = others_list_nothing c.glyphs_fall_back.ensures.never
+returns c =
+    let laws : FitLaws = record {
+      never = c.glyphs_fall_back.ensures.never;
+      others = c.work_unfits.ensures.others;
+      stays = c.work_unfits.ensures.stays;
+    } in
+    others_list_nothing laws

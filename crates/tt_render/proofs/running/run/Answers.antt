@@ -63,7 +63,7 @@ returns-in_err-picture-clause-outcome g c =
     let file = c.in_ok-file in
     let p = err_from_is_err_and c.from_residual-in_err-picture.result c.from_residual-in_err-picture.ensures.1 in
     let fails = rw c.deref.ensures.value at c.in_err-picture.ensures.exact in
-    let extent = rw c.deref.ensures.value at c.in_err-picture.ensures.extent in
+    let extent = rw c.deref.ensures.value at c.in_err-picture.ensures.job in
     let read : IsRead (left c.args.font.now) (left c.read_font.new.font) file.file.items
     (g.R.Source.has_failed c.read_font.new.font) (g.W.Sink.has_failed c.args.out.now) =
     record { taken = file.ensures.0; end = file.ensures.1; small = file.ensures.2; reader_serves = file.ensures.3; writer_serves = c.requires.out } in
@@ -87,7 +87,7 @@ returns-in_err-picture-clause-job g c =
     let left = g.R.Source.left in
     let file = c.in_ok-file in
     let p = err_from_is_err_and c.from_residual-in_err-picture.result c.from_residual-in_err-picture.ensures.1 in
-    let extent = rw c.deref.ensures.value at c.in_err-picture.ensures.extent in
+    let extent = rw c.deref.ensures.value at c.in_err-picture.ensures.job in
     rw (p.1, p.2) (drawing_job (job_view c.args.job.now) c.in_err-picture.field-0.0 (left c.args.font.now)
     (left c.read_font.new.font) file.file.items file.ensures.0 file.ensures.1 extent)
 

@@ -1,14 +1,19 @@
-use Rattle.std.proofs.Common.{◌≤◌, ◌-◌}
+use Rattle.std.proofs.Common.{◌≡◌, ◌≤◌, ◌-◌}
 use Rattle.tt_core.specs.Limits.{step_limit}
 use Rattle.tt_exec.specs.Runs.{Leads}
 use Rattle.tt_exec.specs.States.{state_of}
+use Rattle.tt_exec.specs.Work.{work_within}
+use Rattle.tt_exec.specs.Worked.{Paid}
 use Rattle.tt_exec.proofs.machine_state.MachineState.go.Given as goal
 
--- the steps that were made lead here
+-- the steps that were made lead here, and were paid for
 abbrev pub invariant-steps : goal.invariant-steps
 invariant-steps l = record {
   few : l.n ≤ step_limit;
   leads : Leads l.n (state_of l.fn.self) (state_of l.self);
+  worked : work_within step_limit (state_of l.fn.self) l.fn.work.left
+      ≡ work_within (step_limit - l.n) (state_of l.self) l.work.left;
+  paid : Paid l.n l.fn.work.left l.work.left;
 }
 
 abbrev pub decreases-steps : goal.decreases-steps

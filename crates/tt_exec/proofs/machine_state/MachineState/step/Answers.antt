@@ -9,7 +9,7 @@ returns-in-Ok c =
     let within : nat_le (length frame.code.bytes.now) frame.place ≡ false =
     grind (arith, nat_tests, c.if-at-bytes.false) in
     let more : takes_data c.in-Ok.i.op ≡ true = rw c.in-Ok.ensures.opcode c.in_default.ensures.none in
-    rw (within, c.in-Ok.ensures.exact, more) c.push.ensures
+    rw (within, c.in-Ok.ensures.exact, more) c.push.ensures.exact
 
 pub returns-in-Some : goal.returns-in-Some
 returns-in-Some c =

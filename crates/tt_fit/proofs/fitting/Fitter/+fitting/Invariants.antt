@@ -1,7 +1,8 @@
 use Rattle.std.proofs.Common.{◌≡◌, ◌+◌, ◌*◌, drop}
-use Rattle.tt_fit.specs.Fitting.{with_hinting, joined, added}
+use Rattle.tt_fit.specs.Fitting.{with_hinting, joined, added, added_work}
 use Rattle.tt_fit.specs.Outline.{outline_of, IsOutline}
 use Rattle.tt_fit.specs.Views.{hinting_view}
+use Rattle.tt_fit.specs.Work.{joined_work}
 use Rattle.tt_fit.proofs.fitting.Fitter.+fitting.Given as goal
 
 abbrev pub decreases-added : goal.decreases-added
@@ -18,5 +19,11 @@ invariant-joined-loop-part l = record {
   so_far : joined (added (with_hinting l.self (hinting_view l.hinting)) l.levels) (drop l.part-index l.records)
       (outline_of l.so_far) ≡ joined (added (with_hinting l.self (hinting_view l.hinting)) l.levels) l.records
       (outline_of l.fn.start);
+  work : joined_work (added (with_hinting l.self (hinting_view l.hinting)) l.levels)
+      (added_work (with_hinting l.self (hinting_view l.hinting)) l.levels) (drop l.part-index l.records)
+      (outline_of l.so_far) l.work.left
+      ≡ joined_work (added (with_hinting l.self (hinting_view l.hinting)) l.levels)
+      (added_work (with_hinting l.self (hinting_view l.hinting)) l.levels) l.records (outline_of l.fn.start)
+      l.fn.work.left;
   valid : IsOutline (outline_of l.so_far);
 }

@@ -1,14 +1,9 @@
-use Rattle.std.proofs.Common.{◌≡◌, arith}
-use Rattle.std.proofs.lemmas.Result.{err_from_is_err_and}
+use Rattle.tt_fit.specs.Fitting.{with_hinting}
+use Rattle.tt_fit.specs.Views.{hinting_view}
+use Rattle.tt_fit.proofs.Unbounded.{of-outline, never-spent}
 use Rattle.tt_fit.proofs.fitting.Fitter.made.Goals as goal
 
-pub returns-in_err-outline-clause-exact : goal.returns-in_err-outline-clause-exact
-returns-in_err-outline-clause-exact c =
-    let same : c.args.self.now.levels ≡ c.self.inside.levels = grind (arith, c.self.view_is) in
-    let fails = rw (← same) at c.in_err-outline.ensures.exact in
-    let e = err_from_is_err_and c.from_residual.result c.from_residual.ensures.1 in rw (e.1, e.2) fails
-
-pub returns-clause-exact : goal.returns-clause-exact
-returns-clause-exact c =
-    let same : c.args.self.now.levels ≡ c.self.inside.levels = grind (arith, c.self.view_is) in
-    rw (← same) at c.in_ok-outline.ensures.exact
+pub unbounded-requires : goal.unbounded-requires
+unbounded-requires c =
+    let s = with_hinting c.args.self.now (hinting_view c.args.hinting.now) in
+    never-spent c.in-Err.refusal _ _ (of-outline s c.args.self.now.levels c.args.g) c.in-Err.ensures.work

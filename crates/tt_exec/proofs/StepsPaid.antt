@@ -1,0 +1,190 @@
+-- Steps that were paid for, and how a run stops after them.
+use Rattle.std.proofs.Common.{◌≡◌, ◌≢◌, ℕ, zero, suc, ◌+◌, ◌-◌, ◌<◌, ◌≤◌, false, true, inl, Bool, if◌then◌else◌, ◌==◌, Option, Some, None, IfSome, Result, Ok, Err, ◌∙◌, refl, arith, sym}
+use Rattle.std.proofs.lemmas.Bool.Decides.{nat_tests}
+use Rattle.tt_core.specs.Faults.{Fault}
+use Rattle.tt_core.specs.Limits.{step_limit}
+use Rattle.tt_core.specs.Outcomes.{font_fault}
+use Rattle.tt_core.specs.declared.font_fault.FontFault.{FontFault}
+use Rattle.tt_core.specs.declared.font_fault.FontFault.TheVariants as font
+use Rattle.tt_exec.specs.declared.outcome.Outcome.{Outcome}
+use Rattle.tt_exec.specs.declared.outcome.Outcome.TheVariants as outcome
+use Rattle.tt_exec.specs.declared.work.Stop.{Stop}
+use Rattle.tt_exec.specs.declared.work.WorkFault.{WorkFault}
+use Rattle.tt_exec.specs.declared.work.Stop.TheVariants as stop
+use Rattle.tt_exec.specs.MachineState.{MachineState, Machine}
+use Rattle.tt_exec.specs.Machines.{exec_fault}
+use Rattle.tt_exec.specs.Outcome.{ComesTo, halted}
+use Rattle.tt_exec.specs.Runs.{Leads, Halts, run_outcome}
+use Rattle.tt_exec.specs.Step.{step, is_ended}
+use Rattle.tt_exec.specs.Work.{Worked, enough, spent, charged, step_cost, copied, over_at, work_within, run_work}
+use Rattle.tt_exec.specs.Worked.{Paid, work_ahead, StopWorkIs, OutcomeWithin, own_fault, work_fault}
+use Rattle.tt_exec.proofs.Computed.{fault_told}
+use Rattle.tt_exec.proofs.WorkPaid.{StepPays, at_end, none_left, step_made, step_refused, step_spent, run_begun, charged_enough}
+
+-- nothing was paid yet
+pub paid_none : (left : Option ℕ) → Paid 0 left left
+paid_none None = refl
+paid_none (Some left) = (left, refl, omega arith)
+
+step_counts : (m : MachineState) → 1 ≤ step_cost m
+step_counts m = omega arith
+
+paid_one : (cost n : ℕ) (told : Fault) (old mid new : Option ℕ) → 1 ≤ cost → Paid n old mid
+    → charged told cost mid ≡ enough new → Paid (n + 1) old new
+paid_one cost n told None mid new some none pays = let to = rw none at pays in cc
+paid_one cost n told (Some left) mid new some (rest, is, few) pays =
+    let (k, same, sum) = charged_enough told cost rest new (rw is at pays) in
+    (k, same, omega arith)
+
+pub paid_more : (n : ℕ) (m : MachineState) (old mid new : Option ℕ) → Paid n old mid → StepPays m mid (enough new)
+    → Paid (n + 1) old new
+paid_more n m old mid new paid pays = paid_one (step_cost m) n (over_at m) old mid new (step_counts m) paid pays
+
+pub paid_copies : (told : Fault) (cost n : ℕ) (old mid new : Option ℕ) → charged told cost old ≡ enough mid
+    → Paid n mid new → Paid n old new
+paid_copies told cost n None mid new pays paid = let none : mid ≡ None = cc in rw none at paid
+paid_copies told cost n (Some left) mid new pays paid =
+    let (k, same, sum) = charged_enough told cost left mid pays in
+    let (rest, is, few) = rw same at paid in
+    (rest, is, omega arith)
+
+-- after steps that were paid for, the work of the run is that of the rest
+abbrev pub Comes : MachineState → Option ℕ → ℕ → MachineState → Option ℕ → Type 0
+Comes s first n m left = work_within step_limit s first ≡ work_within (step_limit - n) m left
+
+same_number : (a b : ℕ) (m : MachineState) (left : Option ℕ) → a ≡ b → work_within a m left ≡ work_within b m left
+same_number a b m left same = rw same refl
+
+one_is_left : (s m : MachineState) (first left : Option ℕ) (n : ℕ) → n < step_limit → Comes s first n m left
+    → work_within step_limit s first ≡ work_within (suc (step_limit - suc n)) m left
+one_is_left s m first left n few comes =
+    comes ∙ same_number (step_limit - n) (suc (step_limit - suc n)) m left (omega arith)
+
+pub comes_on : (s m t : MachineState) (first left rest : Option ℕ) (n : ℕ) → n < step_limit → is_ended m ≡ false
+    → Comes s first n m left → StepPays m left (enough rest) → step m ≡ Ok t → Comes s first (n + 1) t rest
+comes_on s m t first left rest n few open_at comes pays made =
+    one_is_left s m first left n few comes
+    ∙ step_made (step_limit - suc n) m t left rest open_at pays made
+    ∙ same_number (step_limit - suc n) (step_limit - (n + 1)) t rest (omega arith)
+
+pub comes_to_end : (s m : MachineState) (first left : Option ℕ) (n : ℕ) → is_ended m ≡ true → Comes s first n m left
+    → work_within step_limit s first ≡ enough left
+comes_to_end s m first left n ended comes = comes ∙ at_end (step_limit - n) m left ended
+
+pub comes_to_limit : (s m : MachineState) (first left : Option ℕ) (n : ℕ) → n ≡ step_limit → Comes s first n m left
+    → work_within step_limit s first ≡ enough left
+comes_to_limit s m first left n all comes =
+    comes ∙ same_number (step_limit - n) zero m left (omega arith) ∙ none_left m left
+
+pub comes_to_spent : (s m : MachineState) (first left : Option ℕ) (n : ℕ) (fault : Fault) → n < step_limit
+    → is_ended m ≡ false → Comes s first n m left → StepPays m left (spent fault)
+    → work_within step_limit s first ≡ spent fault
+comes_to_spent s m first left n fault few open_at comes pays =
+    one_is_left s m first left n few comes ∙ step_spent (step_limit - suc n) m fault left open_at pays
+
+comes_to_fault : (s m : MachineState) (first left rest : Option ℕ) (n : ℕ) (fault : Fault) → n < step_limit
+    → is_ended m ≡ false → Comes s first n m left → StepPays m left (enough rest) → step m ≡ Err fault
+    → work_within step_limit s first ≡ enough rest
+comes_to_fault s m first left rest n fault few open_at comes pays refused =
+    one_is_left s m first left n few comes ∙ step_refused (step_limit - suc n) m fault left rest open_at pays refused
+
+pub comes_to_refusal : (o : Outcome) (s m t : MachineState) (at : ℕ) (first left rest : Option ℕ) (n : ℕ)
+    → n < step_limit → is_ended m ≡ false → Comes s first n m left → StepPays m left (enough rest)
+    → ComesTo (step m) at t o → o ≢ outcome.Done → (told : FontFault) → told ≡ halted t.frame at o
+    → StopWorkIs (work_within step_limit s) first (Err (stop.Run told)) rest
+comes_to_refusal outcome.Done s m t at first left rest n few open_at comes pays given not_done told is =
+    absurd (not_done refl)
+comes_to_refusal (outcome.Refused why) s m t at first left rest n few open_at comes pays given not_done told is =
+    rw is (comes_to_fault s m first left rest n _ few open_at comes pays given.1)
+comes_to_refusal (outcome.SkipRefused why) s m t at first left rest n few open_at comes pays given not_done told is =
+    rw is (comes_to_fault s m first left rest n _ few open_at comes pays given)
+comes_to_refusal outcome.NoMemory s m t at first left rest n few open_at comes pays given not_done told is = rw is tt
+
+-- a step that is refused halts the run
+halts_at : (s m : MachineState) (n : ℕ) (fault : Fault) → n < step_limit → is_ended m ≡ false → Leads n s m
+    → step m ≡ Err fault → Halts s fault
+halts_at s m n fault few open_at leads refused = record {
+  n = n;
+  t = m;
+  leads = leads;
+  goes_on = open_at;
+  why = inl (record { few = few; refused = refused });
+}
+
+pub halts_by : (o : Outcome) (s m t : MachineState) (at n : ℕ) → n < step_limit → is_ended m ≡ false → Leads n s m
+    → ComesTo (step m) at t o → o ≢ outcome.Done → (told : FontFault) → told ≡ halted t.frame at o
+    → IfSome (font_fault told) (Halts s)
+halts_by outcome.Done s m t at n few open_at leads given not_done told is = absurd (not_done refl)
+halts_by (outcome.Refused why) s m t at n few open_at leads given not_done told is =
+    rw is (halts_at s m n _ few open_at leads given.1)
+halts_by (outcome.SkipRefused why) s m t at n few open_at leads given not_done told is =
+    rw is (halts_at s m n _ few open_at leads given)
+halts_by outcome.NoMemory s m t at n few open_at leads given not_done told is = rw is tt
+
+-- what is said of the steps' work is said of the run's, when what was copied for it is paid
+pub work_of_rest : (m : MachineState) (left rest : Option ℕ) (r : Result ℕ Stop) (new : Option ℕ)
+    → charged (over_at m) (copied m) left ≡ enough rest → StopWorkIs (work_within step_limit m) rest r new
+    → StopWorkIs (run_work m) left r new
+work_of_rest m left rest (Ok n) new pays is = run_begun m left rest pays ∙ is
+work_of_rest m left rest (Err (stop.Run (font.Font fault))) new pays is = run_begun m left rest pays ∙ is
+work_of_rest m left rest (Err (stop.Run font.Memory)) new pays is = tt
+work_of_rest m left rest (Err (stop.Spent fault)) new pays is = (run_begun m left rest pays ∙ is.0, is.1)
+
+-- what a run within a machine stops with is what a run computes, told from a state that is named otherwise
+pub stop_told : (s m : MachineState) (why : Stop) (r : WorkFault) (new : Machine) → m ≡ s → r ≡ work_fault why
+    → IfSome (own_fault why) (Halts m) → OutcomeWithin (run_outcome s) (Err r) new
+stop_told s m (stop.Run fault) r new same told h = rw told (fault_told s m fault (exec_fault fault) new same refl h)
+stop_told s m (stop.Spent fault) r new same told h = rw told tt
+
+-- what was paid ahead
+
+pub ahead_at_end : (n : ℕ) (m : MachineState) (left rest : Option ℕ) → is_ended m ≡ true
+    → work_ahead n m left ≡ enough rest → rest ≡ left
+ahead_at_end n m left rest ended pays = let same = rw ended at pays in cc
+
+ahead_goes_on : (n : ℕ) (m : MachineState) (left : Option ℕ) → is_ended m ≡ false
+    → work_ahead n m left
+    ≡ (if n == step_limit then enough left else charged (over_at m) (step_cost m) left)
+ahead_goes_on n m left open_at = rw open_at refl
+
+at_limit_by : (b : Bool) (n : ℕ) (left rest : Option ℕ) (other : Worked) → (n == step_limit) ≡ b → n ≡ step_limit
+    → (if b then enough left else other) ≡ enough rest → rest ≡ left
+at_limit_by true n left rest other test all pays = cc
+at_limit_by false n left rest other test all pays = absurd (grind (arith, nat_tests))
+
+pub ahead_at_limit : (n : ℕ) (m : MachineState) (left rest : Option ℕ) → is_ended m ≡ false → n ≡ step_limit
+    → work_ahead n m left ≡ enough rest → rest ≡ left
+ahead_at_limit n m left rest open_at all pays =
+    at_limit_by (n == step_limit) n left rest (charged (over_at m) (step_cost m) left) refl all
+    (sym (ahead_goes_on n m left open_at) ∙ pays)
+
+below_limit_by : (b : Bool) (n : ℕ) (one other : Worked) → (n == step_limit) ≡ b → n < step_limit
+    → (if b then one else other) ≡ other
+below_limit_by true n one other test few = absurd (grind (arith, nat_tests))
+below_limit_by false n one other test few = refl
+
+pub ahead_pays : (n : ℕ) (m : MachineState) (left rest : Option ℕ) → is_ended m ≡ false → n < step_limit
+    → work_ahead n m left ≡ enough rest → StepPays m left (enough rest)
+ahead_pays n m left rest open_at few pays =
+    sym (below_limit_by (n == step_limit) n (enough left) (charged (over_at m) (step_cost m) left) refl few)
+    ∙ sym (ahead_goes_on n m left open_at)
+    ∙ pays
+
+-- a step that is refused for its work is one that was to be made
+pub record Refused (n : ℕ) (m : MachineState) (left : Option ℕ) (fault : Fault) : Type 0 where
+  pub open_at : is_ended m ≡ false
+  pub few : n < step_limit
+  pub pays : StepPays m left (spent fault)
+
+refused_by : (a b : Bool) (n : ℕ) (m : MachineState) (left : Option ℕ) (fault : Fault) → n ≤ step_limit
+    → is_ended m ≡ a → (n == step_limit) ≡ b
+    → (if a then enough left else (if b then enough left else charged (over_at m) (step_cost m) left)) ≡ spent fault
+    → Refused n m left fault
+refused_by true b n m left fault most ended test pays = absurd (cc)
+refused_by false true n m left fault most ended test pays = absurd (cc)
+refused_by false false n m left fault most ended test pays =
+    record { open_at = ended; few = grind (arith, nat_tests); pays = pays }
+
+pub ahead_refused : (n : ℕ) (m : MachineState) (left : Option ℕ) (fault : Fault) → n ≤ step_limit
+    → work_ahead n m left ≡ spent fault → Refused n m left fault
+ahead_refused n m left fault most pays = refused_by (is_ended m) (n == step_limit) n m left fault most refl refl pays

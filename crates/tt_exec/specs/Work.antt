@@ -1,0 +1,105 @@
+-- No part of the standard: how much work a run is, where the work of a job is bounded (profile). A step is one, and the
+-- points or stack entries that its instruction goes over and the bytes that its skip passes are one each; so is, when
+-- a run begins, each control value, storage place, twilight point and definition that was copied for it.
+use Rattle.std.specs.Prelude.{ℕ, zero, suc, ◌+◌, ◌-◌, ◌==◌, ◌||◌, ◌&&◌, min, nat_le, ℤ, pos, unsigned_abs, Bool, if◌then◌else◌, List, [], ◌∷◌, length, slice_index, Option, Some, None, Result, Ok, Err}
+use Rattle.tt_core.specs.Faults.{Fault}
+use Rattle.tt_core.specs.Limits.{step_limit}
+use Rattle.tt_core.specs.declared.fault.Why.TheVariants as why
+use Rattle.tt_code.specs.declared.decoding.Halt.{Halt}
+use Rattle.tt_code.specs.Skips.{if_end, else_end, definition_end}
+use Rattle.tt_exec_stack.specs.Logic.{is_true}
+use Rattle.tt_exec.specs.MachineState.{MachineState, fault_in}
+use Rattle.tt_exec.specs.Step.{step, is_ended}
+
+-- what comes of counting work: what is left of it, None where it is not bounded; or the fault of the instruction for
+-- which it is not enough
+pub data Worked : Type 0 where
+  enough : Option ℕ → Worked
+  spent : Fault → Worked
+
+-- more work, by what is left
+abbrev pub then_work : Worked → (Option ℕ → Worked) → Worked
+then_work (enough left) more = more left
+then_work (spent fault) more = spent fault
+
+-- so much work, or this fault where less is left
+abbrev pub charged : Fault → ℕ → Option ℕ → Worked
+charged fault cost None = enough None
+charged fault cost (Some left) = if nat_le cost left then enough (Some (left - cost)) else spent fault
+
+-- the top of the stack; 0 where there is none
+abbrev pub top_of : List ℤ → ℤ
+top_of [] = pos 0
+top_of (v ∷ s) = v
+
+-- so many of the entries that are on the stack
+abbrev pub of_stack : ℕ → MachineState → ℕ
+of_stack n m = min n (length m.stack)
+
+-- SHP, SHPIX, IP, ALIGNRP and FLIPPT go over as many points as the loop variable says
+abbrev pub is_looped : ℕ → Bool
+is_looped op = op == 0x32 || op == 0x33 || op == 0x38 || op == 0x39 || op == 0x3C || op == 0x80
+
+-- DELTAP and DELTAC go over as many pairs, and MINDEX over as many entries, as the top of the stack says
+abbrev pub is_counted : ℕ → Bool
+is_counted op = op == 0x5D || (nat_le 0x71 op && nat_le op 0x75) || op == 0x26
+
+-- IUP, FLIPRGON and FLIPRGOFF go over points of the glyph
+abbrev pub is_of_glyph : ℕ → Bool
+is_of_glyph op = op == 0x30 || op == 0x31 || op == 0x81 || op == 0x82
+
+-- SHC and SHZ go over points of either zone
+abbrev pub is_of_zone : ℕ → Bool
+is_of_zone op = nat_le 0x34 op && nat_le op 0x37
+
+-- the points or stack entries that an instruction goes over; those of a contour, a zone or a range are counted as all
+-- that there are
+abbrev pub gone_over : ℕ → MachineState → ℕ
+gone_over op m =
+    if is_looped op then of_stack m.graphics.loops m else (
+    if is_counted op then of_stack (unsigned_abs (top_of m.stack)) m else (
+    if is_of_glyph op then length m.zones.glyph else (
+    if is_of_zone op then length m.zones.twilight + length m.zones.glyph else 0)))
+
+-- the bytes after an opcode that a skip from it passes, up to the program's end where it finds none
+abbrev pub passed_by : MachineState → Result ℕ Halt → ℕ
+passed_by m (Ok place) = place - (m.frame.place + 1)
+passed_by m (Err halt) = length m.frame.code.bytes - (m.frame.place + 1)
+
+-- IF of 0, ELSE, FDEF and IDEF skip
+abbrev pub passed : ℕ → MachineState → ℕ
+passed op m =
+    if op == 0x58 then (if is_true (top_of m.stack) then 0 else passed_by m (if_end m.frame.code.bytes m.frame.place))
+    else (if op == 0x1B then passed_by m (else_end m.frame.code.bytes m.frame.place)
+    else (if op == 0x2C || op == 0x89 then passed_by m (definition_end m.frame.code.bytes m.frame.place) else 0))
+
+-- the work of the step at a state's place
+abbrev pub cost_by : ℕ → MachineState → ℕ
+cost_by op m = 1 + (gone_over op m + passed op m)
+
+abbrev pub step_cost : MachineState → ℕ
+step_cost m = cost_by (slice_index m.frame.code.bytes m.frame.place) m
+
+-- what was copied for a run
+abbrev pub copied : MachineState → ℕ
+copied m = length m.cvt + (length m.storage + (length m.zones.twilight + (length m.functions + length m.instructions)))
+
+-- a run that would pass its work halts where it stands
+abbrev pub over_at : MachineState → Fault
+over_at m = fault_in m.frame m.frame.place why.StepLimit
+
+-- the work of what comes after a step; one that is refused is the last
+abbrev pub work_after : (MachineState → Option ℕ → Worked) → Result MachineState Fault → Option ℕ → Worked
+work_after more (Ok t) left = more t left
+work_after more (Err fault) left = enough left
+
+-- the work of a run in which so many steps may be made; a step that is refused is work too
+unfoldable pub work_within : ℕ → MachineState → Option ℕ → Worked
+work_within zero m left = enough left
+work_within (suc n) m left =
+    if is_ended m then enough left
+    else then_work (charged (over_at m) (step_cost m) left) (work_after (work_within n) (step m))
+
+-- the work of a run that begins at this state
+unfoldable pub run_work : MachineState → Option ℕ → Worked
+run_work m left = then_work (charged (over_at m) (copied m) left) (work_within step_limit m)

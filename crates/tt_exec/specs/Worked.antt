@@ -1,0 +1,90 @@
+-- No part of the standard: how a run whose work may be bounded is tied to what it computes, and to its work.
+use Rattle.std.specs.Prelude.{◌≡◌, ℕ, ◌+◌, ◌<◌, ◌≤◌, ◌==◌, if◌then◌else◌, Bool, true, false, Option, Some, None, Result, Ok, Err}
+use Rattle.tt_core.specs.Faults.{Fault}
+use Rattle.tt_core.specs.Limits.{step_limit}
+use Rattle.tt_core.specs.Outcomes.{font_fault}
+use Rattle.tt_core.specs.declared.font_fault.FontFault.TheVariants as font
+use Rattle.tt_core.specs.declared.fault.Why.TheVariants as why
+use Rattle.tt_exec.specs.declared.fault.ExecFault.TheVariants as exec
+use Rattle.tt_exec.specs.declared.work.WorkFault.{WorkFault}
+use Rattle.tt_exec.specs.declared.work.WorkFault.TheVariants as work
+use Rattle.tt_exec.specs.declared.work.Stop.{Stop}
+use Rattle.tt_exec.specs.declared.work.Stop.TheVariants as stop
+use Rattle.tt_exec.specs.MachineState.{Code, MachineState, Machine}
+use Rattle.tt_exec.specs.Machines.{exec_fault, OutcomeIs, RunGives}
+use Rattle.tt_exec.specs.Step.{is_ended}
+use Rattle.tt_exec.specs.Work.{Worked, enough, spent, charged, over_at, step_cost, run_work}
+
+-- A run that its work does not refuse gives what a run gives whose work is not bounded; after one that it refuses the
+-- machine has failed.
+abbrev pub RunsWithin : Code → Machine → Result ℕ WorkFault → Machine → Type 0
+RunsWithin p old (Ok n) new = RunGives p old (Ok n) new
+RunsWithin p old (Err (work.Run fault)) new = RunGives p old (Err fault) new
+RunsWithin p old (Err (work.Spent fault)) new = (old.failed ≡ false) × (new.failed ≡ true)
+
+-- the same by what a run computes
+abbrev pub OutcomeWithin : Result MachineState Fault → Result ℕ WorkFault → Machine → Type 0
+OutcomeWithin outcome (Ok n) new = OutcomeIs outcome (Ok n) new
+OutcomeWithin outcome (Err (work.Run fault)) new = OutcomeIs outcome (Err fault) new
+OutcomeWithin outcome (Err (work.Spent fault)) new = Unit {0}
+
+-- What is left of a job's work after a run: what the run's work leaves, whether it ends or halts with a fault of its
+-- own; nothing after one that its work refuses, with the fault that its work tells. A machine that has failed leaves
+-- all, and of a run that has no memory nothing is said.
+abbrev pub WorkIs : (Option ℕ → Worked) → Option ℕ → Result ℕ WorkFault → Option ℕ → Type 0
+WorkIs worked old (Ok n) new = worked old ≡ enough new
+WorkIs worked old (Err (work.Run (exec.Font fault))) new = worked old ≡ enough new
+WorkIs worked old (Err (work.Run exec.Memory)) new = Unit {0}
+WorkIs worked old (Err (work.Run exec.Failed)) new = new ≡ old
+WorkIs worked old (Err (work.Spent fault)) new = (worked old ≡ spent fault) × (new ≡ Some 0)
+
+-- what was paid: what is left then, or that it was not enough, and nothing is left
+abbrev pub Pays : Fault → Worked → Bool → Option ℕ → Type 0
+Pays fault worked true new = worked ≡ enough new
+Pays fault worked false new = (worked ≡ spent fault) × (new ≡ Some 0)
+
+-- the work that is paid ahead of the next step after so many, if one is to be made
+abbrev pub work_ahead : ℕ → MachineState → Option ℕ → Worked
+work_ahead n m left =
+    if is_ended m then enough left
+    else (if n == step_limit then enough left else charged (over_at m) (step_cost m) left)
+
+-- so much less, if that is there
+abbrev pub Less : ℕ → ℕ → Option ℕ → Type 0
+Less cost left (Some rest) = cost + rest ≡ left
+Less cost left None = left < cost
+
+-- the same as WorkIs of what comes of a run within a machine
+abbrev pub StopWorkIs : (Option ℕ → Worked) → Option ℕ → Result ℕ Stop → Option ℕ → Type 0
+StopWorkIs worked old (Ok n) new = worked old ≡ enough new
+StopWorkIs worked old (Err (stop.Run (font.Font fault))) new = worked old ≡ enough new
+StopWorkIs worked old (Err (stop.Run font.Memory)) new = Unit {0}
+StopWorkIs worked old (Err (stop.Spent fault)) new = (worked old ≡ spent fault) × (new ≡ Some 0)
+
+-- the fault that a run halts with, where its work does not refuse it
+abbrev pub own_fault : Stop → Option Fault
+own_fault (stop.Run fault) = font_fault fault
+own_fault (stop.Spent fault) = None
+
+abbrev pub work_fault : Stop → WorkFault
+work_fault (stop.Run fault) = work.Run (exec_fault fault)
+work_fault (stop.Spent fault) = work.Spent fault
+
+-- so many steps were paid with what is not left any more
+abbrev pub Paid : ℕ → Option ℕ → Option ℕ → Type 0
+Paid n None new = new ≡ None
+Paid n (Some left) new = (rest : ℕ) × (new ≡ Some rest) × (n + rest ≤ left)
+
+-- the laws of work
+
+abbrev pub UnboundedWork : Type 0
+UnboundedWork = (m : MachineState) → run_work m None ≡ enough None
+
+abbrev pub SpentWork : Type 0
+SpentWork = (m : MachineState) (left : Option ℕ) (fault : Fault) → run_work m left ≡ spent fault
+    → fault.why ≡ why.StepLimit
+
+-- what is left is no more than there was
+abbrev pub WorkFalls : Type 0
+WorkFalls = (m : MachineState) (left : ℕ) (after : Option ℕ) → run_work m (Some left) ≡ enough after
+    → (rest : ℕ) × (after ≡ Some rest) × (rest ≤ left)

@@ -1,0 +1,129 @@
+//! What the work of a run is, where it is bounded (profile): that of each step, and what was copied for the run.
+
+ghost use Rattle.std.specs.Prelude.{◌≡◌, ◌+◌, ◌^◌, ◌<◌, ◌≤◌, length, IfOk};
+ghost use Rattle.tt_exec.specs.States.{state_of};
+ghost use Rattle.tt_exec.specs.Work as is;
+ghost use Rattle.tt_exec.specs.Worked.{Less, Pays};
+
+use crate::machine_state::MachineState;
+use crate::work::Work;
+use tt_code::{Halt, skip_def, skip_else, skip_if};
+
+impl MachineState<'_> {
+    /// The top of the stack; 0 where there is none.
+    fn top_of_stack(&self) -> i32
+        ensures { result ≡ is.top_of self.now.stack }
+    {
+        self.stack.items().last().copied().unwrap_or(0)
+    }
+
+    /// So many of the entries that are on the stack.
+    fn of_stack(&self, n: u32) -> u64
+        ensures exact { result ≡ is.of_stack n (state_of self.now) }
+        ensures few { result < 2 ^ 32 }
+    {
+        (n as u64).min(self.stack.len() as u64)
+    }
+
+    /// The points or stack entries that the instruction of an opcode goes over.
+    fn gone_over(&self, op: u8) -> u64
+        ensures exact { result ≡ is.gone_over op (state_of self.now) }
+        ensures few { result < 2 ^ 63 }
+    {
+        match op {
+            0x32 | 0x33 | 0x38 | 0x39 | 0x3C | 0x80 => self.of_stack(self.graphics.loops),
+            0x26 | 0x5D | 0x71..=0x75 => self.of_stack(self.top_of_stack().unsigned_abs()),
+            0x30 | 0x31 | 0x81 | 0x82 => self.points.glyph_count() as u64,
+            0x34..=0x37 => (self.points.twilight_count() + self.points.glyph_count()) as u64,
+            _ => 0,
+        }
+    }
+
+    /// The bytes after the opcode at the frame's place that a skip passes.
+    fn passed_by(&self, end: Result<usize, Halt>) -> u64
+        requires stands { self.now.frame.place < length self.now.frame.code.bytes.now }
+        requires after { IfOk end (λ j. self.now.frame.place < j) }
+        requires within { IfOk end (λ j. j ≤ length self.now.frame.code.bytes.now) }
+        ensures exact { result ≡ is.passed_by (state_of self.now) end }
+        ensures few { result < 2 ^ 32 }
+    {
+        let after = self.frame.place + 1;
+        let to = match end {
+            Ok(place) => place,
+            Err(_) => self.frame.code.bytes.len(),
+        };
+        (to - after) as u64
+    }
+
+    /// The bytes that the instruction of an opcode at the frame's place skips.
+    fn passed(&self, op: u8) -> u64
+        requires { self.now.frame.place < length self.now.frame.code.bytes.now }
+        ensures exact { result ≡ is.passed op (state_of self.now) }
+        ensures few { result < 2 ^ 32 }
+    {
+        let bytes = self.frame.code.bytes;
+        let at = self.frame.place;
+        match op {
+            0x58 if self.top_of_stack() == 0 => self.passed_by(skip_if(bytes, at)),
+            0x1B => self.passed_by(skip_else(bytes, at)),
+            0x2C | 0x89 => self.passed_by(skip_def(bytes, at)),
+            _ => 0,
+        }
+    }
+
+    /// The work of the step at the frame's place. The program's end inside a call counts as one.
+    #[inline(never)]
+    fn step_cost(&self) -> u64
+        ensures { result ≡ is.step_cost (state_of self.now) }
+    {
+        let bytes = self.frame.code.bytes;
+        let at = self.frame.place;
+        if at == bytes.len() {
+            return 1;
+        }
+        let op = bytes[at];
+        1 + self.gone_over(op) + self.passed(op)
+    }
+
+    /// Pays for the step at the frame's place; false where less is left than it wants, and nothing is left then.
+    #[inline(always)]
+    pub(crate) fn pay_step(&self, work: &mut Work) -> bool
+        ensures { let m = state_of self.now in
+            Pays (is.over_at m) (is.charged (is.over_at m) (is.step_cost m) work.old.left) result work.new.left }
+    {
+        let Some(left) = work.left else {
+            return true;
+        };
+        let cost = self.step_cost();
+        if cost > left {
+            work.left = Some(0);
+            return false;
+        }
+        work.left = Some(left - cost);
+        true
+    }
+
+    /// What is left of work when all was paid that was copied for a run; None where it is not enough.
+    fn after_copies(&self, left: u64) -> Option<u64>
+        ensures { Less (is.copied (state_of self.now)) left result }
+    {
+        let left = left.checked_sub(self.cvt.len() as u64)?;
+        let left = left.checked_sub(self.storage.len() as u64)?;
+        let left = left.checked_sub(self.points.twilight_count() as u64)?;
+        let left = left.checked_sub(self.functions.len() as u64)?;
+        left.checked_sub(self.instructions.len() as u64)
+    }
+
+    /// Pays for what was copied for a run; false where less is left, and nothing is left then.
+    pub(crate) fn pay_copies(&self, work: &mut Work) -> bool
+        ensures { let m = state_of self.now in
+            Pays (is.over_at m) (is.charged (is.over_at m) (is.copied m) work.old.left) result work.new.left }
+    {
+        let Some(left) = work.left else {
+            return true;
+        };
+        let rest = self.after_copies(left);
+        work.left = Some(rest.unwrap_or(0));
+        rest.is_some()
+    }
+}

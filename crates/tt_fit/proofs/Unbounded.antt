@@ -1,0 +1,127 @@
+-- Work that is not bounded is always enough.
+use Rattle.std.proofs.Common.{◌≡◌, ℕ, zero, suc, Bool, true, false, if◌then◌else◌, List, [], ◌∷◌, Option, None, Result, Ok, Err, ◌⊎◌, inl, inr, ap, refl}
+use Rattle.tt_core.specs.Faults.{Fault}
+use Rattle.tt_exec.proofs.WorkPaid.{unbounded}
+use Rattle.tt_exec.specs.Machines.{fresh, run_from}
+use Rattle.tt_exec.specs.MachineState.{Code}
+use Rattle.tt_exec.specs.Parts.{Parts}
+use Rattle.tt_exec.specs.Work.{Worked, enough, then_work}
+use Rattle.tt_glyf.specs.declared.raw.Record.{Record}
+use Rattle.tt_glyf.specs.GlyphData.{glyph_data_of}
+use Rattle.tt_glyf.specs.Loca.{glyph_offset}
+use Rattle.tt_glyf.specs.Raw.{Raw, empty, simple, composite}
+use Rattle.tt_metrics.specs.Metrics.{Metrics}
+use Rattle.tt_fit.specs.declared.programs.Fit.{Fit}
+use Rattle.tt_fit.specs.declared.programs.Fit.TheVariants as fit
+use Rattle.tt_fit.specs.declared.unmade.Unmade.{Unmade}
+use Rattle.tt_fit.specs.declared.unmade.Unmade.TheVariants as unmade
+use Rattle.tt_fit.specs.Fitting.{Fitter, size_of, start, glyph_program, joined, added, simple_work, composite_work, made_work, work_by, added_work, outline_work}
+use Rattle.tt_fit.specs.GlyphZone.{GlyphProgram, program_in_glyf, on_grid_at}
+use Rattle.tt_fit.specs.Hinting.{Hinting, off, ready, is_run, run_of}
+use Rattle.tt_fit.specs.Outline.{Outline}
+use Rattle.tt_fit.specs.Parts.{begun_parts, parts_with}
+use Rattle.tt_fit.specs.Preparation.{ProgramTables, font_program, control_value_program, with_definitions, programs_work, with_fallback, within_work, left_at, work_at, prepared}
+use Rattle.tt_fit.specs.Rules.{rules_of}
+use Rattle.tt_fit.specs.Scaling.{scaled_outline}
+use Rattle.tt_fit.specs.Work.{IsUnbounded, RefusalLeaves, if_ok, code_work, program_work, hinted_work, joined_work}
+
+pub after-ok : {X : Type 0} (x : Result X Fault) (more : X → Option ℕ → Worked)
+    → ((y : X) → more y None ≡ enough None) → if_ok x more None ≡ enough None
+after-ok (Ok y) more is = is y
+after-ok (Err f) more is = refl
+
+pub after-both : (worked : Worked) (more : Option ℕ → Worked) → worked ≡ enough None → more None ≡ enough None
+    → then_work worked more ≡ enough None
+after-both worked more first is = rw first is
+
+of-code : (program : Code) (parts : Parts) → code_work program parts None ≡ enough None
+of-code program parts = unbounded (run_from program (fresh parts))
+
+of-program : (parts : Parts) (p : GlyphProgram) (o : Outline) → program_work parts p o None ≡ enough None
+unfolding program_work
+of-program parts p o =
+    after-ok (on_grid_at p.glyph_at o.phantom) (λ grid. code_work (program_in_glyf p) (parts_with parts o grid))
+    (λ grid. of-code (program_in_glyf p) (parts_with parts o grid))
+
+where-run : (is : Bool) (worked : Worked) → worked ≡ enough None → (if is then worked else enough None) ≡ enough None
+where-run true worked free = free
+where-run false worked free = refl
+
+of-hinted : (hinting : Hinting) (p : GlyphProgram) (o : Outline) → hinted_work hinting p o None ≡ enough None
+of-hinted off p o = refl
+of-hinted (ready parts) p o = where-run (is_run parts p) (program_work parts p o None) (of-program parts p o)
+
+of-joined : (add : Record → Outline → Result Outline Fault) (work : Record → Option ℕ → Worked)
+    → ((r : Record) → work r None ≡ enough None) → (rs : List Record) (o : Outline)
+    → joined_work add work rs o None ≡ enough None
+of-joined add work free [] o = refl
+of-joined add work free (r ∷ rs) o =
+    after-both (work r None) (if_ok (add r o) (joined_work add work rs)) (free r)
+    (after-ok (add r o) (joined_work add work rs) (of-joined add work free rs))
+
+of-made : (s : Fitter) (add : Record → Outline → Result Outline Fault) (work : Record → Option ℕ → Worked)
+    → ((r : Record) → work r None ≡ enough None) → (g : ℕ) (d : Raw) → made_work s add work g d None ≡ enough None
+of-made s add work free g empty = refl
+of-made s add work free g (simple d) =
+    let program = glyph_program s g d.code d.code_at in
+    after-ok (start s d.x_min g) (simple_work s g d.points d.ends program)
+    (λ o. after-ok (scaled_outline (size_of s) (glyph_offset s.tables g) d.points d.ends o)
+    (hinted_work s.hinting program) (of-hinted s.hinting program))
+of-made s add work free g (composite d) =
+    let program = glyph_program s g d.code d.code_at in
+    after-ok (start s d.x_min g) (composite_work s add work d.records program)
+    (λ o. after-both (joined_work add work d.records o None) (if_ok (joined add d.records o) (hinted_work s.hinting program))
+    (of-joined add work free d.records o)
+    (after-ok (joined add d.records o) (hinted_work s.hinting program) (of-hinted s.hinting program)))
+
+of-one : (s : Fitter) (add : Record → Outline → Result Outline Fault) (work : Record → Option ℕ → Worked)
+    → ((r : Record) → work r None ≡ enough None) → (g : ℕ) → work_by s add work g None ≡ enough None
+of-one s add work free g = after-ok (glyph_data_of s.tables g) (made_work s add work g) (of-made s add work free g)
+
+of-added : (s : Fitter) (levels : ℕ) (r : Record) → added_work s levels r None ≡ enough None
+unfolding added_work
+of-added s zero r = refl
+of-added s (suc levels) r = of-one s (added s levels) (added_work s levels) (of-added s levels) r.glyph
+
+pub of-outline : (s : Fitter) (levels g : ℕ) → outline_work s levels g None ≡ enough None
+of-outline s levels g = of-one s (added s levels) (added_work s levels) (of-added s levels) g
+
+pub of-programs : (parts : Parts) (programs : ProgramTables) → programs_work parts programs None ≡ enough None
+unfolding programs_work
+of-programs parts programs =
+    after-both (code_work (font_program programs.fpgm) parts None)
+    (if_ok (run_of (font_program programs.fpgm) parts)
+    (λ font. code_work (control_value_program programs.prep) (with_definitions parts font)))
+    (of-code (font_program programs.fpgm) parts)
+    (after-ok (run_of (font_program programs.fpgm) parts)
+    (λ font. code_work (control_value_program programs.prep) (with_definitions parts font))
+    (λ font. of-code (control_value_program programs.prep) (with_definitions parts font)))
+
+within : (left : Result Hinting Fault) → with_fallback left ≡ within_work (enough None) left
+within (Ok hinting) = refl
+within (Err f) = refl
+
+-- what Fallback prepares is the same as if its work were counted
+pub prepared-falling : (m : Metrics) (programs : ProgramTables) (ppem : ℕ) (how : Fit)
+    → (how ≡ fit.Fallback) ⊎ (how ≡ fit.Best)
+    → prepared m programs ppem how ≡ Ok (within_work (work_at m programs ppem how) (left_at m programs ppem how))
+unfolding prepared
+prepared-falling m programs ppem fit.Fallback is =
+    rw (of-programs (begun_parts m programs.cvt ppem (rules_of fit.Fallback)) programs)
+    (ap Ok (within (left_at m programs ppem fit.Fallback)))
+prepared-falling m programs ppem fit.Best is = refl
+prepared-falling m programs ppem fit.Full is = elim is [
+  | inl fallback ↦ absurd cc
+  | inr best ↦ absurd cc
+]
+prepared-falling m programs ppem fit.None is = elim is [
+  | inl fallback ↦ absurd cc
+  | inr best ↦ absurd cc
+]
+
+-- so that no call is refused for want of it
+pub never-spent : (refusal : Unmade) (new : Option ℕ) (worked : Worked) → worked ≡ enough None
+    → RefusalLeaves refusal new worked → IsUnbounded refusal
+never-spent (unmade.Font f) new worked free leaves = tt
+never-spent unmade.Memory new worked free leaves = tt
+never-spent (unmade.Spent f) new worked free leaves = absurd cc

@@ -1,0 +1,74 @@
+//! How many points a glyph is made of, which is known before it is made (profile).
+
+ghost use Rattle.std.specs.Prelude.{◌≡◌, ◌<◌, All, IfOk};
+ghost use Rattle.tt_fit.specs.Counting.{points_asked, points_of_all, counted, left_of};
+
+use std::alloc::{AllocError, Global};
+use tt_glyf::{Glyf, Record};
+
+/// The ends of a glyph's advance, its ascent and its descent.
+const PHANTOM_COUNT: u64 = 4;
+
+/// The points that a glyph is made of, where so many levels of components are left, or None where they are more than
+/// `most`: no more than these are counted. Error: want of memory.
+pub(crate) fn points_of(
+    alloc: Global,
+    glyf: &Glyf,
+    levels: u32,
+    g: u16,
+    most: u64,
+) -> Result<Option<u64>, AllocError>
+    requires { g < glyf.now.glyphs }
+    ensures { IfOk result (λ n. n ≡ counted most (points_asked glyf.now levels g)) }
+{
+    match left_after(alloc, glyf, levels, g, most)? {
+        Some(left) => Ok(Some(most - left)),
+        None => Ok(None),
+    }
+}
+
+/// What a glyph leaves of so many points, or None where it has more.
+#[cycle(counting)]
+#[tactic(auto, using(crate::proofs::Counts::own_alone, crate::proofs::Counts::with_components))]
+fn left_after(
+    alloc: Global,
+    glyf: &Glyf,
+    levels: u32,
+    g: u16,
+    most: u64,
+) -> Result<Option<u64>, AllocError>
+    requires { g < glyf.now.glyphs }
+    ensures { IfOk result (λ left. left ≡ left_of most (points_asked glyf.now levels g)) }
+{
+    let own = PHANTOM_COUNT + u64::from(glyf.told_size(g));
+    if most < own {
+        return Ok(None);
+    }
+    if levels == 0 {
+        return Ok(Some(most - own));
+    }
+    let components = glyf.components(alloc, g)?;
+    left_after_all(alloc, glyf, levels - 1, components.as_slice(), most - own)
+}
+
+/// What some components leave.
+#[cycle(counting)]
+fn left_after_all(
+    alloc: Global,
+    glyf: &Glyf,
+    levels: u32,
+    components: &[Record],
+    most: u64,
+) -> Result<Option<u64>, AllocError>
+    requires { All (λ r. r.glyph < glyf.now.glyphs) components.now }
+    ensures { IfOk result (λ left. left ≡ left_of most (points_of_all glyf.now levels components.now)) }
+{
+    let mut left = most;
+    for part in components {
+        match left_after(alloc, glyf, levels, part.glyph, left)? {
+            Some(fewer) => left = fewer,
+            None => return Ok(None),
+        }
+    }
+    Ok(Some(left))
+}

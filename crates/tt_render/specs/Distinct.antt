@@ -1,0 +1,53 @@
+-- No part of the standard: the distinct glyphs of a line, in order of first appearance, and what each is made from: what
+-- those before it left (profile).
+use Rattle.std.specs.Prelude.{◌≡◌, refl, ℕ, Bool, false, ◌||◌, ◌==◌, if◌then◌else◌, List, [], ◌∷◌, ◌++◌}
+use Rattle.tt_fit.specs.Fitting.{Fitter, after_glyph}
+
+-- a glyph stands among some
+abbrev pub is_among : ℕ → List ℕ → Bool
+is_among g [] = false
+is_among g (h ∷ hs) = (h == g) || is_among g hs
+
+-- a glyph after those before it, unless it is one of them
+abbrev pub with_glyph : List ℕ → ℕ → List ℕ
+with_glyph before g = if is_among g before then before else before ++ g ∷ []
+
+-- the distinct glyphs of some, in order of first appearance, after those before them
+abbrev pub distinct_after : List ℕ → List ℕ → List ℕ
+distinct_after before [] = before
+distinct_after before (g ∷ gs) = distinct_after (with_glyph before g) gs
+
+abbrev pub distinct : List ℕ → List ℕ
+distinct gs = distinct_after [] gs
+
+-- what is left where some glyphs were made, one after the other
+abbrev pub fitter_after : Fitter → List ℕ → Fitter
+fitter_after s [] = s
+fitter_after s (g ∷ gs) = fitter_after (after_glyph s g) gs
+
+-- what is left after a glyph, unless it is one of those that are made already
+abbrev pub fitter_past : Fitter → List ℕ → ℕ → Fitter
+fitter_past s before g = if is_among g before then s else after_glyph s g
+
+-- what one of some glyphs is made from, which are made in this order
+abbrev pub fitter_for : Fitter → List ℕ → ℕ → Fitter
+fitter_for s [] g = s
+fitter_for s (h ∷ hs) g = if h == g then s else fitter_for (after_glyph s h) hs g
+
+-- what each glyph of a line is made from
+abbrev pub line_fitter : Fitter → List ℕ → ℕ → Fitter
+line_fitter s gs g = fitter_for s (distinct gs) g
+
+-- where the glyph is not made yet, it is made from this
+abbrev pub IsNext : (ℕ → Fitter) → Fitter → List ℕ → ℕ → Type 0
+IsNext maker s before g = is_among g before ≡ false → maker g ≡ s
+
+-- worked values
+each_once : distinct (7 ∷ 3 ∷ 7 ∷ 3 ∷ 5 ∷ []) ≡ 7 ∷ 3 ∷ 5 ∷ []
+each_once = refl
+
+third_after_two : (s : Fitter) → line_fitter s (7 ∷ 3 ∷ 7 ∷ 3 ∷ 5 ∷ []) 5 ≡ after_glyph (after_glyph s 7) 3
+third_after_two s = refl
+
+first_before_all : (s : Fitter) → line_fitter s (7 ∷ 3 ∷ 7 ∷ 3 ∷ 5 ∷ []) 7 ≡ s
+first_before_all s = refl

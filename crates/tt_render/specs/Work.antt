@@ -1,0 +1,39 @@
+-- No part of the standard: how much work a job may be (profile). It is bounded with best alone.
+use Rattle.std.specs.Prelude.{◌≡◌, refl, ℕ, ◌+◌, ◌*◌, ◌&&◌, nat_lt, Bool, true, false, if◌then◌else◌, List, [], ◌∷◌, length, Result, Ok, Err}
+use Rattle.tt_core.specs.declared.fault.JobFault.{JobFault}
+use Rattle.tt_core.specs.declared.fault.JobFault.TheVariants as fault
+use Rattle.tt_core.specs.Limits.{crossing_limit}
+use Rattle.tt_fit.specs.declared.programs.Fit.{Fit}
+use Rattle.tt_fit.specs.declared.programs.Fit.TheVariants as fit
+use Rattle.tt_scan.specs.declared.edge.Edge.{Edge}
+use Rattle.tt_scan.specs.declared.edge.Frame.{Frame}
+use Rattle.tt_scan.specs.Winding.{crossings_of}
+
+-- the ways of fitting with which the work of a job is bounded
+abbrev pub is_bounded : Fit → Bool
+is_bounded fit.Full = false
+is_bounded fit.None = false
+is_bounded fit.Fallback = false
+is_bounded fit.Best = true
+
+-- so much work, by the limit that there is for it
+unfoldable pub work_tested : Fit → ℕ → ℕ → Result (Unit {0}) JobFault
+work_tested how limit work = if is_bounded how && nat_lt limit work then Err fault.WorkLarge else Ok tt
+
+-- how often the edges of some glyphs cross the rows of a picture
+abbrev pub crossings_in : Frame → List (List Edge) → ℕ
+crossings_in f [] = 0
+crossings_in f (glyph ∷ glyphs) = crossings_of f glyph + crossings_in f glyphs
+
+-- worked values
+at_the_limit : work_tested fit.Best crossing_limit 16000000 ≡ Ok tt
+unfolding work_tested
+at_the_limit = refl
+
+past_the_limit : work_tested fit.Best crossing_limit 16000001 ≡ Err fault.WorkLarge
+unfolding work_tested
+past_the_limit = refl
+
+without_a_bound : work_tested fit.Fallback crossing_limit 16000001 ≡ Ok tt
+unfolding work_tested
+without_a_bound = refl
