@@ -11,7 +11,7 @@ TESTS = Path(__file__).resolve().parent.parent
 sys.path.insert(0, str(TESTS / "outlines"))
 import small_fonts as small
 
-WORK, CROSSINGS, STEPS = 100_000_000, 16_000_000, 1_000_000
+WORK, POINTS, CROSSINGS, STEPS = 100_000_000, 4_000_000, 16_000_000, 1_000_000
 FIRST = 0x4E00
 WORK_LARGE = ["tt_render: 65 WorkLarge"]
 
@@ -99,6 +99,38 @@ def programs(asked):
     told("programs: fallback", asked.draw("fallback", 16, text)[2], unbounded)
 
 
+def composite_of(*glyphs):
+    return small.composite(*[small.record(small.OFFSETS, glyph, 0, 0) for glyph in glyphs])
+
+
+def points(asked):
+    """Composites of empty glyphs, each of which has four phantom points, as each composite has."""
+    whole = 1 + 32 + 32**2 + 32**3
+    part = 1 + 32 + 32**2
+    many, rest = divmod(POINTS // 4, whole)
+    parts, rest = divmod(rest - 1, part)
+    # What is left is a composite of 32 empty glyphs, and one of these and others.
+    last = rest - 33 - 1
+    lines = [composite_of(*[many + 5] * 32) for _ in range(many)]
+    lines.append(composite_of(*[many + 5] * parts))
+    lines.append(composite_of(*[many + 7] * 32))
+    lines.append(composite_of(*[many + 7] * last))
+    # One more: 6 and 7 in place of three times 4.
+    lines.append(composite_of(*[many + 7] * (last - 3), many + 8, many + 9))
+    inner = [composite_of(*[many + 6] * 32), composite_of(*[many + 7] * 32), b"", small.dots(1), small.dots(2)]
+    assert many * whole + 1 + parts * part + 33 + 1 + last == POINTS // 4
+    glyphs = [b"", *lines, *inner]
+    metrics = [(0, 0)] + [(64, 0)] * (len(glyphs) - 1)
+    asked.font.write_bytes(small.font(glyphs, metrics, others={"cmap": cmap_of(many + 4)}))
+    text = text_of(many + 4)
+    most, more = text[:-1], text[:-2] + text[-1]
+    told("points: 4,000,000", asked.draw("best", 16, most), asked.draw("none", 16, most))
+    told("points: each glyph twice", asked.draw("best", 16, most + most), asked.draw("none", 16, most + most))
+    told("points: one more", asked.draw("best", 16, more), (2, b"", WORK_LARGE))
+    status, picture, lines = asked.draw("fallback", 16, more)
+    told("points: without a bound", (status, lines), (0, []))
+
+
 def crossings(asked):
     """160 edges cross each of 1,000 rows; the pictures have 1,000 rows."""
     zigzag = [(it, 4000 * (it % 2)) for it in range(160)]
@@ -113,12 +145,13 @@ def crossings(asked):
 
 # What each hostile font answers: its status, how many lines there are, and how the first one ends.
 HOSTILE = {
-    "endless": (1, 1, "22 PointLimit"),
+    "endless": (2, 1, "65 WorkLarge"),
     "one": (0, 0, ""),
     "two": (0, 1, "30 StepLimit"),
     "points": (0, 1, "30 StepLimit"),
     "skips": (0, 1, "30 StepLimit"),
-    "four": (0, 1, "30 StepLimit"),
+    "four": (2, 1, "65 WorkLarge"),
+    "deep": (2, 1, "65 WorkLarge"),
     "entries": (0, 1, "30 StepLimit"),
     "meeting": (0, 1, "30 StepLimit"),
     "leaning": (0, 1, "30 StepLimit"),
@@ -143,7 +176,7 @@ def hostile(asked):
 
 def main():
     asked = Asked(sys.argv[1], Path(sys.argv[2]))
-    for part in programs, crossings, hostile:
+    for part in programs, points, crossings, hostile:
         part(asked)
 
 

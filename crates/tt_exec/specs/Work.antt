@@ -1,7 +1,8 @@
 -- No part of the standard: how much work a run is, where the work of a job is bounded (profile). A step is one, and the
--- points or stack entries that its instruction goes over and the bytes that its skip passes are one each; so is, when
--- a run begins, each control value, storage place, twilight point and definition that was copied for it.
-use Rattle.std.specs.Prelude.{ℕ, zero, suc, ◌+◌, ◌-◌, ◌==◌, ◌||◌, ◌&&◌, min, nat_le, ℤ, pos, unsigned_abs, Bool, if◌then◌else◌, List, [], ◌∷◌, length, slice_index, Option, Some, None, Result, Ok, Err}
+-- points or stack entries that its instruction goes over and the bytes that its skip passes are one each, but points
+-- that are named on the stack four each, since IP between leaning lines takes that long; so is one, when a run begins,
+-- each control value, storage place, twilight point and definition that was copied for it.
+use Rattle.std.specs.Prelude.{ℕ, zero, suc, ◌+◌, ◌-◌, ◌*◌, ◌==◌, ◌||◌, ◌&&◌, min, nat_le, ℤ, pos, unsigned_abs, Bool, if◌then◌else◌, List, [], ◌∷◌, length, slice_index, Option, Some, None, Result, Ok, Err}
 use Rattle.tt_core.specs.Faults.{Fault}
 use Rattle.tt_core.specs.Limits.{step_limit}
 use Rattle.tt_core.specs.declared.fault.Why.TheVariants as why
@@ -36,7 +37,7 @@ top_of (v ∷ s) = v
 abbrev pub of_stack : ℕ → MachineState → ℕ
 of_stack n m = min n (length m.stack)
 
--- SHP, SHPIX, IP, ALIGNRP and FLIPPT go over as many points as the loop variable says
+-- SHP, SHPIX, IP, ALIGNRP and FLIPPT go over as many points, named on the stack, as the loop variable says
 abbrev pub is_looped : ℕ → Bool
 is_looped op = op == 0x32 || op == 0x33 || op == 0x38 || op == 0x39 || op == 0x3C || op == 0x80
 
@@ -52,11 +53,11 @@ is_of_glyph op = op == 0x30 || op == 0x31 || op == 0x81 || op == 0x82
 abbrev pub is_of_zone : ℕ → Bool
 is_of_zone op = nat_le 0x34 op && nat_le op 0x37
 
--- the points or stack entries that an instruction goes over; those of a contour, a zone or a range are counted as all
--- that there are
+-- the points or stack entries that an instruction goes over, the former named on the stack weighed fourfold; those of a
+-- contour, a zone or a range are counted as all that there are
 abbrev pub gone_over : ℕ → MachineState → ℕ
 gone_over op m =
-    if is_looped op then of_stack m.graphics.loops m else (
+    if is_looped op then 4 * of_stack m.graphics.loops m else (
     if is_counted op then of_stack (unsigned_abs (top_of m.stack)) m else (
     if is_of_glyph op then length m.zones.glyph else (
     if is_of_zone op then length m.zones.twilight + length m.zones.glyph else 0)))

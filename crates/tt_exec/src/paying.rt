@@ -25,13 +25,13 @@ impl MachineState<'_> {
         (n as u64).min(self.stack.len() as u64)
     }
 
-    /// The points or stack entries that the instruction of an opcode goes over.
+    /// The points or stack entries that the instruction of an opcode goes over; points named on the stack weigh fourfold.
     fn gone_over(&self, op: u8) -> u64
         ensures exact { result ≡ is.gone_over op (state_of self.now) }
         ensures few { result < 2 ^ 63 }
     {
         match op {
-            0x32 | 0x33 | 0x38 | 0x39 | 0x3C | 0x80 => self.of_stack(self.graphics.loops),
+            0x32 | 0x33 | 0x38 | 0x39 | 0x3C | 0x80 => 4 * self.of_stack(self.graphics.loops),
             0x26 | 0x5D | 0x71..=0x75 => self.of_stack(self.top_of_stack().unsigned_abs()),
             0x30 | 0x31 | 0x81 | 0x82 => self.points.glyph_count() as u64,
             0x34..=0x37 => (self.points.twilight_count() + self.points.glyph_count()) as u64,

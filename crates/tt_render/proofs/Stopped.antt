@@ -1,5 +1,5 @@
 -- What stopped a step of a drawing stops the picture.
-use Rattle.std.proofs.Common.{◌≡◌, ℕ, ◌<◌, nat_lt, Bool, true, false, ◌&&◌, if◌then◌else◌, List, Result, Ok, Err, refl, arith}
+use Rattle.std.proofs.Common.{◌≡◌, ℕ, ◌<◌, nat_lt, Bool, true, false, ◌&&◌, if◌then◌else◌, List, map, Result, Ok, Err, inl, inr, refl, arith}
 use Rattle.std.proofs.lemmas.Bool.Decides.{nat_tests}
 use Rattle.std.specs.Prelude.{IfSome, IsOkAnd}
 use Rattle.tt_core.specs.declared.font_fault.FontFault.{FontFault}
@@ -7,7 +7,7 @@ use Rattle.tt_core.specs.declared.font_fault.FontFault.TheVariants as font
 use Rattle.tt_core.specs.declared.fault.JobFault.{JobFault}
 use Rattle.tt_core.specs.declared.fault.JobFault.TheVariants as job_of
 use Rattle.tt_core.specs.Faults.{Fault}
-use Rattle.tt_core.specs.Limits.{crossing_limit}
+use Rattle.tt_core.specs.Limits.{crossing_limit, point_work_limit}
 use Rattle.tt_core.specs.Outcomes.{FontGives, font_fault}
 use Rattle.tt_fit.specs.Fitting.{Fitter}
 use Rattle.tt_line.specs.declared.fault.LineFault.{LineFault}
@@ -15,14 +15,15 @@ use Rattle.tt_line.specs.declared.fault.LineFault.TheVariants as line
 use Rattle.tt_line.specs.Layout.{Placement, placement, text_glyphs}
 use Rattle.tt_line.specs.Outcome.{job_fault}
 use Rattle.tt_render.specs.Job.{Job}
-use Rattle.tt_render.specs.Defects.{CrossesTooOften, IsExtentRefusal, IsFontRefusal, IsLineDefect, IsRunDefect, draw_font_fault, draw_job_fault}
+use Rattle.tt_render.specs.Defects.{IsTooMuchWork, IsExtentRefusal, IsFontRefusal, IsLineDefect, IsRunDefect, draw_font_fault, draw_job_fault}
 use Rattle.tt_render.specs.Tables.{Face, face_of}
-use Rattle.tt_render.specs.Outcome.{job, refusal}
-use Rattle.tt_render.specs.Picture.{crossings_tested, drawn, edges_in, frame_of, pictured, setting_in}
+use Rattle.tt_render.specs.Outcome.{Refused, as_job, job, refusal}
+use Rattle.tt_render.specs.Outcome as outcome
+use Rattle.tt_render.specs.Picture.{crossings_tested, drawn, edges_in, frame_of, pictured, points_tested, setting_in}
 use Rattle.tt_render.specs.declared.fault.DrawFault.{DrawFault}
 use Rattle.tt_render.specs.declared.fault.DrawFault.TheVariants as draw
 use Rattle.tt_scan.specs.declared.edge.Edge.{Edge}
-use Rattle.tt_render.specs.Work.{crossings_in, is_bounded, work_tested}
+use Rattle.tt_render.specs.Work.{crossings_in, is_bounded, points_in, work_tested}
 use Rattle.tt_render.specs.Views.{draw_fault_of_font, draw_fault_of_line}
 use Rattle.tt_render.proofs.Telling.{line_tells}
 
@@ -51,7 +52,7 @@ drawing_tells a file face gs draw.Memory there glyphs stands = tt
 
 pub drawing_refuses : (a : Job) (file : List ℕ) (face : Face) (l : Placement) (e : DrawFault) → face_of file ≡ Ok face
     → placement face.metrics face.cmap a.text a.ppem a.margin ≡ Ok l
-    → IfSome (draw_job_fault e) (λ j. (j ≡ job_of.WorkLarge) × CrossesTooOften face a l)
+    → IfSome (draw_job_fault e) (λ j. (j ≡ job_of.WorkLarge) × IsTooMuchWork face a l)
     → IfSome (draw_job_fault e) (λ j. IsOkAnd (face_of file) (λ face. IsFontRefusal face a j))
 drawing_refuses a file face l (draw.Font f) there laid refused = tt
 drawing_refuses a file face l (draw.Job j) there laid refused = rw (there, refused.0, laid) refused.1
@@ -66,11 +67,11 @@ setting_stops face a l (font.Font f) fails = rw fails refl
 setting_stops face a l font.Memory fails = tt
 
 pub glyph_stops : (face : Face) (a : Job) (l : Placement) (s : Fitter) (e : FontFault) → setting_in face a ≡ Ok s
-    → IfSome (font_fault e) (λ f. edges_in s l ≡ Err f)
+    → as_job (points_tested s a l) ≡ Ok tt → IfSome (font_fault e) (λ f. edges_in s l ≡ Err f)
     → IfSome (refusal (draw_fault_of_font e)) (λ r. drawn face a l ≡ Err r)
 unfolding drawn
-glyph_stops face a l s (font.Font f) there fails = rw (there, fails) refl
-glyph_stops face a l s font.Memory there fails = tt
+glyph_stops face a l s (font.Font f) there few fails = rw (there, few, fails) refl
+glyph_stops face a l s font.Memory there few fails = tt
 
 pub font_tells : (P : Fault → Type 0) (e : FontFault) → IfSome (font_fault e) P
     → IfSome (draw_font_fault (draw_fault_of_font e)) P
@@ -79,10 +80,10 @@ font_tells P font.Memory stands = tt
 
 -- and so do crossings past the limit
 pub crossings_stop : (face : Face) (a : Job) (l : Placement) (s : Fitter) (glyphs : List (List Edge)) (j : JobFault)
-    → setting_in face a ≡ Ok s → edges_in s l ≡ Ok glyphs → crossings_tested a l glyphs ≡ Err j
-    → drawn face a l ≡ Err (job j)
+    → setting_in face a ≡ Ok s → as_job (points_tested s a l) ≡ Ok tt → edges_in s l ≡ Ok glyphs
+    → crossings_tested a l glyphs ≡ Err j → drawn face a l ≡ Err (job j)
 unfolding drawn
-crossings_stop face a l s glyphs j there made refused = rw (there, made, refused) refl
+crossings_stop face a l s glyphs j there few made refused = rw (there, few, made, refused) refl
 
 tested_as : (bounded past : Bool) (j : JobFault)
     → ◌≡◌ {A = Result (Unit {0}) JobFault} (if bounded && past then Err job_of.WorkLarge else Ok tt) (Err j)
@@ -93,12 +94,52 @@ tested_as false past j was = absurd cc
 
 pub crossings_tell : (face : Face) (a : Job) (l : Placement) (s : Fitter) (glyphs : List (List Edge)) (j : JobFault)
     → setting_in face a ≡ Ok s → edges_in s l ≡ Ok glyphs → crossings_tested a l glyphs ≡ Err j
-    → (j ≡ job_of.WorkLarge) × CrossesTooOften face a l
+    → (j ≡ job_of.WorkLarge) × IsTooMuchWork face a l
 unfolding work_tested
 crossings_tell face a l s glyphs j there made refused =
     let parts = tested_as (is_bounded a.fit) (nat_lt crossing_limit (crossings_in (frame_of l a.margin) glyphs)) j refused in
     let past : crossing_limit < crossings_in (frame_of l a.margin) glyphs = let is = parts.2 in grind (arith, nat_tests) in
-    (parts.0, (parts.1, rw (there, made) past))
+    (parts.0, (parts.1, inr (rw (there, made) past)))
+
+-- a job that is refused is refused by no font
+refused_job : (r : Result (Unit {0}) JobFault) (j : JobFault) → as_job r ≡ Err (job j) → r ≡ Err j
+refused_job (Ok u) j was = absurd cc
+refused_job (Err i) j was = cc
+
+no_font_refused : (r : Result (Unit {0}) JobFault) (f : Fault) → as_job r ≡ Err (outcome.font f) → ⊥
+no_font_refused (Ok u) f was = absurd cc
+no_font_refused (Err i) f was = absurd cc
+
+-- points past the limit stop the line before a glyph is made
+pub points_stop : (face : Face) (a : Job) (l : Placement) (s : Fitter) (e : DrawFault) → setting_in face a ≡ Ok s
+    → IfSome (refusal e) (λ r. as_job (points_tested s a l) ≡ Err r) → IfSome (refusal e) (λ r. drawn face a l ≡ Err r)
+unfolding drawn
+points_stop face a l s (draw.Font f) there fails = rw (there, fails) refl
+points_stop face a l s (draw.Job j) there fails = rw (there, fails) refl
+points_stop face a l s draw.Memory there fails = tt
+
+pub points_tell_no_defect : (P : Fault → Type 0) (s : Fitter) (a : Job) (l : Placement) (e : DrawFault)
+    → IfSome (refusal e) (λ r. as_job (points_tested s a l) ≡ Err r) → IfSome (draw_font_fault e) P
+points_tell_no_defect P s a l (draw.Font f) fails = absurd (no_font_refused (points_tested s a l) f fails)
+points_tell_no_defect P s a l (draw.Job j) fails = tt
+points_tell_no_defect P s a l draw.Memory fails = tt
+
+too_many_points : (face : Face) (a : Job) (l : Placement) (s : Fitter) (j : JobFault) → setting_in face a ≡ Ok s
+    → points_tested s a l ≡ Err j → (j ≡ job_of.WorkLarge) × IsTooMuchWork face a l
+unfolding work_tested
+too_many_points face a l s j there refused =
+    let gs = map (λ g. g.0) l.glyphs in
+    let parts = tested_as (is_bounded a.fit) (nat_lt point_work_limit (points_in s gs)) j refused in
+    let past : point_work_limit < points_in s gs = let is = parts.2 in grind (arith, nat_tests) in
+    (parts.0, (parts.1, inl (rw there past)))
+
+pub points_tell : (face : Face) (a : Job) (l : Placement) (s : Fitter) (e : DrawFault) → setting_in face a ≡ Ok s
+    → IfSome (refusal e) (λ r. as_job (points_tested s a l) ≡ Err r)
+    → IfSome (draw_job_fault e) (λ j. (j ≡ job_of.WorkLarge) × IsTooMuchWork face a l)
+points_tell face a l s (draw.Font f) there fails = tt
+points_tell face a l s (draw.Job j) there fails =
+    too_many_points face a l s j there (refused_job (points_tested s a l) j fails)
+points_tell face a l s draw.Memory there fails = tt
 
 -- a refused extent is a refusal by the font
 of_extent : (face : Face) (a : Job) (j : JobFault) → IsExtentRefusal face a j → IsFontRefusal face a j

@@ -1,5 +1,5 @@
 -- The defects that a call can meet in a font.
-use Rattle.std.specs.Prelude.{◌≡◌, ◌<◌, List, ℕ, length, slice_index, Option, Some, None, Result, Ok, Err, IsOkAnd, IfSome, Bool, true, false, ⊤, ◌⊎◌}
+use Rattle.std.specs.Prelude.{◌≡◌, ◌<◌, List, ℕ, length, map, slice_index, Option, Some, None, Result, Ok, Err, IsOkAnd, IfSome, Bool, true, false, ⊤, ◌⊎◌}
 use Rattle.tt_core.specs.Faults.{Fault}
 use Rattle.tt_core.specs.Directory.{HasNo, IsDefectIn, PassesEnd, IsTableDefect, IsDirectoryDefect}
 use Rattle.tt_fit.specs.declared.programs.Fit.{Fit}
@@ -14,7 +14,7 @@ use Rattle.tt_cmap.specs.Defects.{IsBadCmap}
 use Rattle.tt_metrics.specs.Metrics.{Metrics, IsMetricsDefect}
 use Rattle.tt_core.specs.declared.fault.JobFault.{JobFault}
 use Rattle.tt_core.specs.declared.fault.JobFault.TheVariants as fault
-use Rattle.tt_core.specs.Limits.{crossing_limit}
+use Rattle.tt_core.specs.Limits.{crossing_limit, point_work_limit}
 use Rattle.tt_render.specs.Distinct.{line_fitter}
 use Rattle.tt_render.specs.Job.{Job, IsTestRefusal}
 use Rattle.tt_render.specs.declared.fault.DrawFault.{DrawFault}
@@ -24,7 +24,7 @@ use Rattle.tt_render.specs.declared.fault.RunFault.TheVariants as run
 use Rattle.tt_render.specs.Tables.{Face, face_of, cmap_tag, cvt_tag, fpgm_tag, prep_tag, programs_in}
 use Rattle.tt_render.specs.Outcome.{needs_font}
 use Rattle.tt_render.specs.Picture.{setting_in, edges_in, frame_of}
-use Rattle.tt_render.specs.Work.{crossings_in, is_bounded}
+use Rattle.tt_render.specs.Work.{crossings_in, is_bounded, points_in}
 
 -- a defect of the directory, or of a table that every text is looked up in
 abbrev pub IsFaceDefect : List ℕ → Fault → Type 0
@@ -107,15 +107,25 @@ draw_job_fault draw.Memory = None
 abbrev pub IsExtentRefusal : Face → Job → JobFault → Type 0
 IsExtentRefusal face a j = IsRefusal (extent_of face.metrics a.ppem a.margin (text_glyphs face.cmap a.text)) j
 
--- the work of the job is bounded, and the glyphs of a line that is laid out cross the rows of its picture too often
+-- the glyphs of a line that is laid out are made of too many points
+abbrev pub HasTooManyPoints : Face → Job → Placement → Type 0
+HasTooManyPoints face a line = IsOkAnd (setting_in face a)
+    (λ s. point_work_limit < points_in s (map (λ g. g.0) line.glyphs))
+
+-- or cross the rows of its picture too often
 abbrev pub CrossesTooOften : Face → Job → Placement → Type 0
-CrossesTooOften face a line = (is_bounded a.fit ≡ true) × IsOkAnd (setting_in face a)
+CrossesTooOften face a line = IsOkAnd (setting_in face a)
     (λ s. IsOkAnd (edges_in s line) (λ glyphs. crossing_limit < crossings_in (frame_of line a.margin) glyphs))
+
+-- the work of the job is bounded, and its line is more
+abbrev pub IsTooMuchWork : Face → Job → Placement → Type 0
+IsTooMuchWork face a line =
+    (is_bounded a.fit ≡ true) × (HasTooManyPoints face a line ⊎ CrossesTooOften face a line)
 
 -- the fact for which a job is refused by a font: the extent of its picture, or the work of its glyphs
 abbrev pub IsFontRefusal : Face → Job → JobFault → Type 0
 IsFontRefusal face a fault.WorkLarge = IsOkAnd (placement face.metrics face.cmap a.text a.ppem a.margin)
-    (CrossesTooOften face a)
+    (IsTooMuchWork face a)
 IsFontRefusal face a j = IsExtentRefusal face a j
 
 -- the fact for which a job is refused, alone or by a font file: the font comes second

@@ -4,7 +4,7 @@ use Rattle.std.specs.Prelude.{ℕ, ◌*◌, ℤ, pos, ◌-ℤ◌, List, map, Res
 use Rattle.tt_arc.specs.Chords.{chord_edges}
 use Rattle.tt_core.specs.declared.fault.JobFault.{JobFault}
 use Rattle.tt_core.specs.Faults.{Fault}
-use Rattle.tt_core.specs.Limits.{crossing_limit}
+use Rattle.tt_core.specs.Limits.{crossing_limit, point_work_limit}
 use Rattle.tt_core.specs.Outcomes.{◌>>=◌, each}
 use Rattle.tt_fit.specs.Fitting.{Fitter, fitted_outline}
 use Rattle.tt_fit.specs.Outline.{Outline}
@@ -18,7 +18,7 @@ use Rattle.tt_render.specs.Job.{Job, tested}
 use Rattle.tt_render.specs.Outcome.{Refused, Wanted, as_font, as_job, outcome_of}
 use Rattle.tt_render.specs.Pixels.{is_black_pixel}
 use Rattle.tt_render.specs.Tables.{Face, face_of, glyphs_in, programs_in}
-use Rattle.tt_render.specs.Work.{crossings_in, work_tested}
+use Rattle.tt_render.specs.Work.{crossings_in, points_in, work_tested}
 
 -- what the outlines are made from: the glyph data, and what the font's programs leave at the size
 unfoldable pub setting_in : Face → Job → Result Fitter Fault
@@ -51,14 +51,21 @@ picture f glyphs = p4 f.width f.height (is_black_pixel f glyphs)
 abbrev pub edges_in : Fitter → Placement → Result (List (List Edge)) Fault
 edges_in s line = each (glyph_edges (line_fitter s (map (λ g. g.0) line.glyphs))) line.glyphs
 
--- that these cross the rows of its picture not too often for the job
+-- that the glyphs of a line are made of not too many points for the job
+abbrev pub points_tested : Fitter → Job → Placement → Result (Unit {0}) JobFault
+points_tested s a line = work_tested a.fit point_work_limit (points_in s (map (λ g. g.0) line.glyphs))
+
+-- that their edges cross the rows of its picture not too often for the job
 abbrev pub crossings_tested : Job → Placement → List (List Edge) → Result (Unit {0}) JobFault
 crossings_tested a line glyphs = work_tested a.fit crossing_limit (crossings_in (frame_of line a.margin) glyphs)
 
 -- the edges that are drawn for a job, or its first refusal
 abbrev pub line_edges : Fitter → Job → Placement → Result (List (List Edge)) Refused
 line_edges s a line =
-    as_font (edges_in s line) >>= λ glyphs. as_job (crossings_tested a line glyphs) >>= λ u. Ok glyphs
+    as_job (points_tested s a line) >>= λ u.
+    as_font (edges_in s line) >>= λ glyphs.
+    as_job (crossings_tested a line glyphs) >>= λ u.
+    Ok glyphs
 
 -- the picture of a line that is laid out
 unfoldable pub drawn : Face → Job → Placement → Result (List ℕ) Refused

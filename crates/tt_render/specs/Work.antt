@@ -1,8 +1,12 @@
 -- No part of the standard: how much work a job may be (profile). It is bounded with best alone.
 use Rattle.std.specs.Prelude.{◌≡◌, refl, ℕ, ◌+◌, ◌*◌, ◌&&◌, nat_lt, Bool, true, false, if◌then◌else◌, List, [], ◌∷◌, length, Result, Ok, Err}
+use Rattle.std.specs.List.{sum_by}
 use Rattle.tt_core.specs.declared.fault.JobFault.{JobFault}
 use Rattle.tt_core.specs.declared.fault.JobFault.TheVariants as fault
 use Rattle.tt_core.specs.Limits.{crossing_limit}
+use Rattle.tt_fit.specs.Counting.{points_asked}
+use Rattle.tt_fit.specs.Fitting.{Fitter}
+use Rattle.tt_render.specs.Distinct.{distinct}
 use Rattle.tt_fit.specs.declared.programs.Fit.{Fit}
 use Rattle.tt_fit.specs.declared.programs.Fit.TheVariants as fit
 use Rattle.tt_scan.specs.declared.edge.Edge.{Edge}
@@ -19,6 +23,10 @@ is_bounded fit.Best = true
 -- so much work, by the limit that there is for it
 unfoldable pub work_tested : Fit → ℕ → ℕ → Result (Unit {0}) JobFault
 work_tested how limit work = if is_bounded how && nat_lt limit work then Err fault.WorkLarge else Ok tt
+
+-- how many points the glyphs of a line are made of, each glyph once
+abbrev pub points_in : Fitter → List ℕ → ℕ
+points_in s gs = sum_by (points_asked s.tables s.levels) (distinct gs)
 
 -- how often the edges of some glyphs cross the rows of a picture
 abbrev pub crossings_in : Frame → List (List Edge) → ℕ

@@ -7,7 +7,7 @@ ghost use Rattle.tt_core.specs.Outcomes.{GivesUnless, FontGives, IfTold, font_fa
 ghost use Rattle.tt_line.specs.Outcome.{placement_of};
 ghost use Rattle.tt_metrics.specs.Metrics.{glyphs_of};
 ghost use Rattle.tt_render.specs.Job.{job_view, IsJob};
-ghost use Rattle.tt_render.specs.Defects.{IsSettingDefect, IsLineDefect, IsRunDefect, IsFontRefusal, CrossesTooOften, TellsDefects, draw_font_fault, draw_job_fault};
+ghost use Rattle.tt_render.specs.Defects.{IsSettingDefect, IsLineDefect, IsRunDefect, IsFontRefusal, IsTooMuchWork, TellsDefects, draw_font_fault, draw_job_fault};
 ghost use Rattle.tt_render.specs.Outcome.{refusal};
 ghost use Rattle.tt_render.specs.Picture.{drawn, pictured, setting_in};
 ghost use Rattle.tt_pbm.specs.P4.{header_bytes, p4_header_of};
@@ -24,7 +24,7 @@ use crate::job::Job;
 use crate::report::{Report, report_on};
 use crate::rows::most_edges;
 use crate::tables::{Face, open_face, open_glyf, open_programs};
-use crate::work::test_crossings;
+use crate::work::{test_crossings, test_points};
 use std::alloc::{AllocError, Global};
 use tt_core::FontFault;
 use tt_fit::Fitter;
@@ -58,8 +58,8 @@ fn open_fitter<'a>(alloc: Global, face: &Face<'a>, job: &Job) -> Result<Fitter<'
     Ok(Fitter::new(alloc, &face.metrics, glyf, programs, job.ppem, job.fit)?)
 }
 
-/// The picture of a line that is laid out. Errors: those of loca and glyf, of the programs, of the glyphs in the order
-/// of the line; WorkLarge; Memory.
+/// The picture of a line that is laid out. Errors: those of loca and glyf, of the programs; WorkLarge of its points;
+/// those of the glyphs in the order of the line; WorkLarge of its crossings; Memory.
 #[tactic(auto, unfolding(crate::specs::Picture::drawn, crate::specs::Report::line_report))]
 fn draw_line(alloc: Global, face: &Face, job: &Job, line: &Line) -> Result<Picture, DrawFault>
     requires asked { IsJob (job_view job.now) }
@@ -73,7 +73,7 @@ fn draw_line(alloc: Global, face: &Face, job: &Job, line: &Line) -> Result<Pictu
     ensures report { IfOk result (λ p. line_report (face_view face.now) (job_view job.now) (placement_of line.now) ≡ Ok p.report.unfitted.items) }
     ensures once { IfOk result (λ p. ListsOnce p.report.unfitted.items) }
     ensures defects { TellsDefects draw_font_fault (IsLineDefect (face_view face.now) (job_view job.now) (map (λ g. g.0) line.now.glyphs.items)) result }
-    ensures work { IfTold draw_job_fault result (λ j. (j ≡ WorkLarge) × CrossesTooOften (face_view face.now) (job_view job.now) (placement_of line.now)) }
+    ensures work { IfTold draw_job_fault result (λ j. (j ≡ WorkLarge) × IsTooMuchWork (face_view face.now) (job_view job.now) (placement_of line.now)) }
 {
     let mut fitter = open_fitter(alloc, face, job)?;
     let frame = Frame {
@@ -83,6 +83,7 @@ fn draw_line(alloc: Global, face: &Face, job: &Job, line: &Line) -> Result<Pictu
         rise: line.rise,
     };
     let count = face.metrics.glyphs();
+    test_points(alloc, job.fit, &fitter, count, &line.glyphs)?;
     let glyphs = line_glyphs(alloc, &mut fitter, count, &line.glyphs, frame)?;
     test_crossings(job.fit, &glyphs)?;
     Ok(ready(alloc, frame, glyphs)?)
@@ -111,8 +112,8 @@ fn ready(alloc: Global, frame: Frame, glyphs: Vec<Glyph>) -> Result<Picture, All
 }
 
 /// The picture of a job by a font file. Errors, the first of: those of the tables that every text is
-/// looked up in; EmptyPicture, PictureLarge; those of loca and glyf; those of the programs; those of the glyphs in the
-/// order of the text; WorkLarge. Memory comes where a growth was refused.
+/// looked up in; EmptyPicture, PictureLarge; those of loca and glyf; those of the programs; WorkLarge of its points;
+/// those of the glyphs in the order of the text; WorkLarge of its crossings. Memory comes where a growth was refused.
 #[tactic(auto, unfolding(crate::specs::Picture::pictured, crate::specs::Report::report_of))]
 pub(crate) fn draw(alloc: Global, file: &[u8], job: &Job) -> Result<Picture, DrawFault>
     requires size { length file.now ≤ font_limit }

@@ -1,6 +1,7 @@
 //! A font and a text, from a reader to a writer.
 #![tactic(auto)]
 
+mod distinct;
 mod drawing;
 mod fault;
 mod glyph;

@@ -1,14 +1,20 @@
 //! The work of a job, which is bounded with `Fit::Best`.
 
-ghost use Rattle.std.specs.Prelude.{◌≡◌, ◌≤◌, ◌-◌, ◌^◌, nat_lt, ◌&&◌, min, length, All};
-ghost use Rattle.tt_core.specs.Limits.{crossing_limit};
-ghost use Rattle.tt_core.specs.Outcomes.{Gives};
+ghost use Rattle.std.specs.List.{sum_by};
+ghost use Rattle.std.specs.Prelude.{◌≡◌, ◌<◌, ◌≤◌, ◌-◌, ◌^◌, nat_lt, ◌&&◌, min, length, map, All, IfOk};
+ghost use Rattle.tt_core.specs.Limits.{crossing_limit, point_work_limit};
+ghost use Rattle.tt_core.specs.Outcomes.{Gives, GivesUnless};
+ghost use Rattle.tt_fit.specs.Counting.{left_of, points_asked};
 ghost use Rattle.tt_render.specs.Glyphs.{crossings_standing};
-ghost use Rattle.tt_render.specs.Work.{is_bounded, work_tested};
+ghost use Rattle.tt_render.specs.Outcome.{as_job, refusal};
+ghost use Rattle.tt_render.specs.Work.{is_bounded, points_in, work_tested};
 
+use crate::distinct::distinct;
+use crate::fault::DrawFault;
 use crate::glyph::Glyph;
-use tt_core::{CROSSING_LIMIT, JobFault};
-use tt_fit::Fit;
+use std::alloc::{AllocError, Global};
+use tt_core::{CROSSING_LIMIT, JobFault, POINT_WORK_LIMIT};
+use tt_fit::{Fit, Fitter};
 
 /// Whether the work of a job is bounded.
 fn is_bounded(fit: Fit) -> bool
@@ -18,6 +24,45 @@ fn is_bounded(fit: Fit) -> bool
         Fit::Full | Fit::None | Fit::Fallback => false,
         Fit::Best => true,
     }
+}
+
+/// Errors: WorkLarge, where the work of a job is bounded and the glyphs of its line, each once, are made of too many
+/// points; Memory.
+#[tactic(auto, unfolding(crate::specs::Work::work_tested))]
+pub(crate) fn test_points(
+    alloc: Global,
+    fit: Fit,
+    fitter: &Fitter,
+    glyphs: u16,
+    line: &[(u16, u32)],
+) -> Result<(), DrawFault>
+    requires glyphs { glyphs ≡ fitter.now.tables.glyphs }
+    requires known { All (λ g. g.0 < glyphs) line.now }
+    ensures exact { GivesUnless refusal (λ u. u) result (as_job (work_tested fit point_work_limit (points_in fitter.now (map (λ g. g.0) line.now)))) }
+{
+    if !is_bounded(fit) {
+        return Ok(());
+    }
+    let numbers = distinct(alloc, glyphs, line)?;
+    match points_left(fitter, numbers.as_slice(), POINT_WORK_LIMIT)? {
+        Some(_) => Ok(()),
+        None => Err(DrawFault::Job(JobFault::WorkLarge)),
+    }
+}
+
+/// What some glyphs leave of so many points, or None where they are made of more. Error: want of memory.
+fn points_left(fitter: &Fitter, glyphs: &[u16], most: u64) -> Result<Option<u64>, AllocError>
+    requires { All (λ g. g < fitter.now.tables.glyphs) glyphs.now }
+    ensures { IfOk result (λ left. left ≡ left_of most (sum_by (points_asked fitter.now.tables fitter.now.levels) glyphs.now)) }
+{
+    let mut left = most;
+    for glyph in glyphs {
+        match fitter.points(*glyph, left)? {
+            Some(points) => left -= points,
+            None => return Ok(None),
+        }
+    }
+    Ok(Some(left))
 }
 
 /// Error: WorkLarge, where the work of a job is bounded and its glyphs at their pens cross the rows of the picture too

@@ -16,7 +16,7 @@ use Rattle.tt_render.specs.Views.{picture_bytes}
 use Rattle.tt_render.proofs.Alike.{same_picture}
 use Rattle.tt_render.proofs.Listing.{of_line, lists_once}
 use Rattle.tt_render.proofs.Places.{ok_and}
-use Rattle.tt_render.proofs.Stopped.{crossings_stop, crossings_tell, drawing_refuses_no_job, font_tells, glyph_stops, setting_stops}
+use Rattle.tt_render.proofs.Stopped.{crossings_stop, crossings_tell, drawing_refuses_no_job, font_tells, glyph_stops, points_stop, points_tell, points_tell_no_defect, setting_stops}
 use Rattle.tt_render.proofs.Telling.{glyph_tells, no_line_defect, setting_tells}
 use Rattle.tt_render.proofs.drawing.draw_line.Goals as goal
 
@@ -40,12 +40,37 @@ returns-in_err-fitter-clause-work c =
     let p = err_from_is_err_and c.from_residual.result c.from_residual.ensures.1 in
     rw (p.1, p.2) (drawing_refuses_no_job _ c.in_err-fitter.field-0.0)
 
+pub returns-in_err-test_points-clause-exact : goal.returns-in_err-test_points-clause-exact
+returns-in_err-test_points-clause-exact c =
+    let p = err_from_is_err_and c.from_residual-in_err-test_points.result
+    c.from_residual-in_err-test_points.ensures.1 in
+    let fails = rw c.deref.ensures.value at c.in_err-test_points.ensures.exact in
+    rw (p.1, p.2) (points_stop (face_view c.args.face.now) (job_view c.args.job.now) (placement_of c.args.line.now)
+    c.in_ok-fitter.fitter c.in_err-test_points.field-0.0 c.in_ok-fitter.ensures.exact fails)
+
+pub returns-in_err-test_points-clause-defects : goal.returns-in_err-test_points-clause-defects
+returns-in_err-test_points-clause-defects c =
+    let p = err_from_is_err_and c.from_residual-in_err-test_points.result
+    c.from_residual-in_err-test_points.ensures.1 in
+    let fails = rw c.deref.ensures.value at c.in_err-test_points.ensures.exact in
+    rw (p.1, p.2) (points_tell_no_defect _ c.in_ok-fitter.fitter (job_view c.args.job.now)
+    (placement_of c.args.line.now) c.in_err-test_points.field-0.0 fails)
+
+pub returns-in_err-test_points-clause-work : goal.returns-in_err-test_points-clause-work
+returns-in_err-test_points-clause-work c =
+    let p = err_from_is_err_and c.from_residual-in_err-test_points.result
+    c.from_residual-in_err-test_points.ensures.1 in
+    let fails = rw c.deref.ensures.value at c.in_err-test_points.ensures.exact in
+    rw (p.1, p.2) (points_tell (face_view c.args.face.now) (job_view c.args.job.now) (placement_of c.args.line.now)
+    c.in_ok-fitter.fitter c.in_err-test_points.field-0.0 c.in_ok-fitter.ensures.exact fails)
+
 pub returns-in_err-glyphs-clause-exact : goal.returns-in_err-glyphs-clause-exact
 returns-in_err-glyphs-clause-exact c =
     let p = err_from_is_err_and c.from_residual-in_err-glyphs.result c.from_residual-in_err-glyphs.ensures.1 in
-    let fails = rw c.deref.ensures.value at c.in_err-glyphs.ensures.fault in
+    let few = rw c.deref.ensures.value at c.in_ok-test_points.ensures.exact in
+    let fails = rw c.deref-2.ensures.value at c.in_err-glyphs.ensures.fault in
     rw (p.1, p.2) (glyph_stops (face_view c.args.face.now) (job_view c.args.job.now) (placement_of c.args.line.now)
-    c.in_ok-fitter.fitter c.in_err-glyphs.field-0.0 c.in_ok-fitter.ensures.exact fails)
+    c.in_ok-fitter.fitter c.in_err-glyphs.field-0.0 c.in_ok-fitter.ensures.exact few fails)
 
 pub returns-in_err-glyphs-clause-defects : goal.returns-in_err-glyphs-clause-defects
 returns-in_err-glyphs-clause-defects c =
@@ -54,7 +79,7 @@ returns-in_err-glyphs-clause-defects c =
     let s = c.in_ok-fitter.fitter in
     let line = c.args.line.now.glyphs.items in
     let p = err_from_is_err_and c.from_residual-in_err-glyphs.result c.from_residual-in_err-glyphs.ensures.1 in
-    let fails = rw c.deref.ensures.value at c.in_err-glyphs.ensures.fault in
+    let fails = rw c.deref-2.ensures.value at c.in_err-glyphs.ensures.fault in
     rw (p.1, p.2) (font_tells (IsLineDefect face a (map (λ g. g.0) line)) c.in_err-glyphs.field-0.0
     (glyph_tells {X = List (List Edge)} (λ es. es) face a s line c.in_ok-fitter.ensures.exact
     c.in_err-glyphs.field-0.0 fails))
@@ -72,11 +97,12 @@ returns-in_err-test_crossings-clause-exact c =
     let s = c.in_ok-fitter.fitter in
     let p = err_from_is_err_and c.from_residual-in_err-test_crossings.result
     c.from_residual-in_err-test_crossings.ensures.1 in
-    let stand = simp to_z-of_z at (rw c.deref.ensures.value at c.in_ok-glyphs.ensures.stand) in
+    let stand = simp to_z-of_z at (rw c.deref-2.ensures.value at c.in_ok-glyphs.ensures.stand) in
     let made = ok_and (edges_in s l) (Stand (frame_of l a.margin) c.in_ok-glyphs.glyphs.items) stand in
-    let refused = rw (c.deref-2.ensures.value, made.2.crossings) at c.in_err-test_crossings.ensures.exact in
+    let refused = rw (c.deref-3.ensures.value, made.2.crossings) at c.in_err-test_crossings.ensures.exact in
+    let few = rw c.deref.ensures.value at c.in_ok-test_points.ensures.exact in
     rw (p.1, p.2) (crossings_stop (face_view c.args.face.now) a l s made.0 c.in_err-test_crossings.field-0.0
-    c.in_ok-fitter.ensures.exact made.1 refused)
+    c.in_ok-fitter.ensures.exact few made.1 refused)
 
 pub returns-in_err-test_crossings-clause-work : goal.returns-in_err-test_crossings-clause-work
 returns-in_err-test_crossings-clause-work c =
@@ -86,16 +112,16 @@ returns-in_err-test_crossings-clause-work c =
     let s = c.in_ok-fitter.fitter in
     let p = err_from_is_err_and c.from_residual-in_err-test_crossings.result
     c.from_residual-in_err-test_crossings.ensures.1 in
-    let stand = simp to_z-of_z at (rw c.deref.ensures.value at c.in_ok-glyphs.ensures.stand) in
+    let stand = simp to_z-of_z at (rw c.deref-2.ensures.value at c.in_ok-glyphs.ensures.stand) in
     let made = ok_and (edges_in s l) (Stand (frame_of l a.margin) c.in_ok-glyphs.glyphs.items) stand in
-    let refused = rw (c.deref-2.ensures.value, made.2.crossings) at c.in_err-test_crossings.ensures.exact in
+    let refused = rw (c.deref-3.ensures.value, made.2.crossings) at c.in_err-test_crossings.ensures.exact in
     rw (p.1, p.2) (crossings_tell (face_view c.args.face.now) a l s made.0 c.in_err-test_crossings.field-0.0
     c.in_ok-fitter.ensures.exact made.1 refused)
 
 pub test_crossings-requires : goal.test_crossings-requires
 test_crossings-requires c =
-    let valid = rw c.deref.ensures.value at c.in_ok-glyphs.ensures.valid in
-    rw c.deref-2.ensures.value (record { tapes = λ k d below. (valid k d below).fits.edges })
+    let valid = rw c.deref-2.ensures.value at c.in_ok-glyphs.ensures.valid in
+    rw c.deref-3.ensures.value (record { tapes = λ k d below. (valid k d below).fits.edges })
 
 pub returns-clause-exact : goal.returns-clause-exact
 unfolding drawn
@@ -107,21 +133,22 @@ returns-clause-exact c =
     let rise : SFits w32 line.rise = let small = c.requires.rise in omega (arith, ints) in
     let frame = frame_of (placement_of line) c.args.job.now.margin in
     let glyphs = c.in_ok-glyphs.glyphs.items in
-    let black = simp to_z-of_z at (rw c.deref.ensures.value at c.in_ok-glyphs.ensures.stand) in
+    let black = simp to_z-of_z at (rw c.deref-2.ensures.value at c.in_ok-glyphs.ensures.stand) in
     let made = ok_and (each (glyph_edges maker) line.glyphs.items) (Stand frame glyphs) black in
     let ready = c.in_ok-ready.ensures in
     let p = c.in_ok-ready.field-0 in
     let its_frame : p.frame ≡ frame = simp to_z-of_z at ready.frame in
     let bytes : picture_bytes p ≡ picture frame made.0 = rw (its_frame, ready.glyphs)
     (same_picture frame glyphs made.0 (header_bytes p.header) ready.header made.2.black) in
-    let tested = rw (c.deref-2.ensures.value, made.2.crossings) at c.in_ok-test_crossings.ensures.exact in
-    rw (there, made.1, tested) (ap Ok {x = picture frame made.0} {y = picture_bytes p} (sym bytes))
+    let tested = rw (c.deref-3.ensures.value, made.2.crossings) at c.in_ok-test_crossings.ensures.exact in
+    let few = rw c.deref.ensures.value at c.in_ok-test_points.ensures.exact in
+    rw (there, few, made.1, tested) (ap Ok {x = picture frame made.0} {y = picture_bytes p} (sym bytes))
 
 pub returns-clause-defects : goal.returns-clause-defects
 returns-clause-defects c =
     let s = c.in_ok-fitter.fitter in
     let gs = c.args.line.now.glyphs.items in
-    let black = rw c.deref.ensures.value at c.in_ok-glyphs.ensures.stand in
+    let black = rw c.deref-2.ensures.value at c.in_ok-glyphs.ensures.stand in
     let made = ok_and (each (glyph_edges (line_fitter s (map (λ g. g.0) gs))) gs) _ black in
     no_line_defect (face_view c.args.face.now) (job_view c.args.job.now) s gs made.0 c.in_ok-fitter.ensures.exact
     c.in_ok-fitter.ensures.defects made.1
@@ -135,23 +162,24 @@ returns-clause-report c =
     let s = c.in_ok-fitter.fitter in
     let there = c.in_ok-fitter.ensures.exact in
     let glyphs = c.in_ok-glyphs.glyphs.items in
-    let numbers = rw c.deref.ensures.value at c.in_ok-glyphs.ensures.numbers in
-    let valid = rw c.deref.ensures.value at c.in_ok-glyphs.ensures.valid in
-    let stand = simp to_z-of_z at (rw c.deref.ensures.value at c.in_ok-glyphs.ensures.stand) in
+    let numbers = rw c.deref-2.ensures.value at c.in_ok-glyphs.ensures.numbers in
+    let valid = rw c.deref-2.ensures.value at c.in_ok-glyphs.ensures.valid in
+    let stand = simp to_z-of_z at (rw c.deref-2.ensures.value at c.in_ok-glyphs.ensures.stand) in
     let made = ok_and (edges_in s l) (Stand (frame_of l a.margin) glyphs) stand in
-    let tested = rw (c.deref-2.ensures.value, made.2.crossings) at c.in_ok-test_crossings.ensures.exact in
+    let tested = rw (c.deref-3.ensures.value, made.2.crossings) at c.in_ok-test_crossings.ensures.exact in
     let entries = of_line (line_fitter s (map (λ g. g.0) c.args.line.now.glyphs.items)) _ glyphs
     c.args.line.now.glyphs.items c.in_ok-ready.field-0.report.unfitted.items
     valid numbers c.in_ok-ready.ensures.report in
-    rw (there, made.1, tested, entries) refl
+    let few = rw c.deref.ensures.value at c.in_ok-test_points.ensures.exact in
+    rw (there, few, made.1, tested, entries) refl
 
 pub returns-clause-once : goal.returns-clause-once
 returns-clause-once c =
     let s = c.in_ok-fitter.fitter in
     let glyphs = c.in_ok-glyphs.glyphs.items in
     let line = c.args.line.now.glyphs.items in
-    let numbers = rw c.deref.ensures.value at c.in_ok-glyphs.ensures.numbers in
-    let valid = rw c.deref.ensures.value at c.in_ok-glyphs.ensures.valid in
+    let numbers = rw c.deref-2.ensures.value at c.in_ok-glyphs.ensures.numbers in
+    let valid = rw c.deref-2.ensures.value at c.in_ok-glyphs.ensures.valid in
     let entries = of_line (line_fitter s (map (λ g. g.0) line)) _ glyphs line c.in_ok-ready.field-0.report.unfitted.items
     valid numbers c.in_ok-ready.ensures.report in
     rw entries (lists_once (line_fitter s (map (λ g. g.0) line)) (map (λ g. g.0) line))
