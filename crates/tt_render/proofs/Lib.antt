@@ -17,3 +17,4 @@ mod Listing
 mod Whole
 mod Answered
 mod Stopped
+mod FirstMet

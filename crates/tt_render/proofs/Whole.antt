@@ -9,7 +9,7 @@ use Rattle.tt_core.specs.Directory.{directory_of, record_end, record_of, named_b
 use Rattle.tt_core.specs.Faults.{Fault}
 use Rattle.tt_core.specs.Laws.{DirectoriesAreWhole, DirectoriesAreFiles, TablesAreWhole}
 use Rattle.tt_core.specs.Limits.{font_limit}
-use Rattle.tt_core.specs.Outcomes.{◌>>=◌, each}
+use Rattle.tt_core.specs.Outcomes.{◌>>=◌}
 use Rattle.tt_fit.specs.declared.programs.Fit.{Fit}
 use Rattle.tt_fit.specs.declared.programs.Fit.TheVariants as fit
 use Rattle.tt_fit.specs.Fitting.{Fitter}
@@ -21,7 +21,6 @@ use Rattle.tt_line.specs.Laws.{PlacesGlyphs}
 use Rattle.tt_line.specs.Layout.{Placement, placement}
 use Rattle.tt_metrics.specs.Laws.{MetricsAreWhole}
 use Rattle.tt_metrics.specs.Metrics.{Metrics, metrics_of, glyphs_of, IsMetricsDefect}
-use Rattle.tt_render.specs.Distinct.{line_fitter}
 use Rattle.tt_render.specs.Job.{Job, tested, text_tested}
 use Rattle.tt_render.specs.Defects.{IsFaceDefect, IsGlyphTableDefect, HasProgramPastEnd, IsProgramTableDefect, IsSettingDefect, IsLineDefect, IsRunDefect}
 use Rattle.tt_render.specs.Tables.{Face, cmap_tag, face_of, cvt_tag, fpgm_tag, prep_tag, or_empty, optional_table, all_programs_in, programs_in, glyphs_in}
