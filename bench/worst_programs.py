@@ -17,6 +17,9 @@ has at most 32 records, components lie at most four deep, and a glyph has at mos
     bench/worst_programs.py entries FONT   32 records at each of two depths; each third step is MINDEX of 7,900 entries
     bench/worst_programs.py meeting FONT   the same; each third step is ISECT of lines at a slant
     bench/worst_programs.py leaning FONT   the same; IP of 7,900 points, by vectors off the axes
+    bench/worst_programs.py lines FONT     the same; each third step is SDPVTL of points at a slant
+    bench/worst_programs.py moves FONT     the same; each third step is MIRP, by vectors off the axes
+    bench/worst_programs.py pushes FONT    the same; each fourth step pushes 255 bytes
 
 To be drawn by `tt_render draw --size 16 FONT A`.
 """
@@ -51,6 +54,12 @@ BODIES = {
     "entries": b"\xb8" + small.words(7900) + b"\x26",
     # PUSHB 3, 0, 1, 2, 3, ISECT
     "meeting": bytes.fromhex("B4 03 00 01 02 03 0F"),
+    # PUSHB 0, 1, SDPVTL
+    "lines": bytes.fromhex("B1 00 01 86"),
+    # PUSHB 3, 0, MIRP
+    "moves": bytes.fromhex("B1 03 00 FF"),
+    # NPUSHB 255, CLEAR
+    "pushes": ENTRIES[:257] + b"\x22",
     # 7,905 entries, PUSHW 7,900, SLOOP, IP, CLEAR
     "leaning": ENTRIES + b"\xb8" + small.words(7900) + bytes.fromhex("17 39 22"),
 }
@@ -139,6 +148,9 @@ def main():
         "entries": lambda: tree(2, b"", slanted_with(calls(32767, ENTRIES))),
         "meeting": lambda: tree(2, b"", slanted_with(calls(32767) * 10)),
         "leaning": lambda: tree(2, b"", slanted_with(calls(25000, SLANTED))),
+        "lines": lambda: tree(2, b"", slanted_with(calls(32767) * 10)),
+        "moves": lambda: tree(2, b"", slanted_with(SLANTED + calls(32767) * 10)),
+        "pushes": lambda: tree(2, b"", slanted_with(calls(32767) * 10)),
     }[sys.argv[1]]()
     metrics = [(0, 0), (256, 0)] + [(0, 0)] * (len(glyphs) - 2)
     others = large_tables(len(glyphs)) if sys.argv[1].startswith("cop") else {}

@@ -155,6 +155,9 @@ HOSTILE = {
     "entries": (0, 1, "30 StepLimit"),
     "meeting": (0, 1, "30 StepLimit"),
     "leaning": (0, 1, "30 StepLimit"),
+    "lines": (0, 1, "30 StepLimit"),
+    "moves": (0, 1, "30 StepLimit"),
+    "pushes": (0, 1, "30 StepLimit"),
     "on": (2, 1, "65 WorkLarge"),
 }
 

@@ -1,7 +1,8 @@
 -- No part of the standard: how much work a run is, where the work of a job is bounded (profile). A step is one, and the
--- points or stack entries that its instruction goes over and the bytes that its skip passes are one each, but points
--- that are named on the stack four each, since IP between leaning lines takes that long; so is one, when a run begins,
--- each control value, storage place, twilight point and definition that was copied for it.
+-- points or stack entries that its instruction goes over and the bytes that its skip passes are one each; so is, when a
+-- run begins, each control value, storage place, twilight point and definition that was copied for it. What takes longer
+-- weighs more: a point that is moved by itself or named on the stack is four, a vector or a place that is found from
+-- lines is 32.
 use Rattle.std.specs.Prelude.{ℕ, zero, suc, ◌+◌, ◌-◌, ◌*◌, ◌==◌, ◌||◌, ◌&&◌, min, nat_le, ℤ, pos, unsigned_abs, Bool, if◌then◌else◌, List, [], ◌∷◌, length, slice_index, Option, Some, None, Result, Ok, Err}
 use Rattle.tt_core.specs.Faults.{Fault}
 use Rattle.tt_core.specs.Limits.{step_limit}
@@ -53,14 +54,34 @@ is_of_glyph op = op == 0x30 || op == 0x31 || op == 0x81 || op == 0x82
 abbrev pub is_of_zone : ℕ → Bool
 is_of_zone op = nat_le 0x34 op && nat_le op 0x37
 
--- the points or stack entries that an instruction goes over, the former named on the stack weighed fourfold; those of a
--- contour, a zone or a range are counted as all that there are
+-- MDAP, MSIRP, MIAP, SCFS, MDRP and MIRP move a point
+abbrev pub moves_one : ℕ → Bool
+moves_one op = op == 0x2E || op == 0x2F || op == 0x3A || op == 0x3B || op == 0x3E || op == 0x3F || op == 0x48 || nat_le 0xC0 op
+
+-- SPVTL, SFVTL, SPVFS, SFVFS, ISECT and SDPVTL find a vector, or where lines meet
+abbrev pub is_of_lines : ℕ → Bool
+is_of_lines op = (nat_le 0x06 op && nat_le op 0x0B) || op == 0x0F || op == 0x86 || op == 0x87
+
+-- NPUSHB and NPUSHW push as many entries as the byte after them says
+abbrev pub is_push_of_many : ℕ → Bool
+is_push_of_many op = op == 0x40 || op == 0x41
+
+-- what an instruction weighs besides, whatever the loop variable and the stack are; ALIGNPTS moves two points
+abbrev pub weight : ℕ → MachineState → ℕ
+weight op m =
+    if moves_one op then 4 else (
+    if op == 0x27 then 8 else (
+    if is_of_lines op then 32 else (
+    if is_push_of_many op then slice_index m.frame.code.bytes (m.frame.place + 1) else 0)))
+
+-- the points or stack entries that an instruction goes over, by their weight; those of a contour, a zone or a range are
+-- counted as all that there are
 abbrev pub gone_over : ℕ → MachineState → ℕ
 gone_over op m =
     if is_looped op then 4 * of_stack m.graphics.loops m else (
     if is_counted op then of_stack (unsigned_abs (top_of m.stack)) m else (
     if is_of_glyph op then length m.zones.glyph else (
-    if is_of_zone op then length m.zones.twilight + length m.zones.glyph else 0)))
+    if is_of_zone op then length m.zones.twilight + length m.zones.glyph else weight op m)))
 
 -- the bytes after an opcode that a skip from it passes, up to the program's end where it finds none
 abbrev pub passed_by : MachineState → Result ℕ Halt → ℕ

@@ -25,8 +25,27 @@ impl MachineState<'_> {
         (n as u64).min(self.stack.len() as u64)
     }
 
-    /// The points or stack entries that the instruction of an opcode goes over; points named on the stack weigh fourfold.
+    /// What the instruction of an opcode weighs besides, whatever the loop variable and the stack are.
+    fn weight(&self, op: u8) -> u64
+        requires { self.now.frame.place < length self.now.frame.code.bytes.now }
+        ensures exact { result ≡ is.weight op (state_of self.now) }
+        ensures few { result < 2 ^ 8 }
+    {
+        match op {
+            0x2E | 0x2F | 0x3A | 0x3B | 0x3E | 0x3F | 0x48 | 0xC0..=0xFF => 4,
+            0x27 => 8,
+            0x06..=0x0B | 0x0F | 0x86 | 0x87 => 32,
+            0x40 | 0x41 => match self.frame.code.bytes.get(self.frame.place + 1) {
+                Some(count) => u64::from(*count),
+                None => 0,
+            },
+            _ => 0,
+        }
+    }
+
+    /// The points or stack entries that the instruction of an opcode goes over, by their weight.
     fn gone_over(&self, op: u8) -> u64
+        requires { self.now.frame.place < length self.now.frame.code.bytes.now }
         ensures exact { result ≡ is.gone_over op (state_of self.now) }
         ensures few { result < 2 ^ 63 }
     {
@@ -35,7 +54,7 @@ impl MachineState<'_> {
             0x26 | 0x5D | 0x71..=0x75 => self.of_stack(self.top_of_stack().unsigned_abs()),
             0x30 | 0x31 | 0x81 | 0x82 => self.points.glyph_count() as u64,
             0x34..=0x37 => (self.points.twilight_count() + self.points.glyph_count()) as u64,
-            _ => 0,
+            _ => self.weight(op),
         }
     }
 
