@@ -1,0 +1,76 @@
+-- OpenType, "TrueType Fundamentals", the scan converter: where edges cross the centre lines of rows, and between which
+-- pixels. Columns are the rows of an outline with x and y exchanged. In 1/8192 pixel, but for the numbers of lines and
+-- gaps. That a crossing is cut to a whole number is profile.
+use Rattle.std.specs.Prelude.{◌≡◌, refl, ℕ, ◌+◌, Bool, not, if◌then◌else◌, ◌==◌, ◌&&◌, ℤ, pos, ◌+ℤ◌, ◌-ℤ◌, ◌*ℤ◌, int_lt, unsigned_abs, List, [], ◌∷◌, map}
+use Rattle.std.specs.List.{range_with_len}
+use Rattle.std.specs.Int.{int_div_euclid, int_rem_euclid}
+use Rattle.tt_scan.specs.declared.edge.Edge.{Edge}
+use Rattle.tt_scan_dropouts.specs.declared.mark.Crossing.{Crossing}
+
+-- where line j stands, and centre c of a row
+abbrev pub centre : ℤ → ℤ
+centre j = pos 8192 *ℤ j +ℤ pos 4096
+
+-- the first line that is not below a height
+abbrev pub line_from : ℤ → ℤ
+line_from y = int_div_euclid (y +ℤ pos 4095) (pos 8192)
+
+-- the edge from its lower end to its upper
+abbrev pub upward : Edge → Edge
+upward e = if int_lt e.by e.ay then record { ax = e.bx; ay = e.by; bx = e.ax; by = e.ay } else e
+
+-- both rise, or neither
+abbrev pub agree : Bool → Bool → Bool
+agree up other = if up then other else not other
+
+abbrev pub is_rising : Edge → Bool
+is_rising e = int_lt e.ay e.by
+
+-- an edge crosses the lines from its lower end up to its upper: the former counts, the latter does not
+abbrev pub lines_crossed : Edge → ℕ
+lines_crossed e = unsigned_abs (line_from e.by -ℤ line_from e.ay)
+
+-- the lines in the order in which it crosses them
+abbrev pub line_crossed : Edge → ℕ → ℤ
+line_crossed e k = if is_rising e then line_from e.ay +ℤ pos k else line_from e.ay -ℤ pos (k + 1)
+
+-- where an edge stands at a height, cut to a whole number
+abbrev pub edge_x : Edge → ℤ → ℤ
+edge_x e y = let u = upward e in u.ax +ℤ int_div_euclid ((u.bx -ℤ u.ax) *ℤ (y -ℤ u.ay)) (u.by -ℤ u.ay)
+
+-- the gap from centre c up to the next, and how far from that centre
+abbrev pub gap_at : ℤ → ℤ
+gap_at x = int_div_euclid (x -ℤ pos 4096) (pos 8192)
+
+abbrev pub place_at : ℤ → ℕ
+place_at x = unsigned_abs (int_rem_euclid (x -ℤ pos 4096) (pos 8192))
+
+-- a place of a line
+abbrev pub crossing_at : Bool → ℤ → ℤ → Crossing
+crossing_at up j x = record { line = j; gap = gap_at x; place = place_at x; up = up }
+
+abbrev pub crossing : Edge → ℤ → Crossing
+crossing e j = crossing_at (is_rising e) j (edge_x e (centre j))
+
+-- the crossings of an edge, from its start to its end
+abbrev pub crossings : Edge → List Crossing
+crossings e = map (λ k. crossing e (line_crossed e k)) (range_with_len 0 (lines_crossed e))
+
+-- the upper end of an edge that is not level, where it lies on a line: the edge touches the line and does not cross it
+abbrev pub touches : Edge → List Crossing
+touches e =
+    let u = upward e in
+    if int_lt u.ay u.by && (unsigned_abs (int_rem_euclid (u.by -ℤ pos 4096) (pos 8192)) == 0)
+    then crossing_at (is_rising e) (gap_at u.by) u.bx ∷ [] else []
+
+-- worked values: an edge that rises from (1, 0) to (2, 3) pixels crosses three lines
+rising : Edge
+rising = record { ax = pos 8192; ay = pos 0; bx = pos 16384; by = pos 24576 }
+
+it_crosses_three_lines : map (λ (c : Crossing). c.line) (crossings rising) ≡ pos 0 ∷ pos 1 ∷ pos 2 ∷ []
+unfolding rising
+it_crosses_three_lines = refl
+
+at_its_places : map (λ (c : Crossing). c.place) (crossings rising) ≡ 5461 ∷ 0 ∷ 2730 ∷ []
+unfolding rising
+at_its_places = refl

@@ -1,0 +1,61 @@
+-- The dropouts of a glyph: first all rows are passed over, then all columns, for which the pixels that the rows added
+-- are black (profile).
+use Rattle.std.specs.Prelude.{Bool, ◌||◌, ℤ, pos, List, [], ◌∷◌, map}
+use Rattle.std.specs.List.{flat_map}
+use Rattle.std.specs.Int.{int_max, int_min}
+use Rattle.tt_scan.specs.declared.edge.Edge.{Edge}
+use Rattle.tt_scan.specs.Winding.{is_black}
+use Rattle.tt_scan_dropouts.specs.Crossings.{centre}
+use Rattle.tt_scan_dropouts.specs.Gaps.{columns_between, is_added}
+use Rattle.tt_scan_dropouts.specs.Walk.{marks}
+use Rattle.tt_scan_dropouts.specs.declared.mark.Columns.{Columns}
+use Rattle.tt_scan_dropouts.specs.declared.mark.Rules.{Rules}
+
+-- x and y exchanged
+abbrev pub turned_round : Edge → Edge
+turned_round e = record { ax = e.ay; ay = e.ax; bx = e.by; by = e.bx }
+
+abbrev pub outline_turned : List (List Edge) → List (List Edge)
+outline_turned contours = map (map turned_round) contours
+
+-- the edges of all contours
+abbrev pub edges_of : List (List Edge) → List Edge
+edges_of contours = flat_map (λ es. es) contours
+
+-- the least and the greatest x of the edge ends
+abbrev pub least_x : ℤ → List Edge → ℤ
+least_x x [] = x
+least_x x (e ∷ es) = least_x (int_min x (int_min e.ax e.bx)) es
+
+abbrev pub greatest_x : ℤ → List Edge → ℤ
+greatest_x x [] = x
+greatest_x x (e ∷ es) = greatest_x (int_max x (int_max e.ax e.bx)) es
+
+-- the columns of an outline's box
+abbrev pub columns_of : List Edge → Columns
+columns_of [] = record { first = pos 0; last = pos 0 }
+columns_of (e ∷ es) = columns_between (least_x e.ax (e ∷ es)) (greatest_x e.ax (e ∷ es))
+
+-- what the pass over an outline's rows adds, where so much is black
+abbrev pub row_adds : Rules → List (List Edge) → (ℤ → ℤ → Bool) → ℤ → ℤ → Bool
+row_adds rules contours black c j =
+    is_added rules (columns_of (edges_of contours)) (marks rules.stubs contours) black c j
+
+-- black by rules 1 and 2
+abbrev pub is_inked : List (List Edge) → ℤ → ℤ → Bool
+is_inked contours c j = is_black (edges_of contours) (centre c) (centre j)
+
+abbrev pub is_added_by_rows : Rules → List (List Edge) → ℤ → ℤ → Bool
+is_added_by_rows rules contours c j = row_adds rules contours (is_inked contours) c j
+
+-- columns: what is black now, with column and row exchanged
+abbrev pub is_added_by_columns : Rules → List (List Edge) → ℤ → ℤ → Bool
+is_added_by_columns rules contours c j = row_adds rules (outline_turned contours)
+    (λ j c. is_inked contours c j || is_added_by_rows rules contours c j) j c
+
+-- the pixel of column c and row j, counted rightwards from the glyph's origin and upwards from the base line, is a
+-- dropout
+abbrev pub is_dropout : Rules → List (List Edge) → ℤ → ℤ → Bool
+is_dropout rules contours c j = is_added_by_rows rules contours c j || is_added_by_columns rules contours c j
+
+-- worked values: Examples.antt

@@ -1,0 +1,247 @@
+-- Worked pictures of outlines whose points are in 26.6, so that pixel centres stand at 32, 96, 160 and 224: by the scan
+-- types 0, 1, 4 and 5, side by side, from the top row down. `#` is black by rules 1 and 2, `r` is added by the rows and `c`
+-- by the columns.
+use Rattle.std.specs.Prelude.{◌≡◌, refl, ℕ, ◌*◌, true, false, if◌then◌else◌, pos, List, [], ◌∷◌, ◌++◌, map, codes}
+use Rattle.std.specs.List.{range_with_len}
+use Rattle.tt_scan.specs.declared.edge.Edge.{Edge}
+use Rattle.tt_scan_dropouts.specs.Dropouts.{is_inked, is_added_by_rows, is_added_by_columns}
+use Rattle.tt_scan_dropouts.specs.declared.mark.Rules.{Rules}
+
+-- the edge between two points
+line : ℕ × ℕ → ℕ × ℕ → Edge
+line a b = record { ax = pos (128 * a.0); ay = pos (128 * a.1); bx = pos (128 * b.0); by = pos (128 * b.1) }
+
+-- the edges from a point through others to a last one
+path : ℕ × ℕ → List (ℕ × ℕ) → ℕ × ℕ → List Edge
+path a [] last = line a last ∷ []
+path a (b ∷ ps) last = line a b ∷ path b ps last
+
+polygon : List (ℕ × ℕ) → List Edge
+polygon [] = []
+polygon (p ∷ ps) = path p ps p
+
+shown : Rules → List Edge → ℕ → ℕ → List ℕ
+shown rules es j c =
+    if is_inked (es ∷ []) (pos c) (pos j) then codes "#" else (
+    if is_added_by_rows rules (es ∷ []) (pos c) (pos j) then codes "r" else (
+    if is_added_by_columns rules (es ∷ []) (pos c) (pos j) then codes "c" else codes "."))
+
+texts : List (List ℕ) → List ℕ
+texts [] = []
+texts (t ∷ ts) = t ++ texts ts
+
+row_shown : List Edge → ℕ → Rules → ℕ → List ℕ
+row_shown es width rules j = texts (map (shown rules es j) (range_with_len 0 width))
+
+type_0 : Rules
+type_0 = record { stubs = true; smart = false }
+
+type_1 : Rules
+type_1 = record { stubs = false; smart = false }
+
+type_4 : Rules
+type_4 = record { stubs = true; smart = true }
+
+type_5 : Rules
+type_5 = record { stubs = false; smart = true }
+
+row_by_each : List Edge → ℕ → ℕ → List ℕ
+row_by_each es width j = row_shown es width type_0 j ++ (codes "  " ++ (row_shown es width type_1 j ++ (codes "  "
+    ++ (row_shown es width type_4 j ++ (codes "  " ++ row_shown es width type_5 j)))))
+
+-- four rows
+drawn : List Edge → ℕ → List (List ℕ)
+drawn es width = map (row_by_each es width) (3 ∷ 2 ∷ 1 ∷ 0 ∷ [])
+
+-- an upright stem; the box decides that the left pixel is taken
+upright_stem : List Edge
+upright_stem = polygon ((40, 0) ∷ (40, 256) ∷ (56, 256) ∷ (56, 0) ∷ [])
+
+upright_stem_is_drawn : drawn upright_stem 3 ≡
+    codes "r..  ...  r..  ..."
+    ∷ codes "r..  r..  r..  r.."
+    ∷ codes "r..  r..  r..  r.."
+    ∷ codes "r..  ...  r..  ..." ∷ []
+unfolding drawn row_by_each row_shown shown texts type_0 type_1 type_4 type_5 polygon path line upright_stem
+upright_stem_is_drawn = refl
+
+-- the same nearer the right: now the right one is
+stem_nearer_the_right : List Edge
+stem_nearer_the_right = polygon ((72, 0) ∷ (72, 256) ∷ (88, 256) ∷ (88, 0) ∷ [])
+
+stem_nearer_the_right_is_drawn : drawn stem_nearer_the_right 3 ≡
+    codes ".r.  ...  .r.  ..."
+    ∷ codes ".r.  .r.  .r.  .r."
+    ∷ codes ".r.  .r.  .r.  .r."
+    ∷ codes ".r.  ...  .r.  ..." ∷ []
+unfolding drawn row_by_each row_shown shown texts type_0 type_1 type_4 type_5 polygon path line stem_nearer_the_right
+stem_nearer_the_right_is_drawn = refl
+
+-- a stem on a foot, which the foot keeps from being all there is
+stem_on_a_foot : List Edge
+stem_on_a_foot = polygon ((16, 0) ∷ (16, 64) ∷ (72, 64) ∷ (72, 256) ∷ (88, 256) ∷ (88, 64) ∷ (160, 64) ∷ (160, 0) ∷ [])
+
+stem_on_a_foot_is_drawn : drawn stem_on_a_foot 3 ≡
+    codes "r..  ...  .r.  ..."
+    ∷ codes "r..  r..  .r.  .r."
+    ∷ codes "r..  r..  .r.  .r."
+    ∷ codes "###  ###  ###  ###" ∷ []
+unfolding drawn row_by_each row_shown shown texts type_0 type_1 type_4 type_5 polygon path line stem_on_a_foot
+stem_on_a_foot_is_drawn = refl
+
+-- a stem exactly in the middle between two centres
+stem_in_the_middle : List Edge
+stem_in_the_middle = polygon ((16, 0) ∷ (16, 64) ∷ (48, 64) ∷ (48, 256) ∷ (80, 256) ∷ (80, 64) ∷ (160, 64) ∷ (160, 0) ∷ [])
+
+stem_in_the_middle_is_drawn : drawn stem_in_the_middle 3 ≡
+    codes "r..  r..  r..  r.."
+    ∷ codes "r..  r..  r..  r.."
+    ∷ codes "r..  r..  r..  r.."
+    ∷ codes "###  ###  ###  ###" ∷ []
+unfolding drawn row_by_each row_shown shown texts type_0 type_1 type_4 type_5 polygon path line stem_in_the_middle
+stem_in_the_middle_is_drawn = refl
+
+-- the same, 1/64 pixel further to the right
+stem_past_the_middle : List Edge
+stem_past_the_middle = polygon ((16, 0) ∷ (16, 64) ∷ (49, 64) ∷ (49, 256) ∷ (80, 256) ∷ (80, 64) ∷ (160, 64) ∷ (160, 0) ∷ [])
+
+stem_past_the_middle_is_drawn : drawn stem_past_the_middle 3 ≡
+    codes "r..  ...  .r.  ..."
+    ∷ codes "r..  r..  .r.  .r."
+    ∷ codes "r..  r..  .r.  .r."
+    ∷ codes "###  ###  ###  ###" ∷ []
+unfolding drawn row_by_each row_shown shown texts type_0 type_1 type_4 type_5 polygon path line stem_past_the_middle
+stem_past_the_middle_is_drawn = refl
+
+-- a stem left of all other centres, with a bar
+stem_at_the_left_edge : List Edge
+stem_at_the_left_edge = polygon ((40, 0) ∷ (40, 256) ∷ (56, 256) ∷ (56, 192) ∷ (168, 192) ∷ (168, 128) ∷ (56, 128) ∷ (56, 0) ∷ [])
+
+stem_at_the_left_edge_is_drawn : drawn stem_at_the_left_edge 3 ≡
+    codes ".r.  ...  .r.  ..."
+    ∷ codes ".##  .##  .##  .##"
+    ∷ codes ".r.  .r.  .r.  .r."
+    ∷ codes ".r.  ...  .r.  ..." ∷ []
+unfolding drawn row_by_each row_shown shown texts type_0 type_1 type_4 type_5 polygon path line stem_at_the_left_edge
+stem_at_the_left_edge_is_drawn = refl
+
+-- a level bar: the columns alone add pixels
+level_bar : List Edge
+level_bar = polygon ((0, 104) ∷ (0, 120) ∷ (256, 120) ∷ (256, 104) ∷ [])
+
+level_bar_is_drawn : drawn level_bar 4 ≡
+    codes "....  ....  ....  ...."
+    ∷ codes "....  ....  ....  ...."
+    ∷ codes "cccc  .cc.  cccc  .cc."
+    ∷ codes "....  ....  ....  ...." ∷ []
+unfolding drawn row_by_each row_shown shown texts type_0 type_1 type_4 type_5 polygon path line level_bar
+level_bar_is_drawn = refl
+
+-- a dot between four centres crosses no line
+dot_between_centres : List Edge
+dot_between_centres = polygon ((104, 104) ∷ (104, 152) ∷ (152, 152) ∷ (152, 104) ∷ [])
+
+dot_between_centres_is_drawn : drawn dot_between_centres 4 ≡
+    codes "....  ....  ....  ...."
+    ∷ codes "....  ....  ....  ...."
+    ∷ codes "....  ....  ....  ...."
+    ∷ codes "....  ....  ....  ...." ∷ []
+unfolding drawn row_by_each row_shown shown texts type_0 type_1 type_4 type_5 polygon path line dot_between_centres
+dot_between_centres_is_drawn = refl
+
+-- a tip that reaches less than half a pixel beyond a line
+low_tip : List Edge
+low_tip = polygon ((32, 0) ∷ (32, 96) ∷ (105, 96) ∷ (105, 190) ∷ (150, 190) ∷ (150, 96) ∷ (224, 96) ∷ (224, 0) ∷ [])
+
+low_tip_is_drawn : drawn low_tip 4 ≡
+    codes "....  ....  ....  ...."
+    ∷ codes ".r..  ....  .r..  ...."
+    ∷ codes "####  ####  ####  ####"
+    ∷ codes "####  ####  ####  ####" ∷ []
+unfolding drawn row_by_each row_shown shown texts type_0 type_1 type_4 type_5 polygon path line low_tip
+low_tip_is_drawn = refl
+
+-- one that reaches further, but is less than half a pixel wide
+narrow_tip : List Edge
+narrow_tip = polygon ((32, 0) ∷ (32, 96) ∷ (105, 96) ∷ (105, 200) ∷ (133, 200) ∷ (133, 96) ∷ (224, 96) ∷ (224, 0) ∷ [])
+
+narrow_tip_is_drawn : drawn narrow_tip 4 ≡
+    codes "....  ....  ....  ...."
+    ∷ codes ".r..  ....  .r..  ...."
+    ∷ codes "####  ####  ####  ####"
+    ∷ codes "####  ####  ####  ####" ∷ []
+unfolding drawn row_by_each row_shown shown texts type_0 type_1 type_4 type_5 polygon path line narrow_tip
+narrow_tip_is_drawn = refl
+
+-- and one that is as wide
+wide_tip : List Edge
+wide_tip = polygon ((32, 0) ∷ (32, 96) ∷ (105, 96) ∷ (105, 200) ∷ (150, 200) ∷ (150, 96) ∷ (224, 96) ∷ (224, 0) ∷ [])
+
+wide_tip_is_drawn : drawn wide_tip 4 ≡
+    codes "....  ....  ....  ...."
+    ∷ codes ".r..  .r..  .r..  .r.."
+    ∷ codes "####  ####  ####  ####"
+    ∷ codes "####  ####  ####  ####" ∷ []
+unfolding drawn row_by_each row_shown shown texts type_0 type_1 type_4 type_5 polygon path line wide_tip
+wide_tip_is_drawn = refl
+
+-- a thin diagonal stroke
+diagonal : List Edge
+diagonal = polygon ((4, 0) ∷ (20, 0) ∷ (252, 240) ∷ (236, 240) ∷ [])
+
+diagonal_is_drawn : drawn diagonal 4 ≡
+    codes "...#  ...#  ...#  ...#"
+    ∷ codes "..#.  ..#.  ..#.  ..#."
+    ∷ codes ".r..  .r..  .r..  .r.."
+    ∷ codes "r...  ....  r...  ...." ∷ []
+unfolding drawn row_by_each row_shown shown texts type_0 type_1 type_4 type_5 polygon path line diagonal
+diagonal_is_drawn = refl
+
+-- a triangle whose tip touches a line
+tip_on_a_line : List Edge
+tip_on_a_line = polygon ((40, 0) ∷ (64, 160) ∷ (88, 0) ∷ [])
+
+tip_on_a_line_is_drawn : drawn tip_on_a_line 3 ≡
+    codes "...  ...  ...  ..."
+    ∷ codes ".r.  ...  .r.  ..."
+    ∷ codes ".r.  .r.  .r.  .r."
+    ∷ codes ".r.  .r.  .r.  .r." ∷ []
+unfolding drawn row_by_each row_shown shown texts type_0 type_1 type_4 type_5 polygon path line tip_on_a_line
+tip_on_a_line_is_drawn = refl
+
+-- a stem of no width
+stem_of_no_width : List Edge
+stem_of_no_width = polygon ((50, 0) ∷ (50, 192) ∷ [])
+
+stem_of_no_width_is_drawn : drawn stem_of_no_width 3 ≡
+    codes "...  ...  ...  ..."
+    ∷ codes "r..  ...  r..  ..."
+    ∷ codes "r..  r..  r..  r.."
+    ∷ codes "r..  ...  r..  ..." ∷ []
+unfolding drawn row_by_each row_shown shown texts type_0 type_1 type_4 type_5 polygon path line stem_of_no_width
+stem_of_no_width_is_drawn = refl
+
+-- a dot that crosses one line: a stub twice
+dot_on_one_line : List Edge
+dot_on_one_line = polygon ((40, 80) ∷ (40, 120) ∷ (80, 120) ∷ (80, 80) ∷ [])
+
+dot_on_one_line_is_drawn : drawn dot_on_one_line 3 ≡
+    codes "...  ...  ...  ..."
+    ∷ codes "...  ...  ...  ..."
+    ∷ codes "r..  ...  r..  ..."
+    ∷ codes "...  ...  ...  ..." ∷ []
+unfolding drawn row_by_each row_shown shown texts type_0 type_1 type_4 type_5 polygon path line dot_on_one_line
+dot_on_one_line_is_drawn = refl
+
+-- two stems of which the left one gives way
+two_stems : List Edge
+two_stems = polygon ((16, 0) ∷ (16, 64) ∷ (80, 64) ∷ (80, 256) ∷ (92, 256) ∷ (92, 64)
+    ∷ (140, 64) ∷ (140, 256) ∷ (156, 256) ∷ (156, 64) ∷ (240, 64) ∷ (240, 0) ∷ [])
+
+two_stems_is_drawn : drawn two_stems 4 ≡
+    codes "rr..  ....  .r..  ...."
+    ∷ codes "rr..  rr..  .r..  .r.."
+    ∷ codes "rr..  rr..  .r..  .r.."
+    ∷ codes "####  ####  ####  ####" ∷ []
+unfolding drawn row_by_each row_shown shown texts type_0 type_1 type_4 type_5 polygon path line two_stems
+two_stems_is_drawn = refl

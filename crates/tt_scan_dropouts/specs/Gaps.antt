@@ -1,0 +1,92 @@
+-- The gaps of a line: which of them ask for a pixel, and which pixel. OpenType, "TrueType Fundamentals", rules 3 and 4
+-- and the smart ones. The numbers, the glyph's box and giving way are profile. Places are in 1/8192 pixel.
+use Rattle.std.specs.Prelude.{◌≡◌, ℕ, ◌+◌, ◌<◌, ◌≤◌, Bool, true, false, not, ◌&&◌, ◌||◌, nat_le, if◌then◌else◌, ℤ, pos, ◌+ℤ◌, ◌-ℤ◌, ◌*ℤ◌, int_le, int_lt, min, get_or, length, List, [], ◌∷◌, Option, Some, None}
+use Rattle.std.specs.List.{filter, slice_range}
+use Rattle.std.specs.Ordering.{int_eq}
+use Rattle.tt_scan_dropouts.specs.Crossings.{agree, line_from, gap_at}
+use Rattle.tt_scan_dropouts.specs.declared.mark.Columns.{Columns}
+use Rattle.tt_scan_dropouts.specs.declared.mark.Mark.{Mark}
+use Rattle.tt_scan_dropouts.specs.declared.mark.Pixel.{Pixel}
+use Rattle.tt_scan_dropouts.specs.declared.mark.Rules.{Rules}
+
+-- the marks in gap c of line j
+abbrev pub in_gap : ℤ → ℤ → Mark → Bool
+in_gap j c m = int_eq m.line j && int_eq m.gap c
+
+abbrev pub gap_marks : List Mark → ℤ → ℤ → List Mark
+gap_marks ms j c = filter (in_gap j c) ms
+
+-- some mark of a gap asks
+abbrev pub some_asks : List Mark → Bool
+some_asks [] = false
+some_asks (m ∷ ms) = m.asks || some_asks ms
+
+-- the least place of the marks of one direction; a whole pixel stands for none
+abbrev pub least_place : Bool → List Mark → ℕ
+least_place up [] = 8192
+least_place up (m ∷ ms) = if agree m.up up then min m.place (least_place up ms) else least_place up ms
+
+-- the columns of a glyph's box: those with a centre from the least to the greatest x; where none has, the column nearer
+-- to the middle, and the right one where both are as near
+abbrev pub columns_between : ℤ → ℤ → Columns
+columns_between low high =
+    let first = line_from low in
+    let last = gap_at high in
+    if int_le first last then record { first = first; last = last }
+    else (if int_le (pos 16384 *ℤ first) (low +ℤ high) then record { first = first; last = first }
+    else record { first = last; last = last })
+
+-- the middle of what lies in a gap is so far right that the right pixel is taken: 65/64 of a pixel, halved
+abbrev pub leans_right : List Mark → Bool
+leans_right ms = nat_le 8320 (least_place true ms + least_place false ms)
+
+-- a gap's pixel, not outside the box
+abbrev pub boxed : Columns → ℤ → ℤ → ℤ
+boxed b c p = if int_lt p b.first then c +ℤ pos 1 else (if int_lt b.last p then c else p)
+
+abbrev pub pixel_of : Rules → Columns → ℤ → List Mark → ℤ
+pixel_of rules b c ms = boxed b c (if rules.smart && leans_right ms then c +ℤ pos 1 else c)
+
+-- what gap c of line j asks for by its marks: nothing where one of its pixels is black
+abbrev pub asked_by : Rules → Columns → (ℤ → ℤ → Bool) → ℤ → ℤ → List Mark → Option ℤ
+asked_by rules b black j c here =
+    if black c j || black (c +ℤ pos 1) j || not (some_asks here) then None else Some (pixel_of rules b c here)
+
+abbrev pub asked : Rules → Columns → List Mark → (ℤ → ℤ → Bool) → ℤ → ℤ → Option ℤ
+asked rules b ms black j c = asked_by rules b black j c (gap_marks ms j c)
+
+abbrev pub is_asked : Option ℤ → ℤ → Bool
+is_asked None p = false
+is_asked (Some q) p = int_eq q p
+
+-- gap c of line j adds pixel p: it asks for it, and the gap left of it does not ask for the pixel in common
+abbrev pub adds : Rules → Columns → List Mark → (ℤ → ℤ → Bool) → ℤ → ℤ → ℤ → Bool
+adds rules b ms black j c p =
+    is_asked (asked rules b ms black j c) p && not (is_asked (asked rules b ms black j (c -ℤ pos 1)) c)
+
+-- a pass over all gaps adds the pixel of column p and line j, by the gap right of its centre or the one left of it
+abbrev pub is_added : Rules → Columns → List Mark → (ℤ → ℤ → Bool) → ℤ → ℤ → Bool
+is_added rules b ms black p j = adds rules b ms black j p p || adds rules b ms black j (p -ℤ pos 1) p
+
+-- a pixel is among some
+abbrev pub has_pixel : List Pixel → ℤ → ℤ → Bool
+has_pixel [] c j = false
+has_pixel (p ∷ ps) c j = (int_eq p.column c && int_eq p.row j) || has_pixel ps c j
+
+-- marks in order of their lines, and on a line of their gaps
+abbrev pub is_up_to : Mark → Mark → Bool
+is_up_to m n = int_lt m.line n.line || (int_eq m.line n.line && int_le m.gap n.gap)
+
+abbrev pub IsInOrder : List Mark → Type 0
+IsInOrder ms = (i j : ℕ) (d : Mark) → i ≤ j → j < length ms → is_up_to (get_or ms i d) (get_or ms j d) ≡ true
+
+-- no mark before one in order lies in its gap
+abbrev pub IsFirstInGap : List Mark → ℕ → Type 0
+IsFirstInGap ms start = (i : ℕ) (d : Mark) → i < start
+    → in_gap (get_or ms start d).line (get_or ms start d).gap (get_or ms i d) ≡ false
+
+-- the marks from `start` up to `end` are all that lie in the gap of the first of them
+pub record IsGroup (ms : List Mark) (start end : ℕ) : Type 0 where
+  pub order : start < end
+  pub within : end ≤ length ms
+  pub all : (d : Mark) → slice_range ms start end ≡ gap_marks ms (get_or ms start d).line (get_or ms start d).gap

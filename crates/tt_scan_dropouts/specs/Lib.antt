@@ -1,0 +1,5 @@
+pub mod Crossings
+pub mod Dropouts
+pub mod Examples
+pub mod Gaps
+pub mod Walk

@@ -1,0 +1,147 @@
+//! Where the edges of an outline cross the centre lines of rows. OpenType, "TrueType Fundamentals". Lengths are in 1/8192
+//! pixel.
+
+ghost use Rattle.std.specs.Prelude.{◌≡◌, ◌∷◌, [], ◌^◌, ◌<◌, ◌≤ℤ◌, ◌<ℤ◌, ◌*ℤ◌, unsigned_abs, IfNone, IfSome};
+ghost use Rattle.tt_scan.specs.Winding.{EdgeFits};
+ghost use Rattle.tt_scan_dropouts.specs.Crossings.{centre, crossing, crossing_at, edge_x, line_crossed, line_from, lines_crossed, touches, upward};
+
+use crate::mark::Crossing;
+use tt_scan::Edge;
+
+/// A pixel, and from its border to its centre.
+const PIXEL: i64 = 8192;
+
+const HALF: i64 = 4096;
+
+/// Where a line stands, and a column's centre.
+#[inline(always)]
+pub(crate) fn centre(line: i64) -> i64
+    requires { unsigned_abs line < 2 ^ 40 }
+    ensures { result ≡ centre line }
+{
+    PIXEL * line + HALF
+}
+
+/// The first line that is not below a height.
+#[inline(always)]
+pub(crate) fn line_from(y: i64) -> i64
+    requires { unsigned_abs y < 2 ^ 31 }
+    ensures exact { result ≡ line_from y }
+    ensures small { unsigned_abs result < 2 ^ 19 }
+{
+    (y + (HALF - 1)).div_euclid(PIXEL)
+}
+
+/// The edge from its lower end to its upper.
+#[inline(always)]
+fn upward(edge: Edge) -> Edge
+    requires { EdgeFits edge }
+    ensures exact { result ≡ upward edge }
+    ensures fits { EdgeFits result }
+    ensures order { result.ay ≤ℤ result.by }
+{
+    if edge.by < edge.ay {
+        Edge {
+            ax: edge.bx,
+            ay: edge.by,
+            bx: edge.ax,
+            by: edge.ay,
+        }
+    } else {
+        edge
+    }
+}
+
+/// How many lines an edge crosses.
+#[inline(always)]
+pub(crate) fn lines_crossed(edge: Edge) -> u64
+    requires { EdgeFits edge }
+    ensures exact { result ≡ lines_crossed edge }
+    ensures small { result < 2 ^ 20 }
+{
+    line_from(edge.by).abs_diff(line_from(edge.ay))
+}
+
+/// The line that an edge crosses after `k` others.
+#[inline(always)]
+fn line_crossed(edge: Edge, k: u64) -> i64
+    requires edge { EdgeFits edge }
+    requires within { k < lines_crossed edge }
+    ensures exact { result ≡ line_crossed edge k }
+    ensures small { unsigned_abs result < 2 ^ 19 }
+    ensures low { (upward edge).ay ≤ℤ centre result }
+    ensures high { centre result <ℤ (upward edge).by }
+{
+    let from = line_from(edge.ay);
+    if edge.ay < edge.by {
+        from + k as i64
+    } else {
+        from - 1 - k as i64
+    }
+}
+
+/// Where an edge stands at a height that it crosses.
+#[inline(always)]
+fn edge_x(edge: Edge, y: i64) -> i64
+    requires edge { EdgeFits edge }
+    requires low { (upward edge).ay ≤ℤ y }
+    requires high { y <ℤ (upward edge).by }
+    ensures exact { result ≡ edge_x edge y }
+    ensures small { unsigned_abs result < 2 ^ 33 }
+{
+    let up = upward(edge);
+    up.ax + product(up.bx - up.ax, y - up.ay).div_euclid(up.by - up.ay)
+}
+
+/// `a * b`, told as a product of whole numbers.
+#[inline(always)]
+fn product(a: i64, b: i64) -> i64
+    requires left { unsigned_abs a < 2 ^ 31 }
+    requires right { unsigned_abs b < 2 ^ 31 }
+    ensures exact { result ≡ a *ℤ b }
+    ensures bound { unsigned_abs result < 2 ^ 62 }
+{
+    a * b
+}
+
+/// A place of a line.
+#[inline(always)]
+fn crossing_at(up: bool, line: i64, x: i64) -> Crossing
+    requires line { unsigned_abs line < 2 ^ 30 }
+    requires place { unsigned_abs x < 2 ^ 33 }
+    ensures { result ≡ crossing_at up line x }
+{
+    let from = x - HALF;
+    Crossing {
+        line: line as i32,
+        gap: from.div_euclid(PIXEL) as i32,
+        place: from.rem_euclid(PIXEL) as u16,
+        up,
+    }
+}
+
+/// The crossing of an edge that comes after `k` others.
+#[inline(always)]
+pub(crate) fn crossing(edge: Edge, k: u64) -> Crossing
+    requires edge { EdgeFits edge }
+    requires within { k < lines_crossed edge }
+    ensures { result ≡ crossing edge (line_crossed edge k) }
+{
+    let line = line_crossed(edge, k);
+    crossing_at(edge.ay < edge.by, line, edge_x(edge, centre(line)))
+}
+
+/// The upper end of an edge that is not level, where it lies on a line.
+pub(crate) fn touch(edge: Edge) -> Option<Crossing>
+    requires { EdgeFits edge }
+    ensures some { IfSome result (λ c. touches edge ≡ c ∷ []) }
+    ensures none { IfNone result (touches edge ≡ []) }
+{
+    let up = upward(edge);
+    let from = up.by - HALF;
+    if up.ay < up.by && from.rem_euclid(PIXEL) == 0 {
+        Some(crossing_at(edge.ay < edge.by, from.div_euclid(PIXEL), up.bx))
+    } else {
+        None
+    }
+}

@@ -1,0 +1,65 @@
+//! What an edge leaves of a line, and what is asked of the gaps between its pixels.
+
+/// Where an edge crosses the centre line of a row.
+#[derive(Clone, Copy)]
+pub(crate) struct Crossing {
+    /// The line: rows count upwards from the base line.
+    pub(crate) line: i32,
+    /// The gap: the columns of its two pixels are this one and the next.
+    pub(crate) gap: i32,
+    /// How far right of the left one's centre, in 1/8192 pixel, less than a pixel.
+    pub(crate) place: u16,
+    /// Whether the edge rises.
+    pub(crate) up: bool,
+}
+
+/// A step of the walk along a contour.
+#[derive(Clone, Copy)]
+pub(crate) enum Step {
+    /// An edge crosses a line.
+    Cross(Crossing),
+    /// It ends at a height, in 1/8192 pixel.
+    End(i64),
+}
+
+/// A crossing, or an end that counts as one.
+#[derive(Clone, Copy)]
+pub(crate) struct Mark {
+    pub(crate) line: i32,
+    pub(crate) gap: i32,
+    pub(crate) place: u16,
+    pub(crate) up: bool,
+    /// Whether its gap asks for a pixel because of it.
+    pub(crate) asks: bool,
+}
+
+/// Which dropouts are filled, and how.
+#[derive(Clone, Copy, Debug, PartialEq, Eq)]
+pub struct Rules {
+    /// Stubs are drawn: scan types 0 and 4.
+    pub stubs: bool,
+    /// The pixel that is nearer to the middle is taken, and not the left one: scan types 4 and 5.
+    pub smart: bool,
+}
+
+/// A pixel by its column and its row. Columns count rightwards from where the glyph stands, rows upwards from the base
+/// line.
+#[derive(Clone, Copy, Debug, PartialEq, Eq)]
+pub struct Pixel {
+    pub column: i64,
+    pub row: i64,
+}
+
+/// The way to the next crossing: that crossing, and how far from a line the edge ends lie that are passed, in 1/8192 pixel.
+#[derive(Clone, Copy)]
+pub(crate) struct Leg {
+    pub(crate) next: Crossing,
+    pub(crate) far: u64,
+}
+
+/// The columns of a glyph's box, the first and the last.
+#[derive(Clone, Copy)]
+pub(crate) struct Columns {
+    pub(crate) first: i64,
+    pub(crate) last: i64,
+}
