@@ -1,7 +1,7 @@
 -- The walk along a closed contour, and its stubs. OpenType, "TrueType Fundamentals", rule 4: a dropout is filled only
 -- where "the two contours continue to intersect other scan lines in both directions". How far a tip has to reach is
 -- profile. Heights and places are in 1/8192 pixel.
-use Rattle.std.specs.Prelude.{ℕ, ◌+◌, ◌≤◌, Bool, true, false, not, ◌&&◌, ◌||◌, nat_lt, ℤ, pos, ◌-ℤ◌, get_or, unsigned_abs, max, List, [], ◌∷◌, ◌++◌, map, length, take, drop, reverse, Option, Some, None}
+use Rattle.std.specs.Prelude.{◌≡◌, ℕ, ◌+◌, ◌≤◌, Bool, true, false, not, ◌&&◌, ◌||◌, nat_lt, ℤ, pos, ◌-ℤ◌, get_or, unsigned_abs, max, List, [], ◌∷◌, ◌++◌, map, length, take, drop, reverse, Option, Some, None}
 use Rattle.std.specs.List.{flat_map, range_with_len, slice_range}
 use Rattle.std.specs.Int.{abs_diff}
 use Rattle.std.specs.Ordering.{int_eq}
