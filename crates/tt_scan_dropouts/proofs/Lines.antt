@@ -2,7 +2,7 @@
 use Rattle.std.proofs.Common.{refl, SFits, w32, w64, ◌≡◌, ℕ, ◌+◌, ◌<◌, ◌≤◌, ◌*◌, ◌/◌, ◌^◌, arith}
 use Rattle.std.specs.Prelude.{int_lt, true, false, ◌≢◌, [], ◌∷◌, ℤ, pos, negsuc, ◌+ℤ◌, ◌-ℤ◌, ◌*ℤ◌, ◌≤ℤ◌, ◌<ℤ◌, neg_ℤ, unsigned_abs}
 use Rattle.std.specs.Int.{int_div_euclid, int_rem_euclid}
-use Rattle.std.proofs.lemmas.Int.{ints, by_lt_z, unsigned_abs-mul}
+use Rattle.std.proofs.lemmas.Int.{ints, by_lt_z, fits_signed_mul, unsigned_abs-mul}
 use Rattle.std.proofs.lemmas.Nat.{mul-lt}
 use Rattle.tt_scan.specs.Winding.{EdgeFits}
 use Rattle.tt_scan.specs.declared.edge.Edge.{Edge}
@@ -120,3 +120,7 @@ level_touches_none e level = rw level refl
 
 pub off_touches_none : (e : Edge) → (int_rem_euclid ((upward e).by -ℤ pos 4096) (pos 8192) ≢ pos 0) → touches e ≡ []
 off_touches_none e off = grind (arith, ints, rest_positive ((upward e).by -ℤ pos 4096))
+
+pub product_fits : (w h : ℤ) → unsigned_abs w < 2 ^ 31 → unsigned_abs h < 2 ^ 31 → SFits w64 (w *ℤ h)
+product_fits w h wide high =
+    fits_signed_mul w64 w h (2 ^ 31) (2 ^ 31) (omega (arith, ints, wide)) (omega (arith, ints, high)) (omega arith)

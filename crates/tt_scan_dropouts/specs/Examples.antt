@@ -77,7 +77,7 @@ stem_nearer_the_right_is_drawn : drawn stem_nearer_the_right 3 ≡
 unfolding drawn row_by_each row_shown shown texts type_0 type_1 type_4 type_5 polygon path line stem_nearer_the_right
 stem_nearer_the_right_is_drawn = refl
 
--- a stem on a foot, which the foot keeps from being all there is
+-- a stem on a foot, so that the glyph's box is wider than the stem
 stem_on_a_foot : List Edge
 stem_on_a_foot = polygon ((16, 0) ∷ (16, 64) ∷ (72, 64) ∷ (72, 256) ∷ (88, 256) ∷ (88, 64) ∷ (160, 64) ∷ (160, 0) ∷ [])
 

@@ -1,17 +1,16 @@
 -- The gaps of a line: which of them ask for a pixel, and which pixel. OpenType, "TrueType Fundamentals", rules 3 and 4
 -- and the smart ones. The numbers, the glyph's box and giving way are profile. Places are in 1/8192 pixel.
-use Rattle.std.specs.Prelude.{◌≡◌, ℕ, ◌+◌, ◌<◌, ◌≤◌, Bool, true, false, not, ◌&&◌, ◌||◌, nat_le, if◌then◌else◌, ℤ, pos, ◌+ℤ◌, ◌-ℤ◌, ◌*ℤ◌, int_le, int_lt, min, get_or, length, List, [], ◌∷◌, Option, Some, None}
-use Rattle.std.specs.List.{filter, slice_range}
+use Rattle.std.specs.Prelude.{ℕ, ◌+◌, Bool, true, false, not, ◌&&◌, ◌||◌, nat_le, if◌then◌else◌, ℤ, pos, ◌+ℤ◌, ◌-ℤ◌, ◌*ℤ◌, int_le, int_lt, min, List, [], ◌∷◌, Option, Some, None}
+use Rattle.std.specs.List.{filter}
 use Rattle.std.specs.Ordering.{int_eq}
 use Rattle.tt_scan_dropouts.specs.Crossings.{agree, line_from, gap_at}
 use Rattle.tt_scan_dropouts.specs.declared.mark.Columns.{Columns}
 use Rattle.tt_scan_dropouts.specs.declared.mark.Mark.{Mark}
-use Rattle.tt_scan_dropouts.specs.declared.mark.Pixel.{Pixel}
 use Rattle.tt_scan_dropouts.specs.declared.mark.Rules.{Rules}
 
 -- the marks in gap c of line j
 abbrev pub in_gap : ℤ → ℤ → Mark → Bool
-in_gap j c m = int_eq m.line j && int_eq m.gap c
+in_gap j c m = int_eq m.at.line j && int_eq m.at.gap c
 
 abbrev pub gap_marks : List Mark → ℤ → ℤ → List Mark
 gap_marks ms j c = filter (in_gap j c) ms
@@ -24,7 +23,7 @@ some_asks (m ∷ ms) = m.asks || some_asks ms
 -- the least place of the marks of one direction; a whole pixel stands for none
 abbrev pub least_place : Bool → List Mark → ℕ
 least_place up [] = 8192
-least_place up (m ∷ ms) = if agree m.up up then min m.place (least_place up ms) else least_place up ms
+least_place up (m ∷ ms) = if agree m.at.up up then min m.at.place (least_place up ms) else least_place up ms
 
 -- the columns of a glyph's box: those with a centre from the least to the greatest x; where none has, the column nearer
 -- to the middle, and the right one where both are as near
@@ -68,25 +67,4 @@ adds rules b ms black j c p =
 abbrev pub is_added : Rules → Columns → List Mark → (ℤ → ℤ → Bool) → ℤ → ℤ → Bool
 is_added rules b ms black p j = adds rules b ms black j p p || adds rules b ms black j (p -ℤ pos 1) p
 
--- a pixel is among some
-abbrev pub has_pixel : List Pixel → ℤ → ℤ → Bool
-has_pixel [] c j = false
-has_pixel (p ∷ ps) c j = (int_eq p.column c && int_eq p.row j) || has_pixel ps c j
-
--- marks in order of their lines, and on a line of their gaps
-abbrev pub is_up_to : Mark → Mark → Bool
-is_up_to m n = int_lt m.line n.line || (int_eq m.line n.line && int_le m.gap n.gap)
-
-abbrev pub IsInOrder : List Mark → Type 0
-IsInOrder ms = (i j : ℕ) (d : Mark) → i ≤ j → j < length ms → is_up_to (get_or ms i d) (get_or ms j d) ≡ true
-
--- no mark before one in order lies in its gap
-abbrev pub IsFirstInGap : List Mark → ℕ → Type 0
-IsFirstInGap ms start = (i : ℕ) (d : Mark) → i < start
-    → in_gap (get_or ms start d).line (get_or ms start d).gap (get_or ms i d) ≡ false
-
--- the marks from `start` up to `end` are all that lie in the gap of the first of them
-pub record IsGroup (ms : List Mark) (start end : ℕ) : Type 0 where
-  pub order : start < end
-  pub within : end ≤ length ms
-  pub all : (d : Mark) → slice_range ms start end ≡ gap_marks ms (get_or ms start d).line (get_or ms start d).gap
+-- worked values: Examples.antt

@@ -1,8 +1,8 @@
 -- The walk along a closed contour, and its stubs. OpenType, "TrueType Fundamentals", rule 4: a dropout is filled only
 -- where "the two contours continue to intersect other scan lines in both directions". How far a tip has to reach is
 -- profile. Heights and places are in 1/8192 pixel.
-use Rattle.std.specs.Prelude.{◌≡◌, ℕ, ◌+◌, ◌≤◌, Bool, true, false, not, ◌&&◌, ◌||◌, nat_lt, ℤ, pos, ◌-ℤ◌, get_or, unsigned_abs, max, List, [], ◌∷◌, ◌++◌, map, length, take, drop, reverse, Option, Some, None}
-use Rattle.std.specs.List.{flat_map, range_with_len, slice_range}
+use Rattle.std.specs.Prelude.{ℕ, ◌+◌, Bool, true, false, not, ◌&&◌, ◌||◌, nat_lt, ℤ, pos, ◌-ℤ◌, get_or, unsigned_abs, max, List, [], ◌∷◌, ◌++◌, map, length, take, drop, reverse, Option, Some, None}
+use Rattle.std.specs.List.{flat_map, range_with_len}
 use Rattle.std.specs.Int.{abs_diff}
 use Rattle.std.specs.Ordering.{int_eq}
 use Rattle.tt_scan.specs.declared.edge.Edge.{Edge}
@@ -47,7 +47,7 @@ is_of_stub w k c = is_stub c (way (centre c.line) 0 (others w k))
     || is_stub c (way (centre c.line) 0 (reverse (others w k)))
 
 abbrev pub mark_of : Bool → Crossing → Mark
-mark_of asks c = record { line = c.line; gap = c.gap; place = c.place; up = c.up; asks = asks }
+mark_of asks c = record { at = c; asks = asks }
 
 -- what a step leaves, which is step k of a walk, where stubs are not drawn
 abbrev pub marks_of_step : List Step → ℕ → Step → List Mark
@@ -71,21 +71,5 @@ contour_marks false es = walk_marks (walk es)
 
 abbrev pub marks : Bool → List (List Edge) → List Mark
 marks stubs contours = flat_map (contour_marks stubs) contours
-
--- the contours of an outline, each of which ends before the edge of a number
-abbrev pub contours_from : ℕ → List Edge → List ℕ → List (List Edge)
-contours_from from es [] = []
-contours_from from es (end ∷ ends) = slice_range es from end ∷ contours_from end es ends
-
-abbrev pub contours_at : List Edge → List ℕ → List (List Edge)
-contours_at es ends = contours_from 0 es ends
-
--- such numbers, of so many edges: none is less than the one before it, and the last is the count
-abbrev pub AreEndsFrom : ℕ → ℕ → List ℕ → Type 0
-AreEndsFrom from count [] = from ≡ count
-AreEndsFrom from count (end ∷ ends) = (from ≤ end) × AreEndsFrom end count ends
-
-abbrev pub AreEnds : ℕ → List ℕ → Type 0
-AreEnds count ends = AreEndsFrom 0 count ends
 
 -- worked values: Examples.antt

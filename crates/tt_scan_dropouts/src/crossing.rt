@@ -1,7 +1,8 @@
 //! Where the edges of an outline cross the centre lines of rows. OpenType, "TrueType Fundamentals". Lengths are in 1/8192
 //! pixel.
 
-ghost use Rattle.std.specs.Prelude.{◌≡◌, ◌∷◌, [], ◌^◌, ◌<◌, ◌≤ℤ◌, ◌<ℤ◌, ◌*ℤ◌, unsigned_abs, IfNone, IfSome};
+ghost use Rattle.std.specs.Prelude.{◌≡◌, ◌∷◌, [], ◌^◌, ◌<◌, ◌≤◌, ◌≤ℤ◌, ◌<ℤ◌, ◌-ℤ◌, ◌*ℤ◌, unsigned_abs, IfNone, IfSome};
+ghost use Rattle.std.specs.Int.{int_div_euclid};
 ghost use Rattle.tt_scan.specs.Winding.{EdgeFits};
 ghost use Rattle.tt_scan_dropouts.specs.Crossings.{centre, crossing, crossing_at, edge_x, line_crossed, line_from, lines_crossed, touches, upward};
 
@@ -80,6 +81,18 @@ fn line_crossed(edge: Edge, k: u64) -> i64
     }
 }
 
+/// How far right of its lower end an edge stands at a height that it crosses.
+#[inline(always)]
+fn run_to(up: Edge, y: i64) -> i64
+    requires edge { EdgeFits up }
+    requires low { up.ay ≤ℤ y }
+    requires high { y <ℤ up.by }
+    ensures exact { result ≡ int_div_euclid ((up.bx -ℤ up.ax) *ℤ (y -ℤ up.ay)) (up.by -ℤ up.ay) }
+    ensures small { unsigned_abs result ≤ 2 ^ 31 }
+{
+    ((up.bx - up.ax) * (y - up.ay)).div_euclid(up.by - up.ay)
+}
+
 /// Where an edge stands at a height that it crosses.
 #[inline(always)]
 fn edge_x(edge: Edge, y: i64) -> i64
@@ -90,18 +103,7 @@ fn edge_x(edge: Edge, y: i64) -> i64
     ensures small { unsigned_abs result < 2 ^ 33 }
 {
     let up = upward(edge);
-    up.ax + product(up.bx - up.ax, y - up.ay).div_euclid(up.by - up.ay)
-}
-
-/// `a * b`, told as a product of whole numbers.
-#[inline(always)]
-fn product(a: i64, b: i64) -> i64
-    requires left { unsigned_abs a < 2 ^ 31 }
-    requires right { unsigned_abs b < 2 ^ 31 }
-    ensures exact { result ≡ a *ℤ b }
-    ensures bound { unsigned_abs result < 2 ^ 62 }
-{
-    a * b
+    up.ax + run_to(up, y)
 }
 
 /// A place of a line.

@@ -10,4 +10,4 @@
 mod crossing;
 mod mark;
 
-pub use mark::{Pixel, Rules};
+pub use mark::Rules;

@@ -25,10 +25,7 @@ pub(crate) enum Step {
 /// A crossing, or an end that counts as one.
 #[derive(Clone, Copy)]
 pub(crate) struct Mark {
-    pub(crate) line: i32,
-    pub(crate) gap: i32,
-    pub(crate) place: u16,
-    pub(crate) up: bool,
+    pub(crate) at: Crossing,
     /// Whether its gap asks for a pixel because of it.
     pub(crate) asks: bool,
 }
@@ -40,14 +37,6 @@ pub struct Rules {
     pub stubs: bool,
     /// The pixel that is nearer to the middle is taken, and not the left one: scan types 4 and 5.
     pub smart: bool,
-}
-
-/// A pixel by its column and its row. Columns count rightwards from where the glyph stands, rows upwards from the base
-/// line.
-#[derive(Clone, Copy, Debug, PartialEq, Eq)]
-pub struct Pixel {
-    pub column: i64,
-    pub row: i64,
 }
 
 /// The way to the next crossing: that crossing, and how far from a line the edge ends lie that are passed, in 1/8192 pixel.
