@@ -1,3 +1,4 @@
+pub mod Contours
 pub mod Counted
 pub mod Crossing
 pub mod EdgeTable

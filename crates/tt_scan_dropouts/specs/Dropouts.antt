@@ -1,11 +1,11 @@
 -- The dropouts of a glyph: first all rows are passed over, then all columns, for which the pixels that the rows added
 -- are black (profile).
-use Rattle.std.specs.Prelude.{Bool, ◌||◌, ℤ, pos, List, [], ◌∷◌, map}
+use Rattle.std.specs.Prelude.{ℕ, ◌+◌, Bool, ◌||◌, ℤ, pos, List, [], ◌∷◌, map}
 use Rattle.std.specs.List.{flat_map}
 use Rattle.std.specs.Int.{int_max, int_min}
 use Rattle.tt_scan.specs.declared.edge.Edge.{Edge}
 use Rattle.tt_scan.specs.Winding.{is_black}
-use Rattle.tt_scan_dropouts.specs.Crossings.{centre}
+use Rattle.tt_scan_dropouts.specs.Crossings.{centre, lines_crossed}
 use Rattle.tt_scan_dropouts.specs.Gaps.{columns_between, is_added}
 use Rattle.tt_scan_dropouts.specs.Walk.{marks}
 use Rattle.tt_scan_dropouts.specs.declared.mark.Columns.{Columns}
@@ -57,5 +57,10 @@ is_added_by_columns rules contours c j = row_adds rules (outline_turned contours
 -- dropout
 abbrev pub is_dropout : Rules → List (List Edge) → ℤ → ℤ → Bool
 is_dropout rules contours c j = is_added_by_rows rules contours c j || is_added_by_columns rules contours c j
+
+-- how many lines of rows and of columns edges cross
+abbrev pub crossed : List Edge → ℕ
+crossed [] = 0
+crossed (e ∷ es) = (lines_crossed e + lines_crossed (turned_round e)) + crossed es
 
 -- worked values: Examples.antt

@@ -1,11 +1,13 @@
 -- The gaps of a line: which of them ask for a pixel, and which pixel. OpenType, "TrueType Fundamentals", rules 3 and 4
 -- and the smart ones. The numbers, the glyph's box and giving way are profile. Places are in 1/8192 pixel.
-use Rattle.std.specs.Prelude.{ℕ, ◌+◌, Bool, true, false, not, ◌&&◌, ◌||◌, nat_le, if◌then◌else◌, ℤ, pos, ◌+ℤ◌, ◌-ℤ◌, ◌*ℤ◌, int_le, int_lt, min, List, [], ◌∷◌, Option, Some, None}
-use Rattle.std.specs.List.{filter}
+use Rattle.std.specs.Prelude.{◌≡◌, ℕ, ◌+◌, ◌<◌, ◌≤◌, Bool, true, false, not, ◌&&◌, ◌||◌, nat_le, if◌then◌else◌, ℤ, pos, ◌+ℤ◌, ◌-ℤ◌, ◌*ℤ◌, int_le, int_lt, min, get_or, length, List, [], ◌∷◌, Option, Some, None}
+use Rattle.std.specs.List.{filter, slice_range}
 use Rattle.std.specs.Ordering.{int_eq}
 use Rattle.tt_scan_dropouts.specs.Crossings.{agree, line_from, gap_at}
 use Rattle.tt_scan_dropouts.specs.declared.mark.Columns.{Columns}
+use Rattle.tt_scan_dropouts.specs.declared.mark.Crossing.{Crossing}
 use Rattle.tt_scan_dropouts.specs.declared.mark.Mark.{Mark}
+use Rattle.tt_scan_dropouts.specs.declared.mark.Pixel.{Pixel}
 use Rattle.tt_scan_dropouts.specs.declared.mark.Rules.{Rules}
 
 -- the marks in gap c of line j
@@ -46,10 +48,21 @@ boxed b c p = if int_lt p b.first then c +ℤ pos 1 else (if int_lt b.last p the
 abbrev pub pixel_of : Rules → Columns → ℤ → List Mark → ℤ
 pixel_of rules b c ms = boxed b c (if rules.smart && leans_right ms then c +ℤ pos 1 else c)
 
+-- a gap is free where both its pixels are white
+abbrev pub is_free : (ℤ → ℤ → Bool) → ℤ → ℤ → Bool
+is_free black c j = not (black c j) && not (black (c +ℤ pos 1) j)
+
+-- the marks in free gaps: no other counts
+abbrev pub in_free_gap : (ℤ → ℤ → Bool) → Mark → Bool
+in_free_gap black m = is_free black m.at.gap m.at.line
+
+abbrev pub free_marks : (ℤ → ℤ → Bool) → List Mark → List Mark
+free_marks black ms = filter (in_free_gap black) ms
+
 -- what gap c of line j asks for by its marks: nothing where one of its pixels is black
 abbrev pub asked_by : Rules → Columns → (ℤ → ℤ → Bool) → ℤ → ℤ → List Mark → Option ℤ
 asked_by rules b black j c here =
-    if black c j || black (c +ℤ pos 1) j || not (some_asks here) then None else Some (pixel_of rules b c here)
+    if is_free black c j && some_asks here then Some (pixel_of rules b c here) else None
 
 abbrev pub asked : Rules → Columns → List Mark → (ℤ → ℤ → Bool) → ℤ → ℤ → Option ℤ
 asked rules b ms black j c = asked_by rules b black j c (gap_marks ms j c)
@@ -66,5 +79,29 @@ adds rules b ms black j c p =
 -- a pass over all gaps adds the pixel of column p and line j, by the gap right of its centre or the one left of it
 abbrev pub is_added : Rules → Columns → List Mark → (ℤ → ℤ → Bool) → ℤ → ℤ → Bool
 is_added rules b ms black p j = adds rules b ms black j p p || adds rules b ms black j (p -ℤ pos 1) p
+
+-- a pixel is among some
+abbrev pub has_pixel : List Pixel → ℤ → ℤ → Bool
+has_pixel [] c j = false
+has_pixel (p ∷ ps) c j = (int_eq p.column c && int_eq p.row j) || has_pixel ps c j
+
+-- marks in order of their lines, and on a line of their gaps
+abbrev pub is_up_to : Crossing → Crossing → Bool
+is_up_to a b = int_lt a.line b.line || (int_eq a.line b.line && int_le a.gap b.gap)
+
+abbrev pub IsInOrder : List Mark → Type 0
+IsInOrder ms = (i j : ℕ) (d : Mark) → i ≤ j → j < length ms → is_up_to (get_or ms i d).at (get_or ms j d).at ≡ true
+
+-- no mark before one in order lies in its gap
+abbrev pub IsFirstInGap : List Mark → ℕ → Type 0
+IsFirstInGap ms start = (i : ℕ) (d : Mark) → i < start
+    → in_gap (get_or ms start d).at.line (get_or ms start d).at.gap (get_or ms i d) ≡ false
+
+-- the marks from `start` up to `end` are all that lie in the gap of the first of them
+pub record IsGroup (ms : List Mark) (start end : ℕ) : Type 0 where
+  pub order : start < end
+  pub within : end ≤ length ms
+  pub all : (d : Mark) → slice_range ms start end
+      ≡ gap_marks ms (get_or ms start d).at.line (get_or ms start d).at.gap
 
 -- worked values: Examples.antt

@@ -3,3 +3,4 @@ pub mod Dropouts
 pub mod Examples
 pub mod Gaps
 pub mod Walk
+pub mod Windows

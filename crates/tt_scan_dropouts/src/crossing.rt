@@ -10,9 +10,9 @@ use crate::mark::Crossing;
 use tt_scan::Edge;
 
 /// A pixel, and from its border to its centre.
-const PIXEL: i64 = 8192;
+pub(crate) const PIXEL: i64 = 8192;
 
-const HALF: i64 = 4096;
+pub(crate) const HALF: i64 = 4096;
 
 /// Where a line stands, and a column's centre.
 #[inline(always)]

@@ -1,13 +1,31 @@
 //! Dropout control: which pixels are black besides those of the scan converter's rules 1 and 2, so that no stroke is lost
 //! at small sizes. OpenType, "TrueType Fundamentals", rules 3 and 4, and the smart ones beside them.
 //!
-//! Here are the definitions, with worked pictures, and where the edges of an outline cross the centre lines of the rows
-//! (`crossing.rt`). Nothing calls them yet.
+//! ```text
+//! crossing.rt   where edges cross the centre lines of rows, and between which pixels
+//! steps.rt      the walk along a contour; stub.rt: which crossings belong to a stub
+//! bitmap.rt     what is black by rules 1 and 2 in a window
+//! marks.rt      the crossings in free gaps
+//! gaps.rt       which pixel a gap asks for
+//! pass.rt       what a pass over all rows adds
+//! dropouts.rt   a pass over the rows, and then one over the columns
+//! ```
 //!
 //! All is said of rows. For columns it is said of the outline with x and y exchanged.
 #![tactic(auto)]
 
+mod bitmap;
+mod columns;
 mod crossing;
+mod dropouts;
+mod gaps;
 mod mark;
+mod marks;
+mod pass;
+mod steps;
+mod stub;
+mod window;
 
-pub use mark::Rules;
+pub use dropouts::{crossings, dropouts};
+pub use mark::{Pixel, Rules};
+pub use window::Window;

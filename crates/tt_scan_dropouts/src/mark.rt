@@ -39,6 +39,14 @@ pub struct Rules {
     pub smart: bool,
 }
 
+/// A pixel by its column and its row. Columns count rightwards from where the glyph stands, rows upwards from the base
+/// line. In a pass over columns the two are exchanged.
+#[derive(Clone, Copy, Debug, PartialEq, Eq)]
+pub struct Pixel {
+    pub column: i64,
+    pub row: i64,
+}
+
 /// The way to the next crossing: that crossing, and how far from a line the edge ends lie that are passed, in 1/8192 pixel.
 #[derive(Clone, Copy)]
 pub(crate) struct Leg {

@@ -1,0 +1,59 @@
+-- No part of the standard: the black pixels of a glyph in a window. What lies outside is taken for black, so that no gap
+-- there is free.
+use Rattle.std.specs.Prelude.{◌≡◌, ℕ, ◌+◌, ◌*◌, ◌^◌, ◌<◌, ◌≤◌, Bool, true, ◌&&◌, if◌then◌else◌, ℤ, pos, ◌+ℤ◌, ◌-ℤ◌, int_lt, int_le, unsigned_abs, List}
+use Rattle.tt_core.specs.Bits.{bit, stride}
+use Rattle.tt_core.specs.Limits.{height_limit}
+use Rattle.tt_scan.specs.declared.edge.Frame.{Frame}
+use Rattle.tt_scan_dropouts.specs.Gaps.{has_pixel}
+use Rattle.tt_scan_dropouts.specs.declared.mark.Pixel.{Pixel}
+use Rattle.tt_scan_dropouts.specs.declared.window.Window.{Window}
+use Rattle.tt_scan_dropouts.specs.declared.window.Over.{Over}
+use Rattle.tt_scan_dropouts.specs.declared.window.Over.TheVariants as over
+
+-- a window that the program takes: at most the rows of a picture, and two more on each side
+pub record WindowFits (w : Window) : Type 0 where
+  pub left : unsigned_abs w.left < 2 ^ 19
+  pub bottom : unsigned_abs w.bottom < 2 ^ 19
+  pub width : w.width < 2 ^ 20
+  pub low : 1 ≤ w.height
+  pub high : w.height ≤ height_limit + 4
+
+-- a pixel lies in a window
+abbrev pub has : Window → ℤ → ℤ → Bool
+has w c j =
+    int_le w.left c && int_lt c (w.left +ℤ pos w.width) && int_le w.bottom j && int_lt j (w.bottom +ℤ pos w.height)
+
+-- so many pixels larger on each side
+abbrev pub widened : ℕ → Window → Window
+widened n w = record {
+  left = w.left -ℤ pos n;
+  bottom = w.bottom -ℤ pos n;
+  width = w.width + 2 * n;
+  height = w.height + 2 * n;
+}
+
+-- the frame whose rows are those of a window, from the top down; its columns are not asked for
+abbrev pub frame_of : Window → Frame
+frame_of w = record { width = 1; height = w.height; margin = 0; rise = w.bottom +ℤ pos w.height }
+
+-- the rows of a window from the bottom up, each a whole number of bytes
+pub record Bitmap : Type 0 where
+  pub window : Window
+  pub bits : List ℕ
+
+-- where a pixel of the window stands among the bits
+abbrev pub place : Window → ℤ → ℤ → ℕ
+place w c j = 8 * (stride w.width * unsigned_abs (j -ℤ w.bottom)) + unsigned_abs (c -ℤ w.left)
+
+abbrev pub is_black_in : Bitmap → ℤ → ℤ → Bool
+is_black_in b c j = if has b.window c j then bit b.bits (place b.window c j) else true
+
+-- centre p of line j, by rows or by columns
+abbrev pub is_black_by : Over → Bitmap → ℤ → ℤ → Bool
+is_black_by over.Rows b p j = is_black_in b p j
+is_black_by over.Columns b p j = is_black_in b j p
+
+-- a pass over columns tells pixels with column and row exchanged
+abbrev pub has_pixel_by : Over → List Pixel → ℤ → ℤ → Bool
+has_pixel_by over.Rows ps c j = has_pixel ps c j
+has_pixel_by over.Columns ps c j = has_pixel ps j c

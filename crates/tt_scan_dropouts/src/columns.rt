@@ -1,0 +1,76 @@
+//! The columns of a glyph's box.
+
+ghost use Rattle.std.specs.Prelude.{◌≡◌, ◌^◌, ◌<◌, unsigned_abs, All};
+ghost use Rattle.tt_scan.specs.Winding.{EdgeFits};
+ghost use Rattle.tt_scan_dropouts.specs.Crossings.{gap_at};
+ghost use Rattle.tt_scan_dropouts.specs.Dropouts.{columns_of, greatest_x, least_x};
+ghost use Rattle.tt_scan_dropouts.specs.Gaps.{columns_between};
+
+use crate::crossing::{HALF, PIXEL, line_from};
+use crate::mark::Columns;
+use tt_scan::Edge;
+
+/// The last centre that is not right of a place.
+fn gap_at(x: i64) -> i64
+    requires { unsigned_abs x < 2 ^ 30 }
+    ensures { result ≡ gap_at x }
+{
+    (x - HALF).div_euclid(PIXEL)
+}
+
+/// The columns with a centre from the least to the greatest x, or else the one that is nearer to the middle.
+fn columns_between(low: i64, high: i64) -> Columns
+    requires low { unsigned_abs low < 2 ^ 30 }
+    requires high { unsigned_abs high < 2 ^ 30 }
+    ensures { result ≡ columns_between low high }
+{
+    let first = line_from(low);
+    let last = gap_at(high);
+    if first <= last {
+        Columns { first, last }
+    } else if 2 * PIXEL * first <= low + high {
+        Columns { first, last: first }
+    } else {
+        Columns { first: last, last }
+    }
+}
+
+/// The least x of a place and of the ends of edges.
+fn least_x(x: i64, edges: &[Edge]) -> i64
+    requires x { unsigned_abs x < 2 ^ 30 }
+    requires edges { All EdgeFits edges.now }
+    ensures exact { result ≡ least_x x edges.now }
+    ensures small { unsigned_abs result < 2 ^ 30 }
+{
+    let mut least = x;
+    for edge in edges {
+        least = least.min(edge.ax.min(edge.bx));
+    }
+    least
+}
+
+/// The greatest.
+fn greatest_x(x: i64, edges: &[Edge]) -> i64
+    requires x { unsigned_abs x < 2 ^ 30 }
+    requires edges { All EdgeFits edges.now }
+    ensures exact { result ≡ greatest_x x edges.now }
+    ensures small { unsigned_abs result < 2 ^ 30 }
+{
+    let mut greatest = x;
+    for edge in edges {
+        greatest = greatest.max(edge.ax.max(edge.bx));
+    }
+    greatest
+}
+
+/// The columns of the box of edges.
+pub(crate) fn columns_of(edges: &[Edge]) -> Columns
+    requires { All EdgeFits edges.now }
+    ensures { result ≡ columns_of edges.now }
+{
+    if edges.is_empty() {
+        return Columns { first: 0, last: 0 };
+    }
+    let x = edges[0].ax;
+    columns_between(least_x(x, edges), greatest_x(x, edges))
+}

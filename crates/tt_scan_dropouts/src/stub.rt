@@ -1,0 +1,63 @@
+//! Which crossings belong to a stub: the contour comes into a gap and leaves by it, and does not reach far between.
+
+ghost use Rattle.std.specs.Prelude.{◌≡◌, ◌+◌, ◌-◌, ◌<◌, nat_lt, length, reverse, if◌then◌else◌};
+ghost use Rattle.tt_scan_dropouts.specs.Walk.{is_of_stub, is_stub, is_tip, others, way};
+
+use crate::crossing::centre;
+use crate::mark::{Crossing, Leg, Step};
+
+/// The number of a step that is so many after the first of `count`, round to it again.
+#[inline(always)]
+fn round(i: usize, count: usize) -> usize
+    requires { i < count + count }
+    ensures { result ≡ (if nat_lt i count then i else i - count) }
+{
+    if i < count { i } else { i - count }
+}
+
+/// The way from step `k` of a closed walk to the next crossing, forward or backward; `y` is the height of its line.
+fn way(steps: &[Step], k: usize, forward: bool, y: i64) -> Option<Leg>
+    requires { k < length steps.now }
+    ensures { result ≡ way y 0 (if forward then others steps.now k else reverse (others steps.now k)) }
+{
+    let count = steps.len();
+    let mut far = 0;
+    for m in 1..count {
+        let i = if forward { k + m } else { k + (count - m) };
+        match steps[round(i, count)] {
+            Step::Cross(next) => return Some(Leg { next, far }),
+            Step::End(h) => far = far.max(h.abs_diff(y)),
+        }
+    }
+    None
+}
+
+/// Whether the contour comes into a gap and leaves by it.
+#[inline(always)]
+fn is_tip(c: Crossing, d: Crossing) -> bool
+    ensures { result ≡ is_tip c d }
+{
+    c.line == d.line && c.gap == d.gap && c.up != d.up
+}
+
+/// Whether a crossing and the next one are the two sides of a stub.
+fn is_stub(c: Crossing, leg: Option<Leg>) -> bool
+    ensures { result ≡ is_stub c leg }
+{
+    match leg {
+        Some(leg) => {
+            is_tip(c, leg.next)
+                && (leg.far < 4096 || (leg.far < 8192 && c.place.abs_diff(leg.next.place) < 4096))
+        }
+        None => false,
+    }
+}
+
+/// Whether a crossing, which is step `k` of a closed walk, belongs to a stub.
+pub(crate) fn is_of_stub(steps: &[Step], k: usize, c: Crossing) -> bool
+    requires { k < length steps.now }
+    ensures { result ≡ is_of_stub steps.now k c }
+{
+    let y = centre(i64::from(c.line));
+    is_stub(c, way(steps, k, true, y)) || is_stub(c, way(steps, k, false, y))
+}
