@@ -8,7 +8,7 @@
 //! marks.rt      the crossings in free gaps
 //! gaps.rt       which pixel a gap asks for
 //! pass.rt       what a pass over all rows adds
-//! dropouts.rt   a pass over the rows, and then one over the columns
+//! filling.rt    a pass over the rows, and then one over the columns
 //! ```
 //!
 //! All is said of rows. For columns it is said of the outline with x and y exchanged.
@@ -17,7 +17,7 @@
 mod bitmap;
 mod columns;
 mod crossing;
-mod dropouts;
+mod filling;
 mod gaps;
 mod mark;
 mod marks;
@@ -26,6 +26,6 @@ mod steps;
 mod stub;
 mod window;
 
-pub use dropouts::{crossings, dropouts};
+pub use filling::{crossings, dropouts};
 pub use mark::{Pixel, Rules};
 pub use window::Window;

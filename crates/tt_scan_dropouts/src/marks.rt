@@ -141,7 +141,7 @@ fn push_contour_marks(
 
 /// What the contours of an outline leave in free gaps, each of which ends before the edge of a number. Error: memory ran
 /// out.
-pub(crate) fn marks(
+pub(crate) fn free_marks(
     alloc: Global,
     ink: &Bitmap,
     over: Over,

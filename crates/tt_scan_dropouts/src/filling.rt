@@ -14,7 +14,7 @@ use crate::columns::columns_of;
 use crate::crossing::lines_crossed;
 use crate::gaps::sort;
 use crate::mark::{Pixel, Rules};
-use crate::marks::marks;
+use crate::marks::free_marks;
 use crate::pass::pass;
 use crate::window::{Over, Window, has, widened};
 use std::alloc::{AllocError, Global};
@@ -73,7 +73,7 @@ fn pass_over(
     ensures { IfOk result (λ v. (p j : ℤ) → has_pixel v.items p j
         ≡ row_adds rules (contours_at edges.now ends.now) (is_black_by over ink.now) p j) }
 {
-    let mut marks = marks(alloc, ink, over, rules.stubs, edges, ends)?;
+    let mut marks = free_marks(alloc, ink, over, rules.stubs, edges, ends)?;
     sort(&mut marks);
     pass(alloc, rules, columns_of(edges), over, ink, &marks)
 }
