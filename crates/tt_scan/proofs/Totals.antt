@@ -86,12 +86,12 @@ all_rows es f ms are =
     ∙ sym (exchanged f es (range_with_len 0 f.height))
 
 -- in each row no more than the edges
-pub few_crossings : (es : List Edge) (f : Frame) → FrameFits f → crossings_of f es ≤ height_limit * length es
+pub few_crossings : (es : List Edge) (f : Frame) → FrameFits f → crossings_of f es ≤ (height_limit + 4) * length es
 few_crossings es f fits =
     let most = sum_by-le (λ (row : ℕ). rows_met es (row_y f (pos row))) (length es) (range_with_len 0 f.height)
     (λ k d below. rw (take-length es) at (rows_few es (length es) (row_y f (pos (get_or (range_with_len 0 f.height) k d))))) in
     let rows = length-range_with_len 0 f.height in
     let high = fits.height_high in
-    let product : f.height * length es ≤ height_limit * length es = mul-le-mul_right (length es) high in
+    let product : f.height * length es ≤ (height_limit + 4) * length es = mul-le-mul_right (length es) high in
     let each : crossings_of f es ≤ f.height * length es = rw rows at most in
     omega arith

@@ -7,7 +7,8 @@ use Rattle.tt_core.specs.Limits.{width_limit, height_limit, margin_limit}
 use Rattle.tt_scan.specs.declared.edge.Edge.{Edge}
 use Rattle.tt_scan.specs.declared.edge.Frame.{Frame}
 
--- an edge and a frame that the program takes
+-- an edge and a frame that the program takes: at most the rows of a picture, and two more on each side, which dropout
+-- control asks for
 pub record EdgeFits (e : Edge) : Type 0 where
   pub ax : unsigned_abs e.ax < 2 ^ 30
   pub ay : unsigned_abs e.ay < 2 ^ 30
@@ -18,7 +19,7 @@ pub record FrameFits (f : Frame) : Type 0 where
   pub width_low : 1 ≤ f.width
   pub width_high : f.width ≤ width_limit
   pub height_low : 1 ≤ f.height
-  pub height_high : f.height ≤ height_limit
+  pub height_high : f.height ≤ height_limit + 4
   pub margin : f.margin ≤ margin_limit
   pub rise : unsigned_abs f.rise < 2 ^ 20
 

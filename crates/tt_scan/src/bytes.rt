@@ -56,3 +56,12 @@ pub(crate) fn fill(row: &mut [u8], from: usize, to: usize)
         }
     }
 }
+
+/// Blackens one column of a row of bytes, the leftmost column in the highest bit of the first byte.
+pub fn blacken(row: &mut [u8], column: usize)
+    requires { column < 8 * length row.old }
+    ensures bits { (k : ℕ) → bit row.new k ≡ (bit row.old k || (k == column)) }
+    ensures len { length row.new ≡ length row.old }
+{
+    fill_byte(row, column / 8, column % 8, column % 8 + 1);
+}

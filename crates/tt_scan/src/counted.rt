@@ -1,6 +1,6 @@
-//! The edges of a tape, and how many crossings were asked for. No edge leaves this module: what one does at a height is
-//! told by `cross` and `cross_met` alone, and each call of these is counted. Its rows are told by `rows_of`, which says
-//! nothing of columns.
+//! The edges of a tape, and how many crossings were asked for. What an edge does at a height is told to this crate by
+//! `cross` and `cross_met` alone, and each call of these is counted. Its rows are told by `rows_of`, which says nothing of
+//! columns. The edges themselves are lent to dropout control alone, which stands above this crate.
 
 ghost use Rattle.std.specs.Prelude.{◌≡◌, true, ◌+◌, ◌^◌, ◌<◌, ◌≤◌, length, [], ◌∷◌, ◌++◌, unsigned_abs, OnOk};
 ghost use Rattle.tt_core.specs.Limits.{margin_limit};
@@ -67,6 +67,13 @@ impl CountedEdges {
         ensures small { result < 2 ^ 63 }
     {
         self.edges.len()
+    }
+
+    /// The edges, for dropout control alone.
+    pub(crate) fn lend(&self) -> &[Edge]
+        ensures { result.now ≡ self.now.edges }
+    {
+        self.edges.as_slice()
     }
 
     /// How many crossings were asked for.

@@ -33,6 +33,7 @@ mod stretch;
 mod sweep;
 mod tape;
 
+pub use bytes::blacken;
 pub use edge::{Cross, Edge, Frame};
 pub use mark::Span;
 pub use row::row_into;

@@ -1,6 +1,6 @@
 //! The edges of one glyph, in the frame of its picture. They stand in `counted.rt`, so that each crossing is counted.
 
-ghost use Rattle.std.specs.Prelude.{◌≡◌, ℕ, ℤ, false, int_lt, if◌then◌else◌, vec_capacity, ◌+◌, ◌*◌, ◌^◌, ◌<◌, ◌≤◌, ◌<ℤ◌, ◌≤ℤ◌, pos, length, [], ◌∷◌, ◌++◌, get_or, unsigned_abs, OnOk, OnErr};
+ghost use Rattle.std.specs.Prelude.{◌≡◌, ℕ, ℤ, false, int_lt, if◌then◌else◌, vec_capacity, ◌+◌, ◌*◌, ◌^◌, ◌<◌, ◌≤◌, ◌<ℤ◌, ◌≤ℤ◌, pos, length, [], ◌∷◌, ◌++◌, get_or, unsigned_abs, All, OnOk, OnErr};
 ghost use Rattle.tt_core.specs.Limits.{width_limit, height_limit};
 ghost use Rattle.tt_scan.specs.Winding.{EdgeFits, FrameFits, is_black, column_x, row_y, lies_on_one, winding, rows_met, crossings_of};
 ghost use Rattle.tt_scan.specs.Marks.{covers, turns};
@@ -117,6 +117,14 @@ impl Tape {
         self.edges.len()
     }
 
+    /// The edges, for dropout control alone: rows are cut by `Sweep::cut`, which counts each crossing.
+    pub fn lend(&self) -> &[Edge]
+        ensures exact { result.now ≡ self.now.edges }
+        ensures fits { All EdgeFits result.now }
+    {
+        self.edges.lend()
+    }
+
     /// How many crossings were asked for. Only tests call it.
     pub fn crosses(&self) -> u64
         ensures { result ≡ self.now.crosses }
@@ -130,7 +138,7 @@ impl Tape {
         // So that the sum fits.
         requires few { length self.now.edges ≤ 2 ^ 32 }
         ensures exact { result ≡ crossings_of self.now.frame self.now.edges }
-        ensures bound { result ≤ height_limit * length self.now.edges }
+        ensures bound { result ≤ (height_limit + 4) * length self.now.edges }
     {
         self.table.rows()
     }
