@@ -1,6 +1,7 @@
 -- How the definitions see the values that the code works with.
 use Rattle.std.specs.Prelude.{◌≡◌, ℕ, ◌≤◌, List, ◌++◌, length, All}
 use Rattle.tt_core.specs.Bits.{stride}
+use Rattle.tt_core.specs.Limits.{height_limit}
 use Rattle.tt_core.specs.declared.font_fault.FontFault.{FontFault}
 use Rattle.tt_core.specs.declared.font_fault.FontFault.TheVariants as font
 use Rattle.tt_line.specs.declared.fault.LineFault.{LineFault}
@@ -22,6 +23,7 @@ picture_bytes p = header_bytes p.header ++ all_rows p.frame p.glyphs.items
 pub record IsReady (p : Picture) : Type 0 where
   pub header : p.header.len ≤ 16
   pub frame : FrameFits p.frame
+  pub height : p.frame.height ≤ height_limit
   pub glyphs : All (GlyphFits p.frame 0 p.sweep.room) p.glyphs.items
   pub row : length p.row.items ≡ stride p.frame.width
 

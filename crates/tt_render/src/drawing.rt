@@ -92,6 +92,7 @@ fn draw_line(alloc: Global, face: &Face, job: &Job, line: &Line) -> Result<Pictu
 /// The picture of some glyphs; all the memory is taken that its rows need.
 fn ready(alloc: Global, frame: Frame, glyphs: Vec<Glyph>) -> Result<Picture, AllocError>
     requires frame { FrameFits frame }
+    requires height { frame.height ≤ height_limit }
     requires glyphs { All (λ g. TapeFits frame 0 g.tape) glyphs.items }
     ensures header { IfOk result (λ p. header_bytes p.header ≡ p4_header_of frame.width frame.height) }
     ensures frame { IfOk result (λ p. p.frame ≡ frame) }
