@@ -9,6 +9,7 @@ use Rattle.tt_scan_dropouts.specs.declared.mark.Crossing.{Crossing}
 use Rattle.tt_scan_dropouts.specs.declared.mark.Mark.{Mark}
 use Rattle.tt_scan_dropouts.specs.declared.mark.Pixel.{Pixel}
 use Rattle.tt_scan_dropouts.specs.declared.mark.Rules.{Rules}
+use Rattle.tt_scan_dropouts.specs.declared.pass.Wish.{Wish}
 
 -- the marks in gap c of line j
 abbrev pub in_gap : ℤ → ℤ → Mark → Bool
@@ -75,6 +76,11 @@ is_asked (Some q) p = int_eq q p
 abbrev pub adds : Rules → Columns → List Mark → (ℤ → ℤ → Bool) → ℤ → ℤ → ℤ → Bool
 adds rules b ms black j c p =
     is_asked (asked rules b ms black j c) p && not (is_asked (asked rules b ms black j (c -ℤ pos 1)) c)
+
+-- the same of a gap that asks, where the gap before it that asked last is known
+abbrev pub gives_way : Option Wish → Wish → Bool
+gives_way None w = false
+gives_way (Some l) w = int_eq l.line w.line && (int_eq (l.gap +ℤ pos 1) w.gap && int_eq l.pixel w.gap)
 
 -- a pass over all gaps adds the pixel of column p and line j, by the gap right of its centre or the one left of it
 abbrev pub is_added : Rules → Columns → List Mark → (ℤ → ℤ → Bool) → ℤ → ℤ → Bool

@@ -1,6 +1,6 @@
 -- No part of the standard: the black pixels of a glyph in a window. What lies outside is taken for black, so that no gap
 -- there is free.
-use Rattle.std.specs.Prelude.{◌≡◌, ℕ, ◌+◌, ◌*◌, ◌^◌, ◌<◌, ◌≤◌, Bool, true, ◌&&◌, if◌then◌else◌, ℤ, pos, ◌+ℤ◌, ◌-ℤ◌, int_lt, int_le, unsigned_abs, List}
+use Rattle.std.specs.Prelude.{ℕ, ◌+◌, ◌*◌, ◌^◌, ◌<◌, ◌≤◌, Bool, true, ◌&&◌, if◌then◌else◌, ℤ, pos, ◌+ℤ◌, ◌-ℤ◌, int_lt, int_le, unsigned_abs, List}
 use Rattle.tt_core.specs.Bits.{bit, stride}
 use Rattle.tt_core.specs.Limits.{height_limit}
 use Rattle.tt_scan.specs.declared.edge.Frame.{Frame}
@@ -18,10 +18,13 @@ pub record WindowFits (w : Window) : Type 0 where
   pub low : 1 ≤ w.height
   pub high : w.height ≤ height_limit + 4
 
+-- one of so many numbers from a first one on
+abbrev pub is_within : ℤ → ℕ → ℤ → Bool
+is_within first count n = int_le first n && int_lt n (first +ℤ pos count)
+
 -- a pixel lies in a window
 abbrev pub has : Window → ℤ → ℤ → Bool
-has w c j =
-    int_le w.left c && int_lt c (w.left +ℤ pos w.width) && int_le w.bottom j && int_lt j (w.bottom +ℤ pos w.height)
+has w c j = is_within w.left w.width c && is_within w.bottom w.height j
 
 -- so many pixels larger on each side
 abbrev pub widened : ℕ → Window → Window

@@ -1,18 +1,15 @@
 //! The black pixels of a glyph in a window: what lies outside is taken for black, so that no gap there is free.
 
-ghost use Rattle.std.specs.Prelude.{◌≡◌, ℤ, true, length, ◌*◌, ◌^◌, ◌<◌, ◌≤◌, ◌&&◌, ◌||◌, All, IfOk};
+ghost use Rattle.std.specs.Prelude.{◌≡◌, ℤ, true, ◌*◌, ◌<◌, ◌&&◌, ◌||◌};
 ghost use Rattle.std.specs.Ordering.{int_eq};
 ghost use Rattle.tt_core.specs.Bits.{stride};
-ghost use Rattle.tt_scan.specs.Winding.{EdgeFits, is_black};
-ghost use Rattle.tt_scan_dropouts.specs.Crossings.{centre};
 ghost use Rattle.tt_scan_dropouts.specs.Gaps.{has_pixel, is_free};
-ghost use Rattle.tt_scan_dropouts.specs.Windows.{WindowFits, frame_of, has, is_black_in, is_black_by, place};
+ghost use Rattle.tt_scan_dropouts.specs.Windows.{WindowFits, has, is_black_in, is_black_by, place};
 
 use crate::mark::{Crossing, Pixel};
-use crate::window::{Over, Window, has};
-use std::alloc::{AllocError, Global};
+use crate::window::{Over, Window, has, offset};
 use std::marker::Model;
-use tt_scan::{Edge, Frame, Sweep, Tape};
+use tt_scan::blacken;
 
 /// The rows of a window from the bottom up, each a whole number of bytes, the leftmost pixel in the highest bit.
 #[derive(Drop)]
@@ -41,26 +38,6 @@ fn stride(window: Window) -> usize
     (window.width as usize).div_ceil(8)
 }
 
-/// The edges on a tape whose rows are those of the window, from the top down. Error: memory ran out.
-fn tape_of(alloc: Global, edges: &[Edge], window: Window) -> Result<Tape, AllocError>
-    requires edges { All EdgeFits edges.now }
-    requires window { WindowFits window }
-    ensures { IfOk result (λ t. t ≡ record { frame = frame_of window; edges = edges.now; crosses = 0 }) }
-{
-    let frame = Frame {
-        width: 1,
-        height: window.height,
-        margin: 0,
-        rise: window.bottom + window.height as i32,
-    };
-    let mut tape = Tape::new(alloc, frame);
-    tape.reserve(edges.len())?;
-    for i in 0..edges.len() {
-        tape.push(edges[i])?;
-    }
-    Ok(tape)
-}
-
 /// Where a pixel of the window stands among the bits.
 #[inline(always)]
 fn place(window: Window, column: i64, row: i64) -> usize
@@ -69,36 +46,11 @@ fn place(window: Window, column: i64, row: i64) -> usize
     ensures exact { result ≡ place window column row }
     ensures within { result < 8 * (stride window.width * window.height) }
 {
-    let row = (row - i64::from(window.bottom)) as usize;
-    8 * (stride(window) * row) + (column - i64::from(window.left)) as usize
+    let above = offset(window.bottom, window.height, row);
+    8 * (stride(window) * above) + offset(window.left, window.width, column)
 }
 
 impl Bitmap {
-    /// The pixels of a window that edges blacken by the scan converter's rules 1 and 2. Error: memory ran out.
-    pub(crate) fn inked(alloc: Global, edges: &[Edge], window: Window) -> Result<Bitmap, AllocError>
-        requires edges { All EdgeFits edges.now }
-        requires few { length edges.now ≤ 2 ^ 32 }
-        requires window { WindowFits window }
-        ensures window { IfOk result (λ b. b.window ≡ window) }
-        ensures black { IfOk result (λ b. (c j : ℤ) → has window c j ≡ true
-            → is_black_in b c j ≡ is_black edges.now (centre c) (centre j)) }
-    {
-        let mut tape = tape_of(alloc, edges, window)?;
-        let mut sweep = Sweep::new(alloc, edges.len())?;
-        let bytes = stride(window);
-        let mut bits = vec![in alloc; 0u8; bytes * window.height as usize]?;
-        for r in 0..window.height {
-            let start = bytes * (window.height - 1 - r) as usize;
-            sweep.cut(&mut tape, i64::from(r));
-            sweep.paint(
-                -i64::from(window.left),
-                window.width,
-                &mut bits[start..start + bytes],
-            );
-        }
-        Ok(Bitmap { window, bits })
-    }
-
     /// Whether a pixel is black, or outside.
     #[inline(always)]
     pub(crate) fn is_black(&self, column: i64, row: i64) -> bool
@@ -139,8 +91,7 @@ impl Bitmap {
             ≡ (is_black_in self.old c j || (int_eq column c && int_eq row j)) }
     {
         if has(self.window, column, row) {
-            let at = place(self.window, column, row);
-            self.bits[at / 8] |= 1 << (7 - at % 8);
+            blacken(&mut self.bits, place(self.window, column, row));
         }
     }
 

@@ -1,6 +1,7 @@
 //! The columns of a glyph's box.
 
 ghost use Rattle.std.specs.Prelude.{◌≡◌, ◌^◌, ◌<◌, unsigned_abs, All};
+ghost use Rattle.std.specs.Int.{int_max, int_min};
 ghost use Rattle.tt_scan.specs.Winding.{EdgeFits};
 ghost use Rattle.tt_scan_dropouts.specs.Crossings.{gap_at};
 ghost use Rattle.tt_scan_dropouts.specs.Dropouts.{columns_of, greatest_x, least_x};
@@ -35,6 +36,17 @@ fn columns_between(low: i64, high: i64) -> Columns
     }
 }
 
+/// The least x of a place and of the ends of an edge.
+#[inline(always)]
+fn least_of(x: i64, edge: Edge) -> i64
+    requires x { unsigned_abs x < 2 ^ 30 }
+    requires edge { EdgeFits edge }
+    ensures exact { result ≡ int_min x (int_min edge.ax edge.bx) }
+    ensures small { unsigned_abs result < 2 ^ 30 }
+{
+    x.min(edge.ax.min(edge.bx))
+}
+
 /// The least x of a place and of the ends of edges.
 fn least_x(x: i64, edges: &[Edge]) -> i64
     requires x { unsigned_abs x < 2 ^ 30 }
@@ -44,9 +56,20 @@ fn least_x(x: i64, edges: &[Edge]) -> i64
 {
     let mut least = x;
     for edge in edges {
-        least = least.min(edge.ax.min(edge.bx));
+        least = least_of(least, *edge);
     }
     least
+}
+
+/// The greatest x of a place and of the ends of an edge.
+#[inline(always)]
+fn greatest_of(x: i64, edge: Edge) -> i64
+    requires x { unsigned_abs x < 2 ^ 30 }
+    requires edge { EdgeFits edge }
+    ensures exact { result ≡ int_max x (int_max edge.ax edge.bx) }
+    ensures small { unsigned_abs result < 2 ^ 30 }
+{
+    x.max(edge.ax.max(edge.bx))
 }
 
 /// The greatest.
@@ -58,9 +81,18 @@ fn greatest_x(x: i64, edges: &[Edge]) -> i64
 {
     let mut greatest = x;
     for edge in edges {
-        greatest = greatest.max(edge.ax.max(edge.bx));
+        greatest = greatest_of(greatest, *edge);
     }
     greatest
+}
+
+/// The columns of the box of edges and of the start of one.
+fn columns_from(edge: Edge, edges: &[Edge]) -> Columns
+    requires edge { EdgeFits edge }
+    requires edges { All EdgeFits edges.now }
+    ensures { result ≡ columns_between (least_x edge.ax edges.now) (greatest_x edge.ax edges.now) }
+{
+    columns_between(least_x(edge.ax, edges), greatest_x(edge.ax, edges))
 }
 
 /// The columns of the box of edges.
@@ -71,6 +103,5 @@ pub(crate) fn columns_of(edges: &[Edge]) -> Columns
     if edges.is_empty() {
         return Columns { first: 0, last: 0 };
     }
-    let x = edges[0].ax;
-    columns_between(least_x(x, edges), greatest_x(x, edges))
+    columns_from(edges[0], edges)
 }

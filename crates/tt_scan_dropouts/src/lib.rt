@@ -1,14 +1,16 @@
 //! Dropout control: which pixels are black besides those of the scan converter's rules 1 and 2, so that no stroke is lost
 //! at small sizes. OpenType, "TrueType Fundamentals", rules 3 and 4, and the smart ones beside them.
 //!
+//! Here are the definitions, with worked pictures, and of the code the parts, which nothing joins yet:
+//!
 //! ```text
 //! crossing.rt   where edges cross the centre lines of rows, and between which pixels
-//! steps.rt      the walk along a contour; stub.rt: which crossings belong to a stub
-//! bitmap.rt     what is black by rules 1 and 2 in a window
-//! marks.rt      the crossings in free gaps
+//! stub.rt       which crossings belong to a stub
+//! bitmap.rt     what is black in a window
 //! gaps.rt       which pixel a gap asks for
-//! pass.rt       what a pass over all rows adds
-//! filling.rt    a pass over the rows, and then one over the columns
+//! columns.rt    the columns of a glyph's box
+//! pass.rt       what a gap asks for in a pass over all rows, and which gap gives way
+//! filling.rt    outlines with x and y exchanged, and how much work dropouts are
 //! ```
 //!
 //! All is said of rows. For columns it is said of the outline with x and y exchanged.
@@ -20,12 +22,10 @@ mod crossing;
 mod filling;
 mod gaps;
 mod mark;
-mod marks;
 mod pass;
-mod steps;
 mod stub;
 mod window;
 
-pub use filling::{crossings, dropouts};
+pub use filling::crossings;
 pub use mark::{Pixel, Rules};
 pub use window::Window;

@@ -1,8 +1,8 @@
 //! A pass over the gaps of all rows, or of all columns: which pixels it adds.
 
-ghost use Rattle.std.specs.Prelude.{◌≡◌, ℤ, false, ◌<◌, ◌&&◌, ◌+ℤ◌, pos, length, get_or, IfNone, IfOk, IfSome};
+ghost use Rattle.std.specs.Prelude.{◌≡◌, ℤ, ◌<◌, not, ◌&&◌, ◌||◌, ◌+ℤ◌, pos, length, get_or, IfOk, OnOk};
 ghost use Rattle.std.specs.Ordering.{int_eq};
-ghost use Rattle.tt_scan_dropouts.specs.Gaps.{IsInOrder, asked_by, has_pixel, is_added};
+ghost use Rattle.tt_scan_dropouts.specs.Gaps.{IsInOrder, asked_by, gives_way, has_pixel, is_added};
 ghost use Rattle.tt_scan_dropouts.specs.Windows.{is_black_by};
 ghost use Rattle.tt_scan_dropouts.specs.declared.mark.Mark.{Mark};
 
@@ -33,53 +33,40 @@ struct Wish {
     pixel: i64,
 }
 
+/// Whether the gap right of some gap is this one.
+fn is_next(gap: i32, next: i32) -> bool
+    ensures { result ≡ int_eq (gap +ℤ pos 1) next }
+{
+    i64::from(gap) + 1 == i64::from(next)
+}
+
+/// Whether a pixel is the left one of a gap.
+fn is_left(pixel: i64, gap: i32) -> bool
+    ensures { result ≡ int_eq pixel gap }
+{
+    pixel == i64::from(gap)
+}
+
 /// Whether a gap gives way: the one left of it, which asked last, takes the pixel in common.
 fn gives_way(last: Option<Wish>, wish: Wish) -> bool
-    ensures some { IfSome last (λ l. result ≡ (int_eq l.line wish.line && int_eq (l.gap +ℤ pos 1) wish.gap && int_eq l.pixel wish.gap)) }
-    ensures none { IfNone last (result ≡ false) }
+    ensures { result ≡ gives_way last wish }
 {
     match last {
-        Some(l) => {
-            l.line == wish.line
-                && i64::from(l.gap) + 1 == i64::from(wish.gap)
-                && l.pixel == i64::from(wish.gap)
-        }
+        Some(l) => l.line == wish.line && is_next(l.gap, wish.gap) && is_left(l.pixel, wish.gap),
         None => false,
     }
 }
 
-/// The pixels that a pass adds, by marks in order, where so much is black. Error: memory ran out.
-pub(crate) fn pass(
-    alloc: Global,
-    rules: Rules,
-    columns: Columns,
-    over: Over,
-    ink: &Bitmap,
-    marks: &[Mark],
-) -> Result<Vec<Pixel>, AllocError>
-    requires { IsInOrder marks.now }
-    ensures { IfOk result (λ v. (p j : ℤ) → has_pixel v.items p j ≡ is_added rules columns marks.now (is_black_by over ink.now) p j) }
+/// Adds the pixel that a gap asks for, unless it gives way. Error: memory ran out.
+fn grant(added: &mut Vec<Pixel>, last: Option<Wish>, wish: Wish) -> Result<(), AllocError>
+    ensures { OnOk result ((p j : ℤ) → has_pixel added.new.items p j
+        ≡ (has_pixel added.old.items p j || (not (gives_way last wish) && (int_eq wish.pixel p && int_eq wish.line j)))) }
 {
-    let mut added = Vec::new(alloc);
-    let mut last = None;
-    let mut start = 0;
-    while start < marks.len() {
-        let end = group_end(marks, start);
-        if let Some(pixel) = asked(rules, columns, over, ink, &marks[start..end]) {
-            let wish = Wish {
-                line: marks[start].at.line,
-                gap: marks[start].at.gap,
-                pixel,
-            };
-            if !gives_way(last, wish) {
-                added.push(Pixel {
-                    column: wish.pixel,
-                    row: i64::from(wish.line),
-                })?;
-            }
-            last = Some(wish);
-        }
-        start = end;
+    if !gives_way(last, wish) {
+        added.push(Pixel {
+            column: wish.pixel,
+            row: i64::from(wish.line),
+        })?;
     }
-    Ok(added)
+    Ok(())
 }

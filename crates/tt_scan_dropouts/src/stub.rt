@@ -1,6 +1,7 @@
 //! Which crossings belong to a stub: the contour comes into a gap and leaves by it, and does not reach far between.
 
-ghost use Rattle.std.specs.Prelude.{◌≡◌, ◌+◌, ◌-◌, ◌<◌, nat_lt, length, reverse, if◌then◌else◌};
+ghost use Rattle.std.specs.Prelude.{◌≡◌, ◌+◌, ◌-◌, ◌<◌, get_or, nat_lt, length, reverse, if◌then◌else◌};
+ghost use Rattle.tt_scan_dropouts.specs.declared.mark.Step as step;
 ghost use Rattle.tt_scan_dropouts.specs.Walk.{is_of_stub, is_stub, is_tip, others, way};
 
 use crate::crossing::centre;
@@ -15,16 +16,29 @@ fn round(i: usize, count: usize) -> usize
     if i < count { i } else { i - count }
 }
 
+/// The step that comes after so many others on the way from step `k` round a closed walk, forward or backward.
+#[inline(always)]
+fn other(steps: &[Step], k: usize, forward: bool, m: usize) -> Step
+    requires step { k < length steps.now }
+    requires within { m + 1 < length steps.now }
+    ensures { (d : step.Step) → result ≡ get_or (if forward then others steps.now k else reverse (others steps.now k)) m d }
+{
+    let count = steps.len();
+    if forward {
+        steps[round(k + (m + 1), count)]
+    } else {
+        steps[round(k + (count - (m + 1)), count)]
+    }
+}
+
 /// The way from step `k` of a closed walk to the next crossing, forward or backward; `y` is the height of its line.
 fn way(steps: &[Step], k: usize, forward: bool, y: i64) -> Option<Leg>
     requires { k < length steps.now }
     ensures { result ≡ way y 0 (if forward then others steps.now k else reverse (others steps.now k)) }
 {
-    let count = steps.len();
     let mut far = 0;
-    for m in 1..count {
-        let i = if forward { k + m } else { k + (count - m) };
-        match steps[round(i, count)] {
+    for m in 0..steps.len() - 1 {
+        match other(steps, k, forward, m) {
             Step::Cross(next) => return Some(Leg { next, far }),
             Step::End(h) => far = far.max(h.abs_diff(y)),
         }

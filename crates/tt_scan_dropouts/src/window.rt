@@ -1,7 +1,7 @@
 //! The part of the plane in which dropouts are looked for, by rows or by columns.
 
-ghost use Rattle.std.specs.Prelude.{◌≡◌};
-ghost use Rattle.tt_scan_dropouts.specs.Windows.{WindowFits, has, widened};
+ghost use Rattle.std.specs.Prelude.{◌≡◌, true, ◌-ℤ◌, ◌<◌, unsigned_abs};
+ghost use Rattle.tt_scan_dropouts.specs.Windows.{WindowFits, has, is_within, widened};
 
 /// So many columns from `left` on, and so many rows from `bottom` up, by the numbers of pixels.
 #[derive(Clone, Copy, Debug, PartialEq, Eq)]
@@ -19,17 +19,31 @@ pub(crate) enum Over {
     Columns,
 }
 
+/// Whether a number is one of so many from a first one on.
+#[inline(always)]
+fn is_within(first: i32, count: u32, n: i64) -> bool
+    ensures { result ≡ is_within first count n }
+{
+    let first = i64::from(first);
+    first <= n && n < first + i64::from(count)
+}
+
+/// How far a number is from the first of those that it is one of.
+#[inline(always)]
+pub(crate) fn offset(first: i32, count: u32, n: i64) -> usize
+    requires { is_within first count n ≡ true }
+    ensures exact { result ≡ unsigned_abs (n -ℤ first) }
+    ensures within { result < count }
+{
+    (n - i64::from(first)) as usize
+}
+
 /// Whether a pixel lies in a window.
 #[inline(always)]
 pub(crate) fn has(window: Window, column: i64, row: i64) -> bool
     ensures { result ≡ has window column row }
 {
-    let left = i64::from(window.left);
-    let bottom = i64::from(window.bottom);
-    left <= column
-        && column < left + i64::from(window.width)
-        && bottom <= row
-        && row < bottom + i64::from(window.height)
+    is_within(window.left, window.width, column) && is_within(window.bottom, window.height, row)
 }
 
 /// The window with two pixels more on each side: so far the pixels stand that a dropout in it depends on.
