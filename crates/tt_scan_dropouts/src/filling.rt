@@ -1,13 +1,9 @@
-//! The dropouts of a glyph in a window: first a pass over the rows, and then one over the columns, for which the pixels
-//! that the first one added are black.
+//! What the two passes work on: the rows of an outline, and then its columns, which are the rows of the outline with x and
+//! y exchanged; and how much work that is.
 
-ghost use Rattle.std.specs.Prelude.{◌≡◌, ℤ, true, ◌++◌, ◌^◌, ◌+◌, ◌*◌, ◌≤◌, ◌||◌, ◌&&◌, length, map, All, IfOk, OnOk};
-ghost use Rattle.tt_core.specs.Limits.{height_limit};
-ghost use Rattle.tt_scan.specs.Contours.{AreEnds, contours_at};
+ghost use Rattle.std.specs.Prelude.{◌≡◌, ◌^◌, ◌*◌, ◌≤◌, length, map, All, IfOk};
 ghost use Rattle.tt_scan.specs.Winding.{EdgeFits};
-ghost use Rattle.tt_scan_dropouts.specs.Dropouts.{crossed, is_dropout, row_adds, turned_round};
-ghost use Rattle.tt_scan_dropouts.specs.Gaps.{has_pixel};
-ghost use Rattle.tt_scan_dropouts.specs.Windows.{WindowFits, has, has_pixel_by, is_black_by, widened};
+ghost use Rattle.tt_scan_dropouts.specs.Dropouts.{crossed, turned_round};
 
 use crate::crossing::lines_crossed;
 use std::alloc::{AllocError, Global};
