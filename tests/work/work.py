@@ -131,16 +131,26 @@ def points(asked):
     told("points: without a bound", (status, lines), (0, []))
 
 
+def zigzag_font(prep):
+    """A glyph whose 160 edges cross each of 1,000 rows, and 80 columns, 250 pixels per em."""
+    zigzag = small.simple([(it, 4000 * (it % 2)) for it in range(160)])
+    metrics = [(0, 0), (4, 0), (0, 0)]
+    return small.font([b"", zigzag, b""], metrics, em=1000, ascent=4000, others={"prep": prep})
+
+
 def crossings(asked):
-    """160 edges cross each of 1,000 rows; the pictures have 1,000 rows."""
-    zigzag = [(it, 4000 * (it % 2)) for it in range(160)]
-    data = small.font([b"", small.simple(zigzag), b""], [(0, 0), (4, 0), (0, 0)], em=1000, ascent=4000)
-    asked.font.write_bytes(data)
+    """The pictures have 1,000 rows. A prep that sets vectors alone asks for no dropouts; without one they are filled."""
+    asked.font.write_bytes(zigzag_font(b"\x00"))
     most = "A" * (CROSSINGS // 160_000)
     told("crossings: 16,000,000", asked.draw("best", 250, most), asked.draw("none", 250, most))
     told("crossings: one glyph more", asked.draw("best", 250, most + "A"), (2, b"", WORK_LARGE))
     status, picture, lines = asked.draw("none", 250, most + "A")
     told("crossings: without a bound", (status, lines), (0, []))
+    asked.font.write_bytes(zigzag_font(b""))
+    most = "A" * (CROSSINGS // (160_000 + 4 * (160_000 + 80)))
+    status, picture, lines = asked.draw("best", 250, most)
+    told("crossings: with dropouts", (status, lines), (0, []))
+    told("crossings: with dropouts, one glyph more", asked.draw("best", 250, most + "A"), (2, b"", WORK_LARGE))
 
 
 # What each hostile font answers: its status, how many lines there are, and how the first one ends.

@@ -9,7 +9,7 @@ use Rattle.tt_arc.specs.declared.point.Point.{Point}
 use Rattle.tt_arc.specs.Chords.{first_chords, edges_of, edges_at, contour_edges, contour_start, contour_at, chord_edges, moved}
 use Rattle.tt_arc.proofs.Contours.{start_within}
 
-eight_chords : (c : Quadratic) → length (first_chords c 8) ≡ 8
+pub eight_chords : (c : Quadratic) → length (first_chords c 8) ≡ 8
 unfolding first_chords
 eight_chords c = refl
 

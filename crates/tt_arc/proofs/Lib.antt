@@ -1,5 +1,7 @@
 pub mod Contours
+mod EdgeCounts
 pub mod Eighths
+mod EndsOfContours
 mod Few
 pub mod Moves
 mod Points

@@ -1,4 +1,4 @@
--- An outline that is moved along x has its edges moved by as much.
+-- An outline that is moved has its edges moved by as much.
 use Rattle.std.proofs.Common.{◌≡◌, ℕ, zero, suc, ◌≤◌, Bool, true, false, if◌then◌else◌, ℤ, pos, ◌+ℤ◌, ◌*ℤ◌, List, [], ◌∷◌, length, map, refl, sym, ap, ◌∙◌, arith}
 use Rattle.std.specs.List.{slice_index, flat_map, range_with_len}
 use Rattle.std.proofs.lemmas.Int.{ints}
@@ -10,8 +10,8 @@ use Rattle.tt_arc.specs.declared.quadratic.Quadratic.{Quadratic}
 use Rattle.tt_arc.specs.declared.quadratic.CurveEnd.{CurveEnd}
 use Rattle.tt_arc.specs.declared.quadratic.EdgeEnd.{EdgeEnd}
 use Rattle.tt_arc.specs.declared.point.Point.{Point}
-use Rattle.tt_arc.specs.Chords.{moved, edge_end_of, curve_end_of, quadratic_of, eighth, chord_end, edge_between, first_chords, edges_of, contour_edges, contour_start, contour_at, chord_edges}
-use Rattle.tt_arc.specs.Laws.{OutlineMoved}
+use Rattle.tt_arc.specs.Chords.{moved, edge_end_of, curve_end_of, quadratic_of, eighth, chord_end, edge_between, first_chords, edges_of, contour_edges, contour_start, contour_at, chord_edges, chord_contours}
+use Rattle.tt_arc.specs.Laws.{OutlineMoved, ContoursMoved, raised_edge, ContoursRaised}
 use Rattle.tt_arc.proofs.Contours.{slice_of_map}
 use Rattle.tt_arc.proofs.Eighths.{by_eighths}
 use Rattle.tt_arc.proofs.Walks.{edges_along, last_of, contour_whole}
@@ -84,12 +84,12 @@ chords_moved d c (suc k) le =
     rw (edge, before) (sym (map-append (moved_edge (pos 128 *ℤ d)) (first_chords c k)
     (edge_between (chord_end c k) (chord_end c (suc k)) ∷ [])))
 
-one_of : (on next : Bool) (d : ℤ) (l line : Edge) (cs chords : List Edge) → l ≡ moved_edge (pos 128 *ℤ d) line
-    → cs ≡ along d chords → (if on then (if next then l ∷ [] else []) else cs)
-    ≡ along d (if on then (if next then line ∷ [] else []) else chords)
-one_of true true d l line cs chords is_line are = rw is_line refl
-one_of true false d l line cs chords is_line are = refl
-one_of false next d l line cs chords is_line are = are
+one_of : (E : Edge → Edge) (on next : Bool) (l line : Edge) (cs chords : List Edge) → l ≡ E line → cs ≡ map E chords
+    → (if on then (if next then l ∷ [] else []) else cs)
+    ≡ map E (if on then (if next then line ∷ [] else []) else chords)
+one_of E true true l line cs chords is_line are = rw is_line refl
+one_of E true false l line cs chords is_line are = refl
+one_of E false next l line cs chords is_line are = are
 
 edges_moved : (d : ℤ) (before p after : Point) → edges_of (point_moved d before) (point_moved d p) (point_moved d after)
     ≡ along d (edges_of before p after)
@@ -99,41 +99,54 @@ edges_moved d before p after =
     let chords : first_chords (quadratic_of (point_moved d before) (point_moved d p) (point_moved d after)) 8
     ≡ along d (first_chords (quadratic_of before p after) 8) = rw (quadratic_is d before p after)
     (chords_moved d (quadratic_of before p after) 8 (omega arith)) in
-    one_of p.on after.on d _ _ _ _ line chords
+    one_of (moved_edge (pos 128 *ℤ d)) p.on after.on _ _ _ _ line chords
 
-along_moved : (d : ℤ) (before p : Point) (ps : List Point) (following : Point)
-    → edges_along (point_moved d before) (point_moved d p) (map (point_moved d) ps) (point_moved d following)
-    ≡ along d (edges_along before p ps following)
-along_moved d before p [] following = edges_moved d before p following
-along_moved d before p (q ∷ ps) following =
-    rw (edges_moved d before p q, along_moved d p q ps following)
-    (sym (map-append (moved_edge (pos 128 *ℤ d)) (edges_of before p q) (edges_along p q ps following)))
+-- what becomes of the edges of each point becomes of those of contours and outlines: P changes points, E edges
+abbrev Changes : (Point → Point) → (Edge → Edge) → Type 0
+Changes P E = (before p after : Point) → edges_of (P before) (P p) (P after) ≡ map E (edges_of before p after)
 
-last_moved : (d : ℤ) (p : Point) (ps : List Point) → last_of (point_moved d p) (map (point_moved d) ps)
-    ≡ point_moved d (last_of p ps)
-last_moved d p [] = refl
-last_moved d p (q ∷ ps) = last_moved d q ps
+along_changed : (P : Point → Point) (E : Edge → Edge) → Changes P E
+    → (before p : Point) (ps : List Point) (following : Point)
+    → edges_along (P before) (P p) (map P ps) (P following) ≡ map E (edges_along before p ps following)
+along_changed P E each before p [] following = each before p following
+along_changed P E each before p (q ∷ ps) following =
+    rw (each before p q, along_changed P E each p q ps following)
+    (sym (map-append E (edges_of before p q) (edges_along p q ps following)))
 
-contour_moved : (d : ℤ) (ps : List Point) → contour_edges (map (point_moved d) ps) ≡ along d (contour_edges ps)
-contour_moved d [] = refl
-contour_moved d (p ∷ []) = refl
-contour_moved d (p ∷ q ∷ ps) =
-    let whole = contour_whole (point_moved d p) (point_moved d q) (map (point_moved d) ps) in
-    let walked = rw (last_moved d q ps) at whole in
-    sym walked ∙ along_moved d (last_of q ps) p (q ∷ ps) p ∙ ap (along d) (contour_whole p q ps)
+last_changed : (P : Point → Point) (p : Point) (ps : List Point) → last_of (P p) (map P ps) ≡ P (last_of p ps)
+last_changed P p [] = refl
+last_changed P p (q ∷ ps) = last_changed P q ps
 
-contours_moved : (d : ℤ) (ps : List Point) (ends cs : List ℕ)
-    → flat_map (λ c. contour_edges (contour_at (map (point_moved d) ps) ends c)) cs
-    ≡ along d (flat_map (λ c. contour_edges (contour_at ps ends c)) cs)
-contours_moved d ps ends [] = refl
-contours_moved d ps ends (c ∷ cs) =
-    let here : contour_edges (contour_at (map (point_moved d) ps) ends c)
-    ≡ along d (contour_edges (contour_at ps ends c)) = rw
-    (slice_of_map (point_moved d) ps (contour_start ends c) (slice_index ends c))
-    (contour_moved d (contour_at ps ends c)) in
-    rw (here, contours_moved d ps ends cs)
-    (sym (map-append (moved_edge (pos 128 *ℤ d)) (contour_edges (contour_at ps ends c))
+contour_changed : (P : Point → Point) (E : Edge → Edge) → Changes P E → (ps : List Point) → contour_edges (map P ps)
+    ≡ map E (contour_edges ps)
+contour_changed P E each [] = refl
+contour_changed P E each (p ∷ []) = refl
+contour_changed P E each (p ∷ q ∷ ps) =
+    let whole = contour_whole (P p) (P q) (map P ps) in
+    let walked = rw (last_changed P q ps) at whole in
+    sym walked ∙ along_changed P E each (last_of q ps) p (q ∷ ps) p ∙ ap (map E) (contour_whole p q ps)
+
+one_changed : (P : Point → Point) (E : Edge → Edge) → Changes P E → (ps : List Point) (ends : List ℕ) (c : ℕ)
+    → contour_edges (contour_at (map P ps) ends c) ≡ map E (contour_edges (contour_at ps ends c))
+one_changed P E each ps ends c =
+    rw (slice_of_map P ps (contour_start ends c) (slice_index ends c)) (contour_changed P E each (contour_at ps ends c))
+
+outline_changed : (P : Point → Point) (E : Edge → Edge) → Changes P E → (ps : List Point) (ends cs : List ℕ)
+    → flat_map (λ c. contour_edges (contour_at (map P ps) ends c)) cs
+    ≡ map E (flat_map (λ c. contour_edges (contour_at ps ends c)) cs)
+outline_changed P E each ps ends [] = refl
+outline_changed P E each ps ends (c ∷ cs) =
+    rw (one_changed P E each ps ends c, outline_changed P E each ps ends cs)
+    (sym (map-append E (contour_edges (contour_at ps ends c))
     (flat_map (λ c. contour_edges (contour_at ps ends c)) cs)))
+
+-- the same contour by contour
+contours_changed : (P : Point → Point) (E : Edge → Edge) → Changes P E → (ps : List Point) (ends cs : List ℕ)
+    → map (λ c. contour_edges (contour_at (map P ps) ends c)) cs
+    ≡ map (map E) (map (λ c. contour_edges (contour_at ps ends c)) cs)
+contours_changed P E each ps ends [] = refl
+contours_changed P E each ps ends (c ∷ cs) =
+    rw (one_changed P E each ps ends c, contours_changed P E each ps ends cs) refl
 
 point_is : (dx dy d : ℤ) (p : ℤ × ℤ × Bool) → moved (dx +ℤ d) dy p ≡ point_moved d (moved dx dy p)
 point_is dx dy d p =
@@ -148,10 +161,103 @@ points_moved dx dy d (p ∷ ps) = rw (point_is dx dy d p, points_moved dx dy d p
 any_moved : (points : List (ℤ × ℤ × Bool)) (ends : List ℕ) (dx dy d : ℤ) → chord_edges points ends (dx +ℤ d) dy
     ≡ along d (chord_edges points ends dx dy)
 any_moved points ends dx dy d =
-    rw (points_moved dx dy d points) (contours_moved d (map (moved dx dy) points) ends (range_with_len 0 (length ends)))
+    rw (points_moved dx dy d points) (outline_changed (point_moved d) (moved_edge (pos 128 *ℤ d)) (edges_moved d)
+    (map (moved dx dy) points) ends (range_with_len 0 (length ends)))
+
+any_contours_moved : (points : List (ℤ × ℤ × Bool)) (ends : List ℕ) (dx dy d : ℤ)
+    → chord_contours points ends (dx +ℤ d) dy ≡ map (along d) (chord_contours points ends dx dy)
+any_contours_moved points ends dx dy d =
+    rw (points_moved dx dy d points) (contours_changed (point_moved d) (moved_edge (pos 128 *ℤ d)) (edges_moved d)
+    (map (moved dx dy) points) ends (range_with_len 0 (length ends)))
 
 -- a pixel has 64 units in 26.6
+pixels : (k : ℤ) → pos 128 *ℤ (pos 64 *ℤ k) ≡ pos 8192 *ℤ k
+pixels k = omega (arith, ints)
+
 pub outline_at : OutlineMoved
 outline_at points ends dx dy k =
-    let far : pos 128 *ℤ (pos 64 *ℤ k) ≡ pos 8192 *ℤ k = omega (arith, ints) in
-    any_moved points ends dx dy (pos 64 *ℤ k) ∙ ap (λ z. moved_edges z (chord_edges points ends dx dy)) far
+    any_moved points ends dx dy (pos 64 *ℤ k) ∙ ap (λ z. moved_edges z (chord_edges points ends dx dy)) (pixels k)
+
+pub contours_there : ContoursMoved
+contours_there points ends dx dy k =
+    any_contours_moved points ends dx dy (pos 64 *ℤ k)
+    ∙ ap (λ z. map (moved_edges z) (chord_contours points ends dx dy)) (pixels k)
+
+-- An outline with x and y exchanged is moved along x where the outline is moved up.
+
+abbrev exchanged : Point → Point
+exchanged p = record { x = p.y; y = p.x; on = p.on }
+
+abbrev curve_end_exchanged : CurveEnd → CurveEnd
+curve_end_exchanged j = record { x = j.y; y = j.x }
+
+abbrev quadratic_exchanged : Quadratic → Quadratic
+quadratic_exchanged c =
+    record { from = curve_end_exchanged c.from; control = exchanged c.control; to = curve_end_exchanged c.to }
+
+abbrev edge_exchanged : Edge → Edge
+edge_exchanged e = record { ax = e.ay; ay = e.ax; bx = e.by; by = e.bx }
+
+curve_end_exchanged_by : (on : Bool) (a b : CurveEnd)
+    → (if on then curve_end_exchanged a else curve_end_exchanged b) ≡ curve_end_exchanged (if on then a else b)
+curve_end_exchanged_by true a b = refl
+curve_end_exchanged_by false a b = refl
+
+chords_exchanged : (c : Quadratic) (n : ℕ) → first_chords (quadratic_exchanged c) n
+    ≡ map edge_exchanged (first_chords c n)
+unfolding first_chords
+chords_exchanged c zero = refl
+chords_exchanged c (suc k) =
+    let before = chords_exchanged c k in
+    rw before (sym (map-append edge_exchanged (first_chords c k)
+    (edge_between (chord_end c k) (chord_end c (suc k)) ∷ [])))
+
+edges_exchanged : Changes exchanged edge_exchanged
+unfolding edges_of
+edges_exchanged before p after =
+    let c = quadratic_of before p after in
+    let from : curve_end_of (exchanged before) (exchanged p) ≡ curve_end_exchanged c.from = curve_end_exchanged_by
+    before.on _ _ in
+    let to : curve_end_of (exchanged after) (exchanged p) ≡ curve_end_exchanged c.to = curve_end_exchanged_by
+    after.on _ _ in
+    let is : quadratic_of (exchanged before) (exchanged p) (exchanged after) ≡ quadratic_exchanged c = rw (from, to) refl in
+    let chords : first_chords (quadratic_of (exchanged before) (exchanged p) (exchanged after)) 8
+    ≡ map edge_exchanged (first_chords c 8) = rw is (chords_exchanged c 8) in
+    one_of edge_exchanged p.on after.on _ _ _ _ refl chords
+
+abbrev point_raised : ℤ → Point → Point
+point_raised d p = record { x = p.x; y = p.y +ℤ d; on = p.on }
+
+raised_is : (d : ℤ) (es : List Edge) → map edge_exchanged (along d (map edge_exchanged es))
+    ≡ map (raised_edge (pos 128 *ℤ d)) es
+raised_is d [] = refl
+raised_is d (e ∷ es) = ap (λ rest. raised_edge (pos 128 *ℤ d) e ∷ rest) (raised_is d es)
+
+edges_raised : (d : ℤ) → Changes (point_raised d) (raised_edge (pos 128 *ℤ d))
+edges_raised d before p after =
+    edges_exchanged (point_moved d (exchanged before)) (point_moved d (exchanged p)) (point_moved d (exchanged after))
+    ∙ ap (map edge_exchanged) (edges_moved d (exchanged before) (exchanged p) (exchanged after)
+    ∙ ap (along d) (edges_exchanged before p after))
+    ∙ raised_is d (edges_of before p after)
+
+point_there : (dx dy d : ℤ) (p : ℤ × ℤ × Bool) → moved dx (dy +ℤ d) p ≡ point_raised d (moved dx dy p)
+point_there dx dy d p =
+    let Q : ℤ → Point = λ y. record { x = p.0 +ℤ dx; y = y; on = p.2 } in
+    ap Q (omega (arith, ints))
+
+points_raised : (dx dy d : ℤ) (ps : List (ℤ × ℤ × Bool)) → map (moved dx (dy +ℤ d)) ps
+    ≡ map (point_raised d) (map (moved dx dy) ps)
+points_raised dx dy d [] = refl
+points_raised dx dy d (p ∷ ps) = rw (point_there dx dy d p, points_raised dx dy d ps) refl
+
+any_contours_raised : (points : List (ℤ × ℤ × Bool)) (ends : List ℕ) (dx dy d : ℤ)
+    → chord_contours points ends dx (dy +ℤ d)
+    ≡ map (map (raised_edge (pos 128 *ℤ d))) (chord_contours points ends dx dy)
+any_contours_raised points ends dx dy d =
+    rw (points_raised dx dy d points) (contours_changed (point_raised d) (raised_edge (pos 128 *ℤ d)) (edges_raised d)
+    (map (moved dx dy) points) ends (range_with_len 0 (length ends)))
+
+pub contours_above : ContoursRaised
+contours_above points ends dx dy k =
+    any_contours_raised points ends dx dy (pos 64 *ℤ k)
+    ∙ ap (λ z. map (map (raised_edge z)) (chord_contours points ends dx dy)) (pixels k)

@@ -40,7 +40,7 @@ last_is f p (q ∷ ps) d = last_is f q ps d
 abbrev pub rest : {X : Type 0} → List X → List X
 rest ps = take (length ps - 1) (drop 1 ps)
 
-rest_is : {X : Type 0} (p : X) (ps : List X) → rest (p ∷ ps) ≡ ps
+pub rest_is : {X : Type 0} (p : X) (ps : List X) → rest (p ∷ ps) ≡ ps
 rest_is p ps =
     let less : length (p ∷ ps) - 1 ≡ length ps = omega arith in
     let tail : drop 1 (p ∷ ps) ≡ ps = refl in

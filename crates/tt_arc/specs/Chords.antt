@@ -97,6 +97,11 @@ outline_edges ps ends = flat_map (λ c. contour_edges (contour_at ps ends c)) (r
 abbrev pub chord_edges : List (ℤ × ℤ × Bool) → List ℕ → ℤ → ℤ → List Edge
 chord_edges points ends dx dy = outline_edges (map (moved dx dy) points) ends
 
+-- the same contour by contour
+abbrev pub chord_contours : List (ℤ × ℤ × Bool) → List ℕ → ℤ → ℤ → List (List Edge)
+chord_contours points ends dx dy =
+    map (λ c. contour_edges (contour_at (map (moved dx dy) points) ends c)) (range_with_len 0 (length ends))
+
 -- a moved point that the program takes
 pub record PointFits (p : Point) : Type 0 where
   pub x : unsigned_abs p.x < 2 ^ 23
@@ -156,6 +161,11 @@ contours_do_not_touch : chord_edges (point 0 0 true ∷ point 0 1 true ∷ point
     (pos 0) (pos 0) ≡ edge 0 0 0 128 ∷ edge 0 128 0 0 ∷ edge 640 640 640 768 ∷ edge 640 768 640 640 ∷ []
 unfolding edges_of point edge
 contours_do_not_touch = refl
+
+a_contour_of_one_point_is_empty : chord_contours (point 5 5 true ∷ point 0 0 true ∷ point 0 1 true ∷ []) (1 ∷ 3 ∷ [])
+    (pos 0) (pos 0) ≡ [] ∷ (edge 0 0 0 128 ∷ edge 0 128 0 0 ∷ []) ∷ []
+unfolding edges_of point edge
+a_contour_of_one_point_is_empty = refl
 
 -- the edge before the curve, then its first chord
 first_chord : take 2 (chord_edges (point 8 8 true ∷ point 0 0 true ∷ point 8 0 false ∷ []) (3 ∷ []) (pos 0) (pos 0))

@@ -1,10 +1,10 @@
 -- What the edges of an outline come to, told of its single points.
 use Rattle.std.specs.Prelude.{◌≡◌, ◌≢◌, ◌↔◌, ◌⊎◌, ℕ, ◌<◌, Bool, true, false, ◌&&◌, if◌then◌else◌, ℤ, pos, negsuc, ◌+ℤ◌, ◌*ℤ◌, int_lt, int_le, List, [], ◌∷◌, length, map, refl}
-use Rattle.std.specs.List.{Any}
+use Rattle.std.specs.List.{Any, flat_map}
 use Rattle.tt_scan.specs.declared.edge.Edge.{Edge}
 use Rattle.tt_scan.specs.Winding.{side, lies_on, lies_on_one, winding, is_black, moved_edges}
 use Rattle.tt_arc.specs.declared.point.Point.{Point}
-use Rattle.tt_arc.specs.Chords.{moved, edges_of, edges_at, contour_at, chord_edges}
+use Rattle.tt_arc.specs.Chords.{moved, edges_of, edges_at, contour_at, chord_edges, chord_contours}
 
 -- contour c has two points or more, i is one of them, and (x, y) lies on an edge of that point
 pub record LiesOnEdgeOf (ps : List Point) (ends : List ℕ) (x y : ℤ) (c i : ℕ) : Type 0 where
@@ -49,6 +49,27 @@ SidesAgree = (points : List (ℤ × ℤ × Bool)) (ends : List ℕ) (dx dy x y :
 abbrev pub OutlineMoved : Type 0
 OutlineMoved = (points : List (ℤ × ℤ × Bool)) (ends : List ℕ) (dx dy k : ℤ)
     → chord_edges points ends (dx +ℤ pos 64 *ℤ k) dy ≡ moved_edges (pos 8192 *ℤ k) (chord_edges points ends dx dy)
+
+-- the edges of its contours, one after the other, are those of the outline
+abbrev pub ContoursJoined : Type 0
+ContoursJoined = (points : List (ℤ × ℤ × Bool)) (ends : List ℕ) (dx dy : ℤ)
+    → flat_map (λ es. es) (chord_contours points ends dx dy) ≡ chord_edges points ends dx dy
+
+-- an outline that stands k pixels further to the right has the edges of each contour there
+abbrev pub ContoursMoved : Type 0
+ContoursMoved = (points : List (ℤ × ℤ × Bool)) (ends : List ℕ) (dx dy k : ℤ)
+    → chord_contours points ends (dx +ℤ pos 64 *ℤ k) dy
+    ≡ map (moved_edges (pos 8192 *ℤ k)) (chord_contours points ends dx dy)
+
+-- an edge that stands d higher
+abbrev pub raised_edge : ℤ → Edge → Edge
+raised_edge d e = record { ax = e.ax; ay = e.ay +ℤ d; bx = e.bx; by = e.by +ℤ d }
+
+-- and one that stands k pixels higher
+abbrev pub ContoursRaised : Type 0
+ContoursRaised = (points : List (ℤ × ℤ × Bool)) (ends : List ℕ) (dx dy k : ℤ)
+    → chord_contours points ends dx (dy +ℤ pos 64 *ℤ k)
+    ≡ map (map (raised_edge (pos 8192 *ℤ k))) (chord_contours points ends dx dy)
 
 -- worked values: inside a square, upwards on its left, and left of it
 square : List Edge

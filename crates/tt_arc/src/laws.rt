@@ -1,6 +1,6 @@
 //! Laws of the definitions. Each function takes nothing and gives nothing: its clauses hold of all outlines.
 
-ghost use Rattle.tt_arc.specs.Laws.{OnByPoints, BlackByPoints, SidesAgree, OutlineMoved};
+ghost use Rattle.tt_arc.specs.Laws.{OnByPoints, BlackByPoints, SidesAgree, OutlineMoved, ContoursJoined, ContoursMoved, ContoursRaised};
 
 /// Where a place lies on an outline, and where it is black, told of the outline's single points.
 pub fn outline_points()
@@ -16,4 +16,16 @@ pub fn sides_agree()
 /// The edges of an outline that is moved by whole pixels: they are those of the outline where it stood, moved by as much.
 pub fn outline_moved()
     ensures { OutlineMoved }
+{}
+
+/// The edges of an outline contour by contour: one after the other they are those of the outline.
+pub fn contours_joined()
+    ensures { ContoursJoined }
+{}
+
+/// The contours of an outline that is moved by whole pixels: they are those of the outline where it stood, moved by as
+/// much.
+pub fn contours_moved()
+    ensures right { ContoursMoved }
+    ensures up { ContoursRaised }
 {}

@@ -2,9 +2,11 @@
 #![tactic(auto)]
 
 mod contour;
+mod ends;
 pub mod laws;
 mod outline;
 mod point;
 mod quadratic;
 
+pub use ends::contour_ends;
 pub use outline::chords;

@@ -191,12 +191,12 @@ opcodes_80 =
     (0x80, op.on_points on.Flippt) ∷
     (0x81, op.on_points on.Fliprgon) ∷
     (0x82, op.on_points on.Fliprgoff) ∷
-    (0x85, op.set_state setting.Ignored) ∷
+    (0x85, op.set_state setting.Scanctrl) ∷
     (0x88, op.answer query.Getinfo) ∷
     (0x8A, op.manage managing.Roll) ∷
     (0x8B, op.compute arithmetic.Max) ∷
     (0x8C, op.compute arithmetic.Min) ∷
-    (0x8D, op.set_state setting.Ignored) ∷
+    (0x8D, op.set_state setting.Scantype) ∷
     (0x8E, op.instctrl) ∷
     []
 

@@ -80,6 +80,8 @@ setting_loosened setting.Ssw ppem em s g = same (settings.ssw ppem em s g)
 setting_loosened (setting.Flip on) ppem em s g = refl
 setting_loosened setting.Sdb ppem em s g = same (settings.sdb s g)
 setting_loosened setting.Sds ppem em s g = same (settings.sds s g)
+setting_loosened setting.Scanctrl ppem em s g = same (settings.scanctrl ppem s g)
+setting_loosened setting.Scantype ppem em s g = same (settings.scantype s g)
 setting_loosened setting.Ignored ppem em s g = after (settings.ignored s) _ _ (λ t. refl)
 
 read_loosened : (n : ℤ) (xs : List ℤ) (why : Why) (s : List ℤ)
@@ -183,6 +185,8 @@ setting_total setting.Sdb ppem em s g enough = of_one (λ s. settings.sdb s g) (
 setting_total setting.Sds ppem em s g enough =
     of_one (λ s. settings.sds s g)
     (λ n s. either (int_lt n (pos 0) || int_lt (pos 6) n) _ _ refl (record {})) s enough
+setting_total setting.Scanctrl ppem em s g enough = of_one (λ s. settings.scanctrl ppem s g) (λ n s. record {}) s enough
+setting_total setting.Scantype ppem em s g enough = of_one (λ s. settings.scantype s g) (λ n s. record {}) s enough
 setting_total setting.Ignored ppem em s g enough =
     total_after (settings.ignored s) _ (of_one settings.ignored (λ n s. record {}) s enough) (λ t. record {})
 
@@ -298,6 +302,8 @@ setting_short setting.Ssw ppem em t s g few = short_of_one (λ s. settings.ssw p
 setting_short (setting.Flip on) ppem em t s g few = absurd (omega arith)
 setting_short setting.Sdb ppem em t s g few = short_of_one (λ s. settings.sdb s g) refl s few
 setting_short setting.Sds ppem em t s g few = short_of_one (λ s. settings.sds s g) refl s few
+setting_short setting.Scanctrl ppem em t s g few = short_of_one (λ s. settings.scanctrl ppem s g) refl s few
+setting_short setting.Scantype ppem em t s g few = short_of_one (λ s. settings.scantype s g) refl s few
 setting_short setting.Ignored ppem em t s g few =
     short_of_one (λ s. settings.ignored s >>= λ t. Ok (t, g)) refl s few
 

@@ -137,6 +137,10 @@ settings_stay setting.Sdb ppem em t (n ∷ s) g = refl
 settings_stay setting.Sdb ppem em t [] g = λ other. refl
 settings_stay setting.Sds ppem em t (n ∷ s) g = tested beside (int_lt n (pos 0) || int_lt (pos 6) n) _ why.BadArgument
 settings_stay setting.Sds ppem em t [] g = λ other. refl
+settings_stay setting.Scanctrl ppem em t (v ∷ s) g = refl
+settings_stay setting.Scanctrl ppem em t [] g = λ other. refl
+settings_stay setting.Scantype ppem em t (v ∷ s) g = refl
+settings_stay setting.Scantype ppem em t [] g = λ other. refl
 settings_stay setting.Ignored ppem em t (n ∷ s) g = refl
 settings_stay setting.Ignored ppem em t [] g = λ other. refl
 

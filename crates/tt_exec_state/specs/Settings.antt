@@ -1,5 +1,5 @@
 -- Apple TrueType Reference Manual, "Instruction set": managing the graphics state. The top of the stack stands first.
-use Rattle.std.specs.Prelude.{◌≡◌, ℕ, ℤ, pos, int_lt, unsigned_abs, Bool, ◌||◌, if◌then◌else◌, List, [], ◌∷◌, Result, Ok, Err, refl}
+use Rattle.std.specs.Prelude.{◌≡◌, ℕ, ℤ, pos, negsuc, int_lt, unsigned_abs, ◌==◌, nat_le, Bool, true, false, ◌&&◌, ◌||◌, not, if◌then◌else◌, List, [], ◌∷◌, Result, Ok, Err, refl}
 use Rattle.std.specs.Int.{int_rem_euclid}
 use Rattle.tt_core.specs.Outcomes.{◌>>=◌}
 use Rattle.tt_core.specs.declared.fault.Why.{Why}
@@ -94,7 +94,32 @@ sds (n ∷ s) g =
     Ok (s, record g { delta_shift = unsigned_abs n })
 sds [] g = Err why.StackShort
 
--- SCANCTRL, SCANTYPE, SANGW, AA and DEBUG
+-- whether scan control is on after SCANCTRL of a number, at so many pixels per em, where it was or wasn't before. The low
+-- byte is a size, and 255 every size: up to it bit 8 switches on, beyond it bit 11 switches off. The bits for rotated and
+-- stretched glyphs say nothing (profile).
+abbrev pub control_by : ℕ → ℤ → ℕ → Bool → Bool
+control_by size v ppem before =
+    if size == 255 then true else
+    if size == 0 then false else
+    if nat_le ppem size then before || not (int_lt (int_rem_euclid v (pos 512)) (pos 256)) else
+    before && int_lt (int_rem_euclid v (pos 4096)) (pos 2048)
+
+abbrev pub control_after : ℤ → ℕ → Bool → Bool
+control_after v ppem before = control_by (unsigned_abs (int_rem_euclid v (pos 256))) v ppem before
+
+abbrev pub scanctrl : ℕ → List ℤ → GraphicsState → Set
+scanctrl ppem (v ∷ s) g = Ok (s, record g { scan = record g.scan { on = control_after v ppem g.scan.on } })
+scanctrl ppem [] g = Err why.StackShort
+
+-- the scan type after SCANTYPE of a number: its low 16 bits, and a negative number changes nothing
+abbrev pub type_after : ℤ → ℕ → ℕ
+type_after v before = if int_lt v (pos 0) then before else unsigned_abs (int_rem_euclid v (pos 65536))
+
+abbrev pub scantype : List ℤ → GraphicsState → Set
+scantype (v ∷ s) g = Ok (s, record g { scan = record g.scan { scan_type = type_after v g.scan.scan_type } })
+scantype [] g = Err why.StackShort
+
+-- SANGW, AA and DEBUG
 abbrev pub ignored : List ℤ → Result (List ℤ) Why
 ignored (n ∷ s) = Ok s
 ignored [] = Err why.StackShort
@@ -118,6 +143,8 @@ state_set op.Ssw ppem em t s g = ssw ppem em s g
 state_set (op.Flip on) ppem em t s g = Ok (s, flip on g)
 state_set op.Sdb ppem em t s g = sdb s g
 state_set op.Sds ppem em t s g = sds s g
+state_set op.Scanctrl ppem em t s g = scanctrl ppem s g
+state_set op.Scantype ppem em t s g = scantype s g
 state_set op.Ignored ppem em t s g = ignored s >>= λ t. Ok (t, g)
 
 -- how many values an instruction takes
@@ -140,6 +167,8 @@ takes op.Ssw = 1
 takes (op.Flip on) = 0
 takes op.Sdb = 1
 takes op.Sds = 1
+takes op.Scanctrl = 1
+takes op.Scantype = 1
 takes op.Ignored = 1
 
 -- worked values
@@ -154,3 +183,36 @@ no_zone_two_for_all = refl
 
 no_shift_seven : sds (pos 7 ∷ []) default_state ≡ Err why.BadArgument
 no_shift_seven = refl
+
+-- at every size; at none
+always_on : control_after (pos 0xFF) 300 false ≡ true
+always_on = refl
+
+never_on : control_after (pos 0x900) 1 true ≡ false
+never_on = refl
+
+-- up to 20 pixels
+on_up_to_its_size : control_after (pos 0x114) 20 false ≡ true
+on_up_to_its_size = refl
+
+as_before_beyond_it : control_after (pos 0x114) 21 false ≡ false
+as_before_beyond_it = refl
+
+off_beyond_its_size : control_after (pos 0x814) 21 true ≡ false
+off_beyond_its_size = refl
+
+as_before_up_to_it : control_after (pos 0x814) 20 true ≡ true
+as_before_up_to_it = refl
+
+-- for rotated and for stretched glyphs alone
+as_before_for_others : control_after (pos 0x614) 20 false ≡ false
+as_before_for_others = refl
+
+type_five : type_after (pos 5) 0 ≡ 5
+type_five = refl
+
+type_of_sixteen_bits : type_after (pos 0x10004) 0 ≡ 4
+type_of_sixteen_bits = refl
+
+type_of_a_negative_number : type_after (negsuc 0) 4 ≡ 4
+type_of_a_negative_number = refl

@@ -24,6 +24,8 @@ pub enum Setting {
     Flip(bool),
     Sdb,
     Sds,
+    Scanctrl,
+    Scantype,
     Ignored,
 }
 

@@ -185,7 +185,54 @@ fn sds(stack: &mut Stack, graphics: &mut GraphicsState) -> Result<(), Why>
     Ok(())
 }
 
-/// SCANCTRL[], 0x85; SCANTYPE[], 0x8D; SANGW[], 0x7E; AA[], 0x7F; DEBUG[], 0x4F: n -> nothing.
+/// Whether scan control is on after SCANCTRL of v. The low byte of v is a size, up to which bit 8 switches it on and
+/// beyond which bit 11 switches it off.
+fn control_after(v: i32, ppem: u32, before: bool) -> bool
+    ensures { result ≡ is.control_after v ppem before }
+{
+    let size = v.rem_euclid(256) as u32;
+    if size == 255 {
+        return true;
+    }
+    if size == 0 {
+        return false;
+    }
+    if ppem <= size {
+        before || v.rem_euclid(512) >= 256
+    } else {
+        before && v.rem_euclid(4096) < 2048
+    }
+}
+
+/// SCANCTRL[], 0x85: v -> scan control.
+fn scanctrl(size: Size, stack: &mut Stack, graphics: &mut GraphicsState) -> Result<(), Why>
+    ensures { Does (is.scanctrl size.ppem stack.old graphics.old) (stack.new, graphics.new) result }
+{
+    let v = stack.pop()?;
+    graphics.scan.on = control_after(v, size.ppem, graphics.scan.on);
+    Ok(())
+}
+
+/// The scan type after SCANTYPE of v, which a negative number leaves.
+fn type_after(v: i32, before: u16) -> u16
+    ensures { result ≡ is.type_after v before }
+{
+    if v < 0 {
+        return before;
+    }
+    v.rem_euclid(65536) as u16
+}
+
+/// SCANTYPE[], 0x8D: v -> the scan type.
+fn scantype(stack: &mut Stack, graphics: &mut GraphicsState) -> Result<(), Why>
+    ensures { Does (is.scantype stack.old graphics.old) (stack.new, graphics.new) result }
+{
+    let v = stack.pop()?;
+    graphics.scan.scan_type = type_after(v, graphics.scan.scan_type);
+    Ok(())
+}
+
+/// SANGW[], 0x7E; AA[], 0x7F; DEBUG[], 0x4F: n -> nothing.
 fn ignored(stack: &mut Stack) -> Result<(), Why>
     ensures { Does (is.ignored stack.old) stack.new result }
 {
@@ -230,6 +277,8 @@ pub fn set_state(
         }
         Setting::Sdb => sdb(stack, graphics),
         Setting::Sds => sds(stack, graphics),
+        Setting::Scanctrl => scanctrl(size, stack, graphics),
+        Setting::Scantype => scantype(stack, graphics),
         Setting::Ignored => ignored(stack),
     }
 }

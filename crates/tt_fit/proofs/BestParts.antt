@@ -112,7 +112,7 @@ by_best_program k parts p o made strict was =
     let code = program_in_glyf p in
     let grid = came-through (on_grid_at p.glyph_at o.phantom) _ made was in
     let begun = parts_with parts o grid.value in
-    let left = came-through (run_of code begun) (λ left. Ok (left_outline o left.zones.glyph)) made grid.rest in
+    let left = came-through (run_of code begun) (λ left. Ok (left_outline o left.zones.glyph left.state.scan)) made grid.rest in
     let best = best_left k code begun left.value strict left.first in
     rw (grid.first, best.0) left.rest
 

@@ -35,7 +35,7 @@ run-size parts p o all false was = let same : o ≡ all = cc in rw (← same) (o
 run-size parts p o all true was =
     let by_grid = came-through (on_grid_at p.glyph_at o.phantom) _ all was in
     let by_run = came-through (run_of (program_in_glyf p) (parts_with parts o by_grid.value)) _ all by_grid.rest in
-    let same : left_outline o by_run.value.zones.glyph ≡ all = cc by_run.rest in
+    let same : left_outline o by_run.value.zones.glyph by_run.value.state.scan ≡ all = cc by_run.rest in
     rw (← same) (simp (length-map, length-take) (omega arith))
 
 hinted-size : (h : Hinting) (p : GlyphProgram) (o all : Outline) → hinted h p o ≡ Ok all

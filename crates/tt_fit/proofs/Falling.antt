@@ -5,6 +5,8 @@ use Rattle.tt_core.specs.Outcomes.{◌>>=◌}
 use Rattle.tt_exec.specs.Work.{Worked, enough, spent}
 use Rattle.tt_glyf.specs.Loca.{Glyf}
 use Rattle.tt_metrics.specs.Metrics.{Metrics}
+use Rattle.tt_fit.specs.declared.dropouts.DropoutsBy.{DropoutsBy}
+use Rattle.tt_fit.specs.declared.dropouts.DropoutsBy.TheVariants.{Nobody}
 use Rattle.tt_fit.specs.declared.programs.Fit.{Fit}
 use Rattle.tt_fit.specs.declared.programs.Fit.TheVariants as fit
 use Rattle.tt_fit.specs.Fallback.{Fallback, never, where_refused, everywhere, is_program_fault}
@@ -14,7 +16,7 @@ use Rattle.tt_fit.specs.Outline.{Outline}
 use Rattle.tt_fit.specs.Parts.{begun_parts}
 use Rattle.tt_fit.specs.Preparation.{ProgramTables, with_fallback, left_at, work_at, prepared_by, prepared, fitter_with, fitter_of}
 use Rattle.tt_fit.specs.Hinting.{Hinting, off}
-use Rattle.tt_fit.specs.Rules.{falls_back, levels_of, rules_of}
+use Rattle.tt_fit.specs.Rules.{falls_back, levels_of, rules_of, dropouts_by}
 use Rattle.tt_fit.proofs.Unbounded.{of-outline, of-programs}
 
 -- for no glyph
@@ -106,10 +108,14 @@ pub on-ok : {X E : Type 0} (result : Result X E) (Q : Type 0) → Q → OnOk res
 on-ok (Ok x) Q holds = holds
 on-ok (Err e) Q holds = tt
 
+-- the same where this one says which dropouts are filled
+abbrev filled : DropoutsBy → Fitter → Fitter
+filled who s = record s { dropouts = who }
+
 -- what a way of fitting makes outlines from, by what the two programs leave, and their work
-abbrev fitter_by : Metrics → Glyf → ℕ → Fit → Worked → Result Hinting Fault → Result Fitter Fault
-fitter_by m tables ppem how worked left =
-    prepared_by how worked left >>= λ p. Ok (fitter_with m tables ppem how p.hinting p.fallback p.work)
+abbrev fitter_by : Metrics → Glyf → ℕ → Fit → DropoutsBy → Worked → Result Hinting Fault → Result Fitter Fault
+fitter_by m tables ppem how who worked left =
+    prepared_by how worked left >>= λ p. Ok (filled who (fitter_with m tables ppem how p.hinting p.fallback p.work))
 
 -- a way that falls back keeps a fault of the two
 abbrev fitter_falling : Metrics → Glyf → ℕ → Fit → Result Hinting Fault → Option ℕ → Fitter
@@ -117,19 +123,20 @@ fitter_falling m tables ppem how left work =
     fitter_with m tables ppem how (with_fallback left).hinting (with_fallback left).fallback work
 
 -- it is so with as much work as is left
-abbrev Falls : Metrics → Glyf → ℕ → Fit → Result Hinting Fault → Fitter → Type 0
-Falls m tables ppem how left s = (work : Option ℕ) × (fitter_falling m tables ppem how left work ≡ s)
+abbrev Falls : Metrics → Glyf → ℕ → Fit → DropoutsBy → Result Hinting Fault → Fitter → Type 0
+Falls m tables ppem how who left s =
+    (work : Option ℕ) × (filled who (fitter_falling m tables ppem how left work) ≡ s)
 
-falling : (m : Metrics) (tables : Glyf) (ppem : ℕ) (how : Fit) (s : Fitter) (worked : Worked)
+falling : (m : Metrics) (tables : Glyf) (ppem : ℕ) (how : Fit) (who : DropoutsBy) (s : Fitter) (worked : Worked)
     (left : Result Hinting Fault) (rest : Option ℕ) → falls_back how ≡ true → worked ≡ enough rest
-    → fitter_by m tables ppem how worked left ≡ Ok s → Falls m tables ppem how left s
-falling m tables ppem fit.Full s worked left rest falls has is = absurd cc
-falling m tables ppem fit.None s worked left rest falls has is = absurd cc
-falling m tables ppem fit.Fallback s worked (Ok hinting) rest falls has is = (None, cc)
-falling m tables ppem fit.Fallback s worked (Err f) rest falls has is = (None, cc)
-falling m tables ppem fit.Best s (enough l) (Ok hinting) rest falls has is = (l, cc)
-falling m tables ppem fit.Best s (enough l) (Err f) rest falls has is = (l, cc)
-falling m tables ppem fit.Best s (spent f) left rest falls has is = absurd cc
+    → fitter_by m tables ppem how who worked left ≡ Ok s → Falls m tables ppem how who left s
+falling m tables ppem fit.Full who s worked left rest falls has is = absurd cc
+falling m tables ppem fit.None who s worked left rest falls has is = absurd cc
+falling m tables ppem fit.Fallback who s worked (Ok hinting) rest falls has is = (None, cc)
+falling m tables ppem fit.Fallback who s worked (Err f) rest falls has is = (None, cc)
+falling m tables ppem fit.Best who s (enough l) (Ok hinting) rest falls has is = (l, cc)
+falling m tables ppem fit.Best who s (enough l) (Err f) rest falls has is = (l, cc)
+falling m tables ppem fit.Best who s (spent f) left rest falls has is = absurd cc
 
 -- what they are made from by the programs alone, and a glyph's outline then
 abbrev fitter_alone : Metrics → Glyf → ℕ → Fit → Result Hinting Fault → Result Fitter Fault
@@ -148,36 +155,39 @@ alone-is m tables ppem how hinting fallback work g =
 has-too : (s t : Fitter) (g : ℕ) → t ≡ s → HasWork s g → HasWork t g
 has-too s t g same has = subst (λ x. HasWork x g) (sym same) has
 
-fits-by : (m : Metrics) (tables : Glyf) (ppem : ℕ) (how : Fit) (s : Fitter) (g : ℕ) (o : Outline)
-    (left : Result Hinting Fault) (work : Option ℕ) → fitter_falling m tables ppem how left work ≡ s → HasWork s g
+fits-by : (m : Metrics) (tables : Glyf) (ppem : ℕ) (how : Fit) (who : DropoutsBy) (s : Fitter) (g : ℕ)
+    (o : Outline) (left : Result Hinting Fault) (work : Option ℕ)
+    → filled who (fitter_falling m tables ppem how left work) ≡ s → HasWork s g
     → outline_alone m tables ppem how left g ≡ Ok o
     → (fitted_outline s g ≡ Ok o) × (unfitted_fault s g ≡ None)
-fits-by m tables ppem how s g o (Ok hinting) work same has made =
-    let t = fitter_with m tables ppem how hinting where_refused work in
+fits-by m tables ppem how who s g o (Ok hinting) work same has made =
+    let t = filled who (fitter_with m tables ppem how hinting where_refused work) in
     let by_programs = sym (alone-is m tables ppem how hinting where_refused work g) ∙ made in
     let none = fitted-where-made t g o refl (has-too s t g same has) by_programs in
     rw (← same) (made-fitted t g none ∙ by_programs, none)
-fits-by m tables ppem how s g o (Err f) work same has made = absurd cc
+fits-by m tables ppem how who s g o (Err f) work same has made = absurd cc
 
 pub fallback-fits : FallbackFits
 unfolding fitter_of prepared
 fallback-fits m tables programs ppem how s g o falls is ready has made =
     let left = left_at m programs ppem how in
-    let by = falling m tables ppem how s (work_at m programs ppem how) left ready.0 falls ready.1 is in
-    fits-by m tables ppem how s g o left by.0 by.1 has made
+    let who = dropouts_by how programs.fpgm programs.prep in
+    let by = falling m tables ppem how who s (work_at m programs ppem how) left ready.0 falls ready.1 is in
+    fits-by m tables ppem how who s g o left by.0 by.1 has made
 
-scales-by : (m : Metrics) (tables : Glyf) (ppem : ℕ) (how : Fit) (s : Fitter) (g : ℕ) (f : Fault)
-    (left : Result Hinting Fault) (work : Option ℕ) → fitter_falling m tables ppem how left work ≡ s → HasWork s g
+scales-by : (m : Metrics) (tables : Glyf) (ppem : ℕ) (how : Fit) (who : DropoutsBy) (s : Fitter) (g : ℕ)
+    (f : Fault) (left : Result Hinting Fault) (work : Option ℕ)
+    → filled who (fitter_falling m tables ppem how left work) ≡ s → HasWork s g
     → outline_alone m tables ppem how left g ≡ Err f → is_program_fault f ≡ true
     → (fitted_outline s g ≡ fitted_outline (fitter_with m tables ppem how off never None) g)
     × (unfitted_fault s g ≡ Some f)
-scales-by m tables ppem how s g f (Ok hinting) work same has fails of_program =
-    let t = fitter_with m tables ppem how hinting where_refused work in
+scales-by m tables ppem how who s g f (Ok hinting) work same has fails of_program =
+    let t = filled who (fitter_with m tables ppem how hinting where_refused work) in
     let by_programs = sym (alone-is m tables ppem how hinting where_refused work g) ∙ fails in
     let some = unfitted-where-refused t g f refl (has-too s t g same has) by_programs of_program in
     rw (← same) (made-unfitted t g f some ∙ sym (alone-is m tables ppem how off never None g), some)
-scales-by m tables ppem how s g f (Err told) work same has fails of_program =
-    let t = fitter_with m tables ppem how off (everywhere told) work in
+scales-by m tables ppem how who s g f (Err told) work same has fails of_program =
+    let t = filled who (fitter_with m tables ppem how off (everywhere told) work) in
     let known : told ≡ f = cc in
     let some = unfitted-everywhere t g told refl in
     rw (← same, ← known) (made-unfitted t g told some ∙ sym (alone-is m tables ppem how off never None g), some)
@@ -186,37 +196,41 @@ pub fallback-scales : FallbackScales
 unfolding fitter_of prepared
 fallback-scales m tables programs ppem how s g f falls is ready has fails of_program =
     let left = left_at m programs ppem how in
-    let by = falling m tables ppem how s (work_at m programs ppem how) left ready.0 falls ready.1 is in
-    scales-by m tables ppem how s g f left by.0 by.1 has fails of_program
+    let who = dropouts_by how programs.fpgm programs.prep in
+    let by = falling m tables ppem how who s (work_at m programs ppem how) left ready.0 falls ready.1 is in
+    scales-by m tables ppem how who s g f left by.0 by.1 has fails of_program
 
-refuses-by : (m : Metrics) (tables : Glyf) (ppem : ℕ) (how : Fit) (alone s : Fitter) (g : ℕ) (f : Fault)
-    (left : Result Hinting Fault) (work : Option ℕ) → fitter_falling m tables ppem how left work ≡ s → HasWork s g
+refuses-by : (m : Metrics) (tables : Glyf) (ppem : ℕ) (how : Fit) (who : DropoutsBy) (alone s : Fitter)
+    (g : ℕ) (f : Fault) (left : Result Hinting Fault) (work : Option ℕ)
+    → filled who (fitter_falling m tables ppem how left work) ≡ s → HasWork s g
     → fitter_alone m tables ppem how left ≡ Ok alone → fitted_outline alone g ≡ Err f → is_program_fault f ≡ false
     → (fitted_outline s g ≡ Err f) × (unfitted_fault s g ≡ None)
-refuses-by m tables ppem how alone s g f (Ok hinting) work same has made fails of_table =
-    let t = fitter_with m tables ppem how hinting where_refused work in
+refuses-by m tables ppem how who alone s g f (Ok hinting) work same has made fails of_table =
+    let t = filled who (fitter_with m tables ppem how hinting where_refused work) in
     let whole : fitter_with m tables ppem how hinting never None ≡ alone = cc in
     let told : fitted_outline (fitter_with m tables ppem how hinting never None) g ≡ Err f = rw whole fails in
     let by_programs = sym (alone-is m tables ppem how hinting where_refused work g) ∙ told in
     let none = fitted-where-short t g f refl (has-too s t g same has) by_programs of_table in
     rw (← same) (made-fitted t g none ∙ by_programs, none)
-refuses-by m tables ppem how alone s g f (Err told) work same has made fails of_table = absurd cc
+refuses-by m tables ppem how who alone s g f (Err told) work same has made fails of_table = absurd cc
 
 pub fallback-refuses : FallbackRefuses
 unfolding fitter_of prepared
 fallback-refuses m tables programs ppem how alone s g f falls is ready has made fails of_table =
     let left = left_at m programs ppem how in
-    let by = falling m tables ppem how s (work_at m programs ppem how) left ready.0 falls ready.1 is in
-    refuses-by m tables ppem how alone s g f left by.0 by.1 has made fails of_table
+    let who = dropouts_by how programs.fpgm programs.prep in
+    let by = falling m tables ppem how who s (work_at m programs ppem how) left ready.0 falls ready.1 is in
+    refuses-by m tables ppem how who alone s g f left by.0 by.1 has made fails of_table
 
-unfits-by : (m : Metrics) (tables : Glyf) (ppem : ℕ) (how : Fit) (s : Fitter) (g : ℕ) (f : Fault)
-    (left : Result Hinting Fault) (work : Option ℕ) → fitter_falling m tables ppem how left work ≡ s
+unfits-by : (m : Metrics) (tables : Glyf) (ppem : ℕ) (how : Fit) (who : DropoutsBy) (s : Fitter) (g : ℕ)
+    (f : Fault) (left : Result Hinting Fault) (work : Option ℕ)
+    → filled who (fitter_falling m tables ppem how left work) ≡ s
     → fitter_alone m tables ppem how left ≡ Err f
     → (fitted_outline s g ≡ fitted_outline (fitter_with m tables ppem how off never None) g)
     × (unfitted_fault s g ≡ Some f)
-unfits-by m tables ppem how s g f (Ok hinting) work same fails = absurd cc
-unfits-by m tables ppem how s g f (Err told) work same fails =
-    let t = fitter_with m tables ppem how off (everywhere told) work in
+unfits-by m tables ppem how who s g f (Ok hinting) work same fails = absurd cc
+unfits-by m tables ppem how who s g f (Err told) work same fails =
+    let t = filled who (fitter_with m tables ppem how off (everywhere told) work) in
     let known : told ≡ f = cc in
     let some = unfitted-everywhere t g told refl in
     rw (← same, ← known) (made-unfitted t g told some ∙ sym (alone-is m tables ppem how off never None g), some)
@@ -225,29 +239,31 @@ pub fallback-unfits-all : FallbackUnfitsAll
 unfolding fitter_of prepared
 fallback-unfits-all m tables programs ppem how s g f falls is ready fails =
     let left = left_at m programs ppem how in
-    let by = falling m tables ppem how s (work_at m programs ppem how) left ready.0 falls ready.1 is in
-    unfits-by m tables ppem how s g f left by.0 by.1 fails
+    let who = dropouts_by how programs.fpgm programs.prep in
+    let by = falling m tables ppem how who s (work_at m programs ppem how) left ready.0 falls ready.1 is in
+    unfits-by m tables ppem how who s g f left by.0 by.1 fails
 
-others-by : (m : Metrics) (tables : Glyf) (ppem : ℕ) (how : Fit) (s : Fitter) (g : ℕ) (worked : Worked)
-    (left : Result Hinting Fault) → falls_back how ≡ false → fitter_by m tables ppem how worked left ≡ Ok s
+others-by : (m : Metrics) (tables : Glyf) (ppem : ℕ) (how : Fit) (who : DropoutsBy) (s : Fitter) (g : ℕ)
+    (worked : Worked) (left : Result Hinting Fault) → falls_back how ≡ false → fitter_by m tables ppem how who worked left ≡ Ok s
     → unfitted_fault s g ≡ None
-others-by m tables ppem fit.None s g worked left other is =
-    let same : fitter_with m tables ppem fit.None off never None ≡ s = cc in
+others-by m tables ppem fit.None who s g worked left other is =
+    let same : filled who (fitter_with m tables ppem fit.None off never None) ≡ s = cc in
     never-unfitted s g (rw (← same) refl)
-others-by m tables ppem fit.Full s g worked (Ok hinting) other is =
-    let same : fitter_with m tables ppem fit.Full hinting never None ≡ s = cc in
+others-by m tables ppem fit.Full who s g worked (Ok hinting) other is =
+    let same : filled who (fitter_with m tables ppem fit.Full hinting never None) ≡ s = cc in
     never-unfitted s g (rw (← same) refl)
-others-by m tables ppem fit.Full s g worked (Err f) other is = absurd cc
-others-by m tables ppem fit.Fallback s g worked left other is = absurd cc
-others-by m tables ppem fit.Best s g worked left other is = absurd cc
+others-by m tables ppem fit.Full who s g worked (Err f) other is = absurd cc
+others-by m tables ppem fit.Fallback who s g worked left other is = absurd cc
+others-by m tables ppem fit.Best who s g worked left other is = absurd cc
 
 pub others-never-fall-back : OthersNeverFallBack
 unfolding fitter_of prepared
 others-never-fall-back m tables programs ppem how s g other is =
-    others-by m tables ppem how s g (work_at m programs ppem how) (left_at m programs ppem how) other is
+    let who = dropouts_by how programs.fpgm programs.prep in
+    others-by m tables ppem how who s g (work_at m programs ppem how) (left_at m programs ppem how) other is
 
 full-by : (m : Metrics) (tables : Glyf) (ppem : ℕ) (worked : Worked) (left : Result Hinting Fault)
-    → fitter_by m tables ppem fit.Full worked left ≡ fitter_alone m tables ppem fit.Fallback left
+    → fitter_by m tables ppem fit.Full Nobody worked left ≡ fitter_alone m tables ppem fit.Fallback left
 full-by m tables ppem worked (Ok hinting) = refl
 full-by m tables ppem worked (Err f) = refl
 
@@ -264,18 +280,20 @@ none-is-without-programs m tables programs ppem = refl
 pub unbounded-is-enough : UnboundedIsEnough
 unbounded-is-enough s g = of-outline (with_hinting s s.hinting) s.levels g
 
-unbounded-by : (m : Metrics) (tables : Glyf) (ppem : ℕ) (how : Fit) (s : Fitter) (worked : Worked)
-    (left : Result Hinting Fault) → how ≢ fit.Best → fitter_by m tables ppem how worked left ≡ Ok s → s.work ≡ None
-unbounded-by m tables ppem fit.None s worked left other is =
-    let same : fitter_with m tables ppem fit.None off never None ≡ s = cc in rw (← same) refl
-unbounded-by m tables ppem fit.Full s worked (Ok hinting) other is =
-    let same : fitter_with m tables ppem fit.Full hinting never None ≡ s = cc in rw (← same) refl
-unbounded-by m tables ppem fit.Full s worked (Err f) other is = absurd cc
-unbounded-by m tables ppem fit.Fallback s worked (Ok hinting) other is =
-    let same : fitter_with m tables ppem fit.Fallback hinting where_refused None ≡ s = cc in rw (← same) refl
-unbounded-by m tables ppem fit.Fallback s worked (Err f) other is =
-    let same : fitter_with m tables ppem fit.Fallback off (everywhere f) None ≡ s = cc in rw (← same) refl
-unbounded-by m tables ppem fit.Best s worked left other is = absurd (other refl)
+unbounded-by : (m : Metrics) (tables : Glyf) (ppem : ℕ) (how : Fit) (who : DropoutsBy) (s : Fitter) (worked : Worked)
+    (left : Result Hinting Fault) → how ≢ fit.Best → fitter_by m tables ppem how who worked left ≡ Ok s → s.work ≡ None
+unbounded-by m tables ppem fit.None who s worked left other is =
+    let same : filled who (fitter_with m tables ppem fit.None off never None) ≡ s = cc in rw (← same) refl
+unbounded-by m tables ppem fit.Full who s worked (Ok hinting) other is =
+    let same : filled who (fitter_with m tables ppem fit.Full hinting never None) ≡ s = cc in rw (← same) refl
+unbounded-by m tables ppem fit.Full who s worked (Err f) other is = absurd cc
+unbounded-by m tables ppem fit.Fallback who s worked (Ok hinting) other is =
+    let same : filled who (fitter_with m tables ppem fit.Fallback hinting where_refused None) ≡ s = cc in
+    rw (← same) refl
+unbounded-by m tables ppem fit.Fallback who s worked (Err f) other is =
+    let same : filled who (fitter_with m tables ppem fit.Fallback off (everywhere f) None) ≡ s = cc in
+    rw (← same) refl
+unbounded-by m tables ppem fit.Best who s worked left other is = absurd (other refl)
 
 programs-unbounded : (m : Metrics) (programs : ProgramTables) (ppem : ℕ) (how : Fit) → how ≢ fit.Best
     → ProgramsHaveWork m programs ppem how
@@ -290,8 +308,9 @@ programs-unbounded m programs ppem fit.Best other = absurd (other refl)
 pub others-are-unbounded : OthersAreUnbounded
 unfolding fitter_of prepared
 others-are-unbounded m tables programs ppem how s other is =
+    let who = dropouts_by how programs.fpgm programs.prep in
     let worked = work_at m programs ppem how in (
-      unbounded-by m tables ppem how s worked (left_at m programs ppem how) other is,
+      unbounded-by m tables ppem how who s worked (left_at m programs ppem how) other is,
       programs-unbounded m programs ppem how other,
     )
 
@@ -315,13 +334,14 @@ pub spent-work-unfits : SpentWorkUnfits
 spent-work-unfits s g f is over =
     let some = unfitted-where-spent s g f is over in (made-unfitted s g f some, some)
 
-over-by : (m : Metrics) (tables : Glyf) (ppem : ℕ) (s : Fitter) (g : ℕ) (f : Fault) (worked : Worked)
-    (left : Result Hinting Fault) → worked ≡ spent f → fitter_by m tables ppem fit.Best worked left ≡ Ok s
+over-by : (m : Metrics) (tables : Glyf) (ppem : ℕ) (who : DropoutsBy) (s : Fitter) (g : ℕ) (f : Fault)
+    (worked : Worked) (left : Result Hinting Fault) → worked ≡ spent f
+    → fitter_by m tables ppem fit.Best who worked left ≡ Ok s
     → (fitted_outline s g ≡ fitted_outline (fitter_with m tables ppem fit.Best off never None) g)
     × (unfitted_fault s g ≡ Some f)
-over-by m tables ppem s g f (enough l) left over is = absurd cc
-over-by m tables ppem s g f (spent told) left over is =
-    let t = fitter_with m tables ppem fit.Best off (everywhere told) (Some 0) in
+over-by m tables ppem who s g f (enough l) left over is = absurd cc
+over-by m tables ppem who s g f (spent told) left over is =
+    let t = filled who (fitter_with m tables ppem fit.Best off (everywhere told) (Some 0)) in
     let known : told ≡ f = cc in
     let same : t ≡ s = cc in
     let some = unfitted-everywhere t g told refl in
@@ -335,4 +355,5 @@ spent-programs-unfit-all m tables programs ppem fit.None s g f falls is over = a
 spent-programs-unfit-all m tables programs ppem fit.Fallback s g f falls is over =
     let free = of-programs (begun_parts m programs.cvt ppem (rules_of fit.Fallback)) programs in absurd cc
 spent-programs-unfit-all m tables programs ppem fit.Best s g f falls is over =
-    over-by m tables ppem s g f (work_at m programs ppem fit.Best) (left_at m programs ppem fit.Best) over is
+    let who = dropouts_by fit.Best programs.fpgm programs.prep in
+    over-by m tables ppem who s g f (work_at m programs ppem fit.Best) (left_at m programs ppem fit.Best) over is

@@ -13,6 +13,7 @@ use Rattle.tt_glyf.specs.GlyphData.{glyph_data_of}
 use Rattle.tt_glyf.specs.Loca.{Glyf, glyph_offset}
 use Rattle.tt_glyf.specs.Raw.{Raw, empty, simple, composite}
 use Rattle.tt_metrics.specs.Metrics.{Metrics}
+use Rattle.tt_fit.specs.declared.dropouts.DropoutsBy.{DropoutsBy}
 use Rattle.tt_fit.specs.declared.programs.Fit.TheVariants as fit
 use Rattle.tt_fit.specs.Fallback.{Fallback, never, where_refused, everywhere}
 use Rattle.tt_fit.specs.Fitting.{Fitter, with_hinting, size_of, start, glyph_program, joined, added, simple_work, composite_work, made_work, work_by, added_work, outline_work, glyph_work, left_after, after_glyph}
@@ -22,7 +23,7 @@ use Rattle.tt_fit.specs.Laws.{Fewer, WorkFalls, BestIsBounded}
 use Rattle.tt_fit.specs.Outline.{Outline}
 use Rattle.tt_fit.specs.Parts.{begun_parts, parts_with}
 use Rattle.tt_fit.specs.Preparation.{ProgramTables, font_program, control_value_program, with_definitions, programs_work, left_at, work_at, prepared_by, prepared, fitter_with, fitter_of}
-use Rattle.tt_fit.specs.Rules.{rules_of}
+use Rattle.tt_fit.specs.Rules.{rules_of, dropouts_by}
 use Rattle.tt_fit.specs.Scaling.{scaled_outline}
 use Rattle.tt_fit.specs.Work.{if_ok, code_work, program_work, hinted_work, joined_work}
 
@@ -124,21 +125,25 @@ work-falls s g left is =
     (left-by s.fallback (glyph_work s g (Some left)) left (of-outline (with_hinting s s.hinting) s.levels g left))
 
 -- and before the first
-begun-by : (m : Metrics) (tables : Glyf) (ppem : ℕ) (s : Fitter) (worked : Worked) (left : Result Hinting Fault)
-    → ((after : Option ℕ) → worked ≡ enough after → Fewer work_limit after)
-    → (prepared_by fit.Best worked left >>= λ p. Ok
-    (fitter_with m tables ppem fit.Best p.hinting p.fallback p.work)) ≡ Ok s
+abbrev begun : Metrics → Glyf → ℕ → DropoutsBy → Hinting → Fallback → Option ℕ → Fitter
+begun m tables ppem who hinting fallback work =
+    record (fitter_with m tables ppem fit.Best hinting fallback work) { dropouts = who }
+
+begun-by : (m : Metrics) (tables : Glyf) (ppem : ℕ) (who : DropoutsBy) (s : Fitter) (worked : Worked)
+    (left : Result Hinting Fault) → ((after : Option ℕ) → worked ≡ enough after → Fewer work_limit after)
+    → (prepared_by fit.Best worked left >>= λ p. Ok (begun m tables ppem who p.hinting p.fallback p.work)) ≡ Ok s
     → Fewer work_limit s.work
-begun-by m tables ppem s (enough after) (Ok hinting) each is =
-    let same : fitter_with m tables ppem fit.Best hinting where_refused after ≡ s = cc in rw (← same) (each after refl)
-begun-by m tables ppem s (enough after) (Err f) each is =
-    let same : fitter_with m tables ppem fit.Best off (everywhere f) after ≡ s = cc in rw (← same) (each after refl)
-begun-by m tables ppem s (spent f) left each is =
-    let same : fitter_with m tables ppem fit.Best off (everywhere f) (Some 0) ≡ s = cc in
+begun-by m tables ppem who s (enough after) (Ok hinting) each is =
+    let same : begun m tables ppem who hinting where_refused after ≡ s = cc in rw (← same) (each after refl)
+begun-by m tables ppem who s (enough after) (Err f) each is =
+    let same : begun m tables ppem who off (everywhere f) after ≡ s = cc in rw (← same) (each after refl)
+begun-by m tables ppem who s (spent f) left each is =
+    let same : begun m tables ppem who off (everywhere f) (Some 0) ≡ s = cc in
     rw (← same) (0, refl, omega arith)
 
 pub best-is-bounded : BestIsBounded
 unfolding fitter_of prepared
 best-is-bounded m tables programs ppem s is =
-    begun-by m tables ppem s (work_at m programs ppem fit.Best) (left_at m programs ppem fit.Best)
+    let who = dropouts_by fit.Best programs.fpgm programs.prep in
+    begun-by m tables ppem who s (work_at m programs ppem fit.Best) (left_at m programs ppem fit.Best)
     (of-programs (begun_parts m programs.cvt ppem (rules_of fit.Best)) programs work_limit) is

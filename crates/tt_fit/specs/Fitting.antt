@@ -19,6 +19,8 @@ use Rattle.tt_glyf.specs.Simple.{end_at, ends_from, points_within, points_of, si
 use Rattle.tt_metrics.specs.declared.head.LocaFormat.TheVariants.{Short}
 use Rattle.tt_glyf.specs.Raw.{Raw, empty, simple, composite}
 use Rattle.tt_metrics.specs.Metrics.{Metrics, units_per_em_of, loca_format_of, glyphs_of}
+use Rattle.tt_fit.specs.declared.dropouts.DropoutsBy.{DropoutsBy}
+use Rattle.tt_fit.specs.declared.dropouts.DropoutsBy.TheVariants as by
 use Rattle.tt_fit.specs.Component.{shift_of}
 use Rattle.tt_fit.specs.Joining.{placed, appended, within_point_limit}
 use Rattle.tt_fit.specs.Fallback.{Fallback, never, where_refused, everywhere, unfitted_by, hinting_for}
@@ -31,7 +33,7 @@ use Rattle.tt_fit.specs.Work.{if_ok, hinted_work, joined_work, left_in}
 
 -- what outlines are made from: the glyph data and the metrics of a font, the pixels per em, what its programs leave,
 -- which glyphs are unfitted, how deep components may be nested, and what is left of the job's work, None where it is not
--- bounded
+-- bounded, and who says which dropouts are filled
 pub record Fitter : Type 0 where
   pub tables : Glyf
   pub metrics : Metrics
@@ -40,6 +42,7 @@ pub record Fitter : Type 0 where
   pub fallback : Fallback
   pub levels : ℕ
   pub work : Option ℕ
+  pub dropouts : DropoutsBy
 
 -- the glyph data is that of the metrics, the size is one that is supported, and what the programs leave is what they
 -- can leave
@@ -50,10 +53,10 @@ pub record IsFitter (s : Fitter) : Type 0 where
   pub high : s.ppem ≤ size_limit
   pub hinting : IsHinting s.hinting
 
--- the same with this in place of what the programs leave, no glyph unfitted, and no bound of work: what an outline is
--- made from
+-- the same with this in place of what the programs leave, no glyph unfitted, no bound of work and no dropouts: what
+-- an outline is made from
 abbrev pub with_hinting : Fitter → Hinting → Fitter
-with_hinting s hinting = record s { hinting = hinting; fallback = never; work = None }
+with_hinting s hinting = record s { hinting = hinting; fallback = never; work = None; dropouts = by.Nobody }
 
 abbrev pub size_of : Fitter → FontSize
 size_of s = record { ppem = s.ppem; units_per_em = units_per_em_of s.metrics }
@@ -178,6 +181,7 @@ its_setting third = record {
   fallback = never;
   levels = level_limit;
   work = None;
+  dropouts = by.Nobody;
 }
 
 abbrev its_phantom_points : ℤ → PhantomPoints
@@ -185,7 +189,7 @@ its_phantom_points left =
     record { left = (left, pos 0); right = (left +ℤ pos 1024, pos 0); ascent = (pos 0, pos 1024); descent = (pos 0, neg_ℤ (pos 256)) }
 
 empty_is_blank : fitted_outline (its_setting []) 0 ≡ Ok
-    (record { points = []; ends = []; phantom = its_phantom_points (pos 0) })
+    (record { points = []; ends = []; phantom = its_phantom_points (pos 0); scan = None })
 unfolding fitted_outline unfitted_fault glyph_data_of blank
 empty_is_blank = refl
 
@@ -193,6 +197,7 @@ square_is_scaled : fitted_outline (its_setting []) 1 ≡ Ok (record {
   points = (pos 256, pos 0, true) ∷ (pos 256, pos 512, true) ∷ (pos 768, pos 512, true) ∷ (pos 768, pos 0, true) ∷ [];
   ends = 4 ∷ [];
   phantom = its_phantom_points (pos 0);
+  scan = None;
 })
 unfolding fitted_outline unfitted_fault glyph_data_of glyph_bytes_of header_of described simple_of ends_from end_at points_within
     points_of flags_from run_at coordinates_from coordinate_at within_words delta_at byte_in word_in signed_in slice_in
@@ -208,6 +213,7 @@ squares_are_joined : fitted_outline (its_setting two_squares) 2 ≡ Ok (record {
       ∷ (pos 512, pos 0, true) ∷ (pos 512, pos 512, true) ∷ (pos 1024, pos 512, true) ∷ (pos 1024, pos 0, true) ∷ [];
   ends = 4 ∷ 8 ∷ [];
   phantom = its_phantom_points (pos 0);
+  scan = None;
 })
 unfolding fitted_outline unfitted_fault added placed appended shift_of within_point_limit glyph_data_of glyph_bytes_of header_of described
     composite_of records_from record_at known_glyph arguments_at argument_at transform_at unscaled program_of simple_of

@@ -1,9 +1,11 @@
 -- Apple TrueType Reference Manual, "Instructing TrueType Glyphs" (zones, phantom points): the points that a glyph's
 -- program works on, and the outline that they make.
-use Rattle.std.specs.Prelude.{◌≡◌, ℕ, Bool, ◌&&◌, true, false, if◌then◌else◌, ℤ, pos, negsuc, List, [], ◌∷◌, ◌++◌, length, map, take, drop, Result, Ok, Err, refl}
+use Rattle.std.specs.Prelude.{◌≡◌, ℕ, Bool, ◌&&◌, true, false, if◌then◌else◌, ℤ, pos, negsuc, List, [], ◌∷◌, ◌++◌, length, map, take, drop, Some, None, Result, Ok, Err, refl}
 use Rattle.tt_core.specs.Faults.{Fault}
 use Rattle.tt_exec.specs.MachineState.{Code}
 use Rattle.tt_glyf.specs.Bytes.{glyf_tag}
+use Rattle.tt_state.specs.GraphicsState.{default_scan}
+use Rattle.tt_state.specs.declared.graphics_state.ScanControl.{ScanControl}
 use Rattle.tt_state.specs.declared.point.Point.{Point}
 use Rattle.tt_fit.specs.Outline.{PhantomPoints, phantom_of, Outline}
 use Rattle.tt_fit.specs.Scaling.{to_grid, is_coordinate, coordinate_fault}
@@ -64,12 +66,14 @@ place_of p = (p.x, p.y)
 abbrev pub seen : Point → ℤ × ℤ × Bool
 seen p = (p.x, p.y, p.on)
 
--- the outline whose points stand in the glyph zone, the phantom points after them
-abbrev pub left_outline : Outline → List Point → Outline
-left_outline o zone = record {
+-- the outline whose points stand in the glyph zone, the phantom points after them, with the scan control
+-- left beside
+abbrev pub left_outline : Outline → List Point → ScanControl → Outline
+left_outline o zone scan = record {
   points = map seen (take (length o.points) zone);
   ends = o.ends;
   phantom = phantom_of (map place_of (drop (length o.points) zone));
+  scan = Some scan;
 }
 
 -- worked values: two points of one contour, whose advance ends at 100
@@ -79,14 +83,15 @@ its_phantom =
 
 abbrev its_shape : Outline
 its_shape =
-    record { points = (pos 5, pos 6, true) ∷ (pos 7, pos 8, false) ∷ []; ends = 2 ∷ []; phantom = its_phantom }
+    record { points = (pos 5, pos 6, true) ∷ (pos 7, pos 8, false) ∷ []; ends = 2 ∷ []; phantom = its_phantom; scan = None }
 
 the_advance_is_whole : on_grid_at 0 its_phantom ≡ Ok
     (record { left = (pos 0, pos 0); right = (pos 128, pos 0); ascent = (pos 0, pos 64); descent = (pos 0, negsuc 63) })
 unfolding on_grid_at
 the_advance_is_whole = refl
 
-untouched_points_stay : left_outline its_shape (glyph_zone its_shape its_phantom) ≡ its_shape
+untouched_points_stay : left_outline its_shape (glyph_zone its_shape its_phantom) default_scan
+    ≡ record its_shape { scan = Some default_scan }
 untouched_points_stay = refl
 
 an_empty_contour : contours_from 0 (3 ∷ 3 ∷ 7 ∷ []) ≡ (0, 3) ∷ (3, 3) ∷ (3, 7) ∷ []

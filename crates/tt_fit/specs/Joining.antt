@@ -1,10 +1,11 @@
 -- OpenType, "The 'glyf' table", "Composite Glyph Description": a component that was transformed and moved is joined with
 -- what is assembled so far.
-use Rattle.std.specs.Prelude.{◌≡◌, ℕ, ◌+◌, Bool, true, false, nat_lt, if◌then◌else◌, ℤ, pos, neg_ℤ, List, [], ◌∷◌, ◌++◌, length, map, Result, Ok, Err, refl}
+use Rattle.std.specs.Prelude.{◌≡◌, ℕ, ◌+◌, Bool, true, false, nat_lt, if◌then◌else◌, ℤ, pos, neg_ℤ, List, [], ◌∷◌, ◌++◌, length, map, Option, Some, None, Result, Ok, Err, refl}
 use Rattle.tt_core.specs.Faults.{Fault}
 use Rattle.tt_core.specs.declared.fault.Why.TheVariants as why
 use Rattle.tt_core.specs.Limits.{point_limit}
 use Rattle.tt_core.specs.Outcomes.{◌>>=◌, each}
+use Rattle.tt_state.specs.declared.graphics_state.ScanControl.{ScanControl}
 use Rattle.tt_glyf.specs.Composite.{one}
 use Rattle.tt_glyf.specs.Format.{has, use_my_metrics}
 use Rattle.tt_glyf.specs.declared.raw.Record.{Record}
@@ -22,6 +23,11 @@ within_point_limit at points = if nat_lt point_limit (length points) then Err
 abbrev pub phantom_with : Record → Outline → Outline → PhantomPoints
 phantom_with r component o = if has r.flags use_my_metrics then component.phantom else o.phantom
 
+-- what the last program left: a component's, where one was run, else one of those before
+abbrev pub scan_after : Option ScanControl → Option ScanControl → Option ScanControl
+scan_after (Some left) so_far = Some left
+scan_after None so_far = so_far
+
 -- so many points before them, the contours end so much later
 abbrev pub ends_after : ℕ → List ℕ → List ℕ
 ends_after points ends = map (λ e. points + e) ends
@@ -31,7 +37,7 @@ unfoldable pub appended : Record → ℤ × ℤ → Outline → Outline → Resu
 appended r by component o = do
   landed ← each (placed_point r by) component.points
   points ← within_point_limit r.at (o.points ++ landed)
-  Ok (record { points = points; ends = o.ends ++ ends_after (length o.points) component.ends; phantom = phantom_with r component o })
+  Ok (record { points = points; ends = o.ends ++ ends_after (length o.points) component.ends; phantom = phantom_with r component o; scan = scan_after component.scan o.scan })
 
 -- a component placed and added to what is assembled so far
 unfoldable pub placed : FontSize → Record → Outline → Outline → Result Outline Fault
@@ -54,12 +60,12 @@ phantom_after advance =
     record { left = (pos 0, pos 0); right = (advance, pos 0); ascent = (pos 0, pos 64); descent = (pos 0, pos 0) }
 
 shape_of : List (ℤ × ℤ × Bool) → ℤ → Outline
-shape_of points advance = record { points = points; ends = length points ∷ []; phantom = phantom_after advance }
+shape_of points advance = record { points = points; ends = length points ∷ []; phantom = phantom_after advance; scan = None }
 
 -- point 1 lands where point 0 of what is assembled so far is
 a_matched_component : placed its_size (turned 0x200) (shape_of two_points (pos 5))
     (shape_of ((pos 1000, pos 2000, true) ∷ []) (pos 9))
-    ≡ Ok (record { points = (pos 1000, pos 2000, true) ∷ (pos 1005, pos 1901, true) ∷ (pos 1000, pos 2000, false) ∷ []; ends = 1 ∷ 3 ∷ []; phantom = phantom_after (pos 5) })
+    ≡ Ok (record { points = (pos 1000, pos 2000, true) ∷ (pos 1005, pos 1901, true) ∷ (pos 1000, pos 2000, false) ∷ []; ends = 1 ∷ 3 ∷ []; phantom = phantom_after (pos 5); scan = None })
 unfolding its_size turned two_points shape_of placed appended shift_of settled within_point_limit
 a_matched_component = refl
 

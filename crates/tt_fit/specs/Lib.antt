@@ -2,6 +2,7 @@ pub mod Best
 pub mod Component
 pub mod Counting
 pub mod Defects
+pub mod Dropouts
 pub mod Fallback
 pub mod Fitting
 pub mod GlyphZone

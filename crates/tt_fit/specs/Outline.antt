@@ -1,6 +1,7 @@
 -- No part of the standard: what a fitted glyph is, in 26.6 pixels, and what holds of every one.
-use Rattle.std.specs.Prelude.{◌≡◌, ℕ, ◌-◌, ◌<◌, ◌≤◌, Bool, ℤ, pos, unsigned_abs, List, length, get_or, slice_index, All}
+use Rattle.std.specs.Prelude.{◌≡◌, ℕ, ◌-◌, ◌<◌, ◌≤◌, Bool, ℤ, pos, unsigned_abs, List, length, get_or, slice_index, Option, All}
 use Rattle.tt_core.specs.Limits.{coordinate_limit, point_limit}
+use Rattle.tt_state.specs.declared.graphics_state.ScanControl.{ScanControl}
 use Rattle.tt_fit.specs.declared.outline.Outline as declared
 
 -- the left and right ends of the advance, the ascent and the descent, each as a position
@@ -20,14 +21,15 @@ phantom_of ps = record {
 }
 
 -- the points with their flag for on the curve, contour after contour; for each contour the number one past its last
--- point; the phantom points
+-- point; the phantom points; the scan control that the last of the programs run for it left
 pub record Outline : Type 0 where
   pub points : List (ℤ × ℤ × Bool)
   pub ends : List ℕ
   pub phantom : PhantomPoints
+  pub scan : Option ScanControl
 
 abbrev pub outline_of : declared.Outline → Outline
-outline_of o = record { points = o.points.items; ends = o.ends.items; phantom = phantom_of o.phantom }
+outline_of o = record { points = o.points.items; ends = o.ends.items; phantom = phantom_of o.phantom; scan = o.scan }
 
 -- a coordinate is within the limit
 abbrev pub IsCoordinate : ℤ → Type 0

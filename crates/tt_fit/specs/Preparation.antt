@@ -12,11 +12,12 @@ use Rattle.tt_metrics.specs.Metrics.{Metrics}
 use Rattle.tt_fit.specs.declared.programs.Fit.{Fit}
 use Rattle.tt_fit.specs.declared.programs.Fit.TheVariants as fit
 use Rattle.tt_fit.specs.declared.programs.Programs as declared
+use Rattle.tt_fit.specs.declared.dropouts.DropoutsBy.TheVariants as by
 use Rattle.tt_fit.specs.Fallback.{Fallback, never, where_refused, everywhere}
 use Rattle.tt_fit.specs.Fitting.{Fitter}
 use Rattle.tt_fit.specs.Hinting.{Hinting, off, ready, run_of}
 use Rattle.tt_fit.specs.Parts.{begun_parts, left_to_glyphs}
-use Rattle.tt_fit.specs.Rules.{rules_of, levels_of, work_of}
+use Rattle.tt_fit.specs.Rules.{rules_of, levels_of, work_of, dropouts_by}
 use Rattle.tt_fit.specs.Work.{if_ok, code_work}
 
 -- the control values, the font program and the control value program
@@ -86,7 +87,7 @@ work_at m programs ppem fit = programs_work (begun_parts m programs.cvt ppem (ru
 unfoldable pub prepared : Metrics → ProgramTables → ℕ → Fit → Result Preparation Fault
 prepared m programs ppem fit = prepared_by fit (work_at m programs ppem fit) (left_at m programs ppem fit)
 
--- what outlines are made from, by what the two programs leave
+-- what outlines are made from, by what the two programs leave, where no dropouts are filled
 abbrev pub fitter_with : Metrics → Glyf → ℕ → Fit → Hinting → Fallback → Option ℕ → Fitter
 fitter_with m tables ppem fit hinting fallback work = record {
   tables = tables;
@@ -96,10 +97,11 @@ fitter_with m tables ppem fit hinting fallback work = record {
   fallback = fallback;
   levels = levels_of fit;
   work = work;
+  dropouts = by.Nobody;
 }
 
 -- what the outlines of a font at a size are made from
 unfoldable pub fitter_of : Metrics → Glyf → ProgramTables → ℕ → Fit → Result Fitter Fault
 fitter_of m tables programs ppem fit = do
   p ← prepared m programs ppem fit
-  Ok (fitter_with m tables ppem fit p.hinting p.fallback p.work)
+  Ok (record (fitter_with m tables ppem fit p.hinting p.fallback p.work) { dropouts = dropouts_by fit programs.fpgm programs.prep })

@@ -17,6 +17,7 @@ use Rattle.tt_glyf.specs.Simple.{end_at, ends_from, points_within, points_of, si
 use Rattle.tt_metrics.specs.declared.head.LocaFormat.TheVariants.{Short}
 use Rattle.tt_metrics.specs.Metrics.{Metrics}
 use Rattle.tt_fit.specs.declared.programs.Fit.TheVariants as fit
+use Rattle.tt_fit.specs.declared.dropouts.DropoutsBy.TheVariants as by
 use Rattle.tt_fit.specs.Component.{shift_of}
 use Rattle.tt_fit.specs.Joining.{placed, appended, within_point_limit}
 use Rattle.tt_fit.specs.Fallback.{Fallback, never, where_refused, everywhere, is_program_fault}
@@ -52,6 +53,7 @@ its_setting fallback = record {
   fallback = fallback;
   levels = level_limit;
   work = None;
+  dropouts = by.Nobody;
 }
 
 abbrev its_fault : Fault
@@ -87,6 +89,7 @@ composite_is_scaled : fitted_outline (its_setting where_refused) 2 ≡ Ok (recor
     ascent = (pos 0, pos 1024);
     descent = (pos 0, neg_ℤ (pos 256));
   };
+  scan = None;
 })
 unfolding fitted_outline unfitted_fault added placed appended shift_of within_point_limit glyph_data_of glyph_bytes_of
     header_of described simple_of ends_from end_at points_within points_of flags_from run_at coordinates_from

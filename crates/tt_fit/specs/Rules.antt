@@ -1,7 +1,9 @@
 -- No part of the standard: by which rules each way of fitting makes outlines (profile).
-use Rattle.std.specs.Prelude.{◌≡◌, ℕ, Bool, true, false, Option, Some, None, refl}
+use Rattle.std.specs.Prelude.{◌≡◌, ℕ, ◌==◌, Bool, true, false, ◌&&◌, if◌then◌else◌, List, length, Option, Some, None, refl}
 use Rattle.tt_core.specs.Limits.{level_limit, best_level_limit, work_limit}
 use Rattle.tt_state.specs.declared.tolerance.Tolerance.TheVariants as tolerance
+use Rattle.tt_fit.specs.declared.dropouts.DropoutsBy.{DropoutsBy}
+use Rattle.tt_fit.specs.declared.dropouts.DropoutsBy.TheVariants as by
 use Rattle.tt_fit.specs.declared.programs.Fit.{Fit}
 use Rattle.tt_fit.specs.declared.programs.Fit.TheVariants as fit
 use Rattle.tt_fit.specs.declared.rules.Rules.{Rules}
@@ -36,6 +38,14 @@ work_of fit.Full = None
 work_of fit.None = None
 work_of fit.Fallback = None
 work_of fit.Best = Some work_limit
+
+-- who says which dropouts are filled: with Best the font's programs, by the font program and the control value program;
+-- where both are empty the rules are those of scan type 1 (profile)
+abbrev pub dropouts_by : Fit → List ℕ → List ℕ → DropoutsBy
+dropouts_by fit.Full fpgm prep = by.Nobody
+dropouts_by fit.None fpgm prep = by.Nobody
+dropouts_by fit.Fallback fpgm prep = by.Nobody
+dropouts_by fit.Best fpgm prep = if length fpgm == 0 && length prep == 0 then by.Default else by.Programs
 
 -- worked values
 four_by_default : levels_of fit.Full ≡ 4

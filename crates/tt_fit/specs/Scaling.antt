@@ -1,6 +1,6 @@
 -- Apple TrueType Reference Manual, "Digitizing Letterform Designs" and "Instructing TrueType Glyphs": points from font
 -- units to 26.6 pixels, and the phantom points.
-use Rattle.std.specs.Prelude.{◌≡◌, ℕ, ◌+◌, Bool, true, ◌&&◌, nat_le, if◌then◌else◌, ℤ, pos, neg_ℤ, unsigned_abs, ◌+ℤ◌, ◌-ℤ◌, List, [], ◌∷◌, map, codes, Result, Ok, Err, refl}
+use Rattle.std.specs.Prelude.{◌≡◌, ℕ, ◌+◌, Bool, true, ◌&&◌, nat_le, if◌then◌else◌, ℤ, pos, neg_ℤ, unsigned_abs, ◌+ℤ◌, ◌-ℤ◌, List, [], ◌∷◌, map, codes, None, Result, Ok, Err, refl}
 use Rattle.tt_core.specs.Faults.{Fault}
 use Rattle.tt_core.specs.declared.fault.Why.{Why}
 use Rattle.tt_core.specs.declared.fault.Why.TheVariants as why
@@ -60,13 +60,13 @@ are_positions p = is_position p.left && is_position p.right && is_position p.asc
 
 -- an outline without points, of a glyph that begins at this offset in glyf, with these phantom points
 unfoldable pub blank : ℕ → PhantomPoints → Result Outline Fault
-blank at phantom = if are_positions phantom then Ok (record { points = []; ends = []; phantom = phantom }) else Err
+blank at phantom = if are_positions phantom then Ok (record { points = []; ends = []; phantom = phantom; scan = None }) else Err
     (coordinate_fault at)
 
 -- an outline with these points; each contour's last point is given
 unfoldable pub scaled_outline : FontSize → ℕ → List RawPoint → List ℕ → Outline → Result Outline Fault
 scaled_outline z at points ends o = each (scaled_point z at) points >>= λ ps. Ok
-    (record o { points = ps; ends = map (λ e. e + 1) ends })
+    (record o { points = ps; ends = map (λ e. e + 1) ends; scan = None })
 
 -- worked values: 256 units in an em, at 16 pixels
 its_size : FontSize

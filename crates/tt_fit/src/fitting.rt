@@ -10,6 +10,7 @@ ghost use Rattle.tt_metrics.specs.Metrics.{loca_format_of, glyphs_of};
 ghost use Rattle.tt_fit.specs.Counting.{points_asked, counted};
 ghost use Rattle.tt_fit.specs.Joining.{placed};
 ghost use Rattle.tt_fit.specs.Defects.{IsOutlineDefect};
+ghost use Rattle.tt_fit.specs.Dropouts.{dropouts_of};
 ghost use Rattle.tt_fit.specs.Fallback.{never, where_refused};
 ghost use Rattle.tt_fit.specs.Fitting.{IsFitter, with_hinting, size_of, start, glyph_program, simple_outline, joined, added, outline_at, simple_work, added_work, outline_work, glyph_work, unfitted_fault, fitted_outline, after_glyph};
 ghost use Rattle.tt_fit.specs.Outline.{outline_of, phantom_of, IsPoint, ArePhantom, AreEnds, IsOutline};
@@ -20,6 +21,7 @@ ghost use Rattle.tt_fit.specs.Work.{IsEnough, Makes, RefusalLeaves, WorkGives, j
 ghost use Rattle.tt_exec.specs.Work.{spent};
 
 use crate::counting::points_of;
+use crate::dropouts::{DropoutRules, DropoutsBy, rules_by};
 use crate::fallback::{Fallback, is_program_fault};
 use crate::glyph_zone::GlyphProgram;
 use crate::hinting::{Hinting, hinted};
@@ -27,7 +29,7 @@ use crate::joining::placed;
 use crate::outline::Outline;
 use crate::preparation::{Preparation, prepared};
 use crate::programs::{Fit, Programs};
-use crate::rules::levels_of;
+use crate::rules::{dropouts_by, levels_of};
 use crate::scaling::{blank, glyf_fault, phantom_points, scaled_outline};
 use crate::size::FontSize;
 use crate::unmade::{Unmade, unbounded};
@@ -39,8 +41,8 @@ use tt_glyf::{Glyf, Raw, RawPoint, Record};
 use tt_metrics::Metrics;
 
 /// Makes the outlines of a font at a size. A clause sees it as the glyph data, the metrics, the size,
-/// what the font's programs left, which glyphs are unfitted, how deep components may be nested, and what is left of the
-/// job's work.
+/// what the font's programs left, which glyphs are unfitted, how deep components may be nested, what is left of the
+/// job's work, and who says which dropouts are filled.
 #[derive(Drop)]
 pub struct Fitter<'a> {
     alloc: Global,
@@ -51,6 +53,7 @@ pub struct Fitter<'a> {
     fallback: Fallback,
     levels: u32,
     work: Work,
+    dropouts: DropoutsBy,
 }
 
 impl<'a> Model for Fitter<'a> {
@@ -60,9 +63,9 @@ impl<'a> Model for Fitter<'a> {
 
     ghost Value = { fitting.Fitter };
 
-    ghost view = { λ f. record { tables = f.glyf; metrics = f.metrics; ppem = f.ppem; hinting = hinting_view f.hinting; fallback = fallback_view f.fallback; levels = f.levels; work = f.work.left } };
+    ghost view = { λ f. record { tables = f.glyf; metrics = f.metrics; ppem = f.ppem; hinting = hinting_view f.hinting; fallback = fallback_view f.fallback; levels = f.levels; work = f.work.left; dropouts = f.dropouts } };
 
-    ghost invariant = { λ f. IsFitter (record { tables = f.glyf; metrics = f.metrics; ppem = f.ppem; hinting = hinting_view f.hinting; fallback = fallback_view f.fallback; levels = f.levels; work = f.work.left }) };
+    ghost invariant = { λ f. IsFitter (record { tables = f.glyf; metrics = f.metrics; ppem = f.ppem; hinting = hinting_view f.hinting; fallback = fallback_view f.fallback; levels = f.levels; work = f.work.left; dropouts = f.dropouts }) };
 }
 
 impl<'a> Fitter<'a> {
@@ -106,6 +109,7 @@ impl<'a> Fitter<'a> {
             fallback,
             levels: levels_of(fit),
             work,
+            dropouts: dropouts_by(fit, programs),
         })
     }
 
@@ -160,6 +164,13 @@ impl<'a> Fitter<'a> {
         let outline = self.made_by_fallback(g, &mut work)?;
         self.work = work;
         Ok(outline)
+    }
+
+    /// By which rules the dropouts of a glyph's outline are filled; None where none are.
+    pub fn dropouts(&self, outline: &Outline) -> Option<DropoutRules>
+        ensures { result ≡ dropouts_of self.now outline.now.unfitted (outline_of outline.now) }
+    {
+        rules_by(self.dropouts, &self.hinting, outline)
     }
 
     /// The outline of a glyph, with the fault of a program for which it is made without, by what is left of the job's

@@ -12,7 +12,7 @@ use crate::outline::Outline;
 use crate::scaling::coordinate;
 use std::alloc::{AllocError, Global};
 use tt_core::Fault;
-use tt_state::{Point, Round};
+use tt_state::{Point, Round, ScanControl};
 
 /// A glyph's program.
 #[derive(Clone, Copy)]
@@ -196,16 +196,17 @@ fn seen_phantom(zone: &[Point]) -> [(i32, i32); 4]
     ]
 }
 
-/// The outline whose points stand in the glyph zone, its phantom points after them.
+/// The outline whose points stand in the glyph zone, its phantom points after them, with the scan control left beside.
 pub(crate) fn left_outline(
     alloc: Global,
     outline: Outline,
     zone: &[Point],
+    scan: ScanControl,
 ) -> Result<Outline, AllocError>
     requires outline { IsOutline (outline_of outline) }
     requires count { length zone.now ≡ length outline.points.items + 4 }
     requires zone { All IsZonePoint zone.now }
-    ensures exact { IfOk result (λ o. outline_of o ≡ left_outline (outline_of outline) zone.now) }
+    ensures exact { IfOk result (λ o. outline_of o ≡ left_outline (outline_of outline) zone.now scan) }
     ensures valid { IfOk result (λ o. IsOutline (outline_of o)) }
 {
     let (own, phantom) = zone.split_at(outline.points.len());
@@ -215,5 +216,6 @@ pub(crate) fn left_outline(
         ends: outline.ends,
         phantom: seen_phantom(phantom),
         unfitted: None,
+        scan: Some(scan),
     })
 }

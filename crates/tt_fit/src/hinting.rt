@@ -107,7 +107,7 @@ fn by_program<'a>(
     let grid = on_grid(program.glyph_at, &outline.phantom)?;
     let begun = with_glyph(alloc, parts, &outline, &grid)?;
     let left = run(alloc, begun, code_in_glyf(program), work)?;
-    Ok(left_outline(alloc, outline, &left.zones.glyph)?)
+    Ok(left_outline(alloc, outline, &left.zones.glyph, left.state.scan)?)
 }
 
 /// The outline that a glyph's program leaves, of scaled points or of joined components.

@@ -5,7 +5,7 @@ ghost use Rattle.tt_core.specs.Limits.{point_limit};
 ghost use Rattle.tt_core.specs.Outcomes.{after_each, FontGives, Leaves};
 ghost use Rattle.tt_glyf.specs.Meaning.{HasArguments};
 ghost use Rattle.tt_fit.specs.Component.{placed_point};
-ghost use Rattle.tt_fit.specs.Joining.{ends_after, appended, placed};
+ghost use Rattle.tt_fit.specs.Joining.{ends_after, scan_after, appended, placed};
 ghost use Rattle.tt_fit.specs.Outline.{outline_of, IsPoint, IsOutline};
 ghost use Rattle.tt_fit.specs.Views.{size_view, shift_view};
 
@@ -17,6 +17,7 @@ use crate::size::FontSize;
 use std::alloc::AllocError;
 use tt_core::{FontFault, POINT_LIMIT, Why};
 use tt_glyf::{ComponentFlags, Record};
+use tt_state::ScanControl;
 
 /// Errors: CoordRange, Memory.
 #[tactic(auto, using(crate::proofs::Lists::points))]
@@ -50,6 +51,16 @@ fn push_ends(ends: &mut Vec<u32>, points: u32, component: &[u32]) -> Result<(), 
     Ok(())
 }
 
+/// What the last program left, a component's or one before it.
+fn scan_after(component: Option<ScanControl>, so_far: Option<ScanControl>) -> Option<ScanControl>
+    ensures { result ≡ scan_after component so_far }
+{
+    match component {
+        Some(left) => Some(left),
+        None => so_far,
+    }
+}
+
 /// A component moved by so much, added to what is assembled before it. Errors: CoordRange, PointLimit, Memory.
 #[tactic(auto, unfolding(crate::specs::Joining::appended, crate::specs::Joining::within_point_limit))]
 fn appended(
@@ -67,6 +78,7 @@ fn appended(
         mut points,
         mut ends,
         phantom,
+        scan,
         ..
     } = so_far;
     let before = points.len();
@@ -85,6 +97,7 @@ fn appended(
         ends,
         phantom,
         unfitted: None,
+        scan: scan_after(component.scan, scan),
     })
 }
 

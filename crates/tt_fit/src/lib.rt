@@ -3,6 +3,7 @@
 
 mod component;
 mod counting;
+mod dropouts;
 mod fallback;
 mod fitting;
 mod glyph_zone;
@@ -19,6 +20,7 @@ mod scaling;
 mod size;
 mod unmade;
 
+pub use dropouts::DropoutRules;
 pub use fitting::Fitter;
 pub use outline::Outline;
 pub use programs::{Fit, Programs};

@@ -1,6 +1,7 @@
 //! The outline of a glyph at a size.
 
 use tt_core::Fault;
+use tt_state::ScanControl;
 
 /// An outline, in 26.6 pixels.
 #[derive(Drop)]
@@ -13,4 +14,6 @@ pub struct Outline {
     pub phantom: [(i32, i32); 4],
     /// With `Fit::Fallback`, the fault of a program for which the points are scaled only.
     pub unfitted: Option<Fault>,
+    /// What the last of the programs run for it left, its components' too; None where none was run.
+    pub scan: Option<ScanControl>,
 }

@@ -1,9 +1,10 @@
 //! By which rules each way of fitting makes outlines.
 
 ghost use Rattle.std.specs.Prelude.{◌≡◌};
-ghost use Rattle.tt_fit.specs.Rules.{rules_of, levels_of, work_of};
+ghost use Rattle.tt_fit.specs.Rules.{rules_of, levels_of, work_of, dropouts_by};
 
-use crate::programs::Fit;
+use crate::dropouts::DropoutsBy;
+use crate::programs::{Fit, Programs};
 use tt_core::{BEST_LEVEL_LIMIT, LEVEL_LIMIT, WORK_LIMIT};
 use tt_exec::Work;
 use tt_state::Tolerance;
@@ -49,5 +50,21 @@ pub(crate) fn work_of(fit: Fit) -> Work
     match fit {
         Fit::Full | Fit::None | Fit::Fallback => Work::unbounded(),
         Fit::Best => Work::of(WORK_LIMIT),
+    }
+}
+
+/// Who says which dropouts are filled.
+pub(crate) fn dropouts_by(fit: Fit, programs: Programs) -> DropoutsBy
+    ensures { result ≡ dropouts_by fit programs.entry.fpgm.now programs.entry.prep.now }
+{
+    match fit {
+        Fit::Full | Fit::None | Fit::Fallback => DropoutsBy::Nobody,
+        Fit::Best => {
+            if programs.fpgm.is_empty() && programs.prep.is_empty() {
+                DropoutsBy::Default
+            } else {
+                DropoutsBy::Programs
+            }
+        }
     }
 }

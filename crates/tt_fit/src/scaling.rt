@@ -159,6 +159,7 @@ pub(crate) fn blank(alloc: Global, at: u32, phantom: Phantom) -> Result<Outline,
         ends: Vec::new(alloc),
         phantom: [(left, 0), (right, 0), (0, ascent), (0, descent)],
         unfitted: None,
+        scan: None,
     })
 }
 
@@ -186,5 +187,6 @@ pub(crate) fn scaled_outline(
         ends,
         phantom,
         unfitted: None,
+        scan: None,
     })
 }

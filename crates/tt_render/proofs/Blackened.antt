@@ -3,11 +3,11 @@ use Rattle.std.proofs.Common.{◌≡◌, ℕ, zero, suc, ◌+◌, ◌<◌, Bool,
 use Rattle.tt_scan.specs.declared.edge.Frame.{Frame}
 use Rattle.tt_render.specs.Pixels.{Stamp, is_black_from, is_black_by}
 
-or_false : (b : Bool) → (b || false) ≡ b
+pub or_false : (b : Bool) → (b || false) ≡ b
 or_false true = refl
 or_false false = refl
 
-or_or : (a b c : Bool) → (a || (b || c)) ≡ ((a || b) || c)
+pub or_or : (a b c : Bool) → (a || (b || c)) ≡ ((a || b) || c)
 or_or true b c = refl
 or_or false b c = refl
 
@@ -36,3 +36,9 @@ pub one_glyph_more : (f : Frame) (gs : List Stamp) (i : ℕ) (d : Stamp) (c r : 
 one_glyph_more f gs i d c r old inside below = rw (by_one_more f gs i d c r below)
     (joined old inside (is_black_by f (take i gs) c r)
     (is_black_from f (get_or gs i d).edges (get_or gs i d).pens c r))
+
+-- what the glyphs blacken of a row, and then the dropouts
+pub both_shown : (inside some one first then : Bool) → first ≡ (inside && some) → then ≡ (first || (inside && one))
+    → then ≡ (inside && (some || one))
+both_shown true some one first then is next = rw (next, is) refl
+both_shown false some one first then is next = rw (next, is) refl

@@ -1,13 +1,18 @@
 -- How often glyphs cross the rows at their pens, one glyph or one pen more at a time.
-use Rattle.std.proofs.Common.{◌≡◌, ◌∙◌, refl, ℕ, zero, suc, ◌+◌, ◌<◌, ◌≤◌, min, List, [], ◌∷◌, ◌++◌, length, drop, get_or, set, sum_by, ℤ, pos, arith, drop-cons, add-one, length-append}
+use Rattle.std.proofs.Common.{◌≡◌, ◌∙◌, refl, ap, ℕ, zero, suc, ◌+◌, ◌*◌, ◌<◌, ◌≤◌, min, Option, Some, None, List, [], ◌∷◌, ◌++◌, length, drop, get_or, set, sum_by, ℤ, pos, ◌+ℤ◌, ◌*ℤ◌, arith, drop-cons, add-one, length-append}
 use Rattle.std.proofs.Math.Nat.{mul-suc}
 use Rattle.std.proofs.lemmas.List.Sums.{sum_by-cons}
 use Rattle.std.specs.List.{range_with_len}
 use Rattle.tt_scan.specs.declared.edge.Edge.{Edge}
 use Rattle.tt_scan.specs.declared.edge.Frame.{Frame}
-use Rattle.tt_scan.specs.Winding.{row_y, rows_met, crossings_of, moved_edges}
-use Rattle.tt_render.specs.Glyphs.{Glyph, glyph_crossings, crossings_standing}
-use Rattle.tt_render.specs.Work.{crossings_in}
+use Rattle.tt_scan.specs.Winding.{row_y, rows_met, crossings_of, moved_edge, moved_edges}
+use Rattle.tt_scan_dropouts.specs.Crossings.{line_from, lines_crossed}
+use Rattle.tt_scan_dropouts.specs.Dropouts.{crossed, turned_round}
+use Rattle.tt_scan_dropouts.specs.declared.mark.Rules.{Rules}
+use Rattle.tt_scan_dropouts.proofs.MovedLines.{apart_moved, line_from_moved}
+use Rattle.tt_render.specs.Glyphs.{Glyph, glyph_crossings, pen_crossings, crossings_standing}
+use Rattle.tt_render.specs.Pixels.{Shape}
+use Rattle.tt_render.specs.Work.{crossings_in, filling_crossings}
 
 -- edges that are moved along the rows cross them as often
 met_moved : (d : ℤ) (es : List Edge) (y : ℤ) → rows_met (moved_edges d es) y ≡ rows_met es y
@@ -27,6 +32,19 @@ pub crossings_moved : (f : Frame) (d : ℤ) (es : List Edge) → crossings_of f 
 crossings_moved f d es = same_sum (λ row. rows_met (moved_edges d es) (row_y f (pos row)))
     (λ row. rows_met es (row_y f (pos row))) (range_with_len 0 f.height) (λ row. met_moved d es (row_y f (pos row)))
 
+-- and as many lines, where they move by whole pixels
+one_moved : (k : ℤ) (e : Edge) → lines_crossed (turned_round (moved_edge (pos 8192 *ℤ k) e)) ≡ lines_crossed (turned_round e)
+one_moved k e = rw (line_from_moved e.ax k, line_from_moved e.bx k, apart_moved (line_from e.bx) (line_from e.ax) k) refl
+
+crossed_moved : (k : ℤ) (es : List Edge) → crossed (moved_edges (pos 8192 *ℤ k) es) ≡ crossed es
+crossed_moved k [] = refl
+crossed_moved k (e ∷ es) = rw (crossed_moved k es, one_moved k e) refl
+
+pub filling_moved : (filled : Option Rules) (k : ℤ) (es : List Edge)
+    → filling_crossings filled (moved_edges (pos 8192 *ℤ k) es) ≡ filling_crossings filled es
+filling_moved None k es = refl
+filling_moved (Some rules) k es = ap (λ n. 4 * n) (crossed_moved k es)
+
 -- a glyph that stands nowhere crosses none
 pub crosses_nowhere : (gs : List Glyph) (g : Glyph) → g.pens ≡ [] → crossings_standing (gs ++ g ∷ [])
     ≡ crossings_standing gs
@@ -36,10 +54,10 @@ crosses_nowhere (h ∷ hs) g none = rw (crosses_nowhere hs g none) refl
 -- glyph i stands at one more pen
 pub crosses_at : (gs : List Glyph) (i : ℕ) (g : Glyph) (pen : ℕ) → i < length gs → g ≡ get_or gs i g
     → crossings_standing (set gs i (record g { pens = g.pens ++ pen ∷ [] }))
-    ≡ crossings_standing gs + crossings_of g.tape.frame g.tape.edges
+    ≡ crossings_standing gs + pen_crossings g
 crosses_at [] i g pen below is = absurd (omega arith)
 crosses_at (h ∷ hs) zero g pen below is =
-    let n = crossings_of h.tape.frame h.tape.edges in
+    let n = pen_crossings h in
     let long : length (h.pens ++ pen ∷ []) ≡ suc (length h.pens) = length-append h.pens (pen ∷ []) ∙ add-one (length h.pens) in
     let more = mul-suc n (length h.pens) in
     rw (is, long) (omega (arith, more))
@@ -47,10 +65,10 @@ crosses_at (h ∷ hs) (suc i) g pen below is =
     let rest = crosses_at hs i g pen (omega arith) is in
     omega (arith, rest)
 
-pub crossings_more : (f : Frame) (glyphs : List (List Edge)) (g : List Edge) → crossings_in f (glyphs ++ g ∷ [])
-    ≡ crossings_in f glyphs + crossings_of f g
-crossings_more f [] g = omega arith
-crossings_more f (h ∷ hs) g = let rest = crossings_more f hs g in omega (arith, rest)
+pub crossings_more : (f : Frame) (shapes : List Shape) (s : Shape) → crossings_in f (shapes ++ s ∷ [])
+    ≡ crossings_in f shapes + (crossings_of f s.edges + filling_crossings s.filled s.edges)
+crossings_more f [] s = omega arith
+crossings_more f (h ∷ hs) s = let rest = crossings_more f hs s in omega (arith, rest)
 
 -- a sum that stops at the greatest number, and one glyph more
 stops_at : (all own rest most whole : ℕ) → min (all + (own + rest)) most ≡ min whole most

@@ -12,6 +12,7 @@ mod Standings
 mod Seats
 mod Turns
 mod Crossed
+mod Filled
 mod Alike
 mod Listing
 mod Whole

@@ -15,7 +15,7 @@ use Rattle.tt_render.specs.Job.{Job}
 use Rattle.tt_render.specs.Tables.{Face, face_of, programs_in, glyphs_in}
 use Rattle.tt_render.specs.Laws.{OthersListNothing}
 use Rattle.tt_render.specs.Outcome.{Refused, as_font, as_job}
-use Rattle.tt_render.specs.Picture.{line_edges, setting_in}
+use Rattle.tt_render.specs.Picture.{line_shapes, setting_in}
 use Rattle.tt_render.proofs.Whole.{of-font}
 use Rattle.tt_render.specs.declared.report.Unfitted.{Unfitted}
 use Rattle.tt_render.specs.Distinct.{is_among, with_glyph, distinct, distinct_after, fitter_for}
@@ -166,7 +166,7 @@ unfolding line_report setting_in
 line_lists_nothing laws face a line entries was other =
     let by_setting = came-through (as_font (setting_in face a)) _ entries was in
     let s = by_setting.value in
-    let by_edges = came-through (line_edges s a line) _ entries by_setting.rest in
+    let by_edges = came-through (line_shapes s a line) _ entries by_setting.rest in
     let by_tables = came-through (glyphs_in face.directory face.metrics) _ s
     (of-font (setting_in face a) s by_setting.first) in
     let by_programs = came-through (programs_in face.directory a.fit) _ s by_tables.rest in

@@ -19,10 +19,10 @@ use Rattle.tt_render.specs.Defects.{IsTooMuchWork, IsExtentRefusal, IsFontRefusa
 use Rattle.tt_render.specs.Tables.{Face, face_of}
 use Rattle.tt_render.specs.Outcome.{Refused, as_job, job, refusal}
 use Rattle.tt_render.specs.Outcome as outcome
-use Rattle.tt_render.specs.Picture.{crossings_tested, drawn, edges_in, frame_of, pictured, points_tested, setting_in}
+use Rattle.tt_render.specs.Picture.{crossings_tested, drawn, shapes_in, frame_of, pictured, points_tested, setting_in}
 use Rattle.tt_render.specs.declared.fault.DrawFault.{DrawFault}
 use Rattle.tt_render.specs.declared.fault.DrawFault.TheVariants as draw
-use Rattle.tt_scan.specs.declared.edge.Edge.{Edge}
+use Rattle.tt_render.specs.Pixels.{Shape}
 use Rattle.tt_render.specs.Work.{crossings_in, is_bounded, points_in, work_tested}
 use Rattle.tt_render.specs.Views.{draw_fault_of_font, draw_fault_of_line}
 use Rattle.tt_render.proofs.Telling.{line_tells}
@@ -67,7 +67,7 @@ setting_stops face a l (font.Font f) fails = rw fails refl
 setting_stops face a l font.Memory fails = tt
 
 pub glyph_stops : (face : Face) (a : Job) (l : Placement) (s : Fitter) (e : FontFault) → setting_in face a ≡ Ok s
-    → as_job (points_tested s a l) ≡ Ok tt → IfSome (font_fault e) (λ f. edges_in s l ≡ Err f)
+    → as_job (points_tested s a l) ≡ Ok tt → IfSome (font_fault e) (λ f. shapes_in s l ≡ Err f)
     → IfSome (refusal (draw_fault_of_font e)) (λ r. drawn face a l ≡ Err r)
 unfolding drawn
 glyph_stops face a l s (font.Font f) there few fails = rw (there, few, fails) refl
@@ -79,8 +79,8 @@ font_tells P (font.Font f) stands = stands
 font_tells P font.Memory stands = tt
 
 -- and so do crossings past the limit
-pub crossings_stop : (face : Face) (a : Job) (l : Placement) (s : Fitter) (glyphs : List (List Edge)) (j : JobFault)
-    → setting_in face a ≡ Ok s → as_job (points_tested s a l) ≡ Ok tt → edges_in s l ≡ Ok glyphs
+pub crossings_stop : (face : Face) (a : Job) (l : Placement) (s : Fitter) (glyphs : List Shape) (j : JobFault)
+    → setting_in face a ≡ Ok s → as_job (points_tested s a l) ≡ Ok tt → shapes_in s l ≡ Ok glyphs
     → crossings_tested a l glyphs ≡ Err j → drawn face a l ≡ Err (job j)
 unfolding drawn
 crossings_stop face a l s glyphs j there few made refused = rw (there, few, made, refused) refl
@@ -92,8 +92,8 @@ tested_as true true j was = (cc, refl, refl)
 tested_as true false j was = absurd cc
 tested_as false past j was = absurd cc
 
-pub crossings_tell : (face : Face) (a : Job) (l : Placement) (s : Fitter) (glyphs : List (List Edge)) (j : JobFault)
-    → setting_in face a ≡ Ok s → edges_in s l ≡ Ok glyphs → crossings_tested a l glyphs ≡ Err j
+pub crossings_tell : (face : Face) (a : Job) (l : Placement) (s : Fitter) (glyphs : List Shape) (j : JobFault)
+    → setting_in face a ≡ Ok s → shapes_in s l ≡ Ok glyphs → crossings_tested a l glyphs ≡ Err j
     → (j ≡ job_of.WorkLarge) × IsTooMuchWork face a l
 unfolding work_tested
 crossings_tell face a l s glyphs j there made refused =

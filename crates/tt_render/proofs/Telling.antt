@@ -14,12 +14,12 @@ use Rattle.tt_glyf.specs.Bytes.{glyf_tag}
 use Rattle.tt_glyf.specs.Loca.{Glyf, loca_tag, IsLocaDefect}
 use Rattle.tt_line.specs.Layout.{text_glyphs}
 use Rattle.tt_metrics.specs.Metrics.{Metrics}
-use Rattle.tt_scan.specs.declared.edge.Edge.{Edge}
 use Rattle.tt_render.specs.Job.{Job}
 use Rattle.tt_render.specs.Defects.{IsFaceDefect, IsGlyphTableDefect, IsProgramTableDefect, IsSettingDefect, IsGlyphDefect, IsLineDefect, IsRunDefect}
 use Rattle.tt_render.specs.Distinct.{line_fitter}
 use Rattle.tt_render.specs.Tables.{Face, face_of, programs_in}
-use Rattle.tt_render.specs.Picture.{setting_in, glyph_edges}
+use Rattle.tt_render.specs.Picture.{setting_in, glyph_shape}
+use Rattle.tt_render.specs.Pixels.{Shape}
 use Rattle.tt_render.proofs.Drawn.{defect_of_line, no_defect_of_line}
 
 pub no_glyph_table_defect : {X : Type 0} (r : Result X Fault) (directory : List ℕ) (m : Metrics)
@@ -85,24 +85,24 @@ no_setting_defect face a tables programs s good kept there made = λ fault defec
 ]
 
 -- a glyph's fault is one of the line
-pub glyph_tells : {X : Type 0} (view : X → List (List Edge)) (face : Face) (a : Job) (s : Fitter) (gs : List (ℕ × ℕ))
+pub glyph_tells : {X : Type 0} (view : X → List Shape) (face : Face) (a : Job) (s : Fitter) (gs : List (ℕ × ℕ))
     → setting_in face a ≡ Ok s → (e : FontFault) → FontGives view (Err e)
-    (each (glyph_edges (line_fitter s (map (λ g. g.0) gs))) gs)
+    (each (glyph_shape (line_fitter s (map (λ g. g.0) gs))) gs)
     → IfSome (font_fault e) (IsLineDefect face a (map (λ g. g.0) gs))
 glyph_tells view face a s gs there (fault.Font f) fails = inr (rw there
     (defect_of_line (line_fitter s (map (λ g. g.0) gs)) gs f fails))
 glyph_tells view face a s gs there fault.Memory fails = tt
 
-pub no_line_defect : (face : Face) (a : Job) (s : Fitter) (gs : List (ℕ × ℕ)) (tapes : List (List Edge))
-    → setting_in face a ≡ Ok s → HasNo (IsSettingDefect face a) → each (glyph_edges (line_fitter s (map (λ g. g.0) gs))) gs
-    ≡ Ok tapes
+pub no_line_defect : (face : Face) (a : Job) (s : Fitter) (gs : List (ℕ × ℕ)) (shapes : List Shape)
+    → setting_in face a ≡ Ok s → HasNo (IsSettingDefect face a) → each (glyph_shape (line_fitter s (map (λ g. g.0) gs))) gs
+    ≡ Ok shapes
     → HasNo (IsLineDefect face a (map (λ g. g.0) gs))
-no_line_defect face a s gs tapes there good made = λ fault defect. elim defect [
+no_line_defect face a s gs shapes there good made = λ fault defect. elim defect [
   | inl of_setting ↦ good fault of_setting
   | inr glyph ↦
       let P : Result Fitter Fault → Type 0 = λ r. IsOkAnd r
       (λ s. IsGlyphDefect (line_fitter s (map (λ g. g.0) gs)) (map (λ g. g.0) gs) fault) in
-      no_defect_of_line (line_fitter s (map (λ g. g.0) gs)) gs tapes made fault (subst P there glyph)
+      no_defect_of_line (line_fitter s (map (λ g. g.0) gs)) gs shapes made fault (subst P there glyph)
 ]
 
 -- what stopped the making of the setting is a defect of the line

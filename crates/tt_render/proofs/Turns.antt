@@ -1,19 +1,28 @@
 -- The glyphs of a line are made one after the other, each from what those before it left.
 use Rattle.std.proofs.Common.{◌≡◌, ◌∙◌, ◌<◌, ℕ, Bool, true, false, ◌||◌, ◌==◌, List, [], ◌∷◌, ◌++◌, length, drop, get_or, Result, Ok, Err, refl, sym, append_assoc, append-nil, drop-cons, arith}
-use Rattle.std.specs.Prelude.{IfSome}
+use Rattle.std.specs.Prelude.{IfSome, Option}
 use Rattle.std.proofs.lemmas.Bool.Decides.{nat_tests}
 use Rattle.tt_core.specs.declared.font_fault.FontFault.{FontFault}
 use Rattle.tt_core.specs.declared.font_fault.FontFault.TheVariants as font
 use Rattle.tt_core.specs.Outcomes.{◌>>=◌, each, after_each, font_fault}
+use Rattle.tt_core.specs.Faults.{Fault}
+use Rattle.tt_fit.specs.Dropouts.{dropouts_of}
 use Rattle.tt_fit.specs.Fitting.{Fitter, fitted_outline, after_glyph}
-use Rattle.tt_scan.specs.declared.edge.Edge.{Edge}
+use Rattle.tt_fit.specs.Outline.{Outline}
 use Rattle.tt_render.specs.Distinct.{is_among, with_glyph, distinct_after, fitter_after, fitter_past, fitter_for, IsNext}
-use Rattle.tt_render.specs.Picture.{glyph_edges}
+use Rattle.tt_render.specs.Picture.{glyph_shape}
+use Rattle.tt_render.specs.Pixels.{Shape}
 
 -- a glyph leaves the glyph data
 pub same_tables : (s : Fitter) (g : ℕ) → (after_glyph s g).tables ≡ s.tables
 unfolding after_glyph
 same_tables s g = refl
+
+-- and who says by which rules dropouts are filled
+pub same_dropouts : (s : Fitter) (g : ℕ) (unfitted : Option Fault) (o : Outline)
+    → dropouts_of (after_glyph s g) unfitted o ≡ dropouts_of s unfitted o
+unfolding after_glyph
+same_dropouts s g unfitted o = refl
 
 neither : (a b : Bool) → (a || b) ≡ false → (a ≡ false) × (b ≡ false)
 neither true b is = absurd cc
@@ -76,17 +85,17 @@ of_next font.Memory now before g absent fails = tt
 
 -- is that of the line
 pub stuck_at : (e : FontFault) (maker : ℕ → Fitter) (now : Fitter) (before : List ℕ) (line : List (ℕ × ℕ)) (i : ℕ)
-    (edges : List (List Edge)) → i < length line → IsNext maker now before (get_or line i (0, 0)).0
-    → after_each (glyph_edges maker) (drop i line) edges ≡ each (glyph_edges maker) line
+    (shapes : List Shape) → i < length line → IsNext maker now before (get_or line i (0, 0)).0
+    → after_each (glyph_shape maker) (drop i line) shapes ≡ each (glyph_shape maker) line
     → IfSome (font_fault e) (λ f. (is_among (get_or line i (0, 0)).0 before ≡ false)
     × (fitted_outline now (get_or line i (0, 0)).0 ≡ Err f))
-    → IfSome (font_fault e) (λ f. each (glyph_edges maker) line ≡ Err f)
-stuck_at (font.Font f) maker now before line i edges below next so_far fails =
+    → IfSome (font_fault e) (λ f. each (glyph_shape maker) line ≡ Err f)
+stuck_at (font.Font f) maker now before line i shapes below next so_far fails =
     let g = get_or line i (0, 0) in
     let from = next fails.0 in
-    let stuck : glyph_edges maker g ≡ Err f = rw (from, fails.1) refl in
+    let stuck : glyph_shape maker g ≡ Err f = rw (from, fails.1) refl in
     sym so_far ∙ rw (drop-cons line i (0, 0) below, stuck) refl
-stuck_at font.Memory maker now before line i edges below next so_far fails = tt
+stuck_at font.Memory maker now before line i shapes below next so_far fails = tt
 
 -- what is made after nothing is what is made
 pub none_before : {B E : Type 0} (r : Result (List B) E) → (r >>= λ ys. Ok ([] ++ ys)) ≡ r

@@ -27,7 +27,7 @@ use Rattle.tt_render.specs.Tables.{Face, cmap_tag, face_of, cvt_tag, fpgm_tag, p
 use Rattle.tt_render.specs.Laws.{DrawnFontsAreWhole, MappedFontsAreWhole}
 use Rattle.tt_render.specs.MapLines.{lines_of, map_outcome}
 use Rattle.tt_render.specs.Outcome.{Refused, as_font, as_job, outcome_of}
-use Rattle.tt_render.specs.Picture.{setting_in, points_tested, edges_in, line_edges, drawn, pictured, run_outcome}
+use Rattle.tt_render.specs.Picture.{setting_in, points_tested, shapes_in, line_shapes, drawn, pictured, run_outcome}
 use Rattle.tt_render.proofs.Telling.{no_setting_defect, no_line_defect, no_run_defect}
 
 -- what the layers below say of what they give
@@ -136,11 +136,11 @@ line-whole laws face a line bytes was =
     let by_setting = came-through (as_font (setting_in face a)) _ bytes was in
     let s = by_setting.value in
     let there = of-font (setting_in face a) s by_setting.first in
-    let by_edges = came-through (line_edges s a line) _ bytes by_setting.rest in
+    let by_edges = came-through (line_shapes s a line) _ bytes by_setting.rest in
     let by_points = came-through (as_job (points_tested s a line)) _ by_edges.value by_edges.first in
-    let by_glyphs = came-through (as_font (edges_in s line)) _ by_edges.value by_points.rest in
+    let by_glyphs = came-through (as_font (shapes_in s line)) _ by_edges.value by_points.rest in
     no_line_defect face a s line.glyphs by_glyphs.value there (setting-whole laws face a s there)
-    (of-font (edges_in s line) by_glyphs.value by_glyphs.first)
+    (of-font (shapes_in s line) by_glyphs.value by_glyphs.first)
 
 picture-whole : FontLaws → (a : Job) (file bytes : List ℕ) → pictured a file ≡ Ok bytes → HasNo (IsRunDefect a file)
 unfolding pictured

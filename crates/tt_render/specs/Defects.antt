@@ -23,7 +23,7 @@ use Rattle.tt_render.specs.declared.fault.RunFault.{RunFault}
 use Rattle.tt_render.specs.declared.fault.RunFault.TheVariants as run
 use Rattle.tt_render.specs.Tables.{Face, face_of, cmap_tag, cvt_tag, fpgm_tag, prep_tag, programs_in}
 use Rattle.tt_render.specs.Outcome.{needs_font}
-use Rattle.tt_render.specs.Picture.{setting_in, edges_in, frame_of}
+use Rattle.tt_render.specs.Picture.{setting_in, shapes_in, frame_of}
 use Rattle.tt_render.specs.Work.{crossings_in, is_bounded, points_in}
 
 -- a defect of the directory, or of a table that every text is looked up in
@@ -115,7 +115,7 @@ HasTooManyPoints face a line = IsOkAnd (setting_in face a)
 -- or cross the rows of its picture too often
 abbrev pub CrossesTooOften : Face → Job → Placement → Type 0
 CrossesTooOften face a line = IsOkAnd (setting_in face a)
-    (λ s. IsOkAnd (edges_in s line) (λ glyphs. crossing_limit < crossings_in (frame_of line a.margin) glyphs))
+    (λ s. IsOkAnd (shapes_in s line) (λ glyphs. crossing_limit < crossings_in (frame_of line a.margin) glyphs))
 
 -- the work of the job is bounded, and its line is more
 abbrev pub IsTooMuchWork : Face → Job → Placement → Type 0

@@ -1,25 +1,49 @@
 -- Which pixels of a line are black. OpenType, "TrueType Fundamentals", the scan converter's rules 1 and 2, for each
--- glyph by itself: what one glyph winds round another does not count against.
-use Rattle.std.specs.Prelude.{◌≡◌, ℕ, ◌≤◌, ◌^◌, Bool, false, ◌||◌, ℤ, pos, ◌-ℤ◌, List, [], ◌∷◌, length}
+-- glyph by itself: what one glyph winds round another does not count against. And the dropouts of each glyph, by its own
+-- rules, where they are filled.
+use Rattle.std.specs.Prelude.{◌≡◌, ℕ, ◌≤◌, ◌^◌, Bool, false, ◌||◌, ℤ, pos, ◌-ℤ◌, List, [], ◌∷◌, length, Option, Some, None}
 use Rattle.tt_scan.specs.declared.edge.Edge.{Edge}
 use Rattle.tt_scan.specs.declared.edge.Frame.{Frame}
 use Rattle.tt_scan.specs.declared.mark.Span.{Span}
 use Rattle.tt_scan.specs.Marks.{covers}
 use Rattle.tt_scan.specs.Tape.{Tape}
 use Rattle.tt_scan.specs.Winding.{is_black, column_x, row_y}
+use Rattle.tt_scan_dropouts.specs.Dropouts.{is_dropout}
+use Rattle.tt_scan_dropouts.specs.Pictures.{column_at, line_at}
+use Rattle.tt_scan_dropouts.specs.declared.mark.Rules.{Rules}
 
--- the edges of some glyph blacken a point
-abbrev pub some_black : List (List Edge) → ℤ → ℤ → Bool
+-- a glyph at its pen: its edges, the same contour by contour, and by which rules its dropouts are filled, if they are
+pub record Shape : Type 0 where
+  pub edges : List Edge
+  pub contours : List (List Edge)
+  pub filled : Option Rules
+
+-- the edges of some glyphs blacken a point
+abbrev pub some_black : List Shape → ℤ → ℤ → Bool
 some_black [] x y = false
-some_black (glyph ∷ glyphs) x y = is_black glyph x y || some_black glyphs x y
+some_black (s ∷ ss) x y = is_black s.edges x y || some_black ss x y
 
--- the centre of column c in row r
-abbrev pub is_black_pixel : Frame → List (List Edge) → ℕ → ℕ → Bool
-is_black_pixel f glyphs c r = some_black glyphs (column_x f.margin (pos c)) (row_y f (pos r))
+-- contours have this pixel for a dropout, by the rules that there are
+abbrev pub is_filled : Option Rules → List (List Edge) → ℤ → ℤ → Bool
+is_filled None contours c j = false
+is_filled (Some rules) contours c j = is_dropout rules contours c j
 
--- the edges of a glyph where its pen is 0, and the pens at which it stands
+-- dropouts of some glyphs have column c of row r
+abbrev pub some_filled : Frame → List Shape → ℕ → ℕ → Bool
+some_filled f [] c r = false
+some_filled f (s ∷ ss) c r = is_filled s.filled s.contours (column_at f 0 c) (line_at f r) || some_filled f ss c r
+
+-- the centre of column c in row r is black, or a dropout stands there
+abbrev pub is_black_pixel : Frame → List Shape → ℕ → ℕ → Bool
+is_black_pixel f glyphs c r =
+    some_black glyphs (column_x f.margin (pos c)) (row_y f (pos r)) || some_filled f glyphs c r
+
+-- the edges of a glyph where its pen is 0, by which rules its dropouts are filled, its contours where they are, and the
+-- pens at which it stands
 pub record Stamp : Type 0 where
   pub edges : List Edge
+  pub filled : Option Rules
+  pub contours : List (List Edge)
   pub pens : List ℕ
 
 -- edges that were made for pen 0 blacken column c of row r from some pen: they blacken the column so far to its left
@@ -32,6 +56,16 @@ is_black_from f edges (pen ∷ pens) c r =
 abbrev pub is_black_by : Frame → List Stamp → ℕ → ℕ → Bool
 is_black_by f [] c r = false
 is_black_by f (g ∷ gs) c r = is_black_from f g.edges g.pens c r || is_black_by f gs c r
+
+-- the same of its dropouts
+abbrev pub is_filled_from : Frame → Option Rules → List (List Edge) → List ℕ → ℕ → ℕ → Bool
+is_filled_from f filled contours [] c r = false
+is_filled_from f filled contours (pen ∷ pens) c r =
+    is_filled filled contours (column_at f pen c) (line_at f r) || is_filled_from f filled contours pens c r
+
+abbrev pub is_filled_by : Frame → List Stamp → ℕ → ℕ → Bool
+is_filled_by f [] c r = false
+is_filled_by f (g ∷ gs) c r = is_filled_from f g.filled g.contours g.pens c r || is_filled_by f gs c r
 
 -- the tape has this frame, at most 2 ^ 17 edges, and a crossing count of at most `asked`
 pub record TapeFits (f : Frame) (asked : ℕ) (t : Tape) : Type 0 where

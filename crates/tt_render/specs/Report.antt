@@ -12,7 +12,7 @@ use Rattle.tt_render.specs.Tables.{Face, face_of}
 use Rattle.tt_render.specs.Distinct.{distinct, is_among, line_fitter}
 use Rattle.tt_render.specs.Glyphs.{Glyph}
 use Rattle.tt_render.specs.Outcome.{Refused, as_font, as_job}
-use Rattle.tt_render.specs.Picture.{setting_in, line_edges}
+use Rattle.tt_render.specs.Picture.{setting_in, line_shapes}
 
 -- a glyph before those after it, where a fault is why it is not fitted
 abbrev pub listed : ℕ → Option Fault → List Unfitted → List Unfitted
@@ -28,7 +28,7 @@ unfitted_among maker (g ∷ gs) = listed g (unfitted_fault (maker g) g) (unfitte
 unfoldable pub line_report : Face → Job → Placement → Result (List Unfitted) Refused
 line_report face a line =
     as_font (setting_in face a) >>= λ s.
-    line_edges s a line >>= λ glyphs.
+    line_shapes s a line >>= λ glyphs.
     Ok (unfitted_among (line_fitter s (map (λ g. g.0) line.glyphs)) (distinct (map (λ g. g.0) line.glyphs)))
 
 -- those of a text by a font, or the first refusal

@@ -8,6 +8,7 @@ use Rattle.tt_line.specs.declared.fault.LineFault.{LineFault}
 use Rattle.tt_line.specs.declared.fault.LineFault.TheVariants as line
 use Rattle.tt_pbm.specs.P4.{header_bytes}
 use Rattle.tt_scan.specs.Winding.{FrameFits}
+use Rattle.tt_scan_dropouts.specs.Pictures.{AreDropouts}
 use Rattle.tt_render.specs.declared.drawing.Picture.{Picture}
 use Rattle.tt_render.specs.declared.fault.DrawFault.{DrawFault}
 use Rattle.tt_render.specs.declared.fault.DrawFault.TheVariants as draw
@@ -17,7 +18,7 @@ use Rattle.tt_render.specs.Glyphs.{GlyphFits, all_rows}
 
 -- the bytes of a picture
 abbrev pub picture_bytes : Picture → List ℕ
-picture_bytes p = header_bytes p.header ++ all_rows p.frame p.glyphs.items
+picture_bytes p = header_bytes p.header ++ all_rows p.frame p.glyphs.items p.dropouts.items
 
 -- a picture whose rows can be made without memory
 pub record IsReady (p : Picture) : Type 0 where
@@ -25,6 +26,7 @@ pub record IsReady (p : Picture) : Type 0 where
   pub frame : FrameFits p.frame
   pub height : p.frame.height ≤ height_limit
   pub glyphs : All (GlyphFits p.frame 0 p.sweep.room) p.glyphs.items
+  pub dropouts : AreDropouts p.frame.width p.dropouts.items
   pub row : length p.row.items ≡ stride p.frame.width
 
 -- what stopped a part of a call stops the call

@@ -8,6 +8,7 @@ ghost use Rattle.tt_line.specs.Outcome.{placement_of};
 ghost use Rattle.tt_metrics.specs.Metrics.{glyphs_of};
 ghost use Rattle.tt_render.specs.Job.{job_view, IsJob};
 ghost use Rattle.tt_render.specs.Defects.{IsSettingDefect, IsLineDefect, IsRunDefect, IsFontRefusal, IsTooMuchWork, TellsDefects, draw_font_fault, draw_job_fault};
+ghost use Rattle.tt_scan_dropouts.specs.Pictures.{AreDropouts};
 ghost use Rattle.tt_render.specs.Outcome.{refusal};
 ghost use Rattle.tt_render.specs.Picture.{drawn, pictured, setting_in};
 ghost use Rattle.tt_pbm.specs.P4.{header_bytes, p4_header_of};
@@ -17,6 +18,7 @@ ghost use Rattle.tt_render.specs.Tables.{face_of, face_view};
 ghost use Rattle.tt_render.specs.Views.{IsReady, picture_bytes};
 ghost use Rattle.tt_scan.specs.Winding.{FrameFits};
 
+use crate::dropouts::line_dropouts;
 use crate::fault::DrawFault;
 use crate::glyph::Glyph;
 use crate::glyphs::line_glyphs;
@@ -31,6 +33,7 @@ use tt_fit::Fitter;
 use tt_line::{Line, lay};
 use tt_pbm::{Header, p4_header};
 use tt_scan::{Frame, Sweep};
+use tt_scan_dropouts::Dropout;
 
 /// A picture that is ready to be written: its header, what its rows are made with, and what there is to report of it.
 #[derive(Drop)]
@@ -39,6 +42,8 @@ pub(crate) struct Picture {
     pub(crate) frame: Frame,
     pub(crate) glyphs: Vec<Glyph>,
     pub(crate) sweep: Sweep,
+    /// In order of their rows.
+    pub(crate) dropouts: Vec<Dropout>,
     /// Memory for one row.
     pub(crate) row: Vec<u8>,
     pub(crate) report: Report,
@@ -65,8 +70,9 @@ fn draw_line(alloc: Global, face: &Face, job: &Job, line: &Line) -> Result<Pictu
     requires asked { IsJob (job_view job.now) }
     requires width { (1 ≤ line.now.width) × (line.now.width ≤ width_limit) }
     requires height { (1 ≤ line.now.height) × (line.now.height ≤ height_limit) }
-    requires rise { unsigned_abs line.now.rise < 2 ^ 20 }
+    requires rise { unsigned_abs line.now.rise ≤ 10 ^ 6 }
     requires known { All (λ g. g.0 < glyphs_of face.now.metrics) line.now.glyphs.items }
+    requires pens { All (λ g. g.1 ≤ width_limit) line.now.glyphs.items }
     requires count { length line.now.glyphs.items ≤ text_limit }
     ensures exact { GivesUnless refusal picture_bytes result (drawn (face_view face.now) (job_view job.now) (placement_of line.now)) }
     ensures valid { IfOk result IsReady }
@@ -86,17 +92,25 @@ fn draw_line(alloc: Global, face: &Face, job: &Job, line: &Line) -> Result<Pictu
     test_points(alloc, job.fit, &fitter, count, &line.glyphs)?;
     let glyphs = line_glyphs(alloc, &mut fitter, count, &line.glyphs, frame)?;
     test_crossings(job.fit, &glyphs)?;
-    Ok(ready(alloc, frame, glyphs)?)
+    let dropouts = line_dropouts(alloc, frame, &glyphs)?;
+    Ok(ready(alloc, frame, glyphs, dropouts)?)
 }
 
-/// The picture of some glyphs; all the memory is taken that its rows need.
-fn ready(alloc: Global, frame: Frame, glyphs: Vec<Glyph>) -> Result<Picture, AllocError>
+/// The picture of some glyphs and dropouts; all the memory is taken that its rows need.
+fn ready(
+    alloc: Global,
+    frame: Frame,
+    glyphs: Vec<Glyph>,
+    dropouts: Vec<Dropout>,
+) -> Result<Picture, AllocError>
     requires frame { FrameFits frame }
     requires height { frame.height ≤ height_limit }
     requires glyphs { All (λ g. TapeFits frame 0 g.tape) glyphs.items }
+    requires dropouts { AreDropouts frame.width dropouts.items }
     ensures header { IfOk result (λ p. header_bytes p.header ≡ p4_header_of frame.width frame.height) }
     ensures frame { IfOk result (λ p. p.frame ≡ frame) }
     ensures glyphs { IfOk result (λ p. p.glyphs.items ≡ glyphs.items) }
+    ensures dropouts { IfOk result (λ p. p.dropouts.items ≡ dropouts.items) }
     ensures report { IfOk result (λ p. p.report.unfitted.items ≡ unfitted_standing glyphs.items) }
     ensures valid { IfOk result IsReady }
 {
@@ -107,6 +121,7 @@ fn ready(alloc: Global, frame: Frame, glyphs: Vec<Glyph>) -> Result<Picture, All
         frame,
         glyphs,
         sweep: Sweep::new(alloc, most)?,
+        dropouts,
         row: vec![in alloc; 0u8; (frame.width as usize).div_ceil(8)]?,
         report,
     })

@@ -4,24 +4,31 @@ ghost use Rattle.std.specs.Prelude.{◌≡◌, ◌<◌, ◌≤◌, ◌-◌, ◌^
 ghost use Rattle.tt_core.specs.Outcomes.{IfTold, font_fault};
 ghost use Rattle.tt_fit.specs.Fitting.{fitted_outline, after_glyph};
 ghost use Rattle.tt_fit.specs.Outline.{IsOutline, outline_of};
+ghost use Rattle.tt_scan.specs.Contours.{AreEnds, contours_at};
 ghost use Rattle.tt_scan.specs.Winding.{FrameFits};
-ghost use Rattle.tt_render.specs.Glyphs.{IsDrawn, glyph_crossings};
-ghost use Rattle.tt_render.specs.Picture.{edges_at};
+ghost use Rattle.tt_render.specs.Glyphs.{IsDrawn, glyph_crossings, pen_crossings};
+ghost use Rattle.tt_render.specs.Picture.{contours_of, edges_at};
 ghost use Rattle.tt_render.specs.Pixels.{TapeFits};
 
+use crate::dropouts::rules_for;
 use crate::report::Unfitted;
 use std::alloc::{AllocError, Global};
 use std::marker::Model;
-use tt_arc::chords;
+use tt_arc::{chords, contour_ends};
 use tt_core::{Fault, FontFault};
 use tt_fit::{Fitter, Outline};
 use tt_scan::{Frame, Tape};
+use tt_scan_dropouts::{Rules, crossings};
 
 /// A glyph by its number in the font, with its edges where its pen is 0.
 #[derive(Drop)]
 pub(crate) struct Glyph {
     number: u16,
     pub(crate) tape: Tape,
+    /// By which rules its dropouts are filled.
+    pub(crate) filled: Option<Rules>,
+    /// How many edges there are up to the end of each contour; none where no dropouts are filled.
+    pub(crate) ends: Vec<usize>,
     /// Where it stands in the line, in pixels from the left end.
     pub(crate) pens: Vec<u32>,
     /// The fault for which its outline is not fitted.
@@ -33,7 +40,7 @@ impl Model for Glyph {
 
     ghost Value = { glyphs.Glyph };
 
-    ghost view = { λ g. record { number = g.number; tape = g.tape; pens = g.pens.items; unfitted = g.unfitted } };
+    ghost view = { λ g. record { number = g.number; tape = g.tape; filled = g.filled; ends = g.ends.items; pens = g.pens.items; unfitted = g.unfitted } };
 }
 
 impl Glyph {
@@ -54,9 +61,12 @@ impl Glyph {
     {
         // The outline is given up once the tape stands.
         let outline = fitter.fit(number)?;
+        let filled = rules_for(fitter.dropouts(&outline));
         Ok(Glyph {
             number,
             tape: tape_of(alloc, &outline, frame)?,
+            filled,
+            ends: ends_of(alloc, &outline, filled)?,
             pens: Vec::new(alloc),
             unfitted: outline.unfitted,
         })
@@ -83,13 +93,25 @@ impl Glyph {
         Ok(self.pens.push(pen)?)
     }
 
-    /// How often it crosses the rows of the picture, at its pens; the greatest number stands for more.
+    /// How often it crosses the rows of the picture, and the lines that are asked for its dropouts, at a pen. A line of
+    /// these counts as four crossings.
+    fn pen_crossings(&self) -> u64
+        requires few { length self.now.tape.edges ≤ 2 ^ 17 }
+        ensures { result ≡ pen_crossings self.now }
+    {
+        let rows = self.tape.crossings();
+        match self.filled {
+            Some(_) => rows + 4 * crossings(self.tape.lend()),
+            None => rows,
+        }
+    }
+
+    /// The same at all its pens; the greatest number stands for more.
     pub(crate) fn crossings(&self) -> u64
         requires few { length self.now.tape.edges ≤ 2 ^ 17 }
         ensures { result ≡ min (glyph_crossings self.now) (2 ^ 64 - 1) }
     {
-        let one_pen = self.tape.crossings();
-        one_pen.saturating_mul(self.pens.len() as u64)
+        self.pen_crossings().saturating_mul(self.pens.len() as u64)
     }
 
     /// How many edges it has.
@@ -109,4 +131,20 @@ fn tape_of(alloc: Global, outline: &Outline, frame: Frame) -> Result<Tape, Alloc
 {
     let origin = outline.phantom[0].0;
     chords(alloc, outline, -i64::from(origin), 0, frame)
+}
+
+/// How many edges of an outline there are up to the end of each contour, if its dropouts are filled. Error: Memory.
+fn ends_of(
+    alloc: Global,
+    outline: &Outline,
+    filled: Option<Rules>,
+) -> Result<Vec<usize>, AllocError>
+    requires outline { IsOutline (outline_of outline.now) }
+    ensures contours { IfOk result (λ v. IfSome filled (λ rules. contours_at (edges_at 0 (outline_of outline.now)) v.items ≡ contours_of 0 (outline_of outline.now))) }
+    ensures ends { IfOk result (λ v. IfSome filled (λ rules. AreEnds (length (edges_at 0 (outline_of outline.now))) v.items)) }
+{
+    match filled {
+        Some(_) => contour_ends(alloc, outline),
+        None => Ok(Vec::new(alloc)),
+    }
 }

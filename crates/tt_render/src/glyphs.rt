@@ -1,15 +1,15 @@
 //! The distinct glyphs of a line.
 
 ghost use Rattle.std.specs.Prelude.{◌≡◌, ◌≢◌, false, ℕ, ◌+◌, ◌-◌, ◌^◌, ◌<◌, ◌≤◌, ◌++◌, [], ◌∷◌, length, map, set, get_or, slice_index, replicate, All, IfOk, IfSome, IfNone, IsOkAnd, OnOk, Err};
-ghost use Rattle.tt_core.specs.Limits.{text_limit};
+ghost use Rattle.tt_core.specs.Limits.{text_limit, width_limit};
 ghost use Rattle.tt_core.specs.Outcomes.{IfTold, each, font_fault};
 ghost use Rattle.tt_fit.specs.Fitting.{Fitter, fitted_outline};
 ghost use Rattle.tt_scan.specs.Winding.{FrameFits};
 ghost use Rattle.tt_scan.specs.Winding.{is_black, column_x, row_y};
 ghost use Rattle.tt_render.specs.Distinct.{IsNext, distinct, fitter_past, is_among, line_fitter, with_glyph};
-ghost use Rattle.tt_render.specs.Glyphs.{AreDrawn, AreKept, Adds, ArePlaces, Stand, crossings_standing, numbers_of, stamps_in};
-ghost use Rattle.tt_render.specs.Picture.{glyph_edges};
-ghost use Rattle.tt_render.specs.Pixels.{is_black_by};
+ghost use Rattle.tt_render.specs.Glyphs.{AreDrawn, AreKept, AreWithin, Adds, ArePlaces, Stand, crossings_standing, numbers_of, stamps_in};
+ghost use Rattle.tt_render.specs.Picture.{glyph_shape};
+ghost use Rattle.tt_render.specs.Pixels.{is_black_by, is_filled_by};
 
 use crate::glyph::Glyph;
 use std::alloc::{AllocError, Global};
@@ -88,7 +88,9 @@ impl Glyphs {
         ensures few { OnOk result (length self.new.kept.items ≤ length self.old.kept.items + 1) }
         ensures numbers { OnOk result (numbers_of self.new.kept.items ≡ with_glyph (numbers_of self.old.kept.items) number) }
         ensures black { OnOk result ((c r : ℕ) → is_black_by frame (stamps_in self.new.kept.items) c r ≡ is_black_by frame (stamps_in self.old.kept.items) c r) }
+        ensures dropouts { OnOk result ((c r : ℕ) → is_filled_by frame (stamps_in self.new.kept.items) c r ≡ is_filled_by frame (stamps_in self.old.kept.items) c r) }
         ensures crossings { OnOk result (crossings_standing self.new.kept.items ≡ crossings_standing self.old.kept.items) }
+        ensures pens { OnOk result (AreWithin self.old.kept.items → AreWithin self.new.kept.items) }
         ensures fault { IfTold font_fault result (λ f. (is_among number (numbers_of self.old.kept.items) ≡ false) × (fitted_outline fitter.old number ≡ Err f)) }
     {
         if let Some(i) = self.find(number) {
@@ -116,7 +118,8 @@ impl Glyphs {
         ensures tables { OnOk result (fitter.new.tables ≡ fitter.old.tables) }
         ensures few { OnOk result (length self.new.kept.items ≤ length self.old.kept.items + 1) }
         ensures numbers { OnOk result (numbers_of self.new.kept.items ≡ with_glyph (numbers_of self.old.kept.items) placed.0) }
-        ensures adds { OnOk result ((maker : ℕ → Fitter) → IsNext maker fitter.old (numbers_of self.old.kept.items) placed.0 → AreDrawn maker frame self.old.kept.items → IsOkAnd (glyph_edges maker placed) (Adds frame self.old.kept.items self.new.kept.items)) }
+        ensures pens { OnOk result (placed.1 ≤ width_limit → AreWithin self.old.kept.items → AreWithin self.new.kept.items) }
+        ensures adds { OnOk result ((maker : ℕ → Fitter) → IsNext maker fitter.old (numbers_of self.old.kept.items) placed.0 → AreDrawn maker frame self.old.kept.items → IsOkAnd (glyph_shape maker placed) (Adds frame self.old.kept.items self.new.kept.items)) }
         ensures fault { IfTold font_fault result (λ f. (is_among placed.0 (numbers_of self.old.kept.items) ≡ false) × (fitted_outline fitter.old placed.0 ≡ Err f)) }
     {
         let (number, pen) = placed;
@@ -137,12 +140,14 @@ pub(crate) fn line_glyphs(
 ) -> Result<Vec<Glyph>, FontFault>
     requires glyphs { glyphs ≡ fitter.old.tables.glyphs }
     requires known { All (λ g. g.0 < glyphs) line.now }
+    requires pens { All (λ g. g.1 ≤ width_limit) line.now }
     requires count { length line.now ≤ text_limit }
     requires frame { FrameFits frame }
+    ensures pens { IfOk result (λ v. AreWithin v.items) }
     ensures valid { IfOk result (λ v. AreDrawn (line_fitter fitter.old (map (λ g. g.0) line.now)) frame v.items) }
     ensures numbers { IfOk result (λ v. numbers_of v.items ≡ distinct (map (λ g. g.0) line.now)) }
-    ensures stand { IfOk result (λ v. IsOkAnd (each (glyph_edges (line_fitter fitter.old (map (λ g. g.0) line.now))) line.now) (Stand frame v.items)) }
-    ensures fault { IfTold font_fault result (λ f. each (glyph_edges (line_fitter fitter.old (map (λ g. g.0) line.now))) line.now ≡ Err f) }
+    ensures stand { IfOk result (λ v. IsOkAnd (each (glyph_shape (line_fitter fitter.old (map (λ g. g.0) line.now))) line.now) (Stand frame v.items)) }
+    ensures fault { IfTold font_fault result (λ f. each (glyph_shape (line_fitter fitter.old (map (λ g. g.0) line.now))) line.now ≡ Err f) }
 {
     let mut kept = Glyphs::new(alloc, glyphs)?;
     for placed in line {

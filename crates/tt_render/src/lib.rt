@@ -3,6 +3,7 @@
 
 mod distinct;
 mod drawing;
+mod dropouts;
 mod fault;
 mod glyph;
 mod glyphs;

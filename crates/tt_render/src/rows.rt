@@ -3,12 +3,13 @@
 ghost use Rattle.std.specs.Prelude.{◌≡◌, ℕ, ◌+◌, ◌*◌, ◌<◌, ◌≤◌, ◌||◌, ◌&&◌, nat_lt, length, replicate, All};
 ghost use Rattle.tt_core.specs.Bits.{bit, stride};
 ghost use Rattle.tt_core.specs.Limits.{width_limit, height_limit};
-ghost use Rattle.tt_pbm.specs.P4.{rows};
-ghost use Rattle.tt_render.specs.Glyphs.{GlyphFits, stamps_in};
+ghost use Rattle.tt_scan_dropouts.specs.Pictures.{AreDropouts};
+ghost use Rattle.tt_render.specs.Glyphs.{GlyphFits, row_of, stamps_in};
 ghost use Rattle.tt_render.specs.Pixels.{is_black_by, row_crossings};
 
 use crate::glyph::Glyph;
 use tt_scan::{Frame, Sweep};
+use tt_scan_dropouts::{Dropout, blacken_dropouts};
 
 /// The greatest number of edges that some glyph has.
 pub(crate) fn most_edges(glyphs: &[Glyph]) -> usize
@@ -26,20 +27,23 @@ pub(crate) fn make_row(
     glyphs: &mut [Glyph],
     sweep: &mut Sweep,
     frame: Frame,
+    dropouts: &[Dropout],
     r: u32,
     row: &mut [u8],
 )
+    requires dropouts { AreDropouts frame.width dropouts.now }
     requires glyphs { All (GlyphFits frame (r * row_crossings) sweep.old.room) glyphs.old }
     requires height { frame.height ≤ height_limit }
     requires within { r < frame.height }
     requires len { length row.old ≡ stride frame.width }
-    ensures row { row.new ≡ rows frame.width (is_black_by frame (stamps_in glyphs.old)) (stride frame.width * r) (stride frame.width) }
+    ensures row { row.new ≡ row_of frame glyphs.old dropouts.now r }
     ensures glyphs { All (GlyphFits frame ((r + 1) * row_crossings) sweep.new.room) glyphs.new }
     ensures stamps { stamps_in glyphs.new ≡ stamps_in glyphs.old }
     ensures room { sweep.new.room ≡ sweep.old.room }
 {
     whiten(row);
     add_glyphs(glyphs, sweep, frame, r, row);
+    blacken_dropouts(dropouts, frame.width, r, row);
 }
 
 /// Makes each pixel of a row white.

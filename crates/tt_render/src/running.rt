@@ -18,14 +18,15 @@ use std::alloc::Global;
 use tt_core::{Sink, Source};
 
 /// Draws a line of text and writes its picture as binary PBM (P4): a pixel is black where its centre lies
-/// on, or inside, the chord outline of some glyph of the line, in which each curve is eight chords. Nothing
+/// on, or inside, the chord outline of some glyph of the line, in which each curve is eight chords; with `Fit::Best` also
+/// where a dropout of the glyph stands, by the scan type that the font's programs ask for. Nothing
 /// is written before the edges of all glyphs stand, and from then on no memory is taken. The report stands by then: it
 /// tells which glyphs are not fitted though their fitting was asked for.
 ///
 /// Errors, the first of: Job (SizeRange, MarginRange, TextLong), before the font is read; Read, FontLarge;
 /// Font and Job (EmptyPicture, PictureLarge), in the order in which the bytes are read, the picture's size
-/// being known once cmap is; Job (WorkLarge), with `Fit::Best` alone, where the glyphs cross the rows of the picture too
-/// often; Write. Memory comes where a growth was refused.
+/// being known once cmap is; Job (WorkLarge), with `Fit::Best` alone, where the glyphs cross the rows of the picture, and
+/// the lines that are asked for dropouts, too often; Write. Memory comes where a growth was refused.
 pub fn run<R: Source, W: Sink>(
     alloc: Global,
     font: &mut R,

@@ -4,6 +4,7 @@ ghost use Rattle.std.specs.Prelude.{◌≡◌, ◌+◌, ◌*◌, ◌^◌, ◌<�
 ghost use Rattle.std.specs.Io.KnownBytes.{Appends};
 ghost use Rattle.tt_core.specs.Bits.{stride};
 ghost use Rattle.tt_core.specs.Limits.{width_limit, height_limit};
+ghost use Rattle.tt_scan_dropouts.specs.Pictures.{AreDropouts};
 ghost use Rattle.tt_render.specs.Glyphs.{GlyphFits, row_of, all_rows, stamps_in};
 ghost use Rattle.tt_render.specs.Pixels.{row_crossings};
 ghost use Rattle.tt_render.specs.Views.{IsReady, picture_bytes};
@@ -14,6 +15,7 @@ use crate::rows::make_row;
 use tt_core::Sink;
 use tt_pbm::{Cut, write_all_of};
 use tt_scan::{Frame, Sweep};
+use tt_scan_dropouts::Dropout;
 
 /// Writes the header, and then the rows. It takes no memory.
 pub(crate) fn write_picture<W: Sink>(out: &mut W, picture: &mut Picture) -> Result<(), Cut>
@@ -32,6 +34,7 @@ pub(crate) fn write_picture<W: Sink>(out: &mut W, picture: &mut Picture) -> Resu
         &mut picture.glyphs,
         &mut picture.sweep,
         picture.frame,
+        &picture.dropouts,
         &mut picture.row,
     ) {
         Ok(()) => Ok(()),
@@ -47,22 +50,24 @@ fn write_rows<W: Sink>(
     glyphs: &mut [Glyph],
     sweep: &mut Sweep,
     frame: Frame,
+    dropouts: &[Dropout],
     row: &mut [u8],
 ) -> Result<(), Cut>
     requires out { W.has_failed out.old ≡ false }
+    requires dropouts { AreDropouts frame.width dropouts.now }
     requires glyphs { All (GlyphFits frame 0 sweep.old.room) glyphs.old }
     requires width { frame.width ≤ width_limit }
     requires height { frame.height ≤ height_limit }
     requires row { length row.old ≡ stride frame.width }
-    ensures all { OnOk result (Appends (W.written out.old) (W.written out.new) (all_rows frame glyphs.old)) }
-    ensures part { IfErr result (λ cut. Appends (W.written out.old) (W.written out.new) (take cut.sent (all_rows frame glyphs.old))) }
-    ensures within { IfErr result (λ cut. cut.sent < length (all_rows frame glyphs.old)) }
+    ensures all { OnOk result (Appends (W.written out.old) (W.written out.new) (all_rows frame glyphs.old dropouts.now)) }
+    ensures part { IfErr result (λ cut. Appends (W.written out.old) (W.written out.new) (take cut.sent (all_rows frame glyphs.old dropouts.now))) }
+    ensures within { IfErr result (λ cut. cut.sent < length (all_rows frame glyphs.old dropouts.now)) }
     ensures bound { IfErr result (λ cut. cut.sent < 2 ^ 32) }
     ensures failure { W.has_failed out.new ≡ is_err result }
 {
     let mut sent = 0;
     for r in 0..frame.height {
-        match write_row(out, glyphs, sweep, frame, r, row) {
+        match write_row(out, glyphs, sweep, frame, dropouts, r, row) {
             Ok(()) => sent += row.len() as u64,
             Err(cut) => return Err(Cut {
                 sent: sent + cut.sent,
@@ -78,22 +83,24 @@ fn write_row<W: Sink>(
     glyphs: &mut [Glyph],
     sweep: &mut Sweep,
     frame: Frame,
+    dropouts: &[Dropout],
     r: u32,
     row: &mut [u8],
 ) -> Result<(), Cut>
     requires out { W.has_failed out.old ≡ false }
+    requires dropouts { AreDropouts frame.width dropouts.now }
     requires glyphs { All (GlyphFits frame (r * row_crossings) sweep.old.room) glyphs.old }
     requires height { frame.height ≤ height_limit }
     requires within { r < frame.height }
     requires row { length row.old ≡ stride frame.width }
-    ensures all { OnOk result (Appends (W.written out.old) (W.written out.new) (row_of frame glyphs.old r)) }
-    ensures part { IfErr result (λ cut. Appends (W.written out.old) (W.written out.new) (take cut.sent (row_of frame glyphs.old r))) }
+    ensures all { OnOk result (Appends (W.written out.old) (W.written out.new) (row_of frame glyphs.old dropouts.now r)) }
+    ensures part { IfErr result (λ cut. Appends (W.written out.old) (W.written out.new) (take cut.sent (row_of frame glyphs.old dropouts.now r))) }
     ensures within { IfErr result (λ cut. cut.sent < stride frame.width) }
     ensures failure { W.has_failed out.new ≡ is_err result }
     ensures glyphs { All (GlyphFits frame ((r + 1) * row_crossings) sweep.new.room) glyphs.new }
     ensures stamps { stamps_in glyphs.new ≡ stamps_in glyphs.old }
     ensures row { length row.new ≡ stride frame.width }
 {
-    make_row(glyphs, sweep, frame, r, row);
+    make_row(glyphs, sweep, frame, dropouts, r, row);
     write_all_of(out, row)
 }

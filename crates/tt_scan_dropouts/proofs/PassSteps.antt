@@ -87,7 +87,8 @@ some_in p [] i d below is = absurd (omega arith)
 some_in p (m ∷ ms) zero d below is = rw is refl
 some_in p (m ∷ ms) (suc i) d below is = let more = some_in p ms i d (omega arith) is in grind (arith, more)
 
-none_in : (p : Mark → Bool) (ms : List Mark) → ((i : ℕ) (d : Mark) → i < length ms → p (get_or ms i d) ≡ false) → list_any p ms ≡ false
+pub none_in : (p : Mark → Bool) (ms : List Mark) → ((i : ℕ) (d : Mark) → i < length ms → p (get_or ms i d) ≡ false)
+    → list_any p ms ≡ false
 none_in p [] out = refl
 none_in p (m ∷ ms) out = rw (out 0 m (omega arith), none_in p ms (λ i d below. out (suc i) d (omega arith))) refl
 

@@ -11,7 +11,7 @@ use Rattle.tt_scan_dropouts.specs.Windows.{Bitmap, has, is_black_in, is_within, 
 use Rattle.tt_scan_dropouts.specs.declared.mark.Pixel.{Pixel}
 use Rattle.tt_scan_dropouts.specs.declared.window.Window.{Window}
 
-both : (a b : Bool) → (a && b) ≡ true → (a ≡ true) × (b ≡ true)
+pub both : (a b : Bool) → (a && b) ≡ true → (a ≡ true) × (b ≡ true)
 both true b is = (refl, is)
 both false b is = absurd cc
 
@@ -29,7 +29,7 @@ pub or_or : (a b c : Bool) → (a || (b || c)) ≡ ((a || b) || c)
 or_or true b c = refl
 or_or false b c = refl
 
-eq_of : (a b : ℤ) → int_eq a b ≡ true → a ≡ b
+pub eq_of : (a b : ℤ) → int_eq a b ≡ true → a ≡ b
 eq_of a b is = grind (arith, ints)
 
 -- the bytes of the rows below a row, and those of the row, are within those of all rows

@@ -1,17 +1,18 @@
 -- Steps, ways and marks one by one.
-use Rattle.std.proofs.Common.{refl, sym, ◌≡◌, ◌∙◌, ap, ℕ, ◌+◌, ◌-◌, ◌<◌, Bool, true, false, List, [], ◌∷◌, ◌++◌, length, get_or, take, drop, reverse, arith}
-use Rattle.std.specs.Prelude.{max, map, unsigned_abs, ℤ, pos, ◌-ℤ◌, Some, if◌then◌else◌}
+use Rattle.std.proofs.Common.{refl, sym, ◌≡◌, ◌∙◌, ap, ℕ, ◌+◌, ◌-◌, ◌<◌, Bool, true, false, not, List, [], ◌∷◌, ◌++◌, length, get_or, take, drop, reverse, arith}
+use Rattle.std.specs.Prelude.{max, map, unsigned_abs, ℤ, pos, ◌-ℤ◌, Option, Some, if◌then◌else◌}
 use Rattle.std.specs.List.{flat_map, range_with_len, slice_range}
-use Rattle.std.proofs.lemmas.List.{append-nil, drop_more, take_more, map-append, length-append, length-drop, length-take, length-reverse}
+use Rattle.std.proofs.lemmas.List.{append-nil, drop_more, get_or_default, take_more, map-append, length-append, length-drop, length-take, length-reverse}
 use Rattle.std.proofs.lemmas.List.Elements.{filter-append}
 use Rattle.std.proofs.lemmas.List.FromFn.{map-range_with_len_more}
 use Rattle.std.proofs.lemmas.Grind.{flat_map-append}
 use Rattle.tt_scan.specs.declared.edge.Edge.{Edge}
 use Rattle.tt_scan.specs.Contours.{contours_from}
-use Rattle.tt_scan_dropouts.specs.Crossings.{crossing, crossings, line_crossed, touches}
-use Rattle.tt_scan_dropouts.specs.Gaps.{free_marks, in_free_gap}
-use Rattle.tt_scan_dropouts.specs.Walk.{contour_marks, edge_marks, mark_of, marks, others, step_marks, way}
+use Rattle.tt_scan_dropouts.specs.Crossings.{centre, crossing, crossings, line_crossed, touches}
+use Rattle.tt_scan_dropouts.specs.Gaps.{free_marks, in_free_gap, is_free}
+use Rattle.tt_scan_dropouts.specs.Walk.{contour_marks, edge_marks, is_of_stub, is_stub, mark_of, marks, others, step_marks, way}
 use Rattle.tt_scan_dropouts.specs.declared.mark.Crossing.{Crossing}
+use Rattle.tt_scan_dropouts.specs.declared.mark.Leg.{Leg}
 use Rattle.tt_scan_dropouts.specs.declared.mark.Mark.{Mark}
 use Rattle.tt_scan_dropouts.specs.declared.mark.Step.{Step}
 use Rattle.tt_scan_dropouts.specs.declared.mark.Step.TheVariants as step
@@ -98,3 +99,24 @@ pub free_next : (black : ℤ → ℤ → Bool) (stubs : Bool) (from : ℕ) (es :
 free_next black stubs from es ends i d h =
     ap (λ r. free_marks black (marks stubs (contours_from from es r))) (drop_more ends i d h)
     ∙ free_append black (contour_marks stubs (slice_range es from (get_or ends i d))) (marks stubs (contours_from (get_or ends i d) es (drop (i + 1) ends)))
+
+-- what an edge leaves that touches no line
+pub free_untouched : (black : ℤ → ℤ → Bool) (e : Edge) → touches e ≡ []
+    → free_marks black (edge_marks e) ≡ free_marks black (map (mark_of true) (crossings e))
+free_untouched black e none =
+    let crossed = free_marks black (map (mark_of true) (crossings e)) in
+    free_edge black e ∙ ap (λ ts. crossed ++ free_marks black (map (mark_of true) ts)) none ∙ append-nil crossed
+
+-- what a crossing in a free gap leaves
+pub free_cross : (black : ℤ → ℤ → Bool) (w : List Step) (k : ℕ) (c : Crossing) (d : Step) → k < length w
+    → get_or w k d ≡ step.Cross c → is_free black c.gap c.line ≡ true
+    → free_marks black (step_marks w k) ≡ mark_of (not (is_of_stub w k c)) c ∷ []
+free_cross black w k c d h is free = rw (get_or_default w k (step.End (pos 0)) d h, is, free) refl
+
+-- a crossing that belongs to no stub with the one after it
+pub by_the_way_back : (w : List Step) (k : ℕ) (c : Crossing) (y : ℤ) (there back : Option Leg) → y ≡ centre c.line
+    → there ≡ way y 0 (others w k) → back ≡ way y 0 (reverse (others w k)) → is_stub c there ≡ false
+    → is_stub c back ≡ is_of_stub w k c
+by_the_way_back w k c y there back at one other out =
+    let first : is_stub c (way (centre c.line) 0 (others w k)) ≡ false = rw (one, at) at out in
+    rw (other, at, first) refl

@@ -1,11 +1,14 @@
 -- No part of the standard: the black pixels of a glyph in a window. What lies outside is taken for black, so that no gap
 -- there is free.
-use Rattle.std.specs.Prelude.{ℕ, ◌+◌, ◌*◌, ◌^◌, ◌<◌, ◌≤◌, Bool, true, ◌&&◌, if◌then◌else◌, ℤ, pos, ◌+ℤ◌, ◌-ℤ◌, int_lt, int_le, unsigned_abs, List}
+use Rattle.std.specs.Prelude.{ℕ, ◌+◌, ◌*◌, ◌^◌, ◌<◌, ◌≤◌, Bool, true, ◌&&◌, if◌then◌else◌, ℤ, pos, ◌+ℤ◌, ◌-ℤ◌, ◌≤ℤ◌, int_lt, int_le, unsigned_abs, List}
+use Rattle.std.specs.Int.{int_max}
 use Rattle.tt_core.specs.Bits.{bit, stride}
 use Rattle.tt_core.specs.Limits.{height_limit}
 use Rattle.tt_scan.specs.declared.edge.Frame.{Frame}
 use Rattle.tt_scan_dropouts.specs.Gaps.{has_pixel}
+use Rattle.tt_scan_dropouts.specs.declared.mark.Columns.{Columns}
 use Rattle.tt_scan_dropouts.specs.declared.mark.Pixel.{Pixel}
+use Rattle.tt_scan_dropouts.specs.declared.window.Part.{Part}
 use Rattle.tt_scan_dropouts.specs.declared.window.Window.{Window}
 use Rattle.tt_scan_dropouts.specs.declared.window.Over.{Over}
 use Rattle.tt_scan_dropouts.specs.declared.window.Over.TheVariants as over
@@ -13,10 +16,16 @@ use Rattle.tt_scan_dropouts.specs.declared.window.Over.TheVariants as over
 -- a window that the program takes: at most the rows of a picture, and two more on each side
 pub record WindowFits (w : Window) : Type 0 where
   pub left : unsigned_abs w.left < 2 ^ 19
-  pub bottom : unsigned_abs w.bottom < 2 ^ 19
+  pub bottom : unsigned_abs w.bottom < 2 ^ 20
+  pub top : unsigned_abs (w.bottom +ℤ pos w.height) < 2 ^ 20
   pub width : w.width < 2 ^ 20
   pub low : 1 ≤ w.height
   pub high : w.height ≤ height_limit + 4
+
+-- the columns of a box that the program takes, or its rows
+pub record ColumnsFit (b : Columns) : Type 0 where
+  pub first : unsigned_abs b.first < 2 ^ 19
+  pub last : unsigned_abs b.last < 2 ^ 19
 
 -- one of so many numbers from a first one on
 abbrev pub is_within : ℤ → ℕ → ℤ → Bool
@@ -25,6 +34,22 @@ is_within first count n = int_le first n && int_lt n (first +ℤ pos count)
 -- a pixel lies in a window
 abbrev pub has : Window → ℤ → ℤ → Bool
 has w c j = is_within w.left w.width c && is_within w.bottom w.height j
+
+-- one of the columns of a box, or of its rows
+abbrev pub is_column_of : Columns → ℤ → Bool
+is_column_of b n = int_le b.first n && int_le n b.last
+
+-- a pixel lies in a box, told by its columns and its rows
+abbrev pub box_has : Columns → Columns → ℤ → ℤ → Bool
+box_has columns rows c j = is_column_of columns c && is_column_of rows j
+
+-- a part of so many numbers from a first one on: not before them, and no later than the columns of a box ask for; not
+-- behind them
+pub record IsPart (first : ℤ) (count : ℕ) (b : Columns) (p : Part) : Type 0 where
+  pub some : 1 ≤ p.count
+  pub low : first ≤ℤ p.from
+  pub near : p.from ≤ℤ int_max first b.first
+  pub high : (p.from +ℤ pos p.count) ≤ℤ (first +ℤ pos count)
 
 -- so many pixels larger on each side
 abbrev pub widened : ℕ → Window → Window
@@ -38,6 +63,10 @@ widened n w = record {
 -- the frame whose rows are those of a window, from the top down; its columns are not asked for
 abbrev pub frame_of : Window → Frame
 frame_of w = record { width = 1; height = w.height; margin = 0; rise = w.bottom +ℤ pos w.height }
+
+-- the row of a window that comes after so many from its top
+abbrev pub row_from_top : Window → ℕ → ℤ
+row_from_top w r = (w.bottom +ℤ pos w.height) -ℤ pos (r + 1)
 
 -- the rows of a window from the bottom up, each a whole number of bytes
 pub record Bitmap : Type 0 where

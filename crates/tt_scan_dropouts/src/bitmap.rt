@@ -1,15 +1,18 @@
 //! The black pixels of a glyph in a window: what lies outside is taken for black, so that no gap there is free.
 
-ghost use Rattle.std.specs.Prelude.{◌≡◌, ℤ, true, ◌*◌, ◌<◌, ◌&&◌, ◌||◌};
+ghost use Rattle.std.specs.Prelude.{◌≡◌, ℕ, ℤ, true, length, ◌+◌, ◌*◌, ◌^◌, ◌<◌, ◌≤◌, ◌+ℤ◌, ◌&&◌, ◌||◌, nat_lt, pos, All, IfOk};
 ghost use Rattle.std.specs.Ordering.{int_eq};
-ghost use Rattle.tt_core.specs.Bits.{stride};
+ghost use Rattle.tt_core.specs.Bits.{bit, stride};
+ghost use Rattle.tt_scan.specs.Winding.{EdgeFits, is_black};
+ghost use Rattle.tt_scan_dropouts.specs.Crossings.{centre};
 ghost use Rattle.tt_scan_dropouts.specs.Gaps.{has_pixel, is_free};
-ghost use Rattle.tt_scan_dropouts.specs.Windows.{WindowFits, has, is_black_in, is_black_by, place};
+ghost use Rattle.tt_scan_dropouts.specs.Windows.{WindowFits, frame_of, has, is_black_in, is_black_by, place, row_from_top};
 
 use crate::mark::{Crossing, Pixel};
 use crate::window::{Over, Window, has, offset};
+use std::alloc::{AllocError, Global};
 use std::marker::Model;
-use tt_scan::blacken;
+use tt_scan::{Edge, Frame, Sweep, Tape, blacken};
 
 /// The rows of a window from the bottom up, each a whole number of bytes, the leftmost pixel in the highest bit.
 #[derive(Drop)]
@@ -38,6 +41,67 @@ fn stride(window: Window) -> usize
     (window.width as usize).div_ceil(8)
 }
 
+/// The edges on a tape whose rows are those of the window, from the top down. Error: memory ran out.
+fn tape_of(alloc: Global, edges: &[Edge], window: Window) -> Result<Tape, AllocError>
+    requires edges { All EdgeFits edges.now }
+    requires window { WindowFits window }
+    ensures { IfOk result (λ t. t ≡ record { frame = frame_of window; edges = edges.now; crosses = 0 }) }
+{
+    let frame = Frame {
+        width: 1,
+        height: window.height,
+        margin: 0,
+        rise: window.bottom + window.height as i32,
+    };
+    let mut tape = Tape::new(alloc, frame);
+    tape.reserve(edges.len())?;
+    for edge in edges {
+        tape.push(*edge)?;
+    }
+    Ok(tape)
+}
+
+/// Blackens the columns of the window that edges blacken, in one of its rows, counted from the top. The edges are on a
+/// tape of the window's rows.
+fn paint_row(sweep: &mut Sweep, tape: &mut Tape, window: Window, r: u32, row: &mut [u8])
+    requires window { WindowFits window }
+    requires frame { tape.old.frame ≡ frame_of window }
+    requires within { r < window.height }
+    requires count { tape.old.crosses + length tape.old.edges ≤ 2 ^ 63 }
+    requires room { length tape.old.edges ≤ sweep.old.room }
+    requires width { window.width ≤ 8 * length row.old }
+    ensures bits { (k : ℕ) → bit row.new k ≡ (bit row.old k || (nat_lt k window.width
+        && is_black tape.old.edges (centre (window.left +ℤ pos k)) (centre (row_from_top window r)))) }
+    ensures len { length row.new ≡ length row.old }
+    ensures room { sweep.new.room ≡ sweep.old.room }
+    ensures tape { tape.new ≡ record tape.old { crosses = tape.new.crosses } }
+    ensures crosses { tape.new.crosses ≤ tape.old.crosses + length tape.old.edges }
+{
+    sweep.cut(tape, i64::from(r));
+    sweep.paint(-i64::from(window.left), window.width, row);
+}
+
+/// The same, in the bits of all rows of the window.
+fn ink_row(sweep: &mut Sweep, tape: &mut Tape, window: Window, r: u32, bits: &mut [u8])
+    requires window { WindowFits window }
+    requires frame { tape.old.frame ≡ frame_of window }
+    requires within { r < window.height }
+    requires count { tape.old.crosses + length tape.old.edges ≤ 2 ^ 63 }
+    requires room { length tape.old.edges ≤ sweep.old.room }
+    requires len { length bits.old ≡ stride window.width * window.height }
+    ensures black { (c j : ℤ) → has window c j ≡ true → bit bits.new (place window c j)
+        ≡ (bit bits.old (place window c j)
+        || (int_eq (row_from_top window r) j && is_black tape.old.edges (centre c) (centre j))) }
+    ensures len { length bits.new ≡ length bits.old }
+    ensures room { sweep.new.room ≡ sweep.old.room }
+    ensures tape { tape.new ≡ record tape.old { crosses = tape.new.crosses } }
+    ensures crosses { tape.new.crosses ≤ tape.old.crosses + length tape.old.edges }
+{
+    let bytes = stride(window);
+    let start = bytes * (window.height - 1 - r) as usize;
+    paint_row(sweep, tape, window, r, &mut bits[start..start + bytes]);
+}
+
 /// Where a pixel of the window stands among the bits.
 #[inline(always)]
 fn place(window: Window, column: i64, row: i64) -> usize
@@ -51,6 +115,24 @@ fn place(window: Window, column: i64, row: i64) -> usize
 }
 
 impl Bitmap {
+    /// The pixels of a window that edges blacken by the scan converter's rules 1 and 2. Error: memory ran out.
+    pub(crate) fn inked(alloc: Global, edges: &[Edge], window: Window) -> Result<Bitmap, AllocError>
+        requires edges { All EdgeFits edges.now }
+        requires few { length edges.now ≤ 2 ^ 32 }
+        requires window { WindowFits window }
+        ensures window { IfOk result (λ b. b.window ≡ window) }
+        ensures black { IfOk result (λ b. (c j : ℤ) → has window c j ≡ true
+            → is_black_in b c j ≡ is_black edges.now (centre c) (centre j)) }
+    {
+        let mut tape = tape_of(alloc, edges, window)?;
+        let mut sweep = Sweep::new(alloc, edges.len())?;
+        let mut bits = vec![in alloc; 0u8; stride(window) * window.height as usize]?;
+        for r in 0..window.height {
+            ink_row(&mut sweep, &mut tape, window, r, &mut bits);
+        }
+        Ok(Bitmap { window, bits })
+    }
+
     /// Whether a pixel is black, or outside.
     #[inline(always)]
     pub(crate) fn is_black(&self, column: i64, row: i64) -> bool

@@ -6,6 +6,7 @@ ghost use Rattle.tt_scan.specs.Winding.{EdgeFits};
 ghost use Rattle.tt_scan_dropouts.specs.Crossings.{gap_at};
 ghost use Rattle.tt_scan_dropouts.specs.Dropouts.{columns_of, greatest_x, least_x};
 ghost use Rattle.tt_scan_dropouts.specs.Gaps.{columns_between};
+ghost use Rattle.tt_scan_dropouts.specs.Windows.{ColumnsFit};
 
 use crate::crossing::{HALF, PIXEL, line_from};
 use crate::mark::Columns;
@@ -14,7 +15,8 @@ use tt_scan::Edge;
 /// The last centre that is not right of a place.
 fn gap_at(x: i64) -> i64
     requires { unsigned_abs x < 2 ^ 30 }
-    ensures { result ≡ gap_at x }
+    ensures exact { result ≡ gap_at x }
+    ensures small { unsigned_abs result < 2 ^ 19 }
 {
     (x - HALF).div_euclid(PIXEL)
 }
@@ -23,7 +25,8 @@ fn gap_at(x: i64) -> i64
 fn columns_between(low: i64, high: i64) -> Columns
     requires low { unsigned_abs low < 2 ^ 30 }
     requires high { unsigned_abs high < 2 ^ 30 }
-    ensures { result ≡ columns_between low high }
+    ensures exact { result ≡ columns_between low high }
+    ensures small { ColumnsFit result }
 {
     let first = line_from(low);
     let last = gap_at(high);
@@ -90,7 +93,8 @@ fn greatest_x(x: i64, edges: &[Edge]) -> i64
 fn columns_from(edge: Edge, edges: &[Edge]) -> Columns
     requires edge { EdgeFits edge }
     requires edges { All EdgeFits edges.now }
-    ensures { result ≡ columns_between (least_x edge.ax edges.now) (greatest_x edge.ax edges.now) }
+    ensures exact { result ≡ columns_between (least_x edge.ax edges.now) (greatest_x edge.ax edges.now) }
+    ensures small { ColumnsFit result }
 {
     columns_between(least_x(edge.ax, edges), greatest_x(edge.ax, edges))
 }
@@ -98,7 +102,8 @@ fn columns_from(edge: Edge, edges: &[Edge]) -> Columns
 /// The columns of the box of edges.
 pub(crate) fn columns_of(edges: &[Edge]) -> Columns
     requires { All EdgeFits edges.now }
-    ensures { result ≡ columns_of edges.now }
+    ensures exact { result ≡ columns_of edges.now }
+    ensures small { ColumnsFit result }
 {
     if edges.is_empty() {
         return Columns { first: 0, last: 0 };

@@ -1,11 +1,22 @@
-//! What the two passes work on: the rows of an outline, and then its columns, which are the rows of the outline with x and
-//! y exchanged; and how much work that is.
+//! The dropouts of a glyph in a window: first a pass over the rows, and then one over the columns, for which the pixels
+//! that the first one added are black.
 
-ghost use Rattle.std.specs.Prelude.{◌≡◌, ◌^◌, ◌*◌, ◌≤◌, length, map, All, IfOk};
+ghost use Rattle.std.specs.Prelude.{◌≡◌, ℤ, ◌^◌, ◌*◌, ◌≤◌, ◌||◌, ◌&&◌, [], ◌∷◌, length, map, All, IfOk, OnOk};
+ghost use Rattle.std.specs.Ordering.{int_eq};
+ghost use Rattle.tt_scan.specs.Contours.{AreEnds, contours_at};
 ghost use Rattle.tt_scan.specs.Winding.{EdgeFits};
-ghost use Rattle.tt_scan_dropouts.specs.Dropouts.{crossed, turned_round};
+ghost use Rattle.tt_scan_dropouts.specs.Dropouts.{columns_of, crossed, is_dropout, row_adds, turned_round};
+ghost use Rattle.tt_scan_dropouts.specs.Gaps.{has_pixel};
+ghost use Rattle.tt_scan_dropouts.specs.Windows.{WindowFits, has, has_pixel_by, is_black_by, widened};
 
+use crate::bitmap::Bitmap;
+use crate::columns::columns_of;
 use crate::crossing::lines_crossed;
+use crate::gaps::sort;
+use crate::mark::{Columns, Pixel, Rules};
+use crate::marks::free_marks;
+use crate::pass::pass;
+use crate::window::{Over, Window, clipped, has, widened};
 use std::alloc::{AllocError, Global};
 use tt_scan::Edge;
 
@@ -45,4 +56,102 @@ pub fn crossings(edges: &[Edge]) -> u64
         all += lines_crossed(*edge) + lines_crossed(turned_round(*edge));
     }
     all
+}
+
+/// What the pass over the rows, or over the columns, adds to what is black; the edges of columns are turned round, and so
+/// is the box whose columns are given. Error: memory ran out.
+fn pass_over(
+    alloc: Global,
+    rules: Rules,
+    columns: Columns,
+    ink: &Bitmap,
+    over: Over,
+    edges: &[Edge],
+    ends: &[usize],
+) -> Result<Vec<Pixel>, AllocError>
+    requires columns { columns ≡ columns_of edges.now }
+    requires edges { All EdgeFits edges.now }
+    requires ends { AreEnds (length edges.now) ends.now }
+    ensures { IfOk result (λ v. (p j : ℤ) → has_pixel v.items p j
+        ≡ row_adds rules (contours_at edges.now ends.now) (is_black_by over ink.now) p j) }
+{
+    let mut marks = free_marks(alloc, ink, over, rules.stubs, edges, ends)?;
+    sort(&mut marks);
+    pass(alloc, rules, columns, over, ink, &marks)
+}
+
+/// A pixel of a pass by its column and its row.
+#[inline(always)]
+fn pixel_at(over: Over, pixel: Pixel) -> Pixel
+    ensures { (c j : ℤ) → (int_eq result.column c && int_eq result.row j) ≡ has_pixel_by over (pixel ∷ []) c j }
+{
+    match over {
+        Over::Rows => pixel,
+        Over::Columns => Pixel {
+            column: pixel.row,
+            row: pixel.column,
+        },
+    }
+}
+
+/// Adds a pixel if it lies in a window. Error: memory ran out.
+#[inline(always)]
+fn push_if_within(found: &mut Vec<Pixel>, window: Window, pixel: Pixel) -> Result<(), AllocError>
+    ensures { OnOk result ((c j : ℤ) → has_pixel found.new.items c j
+        ≡ (has_pixel found.old.items c j || (has window c j && (int_eq pixel.column c && int_eq pixel.row j)))) }
+{
+    if has(window, pixel.column, pixel.row) {
+        found.push(pixel)?;
+    }
+    Ok(())
+}
+
+/// Adds those of some pixels that lie in a window. Error: memory ran out.
+fn push_within(
+    found: &mut Vec<Pixel>,
+    window: Window,
+    over: Over,
+    pixels: &[Pixel],
+) -> Result<(), AllocError>
+    ensures { OnOk result ((c j : ℤ) → has_pixel found.new.items c j
+        ≡ (has_pixel found.old.items c j || (has window c j && has_pixel_by over pixels.now c j))) }
+{
+    for pixel in pixels {
+        push_if_within(found, window, pixel_at(over, *pixel))?;
+    }
+    Ok(())
+}
+
+/// The dropouts in a window of a glyph whose contours each end before the edge of a number: the pixels that are black
+/// besides those of the scan converter's rules 1 and 2. OpenType, "TrueType Fundamentals", rules 3 and 4. Error: memory
+/// ran out.
+pub fn dropouts(
+    alloc: Global,
+    rules: Rules,
+    edges: &[Edge],
+    ends: &[usize],
+    window: Window,
+) -> Result<Vec<Pixel>, AllocError>
+    requires edges { All EdgeFits edges.now }
+    requires few { length edges.now ≤ 2 ^ 32 }
+    requires ends { AreEnds (length edges.now) ends.now }
+    requires window { WindowFits (widened 2 window) }
+    ensures exact { IfOk result (λ v. (c j : ℤ) → has_pixel v.items c j
+        ≡ (has window c j && is_dropout rules (contours_at edges.now ends.now) c j)) }
+{
+    let turned = all_turned_round(alloc, edges)?;
+    let columns = columns_of(edges);
+    let rows = columns_of(&turned);
+    let part = match clipped(window, columns, rows) {
+        Some(part) => part,
+        None => return Ok(Vec::new(alloc)),
+    };
+    let mut ink = Bitmap::inked(alloc, edges, widened(part))?;
+    let by_rows = pass_over(alloc, rules, columns, &ink, Over::Rows, edges, ends)?;
+    ink.blacken_all(&by_rows);
+    let by_columns = pass_over(alloc, rules, rows, &ink, Over::Columns, &turned, ends)?;
+    let mut found = Vec::new(alloc);
+    push_within(&mut found, part, Over::Rows, &by_rows)?;
+    push_within(&mut found, part, Over::Columns, &by_columns)?;
+    Ok(found)
 }

@@ -1,16 +1,20 @@
 //! Dropout control: which pixels are black besides those of the scan converter's rules 1 and 2, so that no stroke is lost
 //! at small sizes. OpenType, "TrueType Fundamentals", rules 3 and 4, and the smart ones beside them.
 //!
-//! Here are the definitions, with worked pictures, and of the code the parts, which nothing joins yet:
+//! Here are the definitions, with worked pictures and laws, and the code:
 //!
 //! ```text
 //! crossing.rt   where edges cross the centre lines of rows, and between which pixels
+//! steps.rt      the walk along a contour, step by step
 //! stub.rt       which crossings belong to a stub
+//! marks.rt      what the contours of an outline leave in gaps that are free
 //! bitmap.rt     what is black in a window
 //! gaps.rt       which pixel a gap asks for
 //! columns.rt    the columns of a glyph's box
-//! pass.rt       what a gap asks for in a pass over all rows, and which gap gives way
-//! filling.rt    outlines with x and y exchanged, and how much work dropouts are
+//! pass.rt       what a pass over the gaps of all rows adds, and which gap gives way
+//! filling.rt    the dropouts of a glyph in a window, and how much work they are
+//! picture.rt    the dropouts of a picture, as a list that is painted row by row
+//! laws.rt       dropouts are white without them, and move with their glyph
 //! ```
 //!
 //! All is said of rows. For columns it is said of the outline with x and y exchanged.
@@ -21,11 +25,16 @@ mod columns;
 mod crossing;
 mod filling;
 mod gaps;
+pub mod laws;
 mod mark;
+mod marks;
 mod pass;
+mod picture;
+mod steps;
 mod stub;
 mod window;
 
-pub use filling::crossings;
+pub use filling::{crossings, dropouts};
 pub use mark::{Pixel, Rules};
+pub use picture::{Dropout, blacken_dropouts, push_dropouts, sort_by_rows};
 pub use window::Window;

@@ -15,7 +15,8 @@ use std::alloc::{AllocError, Global};
 /// What the gap of these marks asks for.
 fn asked(rules: Rules, columns: Columns, over: Over, ink: &Bitmap, marks: &[Mark]) -> Option<i64>
     requires { 0 < length marks.now }
-    ensures { (d : Mark) → result ≡ asked_by rules columns (is_black_by over ink.now) (get_or marks.now 0 d).at.line (get_or marks.now 0 d).at.gap marks.now }
+    ensures { (d : Mark) → result ≡ asked_by rules columns (is_black_by over ink.now)
+        (get_or marks.now 0 d).at.line (get_or marks.now 0 d).at.gap marks.now }
 {
     let at = marks[0].at;
     if ink.is_free(over, at) && some_asks(marks) {
@@ -60,7 +61,8 @@ fn gives_way(last: Option<Wish>, wish: Wish) -> bool
 /// Adds the pixel that a gap asks for, unless it gives way. Error: memory ran out.
 fn grant(added: &mut Vec<Pixel>, last: Option<Wish>, wish: Wish) -> Result<(), AllocError>
     ensures { OnOk result ((p j : ℤ) → has_pixel added.new.items p j
-        ≡ (has_pixel added.old.items p j || (not (gives_way last wish) && (int_eq wish.pixel p && int_eq wish.line j)))) }
+        ≡ (has_pixel added.old.items p j
+        || (not (gives_way last wish) && (int_eq wish.pixel p && int_eq wish.line j)))) }
 {
     if !gives_way(last, wish) {
         added.push(Pixel {
@@ -69,4 +71,36 @@ fn grant(added: &mut Vec<Pixel>, last: Option<Wish>, wish: Wish) -> Result<(), A
         })?;
     }
     Ok(())
+}
+
+/// The pixels that a pass adds, by marks in order, where so much is black. Error: memory ran out.
+pub(crate) fn pass(
+    alloc: Global,
+    rules: Rules,
+    columns: Columns,
+    over: Over,
+    ink: &Bitmap,
+    marks: &[Mark],
+) -> Result<Vec<Pixel>, AllocError>
+    requires { IsInOrder marks.now }
+    ensures { IfOk result (λ v. (p j : ℤ)
+        → has_pixel v.items p j ≡ is_added rules columns marks.now (is_black_by over ink.now) p j) }
+{
+    let mut added = Vec::new(alloc);
+    let mut last = None;
+    let mut start = 0;
+    while start < marks.len() {
+        let end = group_end(marks, start);
+        if let Some(pixel) = asked(rules, columns, over, ink, &marks[start..end]) {
+            let wish = Wish {
+                line: marks[start].at.line,
+                gap: marks[start].at.gap,
+                pixel,
+            };
+            grant(&mut added, last, wish)?;
+            last = Some(wish);
+        }
+        start = end;
+    }
+    Ok(added)
 }

@@ -1,7 +1,10 @@
 //! The part of the plane in which dropouts are looked for, by rows or by columns.
 
-ghost use Rattle.std.specs.Prelude.{◌≡◌, true, ◌-ℤ◌, ◌<◌, unsigned_abs};
-ghost use Rattle.tt_scan_dropouts.specs.Windows.{WindowFits, has, is_within, widened};
+ghost use Rattle.std.specs.Prelude.{◌≡◌, ℤ, pos, true, false, ◌&&◌, ◌+ℤ◌, ◌-ℤ◌, ◌^◌, ◌<◌, unsigned_abs, IfNone, IfSome};
+ghost use Rattle.std.specs.Int.{int_max, int_min};
+ghost use Rattle.tt_scan_dropouts.specs.Windows.{ColumnsFit, IsPart, WindowFits, box_has, has, is_column_of, is_within, widened};
+
+use crate::mark::Columns;
 
 /// So many columns from `left` on, and so many rows from `bottom` up, by the numbers of pixels.
 #[derive(Clone, Copy, Debug, PartialEq, Eq)]
@@ -57,4 +60,68 @@ pub(crate) fn widened(window: Window) -> Window
         width: window.width + 4,
         height: window.height + 4,
     }
+}
+
+/// So many numbers, from one on.
+#[derive(Clone, Copy)]
+struct Part {
+    from: i32,
+    count: u32,
+}
+
+/// Where those of so many numbers from a first one on begin that are columns of a box.
+fn start_of(first: i32, columns: Columns) -> i64
+    requires { ColumnsFit columns }
+    ensures exact { result ≡ int_max first columns.first }
+    ensures small { unsigned_abs result < 2 ^ 32 }
+{
+    i64::from(first).max(columns.first)
+}
+
+/// The number after the last of those.
+fn end_of(first: i32, count: u32, columns: Columns) -> i64
+    requires { ColumnsFit columns }
+    ensures exact { result ≡ int_min (first +ℤ pos count) (columns.last +ℤ pos 1) }
+    ensures small { unsigned_abs result < 2 ^ 33 }
+{
+    (i64::from(first) + i64::from(count)).min(columns.last + 1)
+}
+
+/// Those of so many numbers from a first one on that are columns of a box.
+fn overlap(first: i32, count: u32, columns: Columns) -> Option<Part>
+    requires { ColumnsFit columns }
+    ensures some { IfSome result (λ p. (n : ℤ) → is_within p.from p.count n
+        ≡ (is_within first count n && is_column_of columns n)) }
+    ensures within { IfSome result (IsPart first count columns) }
+    ensures none { IfNone result ((n : ℤ) → (is_within first count n && is_column_of columns n) ≡ false) }
+{
+    let from = start_of(first, columns);
+    let end = end_of(first, count, columns);
+    if from < end {
+        Some(Part {
+            from: from as i32,
+            count: (end - from) as u32,
+        })
+    } else {
+        None
+    }
+}
+
+/// The part of a window that lies in a box.
+pub(crate) fn clipped(window: Window, columns: Columns, rows: Columns) -> Option<Window>
+    requires window { WindowFits (widened 2 window) }
+    requires columns { ColumnsFit columns }
+    requires rows { ColumnsFit rows }
+    ensures some { IfSome result (λ w. (c j : ℤ) → has w c j ≡ (has window c j && box_has columns rows c j)) }
+    ensures fits { IfSome result (λ w. WindowFits (widened 2 w)) }
+    ensures none { IfNone result ((c j : ℤ) → (has window c j && box_has columns rows c j) ≡ false) }
+{
+    let across = overlap(window.left, window.width, columns)?;
+    let up = overlap(window.bottom, window.height, rows)?;
+    Some(Window {
+        left: across.from,
+        bottom: up.from,
+        width: across.count,
+        height: up.count,
+    })
 }

@@ -2,8 +2,13 @@
 use Rattle.std.specs.Prelude.{Bool, true, false, pos}
 use Rattle.tt_state.specs.declared.graphics_state.Zone.TheVariants as zone
 use Rattle.tt_state.specs.declared.graphics_state.GraphicsState.{GraphicsState}
+use Rattle.tt_state.specs.declared.graphics_state.ScanControl.{ScanControl}
 use Rattle.tt_state.specs.declared.rounding.Round.TheVariants as round
 use Rattle.tt_state.specs.declared.vector.Vector.TheVariants as vector
+
+-- no dropouts are filled where no program asks for it
+abbrev pub default_scan : ScanControl
+default_scan = record { on = false; scan_type = 0 }
 
 -- the defaults. The standard gives a control-value cut-in of 17/16 pixel and a minimum distance of one.
 abbrev pub default_of : Bool → GraphicsState
@@ -26,6 +31,7 @@ default_of whole = record {
   auto_flip = true;
   delta_base = pos 9;
   delta_shift = 3;
+  scan = default_scan;
   whole = whole;
 }
 

@@ -20,6 +20,15 @@ pub enum Zone {
     Glyph,
 }
 
+/// What programs ask for where a glyph's outline passes between the centers of pixels.
+#[derive(Clone, Copy, Debug, PartialEq, Eq)]
+pub struct ScanControl {
+    /// Whether dropouts are filled at all.
+    pub on: bool,
+    /// By which rules they are filled; any number that SCANTYPE was given.
+    pub scan_type: u16,
+}
+
 /// The state variables that instructions read and set. Distances are in 26.6 pixels.
 #[derive(Clone, Copy, Debug, PartialEq, Eq)]
 pub struct GraphicsState {
@@ -52,6 +61,8 @@ pub struct GraphicsState {
     pub delta_base: i32,
     /// Into how many parts a pixel is cut by a delta, as a power of 2; SDS sets 0 to 6.
     pub delta_shift: u32,
+    /// Read by no instruction: it tells how a glyph is filled.
+    pub scan: ScanControl,
     /// Whether the whole instruction set is there, with vectors off the axes. No instruction sets it.
     pub whole: bool,
 }
@@ -80,6 +91,10 @@ impl GraphicsState {
             auto_flip: true,
             delta_base: 9,
             delta_shift: 3,
+            scan: ScanControl {
+                on: false,
+                scan_type: 0,
+            },
             whole,
         }
     }

@@ -11,7 +11,7 @@ mod tolerance;
 mod unit;
 mod vector;
 
-pub use graphics_state::{Axis, GraphicsState, Zone};
+pub use graphics_state::{Axis, GraphicsState, ScanControl, Zone};
 pub use point::Point;
 pub use rounding::Round;
 pub use sround::Super;

@@ -13,7 +13,7 @@ returns-clause-valid c =
           c.requires.so_far.phantom
     ] in
     joined-is (outline_of c.args.so_far) (outline_of c.args.component.now) c.push_placed.new.points.items
-    c.push_ends.new.ends.items (phantom_of c.if-has.phantom) c.requires.so_far c.requires.component (search rules)
+    c.push_ends.new.ends.items (phantom_of c.if-has.phantom) c.scan_after.result c.requires.so_far c.requires.component (search rules)
     (search rules) c.in_ok-push_placed.ensures.coordinates (search rules) phantoms
 
 pub returns-clause-exact : goal.returns-clause-exact
@@ -26,6 +26,7 @@ returns-clause-exact c =
       c.if-len-gt-POINT_LIMIT.false,
       c.len.ensures,
       c.len-before.ensures,
+      c.scan_after.ensures,
       c.has.ensures,
       c.if-has.branch,
       c.deref-2.ensures.value,

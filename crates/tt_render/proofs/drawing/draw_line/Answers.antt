@@ -4,13 +4,13 @@ use Rattle.std.proofs.lemmas.Result.{err_from_is_err_and}
 use Rattle.tt_core.specs.Outcomes.{each}
 use Rattle.tt_line.specs.Outcome.{placement_of}
 use Rattle.tt_pbm.specs.P4.{header_bytes}
-use Rattle.tt_scan.specs.declared.edge.Edge.{Edge}
 use Rattle.tt_render.specs.Defects.{IsLineDefect}
 use Rattle.tt_render.specs.Job.{job_view}
 use Rattle.tt_render.specs.Tables.{face_view}
 use Rattle.tt_render.specs.Distinct.{line_fitter}
 use Rattle.tt_render.specs.Glyphs.{Stand}
-use Rattle.tt_render.specs.Picture.{drawn, edges_in, frame_of, glyph_edges, picture}
+use Rattle.tt_render.specs.Picture.{drawn, shapes_in, frame_of, glyph_shape, picture}
+use Rattle.tt_render.specs.Pixels.{Shape}
 use Rattle.tt_render.specs.Report.{line_report}
 use Rattle.tt_render.specs.Views.{picture_bytes}
 use Rattle.tt_render.proofs.Alike.{same_picture}
@@ -81,7 +81,7 @@ returns-in_err-glyphs-clause-defects c =
     let p = err_from_is_err_and c.from_residual-in_err-glyphs.result c.from_residual-in_err-glyphs.ensures.1 in
     let fails = rw c.deref-2.ensures.value at c.in_err-glyphs.ensures.fault in
     rw (p.1, p.2) (font_tells (IsLineDefect face a (map (λ g. g.0) line)) c.in_err-glyphs.field-0.0
-    (glyph_tells {X = List (List Edge)} (λ es. es) face a s line c.in_ok-fitter.ensures.exact
+    (glyph_tells {X = List Shape} (λ ss. ss) face a s line c.in_ok-fitter.ensures.exact
     c.in_err-glyphs.field-0.0 fails))
 
 pub returns-in_err-glyphs-clause-work : goal.returns-in_err-glyphs-clause-work
@@ -98,7 +98,7 @@ returns-in_err-test_crossings-clause-exact c =
     let p = err_from_is_err_and c.from_residual-in_err-test_crossings.result
     c.from_residual-in_err-test_crossings.ensures.1 in
     let stand = simp to_z-of_z at (rw c.deref-2.ensures.value at c.in_ok-glyphs.ensures.stand) in
-    let made = ok_and (edges_in s l) (Stand (frame_of l a.margin) c.in_ok-glyphs.glyphs.items) stand in
+    let made = ok_and (shapes_in s l) (Stand (frame_of l a.margin) c.in_ok-glyphs.glyphs.items) stand in
     let refused = rw (c.deref-3.ensures.value, made.2.crossings) at c.in_err-test_crossings.ensures.exact in
     let few = rw c.deref.ensures.value at c.in_ok-test_points.ensures.exact in
     rw (p.1, p.2) (crossings_stop (face_view c.args.face.now) a l s made.0 c.in_err-test_crossings.field-0.0
@@ -113,7 +113,7 @@ returns-in_err-test_crossings-clause-work c =
     let p = err_from_is_err_and c.from_residual-in_err-test_crossings.result
     c.from_residual-in_err-test_crossings.ensures.1 in
     let stand = simp to_z-of_z at (rw c.deref-2.ensures.value at c.in_ok-glyphs.ensures.stand) in
-    let made = ok_and (edges_in s l) (Stand (frame_of l a.margin) c.in_ok-glyphs.glyphs.items) stand in
+    let made = ok_and (shapes_in s l) (Stand (frame_of l a.margin) c.in_ok-glyphs.glyphs.items) stand in
     let refused = rw (c.deref-3.ensures.value, made.2.crossings) at c.in_err-test_crossings.ensures.exact in
     rw (p.1, p.2) (crossings_tell (face_view c.args.face.now) a l s made.0 c.in_err-test_crossings.field-0.0
     c.in_ok-fitter.ensures.exact made.1 refused)
@@ -134,12 +134,14 @@ returns-clause-exact c =
     let frame = frame_of (placement_of line) c.args.job.now.margin in
     let glyphs = c.in_ok-glyphs.glyphs.items in
     let black = simp to_z-of_z at (rw c.deref-2.ensures.value at c.in_ok-glyphs.ensures.stand) in
-    let made = ok_and (each (glyph_edges maker) line.glyphs.items) (Stand frame glyphs) black in
+    let made = ok_and (each (glyph_shape maker) line.glyphs.items) (Stand frame glyphs) black in
     let ready = c.in_ok-ready.ensures in
     let p = c.in_ok-ready.field-0 in
     let its_frame : p.frame ≡ frame = simp to_z-of_z at ready.frame in
-    let bytes : picture_bytes p ≡ picture frame made.0 = rw (its_frame, ready.glyphs)
-    (same_picture frame glyphs made.0 (header_bytes p.header) ready.header made.2.black) in
+    let alike = simp to_z-of_z at (rw c.deref-4.ensures.value at c.in_ok-dropouts.ensures.exact) in
+    let bytes : picture_bytes p ≡ picture frame made.0 = rw (its_frame, ready.glyphs, ready.dropouts)
+    (same_picture frame glyphs c.in_ok-dropouts.dropouts.items made.0 (header_bytes p.header) ready.header made.2
+    alike) in
     let tested = rw (c.deref-3.ensures.value, made.2.crossings) at c.in_ok-test_crossings.ensures.exact in
     let few = rw c.deref.ensures.value at c.in_ok-test_points.ensures.exact in
     rw (there, few, made.1, tested) (ap Ok {x = picture frame made.0} {y = picture_bytes p} (sym bytes))
@@ -149,7 +151,7 @@ returns-clause-defects c =
     let s = c.in_ok-fitter.fitter in
     let gs = c.args.line.now.glyphs.items in
     let black = rw c.deref-2.ensures.value at c.in_ok-glyphs.ensures.stand in
-    let made = ok_and (each (glyph_edges (line_fitter s (map (λ g. g.0) gs))) gs) _ black in
+    let made = ok_and (each (glyph_shape (line_fitter s (map (λ g. g.0) gs))) gs) _ black in
     no_line_defect (face_view c.args.face.now) (job_view c.args.job.now) s gs made.0 c.in_ok-fitter.ensures.exact
     c.in_ok-fitter.ensures.defects made.1
 
@@ -165,7 +167,7 @@ returns-clause-report c =
     let numbers = rw c.deref-2.ensures.value at c.in_ok-glyphs.ensures.numbers in
     let valid = rw c.deref-2.ensures.value at c.in_ok-glyphs.ensures.valid in
     let stand = simp to_z-of_z at (rw c.deref-2.ensures.value at c.in_ok-glyphs.ensures.stand) in
-    let made = ok_and (edges_in s l) (Stand (frame_of l a.margin) glyphs) stand in
+    let made = ok_and (shapes_in s l) (Stand (frame_of l a.margin) glyphs) stand in
     let tested = rw (c.deref-3.ensures.value, made.2.crossings) at c.in_ok-test_crossings.ensures.exact in
     let entries = of_line (line_fitter s (map (λ g. g.0) c.args.line.now.glyphs.items)) _ glyphs
     c.args.line.now.glyphs.items c.in_ok-ready.field-0.report.unfitted.items

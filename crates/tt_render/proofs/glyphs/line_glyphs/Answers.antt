@@ -3,7 +3,7 @@ use Rattle.std.proofs.lemmas.Result.{err_from_is_err_and}
 use Rattle.tt_core.specs.Outcomes.{each}
 use Rattle.tt_render.specs.Distinct.{IsNext, distinct, line_fitter}
 use Rattle.tt_render.specs.Glyphs.{numbers_of}
-use Rattle.tt_render.specs.Picture.{glyph_edges}
+use Rattle.tt_render.specs.Picture.{glyph_shape}
 use Rattle.tt_render.proofs.Places.{one_more_made}
 use Rattle.tt_render.proofs.Standings.{made_at, one_place_more}
 use Rattle.tt_render.proofs.Turns.{none_before, next_is, one_more_left, stuck_at}
@@ -21,11 +21,12 @@ loop-placed-init c =
       left = rw none refl;
       drawn = rw none (λ k d below. absurd (omega (arith, below)));
       numbers = rw none refl;
+      pens = rw none (λ k d below. absurd (omega (arith, below)));
       stand = (
         [],
-        none_before (each (glyph_edges maker) line),
+        none_before (each (glyph_shape maker) line),
         record
-            { black = rw none (λ k r. refl); crossings = rw none refl },
+            { black = rw none (λ k r. refl); dropouts = rw none (λ k r. refl); crossings = rw none refl },
       );
     }
 
@@ -37,7 +38,7 @@ loop-placed-preserved c =
     let before = c.loop-placed.kept.kept.items in
     let line = c.args.line.now in
     let maker = line_fitter c.args.fitter.now (map (λ g. g.0) line) in
-    let make = glyph_edges maker in
+    let make = glyph_shape maker in
     let below : i < length line = c.loop-placed-test.true in
     let whole = drop-cons line i (0, 0) below in
     let numbers = rw whole at so_far.numbers in
@@ -54,6 +55,7 @@ loop-placed-preserved c =
           (get_or line i (0, 0)).0 so_far.left one.after);
       drawn = one.drawn maker next so_far.drawn;
       numbers = rw (add-one, one.numbers) numbers;
+      pens = one.pens (c.requires.pens i (0, 0) below) so_far.pens;
       stand = (
         so_far.stand.0 ++ made.0 ∷ [],
         one_more_made make line i (0, 0) so_far.stand.0 made.0 below made.1

@@ -1,9 +1,9 @@
 use Rattle.std.proofs.Common.{◌≡◌, ◌≤◌, length, drop, map, List}
 use Rattle.tt_core.specs.Outcomes.{each, after_each}
-use Rattle.tt_scan.specs.declared.edge.Edge.{Edge}
 use Rattle.tt_render.specs.Distinct.{distinct, distinct_after, fitter_after, line_fitter}
-use Rattle.tt_render.specs.Glyphs.{AreDrawn, AreKept, Stand, numbers_of}
-use Rattle.tt_render.specs.Picture.{glyph_edges}
+use Rattle.tt_render.specs.Glyphs.{AreDrawn, AreKept, AreWithin, Stand, numbers_of}
+use Rattle.tt_render.specs.Picture.{glyph_shape}
+use Rattle.tt_render.specs.Pixels.{Shape}
 use Rattle.tt_render.proofs.glyphs.line_glyphs.Given as goal
 
 -- the glyphs as kept blacken what those of the places so far do, and the fitter is what they left
@@ -16,8 +16,9 @@ invariant-loop-placed l = record {
   drawn : AreDrawn (line_fitter l.fn.fitter (map (λ g. g.0) l.line)) l.frame l.kept.kept.items;
   numbers : distinct_after (numbers_of l.kept.kept.items) (map (λ g. g.0) (drop l.placed-index l.line))
       ≡ distinct (map (λ g. g.0) l.line);
-  stand : (edges : List (List Edge))
-      × (after_each (glyph_edges (line_fitter l.fn.fitter (map (λ g. g.0) l.line))) (drop l.placed-index l.line) edges
-      ≡ each (glyph_edges (line_fitter l.fn.fitter (map (λ g. g.0) l.line))) l.line)
-      × Stand l.frame l.kept.kept.items edges;
+  pens : AreWithin l.kept.kept.items;
+  stand : (shapes : List Shape)
+      × (after_each (glyph_shape (line_fitter l.fn.fitter (map (λ g. g.0) l.line))) (drop l.placed-index l.line) shapes
+      ≡ each (glyph_shape (line_fitter l.fn.fitter (map (λ g. g.0) l.line))) l.line)
+      × Stand l.frame l.kept.kept.items shapes;
 }

@@ -14,6 +14,6 @@ invariant-loop-r g l = record {
   stamps : stamps_in l.glyphs ≡ stamps_in l.fn.glyphs;
   sent : l.sent ≡ stride l.frame.width * l.r;
   out : Appends (g.W.Sink.written l.fn.out) (g.W.Sink.written l.out)
-      (rows_by l.frame l.fn.glyphs 0 (stride l.frame.width * l.r));
+      (rows_by l.frame l.fn.glyphs l.dropouts 0 (stride l.frame.width * l.r));
   serves : g.W.Sink.has_failed l.out ≡ false;
 }

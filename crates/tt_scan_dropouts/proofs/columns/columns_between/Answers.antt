@@ -5,8 +5,8 @@ use Rattle.tt_scan_dropouts.specs.Crossings.{gap_at, line_from}
 use Rattle.tt_scan_dropouts.proofs.Boxes.{left_is_nearer, right_is_nearer}
 use Rattle.tt_scan_dropouts.proofs.columns.columns_between.Goals as goal
 
-pub returns-then-first-low : goal.returns-then-first-low
-returns-then-first-low c =
+pub returns-then-first-low-clause-exact : goal.returns-then-first-low-clause-exact
+returns-then-first-low-clause-exact c =
     let low : SFits w64 c.args.low = c.ranges.low in
     let high : SFits w64 c.args.high = c.ranges.high in
     let first : SFits w64 c.line_from-first.result = omega (arith, ints, c.line_from-first.ensures.small) in
@@ -14,13 +14,13 @@ returns-then-first-low c =
     let twice : SFits w64 (pos 16384 *ℤ c.line_from-first.result) = omega (arith, ints, c.line_from-first.ensures.small) in
     let sum : SFits w64 (c.args.low +ℤ c.args.high) = omega (arith, ints, c.requires.low, c.requires.high) in
     let at : c.line_from-first.result ≡ line_from c.args.low = simp to_z-of_z at c.line_from-first.ensures.exact in
-    let to : c.gap_at-last.result ≡ gap_at c.args.high = simp to_z-of_z at c.gap_at-last.ensures in
+    let to : c.gap_at-last.result ≡ gap_at c.args.high = simp to_z-of_z at c.gap_at-last.ensures.exact in
     let apart : int_le c.line_from-first.result c.gap_at-last.result ≡ false = simp to_z-of_z at c.if-first-last.false in
     let near : int_le (pos 16384 *ℤ c.line_from-first.result) (c.args.low +ℤ c.args.high) ≡ true = simp to_z-of_z at c.if-first-low.true in
     simp to_z-of_z (rw (at, right_is_nearer c.args.low c.args.high (rw (at, to) at apart) (rw at at near)) refl)
 
-pub returns-else-first-low : goal.returns-else-first-low
-returns-else-first-low c =
+pub returns-else-first-low-clause-exact : goal.returns-else-first-low-clause-exact
+returns-else-first-low-clause-exact c =
     let low : SFits w64 c.args.low = c.ranges.low in
     let high : SFits w64 c.args.high = c.ranges.high in
     let first : SFits w64 c.line_from-first.result = omega (arith, ints, c.line_from-first.ensures.small) in
@@ -28,7 +28,7 @@ returns-else-first-low c =
     let twice : SFits w64 (pos 16384 *ℤ c.line_from-first.result) = omega (arith, ints, c.line_from-first.ensures.small) in
     let sum : SFits w64 (c.args.low +ℤ c.args.high) = omega (arith, ints, c.requires.low, c.requires.high) in
     let at : c.line_from-first.result ≡ line_from c.args.low = simp to_z-of_z at c.line_from-first.ensures.exact in
-    let to : c.gap_at-last.result ≡ gap_at c.args.high = simp to_z-of_z at c.gap_at-last.ensures in
+    let to : c.gap_at-last.result ≡ gap_at c.args.high = simp to_z-of_z at c.gap_at-last.ensures.exact in
     let apart : int_le c.line_from-first.result c.gap_at-last.result ≡ false = simp to_z-of_z at c.if-first-last.false in
     let near : int_le (pos 16384 *ℤ c.line_from-first.result) (c.args.low +ℤ c.args.high) ≡ false = simp to_z-of_z at c.if-first-low.false in
     simp to_z-of_z (rw (to, left_is_nearer c.args.low c.args.high (rw (at, to) at apart) (rw at at near)) refl)

@@ -1,4 +1,5 @@
-use Rattle.std.proofs.Common.{◌≡◌, ◌∙◌, ◌∷◌, [], ◌<◌, length, true, false, refl, ap, arith}
+use Rattle.std.proofs.Common.{◌≡◌, ◌∙◌, ◌∷◌, [], ◌<◌, ◌≤◌, All, length, true, false, refl, ap, arith}
+use Rattle.tt_core.specs.Limits.{width_limit}
 use Rattle.std.proofs.lemmas.List.{map-append, length-map}
 use Rattle.std.proofs.lemmas.List.Elements.{All-push}
 use Rattle.std.proofs.lemmas.Result.{err_from_is_err_and}
@@ -6,7 +7,7 @@ use Rattle.tt_render.specs.Distinct.{is_among}
 use Rattle.tt_render.specs.Glyphs.{Glyph, IsDrawn, numbers_of}
 use Rattle.tt_render.proofs.Crossed.{crosses_nowhere}
 use Rattle.tt_render.proofs.Keeping.{is_there, is_not_there}
-use Rattle.tt_render.proofs.Standings.{stands_nowhere}
+use Rattle.tt_render.proofs.Standings.{fills_nowhere, stands_nowhere}
 use Rattle.tt_render.proofs.Turns.{of_next, same_tables}
 use Rattle.tt_render.proofs.glyphs.Glyphs.keep.Goals as goal
 
@@ -75,3 +76,14 @@ returns-clause-crossings c = rw c.in_ok-add.ensures.kept (crosses_nowhere c.args
 pub returns-clause-black : goal.returns-clause-black
 returns-clause-black c = λ k r. rw c.in_ok-add.ensures.kept (stands_nowhere c.args.frame c.args.self.now.kept.items
     c.in_ok-new.field-0 k r c.in_ok-new.ensures.pens)
+
+pub returns-clause-dropouts : goal.returns-clause-dropouts
+returns-clause-dropouts c = λ k r. rw c.in_ok-add.ensures.kept (fills_nowhere c.args.frame c.args.self.now.kept.items
+    c.in_ok-new.field-0 k r c.in_ok-new.ensures.pens)
+
+pub returns-clause-pens : goal.returns-clause-pens
+returns-clause-pens c = λ within.
+    let none : All (λ pen. pen ≤ width_limit) c.in_ok-new.field-0.pens =
+    rw c.in_ok-new.ensures.pens (λ i d below. absurd (omega (arith, below))) in
+    rw c.in_ok-add.ensures.kept (All-push (λ (g : Glyph). All (λ pen. pen ≤ width_limit) g.pens)
+    c.args.self.now.kept.items c.in_ok-new.field-0 within none)

@@ -1,0 +1,66 @@
+-- Apple TrueType Reference Manual, "Instruction set" (SCANCTRL, SCANTYPE): by which rules the dropouts of a character's
+-- glyph are filled. With Best alone any are; a glyph that is drawn without its programs has scan type 1 (profile).
+use Rattle.std.specs.Prelude.{◌≡◌, ℕ, ◌==◌, true, false, if◌then◌else◌, codes, Option, Some, None, refl}
+use Rattle.tt_core.specs.Faults.{Fault, fault_at}
+use Rattle.tt_core.specs.declared.fault.Why.TheVariants as why
+use Rattle.tt_state.specs.GraphicsState.{default_scan}
+use Rattle.tt_state.specs.declared.graphics_state.ScanControl.{ScanControl}
+use Rattle.tt_fit.specs.declared.dropouts.DropoutRules.{DropoutRules}
+use Rattle.tt_fit.specs.declared.dropouts.DropoutsBy.{DropoutsBy}
+use Rattle.tt_fit.specs.declared.dropouts.DropoutsBy.TheVariants as by
+use Rattle.tt_fit.specs.Fitting.{Fitter}
+use Rattle.tt_fit.specs.Hinting.{Hinting, off, ready}
+use Rattle.tt_fit.specs.Outline.{Outline}
+
+-- those of scan type 1
+abbrev pub default_rules : DropoutRules
+default_rules = record { stubs = false; smart = false }
+
+-- the types 0 and 4 fill stubs, 4 and 5 the nearer pixel; by another no dropouts are filled
+abbrev pub type_rules : ℕ → Option DropoutRules
+type_rules n =
+    if n == 0 then Some (record { stubs = true; smart = false }) else
+    if n == 1 then Some default_rules else
+    if n == 4 then Some (record { stubs = true; smart = true }) else
+    if n == 5 then Some (record { stubs = false; smart = true }) else None
+
+abbrev pub scan_rules : ScanControl → Option DropoutRules
+scan_rules scan = if scan.on then type_rules scan.scan_type else None
+
+-- what the last program that was run for a glyph left, or what the programs of glyphs begin with
+abbrev pub scan_left : Option ScanControl → ScanControl → ScanControl
+scan_left (Some left) begun = left
+scan_left None begun = begun
+
+abbrev pub program_rules : Hinting → Option ScanControl → Option DropoutRules
+program_rules off scan = Some default_rules
+program_rules (ready parts) scan =
+    if parts.skip_glyphs then Some default_rules else scan_rules (scan_left scan parts.state.scan)
+
+-- by who says it, by the fault for which the glyph is unfitted, and by what its programs left
+abbrev pub rules_by : DropoutsBy → Hinting → Option Fault → Option ScanControl → Option DropoutRules
+rules_by by.Nobody hinting unfitted scan = None
+rules_by by.Default hinting unfitted scan = Some default_rules
+rules_by by.Programs hinting (Some fault) scan = Some default_rules
+rules_by by.Programs hinting None scan = program_rules hinting scan
+
+abbrev pub dropouts_of : Fitter → Option Fault → Outline → Option DropoutRules
+dropouts_of s unfitted o = rules_by s.dropouts s.hinting unfitted o.scan
+
+-- worked values
+none_by_default : scan_rules default_scan ≡ None
+none_by_default = refl
+
+type_zero : scan_rules (record { on = true; scan_type = 0 }) ≡ Some (record { stubs = true; smart = false })
+type_zero = refl
+
+type_five : scan_rules (record { on = true; scan_type = 5 }) ≡ Some (record { stubs = false; smart = true })
+type_five = refl
+
+no_type_two : scan_rules (record { on = true; scan_type = 2 }) ≡ None
+no_type_two = refl
+
+-- whatever a program left
+unfitted_by_type_one : rules_by by.Programs off (Some (fault_at (codes "glyf") 14 why.StepLimit))
+    (Some (record { on = true; scan_type = 4 })) ≡ Some default_rules
+unfitted_by_type_one = refl

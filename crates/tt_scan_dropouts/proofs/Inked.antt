@@ -1,0 +1,212 @@
+-- The rows of a window from the top down, and what it is to ink one.
+use Rattle.std.proofs.Common.{◌≡◌, ◌∙◌, refl, ap, ◌⊎◌, inl, inr, ℕ, zero, suc, ◌+◌, ◌-◌, ◌*◌, ◌/◌, ◌%◌, ◌^◌, ◌<◌, ◌≤◌, Bool, true, false, ◌&&◌, ◌||◌, nat_lt, if◌then◌else◌, ℤ, pos, ◌+ℤ◌, ◌-ℤ◌, ◌<ℤ◌, unsigned_abs, List, [], ◌∷◌, ◌++◌, length, take, drop, slice_index, replicate, arith}
+use Rattle.std.specs.Ordering.{int_eq}
+use Rattle.std.specs.Prelude.{int_le}
+use Rattle.std.proofs.lemmas.Bool.{cases_Bool, cases_eq, cases_lt}
+use Rattle.std.proofs.lemmas.Bool.Decides.{nat_tests}
+use Rattle.std.proofs.lemmas.Int.{ints}
+use Rattle.std.proofs.lemmas.List.{get_or-append_right, get_or-drop, get_or-take, get_or_append_left, length-take-le}
+use Rattle.std.proofs.lemmas.Nat.{mul-le}
+use Rattle.std.proofs.lemmas.Nat.Bits.{bit_at-zero}
+use borrow.Rule.Slice.PartMut.{put_mid}
+use Rattle.tt_core.specs.Bits.{bit, stride}
+use Rattle.tt_scan.specs.declared.edge.Edge.{Edge}
+use Rattle.tt_scan.specs.declared.edge.Frame.{Frame}
+use Rattle.tt_scan.specs.declared.mark.Span.{Span}
+use Rattle.tt_scan.specs.Marks.{covers}
+use Rattle.tt_scan.specs.Winding.{column_x, is_between, is_black, row_y, rows_met}
+use Rattle.tt_scan.proofs.Visits.{within_width}
+use Rattle.tt_scan_dropouts.specs.Crossings.{centre}
+use Rattle.tt_scan_dropouts.specs.Windows.{WindowFits, frame_of, has, is_within, place, row_from_top}
+use Rattle.tt_scan_dropouts.specs.declared.window.Window.{Window}
+use Rattle.tt_scan_dropouts.proofs.Places.{both, eq_of, offset_within, or_false, row_within}
+
+-- the centres of the frame are those of the window
+row_centre : (w : Window) (r : ℕ) → row_y (frame_of w) (pos r) ≡ centre (row_from_top w r)
+row_centre w r = omega (arith, ints)
+
+column_centre : (w : Window) (k : ℕ) → column_x 0 (pos k -ℤ (pos 0 -ℤ w.left)) ≡ centre (w.left +ℤ pos k)
+column_centre w k = omega (arith, ints)
+
+-- the black columns of a row of the frame, moved to the window's
+pub row_painted : (w : Window) (f : Frame) (es : List Edge) (ss : List Span) (r k : ℕ) (row left : ℤ) → WindowFits w
+    → f ≡ frame_of w → row ≡ pos r → left ≡ w.left
+    → ((c : ℤ) → c <ℤ pos (2 ^ 63) → covers ss c ≡ is_black es (column_x f.margin c) (row_y f row))
+    → (nat_lt k w.width && covers ss (pos k -ℤ (pos 0 -ℤ left)))
+    ≡ (nat_lt k w.width && is_black es (centre (w.left +ℤ pos k)) (centre (row_from_top w r)))
+row_painted w f es ss r k row left fits frame at by black =
+    rw by (within_width k w.width _ _ (λ inside.
+    let column = pos k -ℤ (pos 0 -ℤ w.left) in
+    let here = rw (frame, at) at (black column (omega (arith, ints, inside, fits.left, fits.width))) in
+    here ∙ ap (λ x. is_black es x (row_y (frame_of w) (pos r))) (column_centre w k)
+    ∙ ap (λ y. is_black es (centre (w.left +ℤ pos k)) y) (row_centre w r)))
+
+-- so many edges meet a row at most
+one_or_none : (b : Bool) → (if b then 1 else 0) ≤ 1
+one_or_none true = omega arith
+one_or_none false = omega arith
+
+pub met_few : (es : List Edge) (y : ℤ) → rows_met es y ≤ length es
+met_few [] y = omega arith
+met_few (e ∷ es) y = omega (arith, one_or_none (is_between e.ay e.by y), met_few es y)
+
+-- what stands in a list of which a part was written: the first `a` elements, `ys` in the place of `k`, and the rest
+
+written_below : (a k i : ℕ) (xs ys : List ℕ) → i < a → a ≤ length xs
+    → slice_index (put_mid a k xs ys) i ≡ slice_index xs i
+written_below a k i xs ys below long =
+    let taken = length-take-le a xs long in
+    get_or_append_left (take a xs) (ys ++ drop k (drop a xs)) 0 i (omega (arith, taken, below))
+    ∙ get_or-take a xs i 0 below
+
+written_within : (a k i : ℕ) (xs ys : List ℕ) → i < length ys → a ≤ length xs
+    → slice_index (put_mid a k xs ys) (a + i) ≡ slice_index ys i
+written_within a k i xs ys within long =
+    let from : (a + i) - a ≡ i = omega arith in
+    get_or-append_right (take a xs) (ys ++ drop k (drop a xs)) a (a + i) 0 (length-take-le a xs long) (omega arith)
+    ∙ ap (λ n. slice_index (ys ++ drop k (drop a xs)) n) from
+    ∙ get_or_append_left ys (drop k (drop a xs)) 0 i within
+
+written_above : (a k i : ℕ) (xs ys : List ℕ) → a + k ≤ i → a ≤ length xs → length ys ≡ k
+    → slice_index (put_mid a k xs ys) i ≡ slice_index xs i
+written_above a k i xs ys above long count =
+    let from : a + (k + ((i - a) - k)) ≡ i = omega (arith, above) in
+    get_or-append_right (take a xs) (ys ++ drop k (drop a xs)) a i 0 (length-take-le a xs long) (omega (arith, above))
+    ∙ get_or-append_right ys (drop k (drop a xs)) k (i - a) 0 count (omega (arith, above))
+    ∙ get_or-drop k (drop a xs) ((i - a) - k) 0 ∙ get_or-drop a xs (k + ((i - a) - k)) 0
+    ∙ ap (λ n. slice_index xs n) from
+
+-- and what its bits are
+
+bit_within : (a k d : ℕ) (xs ys : List ℕ) → d < 8 * k → a ≤ length xs → length ys ≡ k
+    → bit (put_mid a k xs ys) (8 * a + d) ≡ bit ys d
+bit_within a k d xs ys within long count =
+    let byte : (8 * a + d) / 8 ≡ a + d / 8 = omega arith in
+    let column : (8 * a + d) % 8 ≡ d % 8 = omega arith in
+    rw (byte, column, written_within a k (d / 8) xs ys (omega (arith, within, count)) long) refl
+
+bit_outside : (a k n : ℕ) (xs ys : List ℕ) → (n / 8 < a) ⊎ (a + k ≤ n / 8) → a ≤ length xs → length ys ≡ k
+    → bit (put_mid a k xs ys) n ≡ bit xs n
+bit_outside a k n xs ys outside long count = elim outside [
+  | inl below ↦ rw (written_below a k (n / 8) xs ys below long) refl
+  | inr above ↦ rw (written_above a k (n / 8) xs ys above long count) refl
+]
+
+-- the bits of that part before
+bit_of_part : (a k d : ℕ) (xs : List ℕ) → d < 8 * k → bit (take k (drop a xs)) d ≡ bit xs (8 * a + d)
+bit_of_part a k d xs within =
+    let byte : (8 * a + d) / 8 ≡ a + d / 8 = omega arith in
+    let column : (8 * a + d) % 8 ≡ d % 8 = omega arith in
+    let same : slice_index (take k (drop a xs)) (d / 8) ≡ slice_index xs (a + d / 8) =
+    get_or-take k (drop a xs) (d / 8) 0 (omega (arith, within)) ∙ get_or-drop a xs (d / 8) 0 in
+    rw (byte, column, same) refl
+
+-- the bytes of a row lie apart from those of another
+apart : (w : Window) (s r d : ℕ) → d < w.width → (s ≡ r → ⊥)
+    → ((8 * (stride w.width * s) + d) / 8 < stride w.width * r)
+    ⊎ (stride w.width * r + stride w.width ≤ (8 * (stride w.width * s) + d) / 8)
+apart w s r d narrow other = elim (cases_lt s r) [
+  | inl less ↦ let room = row_within w.width r s less in inl (omega (arith, room, narrow))
+  | inr not_less ↦ let more : r < s = omega (arith, other, not_less) in
+      let room = row_within w.width s r more in inr (omega (arith, room))
+]
+
+-- how far a pixel stands from the first of its row or column, and which row from the top that is
+offset_is : (first : ℤ) (n : ℕ) (a : ℤ) → is_within first n a ≡ true → first +ℤ pos (unsigned_abs (a -ℤ first)) ≡ a
+offset_is first n a within = grind (arith, ints)
+
+row_is : (bottom : ℤ) (h r s : ℕ) (j : ℤ) → r < h → bottom +ℤ pos s ≡ j → s ≡ h - 1 - r
+    → (bottom +ℤ pos h) -ℤ pos (r + 1) ≡ j
+row_is bottom h r s j within is same = omega (arith, ints)
+
+row_is_not : (bottom : ℤ) (h r s : ℕ) (j : ℤ) → r < h → bottom +ℤ pos s ≡ j → (s ≡ h - 1 - r → ⊥)
+    → int_eq ((bottom +ℤ pos h) -ℤ pos (r + 1)) j ≡ false
+row_is_not bottom h r s j within is other = elim (cases_Bool (int_eq ((bottom +ℤ pos h) -ℤ pos (r + 1)) j)) [
+  | inl same ↦ let at : (bottom +ℤ pos h) -ℤ pos (r + 1) ≡ j = eq_of _ j same in absurd (other (omega (arith, ints)))
+  | inr not_same ↦ not_same
+]
+
+eq_same : (j : ℤ) → int_eq j j ≡ true
+eq_same j = grind (arith, ints)
+
+-- a row of the window whose bits were written
+pub row_inked : (w : Window) (black : ℤ → ℤ → Bool) (r a k : ℕ) (xs ys : List ℕ) (c j : ℤ) → r < w.height
+    → a ≡ stride w.width * (w.height - 1 - r) → k ≡ stride w.width → a ≤ length xs → length ys ≡ k
+    → ((d : ℕ) → bit ys d
+    ≡ (bit (take k (drop a xs)) d || (nat_lt d w.width && black (w.left +ℤ pos d) (row_from_top w r))))
+    → has w c j ≡ true
+    → bit (put_mid a k xs ys) (place w c j) ≡ (bit xs (place w c j) || (int_eq (row_from_top w r) j && black c j))
+row_inked w black r a k xs ys c j within start bytes long count painted inside =
+    let parts = both (is_within w.left w.width c) (is_within w.bottom w.height j) inside in
+    let d = unsigned_abs (c -ℤ w.left) in
+    let s = unsigned_abs (j -ℤ w.bottom) in
+    let column : d < w.width = offset_within w.left w.width c parts.0 in
+    let row : s < w.height = offset_within w.bottom w.height j parts.1 in
+    let across = offset_is w.left w.width c parts.0 in
+    let up = offset_is w.bottom w.height j parts.1 in
+    elim (cases_eq s (w.height - 1 - r)) [
+      | inl same ↦
+          let here : row_from_top w r ≡ j = row_is w.bottom w.height r s j within up same in
+          let at : place w c j ≡ 8 * a + d = rw (start, same) refl in
+          let narrow : d < 8 * k = rw bytes (omega (arith, column)) in
+          let drawn : nat_lt d w.width ≡ true = grind (arith, nat_tests, column) in
+          rw (at, here, eq_same j) (bit_within a k d xs ys narrow long count ∙ painted d
+          ∙ rw (bit_of_part a k d xs narrow, drawn, across, here) refl)
+      | inr other ↦
+          let there : int_eq (row_from_top w r) j ≡ false = row_is_not w.bottom w.height r s j within up other in
+          let away = apart w s (w.height - 1 - r) d column other in
+          let kept : bit (put_mid a k xs ys) (place w c j) ≡ bit xs (place w c j) =
+          bit_outside a k (place w c j) xs ys (rw (start, bytes) away) long count in
+          rw there (kept ∙ or_false (bit xs (place w c j)))
+    ]
+
+-- a pixel's row is one of so many from the top
+abbrev pub is_painted : Window → ℕ → ℤ → Bool
+is_painted w r j = int_le ((w.bottom +ℤ pos w.height) -ℤ pos r) j
+
+pub none_painted : (w : Window) (c j : ℤ) → has w c j ≡ true → is_painted w 0 j ≡ false
+none_painted w c j inside =
+    let within = (both (is_within w.left w.width c) (is_within w.bottom w.height j) inside).1 in
+    not_above w.bottom w.height j within where
+      not_above : (bottom : ℤ) (h : ℕ) (j : ℤ) → is_within bottom h j ≡ true
+          → int_le ((bottom +ℤ pos h) -ℤ pos 0) j ≡ false
+      not_above bottom h j within = grind (arith, ints)
+
+pub all_painted : (w : Window) (r : ℕ) (c j : ℤ) → w.height ≤ r → has w c j ≡ true → is_painted w r j ≡ true
+all_painted w r c j done inside =
+    let within = (both (is_within w.left w.width c) (is_within w.bottom w.height j) inside).1 in
+    above w.bottom w.height r j done within where
+      above : (bottom : ℤ) (h r : ℕ) (j : ℤ) → h ≤ r → is_within bottom h j ≡ true
+          → int_le ((bottom +ℤ pos h) -ℤ pos r) j ≡ true
+      above bottom h r j done within = grind (arith, ints)
+
+row_more : (top : ℤ) (r : ℕ) (j : ℤ)
+    → (int_le (top -ℤ pos r) j || int_eq (top -ℤ pos (r + 1)) j) ≡ int_le (top -ℤ pos (r + 1)) j
+row_more top r j = grind (arith, ints)
+
+either : (a b x : Bool) → ((a && x) || (b && x)) ≡ ((a || b) && x)
+either true b true = refl
+either true true false = refl
+either true false false = refl
+either false b x = refl
+
+pub one_row_more : (w : Window) (r : ℕ) (j : ℤ) (black : Bool)
+    → ((is_painted w r j && black) || (int_eq (row_from_top w r) j && black)) ≡ (is_painted w (r + 1) j && black)
+one_row_more w r j black =
+    either (is_painted w r j) (int_eq (row_from_top w r) j) black
+    ∙ ap (λ b. b && black) (row_more (w.bottom +ℤ pos w.height) r j)
+
+-- zeros are white
+zero_everywhere : (n i : ℕ) → slice_index (replicate n 0) i ≡ 0
+zero_everywhere zero i = refl
+zero_everywhere (suc n) zero = refl
+zero_everywhere (suc n) (suc i) = zero_everywhere n i
+
+pub all_white : (n k : ℕ) → bit (replicate n 0) k ≡ false
+all_white n k = rw (zero_everywhere n (k / 8), bit_at-zero) refl
+
+-- the crossings of the rows so far, and of one row more, can be counted
+pub count_fits : (r h n crosses : ℕ) → r < h → h ≤ 4100 → n ≤ 2 ^ 32 → crosses ≤ r * n → crosses + n ≤ 2 ^ 63
+count_fits r h n crosses within low few so_far =
+    let most : r * n ≤ 4100 * 2 ^ 32 = mul-le r n 4100 (2 ^ 32) (omega (arith, within, low)) few in
+    omega (arith, most, so_far, few)

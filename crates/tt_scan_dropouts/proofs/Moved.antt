@@ -1,0 +1,141 @@
+-- Dropouts move with their outline.
+use Rattle.std.proofs.Common.{◌≡◌, refl, sym, ◌∙◌, ap, ap₂, Bool, true, false, not, ◌&&◌, ◌||◌, List, [], ◌∷◌, ◌++◌, arith}
+use Rattle.std.specs.Prelude.{ℤ, pos, ◌+ℤ◌, ◌*ℤ◌, map}
+use Rattle.std.proofs.lemmas.Int.{ints}
+use Rattle.std.proofs.lemmas.List.{map-append}
+use Rattle.tt_scan.specs.declared.edge.Edge.{Edge}
+use Rattle.tt_scan.specs.Winding.{is_between, is_black, is_zero, lies_on, lies_on_one, side, turned, winding}
+use Rattle.tt_scan_dropouts.specs.Crossings.{centre}
+use Rattle.tt_scan_dropouts.specs.Dropouts.{columns_of, edges_of, is_added_by_columns, is_added_by_rows, is_inked, outline_turned, row_adds, turned_round}
+use Rattle.tt_scan_dropouts.specs.Gaps.{is_added}
+use Rattle.tt_scan_dropouts.specs.Laws.{DropoutsMoved, moved, outline_moved}
+use Rattle.tt_scan_dropouts.specs.Walk.{contour_marks, marks}
+use Rattle.tt_scan_dropouts.specs.declared.mark.Mark.{Mark}
+use Rattle.tt_scan_dropouts.specs.declared.mark.Rules.{Rules}
+use Rattle.tt_scan_dropouts.proofs.MovedGaps.{IsMoved, added_moved, box_moved, none_added, up_to_moved}
+use Rattle.tt_scan_dropouts.proofs.MovedLines.{apart_moved, centre_moved, less_moved}
+use Rattle.tt_scan_dropouts.proofs.MovedMarks.{mark_moved, marks_moved}
+
+-- what is black by rules 1 and 2
+
+side_kept : (k m : ℤ) (e : Edge) (x y : ℤ) → side (moved k m e) (x +ℤ pos 8192 *ℤ k) (y +ℤ pos 8192 *ℤ m) ≡ side e x y
+side_kept k m e x y =
+    rw (
+      apart_moved e.bx e.ax (pos 8192 *ℤ k),
+      apart_moved y e.ay (pos 8192 *ℤ m),
+      apart_moved e.by e.ay (pos 8192 *ℤ m),
+      apart_moved x e.ax (pos 8192 *ℤ k),
+    ) refl
+
+between_kept : (a b z d : ℤ) → is_between (a +ℤ d) (b +ℤ d) (z +ℤ d) ≡ is_between a b z
+between_kept a b z d = grind (arith, ints)
+
+on_kept : (k m : ℤ) (e : Edge) (x y : ℤ)
+    → lies_on (moved k m e) (x +ℤ pos 8192 *ℤ k) (y +ℤ pos 8192 *ℤ m) ≡ lies_on e x y
+on_kept k m e x y =
+    ap (λ z. is_zero z && is_between (e.ax +ℤ pos 8192 *ℤ k) (e.bx +ℤ pos 8192 *ℤ k) (x +ℤ pos 8192 *ℤ k)
+    && is_between (e.ay +ℤ pos 8192 *ℤ m) (e.by +ℤ pos 8192 *ℤ m) (y +ℤ pos 8192 *ℤ m)) (side_kept k m e x y)
+    ∙ ap₂ (λ a b. is_zero (side e x y) && a && b) (between_kept e.ax e.bx x (pos 8192 *ℤ k))
+    (between_kept e.ay e.by y (pos 8192 *ℤ m))
+
+turn_kept : (k m : ℤ) (e : Edge) (x y : ℤ)
+    → turned (moved k m e) (x +ℤ pos 8192 *ℤ k) (y +ℤ pos 8192 *ℤ m) ≡ turned e x y
+turn_kept k m e x y =
+    rw (
+      side_kept k m e x y,
+      up_to_moved e.ay y (pos 8192 *ℤ m),
+      less_moved y e.by (pos 8192 *ℤ m),
+      up_to_moved e.by y (pos 8192 *ℤ m),
+      less_moved y e.ay (pos 8192 *ℤ m),
+    ) refl
+
+on_one_kept : (k m : ℤ) (es : List Edge) (x y : ℤ)
+    → lies_on_one (map (moved k m) es) (x +ℤ pos 8192 *ℤ k) (y +ℤ pos 8192 *ℤ m) ≡ lies_on_one es x y
+on_one_kept k m [] x y = refl
+on_one_kept k m (e ∷ es) x y = ap₂ (λ a b. a || b) (on_kept k m e x y) (on_one_kept k m es x y)
+
+winding_kept : (k m : ℤ) (es : List Edge) (x y : ℤ)
+    → winding (map (moved k m) es) (x +ℤ pos 8192 *ℤ k) (y +ℤ pos 8192 *ℤ m) ≡ winding es x y
+winding_kept k m [] x y = refl
+winding_kept k m (e ∷ es) x y = ap₂ (λ a b. a +ℤ b) (turn_kept k m e x y) (winding_kept k m es x y)
+
+black_kept : (k m : ℤ) (es : List Edge) (x y : ℤ)
+    → is_black (map (moved k m) es) (x +ℤ pos 8192 *ℤ k) (y +ℤ pos 8192 *ℤ m) ≡ is_black es x y
+black_kept k m es x y = ap₂ (λ a w. a || not (is_zero w)) (on_one_kept k m es x y) (winding_kept k m es x y)
+
+edges_moved : (k m : ℤ) (contours : List (List Edge))
+    → edges_of (outline_moved k m contours) ≡ map (moved k m) (edges_of contours)
+edges_moved k m [] = refl
+edges_moved k m (es ∷ contours) =
+    ap (λ rest. map (moved k m) es ++ rest) (edges_moved k m contours)
+    ∙ sym (map-append (moved k m) es (edges_of contours))
+
+ink_moved : (k m : ℤ) (contours : List (List Edge))
+    → IsMoved k m (is_inked contours) (is_inked (outline_moved k m contours))
+ink_moved k m contours c j =
+    ap (λ es. is_black es (centre (c +ℤ k)) (centre (j +ℤ m))) (edges_moved k m contours)
+    ∙ ap₂ (λ x y. is_black (map (moved k m) (edges_of contours)) x y) (centre_moved c k) (centre_moved j m)
+    ∙ black_kept k m (edges_of contours) (centre c) (centre j)
+
+-- a pass; an outline without edges has no box, and leaves no marks
+
+no_marks : (stubs : Bool) → contour_marks stubs [] ≡ []
+no_marks true = refl
+no_marks false = refl
+
+without_edges : (stubs : Bool) (contours : List (List Edge)) → edges_of contours ≡ [] → marks stubs contours ≡ []
+without_edges stubs [] none = refl
+without_edges stubs ([] ∷ contours) none = ap₂ (λ a b. a ++ b) (no_marks stubs) (without_edges stubs contours none)
+without_edges stubs ((e ∷ es) ∷ contours) none = absurd cc
+
+pass_by : (k m : ℤ) (black there : ℤ → ℤ → Bool) → IsMoved k m black there
+    → (rules : Rules) (es : List Edge) (ms : List Mark) (p j : ℤ) → (es ≡ [] → ms ≡ [])
+    → is_added rules (columns_of (map (moved k m) es)) (map (mark_moved k m) ms) there (p +ℤ k) (j +ℤ m)
+    ≡ is_added rules (columns_of es) ms black p j
+pass_by k m black there same rules [] ms p j none =
+    ap (λ ns. is_added rules (columns_of []) (map (mark_moved k m) ns) there (p +ℤ k) (j +ℤ m)) (none refl)
+    ∙ none_added rules (columns_of []) (columns_of []) there black (p +ℤ k) (j +ℤ m) p j
+    ∙ ap (λ ns. is_added rules (columns_of []) ns black p j) (sym (none refl))
+pass_by k m black there same rules (e ∷ es) ms p j none =
+    ap (λ b. is_added rules b (map (mark_moved k m) ms) there (p +ℤ k) (j +ℤ m)) (box_moved k m e es)
+    ∙ added_moved k m black there same rules (columns_of (e ∷ es)) ms p j
+
+adds_moved : (k m : ℤ) (black there : ℤ → ℤ → Bool) → IsMoved k m black there
+    → (rules : Rules) (contours : List (List Edge))
+    → IsMoved k m (row_adds rules contours black) (row_adds rules (outline_moved k m contours) there)
+adds_moved k m black there same rules contours p j =
+    ap₂ (λ es ms. is_added rules (columns_of es) ms there (p +ℤ k) (j +ℤ m)) (edges_moved k m contours)
+    (marks_moved k m rules.stubs contours)
+    ∙ pass_by k m black there same rules (edges_of contours) (marks rules.stubs contours) p j
+    (without_edges rules.stubs contours)
+
+-- both passes
+
+rows_moved : (k m : ℤ) (rules : Rules) (contours : List (List Edge))
+    → IsMoved k m (is_added_by_rows rules contours) (is_added_by_rows rules (outline_moved k m contours))
+rows_moved k m rules contours = adds_moved k m (is_inked contours) (is_inked (outline_moved k m contours))
+    (ink_moved k m contours) rules contours
+
+contour_turned : (k m : ℤ) (es : List Edge)
+    → map turned_round (map (moved k m) es) ≡ map (moved m k) (map turned_round es)
+contour_turned k m [] = refl
+contour_turned k m (e ∷ es) = ap (λ rest. moved m k (turned_round e) ∷ rest) (contour_turned k m es)
+
+turned_moved : (k m : ℤ) (contours : List (List Edge))
+    → outline_turned (outline_moved k m contours) ≡ outline_moved m k (outline_turned contours)
+turned_moved k m [] = refl
+turned_moved k m (es ∷ contours) = ap₂ (λ a b. a ∷ b) (contour_turned k m es) (turned_moved k m contours)
+
+columns_moved : (k m : ℤ) (rules : Rules) (contours : List (List Edge))
+    → IsMoved k m (is_added_by_columns rules contours) (is_added_by_columns rules (outline_moved k m contours))
+columns_moved k m rules contours c j =
+    ap (λ all. row_adds rules all (λ q p. is_inked (outline_moved k m contours) p q
+    || is_added_by_rows rules (outline_moved k m contours) p q) (j +ℤ m) (c +ℤ k)) (turned_moved k m contours)
+    ∙ adds_moved m k (λ q p. is_inked contours p q || is_added_by_rows rules contours p q)
+    (λ q p. is_inked (outline_moved k m contours) p q || is_added_by_rows rules (outline_moved k m contours) p q)
+    (λ q p. ap₂ (λ a b. a || b) (ink_moved k m contours p q) (rows_moved k m rules contours p q))
+    rules (outline_turned contours) j c
+
+pub dropouts_move : DropoutsMoved
+dropouts_move rules contours k m c j =
+    ap₂ (λ a b. a || b) (rows_moved k m rules contours c j) (columns_moved k m rules contours c j)

@@ -1,0 +1,109 @@
+-- The two passes together: what they add in a window are the dropouts there, where so much is known to be black as lies
+-- two pixels round it.
+use Rattle.std.proofs.Common.{◌≡◌, refl, sym, ap, ap₂, ◌∙◌, ℕ, Bool, true, false, ◌&&◌, ◌||◌, List, length, arith}
+use Rattle.std.specs.Prelude.{ℤ, pos, ◌+ℤ◌, ◌-ℤ◌, ◌≤ℤ◌, ◌<ℤ◌, int_le, int_lt}
+use Rattle.std.proofs.lemmas.Int.{ints}
+use Rattle.tt_scan.specs.Contours.{AreEnds, contours_at}
+use Rattle.tt_scan.specs.declared.edge.Edge.{Edge}
+use Rattle.tt_scan_dropouts.specs.Dropouts.{columns_of, edges_of, is_added_by_columns, is_added_by_rows, is_dropout, is_inked, outline_turned, row_adds}
+use Rattle.tt_scan_dropouts.specs.Gaps.{free_marks, is_added}
+use Rattle.tt_scan_dropouts.specs.Walk.{marks}
+use Rattle.tt_scan_dropouts.specs.Windows.{has, widened}
+use Rattle.tt_scan_dropouts.specs.declared.mark.Columns.{Columns}
+use Rattle.tt_scan_dropouts.specs.declared.mark.Mark.{Mark}
+use Rattle.tt_scan_dropouts.specs.declared.mark.Rules.{Rules}
+use Rattle.tt_scan_dropouts.specs.declared.window.Window.{Window}
+use Rattle.tt_scan_dropouts.proofs.FreeMarks.{added_kept}
+use Rattle.tt_scan_dropouts.proofs.Locality.{added_alike}
+use Rattle.tt_scan_dropouts.proofs.Outlines.{edges_at}
+
+-- a pass by the marks in free gaps, sorted, adds what one by all marks adds
+pub pass_adds : (rules : Rules) (es : List Edge) (ends : List ℕ) (black adds : ℤ → ℤ → Bool) (free sorted : List Mark)
+    → AreEnds (length es) ends → free ≡ free_marks black (marks rules.stubs (contours_at es ends))
+    → ((rules : Rules) (b : Columns) (black : ℤ → ℤ → Bool) (p j : ℤ)
+    → is_added rules b sorted black p j ≡ is_added rules b free black p j)
+    → ((p j : ℤ) → adds p j ≡ is_added rules (columns_of es) sorted black p j)
+    → (p j : ℤ) → adds p j ≡ row_adds rules (contours_at es ends) black p j
+pass_adds rules es ends black adds free sorted fit is same by p j =
+    by p j ∙ same rules (columns_of es) black p j
+    ∙ ap (λ ms. is_added rules (columns_of es) ms black p j) is
+    ∙ added_kept rules (columns_of es) black (marks rules.stubs (contours_at es ends)) p j
+    ∙ ap (λ all. is_added rules (columns_of all) (marks rules.stubs (contours_at es ends)) black p j)
+    (sym (edges_at es ends fit))
+
+-- a pixel lies in a window, told by its four sides
+pub record LiesIn (w : Window) (c j : ℤ) : Type 0 where
+  pub left : w.left ≤ℤ c
+  pub right : c <ℤ (w.left +ℤ pos w.width)
+  pub bottom : w.bottom ≤ℤ j
+  pub top : j <ℤ (w.bottom +ℤ pos w.height)
+
+lies_in : (w : Window) (c j : ℤ) → has w c j ≡ true → LiesIn w c j
+lies_in w c j is = record {
+  left = grind (arith, ints);
+  right = grind (arith, ints);
+  bottom = grind (arith, ints);
+  top = grind (arith, ints);
+}
+
+has_it : (w : Window) (c j : ℤ) → LiesIn w c j → has w c j ≡ true
+has_it w c j h =
+    let left : int_le w.left c ≡ true = grind (arith, ints, h.left) in
+    let right : int_lt c (w.left +ℤ pos w.width) ≡ true = grind (arith, ints, h.right) in
+    let bottom : int_le w.bottom j ≡ true = grind (arith, ints, h.bottom) in
+    let top : int_lt j (w.bottom +ℤ pos w.height) ≡ true = grind (arith, ints, h.top) in
+    rw (left, right, bottom, top) refl
+
+-- no further than two pixels off
+near : (w : Window) (c j d k : ℤ) → LiesIn w c j
+    → (c -ℤ pos 2) ≤ℤ d → d ≤ℤ (c +ℤ pos 2) → (j -ℤ pos 2) ≤ℤ k → k ≤ℤ (j +ℤ pos 2)
+    → has (widened 2 w) d k ≡ true
+near w c j d k h left right bottom top = has_it (widened 2 w) d k (record {
+  left = omega (arith, ints, h.left, left);
+  right = omega (arith, ints, h.right, right);
+  bottom = omega (arith, ints, h.bottom, bottom);
+  top = omega (arith, ints, h.top, top);
+})
+
+-- what both passes know of a glyph in a window
+pub record Passes (rules : Rules) (contours : List (List Edge)) (w : Window)
+    (inked after rows columns : ℤ → ℤ → Bool) : Type 0 where
+  pub ink : (c j : ℤ) → has (widened 2 w) c j ≡ true → inked c j ≡ is_inked contours c j
+  pub by_rows : (c j : ℤ) → rows c j ≡ row_adds rules contours inked c j
+  pub also : (c j : ℤ) → after c j ≡ (inked c j || rows c j)
+  pub by_columns : (p j : ℤ) → columns p j ≡ row_adds rules (outline_turned contours) (λ q k. after k q) p j
+
+module _ {rules : Rules} {contours : List (List Edge)} {w : Window} {inked after rows columns : ℤ → ℤ → Bool}
+    (h : Passes rules contours w inked after rows columns) (c j : ℤ) (in_it : LiesIn w c j) where
+  rows_are : (k : ℤ) → (j -ℤ pos 2) ≤ℤ k → k ≤ℤ (j +ℤ pos 2) → rows c k ≡ is_added_by_rows rules contours c k
+  rows_are k low high = h.by_rows c k
+      ∙ added_alike rules (columns_of (edges_of contours)) (marks rules.stubs contours) inked (is_inked contours) c k
+      (λ d left right. h.ink d k (near w c j d k in_it left (omega (arith, ints, right)) low high))
+
+  after_is : (k : ℤ) → (j -ℤ pos 2) ≤ℤ k → k ≤ℤ (j +ℤ pos 2)
+      → after c k ≡ (is_inked contours c k || is_added_by_rows rules contours c k)
+  after_is k low high = h.also c k
+      ∙ ap₂ (λ a b. a || b) (h.ink c k (near w c j c k in_it (omega (arith, ints)) (omega (arith, ints)) low high))
+      (rows_are k low high)
+
+  columns_are : columns j c ≡ is_added_by_columns rules contours c j
+  columns_are = h.by_columns j c
+      ∙ added_alike rules (columns_of (edges_of (outline_turned contours)))
+      (marks rules.stubs (outline_turned contours))
+      (λ q k. after k q) (λ q k. is_inked contours k q || is_added_by_rows rules contours k q) j c
+      (λ k low high. after_is k low (omega (arith, ints, high)))
+
+  both_are : (rows c j || columns j c) ≡ is_dropout rules contours c j
+  both_are = ap₂ (λ a b. a || b) (rows_are j (omega (arith, ints)) (omega (arith, ints))) columns_are
+
+in_window : {rules : Rules} {contours : List (List Edge)} {w : Window} {inked after rows columns : ℤ → ℤ → Bool}
+    → Passes rules contours w inked after rows columns → (c j : ℤ) (inside : Bool) → has w c j ≡ inside
+    → ((inside && rows c j) || (inside && columns j c)) ≡ (inside && is_dropout rules contours c j)
+in_window h c j true is = both_are h c j (lies_in _ c j is)
+in_window h c j false is = refl
+
+-- the pixels of the window that either pass adds are its dropouts
+pub together : {rules : Rules} {contours : List (List Edge)} {w : Window} {inked after rows columns : ℤ → ℤ → Bool}
+    → Passes rules contours w inked after rows columns → (c j : ℤ)
+    → ((has w c j && rows c j) || (has w c j && columns j c)) ≡ (has w c j && is_dropout rules contours c j)
+together {w = w} h c j = in_window h c j (has w c j) refl

@@ -1,0 +1,19 @@
+use Rattle.std.proofs.Common.{◌≡◌, ℤ, true, length, ◌*◌, ◌≤◌, ◌&&◌}
+use Rattle.tt_core.specs.Bits.{bit, stride}
+use Rattle.tt_scan.specs.Winding.{is_black}
+use Rattle.tt_scan_dropouts.specs.Crossings.{centre}
+use Rattle.tt_scan_dropouts.specs.Windows.{frame_of, has, place}
+use Rattle.tt_scan_dropouts.proofs.Inked.{is_painted}
+use Rattle.tt_scan_dropouts.proofs.bitmap.Bitmap.inked.Given as goal
+
+-- the rows so far are painted, and the others white
+abbrev pub invariant-loop-r : goal.invariant-loop-r
+invariant-loop-r l = record {
+  black : (c j : ℤ) → has l.window c j ≡ true → bit l.bits.items (place l.window c j)
+      ≡ (is_painted l.window l.r j && is_black l.edges (centre c) (centre j));
+  len : length l.bits.items ≡ stride l.window.width * l.window.height;
+  frame : l.tape.frame ≡ frame_of l.window;
+  edges : l.tape.edges ≡ l.edges;
+  crosses : l.tape.crosses ≤ l.r * length l.edges;
+  room : l.sweep.room ≡ length l.edges;
+}

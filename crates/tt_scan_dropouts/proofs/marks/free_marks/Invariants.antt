@@ -1,0 +1,15 @@
+use Rattle.std.proofs.Common.{◌≡◌, ◌++◌, drop, length}
+use Rattle.tt_scan.specs.Contours.{AreEndsFrom, contours_at, contours_from}
+use Rattle.tt_scan_dropouts.specs.Gaps.{free_marks}
+use Rattle.tt_scan_dropouts.specs.Walk.{marks}
+use Rattle.tt_scan_dropouts.specs.Windows.{is_black_by}
+use Rattle.tt_scan_dropouts.proofs.marks.free_marks.Given as goal
+
+-- the marks so far, and those of the contours that are left, are all
+abbrev pub invariant-loop-i : goal.invariant-loop-i
+invariant-loop-i l = record {
+  left : AreEndsFrom l.from (length l.edges) (drop l.i l.ends);
+  all : l.marks.items
+      ++ free_marks (is_black_by l.over l.ink) (marks l.stubs (contours_from l.from l.edges (drop l.i l.ends)))
+      ≡ free_marks (is_black_by l.over l.ink) (marks l.stubs (contours_at l.edges l.ends));
+}

@@ -1,0 +1,171 @@
+//! The crossings of an outline as marks in the gaps of its lines. Those in gaps that are not free are left out: nothing
+//! comes of them.
+
+ghost use Rattle.std.specs.Prelude.{◌≡◌, ◌++◌, [], ◌∷◌, ◌<◌, true, length, map, All, IfOk, OnOk};
+ghost use Rattle.tt_scan.specs.Contours.{AreEnds, contours_at};
+ghost use Rattle.tt_scan.specs.Winding.{EdgeFits};
+ghost use Rattle.tt_scan_dropouts.specs.Crossings.{crossings};
+ghost use Rattle.tt_scan_dropouts.specs.Gaps.{free_marks};
+ghost use Rattle.tt_scan_dropouts.specs.Walk.{contour_marks, edge_marks, mark_of, marks, step_marks, walk_marks};
+ghost use Rattle.tt_scan_dropouts.specs.Windows.{is_black_by};
+
+use crate::bitmap::Bitmap;
+use crate::crossing::{crossing, lines_crossed, touch};
+use crate::mark::{Crossing, Mark, Step};
+use crate::steps::walk;
+use crate::stub::is_of_stub;
+use crate::window::Over;
+use std::alloc::{AllocError, Global};
+use tt_scan::Edge;
+
+/// Adds a crossing that asks for a pixel. Error: memory ran out.
+#[inline(always)]
+fn push_asking(
+    marks: &mut Vec<Mark>,
+    ink: &Bitmap,
+    over: Over,
+    at: Crossing,
+) -> Result<(), AllocError>
+    ensures { OnOk result (marks.new.items
+        ≡ marks.old.items ++ free_marks (is_black_by over ink.now) (mark_of true at ∷ [])) }
+{
+    if ink.is_free(over, at) {
+        marks.push(Mark { at, asks: true })?;
+    }
+    Ok(())
+}
+
+/// Adds what step `k` of a walk leaves. Error: memory ran out.
+fn push_step_marks(
+    marks: &mut Vec<Mark>,
+    ink: &Bitmap,
+    over: Over,
+    steps: &[Step],
+    k: usize,
+) -> Result<(), AllocError>
+    requires { k < length steps.now }
+    ensures { OnOk result (marks.new.items
+        ≡ marks.old.items ++ free_marks (is_black_by over ink.now) (step_marks steps.now k)) }
+{
+    if let Step::Cross(at) = steps[k] {
+        if ink.is_free(over, at) {
+            marks.push(Mark {
+                at,
+                asks: !is_of_stub(steps, k, at),
+            })?;
+        }
+    }
+    Ok(())
+}
+
+/// Adds what a walk leaves, where stubs are not drawn. Error: memory ran out.
+fn push_walk_marks(
+    marks: &mut Vec<Mark>,
+    ink: &Bitmap,
+    over: Over,
+    steps: &[Step],
+) -> Result<(), AllocError>
+    ensures { OnOk result (marks.new.items
+        ≡ marks.old.items ++ free_marks (is_black_by over ink.now) (walk_marks steps.now)) }
+{
+    for k in 0..steps.len() {
+        push_step_marks(marks, ink, over, steps, k)?;
+    }
+    Ok(())
+}
+
+/// Adds the crossings of an edge. Error: memory ran out.
+fn push_crossings(
+    marks: &mut Vec<Mark>,
+    ink: &Bitmap,
+    over: Over,
+    edge: Edge,
+) -> Result<(), AllocError>
+    requires { EdgeFits edge }
+    ensures { OnOk result (marks.new.items
+        ≡ marks.old.items ++ free_marks (is_black_by over ink.now) (map (mark_of true) (crossings edge))) }
+{
+    for k in 0..lines_crossed(edge) {
+        push_asking(marks, ink, over, crossing(edge, k))?;
+    }
+    Ok(())
+}
+
+/// Adds what an edge leaves, where stubs are drawn. Error: memory ran out.
+fn push_edge_marks(
+    marks: &mut Vec<Mark>,
+    ink: &Bitmap,
+    over: Over,
+    edge: Edge,
+) -> Result<(), AllocError>
+    requires { EdgeFits edge }
+    ensures { OnOk result (marks.new.items
+        ≡ marks.old.items ++ free_marks (is_black_by over ink.now) (edge_marks edge)) }
+{
+    push_crossings(marks, ink, over, edge)?;
+    if let Some(at) = touch(edge) {
+        push_asking(marks, ink, over, at)?;
+    }
+    Ok(())
+}
+
+/// Adds what the edges of a contour leave, where stubs are drawn. Error: memory ran out.
+fn push_all_edge_marks(
+    marks: &mut Vec<Mark>,
+    ink: &Bitmap,
+    over: Over,
+    edges: &[Edge],
+) -> Result<(), AllocError>
+    requires { All EdgeFits edges.now }
+    ensures { OnOk result (marks.new.items
+        ≡ marks.old.items ++ free_marks (is_black_by over ink.now) (contour_marks true edges.now)) }
+{
+    for i in 0..edges.len() {
+        push_edge_marks(marks, ink, over, edges[i])?;
+    }
+    Ok(())
+}
+
+/// Adds what a contour leaves. Error: memory ran out.
+fn push_contour_marks(
+    alloc: Global,
+    marks: &mut Vec<Mark>,
+    ink: &Bitmap,
+    over: Over,
+    stubs: bool,
+    edges: &[Edge],
+) -> Result<(), AllocError>
+    requires { All EdgeFits edges.now }
+    ensures { OnOk result (marks.new.items
+        ≡ marks.old.items ++ free_marks (is_black_by over ink.now) (contour_marks stubs edges.now)) }
+{
+    if stubs {
+        return push_all_edge_marks(marks, ink, over, edges);
+    }
+    let steps = walk(alloc, edges)?;
+    push_walk_marks(marks, ink, over, &steps)
+}
+
+/// What the contours of an outline leave in free gaps; `ends` has for each contour the number of its edges and of those
+/// before it. Error: memory ran out.
+pub(crate) fn free_marks(
+    alloc: Global,
+    ink: &Bitmap,
+    over: Over,
+    stubs: bool,
+    edges: &[Edge],
+    ends: &[usize],
+) -> Result<Vec<Mark>, AllocError>
+    requires edges { All EdgeFits edges.now }
+    requires ends { AreEnds (length edges.now) ends.now }
+    ensures { IfOk result (λ v. v.items
+        ≡ free_marks (is_black_by over ink.now) (marks stubs (contours_at edges.now ends.now))) }
+{
+    let mut marks = Vec::new(alloc);
+    let mut from = 0;
+    for i in 0..ends.len() {
+        push_contour_marks(alloc, &mut marks, ink, over, stubs, &edges[from..ends[i]])?;
+        from = ends[i];
+    }
+    Ok(marks)
+}
