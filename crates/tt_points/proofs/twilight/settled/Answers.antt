@@ -1,6 +1,9 @@
-use Rattle.std.proofs.Common.{arith}
+use Rattle.std.proofs.Common.{SFits, w32, rules}
 use Rattle.std.proofs.lemmas.Int.{to_z-of_z}
 use Rattle.tt_points.proofs.twilight.settled.Goals as goal
 
 pub returns-clause-exact : goal.returns-clause-exact
-returns-clause-exact c = grind (arith, to_z-of_z)
+returns-clause-exact c =
+    let x : SFits w32 c.args.p.x = search rules in
+    let y : SFits w32 c.args.p.y = search rules in
+    simp to_z-of_z
