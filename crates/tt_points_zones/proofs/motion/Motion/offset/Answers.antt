@@ -1,0 +1,16 @@
+use Rattle.std.proofs.Common.{SFits, w32, w64, rules}
+use Rattle.std.proofs.lemmas.Int.{to_z-of_z}
+use Rattle.tt_points_zones.proofs.motion.Motion.offset.Goals as goal
+
+pub returns-clause-exact : goal.returns-clause-exact
+returns-clause-exact c =
+    let x : SFits w32 c.args.p.x = search rules in
+    let y : SFits w32 c.args.p.y = search rules in
+    let org_x : SFits w32 c.args.p.org_x = search rules in
+    let org_y : SFits w32 c.args.p.org_y = search rules in
+    let across : SFits w32 c.way.result = search rules in
+    let upward : SFits w32 c.way-2.result = search rules in
+    let fits : SFits w64 c.project.result = search rules in
+    let way_x = simp to_z-of_z at c.way.ensures.exact in
+    let way_y = simp to_z-of_z at c.way-2.ensures.exact in
+    simp to_z-of_z (rw (way_x, way_y) at (simp to_z-of_z at c.project.ensures.exact))
