@@ -9,4 +9,5 @@ pub returns-clause-exact : goal.returns-clause-exact
 returns-clause-exact c =
     let d : SFits w64 c.args.d = c.ranges.d in
     let along = simp to_z-of_z at c.along.ensures.exact in
-    subst (λ (by : Pair). Gives (λ q. q) c.pushed.result (pushed c.args.self.now.free by c.args.p)) along c.pushed.ensures.exact
+    subst (λ (by : Pair). Gives (λ q. q) c.pushed.result (pushed c.args.self.now.free by c.args.p))
+    along c.pushed.ensures.exact
