@@ -8,10 +8,12 @@ from asking import (
     NOTHING,
     answer_of,
     answer_of_program,
+    are_pictures,
     asked,
     question,
     report,
     rows,
+    why_not_added,
     why_not_alike,
     why_wrong,
     words_of,
@@ -59,14 +61,14 @@ def wrong_cut(size, answer):
 
 
 def one_font(number, row):
-    """Asks about the damages of a row's font; returns how many answers pass, the failures, and what tt_render is to be
-    asked too."""
+    """Asks about the damages of a row's font; returns how many answers pass, the failures, what tt_render is to be asked
+    too, and the questions to which best answers another picture than full."""
     kinds = ("map", *FITS)
     cases = [(size, changes, kind) for size, changes in damages(row.font) for kind in kinds]
     lines = [f"font {words_of(row.font)}"]
     lines += [question(kind, row.text, row.shape, size, changes) for size, changes, kind in cases]
     answers, wrong = asked(lines)
-    passed, failures, again = 0, [], []
+    passed, failures, again, added = 0, [], [], []
     for at, ((size, changes, kind), answer) in enumerate(zip(cases, answers)):
         data = damaged(row.font, size, changes)
         why = why_wrong(data, kind, answer)
@@ -82,14 +84,17 @@ def one_font(number, row):
         if (at + 101 * number) % EACH == 0:
             again.append((kind, data, row.text, row.shape, answer))
     for at in range(0, len(answers) - len(kinds) + 1, len(kinds)):
-        why = why_not_alike(dict(zip(kinds, answers[at:])))
+        of_kind = dict(zip(kinds, answers[at:]))
+        size, changes, _ = cases[at]
+        why = why_not_alike(of_kind)
         if why:
-            size, changes, _ = cases[at]
             failures.append(f"{row.name}, {size} bytes with {changes or 'no change'}, {why}")
+        elif are_pictures(of_kind["full"], of_kind["best"]) and of_kind["full"] != of_kind["best"]:
+            added.append((damaged(row.font, size, changes), row.text, row.shape))
     if wrong or len(answers) != len(cases):
         at = min(len(answers), len(cases) - 1)
         failures.append(f"{row.name}: {wrong or 'too few or too many answers'}, at '{lines[at + 1]}'")
-    return passed, failures, again
+    return passed, failures, again, added
 
 
 def whole_rows():
@@ -164,7 +169,10 @@ ALIKE = [
     ({"none": "0 11 1|", "full": OFF_PROFILE, "best": "0 11 2|"}, True),
     ({"none": "0 11 1|", "full": OFF_PROFILE, "best": f"0 11 1|{UNFITTED_BY_BEST}"}, True),
     ({"none": "0 11 1|", "full": OFF_PROFILE, "best": OFF_PROFILE}, False),
-    ({"none": "0 11 1|", "full": "0 11 2|", "best": "0 11 1|"}, False),
+    ({"none": "0 11 1|", "full": "0 11 2|", "best": "0 11 1|"}, True),
+    ({"none": "0 11 1|", "full": "0 11 2|", "best": "0 12 1|"}, False),
+    ({"none": "0 11 1|", "full": "0 11 2|", "best": REFUSED}, False),
+    ({"none": "0 11 1|", "full": "0 11 2|", "best": f"0 11 1|{UNFITTED_BY_BEST}"}, False),
     ({"none": TOO_DEEP, "full": TOO_DEEP, "best": "0 11 1|"}, True),
     ({"none": REFUSED, "full": REFUSED, "best": "0 11 1|"}, False),
 ]
@@ -188,6 +196,13 @@ def same_as_program(cases):
     return len(cases) - len(failures), failures
 
 
+def only_added(cases):
+    """Sees that tt_render's picture of best is that of full with pixels added; returns how many are, and the failures."""
+    found = [(data, why_not_added(data, text, shape)) for data, text, shape in cases]
+    failures = [f"full and best of {data.hex()} {why}" for data, why in found if why]
+    return len(cases) - len(failures), failures
+
+
 def main():
     passed, failures = whole_rows()
     cases = fonts()
@@ -196,12 +211,14 @@ def main():
         by_font = list(pool.map(one_font, range(len(cases)), cases))
         answers = sum(it[0] + len(it[1]) for it in by_font)
         again = list(chain.from_iterable(it[2] for it in by_font))
+        added = list(chain.from_iterable(it[3] for it in by_font))
         pieces = [again[at :: os.cpu_count()] for at in range(os.cpu_count())]
-        ended += [*by_font, *pool.map(same_as_program, pieces)]
+        ended += [*by_font, *pool.map(same_as_program, pieces), only_added(added)]
     for it in ended:
         passed += it[0]
         failures += it[1]
     print(f"damaged fonts: {len(cases)} fonts, {answers} answers, {len(again)} of them asked of tt_render too")
+    print(f"  in {len(added)} pictures best has pixels that full has not")
     if answers < LEAST or len(again) < LEAST // EACH:
         failures.append(f"only {answers} answers, and {len(again)} of tt_render")
     report("damaged fonts", passed, failures)
