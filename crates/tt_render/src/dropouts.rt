@@ -50,7 +50,7 @@ fn push_glyph(
             found,
             frame,
             rules,
-            glyph.tape.lend(),
+            &glyph.tape,
             &glyph.ends,
             &glyph.pens,
         ),

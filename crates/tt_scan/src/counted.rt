@@ -2,7 +2,7 @@
 //! `cross` and `cross_met` alone, and each call of these is counted. Its rows are told by `rows_of`, which says nothing of
 //! columns. The edges themselves are lent to dropout control alone, which stands above this crate.
 
-ghost use Rattle.std.specs.Prelude.{◌≡◌, true, ◌+◌, ◌^◌, ◌<◌, ◌≤◌, length, [], ◌∷◌, ◌++◌, unsigned_abs, OnOk};
+ghost use Rattle.std.specs.Prelude.{◌≡◌, true, ◌+◌, ◌^◌, ◌<◌, ◌≤◌, length, [], ◌∷◌, ◌++◌, unsigned_abs, IfOk, OnOk};
 ghost use Rattle.tt_core.specs.Limits.{margin_limit};
 ghost use Rattle.tt_scan.specs.Winding.{EdgeFits, FrameFits, is_between};
 ghost use Rattle.tt_scan.specs.Crossing.{IsCross, AreRows};
@@ -58,6 +58,15 @@ impl CountedEdges {
         ensures { self.new ≡ record self.old { edges = self.old.edges ++ edge ∷ [] } }
     {
         self.edges.push_reserved(edge);
+    }
+
+    /// The same edges, of which no crossing was asked for yet. Error: memory ran out.
+    pub(crate) fn copied(&self) -> Result<CountedEdges, AllocError>
+        ensures edges { IfOk result (λ e. e.edges ≡ self.now.edges) }
+        ensures crosses { IfOk result (λ e. e.crosses ≡ 0) }
+    {
+        let edges = self.edges.clone()?;
+        Ok(CountedEdges { edges, crosses: 0 })
     }
 
     /// How many edges there are.

@@ -1,6 +1,6 @@
 //! The edges of one glyph, in the frame of its picture. They stand in `counted.rt`, so that each crossing is counted.
 
-ghost use Rattle.std.specs.Prelude.{◌≡◌, ℕ, ℤ, false, int_lt, if◌then◌else◌, vec_capacity, ◌+◌, ◌*◌, ◌^◌, ◌<◌, ◌≤◌, ◌<ℤ◌, ◌≤ℤ◌, pos, length, [], ◌∷◌, ◌++◌, get_or, unsigned_abs, All, OnOk, OnErr};
+ghost use Rattle.std.specs.Prelude.{◌≡◌, ℕ, ℤ, false, int_lt, if◌then◌else◌, vec_capacity, ◌+◌, ◌*◌, ◌^◌, ◌<◌, ◌≤◌, ◌<ℤ◌, ◌≤ℤ◌, pos, length, [], ◌∷◌, ◌++◌, get_or, unsigned_abs, All, IfOk, OnOk, OnErr};
 ghost use Rattle.tt_core.specs.Limits.{width_limit, height_limit};
 ghost use Rattle.tt_scan.specs.Winding.{EdgeFits, FrameFits, is_black, column_x, row_y, lies_on_one, winding, rows_met, crossings_of};
 ghost use Rattle.tt_scan.specs.Marks.{covers, turns};
@@ -99,6 +99,26 @@ impl Tape {
         join(&mut self.rows, rows);
         self.edges.push_reserved(edge);
         Ok(())
+    }
+
+    /// The same edges on a tape of its own, of which no crossing was asked for yet. Error: memory ran out.
+    pub fn copied(&self) -> Result<Tape, AllocError>
+        ensures { IfOk result (λ t. t ≡ record self.now { crosses = 0 }) }
+    {
+        Ok(Tape {
+            frame: self.frame,
+            edges: self.edges.copied()?,
+            rows: self.rows,
+            table: self.table.copied()?,
+        })
+    }
+
+    /// The frame of the picture.
+    pub fn frame(&self) -> Frame
+        ensures exact { result ≡ self.now.frame }
+        ensures fits { FrameFits result }
+    {
+        self.frame
     }
 
     /// How many columns the picture has.

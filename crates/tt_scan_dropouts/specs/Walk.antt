@@ -2,11 +2,12 @@
 -- where "the two contours continue to intersect other scan lines in both directions". How far a tip has to reach is
 -- profile. Heights and places are in 1/8192 pixel.
 use Rattle.std.specs.Prelude.{ℕ, ◌+◌, Bool, true, false, not, ◌&&◌, ◌||◌, nat_lt, ℤ, pos, ◌-ℤ◌, get_or, unsigned_abs, max, List, [], ◌∷◌, ◌++◌, map, length, take, drop, reverse, Option, Some, None}
-use Rattle.std.specs.List.{flat_map, range_with_len}
+use Rattle.std.specs.List.{flat_map, list_any, range_with_len}
 use Rattle.std.specs.Int.{abs_diff}
 use Rattle.std.specs.Ordering.{int_eq}
 use Rattle.tt_scan.specs.declared.edge.Edge.{Edge}
 use Rattle.tt_scan_dropouts.specs.Crossings.{agree, centre, crossings, touches}
+use Rattle.tt_scan_dropouts.specs.Gaps.{is_free}
 use Rattle.tt_scan_dropouts.specs.declared.mark.Crossing.{Crossing}
 use Rattle.tt_scan_dropouts.specs.declared.mark.Mark.{Mark}
 use Rattle.tt_scan_dropouts.specs.declared.mark.Step.{Step}
@@ -71,5 +72,14 @@ contour_marks false es = walk_marks (walk es)
 
 abbrev pub marks : Bool → List (List Edge) → List Mark
 marks stubs contours = flat_map (contour_marks stubs) contours
+
+-- some crossing lies in a free gap
+abbrev pub some_in_free_gap : (ℤ → ℤ → Bool) → List Crossing → Bool
+some_in_free_gap black cs = list_any (λ (c : Crossing). is_free black c.gap c.line) cs
+
+-- an edge leaves something there
+abbrev pub is_in_free_gap : Bool → (ℤ → ℤ → Bool) → Edge → Bool
+is_in_free_gap stubs black e =
+    some_in_free_gap black (crossings e) || (stubs && some_in_free_gap black (touches e))
 
 -- worked values: Examples.antt

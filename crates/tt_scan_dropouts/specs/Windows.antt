@@ -4,8 +4,11 @@ use Rattle.std.specs.Prelude.{ℕ, ◌+◌, ◌*◌, ◌^◌, ◌<◌, ◌≤◌
 use Rattle.std.specs.Int.{int_max}
 use Rattle.tt_core.specs.Bits.{bit, stride}
 use Rattle.tt_core.specs.Limits.{height_limit}
+use Rattle.tt_scan.specs.declared.edge.Edge.{Edge}
 use Rattle.tt_scan.specs.declared.edge.Frame.{Frame}
+use Rattle.tt_scan_dropouts.specs.Dropouts.{turned_round}
 use Rattle.tt_scan_dropouts.specs.Gaps.{has_pixel}
+use Rattle.tt_scan_dropouts.specs.declared.columns.Extent.{Extent}
 use Rattle.tt_scan_dropouts.specs.declared.mark.Columns.{Columns}
 use Rattle.tt_scan_dropouts.specs.declared.mark.Pixel.{Pixel}
 use Rattle.tt_scan_dropouts.specs.declared.window.Part.{Part}
@@ -26,6 +29,11 @@ pub record WindowFits (w : Window) : Type 0 where
 pub record ColumnsFit (b : Columns) : Type 0 where
   pub first : unsigned_abs b.first < 2 ^ 19
   pub last : unsigned_abs b.last < 2 ^ 19
+
+-- how far places reach that the program takes
+pub record ExtentFits (e : Extent) : Type 0 where
+  pub low : unsigned_abs e.low < 2 ^ 30
+  pub high : unsigned_abs e.high < 2 ^ 30
 
 -- one of so many numbers from a first one on
 abbrev pub is_within : ℤ → ℕ → ℤ → Bool
@@ -64,6 +72,13 @@ widened n w = record {
 abbrev pub frame_of : Window → Frame
 frame_of w = record { width = 1; height = w.height; margin = 0; rise = w.bottom +ℤ pos w.height }
 
+-- the row of a frame that is the topmost of a window, and whether the frame has all rows of the window
+abbrev pub first_row : Frame → Window → ℤ
+first_row f w = ((f.rise +ℤ pos f.margin) -ℤ w.bottom) -ℤ pos w.height
+
+abbrev pub has_rows : Frame → Window → Bool
+has_rows f w = int_le (pos 0) (first_row f w) && int_le (first_row f w +ℤ pos w.height) (pos f.height)
+
 -- the row of a window that comes after so many from its top
 abbrev pub row_from_top : Window → ℕ → ℤ
 row_from_top w r = (w.bottom +ℤ pos w.height) -ℤ pos (r + 1)
@@ -89,3 +104,8 @@ is_black_by over.Columns b p j = is_black_in b j p
 abbrev pub has_pixel_by : Over → List Pixel → ℤ → ℤ → Bool
 has_pixel_by over.Rows ps c j = has_pixel ps c j
 has_pixel_by over.Columns ps c j = has_pixel ps j c
+
+-- an edge as a pass over rows or columns sees it
+abbrev pub seen_by : Over → Edge → Edge
+seen_by over.Rows e = e
+seen_by over.Columns e = turned_round e

@@ -1,12 +1,12 @@
 //! The black pixels of a glyph in a window: what lies outside is taken for black, so that no gap there is free.
 
-ghost use Rattle.std.specs.Prelude.{◌≡◌, ℕ, ℤ, true, length, ◌+◌, ◌*◌, ◌^◌, ◌<◌, ◌≤◌, ◌+ℤ◌, ◌&&◌, ◌||◌, nat_lt, pos, All, IfOk};
+ghost use Rattle.std.specs.Prelude.{◌≡◌, ℕ, ℤ, true, length, ◌+◌, ◌*◌, ◌^◌, ◌<◌, ◌≤◌, ◌+ℤ◌, ◌&&◌, ◌||◌, nat_lt, pos, unsigned_abs, All, IfOk};
 ghost use Rattle.std.specs.Ordering.{int_eq};
 ghost use Rattle.tt_core.specs.Bits.{bit, stride};
-ghost use Rattle.tt_scan.specs.Winding.{EdgeFits, is_black};
+ghost use Rattle.tt_scan.specs.Winding.{EdgeFits, FrameFits, is_black};
 ghost use Rattle.tt_scan_dropouts.specs.Crossings.{centre};
 ghost use Rattle.tt_scan_dropouts.specs.Gaps.{has_pixel, is_free};
-ghost use Rattle.tt_scan_dropouts.specs.Windows.{WindowFits, frame_of, has, is_black_in, is_black_by, place, row_from_top};
+ghost use Rattle.tt_scan_dropouts.specs.Windows.{WindowFits, first_row, frame_of, has, has_rows, is_black_in, is_black_by, place, row_from_top};
 
 use crate::mark::{Crossing, Pixel};
 use crate::window::{Over, Window, has, offset};
@@ -61,11 +61,47 @@ fn tape_of(alloc: Global, edges: &[Edge], window: Window) -> Result<Tape, AllocE
     Ok(tape)
 }
 
-/// Blackens the columns of the window that edges blacken, in one of its rows, counted from the top. The edges are on a
-/// tape of the window's rows.
+/// Which row of a frame is the topmost of a window, if it has it.
+fn first_row(frame: Frame, window: Window) -> i64
+    requires frame { FrameFits frame }
+    requires window { WindowFits window }
+    ensures exact { result ≡ first_row frame window }
+    ensures small { unsigned_abs result < 2 ^ 32 }
+{
+    i64::from(frame.rise) + i64::from(frame.margin)
+        - i64::from(window.bottom)
+        - i64::from(window.height)
+}
+
+/// Whether a frame has all rows of a window.
+fn has_rows(frame: Frame, window: Window) -> bool
+    requires frame { FrameFits frame }
+    requires window { WindowFits window }
+    ensures { result ≡ has_rows frame window }
+{
+    let first = first_row(frame, window);
+    0 <= first && first + i64::from(window.height) <= i64::from(frame.height)
+}
+
+/// The edges of a glyph on a tape that has the rows of a window: a copy where the glyph's own has them. Error: memory ran
+/// out.
+fn tape_for(alloc: Global, tape: &Tape, window: Window) -> Result<Tape, AllocError>
+    requires window { WindowFits window }
+    ensures edges { IfOk result (λ t. t.edges ≡ tape.now.edges) }
+    ensures rows { IfOk result (λ t. has_rows t.frame window ≡ true) }
+    ensures crosses { IfOk result (λ t. t.crosses ≡ 0) }
+{
+    if has_rows(tape.frame(), window) {
+        tape.copied()
+    } else {
+        tape_of(alloc, tape.lend(), window)
+    }
+}
+
+/// Blackens the columns of the window that edges blacken, in one of its rows, counted from the top.
 fn paint_row(sweep: &mut Sweep, tape: &mut Tape, window: Window, r: u32, row: &mut [u8])
     requires window { WindowFits window }
-    requires frame { tape.old.frame ≡ frame_of window }
+    requires rows { has_rows tape.old.frame window ≡ true }
     requires within { r < window.height }
     requires count { tape.old.crosses + length tape.old.edges ≤ 2 ^ 63 }
     requires room { length tape.old.edges ≤ sweep.old.room }
@@ -77,14 +113,16 @@ fn paint_row(sweep: &mut Sweep, tape: &mut Tape, window: Window, r: u32, row: &m
     ensures tape { tape.new ≡ record tape.old { crosses = tape.new.crosses } }
     ensures crosses { tape.new.crosses ≤ tape.old.crosses + length tape.old.edges }
 {
-    sweep.cut(tape, i64::from(r));
-    sweep.paint(-i64::from(window.left), window.width, row);
+    let frame = tape.frame();
+    sweep.cut(tape, first_row(frame, window) + i64::from(r));
+    let shift = -i64::from(window.left) - i64::from(frame.margin);
+    sweep.paint(shift, window.width, row);
 }
 
 /// The same, in the bits of all rows of the window.
 fn ink_row(sweep: &mut Sweep, tape: &mut Tape, window: Window, r: u32, bits: &mut [u8])
     requires window { WindowFits window }
-    requires frame { tape.old.frame ≡ frame_of window }
+    requires rows { has_rows tape.old.frame window ≡ true }
     requires within { r < window.height }
     requires count { tape.old.crosses + length tape.old.edges ≤ 2 ^ 63 }
     requires room { length tape.old.edges ≤ sweep.old.room }
@@ -115,17 +153,17 @@ fn place(window: Window, column: i64, row: i64) -> usize
 }
 
 impl Bitmap {
-    /// The pixels of a window that edges blacken by the scan converter's rules 1 and 2. Error: memory ran out.
-    pub(crate) fn inked(alloc: Global, edges: &[Edge], window: Window) -> Result<Bitmap, AllocError>
-        requires edges { All EdgeFits edges.now }
-        requires few { length edges.now ≤ 2 ^ 32 }
+    /// The pixels of a window that the edges of a tape blacken by the scan converter's rules 1 and 2. Error: memory ran
+    /// out.
+    pub(crate) fn inked(alloc: Global, tape: &Tape, window: Window) -> Result<Bitmap, AllocError>
+        requires few { length tape.now.edges ≤ 2 ^ 32 }
         requires window { WindowFits window }
         ensures window { IfOk result (λ b. b.window ≡ window) }
         ensures black { IfOk result (λ b. (c j : ℤ) → has window c j ≡ true
-            → is_black_in b c j ≡ is_black edges.now (centre c) (centre j)) }
+            → is_black_in b c j ≡ is_black tape.now.edges (centre c) (centre j)) }
     {
-        let mut tape = tape_of(alloc, edges, window)?;
-        let mut sweep = Sweep::new(alloc, edges.len())?;
+        let mut tape = tape_for(alloc, tape, window)?;
+        let mut sweep = Sweep::new(alloc, tape.edges())?;
         let mut bits = vec![in alloc; 0u8; stride(window) * window.height as usize]?;
         for r in 0..window.height {
             ink_row(&mut sweep, &mut tape, window, r, &mut bits);

@@ -1,12 +1,12 @@
-//! The columns of a glyph's box.
+//! The columns and the rows of a glyph's box.
 
-ghost use Rattle.std.specs.Prelude.{◌≡◌, ◌^◌, ◌<◌, unsigned_abs, All};
+ghost use Rattle.std.specs.Prelude.{◌≡◌, ◌^◌, ◌<◌, map, unsigned_abs, All};
 ghost use Rattle.std.specs.Int.{int_max, int_min};
 ghost use Rattle.tt_scan.specs.Winding.{EdgeFits};
 ghost use Rattle.tt_scan_dropouts.specs.Crossings.{gap_at};
-ghost use Rattle.tt_scan_dropouts.specs.Dropouts.{columns_of, greatest_x, least_x};
+ghost use Rattle.tt_scan_dropouts.specs.Dropouts.{columns_of, greatest_x, least_x, turned_round};
 ghost use Rattle.tt_scan_dropouts.specs.Gaps.{columns_between};
-ghost use Rattle.tt_scan_dropouts.specs.Windows.{ColumnsFit};
+ghost use Rattle.tt_scan_dropouts.specs.Windows.{ColumnsFit, ExtentFits};
 
 use crate::crossing::{HALF, PIXEL, line_from};
 use crate::mark::Columns;
@@ -39,74 +39,63 @@ fn columns_between(low: i64, high: i64) -> Columns
     }
 }
 
-/// The least x of a place and of the ends of an edge.
+/// How far some places reach, in 1/8192 pixel.
+#[derive(Clone, Copy)]
+struct Extent {
+    low: i64,
+    high: i64,
+}
+
+/// An extent with two places more.
 #[inline(always)]
-fn least_of(x: i64, edge: Edge) -> i64
-    requires x { unsigned_abs x < 2 ^ 30 }
-    requires edge { EdgeFits edge }
-    ensures exact { result ≡ int_min x (int_min edge.ax edge.bx) }
-    ensures small { unsigned_abs result < 2 ^ 30 }
+fn with(extent: Extent, a: i64, b: i64) -> Extent
+    requires extent { ExtentFits extent }
+    requires a { unsigned_abs a < 2 ^ 30 }
+    requires b { unsigned_abs b < 2 ^ 30 }
+    ensures low { result.low ≡ int_min extent.low (int_min a b) }
+    ensures high { result.high ≡ int_max extent.high (int_max a b) }
+    ensures fits { ExtentFits result }
 {
-    x.min(edge.ax.min(edge.bx))
-}
-
-/// The least x of a place and of the ends of edges.
-fn least_x(x: i64, edges: &[Edge]) -> i64
-    requires x { unsigned_abs x < 2 ^ 30 }
-    requires edges { All EdgeFits edges.now }
-    ensures exact { result ≡ least_x x edges.now }
-    ensures small { unsigned_abs result < 2 ^ 30 }
-{
-    let mut least = x;
-    for edge in edges {
-        least = least_of(least, *edge);
+    Extent {
+        low: extent.low.min(a.min(b)),
+        high: extent.high.max(a.max(b)),
     }
-    least
 }
 
-/// The greatest x of a place and of the ends of an edge.
-#[inline(always)]
-fn greatest_of(x: i64, edge: Edge) -> i64
+/// How far the ends of edges reach in x and in y, and a place.
+fn extents(x: i64, y: i64, edges: &[Edge]) -> (Extent, Extent)
     requires x { unsigned_abs x < 2 ^ 30 }
-    requires edge { EdgeFits edge }
-    ensures exact { result ≡ int_max x (int_max edge.ax edge.bx) }
-    ensures small { unsigned_abs result < 2 ^ 30 }
-{
-    x.max(edge.ax.max(edge.bx))
-}
-
-/// The greatest.
-fn greatest_x(x: i64, edges: &[Edge]) -> i64
-    requires x { unsigned_abs x < 2 ^ 30 }
+    requires y { unsigned_abs y < 2 ^ 30 }
     requires edges { All EdgeFits edges.now }
-    ensures exact { result ≡ greatest_x x edges.now }
-    ensures small { unsigned_abs result < 2 ^ 30 }
+    ensures left { result.0.low ≡ least_x x edges.now }
+    ensures right { result.0.high ≡ greatest_x x edges.now }
+    ensures bottom { result.1.low ≡ least_x y (map turned_round edges.now) }
+    ensures top { result.1.high ≡ greatest_x y (map turned_round edges.now) }
+    ensures fit { ExtentFits result.0 × ExtentFits result.1 }
 {
-    let mut greatest = x;
+    let mut across = Extent { low: x, high: x };
+    let mut up = Extent { low: y, high: y };
     for edge in edges {
-        greatest = greatest_of(greatest, *edge);
+        across = with(across, edge.ax, edge.bx);
+        up = with(up, edge.ay, edge.by);
     }
-    greatest
+    (across, up)
 }
 
-/// The columns of the box of edges and of the start of one.
-fn columns_from(edge: Edge, edges: &[Edge]) -> Columns
-    requires edge { EdgeFits edge }
-    requires edges { All EdgeFits edges.now }
-    ensures exact { result ≡ columns_between (least_x edge.ax edges.now) (greatest_x edge.ax edges.now) }
-    ensures small { ColumnsFit result }
-{
-    columns_between(least_x(edge.ax, edges), greatest_x(edge.ax, edges))
-}
-
-/// The columns of the box of edges.
-pub(crate) fn columns_of(edges: &[Edge]) -> Columns
+/// The columns and the rows of the box of edges.
+pub(crate) fn box_of(edges: &[Edge]) -> (Columns, Columns)
     requires { All EdgeFits edges.now }
-    ensures exact { result ≡ columns_of edges.now }
-    ensures small { ColumnsFit result }
+    ensures columns { result.0 ≡ columns_of edges.now }
+    ensures rows { result.1 ≡ columns_of (map turned_round edges.now) }
+    ensures small { ColumnsFit result.0 × ColumnsFit result.1 }
 {
     if edges.is_empty() {
-        return Columns { first: 0, last: 0 };
+        let none = Columns { first: 0, last: 0 };
+        return (none, none);
     }
-    columns_from(edges[0], edges)
+    let (across, up) = extents(edges[0].ax, edges[0].ay, edges);
+    (
+        columns_between(across.low, across.high),
+        columns_between(up.low, up.high),
+    )
 }

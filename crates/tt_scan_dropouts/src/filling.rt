@@ -2,23 +2,26 @@
 //! that the first one added are black.
 
 ghost use Rattle.std.specs.Prelude.{◌≡◌, ℤ, ◌^◌, ◌*◌, ◌≤◌, ◌||◌, ◌&&◌, [], ◌∷◌, length, map, All, IfOk, OnOk};
+ghost use Rattle.std.specs.List.{list_any};
 ghost use Rattle.std.specs.Ordering.{int_eq};
 ghost use Rattle.tt_scan.specs.Contours.{AreEnds, contours_at};
 ghost use Rattle.tt_scan.specs.Winding.{EdgeFits};
 ghost use Rattle.tt_scan_dropouts.specs.Dropouts.{columns_of, crossed, is_dropout, row_adds, turned_round};
 ghost use Rattle.tt_scan_dropouts.specs.Gaps.{has_pixel};
-ghost use Rattle.tt_scan_dropouts.specs.Windows.{WindowFits, has, has_pixel_by, is_black_by, widened};
+ghost use Rattle.tt_scan_dropouts.specs.Walk.{is_in_free_gap};
+ghost use Rattle.tt_scan_dropouts.specs.Windows.{WindowFits, has, has_pixel_by, is_black_by, seen_by, widened};
+ghost use Rattle.tt_scan_dropouts.specs.declared.window.Over.TheVariants as over;
 
 use crate::bitmap::Bitmap;
-use crate::columns::columns_of;
+use crate::columns::box_of;
 use crate::crossing::lines_crossed;
 use crate::gaps::sort;
 use crate::mark::{Columns, Pixel, Rules};
-use crate::marks::free_marks;
+use crate::marks::{crosses_free_gap, free_marks, touches_free_gap};
 use crate::pass::pass;
 use crate::window::{Over, Window, clipped, has, widened};
 use std::alloc::{AllocError, Global};
-use tt_scan::Edge;
+use tt_scan::{Edge, Tape};
 
 /// An edge with x and y exchanged.
 #[inline(always)]
@@ -58,8 +61,20 @@ pub fn crossings(edges: &[Edge]) -> u64
     all
 }
 
-/// What the pass over the rows, or over the columns, adds to what is black; the edges of columns are turned round, and so
-/// is the box whose columns are given. Error: memory ran out.
+/// An edge as a pass sees it: one over columns, with x and y exchanged.
+#[inline(always)]
+fn seen_by(over: Over, edge: Edge) -> Edge
+    requires { EdgeFits edge }
+    ensures exact { result ≡ seen_by over edge }
+    ensures fits { EdgeFits result }
+{
+    match over {
+        Over::Rows => edge,
+        Over::Columns => turned_round(edge),
+    }
+}
+
+/// What a pass adds to what is black, by edges as it sees them. Error: memory ran out.
 fn pass_over(
     alloc: Global,
     rules: Rules,
@@ -78,6 +93,73 @@ fn pass_over(
     let mut marks = free_marks(alloc, ink, over, rules.stubs, edges, ends)?;
     sort(&mut marks);
     pass(alloc, rules, columns, over, ink, &marks)
+}
+
+/// Whether an edge leaves something in a free gap: a crossing, or, where stubs are drawn, an end that touches a line.
+#[inline(always)]
+fn is_in_free_gap(ink: &Bitmap, over: Over, stubs: bool, edge: Edge) -> bool
+    requires { EdgeFits edge }
+    ensures { result ≡ is_in_free_gap stubs (is_black_by over ink.now) edge }
+{
+    crosses_free_gap(ink, over, edge) || (stubs && touches_free_gap(ink, over, edge))
+}
+
+/// Whether some edge, as a pass sees it, does. Else the pass adds nothing, and its walk need not be made.
+#[inline(always)]
+fn some_in_free_gap(ink: &Bitmap, over: Over, stubs: bool, edges: &[Edge]) -> bool
+    requires { All EdgeFits edges.now }
+    ensures { result ≡ list_any (is_in_free_gap stubs (is_black_by over ink.now)) (map (seen_by over) edges.now) }
+{
+    for edge in edges {
+        if is_in_free_gap(ink, over, stubs, seen_by(over, *edge)) {
+            return true;
+        }
+    }
+    false
+}
+
+/// What the pass over the rows adds to what is black. Error: memory ran out.
+fn added_by_rows(
+    alloc: Global,
+    rules: Rules,
+    columns: Columns,
+    ink: &Bitmap,
+    edges: &[Edge],
+    ends: &[usize],
+) -> Result<Vec<Pixel>, AllocError>
+    requires columns { columns ≡ columns_of edges.now }
+    requires edges { All EdgeFits edges.now }
+    requires ends { AreEnds (length edges.now) ends.now }
+    ensures { IfOk result (λ v. (p j : ℤ) → has_pixel v.items p j
+        ≡ row_adds rules (contours_at edges.now ends.now) (is_black_by over.Rows ink.now) p j) }
+{
+    if some_in_free_gap(ink, Over::Rows, rules.stubs, edges) {
+        pass_over(alloc, rules, columns, ink, Over::Rows, edges, ends)
+    } else {
+        Ok(Vec::new(alloc))
+    }
+}
+
+/// What the pass over the columns adds, column and row exchanged. Error: memory ran out.
+fn added_by_columns(
+    alloc: Global,
+    rules: Rules,
+    rows: Columns,
+    ink: &Bitmap,
+    edges: &[Edge],
+    ends: &[usize],
+) -> Result<Vec<Pixel>, AllocError>
+    requires rows { rows ≡ columns_of (map turned_round edges.now) }
+    requires edges { All EdgeFits edges.now }
+    requires ends { AreEnds (length edges.now) ends.now }
+    ensures { IfOk result (λ v. (p j : ℤ) → has_pixel v.items p j
+        ≡ row_adds rules (contours_at (map turned_round edges.now) ends.now) (is_black_by over.Columns ink.now) p j) }
+{
+    if !some_in_free_gap(ink, Over::Columns, rules.stubs, edges) {
+        return Ok(Vec::new(alloc));
+    }
+    let turned = all_turned_round(alloc, edges)?;
+    pass_over(alloc, rules, rows, ink, Over::Columns, &turned, ends)
 }
 
 /// A pixel of a pass by its column and its row.
@@ -122,34 +204,32 @@ fn push_within(
     Ok(())
 }
 
-/// The dropouts in a window of a glyph whose contours each end before the edge of a number: the pixels that are black
-/// besides those of the scan converter's rules 1 and 2. OpenType, "TrueType Fundamentals", rules 3 and 4. Error: memory
-/// ran out.
+/// The dropouts in a window of a glyph whose edges stand on a tape, and whose contours each end before the edge of a
+/// number: the pixels that are black besides those of the scan converter's rules 1 and 2. OpenType, "TrueType
+/// Fundamentals", rules 3 and 4. Error: memory ran out.
 pub fn dropouts(
     alloc: Global,
     rules: Rules,
-    edges: &[Edge],
+    tape: &Tape,
     ends: &[usize],
     window: Window,
 ) -> Result<Vec<Pixel>, AllocError>
-    requires edges { All EdgeFits edges.now }
-    requires few { length edges.now ≤ 2 ^ 32 }
-    requires ends { AreEnds (length edges.now) ends.now }
+    requires few { length tape.now.edges ≤ 2 ^ 32 }
+    requires ends { AreEnds (length tape.now.edges) ends.now }
     requires window { WindowFits (widened 2 window) }
     ensures exact { IfOk result (λ v. (c j : ℤ) → has_pixel v.items c j
-        ≡ (has window c j && is_dropout rules (contours_at edges.now ends.now) c j)) }
+        ≡ (has window c j && is_dropout rules (contours_at tape.now.edges ends.now) c j)) }
 {
-    let turned = all_turned_round(alloc, edges)?;
-    let columns = columns_of(edges);
-    let rows = columns_of(&turned);
+    let edges = tape.lend();
+    let (columns, rows) = box_of(edges);
     let part = match clipped(window, columns, rows) {
         Some(part) => part,
         None => return Ok(Vec::new(alloc)),
     };
-    let mut ink = Bitmap::inked(alloc, edges, widened(part))?;
-    let by_rows = pass_over(alloc, rules, columns, &ink, Over::Rows, edges, ends)?;
+    let mut ink = Bitmap::inked(alloc, tape, widened(part))?;
+    let by_rows = added_by_rows(alloc, rules, columns, &ink, edges, ends)?;
     ink.blacken_all(&by_rows);
-    let by_columns = pass_over(alloc, rules, rows, &ink, Over::Columns, &turned, ends)?;
+    let by_columns = added_by_columns(alloc, rules, rows, &ink, edges, ends)?;
     let mut found = Vec::new(alloc);
     push_within(&mut found, part, Over::Rows, &by_rows)?;
     push_within(&mut found, part, Over::Columns, &by_columns)?;

@@ -4,9 +4,9 @@
 ghost use Rattle.std.specs.Prelude.{◌≡◌, ◌++◌, [], ◌∷◌, ◌<◌, true, length, map, All, IfOk, OnOk};
 ghost use Rattle.tt_scan.specs.Contours.{AreEnds, contours_at};
 ghost use Rattle.tt_scan.specs.Winding.{EdgeFits};
-ghost use Rattle.tt_scan_dropouts.specs.Crossings.{crossings};
+ghost use Rattle.tt_scan_dropouts.specs.Crossings.{crossings, touches};
 ghost use Rattle.tt_scan_dropouts.specs.Gaps.{free_marks};
-ghost use Rattle.tt_scan_dropouts.specs.Walk.{contour_marks, edge_marks, mark_of, marks, step_marks, walk_marks};
+ghost use Rattle.tt_scan_dropouts.specs.Walk.{contour_marks, edge_marks, mark_of, marks, some_in_free_gap, step_marks, walk_marks};
 ghost use Rattle.tt_scan_dropouts.specs.Windows.{is_black_by};
 
 use crate::bitmap::Bitmap;
@@ -17,6 +17,32 @@ use crate::stub::is_of_stub;
 use crate::window::Over;
 use std::alloc::{AllocError, Global};
 use tt_scan::Edge;
+
+/// Whether an edge crosses a free gap.
+#[inline(always)]
+pub(crate) fn crosses_free_gap(ink: &Bitmap, over: Over, edge: Edge) -> bool
+    requires { EdgeFits edge }
+    ensures { result ≡ some_in_free_gap (is_black_by over ink.now) (crossings edge) }
+{
+    for k in 0..lines_crossed(edge) {
+        if ink.is_free(over, crossing(edge, k)) {
+            return true;
+        }
+    }
+    false
+}
+
+/// Whether an end of an edge touches a line in a free gap.
+#[inline(always)]
+pub(crate) fn touches_free_gap(ink: &Bitmap, over: Over, edge: Edge) -> bool
+    requires { EdgeFits edge }
+    ensures { result ≡ some_in_free_gap (is_black_by over ink.now) (touches edge) }
+{
+    match touch(edge) {
+        Some(at) => ink.is_free(over, at),
+        None => false,
+    }
+}
 
 /// Adds a crossing that asks for a pixel. Error: memory ran out.
 #[inline(always)]
