@@ -25,7 +25,8 @@ pub(crate) fn walk(alloc: Global, edges: &[Edge]) -> Result<Vec<Step>, AllocErro
     requires { All EdgeFits edges.now }
     ensures { IfOk result (λ v. v.items ≡ walk edges.now) }
 {
-    let mut steps = Vec::new(alloc);
+    // Each edge has its end for a step.
+    let mut steps = Vec::with_capacity(alloc, edges.len())?;
     for i in 0..edges.len() {
         push_steps(&mut steps, edges[i])?;
     }
