@@ -1,5 +1,5 @@
 -- The rows of a window from the top down, and what it is to ink one.
-use Rattle.std.proofs.Common.{◌≡◌, ◌∙◌, refl, ap, ◌⊎◌, inl, inr, ℕ, zero, suc, ◌+◌, ◌-◌, ◌*◌, ◌/◌, ◌%◌, ◌^◌, ◌<◌, ◌≤◌, Bool, true, false, ◌&&◌, ◌||◌, nat_lt, if◌then◌else◌, ℤ, pos, ◌+ℤ◌, ◌-ℤ◌, ◌<ℤ◌, unsigned_abs, List, [], ◌∷◌, ◌++◌, length, take, drop, slice_index, replicate, arith}
+use Rattle.std.proofs.Common.{◌≡◌, ◌∙◌, refl, ap, ◌⊎◌, inl, inr, ℕ, zero, suc, ◌+◌, ◌-◌, ◌*◌, ◌/◌, ◌%◌, ◌^◌, ◌<◌, ◌≤◌, Bool, true, false, ◌&&◌, ◌||◌, nat_lt, if◌then◌else◌, ℤ, pos, ◌+ℤ◌, ◌-ℤ◌, ◌<ℤ◌, ◌≤ℤ◌, unsigned_abs, List, [], ◌∷◌, ◌++◌, length, take, drop, slice_index, replicate, arith}
 use Rattle.std.specs.Ordering.{int_eq}
 use Rattle.std.specs.Prelude.{int_le}
 use Rattle.std.proofs.lemmas.Bool.{cases_Bool, cases_eq, cases_lt}
@@ -14,32 +14,41 @@ use Rattle.tt_scan.specs.declared.edge.Edge.{Edge}
 use Rattle.tt_scan.specs.declared.edge.Frame.{Frame}
 use Rattle.tt_scan.specs.declared.mark.Span.{Span}
 use Rattle.tt_scan.specs.Marks.{covers}
-use Rattle.tt_scan.specs.Winding.{column_x, is_between, is_black, row_y, rows_met}
+use Rattle.tt_scan.specs.Winding.{FrameFits, column_x, is_between, is_black, row_y, rows_met}
 use Rattle.tt_scan.proofs.Visits.{within_width}
 use Rattle.tt_scan_dropouts.specs.Crossings.{centre}
-use Rattle.tt_scan_dropouts.specs.Windows.{WindowFits, frame_of, has, is_within, place, row_from_top}
+use Rattle.tt_scan_dropouts.specs.Windows.{WindowFits, first_row, frame_of, has, has_rows, is_within, place, row_from_top}
 use Rattle.tt_scan_dropouts.specs.declared.window.Window.{Window}
 use Rattle.tt_scan_dropouts.proofs.Places.{both, eq_of, offset_within, or_false, row_within}
 
--- the centres of the frame are those of the window
-row_centre : (w : Window) (r : ℕ) → row_y (frame_of w) (pos r) ≡ centre (row_from_top w r)
-row_centre w r = omega (arith, ints)
+-- a window's own frame has its rows, and a frame that has them all has each
+pub own_rows : (w : Window) → has_rows (frame_of w) w ≡ true
+own_rows w = grind (arith, ints)
 
-column_centre : (w : Window) (k : ℕ) → column_x 0 (pos k -ℤ (pos 0 -ℤ w.left)) ≡ centre (w.left +ℤ pos k)
-column_centre w k = omega (arith, ints)
+pub has_row_of : (f : Frame) (w : Window) (r : ℕ) → has_rows f w ≡ true → r < w.height
+    → (pos 0 ≤ℤ (first_row f w +ℤ pos r)) × ((first_row f w +ℤ pos r) <ℤ pos f.height)
+has_row_of f w r rows within = grind (arith, ints)
+
+-- the centres of those rows are the window's, and so are those of its columns, counted with the margin
+row_centre : (f : Frame) (w : Window) (r : ℕ) → row_y f (first_row f w +ℤ pos r) ≡ centre (row_from_top w r)
+row_centre f w r = omega (arith, ints)
+
+column_centre : (margin : ℕ) (left : ℤ) (k : ℕ)
+    → column_x margin (pos k -ℤ ((pos 0 -ℤ left) -ℤ pos margin)) ≡ centre (left +ℤ pos k)
+column_centre margin left k = omega (arith, ints)
 
 -- the black columns of a row of the frame, moved to the window's
-pub row_painted : (w : Window) (f : Frame) (es : List Edge) (ss : List Span) (r k : ℕ) (row left : ℤ) → WindowFits w
-    → f ≡ frame_of w → row ≡ pos r → left ≡ w.left
-    → ((c : ℤ) → c <ℤ pos (2 ^ 63) → covers ss c ≡ is_black es (column_x f.margin c) (row_y f row))
-    → (nat_lt k w.width && covers ss (pos k -ℤ (pos 0 -ℤ left)))
+pub row_painted : (w : Window) (f : Frame) (es : List Edge) (ss : List Span) (r k : ℕ) → WindowFits w → FrameFits f
+    → ((c : ℤ) → c <ℤ pos (2 ^ 63)
+    → covers ss c ≡ is_black es (column_x f.margin c) (row_y f (first_row f w +ℤ pos r)))
+    → (nat_lt k w.width && covers ss (pos k -ℤ ((pos 0 -ℤ w.left) -ℤ pos f.margin)))
     ≡ (nat_lt k w.width && is_black es (centre (w.left +ℤ pos k)) (centre (row_from_top w r)))
-row_painted w f es ss r k row left fits frame at by black =
-    rw by (within_width k w.width _ _ (λ inside.
-    let column = pos k -ℤ (pos 0 -ℤ w.left) in
-    let here = rw (frame, at) at (black column (omega (arith, ints, inside, fits.left, fits.width))) in
-    here ∙ ap (λ x. is_black es x (row_y (frame_of w) (pos r))) (column_centre w k)
-    ∙ ap (λ y. is_black es (centre (w.left +ℤ pos k)) y) (row_centre w r)))
+row_painted w f es ss r k fits frame black =
+    within_width k w.width _ _ (λ inside.
+    let column = pos k -ℤ ((pos 0 -ℤ w.left) -ℤ pos f.margin) in
+    black column (omega (arith, ints, inside, fits.left, fits.width, frame.margin))
+    ∙ ap (λ x. is_black es x (row_y f (first_row f w +ℤ pos r))) (column_centre f.margin w.left k)
+    ∙ ap (λ y. is_black es (centre (w.left +ℤ pos k)) y) (row_centre f w r))
 
 -- so many edges meet a row at most
 one_or_none : (b : Bool) → (if b then 1 else 0) ≤ 1

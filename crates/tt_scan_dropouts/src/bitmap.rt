@@ -83,8 +83,8 @@ fn has_rows(frame: Frame, window: Window) -> bool
     0 <= first && first + i64::from(window.height) <= i64::from(frame.height)
 }
 
-/// The edges of a glyph on a tape that has the rows of a window: a copy where the glyph's own has them. Error: memory ran
-/// out.
+/// The edges of a glyph on a tape that has the rows of a window: a copy where the glyph's own has them. Error: memory
+/// ran out.
 fn tape_for(alloc: Global, tape: &Tape, window: Window) -> Result<Tape, AllocError>
     requires window { WindowFits window }
     ensures edges { IfOk result (λ t. t.edges ≡ tape.now.edges) }

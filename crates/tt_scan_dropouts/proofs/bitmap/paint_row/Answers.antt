@@ -1,28 +1,58 @@
-use Rattle.std.proofs.Common.{◌≡◌, ◌∙◌, ap, Bool, ◌||◌, pos, ◌-ℤ◌, SFits, w32, w64, rules, arith}
+use Rattle.std.proofs.Common.{◌≡◌, ◌∙◌, ap, refl, Bool, ◌||◌, pos, ◌+ℤ◌, ◌-ℤ◌, SFits, w32, w64, rules, arith}
 use Rattle.std.proofs.lemmas.Int.{ints, to_z-of_z}
 use Rattle.tt_core.specs.Bits.{bit}
-use Rattle.tt_scan.specs.Winding.{row_y}
-use Rattle.tt_scan_dropouts.proofs.Inked.{met_few, row_painted}
+use Rattle.tt_scan.specs.Winding.{FrameFits, row_y}
+use Rattle.tt_scan_dropouts.specs.Windows.{first_row}
+use Rattle.tt_scan_dropouts.proofs.Inked.{has_row_of, met_few, row_painted}
 use Rattle.tt_scan_dropouts.proofs.bitmap.paint_row.Goals as goal
+
+pub cut-requires-clause-row_low : goal.cut-requires-clause-row_low
+cut-requires-clause-row_low c =
+    let first = rw c.frame-frame.ensures.exact at c.first_row.ensures.exact in
+    let row = has_row_of c.args.tape.now.frame c.args.window c.args.r c.requires.rows c.requires.within in
+    omega (arith, ints, first, row)
+
+pub cut-requires-clause-row_high : goal.cut-requires-clause-row_high
+cut-requires-clause-row_high c =
+    let first = rw c.frame-frame.ensures.exact at c.first_row.ensures.exact in
+    let row = has_row_of c.args.tape.now.frame c.args.window c.args.r c.requires.rows c.requires.within in
+    omega (arith, ints, first, row)
+
+pub overflow_sub-shift-2 : goal.overflow_sub-shift-2
+overflow_sub-shift-2 c = omega (arith, ints)
+
+pub paint-requires-clause-shift : goal.paint-requires-clause-shift
+paint-requires-clause-shift c = omega (arith, ints)
 
 pub returns-clause-bits : goal.returns-clause-bits
 returns-clause-bits c =
     let w = c.args.window in
     let tape = c.args.tape.now in
-    let row : SFits w64 c.from.result = search rules in
+    let frame = c.frame-frame.ensures.exact in
+    let fits : FrameFits tape.frame = rw frame at c.frame-frame.ensures.fits in
+    let first : SFits w64 c.first_row.result = search rules in
+    let below : SFits w64 c.from.result = search rules in
+    let row : SFits w64 (c.first_row.result +ℤ c.from.result) = omega (arith, ints) in
+    let at : c.first_row.result +ℤ c.from.result ≡ first_row tape.frame w +ℤ pos c.args.r =
+    rw (c.first_row.ensures.exact, frame, c.from.ensures) refl in
     let left : SFits w32 w.left = omega (arith, ints, c.requires.window.left) in
-    let shift : SFits w64 c.from-2.result = search rules in
-    let by : c.from-2.result ≡ w.left = simp to_z-of_z at c.from-2.ensures in
-    let back : SFits w64 (pos 0 -ℤ c.from-2.result) = omega (arith, ints, c.requires.window.left, by) in
-    let black = simp to_z-of_z at c.cut.ensures.black in
-    let painted = simp to_z-of_z at c.paint.ensures.bits in
+    let left_is : c.from-2.result ≡ w.left = simp to_z-of_z at c.from-2.ensures in
+    let aside : SFits w64 c.from-2.result = search rules in
+    let margin : SFits w64 c.from-3.result = search rules in
+    let back : SFits w64 (pos 0 -ℤ c.from-2.result) = omega (arith, ints, c.requires.window.left, left_is) in
+    let shift : SFits w64 ((pos 0 -ℤ c.from-2.result) -ℤ c.from-3.result) = omega (arith, ints) in
+    let by : (pos 0 -ℤ c.from-2.result) -ℤ c.from-3.result ≡ (pos 0 -ℤ w.left) -ℤ pos tape.frame.margin =
+    rw (left_is, c.from-3.ensures, frame) refl in
+    let black = rw at at (simp to_z-of_z at c.cut.ensures.black) in
+    let painted = rw by at (simp to_z-of_z at c.paint.ensures.bits) in
     λ k. painted k ∙ ap (λ (b : Bool). bit c.args.row.now k || b)
-    (row_painted w tape.frame tape.edges c.cut.new.self.spans c.args.r k c.from.result c.from-2.result c.requires.window
-    c.requires.frame c.from.ensures by black)
+    (row_painted w tape.frame tape.edges c.cut.new.self.spans c.args.r k c.requires.window fits black)
 
 pub returns-clause-crosses : goal.returns-clause-crosses
 returns-clause-crosses c =
-    let row : SFits w64 c.from.result = search rules in
     let tape = c.args.tape.now in
+    let first : SFits w64 c.first_row.result = search rules in
+    let below : SFits w64 c.from.result = search rules in
+    let row : SFits w64 (c.first_row.result +ℤ c.from.result) = omega (arith, ints) in
     let crosses = simp to_z-of_z at c.cut.ensures.crosses in
-    omega (arith, crosses, met_few tape.edges (row_y tape.frame c.from.result))
+    omega (arith, crosses, met_few tape.edges (row_y tape.frame (c.first_row.result +ℤ c.from.result)))

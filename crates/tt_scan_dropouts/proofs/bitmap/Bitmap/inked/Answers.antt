@@ -16,19 +16,19 @@ loop-r-init c =
     record {
       black = λ k j inside. rw (white, all_white bytes (place w k j), none_painted w k j inside) refl;
       len = ap length white ∙ length-replicate bytes 0 ∙ rw c.stride.ensures refl;
-      frame = rw tape refl;
-      edges = rw tape refl;
-      crosses = rw tape (omega arith);
-      room = rw sweep refl;
+      rows = tape.rows;
+      edges = tape.edges;
+      crosses = rw tape.crosses (omega arith);
+      room = rw sweep (c.edges.ensures.exact ∙ ap length tape.edges);
     }
 
-pub ink_row-requires-clause-frame : goal.ink_row-requires-clause-frame
-ink_row-requires-clause-frame c = c.loop-r.invariant.frame
+pub ink_row-requires-clause-rows : goal.ink_row-requires-clause-rows
+ink_row-requires-clause-rows c = c.loop-r.invariant.rows
 
 pub ink_row-requires-clause-count : goal.ink_row-requires-clause-count
 ink_row-requires-clause-count c =
     let so_far = c.loop-r.invariant in
-    rw so_far.edges (count_fits c.loop-r.r c.args.window.height (length c.args.edges.now) c.loop-r.tape.crosses
+    rw so_far.edges (count_fits c.loop-r.r c.args.window.height (length c.args.tape.now.edges) c.loop-r.tape.crosses
     c.loop-r-test.true c.requires.window.high c.requires.few so_far.crosses)
 
 pub ink_row-requires-clause-room : goal.ink_row-requires-clause-room
@@ -39,7 +39,7 @@ ink_row-requires-clause-room c =
 pub loop-r-preserved : goal.loop-r-preserved
 loop-r-preserved c =
     let w = c.args.window in
-    let es = c.args.edges.now in
+    let es = c.args.tape.now.edges in
     let so_far = c.loop-r.invariant in
     let tape = c.ink_row.ensures.tape in
     let written = with_items_is c.loop-r.bits c.ink_row.new.bits (c.ink_row.ensures.len ∙ c.deref_mut.ensures.len) in
@@ -49,7 +49,7 @@ loop-r-preserved c =
       black = λ k j inside. rw written (black k j inside ∙ rw (so_far.black k j inside)
           (one_row_more w c.loop-r.r j (is_black es (centre k) (centre j))));
       len = rw written (c.ink_row.ensures.len ∙ ap length c.deref_mut.ensures.value ∙ so_far.len);
-      frame = rw tape so_far.frame;
+      rows = rw tape so_far.rows;
       edges = rw tape so_far.edges;
       crosses = omega (arith, crosses, so_far.crosses);
       room = c.ink_row.ensures.room ∙ so_far.room;

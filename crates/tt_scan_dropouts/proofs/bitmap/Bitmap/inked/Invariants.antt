@@ -2,7 +2,7 @@ use Rattle.std.proofs.Common.{◌≡◌, ℤ, true, length, ◌*◌, ◌≤◌, 
 use Rattle.tt_core.specs.Bits.{bit, stride}
 use Rattle.tt_scan.specs.Winding.{is_black}
 use Rattle.tt_scan_dropouts.specs.Crossings.{centre}
-use Rattle.tt_scan_dropouts.specs.Windows.{frame_of, has, place}
+use Rattle.tt_scan_dropouts.specs.Windows.{has, has_rows, place}
 use Rattle.tt_scan_dropouts.proofs.Inked.{is_painted}
 use Rattle.tt_scan_dropouts.proofs.bitmap.Bitmap.inked.Given as goal
 
@@ -10,10 +10,10 @@ use Rattle.tt_scan_dropouts.proofs.bitmap.Bitmap.inked.Given as goal
 abbrev pub invariant-loop-r : goal.invariant-loop-r
 invariant-loop-r l = record {
   black : (c j : ℤ) → has l.window c j ≡ true → bit l.bits.items (place l.window c j)
-      ≡ (is_painted l.window l.r j && is_black l.edges (centre c) (centre j));
+      ≡ (is_painted l.window l.r j && is_black l.fn.tape.edges (centre c) (centre j));
   len : length l.bits.items ≡ stride l.window.width * l.window.height;
-  frame : l.tape.frame ≡ frame_of l.window;
-  edges : l.tape.edges ≡ l.edges;
-  crosses : l.tape.crosses ≤ l.r * length l.edges;
-  room : l.sweep.room ≡ length l.edges;
+  rows : has_rows l.tape.frame l.window ≡ true;
+  edges : l.tape.edges ≡ l.fn.tape.edges;
+  crosses : l.tape.crosses ≤ l.r * length l.fn.tape.edges;
+  room : l.sweep.room ≡ length l.fn.tape.edges;
 }
