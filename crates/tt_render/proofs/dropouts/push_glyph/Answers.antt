@@ -14,7 +14,7 @@ returns-in-Some-clause-added c =
     let f = c.args.frame in
     let rules = c.in-Some.rules in
     let filled : g.filled ≡ Some rules = sym (ap (λ (g : glyphs.Glyph). g.filled) c.glyph.view_is) ∙ c.in-Some.is in
-    let edges : c.lend.result.now ≡ g.tape.edges = c.lend.ensures.exact ∙ ap (λ (g : glyphs.Glyph). g.tape.edges) c.glyph.view_is in
+    let edges : c.glyph.inside.tape.edges ≡ g.tape.edges = ap (λ (g : glyphs.Glyph). g.tape.edges) c.glyph.view_is in
     let ends : c.deref.result.now ≡ g.ends = c.deref.ensures.value ∙ ap (λ (g : glyphs.Glyph). g.ends) c.glyph.view_is in
     let pens : c.deref-in-Some.result.now ≡ g.pens = c.deref-in-Some.ensures.value ∙ ap (λ (g : glyphs.Glyph). g.pens) c.glyph.view_is in
     on_ok_weaker c.push_dropouts.result
