@@ -12,6 +12,7 @@ pub mod MovedGaps
 pub mod MovedLines
 pub mod MovedMarks
 pub mod Moved
+pub mod NoFreeGap
 pub mod Outlines
 pub mod PassGroups
 pub mod PassSteps

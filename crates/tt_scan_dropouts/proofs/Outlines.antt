@@ -1,6 +1,6 @@
 -- The contours of an outline are its edges, cut; turning the edges round turns the contours round.
 use Rattle.std.proofs.Common.{◌≡◌, refl, ℕ, ◌-◌, List, [], ◌∷◌, ◌++◌, map, take, drop, length, ap, ap₂, ◌∙◌, sym, get_or}
-use Rattle.std.proofs.lemmas.List.{drop-map, take-map}
+use Rattle.std.proofs.lemmas.List.{drop-map, length-map, take-map}
 use Rattle.std.specs.Prelude.{All}
 use Rattle.std.specs.List.{slice_range}
 use Rattle.std.proofs.lemmas.List.Elements.{All-map}
@@ -44,3 +44,7 @@ edge_turned e h = record { ax = h.ay; ay = h.ax; bx = h.by; by = h.bx }
 
 pub fits_turned : (es : List Edge) → All EdgeFits es → All EdgeFits (map turned_round es)
 fits_turned es h = All-map EdgeFits turned_round es (λ i d lt. edge_turned (get_or es i d) (h i d lt))
+
+pub ends_turned : (es : List Edge) (ends : List ℕ) → AreEnds (length es) ends
+    → AreEnds (length (map turned_round es)) ends
+ends_turned es ends h = rw length-map h

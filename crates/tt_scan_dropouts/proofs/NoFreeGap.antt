@@ -1,0 +1,198 @@
+-- Where no edge leaves something in a free gap, a pass adds nothing.
+use Rattle.std.proofs.Common.{◌≡◌, refl, sym, ap, ap₂, ◌∙◌, ℕ, zero, suc, ◌+◌, ◌<◌, Bool, true, false, ◌||◌, List, [], ◌∷◌, ◌++◌, map, length, get_or, arith}
+use Rattle.std.specs.Prelude.{ℤ, pos, ◌-ℤ◌, None}
+use Rattle.std.specs.List.{flat_map, list_any, range_with_len}
+use Rattle.std.proofs.lemmas.List.{get_or-map, length-map}
+use Rattle.std.proofs.lemmas.List.Folds.{list_any-append, list_any_at}
+use Rattle.std.proofs.lemmas.List.FromFn.{get_or-map-range_with_len, length-map-range_with_len}
+use Rattle.tt_scan.specs.Contours.{AreEnds, contours_at}
+use Rattle.tt_scan.specs.declared.edge.Edge.{Edge}
+use Rattle.tt_scan_dropouts.specs.Crossings.{crossing, crossings, line_crossed, lines_crossed, touches}
+use Rattle.tt_scan_dropouts.specs.Dropouts.{columns_of, edges_of, row_adds, turned_round}
+use Rattle.tt_scan_dropouts.specs.Gaps.{asked, free_marks, is_added, is_free}
+use Rattle.tt_scan_dropouts.specs.Walk.{contour_marks, edge_marks, is_in_free_gap, mark_of, marks, marks_of_step, some_in_free_gap, step_marks, steps_of, walk}
+use Rattle.tt_scan_dropouts.specs.Windows.{seen_by}
+use Rattle.tt_scan_dropouts.specs.declared.mark.Columns.{Columns}
+use Rattle.tt_scan_dropouts.specs.declared.mark.Crossing.{Crossing}
+use Rattle.tt_scan_dropouts.specs.declared.mark.Rules.{Rules}
+use Rattle.tt_scan_dropouts.specs.declared.mark.Step.{Step}
+use Rattle.tt_scan_dropouts.specs.declared.mark.Step.TheVariants as step
+use Rattle.tt_scan_dropouts.specs.declared.window.Over.{Over}
+use Rattle.tt_scan_dropouts.specs.declared.window.Over.TheVariants as over
+use Rattle.tt_scan_dropouts.proofs.FreeMarks.{added_kept}
+use Rattle.tt_scan_dropouts.proofs.Outlines.{edges_at}
+use Rattle.tt_scan_dropouts.proofs.Walks.{free_append, free_edge, more_crossings}
+
+first_not : (a b : Bool) → (a || b) ≡ false → a ≡ false
+first_not true b not = not
+first_not false b not = refl
+
+other_not : (a b : Bool) → (a || b) ≡ false → b ≡ false
+other_not true b not = cc
+other_not false b not = not
+
+-- the edges as a pass sees them
+
+pub seen_by_rows : (es : List Edge) → map (seen_by over.Rows) es ≡ es
+seen_by_rows [] = refl
+seen_by_rows (e ∷ es) = ap (λ r. e ∷ r) (seen_by_rows es)
+
+pub seen_by_columns : (es : List Edge) → map (seen_by over.Columns) es ≡ map turned_round es
+seen_by_columns [] = refl
+seen_by_columns (e ∷ es) = ap (λ r. turned_round e ∷ r) (seen_by_columns es)
+
+-- the crossings of an edge, looked at one after the other
+
+pub none_more : (black : ℤ → ℤ → Bool) (e : Edge) (k : ℕ)
+    → some_in_free_gap black (map (λ k. crossing e (line_crossed e k)) (range_with_len 0 k)) ≡ false
+    → is_free black (crossing e (line_crossed e k)).gap (crossing e (line_crossed e k)).line ≡ false
+    → some_in_free_gap black (map (λ k. crossing e (line_crossed e k)) (range_with_len 0 (k + 1))) ≡ false
+none_more black e k none not =
+    let one = crossing e (line_crossed e k) in
+    let before = map (λ k. crossing e (line_crossed e k)) (range_with_len 0 k) in
+    ap (some_in_free_gap black) (more_crossings e k)
+    ∙ list_any-append (λ (c : Crossing). is_free black c.gap c.line) before (one ∷ [])
+    ∙ rw (none, not) refl
+
+pub one_settles : (black : ℤ → ℤ → Bool) (e : Edge) (k : ℕ) → k < lines_crossed e
+    → is_free black (crossing e (line_crossed e k)).gap (crossing e (line_crossed e k)).line ≡ true
+    → some_in_free_gap black (crossings e) ≡ true
+one_settles black e k within free =
+    let f = λ (k : ℕ). crossing e (line_crossed e k) in
+    let count = length-map-range_with_len f 0 (lines_crossed e) in
+    let it = get_or-map-range_with_len f 0 (lines_crossed e) k k (f 0) within (omega arith) in
+    list_any_at (λ (c : Crossing). is_free black c.gap c.line) (crossings e) k (f 0) (rw count within) (rw it free)
+
+-- the edges, looked at one after the other
+
+pub one_edge_settles : (black : ℤ → ℤ → Bool) (stubs : Bool) (over : Over) (es : List Edge) (i : ℕ) (d e : Edge)
+    → i < length es → e ≡ seen_by over (get_or es i d) → is_in_free_gap stubs black e ≡ true
+    → list_any (is_in_free_gap stubs black) (map (seen_by over) es) ≡ true
+one_edge_settles black stubs over es i d e within is free =
+    let count : i < length (map (seen_by over) es) = rw length-map within in
+    let it : get_or (map (seen_by over) es) i e ≡ e = get_or-map (seen_by over) es i d e within ∙ sym is in
+    list_any_at (is_in_free_gap stubs black) (map (seen_by over) es) i e count (rw it free)
+
+-- crossings that lie in no free gap leave nothing there
+
+no_marks_of : (black : ℤ → ℤ → Bool) (asks : Bool) (cs : List Crossing) → some_in_free_gap black cs ≡ false
+    → free_marks black (map (mark_of asks) cs) ≡ []
+no_marks_of black asks [] none = refl
+no_marks_of black asks (c ∷ cs) none =
+    let here = first_not (is_free black c.gap c.line) (some_in_free_gap black cs) none in
+    rw here (no_marks_of black asks cs (other_not (is_free black c.gap c.line) (some_in_free_gap black cs) none))
+
+no_edge_marks : (black : ℤ → ℤ → Bool) (e : Edge) → is_in_free_gap true black e ≡ false
+    → free_marks black (edge_marks e) ≡ []
+no_edge_marks black e none =
+    let crossed = some_in_free_gap black (crossings e) in
+    let touched = some_in_free_gap black (touches e) in
+    free_edge black e ∙ ap₂ (λ a b. a ++ b) (no_marks_of black true (crossings e) (first_not crossed touched none))
+    (no_marks_of black true (touches e) (other_not crossed touched none))
+
+no_marks_of_edges : (black : ℤ → ℤ → Bool) (es : List Edge) → list_any (is_in_free_gap true black) es ≡ false
+    → free_marks black (flat_map edge_marks es) ≡ []
+no_marks_of_edges black [] none = refl
+no_marks_of_edges black (e ∷ es) none =
+    let here = is_in_free_gap true black e in
+    let rest = list_any (is_in_free_gap true black) es in
+    free_append black (edge_marks e) (flat_map edge_marks es)
+    ∙ ap₂ (λ a b. a ++ b) (no_edge_marks black e (first_not here rest none))
+    (no_marks_of_edges black es (other_not here rest none))
+
+-- the same of the steps of a walk, whether or not they belong to a stub
+
+abbrev lies_free : (ℤ → ℤ → Bool) → Step → Bool
+lies_free black (step.End h) = false
+lies_free black (step.Cross c) = is_free black c.gap c.line
+
+no_step_free : (black : ℤ → ℤ → Bool) (w : List Step) (k : ℕ) → list_any (lies_free black) w ≡ false
+    → lies_free black (get_or w k (step.End (pos 0))) ≡ false
+no_step_free black [] k none = refl
+no_step_free black (s ∷ w) zero none = first_not (lies_free black s) (list_any (lies_free black) w) none
+no_step_free black (s ∷ w) (suc k) none =
+    no_step_free black w k (other_not (lies_free black s) (list_any (lies_free black) w) none)
+
+no_marks_of_step : (black : ℤ → ℤ → Bool) (w : List Step) (k : ℕ) (s : Step) → lies_free black s ≡ false
+    → free_marks black (marks_of_step w k s) ≡ []
+no_marks_of_step black w k (step.End h) none = refl
+no_marks_of_step black w k (step.Cross c) none = rw none refl
+
+no_marks_of_steps : (black : ℤ → ℤ → Bool) (w : List Step) (ks : List ℕ) → list_any (lies_free black) w ≡ false
+    → free_marks black (flat_map (step_marks w) ks) ≡ []
+no_marks_of_steps black w [] none = refl
+no_marks_of_steps black w (k ∷ ks) none =
+    free_append black (step_marks w k) (flat_map (step_marks w) ks)
+    ∙ ap₂ (λ a b. a ++ b)
+    (no_marks_of_step black w k (get_or w k (step.End (pos 0))) (no_step_free black w k none))
+    (no_marks_of_steps black w ks none)
+
+no_cross_free : (black : ℤ → ℤ → Bool) (cs : List Crossing) (h : ℤ) → some_in_free_gap black cs ≡ false
+    → list_any (lies_free black) (map step.Cross cs ++ step.End h ∷ []) ≡ false
+no_cross_free black [] h none = refl
+no_cross_free black (c ∷ cs) h none =
+    let here = first_not (is_free black c.gap c.line) (some_in_free_gap black cs) none in
+    rw here (no_cross_free black cs h (other_not (is_free black c.gap c.line) (some_in_free_gap black cs) none))
+
+no_walk_free : (black : ℤ → ℤ → Bool) (es : List Edge) → list_any (is_in_free_gap false black) es ≡ false
+    → list_any (lies_free black) (walk es) ≡ false
+no_walk_free black [] none = refl
+no_walk_free black (e ∷ es) none =
+    let here = is_in_free_gap false black e in
+    let rest = list_any (is_in_free_gap false black) es in
+    let crossed = first_not (some_in_free_gap black (crossings e)) false (first_not here rest none) in
+    list_any-append (lies_free black) (steps_of e) (walk es)
+    ∙ ap₂ (λ a b. a || b) (no_cross_free black (crossings e) e.by crossed)
+    (no_walk_free black es (other_not here rest none))
+
+-- contours that leave nothing in free gaps
+
+no_contour_marks : (black : ℤ → ℤ → Bool) (stubs : Bool) (es : List Edge)
+    → list_any (is_in_free_gap stubs black) es ≡ false
+    → free_marks black (contour_marks stubs es) ≡ []
+no_contour_marks black true es none = no_marks_of_edges black es none
+no_contour_marks black false es none =
+    no_marks_of_steps black (walk es) (range_with_len 0 (length (walk es))) (no_walk_free black es none)
+
+no_marks : (black : ℤ → ℤ → Bool) (stubs : Bool) (contours : List (List Edge))
+    → list_any (is_in_free_gap stubs black) (edges_of contours) ≡ false
+    → free_marks black (marks stubs contours) ≡ []
+no_marks black stubs [] none = refl
+no_marks black stubs (es ∷ contours) none =
+    let here = list_any (is_in_free_gap stubs black) es in
+    let rest = list_any (is_in_free_gap stubs black) (edges_of contours) in
+    let both = sym (list_any-append (is_in_free_gap stubs black) es (edges_of contours)) ∙ none in
+    free_append black (contour_marks stubs es) (marks stubs contours)
+    ∙ ap₂ (λ a b. a ++ b) (no_contour_marks black stubs es (first_not here rest both))
+    (no_marks black stubs contours (other_not here rest both))
+
+-- where no edge of an outline leaves something in a free gap, there are no marks in free gaps
+pub no_free_marks : (black : ℤ → ℤ → Bool) (stubs : Bool) (es : List Edge) (ends : List ℕ) → AreEnds (length es) ends
+    → list_any (is_in_free_gap stubs black) es ≡ false
+    → free_marks black (marks stubs (contours_at es ends)) ≡ []
+no_free_marks black stubs es ends fit none =
+    no_marks black stubs (contours_at es ends) (rw (edges_at es ends fit) none)
+
+-- by no marks nothing is asked
+
+none_asked : (rules : Rules) (b : Columns) (black : ℤ → ℤ → Bool) (j c : ℤ) (free : Bool) → is_free black c j ≡ free
+    → asked rules b [] black j c ≡ None
+none_asked rules b black j c true is = rw is refl
+none_asked rules b black j c false is = rw is refl
+
+none_added : (rules : Rules) (b : Columns) (black : ℤ → ℤ → Bool) (p j : ℤ) → is_added rules b [] black p j ≡ false
+none_added rules b black p j =
+    let here = none_asked rules b black j p (is_free black p j) refl in
+    let left = none_asked rules b black j (p -ℤ pos 1) (is_free black (p -ℤ pos 1) j) refl in
+    rw (here, left) refl
+
+-- and a pass adds nothing
+pub nothing_added : (rules : Rules) (black : ℤ → ℤ → Bool) (es : List Edge) (ends : List ℕ) → AreEnds (length es) ends
+    → list_any (is_in_free_gap rules.stubs black) es ≡ false
+    → (p j : ℤ) → row_adds rules (contours_at es ends) black p j ≡ false
+nothing_added rules black es ends fit none p j =
+    let contours = contours_at es ends in
+    let b = columns_of (edges_of contours) in
+    sym (added_kept rules b black (marks rules.stubs contours) p j)
+    ∙ ap (λ ms. is_added rules b ms black p j) (no_free_marks black rules.stubs es ends fit none)
+    ∙ none_added rules b black p j

@@ -1,0 +1,12 @@
+use Rattle.std.proofs.Common.{◌≡◌, false, map}
+use Rattle.std.specs.List.{range_with_len}
+use Rattle.tt_scan_dropouts.specs.Crossings.{crossing, line_crossed}
+use Rattle.tt_scan_dropouts.specs.Walk.{some_in_free_gap}
+use Rattle.tt_scan_dropouts.specs.Windows.{is_black_by}
+use Rattle.tt_scan_dropouts.proofs.marks.crosses_free_gap.Given as goal
+
+-- none of the crossings so far lies in a free gap
+abbrev pub invariant-loop-k : goal.invariant-loop-k
+invariant-loop-k l =
+    some_in_free_gap (is_black_by l.over l.ink)
+    (map (λ k. crossing l.edge (line_crossed l.edge k)) (range_with_len 0 l.k)) ≡ false
