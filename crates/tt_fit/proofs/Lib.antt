@@ -3,6 +3,7 @@ pub mod BestParts
 pub mod Contours
 pub mod Falling
 pub mod Fewer
+mod Filling
 pub mod GlyphPrograms
 pub mod Levels
 pub mod Lists

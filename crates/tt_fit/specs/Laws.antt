@@ -1,19 +1,23 @@
 -- Laws of the definitions: an outline that is given has no defect, and a fault is one; with a way of fitting that falls
--- back what is made is what its programs make by themselves, or what is made without programs.
-use Rattle.std.specs.Prelude.{◌≡◌, ◌≢◌, ℕ, ◌≤◌, true, false, Option, Some, None, Result, Ok, Err}
+-- back what is made is what its programs make by themselves, or what is made without programs; by which rules dropouts
+-- are filled.
+use Rattle.std.specs.Prelude.{◌≡◌, ◌≢◌, ℕ, ◌≤◌, true, false, List, [], Option, Some, None, Result, Ok, Err, refl}
 use Rattle.tt_core.specs.Directory.{HasNo}
 use Rattle.tt_core.specs.Faults.{Fault}
 use Rattle.tt_core.specs.Limits.{work_limit}
 use Rattle.tt_core.specs.Outcomes.{◌>>=◌}
+use Rattle.tt_exec.specs.Parts.{Parts}
 use Rattle.tt_exec.specs.Work.{enough, spent}
 use Rattle.tt_glyf.specs.Loca.{Glyf}
 use Rattle.tt_metrics.specs.Metrics.{Metrics}
+use Rattle.tt_state.specs.declared.graphics_state.ScanControl.{ScanControl}
 use Rattle.tt_fit.specs.declared.programs.Fit.{Fit}
 use Rattle.tt_fit.specs.declared.programs.Fit.TheVariants as fit
 use Rattle.tt_fit.specs.Defects.{IsOutlineDefect}
+use Rattle.tt_fit.specs.Dropouts.{default_rules, scan_rules, scan_left, dropouts_of}
 use Rattle.tt_fit.specs.Fallback.{never, where_refused, is_program_fault}
 use Rattle.tt_fit.specs.Fitting.{Fitter, with_hinting, outline_at, glyph_work, unfitted_fault, fitted_outline, after_glyph}
-use Rattle.tt_fit.specs.Hinting.{off}
+use Rattle.tt_fit.specs.Hinting.{off, ready}
 use Rattle.tt_fit.specs.Outline.{Outline}
 use Rattle.tt_fit.specs.Preparation.{ProgramTables, left_at, work_at, fitter_with, fitter_of}
 use Rattle.tt_fit.specs.Rules.{falls_back}
@@ -138,3 +142,68 @@ BestIsBounded = (m : Metrics) (tables : Glyf) (programs : ProgramTables) (ppem :
 
 abbrev pub WorkFalls : Type 0
 WorkFalls = (s : Fitter) (g left : ℕ) → s.work ≡ Some left → Fewer left (after_glyph s g).work
+
+-- Dropouts. With every way but Best none are filled
+abbrev pub OthersFillNone : Type 0
+OthersFillNone = (m : Metrics) (tables : Glyf) (programs : ProgramTables) (ppem : ℕ) (how : Fit) (s : Fitter)
+    (unfitted : Option Fault) (o : Outline) → how ≢ fit.Best → fitter_of m tables programs ppem how ≡ Ok s
+    → dropouts_of s unfitted o ≡ None
+
+-- and with each a glyph changes nothing of the rules for the glyphs after it
+abbrev pub RulesStay : Type 0
+RulesStay = (s : Fitter) (g : ℕ) (unfitted : Option Fault) (o : Outline)
+    → dropouts_of (after_glyph s g) unfitted o ≡ dropouts_of s unfitted o
+
+-- with Best the rules of a glyph that is unfitted are those of scan type 1
+abbrev pub UnfittedByTypeOne : Type 0
+UnfittedByTypeOne = (m : Metrics) (tables : Glyf) (programs : ProgramTables) (ppem : ℕ) (s : Fitter) (fault : Fault)
+    (o : Outline) → fitter_of m tables programs ppem fit.Best ≡ Ok s
+    → dropouts_of s (Some fault) o ≡ Some default_rules
+
+-- a font program and a control value program that are both empty
+pub record AreEmpty (programs : ProgramTables) : Type 0 where
+  pub fpgm : programs.fpgm ≡ []
+  pub prep : programs.prep ≡ []
+
+-- with them the rules of every glyph are those of scan type 1
+abbrev pub EmptyByTypeOne : Type 0
+EmptyByTypeOne = (m : Metrics) (tables : Glyf) (programs : ProgramTables) (ppem : ℕ) (s : Fitter)
+    (unfitted : Option Fault) (o : Outline) → AreEmpty programs → fitter_of m tables programs ppem fit.Best ≡ Ok s
+    → dropouts_of s unfitted o ≡ Some default_rules
+
+-- and where the control value program switched the programs of glyphs off
+abbrev pub SkippedByTypeOne : Type 0
+SkippedByTypeOne = (m : Metrics) (tables : Glyf) (programs : ProgramTables) (ppem : ℕ) (s : Fitter) (parts : Parts)
+    (unfitted : Option Fault) (o : Outline) → fitter_of m tables programs ppem fit.Best ≡ Ok s
+    → s.hinting ≡ ready parts → parts.skip_glyphs ≡ true → dropouts_of s unfitted o ≡ Some default_rules
+
+-- with Best a font has a program, those of glyphs are not switched off, and for an outline they left this scan control:
+-- the last program that was run for it, or, where none was, what the control value program left
+pub record LeftScan (m : Metrics) (tables : Glyf) (programs : ProgramTables) (ppem : ℕ) (s : Fitter) (o : Outline)
+    (scan : ScanControl) : Type 0 where
+  pub made : fitter_of m tables programs ppem fit.Best ≡ Ok s
+  pub some : ¬ AreEmpty programs
+  pub parts : Parts
+  pub ready : s.hinting ≡ ready parts
+  pub on : parts.skip_glyphs ≡ false
+  pub left : scan_left o.scan parts.state.scan ≡ scan
+
+-- then the rules of a glyph that is fitted are those of the scan control
+abbrev pub FittedByScan : Type 0
+FittedByScan = (m : Metrics) (tables : Glyf) (programs : ProgramTables) (ppem : ℕ) (s : Fitter) (o : Outline)
+    (scan : ScanControl) → LeftScan m tables programs ppem s o scan → dropouts_of s None o ≡ scan_rules scan
+
+-- where it is off, its dropouts are not filled
+abbrev pub OffFillsNone : Type 0
+OffFillsNone = (m : Metrics) (tables : Glyf) (programs : ProgramTables) (ppem : ℕ) (s : Fitter) (o : Outline)
+    (scan : ScanControl) → LeftScan m tables programs ppem s o scan → scan.on ≡ false → dropouts_of s None o ≡ None
+
+-- nor by a scan type other than 0, 1, 4 and 5
+abbrev pub OtherTypesFillNone : Type 0
+OtherTypesFillNone = (m : Metrics) (tables : Glyf) (programs : ProgramTables) (ppem : ℕ) (s : Fitter) (o : Outline)
+    (scan : ScanControl) → LeftScan m tables programs ppem s o scan
+    → scan.scan_type ≢ 0 → scan.scan_type ≢ 1 → scan.scan_type ≢ 4 → scan.scan_type ≢ 5 → dropouts_of s None o ≡ None
+
+-- worked value: control values are no program
+values_are_no_program : (cvt : List ℕ) → AreEmpty (record { cvt = cvt; fpgm = []; prep = [] })
+values_are_no_program cvt = record { fpgm = refl; prep = refl }

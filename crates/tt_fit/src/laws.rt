@@ -1,7 +1,7 @@
 //! Laws of the definitions. Each function takes nothing and gives nothing: its clauses hold of all glyphs.
 
 ghost use Rattle.tt_fit.specs.Best.{BestDrawsAsFull, BestFitsAsFull};
-ghost use Rattle.tt_fit.specs.Laws.{OutlinesAreWhole, OutlineFaultsStand, FallbackFits, FallbackScales, FallbackRefuses, FallbackUnfitsAll, OthersNeverFallBack, FullIsByPrograms, NoneIsWithoutPrograms, UnboundedIsEnough, OthersAreUnbounded, UnboundedStays, SpentWorkUnfits, SpentProgramsUnfitAll, BestIsBounded, WorkFalls};
+ghost use Rattle.tt_fit.specs.Laws.{OutlinesAreWhole, OutlineFaultsStand, FallbackFits, FallbackScales, FallbackRefuses, FallbackUnfitsAll, OthersNeverFallBack, FullIsByPrograms, NoneIsWithoutPrograms, UnboundedIsEnough, OthersAreUnbounded, UnboundedStays, SpentWorkUnfits, SpentProgramsUnfitAll, BestIsBounded, WorkFalls, OthersFillNone, RulesStay, UnfittedByTypeOne, EmptyByTypeOne, SkippedByTypeOne, FittedByScan, OffFillsNone, OtherTypesFillNone};
 ghost use Rattle.tt_fit.specs.Counting.{OutlinesAreCounted};
 
 /// Where the definition gives an outline, no defect stands in the glyph or in a component of it, and where it gives a
@@ -55,4 +55,24 @@ pub fn work_unfits()
 pub fn work_falls()
     ensures begun { BestIsBounded }
     ensures falls { WorkFalls }
+{}
+
+/// With every way of fitting but `Fit::Best` no dropouts are filled, whatever a glyph's programs left; and no glyph
+/// changes the rules for those after it.
+pub fn others_fill_none()
+    ensures none { OthersFillNone }
+    ensures stay { RulesStay }
+{}
+
+/// With `Fit::Best` the rules are those of scan type 1 for a glyph that is not fitted, and for every glyph where the
+/// font program and the control value program are empty or the programs of glyphs are switched off. Else they are those
+/// of the scan control that the last program left; where it is off, or its type is none of 0, 1, 4 and 5, no dropouts are
+/// filled.
+pub fn best_fills_by_scan()
+    ensures unfitted { UnfittedByTypeOne }
+    ensures empty { EmptyByTypeOne }
+    ensures skipped { SkippedByTypeOne }
+    ensures fitted { FittedByScan }
+    ensures off { OffFillsNone }
+    ensures others { OtherTypesFillNone }
 {}
