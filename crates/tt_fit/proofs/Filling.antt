@@ -91,7 +91,8 @@ fitted-by-scan m tables programs ppem s o scan c =
 
 -- the scan control by which none are filled
 pub off-fills-none : OffFillsNone
-off-fills-none m tables programs ppem s o scan left is = rw (fitted-by-scan m tables programs ppem s o scan left, is) refl
+off-fills-none m tables programs ppem s o scan left is =
+    rw (fitted-by-scan m tables programs ppem s o scan left, is) refl
 
 other_by : (on : Bool) (n : ℕ) → n ≢ 0 → n ≢ 1 → n ≢ 4 → n ≢ 5 → (if on then type_rules n else None) ≡ None
 other_by true n a b c d = rw (not_same n 0 a, not_same n 1 b, not_same n 4 c, not_same n 5 d) refl

@@ -121,7 +121,8 @@ UnboundedStays = (s : Fitter) (g : ℕ) → s.work ≡ None → HasWork s g × (
 
 -- a glyph whose programs are more work than is left is made without them, and has that fault
 abbrev pub SpentWorkUnfits : Type 0
-SpentWorkUnfits = (s : Fitter) (g : ℕ) (fault : Fault) → s.fallback ≡ where_refused → glyph_work s g s.work ≡ spent fault
+SpentWorkUnfits = (s : Fitter) (g : ℕ) (fault : Fault) → s.fallback ≡ where_refused
+    → glyph_work s g s.work ≡ spent fault
     → (fitted_outline s g ≡ outline_at (with_hinting s off) s.levels g) × (unfitted_fault s g ≡ Some fault)
 
 -- and every glyph where the font's two programs are more than a job's work

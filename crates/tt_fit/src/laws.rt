@@ -29,9 +29,9 @@ pub fn glyphs_fall_back()
     ensures none { NoneIsWithoutPrograms }
 {}
 
-/// Where `Fit::Full` makes an outline of a glyph, the programs make the same one with `Fit::Best`, though these have the
-/// whole instruction set, run on a tolerant machine, and may nest components deeper; so no such glyph is unfitted with
-/// it, unless its programs, or those of the font, are more work than there is.
+/// Where `Fit::Full` makes an outline of a glyph, the programs make the same one with `Fit::Best`, though these have
+/// the whole instruction set, run on a tolerant machine, and may nest components deeper; so no such glyph is unfitted
+/// with it, unless its programs, or those of the font, are more work than there is.
 pub fn best_draws_as_full()
     ensures drawn { BestDrawsAsFull }
     ensures fitted { BestFitsAsFull }
@@ -40,8 +40,9 @@ pub fn best_draws_as_full()
     tt_exec::laws::runs_loosen();
 }
 
-/// With every way of fitting but `Fit::Best` work is not bounded, and then it refuses no glyph. With `Fit::Best` a glyph
-/// whose programs are more work than is left is made without them, and so is every one where those of the font are.
+/// With every way of fitting but `Fit::Best` work is not bounded, and then it refuses no glyph. With `Fit::Best` a
+/// glyph whose programs are more work than is left is made without them, and so is every one where those of the font
+/// are.
 pub fn work_unfits()
     ensures enough { UnboundedIsEnough }
     ensures others { OthersAreUnbounded }
@@ -65,9 +66,9 @@ pub fn others_fill_none()
 {}
 
 /// With `Fit::Best` the rules are those of scan type 1 for a glyph that is not fitted, and for every glyph where the
-/// font program and the control value program are empty or the programs of glyphs are switched off. Else they are those
-/// of the scan control that the last program left; where it is off, or its type is none of 0, 1, 4 and 5, no dropouts are
-/// filled.
+/// font program and the control value program are both empty or the programs of glyphs are switched off. Else they are
+/// those of the scan control that the last program left; where it is off, or its type is none of 0, 1, 4 and 5, no
+/// dropouts are filled.
 pub fn best_fills_by_scan()
     ensures unfitted { UnfittedByTypeOne }
     ensures empty { EmptyByTypeOne }
