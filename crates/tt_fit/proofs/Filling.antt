@@ -87,7 +87,7 @@ skipped-by-type-one m tables programs ppem s parts unfitted o is left skips =
 pub fitted-by-scan : FittedByScan
 fitted-by-scan m tables programs ppem s o scan c =
     let some = where_some programs.fpgm programs.prep (λ f p. c.some (record { fpgm = f; prep = p })) in
-    rw (says m tables programs ppem fit.Best s c.made ∙ some, c.ready, c.on, c.left) refl
+    rw (says m tables programs ppem fit.Best s c.made ∙ some, c.hinting, c.on, c.left) refl
 
 -- the scan control by which none are filled
 pub off-fills-none : OffFillsNone

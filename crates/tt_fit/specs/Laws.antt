@@ -178,14 +178,14 @@ SkippedByTypeOne = (m : Metrics) (tables : Glyf) (programs : ProgramTables) (ppe
     (unfitted : Option Fault) (o : Outline) → fitter_of m tables programs ppem fit.Best ≡ Ok s
     → s.hinting ≡ ready parts → parts.skip_glyphs ≡ true → dropouts_of s unfitted o ≡ Some default_rules
 
--- with Best a font has a program, those of glyphs are not switched off, and for an outline they left this scan control:
--- the last program that was run for it, or, where none was, what the control value program left
+-- with Best, where a font has one of the two and the programs of glyphs are not switched off: the scan control that is
+-- left for an outline, by the last program that was run for it or else by the control value program
 pub record LeftScan (m : Metrics) (tables : Glyf) (programs : ProgramTables) (ppem : ℕ) (s : Fitter) (o : Outline)
     (scan : ScanControl) : Type 0 where
   pub made : fitter_of m tables programs ppem fit.Best ≡ Ok s
   pub some : ¬ AreEmpty programs
   pub parts : Parts
-  pub ready : s.hinting ≡ ready parts
+  pub hinting : s.hinting ≡ ready parts
   pub on : parts.skip_glyphs ≡ false
   pub left : scan_left o.scan parts.state.scan ≡ scan
 
