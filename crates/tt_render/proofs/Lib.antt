@@ -14,6 +14,8 @@ mod Turns
 mod Crossed
 mod Filled
 mod Alike
+mod Beside
+mod Unfilled
 mod Listing
 mod Whole
 mod Answered

@@ -157,7 +157,7 @@ picture-whole laws a file bytes was =
     (line-whole laws face a line bytes by_line.rest)
 
 -- what was made of a file that is not too large
-made-of : (tests : Result (Unit {0}) JobFault) (made : List ℕ → Result (List ℕ) Refused) (file bytes : List ℕ)
+pub made-of : (tests : Result (Unit {0}) JobFault) (made : List ℕ → Result (List ℕ) Refused) (file bytes : List ℕ)
     → outcome_of tests made file ≡ Ok bytes → made file ≡ Ok bytes
 made-of tests made file bytes was =
     let by_tests = came-through (as_job tests) _ bytes was in

@@ -1,6 +1,7 @@
-//! Laws of the definitions. Each function takes nothing and gives nothing: its clauses hold of all jobs and files.
+//! Laws of the definitions. Each function takes nothing and gives nothing: its clauses hold of all jobs, files and
+//! glyphs.
 
-ghost use Rattle.tt_render.specs.Laws.{DrawnFontsAreWhole, MappedFontsAreWhole, OthersListNothing};
+ghost use Rattle.tt_render.specs.Laws.{DrawnFontsAreWhole, MappedFontsAreWhole, OthersListNothing, MarginMoves, GlyphsByThemselves, UnfilledAreEdges, OthersFillNone, OthersDrawByEdges};
 
 /// Where the definition of what `run` or `map` is to write gives bytes, the font has no defect for it. So there is
 /// none whenever a call wrote, all or a part.
@@ -22,4 +23,24 @@ pub fn others_list_nothing()
 {
     tt_fit::laws::glyphs_fall_back();
     tt_fit::laws::work_unfits();
+}
+
+/// A greater margin moves each pixel by as much, and changes nothing else.
+pub fn margins_move()
+    ensures { MarginMoves }
+{}
+
+/// What is black of a glyph, a dropout too, does not depend on the glyphs beside it.
+pub fn glyphs_by_themselves()
+    ensures { GlyphsByThemselves }
+{}
+
+/// Where no dropouts of some glyphs are filled, these are black where their edges blacken, and nowhere else. So are all
+/// glyphs of a line with every way of fitting but `Fit::Best`: their picture is as if there were no dropout control.
+pub fn others_fill_none()
+    ensures pixels { UnfilledAreEdges }
+    ensures glyphs { OthersFillNone }
+    ensures picture { OthersDrawByEdges }
+{
+    tt_fit::laws::others_fill_none();
 }
