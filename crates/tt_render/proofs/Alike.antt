@@ -6,7 +6,6 @@ use Rattle.std.specs.List.{range_with_len}
 use Rattle.tt_core.specs.Bits.{stride}
 use Rattle.tt_pbm.specs.P4.{columns, shows, byte_at, rows, p4_header_of}
 use Rattle.tt_scan.specs.declared.edge.Frame.{Frame}
-use Rattle.tt_scan.specs.Winding.{column_x, row_y}
 use Rattle.tt_scan_dropouts.specs.Pictures.{is_among}
 use Rattle.tt_scan_dropouts.specs.declared.picture.Dropout.{Dropout}
 use Rattle.tt_render.specs.Glyphs.{Glyph, Stand, all_rows, shows_by, stamps_in}

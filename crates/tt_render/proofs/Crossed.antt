@@ -1,5 +1,5 @@
 -- How often glyphs cross the rows at their pens, one glyph or one pen more at a time.
-use Rattle.std.proofs.Common.{◌≡◌, ◌∙◌, refl, ap, ℕ, zero, suc, ◌+◌, ◌*◌, ◌<◌, ◌≤◌, min, Option, Some, None, List, [], ◌∷◌, ◌++◌, length, drop, get_or, set, sum_by, ℤ, pos, ◌+ℤ◌, ◌*ℤ◌, arith, drop-cons, add-one, length-append}
+use Rattle.std.proofs.Common.{◌≡◌, ◌∙◌, refl, ap, ℕ, zero, suc, ◌+◌, ◌*◌, ◌<◌, ◌≤◌, min, Option, Some, None, List, [], ◌∷◌, ◌++◌, length, drop, get_or, set, sum_by, ℤ, pos, ◌*ℤ◌, arith, drop-cons, add-one, length-append}
 use Rattle.std.proofs.Math.Nat.{mul-suc}
 use Rattle.std.proofs.lemmas.List.Sums.{sum_by-cons}
 use Rattle.std.specs.List.{range_with_len}

@@ -1,9 +1,8 @@
 -- The dropouts of glyphs, one glyph more.
-use Rattle.std.proofs.Common.{◌≡◌, refl, sym, ℕ, zero, suc, ◌+◌, ◌<◌, Bool, false, ◌||◌, List, [], ◌∷◌, length, take, get_or, None, Some, arith}
+use Rattle.std.proofs.Common.{◌≡◌, refl, ℕ, zero, suc, ◌+◌, ◌<◌, false, ◌||◌, List, [], ◌∷◌, length, take, get_or, None, Some, arith}
 use Rattle.tt_scan.specs.declared.edge.Edge.{Edge}
 use Rattle.tt_scan.specs.declared.edge.Frame.{Frame}
-use Rattle.tt_scan_dropouts.specs.Dropouts.{is_dropout}
-use Rattle.tt_scan_dropouts.specs.Pictures.{column_at, is_dropout_from, line_at}
+use Rattle.tt_scan_dropouts.specs.Pictures.{is_dropout_from}
 use Rattle.tt_scan_dropouts.specs.declared.mark.Rules.{Rules}
 use Rattle.tt_render.specs.Pixels.{Stamp, is_filled_by, is_filled_from}
 use Rattle.tt_render.proofs.Blackened.{or_false, or_or}

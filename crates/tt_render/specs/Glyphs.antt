@@ -1,6 +1,6 @@
 -- No part of the standard: the distinct glyphs of a line, each with its edges where its pen is 0 and the pens at which
 -- it stands.
-use Rattle.std.specs.Prelude.{◌≡◌, ℕ, ◌<◌, ◌≤◌, ◌-◌, ◌+◌, ◌*◌, ◌^◌, Bool, ◌||◌, ℤ, List, [], ◌∷◌, length, map, slice_index, pos, All, IfSome, Option, Ok}
+use Rattle.std.specs.Prelude.{◌≡◌, ℕ, ◌<◌, ◌≤◌, ◌-◌, ◌+◌, ◌*◌, ◌^◌, Bool, ◌||◌, List, [], ◌∷◌, length, map, slice_index, pos, All, IfSome, Option, Ok}
 use Rattle.tt_core.specs.Bits.{stride}
 use Rattle.tt_core.specs.Faults.{Fault}
 use Rattle.tt_core.specs.Limits.{width_limit}

@@ -1,9 +1,8 @@
 use Rattle.std.proofs.Common.{◌≡◌, ◌∙◌, ◌||◌, ap, sym, Some, None}
 use Rattle.std.proofs.lemmas.Result.{on_ok_weaker}
 use Rattle.tt_scan.specs.Contours.{contours_at}
-use Rattle.tt_scan_dropouts.specs.Pictures.{is_among, is_dropout_from}
+use Rattle.tt_scan_dropouts.specs.Pictures.{is_among}
 use Rattle.tt_render.specs.Glyphs as glyphs
-use Rattle.tt_render.specs.Pixels.{is_filled_from}
 use Rattle.tt_render.proofs.Blackened.{or_false}
 use Rattle.tt_render.proofs.Filled.{filled_from, none_filled}
 use Rattle.tt_render.proofs.dropouts.push_glyph.Goals as goal
