@@ -1,22 +1,25 @@
 #!/usr/bin/env python3
-"""Makes map.txt, draw.txt, fitted.txt, fallback.txt and best.txt of cases.txt, which stands beside this file and says at
-its head what a case is.
+"""Makes map.txt, draw.txt, fitted.txt, fallback.txt and best.txt of cases.txt, which stands beside this file and says
+at its head what a case is.
 
   python3 tests/rows/make_rows.py
 
 A font is put together from the test font's tables and what a case changes of them. The tables stand in the order of
 their tags, each at a multiple of four bytes. A glyph of an odd number of bytes gets a zero, loca follows, and a left
-side bearing is the xMin of its glyph where none is named.
+side bearing is the xMin of its glyph where none is named. A glyph that is told by its points has a byte of flags for
+each, and two bytes for each coordinate.
 
 With fallback a glyph whose program is refused, and no other, is drawn without programs and told, by a line for each
 distinct glyph. So the answer to `fallback` follows from those to `fitted` and `unfitted` where the text is one
 character repeated, and a case need not say it; of another text it must.
 
 With best it is the answer to `fallback`, unless a program is refused that the whole instruction set may run, or where
-something is not there, or components are nested too deep for the others: such a case says what it is.
+something is not there, or components are nested too deep for the others, or where dropouts are filled: such a case says
+what it is.
 """
 import ast
 import pathlib
+from itertools import accumulate
 
 HERE = pathlib.Path(__file__).parent
 HEAD = """\
@@ -59,6 +62,8 @@ OF_FULL = (
 )
 # Of the letters of a test font whose cmap is its own.
 GLYPHS = {'"A"': 1, '"B"': 2, '"AA"': 1}
+# By these scan types dropouts are filled.
+SCAN_TYPES = ["0", "1", "4", "5"]
 
 
 def two(number):
@@ -71,18 +76,41 @@ def bytes_of(words):
     return b"".join(bytes.fromhex(digits) * int(times or 1) for digits, _, times in parts)
 
 
+def contours_of(words):
+    """Returns the contours of points as cases.txt has them: x, y and whether the point is on the curve."""
+    contours = " ".join(words).split("/")
+    return [[(*map(int, it.rstrip("~").split(",")), it[-1] != "~") for it in each.split()] for each in contours]
+
+
+def simple_glyph(contours, code):
+    points = [it for contour in contours for it in contour]
+    xs, ys, flags = zip(*points)
+    ends = [count - 1 for count in accumulate(map(len, contours))]
+    head = [len(contours), min(xs), min(ys), max(xs), max(ys), *ends, len(code)]
+    steps = [after - before for each in (xs, ys) for before, after in zip((0, *each), each)]
+    return b"".join(map(two, head)) + code + bytes(flags) + b"".join(map(two, steps))
+
+
 class Font:
     """A font's glyphs and tables, and what is done to its bytes last."""
 
     def __init__(self, like=None):
         self.tables = dict(like.tables) if like else {}
         self.glyphs = dict(like.glyphs) if like else {}
+        self.outlines = dict(like.outlines) if like else {}
+        self.codes = dict(like.codes) if like else {}
         self.advances = dict(like.advances) if like else {}
-        self.bearings, self.patches = {}, []
+        self.bearings = dict(like.bearings) if like else {}
+        self.patches = list(like.patches) if like else []
 
     def change(self, word, of):
         if word == "glyph":
             self.glyphs[int(of[0])] = bytes_of(of[1:])
+            self.outlines.pop(int(of[0]), None)
+        elif word == "outline":
+            self.outlines[int(of[0])] = contours_of(of[1:])
+        elif word == "code":
+            self.codes[int(of[0])] = bytes_of(of[1:])
         elif word == "advance":
             self.advances[int(of[0])] = int(of[1])
         elif word == "bearing":
@@ -98,7 +126,8 @@ class Font:
     def made_of_glyphs(self):
         """Returns glyf, loca and hmtx."""
         glyf, loca, hmtx = b"", two(0), b""
-        for number, glyph in sorted(self.glyphs.items()):
+        told = {number: simple_glyph(it, self.codes.get(number, b"")) for number, it in self.outlines.items()}
+        for number, glyph in sorted({**self.glyphs, **told}.items()):
             bearing = self.bearings.get(number, int.from_bytes(glyph[2:4], "big"))
             glyf += glyph + bytes(len(glyph) % 2)
             loca += two(len(glyf) // 2)
@@ -134,10 +163,10 @@ def text_of(word):
 
 
 def picture(rows):
-    """Returns the P4 file of rows of '#' and '.'."""
+    """Returns the P4 file of rows of '#', 'r', 'c' and '.'."""
     file = f"P4\n{len(rows[0])} {len(rows)}\n".encode()
     for row in rows:
-        bits = row.replace("#", "1").replace(".", "0")
+        bits = row.translate(str.maketrans("#rc.", "1110"))
         bits += "0" * (-len(bits) % 8)
         file += int(bits, 2).to_bytes(len(bits) // 8, "big")
     return file
@@ -156,12 +185,53 @@ def paragraphs():
             found = []
 
 
+def by_each_type(lines):
+    """Yields the lines of each case that a paragraph `dropouts` stands for."""
+    name, at = lines[0][1], lines.index(["types", "none", *SCAN_TYPES])
+    none, *filled = ([[row] for row in column] for column in zip(*lines[at + 1 :]))
+    shape = ['"A"', "16", "0"]
+    for scan_type, rows in zip(SCAN_TYPES, filled):
+        prep = ["table", "prep", *f"B8 01FF 85 B0 0{scan_type} 8D".split()]
+        questions = [["best", *shape, "by", scan_type], *rows]
+        if scan_type == "0":
+            questions = [["unfitted", *shape], *none, ["fitted", *shape], *none, *questions]
+        yield [["case", f"dropouts_{name}_by_type_{scan_type}"], *lines[1:at], prep, *questions]
+
+
+def cases():
+    """Yields the lines of each case, and of each paragraph `cuts`, with the font that they change."""
+    base = Font()
+    for lines in paragraphs():
+        if lines[0][0] == "font":
+            base = Font(base)
+            for words in lines[1:]:
+                base.change(words[0], words[1:])
+        elif lines[0][0] == "dropouts":
+            for each in by_each_type(lines):
+                yield each, base
+        else:
+            yield lines, base
+
+
+def font_of(lines, base):
+    """Returns the file of a case, and how many of its bytes are there, or None."""
+    font, cut = Font(base), None
+    for words in lines[1:]:
+        if words[0] in FILES:
+            break
+        if words[0] == "cut":
+            cut = int(words[1])
+        else:
+            font.change(words[0], words[1:])
+    return font.file(), cut
+
+
 def asked(lines):
-    """Yields each question of a case: the command, its words, the lines of its answer."""
+    """Yields each question of a case: the command, its text and shape, the lines of its answer."""
     for at, words in enumerate(lines):
         if words[0] in FILES:
             end = next((k for k in range(at + 1, len(lines)) if lines[k][0] in FILES), len(lines))
-            yield words[0], words[1:], lines[at + 1 : end]
+            yield words[0], words[1:4], lines[at + 1 : end]
 
 
 def answer(command, lines):
@@ -206,42 +276,40 @@ def by_best(name, questions):
             yield "best", words, lines
 
 
+def rows_of_cuts(lines):
+    """Yields the rows of a paragraph `cuts`, with the file that each stands in."""
+    for size in range(int(lines[0][1]), int(lines[0][3]) + 1):
+        line = " ".join(lines[1][2:]).replace("SIZE", str(size))
+        yield "map", f"cut_to_{size}_bytes cut:{size} 41 {lines[1][1]} - {line}"
+        for table in FILES["draw"]:
+            yield table, f"cut_to_{size}_bytes cut:{size} 41 16 0 {lines[1][1]} - {line}"
+
+
+def rows_of_case(lines, base, whole):
+    """Yields the rows of a case, with the file that each stands in."""
+    name, (file, cut) = lines[0][1], font_of(lines, base)
+    place = f"cut:{cut}" if cut is not None else "whole" if file == whole else file.hex()
+    questions = list(asked(lines))
+    questions += fallen_back(questions)
+    others = [it for it in questions if it[0] != "best"]
+    for command, words, answered in [*others, *by_best(name, questions)]:
+        status, stdout, line = answer(command, answered)
+        fields = [name, place, hexadecimal(text_of(words[0])), *words[1:], status, hexadecimal(stdout), line]
+        for table in FILES[command]:
+            yield table, " ".join(fields)
+
+
 def main():
-    base, whole, made = Font(), b"", {table: [] for table in HEADS}
-    for lines in paragraphs():
-        kind, name = lines[0][0], lines[0][1]
-        if kind == "font":
-            for words in lines[1:]:
-                base.change(words[0], words[1:])
-            whole = base.file()
-        elif kind == "cuts":
-            for size in range(int(lines[0][1]), int(lines[0][3]) + 1):
-                line = " ".join(lines[1][2:]).replace("SIZE", str(size))
-                made["map"].append(f"cut_to_{size}_bytes cut:{size} 41 {lines[1][1]} - {line}")
-                for table in FILES["draw"]:
-                    made[table].append(f"cut_to_{size}_bytes cut:{size} 41 16 0 {lines[1][1]} - {line}")
-        else:
-            font = Font(base)
-            first = next(at for at, words in enumerate(lines) if words[0] in FILES)
-            cut = None
-            for words in lines[1:first]:
-                if words[0] == "cut":
-                    cut = int(words[1])
-                else:
-                    font.change(words[0], words[1:])
-            file = font.file()
-            place = f"cut:{cut}" if cut is not None else "whole" if file == whole else file.hex()
-            questions = list(asked(lines))
-            questions += fallen_back(questions)
-            others = [it for it in questions if it[0] != "best"]
-            for command, words, lines in [*others, *by_best(name, questions)]:
-                status, stdout, line = answer(command, lines)
-                fields = [name, place, hexadecimal(text_of(words[0])), *words[1:], status, hexadecimal(stdout), line]
-                for table in FILES[command]:
-                    made[table].append(" ".join(fields))
+    whole, made = b"", {table: [] for table in HEADS}
+    for lines, base in cases():
+        whole = whole or base.file()
+        rows = rows_of_cuts(lines) if lines[0][0] == "cuts" else rows_of_case(lines, base, whole)
+        for table, row in rows:
+            made[table].append(row)
     for table, lines in made.items():
         text = HEAD.format(*HEADS[table]) + f"font {whole.hex()}\n" + "\n".join(lines) + "\n"
         (HERE / f"{table}.txt").write_text(text, encoding="utf-8")
 
 
-main()
+if __name__ == "__main__":
+    main()
