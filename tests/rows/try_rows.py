@@ -2,7 +2,9 @@
 """Draws each picture of draw.txt again, by fontTools and the rules that ../outlines/outlines.py states, and looks up
 each answer of map.txt and each refusal of its cmap again, by the plain search of ../characters/plain.py. Neither shares
 code with tt_render. The pictures of fallback.txt with lines beside them are put together: of a glyph that is told by
-fontTools, and of another one from the picture in fitted.txt. Says where an answer is another.
+fontTools, and of another one from the picture in fitted.txt. Where cases.txt says by which scan types a picture of best
+is drawn, it is drawn again by fontTools and the rules of dropouts.py, and each pixel has to be added by rows or by
+columns as is said there. Says where an answer is another.
 
   apt-get install python3-fonttools
   /usr/bin/python3 tests/rows/try_rows.py
@@ -13,11 +15,15 @@ import io
 import logging
 import pathlib
 import sys
+from itertools import takewhile
 
 HERE = pathlib.Path(__file__).parent
 sys.path.insert(0, str(HERE.parent / "real_lines"))
 sys.path.insert(1, str(HERE.parent / "characters"))
+from dropouts import drawn_by_types
 from make_expected import drawn
+from make_rows import FILES, font_of, text_of
+from make_rows import cases as worked_cases
 from plain import Characters, Refused
 
 logging.disable(logging.WARNING)
@@ -77,6 +83,22 @@ def other_fallen_back():
     ]
 
 
+def other_dropouts():
+    """Returns how many pictures of best were drawn again by scan types, and the names of those that are others."""
+    count, others = 0, []
+    for lines, base in worked_cases():
+        for at, words in enumerate(lines):
+            if words[0] != "best" or "by" not in words:
+                continue
+            text, (size, margin, _, *types) = text_of(words[1]).decode(), words[2:]
+            rows = drawn_by_types(io.BytesIO(font_of(lines, base)[0]), text, int(size), int(margin), types)
+            count += 1
+            wanted = takewhile(lambda it: it[0] != "told" and it[0] not in FILES, lines[at + 1 :])
+            if [[it] for it in rows] != list(wanted) or len(types) != len(text):
+                others.append(lines[0][1])
+    return count, others
+
+
 def told(count, what, others):
     print(f"{count} {what}; other ones: {' '.join(others) or 'none'}")
     return bool(others)
@@ -92,6 +114,8 @@ def main():
     failed = told(len(pictures), "pictures drawn again", others)
     count, others = other_fallen_back()
     failed |= told(count, "pictures with glyphs drawn without programs put together", others)
+    count, others = other_dropouts()
+    failed |= told(count, "pictures drawn again by scan types", others)
     answers = [it for it in cases("map.txt") if it[0][3] == "0" or it[0][6].startswith("cmap+")]
     others = [words[0] for words, font, text in answers if looked_up(font, text) != words[4:]]
     sys.exit(told(len(answers), "answers and refusals of cmap looked up again", others) | failed)
