@@ -8,7 +8,7 @@ ghost use Rattle.tt_scan_dropouts.specs.Dropouts.{columns_of, greatest_x, least_
 ghost use Rattle.tt_scan_dropouts.specs.Gaps.{columns_between};
 ghost use Rattle.tt_scan_dropouts.specs.Windows.{ColumnsFit, ExtentFits};
 
-use crate::crossing::{HALF, PIXEL, line_from};
+use crate::crossing::{HALF, PIXEL, line_from, whole_pixels};
 use crate::mark::Columns;
 use tt_scan::Edge;
 
@@ -18,7 +18,7 @@ fn gap_at(x: i64) -> i64
     ensures exact { result ≡ gap_at x }
     ensures small { unsigned_abs result < 2 ^ 19 }
 {
-    (x - HALF).div_euclid(PIXEL)
+    whole_pixels(x - HALF)
 }
 
 /// The columns with a centre from the least to the greatest x, or else the one that is nearer to the middle.

@@ -1,7 +1,7 @@
 //! Where the edges of an outline cross the centre lines of rows. OpenType, "TrueType Fundamentals". Lengths are in 1/8192
 //! pixel.
 
-ghost use Rattle.std.specs.Prelude.{◌≡◌, ◌∷◌, [], ◌^◌, ◌<◌, ◌≤◌, ◌≤ℤ◌, ◌<ℤ◌, ◌-ℤ◌, ◌*ℤ◌, unsigned_abs, IfNone, IfSome};
+ghost use Rattle.std.specs.Prelude.{◌≡◌, ◌∷◌, [], pos, ◌^◌, ◌<◌, ◌≤◌, ◌≤ℤ◌, ◌<ℤ◌, ◌-ℤ◌, ◌*ℤ◌, unsigned_abs, IfNone, IfSome};
 ghost use Rattle.std.specs.Int.{int_div_euclid};
 ghost use Rattle.tt_scan.specs.Winding.{EdgeFits};
 ghost use Rattle.tt_scan_dropouts.specs.Crossings.{centre, crossing, crossing_at, edge_x, line_crossed, line_from, lines_crossed, touches, upward};
@@ -13,6 +13,16 @@ use tt_scan::Edge;
 pub(crate) const PIXEL: i64 = 8192;
 
 pub(crate) const HALF: i64 = 4096;
+
+/// How many whole pixels a length has: the floor.
+#[inline(always)]
+pub(crate) fn whole_pixels(length: i64) -> i64
+    requires { unsigned_abs length < 2 ^ 34 }
+    ensures exact { result ≡ int_div_euclid length (pos 8192) }
+    ensures small { unsigned_abs result < 2 ^ 22 }
+{
+    length >> 13
+}
 
 /// Where a line stands, and a column's centre.
 #[inline(always)]
@@ -30,7 +40,7 @@ pub(crate) fn line_from(y: i64) -> i64
     ensures exact { result ≡ line_from y }
     ensures small { unsigned_abs result < 2 ^ 19 }
 {
-    (y + (HALF - 1)).div_euclid(PIXEL)
+    whole_pixels(y + (HALF - 1))
 }
 
 /// The edge from its lower end to its upper.
@@ -116,7 +126,7 @@ fn crossing_at(up: bool, line: i64, x: i64) -> Crossing
     let from = x - HALF;
     Crossing {
         line: line as i32,
-        gap: from.div_euclid(PIXEL) as i32,
+        gap: whole_pixels(from) as i32,
         place: from.rem_euclid(PIXEL) as u16,
         up,
     }

@@ -9,10 +9,10 @@ returns c =
     let line : SFits w64 c.args.line = c.ranges.line in
     let x : SFits w64 c.args.x = c.ranges.x in
     let from : SFits w64 (c.args.x -ℤ pos 4096) = omega (arith, ints, c.requires.place) in
-    let value = simp to_z-of_z at c.div_euclid.ensures in
+    let value = simp to_z-of_z at c.whole_pixels.ensures.exact in
     let rest = simp to_z-of_z at c.rem_euclid.ensures.value in
-    let gap : SFits w32 c.div_euclid.result = rw value (gap_small c.args.x c.requires.place) in
-    let wide : SFits w64 c.div_euclid.result = omega (arith, ints, gap) in
+    let gap : SFits w32 c.whole_pixels.result = rw value (gap_small c.args.x c.requires.place) in
+    let wide : SFits w64 c.whole_pixels.result = omega (arith, ints, gap) in
     let narrow : SFits w32 c.args.line = omega (arith, ints, c.requires.line) in
     let place : SFits w64 c.rem_euclid.result = rw rest (place_small c.args.x) in
     simp to_z-of_z (rw (value, rest) refl)
