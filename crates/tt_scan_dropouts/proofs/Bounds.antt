@@ -98,6 +98,28 @@ crosses_within l r b t e k h within =
     (omega (arith, ints, clamps, up.left, x.0)) (omega (arith, ints, clamps, up.right, x.1))
     (omega (arith, ints, clamps, up.bottom, low)) (omega (arith, ints, clamps, up.top, high))
 
+-- an edge whose ends lie in one gap crosses its lines in that gap
+own_box : (e : Edge) → EdgeWithin (int_min e.ax e.bx) (int_max e.ax e.bx) (int_min e.ay e.by) (int_max e.ay e.by) e
+own_box e = record {
+  left = omega (arith, ints);
+  right = omega (arith, ints);
+  bottom = omega (arith, ints);
+  top = omega (arith, ints);
+}
+
+pub crosses_in_its_gap : (e : Edge) (k : ℕ) → k < lines_crossed e → gap_at e.ax ≡ gap_at e.bx
+    → (crossing e (line_crossed e k)).gap ≡ gap_at e.ax
+crosses_in_its_gap e k within same =
+    let at = crosses_within (int_min e.ax e.bx) (int_max e.ax e.bx) (int_min e.ay e.by) (int_max e.ay e.by) e k
+    (own_box e) within in
+    let left = at.left in
+    let right = at.right in
+    let a_low = floor_low (e.ax -ℤ pos 4096) in
+    let a_high = floor_high (e.ax -ℤ pos 4096) in
+    let b_low = floor_low (e.bx -ℤ pos 4096) in
+    let b_high = floor_high (e.bx -ℤ pos 4096) in
+    omega (arith, ints, clamps, left, right, same, a_low, a_high, b_low, b_high)
+
 crossings_within : (l r b t : ℤ) (e : Edge) → EdgeWithin l r b t e → All (IsWithin l r b t) (crossings e)
 crossings_within l r b t e h = λ k d less.
     let below : k < lines_crossed e = rw length-map-range_with_len at less in

@@ -1,24 +1,20 @@
 -- Where no edge leaves something in a free gap, a pass adds nothing.
-use Rattle.std.proofs.Common.{◌≡◌, refl, sym, ap, ap₂, ◌∙◌, ℕ, zero, suc, ◌+◌, ◌<◌, Bool, true, false, ◌||◌, List, [], ◌∷◌, ◌++◌, map, length, get_or, arith}
-use Rattle.std.specs.Prelude.{ℤ, pos, ◌-ℤ◌, None}
+use Rattle.std.proofs.Common.{◌≡◌, refl, sym, ap, ap₂, ◌∙◌, ℕ, zero, suc, ◌+◌, ◌<◌, Bool, true, false, not, ◌&&◌, ◌||◌, List, [], ◌∷◌, ◌++◌, map, length, get_or, arith}
+use Rattle.std.specs.Prelude.{ℤ, pos, ◌+ℤ◌, ◌-ℤ◌, None}
 use Rattle.std.specs.List.{flat_map, list_any, range_with_len}
-use Rattle.std.proofs.lemmas.List.{get_or-map, length-map}
 use Rattle.std.proofs.lemmas.List.Folds.{list_any-append, list_any_at}
 use Rattle.std.proofs.lemmas.List.FromFn.{get_or-map-range_with_len, length-map-range_with_len}
 use Rattle.tt_scan.specs.Contours.{AreEnds, contours_at}
 use Rattle.tt_scan.specs.declared.edge.Edge.{Edge}
 use Rattle.tt_scan_dropouts.specs.Crossings.{crossing, crossings, line_crossed, lines_crossed, touches}
-use Rattle.tt_scan_dropouts.specs.Dropouts.{columns_of, edges_of, row_adds, turned_round}
+use Rattle.tt_scan_dropouts.specs.Dropouts.{columns_of, edges_of, row_adds}
 use Rattle.tt_scan_dropouts.specs.Gaps.{asked, free_marks, is_added, is_free}
 use Rattle.tt_scan_dropouts.specs.Walk.{contour_marks, edge_marks, is_in_free_gap, mark_of, marks, marks_of_step, some_in_free_gap, step_marks, steps_of, walk}
-use Rattle.tt_scan_dropouts.specs.Windows.{seen_by}
 use Rattle.tt_scan_dropouts.specs.declared.mark.Columns.{Columns}
 use Rattle.tt_scan_dropouts.specs.declared.mark.Crossing.{Crossing}
 use Rattle.tt_scan_dropouts.specs.declared.mark.Rules.{Rules}
 use Rattle.tt_scan_dropouts.specs.declared.mark.Step.{Step}
 use Rattle.tt_scan_dropouts.specs.declared.mark.Step.TheVariants as step
-use Rattle.tt_scan_dropouts.specs.declared.window.Over.{Over}
-use Rattle.tt_scan_dropouts.specs.declared.window.Over.TheVariants as over
 use Rattle.tt_scan_dropouts.proofs.FreeMarks.{added_kept}
 use Rattle.tt_scan_dropouts.proofs.Outlines.{edges_at}
 use Rattle.tt_scan_dropouts.proofs.Walks.{free_append, free_edge, more_crossings}
@@ -30,16 +26,6 @@ first_not false b not = refl
 other_not : (a b : Bool) → (a || b) ≡ false → b ≡ false
 other_not true b not = cc
 other_not false b not = not
-
--- the edges as a pass sees them
-
-pub seen_by_rows : (es : List Edge) → map (seen_by over.Rows) es ≡ es
-seen_by_rows [] = refl
-seen_by_rows (e ∷ es) = ap (λ r. e ∷ r) (seen_by_rows es)
-
-pub seen_by_columns : (es : List Edge) → map (seen_by over.Columns) es ≡ map turned_round es
-seen_by_columns [] = refl
-seen_by_columns (e ∷ es) = ap (λ r. turned_round e ∷ r) (seen_by_columns es)
 
 -- the crossings of an edge, looked at one after the other
 
@@ -62,16 +48,6 @@ one_settles black e k within free =
     let count = length-map-range_with_len f 0 (lines_crossed e) in
     let it = get_or-map-range_with_len f 0 (lines_crossed e) k k (f 0) within (omega arith) in
     list_any_at (λ (c : Crossing). is_free black c.gap c.line) (crossings e) k (f 0) (rw count within) (rw it free)
-
--- the edges, looked at one after the other
-
-pub one_edge_settles : (black : ℤ → ℤ → Bool) (stubs : Bool) (over : Over) (es : List Edge) (i : ℕ) (d e : Edge)
-    → i < length es → e ≡ seen_by over (get_or es i d) → is_in_free_gap stubs black e ≡ true
-    → list_any (is_in_free_gap stubs black) (map (seen_by over) es) ≡ true
-one_edge_settles black stubs over es i d e within is free =
-    let count : i < length (map (seen_by over) es) = rw length-map within in
-    let it : get_or (map (seen_by over) es) i e ≡ e = get_or-map (seen_by over) es i d e within ∙ sym is in
-    list_any_at (is_in_free_gap stubs black) (map (seen_by over) es) i e count (rw it free)
 
 -- crossings that lie in no free gap leave nothing there
 
@@ -196,3 +172,46 @@ nothing_added rules black es ends fit none p j =
     sym (added_kept rules b black (marks rules.stubs contours) p j)
     ∙ ap (λ ms. is_added rules b ms black p j) (no_free_marks black rules.stubs es ends fit none)
     ∙ none_added rules b black p j
+
+-- where more is black, no other gap is free
+
+none_of_two : (a b more_a more_b : Bool) → (a ≡ true → more_a ≡ true) → (b ≡ true → more_b ≡ true)
+    → (not a && not b) ≡ false → (not more_a && not more_b) ≡ false
+none_of_two true b more_a more_b first second none = rw (first refl) refl
+none_of_two false true true more_b first second none = refl
+none_of_two false true false more_b first second none = rw (second refl) refl
+none_of_two false false more_a more_b first second none = absurd cc
+
+-- so much is black at least
+abbrev pub IsWithin : (ℤ → ℤ → Bool) → (ℤ → ℤ → Bool) → Type 0
+IsWithin black more = (c j : ℤ) → black c j ≡ true → more c j ≡ true
+
+none_freed : (black more : ℤ → ℤ → Bool) (cs : List Crossing) → IsWithin black more
+    → some_in_free_gap black cs ≡ false → some_in_free_gap more cs ≡ false
+none_freed black more [] within none = refl
+none_freed black more (c ∷ cs) within none =
+    let here = none_of_two (black c.gap c.line) (black (c.gap +ℤ pos 1) c.line) (more c.gap c.line)
+    (more (c.gap +ℤ pos 1) c.line) (within c.gap c.line) (within (c.gap +ℤ pos 1) c.line)
+    (first_not (is_free black c.gap c.line) (some_in_free_gap black cs) none) in
+    rw here (none_freed black more cs within (other_not (is_free black c.gap c.line) (some_in_free_gap black cs) none))
+
+none_freed_by : (stubs : Bool) (black more : ℤ → ℤ → Bool) (e : Edge) → IsWithin black more
+    → is_in_free_gap stubs black e ≡ false → is_in_free_gap stubs more e ≡ false
+none_freed_by true black more e within none =
+    let crossed = some_in_free_gap black (crossings e) in
+    let touched = some_in_free_gap black (touches e) in
+    rw (
+      none_freed black more (crossings e) within (first_not crossed touched none),
+      none_freed black more (touches e) within (other_not crossed touched none),
+    ) refl
+none_freed_by false black more e within none =
+    rw (none_freed black more (crossings e) within (first_not (some_in_free_gap black (crossings e)) false none)) refl
+
+pub still_none : (stubs : Bool) (black more : ℤ → ℤ → Bool) (es : List Edge) → IsWithin black more
+    → list_any (is_in_free_gap stubs black) es ≡ false → list_any (is_in_free_gap stubs more) es ≡ false
+still_none stubs black more [] within none = refl
+still_none stubs black more (e ∷ es) within none =
+    let here = is_in_free_gap stubs black e in
+    let rest = list_any (is_in_free_gap stubs black) es in
+    rw (none_freed_by stubs black more e within (first_not here rest none))
+    (still_none stubs black more es within (other_not here rest none))

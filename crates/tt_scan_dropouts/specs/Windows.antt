@@ -4,9 +4,7 @@ use Rattle.std.specs.Prelude.{ℕ, ◌+◌, ◌*◌, ◌^◌, ◌<◌, ◌≤◌
 use Rattle.std.specs.Int.{int_max}
 use Rattle.tt_core.specs.Bits.{bit, stride}
 use Rattle.tt_core.specs.Limits.{height_limit}
-use Rattle.tt_scan.specs.declared.edge.Edge.{Edge}
 use Rattle.tt_scan.specs.declared.edge.Frame.{Frame}
-use Rattle.tt_scan_dropouts.specs.Dropouts.{turned_round}
 use Rattle.tt_scan_dropouts.specs.Gaps.{has_pixel}
 use Rattle.tt_scan_dropouts.specs.declared.columns.Extent.{Extent}
 use Rattle.tt_scan_dropouts.specs.declared.mark.Columns.{Columns}
@@ -104,8 +102,3 @@ is_black_by over.Columns b p j = is_black_in b j p
 abbrev pub has_pixel_by : Over → List Pixel → ℤ → ℤ → Bool
 has_pixel_by over.Rows ps c j = has_pixel ps c j
 has_pixel_by over.Columns ps c j = has_pixel ps j c
-
--- an edge as a pass over rows or columns sees it
-abbrev pub seen_by : Over → Edge → Edge
-seen_by over.Rows e = e
-seen_by over.Columns e = turned_round e

@@ -8,7 +8,7 @@ ghost use Rattle.tt_scan_dropouts.specs.Crossings.{centre};
 ghost use Rattle.tt_scan_dropouts.specs.Gaps.{has_pixel, is_free};
 ghost use Rattle.tt_scan_dropouts.specs.Windows.{WindowFits, first_row, frame_of, has, has_rows, is_black_in, is_black_by, place, row_from_top};
 
-use crate::mark::{Crossing, Pixel};
+use crate::mark::Pixel;
 use crate::window::{Over, Window, has, offset};
 use std::alloc::{AllocError, Global};
 use std::marker::Model;
@@ -194,13 +194,12 @@ impl Bitmap {
         }
     }
 
-    /// Whether both pixels of the gap are white in which a crossing lies.
+    /// Whether both pixels of a gap of a line are white.
     #[inline(always)]
-    pub(crate) fn is_free(&self, over: Over, at: Crossing) -> bool
-        ensures { result ≡ is_free (is_black_by over self.now) at.gap at.line }
+    pub(crate) fn is_free(&self, over: Over, gap: i64, line: i64) -> bool
+        requires { unsigned_abs gap < 2 ^ 32 }
+        ensures { result ≡ is_free (is_black_by over self.now) gap line }
     {
-        let line = i64::from(at.line);
-        let gap = i64::from(at.gap);
         !self.is_black_by(over, gap, line) && !self.is_black_by(over, gap + 1, line)
     }
 

@@ -3,23 +3,13 @@
 ghost use Rattle.std.specs.Prelude.{◌≡◌, ◌^◌, ◌<◌, map, unsigned_abs, All};
 ghost use Rattle.std.specs.Int.{int_max, int_min};
 ghost use Rattle.tt_scan.specs.Winding.{EdgeFits};
-ghost use Rattle.tt_scan_dropouts.specs.Crossings.{gap_at};
 ghost use Rattle.tt_scan_dropouts.specs.Dropouts.{columns_of, greatest_x, least_x, turned_round};
 ghost use Rattle.tt_scan_dropouts.specs.Gaps.{columns_between};
 ghost use Rattle.tt_scan_dropouts.specs.Windows.{ColumnsFit, ExtentFits};
 
-use crate::crossing::{HALF, PIXEL, line_from, whole_pixels};
+use crate::crossing::{PIXEL, gap_at, line_from};
 use crate::mark::Columns;
 use tt_scan::Edge;
-
-/// The last centre that is not right of a place.
-fn gap_at(x: i64) -> i64
-    requires { unsigned_abs x < 2 ^ 30 }
-    ensures exact { result ≡ gap_at x }
-    ensures small { unsigned_abs result < 2 ^ 19 }
-{
-    whole_pixels(x - HALF)
-}
 
 /// The columns with a centre from the least to the greatest x, or else the one that is nearer to the middle.
 fn columns_between(low: i64, high: i64) -> Columns

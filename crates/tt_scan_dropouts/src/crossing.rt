@@ -4,7 +4,7 @@
 ghost use Rattle.std.specs.Prelude.{◌≡◌, ◌∷◌, [], pos, ◌^◌, ◌<◌, ◌≤◌, ◌≤ℤ◌, ◌<ℤ◌, ◌-ℤ◌, ◌*ℤ◌, unsigned_abs, IfNone, IfSome};
 ghost use Rattle.std.specs.Int.{int_div_euclid};
 ghost use Rattle.tt_scan.specs.Winding.{EdgeFits};
-ghost use Rattle.tt_scan_dropouts.specs.Crossings.{centre, crossing, crossing_at, edge_x, line_crossed, line_from, lines_crossed, touches, upward};
+ghost use Rattle.tt_scan_dropouts.specs.Crossings.{centre, crossing, crossing_at, edge_x, gap_at, line_crossed, line_from, lines_crossed, touches, upward};
 
 use crate::mark::Crossing;
 use tt_scan::Edge;
@@ -43,6 +43,16 @@ pub(crate) fn line_from(y: i64) -> i64
     whole_pixels(y + (HALF - 1))
 }
 
+/// The last centre that is not right of a place.
+#[inline(always)]
+pub(crate) fn gap_at(x: i64) -> i64
+    requires { unsigned_abs x < 2 ^ 30 }
+    ensures exact { result ≡ gap_at x }
+    ensures small { unsigned_abs result < 2 ^ 19 }
+{
+    whole_pixels(x - HALF)
+}
+
 /// The edge from its lower end to its upper.
 #[inline(always)]
 fn upward(edge: Edge) -> Edge
@@ -75,7 +85,7 @@ pub(crate) fn lines_crossed(edge: Edge) -> u64
 
 /// The line that an edge crosses after `k` others.
 #[inline(always)]
-fn line_crossed(edge: Edge, k: u64) -> i64
+pub(crate) fn line_crossed(edge: Edge, k: u64) -> i64
     requires edge { EdgeFits edge }
     requires within { k < lines_crossed edge }
     ensures exact { result ≡ line_crossed edge k }
@@ -114,6 +124,21 @@ fn edge_x(edge: Edge, y: i64) -> i64
 {
     let up = upward(edge);
     up.ax + run_to(up, y)
+}
+
+/// The gap in which an edge crosses a line, after `k` others. Where both its ends lie in one gap no division is needed.
+#[inline(always)]
+pub(crate) fn gap_crossed(edge: Edge, k: u64) -> i64
+    requires edge { EdgeFits edge }
+    requires within { k < lines_crossed edge }
+    ensures exact { result ≡ (crossing edge (line_crossed edge k)).gap }
+    ensures small { unsigned_abs result < 2 ^ 22 }
+{
+    let gap = gap_at(edge.ax);
+    if gap == gap_at(edge.bx) {
+        return gap;
+    }
+    whole_pixels(edge_x(edge, centre(line_crossed(edge, k))) - HALF)
 }
 
 /// A place of a line.

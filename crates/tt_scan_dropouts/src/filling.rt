@@ -1,7 +1,7 @@
 //! The dropouts of a glyph in a window: first a pass over the rows, and then one over the columns, for which the pixels
 //! that the first one added are black.
 
-ghost use Rattle.std.specs.Prelude.{◌≡◌, ℤ, ◌^◌, ◌*◌, ◌≤◌, ◌||◌, ◌&&◌, [], ◌∷◌, length, map, All, IfOk, OnOk};
+ghost use Rattle.std.specs.Prelude.{◌≡◌, false, ℤ, ◌^◌, ◌*◌, ◌≤◌, ◌||◌, ◌&&◌, [], ◌∷◌, length, map, All, IfOk, OnOk};
 ghost use Rattle.std.specs.List.{list_any};
 ghost use Rattle.std.specs.Ordering.{int_eq};
 ghost use Rattle.tt_scan.specs.Contours.{AreEnds, contours_at};
@@ -9,7 +9,7 @@ ghost use Rattle.tt_scan.specs.Winding.{EdgeFits};
 ghost use Rattle.tt_scan_dropouts.specs.Dropouts.{columns_of, crossed, is_dropout, row_adds, turned_round};
 ghost use Rattle.tt_scan_dropouts.specs.Gaps.{has_pixel};
 ghost use Rattle.tt_scan_dropouts.specs.Walk.{is_in_free_gap};
-ghost use Rattle.tt_scan_dropouts.specs.Windows.{WindowFits, has, has_pixel_by, is_black_by, seen_by, widened};
+ghost use Rattle.tt_scan_dropouts.specs.Windows.{WindowFits, has, has_pixel_by, is_black_by, widened};
 ghost use Rattle.tt_scan_dropouts.specs.declared.window.Over.TheVariants as over;
 
 use crate::bitmap::Bitmap;
@@ -61,19 +61,6 @@ pub fn crossings(edges: &[Edge]) -> u64
     all
 }
 
-/// An edge as a pass sees it: one over columns, with x and y exchanged.
-#[inline(always)]
-fn seen_by(over: Over, edge: Edge) -> Edge
-    requires { EdgeFits edge }
-    ensures exact { result ≡ seen_by over edge }
-    ensures fits { EdgeFits result }
-{
-    match over {
-        Over::Rows => edge,
-        Over::Columns => turned_round(edge),
-    }
-}
-
 /// What a pass adds to what is black, by edges as it sees them. Error: memory ran out.
 fn pass_over(
     alloc: Global,
@@ -104,58 +91,67 @@ fn is_in_free_gap(ink: &Bitmap, over: Over, stubs: bool, edge: Edge) -> bool
     crosses_free_gap(ink, over, edge) || (stubs && touches_free_gap(ink, over, edge))
 }
 
-/// Whether some edge, as a pass sees it, does. Else the pass adds nothing, and its walk need not be made.
-#[inline(always)]
-fn some_in_free_gap(ink: &Bitmap, over: Over, stubs: bool, edges: &[Edge]) -> bool
+/// Whether some edge does by rows, and whether some does by columns. Where none does, the pass adds nothing, and its walk
+/// need not be made.
+fn some_in_free_gap(ink: &Bitmap, stubs: bool, edges: &[Edge]) -> (bool, bool)
     requires { All EdgeFits edges.now }
-    ensures { result ≡ list_any (is_in_free_gap stubs (is_black_by over ink.now)) (map (seen_by over) edges.now) }
+    ensures rows { result.0 ≡ list_any (is_in_free_gap stubs (is_black_by over.Rows ink.now)) edges.now }
+    ensures columns { result.1
+        ≡ list_any (is_in_free_gap stubs (is_black_by over.Columns ink.now)) (map turned_round edges.now) }
 {
+    let mut rows = false;
+    let mut columns = false;
     for edge in edges {
-        if is_in_free_gap(ink, over, stubs, seen_by(over, *edge)) {
-            return true;
-        }
+        rows = rows || is_in_free_gap(ink, Over::Rows, stubs, *edge);
+        columns = columns || is_in_free_gap(ink, Over::Columns, stubs, turned_round(*edge));
     }
-    false
+    (rows, columns)
 }
 
-/// What the pass over the rows adds to what is black. Error: memory ran out.
+/// What the pass over the rows adds to what is black; nothing where no edge leaves something in a free gap. Error: memory
+/// ran out.
 fn added_by_rows(
     alloc: Global,
     rules: Rules,
     columns: Columns,
     ink: &Bitmap,
+    some: bool,
     edges: &[Edge],
     ends: &[usize],
 ) -> Result<Vec<Pixel>, AllocError>
     requires columns { columns ≡ columns_of edges.now }
+    requires some { some ≡ false → list_any (is_in_free_gap rules.stubs (is_black_by over.Rows ink.now)) edges.now ≡ false }
     requires edges { All EdgeFits edges.now }
     requires ends { AreEnds (length edges.now) ends.now }
     ensures { IfOk result (λ v. (p j : ℤ) → has_pixel v.items p j
         ≡ row_adds rules (contours_at edges.now ends.now) (is_black_by over.Rows ink.now) p j) }
 {
-    if some_in_free_gap(ink, Over::Rows, rules.stubs, edges) {
-        pass_over(alloc, rules, columns, ink, Over::Rows, edges, ends)
-    } else {
-        Ok(Vec::new(alloc))
+    if !some {
+        return Ok(Vec::new(alloc));
     }
+    pass_over(alloc, rules, columns, ink, Over::Rows, edges, ends)
 }
 
-/// What the pass over the columns adds, column and row exchanged. Error: memory ran out.
+/// What the pass over the columns adds, column and row exchanged; nothing where no edge leaves something in a free gap.
+/// Error: memory ran out.
 fn added_by_columns(
     alloc: Global,
     rules: Rules,
     rows: Columns,
     ink: &Bitmap,
+    some: bool,
     edges: &[Edge],
     ends: &[usize],
 ) -> Result<Vec<Pixel>, AllocError>
     requires rows { rows ≡ columns_of (map turned_round edges.now) }
+    requires some { some ≡ false
+        → list_any (is_in_free_gap rules.stubs (is_black_by over.Columns ink.now)) (map turned_round edges.now) ≡ false }
     requires edges { All EdgeFits edges.now }
     requires ends { AreEnds (length edges.now) ends.now }
     ensures { IfOk result (λ v. (p j : ℤ) → has_pixel v.items p j
         ≡ row_adds rules (contours_at (map turned_round edges.now) ends.now) (is_black_by over.Columns ink.now) p j) }
 {
-    if !some_in_free_gap(ink, Over::Columns, rules.stubs, edges) {
+    if !some {
         return Ok(Vec::new(alloc));
     }
     let turned = all_turned_round(alloc, edges)?;
@@ -227,9 +223,11 @@ pub fn dropouts(
         None => return Ok(Vec::new(alloc)),
     };
     let mut ink = Bitmap::inked(alloc, tape, widened(part))?;
-    let by_rows = added_by_rows(alloc, rules, columns, &ink, edges, ends)?;
+    let (some_by_rows, some_by_columns) = some_in_free_gap(&ink, rules.stubs, edges);
+    let by_rows = added_by_rows(alloc, rules, columns, &ink, some_by_rows, edges, ends)?;
+    // What is black now makes no gap free that was not, so that the columns' answer stays true.
     ink.blacken_all(&by_rows);
-    let by_columns = added_by_columns(alloc, rules, rows, &ink, edges, ends)?;
+    let by_columns = added_by_columns(alloc, rules, rows, &ink, some_by_columns, edges, ends)?;
     let mut found = Vec::new(alloc);
     push_within(&mut found, part, Over::Rows, &by_rows)?;
     push_within(&mut found, part, Over::Columns, &by_columns)?;

@@ -5,18 +5,26 @@ ghost use Rattle.std.specs.Prelude.{◌≡◌, ◌++◌, [], ◌∷◌, ◌<◌,
 ghost use Rattle.tt_scan.specs.Contours.{AreEnds, contours_at};
 ghost use Rattle.tt_scan.specs.Winding.{EdgeFits};
 ghost use Rattle.tt_scan_dropouts.specs.Crossings.{crossings, touches};
-ghost use Rattle.tt_scan_dropouts.specs.Gaps.{free_marks};
+ghost use Rattle.tt_scan_dropouts.specs.Gaps.{free_marks, is_free};
 ghost use Rattle.tt_scan_dropouts.specs.Walk.{contour_marks, edge_marks, mark_of, marks, some_in_free_gap, step_marks, walk_marks};
 ghost use Rattle.tt_scan_dropouts.specs.Windows.{is_black_by};
 
 use crate::bitmap::Bitmap;
-use crate::crossing::{crossing, lines_crossed, touch};
+use crate::crossing::{crossing, gap_crossed, line_crossed, lines_crossed, touch};
 use crate::mark::{Crossing, Mark, Step};
 use crate::steps::walk;
 use crate::stub::is_of_stub;
 use crate::window::Over;
 use std::alloc::{AllocError, Global};
 use tt_scan::Edge;
+
+/// Whether the gap is free in which a crossing lies.
+#[inline(always)]
+pub(crate) fn is_free(ink: &Bitmap, over: Over, at: Crossing) -> bool
+    ensures { result ≡ is_free (is_black_by over ink.now) at.gap at.line }
+{
+    ink.is_free(over, i64::from(at.gap), i64::from(at.line))
+}
 
 /// Whether an edge crosses a free gap.
 #[inline(always)]
@@ -25,7 +33,7 @@ pub(crate) fn crosses_free_gap(ink: &Bitmap, over: Over, edge: Edge) -> bool
     ensures { result ≡ some_in_free_gap (is_black_by over ink.now) (crossings edge) }
 {
     for k in 0..lines_crossed(edge) {
-        if ink.is_free(over, crossing(edge, k)) {
+        if ink.is_free(over, gap_crossed(edge, k), line_crossed(edge, k)) {
             return true;
         }
     }
@@ -39,7 +47,7 @@ pub(crate) fn touches_free_gap(ink: &Bitmap, over: Over, edge: Edge) -> bool
     ensures { result ≡ some_in_free_gap (is_black_by over ink.now) (touches edge) }
 {
     match touch(edge) {
-        Some(at) => ink.is_free(over, at),
+        Some(at) => is_free(ink, over, at),
         None => false,
     }
 }
@@ -55,7 +63,7 @@ fn push_asking(
     ensures { OnOk result (marks.new.items
         ≡ marks.old.items ++ free_marks (is_black_by over ink.now) (mark_of true at ∷ [])) }
 {
-    if ink.is_free(over, at) {
+    if is_free(ink, over, at) {
         marks.push(Mark { at, asks: true })?;
     }
     Ok(())
@@ -74,7 +82,7 @@ fn push_step_marks(
         ≡ marks.old.items ++ free_marks (is_black_by over ink.now) (step_marks steps.now k)) }
 {
     if let Step::Cross(at) = steps[k] {
-        if ink.is_free(over, at) {
+        if is_free(ink, over, at) {
             marks.push(Mark {
                 at,
                 asks: !is_of_stub(steps, k, at),

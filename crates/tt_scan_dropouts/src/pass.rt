@@ -9,6 +9,7 @@ ghost use Rattle.tt_scan_dropouts.specs.declared.mark.Mark.{Mark};
 use crate::bitmap::Bitmap;
 use crate::gaps::{group_end, pixel_of, some_asks};
 use crate::mark::{Columns, Mark, Pixel, Rules};
+use crate::marks::is_free;
 use crate::window::Over;
 use std::alloc::{AllocError, Global};
 
@@ -19,7 +20,7 @@ fn asked(rules: Rules, columns: Columns, over: Over, ink: &Bitmap, marks: &[Mark
         (get_or marks.now 0 d).at.line (get_or marks.now 0 d).at.gap marks.now }
 {
     let at = marks[0].at;
-    if ink.is_free(over, at) && some_asks(marks) {
+    if is_free(ink, over, at) && some_asks(marks) {
         Some(pixel_of(rules, columns, at.gap, marks))
     } else {
         None

@@ -1,11 +1,13 @@
-use Rattle.std.proofs.Common.{◌≡◌, ◌&&◌, ℤ, false, ap, map, sym, ◌∙◌}
+use Rattle.std.proofs.Common.{◌≡◌, refl, ◌&&◌, ℤ, true, false, ap, map, sym, ◌∙◌}
 use Rattle.tt_scan.specs.Contours.{contours_at}
 use Rattle.tt_scan.specs.Winding.{is_black}
 use Rattle.tt_scan_dropouts.specs.Crossings.{centre}
 use Rattle.tt_scan_dropouts.specs.Dropouts.{columns_of, turned_round}
 use Rattle.tt_scan_dropouts.specs.Gaps.{has_pixel}
-use Rattle.tt_scan_dropouts.specs.Windows.{box_has, has, is_black_in}
+use Rattle.tt_scan_dropouts.specs.Windows.{box_has, has, is_black_by, is_black_in}
+use Rattle.tt_scan_dropouts.specs.declared.window.Over.TheVariants as over
 use Rattle.tt_scan_dropouts.proofs.Clips.{clipped_alike, clipped_away}
+use Rattle.tt_scan_dropouts.proofs.NoFreeGap.{still_none}
 use Rattle.tt_scan_dropouts.proofs.Outlines.{edges_at, turned_at}
 use Rattle.tt_scan_dropouts.proofs.Together.{Passes, together}
 use Rattle.tt_scan_dropouts.proofs.filling.dropouts.Goals as goal
@@ -21,6 +23,18 @@ returns-in-None c =
       exact = λ col row. rw c.new.ensures.items (sym (clipped_away c.args.rules (contours_at es c.args.ends.now) es
           c.args.window col row (edges_at es c.args.ends.now c.requires.ends) (none col row)));
     }
+
+pub added_by_rows-requires-clause-some : goal.added_by_rows-requires-clause-some
+added_by_rows-requires-clause-some c = λ none. sym c.some_in_free_gap-some_by_rows.ensures.rows ∙ none
+
+pub added_by_columns-requires-clause-some : goal.added_by_columns-requires-clause-some
+added_by_columns-requires-clause-some c = λ none.
+    let before = c.in_ok-ink.ink in
+    let after = c.blacken_all.new.self in
+    let kept : (p j : ℤ) → is_black_by over.Columns before p j ≡ true → is_black_by over.Columns after p j ≡ true =
+    λ p j black. c.blacken_all.ensures.black j p ∙ rw black refl in
+    still_none c.args.rules.stubs (is_black_by over.Columns before) (is_black_by over.Columns after)
+    (map turned_round c.lend-edges.result.now) kept (sym c.some_in_free_gap-some_by_rows.ensures.columns ∙ none)
 
 pub returns : goal.returns
 returns c =

@@ -1,4 +1,5 @@
-use Rattle.std.proofs.Common.{◌<◌, sym, ◌∙◌}
+use Rattle.std.proofs.Common.{◌<◌, sym, ◌∙◌, SFits, w64, arith}
+use Rattle.std.proofs.lemmas.Int.{ints, to_z-of_z}
 use Rattle.tt_scan_dropouts.specs.Crossings.{lines_crossed}
 use Rattle.tt_scan_dropouts.specs.Windows.{is_black_by}
 use Rattle.tt_scan_dropouts.proofs.NoFreeGap.{none_more, one_settles}
@@ -9,11 +10,15 @@ returns-then-is_free c =
     let black = is_black_by c.args.over c.args.ink.now in
     let within : c.loop-k.k < lines_crossed c.args.edge =
     rw (← c.lines_crossed-k-end.ensures.exact) c.loop-k-test.true in
-    let free = rw c.crossing.ensures at (sym c.is_free.ensures ∙ c.if-is_free.true) in
+    let gap : SFits w64 c.gap_crossed.result = omega (arith, ints, c.gap_crossed.ensures.small) in
+    let line : SFits w64 c.line_crossed.result = omega (arith, ints, c.line_crossed.ensures.small) in
+    let free = rw (c.gap_crossed.ensures.exact, c.line_crossed.ensures.exact) at (simp to_z-of_z at (sym c.is_free.ensures ∙ c.if-is_free.true)) in
     sym (one_settles black c.args.edge c.loop-k.k within free)
 
 pub loop-k-preserved : goal.loop-k-preserved
 loop-k-preserved c =
     let black = is_black_by c.args.over c.args.ink.now in
-    let out = rw c.crossing.ensures at (sym c.is_free.ensures ∙ c.if-is_free.false) in
+    let gap : SFits w64 c.gap_crossed.result = omega (arith, ints, c.gap_crossed.ensures.small) in
+    let line : SFits w64 c.line_crossed.result = omega (arith, ints, c.line_crossed.ensures.small) in
+    let out = rw (c.gap_crossed.ensures.exact, c.line_crossed.ensures.exact) at (simp to_z-of_z at (sym c.is_free.ensures ∙ c.if-is_free.false)) in
     none_more black c.args.edge c.loop-k.k c.loop-k.invariant out
