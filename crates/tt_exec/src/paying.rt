@@ -1,6 +1,7 @@
 //! What the work of a run is, where it is bounded (profile): that of each step, and what was copied for the run.
 
-ghost use Rattle.std.specs.Prelude.{◌≡◌, ◌+◌, ◌^◌, ◌<◌, ◌≤◌, length, IfOk};
+ghost use Rattle.std.specs.Prelude.{◌≡◌, ◌+◌, ◌^◌, ◌<◌, ◌≤◌, length, IfOk, IfSome};
+ghost use Rattle.tt_exec.specs.MachineState as machine;
 ghost use Rattle.tt_exec.specs.States.{state_of};
 ghost use Rattle.tt_exec.specs.Work as is;
 ghost use Rattle.tt_exec.specs.Worked.{Less, Pays};
@@ -8,6 +9,21 @@ ghost use Rattle.tt_exec.specs.Worked.{Less, Pays};
 use crate::machine_state::MachineState;
 use crate::work::Work;
 use tt_code::{Halt, skip_def, skip_else, skip_if};
+
+/// The work of a step, where its opcode alone says it, as most do.
+#[inline(always)]
+fn fixed_cost(op: u8) -> Option<u64>
+    ensures { IfSome result (λ cost. (m : machine.MachineState) → is.cost_by op m ≡ cost) }
+{
+    match op {
+        0x1B | 0x26 | 0x2C | 0x30..=0x39 | 0x3C | 0x40 | 0x41 | 0x58 | 0x5D => None,
+        0x71..=0x75 | 0x80..=0x82 | 0x89 => None,
+        0x2E | 0x2F | 0x3A | 0x3B | 0x3E | 0x3F | 0x48 | 0xC0..=0xFF => Some(5),
+        0x27 => Some(9),
+        0x06..=0x0B | 0x0F | 0x86 | 0x87 => Some(33),
+        _ => Some(1),
+    }
+}
 
 impl MachineState<'_> {
     /// The top of the stack; 0 where there is none.
@@ -90,8 +106,17 @@ impl MachineState<'_> {
         }
     }
 
-    /// The work of the step at the frame's place. The program's end inside a call counts as one.
+    /// The work of a step whose instruction has this opcode.
     #[inline(never)]
+    fn cost_by(&self, op: u8) -> u64
+        requires { self.now.frame.place < length self.now.frame.code.bytes.now }
+        ensures { result ≡ is.cost_by op (state_of self.now) }
+    {
+        1 + self.gone_over(op) + self.passed(op)
+    }
+
+    /// The work of the step at the frame's place. The program's end inside a call counts as one.
+    #[inline(always)]
     fn step_cost(&self) -> u64
         ensures { result ≡ is.step_cost (state_of self.now) }
     {
@@ -101,7 +126,10 @@ impl MachineState<'_> {
             return 1;
         }
         let op = bytes[at];
-        1 + self.gone_over(op) + self.passed(op)
+        match fixed_cost(op) {
+            Some(cost) => cost,
+            None => self.cost_by(op),
+        }
     }
 
     /// Pays for the step at the frame's place; false where less is left than it wants, and nothing is left then.
