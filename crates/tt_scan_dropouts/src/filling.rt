@@ -93,6 +93,7 @@ fn is_in_free_gap(ink: &Bitmap, over: Over, stubs: bool, edge: Edge) -> bool
 
 /// Whether some edge does by rows, and whether some does by columns. Where none does, the pass adds nothing, and its walk
 /// need not be made.
+#[inline(never)]
 fn some_in_free_gap(ink: &Bitmap, stubs: bool, edges: &[Edge]) -> (bool, bool)
     requires { All EdgeFits edges.now }
     ensures rows { result.0 ≡ list_any (is_in_free_gap stubs (is_black_by over.Rows ink.now)) edges.now }
