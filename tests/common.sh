@@ -22,19 +22,29 @@ no_source_after() {
   [ -x "$1" ] && [ -z "$(find "${sources[@]}" -newer "$1" -print -quit 2>/dev/null)" ]
 }
 
-# Leaves the program for tests, tt_test_answers, as $program: that of TT_ANSWERS=PATH, or our own, which is proved and
-# built here if it lacks or a source is newer; `rt run` starts it too.
-answers_program() {
-  local crate=$root/crates/tt_test_answers
-  program=${TT_ANSWERS:-$crate/out/tt_test_answers}
-  if [ -z "${TT_ANSWERS:-}" ] && ! no_source_after "$program"; then
-    echo "tests: proving and building tt_test_answers" >&2
-    (cd -- "$crate" && rt run -- fonts) </dev/null >"$room/log" 2>&1 || tail -n 20 -- "$room/log" >&2
+# test_program CRATE PATH WORD..: leaves a program for tests as $program: that of PATH, or where it is empty our own, which
+# is proved and built here if it lacks or a source is newer; `rt run` starts it too, with the words.
+test_program() {
+  local crate=$root/crates/$1
+  program=${2:-$crate/out/$1}
+  if [ -z "$2" ] && ! no_source_after "$program"; then
+    echo "tests: proving and building $1" >&2
+    (cd -- "$crate" && rt run -- "${@:3}") </dev/null >"$room/log" 2>&1 || tail -n 20 -- "$room/log" >&2
   fi
   if [ ! -x "$program" ]; then
     echo "tests: there is no program $program" >&2
     exit 1
   fi
+}
+
+# Leaves the one that prints what the libraries say, or that of TT_ANSWERS=PATH, as $program.
+answers_program() {
+  test_program tt_test_answers "${TT_ANSWERS:-}" fonts
+}
+
+# Leaves the one that prints dropouts, or that of TT_DROPOUTS=PATH, as $program.
+dropouts_program() {
+  test_program tt_test_dropouts "${TT_DROPOUTS:-}"
 }
 
 # Leaves our program, or that of TT_RENDER=PATH, as $program. It is started once here, so that the time of building it
@@ -48,9 +58,10 @@ render_program() {
   fi
 }
 
-# A script that asks the program for tests says `asks=answers` before it sources this file.
+# A script that asks a program for tests says `asks=answers` or `asks=dropouts` before it sources this file.
 case ${asks:-render} in
   answers) answers_program ;;
+  dropouts) dropouts_program ;;
   *) render_program ;;
 esac
 
@@ -100,6 +111,56 @@ wanted() {
   cat >"$room/wanted_stdout"
   : >"$room/wanted_stderr"
   [ -z "$1" ] || printf '%s\n' "$1" >"$room/wanted_stderr"
+}
+
+# differs CASE WANTED GOT: prints the first case that differs, in which '/' ends a row.
+differs() {
+  [ -z "${told:-}" ] || return 0
+  told=1
+  printf '  the case: %s\n  wanted:\n' "$1"
+  tr '/' '\n' <<<"$2" | cut -c 1-160
+  printf '  and not:\n'
+  tr '/' '\n' <<<"$3" | cut -c 1-160
+}
+
+# ask_all NAME WORD..: asks the program, started with the words, each line of $room/cases, and counts the answers that are
+# those of $room/wanted, and the others.
+ask_all() {
+  local status=0 right wrong first
+  "$program" "${@:2}" <"$room/cases" >"$room/answers" 2>"$room/stderr" || status=$?
+  [ "$status" -eq 0 ] || verdict "$1" "status $status: $(<"$room/stderr")"
+  read -r right wrong first < <(awk -v answers="$room/answers" '
+    { if ((getline got <answers) <= 0) got = "" }
+    got == $0 { right++; next }
+    { wrong++; if (!first) first = NR }
+    END { print right + 0, wrong + 0, first + 0 }' "$room/wanted")
+  passed=$((passed + right))
+  failed=$((failed + wrong))
+  [ "$wrong" -eq 0 ] || differs "$(sed -n "${first}p" "$room/cases")" "$(sed -n "${first}p" "$room/wanted")" \
+    "$(sed -n "${first}p" "$room/answers")"
+}
+
+# refuses NAME LINE WHY WORD..: the program, started with the words, takes the line for no question, and says why.
+refuses() {
+  local status=0
+  "$program" "${@:4}" <<<"$2" >"$room/stdout" 2>"$room/stderr" || status=$?
+  if [ "$status" -ne 1 ] || ! grep -qF -- "$3" "$room/stderr"; then
+    verdict "$1" "status $status, and standard error $(<"$room/stderr")"
+  else
+    verdict "$1"
+  fi
+}
+
+# is_made_of NAME TABLE FONT: whether a table was made from this file of a font; else the case failed.
+is_made_of() {
+  if [ ! -e "$3" ]; then
+    verdict "$1" "$3 is not there; tests/real_fonts/run installs it"
+    return 1
+  fi
+  if ! grep -q "MD5 $(md5sum <"$3" | cut -d ' ' -f 1)" "$2"; then
+    verdict "$1" "$3 is not the version that the table was made from"
+    return 1
+  fi
 }
 
 # report NAME: the script's last line, and its status.
