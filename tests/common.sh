@@ -22,8 +22,8 @@ no_source_after() {
   [ -x "$1" ] && [ -z "$(find "${sources[@]}" -newer "$1" -print -quit 2>/dev/null)" ]
 }
 
-# test_program CRATE PATH WORD..: leaves a program for tests as $program: that of PATH, or where it is empty our own, which
-# is proved and built here if it lacks or a source is newer; `rt run` starts it too, with the words.
+# test_program CRATE PATH WORD..: leaves a program for tests as $program: that of PATH, or where it is empty our own,
+# which is proved and built here if it lacks or a source is newer; `rt run` starts it too, with the words.
 test_program() {
   local crate=$root/crates/$1
   program=${2:-$crate/out/$1}
@@ -123,8 +123,8 @@ differs() {
   tr '/' '\n' <<<"$3" | cut -c 1-160
 }
 
-# ask_all NAME WORD..: asks the program, started with the words, each line of $room/cases, and counts the answers that are
-# those of $room/wanted, and the others.
+# ask_all NAME WORD..: asks the program, started with the words, each line of $room/cases, and counts the answers that
+# are those of $room/wanted, and the others.
 ask_all() {
   local status=0 right wrong first
   "$program" "${@:2}" <"$room/cases" >"$room/answers" 2>"$room/stderr" || status=$?
@@ -149,6 +149,11 @@ refuses() {
   else
     verdict "$1"
   fi
+}
+
+# spaced TEXT: prints it with 4 spaces behind each character.
+spaced() {
+  sed 's/./&    /g' <<<"$1"
 }
 
 # is_made_of NAME TABLE FONT: whether a table was made from this file of a font; else the case failed.
