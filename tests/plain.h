@@ -14,7 +14,6 @@
 #define PIXEL INT64_C(8192)
 #define HALF INT64_C(4096)
 #define REACH (INT64_C(1) << 30)
-#define RISE (INT64_C(1) << 20)
 
 typedef struct {
   int64_t x, y;

@@ -11,6 +11,7 @@
 
 #include "../plain.h"
 
+#define RISE (INT64_C(1) << 20)
 #define MOST 64
 
 typedef struct {
