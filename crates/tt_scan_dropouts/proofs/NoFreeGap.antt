@@ -1,12 +1,16 @@
 -- Where no edge leaves something in a free gap, a pass adds nothing.
-use Rattle.std.proofs.Common.{◌≡◌, refl, sym, ap, ap₂, ◌∙◌, ℕ, zero, suc, ◌+◌, ◌<◌, Bool, true, false, not, ◌&&◌, ◌||◌, List, [], ◌∷◌, ◌++◌, map, length, get_or, arith}
+use Rattle.std.proofs.Common.{inl, inr, ◌≢◌, int_lt, ◌≡◌, refl, sym, ap, ap₂, ◌∙◌, ℕ, zero, suc, ◌+◌, ◌<◌, Bool, true, false, not, ◌&&◌, ◌||◌, List, [], ◌∷◌, ◌++◌, map, length, get_or, arith}
 use Rattle.std.specs.Prelude.{ℤ, pos, ◌+ℤ◌, ◌-ℤ◌, None}
 use Rattle.std.specs.List.{flat_map, list_any, range_with_len}
 use Rattle.std.proofs.lemmas.List.Folds.{list_any-append, list_any_at}
 use Rattle.std.proofs.lemmas.List.FromFn.{get_or-map-range_with_len, length-map-range_with_len}
+use Rattle.std.specs.Int.{int_rem_euclid}
+use Rattle.std.specs.Ordering.{int_eq}
+use Rattle.std.proofs.lemmas.Bool.{cases_Bool}
+use Rattle.std.proofs.lemmas.Int.{ints}
 use Rattle.tt_scan.specs.Contours.{AreEnds, contours_at}
 use Rattle.tt_scan.specs.declared.edge.Edge.{Edge}
-use Rattle.tt_scan_dropouts.specs.Crossings.{crossing, crossings, line_crossed, lines_crossed, touches}
+use Rattle.tt_scan_dropouts.specs.Crossings.{crossing, crossings, is_on_line, line_crossed, line_from, lines_crossed, meets_line, touches}
 use Rattle.tt_scan_dropouts.specs.Dropouts.{columns_of, edges_of, row_adds}
 use Rattle.tt_scan_dropouts.specs.Gaps.{asked, free_marks, is_added, is_free}
 use Rattle.tt_scan_dropouts.specs.Walk.{contour_marks, edge_marks, is_in_free_gap, mark_of, marks, marks_of_step, some_in_free_gap, step_marks, steps_of, walk}
@@ -16,6 +20,7 @@ use Rattle.tt_scan_dropouts.specs.declared.mark.Rules.{Rules}
 use Rattle.tt_scan_dropouts.specs.declared.mark.Step.{Step}
 use Rattle.tt_scan_dropouts.specs.declared.mark.Step.TheVariants as step
 use Rattle.tt_scan_dropouts.proofs.FreeMarks.{added_kept}
+use Rattle.tt_scan_dropouts.proofs.Lines.{off_touches_none}
 use Rattle.tt_scan_dropouts.proofs.Outlines.{edges_at}
 use Rattle.tt_scan_dropouts.proofs.Walks.{free_append, free_edge, more_crossings}
 
@@ -215,3 +220,33 @@ still_none stubs black more (e ∷ es) within none =
     let rest = list_any (is_in_free_gap stubs black) es in
     rw (none_freed_by stubs black more e within (first_not here rest none))
     (still_none stubs black more es within (other_not here rest none))
+
+-- an edge that meets no line leaves nothing
+
+no_crossings : (e : Edge) → line_from e.ay ≡ line_from e.by → crossings e ≡ []
+no_crossings e same =
+    let none : lines_crossed e ≡ 0 = omega (arith, ints, same) in
+    ap (λ n. map (λ k. crossing e (line_crossed e k)) (range_with_len 0 n)) none
+
+off_line : (y : ℤ) → is_on_line y ≡ false → int_rem_euclid (y -ℤ pos 4096) (pos 8192) ≢ pos 0
+off_line y off is = grind (arith, ints, off, is)
+
+no_touches : (e : Edge) → is_on_line e.ay ≡ false → is_on_line e.by ≡ false → touches e ≡ []
+no_touches e a b = elim (cases_Bool (int_lt e.by e.ay)) [
+  | inl falls ↦ off_touches_none e (rw falls (off_line e.ay a))
+  | inr rises ↦ off_touches_none e (rw rises (off_line e.by b))
+]
+
+none_touched : (stubs : Bool) (black : ℤ → ℤ → Bool) (e : Edge) → (stubs && (is_on_line e.ay || is_on_line e.by)) ≡ false
+    → (stubs && some_in_free_gap black (touches e)) ≡ false
+none_touched false black e none = refl
+none_touched true black e none =
+    rw (no_touches e (first_not (is_on_line e.ay) (is_on_line e.by) none) (other_not (is_on_line e.ay) (is_on_line e.by) none)) refl
+
+pub none_met : (stubs : Bool) (black : ℤ → ℤ → Bool) (e : Edge) → meets_line stubs e.ay e.by ≡ false
+    → is_in_free_gap stubs black e ≡ false
+none_met stubs black e none =
+    let apart = first_not (not (int_eq (line_from e.ay) (line_from e.by))) (stubs && (is_on_line e.ay || is_on_line e.by)) none in
+    let same : line_from e.ay ≡ line_from e.by = grind (arith, ints, apart) in
+    rw (no_crossings e same) (none_touched stubs black e
+    (other_not (not (int_eq (line_from e.ay) (line_from e.by))) (stubs && (is_on_line e.ay || is_on_line e.by)) none))

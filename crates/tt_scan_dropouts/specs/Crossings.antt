@@ -1,9 +1,10 @@
 -- OpenType, "TrueType Fundamentals", the scan converter: where edges cross the centre lines of rows, and between which
 -- pixels. Columns are the rows of an outline with x and y exchanged. In 1/8192 pixel, but for the numbers of lines and
 -- gaps. That a crossing is cut to a whole number is profile.
-use Rattle.std.specs.Prelude.{◌≡◌, refl, ℕ, ◌+◌, Bool, not, if◌then◌else◌, ◌==◌, ◌&&◌, ℤ, pos, ◌+ℤ◌, ◌-ℤ◌, ◌*ℤ◌, int_lt, unsigned_abs, List, [], ◌∷◌, map}
+use Rattle.std.specs.Prelude.{◌≡◌, refl, ℕ, ◌+◌, Bool, not, if◌then◌else◌, ◌==◌, ◌&&◌, ◌||◌, ℤ, pos, ◌+ℤ◌, ◌-ℤ◌, ◌*ℤ◌, int_lt, unsigned_abs, List, [], ◌∷◌, map}
 use Rattle.std.specs.List.{range_with_len}
 use Rattle.std.specs.Int.{int_div_euclid, int_rem_euclid}
+use Rattle.std.specs.Ordering.{int_eq}
 use Rattle.tt_scan.specs.declared.edge.Edge.{Edge}
 use Rattle.tt_scan_dropouts.specs.declared.mark.Crossing.{Crossing}
 
@@ -62,6 +63,15 @@ touches e =
     let u = upward e in
     if int_lt u.ay u.by && (unsigned_abs (int_rem_euclid (u.by -ℤ pos 4096) (pos 8192)) == 0)
     then crossing_at (is_rising e) (gap_at u.by) u.bx ∷ [] else []
+
+-- a height is that of a line
+abbrev pub is_on_line : ℤ → Bool
+is_on_line y = int_eq (int_rem_euclid (y -ℤ pos 4096) (pos 8192)) (pos 0)
+
+-- an edge from one height to another crosses a line or, where that counts, has an end on one
+abbrev pub meets_line : Bool → ℤ → ℤ → Bool
+meets_line ends_count a b =
+    not (int_eq (line_from a) (line_from b)) || (ends_count && (is_on_line a || is_on_line b))
 
 -- worked values: an edge that rises from (1, 0) to (2, 3) pixels crosses three lines
 rising : Edge

@@ -4,7 +4,9 @@ use Rattle.std.specs.Prelude.{ℕ, ◌+◌, ◌*◌, ◌^◌, ◌<◌, ◌≤◌
 use Rattle.std.specs.Int.{int_max}
 use Rattle.tt_core.specs.Bits.{bit, stride}
 use Rattle.tt_core.specs.Limits.{height_limit}
+use Rattle.tt_scan.specs.declared.edge.Edge.{Edge}
 use Rattle.tt_scan.specs.declared.edge.Frame.{Frame}
+use Rattle.tt_scan_dropouts.specs.Dropouts.{turned_round}
 use Rattle.tt_scan_dropouts.specs.Gaps.{has_pixel}
 use Rattle.tt_scan_dropouts.specs.declared.columns.Extent.{Extent}
 use Rattle.tt_scan_dropouts.specs.declared.mark.Columns.{Columns}
@@ -97,6 +99,11 @@ is_black_in b c j = if has b.window c j then bit b.bits (place b.window c j) els
 abbrev pub is_black_by : Over → Bitmap → ℤ → ℤ → Bool
 is_black_by over.Rows b p j = is_black_in b p j
 is_black_by over.Columns b p j = is_black_in b j p
+
+-- an edge as a pass sees it
+abbrev pub seen_by : Over → Edge → Edge
+seen_by over.Rows e = e
+seen_by over.Columns e = turned_round e
 
 -- a pass over columns tells pixels with column and row exchanged
 abbrev pub has_pixel_by : Over → List Pixel → ℤ → ℤ → Bool

@@ -1,6 +1,6 @@
 //! The black pixels of a glyph in a window: what lies outside is taken for black, so that no gap there is free.
 
-ghost use Rattle.std.specs.Prelude.{◌≡◌, ℕ, ℤ, true, length, ◌+◌, ◌*◌, ◌^◌, ◌<◌, ◌≤◌, ◌+ℤ◌, ◌&&◌, ◌||◌, nat_lt, pos, unsigned_abs, All, IfOk};
+ghost use Rattle.std.specs.Prelude.{◌≡◌, not, ℕ, ℤ, true, length, ◌+◌, ◌*◌, ◌^◌, ◌<◌, ◌≤◌, ◌+ℤ◌, ◌&&◌, ◌||◌, nat_lt, pos, unsigned_abs, All, IfOk};
 ghost use Rattle.std.specs.Ordering.{int_eq};
 ghost use Rattle.tt_core.specs.Bits.{bit, stride};
 ghost use Rattle.tt_scan.specs.Winding.{EdgeFits, FrameFits, is_black};
@@ -171,27 +171,30 @@ impl Bitmap {
         Ok(Bitmap { window, bits })
     }
 
-    /// Whether a pixel is black, or outside.
+    /// One of the bits.
     #[inline(always)]
-    pub(crate) fn is_black(&self, column: i64, row: i64) -> bool
-        ensures { result ≡ is_black_in self.now column row }
+    fn bit(&self, at: usize) -> bool
+        requires { at < 8 * length self.now.bits }
+        ensures { result ≡ bit self.now.bits at }
     {
-        if !has(self.window, column, row) {
-            return true;
-        }
-        let at = place(self.window, column, row);
         (self.bits[at / 8] >> (7 - at % 8)) % 2 == 1
     }
 
-    /// Whether centre `p` of a line is black.
+    /// Whether two pixels are white. None is that the window lacks.
     #[inline(always)]
-    pub(crate) fn is_black_by(&self, over: Over, p: i64, line: i64) -> bool
-        ensures { result ≡ is_black_by over self.now p line }
+    fn are_white(&self, column: i64, row: i64, other_column: i64, other_row: i64) -> bool
+        ensures { result ≡ (not (is_black_in self.now column row) && not (is_black_in self.now other_column other_row)) }
     {
-        match over {
-            Over::Rows => self.is_black(p, line),
-            Over::Columns => self.is_black(line, p),
+        if !has(self.window, column, row) {
+            return false;
         }
+        if !has(self.window, other_column, other_row) {
+            return false;
+        }
+        if self.bit(place(self.window, column, row)) {
+            return false;
+        }
+        !self.bit(place(self.window, other_column, other_row))
     }
 
     /// Whether both pixels of a gap of a line are white.
@@ -200,7 +203,10 @@ impl Bitmap {
         requires { unsigned_abs gap < 2 ^ 32 }
         ensures { result ≡ is_free (is_black_by over self.now) gap line }
     {
-        !self.is_black_by(over, gap, line) && !self.is_black_by(over, gap + 1, line)
+        match over {
+            Over::Rows => self.are_white(gap, line, gap + 1, line),
+            Over::Columns => self.are_white(line, gap, line, gap + 1),
+        }
     }
 
     /// Blackens a pixel, if the window has it.

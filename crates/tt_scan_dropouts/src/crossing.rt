@@ -4,7 +4,7 @@
 ghost use Rattle.std.specs.Prelude.{◌≡◌, ◌∷◌, [], pos, ◌^◌, ◌<◌, ◌≤◌, ◌≤ℤ◌, ◌<ℤ◌, ◌-ℤ◌, ◌*ℤ◌, unsigned_abs, IfNone, IfSome};
 ghost use Rattle.std.specs.Int.{int_div_euclid};
 ghost use Rattle.tt_scan.specs.Winding.{EdgeFits};
-ghost use Rattle.tt_scan_dropouts.specs.Crossings.{centre, crossing, crossing_at, edge_x, gap_at, line_crossed, line_from, lines_crossed, touches, upward};
+ghost use Rattle.tt_scan_dropouts.specs.Crossings.{centre, crossing, crossing_at, edge_x, gap_at, is_on_line, line_crossed, line_from, lines_crossed, meets_line, touches, upward};
 
 use crate::mark::Crossing;
 use tt_scan::Edge;
@@ -81,6 +81,25 @@ pub(crate) fn lines_crossed(edge: Edge) -> u64
     ensures small { result < 2 ^ 20 }
 {
     line_from(edge.by).abs_diff(line_from(edge.ay))
+}
+
+/// Whether a height is that of a line.
+#[inline(always)]
+fn is_on_line(y: i64) -> bool
+    requires { unsigned_abs y < 2 ^ 30 }
+    ensures { result ≡ is_on_line y }
+{
+    (y - HALF).rem_euclid(PIXEL) == 0
+}
+
+/// Whether an edge from one height to another crosses a line or, where that counts, has an end on one.
+#[inline(always)]
+pub(crate) fn meets_line(ends_count: bool, a: i64, b: i64) -> bool
+    requires a { unsigned_abs a < 2 ^ 30 }
+    requires b { unsigned_abs b < 2 ^ 30 }
+    ensures { result ≡ meets_line ends_count a b }
+{
+    line_from(a) != line_from(b) || (ends_count && (is_on_line(a) || is_on_line(b)))
 }
 
 /// The line that an edge crosses after `k` others.

@@ -9,12 +9,12 @@ ghost use Rattle.tt_scan.specs.Winding.{EdgeFits};
 ghost use Rattle.tt_scan_dropouts.specs.Dropouts.{columns_of, crossed, is_dropout, row_adds, turned_round};
 ghost use Rattle.tt_scan_dropouts.specs.Gaps.{has_pixel};
 ghost use Rattle.tt_scan_dropouts.specs.Walk.{is_in_free_gap};
-ghost use Rattle.tt_scan_dropouts.specs.Windows.{WindowFits, has, has_pixel_by, is_black_by, widened};
+ghost use Rattle.tt_scan_dropouts.specs.Windows.{WindowFits, has, has_pixel_by, is_black_by, seen_by, widened};
 ghost use Rattle.tt_scan_dropouts.specs.declared.window.Over.TheVariants as over;
 
 use crate::bitmap::Bitmap;
 use crate::columns::box_of;
-use crate::crossing::lines_crossed;
+use crate::crossing::{lines_crossed, meets_line};
 use crate::gaps::sort;
 use crate::mark::{Columns, Pixel, Rules};
 use crate::marks::{crosses_free_gap, free_marks, touches_free_gap};
@@ -82,13 +82,37 @@ fn pass_over(
     pass(alloc, rules, columns, over, ink, &marks)
 }
 
-/// Whether an edge leaves something in a free gap: a crossing, or, where stubs are drawn, an end that touches a line.
+/// An edge as a pass sees it: one over columns, with x and y exchanged.
 #[inline(always)]
-fn is_in_free_gap(ink: &Bitmap, over: Over, stubs: bool, edge: Edge) -> bool
+fn seen_by(over: Over, edge: Edge) -> Edge
+    requires { EdgeFits edge }
+    ensures exact { result ≡ seen_by over edge }
+    ensures fits { EdgeFits result }
+{
+    match over {
+        Over::Rows => edge,
+        Over::Columns => turned_round(edge),
+    }
+}
+
+/// Whether an edge leaves something in a free gap: a crossing, or, where stubs are drawn, an end that touches a line.
+#[inline(never)]
+fn leaves_something(ink: &Bitmap, over: Over, stubs: bool, edge: Edge) -> bool
     requires { EdgeFits edge }
     ensures { result ≡ is_in_free_gap stubs (is_black_by over ink.now) edge }
 {
     crosses_free_gap(ink, over, edge) || (stubs && touches_free_gap(ink, over, edge))
+}
+
+/// The same of an edge as a pass sees it.
+#[inline(always)]
+fn is_in_free_gap(ink: &Bitmap, over: Over, stubs: bool, edge: Edge) -> bool
+    requires { EdgeFits edge }
+    ensures { result ≡ is_in_free_gap stubs (is_black_by over ink.now) (seen_by over edge) }
+{
+    let edge = seen_by(over, edge);
+    // Most edges are short and meet no line, so that this is seldom called.
+    meets_line(stubs, edge.ay, edge.by) && leaves_something(ink, over, stubs, edge)
 }
 
 /// Whether some edge does by rows, and whether some does by columns. Where none does, the pass adds nothing, and its walk
@@ -104,7 +128,7 @@ fn some_in_free_gap(ink: &Bitmap, stubs: bool, edges: &[Edge]) -> (bool, bool)
     let mut columns = false;
     for edge in edges {
         rows = rows || is_in_free_gap(ink, Over::Rows, stubs, *edge);
-        columns = columns || is_in_free_gap(ink, Over::Columns, stubs, turned_round(*edge));
+        columns = columns || is_in_free_gap(ink, Over::Columns, stubs, *edge);
     }
     (rows, columns)
 }

@@ -26,9 +26,8 @@ pub(crate) fn is_free(ink: &Bitmap, over: Over, at: Crossing) -> bool
     ink.is_free(over, i64::from(at.gap), i64::from(at.line))
 }
 
-/// Whether an edge crosses a free gap. Most edges cross no line, so this is called for the others alone.
-#[inline(never)]
-fn one_is_free(ink: &Bitmap, over: Over, edge: Edge) -> bool
+/// Whether an edge crosses a free gap.
+pub(crate) fn crosses_free_gap(ink: &Bitmap, over: Over, edge: Edge) -> bool
     requires { EdgeFits edge }
     ensures { result ≡ some_in_free_gap (is_black_by over ink.now) (crossings edge) }
 {
@@ -40,17 +39,7 @@ fn one_is_free(ink: &Bitmap, over: Over, edge: Edge) -> bool
     false
 }
 
-/// Whether an edge crosses a free gap.
-#[inline(always)]
-pub(crate) fn crosses_free_gap(ink: &Bitmap, over: Over, edge: Edge) -> bool
-    requires { EdgeFits edge }
-    ensures { result ≡ some_in_free_gap (is_black_by over ink.now) (crossings edge) }
-{
-    lines_crossed(edge) > 0 && one_is_free(ink, over, edge)
-}
-
 /// Whether an end of an edge touches a line in a free gap.
-#[inline(never)]
 pub(crate) fn touches_free_gap(ink: &Bitmap, over: Over, edge: Edge) -> bool
     requires { EdgeFits edge }
     ensures { result ≡ some_in_free_gap (is_black_by over ink.now) (touches edge) }

@@ -33,6 +33,6 @@ loop-edge-preserved c =
       ]);
       columns = rw second (elim c.if-columns.branch [
         | then-columns w ↦ rw (w.columns-is, w.if-columns.true) refl
-        | else-columns w ↦ rw (w.columns-is, w.if-columns.false, w.is_in_free_gap-columns.ensures, w.turned_round.ensures) refl
+        | else-columns w ↦ rw (w.columns-is, w.if-columns.false, w.is_in_free_gap-columns.ensures) refl
       ]);
     }

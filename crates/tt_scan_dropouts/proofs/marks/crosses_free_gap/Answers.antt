@@ -3,7 +3,7 @@ use Rattle.std.proofs.lemmas.Int.{ints, to_z-of_z}
 use Rattle.tt_scan_dropouts.specs.Crossings.{lines_crossed}
 use Rattle.tt_scan_dropouts.specs.Windows.{is_black_by}
 use Rattle.tt_scan_dropouts.proofs.NoFreeGap.{none_more, one_settles}
-use Rattle.tt_scan_dropouts.proofs.marks.one_is_free.Goals as goal
+use Rattle.tt_scan_dropouts.proofs.marks.crosses_free_gap.Goals as goal
 
 pub returns-then-is_free : goal.returns-then-is_free
 returns-then-is_free c =

@@ -3,7 +3,7 @@ use Rattle.std.specs.List.{range_with_len}
 use Rattle.tt_scan_dropouts.specs.Crossings.{crossing, line_crossed}
 use Rattle.tt_scan_dropouts.specs.Walk.{some_in_free_gap}
 use Rattle.tt_scan_dropouts.specs.Windows.{is_black_by}
-use Rattle.tt_scan_dropouts.proofs.marks.one_is_free.Given as goal
+use Rattle.tt_scan_dropouts.proofs.marks.crosses_free_gap.Given as goal
 
 -- none of the crossings so far lies in a free gap
 abbrev pub invariant-loop-k : goal.invariant-loop-k
