@@ -6,6 +6,7 @@ ghost use Rattle.std.specs.List.{list_any};
 ghost use Rattle.std.specs.Ordering.{int_eq};
 ghost use Rattle.tt_scan.specs.Contours.{AreEnds, contours_at};
 ghost use Rattle.tt_scan.specs.Winding.{EdgeFits};
+ghost use Rattle.tt_scan_dropouts.specs.Crossings.{meets_line};
 ghost use Rattle.tt_scan_dropouts.specs.Dropouts.{columns_of, crossed, is_dropout, row_adds, turned_round};
 ghost use Rattle.tt_scan_dropouts.specs.Gaps.{has_pixel};
 ghost use Rattle.tt_scan_dropouts.specs.Walk.{is_in_free_gap};
@@ -95,24 +96,36 @@ fn seen_by(over: Over, edge: Edge) -> Edge
     }
 }
 
-/// Whether an edge leaves something in a free gap: a crossing, or, where stubs are drawn, an end that touches a line.
+/// Whether an edge, as a pass sees it, leaves something in a free gap: a crossing, or, where stubs are drawn, an end that
+/// touches a line.
 #[inline(never)]
-fn leaves_something(ink: &Bitmap, over: Over, stubs: bool, edge: Edge) -> bool
-    requires { EdgeFits edge }
-    ensures { result ≡ is_in_free_gap stubs (is_black_by over ink.now) edge }
+fn leaves_something(ink: &Bitmap, over: Over, stubs: bool, edge: &Edge) -> bool
+    requires { EdgeFits edge.now }
+    ensures { result ≡ is_in_free_gap stubs (is_black_by over ink.now) (seen_by over edge.now) }
 {
+    let edge = seen_by(over, *edge);
     crosses_free_gap(ink, over, edge) || (stubs && touches_free_gap(ink, over, edge))
 }
 
-/// The same of an edge as a pass sees it.
+/// Whether an edge, as a pass sees it, meets a line.
 #[inline(always)]
-fn is_in_free_gap(ink: &Bitmap, over: Over, stubs: bool, edge: Edge) -> bool
-    requires { EdgeFits edge }
-    ensures { result ≡ is_in_free_gap stubs (is_black_by over ink.now) (seen_by over edge) }
+fn meets(over: Over, stubs: bool, edge: &Edge) -> bool
+    requires { EdgeFits edge.now }
+    ensures { result ≡ meets_line stubs (seen_by over edge.now).ay (seen_by over edge.now).by }
 {
-    let edge = seen_by(over, edge);
-    // Most edges are short and meet no line, so that this is seldom called.
-    meets_line(stubs, edge.ay, edge.by) && leaves_something(ink, over, stubs, edge)
+    match over {
+        Over::Rows => meets_line(stubs, edge.ay, edge.by),
+        Over::Columns => meets_line(stubs, edge.ax, edge.bx),
+    }
+}
+
+/// The same. Most edges are short and meet no line, so that they are not looked at closely.
+#[inline(always)]
+fn is_in_free_gap(ink: &Bitmap, over: Over, stubs: bool, edge: &Edge) -> bool
+    requires { EdgeFits edge.now }
+    ensures { result ≡ is_in_free_gap stubs (is_black_by over ink.now) (seen_by over edge.now) }
+{
+    meets(over, stubs, edge) && leaves_something(ink, over, stubs, edge)
 }
 
 /// Whether some edge does by rows, and whether some does by columns. Where none does, the pass adds nothing, and its walk
@@ -127,8 +140,8 @@ fn some_in_free_gap(ink: &Bitmap, stubs: bool, edges: &[Edge]) -> (bool, bool)
     let mut rows = false;
     let mut columns = false;
     for edge in edges {
-        rows = rows || is_in_free_gap(ink, Over::Rows, stubs, *edge);
-        columns = columns || is_in_free_gap(ink, Over::Columns, stubs, *edge);
+        rows = is_in_free_gap(ink, Over::Rows, stubs, edge) || rows;
+        columns = is_in_free_gap(ink, Over::Columns, stubs, edge) || columns;
     }
     (rows, columns)
 }

@@ -1,4 +1,4 @@
-use Rattle.std.proofs.Common.{◌≡◌, sym, ◌∙◌, pos, get_or, ◌<◌, ◌+◌, length, map, take, refl, ◌||◌, ap, ap₂}
+use Rattle.std.proofs.Common.{◌≡◌, refl, sym, ap, ap₂, ◌∙◌, ◌+◌, ◌<◌, Bool, true, false, ◌||◌, pos, get_or, length, map, take}
 use Rattle.std.specs.List.{list_any}
 use Rattle.std.proofs.lemmas.List.{get_or-map, length-map}
 use Rattle.std.proofs.lemmas.List.Folds.{list_any_more}
@@ -8,7 +8,13 @@ use Rattle.tt_scan_dropouts.specs.Walk.{is_in_free_gap}
 use Rattle.tt_scan_dropouts.specs.Windows.{is_black_by}
 use Rattle.tt_scan_dropouts.specs.declared.window.Over.TheVariants as over
 use Rattle.tt_scan_dropouts.proofs.filling.some_in_free_gap.Goals as goal
-use Rattle.tt_scan_dropouts.proofs.filling.some_in_free_gap.Goals.{then-rows, else-rows, then-columns, else-columns}
+use Rattle.tt_scan_dropouts.proofs.filling.some_in_free_gap.Goals.{then-is_in_free_gap, else-is_in_free_gap, then-is_in_free_gap-2, else-is_in_free_gap-2}
+
+or_swap : (a b : Bool) → (a || b) ≡ (b || a)
+or_swap true true = refl
+or_swap true false = refl
+or_swap false true = refl
+or_swap false false = refl
 
 pub loop-edge-preserved : goal.loop-edge-preserved
 loop-edge-preserved c =
@@ -19,20 +25,23 @@ loop-edge-preserved c =
     let turned : i < length (map turned_round es) = rw length-map below in
     let by_rows = is_in_free_gap c.args.stubs (is_black_by over.Rows c.args.ink.now) in
     let by_columns = is_in_free_gap c.args.stubs (is_black_by over.Columns c.args.ink.now) in
-    let first : list_any by_rows (take (i + 1) es) ≡ (c.loop-edge.rows || by_rows (get_or es i d)) =
-    list_any_more by_rows es i d below ∙ ap (λ a. a || by_rows (get_or es i d)) (sym c.loop-edge.invariant.rows) in
+    let first : list_any by_rows (take (i + 1) es) ≡ (c.is_in_free_gap.result || c.loop-edge.rows) =
+    list_any_more by_rows es i d below
+    ∙ ap₂ (λ a b. a || b) (sym c.loop-edge.invariant.rows) (sym c.is_in_free_gap.ensures)
+    ∙ or_swap c.loop-edge.rows c.is_in_free_gap.result in
     let it : get_or (map turned_round es) i d ≡ turned_round (get_or es i d) = get_or-map turned_round es i d d below in
     let second : list_any by_columns (take (i + 1) (map turned_round es))
-    ≡ (c.loop-edge.columns || by_columns (turned_round (get_or es i d))) =
+    ≡ (c.is_in_free_gap-in-loop-edge.result || c.loop-edge.columns) =
     list_any_more by_columns (map turned_round es) i d turned
-    ∙ ap₂ (λ a b. a || b) (sym c.loop-edge.invariant.columns) (ap by_columns it) in
+    ∙ ap₂ (λ a b. a || b) (sym c.loop-edge.invariant.columns) (ap by_columns it ∙ sym c.is_in_free_gap-in-loop-edge.ensures)
+    ∙ or_swap c.loop-edge.columns c.is_in_free_gap-in-loop-edge.result in
     record {
-      rows = rw first (elim c.if-rows.branch [
-        | then-rows w ↦ rw (w.rows-is, w.if-rows.true) refl
-        | else-rows w ↦ rw (w.rows-is, w.if-rows.false, w.is_in_free_gap-rows.ensures) refl
+      rows = rw first (elim c.if-is_in_free_gap.branch [
+        | then-is_in_free_gap w ↦ rw (w.rows-is, w.if-is_in_free_gap.true) refl
+        | else-is_in_free_gap w ↦ rw (w.rows-is, w.if-is_in_free_gap.false) refl
       ]);
-      columns = rw second (elim c.if-columns.branch [
-        | then-columns w ↦ rw (w.columns-is, w.if-columns.true) refl
-        | else-columns w ↦ rw (w.columns-is, w.if-columns.false, w.is_in_free_gap-columns.ensures) refl
+      columns = rw second (elim c.if-is_in_free_gap-2.branch [
+        | then-is_in_free_gap-2 w ↦ rw (w.columns-is, w.if-is_in_free_gap-2.true) refl
+        | else-is_in_free_gap-2 w ↦ rw (w.columns-is, w.if-is_in_free_gap-2.false) refl
       ]);
     }
