@@ -5,9 +5,12 @@ lowest and at its highest row, so that each row crosses all of them.
     bench/worst_font.py off FONT           off the curve: 131,072 edges, of which each row crosses some 33,000
     bench/worst_font.py on FONT            on the curve: 16,384 edges, all of which each row crosses
     bench/worst_font.py line FONT COUNT    COUNT glyphs, at most 4,096, each a component of which is that of `off`
+    bench/worst_font.py stems FONT         390 upright strokes of no width, as high as the picture: dropouts in all rows
+    bench/worst_font.py bars FONT          480 level ones, as wide as the picture: dropouts in all columns
 
 `tt_render draw --size 300 FONT A` then draws nearly the largest picture that is lawful, 16,383 by 4,093 pixels; that of
-`line` is drawn by `tt_render draw --size 300 FONT "$(cat FONT.txt)"`, all glyphs in one place.
+`line` is drawn by `tt_render draw --size 300 FONT "$(cat FONT.txt)"`, all glyphs in one place. With `--fit best` the
+strokes are as many as may be made: some ten more are too much work.
 """
 import sys
 from pathlib import Path
@@ -35,7 +38,19 @@ def line_of(glyph, count):
     )
 
 
+def strokes(count, upright):
+    """A font of 2,048 units per em whose glyph A is so many strokes of no width, each drawn there and back."""
+    far = 27900
+    turns = [(it * (far // count), along) for it in range(count) for along in (0, far, 0)]
+    glyph = small.simple([(x, y) if upright else (y, x) for x, y in turns])
+    return small.font([b"", glyph, b""], [(0, 0), (far, 0), (0, 0)], em=2048, ascent=far)
+
+
 def main():
+    if sys.argv[1] in ("stems", "bars"):
+        upright = sys.argv[1] == "stems"
+        Path(sys.argv[2]).write_bytes(strokes(390 if upright else 480, upright))
+        return
     on = {"off": 0, "on": 1, "line": 0}[sys.argv[1]]
     points = [(it * WIDTH // POINTS, HEIGHT * (it % 2), on) for it in range(POINTS)]
     glyph = small.simple(points)
