@@ -1,6 +1,8 @@
+pub mod BothWays
 pub mod Bounds
 pub mod Boxes
 pub mod Clips
+pub mod EdgeSides
 pub mod Ends
 pub mod FreeMarks
 pub mod GapMarks
@@ -19,6 +21,8 @@ pub mod PassSteps
 pub mod Pictured
 pub mod Pixels
 pub mod Places
+pub mod Through
 pub mod Together
+pub mod TurnedWinding
 pub mod Walks
 pub mod White

@@ -1,7 +1,14 @@
--- What the definitions come to: dropouts are white without them, and move with their glyph.
-use Rattle.std.specs.Prelude.{◌≡◌, true, false, ℤ, pos, ◌+ℤ◌, ◌*ℤ◌, List, map}
+-- What the definitions come to: dropouts are white without them, and move with their glyph; and a free gap is crossed
+-- both ways or not at all.
+use Rattle.std.specs.Prelude.{◌≡◌, refl, Bool, true, false, ◌&&◌, ℤ, pos, ◌+ℤ◌, ◌*ℤ◌, All, List, [], ◌∷◌, map}
+use Rattle.std.specs.List.{list_any}
+use Rattle.std.specs.Ordering.{int_eq}
+use Rattle.tt_scan.specs.Winding.{is_black}
 use Rattle.tt_scan.specs.declared.edge.Edge.{Edge}
-use Rattle.tt_scan_dropouts.specs.Dropouts.{is_added_by_columns, is_added_by_rows, is_dropout, is_inked}
+use Rattle.tt_scan_dropouts.specs.Crossings.{agree, centre, crossings}
+use Rattle.tt_scan_dropouts.specs.Dropouts.{edges_of, is_added_by_columns, is_added_by_rows, is_dropout, is_inked, outline_turned}
+use Rattle.tt_scan_dropouts.specs.Gaps.{is_free}
+use Rattle.tt_scan_dropouts.specs.declared.mark.Crossing.{Crossing}
 use Rattle.tt_scan_dropouts.specs.declared.mark.Rules.{Rules}
 
 -- a pixel that the rows add is white by rules 1 and 2
@@ -36,3 +43,85 @@ outline_moved k m contours = map (map (moved k m)) contours
 abbrev pub DropoutsMoved : Type 0
 DropoutsMoved = (rules : Rules) (contours : List (List Edge)) (k m c j : ℤ)
     → is_dropout rules (outline_moved k m contours) (c +ℤ k) (j +ℤ m) ≡ is_dropout rules contours c j
+
+-- a crossing that goes through gap c of line j, rising or falling
+abbrev pub is_through : Bool → ℤ → ℤ → Crossing → Bool
+is_through up j c q = int_eq q.line j && int_eq q.gap c && agree q.up up
+
+-- an edge has such a crossing
+abbrev pub goes_through : Bool → ℤ → ℤ → Edge → Bool
+goes_through up j c e = list_any (is_through up j c) (crossings e)
+
+-- some edge has
+abbrev pub crosses_gap : Bool → List Edge → ℤ → ℤ → Bool
+crosses_gap up es j c = list_any (goes_through up j c) es
+
+-- some edge rises through a free gap of a row just where one falls through it, whatever the edges
+abbrev pub RowsCrossedBothWays : Type 0
+RowsCrossedBothWays = (es : List Edge) (c j : ℤ) → is_free (λ c j. is_black es (centre c) (centre j)) c j ≡ true
+    → crosses_gap true es j c ≡ crosses_gap false es j c
+
+-- one edge ends where another begins
+abbrev pub Meets : Edge → Edge → Type 0
+Meets e f = (e.bx ≡ f.ax) × (e.by ≡ f.ay)
+
+-- the edges behind one begin each where the one before it ends, and the last ends where a first one begins
+abbrev pub GoesRound : Edge → List Edge → Edge → Type 0
+GoesRound e [] first = Meets e first
+GoesRound e (f ∷ es) first = Meets e f × GoesRound f es first
+
+-- a contour is closed where its edges lead from one to the next, and from the last to the first
+abbrev pub IsClosed : List Edge → Type 0
+IsClosed [] = Unit {0}
+IsClosed (e ∷ es) = GoesRound e es e
+
+-- where all contours are closed, the same holds of a free gap of a column: that above the pixel of column c and row j
+abbrev pub ColumnsCrossedBothWays : Type 0
+ColumnsCrossedBothWays = (contours : List (List Edge)) (c j : ℤ) → All IsClosed contours
+    → is_free (λ j c. is_inked contours c j) j c ≡ true
+    → crosses_gap true (edges_of (outline_turned contours)) c j
+    ≡ crosses_gap false (edges_of (outline_turned contours)) c j
+
+-- worked values: a stem from below row 0 to above it, between the centres of columns 0 and 1
+stem : List Edge
+stem = record { ax = pos 5000; ay = pos 0; bx = pos 5000; by = pos 8192 }
+    ∷ record { ax = pos 5000; ay = pos 8192; bx = pos 6000; by = pos 8192 }
+    ∷ record { ax = pos 6000; ay = pos 8192; bx = pos 6000; by = pos 0 }
+    ∷ record { ax = pos 6000; ay = pos 0; bx = pos 5000; by = pos 0 } ∷ []
+
+stem_is_closed : IsClosed stem
+unfolding stem
+stem_is_closed = ((refl, refl), ((refl, refl), ((refl, refl), (refl, refl))))
+
+its_gap_is_free : is_free (λ c j. is_black stem (centre c) (centre j)) (pos 0) (pos 0) ≡ true
+unfolding stem
+its_gap_is_free = refl
+
+one_side_rises : crosses_gap true stem (pos 0) (pos 0) ≡ true
+unfolding stem
+one_side_rises = refl
+
+the_other_falls : crosses_gap false stem (pos 0) (pos 0) ≡ true
+unfolding stem
+the_other_falls = refl
+
+no_other_gap_is_crossed : crosses_gap true stem (pos 0) (pos 1) ≡ false
+unfolding stem
+no_other_gap_is_crossed = refl
+
+-- a level edge alone, between the centres of rows 0 and 1, is not closed: it goes through a free gap of a column,
+-- and none goes back
+stroke : List (List Edge)
+stroke = (record { ax = pos 0; ay = pos 8000; bx = pos 8192; by = pos 8000 } ∷ []) ∷ []
+
+its_gap_is_free_too : is_free (λ j c. is_inked stroke c j) (pos 0) (pos 0) ≡ true
+unfolding stroke
+its_gap_is_free_too = refl
+
+it_rises_through : crosses_gap true (edges_of (outline_turned stroke)) (pos 0) (pos 0) ≡ true
+unfolding stroke
+it_rises_through = refl
+
+none_falls : crosses_gap false (edges_of (outline_turned stroke)) (pos 0) (pos 0) ≡ false
+unfolding stroke
+none_falls = refl
