@@ -2,6 +2,7 @@ pub mod BothWays
 pub mod Bounds
 pub mod Boxes
 pub mod Clips
+pub mod Rounds
 pub mod EdgeSides
 pub mod Ends
 pub mod FreeMarks
@@ -14,6 +15,7 @@ pub mod MovedGaps
 pub mod MovedLines
 pub mod MovedMarks
 pub mod Moved
+pub mod NoDropouts
 pub mod NoFreeGap
 pub mod Outlines
 pub mod PassGroups
@@ -25,4 +27,5 @@ pub mod Through
 pub mod Together
 pub mod TurnedWinding
 pub mod Walks
+pub mod Ways
 pub mod White

@@ -237,16 +237,22 @@ no_touches e a b = elim (cases_Bool (int_lt e.by e.ay)) [
   | inr rises ↦ off_touches_none e (rw rises (off_line e.by b))
 ]
 
-none_touched : (stubs : Bool) (black : ℤ → ℤ → Bool) (e : Edge) → (stubs && (is_on_line e.ay || is_on_line e.by)) ≡ false
+pub none_touched : (stubs : Bool) (black : ℤ → ℤ → Bool) (e : Edge) → (stubs && (is_on_line e.ay || is_on_line e.by)) ≡ false
     → (stubs && some_in_free_gap black (touches e)) ≡ false
 none_touched false black e none = refl
 none_touched true black e none =
     rw (no_touches e (first_not (is_on_line e.ay) (is_on_line e.by) none) (other_not (is_on_line e.ay) (is_on_line e.by) none)) refl
 
+eq_lines : (a b : ℤ) → not (int_eq (line_from a) (line_from b)) ≡ false → line_from a ≡ line_from b
+eq_lines a b apart = grind (arith, ints, apart)
+
+pub level : (a b : ℤ) → meets_line false a b ≡ false → line_from a ≡ line_from b
+level a b none = eq_lines a b (first_not (not (int_eq (line_from a) (line_from b))) false none)
+
 pub none_met : (stubs : Bool) (black : ℤ → ℤ → Bool) (e : Edge) → meets_line stubs e.ay e.by ≡ false
     → is_in_free_gap stubs black e ≡ false
 none_met stubs black e none =
     let apart = first_not (not (int_eq (line_from e.ay) (line_from e.by))) (stubs && (is_on_line e.ay || is_on_line e.by)) none in
-    let same : line_from e.ay ≡ line_from e.by = grind (arith, ints, apart) in
+    let same = eq_lines e.ay e.by apart in
     rw (no_crossings e same) (none_touched stubs black e
     (other_not (not (int_eq (line_from e.ay) (line_from e.by))) (stubs && (is_on_line e.ay || is_on_line e.by)) none))

@@ -1,3 +1,4 @@
+pub mod BothWays
 pub mod Crossings
 pub mod Dropouts
 pub mod Examples

@@ -85,7 +85,7 @@ pub(crate) fn lines_crossed(edge: Edge) -> u64
 
 /// Whether a height is that of a line.
 #[inline(always)]
-fn is_on_line(y: i64) -> bool
+pub(crate) fn is_on_line(y: i64) -> bool
     requires { unsigned_abs y < 2 ^ 30 }
     ensures { result ≡ is_on_line y }
 {

@@ -6,7 +6,6 @@ ghost use Rattle.std.specs.List.{list_any};
 ghost use Rattle.std.specs.Ordering.{int_eq};
 ghost use Rattle.tt_scan.specs.Contours.{AreEnds, contours_at};
 ghost use Rattle.tt_scan.specs.Winding.{EdgeFits};
-ghost use Rattle.tt_scan_dropouts.specs.Crossings.{meets_line};
 ghost use Rattle.tt_scan_dropouts.specs.Dropouts.{columns_of, crossed, is_dropout, row_adds, turned_round};
 ghost use Rattle.tt_scan_dropouts.specs.Gaps.{has_pixel};
 ghost use Rattle.tt_scan_dropouts.specs.Walk.{is_in_free_gap};
@@ -14,28 +13,17 @@ ghost use Rattle.tt_scan_dropouts.specs.Windows.{WindowFits, has, has_pixel_by, 
 ghost use Rattle.tt_scan_dropouts.specs.declared.window.Over.TheVariants as over;
 
 use crate::bitmap::Bitmap;
+use crate::both_ways::may_have_dropouts;
 use crate::columns::box_of;
-use crate::crossing::{lines_crossed, meets_line};
+use crate::crossing::lines_crossed;
 use crate::gaps::sort;
 use crate::mark::{Columns, Pixel, Rules};
 use crate::marks::{crosses_free_gap, free_marks, touches_free_gap};
 use crate::pass::pass;
+use crate::seen::{meets, seen_by, turned_round};
 use crate::window::{Over, Window, clipped, has, widened};
 use std::alloc::{AllocError, Global};
 use tt_scan::{Edge, Tape};
-
-/// An edge with x and y exchanged.
-#[inline(always)]
-fn turned_round(edge: Edge) -> Edge
-    ensures { result ≡ turned_round edge }
-{
-    Edge {
-        ax: edge.ay,
-        ay: edge.ax,
-        bx: edge.by,
-        by: edge.bx,
-    }
-}
 
 /// Edges with x and y exchanged. Error: memory ran out.
 fn all_turned_round(alloc: Global, edges: &[Edge]) -> Result<Vec<Edge>, AllocError>
@@ -83,19 +71,6 @@ fn pass_over(
     pass(alloc, rules, columns, over, ink, &marks)
 }
 
-/// An edge as a pass sees it: one over columns, with x and y exchanged.
-#[inline(always)]
-fn seen_by(over: Over, edge: Edge) -> Edge
-    requires { EdgeFits edge }
-    ensures exact { result ≡ seen_by over edge }
-    ensures fits { EdgeFits result }
-{
-    match over {
-        Over::Rows => edge,
-        Over::Columns => turned_round(edge),
-    }
-}
-
 /// Whether an edge, as a pass sees it, leaves something in a free gap: a crossing, or, where stubs are drawn, an end that
 /// touches a line.
 #[inline(never)]
@@ -105,18 +80,6 @@ fn leaves_something(ink: &Bitmap, over: Over, stubs: bool, edge: &Edge) -> bool
 {
     let edge = seen_by(over, *edge);
     crosses_free_gap(ink, over, edge) || (stubs && touches_free_gap(ink, over, edge))
-}
-
-/// Whether an edge, as a pass sees it, meets a line.
-#[inline(always)]
-fn meets(over: Over, stubs: bool, edge: &Edge) -> bool
-    requires { EdgeFits edge.now }
-    ensures { result ≡ meets_line stubs (seen_by over edge.now).ay (seen_by over edge.now).by }
-{
-    match over {
-        Over::Rows => meets_line(stubs, edge.ay, edge.by),
-        Over::Columns => meets_line(stubs, edge.ax, edge.bx),
-    }
 }
 
 /// The same. Most edges are short and meet no line, so that they are not looked at closely.
@@ -255,6 +218,9 @@ pub fn dropouts(
         ≡ (has window c j && is_dropout rules (contours_at tape.now.edges ends.now) c j)) }
 {
     let edges = tape.lend();
+    if !may_have_dropouts(rules.stubs, edges, ends) {
+        return Ok(Vec::new(alloc));
+    }
     let (columns, rows) = box_of(edges);
     let part = match clipped(window, columns, rows) {
         Some(part) => part,

@@ -5,6 +5,9 @@
 //!
 //! ```text
 //! crossing.rt   where edges cross the centre lines of rows, and between which pixels
+//! seen.rt       an edge as a pass over rows or columns sees it
+//! closed.rt     which contours are closed
+//! both_ways.rt  whether some gap is crossed both rising and falling: where none is, there are no dropouts
 //! steps.rt      the walk along a contour, step by step
 //! stub.rt       which crossings belong to a stub
 //! marks.rt      what the contours of an outline leave in gaps that are free
@@ -14,13 +17,15 @@
 //! pass.rt       what a pass over the gaps of all rows adds, and which gap gives way
 //! filling.rt    the dropouts of a glyph in a window, and how much work they are
 //! picture.rt    the dropouts of a picture, as a list that is painted row by row
-//! laws.rt       dropouts are white without them, and move with their glyph
+//! laws.rt       dropouts are white without them, and move with their glyph; free gaps are crossed both ways
 //! ```
 //!
 //! All is said of rows. For columns it is said of the outline with x and y exchanged.
 #![tactic(auto)]
 
 mod bitmap;
+mod both_ways;
+mod closed;
 mod columns;
 mod crossing;
 mod filling;
@@ -30,6 +35,7 @@ mod mark;
 mod marks;
 mod pass;
 mod picture;
+mod seen;
 mod steps;
 mod stub;
 mod window;

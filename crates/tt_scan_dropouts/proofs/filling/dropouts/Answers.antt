@@ -1,8 +1,8 @@
-use Rattle.std.proofs.Common.{◌≡◌, refl, ◌&&◌, ℤ, true, false, ap, map, sym, ◌∙◌}
+use Rattle.std.proofs.Common.{◌≡◌, Bool, refl, ◌&&◌, ℤ, true, false, ap, map, sym, ◌∙◌}
 use Rattle.tt_scan.specs.Contours.{contours_at}
 use Rattle.tt_scan.specs.Winding.{is_black}
 use Rattle.tt_scan_dropouts.specs.Crossings.{centre}
-use Rattle.tt_scan_dropouts.specs.Dropouts.{columns_of, turned_round}
+use Rattle.tt_scan_dropouts.specs.Dropouts.{columns_of, is_dropout, turned_round}
 use Rattle.tt_scan_dropouts.specs.Gaps.{has_pixel}
 use Rattle.tt_scan_dropouts.specs.Windows.{box_has, has, is_black_by, is_black_in}
 use Rattle.tt_scan_dropouts.specs.declared.window.Over.TheVariants as over
@@ -12,6 +12,21 @@ use Rattle.tt_scan_dropouts.proofs.Outlines.{edges_at, turned_at}
 use Rattle.tt_scan_dropouts.proofs.Together.{Passes, together}
 use Rattle.tt_scan_dropouts.proofs.filling.dropouts.Goals as goal
 
+nothing_there : (a b : Bool) → b ≡ false → false ≡ (a && b)
+nothing_there true b none = sym none
+nothing_there false b none = refl
+
+pub returns-then-not-may_have_dropouts : goal.returns-then-not-may_have_dropouts
+returns-then-not-may_have_dropouts c =
+    let es = c.args.tape.now.edges in
+    let contours = contours_at es c.args.ends.now in
+    let none : (col row : ℤ) → is_dropout c.args.rules contours col row ≡ false = λ col row.
+    rw c.lend-edges.ensures.exact at (c.may_have_dropouts.ensures c.if-not-may_have_dropouts.true c.args.rules refl col row) in
+    record {
+      exact = λ col row. rw c.new.ensures.items (nothing_there (has c.args.window col row)
+          (is_dropout c.args.rules contours col row) (none col row));
+    }
+
 pub returns-in-None : goal.returns-in-None
 returns-in-None c =
     let es = c.args.tape.now.edges in
@@ -20,7 +35,7 @@ returns-in-None c =
     let none : (p j : ℤ) → (has c.args.window p j && box_has across up p j) ≡ false =
     simp (c.box_of.ensures.columns, c.box_of.ensures.rows, c.lend-edges.ensures.exact) at c.in-None.ensures.none in
     record {
-      exact = λ col row. rw c.new.ensures.items (sym (clipped_away c.args.rules (contours_at es c.args.ends.now) es
+      exact = λ col row. rw c.new-in-None.ensures.items (sym (clipped_away c.args.rules (contours_at es c.args.ends.now) es
           c.args.window col row (edges_at es c.args.ends.now c.requires.ends) (none col row)));
     }
 

@@ -1,0 +1,139 @@
+-- Where all contours are closed, no gap is crossed both ways and no end that counts lies on a line, there are no dropouts.
+use Rattle.std.proofs.Common.{◌≡◌, refl, sym, ap, ap₂, ◌∙◌, ℕ, ◌<◌, Bool, true, false, not, ◌&&◌, ◌||◌, List, map, get_or, length, inl, inr, arith}
+use Rattle.std.specs.Prelude.{ℤ, pos, ◌+ℤ◌, All}
+use Rattle.std.specs.List.{list_any}
+use Rattle.std.specs.Ordering.{int_eq}
+use Rattle.std.proofs.lemmas.Bool.{cases_Bool}
+use Rattle.std.proofs.lemmas.Int.{ints}
+use Rattle.std.proofs.lemmas.List.Elements.{All-map}
+use Rattle.std.proofs.lemmas.List.Folds.{list_any_at, list_any_none}
+use Rattle.tt_scan.specs.Contours.{AreEnds, contours_at}
+use Rattle.tt_scan.specs.Winding.{is_black}
+use Rattle.tt_scan.specs.declared.edge.Edge.{Edge}
+use Rattle.tt_scan_dropouts.specs.BothWays.{NoneBothWays, has_end_on_line}
+use Rattle.tt_scan_dropouts.specs.Crossings.{agree, centre, crossings, is_on_line}
+use Rattle.tt_scan_dropouts.specs.Dropouts.{edges_of, is_added_by_columns, is_added_by_rows, is_dropout, is_inked, outline_turned, row_adds, turned_round}
+use Rattle.tt_scan_dropouts.specs.Gaps.{is_free}
+use Rattle.tt_scan_dropouts.specs.Laws.{IsClosed, crosses_gap, goes_through, is_through}
+use Rattle.tt_scan_dropouts.specs.Walk.{is_in_free_gap, some_in_free_gap}
+use Rattle.tt_scan_dropouts.specs.declared.mark.Crossing.{Crossing}
+use Rattle.tt_scan_dropouts.specs.declared.mark.Rules.{Rules}
+use Rattle.tt_scan_dropouts.proofs.BothWays.{rows_crossed}
+use Rattle.tt_scan_dropouts.proofs.NoFreeGap.{none_touched, nothing_added}
+use Rattle.tt_scan_dropouts.proofs.Outlines.{edges_at, ends_turned, turned_at}
+use Rattle.tt_scan_dropouts.proofs.TurnedWinding.{columns_crossed}
+
+-- gaps that are free are crossed both ways or not at all
+abbrev pub IsBalanced : (ℤ → ℤ → Bool) → List Edge → Type 0
+IsBalanced black es = (c j : ℤ) → is_free black c j ≡ true → crosses_gap true es j c ≡ crosses_gap false es j c
+
+eq_self : (a : ℤ) → int_eq a a ≡ true
+eq_self a = grind (arith, ints)
+
+own_way : (up : Bool) → agree up up ≡ true
+own_way true = refl
+own_way false = refl
+
+goes_itself : (q : Crossing) → is_through q.up q.line q.gap q ≡ true
+goes_itself q = rw (eq_self q.line, eq_self q.gap, own_way q.up) refl
+
+-- one of two that are the same, and not both
+clash : (f : Bool → Bool) → f true ≡ f false → (f true && f false) ≡ false → (up : Bool) → f up ≡ true → true ≡ false
+clash f same none true is = sym (ap₂ (λ a b. a && b) is (sym same ∙ is)) ∙ none
+clash f same none false is = sym (ap₂ (λ a b. a && b) (same ∙ is) is) ∙ none
+
+-- a crossing lies in no free gap
+not_free : (black : ℤ → ℤ → Bool) (es : List Edge) → IsBalanced black es → NoneBothWays es
+    → (i : ℕ) (d : Edge) → i < length es → (k : ℕ) (q : Crossing) → k < length (crossings (get_or es i d))
+    → is_free black (get_or (crossings (get_or es i d)) k q).gap (get_or (crossings (get_or es i d)) k q).line ≡ false
+not_free black es balanced none i d within k p less =
+    let q = get_or (crossings (get_or es i d)) k p in
+    elim (cases_Bool (is_free black q.gap q.line)) [
+      | inl free ↦
+          let through : goes_through q.up q.line q.gap (get_or es i d) ≡ true =
+          list_any_at (is_through q.up q.line q.gap) (crossings (get_or es i d)) k p less (goes_itself q) in
+          let crossed : crosses_gap q.up es q.line q.gap ≡ true =
+          list_any_at (goes_through q.up q.line q.gap) es i d within through in
+          let bad : true ≡ false = clash (λ up. crosses_gap up es q.line q.gap) (balanced q.gap q.line free)
+          (none q.line q.gap) q.up crossed in
+          absurd cc
+      | inr not ↦ not
+    ]
+
+-- so no edge leaves something in a free gap
+nothing_free : (stubs : Bool) (black : ℤ → ℤ → Bool) (es : List Edge) → IsBalanced black es → NoneBothWays es
+    → All (λ e. (stubs && (is_on_line e.ay || is_on_line e.by)) ≡ false) es
+    → list_any (is_in_free_gap stubs black) es ≡ false
+nothing_free stubs black es balanced none off = list_any_none (is_in_free_gap stubs black) es (λ i d within.
+    let crossed : some_in_free_gap black (crossings (get_or es i d)) ≡ false =
+    list_any_none (λ (q : Crossing). is_free black q.gap q.line) (crossings (get_or es i d))
+    (not_free black es balanced none i d within) in
+    rw crossed (none_touched stubs black (get_or es i d) (off i d within)))
+
+-- ends that count lie on no line
+none_of_four : (a b c d : Bool) → ((a || b) || (c || d)) ≡ false → ((a || c) ≡ false) × ((b || d) ≡ false)
+none_of_four true b c d is = absurd cc
+none_of_four false true c d is = absurd cc
+none_of_four false false true d is = absurd cc
+none_of_four false false false true is = absurd cc
+none_of_four false false false false is = (refl, refl)
+
+not_one : (es : List Edge) (i : ℕ) (d : Edge) → i < length es → list_any has_end_on_line es ≡ false
+    → has_end_on_line (get_or es i d) ≡ false
+not_one es i d within none = elim (cases_Bool (has_end_on_line (get_or es i d))) [
+  | inl some ↦ let bad : true ≡ false = sym (list_any_at has_end_on_line es i d within some) ∙ none in absurd cc
+  | inr not ↦ not
+]
+
+off_lines : (stubs : Bool) (e : Edge) → (stubs ≡ true → has_end_on_line e ≡ false)
+    → ((stubs && (is_on_line e.ax || is_on_line e.bx)) ≡ false) × ((stubs && (is_on_line e.ay || is_on_line e.by)) ≡ false)
+off_lines false e off = (refl, refl)
+off_lines true e off = none_of_four (is_on_line e.ax) (is_on_line e.ay) (is_on_line e.bx) (is_on_line e.by) (off refl)
+
+no_rows : (rules : Rules) (es : List Edge) (ends : List ℕ) → AreEnds (length es) ends → NoneBothWays es
+    → (rules.stubs ≡ true → list_any has_end_on_line es ≡ false)
+    → (c j : ℤ) → is_added_by_rows rules (contours_at es ends) c j ≡ false
+no_rows rules es ends fit none off c j =
+    let black = λ (c : ℤ) (j : ℤ). is_black es (centre c) (centre j) in
+    let free = nothing_free rules.stubs black es (rows_crossed es) none (λ i d within.
+    (off_lines rules.stubs (get_or es i d) (λ stubs. not_one es i d within (off stubs))).1) in
+    ap (λ all. row_adds rules (contours_at es ends) (λ c j. is_black all (centre c) (centre j)) c j) (edges_at es ends fit)
+    ∙ nothing_added rules black es ends fit free c j
+
+-- a gap that is free where more is black is free
+freed : (a b more_a more_b : Bool) → (not (a || more_a) && not (b || more_b)) ≡ true → (not a && not b) ≡ true
+freed true b more_a more_b is = absurd cc
+freed false true true more_b is = absurd cc
+freed false true false more_b is = absurd cc
+freed false false more_a more_b is = refl
+
+no_columns : (rules : Rules) (es : List Edge) (ends : List ℕ) → AreEnds (length es) ends
+    → All IsClosed (contours_at es ends) → NoneBothWays (map turned_round es)
+    → (rules.stubs ≡ true → list_any has_end_on_line es ≡ false)
+    → (c j : ℤ) → is_added_by_columns rules (contours_at es ends) c j ≡ false
+no_columns rules es ends fit closed none off c j =
+    let contours = contours_at es ends in
+    let turned = map turned_round es in
+    let fit_turned = ends_turned es ends fit in
+    let alike : contours_at turned ends ≡ outline_turned contours = turned_at es ends in
+    let all : edges_of (outline_turned contours) ≡ turned = ap edges_of (sym alike) ∙ edges_at turned ends fit_turned in
+    let black = λ (j : ℤ) (c : ℤ). is_inked contours c j || is_added_by_rows rules contours c j in
+    let balanced : IsBalanced black turned = λ g l free.
+    let inked : is_free (λ j c. is_inked contours c j) g l ≡ true =
+    freed (is_inked contours l g) (is_inked contours l (g +ℤ pos 1)) (is_added_by_rows rules contours l g)
+    (is_added_by_rows rules contours l (g +ℤ pos 1)) free in
+    ap (λ es. crosses_gap true es l g) (sym all) ∙ columns_crossed contours l g closed inked
+    ∙ ap (λ es. crosses_gap false es l g) all in
+    let off_turned : All (λ e. (rules.stubs && (is_on_line e.ay || is_on_line e.by)) ≡ false) turned =
+    All-map (λ e. (rules.stubs && (is_on_line e.ay || is_on_line e.by)) ≡ false) turned_round es (λ i d within.
+    (off_lines rules.stubs (get_or es i d) (λ stubs. not_one es i d within (off stubs))).0) in
+    let free = nothing_free rules.stubs black turned balanced none off_turned in
+    ap (λ cs. row_adds rules cs black j c) (sym alike) ∙ nothing_added rules black turned ends fit_turned free j c
+
+pub no_dropout : (rules : Rules) (es : List Edge) (ends : List ℕ) → AreEnds (length es) ends
+    → All IsClosed (contours_at es ends) → NoneBothWays es → NoneBothWays (map turned_round es)
+    → (rules.stubs ≡ true → list_any has_end_on_line es ≡ false) → (c j : ℤ) → is_dropout rules (contours_at es ends) c j ≡ false
+no_dropout rules es ends fit closed rows columns off c j =
+    let by_rows = no_rows rules es ends fit rows off in
+    let by_columns = no_columns rules es ends fit closed columns off in
+    ap₂ (λ a b. a || b) (by_rows c j) (by_columns c j)

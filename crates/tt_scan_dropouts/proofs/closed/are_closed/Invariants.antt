@@ -1,0 +1,12 @@
+use Rattle.std.proofs.Common.{drop, length}
+use Rattle.std.specs.Prelude.{All}
+use Rattle.tt_scan.specs.Contours.{AreEndsFrom, contours_at, contours_from}
+use Rattle.tt_scan_dropouts.specs.Laws.{IsClosed}
+use Rattle.tt_scan_dropouts.proofs.closed.are_closed.Given as goal
+
+-- all are closed if those that are left are
+abbrev pub invariant-loop-i : goal.invariant-loop-i
+invariant-loop-i l = record {
+  left : AreEndsFrom l.from (length l.edges) (drop l.i l.ends);
+  all : All IsClosed (contours_from l.from l.edges (drop l.i l.ends)) → All IsClosed (contours_at l.edges l.ends);
+}

@@ -1,0 +1,164 @@
+//! Whether some gap is crossed both rising and falling. A free gap that an edge crosses is: so where none is, there are no
+//! dropouts, and nothing else need be asked.
+
+ghost use Rattle.std.specs.Prelude.{◌≡◌, List, ℕ, ℤ, ◌^◌, ◌<◌, true, false, ◌∷◌, [], ◌++◌, length, get_or, map, unsigned_abs, All};
+ghost use Rattle.tt_scan.specs.Winding.{EdgeFits};
+ghost use Rattle.std.specs.List.{list_any};
+ghost use Rattle.tt_scan.specs.Contours.{AreEnds, contours_at};
+ghost use Rattle.tt_scan_dropouts.specs.BothWays.{AreApart, AreMarked, NoneBothWays, has_end_on_line, slot};
+ghost use Rattle.tt_scan_dropouts.specs.Dropouts.{is_dropout};
+ghost use Rattle.tt_scan_dropouts.specs.declared.mark.Rules.{Rules};
+ghost use Rattle.tt_scan_dropouts.specs.Crossings.{crossing, line_crossed, lines_crossed};
+ghost use Rattle.tt_scan_dropouts.specs.Windows.{seen_by};
+
+use crate::closed::are_closed;
+use crate::crossing::{gap_crossed, is_on_line, line_crossed, lines_crossed};
+use crate::seen::{meets, seen_by};
+use crate::window::Over;
+use tt_scan::Edge;
+
+/// So many lines, and gaps of a line, a table tells apart: those whose numbers differ by a multiple have one place.
+const SIDE: i64 = 64;
+
+const PLACES: usize = 4096;
+
+/// Where a gap of a line stands in a table.
+#[inline(always)]
+fn slot(line: i64, gap: i64) -> usize
+    ensures exact { result ≡ slot line gap }
+    ensures within { result < 4096 }
+{
+    (SIDE * line.rem_euclid(SIDE) + gap.rem_euclid(SIDE)) as usize
+}
+
+/// Marks a place in one of two tables. Answers whether the other has it.
+#[inline(always)]
+fn mark(table: &mut [bool], other: &[bool], at: usize) -> bool
+    requires table { length table.old ≡ 4096 }
+    requires other { length other.now ≡ 4096 }
+    requires within { at < 4096 }
+    ensures marked { get_or table.new at false ≡ true }
+    ensures kept { (s : ℕ) → get_or table.old s false ≡ true → get_or table.new s false ≡ true }
+    ensures apart { result ≡ false → AreApart table.old other.now → AreApart table.new other.now }
+    ensures len { length table.new ≡ 4096 }
+{
+    table[at] = true;
+    other[at]
+}
+
+/// Marks the gaps in which an edge crosses lines in one of two tables. Answers whether the other has one of them.
+fn mark_crossings(table: &mut [bool], other: &[bool], edge: Edge) -> bool
+    requires edge { EdgeFits edge }
+    requires table { length table.old ≡ 4096 }
+    requires other { length other.now ≡ 4096 }
+    ensures marked { result ≡ false → (k : ℕ) → k < lines_crossed edge
+        → get_or table.new (slot (line_crossed edge k) (crossing edge (line_crossed edge k)).gap) false ≡ true }
+    ensures kept { (s : ℕ) → get_or table.old s false ≡ true → get_or table.new s false ≡ true }
+    ensures apart { result ≡ false → AreApart table.old other.now → AreApart table.new other.now }
+    ensures len { length table.new ≡ 4096 }
+{
+    for k in 0..lines_crossed(edge) {
+        if mark(
+            table,
+            other,
+            slot(line_crossed(edge, k), gap_crossed(edge, k)),
+        ) {
+            return true;
+        }
+    }
+    false
+}
+
+/// Marks the gaps in which an edge, as a pass sees it, crosses lines. Answers whether some is crossed the other way too.
+#[inline(never)]
+fn mark_ways(rising: &mut [bool], falling: &mut [bool], over: Over, edge: &Edge) -> bool
+    requires edge { EdgeFits edge.now }
+    requires rising { length rising.old ≡ 4096 }
+    requires falling { length falling.old ≡ 4096 }
+    ensures rising { result ≡ false → (es : List Edge) → AreMarked true es rising.old
+        → AreMarked true (es ++ seen_by over edge.now ∷ []) rising.new }
+    ensures falling { result ≡ false → (es : List Edge) → AreMarked false es falling.old
+        → AreMarked false (es ++ seen_by over edge.now ∷ []) falling.new }
+    ensures apart { result ≡ false → AreApart rising.old falling.old → AreApart rising.new falling.new }
+    ensures rising_len { length rising.new ≡ 4096 }
+    ensures falling_len { length falling.new ≡ 4096 }
+{
+    let edge = seen_by(over, *edge);
+    if edge.ay < edge.by {
+        mark_crossings(rising, falling, edge)
+    } else {
+        mark_crossings(falling, rising, edge)
+    }
+}
+
+/// The same. Most edges are short and meet no line, so that they are not looked at closely.
+#[inline(always)]
+fn mark_edge(rising: &mut [bool], falling: &mut [bool], over: Over, edge: &Edge) -> bool
+    requires edge { EdgeFits edge.now }
+    requires rising { length rising.old ≡ 4096 }
+    requires falling { length falling.old ≡ 4096 }
+    ensures rising { result ≡ false → (es : List Edge) → AreMarked true es rising.old
+        → AreMarked true (es ++ seen_by over edge.now ∷ []) rising.new }
+    ensures falling { result ≡ false → (es : List Edge) → AreMarked false es falling.old
+        → AreMarked false (es ++ seen_by over edge.now ∷ []) falling.new }
+    ensures apart { result ≡ false → AreApart rising.old falling.old → AreApart rising.new falling.new }
+    ensures rising_len { length rising.new ≡ 4096 }
+    ensures falling_len { length falling.new ≡ 4096 }
+{
+    meets(over, false, edge) && mark_ways(rising, falling, over, edge)
+}
+
+/// Whether edges, as a pass sees them, may cross some gap both rising and falling. They may not where this is false; it is
+/// true too where two gaps have one place in the tables.
+pub(crate) fn may_cross_both_ways(over: Over, edges: &[Edge]) -> bool
+    requires { All EdgeFits edges.now }
+    ensures { result ≡ false → NoneBothWays (map (seen_by over) edges.now) }
+{
+    let mut rising = [false; PLACES];
+    let mut falling = [false; PLACES];
+    for edge in edges {
+        if mark_edge(&mut rising, &mut falling, over, edge) {
+            return true;
+        }
+    }
+    false
+}
+
+/// Whether an end of an edge lies on a line, of rows or of columns.
+#[inline(always)]
+fn has_end_on_line(edge: Edge) -> bool
+    requires { EdgeFits edge }
+    ensures { result ≡ has_end_on_line edge }
+{
+    (is_on_line(edge.ax) || is_on_line(edge.ay)) || (is_on_line(edge.bx) || is_on_line(edge.by))
+}
+
+/// Whether some edge has.
+fn some_end_on_line(edges: &[Edge]) -> bool
+    requires { All EdgeFits edges.now }
+    ensures { result ≡ list_any has_end_on_line edges.now }
+{
+    for edge in edges {
+        if has_end_on_line(*edge) {
+            return true;
+        }
+    }
+    false
+}
+
+/// Whether an outline may have dropouts. It has none where this is false: its contours are closed, it crosses no gap both
+/// rising and falling, and, where stubs are drawn, no edge ends on a line.
+pub(crate) fn may_have_dropouts(stubs: bool, edges: &[Edge], ends: &[usize]) -> bool
+    requires edges { All EdgeFits edges.now }
+    requires ends { AreEnds (length edges.now) ends.now }
+    ensures { result ≡ false → (rules : Rules) → rules.stubs ≡ stubs → (c j : ℤ)
+        → is_dropout rules (contours_at edges.now ends.now) c j ≡ false }
+{
+    if !are_closed(edges, ends) {
+        return true;
+    }
+    if stubs && some_end_on_line(edges) {
+        return true;
+    }
+    may_cross_both_ways(Over::Rows, edges) || may_cross_both_ways(Over::Columns, edges)
+}

@@ -1,0 +1,49 @@
+//! An edge as a pass sees it.
+
+ghost use Rattle.std.specs.Prelude.{◌≡◌};
+ghost use Rattle.tt_scan.specs.Winding.{EdgeFits};
+ghost use Rattle.tt_scan_dropouts.specs.Crossings.{meets_line};
+ghost use Rattle.tt_scan_dropouts.specs.Dropouts.{turned_round};
+ghost use Rattle.tt_scan_dropouts.specs.Windows.{seen_by};
+
+use crate::crossing::meets_line;
+use crate::window::Over;
+use tt_scan::Edge;
+
+/// An edge with x and y exchanged.
+#[inline(always)]
+pub(crate) fn turned_round(edge: Edge) -> Edge
+    ensures { result ≡ turned_round edge }
+{
+    Edge {
+        ax: edge.ay,
+        ay: edge.ax,
+        bx: edge.by,
+        by: edge.bx,
+    }
+}
+
+/// An edge as a pass sees it: one over columns, with x and y exchanged.
+#[inline(always)]
+pub(crate) fn seen_by(over: Over, edge: Edge) -> Edge
+    requires { EdgeFits edge }
+    ensures exact { result ≡ seen_by over edge }
+    ensures fits { EdgeFits result }
+{
+    match over {
+        Over::Rows => edge,
+        Over::Columns => turned_round(edge),
+    }
+}
+
+/// Whether an edge, as a pass sees it, meets a line.
+#[inline(always)]
+pub(crate) fn meets(over: Over, stubs: bool, edge: &Edge) -> bool
+    requires { EdgeFits edge.now }
+    ensures { result ≡ meets_line stubs (seen_by over edge.now).ay (seen_by over edge.now).by }
+{
+    match over {
+        Over::Rows => meets_line(stubs, edge.ay, edge.by),
+        Over::Columns => meets_line(stubs, edge.ax, edge.bx),
+    }
+}
