@@ -1,5 +1,5 @@
 -- Where the marks of an outline stand: no further left, right, down or up than the ends of its edges.
-use Rattle.std.proofs.Common.{◌≡◌, refl, sym, ◌∙◌, ℕ, zero, suc, ◌+◌, ◌*◌, ◌/◌, ◌<◌, ◌≤◌, Bool, true, false, List, [], ◌∷◌, ◌++◌, map, length, get_or, inl, inr, not, ◌&&◌, ◌==◌, arith}
+use Rattle.std.proofs.Common.{◌≡◌, refl, sym, ◌∙◌, ℕ, zero, suc, ◌+◌, ◌*◌, ◌/◌, ◌^◌, ◌<◌, ◌≤◌, Bool, true, false, List, [], ◌∷◌, ◌++◌, map, length, get_or, inl, inr, not, ◌&&◌, ◌==◌, arith}
 use Rattle.std.specs.Prelude.{ℤ, pos, negsuc, ◌+ℤ◌, ◌-ℤ◌, ◌*ℤ◌, ◌≤ℤ◌, ◌<ℤ◌, int_lt, neg_ℤ, unsigned_abs, All}
 use Rattle.std.specs.Int.{int_div_euclid, int_max, int_min, int_rem_euclid}
 use Rattle.std.specs.List.{flat_map, range_with_len}
@@ -8,6 +8,7 @@ use Rattle.std.proofs.lemmas.Bool.Decides.{nat_tests}
 use Rattle.std.proofs.lemmas.Int.{clamps, ints}
 use Rattle.std.proofs.lemmas.List.Elements.{All-append, All-cons, All-head, All-map, All-nil, All-tail, All-weaker}
 use Rattle.std.proofs.lemmas.List.FromFn.{get_or-map-range_with_len, get_or-range_with_len, length-map-range_with_len, length-range_with_len}
+use Rattle.tt_scan.specs.Winding.{EdgeFits}
 use Rattle.tt_scan.specs.declared.edge.Edge.{Edge}
 use Rattle.tt_scan_dropouts.specs.Crossings.{centre, crossing, crossing_at, crossings, edge_x, gap_at, is_rising, line_crossed, lines_crossed, touches, upward}
 use Rattle.tt_scan_dropouts.specs.Dropouts.{edges_of}
@@ -119,6 +120,16 @@ crosses_in_its_gap e k within same =
     let b_low = floor_low (e.bx -ℤ pos 4096) in
     let b_high = floor_high (e.bx -ℤ pos 4096) in
     omega (arith, ints, clamps, left, right, same, a_low, a_high, b_low, b_high)
+
+-- an edge that fits crosses lines not far from the origin
+pub crosses_near : (e : Edge) (k : ℕ) → EdgeFits e → k < lines_crossed e
+    → (unsigned_abs (line_crossed e k) < 2 ^ 18) × (unsigned_abs (crossing e (line_crossed e k)).gap + 1 < 2 ^ 18)
+crosses_near e k fits within =
+    let at = crosses_within (int_min e.ax e.bx) (int_max e.ax e.bx) (int_min e.ay e.by) (int_max e.ay e.by) e k
+    (own_box e) within in (
+      omega (arith, ints, clamps, at.bottom, at.top, fits.ay, fits.by),
+      omega (arith, ints, clamps, at.left, at.right, fits.ax, fits.bx),
+    )
 
 crossings_within : (l r b t : ℤ) (e : Edge) → EdgeWithin l r b t e → All (IsWithin l r b t) (crossings e)
 crossings_within l r b t e h = λ k d less.

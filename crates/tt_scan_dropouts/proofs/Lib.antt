@@ -22,6 +22,7 @@ pub mod PassGroups
 pub mod PassSteps
 pub mod Pictured
 pub mod Pixels
+pub mod Points
 pub mod Places
 pub mod Through
 pub mod Together

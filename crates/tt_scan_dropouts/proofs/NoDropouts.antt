@@ -1,4 +1,5 @@
--- Where all contours are closed, no gap is crossed both ways and no end that counts lies on a line, there are no dropouts.
+-- Where all contours are closed, no free gap is crossed both ways and no end that counts lies on a line, there are no
+-- dropouts.
 use Rattle.std.proofs.Common.{◌≡◌, refl, sym, ap, ap₂, ◌∙◌, ℕ, ◌<◌, Bool, true, false, not, ◌&&◌, ◌||◌, List, map, get_or, length, inl, inr, arith}
 use Rattle.std.specs.Prelude.{ℤ, pos, ◌+ℤ◌, All}
 use Rattle.std.specs.List.{list_any}
@@ -10,7 +11,7 @@ use Rattle.std.proofs.lemmas.List.Folds.{list_any_at, list_any_none}
 use Rattle.tt_scan.specs.Contours.{AreEnds, contours_at}
 use Rattle.tt_scan.specs.Winding.{is_black}
 use Rattle.tt_scan.specs.declared.edge.Edge.{Edge}
-use Rattle.tt_scan_dropouts.specs.BothWays.{NoneBothWays, has_end_on_line}
+use Rattle.tt_scan_dropouts.specs.BothWays.{NoneFreeBothWays, has_end_on_line, is_black_seen}
 use Rattle.tt_scan_dropouts.specs.Crossings.{agree, centre, crossings, is_on_line}
 use Rattle.tt_scan_dropouts.specs.Dropouts.{edges_of, is_added_by_columns, is_added_by_rows, is_dropout, is_inked, outline_turned, row_adds, turned_round}
 use Rattle.tt_scan_dropouts.specs.Gaps.{is_free}
@@ -18,6 +19,7 @@ use Rattle.tt_scan_dropouts.specs.Laws.{IsClosed, crosses_gap, goes_through, is_
 use Rattle.tt_scan_dropouts.specs.Walk.{is_in_free_gap, some_in_free_gap}
 use Rattle.tt_scan_dropouts.specs.declared.mark.Crossing.{Crossing}
 use Rattle.tt_scan_dropouts.specs.declared.mark.Rules.{Rules}
+use Rattle.tt_scan_dropouts.specs.declared.window.Over.TheVariants as over
 use Rattle.tt_scan_dropouts.proofs.BothWays.{rows_crossed}
 use Rattle.tt_scan_dropouts.proofs.NoFreeGap.{none_touched, nothing_added}
 use Rattle.tt_scan_dropouts.proofs.Outlines.{edges_at, ends_turned, turned_at}
@@ -37,13 +39,13 @@ own_way false = refl
 goes_itself : (q : Crossing) → is_through q.up q.line q.gap q ≡ true
 goes_itself q = rw (eq_self q.line, eq_self q.gap, own_way q.up) refl
 
--- one of two that are the same, and not both
-clash : (f : Bool → Bool) → f true ≡ f false → (f true && f false) ≡ false → (up : Bool) → f up ≡ true → true ≡ false
-clash f same none true is = sym (ap₂ (λ a b. a && b) is (sym same ∙ is)) ∙ none
-clash f same none false is = sym (ap₂ (λ a b. a && b) (same ∙ is) is) ∙ none
+-- of two that are the same both hold where one does
+both_hold : (f : Bool → Bool) → f true ≡ f false → (up : Bool) → f up ≡ true → (f true && f false) ≡ true
+both_hold f same true is = ap₂ (λ a b. a && b) is (sym same ∙ is)
+both_hold f same false is = ap₂ (λ a b. a && b) (same ∙ is) is
 
 -- a crossing lies in no free gap
-not_free : (black : ℤ → ℤ → Bool) (es : List Edge) → IsBalanced black es → NoneBothWays es
+not_free : (black : ℤ → ℤ → Bool) (es : List Edge) → IsBalanced black es → NoneFreeBothWays black es
     → (i : ℕ) (d : Edge) → i < length es → (k : ℕ) (q : Crossing) → k < length (crossings (get_or es i d))
     → is_free black (get_or (crossings (get_or es i d)) k q).gap (get_or (crossings (get_or es i d)) k q).line ≡ false
 not_free black es balanced none i d within k p less =
@@ -54,14 +56,13 @@ not_free black es balanced none i d within k p less =
           list_any_at (is_through q.up q.line q.gap) (crossings (get_or es i d)) k p less (goes_itself q) in
           let crossed : crosses_gap q.up es q.line q.gap ≡ true =
           list_any_at (goes_through q.up q.line q.gap) es i d within through in
-          let bad : true ≡ false = clash (λ up. crosses_gap up es q.line q.gap) (balanced q.gap q.line free)
-          (none q.line q.gap) q.up crossed in
-          absurd cc
+          none q.line q.gap
+          (both_hold (λ up. crosses_gap up es q.line q.gap) (balanced q.gap q.line free) q.up crossed)
       | inr not ↦ not
     ]
 
 -- so no edge leaves something in a free gap
-nothing_free : (stubs : Bool) (black : ℤ → ℤ → Bool) (es : List Edge) → IsBalanced black es → NoneBothWays es
+nothing_free : (stubs : Bool) (black : ℤ → ℤ → Bool) (es : List Edge) → IsBalanced black es → NoneFreeBothWays black es
     → All (λ e. (stubs && (is_on_line e.ay || is_on_line e.by)) ≡ false) es
     → list_any (is_in_free_gap stubs black) es ≡ false
 nothing_free stubs black es balanced none off = list_any_none (is_in_free_gap stubs black) es (λ i d within.
@@ -90,11 +91,12 @@ off_lines : (stubs : Bool) (e : Edge) → (stubs ≡ true → has_end_on_line e 
 off_lines false e off = (refl, refl)
 off_lines true e off = none_of_four (is_on_line e.ax) (is_on_line e.ay) (is_on_line e.bx) (is_on_line e.by) (off refl)
 
-no_rows : (rules : Rules) (es : List Edge) (ends : List ℕ) → AreEnds (length es) ends → NoneBothWays es
+no_rows : (rules : Rules) (es : List Edge) (ends : List ℕ) → AreEnds (length es) ends
+    → NoneFreeBothWays (is_black_seen over.Rows es) es
     → (rules.stubs ≡ true → list_any has_end_on_line es ≡ false)
     → (c j : ℤ) → is_added_by_rows rules (contours_at es ends) c j ≡ false
 no_rows rules es ends fit none off c j =
-    let black = λ (c : ℤ) (j : ℤ). is_black es (centre c) (centre j) in
+    let black = is_black_seen over.Rows es in
     let free = nothing_free rules.stubs black es (rows_crossed es) none (λ i d within.
     (off_lines rules.stubs (get_or es i d) (λ stubs. not_one es i d within (off stubs))).1) in
     ap (λ all. row_adds rules (contours_at es ends) (λ c j. is_black all (centre c) (centre j)) c j) (edges_at es ends fit)
@@ -107,8 +109,15 @@ freed false true true more_b is = absurd cc
 freed false true false more_b is = absurd cc
 freed false false more_a more_b is = refl
 
+-- and one that is not free is not where more is black
+not_freed : (a b more_a more_b : Bool) → (not a && not b) ≡ false → (not (a || more_a) && not (b || more_b)) ≡ false
+not_freed true b more_a more_b is = refl
+not_freed false true true more_b is = refl
+not_freed false true false more_b is = refl
+not_freed false false more_a more_b is = absurd cc
+
 no_columns : (rules : Rules) (es : List Edge) (ends : List ℕ) → AreEnds (length es) ends
-    → All IsClosed (contours_at es ends) → NoneBothWays (map turned_round es)
+    → All IsClosed (contours_at es ends) → NoneFreeBothWays (is_black_seen over.Columns es) (map turned_round es)
     → (rules.stubs ≡ true → list_any has_end_on_line es ≡ false)
     → (c j : ℤ) → is_added_by_columns rules (contours_at es ends) c j ≡ false
 no_columns rules es ends fit closed none off c j =
@@ -127,11 +136,18 @@ no_columns rules es ends fit closed none off c j =
     let off_turned : All (λ e. (rules.stubs && (is_on_line e.ay || is_on_line e.by)) ≡ false) turned =
     All-map (λ e. (rules.stubs && (is_on_line e.ay || is_on_line e.by)) ≡ false) turned_round es (λ i d within.
     (off_lines rules.stubs (get_or es i d) (λ stubs. not_one es i d within (off stubs))).0) in
-    let free = nothing_free rules.stubs black turned balanced none off_turned in
+    let inked : (j c : ℤ) → is_black_seen over.Columns es j c ≡ is_inked contours c j =
+    λ j c. ap (λ es. is_black es (centre c) (centre j)) (sym (edges_at es ends fit)) in
+    let none_more : NoneFreeBothWays black turned = λ g l two.
+    not_freed (is_inked contours g l) (is_inked contours g (l +ℤ pos 1)) (is_added_by_rows rules contours g l)
+    (is_added_by_rows rules contours g (l +ℤ pos 1))
+    (ap₂ (λ a b. not a && not b) (sym (inked l g)) (sym (inked (l +ℤ pos 1) g)) ∙ none g l two) in
+    let free = nothing_free rules.stubs black turned balanced none_more off_turned in
     ap (λ cs. row_adds rules cs black j c) (sym alike) ∙ nothing_added rules black turned ends fit_turned free j c
 
 pub no_dropout : (rules : Rules) (es : List Edge) (ends : List ℕ) → AreEnds (length es) ends
-    → All IsClosed (contours_at es ends) → NoneBothWays es → NoneBothWays (map turned_round es)
+    → All IsClosed (contours_at es ends) → NoneFreeBothWays (is_black_seen over.Rows es) es
+    → NoneFreeBothWays (is_black_seen over.Columns es) (map turned_round es)
     → (rules.stubs ≡ true → list_any has_end_on_line es ≡ false) → (c j : ℤ) → is_dropout rules (contours_at es ends) c j ≡ false
 no_dropout rules es ends fit closed rows columns off c j =
     let by_rows = no_rows rules es ends fit rows off in

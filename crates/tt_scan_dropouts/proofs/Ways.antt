@@ -1,34 +1,28 @@
 -- The gaps that edges cross rising and falling, in two tables.
-use Rattle.std.proofs.Common.{◌≡◌, refl, sym, ap, ap₂, ◌∙◌, ℕ, zero, suc, ◌+◌, ◌<◌, Bool, true, false, ◌&&◌, ◌||◌, List, [], ◌∷◌, ◌++◌, map, get_or, take, length, replicate, inl, inr, ◌⊎◌, arith}
+use Rattle.std.proofs.Common.{◌≡◌, refl, sym, ap, ap₂, ◌∙◌, ℕ, zero, suc, ◌+◌, ◌<◌, Bool, true, false, not, ◌&&◌, ◌||◌, List, [], ◌∷◌, ◌++◌, map, get_or, take, length, inl, inr, ◌⊎◌, arith}
+use Rattle.std.specs.Prelude.{ℤ}
 use Rattle.std.specs.List.{list_any, range_with_len}
 use Rattle.std.specs.Ordering.{int_eq}
+use Rattle.std.proofs.lemmas.Bool.{cases_Bool}
 use Rattle.std.proofs.lemmas.Int.{ints}
 use Rattle.std.proofs.lemmas.List.{map-append, take_more}
 use Rattle.std.proofs.lemmas.List.Folds.{list_any-append}
 use Rattle.tt_scan.specs.declared.edge.Edge.{Edge}
-use Rattle.tt_scan_dropouts.specs.BothWays.{AreApart, AreMarked, NoneBothWays, slot}
+use Rattle.tt_scan_dropouts.specs.BothWays.{AreMarked, AreTold, slot}
 use Rattle.tt_scan_dropouts.specs.Crossings.{agree, crossing, crossings, is_rising, line_crossed, line_from, lines_crossed, meets_line}
 use Rattle.tt_scan_dropouts.specs.Dropouts.{turned_round}
+use Rattle.tt_scan_dropouts.specs.Gaps.{is_free}
 use Rattle.tt_scan_dropouts.specs.Windows.{seen_by}
 use Rattle.tt_scan_dropouts.specs.declared.window.Over.TheVariants as over
 use Rattle.tt_scan_dropouts.specs.Laws.{crosses_gap, goes_through, is_through}
 use Rattle.tt_scan_dropouts.specs.declared.mark.Crossing.{Crossing}
 use Rattle.tt_scan_dropouts.proofs.NoFreeGap.{level}
-use Rattle.tt_scan_dropouts.proofs.Places.{eq_of}
+use Rattle.tt_scan_dropouts.proofs.Places.{both, eq_of}
 use Rattle.tt_scan_dropouts.proofs.Walks.{more_crossings}
 
 one_of_two : (a b : Bool) → (a || b) ≡ true → (a ≡ true) ⊎ (b ≡ true)
 one_of_two true b is = inl refl
 one_of_two false b is = inr is
-
-and_swap : (a b : Bool) → (a && b) ≡ (b && a)
-and_swap true true = refl
-and_swap true false = refl
-and_swap false true = refl
-and_swap false false = refl
-
-pub swapped : (rising falling : List Bool) → AreApart rising falling → AreApart falling rising
-swapped rising falling apart = λ s. and_swap (get_or falling s false) (get_or rising s false) ∙ apart s
 
 last_of : (b : Bool) → (b || false) ≡ true → b ≡ true
 last_of true is = refl
@@ -71,18 +65,20 @@ one_passes p e (suc n) some =
       | inr last ↦ (n, omega arith, last_of (p (f n)) last)
     ]
 
--- one edge more is marked
-pub one_more : (up : Bool) (es : List Edge) (e : Edge) (old new : List Bool) → AreMarked up es old
-    → ((s : ℕ) → get_or old s false ≡ true → get_or new s false ≡ true)
-    → (is_rising e ≡ up → (k : ℕ) → k < lines_crossed e
-    → get_or new (slot (line_crossed e k) (crossing e (line_crossed e k)).gap) false ≡ true)
-    → AreMarked up (es ++ e ∷ []) new
-one_more up es e old new marked kept its = λ j c some.
+-- how an edge goes through a gap
+abbrev GoesThrough : Bool → ℤ → ℤ → Edge → Type 0
+GoesThrough up j c e = (k : ℕ) × (k < lines_crossed e) × (line_crossed e k ≡ j)
+    × ((crossing e (line_crossed e k)).gap ≡ c) × (is_rising e ≡ up)
+
+-- of one edge more either those before it cross a gap, or it does
+one_goes : (up : Bool) (es : List Edge) (e : Edge) (j c : ℤ) → crosses_gap up (es ++ e ∷ []) j c ≡ true
+    → (crosses_gap up es j c ≡ true) ⊎ GoesThrough up j c e
+one_goes up es e j c some =
     let test = is_through up j c in
     let split : crosses_gap up (es ++ e ∷ []) j c ≡ (crosses_gap up es j c || (list_any test (crossings e) || false)) =
     list_any-append (goes_through up j c) es (e ∷ []) in
     elim (one_of_two (crosses_gap up es j c) (list_any test (crossings e) || false) (sym split ∙ some)) [
-      | inl before ↦ kept (slot j c) (marked j c before)
+      | inl before ↦ inl before
       | inr last ↦
           let it = one_passes test e (lines_crossed e) (last_of (list_any test (crossings e)) last) in
           let on_line = int_eq (line_crossed e it.0) j in
@@ -92,39 +88,108 @@ one_more up es e old new marked kept its = λ j c some.
           let gap : (crossing e (line_crossed e it.0)).gap ≡ c =
           eq_of (crossing e (line_crossed e it.0)).gap c (second on_line in_gap agrees it.2) in
           let way : is_rising e ≡ up = same_way (is_rising e) up (third on_line in_gap agrees it.2) in
-          ap (λ s. get_or new s false) (ap₂ slot (sym line) (sym gap)) ∙ its way it.0 it.1
+          inr (it.0, it.1, line, gap, way)
     ]
 
+-- marks are kept, an edge's gaps are marked, and none of them is free that the other table has
+abbrev Kept : List Bool → List Bool → Type 0
+Kept old new = (s : ℕ) → get_or old s false ≡ true → get_or new s false ≡ true
+
+abbrev IsMarked : Edge → List Bool → Type 0
+IsMarked e table = (k : ℕ) → k < lines_crossed e
+    → get_or table (slot (line_crossed e k) (crossing e (line_crossed e k)).gap) false ≡ true
+
+abbrev NoneIsFree : (ℤ → ℤ → Bool) → Edge → List Bool → Type 0
+NoneIsFree black e other = (k : ℕ) → k < lines_crossed e
+    → get_or other (slot (line_crossed e k) (crossing e (line_crossed e k)).gap) false ≡ true
+    → is_free black (crossing e (line_crossed e k)).gap (line_crossed e k) ≡ false
+
+-- one edge more is marked
+pub one_more : (up : Bool) (es : List Edge) (e : Edge) (old new : List Bool) → AreMarked up es old
+    → Kept old new → (is_rising e ≡ up → IsMarked e new) → AreMarked up (es ++ e ∷ []) new
+one_more up es e old new marked kept its = λ j c some.
+    elim (one_goes up es e j c some) [
+      | inl before ↦ kept (slot j c) (marked j c before)
+      | inr it ↦ ap (λ s. get_or new s false) (ap₂ slot (sym it.2) (sym it.3)) ∙ its it.4 it.0 it.1
+    ]
+
+not_same : (up : Bool) → up ≡ not up → true ≡ false
+not_same true is = is
+not_same false is = sym is
+
+twice : (up : Bool) → up ≡ not (not up)
+twice true = refl
+twice false = refl
+
+-- an edge goes through gaps one way only
+other_before : (up : Bool) (es : List Edge) (e : Edge) (j c : ℤ) → is_rising e ≡ not up
+    → crosses_gap up (es ++ e ∷ []) j c ≡ true → crosses_gap up es j c ≡ true
+other_before up es e j c way some = elim (one_goes up es e j c some) [
+  | inl before ↦ before
+  | inr it ↦ let bad : true ≡ false = not_same up (sym it.4 ∙ way) in absurd cc
+]
+
+-- a gap that is crossed both ways by one edge more is not free, if none of its gaps is that the other table has
+by_one_more : (black : ℤ → ℤ → Bool) (up : Bool) (es : List Edge) (e : Edge) (other : List Bool) (j c : ℤ)
+    → is_rising e ≡ up → AreMarked (not up) es other → NoneIsFree black e other
+    → (crosses_gap up es j c ≡ true → crosses_gap (not up) es j c ≡ true → is_free black c j ≡ false)
+    → crosses_gap up (es ++ e ∷ []) j c ≡ true → crosses_gap (not up) (es ++ e ∷ []) j c ≡ true
+    → is_free black c j ≡ false
+by_one_more black up es e other j c way marked taken before one two =
+    let back = other_before (not up) es e j c (way ∙ twice up) two in
+    elim (one_goes up es e j c one) [
+      | inl first ↦ before first back
+      | inr it ↦
+          let has : get_or other (slot (line_crossed e it.0) (crossing e (line_crossed e it.0)).gap) false ≡ true =
+          ap (λ s. get_or other s false) (ap₂ slot it.2 it.3) ∙ marked j c back in
+          ap₂ (is_free black) (sym it.3) (sym it.2) ∙ taken it.0 it.1 has
+    ]
+
+pub one_rises : (black : ℤ → ℤ → Bool) (es : List Edge) (e : Edge) (old new falling : List Bool) → is_rising e ≡ true
+    → Kept old new → IsMarked e new → NoneIsFree black e falling
+    → AreTold black es old falling → AreTold black (es ++ e ∷ []) new falling
+one_rises black es e old new falling rises kept marked free told = record {
+  up = one_more true es e old new told.up kept (λ way. marked);
+  down = one_more false es e falling falling told.down (λ s h. h)
+      (λ way. let bad : true ≡ false = sym rises ∙ way in absurd cc);
+  none = λ j c two.
+      let b = both (crosses_gap true (es ++ e ∷ []) j c) (crosses_gap false (es ++ e ∷ []) j c) two in
+      by_one_more black true es e falling j c rises told.down free
+      (λ one other. told.none j c (ap₂ (λ a b. a && b) one other)) b.0 b.1;
+}
+
+pub one_falls : (black : ℤ → ℤ → Bool) (es : List Edge) (e : Edge) (rising old new : List Bool) → is_rising e ≡ false
+    → Kept old new → IsMarked e new → NoneIsFree black e rising
+    → AreTold black es rising old → AreTold black (es ++ e ∷ []) rising new
+one_falls black es e rising old new falls kept marked free told = record {
+  up = one_more true es e rising rising told.up (λ s h. h)
+      (λ way. let bad : true ≡ false = sym way ∙ falls in absurd cc);
+  down = one_more false es e old new told.down kept (λ way. marked);
+  none = λ j c two.
+      let b = both (crosses_gap true (es ++ e ∷ []) j c) (crosses_gap false (es ++ e ∷ []) j c) two in
+      by_one_more black false es e rising j c falls told.up free
+      (λ one other. told.none j c (ap₂ (λ a b. a && b) other one)) b.1 b.0;
+}
+
 -- an edge that meets no line leaves the tables as they are
-pub none_more_marked : (up : Bool) (es : List Edge) (e : Edge) (table : List Bool)
-    → meets_line false e.ay e.by ≡ false → AreMarked up es table → AreMarked up (es ++ e ∷ []) table
-none_more_marked up es e table unmet marked =
+pub none_more : (black : ℤ → ℤ → Bool) (es : List Edge) (e : Edge) (rising falling : List Bool)
+    → meets_line false e.ay e.by ≡ false → AreTold black es rising falling → AreTold black (es ++ e ∷ []) rising falling
+none_more black es e rising falling unmet told =
     let same : line_from e.ay ≡ line_from e.by = level e.ay e.by unmet in
     let none : lines_crossed e ≡ 0 = omega (arith, ints, same) in
-    one_more up es e table table marked (λ s h. h) (λ way k less. absurd (omega (arith, none, less)))
-
--- a table without marks
-pub nothing_at : (n s : ℕ) → get_or (replicate n false) s false ≡ false
-nothing_at zero s = refl
-nothing_at (suc n) zero = refl
-nothing_at (suc n) (suc s) = nothing_at n s
+    let marked : IsMarked e rising = λ k less. absurd (omega (arith, none, less)) in
+    let marked_too : IsMarked e falling = λ k less. absurd (omega (arith, none, less)) in
+    elim (cases_Bool (is_rising e)) [
+      | inl rises ↦ one_rises black es e rising rising falling rises (λ s h. h) marked
+          (λ k less. absurd (omega (arith, none, less))) told
+      | inr falls ↦ one_falls black es e rising falling falling falls (λ s h. h) marked_too
+          (λ k less. absurd (omega (arith, none, less))) told
+    ]
 
 -- one edge more of those so far
 pub more_seen : (f : Edge → Edge) (es : List Edge) (i : ℕ) (d : Edge) → i < length es
     → map f (take (i + 1) es) ≡ map f (take i es) ++ f (get_or es i d) ∷ []
 more_seen f es i d below = ap (map f) (take_more es i d below) ∙ map-append f (take i es) (get_or es i d ∷ [])
-
--- tables that are apart tell that no gap is crossed both ways
-both_false : (a b : Bool) (x y : Bool) → (a ≡ true → x ≡ true) → (b ≡ true → y ≡ true) → (x && y) ≡ false → (a && b) ≡ false
-both_false false b x y left right none = refl
-both_false true false x y left right none = refl
-both_false true true x y left right none = sym (ap₂ (λ p q. p && q) (left refl) (right refl)) ∙ none
-
-pub none_both_ways : (es : List Edge) (rising falling : List Bool) → AreMarked true es rising → AreMarked false es falling
-    → AreApart rising falling → NoneBothWays es
-none_both_ways es rising falling up down apart = λ j c.
-    both_false (crosses_gap true es j c) (crosses_gap false es j c) (get_or rising (slot j c) false)
-    (get_or falling (slot j c) false) (up j c) (down j c) (apart (slot j c))
 
 -- the edges as a pass sees them
 

@@ -1,18 +1,21 @@
-//! Whether some gap is crossed both rising and falling. A free gap that an edge crosses is: so where none is, there are no
-//! dropouts, and nothing else need be asked.
+//! Whether some free gap is crossed both rising and falling. Each that an edge crosses is: so where none is, there are
+//! no dropouts, and nothing else need be asked. Two tables tell which gaps may be crossed both ways, and whether one of
+//! those is free is asked of all edges.
 
-ghost use Rattle.std.specs.Prelude.{◌≡◌, List, ℕ, ℤ, ◌^◌, ◌<◌, true, false, ◌∷◌, [], ◌++◌, length, get_or, map, unsigned_abs, All};
+ghost use Rattle.std.specs.Prelude.{◌≡◌, List, ℕ, ℤ, ◌^◌, ◌<◌, true, false, ◌∷◌, [], ◌+◌, ◌++◌, length, get_or, map, unsigned_abs, All};
 ghost use Rattle.tt_scan.specs.Winding.{EdgeFits};
 ghost use Rattle.std.specs.List.{list_any};
 ghost use Rattle.tt_scan.specs.Contours.{AreEnds, contours_at};
-ghost use Rattle.tt_scan_dropouts.specs.BothWays.{AreApart, AreMarked, NoneBothWays, has_end_on_line, slot};
+ghost use Rattle.tt_scan_dropouts.specs.BothWays.{AreTold, NoneFreeBothWays, has_end_on_line, is_black_seen, slot};
 ghost use Rattle.tt_scan_dropouts.specs.Dropouts.{is_dropout};
+ghost use Rattle.tt_scan_dropouts.specs.Gaps.{is_free};
 ghost use Rattle.tt_scan_dropouts.specs.declared.mark.Rules.{Rules};
 ghost use Rattle.tt_scan_dropouts.specs.Crossings.{crossing, line_crossed, lines_crossed};
 ghost use Rattle.tt_scan_dropouts.specs.Windows.{seen_by};
 
 use crate::closed::are_closed;
 use crate::crossing::{gap_crossed, is_on_line, line_crossed, lines_crossed};
+use crate::free::is_free_gap;
 use crate::seen::{meets, seen_by};
 use crate::window::Over;
 use tt_scan::Edge;
@@ -21,6 +24,9 @@ use tt_scan::Edge;
 const SIDE: i64 = 64;
 
 const PLACES: usize = 4096;
+
+/// So many gaps are looked at by themselves, in a pass over rows or columns: each look asks all edges.
+const LOOKS: u32 = 16;
 
 /// Where a gap of a line stands in a table.
 #[inline(always)]
@@ -39,85 +45,126 @@ fn mark(table: &mut [bool], other: &[bool], at: usize) -> bool
     requires within { at < 4096 }
     ensures marked { get_or table.new at false ≡ true }
     ensures kept { (s : ℕ) → get_or table.old s false ≡ true → get_or table.new s false ≡ true }
-    ensures apart { result ≡ false → AreApart table.old other.now → AreApart table.new other.now }
+    ensures other { result ≡ get_or other.now at false }
     ensures len { length table.new ≡ 4096 }
 {
     table[at] = true;
     other[at]
 }
 
-/// Marks the gaps in which an edge crosses lines in one of two tables. Answers whether the other has one of them.
-fn mark_crossings(table: &mut [bool], other: &[bool], edge: Edge) -> bool
+/// Whether a gap may be free. It may where no looks are left; else it is looked at. Few gaps are, so that this stands
+/// apart from the loop that asks it.
+#[cold]
+#[inline(never)]
+fn may_be_free(over: Over, edges: &[Edge], looks: &mut u32, gap: i64, line: i64) -> bool
+    requires edges { All EdgeFits edges.now }
+    requires gap { unsigned_abs gap + 1 < 2 ^ 18 }
+    requires line { unsigned_abs line < 2 ^ 18 }
+    ensures { result ≡ false → is_free (is_black_seen over edges.now) gap line ≡ false }
+{
+    if *looks == 0 {
+        return true;
+    }
+    *looks -= 1;
+    is_free_gap(over, edges, gap, line)
+}
+
+/// Marks the gaps in which an edge crosses lines in one of two tables. Answers whether one that the other has may be
+/// free.
+fn mark_crossings(
+    table: &mut [bool],
+    other: &[bool],
+    over: Over,
+    edges: &[Edge],
+    looks: &mut u32,
+    edge: Edge,
+) -> bool
     requires edge { EdgeFits edge }
+    requires edges { All EdgeFits edges.now }
     requires table { length table.old ≡ 4096 }
     requires other { length other.now ≡ 4096 }
     ensures marked { result ≡ false → (k : ℕ) → k < lines_crossed edge
         → get_or table.new (slot (line_crossed edge k) (crossing edge (line_crossed edge k)).gap) false ≡ true }
     ensures kept { (s : ℕ) → get_or table.old s false ≡ true → get_or table.new s false ≡ true }
-    ensures apart { result ≡ false → AreApart table.old other.now → AreApart table.new other.now }
+    ensures taken { result ≡ false → (k : ℕ) → k < lines_crossed edge
+        → get_or other.now (slot (line_crossed edge k) (crossing edge (line_crossed edge k)).gap) false ≡ true
+        → is_free (is_black_seen over edges.now) (crossing edge (line_crossed edge k)).gap (line_crossed edge k)
+        ≡ false }
     ensures len { length table.new ≡ 4096 }
 {
     for k in 0..lines_crossed(edge) {
-        if mark(
-            table,
-            other,
-            slot(line_crossed(edge, k), gap_crossed(edge, k)),
-        ) {
+        let line = line_crossed(edge, k);
+        let gap = gap_crossed(edge, k);
+        if mark(table, other, slot(line, gap)) && may_be_free(over, edges, looks, gap, line) {
             return true;
         }
     }
     false
 }
 
-/// Marks the gaps in which an edge, as a pass sees it, crosses lines. Answers whether some is crossed the other way too.
+/// Marks the gaps in which an edge, as a pass sees it, crosses lines. Answers whether one that is crossed the other way
+/// too may be free.
 #[inline(never)]
-fn mark_ways(rising: &mut [bool], falling: &mut [bool], over: Over, edge: &Edge) -> bool
+fn mark_ways(
+    rising: &mut [bool],
+    falling: &mut [bool],
+    over: Over,
+    edges: &[Edge],
+    looks: &mut u32,
+    edge: &Edge,
+) -> bool
     requires edge { EdgeFits edge.now }
+    requires edges { All EdgeFits edges.now }
     requires rising { length rising.old ≡ 4096 }
     requires falling { length falling.old ≡ 4096 }
-    ensures rising { result ≡ false → (es : List Edge) → AreMarked true es rising.old
-        → AreMarked true (es ++ seen_by over edge.now ∷ []) rising.new }
-    ensures falling { result ≡ false → (es : List Edge) → AreMarked false es falling.old
-        → AreMarked false (es ++ seen_by over edge.now ∷ []) falling.new }
-    ensures apart { result ≡ false → AreApart rising.old falling.old → AreApart rising.new falling.new }
+    ensures told { result ≡ false → (es : List Edge)
+        → AreTold (is_black_seen over edges.now) es rising.old falling.old
+        → AreTold (is_black_seen over edges.now) (es ++ seen_by over edge.now ∷ []) rising.new falling.new }
     ensures rising_len { length rising.new ≡ 4096 }
     ensures falling_len { length falling.new ≡ 4096 }
 {
     let edge = seen_by(over, *edge);
     if edge.ay < edge.by {
-        mark_crossings(rising, falling, edge)
+        mark_crossings(rising, falling, over, edges, looks, edge)
     } else {
-        mark_crossings(falling, rising, edge)
+        mark_crossings(falling, rising, over, edges, looks, edge)
     }
 }
 
 /// The same. Most edges are short and meet no line, so that they are not looked at closely.
 #[inline(always)]
-fn mark_edge(rising: &mut [bool], falling: &mut [bool], over: Over, edge: &Edge) -> bool
+fn mark_edge(
+    rising: &mut [bool],
+    falling: &mut [bool],
+    over: Over,
+    edges: &[Edge],
+    looks: &mut u32,
+    edge: &Edge,
+) -> bool
     requires edge { EdgeFits edge.now }
+    requires edges { All EdgeFits edges.now }
     requires rising { length rising.old ≡ 4096 }
     requires falling { length falling.old ≡ 4096 }
-    ensures rising { result ≡ false → (es : List Edge) → AreMarked true es rising.old
-        → AreMarked true (es ++ seen_by over edge.now ∷ []) rising.new }
-    ensures falling { result ≡ false → (es : List Edge) → AreMarked false es falling.old
-        → AreMarked false (es ++ seen_by over edge.now ∷ []) falling.new }
-    ensures apart { result ≡ false → AreApart rising.old falling.old → AreApart rising.new falling.new }
+    ensures told { result ≡ false → (es : List Edge)
+        → AreTold (is_black_seen over edges.now) es rising.old falling.old
+        → AreTold (is_black_seen over edges.now) (es ++ seen_by over edge.now ∷ []) rising.new falling.new }
     ensures rising_len { length rising.new ≡ 4096 }
     ensures falling_len { length falling.new ≡ 4096 }
 {
-    meets(over, false, edge) && mark_ways(rising, falling, over, edge)
+    meets(over, false, edge) && mark_ways(rising, falling, over, edges, looks, edge)
 }
 
-/// Whether edges, as a pass sees them, may cross some gap both rising and falling. They may not where this is false; it is
-/// true too where two gaps have one place in the tables.
+/// Whether edges, as a pass sees them, may cross some free gap both rising and falling. They do not where this is
+/// false; it is true too where more gaps want a look than are looked at.
 pub(crate) fn may_cross_both_ways(over: Over, edges: &[Edge]) -> bool
     requires { All EdgeFits edges.now }
-    ensures { result ≡ false → NoneBothWays (map (seen_by over) edges.now) }
+    ensures { result ≡ false → NoneFreeBothWays (is_black_seen over edges.now) (map (seen_by over) edges.now) }
 {
     let mut rising = [false; PLACES];
     let mut falling = [false; PLACES];
+    let mut looks = LOOKS;
     for edge in edges {
-        if mark_edge(&mut rising, &mut falling, over, edge) {
+        if mark_edge(&mut rising, &mut falling, over, edges, &mut looks, edge) {
             return true;
         }
     }
@@ -146,8 +193,8 @@ fn some_end_on_line(edges: &[Edge]) -> bool
     false
 }
 
-/// Whether an outline may have dropouts. It has none where this is false: its contours are closed, it crosses no gap both
-/// rising and falling, and, where stubs are drawn, no edge ends on a line.
+/// Whether an outline may have dropouts. It has none where this is false: its contours are closed, it crosses no free
+/// gap both rising and falling, and, where stubs are drawn, no edge ends on a line.
 pub(crate) fn may_have_dropouts(stubs: bool, edges: &[Edge], ends: &[usize]) -> bool
     requires edges { All EdgeFits edges.now }
     requires ends { AreEnds (length edges.now) ends.now }

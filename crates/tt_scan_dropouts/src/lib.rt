@@ -7,7 +7,9 @@
 //! crossing.rt   where edges cross the centre lines of rows, and between which pixels
 //! seen.rt       an edge as a pass over rows or columns sees it
 //! closed.rt     which contours are closed
-//! both_ways.rt  whether some gap is crossed both rising and falling: where none is, there are no dropouts
+//! both_ways.rt  whether some free gap is crossed both rising and falling: where none is, there are no dropouts
+//! free.rt       whether a gap is free, asked of each edge
+//! point.rt      whether a point is black by rules 1 and 2, asked of each edge
 //! steps.rt      the walk along a contour, step by step
 //! stub.rt       which crossings belong to a stub
 //! marks.rt      what the contours of an outline leave in gaps that are free
@@ -29,12 +31,14 @@ mod closed;
 mod columns;
 mod crossing;
 mod filling;
+mod free;
 mod gaps;
 pub mod laws;
 mod mark;
 mod marks;
 mod pass;
 mod picture;
+mod point;
 mod seen;
 mod steps;
 mod stub;

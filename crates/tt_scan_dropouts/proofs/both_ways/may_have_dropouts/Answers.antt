@@ -1,7 +1,8 @@
 use Rattle.std.proofs.Common.{◌≡◌, true, false, sym, ◌∙◌, map}
 use Rattle.std.specs.List.{list_any}
-use Rattle.tt_scan_dropouts.specs.BothWays.{NoneBothWays, has_end_on_line}
+use Rattle.tt_scan_dropouts.specs.BothWays.{NoneFreeBothWays, has_end_on_line, is_black_seen}
 use Rattle.tt_scan_dropouts.specs.Dropouts.{turned_round}
+use Rattle.tt_scan_dropouts.specs.declared.window.Over.TheVariants as over
 use Rattle.tt_scan_dropouts.proofs.NoDropouts.{no_dropout}
 use Rattle.tt_scan_dropouts.proofs.Ways.{seen_by_columns, seen_by_rows}
 use Rattle.tt_scan_dropouts.proofs.both_ways.may_have_dropouts.Goals as goal
@@ -11,8 +12,8 @@ pub returns-else-may_cross_both_ways : goal.returns-else-may_cross_both_ways
 returns-else-may_cross_both_ways c = λ last rules same k j.
     let es = c.args.edges.now in
     let closed = c.are_closed.ensures c.if-not-are_closed.false in
-    let rows : NoneBothWays es = rw seen_by_rows at (c.may_cross_both_ways.ensures c.if-may_cross_both_ways.false) in
-    let columns : NoneBothWays (map turned_round es) =
+    let rows : NoneFreeBothWays (is_black_seen over.Rows es) es = rw seen_by_rows at (c.may_cross_both_ways.ensures c.if-may_cross_both_ways.false) in
+    let columns : NoneFreeBothWays (is_black_seen over.Columns es) (map turned_round es) =
     rw seen_by_columns at (c.may_cross_both_ways-else-may_cross_both_ways.ensures last) in
     let off : rules.stubs ≡ true → list_any has_end_on_line es ≡ false = λ stubs. elim c.else-stubs.branch [
       | else-stubs-via-then-stubs+else-some_end_on_line w ↦ sym w.some_end_on_line.ensures ∙ w.if-some_end_on_line.false

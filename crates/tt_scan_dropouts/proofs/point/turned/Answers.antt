@@ -1,0 +1,22 @@
+use Rattle.std.proofs.Common.{◌≡◌, ap₂, ◌∙◌, SFits, w64, rules, arith}
+use Rattle.std.specs.Prelude.{◌-ℤ◌, ◌*ℤ◌}
+use Rattle.std.proofs.lemmas.Int.{ints, to_z-of_z}
+use Rattle.tt_scan_dropouts.specs.BothWays.{turn_by}
+use Rattle.tt_scan_dropouts.proofs.Points.{turns_by}
+use Rattle.tt_scan_dropouts.proofs.point.turned.Goals as goal
+
+pub returns-clause-exact : goal.returns-clause-exact
+returns-clause-exact c =
+    let e = c.args.edge in
+    let x : SFits w64 c.args.x = c.ranges.x in
+    let y : SFits w64 c.args.y = c.ranges.y in
+    let ay : SFits w64 e.ay = omega (arith, ints, c.requires.edge.ay) in
+    let by : SFits w64 e.by = omega (arith, ints, c.requires.edge.by) in
+    let first : SFits w64 c.sides-p.result.0 = search rules in
+    let second : SFits w64 c.sides-p.result.1 = search rules in
+    let small : SFits w64 c.turn_by.result = omega (arith, ints, c.turn_by.ensures.small) in
+    let p : c.sides-p.result.0 ≡ (e.bx -ℤ e.ax) *ℤ (c.args.y -ℤ e.ay) = simp to_z-of_z at c.sides-p.ensures.first in
+    let q : c.sides-p.result.1 ≡ (e.by -ℤ e.ay) *ℤ (c.args.x -ℤ e.ax) = simp to_z-of_z at c.sides-p.ensures.second in
+    let is : c.turn_by.result ≡ turn_by e.ay e.by c.args.y c.sides-p.result.0 c.sides-p.result.1 =
+    simp to_z-of_z at c.turn_by.ensures.exact in
+    simp to_z-of_z (is ∙ ap₂ (turn_by e.ay e.by c.args.y) p q ∙ turns_by e c.args.x c.args.y)
