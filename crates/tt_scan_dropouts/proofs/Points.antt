@@ -1,9 +1,9 @@
 -- On which side of an edge a point lies, by two products; and what edges come to at a point, one more at a time.
 use Rattle.std.proofs.Common.{◌≡◌, refl, sym, ◌∙◌, ℕ, zero, suc, ◌+◌, ◌<◌, Bool, true, false, ◌&&◌, ◌||◌, List, [], ◌∷◌, get_or, length, take, arith}
-use Rattle.std.specs.Prelude.{ℤ, pos, ◌+ℤ◌, ◌-ℤ◌, ◌*ℤ◌, int_lt}
+use Rattle.std.specs.Prelude.{ℤ, pos, ◌+ℤ◌, ◌-ℤ◌, ◌*ℤ◌, int_lt, int_le}
 use Rattle.std.specs.Ordering.{int_eq}
 use Rattle.std.proofs.lemmas.Int.{ints}
-use Rattle.tt_scan.specs.Winding.{is_zero, lies_on, lies_on_one, turned, winding}
+use Rattle.tt_scan.specs.Winding.{is_between, side, is_zero, lies_on, lies_on_one, turned, winding}
 use Rattle.tt_scan.specs.declared.edge.Edge.{Edge}
 use Rattle.tt_scan_dropouts.specs.BothWays.{turn_by}
 
@@ -38,6 +38,32 @@ turns_by e x y =
     let p = (e.bx -ℤ e.ax) *ℤ (y -ℤ e.ay) in
     let q = (e.by -ℤ e.ay) *ℤ (x -ℤ e.ax) in
     rw (below_zero p q, above_zero p q) refl
+
+-- a point above or below an edge
+
+first_neither : (a b : Bool) → (a || b) ≡ false → a ≡ false
+first_neither true b h = absurd cc
+first_neither false b h = refl
+
+second_neither : (a b : Bool) → (a || b) ≡ false → b ≡ false
+second_neither true b h = absurd cc
+second_neither false b h = h
+
+strictly_neither : (a b strict p : Bool) → (a && b) ≡ false → (strict ≡ true → b ≡ true) → (a && strict && p) ≡ false
+strictly_neither false b strict p out most = refl
+strictly_neither true b false p out most = refl
+strictly_neither true b true p out most = let bad : true ≡ false = sym (most refl) ∙ out in absurd cc
+
+at_most : (y z : ℤ) → int_lt y z ≡ true → int_le y z ≡ true
+at_most y z less = grind (arith, ints)
+
+pub apart_turns_nothing : (e : Edge) (x y : ℤ) → is_between e.ay e.by y ≡ false → pos 0 ≡ turned e x y
+apart_turns_nothing e x y apart =
+    let up = strictly_neither (int_le e.ay y) (int_le y e.by) (int_lt y e.by) (int_lt (side e x y) (pos 0))
+    (first_neither (int_le e.ay y && int_le y e.by) (int_le e.by y && int_le y e.ay) apart) (at_most y e.by) in
+    let down = strictly_neither (int_le e.by y) (int_le y e.ay) (int_lt y e.ay) (int_lt (pos 0) (side e x y))
+    (second_neither (int_le e.ay y && int_le y e.by) (int_le e.by y && int_le y e.ay) apart) (at_most y e.ay) in
+    rw (up, down) refl
 
 -- the edges so far, and one more
 

@@ -71,6 +71,7 @@ fn may_be_free(over: Over, edges: &[Edge], looks: &mut u32, gap: i64, line: i64)
 
 /// Marks the gaps in which an edge crosses lines in one of two tables. Answers whether one that the other has may be
 /// free.
+#[inline(always)]
 fn mark_crossings(
     table: &mut [bool],
     other: &[bool],

@@ -80,6 +80,10 @@ fn turned(edge: Edge, x: i64, y: i64) -> i64
     ensures exact { result ≡ turned edge x y }
     ensures small { unsigned_abs result ≤ 1 }
 {
+    // Most edges are above or below the point.
+    if !is_between(edge.ay, edge.by, y) {
+        return 0;
+    }
     let (p, q) = sides(edge, x, y);
     turn_by(edge.ay, edge.by, y, p, q)
 }
