@@ -1,3 +1,4 @@
+pub mod Closed
 pub mod Contours
 mod EdgeCounts
 pub mod Eighths

@@ -110,10 +110,10 @@ of_chords y c (suc k) =
     let both = turns-append y (first_chords c k) (edge_between (chord_end c k) (chord_end c (suc k)) ∷ []) in
     omega (arith, ints, more, both)
 
-first_eighth : (b : Coordinates) → eighth 0 b ≡ pos 64 *ℤ b.from
+pub first_eighth : (b : Coordinates) → eighth 0 b ≡ pos 64 *ℤ b.from
 first_eighth b = omega (arith, ints)
 
-last_eighth : (b : Coordinates) → eighth 8 b ≡ pos 64 *ℤ b.to
+pub last_eighth : (b : Coordinates) → eighth 8 b ≡ pos 64 *ℤ b.to
 last_eighth b = omega (arith, ints)
 
 -- the height at which the edges of a point begin
@@ -145,16 +145,16 @@ quadratic_ends p after false off on =
     let other = curve_end_off p after off in
     omega (arith, ints, here, there, other)
 
-straight : (before p after : Point) → p.on ≡ true → after.on ≡ true → edges_of before p after ≡ edge_between (edge_end_of p)
+pub straight : (before p after : Point) → p.on ≡ true → after.on ≡ true → edges_of before p after ≡ edge_between (edge_end_of p)
     (edge_end_of after) ∷ []
 unfolding edges_of
 straight before p after on next = rw (on, next) refl
 
-no_edge : (before p after : Point) → p.on ≡ true → after.on ≡ false → edges_of before p after ≡ []
+pub no_edge : (before p after : Point) → p.on ≡ true → after.on ≡ false → edges_of before p after ≡ []
 unfolding edges_of
 no_edge before p after on next = rw (on, next) refl
 
-curved : (before p after : Point) → p.on ≡ false → edges_of before p after ≡ first_chords (quadratic_of before p after) 8
+pub curved : (before p after : Point) → p.on ≡ false → edges_of before p after ≡ first_chords (quadratic_of before p after) 8
 unfolding edges_of
 curved before p after off = rw off refl
 

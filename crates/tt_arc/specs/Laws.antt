@@ -1,6 +1,7 @@
 -- What the edges of an outline come to, told of its single points.
-use Rattle.std.specs.Prelude.{◌≡◌, ◌≢◌, ◌↔◌, ◌⊎◌, ℕ, ◌<◌, Bool, true, false, ◌&&◌, if◌then◌else◌, ℤ, pos, negsuc, ◌+ℤ◌, ◌*ℤ◌, int_lt, int_le, List, [], ◌∷◌, length, map, refl}
+use Rattle.std.specs.Prelude.{◌≡◌, ◌≢◌, ◌↔◌, ◌⊎◌, ℕ, ◌<◌, Bool, true, false, ◌&&◌, if◌then◌else◌, ℤ, pos, negsuc, ◌+ℤ◌, ◌*ℤ◌, int_lt, int_le, List, [], ◌∷◌, length, map, All, refl}
 use Rattle.std.specs.List.{Any, flat_map}
+use Rattle.tt_scan.specs.Contours.{IsClosed}
 use Rattle.tt_scan.specs.declared.edge.Edge.{Edge}
 use Rattle.tt_scan.specs.Winding.{side, lies_on, lies_on_one, winding, is_black, moved_edges}
 use Rattle.tt_arc.specs.declared.point.Point.{Point}
@@ -54,6 +55,11 @@ OutlineMoved = (points : List (ℤ × ℤ × Bool)) (ends : List ℕ) (dx dy k :
 abbrev pub ContoursJoined : Type 0
 ContoursJoined = (points : List (ℤ × ℤ × Bool)) (ends : List ℕ) (dx dy : ℤ)
     → flat_map (λ es. es) (chord_contours points ends dx dy) ≡ chord_edges points ends dx dy
+
+-- each of them is closed, whatever the points
+abbrev pub ContoursAreClosed : Type 0
+ContoursAreClosed = (points : List (ℤ × ℤ × Bool)) (ends : List ℕ) (dx dy : ℤ)
+    → All IsClosed (chord_contours points ends dx dy)
 
 -- an outline that stands k pixels further to the right has the edges of each contour there
 abbrev pub ContoursMoved : Type 0

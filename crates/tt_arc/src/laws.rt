@@ -1,6 +1,6 @@
 //! Laws of the definitions. Each function takes nothing and gives nothing: its clauses hold of all outlines.
 
-ghost use Rattle.tt_arc.specs.Laws.{OnByPoints, BlackByPoints, SidesAgree, OutlineMoved, ContoursJoined, ContoursMoved, ContoursRaised};
+ghost use Rattle.tt_arc.specs.Laws.{OnByPoints, BlackByPoints, SidesAgree, OutlineMoved, ContoursJoined, ContoursAreClosed, ContoursMoved, ContoursRaised};
 
 /// Where a place lies on an outline, and where it is black, told of the outline's single points.
 pub fn outline_points()
@@ -21,6 +21,11 @@ pub fn outline_moved()
 /// The edges of an outline contour by contour: one after the other they are those of the outline.
 pub fn contours_joined()
     ensures { ContoursJoined }
+{}
+
+/// The edges of each contour lead from one to the next, and from the last to the first.
+pub fn contours_closed()
+    ensures { ContoursAreClosed }
 {}
 
 /// The contours of an outline that is moved by whole pixels: they are those of the outline where it stood, moved by as

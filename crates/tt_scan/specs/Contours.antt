@@ -18,3 +18,17 @@ AreEndsFrom from count (end ∷ ends) = (from ≤ end) × AreEndsFrom end count 
 
 abbrev pub AreEnds : ℕ → List ℕ → Type 0
 AreEnds count ends = AreEndsFrom 0 count ends
+
+-- one edge ends where another begins
+abbrev pub Meets : Edge → Edge → Type 0
+Meets e f = (e.bx ≡ f.ax) × (e.by ≡ f.ay)
+
+-- the edges after one begin each where the one before it ends, and the last ends where a first one begins
+abbrev pub GoesRound : Edge → List Edge → Edge → Type 0
+GoesRound e [] first = Meets e first
+GoesRound e (f ∷ es) first = Meets e f × GoesRound f es first
+
+-- a contour is closed where its edges lead from one to the next, and from the last to the first
+abbrev pub IsClosed : List Edge → Type 0
+IsClosed [] = Unit {0}
+IsClosed (e ∷ es) = GoesRound e es e

@@ -107,3 +107,8 @@ pub together : {rules : Rules} {contours : List (List Edge)} {w : Window} {inked
     → Passes rules contours w inked after rows columns → (c j : ℤ)
     → ((has w c j && rows c j) || (has w c j && columns j c)) ≡ (has w c j && is_dropout rules contours c j)
 together {w = w} h c j = in_window h c j (has w c j) refl
+
+-- where there are no dropouts, none is found
+pub nothing_there : (a b : Bool) → b ≡ false → false ≡ (a && b)
+nothing_there true b none = sym none
+nothing_there false b none = refl

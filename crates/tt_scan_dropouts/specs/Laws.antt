@@ -3,6 +3,7 @@
 use Rattle.std.specs.Prelude.{◌≡◌, refl, Bool, true, false, ◌&&◌, ℤ, pos, ◌+ℤ◌, ◌*ℤ◌, All, List, [], ◌∷◌, map}
 use Rattle.std.specs.List.{list_any}
 use Rattle.std.specs.Ordering.{int_eq}
+use Rattle.tt_scan.specs.Contours.{IsClosed}
 use Rattle.tt_scan.specs.Winding.{is_black}
 use Rattle.tt_scan.specs.declared.edge.Edge.{Edge}
 use Rattle.tt_scan_dropouts.specs.Crossings.{agree, centre, crossings}
@@ -60,20 +61,6 @@ crosses_gap up es j c = list_any (goes_through up j c) es
 abbrev pub RowsCrossedBothWays : Type 0
 RowsCrossedBothWays = (es : List Edge) (c j : ℤ) → is_free (λ c j. is_black es (centre c) (centre j)) c j ≡ true
     → crosses_gap true es j c ≡ crosses_gap false es j c
-
--- one edge ends where another begins
-abbrev pub Meets : Edge → Edge → Type 0
-Meets e f = (e.bx ≡ f.ax) × (e.by ≡ f.ay)
-
--- the edges behind one begin each where the one before it ends, and the last ends where a first one begins
-abbrev pub GoesRound : Edge → List Edge → Edge → Type 0
-GoesRound e [] first = Meets e first
-GoesRound e (f ∷ es) first = Meets e f × GoesRound f es first
-
--- a contour is closed where its edges lead from one to the next, and from the last to the first
-abbrev pub IsClosed : List Edge → Type 0
-IsClosed [] = Unit {0}
-IsClosed (e ∷ es) = GoesRound e es e
 
 -- where all contours are closed, the same holds of a free gap of a column: that above the pixel of column c and row j
 abbrev pub ColumnsCrossedBothWays : Type 0

@@ -52,7 +52,7 @@ abbrev pub box_has : Columns → Columns → ℤ → ℤ → Bool
 box_has columns rows c j = is_column_of columns c && is_column_of rows j
 
 -- a part of so many numbers from a first one on: not before them, and no later than the columns of a box ask for; not
--- behind them
+-- past them
 pub record IsPart (first : ℤ) (count : ℕ) (b : Columns) (p : Part) : Type 0 where
   pub some : 1 ≤ p.count
   pub low : first ≤ℤ p.from

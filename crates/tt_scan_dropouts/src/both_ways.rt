@@ -5,7 +5,7 @@
 ghost use Rattle.std.specs.Prelude.{◌≡◌, List, ℕ, ℤ, ◌^◌, ◌<◌, true, false, ◌∷◌, [], ◌+◌, ◌++◌, length, get_or, map, unsigned_abs, All};
 ghost use Rattle.tt_scan.specs.Winding.{EdgeFits};
 ghost use Rattle.std.specs.List.{list_any};
-ghost use Rattle.tt_scan.specs.Contours.{AreEnds, contours_at};
+ghost use Rattle.tt_scan.specs.Contours.{AreEnds, IsClosed, contours_at};
 ghost use Rattle.tt_scan_dropouts.specs.BothWays.{AreTold, NoneFreeBothWays, has_end_on_line, is_black_seen, slot};
 ghost use Rattle.tt_scan_dropouts.specs.Dropouts.{is_dropout};
 ghost use Rattle.tt_scan_dropouts.specs.Gaps.{is_free};
@@ -194,19 +194,27 @@ fn some_end_on_line(edges: &[Edge]) -> bool
     false
 }
 
-/// Whether an outline may have dropouts. It has none where this is false: its contours are closed, it crosses no free
-/// gap both rising and falling, and, where stubs are drawn, no edge ends on a line.
+/// Whether an outline whose contours are closed may have dropouts. It has none where this is false: it crosses no free gap
+/// both rising and falling, and, where stubs are drawn, no edge ends on a line.
+pub(crate) fn closed_may_have_dropouts(stubs: bool, edges: &[Edge], ends: &[usize]) -> bool
+    requires edges { All EdgeFits edges.now }
+    requires ends { AreEnds (length edges.now) ends.now }
+    requires closed { All IsClosed (contours_at edges.now ends.now) }
+    ensures { result ≡ false → (rules : Rules) → rules.stubs ≡ stubs → (c j : ℤ)
+        → is_dropout rules (contours_at edges.now ends.now) c j ≡ false }
+{
+    if stubs && some_end_on_line(edges) {
+        return true;
+    }
+    may_cross_both_ways(Over::Rows, edges) || may_cross_both_ways(Over::Columns, edges)
+}
+
+/// Whether an outline may have dropouts. It has none where this is false: its contours are closed, and then the same holds.
 pub(crate) fn may_have_dropouts(stubs: bool, edges: &[Edge], ends: &[usize]) -> bool
     requires edges { All EdgeFits edges.now }
     requires ends { AreEnds (length edges.now) ends.now }
     ensures { result ≡ false → (rules : Rules) → rules.stubs ≡ stubs → (c j : ℤ)
         → is_dropout rules (contours_at edges.now ends.now) c j ≡ false }
 {
-    if !are_closed(edges, ends) {
-        return true;
-    }
-    if stubs && some_end_on_line(edges) {
-        return true;
-    }
-    may_cross_both_ways(Over::Rows, edges) || may_cross_both_ways(Over::Columns, edges)
+    !are_closed(edges, ends) || closed_may_have_dropouts(stubs, edges, ends)
 }

@@ -2,8 +2,7 @@
 
 ghost use Rattle.std.specs.Prelude.{◌≡◌, true, ◌&&◌, length, All};
 ghost use Rattle.std.specs.Ordering.{int_eq};
-ghost use Rattle.tt_scan.specs.Contours.{AreEnds, contours_at};
-ghost use Rattle.tt_scan_dropouts.specs.Laws.{IsClosed};
+ghost use Rattle.tt_scan.specs.Contours.{AreEnds, IsClosed, contours_at};
 
 use tt_scan::Edge;
 

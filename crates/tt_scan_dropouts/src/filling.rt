@@ -1,11 +1,12 @@
 //! The dropouts of a glyph in a window: first a pass over the rows, and then one over the columns, for which the pixels
 //! that the first one added are black.
 
-ghost use Rattle.std.specs.Prelude.{◌≡◌, false, ℤ, ◌^◌, ◌*◌, ◌≤◌, ◌||◌, ◌&&◌, [], ◌∷◌, length, map, All, IfOk, OnOk};
+ghost use Rattle.std.specs.Prelude.{◌≡◌, false, ℤ, ◌^◌, ◌*◌, ◌+◌, ◌-◌, ◌≤◌, ◌||◌, ◌&&◌, [], ◌∷◌, length, map, All, IfOk, OnOk};
 ghost use Rattle.std.specs.List.{list_any};
 ghost use Rattle.std.specs.Ordering.{int_eq};
-ghost use Rattle.tt_scan.specs.Contours.{AreEnds, contours_at};
+ghost use Rattle.tt_scan.specs.Contours.{AreEnds, IsClosed, contours_at};
 ghost use Rattle.tt_scan.specs.Winding.{EdgeFits};
+ghost use Rattle.tt_scan_dropouts.specs.Crossings.{lines_crossed};
 ghost use Rattle.tt_scan_dropouts.specs.Dropouts.{columns_of, crossed, is_dropout, row_adds, turned_round};
 ghost use Rattle.tt_scan_dropouts.specs.Gaps.{has_pixel};
 ghost use Rattle.tt_scan_dropouts.specs.Walk.{is_in_free_gap};
@@ -13,7 +14,7 @@ ghost use Rattle.tt_scan_dropouts.specs.Windows.{WindowFits, has, has_pixel_by, 
 ghost use Rattle.tt_scan_dropouts.specs.declared.window.Over.TheVariants as over;
 
 use crate::bitmap::Bitmap;
-use crate::both_ways::may_have_dropouts;
+use crate::both_ways::{closed_may_have_dropouts, may_have_dropouts};
 use crate::columns::box_of;
 use crate::crossing::lines_crossed;
 use crate::gaps::sort;
@@ -48,6 +49,31 @@ pub fn crossings(edges: &[Edge]) -> u64
         all += lines_crossed(*edge) + lines_crossed(turned_round(*edge));
     }
     all
+}
+
+/// How far an edge reaches along rows and along columns, both together.
+#[inline(always)]
+fn reach(edge: Edge) -> u64
+    requires { EdgeFits edge }
+    ensures enough { 8192 * (lines_crossed edge + lines_crossed (turned_round edge)) ≤ result + 16384 }
+    ensures small { result ≤ 2 ^ 32 - 4 }
+{
+    (edge.bx - edge.ax).unsigned_abs() + (edge.by - edge.ay).unsigned_abs()
+}
+
+/// No fewer than `crossings`, with less work: along each axis an edge crosses at most one line more than it has whole
+/// pixels.
+pub fn most_crossings(edges: &[Edge]) -> u64
+    requires edges { All EdgeFits edges.now }
+    requires few { length edges.now ≤ 2 ^ 32 }
+    ensures enough { crossed edges.now ≤ result }
+    ensures bound { result ≤ 2 ^ 21 * length edges.now }
+{
+    let mut far = 0;
+    for edge in edges {
+        far += reach(*edge);
+    }
+    far / 8192 + 2 * edges.len() as u64
 }
 
 /// What a pass adds to what is black, by edges as it sees them. Error: memory ran out.
@@ -201,6 +227,38 @@ fn push_within(
     Ok(())
 }
 
+/// The dropouts in a window of a glyph, by both passes.
+fn added_by_both(
+    alloc: Global,
+    rules: Rules,
+    tape: &Tape,
+    ends: &[usize],
+    window: Window,
+) -> Result<Vec<Pixel>, AllocError>
+    requires few { length tape.now.edges ≤ 2 ^ 32 }
+    requires ends { AreEnds (length tape.now.edges) ends.now }
+    requires window { WindowFits (widened 2 window) }
+    ensures exact { IfOk result (λ v. (c j : ℤ) → has_pixel v.items c j
+        ≡ (has window c j && is_dropout rules (contours_at tape.now.edges ends.now) c j)) }
+{
+    let edges = tape.lend();
+    let (columns, rows) = box_of(edges);
+    let part = match clipped(window, columns, rows) {
+        Some(part) => part,
+        None => return Ok(Vec::new(alloc)),
+    };
+    let mut ink = Bitmap::inked(alloc, tape, widened(part))?;
+    let (some_by_rows, some_by_columns) = some_in_free_gap(&ink, rules.stubs, edges);
+    let by_rows = added_by_rows(alloc, rules, columns, &ink, some_by_rows, edges, ends)?;
+    // What is black now makes no gap free that was not, so that the columns' answer stays true.
+    ink.blacken_all(&by_rows);
+    let by_columns = added_by_columns(alloc, rules, rows, &ink, some_by_columns, edges, ends)?;
+    let mut found = Vec::new(alloc);
+    push_within(&mut found, part, Over::Rows, &by_rows)?;
+    push_within(&mut found, part, Over::Columns, &by_columns)?;
+    Ok(found)
+}
+
 /// The dropouts in a window of a glyph whose edges stand on a tape, and whose contours each end before the edge of a
 /// number: the pixels that are black besides those of the scan converter's rules 1 and 2. OpenType, "TrueType
 /// Fundamentals", rules 3 and 4. Error: memory ran out.
@@ -217,23 +275,29 @@ pub fn dropouts(
     ensures exact { IfOk result (λ v. (c j : ℤ) → has_pixel v.items c j
         ≡ (has window c j && is_dropout rules (contours_at tape.now.edges ends.now) c j)) }
 {
-    let edges = tape.lend();
-    if !may_have_dropouts(rules.stubs, edges, ends) {
+    if !may_have_dropouts(rules.stubs, tape.lend(), ends) {
         return Ok(Vec::new(alloc));
     }
-    let (columns, rows) = box_of(edges);
-    let part = match clipped(window, columns, rows) {
-        Some(part) => part,
-        None => return Ok(Vec::new(alloc)),
-    };
-    let mut ink = Bitmap::inked(alloc, tape, widened(part))?;
-    let (some_by_rows, some_by_columns) = some_in_free_gap(&ink, rules.stubs, edges);
-    let by_rows = added_by_rows(alloc, rules, columns, &ink, some_by_rows, edges, ends)?;
-    // What is black now makes no gap free that was not, so that the columns' answer stays true.
-    ink.blacken_all(&by_rows);
-    let by_columns = added_by_columns(alloc, rules, rows, &ink, some_by_columns, edges, ends)?;
-    let mut found = Vec::new(alloc);
-    push_within(&mut found, part, Over::Rows, &by_rows)?;
-    push_within(&mut found, part, Over::Columns, &by_columns)?;
-    Ok(found)
+    added_by_both(alloc, rules, tape, ends, window)
+}
+
+/// The same, of a glyph whose contours are closed.
+pub(crate) fn closed_dropouts(
+    alloc: Global,
+    rules: Rules,
+    tape: &Tape,
+    ends: &[usize],
+    window: Window,
+) -> Result<Vec<Pixel>, AllocError>
+    requires few { length tape.now.edges ≤ 2 ^ 32 }
+    requires ends { AreEnds (length tape.now.edges) ends.now }
+    requires closed { All IsClosed (contours_at tape.now.edges ends.now) }
+    requires window { WindowFits (widened 2 window) }
+    ensures exact { IfOk result (λ v. (c j : ℤ) → has_pixel v.items c j
+        ≡ (has window c j && is_dropout rules (contours_at tape.now.edges ends.now) c j)) }
+{
+    if !closed_may_have_dropouts(rules.stubs, tape.lend(), ends) {
+        return Ok(Vec::new(alloc));
+    }
+    added_by_both(alloc, rules, tape, ends, window)
 }

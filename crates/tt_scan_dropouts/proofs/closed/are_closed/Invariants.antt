@@ -1,7 +1,6 @@
 use Rattle.std.proofs.Common.{drop, length}
 use Rattle.std.specs.Prelude.{All}
-use Rattle.tt_scan.specs.Contours.{AreEndsFrom, contours_at, contours_from}
-use Rattle.tt_scan_dropouts.specs.Laws.{IsClosed}
+use Rattle.tt_scan.specs.Contours.{AreEndsFrom, IsClosed, contours_at, contours_from}
 use Rattle.tt_scan_dropouts.proofs.closed.are_closed.Given as goal
 
 -- all are closed if those that are left are

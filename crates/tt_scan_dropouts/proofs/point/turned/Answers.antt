@@ -1,4 +1,4 @@
-use Rattle.std.proofs.Common.{◌≡◌, false, sym, ap₂, ◌∙◌, SFits, w64, rules, arith}
+use Rattle.std.proofs.Common.{◌≡◌, sym, ap₂, ◌∙◌, SFits, w64, rules, arith}
 use Rattle.std.specs.Prelude.{◌-ℤ◌, ◌*ℤ◌}
 use Rattle.std.proofs.lemmas.Int.{ints, to_z-of_z}
 use Rattle.tt_scan_dropouts.specs.BothWays.{turn_by}
