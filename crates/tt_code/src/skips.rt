@@ -3,10 +3,12 @@
 
 ghost use Rattle.std.specs.Prelude.{◌≡◌, ◌+◌, ◌^◌, ◌<◌, ◌≤◌, length, IfOk, IfErr};
 ghost use Rattle.tt_core.specs.Outcomes.{Gives};
+ghost use Rattle.tt_code.specs.Decoding.{instruction_at};
+ghost use Rattle.tt_code.specs.Views.{instr_view};
 ghost use Rattle.tt_code.specs.Skips.{ends, depth_after, skip_end, if_end, else_end, definition_end, IsSkip};
 ghost use Rattle.tt_code.specs.declared.skips.Sought.TheVariants as sought;
 
-use crate::decoding::{Halt, decode};
+use crate::decoding::{Halt, Instr, decode, plain_opcode};
 use tt_core::Why;
 
 const ELSE: u8 = 0x1B;
@@ -52,8 +54,29 @@ fn depth_after(depth: usize, op: u8) -> usize
     }
 }
 
+/// The instruction at a byte, as `decode` tells it; sooner where no data follows, as after most opcodes.
+#[inline(always)]
+fn next<'a>(code: &'a [u8], at: usize) -> Result<Instr<'a>, Halt>
+    requires { at < length code.now }
+    ensures exact { Gives instr_view result (instruction_at code.now at) }
+    ensures some { IfOk result (λ i. 1 ≤ i.len) }
+    ensures within { IfOk result (λ i. at + i.len ≤ length code.now) }
+    ensures fits { IfOk result (λ i. at + i.len < 2 ^ 64) }
+    ensures place { IfErr result (λ h. h.at ≡ at) }
+{
+    match plain_opcode(code, at) {
+        Some(op) => Ok(Instr {
+            op,
+            args: &[],
+            len: 1,
+        }),
+        None => decode(code, at),
+    }
+}
+
 /// The place after the end of a skip that begins at `at`. Errors: CodeShort where data passes the end, `lost` at `at`
 /// where the program's end is reached.
+#[inline(always)]
 fn skip(sought: Sought, code: &[u8], at: usize, lost: Why) -> Result<usize, Halt>
     requires { at < length code.now }
     ensures exact { Gives (λ j. j) result (skip_end sought code.now at lost) }
@@ -65,7 +88,7 @@ fn skip(sought: Sought, code: &[u8], at: usize, lost: Why) -> Result<usize, Halt
     let mut place = at + 1;
     let mut depth = 0;
     'instructions: while place < code.len() {
-        let i = decode(code, place)?;
+        let i = next(code, place)?;
         if is_end(sought, depth, i.op) {
             return Ok(place + i.len);
         }

@@ -1,4 +1,5 @@
 pub mod Computed
+pub mod Costs
 pub mod Entries
 pub mod Lacking
 pub mod Loosened

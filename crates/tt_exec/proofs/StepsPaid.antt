@@ -1,6 +1,5 @@
 -- Steps that were paid for, and how a run stops after them.
-use Rattle.std.proofs.Common.{◌≡◌, ◌≢◌, ℕ, zero, suc, ◌+◌, ◌-◌, ◌<◌, ◌≤◌, false, true, inl, Bool, if◌then◌else◌, ◌==◌, Option, Some, None, IfSome, Result, Ok, Err, ◌∙◌, refl, arith, sym}
-use Rattle.std.proofs.lemmas.Bool.Decides.{nat_tests}
+use Rattle.std.proofs.Common.{◌≡◌, ◌≢◌, ℕ, zero, suc, ◌+◌, ◌-◌, ◌<◌, ◌≤◌, false, true, inl, Option, Some, None, IfSome, Result, Ok, Err, ◌∙◌, refl, arith}
 use Rattle.tt_core.specs.Faults.{Fault}
 use Rattle.tt_core.specs.Limits.{step_limit}
 use Rattle.tt_core.specs.Outcomes.{font_fault}
@@ -16,8 +15,8 @@ use Rattle.tt_exec.specs.Machines.{exec_fault}
 use Rattle.tt_exec.specs.Outcome.{ComesTo, halted}
 use Rattle.tt_exec.specs.Runs.{Leads, Halts, run_outcome}
 use Rattle.tt_exec.specs.Step.{step, is_ended}
-use Rattle.tt_exec.specs.Work.{Worked, enough, spent, charged, step_cost, copied, over_at, work_within, run_work}
-use Rattle.tt_exec.specs.Worked.{Paid, work_ahead, StopWorkIs, OutcomeWithin, own_fault, work_fault}
+use Rattle.tt_exec.specs.Work.{enough, spent, charged, step_cost, copied, over_at, work_within, run_work}
+use Rattle.tt_exec.specs.Worked.{Paid, StopWorkIs, OutcomeWithin, own_fault, work_fault}
 use Rattle.tt_exec.proofs.Computed.{fault_told}
 use Rattle.tt_exec.proofs.WorkPaid.{StepPays, at_end, none_left, step_made, step_refused, step_spent, run_begun, charged_enough}
 
@@ -135,56 +134,3 @@ pub stop_told : (s m : MachineState) (why : Stop) (r : WorkFault) (new : Machine
     → IfSome (own_fault why) (Halts m) → OutcomeWithin (run_outcome s) (Err r) new
 stop_told s m (stop.Run fault) r new same told h = rw told (fault_told s m fault (exec_fault fault) new same refl h)
 stop_told s m (stop.Spent fault) r new same told h = rw told tt
-
--- what was paid ahead
-
-pub ahead_at_end : (n : ℕ) (m : MachineState) (left rest : Option ℕ) → is_ended m ≡ true
-    → work_ahead n m left ≡ enough rest → rest ≡ left
-ahead_at_end n m left rest ended pays = let same = rw ended at pays in cc
-
-ahead_goes_on : (n : ℕ) (m : MachineState) (left : Option ℕ) → is_ended m ≡ false
-    → work_ahead n m left
-    ≡ (if n == step_limit then enough left else charged (over_at m) (step_cost m) left)
-ahead_goes_on n m left open_at = rw open_at refl
-
-at_limit_by : (b : Bool) (n : ℕ) (left rest : Option ℕ) (other : Worked) → (n == step_limit) ≡ b → n ≡ step_limit
-    → (if b then enough left else other) ≡ enough rest → rest ≡ left
-at_limit_by true n left rest other test all pays = cc
-at_limit_by false n left rest other test all pays = absurd (grind (arith, nat_tests))
-
-pub ahead_at_limit : (n : ℕ) (m : MachineState) (left rest : Option ℕ) → is_ended m ≡ false → n ≡ step_limit
-    → work_ahead n m left ≡ enough rest → rest ≡ left
-ahead_at_limit n m left rest open_at all pays =
-    at_limit_by (n == step_limit) n left rest (charged (over_at m) (step_cost m) left) refl all
-    (sym (ahead_goes_on n m left open_at) ∙ pays)
-
-below_limit_by : (b : Bool) (n : ℕ) (one other : Worked) → (n == step_limit) ≡ b → n < step_limit
-    → (if b then one else other) ≡ other
-below_limit_by true n one other test few = absurd (grind (arith, nat_tests))
-below_limit_by false n one other test few = refl
-
-pub ahead_pays : (n : ℕ) (m : MachineState) (left rest : Option ℕ) → is_ended m ≡ false → n < step_limit
-    → work_ahead n m left ≡ enough rest → StepPays m left (enough rest)
-ahead_pays n m left rest open_at few pays =
-    sym (below_limit_by (n == step_limit) n (enough left) (charged (over_at m) (step_cost m) left) refl few)
-    ∙ sym (ahead_goes_on n m left open_at)
-    ∙ pays
-
--- a step that is refused for its work is one that was to be made
-pub record Refused (n : ℕ) (m : MachineState) (left : Option ℕ) (fault : Fault) : Type 0 where
-  pub open_at : is_ended m ≡ false
-  pub few : n < step_limit
-  pub pays : StepPays m left (spent fault)
-
-refused_by : (a b : Bool) (n : ℕ) (m : MachineState) (left : Option ℕ) (fault : Fault) → n ≤ step_limit
-    → is_ended m ≡ a → (n == step_limit) ≡ b
-    → (if a then enough left else (if b then enough left else charged (over_at m) (step_cost m) left)) ≡ spent fault
-    → Refused n m left fault
-refused_by true b n m left fault most ended test pays = absurd (cc)
-refused_by false true n m left fault most ended test pays = absurd (cc)
-refused_by false false n m left fault most ended test pays =
-    record { open_at = ended; few = grind (arith, nat_tests); pays = pays }
-
-pub ahead_refused : (n : ℕ) (m : MachineState) (left : Option ℕ) (fault : Fault) → n ≤ step_limit
-    → work_ahead n m left ≡ spent fault → Refused n m left fault
-ahead_refused n m left fault most pays = refused_by (is_ended m) (n == step_limit) n m left fault most refl refl pays

@@ -1,7 +1,6 @@
 -- No part of the standard: how a run whose work may be bounded is tied to what it computes, and to its work.
-use Rattle.std.specs.Prelude.{◌≡◌, ℕ, ◌+◌, ◌<◌, ◌≤◌, ◌==◌, if◌then◌else◌, Bool, true, false, Option, Some, None, Result, Ok, Err}
+use Rattle.std.specs.Prelude.{◌≡◌, ℕ, ◌+◌, ◌<◌, ◌≤◌, Bool, true, false, Option, Some, None, Result, Ok, Err}
 use Rattle.tt_core.specs.Faults.{Fault}
-use Rattle.tt_core.specs.Limits.{step_limit}
 use Rattle.tt_core.specs.Outcomes.{font_fault}
 use Rattle.tt_core.specs.declared.font_fault.FontFault.TheVariants as font
 use Rattle.tt_core.specs.declared.fault.Why.TheVariants as why
@@ -12,8 +11,7 @@ use Rattle.tt_exec.specs.declared.work.Stop.{Stop}
 use Rattle.tt_exec.specs.declared.work.Stop.TheVariants as stop
 use Rattle.tt_exec.specs.MachineState.{Code, MachineState, Machine}
 use Rattle.tt_exec.specs.Machines.{exec_fault, OutcomeIs, RunGives}
-use Rattle.tt_exec.specs.Step.{is_ended}
-use Rattle.tt_exec.specs.Work.{Worked, enough, spent, charged, over_at, step_cost, run_work}
+use Rattle.tt_exec.specs.Work.{Worked, enough, spent, run_work}
 
 -- A run that its work does not refuse gives what a run gives whose work is not bounded; after one that it refuses the
 -- machine has failed.
@@ -42,12 +40,6 @@ WorkIs worked old (Err (work.Spent fault)) new = (worked old ≡ spent fault) ×
 abbrev pub Pays : Fault → Worked → Bool → Option ℕ → Type 0
 Pays fault worked true new = worked ≡ enough new
 Pays fault worked false new = (worked ≡ spent fault) × (new ≡ Some 0)
-
--- the work that is paid ahead of the next step after so many, if one is to be made
-abbrev pub work_ahead : ℕ → MachineState → Option ℕ → Worked
-work_ahead n m left =
-    if is_ended m then enough left
-    else (if n == step_limit then enough left else charged (over_at m) (step_cost m) left)
 
 -- so much less, if that is there
 abbrev pub Less : ℕ → ℕ → Option ℕ → Type 0

@@ -1,6 +1,6 @@
 //! What the work of a run is, where it is bounded (profile): that of each step, and what was copied for the run.
 
-ghost use Rattle.std.specs.Prelude.{◌≡◌, ◌+◌, ◌^◌, ◌<◌, ◌≤◌, length, IfOk, IfSome};
+ghost use Rattle.std.specs.Prelude.{◌≡◌, ◌≢◌, ◌+◌, ◌^◌, ◌<◌, ◌≤◌, length, IfOk};
 ghost use Rattle.tt_exec.specs.MachineState as machine;
 ghost use Rattle.tt_exec.specs.States.{state_of};
 ghost use Rattle.tt_exec.specs.Work as is;
@@ -10,21 +10,25 @@ use crate::machine_state::MachineState;
 use crate::work::Work;
 use tt_code::{Halt, skip_def, skip_else, skip_if};
 
-/// The work of a step, where its opcode alone says it, as most do.
+/// The work of a step by its opcode; 0 where the opcode alone does not say it.
+const COSTS: [u8; 256] = [
+    1, 1, 1, 1, 1, 1, 33, 33, 33, 33, 33, 33, 1, 1, 1, 33, 1, 1, 1, 1, 1, 1, 1, 1, 1, 1, 1, 0, 1,
+    1, 1, 1, 1, 1, 1, 1, 1, 1, 0, 9, 1, 1, 1, 1, 0, 1, 5, 5, 0, 0, 0, 0, 0, 0, 0, 0, 0, 0, 5, 5, 0,
+    1, 5, 5, 0, 0, 1, 1, 1, 1, 1, 1, 5, 1, 1, 1, 1, 1, 1, 1, 1, 1, 1, 1, 1, 1, 1, 1, 0, 1, 1, 1, 1,
+    0, 1, 1, 1, 1, 1, 1, 1, 1, 1, 1, 1, 1, 1, 1, 1, 1, 1, 1, 1, 0, 0, 0, 0, 0, 1, 1, 1, 1, 1, 1, 1,
+    1, 1, 1, 0, 0, 0, 1, 1, 1, 33, 33, 1, 0, 1, 1, 1, 1, 1, 1, 1, 1, 1, 1, 1, 1, 1, 1, 1, 1, 1, 1,
+    1, 1, 1, 1, 1, 1, 1, 1, 1, 1, 1, 1, 1, 1, 1, 1, 1, 1, 1, 1, 1, 1, 1, 1, 1, 1, 1, 1, 1, 1, 1, 1,
+    1, 1, 1, 1, 5, 5, 5, 5, 5, 5, 5, 5, 5, 5, 5, 5, 5, 5, 5, 5, 5, 5, 5, 5, 5, 5, 5, 5, 5, 5, 5, 5,
+    5, 5, 5, 5, 5, 5, 5, 5, 5, 5, 5, 5, 5, 5, 5, 5, 5, 5, 5, 5, 5, 5, 5, 5, 5, 5, 5, 5, 5, 5, 5, 5,
+    5, 5, 5, 5,
+];
+
+/// The work of a step, where its opcode alone says it, as most do; 0 where it does not.
 #[inline(always)]
-fn fixed_cost(op: u8) -> Option<u64>
-    ensures { IfSome result (λ cost. (m : machine.MachineState) → is.cost_by op m ≡ cost) }
+fn fixed_cost(op: u8) -> u64
+    ensures { result ≢ 0 → (m : machine.MachineState) → is.cost_by op m ≡ result }
 {
-    match op {
-        0xB0..=0xBF => Some(1),
-        0xC0..=0xFF => Some(5),
-        0x1B | 0x26 | 0x2C | 0x30..=0x39 | 0x3C | 0x40 | 0x41 | 0x58 | 0x5D => None,
-        0x71..=0x75 | 0x80..=0x82 | 0x89 => None,
-        0x2E | 0x2F | 0x3A | 0x3B | 0x3E | 0x3F | 0x48 => Some(5),
-        0x27 => Some(9),
-        0x06..=0x0B | 0x0F | 0x86 | 0x87 => Some(33),
-        _ => Some(1),
-    }
+    u64::from(COSTS[usize::from(op)])
 }
 
 impl MachineState<'_> {
@@ -114,7 +118,10 @@ impl MachineState<'_> {
         requires { self.now.frame.place < length self.now.frame.code.bytes.now }
         ensures { result ≡ is.cost_by op (state_of self.now) }
     {
-        1 + self.gone_over(op) + self.passed(op)
+        match op {
+            0x1B | 0x2C | 0x58 | 0x89 => 1 + self.passed(op),
+            _ => 1 + self.gone_over(op),
+        }
     }
 
     /// The work of the step at the frame's place. The program's end inside a call counts as one.
@@ -128,13 +135,15 @@ impl MachineState<'_> {
             return 1;
         }
         let op = bytes[at];
-        match fixed_cost(op) {
-            Some(cost) => cost,
-            None => self.cost_by(op),
+        let cost = fixed_cost(op);
+        if cost == 0 {
+            return self.cost_by(op);
         }
+        cost
     }
 
-    /// Pays for the step at the frame's place; false where less is left than it wants, and nothing is left then.
+    /// Pays for the step at the frame's place; false where less is left than it wants, and nothing is left then. A run
+    /// whose work is not bounded pays no more than one test for it.
     #[inline(always)]
     pub(crate) fn pay_step(&self, work: &mut Work) -> bool
         ensures { let m = state_of self.now in

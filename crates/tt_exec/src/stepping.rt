@@ -9,7 +9,7 @@ ghost use Rattle.tt_exec.specs.Step as is;
 ghost use Rattle.tt_exec.specs.Outcome.{ComesTo, IsRefusal, halted};
 ghost use Rattle.tt_exec.specs.Views.{frame_of};
 ghost use Rattle.tt_exec.specs.Work.{over_at, run_work, work_within};
-ghost use Rattle.tt_exec.specs.Worked.{Paid, Pays, StopWorkIs, own_fault, work_ahead};
+ghost use Rattle.tt_exec.specs.Worked.{Paid, StopWorkIs, own_fault};
 
 use crate::machine_state::MachineState;
 use crate::outcome::Outcome;
@@ -83,37 +83,6 @@ impl MachineState<'_> {
         self.frame.place == self.frame.code.bytes.len() && self.callers.len() == 0
     }
 
-    /// Pays for the next step after so many, as pay_next does, where work is bounded. A function of its own, so that a run
-    /// whose work is not bounded pays no more than one test for it.
-    #[cold]
-    #[inline(never)]
-    fn pay_bounded(&self, n: u32, work: &mut Work) -> bool
-        requires { n ≤ step_limit }
-        ensures { Pays (over_at (state_of self.now)) (work_ahead n (state_of self.now) work.old.left) result work.new.left }
-    {
-        if self.is_ended() {
-            return true;
-        }
-        if n == STEP_LIMIT {
-            return true;
-        }
-        self.pay_step(work)
-    }
-
-    /// Pays for the next step after so many, if one is to be made; false where less is left than it wants, and nothing
-    /// is left then. It is asked before the program's end is tested, so that the compiler joins that test with the
-    /// step's own.
-    #[inline(always)]
-    fn pay_next(&self, n: u32, work: &mut Work) -> bool
-        requires { n ≤ step_limit }
-        ensures { Pays (over_at (state_of self.now)) (work_ahead n (state_of self.now) work.old.left) result work.new.left }
-    {
-        if work.left.is_some() {
-            return self.pay_bounded(n, work);
-        }
-        true
-    }
-
     /// Runs on to the program's end, and tells the steps, each of which is paid for. Errors: StepLimit; those of a step;
     /// Spent where a step wants more work than is left.
     #[inline(never)]
@@ -125,14 +94,14 @@ impl MachineState<'_> {
     {
         let mut n = 0;
         'steps: loop {
-            if !self.pay_next(n, work) {
-                return Err(Stop::Spent(self.at_limit()));
-            }
             if self.is_ended() {
                 return Ok(n);
             }
             if n == STEP_LIMIT {
                 return Err(Stop::Run(FontFault::Font(self.at_limit())));
+            }
+            if !self.pay_step(work) {
+                return Err(Stop::Spent(self.at_limit()));
             }
             let at = self.frame.place;
             match self.step() {

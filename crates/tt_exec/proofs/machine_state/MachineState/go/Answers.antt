@@ -3,7 +3,7 @@ use Rattle.tt_core.specs.Limits.{step_limit}
 use Rattle.tt_exec.specs.States.{state_of}
 use Rattle.tt_exec.specs.Step.{is_ended}
 use Rattle.tt_exec.proofs.Steps.{one_more}
-use Rattle.tt_exec.proofs.StepsPaid.{paid_none, paid_more, comes_on, comes_to_end, comes_to_limit, comes_to_spent, comes_to_refusal, halts_by, ahead_at_end, ahead_at_limit, ahead_pays, ahead_refused}
+use Rattle.tt_exec.proofs.StepsPaid.{paid_none, paid_more, comes_on, comes_to_end, comes_to_limit, comes_to_spent, comes_to_refusal, halts_by}
 use Rattle.tt_exec.proofs.machine_state.MachineState.go.Goals as goal
 
 pub steps-init : goal.steps-init
@@ -14,52 +14,46 @@ steps-preserved c =
     let m = state_of c.steps.self in
     let open_at : is_ended (state_of c.steps.self) ≡ false = sym c.if-is_ended.ensures in
     let few : c.steps.n < step_limit = omega arith in
-    let pays =
-    ahead_pays c.steps.n m c.steps.work.left c.pay_next.new.work.left open_at few c.if-not-pay_next.ensures in
+    let pays = c.if-not-pay_step.ensures in
     record {
       few = omega arith;
       leads =
           one_more c.steps.n _ (state_of c.steps.self) (state_of c.step.new.self)
           c.steps.invariant.leads c.in-Done.ensures;
       worked =
-          comes_on _ (state_of c.steps.self) (state_of c.step.new.self) _ c.steps.work.left c.pay_next.new.work.left
+          comes_on _ (state_of c.steps.self) (state_of c.step.new.self) _ c.steps.work.left c.pay_step.new.work.left
           c.steps.n few open_at c.steps.invariant.worked pays c.in-Done.ensures;
       paid =
-          paid_more c.steps.n (state_of c.steps.self) _ c.steps.work.left c.pay_next.new.work.left
+          paid_more c.steps.n (state_of c.steps.self) _ c.steps.work.left c.pay_step.new.work.left
           c.steps.invariant.paid pays;
     }
 
-pub returns-then-not-pay_next-clause-work : goal.returns-then-not-pay_next-clause-work
-returns-then-not-pay_next-clause-work c =
+pub returns-then-not-pay_step-clause-work : goal.returns-then-not-pay_step-clause-work
+returns-then-not-pay_step-clause-work c =
     let m = state_of c.steps.self in
-    let refused =
-    ahead_refused c.steps.n m c.steps.work.left _ c.steps.invariant.few c.if-not-pay_next.ensures.0 in
+    let open_at : is_ended (state_of c.steps.self) ≡ false = sym c.if-is_ended.ensures in
+    let few : c.steps.n < step_limit = omega arith in
     let worked =
-    comes_to_spent _ m _ c.steps.work.left c.steps.n _ refused.few refused.open_at c.steps.invariant.worked
-    refused.pays in
-    (rw c.at_limit.ensures worked, c.if-not-pay_next.ensures.1)
+    comes_to_spent _ m _ c.steps.work.left c.steps.n _ few open_at c.steps.invariant.worked
+    c.if-not-pay_step.ensures.0 in
+    (rw c.at_limit-then-not-pay_step.ensures worked, c.if-not-pay_step.ensures.1)
 
 pub returns-then-is_ended : goal.returns-then-is_ended
 returns-then-is_ended c =
     let m = state_of c.steps.self in
     let ended : is_ended (state_of c.steps.self) ≡ true = sym c.if-is_ended.ensures in
-    let same : c.pay_next.new.work.left ≡ c.steps.work.left =
-    ahead_at_end c.steps.n m c.steps.work.left c.pay_next.new.work.left ended c.if-not-pay_next.ensures in
     record {
       ends = record { few = c.steps.invariant.few; leads = c.steps.invariant.leads; ended = ended };
       halts = tt;
-      work = rw same (comes_to_end _ m _ c.steps.work.left c.steps.n ended c.steps.invariant.worked);
-      paid = rw same c.steps.invariant.paid;
+      work = comes_to_end _ m _ c.steps.work.left c.steps.n ended c.steps.invariant.worked;
+      paid = c.steps.invariant.paid;
     }
 
 pub returns-then-n-eq-STEP_LIMIT-clause-work : goal.returns-then-n-eq-STEP_LIMIT-clause-work
 returns-then-n-eq-STEP_LIMIT-clause-work c =
     let m = state_of c.steps.self in
-    let open_at : is_ended (state_of c.steps.self) ≡ false = sym c.if-is_ended.ensures in
     let all : c.steps.n ≡ step_limit = omega arith in
-    let same : c.pay_next.new.work.left ≡ c.steps.work.left =
-    ahead_at_limit c.steps.n m c.steps.work.left c.pay_next.new.work.left open_at all c.if-not-pay_next.ensures in
-    rw same (comes_to_limit _ m _ c.steps.work.left c.steps.n all c.steps.invariant.worked)
+    comes_to_limit _ m _ c.steps.work.left c.steps.n all c.steps.invariant.worked
 
 pub returns-in_default : goal.returns-in_default
 returns-in_default c =
@@ -67,8 +61,7 @@ returns-in_default c =
     let at = c.steps.self.frame.place in
     let open_at : is_ended (state_of c.steps.self) ≡ false = sym c.if-is_ended.ensures in
     let few : c.steps.n < step_limit = omega arith in
-    let pays =
-    ahead_pays c.steps.n m c.steps.work.left c.pay_next.new.work.left open_at few c.if-not-pay_next.ensures in
+    let pays = c.if-not-pay_step.ensures in
     record {
       ends = tt;
       halts =
@@ -76,7 +69,7 @@ returns-in_default c =
           c.steps.invariant.leads c.step.ensures c.in_default.not-Done c.halted.result c.halted.ensures;
       work =
           comes_to_refusal c.step.result _ (state_of c.steps.self) (state_of c.step.new.self) at _ c.steps.work.left
-          c.pay_next.new.work.left c.steps.n few open_at c.steps.invariant.worked pays c.step.ensures
+          c.pay_step.new.work.left c.steps.n few open_at c.steps.invariant.worked pays c.step.ensures
           c.in_default.not-Done c.halted.result c.halted.ensures;
       paid = tt;
     }

@@ -1,0 +1,117 @@
+-- The work of a step by its opcode, as a table has it.
+use Rattle.std.proofs.Common.{◌≡◌, ◌≢◌, ℕ, zero, suc, ◌+◌, ◌<◌, ◌==◌, ◌||◌, ◌&&◌, Bool, true, false, if◌then◌else◌, not, List, [], ◌∷◌, length, slice_index_or, refl, sym, ◌∙◌, arith}
+use Rattle.std.proofs.lemmas.Bool.Decides.{nat_tests}
+use Rattle.tt_exec.specs.MachineState.{MachineState}
+use Rattle.tt_exec.specs.Work.{cost_by, is_looped, is_counted, is_of_glyph, is_of_zone, is_push_of_many, moves_one, is_of_lines}
+
+abbrev pub costs : List ℕ
+costs =
+    1 ∷ 1 ∷ 1 ∷ 1 ∷ 1 ∷ 1 ∷ 33 ∷ 33 ∷ 33 ∷ 33 ∷ 33 ∷ 33 ∷ 1 ∷ 1 ∷ 1 ∷ 33 ∷
+    1 ∷ 1 ∷ 1 ∷ 1 ∷ 1 ∷ 1 ∷ 1 ∷ 1 ∷ 1 ∷ 1 ∷ 1 ∷ 0 ∷ 1 ∷ 1 ∷ 1 ∷ 1 ∷
+    1 ∷ 1 ∷ 1 ∷ 1 ∷ 1 ∷ 1 ∷ 0 ∷ 9 ∷ 1 ∷ 1 ∷ 1 ∷ 1 ∷ 0 ∷ 1 ∷ 5 ∷ 5 ∷
+    0 ∷ 0 ∷ 0 ∷ 0 ∷ 0 ∷ 0 ∷ 0 ∷ 0 ∷ 0 ∷ 0 ∷ 5 ∷ 5 ∷ 0 ∷ 1 ∷ 5 ∷ 5 ∷
+    0 ∷ 0 ∷ 1 ∷ 1 ∷ 1 ∷ 1 ∷ 1 ∷ 1 ∷ 5 ∷ 1 ∷ 1 ∷ 1 ∷ 1 ∷ 1 ∷ 1 ∷ 1 ∷
+    1 ∷ 1 ∷ 1 ∷ 1 ∷ 1 ∷ 1 ∷ 1 ∷ 1 ∷ 0 ∷ 1 ∷ 1 ∷ 1 ∷ 1 ∷ 0 ∷ 1 ∷ 1 ∷
+    1 ∷ 1 ∷ 1 ∷ 1 ∷ 1 ∷ 1 ∷ 1 ∷ 1 ∷ 1 ∷ 1 ∷ 1 ∷ 1 ∷ 1 ∷ 1 ∷ 1 ∷ 1 ∷
+    1 ∷ 0 ∷ 0 ∷ 0 ∷ 0 ∷ 0 ∷ 1 ∷ 1 ∷ 1 ∷ 1 ∷ 1 ∷ 1 ∷ 1 ∷ 1 ∷ 1 ∷ 1 ∷
+    0 ∷ 0 ∷ 0 ∷ 1 ∷ 1 ∷ 1 ∷ 33 ∷ 33 ∷ 1 ∷ 0 ∷ 1 ∷ 1 ∷ 1 ∷ 1 ∷ 1 ∷ 1 ∷
+    1 ∷ 1 ∷ 1 ∷ 1 ∷ 1 ∷ 1 ∷ 1 ∷ 1 ∷ 1 ∷ 1 ∷ 1 ∷ 1 ∷ 1 ∷ 1 ∷ 1 ∷ 1 ∷
+    1 ∷ 1 ∷ 1 ∷ 1 ∷ 1 ∷ 1 ∷ 1 ∷ 1 ∷ 1 ∷ 1 ∷ 1 ∷ 1 ∷ 1 ∷ 1 ∷ 1 ∷ 1 ∷
+    1 ∷ 1 ∷ 1 ∷ 1 ∷ 1 ∷ 1 ∷ 1 ∷ 1 ∷ 1 ∷ 1 ∷ 1 ∷ 1 ∷ 1 ∷ 1 ∷ 1 ∷ 1 ∷
+    5 ∷ 5 ∷ 5 ∷ 5 ∷ 5 ∷ 5 ∷ 5 ∷ 5 ∷ 5 ∷ 5 ∷ 5 ∷ 5 ∷ 5 ∷ 5 ∷ 5 ∷ 5 ∷
+    5 ∷ 5 ∷ 5 ∷ 5 ∷ 5 ∷ 5 ∷ 5 ∷ 5 ∷ 5 ∷ 5 ∷ 5 ∷ 5 ∷ 5 ∷ 5 ∷ 5 ∷ 5 ∷
+    5 ∷ 5 ∷ 5 ∷ 5 ∷ 5 ∷ 5 ∷ 5 ∷ 5 ∷ 5 ∷ 5 ∷ 5 ∷ 5 ∷ 5 ∷ 5 ∷ 5 ∷ 5 ∷
+    5 ∷ 5 ∷ 5 ∷ 5 ∷ 5 ∷ 5 ∷ 5 ∷ 5 ∷ 5 ∷ 5 ∷ 5 ∷ 5 ∷ 5 ∷ 5 ∷ 5 ∷ 5 ∷ []
+
+-- whether an opcode's work is more than it says itself
+abbrev skips : ℕ → Bool
+skips op = op == 0x58 || (op == 0x1B || (op == 0x2C || op == 0x89))
+
+abbrev varies_by_data : ℕ → Bool
+varies_by_data op = is_of_zone op || (is_push_of_many op || skips op)
+
+abbrev varies : ℕ → Bool
+varies op = is_looped op || (is_counted op || (is_of_glyph op || varies_by_data op))
+
+abbrev said : ℕ → ℕ
+said op = if moves_one op then 5 else (if op == 0x27 then 9 else (if is_of_lines op then 33 else 1))
+
+-- a table's entries, from that of an opcode on, are the work that is said, or 0
+abbrev agrees : ℕ → ℕ → Bool
+agrees op cost = cost == 0 || (not (varies op) && cost == said op)
+
+abbrev all_agree : ℕ → List ℕ → Bool
+all_agree op [] = true
+all_agree op (c ∷ cs) = agrees op c && all_agree (suc op) cs
+
+they_do : all_agree 0 costs ≡ true
+they_do = refl
+
+first_of : (a b : Bool) → (a && b) ≡ true → a ≡ true
+first_of true b h = refl
+first_of false b h = h
+
+second_of : (a b : Bool) → (a && b) ≡ true → b ≡ true
+second_of true b h = h
+second_of false b h = absurd cc
+
+entry_agrees : (table : List ℕ) (from i op d : ℕ) → all_agree from table ≡ true → i < length table → op ≡ from + i
+    → agrees op (slice_index_or table i d) ≡ true
+entry_agrees [] from i op d all within is = absurd (omega arith)
+entry_agrees (c ∷ cs) from zero op d all within is =
+    let same : op ≡ from = omega arith in
+    rw same (first_of (agrees from c) (all_agree (suc from) cs) all)
+entry_agrees (c ∷ cs) from (suc i) op d all within is =
+    entry_agrees cs (suc from) i op d (second_of (agrees from c) (all_agree (suc from) cs) all) (omega arith) (omega arith)
+
+neither_first : (a b : Bool) → (a || b) ≡ false → a ≡ false
+neither_first true b h = absurd cc
+neither_first false b h = refl
+
+neither_second : (a b : Bool) → (a || b) ≡ false → b ≡ false
+neither_second true b h = absurd cc
+neither_second false b h = h
+
+by_class : (a b c : Bool) → 1 + ((if a then 4 else (if b then 8 else (if c then 32 else 0))) + 0)
+    ≡ (if a then 5 else (if b then 9 else (if c then 33 else 1)))
+by_class true b c = refl
+by_class false true c = refl
+by_class false false true = refl
+by_class false false false = refl
+
+nat_same : (a b : ℕ) → (a == b) ≡ true → a ≡ b
+nat_same a b h = grind (arith, nat_tests)
+
+says : (op : ℕ) (m : MachineState) → varies op ≡ false → cost_by op m ≡ said op
+says op m h =
+    let looped = neither_first (is_looped op) _ h in
+    let h = neither_second (is_looped op) _ h in
+    let counted = neither_first (is_counted op) _ h in
+    let h = neither_second (is_counted op) _ h in
+    let glyph = neither_first (is_of_glyph op) _ h in
+    let h = neither_second (is_of_glyph op) _ h in
+    let zone = neither_first (is_of_zone op) _ h in
+    let h = neither_second (is_of_zone op) _ h in
+    let push = neither_first (is_push_of_many op) _ h in
+    let h = neither_second (is_push_of_many op) (skips op) h in
+    let if_at = neither_first (op == 0x58) _ h in
+    let h = neither_second (op == 0x58) (op == 0x1B || (op == 0x2C || op == 0x89)) h in
+    let else_at = neither_first (op == 0x1B) _ h in
+    let def_at = neither_second (op == 0x1B) (op == 0x2C || op == 0x89) h in
+    rw (looped, counted, glyph, zone, push, if_at, else_at, def_at)
+    (by_class (moves_one op) (op == 0x27) (is_of_lines op))
+
+by_entry : (some varying same : Bool) (op : ℕ) (m : MachineState) (cost : ℕ) → (cost == 0) ≡ some → varies op ≡ varying
+    → (cost == said op) ≡ same → (some || (not varying && same)) ≡ true → cost ≢ 0 → cost_by op m ≡ cost
+by_entry true varying same op m cost zero_is v s h some = absurd (grind (arith, nat_tests))
+by_entry false true same op m cost zero_is v s h some = absurd cc
+by_entry false false false op m cost zero_is v s h some = absurd cc
+by_entry false false true op m cost zero_is v s h some =
+    let is : cost ≡ said op = nat_same cost (said op) s in
+    says op m v ∙ sym is
+
+pub told : (op : ℕ) (m : MachineState) (d : ℕ) → op < 256 → slice_index_or costs op d ≢ 0 → cost_by op m ≡ slice_index_or costs op d
+told op m d few some =
+    let cost = slice_index_or costs op d in
+    by_entry (cost == 0) (varies op) (cost == said op) op m cost refl refl refl
+    (entry_agrees costs 0 op op d they_do (omega arith) (omega arith)) some
