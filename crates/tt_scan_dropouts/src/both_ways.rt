@@ -194,8 +194,8 @@ fn some_end_on_line(edges: &[Edge]) -> bool
     false
 }
 
-/// Whether an outline whose contours are closed may have dropouts. It has none where this is false: it crosses no free gap
-/// both rising and falling, and, where stubs are drawn, no edge ends on a line.
+/// Whether an outline whose contours are closed may have dropouts. It has none where this is false: it crosses no free
+/// gap both rising and falling, and, where stubs are drawn, no edge ends on a line.
 pub(crate) fn closed_may_have_dropouts(stubs: bool, edges: &[Edge], ends: &[usize]) -> bool
     requires edges { All EdgeFits edges.now }
     requires ends { AreEnds (length edges.now) ends.now }
@@ -209,7 +209,8 @@ pub(crate) fn closed_may_have_dropouts(stubs: bool, edges: &[Edge], ends: &[usiz
     may_cross_both_ways(Over::Rows, edges) || may_cross_both_ways(Over::Columns, edges)
 }
 
-/// Whether an outline may have dropouts. It has none where this is false: its contours are closed, and then the same holds.
+/// Whether an outline may have dropouts. It has none where this is false: its contours are closed, and then the same
+/// holds.
 pub(crate) fn may_have_dropouts(stubs: bool, edges: &[Edge], ends: &[usize]) -> bool
     requires edges { All EdgeFits edges.now }
     requires ends { AreEnds (length edges.now) ends.now }
