@@ -2,6 +2,7 @@
 use Rattle.std.proofs.Common.{◌≡◌, ◌∙◌, refl, ap, ℕ, zero, suc, ◌+◌, ◌*◌, ◌<◌, ◌≤◌, min, Option, Some, None, List, [], ◌∷◌, ◌++◌, length, drop, get_or, set, sum_by, ℤ, pos, ◌*ℤ◌, arith, drop-cons, add-one, length-append}
 use Rattle.std.proofs.Math.Nat.{mul-suc}
 use Rattle.std.proofs.lemmas.List.Sums.{sum_by-cons}
+use Rattle.std.proofs.lemmas.Nat.{mul-le}
 use Rattle.std.specs.List.{range_with_len}
 use Rattle.tt_scan.specs.declared.edge.Edge.{Edge}
 use Rattle.tt_scan.specs.declared.edge.Frame.{Frame}
@@ -94,3 +95,28 @@ pub all_crossed : (gs : List Glyph) (i all most whole : ℕ) → length gs ≤ i
     → min (all + crossings_standing (drop i gs)) most ≡ min whole most → all ≡ min whole most
 all_crossed gs i all most whole over small is =
     let so_far : min (all + 0) most ≡ min whole most = rw (none_left gs i over) at is in omega (arith, so_far)
+
+-- sums that are no less
+
+enough_at : (all own most_own rest most whole : ℕ) → min own most ≤ most_own → min whole most ≤ min (all + (own + rest)) most
+    → min whole most ≤ min (min (all + most_own) most + rest) most
+enough_at all own most_own rest most whole more is = omega (arith, more, is)
+
+pub one_glyph_enough : (gs : List Glyph) (i : ℕ) (g : Glyph) (all own most whole : ℕ) → i < length gs → g ≡ get_or gs i g
+    → min (glyph_crossings g) most ≤ own
+    → min whole most ≤ min (all + crossings_standing (drop i gs)) most
+    → min whole most ≤ min (min (all + own) most + crossings_standing (drop (i + 1) gs)) most
+one_glyph_enough gs i g all own most whole below is more so_far =
+    let from : drop i gs ≡ g ∷ drop (i + 1) gs =
+    let all : drop i gs ≡ get_or gs i g ∷ drop (i + 1) gs = rw add-one (drop-cons gs i g below) in rw (← is) at all in
+    enough_at all (glyph_crossings g) own (crossings_standing (drop (i + 1) gs)) most whole more (rw from at so_far)
+
+pub all_enough : (gs : List Glyph) (i all most whole : ℕ) → length gs ≤ i
+    → min whole most ≤ min (all + crossings_standing (drop i gs)) most → min whole most ≤ all
+all_enough gs i all most whole over is =
+    let so_far : min whole most ≤ min (all + 0) most = rw (none_left gs i over) at is in omega (arith, so_far)
+
+-- at as many pens
+pub enough_at_pens : (own most_own pens most : ℕ) → own ≤ most_own → min (own * pens) most ≤ min (most_own * pens) most
+enough_at_pens own most_own pens most more =
+    let all : own * pens ≤ most_own * pens = mul-le own pens most_own pens more (omega arith) in omega (arith, all)

@@ -7,7 +7,7 @@ use Rattle.tt_core.specs.Limits.{width_limit}
 use Rattle.tt_pbm.specs.P4.{rows}
 use Rattle.tt_fit.specs.Fitting.{Fitter, fitted_outline, unfitted_fault}
 use Rattle.tt_fit.specs.Outline.{Outline}
-use Rattle.tt_scan.specs.Contours.{AreEnds, contours_at}
+use Rattle.tt_scan.specs.Contours.{AreEnds, IsClosed, contours_at}
 use Rattle.tt_scan.specs.declared.edge.Frame.{Frame}
 use Rattle.tt_scan.specs.Tape.{Tape}
 use Rattle.tt_scan.specs.Winding.{is_black, column_x, row_y, crossings_of}
@@ -59,11 +59,12 @@ pub record IsDrawn (s : Fitter) (f : Frame) (g : Glyph) : Type 0 where
 abbrev pub AreWithin : List Glyph → Type 0
 AreWithin gs = All (λ g. All (λ pen. pen ≤ width_limit) g.pens) gs
 
--- the dropouts of a glyph can be asked for: its edges are few, its contours end among them, and its pens lie within the
--- width of a picture
+-- the dropouts of a glyph can be asked for: its edges are few, its contours end among them and are closed, and its pens
+-- lie within the width of a picture
 pub record CanBeFilled (g : Glyph) : Type 0 where
   pub few : length g.tape.edges ≤ 2 ^ 17
   pub ends : IfSome g.filled (λ rules. AreEnds (length g.tape.edges) g.ends)
+  pub closed : IfSome g.filled (λ rules. All IsClosed (contours_at g.tape.edges g.ends))
   pub pens : All (λ pen. pen ≤ width_limit) g.pens
 
 -- some glyphs, by their edges, or some dropouts have column c of row r

@@ -18,7 +18,7 @@ use tt_arc::{chords, contour_ends};
 use tt_core::{Fault, FontFault};
 use tt_fit::{Fitter, Outline};
 use tt_scan::{Frame, Tape};
-use tt_scan_dropouts::{Rules, crossings};
+use tt_scan_dropouts::{Rules, crossings, most_crossings};
 
 /// A glyph by its number in the font, with its edges where its pen is 0.
 #[derive(Drop)]
@@ -112,6 +112,27 @@ impl Glyph {
         ensures { result ≡ min (glyph_crossings self.now) (2 ^ 64 - 1) }
     {
         self.pen_crossings().saturating_mul(self.pens.len() as u64)
+    }
+
+    /// No fewer than `pen_crossings`, with less work: no line is counted that is asked for dropouts.
+    fn most_pen_crossings(&self) -> u64
+        requires few { length self.now.tape.edges ≤ 2 ^ 17 }
+        ensures { pen_crossings self.now ≤ result }
+    {
+        let rows = self.tape.crossings();
+        match self.filled {
+            Some(_) => rows + 4 * most_crossings(self.tape.lend()),
+            None => rows,
+        }
+    }
+
+    /// No fewer than `crossings`, with less work.
+    pub(crate) fn most_crossings(&self) -> u64
+        requires few { length self.now.tape.edges ≤ 2 ^ 17 }
+        ensures { min (glyph_crossings self.now) (2 ^ 64 - 1) ≤ result }
+    {
+        self.most_pen_crossings()
+            .saturating_mul(self.pens.len() as u64)
     }
 
     /// How many edges it has.

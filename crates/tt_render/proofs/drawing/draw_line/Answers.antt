@@ -14,6 +14,7 @@ use Rattle.tt_render.specs.Pixels.{Shape}
 use Rattle.tt_render.specs.Report.{line_report}
 use Rattle.tt_render.specs.Views.{picture_bytes}
 use Rattle.tt_render.proofs.Alike.{same_picture}
+use Rattle.tt_render.proofs.Filled.{can_be_filled}
 use Rattle.tt_render.proofs.Listing.{of_line, lists_once}
 use Rattle.tt_render.proofs.Places.{ok_and}
 use Rattle.tt_render.proofs.Stopped.{crossings_stop, crossings_tell, drawing_refuses_no_job, font_tells, glyph_stops, points_stop, points_tell, points_tell_no_defect, setting_stops}
@@ -122,6 +123,12 @@ pub test_crossings-requires : goal.test_crossings-requires
 test_crossings-requires c =
     let valid = rw c.deref-2.ensures.value at c.in_ok-glyphs.ensures.valid in
     rw c.deref-3.ensures.value (record { tapes = λ k d below. (valid k d below).fits.edges })
+
+pub line_dropouts-requires-clause-glyphs : goal.line_dropouts-requires-clause-glyphs
+line_dropouts-requires-clause-glyphs c =
+    let maker = line_fitter c.in_ok-fitter.fitter (map (λ g. g.0) c.args.line.now.glyphs.items) in
+    let valid = rw c.deref-2.ensures.value at c.in_ok-glyphs.ensures.valid in
+    rw c.deref-4.ensures.value (can_be_filled maker c.in_ok-glyphs.glyphs.items valid c.in_ok-glyphs.ensures.pens)
 
 pub returns-clause-exact : goal.returns-clause-exact
 unfolding drawn
