@@ -1,5 +1,5 @@
 -- No part of the standard: where gaps are crossed rising and falling, as a table tells it that has no more places than
--- 64 lines of 64 gaps.
+-- 32 lines of 64 gaps.
 use Rattle.std.specs.Prelude.{◌≡◌, ℕ, ◌+◌, ◌*◌, Bool, true, false, ◌&&◌, ◌||◌, ℤ, pos, negsuc, int_le, int_lt, if◌then◌else◌, get_or, unsigned_abs, List}
 use Rattle.std.specs.Int.{int_rem_euclid}
 use Rattle.tt_scan.specs.declared.edge.Edge.{Edge}
@@ -26,7 +26,7 @@ has_end_on_line e = (is_on_line e.ax || is_on_line e.ay) || (is_on_line e.bx || 
 
 -- where a gap of a line stands in the table
 abbrev pub slot : ℤ → ℤ → ℕ
-slot j c = 64 * unsigned_abs (int_rem_euclid j (pos 64)) + unsigned_abs (int_rem_euclid c (pos 64))
+slot j c = 64 * unsigned_abs (int_rem_euclid j (pos 32)) + unsigned_abs (int_rem_euclid c (pos 64))
 
 -- a table has the gaps that edges cross one way
 abbrev pub AreMarked : Bool → List Edge → List Bool → Type 0

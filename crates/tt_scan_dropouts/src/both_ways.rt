@@ -1,6 +1,6 @@
 //! Whether some free gap is crossed both rising and falling. Each that an edge crosses is: so where none is, there are
 //! no dropouts, and nothing else need be asked. Two tables tell which gaps may be crossed both ways, and whether one of
-//! those is free is asked of all edges.
+//! those may be free is asked of all edges.
 
 ghost use Rattle.std.specs.Prelude.{◌≡◌, List, ℕ, ℤ, ◌^◌, ◌<◌, true, false, ◌∷◌, [], ◌+◌, ◌++◌, length, get_or, map, unsigned_abs, All};
 ghost use Rattle.tt_scan.specs.Winding.{EdgeFits};
@@ -12,41 +12,45 @@ ghost use Rattle.tt_scan_dropouts.specs.Gaps.{is_free};
 ghost use Rattle.tt_scan_dropouts.specs.declared.mark.Rules.{Rules};
 ghost use Rattle.tt_scan_dropouts.specs.Crossings.{crossing, line_crossed, lines_crossed};
 ghost use Rattle.tt_scan_dropouts.specs.Windows.{seen_by};
+ghost use Rattle.tt_scan_dropouts.specs.declared.window.Over.TheVariants as over;
 
 use crate::closed::are_closed;
 use crate::crossing::{gap_crossed, is_on_line, line_crossed, lines_crossed};
-use crate::free::is_free_gap;
+use crate::free::may_be_free;
 use crate::seen::{meets, seen_by};
 use crate::window::Over;
 use tt_scan::Edge;
 
-/// So many lines, and gaps of a line, a table tells apart: those whose numbers differ by a multiple have one place.
-const SIDE: i64 = 64;
+/// So many lines, and so many gaps of a line, a table tells apart: those whose numbers differ by a multiple have one
+/// place.
+const LINES: i64 = 32;
 
-const PLACES: usize = 4096;
+const GAPS: i64 = 64;
 
-/// So many gaps are looked at by themselves, in a pass over rows or columns: each look asks all edges.
+const PLACES: usize = 2048;
+
+/// So many gaps are looked at by themselves: each look asks all edges.
 const LOOKS: u32 = 16;
 
 /// Where a gap of a line stands in a table.
 #[inline(always)]
 fn slot(line: i64, gap: i64) -> usize
     ensures exact { result ≡ slot line gap }
-    ensures within { result < 4096 }
+    ensures within { result < 2048 }
 {
-    (SIDE * line.rem_euclid(SIDE) + gap.rem_euclid(SIDE)) as usize
+    (GAPS * line.rem_euclid(LINES) + gap.rem_euclid(GAPS)) as usize
 }
 
 /// Marks a place in one of two tables. Answers whether the other has it.
 #[inline(always)]
 fn mark(table: &mut [bool], other: &[bool], at: usize) -> bool
-    requires table { length table.old ≡ 4096 }
-    requires other { length other.now ≡ 4096 }
-    requires within { at < 4096 }
+    requires table { length table.old ≡ 2048 }
+    requires other { length other.now ≡ 2048 }
+    requires within { at < 2048 }
     ensures marked { get_or table.new at false ≡ true }
     ensures kept { (s : ℕ) → get_or table.old s false ≡ true → get_or table.new s false ≡ true }
     ensures other { result ≡ get_or other.now at false }
-    ensures len { length table.new ≡ 4096 }
+    ensures len { length table.new ≡ 2048 }
 {
     table[at] = true;
     other[at]
@@ -56,7 +60,7 @@ fn mark(table: &mut [bool], other: &[bool], at: usize) -> bool
 /// apart from the loop that asks it.
 #[cold]
 #[inline(never)]
-fn may_be_free(over: Over, edges: &[Edge], looks: &mut u32, gap: i64, line: i64) -> bool
+fn look(over: Over, edges: &[Edge], looks: &mut u32, gap: i64, line: i64) -> bool
     requires edges { All EdgeFits edges.now }
     requires gap { unsigned_abs gap + 1 < 2 ^ 18 }
     requires line { unsigned_abs line < 2 ^ 18 }
@@ -66,7 +70,7 @@ fn may_be_free(over: Over, edges: &[Edge], looks: &mut u32, gap: i64, line: i64)
         return true;
     }
     *looks -= 1;
-    is_free_gap(over, edges, gap, line)
+    may_be_free(over, edges, gap, line)
 }
 
 /// Marks the gaps in which an edge crosses lines in one of two tables. Answers whether one that the other has may be
@@ -82,8 +86,8 @@ fn mark_crossings(
 ) -> bool
     requires edge { EdgeFits edge }
     requires edges { All EdgeFits edges.now }
-    requires table { length table.old ≡ 4096 }
-    requires other { length other.now ≡ 4096 }
+    requires table { length table.old ≡ 2048 }
+    requires other { length other.now ≡ 2048 }
     ensures marked { result ≡ false → (k : ℕ) → k < lines_crossed edge
         → get_or table.new (slot (line_crossed edge k) (crossing edge (line_crossed edge k)).gap) false ≡ true }
     ensures kept { (s : ℕ) → get_or table.old s false ≡ true → get_or table.new s false ≡ true }
@@ -91,12 +95,12 @@ fn mark_crossings(
         → get_or other.now (slot (line_crossed edge k) (crossing edge (line_crossed edge k)).gap) false ≡ true
         → is_free (is_black_seen over edges.now) (crossing edge (line_crossed edge k)).gap (line_crossed edge k)
         ≡ false }
-    ensures len { length table.new ≡ 4096 }
+    ensures len { length table.new ≡ 2048 }
 {
     for k in 0..lines_crossed(edge) {
         let line = line_crossed(edge, k);
         let gap = gap_crossed(edge, k);
-        if mark(table, other, slot(line, gap)) && may_be_free(over, edges, looks, gap, line) {
+        if mark(table, other, slot(line, gap)) && look(over, edges, looks, gap, line) {
             return true;
         }
     }
@@ -116,13 +120,13 @@ fn mark_ways(
 ) -> bool
     requires edge { EdgeFits edge.now }
     requires edges { All EdgeFits edges.now }
-    requires rising { length rising.old ≡ 4096 }
-    requires falling { length falling.old ≡ 4096 }
+    requires rising { length rising.old ≡ 2048 }
+    requires falling { length falling.old ≡ 2048 }
     ensures told { result ≡ false → (es : List Edge)
         → AreTold (is_black_seen over edges.now) es rising.old falling.old
         → AreTold (is_black_seen over edges.now) (es ++ seen_by over edge.now ∷ []) rising.new falling.new }
-    ensures rising_len { length rising.new ≡ 4096 }
-    ensures falling_len { length falling.new ≡ 4096 }
+    ensures rising_len { length rising.new ≡ 2048 }
+    ensures falling_len { length falling.new ≡ 2048 }
 {
     let edge = seen_by(over, *edge);
     if edge.ay < edge.by {
@@ -144,28 +148,50 @@ fn mark_edge(
 ) -> bool
     requires edge { EdgeFits edge.now }
     requires edges { All EdgeFits edges.now }
-    requires rising { length rising.old ≡ 4096 }
-    requires falling { length falling.old ≡ 4096 }
+    requires rising { length rising.old ≡ 2048 }
+    requires falling { length falling.old ≡ 2048 }
     ensures told { result ≡ false → (es : List Edge)
         → AreTold (is_black_seen over edges.now) es rising.old falling.old
         → AreTold (is_black_seen over edges.now) (es ++ seen_by over edge.now ∷ []) rising.new falling.new }
-    ensures rising_len { length rising.new ≡ 4096 }
-    ensures falling_len { length falling.new ≡ 4096 }
+    ensures rising_len { length rising.new ≡ 2048 }
+    ensures falling_len { length falling.new ≡ 2048 }
 {
     meets(over, false, edge) && mark_ways(rising, falling, over, edges, looks, edge)
 }
 
-/// Whether edges, as a pass sees them, may cross some free gap both rising and falling. They do not where this is
+/// Whether edges may cross some free gap both rising and falling, of a row or of a column. They do not where this is
 /// false; it is true too where more gaps want a look than are looked at.
-pub(crate) fn may_cross_both_ways(over: Over, edges: &[Edge]) -> bool
+pub(crate) fn may_cross_both_ways(edges: &[Edge]) -> bool
     requires { All EdgeFits edges.now }
-    ensures { result ≡ false → NoneFreeBothWays (is_black_seen over edges.now) (map (seen_by over) edges.now) }
+    ensures rows { result ≡ false
+        → NoneFreeBothWays (is_black_seen over.Rows edges.now) (map (seen_by over.Rows) edges.now) }
+    ensures columns { result ≡ false
+        → NoneFreeBothWays (is_black_seen over.Columns edges.now) (map (seen_by over.Columns) edges.now) }
 {
-    let mut rising = [false; PLACES];
-    let mut falling = [false; PLACES];
+    let mut row_rising = [false; PLACES];
+    let mut row_falling = [false; PLACES];
+    let mut column_rising = [false; PLACES];
+    let mut column_falling = [false; PLACES];
     let mut looks = LOOKS;
     for edge in edges {
-        if mark_edge(&mut rising, &mut falling, over, edges, &mut looks, edge) {
+        if mark_edge(
+            &mut row_rising,
+            &mut row_falling,
+            Over::Rows,
+            edges,
+            &mut looks,
+            edge,
+        ) {
+            return true;
+        }
+        if mark_edge(
+            &mut column_rising,
+            &mut column_falling,
+            Over::Columns,
+            edges,
+            &mut looks,
+            edge,
+        ) {
             return true;
         }
     }
@@ -206,7 +232,7 @@ pub(crate) fn closed_may_have_dropouts(stubs: bool, edges: &[Edge], ends: &[usiz
     if stubs && some_end_on_line(edges) {
         return true;
     }
-    may_cross_both_ways(Over::Rows, edges) || may_cross_both_ways(Over::Columns, edges)
+    may_cross_both_ways(edges)
 }
 
 /// Whether an outline may have dropouts. It has none where this is false: its contours are closed, and then the same

@@ -1,34 +1,35 @@
 //! Whether a gap is free, asked of each edge.
 
-ghost use Rattle.std.specs.Prelude.{◌≡◌, ◌+◌, ◌^◌, ◌<◌, unsigned_abs, All};
+ghost use Rattle.std.specs.Prelude.{◌≡◌, true, false, ◌+◌, ◌^◌, ◌<◌, unsigned_abs, All};
 ghost use Rattle.tt_scan.specs.Winding.{EdgeFits};
 ghost use Rattle.tt_scan_dropouts.specs.BothWays.{is_black_seen};
 ghost use Rattle.tt_scan_dropouts.specs.Gaps.{is_free};
 
 use crate::crossing::centre;
-use crate::point::is_black;
+use crate::point::winding;
 use crate::window::Over;
 use tt_scan::Edge;
 
-/// Whether a pixel of a line is black by rules 1 and 2, as a pass sees it.
-fn is_black_seen(over: Over, edges: &[Edge], pixel: i64, line: i64) -> bool
+/// Whether edges wind round the centre of a pixel of a line, as a pass sees it. The pixel is black where they do.
+fn is_wound_round(over: Over, edges: &[Edge], pixel: i64, line: i64) -> bool
     requires edges { All EdgeFits edges.now }
     requires pixel { unsigned_abs pixel < 2 ^ 18 }
     requires line { unsigned_abs line < 2 ^ 18 }
-    ensures { result ≡ is_black_seen over edges.now pixel line }
+    ensures { result ≡ true → is_black_seen over edges.now pixel line ≡ true }
 {
     match over {
-        Over::Rows => is_black(edges, centre(pixel), centre(line)),
-        Over::Columns => is_black(edges, centre(line), centre(pixel)),
+        Over::Rows => winding(edges, centre(pixel), centre(line)) != 0,
+        Over::Columns => winding(edges, centre(line), centre(pixel)) != 0,
     }
 }
 
-/// Whether a gap of a line is free, as a pass sees it.
-pub(crate) fn is_free_gap(over: Over, edges: &[Edge], gap: i64, line: i64) -> bool
+/// Whether a gap of a line may be free, as a pass sees it: it is not where edges wind round a pixel beside it. Whether
+/// such a pixel's centre lies on an edge is not asked.
+pub(crate) fn may_be_free(over: Over, edges: &[Edge], gap: i64, line: i64) -> bool
     requires edges { All EdgeFits edges.now }
     requires gap { unsigned_abs gap + 1 < 2 ^ 18 }
     requires line { unsigned_abs line < 2 ^ 18 }
-    ensures { result ≡ is_free (is_black_seen over edges.now) gap line }
+    ensures { result ≡ false → is_free (is_black_seen over edges.now) gap line ≡ false }
 {
-    !is_black_seen(over, edges, gap, line) && !is_black_seen(over, edges, gap + 1, line)
+    !is_wound_round(over, edges, gap, line) && !is_wound_round(over, edges, gap + 1, line)
 }

@@ -8,8 +8,8 @@
 //! seen.rt       an edge as a pass over rows or columns sees it
 //! closed.rt     which contours are closed
 //! both_ways.rt  whether some free gap is crossed both rising and falling: where none is, there are no dropouts
-//! free.rt       whether a gap is free, asked of each edge
-//! point.rt      whether a point is black by rules 1 and 2, asked of each edge
+//! free.rt       whether a gap may be free, asked of each edge
+//! point.rt      how often edges wind round a point, asked of each
 //! steps.rt      the walk along a contour, step by step
 //! stub.rt       which crossings belong to a stub
 //! marks.rt      what the contours of an outline leave in gaps that are free

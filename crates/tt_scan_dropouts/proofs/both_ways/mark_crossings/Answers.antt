@@ -6,16 +6,16 @@ use Rattle.tt_scan_dropouts.specs.Crossings.{crossing, line_crossed, lines_cross
 use Rattle.tt_scan_dropouts.specs.Gaps.{is_free}
 use Rattle.tt_scan_dropouts.proofs.Bounds.{crosses_near}
 use Rattle.tt_scan_dropouts.proofs.both_ways.mark_crossings.Goals as goal
-use Rattle.tt_scan_dropouts.proofs.both_ways.mark_crossings.Goals.{else-mark-via-then-mark+else-may_be_free, else-mark-via-else-mark}
+use Rattle.tt_scan_dropouts.proofs.both_ways.mark_crossings.Goals.{else-mark-via-then-mark+else-look, else-mark-via-else-mark}
 
-pub may_be_free-requires-clause-gap : goal.may_be_free-requires-clause-gap
-may_be_free-requires-clause-gap c =
+pub look-requires-clause-gap : goal.look-requires-clause-gap
+look-requires-clause-gap c =
     let gap : SFits w64 c.gap_crossed-gap.result = omega (arith, ints, c.gap_crossed-gap.ensures.small) in
     let within : c.loop-k.k < lines_crossed c.args.edge = rw c.lines_crossed-k-end.ensures.exact at c.loop-k-test.true in
     simp to_z-of_z (rw c.gap_crossed-gap.ensures.exact (crosses_near c.args.edge c.loop-k.k c.requires.edge within).1)
 
-pub may_be_free-requires-clause-line : goal.may_be_free-requires-clause-line
-may_be_free-requires-clause-line c =
+pub look-requires-clause-line : goal.look-requires-clause-line
+look-requires-clause-line c =
     let line : SFits w64 c.line_crossed-line.result = omega (arith, ints, c.line_crossed-line.ensures.small) in
     let within : c.loop-k.k < lines_crossed c.args.edge = rw c.lines_crossed-k-end.ensures.exact at c.loop-k-test.true in
     simp to_z-of_z (rw c.line_crossed-line.ensures.exact (crosses_near c.args.edge c.loop-k.k c.requires.edge within).0)
@@ -37,9 +37,9 @@ loop-k-preserved c =
     let its : get_or c.args.other.now (slot (line_crossed e k) (crossing e (line_crossed e k)).gap) false ≡ true
     → is_free black (crossing e (line_crossed e k)).gap (line_crossed e k) ≡ false =
     λ has. elim c.else-mark.branch [
-      | else-mark-via-then-mark+else-may_be_free w ↦
+      | else-mark-via-then-mark+else-look w ↦
           let not : is_free black c.gap_crossed-gap.result c.line_crossed-line.result ≡ false =
-          simp to_z-of_z at (w.may_be_free.ensures w.if-may_be_free.false) in
+          simp to_z-of_z at (w.look.ensures w.if-look.false) in
           ap₂ (is_free black) (sym in_gap) (sym on_line) ∙ not
       | else-mark-via-else-mark w ↦
           let bad : true ≡ false =

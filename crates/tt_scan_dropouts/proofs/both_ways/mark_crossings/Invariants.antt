@@ -14,5 +14,5 @@ invariant-loop-k l = record {
       → get_or l.other (slot (line_crossed l.edge m) (crossing l.edge (line_crossed l.edge m)).gap) false ≡ true
       → is_free (is_black_seen l.over l.edges) (crossing l.edge (line_crossed l.edge m)).gap (line_crossed l.edge m)
       ≡ false;
-  len : length l.table ≡ 4096;
+  len : length l.table ≡ 2048;
 }

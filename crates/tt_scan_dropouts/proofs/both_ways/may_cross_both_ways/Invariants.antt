@@ -1,12 +1,18 @@
 use Rattle.std.proofs.Common.{◌≡◌, length, map, take}
 use Rattle.tt_scan_dropouts.specs.BothWays.{AreTold, is_black_seen}
 use Rattle.tt_scan_dropouts.specs.Windows.{seen_by}
+use Rattle.tt_scan_dropouts.specs.declared.window.Over.TheVariants as over
 use Rattle.tt_scan_dropouts.proofs.both_ways.may_cross_both_ways.Given as goal
 
 -- the tables tell of the edges so far
 abbrev pub invariant-loop-edge : goal.invariant-loop-edge
 invariant-loop-edge l = record {
-  told : AreTold (is_black_seen l.over l.edges) (map (seen_by l.over) (take l.edge-index l.edges)) l.rising l.falling;
-  rising_len : length l.rising ≡ 4096;
-  falling_len : length l.falling ≡ 4096;
+  rows : AreTold (is_black_seen over.Rows l.edges) (map (seen_by over.Rows) (take l.edge-index l.edges))
+      l.row_rising l.row_falling;
+  columns : AreTold (is_black_seen over.Columns l.edges) (map (seen_by over.Columns) (take l.edge-index l.edges))
+      l.column_rising l.column_falling;
+  row_rising_len : length l.row_rising ≡ 2048;
+  row_falling_len : length l.row_falling ≡ 2048;
+  column_rising_len : length l.column_rising ≡ 2048;
+  column_falling_len : length l.column_falling ≡ 2048;
 }

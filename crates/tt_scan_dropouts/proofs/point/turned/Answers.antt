@@ -1,23 +1,25 @@
-use Rattle.std.proofs.Common.{◌≡◌, sym, ap₂, ◌∙◌, SFits, w64, rules, arith}
+use Rattle.std.proofs.Common.{◌≡◌, pos, ap₂, ◌∙◌, sym, SFits, w64, rules, arith}
 use Rattle.std.specs.Prelude.{◌-ℤ◌, ◌*ℤ◌}
 use Rattle.std.proofs.lemmas.Int.{ints, to_z-of_z}
 use Rattle.tt_scan_dropouts.specs.BothWays.{turn_by}
-use Rattle.tt_scan_dropouts.proofs.Points.{apart_turns_nothing, turns_by}
-use Rattle.tt_scan.specs.Winding.{is_between}
+use Rattle.tt_scan_dropouts.proofs.Points.{turns_by}
 use Rattle.tt_scan_dropouts.proofs.point.turned.Goals as goal
 
-pub returns-then-not-is_between-clause-exact : goal.returns-then-not-is_between-clause-exact
-returns-then-not-is_between-clause-exact c =
-    let e = c.args.edge in
+pub returns-then-not-goes_through-clause-exact : goal.returns-then-not-goes_through-clause-exact
+returns-then-not-goes_through-clause-exact c =
+    let e = c.args.edge.now in
+    let y : SFits w64 c.args.y = c.ranges.y in
     let ay : SFits w64 e.ay = omega (arith, ints, c.requires.edge.ay) in
     let by : SFits w64 e.by = omega (arith, ints, c.requires.edge.by) in
-    let y : SFits w64 c.args.y = c.ranges.y in
-    let is : c.is_between.result ≡ is_between e.ay e.by c.args.y = simp to_z-of_z at c.is_between.ensures in
-    apart_turns_nothing e c.args.x c.args.y (sym is ∙ c.if-not-is_between.true)
+    let p = (e.bx -ℤ e.ax) *ℤ (c.args.y -ℤ e.ay) in
+    let q = (e.by -ℤ e.ay) *ℤ (c.args.x -ℤ e.ax) in
+    let none : turn_by e.ay e.by c.args.y p q ≡ pos 0 =
+    simp to_z-of_z at (c.goes_through.ensures c.if-not-goes_through.true p q) in
+    sym none ∙ turns_by e c.args.x c.args.y
 
 pub returns-clause-exact : goal.returns-clause-exact
 returns-clause-exact c =
-    let e = c.args.edge in
+    let e = c.args.edge.now in
     let x : SFits w64 c.args.x = c.ranges.x in
     let y : SFits w64 c.args.y = c.ranges.y in
     let ay : SFits w64 e.ay = omega (arith, ints, c.requires.edge.ay) in

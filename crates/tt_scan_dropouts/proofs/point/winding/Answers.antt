@@ -1,21 +1,13 @@
-use Rattle.std.proofs.Common.{◌≡◌, ◌∙◌, true, false, sym, refl, pos, get_or, take, SFits, w64, to_z, ◌+ℤ◌, rules, arith}
+use Rattle.std.proofs.Common.{◌≡◌, refl, pos, get_or, take, SFits, w64, to_z, ◌+ℤ◌, rules, arith}
 use Rattle.std.proofs.lemmas.Int.{ints, to_z-of_z}
-use Rattle.tt_scan.specs.Winding.{EdgeFits, lies_on, lies_on_one, turned}
-use Rattle.tt_scan.specs.Winding as winding
+use Rattle.tt_scan.specs.Winding.{EdgeFits, turned}
+use Rattle.tt_scan.specs.Winding as is
 use Rattle.tt_scan.specs.declared.edge.Edge.{Edge}
-use Rattle.tt_scan_dropouts.proofs.Points.{held, off_more, winding_more}
-use Rattle.tt_scan_dropouts.proofs.point.is_black.Goals as goal
+use Rattle.tt_scan_dropouts.proofs.Points.{winding_more}
+use Rattle.tt_scan_dropouts.proofs.point.winding.Goals as goal
 
 abbrev none : Edge
 none = record { ax = pos 0; ay = pos 0; bx = pos 0; by = pos 0 }
-
-pub returns-then-lies_on : goal.returns-then-lies_on
-returns-then-lies_on c =
-    let x : SFits w64 c.args.x = c.ranges.x in
-    let y : SFits w64 c.args.y = c.ranges.y in
-    let on : lies_on (get_or c.args.edges.now c.loop-edge.edge-index none) c.args.x c.args.y ≡ true =
-    sym (simp to_z-of_z at c.lies_on.ensures) ∙ c.if-lies_on.true in
-    rw (held c.args.edges.now c.loop-edge.edge-index none c.args.x c.args.y c.loop-edge-test.true on) refl
 
 pub turned-winding-requires-clause-edge : goal.turned-winding-requires-clause-edge
 turned-winding-requires-clause-edge c = c.requires.edges c.loop-edge.edge-index none c.loop-edge-test.true
@@ -27,18 +19,14 @@ loop-edge-preserved c =
     let es = c.args.edges.now in
     let i = c.loop-edge.edge-index in
     let so_far = c.loop-edge.invariant in
-    let off : lies_on (get_or es i none) c.args.x c.args.y ≡ false =
-    sym (simp to_z-of_z at c.lies_on.ensures) ∙ c.if-lies_on.false in
     let turn : SFits w64 c.turned-winding.result = omega (arith, ints, c.turned-winding.ensures.small) in
     let adds : c.turned-winding.result ≡ turned (get_or es i none) c.args.x c.args.y =
     simp to_z-of_z at c.turned-winding.ensures.exact in
     let before : SFits w64 (to_z w64 c.loop-edge.winding-bits) = search rules in
     let sum : SFits w64 (to_z w64 c.loop-edge.winding-bits +ℤ c.turned-winding.result) = search rules in
-    let so_often : to_z w64 c.loop-edge.winding-bits ≡ winding.winding (take i es) c.args.x c.args.y =
+    let so_often : to_z w64 c.loop-edge.winding-bits ≡ is.winding (take i es) c.args.x c.args.y =
     simp to_z-of_z at so_far.sum in
-    let clear : lies_on_one (take i es) c.args.x c.args.y ≡ false = simp to_z-of_z at so_far.off in
     record {
-      off = simp to_z-of_z (off_more es i none c.args.x c.args.y c.loop-edge-test.true clear off);
       sum = simp to_z-of_z (rw (winding_more es i none c.args.x c.args.y c.loop-edge-test.true, adds, ← so_often) refl);
       small = simp to_z-of_z (omega (arith, ints, c.loop-edge.winding-is, so_far.small, c.turned-winding.ensures.small));
     }
