@@ -2,7 +2,6 @@
 use Rattle.std.proofs.Common.{◌≡◌, ◌∙◌, refl, ap, ℕ, zero, suc, ◌+◌, ◌*◌, ◌<◌, ◌≤◌, min, Option, Some, None, List, [], ◌∷◌, ◌++◌, length, drop, get_or, set, sum_by, ℤ, pos, ◌*ℤ◌, arith, drop-cons, add-one, length-append}
 use Rattle.std.proofs.Math.Nat.{mul-suc}
 use Rattle.std.proofs.lemmas.List.Sums.{sum_by-cons}
-use Rattle.std.proofs.lemmas.Nat.{mul-le}
 use Rattle.std.specs.List.{range_with_len}
 use Rattle.tt_scan.specs.declared.edge.Edge.{Edge}
 use Rattle.tt_scan.specs.declared.edge.Frame.{Frame}
@@ -115,8 +114,3 @@ pub all_enough : (gs : List Glyph) (i all most whole : ℕ) → length gs ≤ i
     → min whole most ≤ min (all + crossings_standing (drop i gs)) most → min whole most ≤ all
 all_enough gs i all most whole over is =
     let so_far : min whole most ≤ min (all + 0) most = rw (none_left gs i over) at is in omega (arith, so_far)
-
--- at as many pens
-pub enough_at_pens : (own most_own pens most : ℕ) → own ≤ most_own → min (own * pens) most ≤ min (most_own * pens) most
-enough_at_pens own most_own pens most more =
-    let all : own * pens ≤ most_own * pens = mul-le own pens most_own pens more (omega arith) in omega (arith, all)
