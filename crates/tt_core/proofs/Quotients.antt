@@ -23,3 +23,10 @@ nearest_within n (pos d) h =
     let more = times_one_or_more d (unsigned_abs n) (omega (arith, ints)) in
     quotient_within (pos 2 *ℤ n +ℤ pos d) (2 * d) (unsigned_abs n) (omega (arith, ints)) (omega (arith, ints))
 nearest_within n (negsuc d) h = absurd (omega (arith, ints))
+
+-- a quotient is no larger than a whole number of which the denominators are no fewer than the numerator
+pub nearest_at_most : (n d : ℤ) (most : ℕ) → pos 0 <ℤ d → unsigned_abs n ≤ unsigned_abs d * most
+    → unsigned_abs (nearest_quotient n d) ≤ most
+nearest_at_most n (pos d) most h within =
+    quotient_within (pos 2 *ℤ n +ℤ pos d) (2 * d) most (omega (arith, ints, within)) (omega (arith, ints, within))
+nearest_at_most n (negsuc d) most h within = absurd (omega (arith, ints))

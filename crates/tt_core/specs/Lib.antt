@@ -8,4 +8,5 @@ pub mod Limits
 pub mod Numbers
 pub mod Outcomes
 pub mod Products
+pub mod Scales
 pub mod Search

@@ -28,10 +28,6 @@ nearest_quotient n d = int_div_euclid (pos 2 *ℤ n +ℤ d) (pos 2 *ℤ d)
 abbrev pub rounded_quotient : ℤ → ℤ → ℤ
 rounded_quotient n d = if int_lt d (pos 0) then nearest_quotient (neg_ℤ n) (neg_ℤ d) else nearest_quotient n d
 
--- a distance in font units as 26.6, at a size in pixels per em
-abbrev pub scaled : ℤ → ℕ → ℕ → ℤ
-scaled v ppem em = rounded_quotient (v *ℤ pos (ppem * 64)) (pos em)
-
 -- worked values
 two_bytes : number_at (1 ∷ 2 ∷ 3 ∷ []) 1 2 ≡ Some 515
 two_bytes = refl
@@ -53,6 +49,3 @@ minus_one_and_a_half = refl
 
 negative_divisor : rounded_quotient (pos 3) (negsuc 1) ≡ negsuc 0
 negative_divisor = refl
-
-one_em_at_size_16 : scaled (pos 256) 16 256 ≡ pos 1024
-one_em_at_size_16 = refl

@@ -5,17 +5,21 @@ mod device;
 mod directory;
 mod fault;
 mod font_fault;
+mod halves;
 pub mod laws;
 mod limits;
 mod number;
+mod scaling;
 
 pub use device::{Device, IoFailed, Sink, Source};
 pub use directory::Dir;
 pub use fault::{Fault, JobFault, Why};
 pub use font_fault::FontFault;
+pub use halves::{Halves, quotient};
 pub use limits::{
     BEST_LEVEL_LIMIT, CALL_LIMIT, COMPONENT_LIMIT, COORDINATE_LIMIT, CROSSING_LIMIT, FONT_LIMIT,
     HEIGHT_LIMIT, LEVEL_LIMIT, MARGIN_LIMIT, POINT_LIMIT, POINT_WORK_LIMIT, SIZE_LIMIT,
     STACK_LIMIT, STEP_LIMIT, TEXT_LIMIT, WIDTH_LIMIT, WORK_LIMIT,
 };
-pub use number::{i16_at, rq, scale, u16_at, u32_at};
+pub use number::{i16_at, rq, u16_at, u32_at};
+pub use scaling::Scale;

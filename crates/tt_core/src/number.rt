@@ -1,8 +1,7 @@
 //! Numbers of a font, and the two roundings. Apple TrueType Reference Manual, "The TrueType Font File", data types.
 
-ghost use Rattle.std.specs.Prelude.{◌≡◌, ◌≢◌, ◌+◌, ◌*◌, ◌^◌, ◌<◌, ◌≤◌, ◌<ℤ◌, pos, unsigned_abs};
-ghost use Rattle.tt_core.specs.Limits.{size_limit};
-ghost use Rattle.tt_core.specs.Numbers.{number_at, signed_at, nearest_quotient, rounded_quotient, scaled};
+ghost use Rattle.std.specs.Prelude.{◌≡◌, ◌≢◌, ℕ, ◌+◌, ◌*◌, ◌^◌, ◌<◌, ◌≤◌, ◌<ℤ◌, pos, unsigned_abs};
+ghost use Rattle.tt_core.specs.Numbers.{number_at, signed_at, nearest_quotient, rounded_quotient};
 
 use byteorder::{BigEndian, ByteOrder};
 
@@ -42,6 +41,7 @@ fn nearest(n: i64, d: i64) -> i64
     requires positive { pos 0 <ℤ d }
     ensures exact { result ≡ nearest_quotient n d }
     ensures bound { unsigned_abs result ≤ unsigned_abs n }
+    ensures within { (most : ℕ) → unsigned_abs n ≤ unsigned_abs d * most → unsigned_abs result ≤ most }
 {
     (2 * n + d).div_euclid(2 * d)
 }
@@ -53,20 +53,11 @@ pub fn rq(n: i64, d: i64) -> i64
     requires nonzero { d ≢ pos 0 }
     ensures exact { result ≡ rounded_quotient n d }
     ensures bound { unsigned_abs result ≤ unsigned_abs n }
+    ensures within { (most : ℕ) → unsigned_abs n ≤ unsigned_abs d * most → unsigned_abs result ≤ most }
 {
     if d < 0 {
         nearest(-n, -d)
     } else {
         nearest(n, d)
     }
-}
-
-/// A distance in font units as 26.6, at `ppem` pixels per em of `em` font units.
-pub fn scale(v: i32, ppem: u32, em: u16) -> i64
-    requires size { ppem ≤ size_limit }
-    requires units { 0 < em }
-    ensures exact { result ≡ scaled v ppem em }
-    ensures bound { unsigned_abs result ≤ unsigned_abs v * (ppem * 64) }
-{
-    rq(i64::from(v) * i64::from(ppem * 64), i64::from(em))
 }

@@ -253,8 +253,8 @@ operate_lacks : Families → (o : Operation) (at : ℕ) (m : MachineState) → t
 operate_lacks k (op.access_vectors o) at m there =
     graphics_lack at m (vectors_accessed o m.stack m.graphics) (k.vectors o m.stack m.graphics there)
 operate_lacks k (op.set_state o) at m there =
-    graphics_lack at m (state_set o m.ppem m.units_per_em tolerance.Tolerant m.stack m.graphics)
-    (k.settings o m.ppem m.units_per_em m.stack m.graphics there)
+    graphics_lack at m (state_set o m.ppem m.scale tolerance.Tolerant m.stack m.graphics)
+    (k.settings o m.ppem m.scale m.stack m.graphics there)
 operate_lacks k (op.manage o) at m there =
     stack_lacks at m (managed o tolerance.Tolerant m.stack) (k.managing o m.stack there)
 operate_lacks k (op.evaluate o) at m there =
@@ -262,8 +262,8 @@ operate_lacks k (op.evaluate o) at m there =
 operate_lacks k (op.compute o) at m there =
     stack_lacks at m (computed o m.graphics.round m.stack) (k.arithmetic o m.graphics.round m.stack there)
 operate_lacks k (op.access_values o) at m there =
-    places_lack at m (values_accessed o m.ppem m.units_per_em tolerance.Tolerant m.stack m.storage m.cvt)
-    (k.values o m.ppem m.units_per_em m.stack m.storage m.cvt there)
+    places_lack at m (values_accessed o m.scale tolerance.Tolerant m.stack m.storage m.cvt)
+    (k.values o m.scale m.stack m.storage m.cvt there)
 operate_lacks k (op.answer o) at m there =
     stack_lacks at m (answered o m.ppem m.stack) (k.queries o m.ppem m.stack there)
 operate_lacks k op.instctrl at m there = instctrl_lacks m.stack at m there

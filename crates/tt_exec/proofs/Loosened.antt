@@ -325,19 +325,19 @@ settings_loosen : Families → (o : Setting) (at : ℕ) (m : MachineState) → O
 settings_loosen k o at m =
     filling k.stays (settings.takes o) m.stack m at (operate (op.set_state o) at (strict_in m))
     (λ s. operate (op.set_state o) at (filled_with s m))
-    (λ less. rw (k.settings_short o m.ppem m.units_per_em tolerance.Strict m.stack m.graphics less) refl)
-    (graphics_loosen at m (settings.state_set o m.ppem m.units_per_em tolerance.Strict m.stack m.graphics)
-    (settings.state_set o m.ppem m.units_per_em tolerance.Tolerant m.stack m.graphics)
-    (k.settings o m.ppem m.units_per_em m.stack m.graphics))
+    (λ less. rw (k.settings_short o m.ppem m.scale tolerance.Strict m.stack m.graphics less) refl)
+    (graphics_loosen at m (settings.state_set o m.ppem m.scale tolerance.Strict m.stack m.graphics)
+    (settings.state_set o m.ppem m.scale tolerance.Tolerant m.stack m.graphics)
+    (k.settings o m.ppem m.scale m.stack m.graphics))
 
 values_loosen : Families → (o : StoredValues) (at : ℕ) (m : MachineState) → OperationLoosens (op.access_values o) at m
 values_loosen k o at m =
     filling k.stays (values.takes o) m.stack m at (operate (op.access_values o) at (strict_in m))
     (λ s. operate (op.access_values o) at (filled_with s m))
-    (λ less. rw (k.values_short o m.ppem m.units_per_em tolerance.Strict m.stack m.storage m.cvt less) refl)
-    (places_loosen at m (values.values_accessed o m.ppem m.units_per_em tolerance.Strict m.stack m.storage m.cvt)
-    (values.values_accessed o m.ppem m.units_per_em tolerance.Tolerant m.stack m.storage m.cvt)
-    (k.values o m.ppem m.units_per_em m.stack m.storage m.cvt))
+    (λ less. rw (k.values_short o m.scale tolerance.Strict m.stack m.storage m.cvt less) refl)
+    (places_loosen at m (values.values_accessed o m.scale tolerance.Strict m.stack m.storage m.cvt)
+    (values.values_accessed o m.scale tolerance.Tolerant m.stack m.storage m.cvt)
+    (k.values o m.scale m.stack m.storage m.cvt))
 
 points_loosen : Families → (o : PointInstruction) (at : ℕ) (m : MachineState) → OperationLoosens (op.on_points o) at m
 unfolding on_points

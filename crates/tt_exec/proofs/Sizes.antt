@@ -1,6 +1,7 @@
 -- No instruction makes or drops a point, a place of the storage area or a control value.
 use Rattle.std.proofs.Common.{◌≡◌, ◌∙◌, ℕ, zero, suc, ◌+◌, ◌==◌, nat_le, nat_lt, ℤ, pos, ◌+ℤ◌, int_le, int_lt, unsigned_abs, Bool, true, false, ◌&&◌, if◌then◌else◌, List, [], ◌∷◌, length, Option, Some, None, Result, Ok, Err, IfOk, subst, refl}
 use Rattle.std.specs.Ordering.{int_eq}
+use Rattle.tt_core.specs.declared.scaling.Scale.{Scale}
 use Rattle.tt_core.specs.Faults.{Fault}
 use Rattle.tt_core.specs.declared.fault.Why.{Why}
 use Rattle.tt_code.specs.declared.decoding.Halt.{Halt}
@@ -48,8 +49,8 @@ OnPoints = (t : Tolerance) (o : PointInstruction) (ppem : ℕ) (s : List ℤ) (z
     → IfOk (points.on_points t o ppem s z g cvt) (shapes.SameSizes z cvt)
 
 abbrev pub OnPlaces : Type 0
-OnPlaces = (o : StoredValues) (ppem em : ℕ) (t : Tolerance) (s storage cvt : List ℤ)
-    → IfOk (values_accessed o ppem em t s storage cvt)
+OnPlaces = (o : StoredValues) (scale : Scale) (t : Tolerance) (s storage cvt : List ℤ)
+    → IfOk (values_accessed o scale t s storage cvt)
     (λ t. (length t.1 ≡ length storage) × (length t.2 ≡ length cvt))
 
 -- what a step keeps
@@ -63,7 +64,7 @@ abbrev Keeps : MachineState → Result MachineState Fault → Type 0
 Keeps old r = IfOk r (Kept old)
 
 same_zones : (z : ZoneLists) → SameShape z z
-same_zones z = record { twilight = refl; glyph = refl; contours = refl }
+same_zones z = record { twilight = refl; glyph = refl; contours = refl; originals = refl }
 
 same : (m : MachineState) → Kept m m
 same m = (same_zones m.zones, refl, refl)
@@ -74,6 +75,7 @@ joined a b c (first, s, v) (second, s', v') = (
     twilight = second.twilight ∙ first.twilight;
     glyph = second.glyph ∙ first.glyph;
     contours = second.contours ∙ first.contours;
+    originals = second.originals ∙ first.originals;
   },
   s' ∙ s,
   v' ∙ v,
@@ -206,13 +208,13 @@ operate_kept : OnPoints → OnPlaces → (o : Operation) (at : ℕ) (m : Machine
     → Keeps m (operate o at m)
 operate_kept k j (op.access_vectors o) at m has = on_graphics_kept at m (vectors_accessed o m.stack m.graphics)
 operate_kept k j (op.set_state o) at m has =
-    on_graphics_kept at m (state_set o m.ppem m.units_per_em m.tolerance m.stack m.graphics)
+    on_graphics_kept at m (state_set o m.ppem m.scale m.tolerance m.stack m.graphics)
 operate_kept k j (op.manage o) at m has = on_stack_kept at m (managed o m.tolerance m.stack)
 operate_kept k j (op.evaluate o) at m has = on_stack_kept at m (evaluated o m.graphics.round m.stack)
 operate_kept k j (op.compute o) at m has = on_stack_kept at m (computed o m.graphics.round m.stack)
 operate_kept k j (op.access_values o) at m has =
-    on_places_kept at m (values_accessed o m.ppem m.units_per_em m.tolerance m.stack m.storage m.cvt)
-    (j o m.ppem m.units_per_em m.tolerance m.stack m.storage m.cvt)
+    on_places_kept at m (values_accessed o m.scale m.tolerance m.stack m.storage m.cvt)
+    (j o m.scale m.tolerance m.stack m.storage m.cvt)
 operate_kept k j (op.answer o) at m has = on_stack_kept at m (answered o m.ppem m.stack)
 operate_kept k j op.instctrl at m has = instctrl_kept m.stack at m
 operate_kept k j op.if_from at m has = if_kept m.stack at m

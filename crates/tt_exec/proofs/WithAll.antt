@@ -209,13 +209,13 @@ operate_stays : Families → (o : Operation) (at : ℕ) (m : MachineState)
 operate_stays k (op.access_vectors o) at m =
     graphics_stay at m (vectors_accessed o m.stack m.graphics) _ (k.vectors o m.stack m.graphics)
 operate_stays k (op.set_state o) at m =
-    graphics_stay at m (state_set o m.ppem m.units_per_em m.tolerance m.stack m.graphics) _
-    (k.settings o m.ppem m.units_per_em m.tolerance m.stack m.graphics)
+    graphics_stay at m (state_set o m.ppem m.scale m.tolerance m.stack m.graphics) _
+    (k.settings o m.ppem m.scale m.tolerance m.stack m.graphics)
 operate_stays k (op.manage o) at m = stack_stays at m (managed o m.tolerance m.stack)
 operate_stays k (op.evaluate o) at m = stack_stays at m (evaluated o m.graphics.round m.stack)
 operate_stays k (op.compute o) at m = stack_stays at m (computed o m.graphics.round m.stack)
 operate_stays k (op.access_values o) at m =
-    places_stay at m (values_accessed o m.ppem m.units_per_em m.tolerance m.stack m.storage m.cvt)
+    places_stay at m (values_accessed o m.scale m.tolerance m.stack m.storage m.cvt)
 operate_stays k (op.answer o) at m = stack_stays at m (answered o m.ppem m.stack)
 operate_stays k op.instctrl at m = instctrl_stays m.stack at m
 operate_stays k op.if_from at m = if_stays m.stack at m

@@ -1,6 +1,9 @@
 -- Worked programs: the stack that so many steps leave, the top first, or the fault. Apple TrueType Reference Manual,
 -- "Instruction set".
 use Rattle.std.specs.Prelude.{◌≡◌, ℕ, zero, suc, ℤ, pos, negsuc, false, List, [], ◌∷◌, codes, Some, Result, Ok, Err, refl}
+use Rattle.tt_core.specs.Scales.{exact_scale}
+use Rattle.tt_core.specs.declared.halves.Halves.TheVariants as halves
+use Rattle.tt_points_zones.specs.Zones.{in_pixels}
 use Rattle.tt_core.specs.Faults.{Fault, fault_at}
 use Rattle.tt_core.specs.Outcomes.{◌>>=◌}
 use Rattle.tt_core.specs.declared.fault.Why.TheVariants as why
@@ -21,11 +24,11 @@ after (suc n) m = step m >>= λ t. after n t
 
 its_parts : Parts
 its_parts = record {
-  em = 1024;
+  scale = exact_scale 16 1024;
   ppem = 16;
   cvt = [];
   storage = pos 0 ∷ [];
-  zones = record { twilight = []; glyph = []; contours = [] };
+  zones = record { twilight = []; glyph = []; contours = []; originals = in_pixels halves.Up };
   functions = [];
   instructions = [];
   state = default_state;

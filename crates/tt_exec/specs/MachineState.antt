@@ -1,5 +1,6 @@
 -- Apple TrueType Reference Manual, "Instructing TrueType Glyphs" and "Graphics State": what the interpreter holds.
 use Rattle.std.specs.Prelude.{ℕ, ◌+◌, ℤ, Bool, List}
+use Rattle.tt_core.specs.declared.scaling.Scale.{Scale}
 use Rattle.tt_core.specs.Faults.{Fault, fault_at}
 use Rattle.tt_core.specs.declared.fault.Why.{Why}
 use Rattle.tt_state.specs.declared.graphics_state.GraphicsState.{GraphicsState}
@@ -42,7 +43,7 @@ pub record MachineState : Type 0 where
   pub skip_glyphs : Bool
   pub default_state : Bool
   pub ppem : ℕ
-  pub units_per_em : ℕ
+  pub scale : Scale
   pub kind : Kind
 
 -- a fault at a place: it names the table of the program that holds the instruction, and the offset there

@@ -35,14 +35,14 @@ fresh p = record {
   skip_glyphs = p.skip_glyphs;
   default_state = p.default_state;
   ppem = p.ppem;
-  units_per_em = p.em;
+  scale = p.scale;
   kind = kind.Glyph;
 }
 
 -- the parts of a machine, without what belongs to a run
 abbrev pub parts_in : MachineState → Parts
 parts_in m = record {
-  em = m.units_per_em;
+  scale = m.scale;
   ppem = m.ppem;
   cvt = m.cvt;
   storage = m.storage;

@@ -1,5 +1,6 @@
 -- No part of the standard: what a machine is made of and keeps between runs, as contracts see it.
 use Rattle.std.specs.Prelude.{ℕ, ℤ, Bool, List, map}
+use Rattle.tt_core.specs.declared.scaling.Scale.{Scale}
 use Rattle.tt_state.specs.declared.graphics_state.GraphicsState.{GraphicsState}
 use Rattle.tt_state.specs.declared.tolerance.Tolerance.{Tolerance}
 use Rattle.tt_points_zones.specs.Zones.{ZoneLists, zones_view}
@@ -8,7 +9,7 @@ use Rattle.tt_exec.specs.MachineState.{Body}
 use Rattle.tt_exec.specs.Views.{entry_of}
 
 pub record Parts : Type 0 where
-  pub em : ℕ
+  pub scale : Scale
   pub ppem : ℕ
   pub cvt : List ℤ
   pub storage : List ℤ
@@ -22,7 +23,7 @@ pub record Parts : Type 0 where
 
 abbrev pub parts_of : declared.Parts → Parts
 parts_of p = record {
-  em = p.em;
+  scale = p.scale;
   ppem = p.ppem;
   cvt = p.cvt.items;
   storage = p.storage.items;

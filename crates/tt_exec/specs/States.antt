@@ -18,6 +18,6 @@ state_of m = record {
   skip_glyphs = m.skip_glyphs;
   default_state = m.default_state;
   ppem = m.size.ppem;
-  units_per_em = m.size.units_per_em;
+  scale = m.size.scale;
   kind = m.kind;
 }

@@ -53,12 +53,12 @@ push opcode args at m =
 -- an operation that stands at a place; the state's place is behind it
 abbrev pub operate : Operation → ℕ → MachineState → Result MachineState Fault
 operate (op.access_vectors o) at m = on_graphics at m (vectors_accessed o m.stack m.graphics)
-operate (op.set_state o) at m = on_graphics at m (state_set o m.ppem m.units_per_em m.tolerance m.stack m.graphics)
+operate (op.set_state o) at m = on_graphics at m (state_set o m.ppem m.scale m.tolerance m.stack m.graphics)
 operate (op.manage o) at m = on_stack at m (managed o m.tolerance m.stack)
 operate (op.evaluate o) at m = on_stack at m (evaluated o m.graphics.round m.stack)
 operate (op.compute o) at m = on_stack at m (computed o m.graphics.round m.stack)
 operate (op.access_values o) at m = on_places at m
-    (values_accessed o m.ppem m.units_per_em m.tolerance m.stack m.storage m.cvt)
+    (values_accessed o m.scale m.tolerance m.stack m.storage m.cvt)
 operate (op.answer o) at m = on_stack at m (answered o m.ppem m.stack)
 operate op.instctrl at m = instctrl m.stack at m
 operate op.if_from at m = if_from m.stack at m

@@ -2,6 +2,7 @@
 
 ghost use Rattle.std.specs.Prelude.{◌≡◌, ◌<◌, ◌≤◌, length, reverse, true, false, IfOk, IfSome};
 ghost use Rattle.std.specs.Option.{option_map};
+ghost use Rattle.tt_core.specs.Scales.{IsScale};
 ghost use Rattle.tt_core.specs.Limits.{size_limit};
 ghost use Rattle.tt_points_zones.specs.Zones.{zones_view, IsZones, SameShape};
 ghost use Rattle.tt_core.specs.Limits.{stack_limit};
@@ -59,9 +60,10 @@ fn kind_of(table: [u8; 4]) -> Kind
 
 impl<'a> Machine<'a> {
     /// A machine of these parts. It takes memory for the whole stack.
+    #[inline(never)]
     pub fn new(alloc: Global, parts: Parts<'a>) -> Result<Machine<'a>, AllocError>
         requires size { parts.ppem ≤ size_limit }
-        requires units { 0 < parts.em }
+        requires scale { IsScale parts.scale }
         requires zones { IsZones (zones_view parts.zones) }
         ensures { IfOk result (λ m. m ≡ record { state = fresh (parts_of parts.entry); failed = false }) }
     {
@@ -78,7 +80,7 @@ impl<'a> Machine<'a> {
             points: Points::new(parts.zones),
             skip_glyphs: parts.skip_glyphs,
             default_state: parts.default_state,
-            size: Size::new(parts.ppem, parts.em),
+            size: Size::new(parts.ppem, parts.scale),
             kind: Kind::Glyph,
         };
         Ok(Machine {
@@ -146,7 +148,7 @@ impl<'a> Machine<'a> {
     pub fn into_parts(self) -> Option<Parts<'a>>
         ensures exact { GivesParts self.entry (option_map parts_of result) }
         ensures size { IfSome result (λ p. p.ppem ≤ size_limit) }
-        ensures units { IfSome result (λ p. 0 < p.em) }
+        ensures scale { IfSome result (λ p. IsScale p.scale) }
         ensures zones { IfSome result (λ p. IsZones (zones_view p.zones)) }
     {
         if self.failed {

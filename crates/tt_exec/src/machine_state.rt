@@ -2,6 +2,7 @@
 
 ghost use Rattle.std.specs.Prelude.{◌≡◌, ◌<◌, ◌≤◌, length};
 ghost use Rattle.tt_core.specs.Limits.{size_limit};
+ghost use Rattle.tt_core.specs.Scales.{IsScale};
 ghost use Rattle.tt_points_zones.specs.Zones.{zones_view, IsZones};
 ghost use Rattle.tt_exec.specs.Machines.{begun, parts_in};
 ghost use Rattle.tt_exec.specs.MachineState.{fault_in};
@@ -65,11 +66,11 @@ impl<'a> MachineState<'a> {
     pub(crate) fn into_parts(self) -> Parts<'a>
         ensures exact { parts_of result ≡ parts_in (state_of self.entry) }
         ensures size { result.ppem ≤ size_limit }
-        ensures units { 0 < result.em }
+        ensures scale { IsScale result.scale }
         ensures zones { IsZones (zones_view result.zones) }
     {
         Parts {
-            em: self.size.units_per_em,
+            scale: self.size.scale,
             ppem: self.size.ppem,
             cvt: self.cvt,
             storage: self.storage,

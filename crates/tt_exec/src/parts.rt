@@ -6,14 +6,15 @@ ghost use Rattle.tt_exec.specs.Parts.{parts_of};
 use crate::program::Body;
 use std::alloc::AllocError;
 use std::collections::BTreeMap;
+use tt_core::Scale;
 use tt_points::Zones;
 use tt_state::{GraphicsState, Tolerance};
 
 /// What a machine is made of, and what a run leaves. Distances are in 26.6 pixels.
 #[derive(Drop)]
 pub struct Parts<'a> {
-    /// Font units in an em.
-    pub em: u16,
+    /// From font units to 26.6 pixels.
+    pub scale: Scale,
     /// Pixels per em.
     pub ppem: u32,
     /// The control values.
@@ -39,7 +40,7 @@ impl<'a> Parts<'a> {
         ensures { IfOk result (λ p. parts_of p ≡ parts_of self.now) }
     {
         Ok(Parts {
-            em: self.em,
+            scale: self.scale,
             ppem: self.ppem,
             cvt: self.cvt.clone()?,
             storage: self.storage.clone()?,

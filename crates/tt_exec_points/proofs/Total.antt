@@ -18,7 +18,7 @@ use Rattle.tt_points.specs.Enough.{SinglesEnough}
 use Rattle.tt_points.specs.Lines as lines
 use Rattle.tt_points.specs.Measuring as measuring
 use Rattle.tt_points.specs.Moving as single_moving
-use Rattle.tt_points_iup.specs.Interpolation.{iup, contours, limited, within}
+use Rattle.tt_points_iup.specs.Interpolation.{along_in, iup, contours, limited, within}
 use Rattle.tt_points_loops.specs.declared.deltas.DeltaRange.{DeltaRange}
 use Rattle.tt_points_loops.specs.declared.shifting.ReferencePoint.{ReferencePoint}
 use Rattle.tt_points_loops.specs.Deltas.{delta_of}
@@ -288,7 +288,7 @@ values range ppem s g cvt enough =
 -- the points between touched ones
 interpolated : (axis : Axis) (s : List ℤ) (z : ZoneLists) (g : GraphicsState) → IsTotal (after_move s g (iup axis z))
 interpolated axis s z g =
-    let ps = contours axis 0 z.contours z.glyph in
+    let ps = contours (along_in axis z) 0 z.contours z.glyph in
     total_after (iup axis z) _
     (total_after (limited axis ps) _
     (either (list_all (within axis) ps) (Ok ps) (Err why.ValueRange) (record {}) refl) (λ qs. record {}))

@@ -1,5 +1,6 @@
 -- No instruction makes or drops a place of the storage area or a control value.
-use Rattle.std.proofs.Common.{◌≡◌, ℕ, ℤ, Bool, true, false, if◌then◌else◌, List, [], ◌∷◌, length, Result, Ok, Err, IfOk, refl, length-set}
+use Rattle.std.proofs.Common.{◌≡◌, ℤ, Bool, true, false, if◌then◌else◌, List, [], ◌∷◌, length, Result, Ok, Err, IfOk, refl, length-set}
+use Rattle.tt_core.specs.declared.scaling.Scale.{Scale}
 use Rattle.tt_core.specs.Outcomes.{◌>>=◌}
 use Rattle.tt_core.specs.declared.fault.Why.{Why}
 use Rattle.tt_core.specs.declared.fault.Why.TheVariants as why
@@ -54,13 +55,13 @@ wcvtp_kept t (value ∷ n ∷ s) cvt = beside s cvt _ (set_kept t n value cvt wh
 wcvtp_kept t (n ∷ []) cvt = tt
 wcvtp_kept t [] cvt = tt
 
-wcvtf_kept : (ppem em : ℕ) (t : Tolerance) (s cvt : List ℤ) → IfOk (wcvtf ppem em t s cvt) (AsLong cvt)
-wcvtf_kept ppem em t (units ∷ n ∷ s) cvt =
+wcvtf_kept : (scale : Scale) (t : Tolerance) (s cvt : List ℤ) → IfOk (wcvtf scale t s cvt) (AsLong cvt)
+wcvtf_kept scale t (units ∷ n ∷ s) cvt =
     unless (AsLong cvt) t (s, cvt) _ refl
     (after (AsLong cvt) (place n (length cvt) why.CvtRange) _ (λ i.
-    after (AsLong cvt) (in_pixels ppem em units) _ (λ v. length-set cvt i v)))
-wcvtf_kept ppem em t (n ∷ []) cvt = tt
-wcvtf_kept ppem em t [] cvt = tt
+    after (AsLong cvt) (in_pixels scale units) _ (λ v. length-set cvt i v)))
+wcvtf_kept scale t (n ∷ []) cvt = tt
+wcvtf_kept scale t [] cvt = tt
 
 abbrev Both : List ℤ → List ℤ → List ℤ × List ℤ × List ℤ → Type 0
 Both storage cvt r = (length r.1 ≡ length storage) × (length r.2 ≡ length cvt)
@@ -79,10 +80,10 @@ read : (storage cvt : List ℤ) (r : Result (List ℤ) Why) → IfOk (r >>= λ r
 read storage cvt (Ok s) = (refl, refl)
 read storage cvt (Err why) = tt
 
-pub sizes_kept : (o : StoredValues) (ppem em : ℕ) (t : Tolerance) (s storage cvt : List ℤ)
-    → IfOk (values_accessed o ppem em t s storage cvt) (Both storage cvt)
-sizes_kept op.Ws ppem em t s storage cvt = stored storage cvt (ws t s storage) (ws_kept t s storage)
-sizes_kept op.Rs ppem em t s storage cvt = read storage cvt (rs t s storage)
-sizes_kept op.Wcvtp ppem em t s storage cvt = set storage cvt (wcvtp t s cvt) (wcvtp_kept t s cvt)
-sizes_kept op.Wcvtf ppem em t s storage cvt = set storage cvt (wcvtf ppem em t s cvt) (wcvtf_kept ppem em t s cvt)
-sizes_kept op.Rcvt ppem em t s storage cvt = read storage cvt (rcvt t s cvt)
+pub sizes_kept : (o : StoredValues) (scale : Scale) (t : Tolerance) (s storage cvt : List ℤ)
+    → IfOk (values_accessed o scale t s storage cvt) (Both storage cvt)
+sizes_kept op.Ws scale t s storage cvt = stored storage cvt (ws t s storage) (ws_kept t s storage)
+sizes_kept op.Rs scale t s storage cvt = read storage cvt (rs t s storage)
+sizes_kept op.Wcvtp scale t s storage cvt = set storage cvt (wcvtp t s cvt) (wcvtp_kept t s cvt)
+sizes_kept op.Wcvtf scale t s storage cvt = set storage cvt (wcvtf scale t s cvt) (wcvtf_kept scale t s cvt)
+sizes_kept op.Rcvt scale t s storage cvt = read storage cvt (rcvt t s cvt)

@@ -1,8 +1,9 @@
 -- What a tolerant machine does beside a strict one, and what few values come to.
 use Rattle.std.proofs.Common.{◌≡◌, ℕ, Bool, true, false, ◌&&◌, ◌||◌, nat_le, if◌then◌else◌, ℤ, pos, int_eq, int_lt, unsigned_abs, get_or, slice_set, List, [], ◌∷◌, length, Result, Ok, Err, refl, arith}
 use Rattle.std.specs.Int.{int_rem_euclid}
+use Rattle.tt_core.specs.declared.scaling.Scale.{Scale}
 use Rattle.tt_core.specs.Outcomes.{◌>>=◌}
-use Rattle.tt_core.specs.Numbers.{scaled}
+use Rattle.tt_core.specs.Scales.{scaled_by}
 use Rattle.tt_core.specs.declared.fault.Why.{Why}
 use Rattle.tt_core.specs.declared.fault.Why.TheVariants as why
 use Rattle.tt_state.specs.Axes.{pair_of}
@@ -54,35 +55,35 @@ both_taken f g none one next (n ∷ []) = one n
 both_taken f g none one next (v ∷ n ∷ s) = next v n s
 
 pub setting_loosened : SettingIsLoosened
-setting_loosened setting.Szp0 ppem em s g =
+setting_loosened setting.Szp0 ppem scale s g =
     taken (λ s. settings.szp0 tolerance.Strict s g) (λ s. settings.szp0 tolerance.Tolerant s g) (λ other. refl)
     (λ n s. unless (s, g) _) s
-setting_loosened setting.Szp1 ppem em s g =
+setting_loosened setting.Szp1 ppem scale s g =
     taken (λ s. settings.szp1 tolerance.Strict s g) (λ s. settings.szp1 tolerance.Tolerant s g) (λ other. refl)
     (λ n s. unless (s, g) _) s
-setting_loosened setting.Szp2 ppem em s g =
+setting_loosened setting.Szp2 ppem scale s g =
     taken (λ s. settings.szp2 tolerance.Strict s g) (λ s. settings.szp2 tolerance.Tolerant s g) (λ other. refl)
     (λ n s. unless (s, g) _) s
-setting_loosened setting.Szps ppem em s g =
+setting_loosened setting.Szps ppem scale s g =
     taken (λ s. settings.szps tolerance.Strict s g) (λ s. settings.szps tolerance.Tolerant s g) (λ other. refl)
     (λ n s. unless (s, g) _) s
-setting_loosened setting.Srp0 ppem em s g = same (settings.srp0 s g)
-setting_loosened setting.Srp1 ppem em s g = same (settings.srp1 s g)
-setting_loosened setting.Srp2 ppem em s g = same (settings.srp2 s g)
-setting_loosened setting.Sloop ppem em s g = same (settings.sloop s g)
-setting_loosened (setting.RoundTo round) ppem em s g = refl
-setting_loosened setting.Sround ppem em s g = same (settings.sround s g)
-setting_loosened setting.S45round ppem em s g = same (settings.s45round s g)
-setting_loosened setting.Smd ppem em s g = same (settings.smd s g)
-setting_loosened setting.Scvtci ppem em s g = same (settings.scvtci s g)
-setting_loosened setting.Sswci ppem em s g = same (settings.sswci s g)
-setting_loosened setting.Ssw ppem em s g = same (settings.ssw ppem em s g)
-setting_loosened (setting.Flip on) ppem em s g = refl
-setting_loosened setting.Sdb ppem em s g = same (settings.sdb s g)
-setting_loosened setting.Sds ppem em s g = same (settings.sds s g)
-setting_loosened setting.Scanctrl ppem em s g = same (settings.scanctrl ppem s g)
-setting_loosened setting.Scantype ppem em s g = same (settings.scantype s g)
-setting_loosened setting.Ignored ppem em s g = after (settings.ignored s) _ _ (λ t. refl)
+setting_loosened setting.Srp0 ppem scale s g = same (settings.srp0 s g)
+setting_loosened setting.Srp1 ppem scale s g = same (settings.srp1 s g)
+setting_loosened setting.Srp2 ppem scale s g = same (settings.srp2 s g)
+setting_loosened setting.Sloop ppem scale s g = same (settings.sloop s g)
+setting_loosened (setting.RoundTo round) ppem scale s g = refl
+setting_loosened setting.Sround ppem scale s g = same (settings.sround s g)
+setting_loosened setting.S45round ppem scale s g = same (settings.s45round s g)
+setting_loosened setting.Smd ppem scale s g = same (settings.smd s g)
+setting_loosened setting.Scvtci ppem scale s g = same (settings.scvtci s g)
+setting_loosened setting.Sswci ppem scale s g = same (settings.sswci s g)
+setting_loosened setting.Ssw ppem scale s g = same (settings.ssw scale s g)
+setting_loosened (setting.Flip on) ppem scale s g = refl
+setting_loosened setting.Sdb ppem scale s g = same (settings.sdb s g)
+setting_loosened setting.Sds ppem scale s g = same (settings.sds s g)
+setting_loosened setting.Scanctrl ppem scale s g = same (settings.scanctrl ppem s g)
+setting_loosened setting.Scantype ppem scale s g = same (settings.scantype s g)
+setting_loosened setting.Ignored ppem scale s g = after (settings.ignored s) _ _ (λ t. refl)
 
 read_loosened : (n : ℤ) (xs : List ℤ) (why : Why) (s : List ℤ)
     → Loosens (value_at tolerance.Strict n xs why >>= λ v. pushed v s)
@@ -114,10 +115,10 @@ wcvtp_loosened s cvt =
     both_taken (λ s. values.wcvtp tolerance.Strict s cvt) (λ s. values.wcvtp tolerance.Tolerant s cvt)
     (λ other. refl) (λ n other. refl) (λ v n s. set_loosened n v cvt why.CvtRange s) s
 
-wcvtf_loosened : (ppem em : ℕ) (s cvt : List ℤ)
-    → Loosens (values.wcvtf ppem em tolerance.Strict s cvt) (values.wcvtf ppem em tolerance.Tolerant s cvt)
-wcvtf_loosened ppem em s cvt =
-    both_taken (λ s. values.wcvtf ppem em tolerance.Strict s cvt) (λ s. values.wcvtf ppem em tolerance.Tolerant s cvt)
+wcvtf_loosened : (scale : Scale) (s cvt : List ℤ)
+    → Loosens (values.wcvtf scale tolerance.Strict s cvt) (values.wcvtf scale tolerance.Tolerant s cvt)
+wcvtf_loosened scale s cvt =
+    both_taken (λ s. values.wcvtf scale tolerance.Strict s cvt) (λ s. values.wcvtf scale tolerance.Tolerant s cvt)
     (λ other. refl) (λ n other. refl) (λ v n s. unless (s, cvt) _) s
 
 rcvt_loosened : (s cvt : List ℤ) → Loosens (values.rcvt tolerance.Strict s cvt) (values.rcvt tolerance.Tolerant s cvt)
@@ -126,19 +127,19 @@ rcvt_loosened s cvt =
     (λ other. refl) (λ n s. read_loosened n cvt why.CvtRange s) s
 
 pub values_loosened : ValuesAreLoosened
-values_loosened value.Ws ppem em s storage cvt =
+values_loosened value.Ws scale s storage cvt =
     made (λ (r : List ℤ × List ℤ). (r.0, r.1, cvt)) (values.ws tolerance.Strict s storage) (values.ws tolerance.Tolerant s storage)
     (ws_loosened s storage)
-values_loosened value.Rs ppem em s storage cvt =
+values_loosened value.Rs scale s storage cvt =
     made (λ (r : List ℤ). (r, storage, cvt)) (values.rs tolerance.Strict s storage) (values.rs tolerance.Tolerant s storage)
     (rs_loosened s storage)
-values_loosened value.Wcvtp ppem em s storage cvt =
+values_loosened value.Wcvtp scale s storage cvt =
     made (λ (r : List ℤ × List ℤ). (r.0, storage, r.1)) (values.wcvtp tolerance.Strict s cvt) (values.wcvtp tolerance.Tolerant s cvt)
     (wcvtp_loosened s cvt)
-values_loosened value.Wcvtf ppem em s storage cvt =
-    made (λ (r : List ℤ × List ℤ). (r.0, storage, r.1)) (values.wcvtf ppem em tolerance.Strict s cvt) (values.wcvtf ppem em tolerance.Tolerant s cvt)
-    (wcvtf_loosened ppem em s cvt)
-values_loosened value.Rcvt ppem em s storage cvt =
+values_loosened value.Wcvtf scale s storage cvt =
+    made (λ (r : List ℤ × List ℤ). (r.0, storage, r.1)) (values.wcvtf scale tolerance.Strict s cvt) (values.wcvtf scale tolerance.Tolerant s cvt)
+    (wcvtf_loosened scale s cvt)
+values_loosened value.Rcvt scale s storage cvt =
     made (λ (r : List ℤ). (r, storage, cvt)) (values.rcvt tolerance.Strict s cvt) (values.rcvt tolerance.Tolerant s cvt)
     (rcvt_loosened s cvt)
 
@@ -154,40 +155,40 @@ pointed n f instead =
     total_passed_over instead _
     (enough_after (zone_of n) _ (zone_tests (int_eq n (pos 0)) (int_eq n (pos 1))) (λ z. record {}))
 
-pixels_total : (ppem em : ℕ) (units : ℤ) → IsTotal (in_pixels ppem em units)
-pixels_total ppem em units = either (is_value (scaled units ppem em)) _ _ (record {}) refl
+pixels_total : (scale : Scale) (units : ℤ) → IsTotal (in_pixels scale units)
+pixels_total scale units = either (is_value (scaled_by scale units)) _ _ (record {}) refl
 
 pub setting_total : SettingIsTotal
-setting_total setting.Srp0 ppem em s g enough = of_one (λ s. settings.srp0 s g) (λ n s. record {}) s enough
-setting_total setting.Srp1 ppem em s g enough = of_one (λ s. settings.srp1 s g) (λ n s. record {}) s enough
-setting_total setting.Srp2 ppem em s g enough = of_one (λ s. settings.srp2 s g) (λ n s. record {}) s enough
-setting_total setting.Szp0 ppem em s g enough =
+setting_total setting.Srp0 ppem scale s g enough = of_one (λ s. settings.srp0 s g) (λ n s. record {}) s enough
+setting_total setting.Srp1 ppem scale s g enough = of_one (λ s. settings.srp1 s g) (λ n s. record {}) s enough
+setting_total setting.Srp2 ppem scale s g enough = of_one (λ s. settings.srp2 s g) (λ n s. record {}) s enough
+setting_total setting.Szp0 ppem scale s g enough =
     of_one (λ s. settings.szp0 tolerance.Tolerant s g) (λ n s. pointed n _ (s, g)) s enough
-setting_total setting.Szp1 ppem em s g enough =
+setting_total setting.Szp1 ppem scale s g enough =
     of_one (λ s. settings.szp1 tolerance.Tolerant s g) (λ n s. pointed n _ (s, g)) s enough
-setting_total setting.Szp2 ppem em s g enough =
+setting_total setting.Szp2 ppem scale s g enough =
     of_one (λ s. settings.szp2 tolerance.Tolerant s g) (λ n s. pointed n _ (s, g)) s enough
-setting_total setting.Szps ppem em s g enough =
+setting_total setting.Szps ppem scale s g enough =
     of_one (λ s. settings.szps tolerance.Tolerant s g) (λ n s. pointed n _ (s, g)) s enough
-setting_total setting.Sloop ppem em s g enough =
+setting_total setting.Sloop ppem scale s g enough =
     of_one (λ s. settings.sloop s g) (λ n s. either (int_lt n (pos 0)) _ _ refl (record {})) s enough
-setting_total (setting.RoundTo round) ppem em s g enough = record {}
-setting_total setting.Sround ppem em s g enough = of_one (λ s. settings.sround s g) (λ n s. record {}) s enough
-setting_total setting.S45round ppem em s g enough = of_one (λ s. settings.s45round s g) (λ n s. record {}) s enough
-setting_total setting.Smd ppem em s g enough = of_one (λ s. settings.smd s g) (λ n s. record {}) s enough
-setting_total setting.Scvtci ppem em s g enough = of_one (λ s. settings.scvtci s g) (λ n s. record {}) s enough
-setting_total setting.Sswci ppem em s g enough = of_one (λ s. settings.sswci s g) (λ n s. record {}) s enough
-setting_total setting.Ssw ppem em s g enough =
-    of_one (λ s. settings.ssw ppem em s g)
-    (λ n s. total_after (in_pixels ppem em n) _ (pixels_total ppem em n) (λ w. record {})) s enough
-setting_total (setting.Flip on) ppem em s g enough = record {}
-setting_total setting.Sdb ppem em s g enough = of_one (λ s. settings.sdb s g) (λ n s. record {}) s enough
-setting_total setting.Sds ppem em s g enough =
+setting_total (setting.RoundTo round) ppem scale s g enough = record {}
+setting_total setting.Sround ppem scale s g enough = of_one (λ s. settings.sround s g) (λ n s. record {}) s enough
+setting_total setting.S45round ppem scale s g enough = of_one (λ s. settings.s45round s g) (λ n s. record {}) s enough
+setting_total setting.Smd ppem scale s g enough = of_one (λ s. settings.smd s g) (λ n s. record {}) s enough
+setting_total setting.Scvtci ppem scale s g enough = of_one (λ s. settings.scvtci s g) (λ n s. record {}) s enough
+setting_total setting.Sswci ppem scale s g enough = of_one (λ s. settings.sswci s g) (λ n s. record {}) s enough
+setting_total setting.Ssw ppem scale s g enough =
+    of_one (λ s. settings.ssw scale s g)
+    (λ n s. total_after (in_pixels scale n) _ (pixels_total scale n) (λ w. record {})) s enough
+setting_total (setting.Flip on) ppem scale s g enough = record {}
+setting_total setting.Sdb ppem scale s g enough = of_one (λ s. settings.sdb s g) (λ n s. record {}) s enough
+setting_total setting.Sds ppem scale s g enough =
     of_one (λ s. settings.sds s g)
     (λ n s. either (int_lt n (pos 0) || int_lt (pos 6) n) _ _ refl (record {})) s enough
-setting_total setting.Scanctrl ppem em s g enough = of_one (λ s. settings.scanctrl ppem s g) (λ n s. record {}) s enough
-setting_total setting.Scantype ppem em s g enough = of_one (λ s. settings.scantype s g) (λ n s. record {}) s enough
-setting_total setting.Ignored ppem em s g enough =
+setting_total setting.Scanctrl ppem scale s g enough = of_one (λ s. settings.scanctrl ppem s g) (λ n s. record {}) s enough
+setting_total setting.Scantype ppem scale s g enough = of_one (λ s. settings.scantype s g) (λ n s. record {}) s enough
+setting_total setting.Ignored ppem scale s g enough =
     total_after (settings.ignored s) _ (of_one settings.ignored (λ n s. record {}) s enough) (λ t. record {})
 
 place_tests : (past : Bool) (i : ℕ) (why : Why) → is_short why ≡ false → Enough (if past then Err why else Ok i)
@@ -218,31 +219,31 @@ pixels_enough : (a : Bool) (v : ℤ) → Enough (if a then Ok v else Err why.Val
 pixels_enough true v = record {}
 pixels_enough false v = refl
 
-wcvtf_total : (ppem em : ℕ) (units n : ℤ) (s cvt : List ℤ)
-    → IsTotal (values.wcvtf ppem em tolerance.Tolerant (units ∷ n ∷ s) cvt)
-wcvtf_total ppem em units n s cvt =
+wcvtf_total : (scale : Scale) (units n : ℤ) (s cvt : List ℤ)
+    → IsTotal (values.wcvtf scale tolerance.Tolerant (units ∷ n ∷ s) cvt)
+wcvtf_total scale units n s cvt =
     total_passed_over (s, cvt) _
     (enough_after (place n (length cvt) why.CvtRange) _ (place_enough n (length cvt) why.CvtRange refl) (λ i.
-    enough_after (in_pixels ppem em units) _ (pixels_enough (is_value (scaled units ppem em)) _) (λ v. record {})))
+    enough_after (in_pixels scale units) _ (pixels_enough (is_value (scaled_by scale units)) _) (λ v. record {})))
 
 pub values_total : ValuesAreTotal
-values_total value.Ws ppem em s storage cvt enough =
+values_total value.Ws scale s storage cvt enough =
     total_after (values.ws tolerance.Tolerant s storage) _
     (of_two (λ s. values.ws tolerance.Tolerant s storage) (λ v n s. set_total n v storage why.StorageRange s refl) s enough)
     (λ r. record {})
-values_total value.Rs ppem em s storage cvt enough =
+values_total value.Rs scale s storage cvt enough =
     total_after (values.rs tolerance.Tolerant s storage) _
     (of_one (λ s. values.rs tolerance.Tolerant s storage) (λ n s. read_total n storage why.StorageRange s refl) s enough)
     (λ r. record {})
-values_total value.Wcvtp ppem em s storage cvt enough =
+values_total value.Wcvtp scale s storage cvt enough =
     total_after (values.wcvtp tolerance.Tolerant s cvt) _
     (of_two (λ s. values.wcvtp tolerance.Tolerant s cvt) (λ v n s. set_total n v cvt why.CvtRange s refl) s enough)
     (λ r. record {})
-values_total value.Wcvtf ppem em s storage cvt enough =
-    total_after (values.wcvtf ppem em tolerance.Tolerant s cvt) _
-    (of_two (λ s. values.wcvtf ppem em tolerance.Tolerant s cvt) (λ u n s. wcvtf_total ppem em u n s cvt) s enough)
+values_total value.Wcvtf scale s storage cvt enough =
+    total_after (values.wcvtf scale tolerance.Tolerant s cvt) _
+    (of_two (λ s. values.wcvtf scale tolerance.Tolerant s cvt) (λ u n s. wcvtf_total scale u n s cvt) s enough)
     (λ r. record {})
-values_total value.Rcvt ppem em s storage cvt enough =
+values_total value.Rcvt scale s storage cvt enough =
     total_after (values.rcvt tolerance.Tolerant s cvt) _
     (of_one (λ s. values.rcvt tolerance.Tolerant s cvt) (λ n s. read_total n cvt why.CvtRange s refl) s enough)
     (λ r. record {})
@@ -284,40 +285,40 @@ queries_total query.Getinfo ppem s enough =
 -- too few values
 
 pub setting_short : SettingIsShort
-setting_short setting.Srp0 ppem em t s g few = short_of_one (λ s. settings.srp0 s g) refl s few
-setting_short setting.Srp1 ppem em t s g few = short_of_one (λ s. settings.srp1 s g) refl s few
-setting_short setting.Srp2 ppem em t s g few = short_of_one (λ s. settings.srp2 s g) refl s few
-setting_short setting.Szp0 ppem em t s g few = short_of_one (λ s. settings.szp0 t s g) refl s few
-setting_short setting.Szp1 ppem em t s g few = short_of_one (λ s. settings.szp1 t s g) refl s few
-setting_short setting.Szp2 ppem em t s g few = short_of_one (λ s. settings.szp2 t s g) refl s few
-setting_short setting.Szps ppem em t s g few = short_of_one (λ s. settings.szps t s g) refl s few
-setting_short setting.Sloop ppem em t s g few = short_of_one (λ s. settings.sloop s g) refl s few
-setting_short (setting.RoundTo round) ppem em t s g few = absurd (omega arith)
-setting_short setting.Sround ppem em t s g few = short_of_one (λ s. settings.sround s g) refl s few
-setting_short setting.S45round ppem em t s g few = short_of_one (λ s. settings.s45round s g) refl s few
-setting_short setting.Smd ppem em t s g few = short_of_one (λ s. settings.smd s g) refl s few
-setting_short setting.Scvtci ppem em t s g few = short_of_one (λ s. settings.scvtci s g) refl s few
-setting_short setting.Sswci ppem em t s g few = short_of_one (λ s. settings.sswci s g) refl s few
-setting_short setting.Ssw ppem em t s g few = short_of_one (λ s. settings.ssw ppem em s g) refl s few
-setting_short (setting.Flip on) ppem em t s g few = absurd (omega arith)
-setting_short setting.Sdb ppem em t s g few = short_of_one (λ s. settings.sdb s g) refl s few
-setting_short setting.Sds ppem em t s g few = short_of_one (λ s. settings.sds s g) refl s few
-setting_short setting.Scanctrl ppem em t s g few = short_of_one (λ s. settings.scanctrl ppem s g) refl s few
-setting_short setting.Scantype ppem em t s g few = short_of_one (λ s. settings.scantype s g) refl s few
-setting_short setting.Ignored ppem em t s g few =
+setting_short setting.Srp0 ppem scale t s g few = short_of_one (λ s. settings.srp0 s g) refl s few
+setting_short setting.Srp1 ppem scale t s g few = short_of_one (λ s. settings.srp1 s g) refl s few
+setting_short setting.Srp2 ppem scale t s g few = short_of_one (λ s. settings.srp2 s g) refl s few
+setting_short setting.Szp0 ppem scale t s g few = short_of_one (λ s. settings.szp0 t s g) refl s few
+setting_short setting.Szp1 ppem scale t s g few = short_of_one (λ s. settings.szp1 t s g) refl s few
+setting_short setting.Szp2 ppem scale t s g few = short_of_one (λ s. settings.szp2 t s g) refl s few
+setting_short setting.Szps ppem scale t s g few = short_of_one (λ s. settings.szps t s g) refl s few
+setting_short setting.Sloop ppem scale t s g few = short_of_one (λ s. settings.sloop s g) refl s few
+setting_short (setting.RoundTo round) ppem scale t s g few = absurd (omega arith)
+setting_short setting.Sround ppem scale t s g few = short_of_one (λ s. settings.sround s g) refl s few
+setting_short setting.S45round ppem scale t s g few = short_of_one (λ s. settings.s45round s g) refl s few
+setting_short setting.Smd ppem scale t s g few = short_of_one (λ s. settings.smd s g) refl s few
+setting_short setting.Scvtci ppem scale t s g few = short_of_one (λ s. settings.scvtci s g) refl s few
+setting_short setting.Sswci ppem scale t s g few = short_of_one (λ s. settings.sswci s g) refl s few
+setting_short setting.Ssw ppem scale t s g few = short_of_one (λ s. settings.ssw scale s g) refl s few
+setting_short (setting.Flip on) ppem scale t s g few = absurd (omega arith)
+setting_short setting.Sdb ppem scale t s g few = short_of_one (λ s. settings.sdb s g) refl s few
+setting_short setting.Sds ppem scale t s g few = short_of_one (λ s. settings.sds s g) refl s few
+setting_short setting.Scanctrl ppem scale t s g few = short_of_one (λ s. settings.scanctrl ppem s g) refl s few
+setting_short setting.Scantype ppem scale t s g few = short_of_one (λ s. settings.scantype s g) refl s few
+setting_short setting.Ignored ppem scale t s g few =
     short_of_one (λ s. settings.ignored s >>= λ t. Ok (t, g)) refl s few
 
 pub values_short : ValuesAreShort
-values_short value.Ws ppem em t s storage cvt few =
-    short_of_two (λ s. values.values_accessed value.Ws ppem em t s storage cvt) refl (λ n. refl) s few
-values_short value.Rs ppem em t s storage cvt few =
-    short_of_one (λ s. values.values_accessed value.Rs ppem em t s storage cvt) refl s few
-values_short value.Wcvtp ppem em t s storage cvt few =
-    short_of_two (λ s. values.values_accessed value.Wcvtp ppem em t s storage cvt) refl (λ n. refl) s few
-values_short value.Wcvtf ppem em t s storage cvt few =
-    short_of_two (λ s. values.values_accessed value.Wcvtf ppem em t s storage cvt) refl (λ n. refl) s few
-values_short value.Rcvt ppem em t s storage cvt few =
-    short_of_one (λ s. values.values_accessed value.Rcvt ppem em t s storage cvt) refl s few
+values_short value.Ws scale t s storage cvt few =
+    short_of_two (λ s. values.values_accessed value.Ws scale t s storage cvt) refl (λ n. refl) s few
+values_short value.Rs scale t s storage cvt few =
+    short_of_one (λ s. values.values_accessed value.Rs scale t s storage cvt) refl s few
+values_short value.Wcvtp scale t s storage cvt few =
+    short_of_two (λ s. values.values_accessed value.Wcvtp scale t s storage cvt) refl (λ n. refl) s few
+values_short value.Wcvtf scale t s storage cvt few =
+    short_of_two (λ s. values.values_accessed value.Wcvtf scale t s storage cvt) refl (λ n. refl) s few
+values_short value.Rcvt scale t s storage cvt few =
+    short_of_one (λ s. values.values_accessed value.Rcvt scale t s storage cvt) refl s few
 
 pub vectors_short : VectorsAreShort
 vectors_short (op.Svtca a) s g few = absurd (omega arith)

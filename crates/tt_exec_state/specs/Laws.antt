@@ -1,6 +1,7 @@
 -- Laws of the instructions that set or read what a program works with, each said once (profile): what a tolerant machine
 -- does beside a strict one, and what few values come to.
 use Rattle.std.specs.Prelude.{◌≡◌, ℕ, ◌<◌, ◌≤◌, ℤ, List, length, Err}
+use Rattle.tt_core.specs.declared.scaling.Scale.{Scale}
 use Rattle.tt_core.specs.declared.fault.Why.TheVariants as why
 use Rattle.tt_state.specs.Loosening.{Loosens, IsTotal}
 use Rattle.tt_state.specs.declared.graphics_state.GraphicsState.{GraphicsState}
@@ -17,22 +18,22 @@ use Rattle.tt_exec_state.specs.declared.instruction.Vectors.{Vectors}
 
 -- a tolerant machine answers what a strict one does, or in the place of a refusal that tolerance lifts
 abbrev pub SettingIsLoosened : Type 0
-SettingIsLoosened = (o : Setting) (ppem em : ℕ) (s : List ℤ) (g : GraphicsState)
-    → Loosens (settings.state_set o ppem em tolerance.Strict s g) (settings.state_set o ppem em tolerance.Tolerant s g)
+SettingIsLoosened = (o : Setting) (ppem : ℕ) (scale : Scale) (s : List ℤ) (g : GraphicsState)
+    → Loosens (settings.state_set o ppem scale tolerance.Strict s g) (settings.state_set o ppem scale tolerance.Tolerant s g)
 
 abbrev pub ValuesAreLoosened : Type 0
-ValuesAreLoosened = (o : StoredValues) (ppem em : ℕ) (s storage cvt : List ℤ)
-    → Loosens (values.values_accessed o ppem em tolerance.Strict s storage cvt)
-    (values.values_accessed o ppem em tolerance.Tolerant s storage cvt)
+ValuesAreLoosened = (o : StoredValues) (scale : Scale) (s storage cvt : List ℤ)
+    → Loosens (values.values_accessed o scale tolerance.Strict s storage cvt)
+    (values.values_accessed o scale tolerance.Tolerant s storage cvt)
 
 -- where the values are there that an instruction takes, it is short of none, and what is not there is passed over
 abbrev pub SettingIsTotal : Type 0
-SettingIsTotal = (o : Setting) (ppem em : ℕ) (s : List ℤ) (g : GraphicsState) → settings.takes o ≤ length s
-    → IsTotal (settings.state_set o ppem em tolerance.Tolerant s g)
+SettingIsTotal = (o : Setting) (ppem : ℕ) (scale : Scale) (s : List ℤ) (g : GraphicsState) → settings.takes o ≤ length s
+    → IsTotal (settings.state_set o ppem scale tolerance.Tolerant s g)
 
 abbrev pub ValuesAreTotal : Type 0
-ValuesAreTotal = (o : StoredValues) (ppem em : ℕ) (s storage cvt : List ℤ) → values.takes o ≤ length s
-    → IsTotal (values.values_accessed o ppem em tolerance.Tolerant s storage cvt)
+ValuesAreTotal = (o : StoredValues) (scale : Scale) (s storage cvt : List ℤ) → values.takes o ≤ length s
+    → IsTotal (values.values_accessed o scale tolerance.Tolerant s storage cvt)
 
 abbrev pub VectorsAreTotal : Type 0
 VectorsAreTotal = (o : Vectors) (s : List ℤ) (g : GraphicsState) → vectors.takes o ≤ length s
@@ -44,12 +45,12 @@ QueriesAreTotal = (o : Query) (ppem : ℕ) (s : List ℤ) → queries.takes o �
 
 -- where fewer are there it is refused
 abbrev pub SettingIsShort : Type 0
-SettingIsShort = (o : Setting) (ppem em : ℕ) (t : Tolerance) (s : List ℤ) (g : GraphicsState)
-    → length s < settings.takes o → settings.state_set o ppem em t s g ≡ Err why.StackShort
+SettingIsShort = (o : Setting) (ppem : ℕ) (scale : Scale) (t : Tolerance) (s : List ℤ) (g : GraphicsState)
+    → length s < settings.takes o → settings.state_set o ppem scale t s g ≡ Err why.StackShort
 
 abbrev pub ValuesAreShort : Type 0
-ValuesAreShort = (o : StoredValues) (ppem em : ℕ) (t : Tolerance) (s storage cvt : List ℤ)
-    → length s < values.takes o → values.values_accessed o ppem em t s storage cvt ≡ Err why.StackShort
+ValuesAreShort = (o : StoredValues) (scale : Scale) (t : Tolerance) (s storage cvt : List ℤ)
+    → length s < values.takes o → values.values_accessed o scale t s storage cvt ≡ Err why.StackShort
 
 abbrev pub VectorsAreShort : Type 0
 VectorsAreShort = (o : Vectors) (s : List ℤ) (g : GraphicsState) → length s < vectors.takes o

@@ -1,6 +1,7 @@
 -- Apple TrueType Reference Manual, "Instruction set": managing the graphics state. The top of the stack stands first.
 use Rattle.std.specs.Prelude.{◌≡◌, ℕ, ℤ, pos, negsuc, int_lt, unsigned_abs, ◌==◌, nat_le, Bool, true, false, ◌&&◌, ◌||◌, not, if◌then◌else◌, List, [], ◌∷◌, Result, Ok, Err, refl}
 use Rattle.std.specs.Int.{int_rem_euclid}
+use Rattle.tt_core.specs.declared.scaling.Scale.{Scale}
 use Rattle.tt_core.specs.Outcomes.{◌>>=◌}
 use Rattle.tt_core.specs.declared.fault.Why.{Why}
 use Rattle.tt_core.specs.declared.fault.Why.TheVariants as why
@@ -77,9 +78,9 @@ abbrev pub sswci : List ℤ → GraphicsState → Set
 sswci (n ∷ s) g = Ok (s, record g { single_cut_in = n })
 sswci [] g = Err why.StackShort
 
-abbrev pub ssw : ℕ → ℕ → List ℤ → GraphicsState → Set
-ssw ppem em (n ∷ s) g = in_pixels ppem em n >>= λ w. Ok (s, record g { single_width = w })
-ssw ppem em [] g = Err why.StackShort
+abbrev pub ssw : Scale → List ℤ → GraphicsState → Set
+ssw scale (n ∷ s) g = in_pixels scale n >>= λ w. Ok (s, record g { single_width = w })
+ssw scale [] g = Err why.StackShort
 
 abbrev pub flip : Bool → GraphicsState → GraphicsState
 flip on g = record g { auto_flip = on }
@@ -124,28 +125,28 @@ abbrev pub ignored : List ℤ → Result (List ℤ) Why
 ignored (n ∷ s) = Ok s
 ignored [] = Err why.StackShort
 
-abbrev pub state_set : Setting → ℕ → ℕ → Tolerance → List ℤ → GraphicsState → Set
-state_set op.Srp0 ppem em t s g = srp0 s g
-state_set op.Srp1 ppem em t s g = srp1 s g
-state_set op.Srp2 ppem em t s g = srp2 s g
-state_set op.Szp0 ppem em t s g = szp0 t s g
-state_set op.Szp1 ppem em t s g = szp1 t s g
-state_set op.Szp2 ppem em t s g = szp2 t s g
-state_set op.Szps ppem em t s g = szps t s g
-state_set op.Sloop ppem em t s g = sloop s g
-state_set (op.RoundTo round) ppem em t s g = Ok (s, round_to round g)
-state_set op.Sround ppem em t s g = sround s g
-state_set op.S45round ppem em t s g = s45round s g
-state_set op.Smd ppem em t s g = smd s g
-state_set op.Scvtci ppem em t s g = scvtci s g
-state_set op.Sswci ppem em t s g = sswci s g
-state_set op.Ssw ppem em t s g = ssw ppem em s g
-state_set (op.Flip on) ppem em t s g = Ok (s, flip on g)
-state_set op.Sdb ppem em t s g = sdb s g
-state_set op.Sds ppem em t s g = sds s g
-state_set op.Scanctrl ppem em t s g = scanctrl ppem s g
-state_set op.Scantype ppem em t s g = scantype s g
-state_set op.Ignored ppem em t s g = ignored s >>= λ t. Ok (t, g)
+abbrev pub state_set : Setting → ℕ → Scale → Tolerance → List ℤ → GraphicsState → Set
+state_set op.Srp0 ppem scale t s g = srp0 s g
+state_set op.Srp1 ppem scale t s g = srp1 s g
+state_set op.Srp2 ppem scale t s g = srp2 s g
+state_set op.Szp0 ppem scale t s g = szp0 t s g
+state_set op.Szp1 ppem scale t s g = szp1 t s g
+state_set op.Szp2 ppem scale t s g = szp2 t s g
+state_set op.Szps ppem scale t s g = szps t s g
+state_set op.Sloop ppem scale t s g = sloop s g
+state_set (op.RoundTo round) ppem scale t s g = Ok (s, round_to round g)
+state_set op.Sround ppem scale t s g = sround s g
+state_set op.S45round ppem scale t s g = s45round s g
+state_set op.Smd ppem scale t s g = smd s g
+state_set op.Scvtci ppem scale t s g = scvtci s g
+state_set op.Sswci ppem scale t s g = sswci s g
+state_set op.Ssw ppem scale t s g = ssw scale s g
+state_set (op.Flip on) ppem scale t s g = Ok (s, flip on g)
+state_set op.Sdb ppem scale t s g = sdb s g
+state_set op.Sds ppem scale t s g = sds s g
+state_set op.Scanctrl ppem scale t s g = scanctrl ppem s g
+state_set op.Scantype ppem scale t s g = scantype s g
+state_set op.Ignored ppem scale t s g = ignored s >>= λ t. Ok (t, g)
 
 -- how many values an instruction takes
 abbrev pub takes : Setting → ℕ

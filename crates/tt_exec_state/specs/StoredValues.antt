@@ -1,6 +1,8 @@
 -- Apple TrueType Reference Manual, "Instruction set": managing the storage area and the control value table. The top of
 -- the stack stands first.
 use Rattle.std.specs.Prelude.{◌≡◌, ℕ, ℤ, pos, int_lt, unsigned_abs, ◌||◌, nat_le, if◌then◌else◌, List, [], ◌∷◌, length, get_or, slice_set, Result, Ok, Err, refl}
+use Rattle.tt_core.specs.Scales.{exact_scale}
+use Rattle.tt_core.specs.declared.scaling.Scale.{Scale}
 use Rattle.tt_core.specs.Outcomes.{◌>>=◌}
 use Rattle.tt_core.specs.declared.fault.Why.{Why}
 use Rattle.tt_core.specs.declared.fault.Why.TheVariants as why
@@ -39,24 +41,24 @@ wcvtp t (value ∷ n ∷ s) cvt = value_set t n value cvt why.CvtRange >>= λ va
 wcvtp t _ cvt = Err why.StackShort
 
 -- a tolerant machine passes a place over before it scales (profile)
-abbrev pub wcvtf : ℕ → ℕ → Tolerance → List ℤ → List ℤ → Result (List ℤ × List ℤ) Why
-wcvtf ppem em t (units ∷ n ∷ s) cvt =
-    unless_missing t (s, cvt) (place n (length cvt) why.CvtRange >>= λ i. in_pixels ppem em units >>= λ v.
+abbrev pub wcvtf : Scale → Tolerance → List ℤ → List ℤ → Result (List ℤ × List ℤ) Why
+wcvtf scale t (units ∷ n ∷ s) cvt =
+    unless_missing t (s, cvt) (place n (length cvt) why.CvtRange >>= λ i. in_pixels scale units >>= λ v.
     Ok (s, slice_set cvt i v))
-wcvtf ppem em t _ cvt = Err why.StackShort
+wcvtf scale t _ cvt = Err why.StackShort
 
 abbrev pub rcvt : Tolerance → List ℤ → List ℤ → Result (List ℤ) Why
 rcvt t (n ∷ s) cvt = value_at t n cvt why.CvtRange >>= λ v. pushed v s
 rcvt t [] cvt = Err why.StackShort
 
 -- the stack, the storage area and the control values
-abbrev pub values_accessed : StoredValues → ℕ → ℕ → Tolerance → List ℤ → List ℤ → List ℤ
+abbrev pub values_accessed : StoredValues → Scale → Tolerance → List ℤ → List ℤ → List ℤ
     → Result (List ℤ × List ℤ × List ℤ) Why
-values_accessed op.Ws ppem em t s storage cvt = ws t s storage >>= λ r. Ok (r.0, r.1, cvt)
-values_accessed op.Rs ppem em t s storage cvt = rs t s storage >>= λ r. Ok (r, storage, cvt)
-values_accessed op.Wcvtp ppem em t s storage cvt = wcvtp t s cvt >>= λ r. Ok (r.0, storage, r.1)
-values_accessed op.Wcvtf ppem em t s storage cvt = wcvtf ppem em t s cvt >>= λ r. Ok (r.0, storage, r.1)
-values_accessed op.Rcvt ppem em t s storage cvt = rcvt t s cvt >>= λ r. Ok (r, storage, cvt)
+values_accessed op.Ws scale t s storage cvt = ws t s storage >>= λ r. Ok (r.0, r.1, cvt)
+values_accessed op.Rs scale t s storage cvt = rs t s storage >>= λ r. Ok (r, storage, cvt)
+values_accessed op.Wcvtp scale t s storage cvt = wcvtp t s cvt >>= λ r. Ok (r.0, storage, r.1)
+values_accessed op.Wcvtf scale t s storage cvt = wcvtf scale t s cvt >>= λ r. Ok (r.0, storage, r.1)
+values_accessed op.Rcvt scale t s storage cvt = rcvt t s cvt >>= λ r. Ok (r, storage, cvt)
 
 -- how many values an instruction takes
 abbrev pub takes : StoredValues → ℕ
@@ -70,7 +72,7 @@ takes op.Rcvt = 1
 value_on_top : ws tolerance.Strict (pos 7 ∷ pos 1 ∷ []) (pos 0 ∷ pos 0 ∷ []) ≡ Ok ([], pos 0 ∷ pos 7 ∷ [])
 value_on_top = refl
 
-an_em_as_a_control_value : wcvtf 16 1024 tolerance.Strict (pos 1024 ∷ pos 0 ∷ []) (pos 5 ∷ []) ≡ Ok ([], pos 1024 ∷ [])
+an_em_as_a_control_value : wcvtf (exact_scale 16 1024) tolerance.Strict (pos 1024 ∷ pos 0 ∷ []) (pos 5 ∷ []) ≡ Ok ([], pos 1024 ∷ [])
 an_em_as_a_control_value = refl
 
 no_place_two : rs tolerance.Strict (pos 2 ∷ []) (pos 4 ∷ pos 4 ∷ []) ≡ Err why.StorageRange
@@ -100,6 +102,6 @@ the_control_values_left : wcvtp tolerance.Tolerant (pos 80 ∷ pos 3 ∷ []) (po
 the_control_values_left = refl
 
 -- too many units to scale, for a place that is not there
-passed_over_before_scaling : wcvtf 300 16 tolerance.Tolerant (pos 1789570 ∷ pos 3 ∷ []) (pos 10 ∷ [])
+passed_over_before_scaling : wcvtf (exact_scale 300 16) tolerance.Tolerant (pos 1789570 ∷ pos 3 ∷ []) (pos 10 ∷ [])
     ≡ Ok ([], pos 10 ∷ [])
 passed_over_before_scaling = refl

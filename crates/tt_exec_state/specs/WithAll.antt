@@ -1,6 +1,7 @@
 -- Laws of what sets the graphics state, each said once: what is given without the whole instruction set is given with it
 -- too, and without it vectors stay on the axes.
 use Rattle.std.specs.Prelude.{◌≡◌, ℕ, ℤ, false, List, IfOk}
+use Rattle.tt_core.specs.declared.scaling.Scale.{Scale}
 use Rattle.tt_state.specs.declared.graphics_state.GraphicsState.{GraphicsState}
 use Rattle.tt_state.specs.declared.tolerance.Tolerance.{Tolerance}
 use Rattle.tt_state.specs.declared.vector.Vector.{Vector}
@@ -20,8 +21,8 @@ VectorsStay = (o : Vectors) (s : List ℤ) (g : GraphicsState)
     → Stays beside (vectors_accessed o s g) (vectors_accessed o s (with_all g))
 
 abbrev pub SettingsStay : Type 0
-SettingsStay = (o : Setting) (ppem em : ℕ) (t : Tolerance) (s : List ℤ) (g : GraphicsState)
-    → Stays beside (state_set o ppem em t s g) (state_set o ppem em t s (with_all g))
+SettingsStay = (o : Setting) (ppem : ℕ) (scale : Scale) (t : Tolerance) (s : List ℤ) (g : GraphicsState)
+    → Stays beside (state_set o ppem scale t s g) (state_set o ppem scale t s (with_all g))
 
 abbrev pub IsAxis : Vector → Type 0
 IsAxis vector.X = Unit {0}

@@ -2,6 +2,7 @@
 //! tolerant machine does beside a strict one.
 
 ghost use Rattle.std.specs.Prelude.{◌≡◌, ℕ, ℤ, List, length, IfOk};
+ghost use Rattle.tt_core.specs.declared.scaling.Scale.{Scale};
 ghost use Rattle.tt_state.specs.declared.tolerance.Tolerance.{Tolerance};
 ghost use Rattle.tt_exec_state.specs.Laws.{SettingIsLoosened, ValuesAreLoosened, SettingIsTotal, ValuesAreTotal, VectorsAreTotal, QueriesAreTotal, SettingIsShort, ValuesAreShort, VectorsAreShort, QueriesAreShort};
 ghost use Rattle.tt_exec_state.specs.StoredValues.{values_accessed};
@@ -10,8 +11,8 @@ ghost use Rattle.tt_exec_state.specs.declared.instruction.StoredValues.{StoredVa
 
 /// Takes nothing and gives nothing: no instruction makes or drops a place of the storage area or a control value.
 pub fn sizes_are_kept()
-    ensures { (o : StoredValues) (ppem em : ℕ) (t : Tolerance) (s storage cvt : List ℤ)
-        → IfOk (values_accessed o ppem em t s storage cvt)
+    ensures { (o : StoredValues) (scale : Scale) (t : Tolerance) (s storage cvt : List ℤ)
+        → IfOk (values_accessed o scale t s storage cvt)
         (λ r. (length r.1 ≡ length storage) × (length r.2 ≡ length cvt)) }
 {}
 

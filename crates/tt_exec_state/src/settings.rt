@@ -151,7 +151,7 @@ fn sswci(stack: &mut Stack, graphics: &mut GraphicsState) -> Result<(), Why>
 
 /// SSW[], 0x1F: n -> the single-width value, n font units scaled. Error: ValueRange.
 fn ssw(size: Size, stack: &mut Stack, graphics: &mut GraphicsState) -> Result<(), Why>
-    ensures { Does (is.ssw size.ppem size.units_per_em stack.old graphics.old) (stack.new, graphics.new) result }
+    ensures { Does (is.ssw size.scale stack.old graphics.old) (stack.new, graphics.new) result }
 {
     let units = stack.pop()?;
     graphics.single_width = size.in_pixels(units)?;
@@ -249,7 +249,7 @@ pub fn set_state(
     stack: &mut Stack,
     graphics: &mut GraphicsState,
 ) -> Result<(), Why>
-    ensures { let given = is.state_set op size.ppem size.units_per_em tolerance stack.old graphics.old in
+    ensures { let given = is.state_set op size.ppem size.scale tolerance stack.old graphics.old in
         Does given (stack.new, graphics.new) result }
 {
     match op {

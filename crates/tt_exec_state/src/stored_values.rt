@@ -84,7 +84,7 @@ fn wcvtp(tolerance: Tolerance, stack: &mut Stack, cvt: &mut [i32]) -> Result<(),
 
 /// WCVTF[], 0x70: place, value -> the control value, font units scaled. Errors: CvtRange, ValueRange.
 fn wcvtf(size: Size, tolerance: Tolerance, stack: &mut Stack, cvt: &mut [i32]) -> Result<(), Why>
-    ensures { Does (is.wcvtf size.ppem size.units_per_em tolerance stack.old cvt.old) (stack.new, cvt.new) result }
+    ensures { Does (is.wcvtf size.scale tolerance stack.old cvt.old) (stack.new, cvt.new) result }
 {
     let units = stack.pop()?;
     let n = stack.pop()?;
@@ -115,7 +115,7 @@ pub fn access_values(
     storage: &mut [i32],
     cvt: &mut [i32],
 ) -> Result<(), Why>
-    ensures { let given = is.values_accessed op size.ppem size.units_per_em tolerance stack.old storage.old cvt.old in
+    ensures { let given = is.values_accessed op size.scale tolerance stack.old storage.old cvt.old in
         Does given (stack.new, storage.new, cvt.new) result }
 {
     match op {

@@ -18,7 +18,7 @@ use Rattle.tt_glyf.specs.Told.{told_size, records_in, components_of}
 use Rattle.tt_glyf.proofs.Headers.{sizes-told}
 use Rattle.tt_fit.specs.Component.{placed_point, shift_of}
 use Rattle.tt_fit.specs.Counting.{OutlinesAreCounted, outline_size, points_asked}
-use Rattle.tt_fit.specs.Fitting.{Fitter, size_of, start, glyph_program, joined, made, outline_by, added, glyph_fitter, fitted_outline}
+use Rattle.tt_fit.specs.Fitting.{Fitter, size_of, start, composite_program, simple_program, joined, made, outline_by, added, glyph_fitter, fitted_outline}
 use Rattle.tt_fit.specs.GlyphZone.{GlyphProgram, program_in_glyf, on_grid_at, left_outline}
 use Rattle.tt_fit.specs.Hinting.{Hinting, off, ready, is_run, run_of, by_program, hinted}
 use Rattle.tt_fit.specs.Joining.{placed, appended, ends_after, within_point_limit}
@@ -34,7 +34,8 @@ unfolding by_program
 run-size parts p o all false was = let same : o ≡ all = cc in rw (← same) (omega arith)
 run-size parts p o all true was =
     let by_grid = came-through (on_grid_at p.glyph_at o.phantom) _ all was in
-    let by_run = came-through (run_of (program_in_glyf p) (parts_with parts o by_grid.value)) _ all by_grid.rest in
+    let begun = parts_with parts p.units o by_grid.value in
+    let by_run = came-through (run_of (program_in_glyf p) begun) _ all by_grid.rest in
     let same : left_outline o by_run.value.zones.glyph by_run.value.state.scan ≡ all = cc by_run.rest in
     rw (← same) (simp (length-map, length-take) (omega arith))
 
@@ -107,14 +108,14 @@ made-size s add f adds g (simple d) o was =
     let scaled = came-through (scaled_outline (size_of s) (glyph_offset s.tables g) d.points d.ends begun.value) _ o
     begun.rest in
     let many = scaled-size (size_of s) (glyph_offset s.tables g) d.points d.ends begun.value scaled.value scaled.first in
-    let left = hinted-size s.hinting (glyph_program s g d.code d.code_at) scaled.value o scaled.rest in
+    let left = hinted-size s.hinting (simple_program s g d) scaled.value o scaled.rest in
     omega arith
 made-size s add f adds g (composite d) o was =
     let by_joined = came-through (start s d.x_min g >>= joined add d.records) _ o was in
     let begun = came-through (start s d.x_min g) _ by_joined.value by_joined.first in
     let none = begun-size s d.x_min g begun.value begun.first in
     let many = joined-size add f adds d.records begun.value by_joined.value begun.rest in
-    let left = hinted-size s.hinting (glyph_program s g d.code d.code_at) by_joined.value o by_joined.rest in
+    let left = hinted-size s.hinting (composite_program s g d) by_joined.value o by_joined.rest in
     omega arith
 
 own-told : (t : Glyf) (g : ℕ) (d : Raw) → glyph_data_of t g ≡ Ok d → own-size d ≤ told_size t g

@@ -16,7 +16,7 @@ use Rattle.tt_metrics.specs.Metrics.{Metrics}
 use Rattle.tt_fit.specs.declared.dropouts.DropoutsBy.{DropoutsBy}
 use Rattle.tt_fit.specs.declared.programs.Fit.TheVariants as fit
 use Rattle.tt_fit.specs.Fallback.{Fallback, never, where_refused, everywhere}
-use Rattle.tt_fit.specs.Fitting.{Fitter, with_hinting, size_of, start, glyph_program, joined, added, simple_work, composite_work, made_work, work_by, added_work, outline_work, glyph_work, left_after, after_glyph}
+use Rattle.tt_fit.specs.Fitting.{Fitter, with_hinting, size_of, start, composite_program, simple_program, joined, added, simple_work, composite_work, made_work, work_by, added_work, outline_work, glyph_work, left_after, after_glyph}
 use Rattle.tt_fit.specs.GlyphZone.{GlyphProgram, program_in_glyf, on_grid_at}
 use Rattle.tt_fit.specs.Hinting.{Hinting, off, ready, is_run, run_of}
 use Rattle.tt_fit.specs.Laws.{Fewer, WorkFalls, BestIsBounded}
@@ -50,8 +50,8 @@ of-code program parts left after e = falls (run_from program (fresh parts)) left
 of-program : (parts : Parts) (p : GlyphProgram) (o : Outline) → Falls (program_work parts p o)
 unfolding program_work
 of-program parts p o =
-    after-ok (on_grid_at p.glyph_at o.phantom) (λ grid. code_work (program_in_glyf p) (parts_with parts o grid))
-    (λ grid. of-code (program_in_glyf p) (parts_with parts o grid))
+    after-ok (on_grid_at p.glyph_at o.phantom) (λ grid. code_work (program_in_glyf p) (parts_with parts p.units o grid))
+    (λ grid. of-code (program_in_glyf p) (parts_with parts p.units o grid))
 
 where-run : (is : Bool) (worked : Option ℕ → Worked) → Falls worked
     → Falls (λ left. if is then worked left else enough left)
@@ -74,12 +74,12 @@ of-made : (s : Fitter) (add : Record → Outline → Result Outline Fault) (work
     → ((r : Record) → Falls (work r)) → (g : ℕ) (d : Raw) → Falls (made_work s add work g d)
 of-made s add work each g empty left after e = (left, cc, omega arith)
 of-made s add work each g (simple d) left after e =
-    let program = glyph_program s g d.code d.code_at in
+    let program = simple_program s g d in
     after-ok (start s d.x_min g) (simple_work s g d.points d.ends program)
     (λ o. after-ok (scaled_outline (size_of s) (glyph_offset s.tables g) d.points d.ends o)
     (hinted_work s.hinting program) (of-hinted s.hinting program)) left after e
 of-made s add work each g (composite d) left after e =
-    let program = glyph_program s g d.code d.code_at in
+    let program = composite_program s g d in
     after-ok (start s d.x_min g) (composite_work s add work d.records program)
     (λ o. after-both (joined_work add work d.records o) (if_ok (joined add d.records o) (hinted_work s.hinting program))
     (of-joined add work each d.records o)

@@ -50,14 +50,14 @@ grid-whole at p grid f was bad =
 
 -- a program that is run
 abbrev Refuses : Parts → GlyphProgram → Outline → Fault → Result PhantomPoints Fault → Type 0
-Refuses parts p o f x = IsOkAnd x (λ grid. run_of (program_in_glyf p) (parts_with parts o grid) ≡ Err f)
+Refuses parts p o f x = IsOkAnd x (λ grid. run_of (program_in_glyf p) (parts_with parts p.units o grid) ≡ Err f)
 
 program-broke : (parts : Parts) (p : GlyphProgram) (o : Outline) (f : Fault) → is_run parts p ≡ true
     → by_program parts p o ≡ Err f → IsProgramDefect parts p o f
 unfolding by_program
 program-broke parts p o f is was = elim (was-err (on_grid_at p.glyph_at o.phantom) _ f was) [
   | inl here ↦ (is, inl (grid-broke p.glyph_at o.phantom f here))
-  | inr grid ↦ elim (was-err (run_of (program_in_glyf p) (parts_with parts o grid.value)) _ f grid.rest) [
+  | inr grid ↦ elim (was-err (run_of (program_in_glyf p) (parts_with parts p.units o grid.value)) _ f grid.rest) [
     | inl here ↦ (is, inr (subst (Refuses parts p o f) (sym grid.first) here))
     | inr left ↦ let done = left.rest in absurd cc
   ]
@@ -68,7 +68,7 @@ program-whole : (parts : Parts) (p : GlyphProgram) (o made : Outline) (f : Fault
 unfolding by_program
 program-whole parts p o made f was bad =
     let grid = came-through (on_grid_at p.glyph_at o.phantom) _ made was in
-    let left = came-through (run_of (program_in_glyf p) (parts_with parts o grid.value)) _ made grid.rest in
+    let left = came-through (run_of (program_in_glyf p) (parts_with parts p.units o grid.value)) _ made grid.rest in
     elim (bad.1) [
       | inl phantom ↦ grid-whole p.glyph_at o.phantom grid.value f grid.first phantom
       | inr ran ↦ let first = left.first in let refused = subst (Refuses parts p o f) grid.first ran in cc

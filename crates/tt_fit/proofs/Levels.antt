@@ -9,7 +9,7 @@ use Rattle.tt_fit.specs.declared.unmade.Unmade.TheVariants as unmade
 use Rattle.tt_fit.specs.Joining.{placed}
 use Rattle.tt_glyf.specs.GlyphData.{glyph_data_of}
 use Rattle.tt_glyf.specs.Raw.{SimpleGlyph, simple}
-use Rattle.tt_fit.specs.Fitting.{Fitter, size_of, start, glyph_program, simple_outline, joined, added, outline_at, added_work, outline_work}
+use Rattle.tt_fit.specs.Fitting.{Fitter, size_of, start, simple_program, simple_outline, joined, added, outline_at, added_work, outline_work}
 use Rattle.tt_fit.specs.Outline.{Outline}
 use Rattle.tt_fit.specs.Work.{RefusalLeaves, joined_work, unmade_fault}
 
@@ -35,7 +35,7 @@ one_level_done s levels r o component some made = rw (one_level s levels r o som
 -- a simple glyph that was read, and begun without points
 pub simple_made : (s : Fitter) (levels g : ℕ) (d : SimpleGlyph) (o : Outline) → glyph_data_of s.tables g ≡ Ok (simple d)
     → start s d.x_min g ≡ Ok o
-    → outline_at s levels g ≡ simple_outline s g d.points d.ends (glyph_program s g d.code d.code_at) o
+    → outline_at s levels g ≡ simple_outline s g d.points d.ends (simple_program s g d) o
 simple_made s levels g d o read begun = rw (read, begun) refl
 
 -- the work of one record more

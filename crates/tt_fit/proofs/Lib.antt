@@ -1,5 +1,3 @@
-pub mod Best
-pub mod BestParts
 pub mod Contours
 pub mod Falling
 pub mod Fewer
@@ -9,6 +7,7 @@ pub mod Levels
 pub mod Lists
 pub mod Bounds
 pub mod Counts
+pub mod Originals
 pub mod Outlines
 pub mod Placing
 pub mod Standing

@@ -11,10 +11,11 @@ use Rattle.tt_glyf.specs.Loca.{glyph_offset}
 use Rattle.tt_glyf.specs.Raw.{Raw, empty, simple, composite}
 use Rattle.tt_glyf.proofs.Defects.{glyph-broke, glyph-whole}
 use Rattle.tt_fit.specs.Defects.{IsStartDefect, IsPlacingDefect, assembled_before, IsRecordsDefect, IsHintingDefect, IsMakingDefect, IsDefectBy, IsBadComponent, IsOutlineDefect}
-use Rattle.tt_fit.specs.Fitting.{Fitter, size_of, start, joined, glyph_program, made, outline_by, added, glyph_fitter, fitted_outline}
+use Rattle.tt_fit.specs.Fitting.{Fitter, size_of, start, joined, composite_program, simple_program, made, outline_by, added, glyph_fitter, fitted_outline}
+use Rattle.tt_fit.specs.GlyphZone.{GlyphProgram}
 use Rattle.tt_fit.specs.Laws.{OutlinesAreWhole, OutlineFaultsStand}
 use Rattle.tt_fit.specs.Outline.{Outline}
-use Rattle.tt_fit.specs.Hinting.{hinted}
+use Rattle.tt_fit.specs.Hinting.{Hinting, hinted}
 use Rattle.tt_fit.specs.Scaling.{phantom_points, scaled_outline}
 use Rattle.tt_fit.proofs.GlyphPrograms.{hinted-broke, hinted-whole}
 use Rattle.tt_fit.proofs.Placing.{blank-broke, blank-whole, scaled-broke, scaled-whole, placing-broke, placing-whole}
@@ -89,19 +90,16 @@ start-whole s x_min g o f was bad =
     blank-whole (glyph_offset s.tables g) (phantom_points (size_of s) s.metrics x_min g) o f was bad
 
 -- the program of a glyph, over the points that are made for it
-abbrev IsHintingOf : Fitter → ℕ → List ℕ → ℕ → Fault → Result Outline Fault → Type 0
-IsHintingOf s g code code_at f x = IsOkAnd x (λ o. IsHintingDefect s.hinting (glyph_program s g code code_at) o f)
+abbrev IsHintingOf : Hinting → GlyphProgram → Fault → Result Outline Fault → Type 0
+IsHintingOf h p f x = IsOkAnd x (λ o. IsHintingDefect h p o f)
 
-hinting-broke : (s : Fitter) (g : ℕ) (code : List ℕ) (code_at : ℕ) (x : Result Outline Fault) (o : Outline) (f : Fault)
-    → x ≡ Ok o → hinted s.hinting (glyph_program s g code code_at) o ≡ Err f → IsHintingOf s g code code_at f x
-hinting-broke s g code code_at x o f made was =
-    subst (IsHintingOf s g code code_at f) (sym made) (hinted-broke s.hinting (glyph_program s g code code_at) o f was)
+hinting-broke : (h : Hinting) (p : GlyphProgram) (x : Result Outline Fault) (o : Outline) (f : Fault) → x ≡ Ok o
+    → hinted h p o ≡ Err f → IsHintingOf h p f x
+hinting-broke h p x o f made was = subst (IsHintingOf h p f) (sym made) (hinted-broke h p o f was)
 
-hinting-whole : (s : Fitter) (g : ℕ) (code : List ℕ) (code_at : ℕ) (x : Result Outline Fault) (o all : Outline)
-    (f : Fault) → x ≡ Ok o → hinted s.hinting (glyph_program s g code code_at) o ≡ Ok all
-    → IsHintingOf s g code code_at f x → ⊥
-hinting-whole s g code code_at x o all f made was bad =
-    hinted-whole s.hinting (glyph_program s g code code_at) o all f was (subst (IsHintingOf s g code code_at f) made bad)
+hinting-whole : (h : Hinting) (p : GlyphProgram) (x : Result Outline Fault) (o all : Outline) (f : Fault) → x ≡ Ok o
+    → hinted h p o ≡ Ok all → IsHintingOf h p f x → ⊥
+hinting-whole h p x o all f made was bad = hinted-whole h p o all f was (subst (IsHintingOf h p f) made bad)
 
 making-broke : (s : Fitter) (add : Record → Outline → Result Outline Fault)
     (IsOne : Record → Result Outline Fault → Fault → Type 0) → Tells add IsOne → (g : ℕ) (d : Raw) (f : Fault)
@@ -116,7 +114,8 @@ making-broke s add IsOne tells g (simple d) f was = elim (was-err (start s d.x_m
             (inl (scaled-broke (size_of s) (glyph_offset s.tables g) d.points d.ends begun.value f here))
         | inr whole ↦
             let both = through (start s d.x_min g) scale begun.value whole.value begun.first whole.first in
-            inr (inr (hinting-broke s g d.code d.code_at (start s d.x_min g >>= scale) whole.value f both whole.rest))
+            let made = start s d.x_min g >>= scale in
+            inr (inr (hinting-broke s.hinting (simple_program s g d) made whole.value f both whole.rest))
       ]
 ]
 making-broke s add IsOne tells g (composite d) f was =
@@ -128,7 +127,7 @@ making-broke s add IsOne tells g (composite d) f was =
       ]
       | inr whole ↦
           let all = start s d.x_min g >>= joined add d.records in
-          inr (inr (hinting-broke s g d.code d.code_at all whole.value f whole.first whole.rest))
+          inr (inr (hinting-broke s.hinting (composite_program s g d) all whole.value f whole.first whole.rest))
     ]
 
 making-whole : (s : Fitter) (add : Record → Outline → Result Outline Fault)
@@ -146,7 +145,7 @@ making-whole s add IsOne spares g (simple d) o f was bad =
           by_points.first point
       | inr (inr program) ↦
           let both = through (start s d.x_min g) scale begun.value by_points.value begun.first by_points.first in
-          hinting-whole s g d.code d.code_at (start s d.x_min g >>= scale) by_points.value o f both
+          hinting-whole s.hinting (simple_program s g d) (start s d.x_min g >>= scale) by_points.value o f both
           by_points.rest program
     ]
 making-whole s add IsOne spares g (composite d) o f was bad =
@@ -159,7 +158,8 @@ making-whole s add IsOne spares g (composite d) o f was bad =
           begun.rest one
       | inr (inr program) ↦
           let all = start s d.x_min g >>= joined add d.records in
-          hinting-whole s g d.code d.code_at all by_records.value o f by_records.first by_records.rest program
+          hinting-whole s.hinting (composite_program s g d) all by_records.value o f by_records.first
+          by_records.rest program
     ]
 
 -- a glyph, by what its records add

@@ -15,7 +15,7 @@ use Rattle.tt_fit.specs.declared.programs.Fit.{Fit}
 use Rattle.tt_fit.specs.declared.programs.Fit.TheVariants as fit
 use Rattle.tt_fit.specs.declared.unmade.Unmade.{Unmade}
 use Rattle.tt_fit.specs.declared.unmade.Unmade.TheVariants as unmade
-use Rattle.tt_fit.specs.Fitting.{Fitter, size_of, start, glyph_program, joined, added, simple_work, composite_work, made_work, work_by, added_work, outline_work}
+use Rattle.tt_fit.specs.Fitting.{Fitter, size_of, start, composite_program, simple_program, joined, added, simple_work, composite_work, made_work, work_by, added_work, outline_work}
 use Rattle.tt_fit.specs.GlyphZone.{GlyphProgram, program_in_glyf, on_grid_at}
 use Rattle.tt_fit.specs.Hinting.{Hinting, off, ready, is_run, run_of}
 use Rattle.tt_fit.specs.Outline.{Outline}
@@ -40,8 +40,8 @@ of-code program parts = unbounded (run_from program (fresh parts))
 of-program : (parts : Parts) (p : GlyphProgram) (o : Outline) → program_work parts p o None ≡ enough None
 unfolding program_work
 of-program parts p o =
-    after-ok (on_grid_at p.glyph_at o.phantom) (λ grid. code_work (program_in_glyf p) (parts_with parts o grid))
-    (λ grid. of-code (program_in_glyf p) (parts_with parts o grid))
+    after-ok (on_grid_at p.glyph_at o.phantom) (λ grid. code_work (program_in_glyf p) (parts_with parts p.units o grid))
+    (λ grid. of-code (program_in_glyf p) (parts_with parts p.units o grid))
 
 where-run : (is : Bool) (worked : Worked) → worked ≡ enough None → (if is then worked else enough None) ≡ enough None
 where-run true worked free = free
@@ -63,12 +63,12 @@ of-made : (s : Fitter) (add : Record → Outline → Result Outline Fault) (work
     → ((r : Record) → work r None ≡ enough None) → (g : ℕ) (d : Raw) → made_work s add work g d None ≡ enough None
 of-made s add work free g empty = refl
 of-made s add work free g (simple d) =
-    let program = glyph_program s g d.code d.code_at in
+    let program = simple_program s g d in
     after-ok (start s d.x_min g) (simple_work s g d.points d.ends program)
     (λ o. after-ok (scaled_outline (size_of s) (glyph_offset s.tables g) d.points d.ends o)
     (hinted_work s.hinting program) (of-hinted s.hinting program))
 of-made s add work free g (composite d) =
-    let program = glyph_program s g d.code d.code_at in
+    let program = composite_program s g d in
     after-ok (start s d.x_min g) (composite_work s add work d.records program)
     (λ o. after-both (joined_work add work d.records o None) (if_ok (joined add d.records o) (hinted_work s.hinting program))
     (of-joined add work free d.records o)

@@ -9,7 +9,8 @@ use Rattle.tt_glyf.specs.Composite.{one}
 use Rattle.tt_glyf.specs.Format.{args_are_xy_values, round_xy_to_grid, has}
 use Rattle.tt_glyf.specs.declared.raw.Record.{Record}
 use Rattle.tt_fit.specs.Scaling.{to_grid, glyf_fault, settled}
-use Rattle.tt_fit.specs.Size.{FontSize, scale}
+use Rattle.tt_fit.specs.declared.rules.Scaling.TheVariants as scaling
+use Rattle.tt_fit.specs.Size.{FontSize, scale, size_by}
 
 -- a point's position under a component's transform, whose numbers are 2.14
 abbrev pub transformed : Record → ℤ × ℤ × Bool → ℤ × ℤ
@@ -52,7 +53,7 @@ placed_point r by p = settled r.at (landed r by p)
 
 -- worked values: 256 units in an em, at 16 pixels
 its_size : FontSize
-its_size = record { ppem = 16; units_per_em = 256 }
+its_size = size_by scaling.Exact 16 256
 
 -- moved by 10 and -10 units without a transform
 moved : ℕ → Record

@@ -15,7 +15,7 @@ use Rattle.tt_glyf.specs.Loca.{glyph_offset}
 use Rattle.tt_glyf.specs.Raw.{Raw, empty, simple, composite}
 use Rattle.tt_exec.specs.Parts.{Parts}
 use Rattle.tt_fit.specs.Component.{shift_of, landed}
-use Rattle.tt_fit.specs.Fitting.{Fitter, size_of, start, glyph_program, joined, added, outline_at, glyph_fitter}
+use Rattle.tt_fit.specs.Fitting.{Fitter, size_of, start, composite_program, simple_program, joined, added, outline_at, glyph_fitter}
 use Rattle.tt_fit.specs.GlyphZone.{GlyphProgram, program_in_glyf, on_grid, on_grid_at}
 use Rattle.tt_fit.specs.Parts.{parts_with}
 use Rattle.tt_fit.specs.Outline.{PhantomPoints, Outline}
@@ -98,7 +98,7 @@ IsGridDefect at p fault =
 abbrev pub IsProgramDefect : Parts → GlyphProgram → Outline → Fault → Type 0
 IsProgramDefect parts p o fault = (is_run parts p ≡ true) × (IsGridDefect p.glyph_at (on_grid o.phantom) fault
     ⊎ IsOkAnd (on_grid_at p.glyph_at o.phantom) (λ grid.
-    run_of (program_in_glyf p) (parts_with parts o grid) ≡ Err fault))
+    run_of (program_in_glyf p) (parts_with parts p.units o grid) ≡ Err fault))
 
 abbrev pub IsHintingDefect : Hinting → GlyphProgram → Outline → Fault → Type 0
 IsHintingDefect off p o fault = ⊥
@@ -111,11 +111,11 @@ IsMakingDefect s add IsOne g empty fault = IsStartDefect s (pos 0) g fault
 IsMakingDefect s add IsOne g (simple d) fault =
     IsStartDefect s d.x_min g fault ⊎ IsScaledDefect (size_of s) (glyph_offset s.tables g) d.points fault
     ⊎ IsOkAnd (start s d.x_min g >>= scaled_outline (size_of s) (glyph_offset s.tables g) d.points d.ends) (λ o.
-    IsHintingDefect s.hinting (glyph_program s g d.code d.code_at) o fault)
+    IsHintingDefect s.hinting (simple_program s g d) o fault)
 IsMakingDefect s add IsOne g (composite d) fault =
     IsStartDefect s d.x_min g fault ⊎ IsRecordsDefect add IsOne (start s d.x_min g) d.records fault
     ⊎ IsOkAnd (start s d.x_min g >>= joined add d.records) (λ o.
-    IsHintingDefect s.hinting (glyph_program s g d.code d.code_at) o fault)
+    IsHintingDefect s.hinting (composite_program s g d) o fault)
 
 -- a glyph cannot be read, or has no outline
 abbrev pub IsDefectBy : Fitter → (Record → Outline → Result Outline Fault)

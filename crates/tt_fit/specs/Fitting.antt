@@ -17,7 +17,7 @@ use Rattle.tt_glyf.specs.GlyphData.{glyph_data_of, header_of, described}
 use Rattle.tt_glyf.specs.Loca.{Glyf, glyph_offset, glyph_bytes_of}
 use Rattle.tt_glyf.specs.Simple.{end_at, ends_from, points_within, points_of, simple_of}
 use Rattle.tt_metrics.specs.declared.head.LocaFormat.TheVariants.{Short}
-use Rattle.tt_glyf.specs.Raw.{Raw, empty, simple, composite}
+use Rattle.tt_glyf.specs.Raw.{Raw, SimpleGlyph, CompositeGlyph, empty, simple, composite}
 use Rattle.tt_metrics.specs.Metrics.{Metrics, units_per_em_of, loca_format_of, glyphs_of}
 use Rattle.tt_fit.specs.declared.dropouts.DropoutsBy.{DropoutsBy}
 use Rattle.tt_fit.specs.declared.dropouts.DropoutsBy.TheVariants as by
@@ -27,17 +27,22 @@ use Rattle.tt_fit.specs.Fallback.{Fallback, never, where_refused, everywhere, un
 use Rattle.tt_fit.specs.Outline.{PhantomPoints, Outline}
 use Rattle.tt_fit.specs.GlyphZone.{GlyphProgram}
 use Rattle.tt_fit.specs.Hinting.{Hinting, off, IsHinting, hinted}
-use Rattle.tt_fit.specs.Scaling.{glyf_fault, phantom_points, blank, scaled_outline, settled}
-use Rattle.tt_fit.specs.Size.{FontSize}
+use Rattle.tt_fit.specs.Scaling.{glyf_fault, phantom_points, phantom_units, blank, scaled_outline, settled}
+use Rattle.tt_fit.specs.Size.{FontSize, size_by}
+use Rattle.tt_fit.specs.Units.{Units, units_by}
+use Rattle.tt_fit.specs.declared.rules.Scaling.{Scaling}
+use Rattle.tt_fit.specs.declared.rules.Scaling.TheVariants as scaling
 use Rattle.tt_fit.specs.Work.{if_ok, hinted_work, joined_work, left_in}
 
--- what outlines are made from: the glyph data and the metrics of a font, the pixels per em, what its programs leave,
+-- what outlines are made from: the glyph data and the metrics of a font, the pixels per em, how distances are
+-- scaled, what its programs leave,
 -- which glyphs are unfitted, how deep components may be nested, and what is left of the job's work, None where it is not
 -- bounded, and who says which dropouts are filled
 pub record Fitter : Type 0 where
   pub tables : Glyf
   pub metrics : Metrics
   pub ppem : ℕ
+  pub scaling : Scaling
   pub hinting : Hinting
   pub fallback : Fallback
   pub levels : ℕ
@@ -59,7 +64,7 @@ abbrev pub with_hinting : Fitter → Hinting → Fitter
 with_hinting s hinting = record s { hinting = hinting; fallback = never; work = None; dropouts = by.Nobody }
 
 abbrev pub size_of : Fitter → FontSize
-size_of s = record { ppem = s.ppem; units_per_em = units_per_em_of s.metrics }
+size_of s = size_by s.scaling s.ppem (units_per_em_of s.metrics)
 
 -- a glyph without points, whose outline in font units begins at this x
 abbrev pub start : Fitter → ℤ → ℕ → Result Outline Fault
@@ -70,8 +75,17 @@ abbrev pub joined : (Record → Outline → Result Outline Fault) → List Recor
 joined add [] o = Ok o
 joined add (r ∷ rs) o = add r o >>= joined add rs
 
-abbrev pub glyph_program : Fitter → ℕ → List ℕ → ℕ → GlyphProgram
-glyph_program s g code code_at = record { code = code; code_at = code_at; glyph_at = glyph_offset s.tables g }
+abbrev pub glyph_program : Fitter → ℕ → List ℕ → ℕ → Option Units → GlyphProgram
+glyph_program s g code code_at units =
+    record { code = code; code_at = code_at; glyph_at = glyph_offset s.tables g; units = units }
+
+-- that of a simple glyph, whose originals may be measured in font units, and that of a composite one
+abbrev pub simple_program : Fitter → ℕ → SimpleGlyph → GlyphProgram
+simple_program s g d =
+    glyph_program s g d.code d.code_at (units_by s.scaling d.points (phantom_units s.metrics d.x_min g))
+
+abbrev pub composite_program : Fitter → ℕ → CompositeGlyph → GlyphProgram
+composite_program s g d = glyph_program s g d.code d.code_at None
 
 -- the outline of a simple glyph, begun without points: its points scaled, and its program over them
 abbrev pub simple_outline : Fitter → ℕ → List RawPoint → List ℕ → GlyphProgram → Outline → Result Outline Fault
@@ -81,9 +95,9 @@ simple_outline s g points ends program o = scaled_outline (size_of s) (glyph_off
 -- the outline of a glyph, by what a record adds to the outline so far
 abbrev pub made : Fitter → (Record → Outline → Result Outline Fault) → ℕ → Raw → Result Outline Fault
 made s add g empty = start s (pos 0) g
-made s add g (simple d) = start s d.x_min g >>= simple_outline s g d.points d.ends (glyph_program s g d.code d.code_at)
+made s add g (simple d) = start s d.x_min g >>= simple_outline s g d.points d.ends (simple_program s g d)
 made s add g (composite d) = start s d.x_min g >>= joined add d.records >>= hinted s.hinting
-    (glyph_program s g d.code d.code_at)
+    (composite_program s g d)
 
 abbrev pub outline_by : Fitter → (Record → Outline → Result Outline Fault) → ℕ → Result Outline Fault
 outline_by s add g = glyph_data_of s.tables g >>= made s add g
@@ -112,9 +126,9 @@ abbrev pub made_work : Fitter → (Record → Outline → Result Outline Fault) 
     → Option ℕ → Worked
 made_work s add work g empty = enough
 made_work s add work g (simple d) = if_ok (start s d.x_min g)
-    (simple_work s g d.points d.ends (glyph_program s g d.code d.code_at))
+    (simple_work s g d.points d.ends (simple_program s g d))
 made_work s add work g (composite d) = if_ok (start s d.x_min g)
-    (composite_work s add work d.records (glyph_program s g d.code d.code_at))
+    (composite_work s add work d.records (composite_program s g d))
 
 abbrev pub work_by : Fitter → (Record → Outline → Result Outline Fault) → (Record → Option ℕ → Worked) → ℕ → Option ℕ
     → Worked
@@ -177,6 +191,7 @@ its_setting third = record {
   };
   metrics = its_metrics;
   ppem = 16;
+  scaling = scaling.Exact;
   hinting = off;
   fallback = never;
   levels = level_limit;

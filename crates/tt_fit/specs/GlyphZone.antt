@@ -1,6 +1,6 @@
 -- Apple TrueType Reference Manual, "Instructing TrueType Glyphs" (zones, phantom points): the points that a glyph's
 -- program works on, and the outline that they make.
-use Rattle.std.specs.Prelude.{◌≡◌, ℕ, Bool, ◌&&◌, true, false, if◌then◌else◌, ℤ, pos, negsuc, List, [], ◌∷◌, ◌++◌, length, map, take, drop, Some, None, Result, Ok, Err, refl}
+use Rattle.std.specs.Prelude.{◌≡◌, ℕ, Bool, ◌&&◌, true, false, if◌then◌else◌, ℤ, pos, negsuc, List, [], ◌∷◌, ◌++◌, length, map, take, drop, Option, Some, None, Result, Ok, Err, refl}
 use Rattle.tt_core.specs.Faults.{Fault}
 use Rattle.tt_exec.specs.MachineState.{Code}
 use Rattle.tt_glyf.specs.Bytes.{glyf_tag}
@@ -9,12 +9,14 @@ use Rattle.tt_state.specs.declared.graphics_state.ScanControl.{ScanControl}
 use Rattle.tt_state.specs.declared.point.Point.{Point}
 use Rattle.tt_fit.specs.Outline.{PhantomPoints, phantom_of, Outline}
 use Rattle.tt_fit.specs.Scaling.{to_grid, is_coordinate, coordinate_fault}
+use Rattle.tt_fit.specs.Units.{Units, in_units, phantom_places, places_of, with_units}
 
--- a glyph's program, its offset in glyf, and the glyph's first byte there
+-- a glyph's program, its offset in glyf, and the glyph's first byte there; in what its originals are measured
 pub record GlyphProgram : Type 0 where
   pub code : List ℕ
   pub code_at : ℕ
   pub glyph_at : ℕ
+  pub units : Option Units
 
 abbrev pub program_in_glyf : GlyphProgram → Code
 program_in_glyf p = record { table = glyf_tag; base = p.code_at; bytes = p.code }
@@ -39,21 +41,33 @@ on_grid_at at p = if are_on_grid (on_grid p) then Ok (on_grid p) else Err (coord
 
 -- a point that nothing has touched: where it was, and where it is
 abbrev pub untouched : ℤ × ℤ → ℤ × ℤ → Bool → Point
-untouched org now on =
-    record { org_x = org.0; org_y = org.1; x = now.0; y = now.1; touched_x = false; touched_y = false; on = on }
+untouched org now on = record {
+  units_x = pos 0;
+  units_y = pos 0;
+  org_x = org.0;
+  org_y = org.1;
+  x = now.0;
+  y = now.1;
+  touched_x = false;
+  touched_y = false;
+  on = on;
+}
 
 abbrev pub outline_point : ℤ × ℤ × Bool → Point
 outline_point p = untouched (p.0, p.1) (p.0, p.1) p.2
 
--- the phantom points as they were, and as they are
-abbrev pub phantom_zone : PhantomPoints → PhantomPoints → List Point
-phantom_zone was now =
-    untouched was.left now.left true ∷ untouched was.right now.right true ∷ untouched was.ascent now.ascent true
-    ∷ untouched was.descent now.descent true ∷ []
+-- the phantom points in font units, as they were, and as they are
+abbrev pub phantom_zone : PhantomPoints → PhantomPoints → PhantomPoints → List Point
+phantom_zone units was now =
+    with_units units.left (untouched was.left now.left true)
+    ∷ with_units units.right (untouched was.right now.right true)
+    ∷ with_units units.ascent (untouched was.ascent now.ascent true)
+    ∷ with_units units.descent (untouched was.descent now.descent true) ∷ []
 
 -- the points of the outline, and the phantom points after them
-abbrev pub glyph_zone : Outline → PhantomPoints → List Point
-glyph_zone o grid = map outline_point o.points ++ phantom_zone o.phantom grid
+abbrev pub glyph_zone : Option Units → Outline → PhantomPoints → List Point
+glyph_zone units o grid = in_units (places_of units) (map outline_point o.points)
+    ++ phantom_zone (phantom_places units) o.phantom grid
 
 -- each contour from the end of the one before it, the first from this number
 abbrev pub contours_from : ℕ → List ℕ → List (ℕ × ℕ)
@@ -90,7 +104,7 @@ the_advance_is_whole : on_grid_at 0 its_phantom ≡ Ok
 unfolding on_grid_at
 the_advance_is_whole = refl
 
-untouched_points_stay : left_outline its_shape (glyph_zone its_shape its_phantom) default_scan
+untouched_points_stay : left_outline its_shape (glyph_zone None its_shape its_phantom) default_scan
     ≡ record its_shape { scan = Some default_scan }
 untouched_points_stay = refl
 

@@ -34,7 +34,8 @@ is_run parts p = not (parts.skip_glyphs) && not (length p.code == 0)
 -- the phantom points go to the grid, and the program runs; what it leaves of the points is the outline
 unfoldable pub by_program : Parts → GlyphProgram → Outline → Result Outline Fault
 by_program parts p o = on_grid_at p.glyph_at o.phantom >>= λ grid.
-    run_of (program_in_glyf p) (parts_with parts o grid) >>= λ left. Ok (left_outline o left.zones.glyph left.state.scan)
+    run_of (program_in_glyf p) (parts_with parts p.units o grid) >>= λ left.
+    Ok (left_outline o left.zones.glyph left.state.scan)
 
 -- the outline that a glyph's program leaves: of scaled points, or of the joined components
 abbrev pub hinted : Hinting → GlyphProgram → Outline → Result Outline Fault

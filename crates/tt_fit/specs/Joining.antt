@@ -12,7 +12,8 @@ use Rattle.tt_glyf.specs.declared.raw.Record.{Record}
 use Rattle.tt_fit.specs.Component.{placed_point, shift_of}
 use Rattle.tt_fit.specs.Outline.{PhantomPoints, Outline}
 use Rattle.tt_fit.specs.Scaling.{glyf_fault, settled}
-use Rattle.tt_fit.specs.Size.{FontSize}
+use Rattle.tt_fit.specs.Size.{FontSize, size_by}
+use Rattle.tt_fit.specs.declared.rules.Scaling.TheVariants as scaling
 
 -- no more points than a glyph may have
 unfoldable pub within_point_limit : ℕ → List (ℤ × ℤ × Bool) → Result (List (ℤ × ℤ × Bool)) Fault
@@ -45,7 +46,7 @@ placed z r component o = shift_of z r component.points o.points >>= λ by. appen
 
 -- worked values: 256 units in an em, at 16 pixels
 its_size : FontSize
-its_size = record { ppem = 16; units_per_em = 256 }
+its_size = size_by scaling.Exact 16 256
 
 -- turned by a quarter: x' = -y and y' = x; its point 1 onto point 0
 turned : ℕ → Record

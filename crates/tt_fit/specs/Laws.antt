@@ -1,26 +1,34 @@
 -- Laws of the definitions: an outline that is given has no defect, and a fault is one; with a way of fitting that falls
 -- back what is made is what its programs make by themselves, or what is made without programs; by which rules dropouts
 -- are filled.
-use Rattle.std.specs.Prelude.{◌≡◌, ◌≢◌, ℕ, ◌≤◌, true, false, List, [], Option, Some, None, Result, Ok, Err, refl}
+use Rattle.std.specs.Prelude.{◌≡◌, ◌≢◌, ℕ, ◌≤◌, true, false, List, [], All, Option, Some, None, Result, Ok, Err, refl}
 use Rattle.tt_core.specs.Directory.{HasNo}
 use Rattle.tt_core.specs.Faults.{Fault}
 use Rattle.tt_core.specs.Limits.{work_limit}
 use Rattle.tt_core.specs.Outcomes.{◌>>=◌}
+use Rattle.tt_core.specs.Scales.{scaled_by}
+use Rattle.tt_core.specs.declared.halves.Halves.TheVariants as halves
+use Rattle.tt_core.specs.declared.scaling.Scale.{Scale}
 use Rattle.tt_exec.specs.Parts.{Parts}
 use Rattle.tt_exec.specs.Work.{enough, spent}
-use Rattle.tt_glyf.specs.Loca.{Glyf}
+use Rattle.tt_glyf.specs.Loca.{Glyf, glyph_offset}
+use Rattle.tt_glyf.specs.Raw.{SimpleGlyph}
 use Rattle.tt_metrics.specs.Metrics.{Metrics}
 use Rattle.tt_state.specs.declared.graphics_state.ScanControl.{ScanControl}
+use Rattle.tt_state.specs.declared.point.Point.{Point}
 use Rattle.tt_fit.specs.declared.programs.Fit.{Fit}
 use Rattle.tt_fit.specs.declared.programs.Fit.TheVariants as fit
 use Rattle.tt_fit.specs.Defects.{IsOutlineDefect}
 use Rattle.tt_fit.specs.Dropouts.{default_rules, scan_rules, scan_left, dropouts_of}
 use Rattle.tt_fit.specs.Fallback.{never, where_refused, is_program_fault}
-use Rattle.tt_fit.specs.Fitting.{Fitter, with_hinting, outline_at, glyph_work, unfitted_fault, fitted_outline, after_glyph}
+use Rattle.tt_fit.specs.Fitting.{Fitter, with_hinting, size_of, start, simple_program, outline_at, glyph_work, unfitted_fault, fitted_outline, after_glyph}
 use Rattle.tt_fit.specs.Hinting.{off, ready}
-use Rattle.tt_fit.specs.Outline.{Outline}
+use Rattle.tt_fit.specs.GlyphZone.{glyph_zone}
+use Rattle.tt_fit.specs.Outline.{Outline, PhantomPoints}
 use Rattle.tt_fit.specs.Preparation.{ProgramTables, left_at, work_at, fitter_with, fitter_of}
 use Rattle.tt_fit.specs.Rules.{falls_back}
+use Rattle.tt_fit.specs.Scaling.{scaled_outline}
+use Rattle.tt_fit.specs.declared.rules.Scaling.TheVariants as scaling
 use Rattle.tt_fit.specs.Work.{IsEnough}
 
 -- where a glyph's outline is given, no defect stands in the glyph or in a component of it
@@ -143,6 +151,22 @@ BestIsBounded = (m : Metrics) (tables : Glyf) (programs : ProgramTables) (ppem :
 
 abbrev pub WorkFalls : Type 0
 WorkFalls = (s : Fitter) (g left : ℕ) → s.work ≡ Some left → Fewer left (after_glyph s g).work
+
+-- Originals. Where a simple glyph's program measures them in font units, they are the places there, scaled
+abbrev pub IsScaledBy : Scale → Point → Type 0
+IsScaledBy scale p = (p.org_x ≡ scaled_by scale p.units_x) × (p.org_y ≡ scaled_by scale p.units_y)
+
+abbrev pub OriginalsAreScaled : Type 0
+OriginalsAreScaled = (s : Fitter) (g : ℕ) (d : SimpleGlyph) (o : Outline) (grid : PhantomPoints)
+    → s.scaling ≡ scaling.Rounded
+    → (start s d.x_min g >>= scaled_outline (size_of s) (glyph_offset s.tables g) d.points d.ends) ≡ Ok o
+    → All (IsScaledBy (size_of s).scale) (glyph_zone (simple_program s g d).units o grid)
+
+-- With every way but Best no program measures in font units, and halves go upwards
+abbrev pub OthersMeasureInPixels : Type 0
+OthersMeasureInPixels = (m : Metrics) (tables : Glyf) (programs : ProgramTables) (ppem : ℕ) (how : Fit) (s : Fitter)
+    (g : ℕ) (d : SimpleGlyph) → how ≢ fit.Best → fitter_of m tables programs ppem how ≡ Ok s
+    → ((simple_program s g d).units ≡ None) × ((size_of s).scale.halves ≡ halves.Up)
 
 -- Dropouts. With every way but Best none are filled
 abbrev pub OthersFillNone : Type 0

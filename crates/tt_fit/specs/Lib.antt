@@ -1,4 +1,3 @@
-pub mod Best
 pub mod Component
 pub mod Counting
 pub mod Defects
@@ -16,5 +15,6 @@ pub mod Refusals
 pub mod Rules
 pub mod Scaling
 pub mod Size
+pub mod Units
 pub mod Views
 pub mod Work

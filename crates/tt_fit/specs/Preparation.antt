@@ -93,6 +93,7 @@ fitter_with m tables ppem fit hinting fallback work = record {
   tables = tables;
   metrics = m;
   ppem = ppem;
+  scaling = (rules_of fit).scaling;
   hinting = hinting;
   fallback = fallback;
   levels = levels_of fit;

@@ -29,6 +29,7 @@ use Rattle.tt_fit.specs.Rules.{of_profile}
 use Rattle.tt_fit.specs.Hinting.{off, ready, run_of, by_program}
 use Rattle.tt_fit.specs.Scaling.{blank, scaled_outline, settled}
 use Rattle.tt_fit.specs.Work.{program_work}
+use Rattle.tt_fit.specs.declared.rules.Scaling.TheVariants as scaling
 
 abbrev its_metrics : Metrics
 its_metrics = record {
@@ -49,6 +50,7 @@ its_setting fallback = record {
   };
   metrics = its_metrics;
   ppem = 16;
+  scaling = scaling.Exact;
   hinting = ready (begun_parts its_metrics [] 16 of_profile);
   fallback = fallback;
   levels = level_limit;

@@ -7,6 +7,7 @@ use Rattle.tt_fit.specs.declared.dropouts.DropoutsBy.TheVariants as by
 use Rattle.tt_fit.specs.declared.programs.Fit.{Fit}
 use Rattle.tt_fit.specs.declared.programs.Fit.TheVariants as fit
 use Rattle.tt_fit.specs.declared.rules.Rules.{Rules}
+use Rattle.tt_fit.specs.declared.rules.Scaling.TheVariants as scaling
 
 -- the ways in which a glyph is unfitted where a program is refused
 abbrev pub falls_back : Fit → Bool
@@ -15,15 +16,16 @@ falls_back fit.None = false
 falls_back fit.Fallback = true
 falls_back fit.Best = true
 
--- by which rules programs are run: those of the profile, or the whole instruction set and tolerance
+-- by which rules programs are run and distances scaled: those of the profile; or by the whole instruction set, with
+-- tolerance, and by a factor that is rounded first
 abbrev pub of_profile : Rules
-of_profile = record { whole = false; tolerance = tolerance.Strict }
+of_profile = record { whole = false; tolerance = tolerance.Strict; scaling = scaling.Exact }
 
 abbrev pub rules_of : Fit → Rules
 rules_of fit.Full = of_profile
 rules_of fit.None = of_profile
 rules_of fit.Fallback = of_profile
-rules_of fit.Best = record { whole = true; tolerance = tolerance.Tolerant }
+rules_of fit.Best = record { whole = true; tolerance = tolerance.Tolerant; scaling = scaling.Rounded }
 
 -- how deep components may be nested
 abbrev pub levels_of : Fit → ℕ

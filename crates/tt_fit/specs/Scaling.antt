@@ -13,7 +13,8 @@ use Rattle.tt_metrics.specs.Metrics.{Metrics, ascent_of, descent_of, advance_of,
 use Rattle.tt_state.specs.declared.rounding.Round.TheVariants as round
 use Rattle.tt_state.specs.Rounding.{rounded}
 use Rattle.tt_fit.specs.Outline.{PhantomPoints, Outline}
-use Rattle.tt_fit.specs.Size.{FontSize, scale}
+use Rattle.tt_fit.specs.declared.rules.Scaling.TheVariants as scaling
+use Rattle.tt_fit.specs.Size.{FontSize, scale, size_by}
 
 -- a distance to whole pixels
 abbrev pub to_grid : ℤ → ℤ
@@ -42,15 +43,26 @@ scaled_position z p = (scale z p.x, scale z p.y, p.on)
 abbrev pub scaled_point : FontSize → ℕ → RawPoint → Result (ℤ × ℤ × Bool) Fault
 scaled_point z at p = settled at (scaled_position z p)
 
--- the left and right ends of the advance, the ascent and the descent; each number is scaled as one (profile for the
--- last two)
-abbrev pub phantom_points : FontSize → Metrics → ℤ → ℕ → PhantomPoints
-phantom_points z m x_min g = record {
-  left = (scale z (x_min -ℤ left_side_bearing_of m g), pos 0);
-  right = (scale z (x_min -ℤ left_side_bearing_of m g +ℤ pos (advance_of m g)), pos 0);
-  ascent = (pos 0, scale z (ascent_of m));
-  descent = (pos 0, scale z (descent_of m));
+-- the left and right ends of the advance, the ascent and the descent in font units (profile for the last two)
+abbrev pub phantom_units : Metrics → ℤ → ℕ → PhantomPoints
+phantom_units m x_min g = record {
+  left = (x_min -ℤ left_side_bearing_of m g, pos 0);
+  right = (x_min -ℤ left_side_bearing_of m g +ℤ pos (advance_of m g), pos 0);
+  ascent = (pos 0, ascent_of m);
+  descent = (pos 0, descent_of m);
 }
+
+-- each number is scaled as one
+abbrev pub scaled_phantom : FontSize → PhantomPoints → PhantomPoints
+scaled_phantom z p = record {
+  left = (scale z p.left.0, pos 0);
+  right = (scale z p.right.0, pos 0);
+  ascent = (pos 0, scale z p.ascent.1);
+  descent = (pos 0, scale z p.descent.1);
+}
+
+abbrev pub phantom_points : FontSize → Metrics → ℤ → ℕ → PhantomPoints
+phantom_points z m x_min g = scaled_phantom z (phantom_units m x_min g)
 
 abbrev pub is_position : ℤ × ℤ → Bool
 is_position p = is_coordinate p.0 && is_coordinate p.1
@@ -70,7 +82,7 @@ scaled_outline z at points ends o = each (scaled_point z at) points >>= λ ps. O
 
 -- worked values: 256 units in an em, at 16 pixels
 its_size : FontSize
-its_size = record { ppem = 16; units_per_em = 256 }
+its_size = size_by scaling.Exact 16 256
 
 a_scaled_point : scaled_point its_size 0 (record { x = pos 64; y = neg_ℤ (pos 128); on = true })
     ≡ Ok (pos 256, neg_ℤ (pos 512), true)
@@ -78,12 +90,12 @@ unfolding its_size settled
 a_scaled_point = refl
 
 -- 16 units in an em, at 300 pixels: one em is 19200
-a_scaled_point_at_the_limit : scaled_point (record { ppem = 300; units_per_em = 16 }) 22
+a_scaled_point_at_the_limit : scaled_point (size_by scaling.Exact 300 16) 22
     (record { x = pos 1747; y = pos 0; on = true }) ≡ Ok (pos 2096400, pos 0, true)
 unfolding settled
 a_scaled_point_at_the_limit = refl
 
-a_scaled_point_past_the_limit : scaled_point (record { ppem = 300; units_per_em = 16 }) 22
+a_scaled_point_past_the_limit : scaled_point (size_by scaling.Exact 300 16) 22
     (record { x = pos 0; y = pos 1748; on = true }) ≡ Err (fault_at (codes "glyf") 22 why.CoordRange)
 unfolding settled
 a_scaled_point_past_the_limit = refl

@@ -1,12 +1,24 @@
 -- Apple TrueType Reference Manual, "Digitizing Letterform Designs": font units as 26.6 pixels.
 use Rattle.std.specs.Prelude.{ℕ, ℤ}
-use Rattle.tt_core.specs.Numbers.{scaled}
+use Rattle.tt_core.specs.Scales.{control_value_scale, exact_scale, rounded_scale, scaled_by}
+use Rattle.tt_core.specs.declared.scaling.Scale.{Scale}
+use Rattle.tt_fit.specs.declared.rules.Scaling.{Scaling}
+use Rattle.tt_fit.specs.declared.rules.Scaling.TheVariants as scaling
 
--- pixels per em, and font units in an em
+-- pixels per em, and the scales from font units to pixels: of all distances, and of control values when a program
+-- begins
 pub record FontSize : Type 0 where
   pub ppem : ℕ
-  pub units_per_em : ℕ
+  pub scale : Scale
+  pub control_values : Scale
+
+-- at so many pixels per em of so many font units
+abbrev pub size_by : Scaling → ℕ → ℕ → FontSize
+size_by scaling.Exact ppem em =
+    record { ppem = ppem; scale = exact_scale ppem em; control_values = exact_scale ppem em }
+size_by scaling.Rounded ppem em =
+    record { ppem = ppem; scale = rounded_scale ppem em; control_values = control_value_scale ppem em }
 
 -- font units as 26.6 pixels
 abbrev pub scale : FontSize → ℤ → ℤ
-scale z v = scaled v z.ppem z.units_per_em
+scale z v = scaled_by z.scale v

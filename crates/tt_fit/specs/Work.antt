@@ -32,7 +32,7 @@ code_work program parts left = run_work (run_from program (fresh parts)) left
 -- of a glyph's program
 unfoldable pub program_work : Parts → GlyphProgram → Outline → Option ℕ → Worked
 program_work parts p o left = if_ok (on_grid_at p.glyph_at o.phantom)
-    (λ grid. code_work (program_in_glyf p) (parts_with parts o grid)) left
+    (λ grid. code_work (program_in_glyf p) (parts_with parts p.units o grid)) left
 
 abbrev pub hinted_work : Hinting → GlyphProgram → Outline → Option ℕ → Worked
 hinted_work off p o left = enough left

@@ -1,6 +1,6 @@
 //! The outlines of a font at a size.
 
-ghost use Rattle.std.specs.Prelude.{◌≡◌, ◌+◌, ◌<◌, ◌≤◌, ◌^◌, IsTrue, Err, IfOk, IfErr, IfSome, OnOk, OnErr, length, All};
+ghost use Rattle.std.specs.Prelude.{◌≡◌, ◌+◌, ◌<◌, ◌≤◌, ◌^◌, IsTrue, Err, IfOk, IfErr, IfSome, OnOk, OnErr, length, option_map, All};
 ghost use Rattle.tt_core.specs.Directory.{HasNo};
 ghost use Rattle.tt_core.specs.Limits.{font_limit, point_limit, size_limit};
 ghost use Rattle.tt_core.specs.Outcomes.{FontGives, Gives, IfTold, font_fault};
@@ -16,22 +16,24 @@ ghost use Rattle.tt_fit.specs.Fitting.{IsFitter, with_hinting, size_of, start, g
 ghost use Rattle.tt_fit.specs.Outline.{outline_of, phantom_of, IsPoint, ArePhantom, AreEnds, IsOutline};
 ghost use Rattle.tt_fit.specs.Preparation.{program_tables, fitter_of};
 ghost use Rattle.tt_fit.specs.Hinting.{IsHinting};
-ghost use Rattle.tt_fit.specs.Views.{hinting_view, size_view, program_view};
+ghost use Rattle.tt_fit.specs.Scaling.{phantom_units};
+ghost use Rattle.tt_fit.specs.Units.{units_by};
+ghost use Rattle.tt_fit.specs.Views.{hinting_view, size_view, program_view, units_view};
 ghost use Rattle.tt_fit.specs.Work.{IsEnough, Makes, RefusalLeaves, WorkGives, joined_work, unmade_fault};
 ghost use Rattle.tt_exec.specs.Work.{spent};
 
 use crate::counting::points_of;
 use crate::dropouts::{DropoutRules, DropoutsBy, rules_by};
 use crate::fallback::{Fallback, is_program_fault};
-use crate::glyph_zone::GlyphProgram;
 use crate::hinting::{Hinting, hinted};
 use crate::joining::placed;
 use crate::outline::Outline;
 use crate::preparation::{Preparation, prepared};
-use crate::programs::{Fit, Programs};
-use crate::rules::{dropouts_by, levels_of};
-use crate::scaling::{blank, glyf_fault, phantom_points, scaled_outline};
+use crate::programs::{Fit, GlyphProgram, Programs};
+use crate::rules::{Scaling, dropouts_by, levels_of, rules_of};
+use crate::scaling::{blank, glyf_fault, phantom_points, phantom_units, scaled_outline};
 use crate::size::FontSize;
+use crate::units::Units;
 use crate::unmade::{Unmade, unbounded};
 use std::alloc::{AllocError, Global};
 use std::marker::Model;
@@ -49,6 +51,7 @@ pub struct Fitter<'a> {
     metrics: Metrics<'a>,
     glyf: Glyf<'a>,
     ppem: u32,
+    scaling: Scaling,
     hinting: Hinting<'a>,
     fallback: Fallback,
     levels: u32,
@@ -63,9 +66,9 @@ impl<'a> Model for Fitter<'a> {
 
     ghost Value = { fitting.Fitter };
 
-    ghost view = { λ f. record { tables = f.glyf; metrics = f.metrics; ppem = f.ppem; hinting = hinting_view f.hinting; fallback = fallback_view f.fallback; levels = f.levels; work = f.work.left; dropouts = f.dropouts } };
+    ghost view = { λ f. record { tables = f.glyf; metrics = f.metrics; ppem = f.ppem; scaling = f.scaling; hinting = hinting_view f.hinting; fallback = fallback_view f.fallback; levels = f.levels; work = f.work.left; dropouts = f.dropouts } };
 
-    ghost invariant = { λ f. IsFitter (record { tables = f.glyf; metrics = f.metrics; ppem = f.ppem; hinting = hinting_view f.hinting; fallback = fallback_view f.fallback; levels = f.levels; work = f.work.left; dropouts = f.dropouts }) };
+    ghost invariant = { λ f. IsFitter (record { tables = f.glyf; metrics = f.metrics; ppem = f.ppem; scaling = f.scaling; hinting = hinting_view f.hinting; fallback = fallback_view f.fallback; levels = f.levels; work = f.work.left; dropouts = f.dropouts }) };
 }
 
 impl<'a> Fitter<'a> {
@@ -94,7 +97,8 @@ impl<'a> Fitter<'a> {
         ensures metrics { IfOk result (λ f. f.metrics ≡ metrics.now) }
         ensures ppem { IfOk result (λ f. f.ppem ≡ ppem) }
     {
-        let size = FontSize::of(metrics, ppem);
+        let scaling = rules_of(fit).scaling;
+        let size = FontSize::of(metrics, ppem, scaling);
         let Preparation {
             hinting,
             fallback,
@@ -105,6 +109,7 @@ impl<'a> Fitter<'a> {
             metrics: metrics.copy(),
             glyf,
             ppem,
+            scaling,
             hinting,
             fallback,
             levels: levels_of(fit),
@@ -304,7 +309,7 @@ impl<'a> Fitter<'a> {
     fn size(&self) -> FontSize
         ensures { size_view result ≡ size_of self.now }
     {
-        FontSize::of(&self.metrics, self.ppem)
+        FontSize::of(&self.metrics, self.ppem, self.scaling)
     }
 
     /// An outline without points. Error: CoordRange.
@@ -317,15 +322,36 @@ impl<'a> Fitter<'a> {
         blank(self.alloc, self.glyf.start(g), phantom)
     }
 
-    fn program<'b>(&self, g: u16, code: &'b [u8], code_at: u32) -> GlyphProgram<'b>
+    fn program<'u>(
+        &self,
+        g: u16,
+        code: &'a [u8],
+        code_at: u32,
+        units: Option<Units<'u>>,
+    ) -> GlyphProgram<'a, 'u>
         requires known { g < self.now.tables.glyphs }
         requires fits { code_at + length code.now < 2 ^ 32 }
-        ensures { program_view result ≡ glyph_program self.now g code.now code_at }
+        ensures { program_view result ≡ glyph_program self.now g code.now code_at (option_map units_view units.entry) }
     {
         GlyphProgram {
             code,
             code_at,
             glyph_at: self.glyf.start(g),
+            units,
+        }
+    }
+
+    /// The places of a simple glyph's points, where its program measures originals in font units.
+    fn units<'u>(&self, g: u16, x_min: i16, points: &'u [RawPoint]) -> Option<Units<'u>>
+        requires { g < self.now.tables.glyphs }
+        ensures { option_map units_view result ≡ units_by self.now.scaling points.now (phantom_units self.now.metrics x_min g) }
+    {
+        match self.scaling {
+            Scaling::Exact => None,
+            Scaling::Rounded => Some(Units {
+                points,
+                phantom: phantom_units(&self.metrics, x_min, g),
+            }),
         }
     }
 
@@ -336,7 +362,7 @@ impl<'a> Fitter<'a> {
         g: u16,
         points: &[RawPoint],
         last_points: &[u16],
-        program: GlyphProgram<'a>,
+        program: GlyphProgram<'a, '_>,
         start: Outline,
         work: &mut Work,
     ) -> Result<Outline, Unmade>
@@ -379,7 +405,8 @@ impl<'a> Fitter<'a> {
                 code_at,
             } => {
                 let start = self.start(x_min, g)?;
-                let program = self.program(g, code, code_at);
+                let units = self.units(g, x_min, &points);
+                let program = self.program(g, code, code_at, units);
                 self.simple(hinting, g, &points, &ends, program, start, work)
             }
             Raw::Composite {
@@ -393,7 +420,7 @@ impl<'a> Fitter<'a> {
                 hinted(
                     self.alloc,
                     hinting,
-                    self.program(g, code, code_at),
+                    self.program(g, code, code_at, None),
                     joined,
                     work,
                 )

@@ -1,29 +1,22 @@
 //! The points that a glyph's program works on. Apple TrueType Reference Manual, "Instructing TrueType Glyphs" (zones,
 //! phantom points).
 
-ghost use Rattle.std.specs.Prelude.{◌≡◌, ℕ, ◌+◌, ◌<◌, ◌^◌, ◌++◌, ◌∷◌, [], true, false, length, map, All, IfOk, IfErr, OnOk};
+ghost use Rattle.std.specs.Prelude.{◌≡◌, ℕ, ◌+◌, ◌++◌, ◌∷◌, [], true, false, length, map, option_map, All, IfOk, IfErr, OnOk};
 ghost use Rattle.tt_core.specs.Outcomes.{Gives};
 ghost use Rattle.tt_points_zones.specs.Zones.{IsPoint as IsZonePoint};
 ghost use Rattle.tt_fit.specs.GlyphZone.{on_grid_at, untouched, outline_point, glyph_zone, contours_from, place_of, seen, left_outline};
 ghost use Rattle.tt_fit.specs.Outline.{outline_of, phantom_of, IsCoordinate, IsPoint, IsPosition, ArePhantom, AreEnds, IsOutline};
 ghost use Rattle.tt_fit.specs.Scaling.{coordinate_fault, is_coordinate, to_grid};
+ghost use Rattle.tt_fit.specs.Units.{IsNear, with_units};
+ghost use Rattle.tt_fit.specs.Views.{units_view};
 
 use crate::outline::Outline;
+use crate::places::{phantom_places, places_of, put_units, with_units};
 use crate::scaling::coordinate;
+use crate::units::Units;
 use std::alloc::{AllocError, Global};
 use tt_core::Fault;
 use tt_state::{Point, Round, ScanControl};
-
-/// A glyph's program.
-#[derive(Clone, Copy)]
-pub(crate) struct GlyphProgram<'a> {
-    pub(crate) code: &'a [u8],
-    /// Its offset in glyf.
-    pub(crate) code_at: u32,
-    /// The offset of the glyph's first byte in glyf.
-    pub(crate) glyph_at: u32,
-    pub(crate) ghost fits: { code_at + length code.now < 2 ^ 32 },
-}
 
 /// A coordinate on the grid. Error: CoordRange, at this offset in glyf.
 fn to_grid(at: u32, v: i32) -> Result<i32, Fault>
@@ -75,6 +68,8 @@ pub(crate) fn untouched(org: (i32, i32), now: (i32, i32), on: bool) -> Point
     ensures { result ≡ untouched org now on }
 {
     Point {
+        units_x: 0,
+        units_y: 0,
         org_x: org.0,
         org_y: org.1,
         x: now.0,
@@ -106,36 +101,45 @@ fn outline_points(alloc: Global, points: &[(i32, i32, bool)]) -> Result<Vec<Poin
     Ok(zone)
 }
 
-/// A phantom point after the points of a zone: where it was, and where it is.
+/// A phantom point after the points of a zone: in font units, where it was, and where it is.
 #[tactic(auto, using(crate::proofs::Zones::one_more))]
-fn push_phantom(zone: &mut Vec<Point>, was: (i32, i32), now: (i32, i32)) -> Result<(), AllocError>
+fn push_phantom(
+    zone: &mut Vec<Point>,
+    units: (i32, i32),
+    was: (i32, i32),
+    now: (i32, i32),
+) -> Result<(), AllocError>
     requires zone { All IsZonePoint zone.old.items }
+    requires units { IsNear units }
     requires was { IsPosition was }
     requires now { IsPosition now }
-    ensures exact { OnOk result (zone.new.items ≡ zone.old.items ++ untouched was now true ∷ []) }
+    ensures exact { OnOk result (zone.new.items ≡ zone.old.items ++ with_units units (untouched was now true) ∷ []) }
     ensures valid { OnOk result (All IsZonePoint zone.new.items) }
 {
-    zone.push(untouched(was, now, true))?;
+    zone.push(with_units(units, untouched(was, now, true)))?;
     Ok(())
 }
 
 /// The points of an outline, and after them its phantom points, which have gone to the grid.
 pub(crate) fn glyph_zone(
     alloc: Global,
+    units: Option<Units>,
     outline: &Outline,
     grid: &[(i32, i32); 4],
 ) -> Result<Vec<Point>, AllocError>
     requires outline { IsOutline (outline_of outline.now) }
     requires grid { ArePhantom (phantom_of grid.now) }
-    ensures exact { IfOk result (λ v. v.items ≡ glyph_zone (outline_of outline.now) (phantom_of grid.now)) }
+    ensures exact { IfOk result (λ v. v.items ≡ glyph_zone (option_map units_view units.entry) (outline_of outline.now) (phantom_of grid.now)) }
     ensures valid { IfOk result (λ v. All IsZonePoint v.items) }
 {
     let mut zone = outline_points(alloc, &outline.points)?;
+    put_units(&mut zone, places_of(units));
+    let places = phantom_places(units);
     let was = &outline.phantom;
-    push_phantom(&mut zone, was[0], grid[0])?;
-    push_phantom(&mut zone, was[1], grid[1])?;
-    push_phantom(&mut zone, was[2], grid[2])?;
-    push_phantom(&mut zone, was[3], grid[3])?;
+    push_phantom(&mut zone, (places.left, 0), was[0], grid[0])?;
+    push_phantom(&mut zone, (places.right, 0), was[1], grid[1])?;
+    push_phantom(&mut zone, (0, i32::from(places.ascent)), was[2], grid[2])?;
+    push_phantom(&mut zone, (0, i32::from(places.descent)), was[3], grid[3])?;
     Ok(zone)
 }
 

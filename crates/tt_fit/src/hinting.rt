@@ -14,9 +14,10 @@ ghost use Rattle.tt_fit.specs.Parts.{AreParts, parts_with};
 ghost use Rattle.tt_fit.specs.Views.{hinting_view, program_view};
 ghost use Rattle.tt_fit.specs.Work.{Makes, WorkGives, code_work, hinted_work, program_work, work_fault};
 
-use crate::glyph_zone::{GlyphProgram, left_outline, on_grid};
+use crate::glyph_zone::{left_outline, on_grid};
 use crate::outline::Outline;
 use crate::parts::with_glyph;
+use crate::programs::GlyphProgram;
 use crate::unmade::Unmade;
 use std::alloc::Global;
 use tt_core::FontFault;
@@ -78,7 +79,7 @@ pub(crate) fn run<'a>(
     }
 }
 
-fn code_in_glyf<'a>(program: GlyphProgram<'a>) -> Code<'a>
+fn code_in_glyf<'a>(program: GlyphProgram<'a, '_>) -> Code<'a>
     ensures { code_of result ≡ program_in_glyf (program_view program.entry) }
 {
     Code {
@@ -94,7 +95,7 @@ fn code_in_glyf<'a>(program: GlyphProgram<'a>) -> Code<'a>
 fn by_program<'a>(
     alloc: Global,
     parts: &Parts<'a>,
-    program: GlyphProgram<'a>,
+    program: GlyphProgram<'a, '_>,
     outline: Outline,
     work: &mut Work,
 ) -> Result<Outline, Unmade>
@@ -105,7 +106,7 @@ fn by_program<'a>(
     ensures valid { IfOk result (λ o. IsOutline (outline_of o)) }
 {
     let grid = on_grid(program.glyph_at, &outline.phantom)?;
-    let begun = with_glyph(alloc, parts, &outline, &grid)?;
+    let begun = with_glyph(alloc, parts, program.units, &outline, &grid)?;
     let left = run(alloc, begun, code_in_glyf(program), work)?;
     Ok(left_outline(alloc, outline, &left.zones.glyph, left.state.scan)?)
 }
@@ -114,7 +115,7 @@ fn by_program<'a>(
 pub(crate) fn hinted<'a>(
     alloc: Global,
     hinting: &Hinting<'a>,
-    program: GlyphProgram<'a>,
+    program: GlyphProgram<'a, '_>,
     outline: Outline,
     work: &mut Work,
 ) -> Result<Outline, Unmade>

@@ -1,7 +1,6 @@
 //! Laws of the definitions. Each function takes nothing and gives nothing: its clauses hold of all glyphs.
 
-ghost use Rattle.tt_fit.specs.Best.{BestDrawsAsFull, BestFitsAsFull};
-ghost use Rattle.tt_fit.specs.Laws.{OutlinesAreWhole, OutlineFaultsStand, FallbackFits, FallbackScales, FallbackRefuses, FallbackUnfitsAll, OthersNeverFallBack, FullIsByPrograms, NoneIsWithoutPrograms, UnboundedIsEnough, OthersAreUnbounded, UnboundedStays, SpentWorkUnfits, SpentProgramsUnfitAll, BestIsBounded, WorkFalls, OthersFillNone, RulesStay, UnfittedByTypeOne, EmptyByTypeOne, SkippedByTypeOne, FittedByScan, OffFillsNone, OtherTypesFillNone};
+ghost use Rattle.tt_fit.specs.Laws.{OutlinesAreWhole, OutlineFaultsStand, FallbackFits, FallbackScales, FallbackRefuses, FallbackUnfitsAll, OthersNeverFallBack, FullIsByPrograms, NoneIsWithoutPrograms, UnboundedIsEnough, OthersAreUnbounded, UnboundedStays, SpentWorkUnfits, SpentProgramsUnfitAll, BestIsBounded, WorkFalls, OriginalsAreScaled, OthersMeasureInPixels, OthersFillNone, RulesStay, UnfittedByTypeOne, EmptyByTypeOne, SkippedByTypeOne, FittedByScan, OffFillsNone, OtherTypesFillNone};
 ghost use Rattle.tt_fit.specs.Counting.{OutlinesAreCounted};
 
 /// Where the definition gives an outline, no defect stands in the glyph or in a component of it, and where it gives a
@@ -29,17 +28,6 @@ pub fn glyphs_fall_back()
     ensures none { NoneIsWithoutPrograms }
 {}
 
-/// Where `Fit::Full` makes an outline of a glyph, the programs make the same one with `Fit::Best`, though these have
-/// the whole instruction set, run on a tolerant machine, and may nest components deeper; so no such glyph is unfitted
-/// with it, unless its programs, or those of the font, are more work than there is.
-pub fn best_draws_as_full()
-    ensures drawn { BestDrawsAsFull }
-    ensures fitted { BestFitsAsFull }
-{
-    tt_exec::laws::runs_stay();
-    tt_exec::laws::runs_loosen();
-}
-
 /// With every way of fitting but `Fit::Best` work is not bounded, and then it refuses no glyph. With `Fit::Best` a
 /// glyph whose programs are more work than is left is made without them, and so is every one where those of the font
 /// are.
@@ -56,6 +44,13 @@ pub fn work_unfits()
 pub fn work_falls()
     ensures begun { BestIsBounded }
     ensures falls { WorkFalls }
+{}
+
+/// With `Fit::Best` the originals that a simple glyph's program measures are the places of its points in font units,
+/// scaled; with every other way of fitting no program measures in font units, and halves go upwards.
+pub fn originals_are_scaled()
+    ensures scaled { OriginalsAreScaled }
+    ensures others { OthersMeasureInPixels }
 {}
 
 /// With every way of fitting but `Fit::Best` no dropouts are filled, whatever a glyph's programs left; and no glyph

@@ -12,12 +12,14 @@ mod joining;
 pub mod laws;
 mod outline;
 mod parts;
+mod places;
 mod position;
 mod preparation;
 mod programs;
 mod rules;
 mod scaling;
 mod size;
+mod units;
 mod unmade;
 
 pub use dropouts::DropoutRules;

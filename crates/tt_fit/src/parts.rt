@@ -1,12 +1,13 @@
 //! What a machine is made of when a program begins: the font program, the control value program, or a glyph's. Apple
 //! TrueType Reference Manual, "Instructing TrueType Glyphs".
 
-ghost use Rattle.std.specs.Prelude.{◌≡◌, ◌+◌, ◌*◌, ◌≤◌, [], length, replicate, IfOk};
+ghost use Rattle.std.specs.Prelude.{◌≡◌, ◌+◌, ◌*◌, ◌≤◌, length, option_map, IfOk};
 ghost use Rattle.tt_exec.specs.Parts.{parts_of};
 ghost use Rattle.tt_fit.specs.Outline.{outline_of, phantom_of, ArePhantom, IsOutline};
-ghost use Rattle.tt_fit.specs.Parts.{AreParts, begun_parts, control_value, control_values, glyph_state, left_to_glyphs, origin, parts_with, pointers_set_back, zones_of};
-ghost use Rattle.tt_fit.specs.Size.{scale};
-ghost use Rattle.tt_fit.specs.Views.{size_view};
+ghost use Rattle.tt_core.specs.Scales.{IsScale};
+ghost use Rattle.tt_fit.specs.Parts.{AreParts, begun_parts, control_value, control_values, glyph_state, left_to_glyphs, originals_by, parts_with, pointers_set_back, without_glyph, zones_of};
+ghost use Rattle.tt_fit.specs.Size.{size_by};
+ghost use Rattle.tt_fit.specs.Views.{size_view, units_view};
 ghost use Rattle.tt_metrics.specs.Metrics.{units_per_em_of};
 ghost use Rattle.tt_points_zones.specs.Zones.{zones_view, IsZones};
 
@@ -14,12 +15,13 @@ use crate::glyph_zone::{contours, glyph_zone, untouched};
 use crate::outline::Outline;
 use crate::rules::Rules;
 use crate::size::FontSize;
+use crate::units::Units;
 use std::alloc::{AllocError, Global};
 use std::collections::BTreeMap;
-use tt_core::i16_at;
+use tt_core::{Halves, Scale, i16_at};
 use tt_exec::Parts;
 use tt_metrics::Metrics;
-use tt_points_zones::Zones;
+use tt_points_zones::{Originals, Zones};
 use tt_state::GraphicsState;
 
 /// A control value in 26.6 pixels.
@@ -28,7 +30,7 @@ fn control_value(size: FontSize, cvt: &[u8], i: usize) -> i32
     ensures { result ≡ control_value (size_view size) cvt.now i }
 {
     match i16_at(cvt, 2 * i) {
-        Some(v) => size.scaled(i32::from(v)) as i32,
+        Some(v) => size.control_values.scaled(i32::from(v)) as i32,
         None => unreachable!(),
     }
 }
@@ -45,14 +47,15 @@ fn control_values(alloc: Global, size: FontSize, cvt: &[u8]) -> Result<Vec<i32>,
 }
 
 /// The zones of a program that has no glyph: so many twilight points, all at the origin.
-fn zones_without_glyph(alloc: Global, twilight: u16) -> Result<Zones, AllocError>
-    ensures exact { IfOk result (λ z. zones_view z ≡ record { twilight = replicate twilight origin; glyph = []; contours = [] }) }
+fn without_glyph(alloc: Global, halves: Halves, twilight: u16) -> Result<Zones, AllocError>
+    ensures exact { IfOk result (λ z. zones_view z ≡ without_glyph halves twilight) }
     ensures valid { IfOk result (λ z. IsZones (zones_view z)) }
 {
     Ok(Zones {
         twilight: vec![in alloc; untouched((0, 0), (0, 0), true); usize::from(twilight)]?,
         glyph: Vec::new(alloc),
         contours: Vec::new(alloc),
+        originals: Originals::in_pixels(halves),
     })
 }
 
@@ -64,16 +67,16 @@ pub(crate) fn begun_parts<'a>(
     size: FontSize,
     rules: Rules,
 ) -> Result<Parts<'a>, AllocError>
-    requires { size.units_per_em ≡ units_per_em_of metrics.now }
+    requires { size_view size ≡ size_by rules.scaling size.ppem (units_per_em_of metrics.now) }
     ensures exact { IfOk result (λ p. parts_of p ≡ begun_parts metrics.now cvt.now size.ppem rules) }
     ensures valid { IfOk result (λ p. AreParts (parts_of p)) }
 {
     Ok(Parts {
-        em: size.units_per_em,
+        scale: size.scale,
         ppem: size.ppem,
         cvt: control_values(alloc, size, cvt)?,
         storage: vec![in alloc; 0; usize::from(metrics.storage())]?,
-        zones: zones_without_glyph(alloc, metrics.twilight())?,
+        zones: without_glyph(alloc, size.scale.halves, metrics.twilight())?,
         functions: BTreeMap::new(alloc),
         instructions: BTreeMap::new(alloc),
         state: GraphicsState::new(rules.whole),
@@ -123,23 +126,40 @@ pub(crate) fn left_to_glyphs<'a>(left: Parts<'a>) -> Parts<'a>
     Parts { state, ..left }
 }
 
+/// In what a glyph's originals are measured.
+fn originals_by(scale: Scale, units: Option<Units>) -> Originals
+    ensures { result ≡ originals_by scale (option_map units_view units.entry) }
+{
+    match units {
+        Some(_) => Originals {
+            units: Some(scale),
+            halves: scale.halves,
+        },
+        None => Originals::in_pixels(scale.halves),
+    }
+}
+
 /// A glyph's zones: the twilight points as they were, and the outline's points and contours.
 fn glyph_zones(
     alloc: Global,
     zones: Zones,
+    scale: Scale,
+    units: Option<Units>,
     outline: &Outline,
     grid: &[(i32, i32); 4],
 ) -> Result<Zones, AllocError>
     requires zones { IsZones (zones_view zones) }
+    requires scale { IsScale scale }
     requires outline { IsOutline (outline_of outline.now) }
     requires grid { ArePhantom (phantom_of grid.now) }
-    ensures exact { IfOk result (λ z. zones_view z ≡ zones_of zones.twilight.items (outline_of outline.now) (phantom_of grid.now)) }
+    ensures exact { IfOk result (λ z. zones_view z ≡ zones_of zones.twilight.items scale (option_map units_view units.entry) (outline_of outline.now) (phantom_of grid.now)) }
     ensures valid { IfOk result (λ z. IsZones (zones_view z)) }
 {
     Ok(Zones {
         twilight: zones.twilight,
-        glyph: glyph_zone(alloc, outline, grid)?,
+        glyph: glyph_zone(alloc, units, outline, grid)?,
         contours: contours(alloc, &outline.ends)?,
+        originals: originals_by(scale, units),
     })
 }
 
@@ -147,17 +167,18 @@ fn glyph_zones(
 pub(crate) fn with_glyph<'a>(
     alloc: Global,
     parts: &Parts<'a>,
+    units: Option<Units>,
     outline: &Outline,
     grid: &[(i32, i32); 4],
 ) -> Result<Parts<'a>, AllocError>
     requires parts { AreParts (parts_of parts.now) }
     requires outline { IsOutline (outline_of outline.now) }
     requires grid { ArePhantom (phantom_of grid.now) }
-    ensures exact { IfOk result (λ p. parts_of p ≡ parts_with (parts_of parts.now) (outline_of outline.now) (phantom_of grid.now)) }
+    ensures exact { IfOk result (λ p. parts_of p ≡ parts_with (parts_of parts.now) (option_map units_view units.entry) (outline_of outline.now) (phantom_of grid.now)) }
     ensures valid { IfOk result (λ p. AreParts (parts_of p)) }
 {
     let Parts {
-        em,
+        scale,
         ppem,
         cvt,
         storage,
@@ -170,11 +191,11 @@ pub(crate) fn with_glyph<'a>(
         default_state,
     } = parts.copy()?;
     Ok(Parts {
-        em,
+        scale,
         ppem,
         cvt,
         storage,
-        zones: glyph_zones(alloc, zones, outline, grid)?,
+        zones: glyph_zones(alloc, zones, scale, units, outline, grid)?,
         functions,
         instructions,
         state,

@@ -12,6 +12,7 @@ ghost use Rattle.tt_fit.specs.Preparation.{program_tables, left_by_programs, pro
 ghost use Rattle.tt_fit.specs.Fallback.{everywhere};
 ghost use Rattle.tt_fit.specs.Hinting.{IsHinting, off};
 ghost use Rattle.tt_fit.specs.Rules.{rules_of, work_of};
+ghost use Rattle.tt_fit.specs.Size.{size_by};
 ghost use Rattle.tt_fit.specs.Views.{hinting_view, preparation_view, size_view};
 ghost use Rattle.tt_fit.specs.Work.{Makes, WorkGives};
 ghost use Rattle.tt_metrics.specs.Metrics.{units_per_em_of};
@@ -59,7 +60,7 @@ fn left_by_programs<'a>(
     fit: Fit,
     work: &mut Work,
 ) -> Result<Hinting<'a>, Unmade>
-    requires units { size.units_per_em ≡ units_per_em_of metrics.now }
+    requires size { size_view size ≡ size_by (rules_of fit).scaling size.ppem (units_per_em_of metrics.now) }
     requires fpgm { length programs.fpgm.now ≤ font_limit }
     requires prep { length programs.prep.now ≤ font_limit }
     ensures exact { Makes hinting_view result (left_by_programs (begun_parts metrics.now programs.entry.cvt.now size.ppem (rules_of fit)) (program_tables programs.entry)) }
@@ -85,7 +86,7 @@ fn left_unbounded<'a>(
     size: FontSize,
     fit: Fit,
 ) -> Result<Hinting<'a>, FontFault>
-    requires units { size.units_per_em ≡ units_per_em_of metrics.now }
+    requires size { size_view size ≡ size_by (rules_of fit).scaling size.ppem (units_per_em_of metrics.now) }
     requires fpgm { length programs.fpgm.now ≤ font_limit }
     requires prep { length programs.prep.now ≤ font_limit }
     ensures exact { FontGives hinting_view result (left_by_programs (begun_parts metrics.now programs.entry.cvt.now size.ppem (rules_of fit)) (program_tables programs.entry)) }
@@ -131,7 +132,7 @@ fn with_fallback<'a>(
     size: FontSize,
     fit: Fit,
 ) -> Result<Preparation<'a>, FontFault>
-    requires units { size.units_per_em ≡ units_per_em_of metrics.now }
+    requires size { size_view size ≡ size_by (rules_of fit).scaling size.ppem (units_per_em_of metrics.now) }
     requires fpgm { length programs.fpgm.now ≤ font_limit }
     requires prep { length programs.prep.now ≤ font_limit }
     ensures exact { FontGives preparation_view result (Ok (within_work (programs_work (begun_parts metrics.now programs.entry.cvt.now size.ppem (rules_of fit)) (program_tables programs.entry) (work_of fit)) (left_by_programs (begun_parts metrics.now programs.entry.cvt.now size.ppem (rules_of fit)) (program_tables programs.entry)))) }
@@ -162,7 +163,7 @@ pub(crate) fn prepared<'a>(
     size: FontSize,
     fit: Fit,
 ) -> Result<Preparation<'a>, FontFault>
-    requires units { size.units_per_em ≡ units_per_em_of metrics.now }
+    requires size { size_view size ≡ size_by (rules_of fit).scaling size.ppem (units_per_em_of metrics.now) }
     requires fpgm { length programs.fpgm.now ≤ font_limit }
     requires prep { length programs.prep.now ≤ font_limit }
     ensures exact { FontGives preparation_view result (prepared metrics.now (program_tables programs.entry) size.ppem fit) }

@@ -9,6 +9,14 @@ use tt_core::{BEST_LEVEL_LIMIT, LEVEL_LIMIT, WORK_LIMIT};
 use tt_exec::Work;
 use tt_state::Tolerance;
 
+/// How distances in font units are scaled to pixels.
+#[derive(Clone, Copy)]
+pub(crate) enum Scaling {
+    Exact,
+    /// By a factor that is rounded first.
+    Rounded,
+}
+
 /// By which rules programs are run.
 #[derive(Clone, Copy)]
 pub(crate) struct Rules {
@@ -16,6 +24,7 @@ pub(crate) struct Rules {
     pub(crate) whole: bool,
     /// What becomes of an instruction that asks for what is not there.
     pub(crate) tolerance: Tolerance,
+    pub(crate) scaling: Scaling,
 }
 
 pub(crate) fn rules_of(fit: Fit) -> Rules
@@ -25,10 +34,12 @@ pub(crate) fn rules_of(fit: Fit) -> Rules
         Fit::Full | Fit::None | Fit::Fallback => Rules {
             whole: false,
             tolerance: Tolerance::Strict,
+            scaling: Scaling::Exact,
         },
         Fit::Best => Rules {
             whole: true,
             tolerance: Tolerance::Tolerant,
+            scaling: Scaling::Rounded,
         },
     }
 }

@@ -1,17 +1,18 @@
 //! From font units to 26.6 pixels, and the phantom points. Apple TrueType Reference Manual, "Digitizing Letterform
 //! Designs" and "Instructing TrueType Glyphs".
 
-ghost use Rattle.std.specs.Prelude.{◌≡◌, ◌+◌, ◌<◌, ◌≤◌, false, true, pos, ◌+ℤ◌, ◌-ℤ◌, length, map, All, IsTrue, IfOk, IfErr};
+ghost use Rattle.std.specs.Prelude.{◌≡◌, ◌+◌, ◌<◌, ◌≤◌, false, true, length, map, All, IsTrue, IfOk, IfErr};
 ghost use Rattle.tt_core.specs.Limits.{point_limit};
 ghost use Rattle.tt_core.specs.Outcomes.{each, FontGives, Gives};
-ghost use Rattle.tt_metrics.specs.Metrics.{glyphs_of, advance_of, left_side_bearing_of};
+ghost use Rattle.tt_metrics.specs.Metrics.{glyphs_of};
 ghost use Rattle.tt_glyf.specs.Meaning.{AreEnds as EndContours};
 ghost use Rattle.tt_fit.specs.Outline.{Outline, outline_of, IsCoordinate, IsPoint, AreEnds, IsOutline};
-ghost use Rattle.tt_fit.specs.Scaling.{is_coordinate, glyf_fault, coordinate_fault, settled, scaled_position, scaled_point, phantom_points, blank, scaled_outline};
-ghost use Rattle.tt_fit.specs.Views.{size_view, landing_view, phantom_view};
+ghost use Rattle.tt_fit.specs.Scaling.{is_coordinate, glyf_fault, coordinate_fault, settled, scaled_position, scaled_point, phantom_points, phantom_units, blank, scaled_outline};
+ghost use Rattle.tt_fit.specs.Views.{size_view, landing_view, phantom_view, phantom_units_view};
 
 use crate::outline::Outline;
 use crate::size::FontSize;
+use crate::units::PhantomUnits;
 use std::alloc::{AllocError, Global};
 use tt_core::{COORDINATE_LIMIT, Fault, FontFault, Why};
 use tt_glyf::RawPoint;
@@ -111,22 +112,17 @@ pub(crate) struct Phantom {
     descent: i64,
 }
 
-/// The ends of a glyph's advance, in font units.
-#[derive(Clone, Copy)]
-struct Span {
-    left: i32,
-    right: i32,
-}
-
-fn span_of(metrics: &Metrics, x_min: i16, g: u16) -> Span
+/// The phantom points of glyph `g`, in font units.
+pub(crate) fn phantom_units(metrics: &Metrics, x_min: i16, g: u16) -> PhantomUnits
     requires { g < glyphs_of metrics.now }
-    ensures left { result.left ≡ x_min -ℤ left_side_bearing_of metrics.now g }
-    ensures right { result.right ≡ x_min -ℤ left_side_bearing_of metrics.now g +ℤ pos (advance_of metrics.now g) }
+    ensures { phantom_units_view result ≡ phantom_units metrics.now x_min g }
 {
     let left = i32::from(x_min) - i32::from(metrics.lsb(g));
-    Span {
+    PhantomUnits {
         left,
         right: left + i32::from(metrics.advance(g)),
+        ascent: metrics.ascent(),
+        descent: metrics.descent(),
     }
 }
 
@@ -135,12 +131,12 @@ pub(crate) fn phantom_points(size: FontSize, metrics: &Metrics, x_min: i16, g: u
     requires { g < glyphs_of metrics.now }
     ensures { phantom_view result ≡ phantom_points (size_view size) metrics.now x_min g }
 {
-    let span = span_of(metrics, x_min, g);
+    let units = phantom_units(metrics, x_min, g);
     Phantom {
-        left: size.scaled(span.left),
-        right: size.scaled(span.right),
-        ascent: size.scaled(i32::from(metrics.ascent())),
-        descent: size.scaled(i32::from(metrics.descent())),
+        left: size.scaled(units.left),
+        right: size.scaled(units.right),
+        ascent: size.scaled(i32::from(units.ascent)),
+        descent: size.scaled(i32::from(units.descent)),
     }
 }
 

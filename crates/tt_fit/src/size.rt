@@ -2,40 +2,56 @@
 
 ghost use Rattle.std.specs.Prelude.{◌≡◌, ◌<◌, ◌≤◌, ◌*◌, ◌^◌, unsigned_abs};
 ghost use Rattle.tt_core.specs.Limits.{size_limit};
-ghost use Rattle.tt_core.specs.Numbers.{scaled};
-ghost use Rattle.tt_metrics.specs.Metrics.{units_per_em_of};
+ghost use Rattle.tt_core.specs.Scales.{IsScale, scaled_by};
 
-use tt_core::scale;
+use crate::rules::Scaling;
+use tt_core::Scale;
 use tt_metrics::Metrics;
 
-/// Pixels per em, and font units in an em.
+/// Pixels per em, and from font units to 26.6 pixels.
 #[derive(Clone, Copy)]
 pub(crate) struct FontSize {
     pub(crate) ppem: u32,
-    pub(crate) units_per_em: u16,
-    ghost limit: { ppem ≤ size_limit },
-    ghost some: { 0 < units_per_em },
+    /// Of points, phantom points and offsets, and of distances in programs.
+    pub(crate) scale: Scale,
+    /// Of control values when a program begins.
+    pub(crate) control_values: Scale,
+    pub(crate) ghost limit: { ppem ≤ size_limit },
+    pub(crate) ghost valid: { IsScale scale },
+    pub(crate) ghost valid_values: { IsScale control_values },
 }
 
 impl FontSize {
+    ghost use Rattle.tt_metrics.specs.Metrics.{units_per_em_of};
+    ghost use Rattle.tt_fit.specs.Size.{size_by};
+    ghost use Rattle.tt_fit.specs.Views.{size_view};
+
     /// The size at which a font is asked for.
-    pub(crate) fn of(metrics: &Metrics, ppem: u32) -> FontSize
+    pub(crate) fn of(metrics: &Metrics, ppem: u32, scaling: Scaling) -> FontSize
         requires { ppem ≤ size_limit }
-        ensures ppem { result.ppem ≡ ppem }
-        ensures units { result.units_per_em ≡ units_per_em_of metrics.now }
+        ensures { size_view result ≡ size_by scaling ppem (units_per_em_of metrics.now) }
     {
-        FontSize {
-            ppem,
-            units_per_em: metrics.units_per_em(),
+        let em = metrics.units_per_em();
+        match scaling {
+            Scaling::Exact => FontSize {
+                ppem,
+                scale: Scale::exact(ppem, em),
+                control_values: Scale::exact(ppem, em),
+            },
+            Scaling::Rounded => FontSize {
+                ppem,
+                scale: Scale::rounded(ppem, em),
+                control_values: Scale::of_control_values(ppem, em),
+            },
         }
     }
 
     /// A distance in font units as 26.6.
     pub(crate) fn scaled(self, v: i32) -> i64
-        ensures exact { result ≡ scaled v self.ppem self.units_per_em }
+        ensures exact { result ≡ scaled_by self.scale v }
         ensures bound { unsigned_abs result < 2 ^ 46 }
-        ensures close { unsigned_abs result ≤ unsigned_abs v * (size_limit * 64) }
+        ensures close { unsigned_abs result ≤ 1200 * unsigned_abs v }
     {
-        scale(v, self.ppem, self.units_per_em)
+        self.scale.scaled(v)
     }
 }

@@ -14,6 +14,7 @@ use Rattle.tt_state.specs.declared.vector.Vector.{Vector}
 use Rattle.tt_points_loops.specs.Total.{enough_of, enough_of_either, point_enough, pushed_total, moved_total, direction_total}
 use Rattle.tt_points_zones.specs.Meeting.{met, meeting, limited}
 use Rattle.tt_points_zones.specs.Motions.{direction, cur, current_distance, original_distance, put_further, marked, steps, moved}
+use Rattle.tt_points_zones.specs.Originals.{distance_by, scale_between}
 use Rattle.tt_points_zones.specs.Points.{is_coordinate, point_in}
 use Rattle.tt_points_zones.specs.Zones.{ZoneLists}
 use Rattle.tt_points_zones.specs.declared.meeting.Place.{Place}
@@ -110,8 +111,8 @@ mdrp_enough k p z g =
     enough_after (point_in g.zp1 p z) _ (point_enough g.zp1 p z) (λ q.
     enough_after (point_in g.zp0 g.rp0 z) _ (point_enough g.zp0 g.rp0 z) (λ r.
     enough_after (direction g) _ (direction_enough g) (λ m.
-    enough_after (kept m (mdrp_distance k g (original_distance m r q)) q r) _
-    (kept_enough m (mdrp_distance k g (original_distance m r q)) q r) (λ n. record {}))))
+    let d = mdrp_distance k g (distance_by (scale_between g.zp0 g.zp1 z) m r q) in
+    enough_after (kept m d q r) _ (kept_enough m d q r) (λ n. record {}))))
 
 msirp_enough : (set_rp0 : Bool) (p d : ℤ) (z : ZoneLists) (g : GraphicsState)
     → Enough (moving.msirp set_rp0 p d z g)

@@ -1,21 +1,25 @@
 -- Apple TrueType Reference Manual, "Instruction Set" (GC, SCFS, MD, UTP): coordinates read and set, and a touch undone.
 -- Coordinates are in 26.6 pixels.
-use Rattle.std.specs.Prelude.{◌≡◌, ℤ, pos, ◌-ℤ◌, true, false, [], ◌∷◌, Result, Ok, Err, refl}
+use Rattle.std.specs.Prelude.{◌≡◌, ℤ, pos, ◌-ℤ◌, true, false, [], ◌∷◌, Option, None, Result, Ok, Err, refl}
 use Rattle.tt_core.specs.Outcomes.{◌>>=◌}
 use Rattle.tt_core.specs.declared.fault.Why.{Why}
 use Rattle.tt_core.specs.declared.fault.Why.TheVariants as why
+use Rattle.tt_core.specs.declared.halves.Halves.TheVariants as halves
+use Rattle.tt_core.specs.declared.scaling.Scale.{Scale}
 use Rattle.tt_state.specs.declared.graphics_state.Zone.TheVariants as zone
 use Rattle.tt_state.specs.declared.graphics_state.GraphicsState.{GraphicsState}
 use Rattle.tt_state.specs.declared.point.Point.{Point}
 use Rattle.tt_state.specs.declared.vector.Vector.TheVariants as vector
 use Rattle.tt_state.specs.GraphicsState.{default_state}
 use Rattle.tt_state.specs.Vectors.{project}
-use Rattle.tt_points_zones.specs.Zones.{ZoneLists}
+use Rattle.tt_points_zones.specs.Zones.{ZoneLists, in_pixels}
 use Rattle.tt_points_zones.specs.Points.{point_in, with_point}
-use Rattle.tt_points_zones.specs.Motions.{vectors_of, cur, org, current_distance, original_distance, direction, marked, moved}
+use Rattle.tt_points_zones.specs.Motions.{vectors_of, cur, org, current_distance, direction, marked, moved}
+use Rattle.tt_points_zones.specs.Originals.{distance_by, scale_between}
 use Rattle.tt_points_zones.specs.declared.motion.Motion.{Motion}
 use Rattle.tt_points.specs.declared.measuring.Position.{Position}
 use Rattle.tt_points.specs.declared.measuring.Position.TheVariants as position
+use Rattle.tt_points.specs.Moving.{in_units, by_12}
 use Rattle.tt_points.specs.Slanted.{rising, slanted, dual_upward, fourth_at, with_fourth, before}
 use Rattle.tt_points.specs.Twilight.{settled_in, origin}
 
@@ -27,15 +31,16 @@ coordinate position.Original m q = org m q
 unfoldable pub gc : Position → ℤ → ZoneLists → GraphicsState → Result ℤ Why
 gc of p z g = point_in g.zp2 p z >>= λ q. Ok (coordinate of (vectors_of g) q)
 
--- how far a point stands from another along the projection vector, or stood along the dual one
-abbrev pub distance : Position → Motion → Point → Point → ℤ
-distance position.Current m a b = current_distance m a b
-distance position.Original m a b = original_distance m a b
+-- how far a point stands from another along the projection vector, or stood along the dual one, by originals that may
+-- have a scale
+abbrev pub distance : Position → Option Scale → Motion → Point → Point → ℤ
+distance position.Current s m a b = current_distance m a b
+distance position.Original s m a b = distance_by s m a b
 
 -- from p1 to p2
 unfoldable pub md : Position → ℤ → ℤ → ZoneLists → GraphicsState → Result ℤ Why
 md between p2 p1 z g = point_in g.zp1 p1 z >>= λ a. point_in g.zp0 p2 z >>= λ b.
-    Ok (distance between (vectors_of g) a b)
+    Ok (distance between (scale_between g.zp1 g.zp0 z) (vectors_of g) a b)
 
 -- moved to a coordinate
 unfoldable pub scfs : ℤ → ℤ → ZoneLists → GraphicsState → Result ZoneLists Why
@@ -55,6 +60,7 @@ two_points = record {
   twilight = from_to (pos 0) (pos 10) ∷ [];
   glyph = from_to (pos 0) (pos 10) ∷ from_to (pos 100) (pos 210) ∷ [];
   contours = [];
+  originals = in_pixels halves.Up;
 }
 
 its_coordinate : gc position.Current (pos 1) two_points default_state ≡ Ok (pos 210)
@@ -72,6 +78,21 @@ now_apart = refl
 once_apart : md position.Original (pos 1) (pos 0) two_points default_state ≡ Ok (pos 100)
 unfolding md project
 once_apart = refl
+
+-- 127 font units at 12 of 1024
+once_apart_in_units : md position.Original (pos 1) (pos 0) (in_units by_12 (pos 98) false) default_state ≡ Ok (pos 95)
+unfolding md project
+once_apart_in_units = refl
+
+once_apart_in_pixels : md position.Original (pos 1) (pos 0) (in_units None (pos 98) false) default_state ≡ Ok (pos 96)
+unfolding md project
+once_apart_in_pixels = refl
+
+-- a twilight point is measured in 26.6
+once_apart_from_twilight : md position.Original (pos 1) (pos 0) (in_units by_12 (pos 98) false)
+    (record default_state { zp1 = zone.Twilight }) ≡ Ok (pos 96)
+unfolding md project
+once_apart_from_twilight = refl
 
 no_twilight_point : gc position.Current (pos 1) two_points (record default_state { zp2 = zone.Twilight }) ≡ Err why.PointRange
 unfolding gc project

@@ -1,9 +1,12 @@
 -- Apple TrueType Reference Manual, "Instruction Set" (MDAP, MSIRP, MDRP): points moved along the projection vector,
 -- without a control value. Coordinates are in 26.6 pixels.
-use Rattle.std.specs.Prelude.{◌≡◌, ℤ, pos, negsuc, ◌-ℤ◌, Bool, true, false, if◌then◌else◌, [], ◌∷◌, Result, Ok, Err, refl}
+use Rattle.std.specs.Prelude.{◌≡◌, ℤ, pos, negsuc, ◌-ℤ◌, Bool, true, false, if◌then◌else◌, [], ◌∷◌, Option, Some, None, Result, Ok, Err, refl}
 use Rattle.tt_core.specs.Outcomes.{◌>>=◌}
+use Rattle.tt_core.specs.Scales.{rounded_scale}
 use Rattle.tt_core.specs.declared.fault.Why.{Why}
 use Rattle.tt_core.specs.declared.fault.Why.TheVariants as why
+use Rattle.tt_core.specs.declared.halves.Halves.TheVariants as halves
+use Rattle.tt_core.specs.declared.scaling.Scale.{Scale}
 use Rattle.tt_state.specs.declared.graphics_state.Zone.TheVariants as zone
 use Rattle.tt_state.specs.declared.graphics_state.GraphicsState.{GraphicsState}
 use Rattle.tt_state.specs.declared.point.Point.{Point}
@@ -11,9 +14,10 @@ use Rattle.tt_state.specs.declared.vector.Vector.TheVariants as vector
 use Rattle.tt_state.specs.GraphicsState.{default_state}
 use Rattle.tt_state.specs.Rounding.{rounded}
 use Rattle.tt_state.specs.Vectors.{project}
-use Rattle.tt_points_zones.specs.Zones.{ZoneLists}
+use Rattle.tt_points_zones.specs.Zones.{ZoneLists, in_pixels}
 use Rattle.tt_points_zones.specs.Points.{point_in, with_point}
-use Rattle.tt_points_zones.specs.Motions.{cur, current_distance, original_distance, direction, moved}
+use Rattle.tt_points_zones.specs.Motions.{cur, current_distance, direction, moved}
+use Rattle.tt_points_zones.specs.Originals.{distance_by, scale_between}
 use Rattle.tt_points_zones.specs.declared.motion.Motion.{Motion}
 use Rattle.tt_points.specs.declared.distances.Keeping.{Keeping}
 use Rattle.tt_points.specs.Distances.{keeping, single_width, rounded_by, spaced_by}
@@ -58,7 +62,7 @@ mdrp_distance k g d = mdrp_kept k g (single_width g d)
 -- moved to its original distance from reference point 0
 unfoldable pub mdrp : Keeping → ℤ → ZoneLists → GraphicsState → Result (ZoneLists × GraphicsState) Why
 mdrp k p z g = point_in g.zp1 p z >>= λ q. point_in g.zp0 g.rp0 z >>= λ r. direction g >>= λ m.
-    kept m (mdrp_distance k g (original_distance m r q)) q r >>= λ n.
+    kept m (mdrp_distance k g (distance_by (scale_between g.zp0 g.zp1 z) m r q)) q r >>= λ n.
     Ok (with_point g.zp1 p n z, referred k.set_rp0 p g)
 
 -- worked values: two points, one at 0 and one at a coordinate along x, where they originally were
@@ -66,7 +70,12 @@ abbrev at_x : ℤ → Point
 at_x x = record origin { org_x = x; x = x }
 
 abbrev pub zero_and : ℤ → ZoneLists
-zero_and x = record { twilight = origin ∷ []; glyph = at_x (pos 0) ∷ at_x x ∷ []; contours = [] }
+zero_and x = record {
+  twilight = origin ∷ [];
+  glyph = at_x (pos 0) ∷ at_x x ∷ [];
+  contours = [];
+  originals = in_pixels halves.Up;
+}
 
 abbrev pub zero_and_touched : ℤ → ℤ → ZoneLists
 zero_and_touched org x =
@@ -81,6 +90,38 @@ minus_ten_to_a_pixel : mdrp (keeping false true true) (pos 1) (zero_and (negsuc 
     ≡ Ok (zero_and_touched (negsuc 9) (negsuc 63), record default_state { rp2 = pos 1 })
 unfolding mdrp mdrp_distance kept single_width direction project
 minus_ten_to_a_pixel = refl
+
+-- two points that stood 127 font units apart, which are 95 at 12 of 1024, and the first one in the twilight zone too
+abbrev first_in_units : Point
+first_in_units = record (at_x (pos 2)) { units_x = pos 3 }
+
+abbrev pub in_units : Option Scale → ℤ → Bool → ZoneLists
+in_units scale x touched = record {
+  twilight = first_in_units ∷ [];
+  glyph = first_in_units ∷ record (at_x (pos 98)) { units_x = pos 130; x = x; touched_x = touched } ∷ [];
+  contours = [];
+  originals = record { units = scale; halves = halves.AwayFromZero };
+}
+
+abbrev pub by_12 : Option Scale
+by_12 = Some (rounded_scale 12 1024)
+
+kept_in_units : mdrp (keeping false false false) (pos 1) (in_units by_12 (pos 98) false) default_state
+    ≡ Ok (in_units by_12 (pos 97) true, record default_state { rp2 = pos 1 })
+unfolding mdrp mdrp_distance kept single_width direction project
+kept_in_units = refl
+
+kept_in_pixels : mdrp (keeping false false false) (pos 1) (in_units None (pos 98) false) default_state
+    ≡ Ok (in_units None (pos 98) true, record default_state { rp2 = pos 1 })
+unfolding mdrp mdrp_distance kept single_width direction project
+kept_in_pixels = refl
+
+-- from a twilight point in 26.6
+kept_from_twilight : mdrp (keeping false false false) (pos 1) (in_units by_12 (pos 98) false)
+    (record default_state { zp0 = zone.Twilight })
+    ≡ Ok (in_units by_12 (pos 98) true, record default_state { zp0 = zone.Twilight; rp2 = pos 1 })
+unfolding mdrp mdrp_distance kept single_width direction project
+kept_from_twilight = refl
 
 rounded_where_it_is : mdap true (pos 1) (zero_and (pos 40)) default_state
     ≡ Ok (zero_and_touched (pos 40) (pos 64), record default_state { rp0 = pos 1; rp1 = pos 1 })

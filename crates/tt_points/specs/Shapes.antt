@@ -9,6 +9,7 @@ use Rattle.tt_state.specs.declared.point.Point.{Point}
 use Rattle.tt_points_zones.specs.Points.{point_in, with_point}
 use Rattle.tt_points_zones.specs.Meeting.{met}
 use Rattle.tt_points_zones.specs.Motions.{cur, current_distance, original_distance, direction, marked, moved}
+use Rattle.tt_points_zones.specs.Originals.{distance_by, scale_between}
 use Rattle.tt_points_loops.specs.Shapes.{whatever, through, same, joined, put_one, put}
 use Rattle.tt_points_zones.specs.Zones.{ZoneLists, SameShape, KeepsShape, KeepsShapeBefore}
 use Rattle.tt_points_zones.specs.declared.motion.Motion.{Motion}
@@ -80,7 +81,7 @@ mdrp_kept k p z g =
     whatever (Before z) (point_in g.zp0 g.rp0 z) _ (λ r.
     whatever (Before z) (direction g) _ (λ m.
     put_before (referred k.set_rp0 p g) g.zp1 p z
-    (kept m (mdrp_distance k g (original_distance m r q)) q r))))
+    (kept m (mdrp_distance k g (distance_by (scale_between g.zp0 g.zp1 z) m r q)) q r))))
 
 msirp_kept : (set_rp0 : Bool) (p d : ℤ) (z : ZoneLists) (g : GraphicsState) → KeepsShapeBefore z (msirp set_rp0 p d z g)
 unfolding msirp

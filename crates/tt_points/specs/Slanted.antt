@@ -1,12 +1,13 @@
 -- No part of the standard: points and vectors off the axes, for worked values. Coordinates are in 26.6 pixels.
 use Rattle.std.specs.Prelude.{ℤ, pos, negsuc, Bool, true, [], ◌∷◌}
+use Rattle.tt_core.specs.declared.halves.Halves.TheVariants as halves
 use Rattle.tt_state.specs.declared.graphics_state.GraphicsState.{GraphicsState}
 use Rattle.tt_state.specs.declared.point.Point.{Point}
 use Rattle.tt_state.specs.declared.vector.Vector.{Vector}
 use Rattle.tt_state.specs.declared.vector.Vector.TheVariants as vector
 use Rattle.tt_state.specs.GraphicsState.{default_of}
 use Rattle.tt_state.specs.Vectors.{pair}
-use Rattle.tt_points_zones.specs.Zones.{ZoneLists}
+use Rattle.tt_points_zones.specs.Zones.{ZoneLists, in_pixels}
 use Rattle.tt_points.specs.Twilight.{origin}
 
 -- along a line that rises by 2 in 1, and at right angles to it
@@ -50,6 +51,7 @@ points p3 p4 twilight = record {
   glyph = still (pos 0) (pos 0) ∷ still (pos 100) (pos 200) ∷ still (pos 300) (pos 64) ∷ p3 ∷ p4 ∷
       record (still (pos 0) (pos 100)) { x = pos 10; y = pos 130 } ∷ [];
   contours = [];
+  originals = in_pixels halves.Up;
 }
 
 -- these with another point 4, and with another twilight point 1

@@ -35,6 +35,8 @@ placed by m d r p = further by m d (record p { x = r.org_x; y = r.org_y }) >>= Î
 -- where both coordinates are 0
 abbrev pub origin : Point
 origin = record {
+  units_x = pos 0;
+  units_y = pos 0;
   org_x = pos 0;
   org_y = pos 0;
   x = pos 0;

@@ -19,6 +19,8 @@ use tt_state::{GraphicsState, Point, Zone};
 
 /// Where both coordinates are 0.
 const ORIGIN: Point = Point {
+    units_x: 0,
+    units_y: 0,
     org_x: 0,
     org_y: 0,
     x: 0,

@@ -38,7 +38,7 @@ pub fn gc(zones: &Zones, state: &GraphicsState, of: Position, p: i32) -> Result<
 
 /// A distance as the stack holds it.
 fn stack_value(d: Distance) -> i32
-    requires { unsigned_abs d.0 ≤ 4 * coordinate_limit }
+    requires { unsigned_abs d.0 < 2 ^ 31 }
     ensures { result ≡ d.0 }
 {
     d.0 as i32
@@ -61,7 +61,10 @@ pub fn md(
     let motion = Motion::of(state);
     match between {
         Position::Current => Ok(stack_value(motion.current_distance(a, b))),
-        Position::Original => Ok(stack_value(motion.original_distance(a, b))),
+        Position::Original => {
+            let scale = zones.scale_between(state.zp1, state.zp0);
+            Ok(stack_value(motion.distance_by(scale, a, b)))
+        }
     }
 }
 

@@ -152,7 +152,7 @@ fn mdrp_kept(keeping: Keeping, state: &GraphicsState, d: i64) -> i64
 /// What MDRP keeps of an original distance.
 #[tactic(auto, unfolding(crate::specs::Moving::mdrp_distance))]
 fn mdrp_distance(keeping: Keeping, state: &GraphicsState, d: Distance) -> Distance
-    requires { unsigned_abs d.0 < 2 ^ 23 }
+    requires { unsigned_abs d.0 < 2 ^ 30 }
     ensures exact { result.0 ≡ is.mdrp_distance keeping state.now d.0 }
     ensures bound { unsigned_abs result.0 < 2 ^ 33 }
 {
@@ -179,7 +179,8 @@ pub fn mdrp(
     let r = zones.point(state.zp0, state.rp0)?;
     may_move(state)?;
     let motion = Motion::of(state);
-    let d = mdrp_distance(keeping, state, motion.original_distance(r, q));
+    let scale = zones.scale_between(state.zp0, state.zp1);
+    let d = mdrp_distance(keeping, state, motion.distance_by(scale, r, q));
     zones.set(state.zp1, p, kept(q, &motion, d, r)?);
     refer(state, keeping.set_rp0, p);
     Ok(())

@@ -7,24 +7,25 @@ use Rattle.tt_state.specs.declared.point.Point.{Point}
 use Rattle.tt_points_zones.specs.Points.{is_touched}
 use Rattle.tt_points_iup.specs.Interpolation.{interpolated, interpolated_among, first_touched, last_touched, contour_from, contour}
 use Rattle.tt_points_iup.specs.Neighbours.{round_from, IsNextTouched, IsLastTouched}
+use Rattle.tt_points_iup.specs.declared.place.Along.{Along}
 use Rattle.tt_points_iup.proofs.Contours.{untouched_stays}
 
-many_from : (axis : Axis) (front back : List Point) → length (contour_from axis front back) ≡ length back
-many_from axis front [] = refl
-many_from axis front (p ∷ ps) = ap suc (many_from axis (front ++ p ∷ []) ps)
+many_from : (along : Along) (front back : List Point) → length (contour_from along front back) ≡ length back
+many_from along front [] = refl
+many_from along front (p ∷ ps) = ap suc (many_from along (front ++ p ∷ []) ps)
 
-pub many : (axis : Axis) (ps : List Point) → length (contour axis ps) ≡ length ps
+pub many : (along : Along) (ps : List Point) → length (contour along ps) ≡ length ps
 unfolding contour
-many axis ps = many_from axis [] ps
+many along ps = many_from along [] ps
 
-each_from : (axis : Axis) (front back : List Point) (i : ℕ) (d : Point) → i < length back
-    → get_or (contour_from axis front back) i d
-    ≡ interpolated_among axis (drop (i + 1) back ++ (front ++ take i back)) (get_or back i d)
-each_from axis front [] i d inside = absurd (omega arith)
-each_from axis front (p ∷ ps) zero d inside = rw (append-nil front) refl
-each_from axis front (p ∷ ps) (suc i) d inside =
+each_from : (along : Along) (front back : List Point) (i : ℕ) (d : Point) → i < length back
+    → get_or (contour_from along front back) i d
+    ≡ interpolated_among along (drop (i + 1) back ++ (front ++ take i back)) (get_or back i d)
+each_from along front [] i d inside = absurd (omega arith)
+each_from along front (p ∷ ps) zero d inside = rw (append-nil front) refl
+each_from along front (p ∷ ps) (suc i) d inside =
     let next : suc i + 1 ≡ suc (i + 1) = omega arith in
-    let rest = each_from axis (front ++ p ∷ []) ps i d (omega arith) in
+    let rest = each_from along (front ++ p ∷ []) ps i d (omega arith) in
     rw next (rw (append_assoc front (p ∷ []) (take i ps)) at rest)
 
 -- the others of a contour from the one behind a point on
@@ -123,21 +124,22 @@ last_is axis ps d i k inside last =
     (omega arith))) in
     found ∙ ap Some at
 
-pub touched_point : (axis : Axis) (ps : List Point) (d : Point) (i : ℕ) → i < length ps
-    → is_touched axis (get_or ps i d) ≡ true → get_or (contour axis ps) i d ≡ get_or ps i d
+pub touched_point : (along : Along) (ps : List Point) (d : Point) (i : ℕ) → i < length ps
+    → is_touched along.axis (get_or ps i d) ≡ true → get_or (contour along ps) i d ≡ get_or ps i d
 unfolding contour
-touched_point axis ps d i inside here = each_from axis [] ps i d inside ∙ rw here refl
+touched_point along ps d i inside here = each_from along [] ps i d inside ∙ rw here refl
 
-pub between_points : (axis : Axis) (ps : List Point) (d : Point) (i before after : ℕ) → i < length ps
-    → is_touched axis (get_or ps i d) ≡ false → IsLastTouched axis ps d i before → IsNextTouched axis ps d i after
-    → get_or (contour axis ps) i d
-    ≡ interpolated axis (get_or ps (round_from (length ps) i before) d) (get_or ps (round_from (length ps) i after) d)
+pub between_points : (along : Along) (ps : List Point) (d : Point) (i before after : ℕ) → i < length ps
+    → is_touched along.axis (get_or ps i d) ≡ false → IsLastTouched along.axis ps d i before
+    → IsNextTouched along.axis ps d i after
+    → get_or (contour along ps) i d
+    ≡ interpolated along (get_or ps (round_from (length ps) i before) d) (get_or ps (round_from (length ps) i after) d)
     (get_or ps i d)
 unfolding contour
-between_points axis ps d i before after inside here last next =
-    each_from axis [] ps i d inside
-    ∙ rw (here, last_is axis ps d i before inside last, next_is axis ps d i after inside next) refl
+between_points along ps d i before after inside here last next =
+    each_from along [] ps i d inside
+    ∙ rw (here, last_is along.axis ps d i before inside last, next_is along.axis ps d i after inside next) refl
 
-pub none_touched_at : (axis : Axis) (ps : List Point) (d : Point)
-    → ((i : ℕ) → i < length ps → is_touched axis (get_or ps i d) ≡ false) → contour axis ps ≡ ps
-none_touched_at axis ps d none = untouched_stays axis ps (none_at axis ps d none)
+pub none_touched_at : (along : Along) (ps : List Point) (d : Point)
+    → ((i : ℕ) → i < length ps → is_touched along.axis (get_or ps i d) ≡ false) → contour along ps ≡ ps
+none_touched_at along ps d none = untouched_stays along ps (none_at along.axis ps d none)

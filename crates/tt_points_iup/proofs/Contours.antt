@@ -7,6 +7,7 @@ use Rattle.tt_state.specs.declared.point.Point.{Point}
 use Rattle.tt_points_zones.specs.Points.{is_touched}
 use Rattle.tt_points_iup.specs.Interpolation.{interpolated_by, first_touched, last_touched, contour_from, contour}
 use Rattle.tt_points_iup.specs.Sweeps.{swept}
+use Rattle.tt_points_iup.specs.declared.place.Along.{Along}
 use Rattle.tt_points_iup.proofs.Touches.{first_of_two, last_of_two, none_touched}
 
 -- the first of two, where their first the other way round is known
@@ -16,51 +17,53 @@ other_way None (Some b) first h = h
 other_way None None first h = absurd cc
 
 -- what a sweep carries to the points that are left
-record Carried (axis : Axis) (before first : Point) (front back : List Point) : Type 0 where
-  last : last_touched axis None (back ++ front) ≡ Some before
-  first_one : first_touched axis (front ++ back) ≡ Some first
+record Carried (along : Along) (before first : Point) (front back : List Point) : Type 0 where
+  last : last_touched along.axis None (back ++ front) ≡ Some before
+  first_one : first_touched along.axis (front ++ back) ≡ Some first
 
-step : (axis : Axis) (before first : Point) (front : List Point) (p : Point) (ps : List Point) (t : Bool)
-    → is_touched axis p ≡ t → Carried axis before first front (p ∷ ps)
-    → ((b : Point) → Carried axis b first (front ++ p ∷ []) ps
-    → contour_from axis (front ++ p ∷ []) ps ≡ swept axis b first ps)
-    → contour_from axis front (p ∷ ps) ≡ swept axis before first (p ∷ ps)
-step axis before first front p ps true is c rest =
-    let last : last_touched axis None (ps ++ (front ++ p ∷ [])) ≡ Some p =
-    rw (← append_assoc ps front (p ∷ []), last_of_two axis None (ps ++ front) (p ∷ []), is) refl in
-    let next : Carried axis p first (front ++ p ∷ []) ps =
+step : (along : Along) (before first : Point) (front : List Point) (p : Point) (ps : List Point) (t : Bool)
+    → is_touched along.axis p ≡ t → Carried along before first front (p ∷ ps)
+    → ((b : Point) → Carried along b first (front ++ p ∷ []) ps
+    → contour_from along (front ++ p ∷ []) ps ≡ swept along b first ps)
+    → contour_from along front (p ∷ ps) ≡ swept along before first (p ∷ ps)
+step along before first front p ps true is c rest =
+    let last : last_touched along.axis None (ps ++ (front ++ p ∷ [])) ≡ Some p =
+    rw (← append_assoc ps front (p ∷ []), last_of_two along.axis None (ps ++ front) (p ∷ []), is) refl in
+    let next : Carried along p first (front ++ p ∷ []) ps =
     record { last = last; first_one = rw (append_assoc front (p ∷ []) ps) (c.first_one) } in
     rw (is, rest p next) refl
-step axis before first front p ps false is c rest =
-    let others = ap (λ (b : Bool). last_touched axis (if b then Some p else None) (ps ++ front)) is in
-    let here : last_touched axis None (ps ++ front) ≡ Some before = sym others ∙ c.last in
-    let last : last_touched axis None (ps ++ (front ++ p ∷ [])) ≡ Some before =
-    rw (← append_assoc ps front (p ∷ []), last_of_two axis None (ps ++ front) (p ∷ []), is) here in
-    let next : Carried axis before first (front ++ p ∷ []) ps =
+step along before first front p ps false is c rest =
+    let others = ap (λ (b : Bool). last_touched along.axis (if b then Some p else None) (ps ++ front)) is in
+    let here : last_touched along.axis None (ps ++ front) ≡ Some before = sym others ∙ c.last in
+    let last : last_touched along.axis None (ps ++ (front ++ p ∷ [])) ≡ Some before =
+    rw (← append_assoc ps front (p ∷ []), last_of_two along.axis None (ps ++ front) (p ∷ []), is) here in
+    let next : Carried along before first (front ++ p ∷ []) ps =
     record { last = last; first_one = rw (append_assoc front (p ∷ []) ps) (c.first_one) } in
-    let behind : first_touched axis (p ∷ ps) ≡ first_touched axis ps = rw is refl in
-    let two = rw (first_of_two axis front (p ∷ ps), behind) at c.first_one in
-    let after : first_touched axis (ps ++ front) ≡ Some (unwrap_or (first_touched axis ps) first) =
-    rw (first_of_two axis ps front) (other_way (first_touched axis ps) (first_touched axis front) first two) in
+    let behind : first_touched along.axis (p ∷ ps) ≡ first_touched along.axis ps = rw is refl in
+    let two = rw (first_of_two along.axis front (p ∷ ps), behind) at c.first_one in
+    let after : first_touched along.axis (ps ++ front) ≡ Some (unwrap_or (first_touched along.axis ps) first) =
+    rw (first_of_two along.axis ps front)
+    (other_way (first_touched along.axis ps) (first_touched along.axis front) first two) in
     rw (is, here, after, rest before next) refl
 
-swept_from : (axis : Axis) (before first : Point) (front back : List Point) → Carried axis before first front back
-    → contour_from axis front back ≡ swept axis before first back
-swept_from axis before first front [] c = refl
-swept_from axis before first front (p ∷ ps) c =
-    step axis before first front p ps (is_touched axis p) refl c
-    (λ b next. swept_from axis b first (front ++ p ∷ []) ps next)
+swept_from : (along : Along) (before first : Point) (front back : List Point) → Carried along before first front back
+    → contour_from along front back ≡ swept along before first back
+swept_from along before first front [] c = refl
+swept_from along before first front (p ∷ ps) c =
+    step along before first front p ps (is_touched along.axis p) refl c
+    (λ b next. swept_from along b first (front ++ p ∷ []) ps next)
 
-pub contour_is_swept : (axis : Axis) (last first : Point) (ps : List Point) → last_touched axis None ps ≡ Some last
-    → first_touched axis ps ≡ Some first → contour axis ps ≡ swept axis last first ps
+pub contour_is_swept : (along : Along) (last first : Point) (ps : List Point)
+    → last_touched along.axis None ps ≡ Some last → first_touched along.axis ps ≡ Some first
+    → contour along ps ≡ swept along last first ps
 unfolding contour
-contour_is_swept axis last first ps behind ahead =
-    swept_from axis last first [] ps (record { last = rw (append-nil ps) behind; first_one = ahead })
+contour_is_swept along last first ps behind ahead =
+    swept_from along last first [] ps (record { last = rw (append-nil ps) behind; first_one = ahead })
 
 -- without a touched point
-by_none : (axis : Axis) (x : Option Point) (p : Point) → interpolated_by axis x None p ≡ p
-by_none axis (Some a) p = refl
-by_none axis None p = refl
+by_none : (along : Along) (x : Option Point) (p : Point) → interpolated_by along x None p ≡ p
+by_none along (Some a) p = refl
+by_none along None p = refl
 
 record Neither (x y : Option Point) : Type 0 where
   one : x ≡ None
@@ -70,26 +73,27 @@ neither : (x y : Option Point) → option_or x y ≡ None → Neither x y
 neither (Some a) y h = absurd cc
 neither None y h = record { one = refl; other = h }
 
-none_from : (axis : Axis) (front back : List Point) → first_touched axis (front ++ back) ≡ None
-    → contour_from axis front back ≡ back
-none_from axis front [] none = refl
-none_from axis front (p ∷ ps) none =
-    let parts = neither (first_touched axis front) (first_touched axis (p ∷ ps)) (rw (first_of_two axis front (p ∷
-    ps)) at none) in
-    let here = none_touched axis p ps parts.other in
-    let others : first_touched axis (ps ++ front) ≡ None = rw (first_of_two axis ps front, here.rest) (parts.one) in
-    let next : first_touched axis ((front ++ p ∷ []) ++ ps) ≡ None = rw (append_assoc front (p ∷ []) ps) none in
+none_from : (along : Along) (front back : List Point) → first_touched along.axis (front ++ back) ≡ None
+    → contour_from along front back ≡ back
+none_from along front [] none = refl
+none_from along front (p ∷ ps) none =
+    let two = rw (first_of_two along.axis front (p ∷ ps)) at none in
+    let parts = neither (first_touched along.axis front) (first_touched along.axis (p ∷ ps)) two in
+    let here = none_touched along.axis p ps parts.other in
+    let others : first_touched along.axis (ps ++ front) ≡ None =
+    rw (first_of_two along.axis ps front, here.rest) (parts.one) in
+    let next : first_touched along.axis ((front ++ p ∷ []) ++ ps) ≡ None = rw (append_assoc front (p ∷ []) ps) none in
     rw (
       here.head,
       others,
-      by_none axis (last_touched axis None (ps ++ front)) p,
-      none_from axis (front ++ p ∷ []) ps
+      by_none along (last_touched along.axis None (ps ++ front)) p,
+      none_from along (front ++ p ∷ []) ps
           next,
     ) refl
 
-pub untouched_stays : (axis : Axis) (ps : List Point) → first_touched axis ps ≡ None → contour axis ps ≡ ps
+pub untouched_stays : (along : Along) (ps : List Point) → first_touched along.axis ps ≡ None → contour along ps ≡ ps
 unfolding contour
-untouched_stays axis ps none = none_from axis [] ps none
+untouched_stays along ps none = none_from along [] ps none
 
 -- where no last one is found there is no first one
 found_by : (axis : Axis) (t : Bool) (x a : Point) (xs : List Point)

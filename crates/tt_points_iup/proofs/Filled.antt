@@ -12,7 +12,7 @@ use Rattle.tt_points_iup.proofs.Limits.{limited_ok, one_outside}
 
 -- what is read past the end of a list of points
 abbrev pub blank : Point
-blank = record { org_x = pos 0; org_y = pos 0; x = pos 0; y = pos 0; touched_x = false; touched_y = false; on = false }
+blank = record { units_x = pos 0; units_y = pos 0; org_x = pos 0; org_y = pos 0; x = pos 0; y = pos 0; touched_x = false; touched_y = false; on = false }
 
 -- lists that are the same from a place on have the same element there
 pub same_point : (now old : List Point) (i : ℕ) (d : Point) → i < length now → i < length old → drop i now ≡ drop i old

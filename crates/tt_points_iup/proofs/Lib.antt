@@ -1,3 +1,4 @@
+pub mod Between
 pub mod Filled
 pub mod Limits
 pub mod Touches

@@ -5,11 +5,11 @@ use Rattle.std.proofs.lemmas.Slice.{take-put_mid, drop-put_mid}
 use Rattle.std.proofs.lemmas.List.Elements.{All-append, All-take, All-drop}
 use Rattle.tt_core.specs.declared.fault.Why.{Why}
 use borrow.Rule.Slice.PartMut.{put_mid}
-use Rattle.tt_state.specs.declared.graphics_state.Axis.{Axis}
 use Rattle.tt_state.specs.declared.point.Point.{Point}
 use Rattle.tt_points_zones.specs.Zones.{AreContours, IsPoint}
 use Rattle.tt_points_iup.specs.Interpolation as is
 use Rattle.tt_points_iup.specs.Interpolation.{limited}
+use Rattle.tt_points_iup.specs.declared.place.Along.{Along}
 use Rattle.tt_points_iup.proofs.Limits.{limited_behind, limited_before}
 
 pub inside_of : (from : ℕ) (ranges : List (ℕ × ℕ)) (n : ℕ) → AreContours from ranges n → from ≤ n
@@ -35,8 +35,8 @@ next_range start ranges i n there h =
     next_of start (get_or ranges i (0, 0)) (drop (i + 1) ranges) n (rw (drop_more ranges i (0, 0) there) at h)
 
 -- what holds behind one contour more
-pub record Made (axis : Axis) (whole now old : List Point) (at : ℕ) (ranges : List (ℕ × ℕ)) : Type 0 where
-  pub so_far : take at now ++ is.contours axis at ranges old ≡ whole
+pub record Made (along : Along) (whole now old : List Point) (at : ℕ) (ranges : List (ℕ × ℕ)) : Type 0 where
+  pub so_far : take at now ++ is.contours along at ranges old ≡ whole
   pub rest : drop at now ≡ drop at old
 
 -- the points from a place on decide those from a later place on
@@ -50,45 +50,46 @@ later now old start past order same =
     let y : drop (past - start) (drop start old) ≡ drop past old = rw sum at b in
     x ∙ rw same y
 
-pub after_contour : (axis : Axis) (whole now old part : List Point) (start : ℕ) (range : ℕ × ℕ) (ranges : List (ℕ × ℕ))
+pub after_contour : (along : Along) (whole now old part : List Point) (start : ℕ) (range : ℕ × ℕ)
+    (ranges : List (ℕ × ℕ))
     → Next start range ranges (length old) → length now ≡ length old
-    → Made axis whole now old start (range ∷ ranges)
-    → is.contour axis (take (range.1 - start) (drop start now)) ≡ part → length part ≡ range.1 - start
-    → Made axis whole (put_mid start (range.1 - start) now part) old (range.1) ranges
-after_contour axis whole now old part start range ranges next long made is_part many =
+    → Made along whole now old start (range ∷ ranges)
+    → is.contour along (take (range.1 - start) (drop start now)) ≡ part → length part ≡ range.1 - start
+    → Made along whole (put_mid start (range.1 - start) now part) old (range.1) ranges
+after_contour along whole now old part start range ranges next long made is_part many =
     let order = next.order in
     let bound = next.bound in
     let taken = take-put_mid start (range.1 - start) now part (range.1) (omega arith) (omega arith) in
     let left = drop-put_mid start (range.1 - start) now part (range.1) (omega arith) (omega arith) many in
-    let this : is.contour axis (take (range.1 - start) (drop start old)) ≡ part = rw (made.rest) at is_part in
+    let this : is.contour along (take (range.1 - start) (drop start old)) ≡ part = rw (made.rest) at is_part in
     let so_far = rw (next.from, this) at made.so_far in
     record {
-      so_far = rw (taken, append_assoc (take start now) part (is.contours axis (range.1) ranges old)) so_far;
+      so_far = rw (taken, append_assoc (take start now) part (is.contours along (range.1) ranges old)) so_far;
       rest = left ∙ later now old start (range.1) order made.rest;
     }
 
 -- what holds behind the last one
-pub whole_made : (axis : Axis) (whole now old : List Point) (start i : ℕ) (ranges : List (ℕ × ℕ)) → length ranges ≤ i
-    → start ≤ length old → Made axis whole now old start (drop i ranges) → now ≡ whole
-whole_made axis whole now old start i ranges past inside made =
+pub whole_made : (along : Along) (whole now old : List Point) (start i : ℕ) (ranges : List (ℕ × ℕ)) → length ranges ≤ i
+    → start ≤ length old → Made along whole now old start (drop i ranges) → now ≡ whole
+whole_made along whole now old start i ranges past inside made =
     let none = drop_all i ranges past in
     let so_far = rw none at made.so_far in
     let joined : take start now ++ drop start now ≡ whole = rw (made.rest) so_far in
     sym (take-append-drop start now) ∙ joined
 
 -- a fault of the next one is a fault of all
-pub contour_outside : (axis : Axis) (whole now old : List Point) (start : ℕ) (range : ℕ × ℕ) (ranges : List (ℕ × ℕ))
+pub contour_outside : (along : Along) (whole now old : List Point) (start : ℕ) (range : ℕ × ℕ) (ranges : List (ℕ × ℕ))
     (fault : Why)
-    → Next start range ranges (length old) → Made axis whole now old start (range ∷ ranges)
-    → limited axis (is.contour axis (take (range.1 - start) (drop start now))) ≡ Err fault → limited axis whole ≡ Err
-    fault
-contour_outside axis whole now old start range ranges fault next made bad =
-    let here : limited axis (is.contour axis (take (range.1 - start) (drop start old))) ≡ Err fault =
+    → Next start range ranges (length old) → Made along whole now old start (range ∷ ranges)
+    → limited along.axis (is.contour along (take (range.1 - start) (drop start now))) ≡ Err fault
+    → limited along.axis whole ≡ Err fault
+contour_outside along whole now old start range ranges fault next made bad =
+    let here : limited along.axis (is.contour along (take (range.1 - start) (drop start old))) ≡ Err fault =
     rw (made.rest) at bad in
-    let part = is.contour axis (take (range.1 - start) (drop start old)) in
-    let behind = is.contours axis (range.1) ranges old in
-    let more = limited_behind axis (take start now) (part ++ behind) fault (limited_before axis part behind fault
-    here) in
+    let part = is.contour along (take (range.1 - start) (drop start old)) in
+    let behind = is.contours along (range.1) ranges old in
+    let before = limited_before along.axis part behind fault here in
+    let more = limited_behind along.axis (take start now) (part ++ behind) fault before in
     let so_far : take start now ++ (part ++ behind) ≡ whole = rw (next.from) at made.so_far in
     rw so_far at more
 

@@ -2,9 +2,9 @@
 use Rattle.std.proofs.Common.{◌≡◌, ℕ, ◌+◌, ◌≤◌, List, ◌++◌, length, take, drop, sym, append_assoc}
 use Rattle.std.proofs.lemmas.List.{drop-drop, length-take-le, take-append-drop}
 use Rattle.std.proofs.Math.Seq.{take-append-add, drop-append-add}
-use Rattle.tt_state.specs.declared.graphics_state.Axis.{Axis}
 use Rattle.tt_state.specs.declared.point.Point.{Point}
 use Rattle.tt_points_iup.specs.Sweeps.{swept, IsRun}
+use Rattle.tt_points_iup.specs.declared.place.Along.{Along}
 
 -- points of which the front stays
 pub front_kept : (now new : List Point) (start : ℕ) → take start new ≡ take start now
@@ -17,21 +17,21 @@ parts_at : (n k : ℕ) (xs ys : List Point) → n ≡ length xs
 parts_at n k xs ys e = (rw e (take-append-add xs ys k), rw e (drop-append-add xs ys k))
 
 -- what holds after one run more
-pub record Further (axis : Axis) (first : Point) (whole now old : List Point) (at : ℕ) (before : Point) : Type 0 where
-  pub so_far : take at now ++ swept axis before first (drop at old) ≡ whole
+pub record Further (along : Along) (first : Point) (whole now old : List Point) (at : ℕ) (before : Point) : Type 0 where
+  pub so_far : take at now ++ swept along before first (drop at old) ≡ whole
   pub rest : drop at now ≡ drop at old
 
-pub after_run : (axis : Axis) (before first : Point) (whole now old part : List Point) (start len : ℕ) (last : Point)
-    → start ≤ length now → Further axis first whole now old start before
-    → IsRun axis before first (drop start now) part len last
-    → Further axis first whole (take start now ++ part) old (start + len) last
-after_run axis before first whole now old part start len last inside so is =
+pub after_run : (along : Along) (before first : Point) (whole now old part : List Point) (start len : ℕ) (last : Point)
+    → start ≤ length now → Further along first whole now old start before
+    → IsRun along before first (drop start now) part len last
+    → Further along first whole (take start now ++ part) old (start + len) last
+after_run along before first whole now old part start len last inside so is =
     let long : start ≡ length (take start now) = sym (length-take-le start now inside) in
     let parts = parts_at start len (take start now) part long in
     let later : drop (start + len) old ≡ drop len (drop start old) = sym (drop-drop len start old) in
     let part_is = rw so.rest at is.so_far in
     let rest_is = rw so.rest at is.rest in
-    let joined = append_assoc (take start now) (take len part) (swept axis last first (drop len (drop
+    let joined = append_assoc (take start now) (take len part) (swept along last first (drop len (drop
     start old))) in
     record {
       so_far = rw (parts.0, later, joined, part_is) (so.so_far);

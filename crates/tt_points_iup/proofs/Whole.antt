@@ -5,8 +5,9 @@ use Rattle.tt_core.specs.declared.fault.Why.{Why}
 use Rattle.tt_state.specs.declared.graphics_state.Axis.{Axis}
 use Rattle.tt_state.specs.declared.point.Point.{Point}
 use Rattle.tt_points_zones.specs.Zones.{ZoneLists}
-use Rattle.tt_points_iup.specs.Interpolation.{limited, contours, iup}
+use Rattle.tt_points_iup.specs.Interpolation.{limited, contours, along_in, iup}
 
 pub iup_of : (axis : Axis) (z : ZoneLists) (r : Result (List Point) Why)
-    → limited axis (contours axis 0 z.contours z.glyph) ≡ r → iup axis z ≡ (r >>= λ ps. Ok (record z { glyph = ps }))
+    → limited axis (contours (along_in axis z) 0 z.contours z.glyph) ≡ r
+    → iup axis z ≡ (r >>= λ ps. Ok (record z { glyph = ps }))
 iup_of axis z r is = ap (λ (q : Result (List Point) Why). q >>= λ ps. Ok (record z { glyph = ps })) is

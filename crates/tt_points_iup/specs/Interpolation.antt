@@ -1,44 +1,88 @@
 -- Apple TrueType Reference Manual, "Instruction set" (IUP[a]) and "Instructing TrueType Glyphs" (touched points):
--- points that no instruction touched follow the touched points next to them. Coordinates are in 26.6 pixels.
+-- points that no instruction touched follow the touched points next to them. Coordinates are in 26.6 pixels. That a
+-- glyph zone may be in font units, and that order and proportion are told by these then, is profile.
 use Rattle.std.specs.Prelude.{◌≡◌, ℕ, ℤ, pos, negsuc, ◌+ℤ◌, ◌-ℤ◌, ◌*ℤ◌, int_le, int_lt, Bool, true, false, if◌then◌else◌, List, [], ◌∷◌, ◌++◌, drop, slice_range, Option, Some, None, Result, Ok, Err, refl}
 use Rattle.std.specs.List.{list_all}
-use Rattle.tt_core.specs.Numbers.{rounded_quotient}
+use Rattle.std.specs.Ordering.{int_eq}
 use Rattle.tt_core.specs.Outcomes.{◌>>=◌}
+use Rattle.tt_core.specs.Scales.{quotient, rounded_scale}
 use Rattle.tt_core.specs.declared.fault.Why.{Why}
 use Rattle.tt_core.specs.declared.fault.Why.TheVariants as why
+use Rattle.tt_core.specs.declared.halves.Halves.{Halves}
+use Rattle.tt_core.specs.declared.halves.Halves.TheVariants as halves
+use Rattle.tt_core.specs.declared.scaling.Scale.{Scale}
 use Rattle.tt_state.specs.declared.graphics_state.Axis.{Axis}
 use Rattle.tt_state.specs.declared.graphics_state.Axis.TheVariants as axis
 use Rattle.tt_state.specs.declared.point.Point.{Point}
 use Rattle.tt_points_zones.specs.Points.{cur, org, is_touched, put, is_coordinate}
-use Rattle.tt_points_zones.specs.Zones.{ZoneLists}
+use Rattle.tt_points_zones.specs.Zones.{ZoneLists, in_pixels}
+use Rattle.tt_points_zones.specs.declared.zones.Originals.{Originals}
+use Rattle.tt_points_iup.specs.declared.place.Along.{Along}
 
--- where a point stood along an axis before the program, and where it stands
+-- Where a point stood along an axis before the program, and where it stands; and from where its order among others is
+-- told, and its share of the way between two.
 pub record Position : Type 0 where
+  pub from : ℤ
   pub org : ℤ
   pub cur : ℤ
 
-abbrev pub position_at : Axis → Point → Position
-position_at axis p = record { org = org axis p; cur = cur axis p }
+abbrev pub units : Axis → Point → ℤ
+units axis.X p = p.units_x
+units axis.Y p = p.units_y
+
+-- in font units where the zone is in them, else in 26.6
+abbrev pub measured : Option Scale → Axis → Point → ℤ
+measured None axis p = org axis p
+measured (Some s) axis p = units axis p
+
+abbrev pub position_at : Along → Point → Position
+position_at along p = record {
+  from = measured along.originals.units along.axis p;
+  org = org along.axis p;
+  cur = cur along.axis p;
+}
+
+-- a way over a range in 16.16; where the range is 0 it is nothing: no point is between then
+abbrev pub factor : Halves → ℤ → ℤ → ℤ
+factor halves way range = if int_eq range (pos 0) then pos 0 else quotient halves (pos 65536 *ℤ way) range
+
+-- As much of a way as a part is of a range: the part is multiplied and divided by these. In font units the way over the
+-- range is rounded first.
+abbrev pub multiplier : Option Scale → Halves → ℤ → ℤ → ℤ
+multiplier None halves way range = way
+multiplier (Some s) halves way range = factor halves way range
+
+abbrev pub divisor : Option Scale → ℤ → ℤ
+divisor None range = range
+divisor (Some s) range = pos 65536
+
+abbrev pub share : Originals → ℤ → ℤ → ℤ → ℤ
+share by part way range =
+    quotient by.halves (part *ℤ multiplier by.units by.halves way range) (divisor by.units range)
 
 -- as far from one position to another as it was from the one's original to the other's
-abbrev pub in_proportion : ℤ → Position → Position → ℤ
-in_proportion u lo hi =
-    lo.cur +ℤ rounded_quotient ((u -ℤ lo.org) *ℤ (hi.cur -ℤ lo.cur)) (hi.org -ℤ lo.org)
+abbrev pub in_proportion : Originals → Position → Position → Position → ℤ
+in_proportion by p lo hi = lo.cur +ℤ share by (p.from -ℤ lo.from) (hi.cur -ℤ lo.cur) (hi.from -ℤ lo.from)
 
--- an original coordinate, moved as the lower position where it is not above it, as the upper one where it is not below it,
--- and else in proportion
-abbrev pub following : ℤ → Position → Position → ℤ
-following u lo hi =
-    if int_le u lo.org then u +ℤ (lo.cur -ℤ lo.org)
-    else (if int_le hi.org u then u +ℤ (hi.cur -ℤ hi.org) else in_proportion u lo hi)
+-- a position, moved as the lower one where its original is not above that one's, as the upper one where it is not below
+-- it, and else in proportion; also in font units this is told in 26.6
+abbrev pub following : Originals → Position → Position → Position → ℤ
+following by p lo hi =
+    if int_le p.org lo.org then p.org +ℤ (lo.cur -ℤ lo.org)
+    else (if int_le hi.org p.org then p.org +ℤ (hi.cur -ℤ hi.org) else in_proportion by p lo hi)
 
--- the position with the lower original is the lower one
-abbrev pub between : ℤ → Position → Position → ℤ
-between u a b = if int_lt b.org a.org then following u b a else following u a b
+-- the position with the lower original is the lower one, in font units where the zone is in them
+abbrev pub between : Originals → Position → Position → Position → ℤ
+between by p a b = if int_lt b.from a.from then following by p b a else following by p a b
 
--- an untouched point between two touched ones; it stays untouched
-unfoldable pub interpolated : Axis → Point → Point → Point → Point
-interpolated axis a b p = put axis (between (org axis p) (position_at axis a) (position_at axis b)) p
+-- a point put between two positions; it stays untouched
+abbrev pub placed_between : Along → Position → Position → Point → Point
+placed_between along lo hi p = put along.axis (following along.originals (position_at along p) lo hi) p
+
+-- an untouched point between two touched ones
+unfoldable pub interpolated : Along → Point → Point → Point → Point
+interpolated along a b p =
+    put along.axis (between along.originals (position_at along p) (position_at along a) (position_at along b)) p
 
 abbrev pub first_touched : Axis → List Point → Option Point
 first_touched axis [] = None
@@ -50,30 +94,30 @@ last_touched axis found [] = found
 last_touched axis found (p ∷ ps) = last_touched axis (if is_touched axis p then Some p else found) ps
 
 -- Without a touched point in its contour a point stays where it is.
-abbrev pub interpolated_by : Axis → Option Point → Option Point → Point → Point
-interpolated_by axis (Some a) (Some b) p = interpolated axis a b p
-interpolated_by axis (Some a) None p = p
-interpolated_by axis None b p = p
+abbrev pub interpolated_by : Along → Option Point → Option Point → Point → Point
+interpolated_by along (Some a) (Some b) p = interpolated along a b p
+interpolated_by along (Some a) None p = p
+interpolated_by along None b p = p
 
 -- a point, and the others of its contour from the one after it round to the one before it
-abbrev pub interpolated_among : Axis → List Point → Point → Point
-interpolated_among axis others p =
-    if is_touched axis p then p
-    else interpolated_by axis (last_touched axis None others) (first_touched axis others) p
+abbrev pub interpolated_among : Along → List Point → Point → Point
+interpolated_among along others p =
+    if is_touched along.axis p then p
+    else interpolated_by along (last_touched along.axis None others) (first_touched along.axis others) p
 
 -- the points of a contour after those of its front, each among the others as they were
-abbrev pub contour_from : Axis → List Point → List Point → List Point
-contour_from axis front [] = []
-contour_from axis front (p ∷ back) =
-    interpolated_among axis (back ++ front) p ∷ contour_from axis (front ++ p ∷ []) back
+abbrev pub contour_from : Along → List Point → List Point → List Point
+contour_from along front [] = []
+contour_from along front (p ∷ back) =
+    interpolated_among along (back ++ front) p ∷ contour_from along (front ++ p ∷ []) back
 
-unfoldable pub contour : Axis → List Point → List Point
-contour axis ps = contour_from axis [] ps
+unfoldable pub contour : Along → List Point → List Point
+contour along ps = contour_from along [] ps
 
 -- each contour by itself; the points after the last, the phantom points, stay
-abbrev pub contours : Axis → ℕ → List (ℕ × ℕ) → List Point → List Point
-contours axis at [] ps = drop at ps
-contours axis at (c ∷ cs) ps = contour axis (slice_range ps c.0 c.1) ++ contours axis c.1 cs ps
+abbrev pub contours : Along → ℕ → List (ℕ × ℕ) → List Point → List Point
+contours along at [] ps = drop at ps
+contours along at (c ∷ cs) ps = contour along (slice_range ps c.0 c.1) ++ contours along c.1 cs ps
 
 abbrev pub within : Axis → Point → Bool
 within axis p = is_coordinate (cur axis p)
@@ -86,39 +130,46 @@ abbrev pub limited : Axis → List Point → Result (List Point) Why
 limited axis ps = if list_all (within axis) ps then Ok ps else Err why.ValueRange
 
 -- IUP[a], 0x30 along y and 0x31 along x, always in the glyph zone
-abbrev pub iup : Axis → ZoneLists → Result ZoneLists Why
-iup axis z = limited axis (contours axis 0 z.contours z.glyph) >>= λ ps. Ok (record z { glyph = ps })
+abbrev pub along_in : Axis → ZoneLists → Along
+along_in axis z = record { axis = axis; originals = z.originals }
 
--- worked values
+abbrev pub iup : Axis → ZoneLists → Result ZoneLists Why
+iup axis z =
+    limited axis (contours (along_in axis z) 0 z.contours z.glyph) >>= λ ps. Ok (record z { glyph = ps })
+
+-- worked values, in 26.6
+abbrev along_x : Along
+along_x = record { axis = axis.X; originals = in_pixels halves.Up }
+
 abbrev at : ℤ → ℤ → Bool → Point
 at org cur touched =
-    record { org_x = org; org_y = pos 0; x = cur; y = pos 0; touched_x = touched; touched_y = false; on = true }
+    record { units_x = pos 0; units_y = pos 0; org_x = org; org_y = pos 0; x = cur; y = pos 0; touched_x = touched; touched_y = false; on = true }
 
 abbrev untouched : ℤ → Point
 untouched org = at org org false
 
-in_proportion_between : contour axis.X
+in_proportion_between : contour along_x
     (at (pos 0) (pos 10) true ∷ untouched (pos 25) ∷ at (pos 100) (pos 130) true ∷ [])
     ≡ at (pos 0) (pos 10) true ∷ at (pos 25) (pos 40) false ∷ at (pos 100) (pos 130) true ∷ []
 unfolding contour interpolated
 in_proportion_between = refl
 
-below_both : contour axis.X (at (pos 0) (pos 10) true ∷ untouched (negsuc 4) ∷ at (pos 100) (pos 130) true ∷ [])
+below_both : contour along_x (at (pos 0) (pos 10) true ∷ untouched (negsuc 4) ∷ at (pos 100) (pos 130) true ∷ [])
     ≡ at (pos 0) (pos 10) true ∷ at (negsuc 4) (pos 5) false ∷ at (pos 100) (pos 130) true ∷ []
 unfolding contour interpolated
 below_both = refl
 
-nothing_touched : contour axis.X (untouched (pos 0) ∷ untouched (pos 25) ∷ untouched (pos 100) ∷ [])
+nothing_touched : contour along_x (untouched (pos 0) ∷ untouched (pos 25) ∷ untouched (pos 100) ∷ [])
     ≡ untouched (pos 0) ∷ untouched (pos 25) ∷ untouched (pos 100) ∷ []
 unfolding contour
 nothing_touched = refl
 
-one_touched : contour axis.X (untouched (pos 0) ∷ at (pos 100) (pos 110) true ∷ untouched (pos 50) ∷ [])
+one_touched : contour along_x (untouched (pos 0) ∷ at (pos 100) (pos 110) true ∷ untouched (pos 50) ∷ [])
     ≡ at (pos 0) (pos 10) false ∷ at (pos 100) (pos 110) true ∷ at (pos 50) (pos 60) false ∷ []
 unfolding contour interpolated
 one_touched = refl
 
-equal_originals : contour axis.X (at (pos 40) (pos 45) true ∷ untouched (pos 40) ∷ at (pos 40) (pos 60) true ∷ [])
+equal_originals : contour along_x (at (pos 40) (pos 45) true ∷ untouched (pos 40) ∷ at (pos 40) (pos 60) true ∷ [])
     ≡ at (pos 40) (pos 45) true ∷ at (pos 40) (pos 45) false ∷ at (pos 40) (pos 60) true ∷ []
 unfolding contour interpolated
 equal_originals = refl
@@ -127,6 +178,7 @@ past_the_limit : iup axis.X (record {
   twilight = [];
   glyph = at (pos 0) (negsuc 0) true ∷ untouched (negsuc 2097150) ∷ [];
   contours = (0, 2) ∷ [];
+  originals = in_pixels halves.Up;
 }) ≡ Err why.ValueRange
 unfolding contour interpolated
 past_the_limit = refl
@@ -135,10 +187,52 @@ phantom_points_stay : iup axis.X (record {
   twilight = [];
   glyph = at (pos 0) (pos 10) true ∷ untouched (pos 0) ∷ untouched (pos 5) ∷ [];
   contours = (0, 2) ∷ [];
+  originals = in_pixels halves.Up;
 }) ≡ Ok (record {
   twilight = [];
   glyph = at (pos 0) (pos 10) true ∷ at (pos 0) (pos 10) false ∷ untouched (pos 5) ∷ [];
   contours = (0, 2) ∷ [];
+  originals = in_pixels halves.Up;
 })
 unfolding contour interpolated
 phantom_points_stay = refl
+
+-- half of a way of -1
+a_half_up : contour along_x (at (pos 0) (pos 0) true ∷ untouched (pos 1) ∷ at (pos 2) (negsuc 0) true ∷ [])
+    ≡ at (pos 0) (pos 0) true ∷ at (pos 1) (pos 0) false ∷ at (pos 2) (negsuc 0) true ∷ []
+unfolding contour interpolated
+a_half_up = refl
+
+a_half_away : contour (record along_x { originals = in_pixels halves.AwayFromZero })
+    (at (pos 0) (pos 0) true ∷ untouched (pos 1) ∷ at (pos 2) (negsuc 0) true ∷ [])
+    ≡ at (pos 0) (pos 0) true ∷ at (pos 1) (negsuc 0) false ∷ at (pos 2) (negsuc 0) true ∷ []
+unfolding contour interpolated
+a_half_away = refl
+
+-- worked values, in font units
+abbrev in_units : Scale → Along
+in_units s = record { axis = axis.X; originals = record { units = Some s; halves = halves.AwayFromZero } }
+
+no_range : share (in_units (rounded_scale 13 1024)).originals (pos 1) (pos 64) (pos 0) ≡ pos 0
+no_range = refl
+
+abbrev from_units : ℤ → Point → Point
+from_units units p = record p { units_x = units }
+
+-- 73 of 200 units over a way of 192 are 70, where their originals, 59 of 163, would have been 69
+units_in_proportion : contour (in_units (rounded_scale 13 1024))
+    (at (pos 0) (pos 0) true ∷ from_units (pos 73) (untouched (pos 59))
+    ∷ from_units (pos 200) (at (pos 163) (pos 192) true) ∷ [])
+    ≡ at (pos 0) (pos 0) true ∷ from_units (pos 73) (at (pos 59) (pos 70) false)
+    ∷ from_units (pos 200) (at (pos 163) (pos 192) true) ∷ []
+unfolding contour interpolated
+units_in_proportion = refl
+
+-- of two originals that are the same the one with fewer units is the lower one, also where it comes later
+order_by_units : contour (in_units (rounded_scale 9 2048))
+    (from_units (pos 101) (at (pos 28) (pos 92) true) ∷ from_units (pos 71) (untouched (pos 20))
+    ∷ from_units (pos 100) (at (pos 28) (pos 28) true) ∷ [])
+    ≡ from_units (pos 101) (at (pos 28) (pos 92) true) ∷ from_units (pos 71) (at (pos 20) (pos 20) false)
+    ∷ from_units (pos 100) (at (pos 28) (pos 28) true) ∷ []
+unfolding contour interpolated
+order_by_units = refl

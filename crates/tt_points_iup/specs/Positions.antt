@@ -1,17 +1,30 @@
 -- Positions whose coordinates are within the limit, and what the code's types stand for.
-use Rattle.std.specs.Prelude.{◌≤◌, unsigned_abs, Option, Some, None}
+use Rattle.std.specs.Prelude.{◌≡◌, ◌<◌, ◌≤◌, ◌^◌, ℤ, ◌-ℤ◌, unsigned_abs, Option, Some, None}
 use Rattle.tt_core.specs.Limits.{coordinate_limit}
 use Rattle.tt_state.specs.declared.point.Point.{Point}
+use Rattle.tt_points_zones.specs.declared.zones.Originals.{Originals}
 use Rattle.tt_points_iup.specs.Interpolation as is
 use Rattle.tt_points_iup.specs.declared.counted.PlainPoint.{PlainPoint}
+use Rattle.tt_points_iup.specs.declared.place.Along.{Along}
 use Rattle.tt_points_iup.specs.declared.place.Position.{Position}
 
-pub record IsPosition (p : is.Position) : Type 0 where
+pub record IsPosition (by : Originals) (p : is.Position) : Type 0 where
+  pub from : unsigned_abs p.from ≤ coordinate_limit
   pub org : unsigned_abs p.org ≤ coordinate_limit
   pub cur : unsigned_abs p.cur ≤ coordinate_limit
+  pub in_pixels : by.units ≡ None → p.from ≡ p.org
 
 abbrev pub position_of : Position → is.Position
-position_of p = record { org = p.org; cur = p.cur }
+position_of p = record { from = p.from; org = p.org; cur = p.cur }
+
+-- two positions, and what a part of the range between their originals is multiplied and divided by
+pub record AreNeighbours (along : Along) (lo hi : is.Position) (multiplier divisor : ℤ) : Type 0 where
+  pub low : IsPosition along.originals lo
+  pub high : IsPosition along.originals hi
+  pub multiplied : multiplier
+      ≡ is.multiplier along.originals.units along.originals.halves (hi.cur -ℤ lo.cur) (hi.from -ℤ lo.from)
+  pub divided : divisor ≡ is.divisor along.originals.units (hi.from -ℤ lo.from)
+  pub few : unsigned_abs multiplier < 2 ^ 38
 
 -- a point that was found, its touches among it
 abbrev pub point_of : Option PlainPoint → Option Point

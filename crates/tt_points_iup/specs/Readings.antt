@@ -28,7 +28,7 @@ of_contours axis (c ∷ cs) ps = of_contour axis (slice_range ps c.0 c.1) + of_c
 -- worked values: of three points the second is touched, and then none
 abbrev a_point : Bool → Point
 a_point touched =
-    record { org_x = pos 0; org_y = pos 0; x = pos 0; y = pos 0; touched_x = touched; touched_y = false; on = true }
+    record { units_x = pos 0; units_y = pos 0; org_x = pos 0; org_y = pos 0; x = pos 0; y = pos 0; touched_x = touched; touched_y = false; on = true }
 
 second_touched : of_contour axis.X (a_point false ∷ a_point true ∷ a_point false ∷ []) ≡ 2 + 2 * 3
 second_touched = refl

@@ -1,24 +1,24 @@
 -- The points of a contour, made one after the other: the touched point before each is carried along.
 use Rattle.std.specs.Prelude.{◌≡◌, ℕ, ◌<◌, ◌≤◌, if◌then◌else◌, List, [], ◌∷◌, ◌++◌, length, take, drop}
 use Rattle.std.specs.Option.{unwrap_or}
-use Rattle.tt_state.specs.declared.graphics_state.Axis.{Axis}
 use Rattle.tt_state.specs.declared.point.Point.{Point}
 use Rattle.tt_points_zones.specs.Points.{is_touched}
 use Rattle.tt_points_zones.specs.Zones.{IsPoint}
 use Rattle.tt_points_iup.specs.Interpolation.{interpolated, first_touched}
+use Rattle.tt_points_iup.specs.declared.place.Along.{Along}
 
 -- the points after a touched one, and after them the first touched one of the contour
-abbrev pub swept : Axis → Point → Point → List Point → List Point
-swept axis before first [] = []
-swept axis before first (p ∷ ps) =
-    if is_touched axis p then p ∷ swept axis p first ps
-    else interpolated axis before (unwrap_or (first_touched axis ps) first) p ∷ swept axis before first ps
+abbrev pub swept : Along → Point → Point → List Point → List Point
+swept along before first [] = []
+swept along before first (p ∷ ps) =
+    if is_touched along.axis p then p ∷ swept along p first ps
+    else interpolated along before (unwrap_or (first_touched along.axis ps) first) p ∷ swept along before first ps
 
 -- points of which the first `len` became the first part of what is swept, and the others stay; `last` is the last
 -- touched one up to there
-pub record IsRun (axis : Axis) (before first : Point) (old new : List Point) (len : ℕ) (last : Point) : Type 0 where
+pub record IsRun (along : Along) (before first : Point) (old new : List Point) (len : ℕ) (last : Point) : Type 0 where
   pub more : 0 < len
   pub bound : len ≤ length old
-  pub so_far : take len new ++ swept axis last first (drop len old) ≡ swept axis before first old
+  pub so_far : take len new ++ swept along last first (drop len old) ≡ swept along before first old
   pub rest : drop len new ≡ drop len old
   pub valid : IsPoint last

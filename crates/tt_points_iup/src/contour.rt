@@ -8,7 +8,7 @@ ghost use Rattle.tt_points_iup.specs.Readings.{of_contour};
 ghost use Rattle.tt_points_iup.specs.Sweeps.{swept, IsRun};
 
 use crate::counted::{Contour, PlainPoint};
-use crate::place::interpolated;
+use crate::place::{Neighbours, interpolated};
 use crate::search::{first_touched, last_touched, untouched};
 use tt_core::Why;
 
@@ -33,7 +33,7 @@ fn fill(
     requires before { IsPoint before.point }
     requires after { IsPoint after.point }
     ensures exact { Gives (λ u. take len (drop start contour.new.points.now)) result
-        (is.limited contour.old.axis (map (is.interpolated contour.old.axis before.point after.point)
+        (is.limited contour.old.along.axis (map (is.interpolated contour.old.along before.point after.point)
         (take len (drop start contour.old.points.now)))) }
     ensures front { IfOk result (λ u. take start contour.new.points.now ≡ take start contour.old.points.now) }
     ensures back { IfOk result (λ u.
@@ -41,13 +41,16 @@ fn fill(
     ensures count { IfOk result (λ u. contour.new.reads ≡ contour.old.reads) }
     ensures valid { All IsPoint contour.new.points.now }
     ensures many { IfOk result (λ u. length contour.new.points.now ≡ length contour.old.points.now) }
-    ensures axis { contour.new.axis ≡ contour.old.axis }
+    ensures along { contour.new.along ≡ contour.old.along }
     ensures same_reference { contour.new.points.ghost_name ≡ contour.old.points.ghost_name }
 {
-    let axis = contour.axis();
+    if len == 0 {
+        return Ok(());
+    }
+    let between = Neighbours::of(contour.along(), before, after);
     for k in 0..len {
-        let p = interpolated(contour.at(start + k), axis, before, after)?;
-        contour.set(start + k, p);
+        let to = interpolated(contour.at(start + k), between)?;
+        contour.put(start + k, to);
     }
     Ok(())
 }
@@ -65,16 +68,16 @@ fn next_run(
     requires before { IsPoint before.point }
     requires first { IsPoint first.point }
     requires room { contour.old.reads + length contour.old.points.now < 2 ^ 64 + start }
-    ensures run { IfOk result (λ run. IsRun contour.old.axis before.point first.point (drop start contour.old.points.now)
-        (drop start contour.new.points.now) run.len run.last.point) }
+    ensures run { IfOk result (λ run. IsRun contour.old.along before.point first.point
+        (drop start contour.old.points.now) (drop start contour.new.points.now) run.len run.last.point) }
     ensures front { IfOk result (λ u. take start contour.new.points.now ≡ take start contour.old.points.now) }
     ensures count { IfOk result (λ run. contour.new.reads ≡ contour.old.reads + run.len) }
     ensures fault { IfErr result (λ why.
-        is.limited contour.old.axis (swept contour.old.axis before.point first.point (drop start contour.old.points.now))
-        ≡ Err why) }
+        is.limited contour.old.along.axis (swept contour.old.along before.point first.point
+        (drop start contour.old.points.now)) ≡ Err why) }
     ensures valid { All IsPoint contour.new.points.now }
     ensures many { IfOk result (λ u. length contour.new.points.now ≡ length contour.old.points.now) }
-    ensures axis { contour.new.axis ≡ contour.old.axis }
+    ensures along { contour.new.along ≡ contour.old.along }
     ensures same_reference { contour.new.points.ghost_name ≡ contour.old.points.ghost_name }
 {
     let len = untouched(contour, start);
@@ -95,7 +98,7 @@ fn sweep(contour: &mut Contour<'_>, last: PlainPoint, first: PlainPoint) -> Resu
     requires first { IsPoint first.point }
     requires room { contour.old.reads + length contour.old.points.now < 2 ^ 64 }
     ensures exact { Gives (λ u. contour.new.points.now) result
-        (is.limited contour.old.axis (swept contour.old.axis last.point first.point contour.old.points.now)) }
+        (is.limited contour.old.along.axis (swept contour.old.along last.point first.point contour.old.points.now)) }
     ensures count { IfOk result (λ u. contour.new.reads ≡ contour.old.reads + length contour.old.points.now) }
     ensures valid { All IsPoint contour.new.points.now }
     ensures same_reference { contour.new.points.ghost_name ≡ contour.old.points.ghost_name }
@@ -115,9 +118,9 @@ pub(crate) fn interpolate_contour(contour: &mut Contour<'_>) -> Result<(), Why>
     requires points { All IsPoint contour.old.points.now }
     requires room { contour.old.reads + 3 * length contour.old.points.now < 2 ^ 64 }
     ensures exact { Gives (λ u. contour.new.points.now) result
-        (is.limited contour.old.axis (is.contour contour.old.axis contour.old.points.now)) }
+        (is.limited contour.old.along.axis (is.contour contour.old.along contour.old.points.now)) }
     ensures count { IfOk result (λ u.
-        contour.new.reads ≡ contour.old.reads + of_contour contour.old.axis contour.old.points.now) }
+        contour.new.reads ≡ contour.old.reads + of_contour contour.old.along.axis contour.old.points.now) }
     ensures few { IfOk result (λ u. contour.new.reads ≤ contour.old.reads + 3 * length contour.old.points.now) }
     ensures valid { All IsPoint contour.new.points.now }
     ensures same_reference { contour.new.points.ghost_name ≡ contour.old.points.ghost_name }

@@ -1,18 +1,18 @@
 //! The points of a contour along an axis, as their interpolation sees them. `Contour::is_touched` alone tells whether a
 //! point is touched, and counts itself: no point with its touches, nor a slice of such points, leaves this module.
 
-ghost use Rattle.std.specs.Prelude.{◌≡◌, ◌+◌, ◌*◌, ◌^◌, ◌<◌, ◌≤◌, length, get_or, slice_set, All, IfOk, unsigned_abs};
+ghost use Rattle.std.specs.Prelude.{◌≡◌, ◌+◌, ◌*◌, ◌^◌, ◌<◌, ◌≤◌, length, get_or, slice_set, None, All, IfOk, unsigned_abs};
 ghost use Rattle.tt_core.specs.Limits.{coordinate_limit};
 ghost use Rattle.tt_core.specs.Outcomes.{Gives};
 ghost use Rattle.tt_state.specs.declared.point.Point.{Point as IsAPoint};
-ghost use Rattle.tt_points_zones.specs.Points.{is_touched as touched, put as put_to};
+ghost use Rattle.tt_points_zones.specs.Points.{is_touched as touched, org as org_of, put as put_to};
 ghost use Rattle.tt_points_zones.specs.Zones.{IsPoint, AreContours};
 ghost use Rattle.tt_points_iup.specs.Interpolation as is;
 ghost use Rattle.tt_points_iup.specs.Positions.{IsPosition, position_of};
 ghost use Rattle.tt_points_iup.specs.Readings.{of_contour, of_contours};
 
 use crate::contour::interpolate_contour;
-use crate::place::Position;
+use crate::place::{Along, Coordinate, Position};
 use tt_core::Why;
 use tt_points_zones::{cur, is_touched, org, put};
 use tt_state::{Axis, Point};
@@ -21,7 +21,7 @@ use tt_state::{Axis, Point};
 #[derive(Drop)]
 pub(crate) struct Contour<'a> {
     points: &'a mut [Point],
-    axis: Axis,
+    along: Along,
     reads: u64,
 }
 
@@ -31,50 +31,64 @@ pub(crate) struct PlainPoint {
     point: Point,
 }
 
+/// Where a point stood along an axis in font units.
+fn units(p: Point, axis: Axis) -> i32
+    requires { IsPoint p }
+    ensures exact { result ≡ is.units axis p }
+    ensures bound { unsigned_abs result ≤ coordinate_limit }
+{
+    match axis {
+        Axis::X => p.units_x,
+        Axis::Y => p.units_y,
+    }
+}
+
+/// The same in font units where the zone is in them, else in 26.6.
+fn measured(p: Point, along: Along) -> i32
+    requires { IsPoint p }
+    ensures exact { result ≡ is.measured along.originals.units along.axis p }
+    ensures bound { unsigned_abs result ≤ coordinate_limit }
+    ensures in_pixels { along.originals.units ≡ None → result ≡ org_of along.axis p }
+{
+    match along.originals.units {
+        None => org(p, along.axis),
+        Some(_) => units(p, along.axis),
+    }
+}
+
 impl PlainPoint {
     /// Where the point stood and where it stands.
-    pub(crate) fn position(self, axis: Axis) -> Position
+    pub(crate) fn position(self, along: Along) -> Position
         requires { IsPoint self.point }
-        ensures exact { position_of result ≡ is.position_at axis self.point }
-        ensures valid { IsPosition (position_of result) }
+        ensures exact { position_of result ≡ is.position_at along self.point }
+        ensures valid { IsPosition along.originals (position_of result) }
     {
         Position {
-            org: org(self.point, axis),
-            cur: cur(self.point, axis),
-        }
-    }
-
-    /// The point put to a coordinate in 26.6 pixels, as touched as it was.
-    pub(crate) fn put(self, axis: Axis, v: i64) -> PlainPoint
-        requires point { IsPoint self.point }
-        requires limit { unsigned_abs v ≤ coordinate_limit }
-        ensures exact { result.point ≡ put_to axis v self.point }
-        ensures valid { IsPoint result.point }
-    {
-        PlainPoint {
-            point: put(self.point, axis, v),
+            from: measured(self.point, along),
+            org: org(self.point, along.axis),
+            cur: cur(self.point, along.axis),
         }
     }
 }
 
 impl<'a> Contour<'a> {
-    fn over(points: &'a mut [Point], axis: Axis) -> Contour<'a>
+    fn over(points: &'a mut [Point], along: Along) -> Contour<'a>
         ensures same_reference { result.points.ghost_name ≡ points.entry.ghost_name }
         ensures points { result.points.now ≡ points.old }
-        ensures axis { result.axis ≡ axis }
+        ensures along { result.along ≡ along }
         ensures count { result.reads ≡ 0 }
     {
         Contour {
             points,
-            axis,
+            along,
             reads: 0,
         }
     }
 
-    pub(crate) fn axis(&self) -> Axis
-        ensures { result ≡ self.now.axis }
+    pub(crate) fn along(&self) -> Along
+        ensures { result ≡ self.now.along }
     {
-        self.axis
+        self.along
     }
 
     /// How many points there are.
@@ -88,14 +102,14 @@ impl<'a> Contour<'a> {
     pub(crate) fn is_touched(&mut self, i: usize) -> bool
         requires there { i < length self.old.points.now }
         requires room { self.old.reads + 1 < 2 ^ 64 }
-        ensures exact { (d : IsAPoint) → result ≡ touched self.old.axis (get_or self.old.points.now i d) }
+        ensures exact { (d : IsAPoint) → result ≡ touched self.old.along.axis (get_or self.old.points.now i d) }
         ensures count { self.new.reads ≡ self.old.reads + 1 }
-        ensures axis { self.new.axis ≡ self.old.axis }
+        ensures along { self.new.along ≡ self.old.along }
         ensures unchanged { self.new.points.now ≡ self.old.points.now }
         ensures same_reference { self.new.points.ghost_name ≡ self.old.points.ghost_name }
     {
         self.reads += 1;
-        is_touched(self.points[i], self.axis)
+        is_touched(self.points[i], self.along.axis)
     }
 
     /// The point with a number, without its touches.
@@ -108,28 +122,32 @@ impl<'a> Contour<'a> {
         }
     }
 
-    /// Puts a point in the place of the one with a number.
-    pub(crate) fn set(&mut self, i: usize, p: PlainPoint)
-        requires { i < length self.old.points.now }
-        ensures exact { self.new.points.now ≡ slice_set self.old.points.now i p.point }
+    /// The point with a number put to a coordinate, as touched as it was.
+    pub(crate) fn put(&mut self, i: usize, to: Coordinate)
+        requires there { i < length self.old.points.now }
+        requires points { All IsPoint self.old.points.now }
+        requires limit { unsigned_abs to.0 ≤ coordinate_limit }
+        ensures exact { (d : IsAPoint) → self.new.points.now
+            ≡ slice_set self.old.points.now i (put_to self.old.along.axis to.0 (get_or self.old.points.now i d)) }
+        ensures valid { All IsPoint self.new.points.now }
         ensures count { self.new.reads ≡ self.old.reads }
-        ensures axis { self.new.axis ≡ self.old.axis }
+        ensures along { self.new.along ≡ self.old.along }
         ensures same_reference { self.new.points.ghost_name ≡ self.old.points.ghost_name }
     {
-        self.points[i] = p.point;
+        self.points[i] = put(self.points[i], self.along.axis, to.0);
     }
 }
 
 /// Interpolates the points of one contour, and answers how often it was asked whether one is touched. Error: ValueRange.
-fn one_contour(points: &mut [Point], axis: Axis) -> Result<u64, Why>
+fn one_contour(points: &mut [Point], along: Along) -> Result<u64, Why>
     requires points { All IsPoint points.old }
     requires room { 3 * length points.old < 2 ^ 64 }
-    ensures exact { Gives (λ n. points.new) result (is.limited axis (is.contour axis points.old)) }
-    ensures count { IfOk result (λ n. n ≡ of_contour axis points.old) }
+    ensures exact { Gives (λ n. points.new) result (is.limited along.axis (is.contour along points.old)) }
+    ensures count { IfOk result (λ n. n ≡ of_contour along.axis points.old) }
     ensures few { IfOk result (λ n. n ≤ 3 * length points.old) }
     ensures valid { All IsPoint points.new }
 {
-    let mut contour = Contour::over(points, axis);
+    let mut contour = Contour::over(points, along);
     interpolate_contour(&mut contour)?;
     Ok(contour.reads)
 }
@@ -139,13 +157,14 @@ fn one_contour(points: &mut [Point], axis: Axis) -> Result<u64, Why>
 pub(crate) fn each_contour(
     points: &mut [Point],
     contours: &[(u32, u32)],
-    axis: Axis,
+    along: Along,
 ) -> Result<u64, Why>
     requires ranges { AreContours 0 contours.now (length points.old) }
     requires points { All IsPoint points.old }
     requires room { 3 * length points.old < 2 ^ 64 }
-    ensures exact { Gives (λ n. points.new) result (is.limited axis (is.contours axis 0 contours.now points.old)) }
-    ensures count { IfOk result (λ n. n ≡ of_contours axis contours.now points.old) }
+    ensures exact { Gives (λ n. points.new) result
+        (is.limited along.axis (is.contours along 0 contours.now points.old)) }
+    ensures count { IfOk result (λ n. n ≡ of_contours along.axis contours.now points.old) }
     ensures few { IfOk result (λ n. n ≤ 3 * length points.old) }
     ensures valid { All IsPoint points.new }
 {
@@ -153,7 +172,7 @@ pub(crate) fn each_contour(
     let mut start = 0;
     for range in contours {
         let past = range.1 as usize;
-        reads += one_contour(&mut points[start..past], axis)?;
+        reads += one_contour(&mut points[start..past], along)?;
         start = past;
     }
     Ok(reads)

@@ -7,6 +7,7 @@ ghost use Rattle.tt_points_iup.specs.Interpolation as is;
 ghost use Rattle.tt_points_iup.specs.Readings.{of_contours};
 
 use crate::counted::each_contour;
+use crate::place::Along;
 use tt_core::Why;
 use tt_points_zones::Zones;
 use tt_state::Axis;
@@ -19,7 +20,11 @@ pub fn interpolate(zones: &mut Zones, axis: Axis) -> Result<u64, Why>
     ensures count { IfOk result (λ n. n ≡ of_contours axis zones.old.contours.items zones.old.glyph.items) }
     ensures few { IfOk result (λ n. n ≤ 3 * length zones.old.glyph.items) }
 {
-    each_contour(&mut zones.glyph, &zones.contours, axis)
+    let along = Along {
+        axis,
+        originals: zones.originals,
+    };
+    each_contour(&mut zones.glyph, &zones.contours, along)
 }
 
 /// IUP[a], 0x30 along y, 0x31 along x: -> nothing. In the glyph zone each untouched point of a contour follows the

@@ -7,25 +7,28 @@ ghost use Rattle.tt_points_zones.specs.Points.{is_touched};
 ghost use Rattle.tt_points_zones.specs.Zones.{ZoneLists, AreContours, KeepsShape};
 ghost use Rattle.tt_points_iup.specs.Interpolation as is;
 ghost use Rattle.tt_points_iup.specs.Neighbours.{round_from, IsNextTouched, IsLastTouched, HasNeighbours};
+ghost use Rattle.tt_points_iup.specs.declared.place.Along.{Along};
 
 /// Takes nothing and gives nothing: its clauses hold of all contours.
 pub fn point_by_point()
-    ensures many { (axis : Axis) (ps : List Point) → length (is.contour axis ps) ≡ length ps }
+    ensures many { (along : Along) (ps : List Point) → length (is.contour along ps) ≡ length ps }
     // A touched point stays.
-    ensures touched { (axis : Axis) (ps : List Point) (d : Point) (i : ℕ) → i < length ps
-        → is_touched axis (get_or ps i d) ≡ true → get_or (is.contour axis ps) i d ≡ get_or ps i d }
+    ensures touched { (along : Along) (ps : List Point) (d : Point) (i : ℕ) → i < length ps
+        → is_touched along.axis (get_or ps i d) ≡ true → get_or (is.contour along ps) i d ≡ get_or ps i d }
     // Where a point of the contour is touched, each untouched one has touched neighbours.
-    ensures there { (axis : Axis) (ps : List Point) (d : Point) (i j : ℕ) → i < length ps → j < length ps
-        → is_touched axis (get_or ps i d) ≡ false → is_touched axis (get_or ps j d) ≡ true → HasNeighbours axis ps d i }
+    ensures there { (along : Along) (ps : List Point) (d : Point) (i j : ℕ) → i < length ps → j < length ps
+        → is_touched along.axis (get_or ps i d) ≡ false → is_touched along.axis (get_or ps j d) ≡ true
+        → HasNeighbours along.axis ps d i }
     // An untouched point goes by the nearest touched ones before it and after it, round the contour, as they were.
-    ensures between { (axis : Axis) (ps : List Point) (d : Point) (i before after : ℕ) → i < length ps
-        → is_touched axis (get_or ps i d) ≡ false → IsLastTouched axis ps d i before → IsNextTouched axis ps d i after
-        → get_or (is.contour axis ps) i d
-        ≡ is.interpolated axis (get_or ps (round_from (length ps) i before) d)
+    ensures between { (along : Along) (ps : List Point) (d : Point) (i before after : ℕ) → i < length ps
+        → is_touched along.axis (get_or ps i d) ≡ false
+        → IsLastTouched along.axis ps d i before → IsNextTouched along.axis ps d i after
+        → get_or (is.contour along ps) i d
+        ≡ is.interpolated along (get_or ps (round_from (length ps) i before) d)
         (get_or ps (round_from (length ps) i after) d) (get_or ps i d) }
     // Without a touched point nothing moves.
-    ensures alone { (axis : Axis) (ps : List Point) (d : Point)
-        → ((i : ℕ) → i < length ps → is_touched axis (get_or ps i d) ≡ false) → is.contour axis ps ≡ ps }
+    ensures alone { (along : Along) (ps : List Point) (d : Point)
+        → ((i : ℕ) → i < length ps → is_touched along.axis (get_or ps i d) ≡ false) → is.contour along ps ≡ ps }
 {}
 
 /// Takes nothing and gives nothing: no point is made or dropped where the contours are those of the glyph's points.

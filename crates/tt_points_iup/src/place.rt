@@ -1,28 +1,122 @@
 //! Where a point goes that stood between two others, along one axis. Coordinates are in 26.6 pixels.
 
-ghost use Rattle.std.specs.Prelude.{◌≡◌, ◌<◌, ◌≤◌, ◌^◌, ◌+ℤ◌, ◌-ℤ◌, ◌*ℤ◌, ◌<ℤ◌, ◌≤ℤ◌, unsigned_abs, IfOk};
+ghost use Rattle.std.specs.Prelude.{◌≡◌, ◌<◌, ◌≤◌, ◌^◌, ◌+ℤ◌, ◌-ℤ◌, ◌*ℤ◌, ◌<ℤ◌, unsigned_abs, IfOk};
 ghost use Rattle.tt_core.specs.Limits.{coordinate_limit};
-ghost use Rattle.tt_core.specs.Numbers.{rounded_quotient};
 ghost use Rattle.tt_core.specs.Outcomes.{Gives};
+ghost use Rattle.tt_state.specs.declared.point.Point.{Point as IsAPoint};
 ghost use Rattle.tt_points_zones.specs.Points.{put as put_to};
 ghost use Rattle.tt_points_zones.specs.Zones.{IsPoint};
 ghost use Rattle.tt_points_iup.specs.Interpolation as is;
-ghost use Rattle.tt_points_iup.specs.Positions.{IsPosition, position_of};
+ghost use Rattle.tt_points_iup.specs.Positions.{AreNeighbours, IsPosition, position_of};
 
 use crate::counted::PlainPoint;
-use tt_core::{Why, rq};
-use tt_points_zones::{distance_between, is_coordinate, product};
+use tt_core::{Halves, Why, quotient};
+use tt_points_zones::{Distance, Originals, distance_between, is_coordinate};
 use tt_state::Axis;
+
+/// An axis, and how the originals of points are measured along it.
+#[derive(Clone, Copy)]
+pub(crate) struct Along {
+    pub(crate) axis: Axis,
+    pub(crate) originals: Originals,
+}
 
 /// Where a point stood along an axis before the program, and where it stands.
 #[derive(Clone, Copy)]
 pub(crate) struct Position {
+    /// By which order and proportion are told: in font units where the zone is in them, else `org`.
+    pub(crate) from: i32,
     pub(crate) org: i32,
     pub(crate) cur: i32,
 }
 
+/// Two touched points, first the one with the lower original, and what a part of the range between their originals is
+/// multiplied and divided by to be as much of the way between them.
 #[derive(Clone, Copy)]
-struct Coordinate(i64);
+pub(crate) struct Neighbours {
+    along: Along,
+    lo: Position,
+    hi: Position,
+    multiplier: i64,
+    divisor: i64,
+    ghost are: { AreNeighbours along (position_of lo) (position_of hi) multiplier divisor },
+}
+
+/// Along an axis, in 26.6 pixels.
+#[derive(Clone, Copy)]
+pub(crate) struct Coordinate(pub(crate) i64);
+
+/// A way over a range in 16.16.
+fn factor(halves: Halves, way: Distance, range: Distance) -> i64
+    requires way { unsigned_abs way.0 < 2 ^ 22 }
+    requires range { unsigned_abs range.0 < 2 ^ 22 }
+    ensures exact { result ≡ is.factor halves way.0 range.0 }
+    ensures few { unsigned_abs result < 2 ^ 38 }
+{
+    if range.0 == 0 {
+        return 0;
+    }
+    quotient(halves, 65536 * way.0, range.0)
+}
+
+fn multiplier(originals: Originals, way: Distance, range: Distance) -> i64
+    requires way { unsigned_abs way.0 < 2 ^ 22 }
+    requires range { unsigned_abs range.0 < 2 ^ 22 }
+    ensures exact { result ≡ is.multiplier originals.units originals.halves way.0 range.0 }
+    ensures few { unsigned_abs result < 2 ^ 38 }
+{
+    match originals.units {
+        None => way.0,
+        Some(_) => factor(originals.halves, way, range),
+    }
+}
+
+fn divisor(originals: Originals, range: Distance) -> i64
+    ensures { result ≡ is.divisor originals.units range.0 }
+{
+    match originals.units {
+        None => range.0,
+        Some(_) => 65536,
+    }
+}
+
+fn ordered(along: Along, lo: Position, hi: Position) -> Neighbours
+    requires low { IsPosition along.originals (position_of lo) }
+    requires high { IsPosition along.originals (position_of hi) }
+    ensures along { result.along ≡ along }
+    ensures low { result.lo ≡ lo }
+    ensures high { result.hi ≡ hi }
+{
+    let way = distance_between(lo.cur, hi.cur);
+    let range = distance_between(lo.from, hi.from);
+    Neighbours {
+        along,
+        lo,
+        hi,
+        multiplier: multiplier(along.originals, way, range),
+        divisor: divisor(along.originals, range),
+    }
+}
+
+impl Neighbours {
+    /// The touched points before and after others.
+    #[tactic(auto, unfolding(crate::specs::Interpolation::interpolated))]
+    pub(crate) fn of(along: Along, before: PlainPoint, after: PlainPoint) -> Neighbours
+        requires before { IsPoint before.point }
+        requires after { IsPoint after.point }
+        ensures along { result.along ≡ along }
+        ensures exact { (p : IsAPoint) → is.placed_between along (position_of result.lo) (position_of result.hi) p
+            ≡ is.interpolated along before.point after.point p }
+    {
+        let a = before.position(along);
+        let b = after.position(along);
+        if b.from < a.from {
+            ordered(along, b, a)
+        } else {
+            ordered(along, a, b)
+        }
+    }
+}
 
 fn added(a: i32, b: i64) -> i64
     requires { unsigned_abs b < 2 ^ 61 }
@@ -33,88 +127,72 @@ fn added(a: i32, b: i64) -> i64
 
 /// `u`, moved as far as a position.
 fn moved_as(u: i32, position: Position) -> i64
-    requires { IsPosition (position_of position) }
+    requires org { unsigned_abs position.org ≤ coordinate_limit }
+    requires cur { unsigned_abs position.cur ≤ coordinate_limit }
     ensures { result ≡ u +ℤ (position.cur -ℤ position.org) }
 {
     added(u, distance_between(position.org, position.cur).0)
 }
 
-fn in_proportion(u: i32, lo: Position, hi: Position) -> i64
-    requires from { unsigned_abs u ≤ coordinate_limit }
-    requires low { IsPosition (position_of lo) }
-    requires high { IsPosition (position_of hi) }
-    requires order { lo.org <ℤ hi.org }
-    ensures { result ≡ is.in_proportion u (position_of lo) (position_of hi) }
+fn multiplied(part: Distance, multiplier: i64) -> i64
+    requires part { unsigned_abs part.0 < 2 ^ 22 }
+    requires multiplier { unsigned_abs multiplier < 2 ^ 38 }
+    ensures exact { result ≡ part.0 *ℤ multiplier }
+    ensures few { unsigned_abs result < 2 ^ 60 }
 {
-    let n = product(
-        distance_between(lo.org, u),
-        distance_between(lo.cur, hi.cur),
+    part.0 * multiplier
+}
+
+fn in_proportion(p: Position, between: Neighbours) -> i64
+    requires point { IsPosition between.along.originals (position_of p) }
+    requires order { between.lo.org <ℤ between.hi.org }
+    ensures { result ≡ is.in_proportion between.along.originals (position_of p) (position_of between.lo) (position_of between.hi) }
+{
+    let part = distance_between(between.lo.from, p.from);
+    let share = quotient(
+        between.along.originals.halves,
+        multiplied(part, between.multiplier),
+        between.divisor,
     );
-    added(lo.cur, rq(n, distance_between(lo.org, hi.org).0))
+    added(between.lo.cur, share)
 }
 
-fn following(u: i32, lo: Position, hi: Position) -> i64
-    requires from { unsigned_abs u ≤ coordinate_limit }
-    requires low { IsPosition (position_of lo) }
-    requires high { IsPosition (position_of hi) }
-    ensures { result ≡ is.following u (position_of lo) (position_of hi) }
+fn following(p: Position, between: Neighbours) -> Coordinate
+    requires { IsPosition between.along.originals (position_of p) }
+    ensures { result.0 ≡ is.following between.along.originals (position_of p) (position_of between.lo) (position_of between.hi) }
 {
-    if u <= lo.org {
-        moved_as(u, lo)
-    } else if u >= hi.org {
-        moved_as(u, hi)
+    if p.org <= between.lo.org {
+        Coordinate(moved_as(p.org, between.lo))
+    } else if p.org >= between.hi.org {
+        Coordinate(moved_as(p.org, between.hi))
     } else {
-        in_proportion(u, lo, hi)
+        Coordinate(in_proportion(p, between))
     }
 }
 
-fn between(p: Position, a: Position, b: Position) -> Coordinate
-    requires point { IsPosition (position_of p) }
-    requires before { IsPosition (position_of a) }
-    requires after { IsPosition (position_of b) }
-    ensures { result.0 ≡ is.between p.org (position_of a) (position_of b) }
-{
-    if b.org < a.org {
-        Coordinate(following(p.org, b, a))
-    } else {
-        Coordinate(following(p.org, a, b))
-    }
-}
-
-fn placed(p: PlainPoint, axis: Axis, to: Coordinate) -> Result<PlainPoint, Why>
+/// A coordinate to which a point is put. Error: ValueRange past the limit of coordinates.
+fn limited(p: PlainPoint, axis: Axis, to: Coordinate) -> Result<Coordinate, Why>
     requires { IsPoint p.point }
-    ensures exact { Gives (λ q. q.point) result (is.limited_point axis (put_to axis to.0 p.point)) }
-    ensures valid { IfOk result (λ q. IsPoint q.point) }
+    ensures exact { Gives (λ v. put_to axis v.0 p.point) result (is.limited_point axis (put_to axis to.0 p.point)) }
+    ensures within { IfOk result (λ v. unsigned_abs v.0 ≤ coordinate_limit) }
 {
     if is_coordinate(to.0) {
-        Ok(p.put(axis, to.0))
+        Ok(to)
     } else {
         Err(Why::ValueRange)
     }
 }
 
-/// An untouched point between the touched points before and after it. Error: ValueRange past the limit of coordinates.
-#[tactic(auto, unfolding(crate::specs::Interpolation::interpolated))]
-pub(crate) fn interpolated(
-    p: PlainPoint,
-    axis: Axis,
-    before: PlainPoint,
-    after: PlainPoint,
-) -> Result<PlainPoint, Why>
-    requires point { IsPoint p.point }
-    requires before { IsPoint before.point }
-    requires after { IsPoint after.point }
-    ensures exact { Gives (λ q. q.point) result
-        (is.limited_point axis (is.interpolated axis before.point after.point p.point)) }
-    ensures valid { IfOk result (λ q. IsPoint q.point) }
+/// Where an untouched point between touched ones goes. Error: ValueRange.
+pub(crate) fn interpolated(p: PlainPoint, between: Neighbours) -> Result<Coordinate, Why>
+    requires { IsPoint p.point }
+    ensures exact { Gives (λ v. put_to between.along.axis v.0 p.point) result (is.limited_point between.along.axis
+        (is.placed_between between.along (position_of between.lo) (position_of between.hi) p.point)) }
+    ensures within { IfOk result (λ v. unsigned_abs v.0 ≤ coordinate_limit) }
 {
-    placed(
+    limited(
         p,
-        axis,
-        between(
-            p.position(axis),
-            before.position(axis),
-            after.position(axis),
-        ),
+        between.along.axis,
+        following(p.position(between.along), between),
     )
 }

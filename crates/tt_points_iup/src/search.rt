@@ -13,11 +13,11 @@ use crate::counted::{Contour, PlainPoint};
 pub(crate) fn first_touched(contour: &mut Contour<'_>) -> Option<PlainPoint>
     requires points { All IsPoint contour.old.points.now }
     requires room { contour.old.reads + length contour.old.points.now < 2 ^ 64 }
-    ensures exact { point_of result ≡ is.first_touched contour.old.axis contour.old.points.now }
-    ensures count { contour.new.reads ≡ contour.old.reads + up_to_first contour.old.axis contour.old.points.now }
+    ensures exact { point_of result ≡ is.first_touched contour.old.along.axis contour.old.points.now }
+    ensures count { contour.new.reads ≡ contour.old.reads + up_to_first contour.old.along.axis contour.old.points.now }
     ensures few { contour.new.reads ≤ contour.old.reads + length contour.old.points.now }
     ensures valid { IfSome result (λ p. IsPoint p.point) }
-    ensures axis { contour.new.axis ≡ contour.old.axis }
+    ensures along { contour.new.along ≡ contour.old.along }
     ensures unchanged { contour.new.points.now ≡ contour.old.points.now }
     ensures same_reference { contour.new.points.ghost_name ≡ contour.old.points.ghost_name }
 {
@@ -32,10 +32,10 @@ pub(crate) fn first_touched(contour: &mut Contour<'_>) -> Option<PlainPoint>
 pub(crate) fn last_touched(contour: &mut Contour<'_>) -> Option<PlainPoint>
     requires points { All IsPoint contour.old.points.now }
     requires room { contour.old.reads + length contour.old.points.now < 2 ^ 64 }
-    ensures exact { point_of result ≡ is.last_touched contour.old.axis None contour.old.points.now }
+    ensures exact { point_of result ≡ is.last_touched contour.old.along.axis None contour.old.points.now }
     ensures count { contour.new.reads ≡ contour.old.reads + length contour.old.points.now }
     ensures valid { IfSome result (λ p. IsPoint p.point) }
-    ensures axis { contour.new.axis ≡ contour.old.axis }
+    ensures along { contour.new.along ≡ contour.old.along }
     ensures unchanged { contour.new.points.now ≡ contour.old.points.now }
     ensures same_reference { contour.new.points.ghost_name ≡ contour.old.points.ghost_name }
 {
@@ -55,10 +55,10 @@ pub(crate) fn untouched(contour: &mut Contour<'_>, start: usize) -> usize
     ensures bound { start + result ≤ length contour.old.points.now }
     ensures asked { start + result < length contour.old.points.now → contour.new.reads ≡ contour.old.reads + result + 1 }
     ensures all { start + result ≡ length contour.old.points.now → contour.new.reads ≡ contour.old.reads + result }
-    ensures none { is.first_touched contour.old.axis (take result (drop start contour.old.points.now)) ≡ None }
+    ensures none { is.first_touched contour.old.along.axis (take result (drop start contour.old.points.now)) ≡ None }
     ensures end { (d : IsAPoint) → start + result < length contour.old.points.now
-        → touched contour.old.axis (get_or (drop start contour.old.points.now) result d) ≡ true }
-    ensures axis { contour.new.axis ≡ contour.old.axis }
+        → touched contour.old.along.axis (get_or (drop start contour.old.points.now) result d) ≡ true }
+    ensures along { contour.new.along ≡ contour.old.along }
     ensures unchanged { contour.new.points.now ≡ contour.old.points.now }
     ensures same_reference { contour.new.points.ghost_name ≡ contour.old.points.ghost_name }
 {

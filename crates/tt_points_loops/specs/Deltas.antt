@@ -6,6 +6,7 @@ use Rattle.std.specs.Ordering.{int_eq}
 use Rattle.tt_core.specs.Outcomes.{◌>>=◌}
 use Rattle.tt_core.specs.declared.fault.Why.{Why}
 use Rattle.tt_core.specs.declared.fault.Why.TheVariants as why
+use Rattle.tt_core.specs.declared.halves.Halves.TheVariants as halves
 use Rattle.tt_state.specs.GraphicsState.{default_state}
 use Rattle.tt_state.specs.Vectors.{project}
 use Rattle.tt_state.specs.declared.graphics_state.GraphicsState.{GraphicsState}
@@ -14,7 +15,7 @@ use Rattle.tt_state.specs.declared.tolerance.Tolerance.{Tolerance}
 use Rattle.tt_state.specs.declared.tolerance.Tolerance.TheVariants as tolerance
 use Rattle.tt_points_zones.specs.Motions.{direction, moved}
 use Rattle.tt_points_zones.specs.Points.{point_in, with_point}
-use Rattle.tt_points_zones.specs.Zones.{ZoneLists}
+use Rattle.tt_points_zones.specs.Zones.{ZoneLists, in_pixels}
 use Rattle.tt_points_loops.specs.declared.deltas.DeltaRange.{DeltaRange}
 use Rattle.tt_points_loops.specs.declared.deltas.DeltaRange.TheVariants as ranges
 use Rattle.tt_points_loops.specs.Series.{one_by_one, passing_over}
@@ -93,11 +94,20 @@ below_0 : delta_of tolerance.Tolerant ranges.First (negsuc 0) 24 default_state �
 below_0 = refl
 
 abbrev point : ℤ → Bool → Point
-point x touched =
-    record { org_x = pos 0; org_y = pos 0; x = x; y = pos 0; touched_x = touched; touched_y = false; on = true }
+point x touched = record {
+  units_x = pos 0;
+  units_y = pos 0;
+  org_x = pos 0;
+  org_y = pos 0;
+  x = x;
+  y = pos 0;
+  touched_x = touched;
+  touched_y = false;
+  on = true;
+}
 
 abbrev glyph : List Point → ZoneLists
-glyph ps = record { twilight = []; glyph = ps; contours = [] }
+glyph ps = record { twilight = []; glyph = ps; contours = []; originals = in_pixels halves.Up }
 
 a_point_at_its_size : deltap tolerance.Strict ranges.First 16 (pos 0x7F ∷ pos 0 ∷ pos 0x6F ∷ pos 9 ∷ [])
     (glyph (point (pos 1) false ∷ [])) default_state

@@ -4,6 +4,7 @@ use Rattle.std.specs.Prelude.{◌≡◌, ◌+◌, ℤ, pos, negsuc, unsigned_abs
 use Rattle.tt_core.specs.Outcomes.{◌>>=◌}
 use Rattle.tt_core.specs.declared.fault.Why.{Why}
 use Rattle.tt_core.specs.declared.fault.Why.TheVariants as why
+use Rattle.tt_core.specs.declared.halves.Halves.TheVariants as halves
 use Rattle.tt_state.specs.GraphicsState.{default_state}
 use Rattle.tt_state.specs.declared.graphics_state.GraphicsState.{GraphicsState}
 use Rattle.tt_state.specs.declared.graphics_state.Zone.TheVariants as zone
@@ -11,7 +12,7 @@ use Rattle.tt_state.specs.declared.point.Point.{Point}
 use Rattle.tt_state.specs.declared.tolerance.Tolerance.{Tolerance}
 use Rattle.tt_state.specs.declared.tolerance.Tolerance.TheVariants as tolerance
 use Rattle.tt_points_zones.specs.Points.{point_in, with_point}
-use Rattle.tt_points_zones.specs.Zones.{ZoneLists}
+use Rattle.tt_points_zones.specs.Zones.{ZoneLists, in_pixels}
 use Rattle.tt_points_loops.specs.Series.{each_from_to, looped}
 
 abbrev pub flipped : Point → Point
@@ -42,10 +43,20 @@ fliprgoff low high z = flip_range false low high z
 
 -- worked values
 abbrev point : Bool → Point
-point on = record { org_x = pos 0; org_y = pos 0; x = pos 0; y = pos 0; touched_x = false; touched_y = false; on = on }
+point on = record {
+  units_x = pos 0;
+  units_y = pos 0;
+  org_x = pos 0;
+  org_y = pos 0;
+  x = pos 0;
+  y = pos 0;
+  touched_x = false;
+  touched_y = false;
+  on = on;
+}
 
 abbrev glyph : List Point → ZoneLists
-glyph ps = record { twilight = []; glyph = ps; contours = [] }
+glyph ps = record { twilight = []; glyph = ps; contours = []; originals = in_pixels halves.Up }
 
 twice_the_same : flippt tolerance.Strict (pos 0 ∷ pos 1 ∷ pos 1 ∷ []) (glyph (point true ∷ point true ∷ []))
     (record default_state { loops = 3 }) ≡ Ok (glyph (point false ∷ point true ∷ []), default_state)

@@ -14,7 +14,7 @@ use Rattle.tt_points_loops.specs.declared.deltas.DeltaRange.{DeltaRange}
 use Rattle.tt_points_loops.specs.declared.shifting.ReferencePoint.{ReferencePoint}
 use Rattle.tt_points_loops.specs.Deltas.{byte_of, delta_of, exception_at, move_by, except, pairs_of}
 use Rattle.tt_points_loops.specs.Flipping.{flip}
-use Rattle.tt_points_loops.specs.Moving.{align, kept_between, other_end, in_between, interpolate, push}
+use Rattle.tt_points_loops.specs.Moving.{align, kept_between, scale_among, other_end, in_between, interpolate, push}
 use Rattle.tt_points_loops.specs.Series.{one_by_one, passing_over, looped, set_back}
 use Rattle.tt_points_loops.specs.Shifting.{reference, shift}
 use Rattle.tt_points_loops.specs.Deltas as deltas
@@ -59,14 +59,16 @@ alike step points z g = loop step step (λ n w. same (step n w)) points z g
 interpolates : (g : GraphicsState) (n : ℤ) (z : ZoneLists)
     → Loosens (interpolate tolerance.Strict g n z) (interpolate tolerance.Tolerant g n z)
 interpolates g n z =
+    let halves = z.originals.halves in
+    let s = scale_among g z in
     after (point_in g.zp2 n z) _ _ (λ p.
     chained (in_between tolerance.Strict g z p) (in_between tolerance.Tolerant g z p)
     (λ q. Ok (with_point g.zp2 n q z)) (λ q. Ok (with_point g.zp2 n q z))
     (after (point_in g.zp0 g.rp1 z) _ _ (λ a.
     chained (other_end tolerance.Strict g z a) (other_end tolerance.Tolerant g z a)
-    (λ b. kept_between g a b p) (λ b. kept_between g a b p)
+    (λ b. kept_between halves s g a b p) (λ b. kept_between halves s g a b p)
     (passed a (point_in g.zp1 g.rp2 z) (point_in g.zp1 g.rp2 z) (same (point_in g.zp1 g.rp2 z)))
-    (λ b. same (kept_between g a b p)))) (λ q. refl))
+    (λ b. same (kept_between halves s g a b p)))) (λ q. refl))
 
 small : (n : ℕ) (b : Bool) → (nat_lt n 0 || nat_lt 255 n) ≡ b
     → Loosens (if b then Err why.BadArgument else Ok n) (Ok (n % 256))

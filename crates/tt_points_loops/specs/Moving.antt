@@ -1,13 +1,17 @@
 -- Apple TrueType Reference Manual, "Instruction set": managing outlines (ALIGNRP, IP, SHPIX). Distances are in 26.6
 -- pixels.
-use Rattle.std.specs.Prelude.{◌≡◌, ℤ, pos, negsuc, ◌-ℤ◌, ◌*ℤ◌, true, false, if◌then◌else◌, List, [], ◌∷◌, Result, Ok, Err, refl}
+use Rattle.std.specs.Prelude.{◌≡◌, ℤ, pos, negsuc, ◌-ℤ◌, ◌*ℤ◌, Bool, true, false, if◌then◌else◌, List, [], ◌∷◌, Option, Some, None, Result, Ok, Err, refl}
 use Rattle.std.specs.Ordering.{int_eq}
-use Rattle.tt_core.specs.Numbers.{rounded_quotient}
 use Rattle.tt_core.specs.Outcomes.{◌>>=◌}
+use Rattle.tt_core.specs.Scales.{quotient, rounded_scale}
 use Rattle.tt_core.specs.declared.fault.Why.{Why}
 use Rattle.tt_core.specs.declared.fault.Why.TheVariants as why
+use Rattle.tt_core.specs.declared.halves.Halves.{Halves}
+use Rattle.tt_core.specs.declared.halves.Halves.TheVariants as halves
+use Rattle.tt_core.specs.declared.scaling.Scale.{Scale}
 use Rattle.tt_state.specs.GraphicsState.{default_of, default_state}
 use Rattle.tt_state.specs.declared.graphics_state.GraphicsState.{GraphicsState}
+use Rattle.tt_state.specs.declared.graphics_state.Zone.TheVariants as zone
 use Rattle.tt_state.specs.declared.point.Point.{Point}
 use Rattle.tt_state.specs.declared.tolerance.Tolerance.{Tolerance}
 use Rattle.tt_state.specs.declared.tolerance.Tolerance.TheVariants as tolerance
@@ -15,8 +19,9 @@ use Rattle.tt_state.specs.declared.vector.Vector.TheVariants as vector
 use Rattle.tt_state.specs.Tolerance.{unless_missing}
 use Rattle.tt_state.specs.Vectors.{project, along}
 use Rattle.tt_points_zones.specs.Motions.{direction, current_distance, original_distance, moved, moved_along}
+use Rattle.tt_points_zones.specs.Originals.{distance_by, is_glyph, scale_between, units_distance}
 use Rattle.tt_points_zones.specs.Points.{point_in, with_point}
-use Rattle.tt_points_zones.specs.Zones.{ZoneLists}
+use Rattle.tt_points_zones.specs.Zones.{ZoneLists, in_pixels}
 use Rattle.tt_points_zones.specs.declared.motion.Motion.{Motion}
 use Rattle.tt_points_loops.specs.Series.{looped}
 use Rattle.tt_points_loops.specs.Slanted.{rising, slanted, dual_upward, still, risen, at_first, moved_on}
@@ -32,16 +37,27 @@ align g n z =
 abbrev pub alignrp : Tolerance → List ℤ → ZoneLists → GraphicsState → Result (ZoneLists × GraphicsState) Why
 alignrp t points z g = looped t (align g) points z g
 
--- a distance after it, in the proportion in which a range was stretched; the same where the range was 0
-abbrev pub stretched : ℤ → ℤ → ℤ → ℤ
-stretched o range now = if int_eq range (pos 0) then o else rounded_quotient (o *ℤ now) range
+-- a distance in the proportion in which a range was stretched, and what it is where the range was 0
+abbrev pub stretched : Halves → ℤ → ℤ → ℤ → ℤ → ℤ
+stretched halves o range now alone = if int_eq range (pos 0) then alone else quotient halves (o *ℤ now) range
+
+-- how far a point stood from another, not scaled: in font units where the originals have a scale, or in 26.6
+abbrev pub unscaled : Option Scale → Motion → Point → Point → ℤ
+unscaled None m a p = original_distance m a p
+unscaled (Some s) m a p = units_distance m a p
 
 -- how far from the first of two others a point stands that keeps its place between them
-abbrev pub interpolated : Motion → Point → Point → Point → ℤ
-interpolated m a b p = stretched (original_distance m a p) (original_distance m a b) (current_distance m a b)
+abbrev pub interpolated : Halves → Option Scale → Motion → Point → Point → Point → ℤ
+interpolated halves s m a b p =
+    stretched halves (unscaled s m a p) (unscaled s m a b) (current_distance m a b) (distance_by s m a p)
 
-abbrev pub kept_between : GraphicsState → Point → Point → Point → Result Point Why
-kept_between g a b p = direction g >>= λ m. moved m (interpolated m a b p -ℤ current_distance m a p) p
+abbrev pub kept_between : Halves → Option Scale → GraphicsState → Point → Point → Point → Result Point Why
+kept_between halves s g a b p =
+    direction g >>= λ m. moved m (interpolated halves s m a b p -ℤ current_distance m a p) p
+
+-- the scale of the originals, where no zone pointer is that of the twilight zone
+abbrev pub scale_among : GraphicsState → ZoneLists → Option Scale
+scale_among g z = if is_glyph g.zp2 then scale_between g.zp0 g.zp1 z else None
 
 -- The second of the points between which others keep their places. Where it is not there, a tolerant machine takes the
 -- first one in its place (profile): the range was 0 then, and each point gets its original distance from the first.
@@ -50,7 +66,8 @@ other_end t g z a = unless_missing t a (point_in g.zp1 g.rp2 z)
 
 -- IP: points of zp2 are moved to where they keep their places between rp1, in zp0, and rp2, in zp1
 abbrev pub in_between : Tolerance → GraphicsState → ZoneLists → Point → Result Point Why
-in_between t g z p = point_in g.zp0 g.rp1 z >>= λ a. other_end t g z a >>= λ b. kept_between g a b p
+in_between t g z p = point_in g.zp0 g.rp1 z >>= λ a. other_end t g z a >>= λ b.
+    kept_between z.originals.halves (scale_among g z) g a b p
 
 abbrev pub interpolate : Tolerance → GraphicsState → ℤ → ZoneLists → Result ZoneLists Why
 interpolate t g n z = point_in g.zp2 n z >>= λ p. in_between t g z p >>= λ q. Ok (with_point g.zp2 n q z)
@@ -67,13 +84,23 @@ shpix t points amount z g = looped t (push amount g) points z g
 
 -- worked values, along x
 abbrev point : ℤ → ℤ → Point
-point org x = record { org_x = org; org_y = pos 0; x = x; y = pos 0; touched_x = false; touched_y = false; on = true }
+point org x = record {
+  units_x = pos 0;
+  units_y = pos 0;
+  org_x = org;
+  org_y = pos 0;
+  x = x;
+  y = pos 0;
+  touched_x = false;
+  touched_y = false;
+  on = true;
+}
 
 abbrev moved_to : ℤ → ℤ → Point
 moved_to org x = record (point org x) { touched_x = true }
 
 abbrev glyph : List Point → ZoneLists
-glyph ps = record { twilight = []; glyph = ps; contours = [] }
+glyph ps = record { twilight = []; glyph = ps; contours = []; originals = in_pixels halves.Up }
 
 abbrev between : GraphicsState
 between = record default_state { rp1 = pos 0; rp2 = pos 1 }
@@ -176,3 +203,55 @@ a_pixel_along_a_line : shpix tolerance.Strict (pos 0 ∷ []) (pos 64) (glyph (at
     ≡ Ok (glyph (moved_on (pos 79) (pos 147) true true ∷ []), record (default_of true) { free = rising })
 unfolding along
 a_pixel_along_a_line = refl
+
+-- worked values in font units: a point that keeps its place between two others, at 13 of 1024
+abbrev in_units : ℤ → ℤ → ℤ → Point
+in_units units org x = record (point org x) { units_x = units }
+
+abbrev between_two : Option Scale → List Point → Point → ZoneLists
+between_two scale twilight p = record {
+  twilight = twilight;
+  glyph = in_units (pos 3) (pos 2) (pos 0) ∷ in_units (pos 200) (pos 163) (pos 192) ∷ p ∷ [];
+  contours = [];
+  originals = record { units = scale; halves = halves.AwayFromZero };
+}
+
+abbrev by_13 : Option Scale
+by_13 = Some (rounded_scale 13 1024)
+
+abbrev in_the_middle : ℤ → Point
+in_the_middle x = in_units (pos 71) (pos 58) x
+
+in_proportion_of_units : ip tolerance.Strict (pos 2 ∷ []) (between_two by_13 [] (in_the_middle (pos 58))) between
+    ≡ Ok (between_two by_13 [] (record (in_the_middle (pos 66)) { touched_x = true }), between)
+unfolding direction project
+in_proportion_of_units = refl
+
+in_proportion_of_pixels : ip tolerance.Strict (pos 2 ∷ []) (between_two None [] (in_the_middle (pos 58))) between
+    ≡ Ok (between_two None [] (record (in_the_middle (pos 67)) { touched_x = true }), between)
+unfolding direction project
+in_proportion_of_pixels = refl
+
+-- a zone pointer is that of the twilight zone: 26.6
+abbrev to_twilight : GraphicsState
+to_twilight = record between { zp2 = zone.Twilight }
+
+twilight_in_pixels : ip tolerance.Strict (pos 0 ∷ [])
+    (between_two by_13 (point (pos 58) (pos 58) ∷ []) (in_the_middle (pos 58))) to_twilight
+    ≡ Ok (between_two by_13 (moved_to (pos 58) (pos 67) ∷ []) (in_the_middle (pos 58)), to_twilight)
+unfolding direction project
+twilight_in_pixels = refl
+
+-- without a range the distance is scaled: 127 units at 12 of 1024
+abbrev beside_one : ℤ → Bool → ZoneLists
+beside_one x touched = record {
+  twilight = [];
+  glyph = in_units (pos 3) (pos 2) (pos 0) ∷ record (in_units (pos 130) (pos 98) x) { touched_x = touched } ∷ [];
+  contours = [];
+  originals = record { units = Some (rounded_scale 12 1024); halves = halves.AwayFromZero };
+}
+
+no_range_of_units : ip tolerance.Tolerant (pos 1 ∷ []) (beside_one (pos 98) false) half_between
+    ≡ Ok (beside_one (pos 95) true, half_between)
+unfolding direction project
+no_range_of_units = refl

@@ -37,13 +37,14 @@ through P Q (Ok x) f holds next = next x holds
 through P Q (Err why) f holds next = tt
 
 pub same : (z : ZoneLists) → SameShape z z
-same z = record { twilight = refl; glyph = refl; contours = refl }
+same z = record { twilight = refl; glyph = refl; contours = refl; originals = refl }
 
 pub joined : (a b c : ZoneLists) → SameShape a b → SameShape b c → SameShape a c
 joined a b c first second = record {
   twilight = second.twilight ∙ first.twilight;
   glyph = second.glyph ∙ first.glyph;
   contours = second.contours ∙ first.contours;
+  originals = second.originals ∙ first.originals;
 }
 
 weaker : (r : Result ZoneLists Why) (a b : ZoneLists) → SameShape a b → KeepsShape b r → KeepsShape a r
@@ -52,13 +53,14 @@ weaker (Err why) a b first second = tt
 
 pub put_one : (zone : Zone) (n : ℤ) (p : Point) (z : ZoneLists) → SameShape z (with_point zone n p z)
 put_one zone.Twilight n p z =
-    record { twilight = length-set z.twilight (unsigned_abs n) p; glyph = refl; contours = refl }
-put_one zone.Glyph n p z = record { twilight = refl; glyph = length-set z.glyph (unsigned_abs n) p; contours = refl }
+    record { twilight = length-set z.twilight (unsigned_abs n) p; glyph = refl; contours = refl; originals = refl }
+put_one zone.Glyph n p z =
+    record { twilight = refl; glyph = length-set z.glyph (unsigned_abs n) p; contours = refl; originals = refl }
 
 put_all : (zone : Zone) (ps : List Point) (z : ZoneLists) → length ps ≡ length (points_in zone z)
     → SameShape z (with_points zone ps z)
-put_all zone.Twilight ps z many = record { twilight = many; glyph = refl; contours = refl }
-put_all zone.Glyph ps z many = record { twilight = refl; glyph = many; contours = refl }
+put_all zone.Twilight ps z many = record { twilight = many; glyph = refl; contours = refl; originals = refl }
+put_all zone.Glyph ps z many = record { twilight = refl; glyph = many; contours = refl; originals = refl }
 
 -- one point in the place of another
 pub put : (zone : Zone) (n : ℤ) (z : ZoneLists) (r : Result Point Why)

@@ -6,6 +6,7 @@ use Rattle.std.specs.Ordering.{int_eq}
 use Rattle.tt_core.specs.Outcomes.{◌>>=◌}
 use Rattle.tt_core.specs.declared.fault.Why.{Why}
 use Rattle.tt_core.specs.declared.fault.Why.TheVariants as why
+use Rattle.tt_core.specs.declared.halves.Halves.TheVariants as halves
 use Rattle.tt_state.specs.GraphicsState.{default_state}
 use Rattle.tt_state.specs.declared.graphics_state.GraphicsState.{GraphicsState}
 use Rattle.tt_state.specs.declared.graphics_state.Zone.{Zone}
@@ -18,7 +19,7 @@ use Rattle.tt_state.specs.Vectors.{project}
 use Rattle.tt_points_zones.specs.Motions.{direction, offset, shifted, moved}
 use Rattle.tt_points_zones.specs.Points.{points_in, point_in, with_point}
 use Rattle.tt_points_zones.specs.ZoneNumbers.{zone_of}
-use Rattle.tt_points_zones.specs.Zones.{ZoneLists}
+use Rattle.tt_points_zones.specs.Zones.{ZoneLists, in_pixels}
 use Rattle.tt_points_zones.specs.declared.motion.Motion.{Motion}
 use Rattle.tt_points_loops.specs.declared.shifting.ReferencePoint.{ReferencePoint}
 use Rattle.tt_points_loops.specs.declared.shifting.ReferencePoint.TheVariants as by
@@ -118,13 +119,23 @@ shz which e z g = zone_of e >>= λ zone. shift_range false which zone (outline_i
 
 -- worked values, along x
 abbrev point : ℤ → ℤ → Point
-point org x = record { org_x = org; org_y = pos 0; x = x; y = pos 0; touched_x = false; touched_y = false; on = true }
+point org x = record {
+  units_x = pos 0;
+  units_y = pos 0;
+  org_x = org;
+  org_y = pos 0;
+  x = x;
+  y = pos 0;
+  touched_x = false;
+  touched_y = false;
+  on = true;
+}
 
 abbrev moved_to : ℤ → ℤ → Point
 moved_to org x = record (point org x) { touched_x = true }
 
 abbrev glyph : List Point → ZoneLists
-glyph ps = record { twilight = []; glyph = ps; contours = (0, 2) ∷ [] }
+glyph ps = record { twilight = []; glyph = ps; contours = (0, 2) ∷ []; originals = in_pixels halves.Up }
 
 -- rp2 itself is among the points: it is moved, and the next point by no more than before
 taken_once : shp tolerance.Strict by.Rp2 (pos 1 ∷ pos 0 ∷ [])

@@ -23,7 +23,17 @@ dual_upward =
 
 -- a point that stands where it stood
 abbrev pub still : ℤ → ℤ → Point
-still x y = record { org_x = x; org_y = y; x = x; y = y; touched_x = false; touched_y = false; on = true }
+still x y = record {
+  units_x = pos 0;
+  units_y = pos 0;
+  org_x = x;
+  org_y = y;
+  x = x;
+  y = y;
+  touched_x = false;
+  touched_y = false;
+  on = true;
+}
 
 -- a point that stood at (0, 100) and stands at (10, 130)
 abbrev pub risen : Point

@@ -6,6 +6,8 @@ use Rattle.std.specs.Ordering.{int_eq}
 use Rattle.tt_core.specs.Outcomes.{◌>>=◌}
 use Rattle.tt_core.specs.declared.fault.Why.{Why}
 use Rattle.tt_core.specs.declared.fault.Why.TheVariants as why
+use Rattle.tt_core.specs.declared.halves.Halves.{Halves}
+use Rattle.tt_core.specs.declared.scaling.Scale.{Scale}
 use Rattle.tt_state.specs.Loosening.{IsTotal, Enough, total_after, enough_after, total_passed_over, is_short}
 use Rattle.tt_state.specs.Tolerance.{is_missing}
 use Rattle.tt_state.specs.Vectors.{Pair, along}
@@ -25,7 +27,7 @@ use Rattle.tt_points_loops.specs.declared.deltas.DeltaRange.{DeltaRange}
 use Rattle.tt_points_loops.specs.declared.shifting.ReferencePoint.{ReferencePoint}
 use Rattle.tt_points_loops.specs.Deltas.{delta_of, move_by, except, pairs_of}
 use Rattle.tt_points_loops.specs.Flipping.{flip, put_on, flip_range}
-use Rattle.tt_points_loops.specs.Moving.{aligned, align, interpolated, kept_between, other_end, in_between, interpolate, push}
+use Rattle.tt_points_loops.specs.Moving.{aligned, align, interpolated, kept_between, scale_among, other_end, in_between, interpolate, push}
 use Rattle.tt_points_loops.specs.Series.{one_by_one, passing_over, looped, set_back, each_from_to}
 use Rattle.tt_points_loops.specs.Shifting.{reference_zone, reference_number, reference, moved_as, shifted_as, follow, number_in, is_but, follow_but, shift, shift_range, contour_at, contour_in, outline_in, shc, shz}
 use Rattle.tt_points_loops.specs.Deltas as deltas
@@ -159,11 +161,12 @@ align_enough g n z =
     put_enough g.zp1 n z (aligned g r p) (enough_of (aligned g r p)
     (by_vectors_total g (λ m. moved m (current_distance m p r) p) (λ m. moved_total m (current_distance m p r) p)))))
 
-kept_enough : (g : GraphicsState) (a b p : Point) → Enough (kept_between g a b p)
-kept_enough g a b p =
-    enough_of (kept_between g a b p)
-    (by_vectors_total g (λ m. moved m (interpolated m a b p -ℤ current_distance m a p) p)
-    (λ m. moved_total m (interpolated m a b p -ℤ current_distance m a p) p))
+kept_enough : (by : Halves) (s : Option Scale) (g : GraphicsState) (a b p : Point)
+    → Enough (kept_between by s g a b p)
+kept_enough by s g a b p =
+    enough_of (kept_between by s g a b p)
+    (by_vectors_total g (λ m. moved m (interpolated by s m a b p -ℤ current_distance m a p) p)
+    (λ m. moved_total m (interpolated by s m a b p -ℤ current_distance m a p) p))
 
 other_end_enough : (g : GraphicsState) (z : ZoneLists) (a : Point) → Enough (other_end tolerance.Tolerant g z a)
 other_end_enough g z a =
@@ -175,7 +178,8 @@ interpolate_enough g n z =
     enough_after (point_in g.zp2 n z) _ (point_enough g.zp2 n z) (λ p.
     put_enough g.zp2 n z (in_between tolerance.Tolerant g z p)
     (enough_after (point_in g.zp0 g.rp1 z) _ (point_enough g.zp0 g.rp1 z) (λ a.
-    enough_after (other_end tolerance.Tolerant g z a) _ (other_end_enough g z a) (λ b. kept_enough g a b p))))
+    enough_after (other_end tolerance.Tolerant g z a) _ (other_end_enough g z a) (λ b.
+    kept_enough z.originals.halves (scale_among g z) g a b p))))
 
 push_enough : (amount : ℤ) (g : GraphicsState) (n : ℤ) (z : ZoneLists) → Enough (push amount g n z)
 push_enough amount g n z =

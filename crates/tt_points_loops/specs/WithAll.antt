@@ -18,7 +18,7 @@ use Rattle.tt_points_loops.specs.declared.shifting.ReferencePoint.{ReferencePoin
 use Rattle.tt_points_loops.specs.declared.shifting.ReferencePoint.TheVariants as by
 use Rattle.tt_points_loops.specs.Deltas.{delta_of, move_by, except, pairs_of}
 use Rattle.tt_points_loops.specs.Flipping.{flip}
-use Rattle.tt_points_loops.specs.Moving.{aligned, align, interpolated, kept_between, other_end, in_between, interpolate, push}
+use Rattle.tt_points_loops.specs.Moving.{aligned, align, interpolated, kept_between, scale_among, other_end, in_between, interpolate, push}
 use Rattle.tt_points_loops.specs.Series.{one_by_one, passing_over, looped, set_back, each_from_to}
 use Rattle.tt_points_loops.specs.Shifting.{reference_zone, reference_number, reference, moved_as, shifted_as, follow, number_in, is_but, follow_but, shift, shift_range, follow_in, with_points, contour_in, outline_in, shc, shz}
 use Rattle.tt_points_loops.specs.Deltas as deltas
@@ -109,11 +109,13 @@ aligns g n z =
 interpolates : (t : Tolerance) (g : GraphicsState) (n : ℤ) (z : ZoneLists)
     → StaysSame (interpolate t g n z) (interpolate t (with_all g) n z)
 interpolates t g n z =
+    let halves = z.originals.halves in
+    let s = scale_among g z in
     after (λ w. w) (point_in g.zp2 n z) _ _ (λ p.
     put g.zp2 n z (in_between t g z p) (in_between t (with_all g) z p)
     (after (λ q. q) (point_in g.zp0 g.rp1 z) _ _ (λ a.
     after (λ q. q) (other_end t g z a) _ _ (λ b.
-    by_vectors g (λ m. moved m (interpolated m a b p -ℤ current_distance m a p) p)))))
+    by_vectors g (λ m. moved m (interpolated halves s m a b p -ℤ current_distance m a p) p)))))
 
 pushes : (amount : ℤ) (g : GraphicsState) (n : ℤ) (z : ZoneLists)
     → StaysSame (push amount g n z) (push amount (with_all g) n z)

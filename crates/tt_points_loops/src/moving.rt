@@ -1,16 +1,17 @@
 //! Points moved one by one: ALIGNRP, IP, SHPIX. Apple TrueType Reference Manual, "Instruction set": managing outlines.
 //! Distances are in 26.6 pixels.
 
-ghost use Rattle.std.specs.Prelude.{◌≡◌, ◌^◌, ◌<◌, ◌≤◌, reverse, unsigned_abs, IfErr, IfOk, ◌-ℤ◌};
+ghost use Rattle.std.specs.Prelude.{◌≡◌, ◌^◌, ◌<◌, ◌≤◌, reverse, unsigned_abs, IfErr, IfOk, IfSome, ◌-ℤ◌};
 ghost use Rattle.tt_core.specs.Outcomes.{Gives};
+ghost use Rattle.tt_core.specs.Scales.{IsScale};
 ghost use Rattle.tt_points_loops.specs.Moving as is;
 ghost use Rattle.tt_points_loops.specs.Series.{one_by_one, passing_over};
 ghost use Rattle.tt_points_zones.specs.Motions as motion;
 ghost use Rattle.tt_points_zones.specs.Zones.{IsPoint, IsZones, zones_view};
 
-use tt_core::{Why, rq};
-use tt_points_zones::{Distance, Motion, Zones, may_move, product};
-use tt_state::{GraphicsState, Point, Tolerance};
+use tt_core::{Scale, Why, quotient};
+use tt_points_zones::{Distance, Motion, Originals, Zones, may_move, product};
+use tt_state::{GraphicsState, Point, Tolerance, Zone};
 
 /// A distance that a point is moved by. Error: ValueRange.
 fn moved_by(p: Point, m: &Motion, by: Distance) -> Result<Point, Why>
@@ -111,18 +112,17 @@ pub fn alignrp(
     Ok(())
 }
 
-/// A distance in the proportion in which a range was stretched; the same where the range was 0.
-fn stretched(o: Distance, range: Distance, now: Distance) -> Distance
-    requires o { unsigned_abs o.0 < 2 ^ 23 }
-    requires range { unsigned_abs range.0 < 2 ^ 23 }
-    requires now { unsigned_abs now.0 < 2 ^ 23 }
-    ensures exact { result.0 ≡ is.stretched o.0 range.0 now.0 }
-    ensures bound { unsigned_abs result.0 < 2 ^ 46 }
+/// How far a point stood from another: in font units where the originals have a scale, or in 26.6.
+fn unscaled(scale: Option<Scale>, m: &Motion, from: Point, to: Point) -> Distance
+    requires from { IsPoint from }
+    requires to { IsPoint to }
+    ensures exact { result.0 ≡ is.unscaled scale m.now from to }
+    ensures few { unsigned_abs result.0 < 2 ^ 23 }
 {
-    if range.0 == 0 {
-        return o;
+    match scale {
+        Some(_) => Distance(i64::from(m.units_distance(from, to))),
+        None => m.original_distance(from, to),
     }
-    Distance(rq(product(o, now), range.0))
 }
 
 fn difference(a: Distance, b: Distance) -> Distance
@@ -135,47 +135,58 @@ fn difference(a: Distance, b: Distance) -> Distance
 }
 
 /// How far from the first of two others a point stands that keeps its place between them.
-fn interpolated(p: Point, a: Point, b: Point, m: &Motion) -> Distance
+fn interpolated(by: Originals, p: Point, a: Point, b: Point, m: &Motion) -> Distance
+    requires scale { IfSome by.units IsScale }
     requires p { IsPoint p }
     requires a { IsPoint a }
     requires b { IsPoint b }
-    ensures exact { result.0 ≡ is.interpolated m.now a b p }
+    ensures exact { result.0 ≡ is.interpolated by.halves by.units m.now a b p }
     ensures bound { unsigned_abs result.0 < 2 ^ 46 }
 {
-    stretched(
-        m.original_distance(a, p),
-        m.original_distance(a, b),
-        m.current_distance(a, b),
-    )
+    let range = unscaled(by.units, m, a, b);
+    if range.0 == 0 {
+        return m.distance_by(by.units, a, p);
+    }
+    let o = unscaled(by.units, m, a, p);
+    let now = m.current_distance(a, b);
+    Distance(quotient(by.halves, product(o, now), range.0))
 }
 
 /// The point moved to where it keeps its place between two others.
-fn moved_between(p: Point, a: Point, b: Point, m: &Motion) -> Result<Point, Why>
+fn moved_between(by: Originals, p: Point, a: Point, b: Point, m: &Motion) -> Result<Point, Why>
+    requires scale { IfSome by.units IsScale }
     requires p { IsPoint p }
     requires a { IsPoint a }
     requires b { IsPoint b }
     ensures exact { Gives (λ q. q) result
-        (motion.moved m.now (is.interpolated m.now a b p -ℤ motion.current_distance m.now a p) p) }
+        (motion.moved m.now (is.interpolated by.halves by.units m.now a b p -ℤ motion.current_distance m.now a p) p) }
     ensures valid { IfOk result IsPoint }
 {
     moved_by(
         p,
         m,
-        difference(interpolated(p, a, b, m), m.current_distance(a, p)),
+        difference(interpolated(by, p, a, b, m), m.current_distance(a, p)),
     )
 }
 
 /// The same by the vectors of the graphics state. Errors: Perpendicular, ValueRange.
-fn kept_between(p: Point, a: Point, b: Point, state: &GraphicsState) -> Result<Point, Why>
+fn kept_between(
+    by: Originals,
+    p: Point,
+    a: Point,
+    b: Point,
+    state: &GraphicsState,
+) -> Result<Point, Why>
+    requires scale { IfSome by.units IsScale }
     requires p { IsPoint p }
     requires a { IsPoint a }
     requires b { IsPoint b }
-    ensures exact { Gives (λ q. q) result (is.kept_between state.now a b p) }
+    ensures exact { Gives (λ q. q) result (is.kept_between by.halves by.units state.now a b p) }
     ensures valid { IfOk result IsPoint }
 {
     may_move(state)?;
     let motion = Motion::of(state);
-    moved_between(p, a, b, &motion)
+    moved_between(by, p, a, b, &motion)
 }
 
 /// The second of the points between which others keep their places; a tolerant machine takes the first one, `a`, where
@@ -197,6 +208,23 @@ fn other_end(
     }
 }
 
+/// How originals are measured among the points of three zones: in 26.6 where one of these is the twilight zone.
+fn originals_among(zones: &Zones, state: &GraphicsState) -> Originals
+    requires { IsZones (zones_view zones.now) }
+    ensures scale { result.units ≡ is.scale_among state.now (zones_view zones.now) }
+    ensures halves { result.halves ≡ zones.now.originals.halves }
+    ensures valid { IfSome result.units IsScale }
+{
+    let units = match state.zp2 {
+        Zone::Twilight => None,
+        Zone::Glyph => zones.scale_between(state.zp0, state.zp1),
+    };
+    Originals {
+        units,
+        halves: zones.originals.halves,
+    }
+}
+
 /// The point moved to where it keeps its place between rp1 and rp2. Errors: PointRange, Perpendicular, ValueRange.
 fn in_between(
     zones: &Zones,
@@ -211,7 +239,7 @@ fn in_between(
 {
     let a = zones.point(state.zp0, state.rp1)?;
     let b = other_end(zones, state, tolerance, a)?;
-    kept_between(p, a, b, state)
+    kept_between(originals_among(zones, state), p, a, b, state)
 }
 
 /// A point of zp2 keeps its place between rp1 and rp2.

@@ -1,2 +1,3 @@
 pub mod Kept
 mod OnAxis
+mod Units

@@ -4,4 +4,5 @@ pub mod Points
 pub mod ZoneNumbers
 pub mod Meeting
 pub mod Motions
+pub mod Originals
 pub mod Laws

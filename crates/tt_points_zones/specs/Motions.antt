@@ -94,7 +94,7 @@ moved_along free d p = pushed free (along (pair_of free) d) p
 
 -- worked values: a projection vector, or all vectors, along a line that rises by 2 in 1
 abbrev a_point : Point
-a_point = record { org_x = pos 0; org_y = pos 0; x = pos 50; y = pos 90; touched_x = false; touched_y = false; on = true }
+a_point = record { units_x = pos 0; units_y = pos 0; org_x = pos 0; org_y = pos 0; x = pos 50; y = pos 90; touched_x = false; touched_y = false; on = true }
 
 abbrev rising : Vector
 rising = vector_of (pair (pos 7327) (pos 14654))

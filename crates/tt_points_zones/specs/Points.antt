@@ -75,7 +75,7 @@ pub record HasPoint (zone : Zone) (n : ℤ) (z : ZoneLists) : Type 0 where
 
 -- worked values
 abbrev a_point : Point
-a_point = record { org_x = pos 0; org_y = pos 0; x = pos 10; y = pos 20; touched_x = false; touched_y = false; on = true }
+a_point = record { units_x = pos 0; units_y = pos 0; org_x = pos 0; org_y = pos 0; x = pos 10; y = pos 20; touched_x = false; touched_y = false; on = true }
 
 moved_along_y : moved axis.Y (pos 5) a_point ≡ Ok (record a_point { y = pos 25; touched_y = true })
 moved_along_y = refl

@@ -1,20 +1,35 @@
 -- Apple TrueType Reference Manual, "Instructing TrueType Glyphs" (zones): the points of both zones and the contours of
 -- the glyph. Coordinates are in 26.6 pixels; their limit is this project's own (profile).
-use Rattle.std.specs.Prelude.{◌≡◌, ℕ, ◌≤◌, List, [], ◌∷◌, length, All, unsigned_abs, Result, IfOk}
+use Rattle.std.specs.Prelude.{◌≡◌, ℕ, ◌^◌, ◌≤◌, List, [], ◌∷◌, length, All, unsigned_abs, None, Result, IfOk, IfSome}
 use Rattle.tt_core.specs.Limits.{coordinate_limit}
 use Rattle.tt_state.specs.declared.point.Point.{Point}
+use Rattle.tt_core.specs.Scales.{IsScale}
+use Rattle.tt_core.specs.declared.halves.Halves.{Halves}
+use Rattle.tt_points_zones.specs.declared.zones.Originals.{Originals}
 use Rattle.tt_points_zones.specs.declared.zones.Zones.{Zones}
 
 pub record ZoneLists : Type 0 where
   pub twilight : List Point
   pub glyph : List Point
   pub contours : List (ℕ × ℕ)
+  pub originals : Originals
 
 abbrev pub zones_view : Zones → ZoneLists
-zones_view z = record { twilight = z.twilight.items; glyph = z.glyph.items; contours = z.contours.items }
+zones_view z = record {
+  twilight = z.twilight.items;
+  glyph = z.glyph.items;
+  contours = z.contours.items;
+  originals = z.originals;
+}
 
--- a point whose coordinates are within the limit
+-- the originals of a glyph zone that is in 26.6
+abbrev pub in_pixels : Halves → Originals
+in_pixels halves = record { units = None; halves = halves }
+
+-- a point whose coordinates are within the limit; in font units it may be a phantom point
 pub record IsPoint (p : Point) : Type 0 where
+  pub units_x : unsigned_abs p.units_x ≤ 2 ^ 17
+  pub units_y : unsigned_abs p.units_y ≤ 2 ^ 17
   pub org_x : unsigned_abs p.org_x ≤ coordinate_limit
   pub org_y : unsigned_abs p.org_y ≤ coordinate_limit
   pub x : unsigned_abs p.x ≤ coordinate_limit
@@ -30,12 +45,14 @@ pub record IsZones (z : ZoneLists) : Type 0 where
   pub twilight : All IsPoint z.twilight
   pub glyph : All IsPoint z.glyph
   pub contours : AreContours 0 z.contours (length z.glyph)
+  pub scale : IfSome z.originals.units IsScale
 
 -- zones with as many points as others, and with the same contours
 pub record SameShape (old new : ZoneLists) : Type 0 where
   pub twilight : length new.twilight ≡ length old.twilight
   pub glyph : length new.glyph ≡ length old.glyph
   pub contours : new.contours ≡ old.contours
+  pub originals : new.originals ≡ old.originals
 
 -- what gives zones, alone or before something else, keeps their shape
 abbrev pub KeepsShape : {E : Type 0} → ZoneLists → Result ZoneLists E → Type 0

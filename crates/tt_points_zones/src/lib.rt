@@ -15,4 +15,4 @@ pub use meeting::{Line, Place, met};
 pub use motion::{Motion, may_move};
 pub use points::{cur, is_coordinate, is_touched, org, put};
 pub use zone_numbers::zone_of;
-pub use zones::Zones;
+pub use zones::{Originals, Zones};

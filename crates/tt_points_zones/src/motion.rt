@@ -2,17 +2,19 @@
 //! projection and freedom vector) and "Instructing TrueType Glyphs" (touched points). Coordinates and distances are in
 //! 26.6 pixels.
 
-ghost use Rattle.std.specs.Prelude.{◌≡◌, ◌≢◌, ◌*◌, ◌^◌, ◌<◌, ◌≤◌, pos, ◌-ℤ◌, ◌*ℤ◌, unsigned_abs, IfOk};
+ghost use Rattle.std.specs.Prelude.{◌≡◌, ◌≢◌, ◌*◌, ◌^◌, ◌<◌, ◌≤◌, pos, ◌-ℤ◌, ◌*ℤ◌, unsigned_abs, IfOk, IfSome};
 ghost use Rattle.tt_core.specs.Limits.{coordinate_limit};
 ghost use Rattle.tt_core.specs.Numbers.{rounded_quotient};
 ghost use Rattle.tt_core.specs.Outcomes.{Gives};
+ghost use Rattle.tt_core.specs.Scales.{IsScale};
 ghost use Rattle.tt_points_zones.specs.Motions as is;
+ghost use Rattle.tt_points_zones.specs.Originals as originals;
 ghost use Rattle.tt_points_zones.specs.Zones.{IsPoint};
 ghost use Rattle.tt_state.specs.Vectors.{pair};
 
 use crate::distances::Distance;
 use crate::points::is_coordinate;
-use tt_core::{Why, rq};
+use tt_core::{Scale, Why, rq};
 use tt_state::{GraphicsState, Point, Vector, dot, laws};
 
 /// The vectors by which an instruction measures and moves points.
@@ -145,6 +147,33 @@ impl Motion {
             self.dual
                 .project(way(from.org_x, to.org_x), way(from.org_y, to.org_y)),
         )
+    }
+
+    /// How far a point stood from another before the program, in font units.
+    pub fn units_distance(&self, from: Point, to: Point) -> i32
+        requires from { IsPoint from }
+        requires to { IsPoint to }
+        ensures exact { result ≡ originals.units_distance self.now from to }
+        ensures few { unsigned_abs result ≤ 2 ^ 19 }
+    {
+        let x = way(from.units_x, to.units_x);
+        let y = way(from.units_y, to.units_y);
+        self.dual.project(x, y) as i32
+    }
+
+    /// How far a point stood from another before the program, where the originals have a scale: measured in font units,
+    /// and then scaled.
+    pub fn distance_by(&self, scale: Option<Scale>, from: Point, to: Point) -> Distance
+        requires scale { IfSome scale IsScale }
+        requires from { IsPoint from }
+        requires to { IsPoint to }
+        ensures exact { result.0 ≡ originals.distance_by scale self.now from to }
+        ensures few { unsigned_abs result.0 < 2 ^ 30 }
+    {
+        match scale {
+            Some(scale) => Distance(scale.scaled(self.units_distance(from, to))),
+            None => self.original_distance(from, to),
+        }
     }
 
     /// How far a point stands from where it stood: along the projection vector both times.

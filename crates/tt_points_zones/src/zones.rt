@@ -1,15 +1,38 @@
 //! The zones. Apple TrueType Reference Manual, "Instructing TrueType Glyphs" (zones) and "Graphics State" (zone
 //! pointers).
 
-ghost use Rattle.std.specs.Prelude.{◌≡◌, ◌<◌, ◌≤ℤ◌, pos, unsigned_abs, length, slice_set, All, IfOk};
+ghost use Rattle.std.specs.Prelude.{◌≡◌, ◌<◌, ◌≤ℤ◌, pos, unsigned_abs, length, slice_set, All, IfOk, IfSome};
 ghost use Rattle.tt_core.specs.Outcomes.{Gives};
 ghost use Rattle.tt_points_zones.specs.Points.{HasPoint, points_in, point_in, with_point};
+ghost use Rattle.tt_core.specs.Scales.{IsScale};
+ghost use Rattle.tt_points_zones.specs.Originals.{scale_between};
 ghost use Rattle.tt_points_zones.specs.Points as is;
-ghost use Rattle.tt_points_zones.specs.Zones.{IsPoint, IsZones, zones_view};
+ghost use Rattle.tt_points_zones.specs.Zones.{IsPoint, IsZones, in_pixels, zones_view};
 
 use std::alloc::AllocError;
-use tt_core::Why;
+use tt_core::{Halves, Scale, Why};
 use tt_state::{Point, Zone};
+
+/// How the originals of glyph points are measured.
+#[derive(Clone, Copy, Debug, PartialEq, Eq)]
+pub struct Originals {
+    /// By which scale, where the glyph zone is in font units; None where it is in 26.6.
+    pub units: Option<Scale>,
+    /// Where halves are rounded to when points are interpolated.
+    pub halves: Halves,
+}
+
+impl Originals {
+    /// In 26.6, as the originals of the twilight zone always are.
+    pub fn in_pixels(halves: Halves) -> Originals
+        ensures { result ≡ in_pixels halves }
+    {
+        Originals {
+            units: None,
+            halves,
+        }
+    }
+}
 
 /// Both zones. A contour is a range of glyph points, the first and one past the last; the first contour begins at 0 and
 /// each other where the one before it ends. The glyph points after the last contour are its phantom points.
@@ -18,6 +41,7 @@ pub struct Zones {
     pub twilight: Vec<Point>,
     pub glyph: Vec<Point>,
     pub contours: Vec<(u32, u32)>,
+    pub originals: Originals,
 }
 
 impl Zones {
@@ -29,6 +53,7 @@ impl Zones {
             twilight: self.twilight.clone()?,
             glyph: self.glyph.clone()?,
             contours: self.contours.clone()?,
+            originals: self.originals,
         })
     }
 
@@ -59,6 +84,18 @@ impl Zones {
         ensures { result ≡ is.has_point zone n (zones_view self.now) }
     {
         self.point(zone, n).is_ok()
+    }
+
+    /// The scale of two points' originals: where both stand in the glyph zone, and that is in font units.
+    pub fn scale_between(&self, from: Zone, to: Zone) -> Option<Scale>
+        requires { IsZones (zones_view self.now) }
+        ensures exact { result ≡ scale_between from to (zones_view self.now) }
+        ensures valid { IfSome result IsScale }
+    {
+        match (from, to) {
+            (Zone::Glyph, Zone::Glyph) => self.originals.units,
+            _ => None,
+        }
     }
 
     /// Puts another point in the place of one.

@@ -21,9 +21,10 @@
 //! projection and the freedom vector, each as its parts `x,y` in 2.14, and after the functions stand the instructions as
 //! OPCODE TABLE START.
 
-ghost use Rattle.std.specs.Prelude.{◌<◌, ◌≤◌, IfOk, IsTrue};
+ghost use Rattle.std.specs.Prelude.{◌≤◌, IfOk, IsTrue};
 ghost use Rattle.tt_core.specs.Faults.{is_ascii};
 ghost use Rattle.tt_core.specs.Limits.{size_limit};
+ghost use Rattle.tt_core.specs.Scales.{IsScale};
 ghost use Rattle.tt_points_zones.specs.Zones.{IsZones, zones_view};
 
 mod parts;
@@ -96,7 +97,7 @@ fn answer<'a, W: Write>(
     mut parts: Parts<'a>,
 ) -> Result<()>
     requires size { parts.ppem ≤ size_limit }
-    requires units { 0 < parts.em }
+    requires scale { IsScale parts.scale }
     requires zones { IsZones (zones_view parts.zones) }
 {
     let before = parts.copy()?;
@@ -115,7 +116,7 @@ fn definitions_of<'a>(
     font: Code<'a>,
 ) -> Result<(Definitions<'a>, Definitions<'a>)>
     requires size { parts.ppem ≤ size_limit }
-    requires units { 0 < parts.em }
+    requires scale { IsScale parts.scale }
     requires zones { IsZones (zones_view parts.zones) }
 {
     let mut machine = Machine::new(alloc, parts)?;

@@ -3,15 +3,16 @@
 ghost use Rattle.std.specs.Prelude.{◌<◌, ◌≤◌, ◌^◌, All, length, unsigned_abs, IfOk, IsTrue};
 ghost use Rattle.tt_core.specs.Faults.{is_ascii};
 ghost use Rattle.tt_core.specs.Limits.{coordinate_limit, size_limit};
+ghost use Rattle.tt_core.specs.Scales.{IsScale};
 ghost use Rattle.tt_points_zones.specs.Zones.{AreContours, IsPoint, IsZones, zones_view};
 
 use crate::words::{MOST, Words};
 use anyhow::{Result, bail};
 use std::alloc::Global;
 use std::collections::BTreeMap;
-use tt_core::{COORDINATE_LIMIT, SIZE_LIMIT};
+use tt_core::{COORDINATE_LIMIT, Halves, SIZE_LIMIT, Scale};
 use tt_exec::{Code, Parts};
-use tt_points::Zones;
+use tt_points_zones::{Originals, Zones};
 use tt_state::{GraphicsState, Point, Tolerance};
 
 const SIZE: i64 = SIZE_LIMIT as i64;
@@ -88,6 +89,8 @@ fn point_in(words: &mut Words) -> Result<Point>
     let y = coordinate_in(words)?;
     let flags = words.number(0, 7)? as u8;
     Ok(Point {
+        units_x: 0,
+        units_y: 0,
         org_x,
         org_y,
         x,
@@ -135,6 +138,7 @@ fn zones_in(alloc: Global, words: &mut Words) -> Result<Zones>
         twilight,
         glyph,
         contours,
+        originals: Originals::in_pixels(Halves::Up),
     })
 }
 
@@ -169,7 +173,7 @@ impl Rules {
 /// The parts that the next words are, of a machine by these rules.
 pub(crate) fn parts_in<'a>(alloc: Global, words: &mut Words, rules: Rules) -> Result<Parts<'a>>
     ensures zones { IfOk result (λ p. IsZones (zones_view p.zones)) }
-    ensures em { IfOk result (λ p. 16 ≤ p.em) }
+    ensures scale { IfOk result (λ p. IsScale p.scale) }
     ensures ppem { IfOk result (λ p. p.ppem ≤ size_limit) }
 {
     let em = words.number(16, 16384)? as u16;
@@ -178,7 +182,7 @@ pub(crate) fn parts_in<'a>(alloc: Global, words: &mut Words, rules: Rules) -> Re
     let storage = numbers_in(alloc, words)?;
     let zones = zones_in(alloc, words)?;
     Ok(Parts {
-        em,
+        scale: Scale::exact(ppem, em),
         ppem,
         cvt,
         storage,

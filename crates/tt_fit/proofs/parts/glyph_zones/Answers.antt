@@ -1,9 +1,14 @@
+use Rattle.std.specs.Prelude.{option_map}
+use Rattle.tt_fit.specs.Views.{units_view}
 use Rattle.tt_fit.specs.Outline.{outline_of, phantom_of}
 use Rattle.tt_fit.proofs.Zones.{zones-are}
 use Rattle.tt_fit.proofs.parts.glyph_zones.Goals as goal
 
 pub returns-clause-valid : goal.returns-clause-valid
 returns-clause-valid c =
-    zones-are c.args.zones.twilight.items c.in_ok-glyph_zone.field-0.items c.in_ok-contours.field-0.items
-    (outline_of c.args.outline.now) (phantom_of c.args.grid.now) c.requires.zones.twilight c.in_ok-glyph_zone.ensures.exact c.in_ok-glyph_zone.ensures.valid
-    (rw c.deref.ensures.value at c.in_ok-contours.ensures) c.requires.outline
+    let units = option_map units_view c.args.units in
+    let glyph = c.in_ok-glyph_zone in
+    zones-are c.args.zones.twilight.items glyph.field-0.items c.in_ok-contours.field-0.items c.originals_by.result
+    c.args.scale units (outline_of c.args.outline.now) (phantom_of c.args.grid.now) c.requires.zones.twilight
+    glyph.ensures.exact glyph.ensures.valid (rw c.deref.ensures.value at c.in_ok-contours.ensures)
+    c.originals_by.ensures c.requires.scale c.requires.outline

@@ -1,8 +1,18 @@
 use Rattle.std.proofs.Common.{SFits, w32, rules}
 use Rattle.std.proofs.lemmas.Int.{to_z-of_z}
 use Rattle.tt_points_zones.specs.Zones.{zones_view}
+use Rattle.tt_points.specs.ControlValues.{mirp}
 use Rattle.tt_points.proofs.TwoSteps.{mirp_once}
 use Rattle.tt_points.proofs.control_values.mirp.Goals as goal
+
+pub returns-in_err-may_move-clause-exact : goal.returns-in_err-may_move-clause-exact
+unfolding mirp
+returns-in_err-may_move-clause-exact c =
+    let p : SFits w32 c.args.p = c.ranges.p in
+    let rp0 : SFits w32 c.args.state.now.rp0 = search rules in
+    let q = simp to_z-of_z at c.in_ok-q.ensures.exact in
+    let r = simp to_z-of_z at c.in_ok-r.ensures.exact in
+    rw (mirp, q, r, c.in_err-may_move.ensures) (search rules)
 
 pub returns-in_err-q-2-clause-exact : goal.returns-in_err-q-2-clause-exact
 returns-in_err-q-2-clause-exact c =

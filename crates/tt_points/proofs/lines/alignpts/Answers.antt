@@ -1,8 +1,18 @@
 use Rattle.std.proofs.Common.{SFits, w32, w64, refl, rules}
 use Rattle.std.proofs.lemmas.Int.{to_z-of_z}
 use Rattle.tt_points_zones.specs.Zones.{zones_view}
+use Rattle.tt_points.specs.Lines.{alignpts}
 use Rattle.tt_points.proofs.TwoSteps.{alignpts_once, still_there}
 use Rattle.tt_points.proofs.lines.alignpts.Goals as goal
+
+pub returns-in_err-may_move-clause-exact : goal.returns-in_err-may_move-clause-exact
+unfolding alignpts
+returns-in_err-may_move-clause-exact c =
+    let p1 : SFits w32 c.args.p1 = c.ranges.p1 in
+    let p2 : SFits w32 c.args.p2 = c.ranges.p2 in
+    let a = simp to_z-of_z at c.in_ok-a.ensures.exact in
+    let b = simp to_z-of_z at c.in_ok-b.ensures.exact in
+    rw (alignpts, a, b, c.in_err-may_move.ensures) (search rules)
 
 pub returns-in_err-a-2-clause-exact : goal.returns-in_err-a-2-clause-exact
 returns-in_err-a-2-clause-exact c =

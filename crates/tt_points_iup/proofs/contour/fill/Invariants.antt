@@ -7,12 +7,11 @@ use Rattle.tt_points_iup.proofs.contour.fill.Given as goal
 -- the points so far are interpolated, the others as they were
 abbrev pub invariant-loop-k : goal.invariant-loop-k
 invariant-loop-k l = record {
-  along : l.axis ≡ l.fn.contour.axis;
-  filled : Filled (is.interpolated l.fn.contour.axis l.before.point l.after.point) l.contour.points.now
+  filled : Filled (is.interpolated l.fn.contour.along l.fn.before.point l.fn.after.point) l.contour.points.now
       l.fn.contour.points.now l.start l.k;
   valid : All IsPoint l.contour.points.now;
   many : length l.contour.points.now ≡ length l.fn.contour.points.now;
   reads : l.contour.reads ≡ l.fn.contour.reads;
-  axis : l.contour.axis ≡ l.fn.contour.axis;
+  along : l.contour.along ≡ l.fn.contour.along;
   name : l.contour.points.ghost_name ≡ l.fn.contour.points.ghost_name;
 }

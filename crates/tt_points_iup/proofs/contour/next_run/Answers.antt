@@ -14,8 +14,8 @@ returns-in_err-fill-clause-fault c =
     let len = rw searched.unchanged at c.len.ensures in
     let long : c.untouched-len.result ≡ length old =
     omega (arith, left, c.if-start-len.true, len, c.requires.start) in
-    let made = rw (searched.axis, searched.unchanged) at c.in_err-fill.ensures.exact in
-    let bad = run_finishes_outside c.args.contour.now.axis c.args.before.point c.args.first.point old
+    let made = rw (searched.along, searched.unchanged) at c.in_err-fill.ensures.exact in
+    let bad = run_finishes_outside c.args.contour.now.along c.args.before.point c.args.first.point old
     c.untouched-len.result c.in_err-fill.field-0.0 long searched.none made in
     let p = err_from_is_err_and c.from_residual.result c.from_residual.ensures.1 in
     rw (p.1, p.2) bad
@@ -33,8 +33,8 @@ returns-then-start-len-clause-run c =
     let long : c.untouched-len.result ≡ length old =
     omega (arith, left, c.if-start-len.true, len, c.requires.start) in
     let same : length new ≡ length old = omega (arith, left, now, many) in
-    let made = rw (searched.axis, searched.unchanged) at c.in_ok-fill.ensures.exact in
-    run_finishes c.args.contour.now.axis c.args.before.point c.args.first.point old new c.untouched-len.result some
+    let made = rw (searched.along, searched.unchanged) at c.in_ok-fill.ensures.exact in
+    run_finishes c.args.contour.now.along c.args.before.point c.args.first.point old new c.untouched-len.result some
     long same searched.none made c.requires.before
 
 pub returns-in_err-fill-2-clause-fault : goal.returns-in_err-fill-2-clause-fault
@@ -50,8 +50,8 @@ returns-in_err-fill-2-clause-fault c =
     let inside : n < length old = omega (arith, left, far) in
     let last = rw searched.unchanged at (c.at-last.ensures blank) in
     let is : c.at-last.result.point ≡ get_or old n blank = last ∙ sym (get_or-drop start points n blank) in
-    let made = rw (searched.axis, searched.unchanged) at c.in_err-fill-2.ensures.exact in
-    let bad = run_reaches_outside c.args.contour.now.axis c.args.before.point c.args.first.point c.at-last.result.point
+    let made = rw (searched.along, searched.unchanged) at c.in_err-fill-2.ensures.exact in
+    let bad = run_reaches_outside c.args.contour.now.along c.args.before.point c.args.first.point c.at-last.result.point
     old n blank c.in_err-fill-2.field-0.0 inside searched.none (searched.end blank far) is made in
     let p = err_from_is_err_and c.from_residual-in_err-fill-2.result c.from_residual-in_err-fill-2.ensures.1 in
     rw (p.1, p.2) bad
@@ -69,9 +69,9 @@ returns-clause-run c =
     let inside : n < length old = omega (arith, left, far) in
     let last = rw searched.unchanged at (c.at-last.ensures blank) in
     let is : c.at-last.result.point ≡ get_or old n blank = last ∙ sym (get_or-drop start points n blank) in
-    let made = rw (searched.axis, searched.unchanged) at c.in_ok-fill-2.ensures.exact in
+    let made = rw (searched.along, searched.unchanged) at c.in_ok-fill-2.ensures.exact in
     let back = rw searched.unchanged at c.in_ok-fill-2.ensures.back in
     let valid : IsPoint (get_or old n blank) =
     rw (get_or-drop start points n blank) (c.requires.points (start + n) blank far) in
-    run_reaches c.args.contour.now.axis c.args.before.point c.args.first.point c.at-last.result.point old (drop start
+    run_reaches c.args.contour.now.along c.args.before.point c.args.first.point c.at-last.result.point old (drop start
     c.fill-2.new.contour.points.now) n blank inside searched.none (searched.end blank far) is made back valid

@@ -8,14 +8,14 @@ abbrev pub invariant-loop-start : goal.invariant-loop-start
 invariant-loop-start l = record {
   place : l.start ≤ length l.fn.contour.points.now;
   so_far : take l.start l.contour.points.now
-      ++ swept l.fn.contour.axis l.before.point l.first.point (drop l.start l.fn.contour.points.now)
-      ≡ swept l.fn.contour.axis l.fn.last.point l.first.point l.fn.contour.points.now;
+      ++ swept l.fn.contour.along l.before.point l.first.point (drop l.start l.fn.contour.points.now)
+      ≡ swept l.fn.contour.along l.fn.last.point l.first.point l.fn.contour.points.now;
   rest : drop l.start l.contour.points.now ≡ drop l.start l.fn.contour.points.now;
   before : IsPoint l.before.point;
   valid : All IsPoint l.contour.points.now;
   many : length l.contour.points.now ≡ length l.fn.contour.points.now;
   reads : l.contour.reads ≡ l.fn.contour.reads + l.start;
-  axis : l.contour.axis ≡ l.fn.contour.axis;
+  along : l.contour.along ≡ l.fn.contour.along;
   name : l.contour.points.ghost_name ≡ l.fn.contour.points.ghost_name;
 }
 

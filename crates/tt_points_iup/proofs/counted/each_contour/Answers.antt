@@ -22,7 +22,7 @@ returns-in_err-reads-clause-exact c =
     let next = next_range start ranges i (length c.args.points.now) c.loop-range-test.true
     c.loop-range.invariant.place in
     let so_far = rw (drop_more ranges i (0, 0) c.loop-range-test.true) at c.loop-range.invariant.so_far in
-    let whole = contour_outside c.args.axis (is.contours c.args.axis 0 ranges c.args.points.now) c.loop-range.points
+    let whole = contour_outside c.args.along (is.contours c.args.along 0 ranges c.args.points.now) c.loop-range.points
     c.args.points.now start (get_or ranges i (0, 0)) (drop (i + 1) ranges) c.in_err-reads.field-0.0 next
     (record { so_far = so_far; rest = c.loop-range.invariant.rest }) c.in_err-reads.ensures.exact in
     let p = err_from_is_err_and c.from_residual.result c.from_residual.ensures.1 in
@@ -44,7 +44,7 @@ loop-range-preserved c =
     let range = get_or ranges i (0, 0) in
     let next = next_range start ranges i (length old) c.loop-range-test.true c.loop-range.invariant.place in
     let so_far = rw (drop_more ranges i (0, 0) c.loop-range-test.true) at c.loop-range.invariant.so_far in
-    let is_part = whole_ok c.args.axis (is.contour c.args.axis (take (range.1 - start) (drop start now))) part
+    let is_part = whole_ok c.args.along.axis (is.contour c.args.along (take (range.1 - start) (drop start now))) part
     c.in_ok-reads.ensures.exact in
     let order = next.order in
     let bound = next.bound in
@@ -54,7 +54,7 @@ loop-range-preserved c =
     let long : length part ≡ range.1 - start = c.one_contour.auto.points ∙ taken in
     let counted = rw c.loop-range.invariant.rest at c.in_ok-reads.ensures.count in
     let left = rw (drop_more ranges i (0, 0) c.loop-range-test.true, next.from) at c.loop-range.invariant.read in
-    let made = after_contour c.args.axis (is.contours c.args.axis 0 ranges old) now old part start range (drop (i +
+    let made = after_contour c.args.along (is.contours c.args.along 0 ranges old) now old part start range (drop (i +
     1) ranges)
     next c.loop-range.auto.points (record { so_far = so_far; rest = c.loop-range.invariant.rest }) is_part long in
     record {
@@ -69,11 +69,11 @@ loop-range-preserved c =
 pub returns-clause-exact : goal.returns-clause-exact
 returns-clause-exact c =
     let inside = inside_of c.loop-range.start _ _ c.loop-range.invariant.place in
-    let is = whole_made c.args.axis _ c.loop-range.points c.args.points.now c.loop-range.start
+    let is = whole_made c.args.along _ c.loop-range.points c.args.points.now c.loop-range.start
     c.loop-range.range-index c.args.contours.now
     c.loop-range-test.false inside (record {
       so_far = c.loop-range.invariant.so_far;
       rest =
           c.loop-range.invariant.rest;
     }) in
-    rw (← is) (limited_ok c.args.axis c.loop-range.points c.loop-range.invariant.valid)
+    rw (← is) (limited_ok c.args.along.axis c.loop-range.points c.loop-range.invariant.valid)

@@ -8,11 +8,11 @@ use Rattle.tt_points_iup.proofs.counted.each_contour.Given as goal
 abbrev pub invariant-loop-range : goal.invariant-loop-range
 invariant-loop-range l = record {
   place : AreContours l.start (drop l.range-index l.contours) (length l.fn.points);
-  so_far : take l.start l.points ++ is.contours l.axis l.start (drop l.range-index l.contours) l.fn.points
-      ≡ is.contours l.axis 0 l.contours l.fn.points;
+  so_far : take l.start l.points ++ is.contours l.along l.start (drop l.range-index l.contours) l.fn.points
+      ≡ is.contours l.along 0 l.contours l.fn.points;
   rest : drop l.start l.points ≡ drop l.start l.fn.points;
   valid : All IsPoint l.points;
-  read : l.reads + of_contours l.axis (drop l.range-index l.contours) l.fn.points
-      ≡ of_contours l.axis l.contours l.fn.points;
+  read : l.reads + of_contours l.along.axis (drop l.range-index l.contours) l.fn.points
+      ≡ of_contours l.along.axis l.contours l.fn.points;
   few : l.reads ≤ 3 * l.start;
 }

@@ -9,7 +9,7 @@ pub returns-clause-touched : goal.returns-clause-touched
 returns-clause-touched c = touched_point
 
 pub returns-clause-there : goal.returns-clause-there
-returns-clause-there c = has_neighbours
+returns-clause-there c = λ along. has_neighbours along.axis
 
 pub returns-clause-between : goal.returns-clause-between
 returns-clause-between c = between_points

@@ -6,12 +6,12 @@ use Rattle.tt_points_iup.proofs.search.first_touched.Given as goal
 -- the first of those that are left is the first of all, and of each of the others it was asked
 abbrev pub invariant-loop-i : goal.invariant-loop-i
 invariant-loop-i l = record {
-  same : is.first_touched l.fn.contour.axis (drop l.i l.fn.contour.points.now)
-      ≡ is.first_touched l.fn.contour.axis l.fn.contour.points.now;
-  left : l.contour.reads + up_to_first l.fn.contour.axis (drop l.i l.fn.contour.points.now)
-      ≡ l.fn.contour.reads + up_to_first l.fn.contour.axis l.fn.contour.points.now;
+  same : is.first_touched l.fn.contour.along.axis (drop l.i l.fn.contour.points.now)
+      ≡ is.first_touched l.fn.contour.along.axis l.fn.contour.points.now;
+  left : l.contour.reads + up_to_first l.fn.contour.along.axis (drop l.i l.fn.contour.points.now)
+      ≡ l.fn.contour.reads + up_to_first l.fn.contour.along.axis l.fn.contour.points.now;
   asked : l.contour.reads ≡ l.fn.contour.reads + l.i;
   points : l.contour.points.now ≡ l.fn.contour.points.now;
-  axis : l.contour.axis ≡ l.fn.contour.axis;
+  along : l.contour.along ≡ l.fn.contour.along;
   name : l.contour.points.ghost_name ≡ l.fn.contour.points.ghost_name;
 }

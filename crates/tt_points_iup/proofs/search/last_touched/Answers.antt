@@ -8,14 +8,14 @@ use Rattle.tt_points_iup.proofs.search.last_touched.Goals as goal
 
 pub loop-i-preserved : goal.loop-i-preserved
 loop-i-preserved c =
-    let axis = c.args.contour.now.axis in
+    let axis = c.args.contour.now.along.axis in
     let points = c.args.contour.now.points.now in
     let i = c.loop-i.i in
     let inside : i < length points = omega (arith, c.loop-i-test.true, c.len-i-end.ensures) in
-    let exact = rw (c.loop-i.invariant.points, c.loop-i.invariant.axis) at (c.is_touched.ensures.exact blank) in
+    let exact = rw (c.loop-i.invariant.points, c.loop-i.invariant.along) at (c.is_touched.ensures.exact blank) in
     let asked = c.is_touched.ensures.count in
     let same = c.is_touched.ensures.unchanged ∙ c.loop-i.invariant.points in
-    let axis_is = c.is_touched.ensures.axis ∙ c.loop-i.invariant.axis in
+    let along_is = c.is_touched.ensures.along ∙ c.loop-i.invariant.along in
     let name = c.is_touched.ensures.same_reference ∙ c.loop-i.invariant.name in
     elim c.if-is_touched.branch [
       | then-is_touched w ↦
@@ -28,7 +28,7 @@ loop-i-preserved c =
             valid = rw (w.last-is, found) (c.requires.points i blank inside);
             asked = omega (arith, asked, c.loop-i.invariant.asked);
             points = same;
-            axis = axis_is;
+            along = along_is;
             name = name;
           }
       | else-is_touched w ↦
@@ -39,7 +39,7 @@ loop-i-preserved c =
             valid = rw w.last-is c.loop-i.invariant.valid;
             asked = omega (arith, asked, c.loop-i.invariant.asked);
             points = same;
-            axis = axis_is;
+            along = along_is;
             name = name;
           }
     ]

@@ -7,11 +7,11 @@ use Rattle.tt_points_iup.proofs.search.last_touched.Given as goal
 -- the last of those that are left, after what was found, is the last of all
 abbrev pub invariant-loop-i : goal.invariant-loop-i
 invariant-loop-i l = record {
-  same : is.last_touched l.fn.contour.axis (point_of l.last) (drop l.i l.fn.contour.points.now)
-      ≡ is.last_touched l.fn.contour.axis None l.fn.contour.points.now;
+  same : is.last_touched l.fn.contour.along.axis (point_of l.last) (drop l.i l.fn.contour.points.now)
+      ≡ is.last_touched l.fn.contour.along.axis None l.fn.contour.points.now;
   valid : IfSome l.last (λ p. IsPoint p.point);
   asked : l.contour.reads ≡ l.fn.contour.reads + l.i;
   points : l.contour.points.now ≡ l.fn.contour.points.now;
-  axis : l.contour.axis ≡ l.fn.contour.axis;
+  along : l.contour.along ≡ l.fn.contour.along;
   name : l.contour.points.ghost_name ≡ l.fn.contour.points.ghost_name;
 }

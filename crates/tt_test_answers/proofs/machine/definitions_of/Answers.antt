@@ -3,6 +3,6 @@ use Rattle.tt_test_answers.proofs.machine.definitions_of.Goals as goal
 pub new-requires : goal.new-requires
 new-requires c = record {
   size = c.requires.size;
-  units = c.requires.units;
+  scale = c.requires.scale;
   zones = c.requires.zones;
 }

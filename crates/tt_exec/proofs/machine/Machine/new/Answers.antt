@@ -11,5 +11,5 @@ returns c =
       c.new-4.ensures,
       c.new-5.ensures,
       c.new-6.ensures.ppem,
-      c.new-6.ensures.units,
+      c.new-6.ensures.scale,
     ) refl

@@ -1,4 +1,4 @@
-use Rattle.std.proofs.Common.{◌≡◌, ◌∙◌, ◌<◌, Ok, SFits, w16, rules, arith}
+use Rattle.std.proofs.Common.{◌≡◌, ◌∙◌, ◌<◌, None, Ok, SFits, w16, rules, arith}
 use Rattle.std.proofs.lemmas.Int.{to_z-of_z}
 use Rattle.std.proofs.lemmas.Result.{err_from_is_err_and}
 use Rattle.tt_glyf.specs.GlyphData.{glyph_data_of}
@@ -74,8 +74,10 @@ outline-returns-in_ok-start-in-Simple-clause-exact t c =
     let o = outline_of c.in_ok-start-in-Simple.start in
     let x_min : SFits w16 d.x_min = search rules in
     let begun : start s d.x_min c.args.g ≡ Ok o = simp to_z-of_z at c.in_ok-start-in-Simple.ensures.exact in
+    let units = simp to_z-of_z at (rw c.deref.ensures.value at c.units-units.ensures) in
     rw (simple_made s c.args.levels c.args.g glyph o read begun)
-    (rw (c.deref.ensures.value, c.deref-in-Simple.ensures.value, c.program-program.ensures) at c.simple.ensures.exact)
+    (rw (c.deref-in-Simple.ensures.value, c.deref-in-Simple-2.ensures.value, c.program-program.ensures, units) at
+    c.simple.ensures.exact)
 
 pub outline-joined-requires : goal.outline-joined-requires
 outline-joined-requires t c =
@@ -95,7 +97,7 @@ pub outline-returns-in_ok-joined-in-Composite-clause-exact : goal.outline-return
 outline-returns-in_ok-joined-in-Composite-clause-exact t c =
     let s = with_hinting c.args.self.now (hinting_view c.args.hinting.now) in
     let d = c.in-Composite in
-    let program = glyph_program s c.args.g d.code.now d.code_at in
+    let program = glyph_program s c.args.g d.code.now d.code_at None in
     let joins = rw c.as_slice.ensures.value at c.in_ok-joined-in-Composite.ensures.exact in
     let is : outline_at s c.args.levels c.args.g ≡ hinted s.hinting program
     (outline_of c.in_ok-joined-in-Composite.joined) = grind

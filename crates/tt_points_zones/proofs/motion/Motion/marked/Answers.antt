@@ -9,6 +9,8 @@ pub returns-clause-exact : goal.returns-clause-exact
 returns-clause-exact c =
     let free = pair_of c.args.self.now.free in
     let p = c.args.p in
+    let units_x : SFits w32 c.args.p.units_x = search rules in
+    let units_y : SFits w32 c.args.p.units_y = search rules in
     let org_x : SFits w32 c.args.p.org_x = search rules in
     let org_y : SFits w32 c.args.p.org_y = search rules in
     let x : SFits w32 c.args.p.x = search rules in

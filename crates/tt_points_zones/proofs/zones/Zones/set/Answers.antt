@@ -26,6 +26,7 @@ returns-in-Twilight-clause-valid c =
       twilight = c.set_at.ensures.valid;
       glyph = c.requires.zones.glyph;
       contours = c.requires.zones.contours;
+      scale = c.requires.zones.scale;
     })
 
 -- the contours fit a glyph with as many points
@@ -36,4 +37,5 @@ returns-in-Glyph-clause-valid c =
     let same = wrote.count ∙ ap length c.deref_mut-in-Glyph.ensures.value in
     rw (with_items_is glyph c.set_at-in-Glyph.new.points (wrote.count ∙ c.deref_mut-in-Glyph.ensures.len))
     (glyph_kept c.args.self.now.twilight.items glyph.items c.set_at-in-Glyph.new.points
-    c.args.self.now.contours.items c.requires.zones.twilight wrote.valid c.requires.zones.contours same)
+    c.args.self.now.contours.items c.args.self.now.originals c.requires.zones.twilight wrote.valid
+    c.requires.zones.contours c.requires.zones.scale same)

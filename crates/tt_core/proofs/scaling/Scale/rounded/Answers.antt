@@ -1,0 +1,5 @@
+use Rattle.std.proofs.Common.{arith}
+use Rattle.tt_core.proofs.scaling.Scale.rounded.Goals as goal
+
+pub returns-clause-exact : goal.returns-clause-exact
+returns-clause-exact c = grind (arith, c.factor.ensures.exact)

@@ -1,0 +1,24 @@
+//! Where the points of a simple glyph stand in font units. Apple TrueType Reference Manual, "Instructing TrueType
+//! Glyphs" (zones, phantom points).
+
+ghost use Rattle.std.specs.Prelude.{◌^◌, ◌≤◌, unsigned_abs};
+
+use tt_glyf::RawPoint;
+
+/// The coordinates of phantom points that are not 0, in font units.
+#[derive(Clone, Copy)]
+pub(crate) struct PhantomUnits {
+    pub(crate) left: i32,
+    pub(crate) right: i32,
+    pub(crate) ascent: i16,
+    pub(crate) descent: i16,
+    pub(crate) ghost left_is_near: { unsigned_abs left ≤ 2 ^ 17 },
+    pub(crate) ghost right_is_near: { unsigned_abs right ≤ 2 ^ 17 },
+}
+
+/// The places of a glyph's points as the table has them, and of its phantom points.
+#[derive(Clone, Copy)]
+pub(crate) struct Units<'a> {
+    pub(crate) points: &'a [RawPoint],
+    pub(crate) phantom: PhantomUnits,
+}

@@ -1,0 +1,6 @@
+use Rattle.std.proofs.lemmas.List.Elements.{All-set}
+use Rattle.tt_points_zones.specs.Zones.{IsPoint}
+use Rattle.tt_points_iup.proofs.counted.Contour.put.Goals as goal
+
+pub returns-clause-valid : goal.returns-clause-valid
+returns-clause-valid c = All-set IsPoint c.args.self.now.points.now c.args.i c.put.result c.put.ensures.valid c.requires.points
