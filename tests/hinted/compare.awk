@@ -1,4 +1,4 @@
-# Compares outlines with FreeType's, at the four sizes that `sizes` has, with commas. Files are told apart by
+# Compares outlines with FreeType's, at the sizes that `sizes` has, with commas. Files are told apart by
 # what=answers, lines of `tt_test_answers outlines` with the size in front; what=listed, lines SIZE GLYPH MOST of the
 # differences that are known; and what=table, lines of fitted_by_freetype.c, which says what they hold. For each glyph
 # and size of the table prints a line, SIZE GLYPH and the greatest difference of a coordinate in 1/64 pixel, or `other`
@@ -6,10 +6,10 @@
 what == "answers" { answer[$1 " " $2] = $0 }
 what == "listed" { known[$1 " " $2] = $3 }
 what == "table" {
-  for (i = 1; i <= 4; i++) print size[i], $1, judged(size[i] " " $1, $2, $(3 * i), $(3 * i + 1), $(3 * i + 2))
+  for (i = 1; i <= count; i++) print size[i], $1, judged(size[i] " " $1, $2, $(3 * i), $(3 * i + 1), $(3 * i + 2))
 }
 
-BEGIN { split(sizes, size, ",") }
+BEGIN { count = split(sizes, size, ",") }
 
 # Leaves the coordinates that the differences of a text lead to in the list, and in flags whether the point is on the
 # curve, and returns how many they are.

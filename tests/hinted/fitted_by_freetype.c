@@ -1,5 +1,5 @@
 /* Prints glyphs as FreeType's bytecode interpreter fits them, for black and white and without its later ways (version
-   35), at four sizes in pixels per em, with commas:
+   35), at up to eight sizes in pixels per em, with commas:
 
      fitted_by_freetype FONT FIT SIZES GLYPH ..
      fitted_by_freetype FONT FIT SIZES all
@@ -20,7 +20,9 @@
 #include FT_MODULE_H
 #include FT_OUTLINE_H
 
-enum { SIZES = 4 };
+enum { MOST_SIZES = 8 };
+
+static int sizes;
 
 /* The advance is that of the phantom points, whatever the table hdmx has. For `full`, faults of programs are told. */
 static FT_Int32 how = FT_LOAD_TARGET_MONO | FT_LOAD_NO_AUTOHINT | FT_LOAD_NO_BITMAP | FT_LOAD_COMPUTE_METRICS;
@@ -64,11 +66,11 @@ static void print_points(const FT_Outline *outline) {
 
 /* The same face is open once for each size, so that its programs are run for each size once. */
 static void print_glyph(FT_Face *faces, long glyph) {
-  for (int i = 0; i < SIZES; i++)
+  for (int i = 0; i < sizes; i++)
     if (FT_Load_Glyph(faces[i], glyph, how)) return;
   printf("%ld", glyph);
   print_ends(&faces[0]->glyph->outline);
-  for (int i = 0; i < SIZES; i++) {
+  for (int i = 0; i < sizes; i++) {
     printf(" %ld", faces[i]->glyph->metrics.horiAdvance);
     print_points(&faces[i]->glyph->outline);
   }
@@ -77,21 +79,22 @@ static void print_glyph(FT_Face *faces, long glyph) {
 
 int main(int count, char **words) {
   FT_Library library;
-  FT_Face faces[SIZES];
+  FT_Face faces[MOST_SIZES];
   FT_UInt version = 35;
-  int sizes[SIZES];
+  char *at;
 
   if (count < 5) need(1, "a word is missing");
   if (strcmp(words[2], "full") == 0)
     how |= FT_LOAD_PEDANTIC;
   else if (strcmp(words[2], "best") != 0)
     need(1, "full or best");
-  if (sscanf(words[3], "%d,%d,%d,%d", &sizes[0], &sizes[1], &sizes[2], &sizes[3]) != SIZES) need(1, "four sizes");
   need(FT_Init_FreeType(&library), "start");
   need(FT_Property_Set(library, "truetype", "interpreter-version", &version), "version 35");
-  for (int i = 0; i < SIZES; i++) {
-    need(FT_New_Face(library, words[1], 0, &faces[i]), words[1]);
-    need(FT_Set_Pixel_Sizes(faces[i], 0, sizes[i]), "a size");
+  for (at = words[3]; *at; sizes++) {
+    need(sizes == MOST_SIZES, "more than eight sizes");
+    need(FT_New_Face(library, words[1], 0, &faces[sizes]), words[1]);
+    need(FT_Set_Pixel_Sizes(faces[sizes], 0, strtol(at, &at, 10)), "a size");
+    at += *at == ',';
   }
   if (strcmp(words[4], "all") == 0)
     for (long glyph = 0; glyph < faces[0]->num_glyphs; glyph++) print_glyph(faces, glyph);

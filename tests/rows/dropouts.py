@@ -103,16 +103,16 @@ def filled(contours, scan_type):
     return {**{spot[::-1]: "c" for spot in columns}, **dict.fromkeys(rows, "r"), **dict.fromkeys(black, "#")}
 
 
-def drawn_by_types(file, text, size, margin, types):
+def drawn_by_types(file, text, size, margin, types, outline=None):
     """Returns the rows of a line's picture, by the scan type of each character's glyph: another than 0, 1, 4 and 5 for
-    none."""
+    none. The outlines are scaled only; or all of them are the one that is given."""
     font = TTFont(file)
     outlines, glyphs = Outlines(font, size), glyphs_of(font, text)
     widths = [nearest(font["hmtx"][font.getGlyphName(it)][0] * size, font["head"].unitsPerEm) for it in glyphs]
     pens, (rise, depth) = accumulate(widths, initial=margin), extent(font, size)
     rows = [["."] * (sum(widths) + 2 * margin) for _ in range(rise + depth + 2 * margin)]
     for pen, glyph, scan_type in zip(pens, glyphs, types, strict=False):
-        points, ends, phantom = outlines.outline(glyph)
+        points, ends, phantom = outline or outlines.outline(glyph)
         contours = [chords(points[start:end], -phantom[0][0]) for start, end in zip([0, *ends], ends)]
         for (column, row), sign in filled([it for it in contours if it], scan_type).items():
             r, c = rise + margin - 1 - row, pen + column

@@ -4,7 +4,8 @@ each answer of map.txt and each refusal of its cmap again, by the plain search o
 code with tt_render. The pictures of fallback.txt with lines beside them are put together: of a glyph that is told by
 fontTools, and of another one from the picture in fitted.txt. Where cases.txt says by which scan types a picture of best
 is drawn, it is drawn again by fontTools and the rules of dropouts.py, and each pixel has to be added by rows or by
-columns as is said there. Says where an answer is another.
+columns as is said there; and so it is where ../hinted/originals.txt says what its outline is. Says where an answer is
+another.
 
   apt-get install python3-fonttools
   /usr/bin/python3 tests/rows/try_rows.py
@@ -99,6 +100,26 @@ def other_dropouts():
     return count, others
 
 
+def other_originals():
+    """Returns how many pictures of best were drawn of the places of originals.txt, and the names of those that are
+    others."""
+    cases_of = {lines[0][1]: (lines, base) for lines, base in worked_cases()}
+    count, others = 0, []
+    for line in (HERE.parent / "hinted/originals.txt").read_text(encoding="utf-8").splitlines():
+        if line.startswith("#"):
+            continue
+        name, size, *places = line.split()
+        lines, base = cases_of[name]
+        at = next(it for it, words in enumerate(lines) if words[0] == "best")
+        points = [(*map(int, it.split(",")), 1) for it in places]
+        shape = "A", int(size), int(lines[at][3]), "0", (points, [len(points)], [(0, 0)])
+        rows = drawn_by_types(io.BytesIO(font_of(lines, base)[0]), *shape)
+        count += 1
+        if lines[at] != ["best", '"A"', size, "1"] or [[it] for it in rows] != lines[at + 1 :]:
+            others.append(name)
+    return count, others
+
+
 def told(count, what, others):
     print(f"{count} {what}; other ones: {' '.join(others) or 'none'}")
     return bool(others)
@@ -116,6 +137,8 @@ def main():
     failed |= told(count, "pictures with glyphs drawn without programs put together", others)
     count, others = other_dropouts()
     failed |= told(count, "pictures drawn again by scan types", others)
+    count, others = other_originals()
+    failed |= told(count, "pictures drawn of originals.txt", others)
     answers = [it for it in cases("map.txt") if it[0][3] == "0" or it[0][6].startswith("cmap+")]
     others = [words[0] for words, font, text in answers if looked_up(font, text) != words[4:]]
     sys.exit(told(len(answers), "answers and refusals of cmap looked up again", others) | failed)
