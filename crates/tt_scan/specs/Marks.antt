@@ -1,5 +1,5 @@
 -- No part of the standard: the marks that the edges of a row leave, and the black columns between them.
-use Rattle.std.specs.Prelude.{◌≡◌, refl, ℕ, Bool, true, false, ◌&&◌, ◌||◌, not, int_le, int_lt, if◌then◌else◌, ℤ, pos, negsuc, ◌+ℤ◌, ◌≤ℤ◌, List, [], ◌∷◌}
+use Rattle.std.specs.Prelude.{◌≡◌, refl, ℕ, Bool, true, false, ◌&&◌, ◌||◌, not, int_le, int_lt, if◌then◌else◌, ℤ, pos, negsuc, ◌+ℤ◌, ◌-ℤ◌, ◌≤ℤ◌, List, [], ◌∷◌}
 use Rattle.tt_scan.specs.Winding.{is_zero}
 use Rattle.tt_scan.specs.declared.mark.Mark.{Mark}
 use Rattle.tt_scan.specs.declared.mark.Span.{Span}
@@ -13,6 +13,11 @@ pub record Swept : Type 0 where
 abbrev pub covers : List Span → ℤ → Bool
 covers [] c = false
 covers (s ∷ ss) c = (int_le s.first c && int_le c s.last) || covers ss c
+
+-- from one of some pens they cover column k
+abbrev pub covers_from : List Span → List ℕ → ℕ → Bool
+covers_from ss [] k = false
+covers_from ss (pen ∷ pens) k = covers ss (pos k -ℤ pos pen) || covers_from ss pens k
 
 -- how an edge turns that left a mark
 abbrev pub turn_of : Mark → ℤ
