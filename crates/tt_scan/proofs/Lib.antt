@@ -1,4 +1,5 @@
 mod Edges
+mod EightBytes
 pub mod Bools
 pub mod ActiveEdges
 pub mod Columns
