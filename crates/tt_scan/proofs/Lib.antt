@@ -6,6 +6,7 @@ pub mod Columns
 pub mod Crosses
 pub mod Floors
 pub mod Moved
+mod Pens
 pub mod Points
 pub mod Ranges
 pub mod Sides

@@ -257,7 +257,8 @@ fn stamp_of(span: Span) -> Option<Stamp>
         columns: 0,
         word: 0,
     };
-    with_span(start, span)
+    let stamp = with_span(start, span)?;
+    Some(stamp)
 }
 
 /// Blackens the columns of one span from each pen.
@@ -279,8 +280,8 @@ fn paint_each(spans: &[Span], pens: &[u32], width: u32, row: &mut [u8])
     ensures bits { (k : ℕ) → bit row.new k ≡ (bit row.old k || (nat_lt k width && covers_from spans.now pens.now k)) }
     ensures len { length row.new ≡ length row.old }
 {
-    for span in spans {
-        paint_one(*span, pens, width, row);
+    for i in 0..spans.len() {
+        paint_one(spans[i], pens, width, row);
     }
 }
 
