@@ -65,3 +65,9 @@ a_span_holds_its_last_column = refl
 
 and_not_the_next : covers (record { first = negsuc 1; last = pos 2 } ∷ []) (pos 3) ≡ false
 and_not_the_next = refl
+
+from_the_second_pen : covers_from (record { first = negsuc 1; last = pos 2 } ∷ []) (9 ∷ 3 ∷ []) 5 ≡ true
+from_the_second_pen = refl
+
+from_neither_pen : covers_from (record { first = negsuc 1; last = pos 2 } ∷ []) (9 ∷ 3 ∷ []) 6 ≡ false
+from_neither_pen = refl

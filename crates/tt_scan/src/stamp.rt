@@ -252,8 +252,11 @@ fn paint_stamps(stamp: Stamp, spans: &[Span], pens: &[u32], width: u32, row: &mu
 fn stamp_of(span: Span) -> Option<Stamp>
     ensures { IfSome result (λ s. IsStampOf (span ∷ []) s) }
 {
+    if span.first < -(1 << 40) || 1 << 40 < span.first {
+        return None;
+    }
     let start = Stamp {
-        low: span.first.clamp(-(1 << 40), 1 << 40),
+        low: span.first,
         columns: 0,
         word: 0,
     };
@@ -286,8 +289,14 @@ fn paint_each(spans: &[Span], pens: &[u32], width: u32, row: &mut [u8])
 }
 
 /// Blackens the columns of all spans from each pen: by their stamp, or where they have none span by span.
-#[inline(never)]
-pub(crate) fn paint_from(stamp: Option<Stamp>, spans: &[Span], pens: &[u32], width: u32, row: &mut [u8])
+#[inline(always)]
+pub(crate) fn paint_from(
+    stamp: Option<Stamp>,
+    spans: &[Span],
+    pens: &[u32],
+    width: u32,
+    row: &mut [u8],
+)
     requires stamp { IfSome stamp (IsStampOf spans.now) }
     requires width { width ≤ 8 * length row.old }
     ensures bits { (k : ℕ) → bit row.new k ≡ (bit row.old k || (nat_lt k width && covers_from spans.now pens.now k)) }

@@ -87,7 +87,9 @@ impl Sweep {
         }
     }
 
-    /// The same from each of some pens: moved by so many columns to the right.
+    /// Blackens the same from each pen of a glyph: moved by as many columns to the right as the pen says, in a row of
+    /// so many pixels. It takes no memory.
+    #[inline(never)]
     pub fn paint_all(&self, pens: &[u32], width: u32, row: &mut [u8])
         requires width { width ≤ 8 * length row.old }
         ensures bits { (k : ℕ) → bit row.new k
