@@ -5,39 +5,9 @@ use Rattle.std.proofs.lemmas.Int.{ints}
 use Rattle.tt_scan.specs.declared.edge.Edge.{Edge}
 use Rattle.tt_scan.specs.declared.edge.Frame.{Frame}
 use Rattle.tt_scan.specs.declared.mark.Span.{Span}
-use Rattle.tt_scan.specs.Marks.{covers}
+use Rattle.tt_scan.specs.Marks.{covers, covers_from}
 use Rattle.tt_scan.specs.Winding.{is_black, column_x, row_y, rows_met, is_between}
-use Rattle.tt_render.specs.Pixels.{is_black_from, covers_from}
-
-or_false : (b : Bool) → (b || false) ≡ b
-or_false true = refl
-or_false false = refl
-
-or_or : (a b c : Bool) → (a || (b || c)) ≡ ((a || b) || c)
-or_or true b c = refl
-or_or false b c = refl
-
-from_one_more : (ss : List Span) (pens : List ℕ) (i k : ℕ) → i < length pens → covers_from ss (take (i + 1) pens) k
-    ≡ (covers_from ss (take i pens) k || covers ss (pos k -ℤ pos (slice_index pens i)))
-from_one_more ss [] i k below = absurd (omega arith)
-from_one_more ss (p ∷ ps) zero k below = or_false (covers ss (pos k -ℤ pos p))
-from_one_more ss (p ∷ ps) (suc i) k below =
-    let next : suc i + 1 ≡ suc (i + 1) = omega arith in
-    rw (next, from_one_more ss ps i k (omega arith))
-    (or_or (covers ss (pos k -ℤ pos p)) (covers_from ss (take i ps) k) (covers ss (pos k -ℤ pos (slice_index ps i))))
-
-joined : (old inside some one : Bool) → ((old || (inside && some)) || (inside && one))
-    ≡ (old || (inside && (some || one)))
-joined true inside some one = refl
-joined false true some one = refl
-joined false false some one = refl
-
--- what was in a row from the first i pens, and from pen i
-pub one_pen_painted : (ss : List Span) (pens : List ℕ) (i k : ℕ) (old inside : Bool) → i < length pens
-    → ((old || (inside && covers_from ss (take i pens) k)) || (inside && covers ss (pos k -ℤ pos (slice_index pens i))))
-    ≡ (old || (inside && covers_from ss (take (i + 1) pens) k))
-one_pen_painted ss pens i k old inside below = rw (from_one_more ss pens i k below)
-    (joined old inside (covers_from ss (take i pens) k) (covers ss (pos k -ℤ pos (slice_index pens i))))
+use Rattle.tt_render.specs.Pixels.{is_black_from}
 
 -- edges that blacken no column of a row blacken none from any pen
 pub none_from : (f : Frame) (edges : List Edge) (pens : List ℕ) (k r : ℕ) (old inside : Bool)

@@ -4,8 +4,6 @@
 use Rattle.std.specs.Prelude.{◌≡◌, ℕ, ◌≤◌, ◌^◌, Bool, false, ◌||◌, ℤ, pos, ◌-ℤ◌, List, [], ◌∷◌, length, Option, Some, None}
 use Rattle.tt_scan.specs.declared.edge.Edge.{Edge}
 use Rattle.tt_scan.specs.declared.edge.Frame.{Frame}
-use Rattle.tt_scan.specs.declared.mark.Span.{Span}
-use Rattle.tt_scan.specs.Marks.{covers}
 use Rattle.tt_scan.specs.Tape.{Tape}
 use Rattle.tt_scan.specs.Winding.{is_black, column_x, row_y}
 use Rattle.tt_scan_dropouts.specs.Dropouts.{is_dropout}
@@ -72,11 +70,6 @@ pub record TapeFits (f : Frame) (asked : ℕ) (t : Tape) : Type 0 where
   pub frame : t.frame ≡ f
   pub edges : length t.edges ≤ 2 ^ 17
   pub crosses : t.crosses ≤ asked
-
--- the black columns of a glyph at pen 0 cover column k from some pen
-abbrev pub covers_from : List Span → List ℕ → ℕ → Bool
-covers_from spans [] k = false
-covers_from spans (pen ∷ pens) k = covers spans (pos k -ℤ pos pen) || covers_from spans pens k
 
 -- crossings that one row of a glyph asks for at most: each of 2 ^ 17 edges once
 abbrev pub row_crossings : ℕ

@@ -5,7 +5,7 @@ ghost use Rattle.tt_core.specs.Bits.{bit};
 ghost use Rattle.tt_core.specs.Limits.{height_limit};
 ghost use Rattle.tt_scan.specs.Winding.{is_black, column_x, row_y};
 ghost use Rattle.tt_render.specs.Glyphs.{GlyphFits, stamp_of};
-ghost use Rattle.tt_render.specs.Pixels.{is_black_from, covers_from, row_crossings};
+ghost use Rattle.tt_render.specs.Pixels.{is_black_from, row_crossings};
 
 use crate::glyph::Glyph;
 use tt_scan::{Frame, Sweep};
@@ -37,17 +37,6 @@ impl Glyph {
             return;
         }
         sweep.cut(&mut self.tape, i64::from(r));
-        paint_at(sweep, &self.pens, frame.width, row);
-    }
-}
-
-/// Blackens the columns of a sweep's spans from each pen.
-fn paint_at(sweep: &Sweep, pens: &[u32], width: u32, row: &mut [u8])
-    requires width { width ≤ 8 * length row.old }
-    ensures bits { (k : ℕ) → bit row.new k ≡ (bit row.old k || (nat_lt k width && covers_from sweep.now.spans pens.now k)) }
-    ensures len { length row.new ≡ length row.old }
-{
-    for pen in pens {
-        sweep.paint(i64::from(*pen), width, row);
+        sweep.paint_all(&self.pens, frame.width, row);
     }
 }

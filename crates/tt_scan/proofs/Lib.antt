@@ -1,10 +1,12 @@
 mod Edges
+mod EightBytes
 pub mod Bools
 pub mod ActiveEdges
 pub mod Columns
 pub mod Crosses
 pub mod Floors
 pub mod Moved
+mod Pens
 pub mod Points
 pub mod Ranges
 pub mod Sides

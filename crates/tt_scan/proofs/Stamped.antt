@@ -1,15 +1,16 @@
 -- The columns of spans as a stamp, and a stamp painted.
-use Rattle.std.proofs.Common.{◌≡◌, ◌∙◌, sym, refl, ℕ, ◌+◌, ◌-◌, ◌<◌, ◌≤◌, Bool, true, false, ◌&&◌, ◌||◌, ◌==◌, nat_le, nat_lt, List, length, take, get_or, bit_or, ℤ, pos, ◌+ℤ◌, ◌-ℤ◌, ◌≤ℤ◌, ◌^◌, int_le, int_lt, unsigned_abs, SFits, w64, to_z, of_z, arith, inl, inr}
+use Rattle.std.proofs.Common.{◌≡◌, ◌∙◌, sym, refl, ℕ, ◌+◌, ◌-◌, ◌<◌, ◌≤◌, Bool, true, false, ◌&&◌, ◌||◌, ◌==◌, nat_le, nat_lt, List, [], ◌∷◌, length, take, get_or, bit_or, ℤ, pos, ◌+ℤ◌, ◌-ℤ◌, ◌≤ℤ◌, ◌^◌, int_le, int_lt, unsigned_abs, SFits, w64, to_z, of_z, arith, inl, inr}
 use Rattle.std.specs.Int.{bit_at}
 use Rattle.std.proofs.lemmas.Bool.Decides.{nat_tests}
 use Rattle.std.proofs.lemmas.Bool.{cases_lt}
 use Rattle.std.proofs.lemmas.Int.{ints, by_lt_z, to_z-of_z}
 use Rattle.std.proofs.lemmas.List.{take_more}
-use Rattle.std.proofs.lemmas.Nat.Bits.{bit_at-lt, bit_at_or}
+use Rattle.std.proofs.lemmas.Nat.Bits.{bit_at-lt, bit_at-zero, bit_at_or}
 use Rattle.tt_scan.specs.declared.mark.Span.{Span}
 use Rattle.tt_scan.specs.declared.stamp.Stamp.{Stamp}
 use Rattle.tt_scan.specs.Marks.{covers}
 use Rattle.tt_scan.specs.Stamps.{in_word, shows, IsStampOf}
+use Rattle.tt_scan.proofs.Bools.{or_false}
 use Rattle.tt_scan.proofs.Columns.{or_bit}
 use Rattle.tt_scan.proofs.ActiveEdges.{reached}
 use Rattle.tt_scan.proofs.Words.{past_last}
@@ -139,3 +140,18 @@ stamp_painted ss s at k width shift is is_at room =
           let same : unsigned_abs ((pos k -ℤ shift) -ℤ s.low) ≡ k - at = omega (arith, ints) in
           rw (on, in_it, same) (within_row s.word s.columns at k width is.narrow is.free room)
     ])
+
+-- a span alone
+
+both_off : (a b : Bool) → (a && (b && false)) ≡ false
+both_off true true = refl
+both_off true false = refl
+both_off false b = refl
+
+empty_shows : (low c : ℤ) → shows (record { low = low; columns = 0; word = 0 }) c ≡ false
+empty_shows low c =
+    rw (bit_at-zero (63 - unsigned_abs (c -ℤ low))) (both_off (int_le low c) (nat_lt (unsigned_abs (c -ℤ low)) 57))
+
+pub span_alone : (low : ℤ) (s : Span) (t : Stamp) (c : ℤ) → shows t c ≡ (shows (record { low = low; columns = 0; word = 0 }) c || (int_le s.first c && int_le c s.last))
+    → covers (s ∷ []) c ≡ shows t c
+span_alone low s t c is = or_false (int_le s.first c && int_le c s.last) ∙ sym (rw (empty_shows low c) at is)

@@ -38,7 +38,7 @@ ones_bit from to j order fits within = elim (cases_lt (63 - j) (64 - from)) [
 
 -- eight bits of a word
 
-shifted_bit : (n k i : ℕ) → bit_at (n / 2 ^ k) i ≡ bit_at n (k + i)
+pub shifted_bit : (n k i : ℕ) → bit_at (n / 2 ^ k) i ≡ bit_at n (k + i)
 shifted_bit n k i = ap (λ x. x % 2) (shr-shr n k i)
 
 pub low_bit : (n i : ℕ) → i < 8 → bit_at (n % 256) i ≡ bit_at n i

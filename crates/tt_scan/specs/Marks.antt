@@ -1,5 +1,5 @@
 -- No part of the standard: the marks that the edges of a row leave, and the black columns between them.
-use Rattle.std.specs.Prelude.{◌≡◌, refl, ℕ, Bool, true, false, ◌&&◌, ◌||◌, not, int_le, int_lt, if◌then◌else◌, ℤ, pos, negsuc, ◌+ℤ◌, ◌≤ℤ◌, List, [], ◌∷◌}
+use Rattle.std.specs.Prelude.{◌≡◌, refl, ℕ, Bool, true, false, ◌&&◌, ◌||◌, not, int_le, int_lt, if◌then◌else◌, ℤ, pos, negsuc, ◌+ℤ◌, ◌-ℤ◌, ◌≤ℤ◌, List, [], ◌∷◌}
 use Rattle.tt_scan.specs.Winding.{is_zero}
 use Rattle.tt_scan.specs.declared.mark.Mark.{Mark}
 use Rattle.tt_scan.specs.declared.mark.Span.{Span}
@@ -13,6 +13,11 @@ pub record Swept : Type 0 where
 abbrev pub covers : List Span → ℤ → Bool
 covers [] c = false
 covers (s ∷ ss) c = (int_le s.first c && int_le c s.last) || covers ss c
+
+-- from one of some pens they cover column k
+abbrev pub covers_from : List Span → List ℕ → ℕ → Bool
+covers_from ss [] k = false
+covers_from ss (pen ∷ pens) k = covers ss (pos k -ℤ pos pen) || covers_from ss pens k
 
 -- how an edge turns that left a mark
 abbrev pub turn_of : Mark → ℤ
@@ -60,3 +65,9 @@ a_span_holds_its_last_column = refl
 
 and_not_the_next : covers (record { first = negsuc 1; last = pos 2 } ∷ []) (pos 3) ≡ false
 and_not_the_next = refl
+
+from_the_second_pen : covers_from (record { first = negsuc 1; last = pos 2 } ∷ []) (9 ∷ 3 ∷ []) 5 ≡ true
+from_the_second_pen = refl
+
+from_neither_pen : covers_from (record { first = negsuc 1; last = pos 2 } ∷ []) (9 ∷ 3 ∷ []) 6 ≡ false
+from_neither_pen = refl

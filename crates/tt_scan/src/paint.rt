@@ -2,7 +2,7 @@
 
 ghost use Rattle.std.specs.Prelude.{◌≡◌, ℕ, ◌*◌, ◌^◌, ◌<◌, ◌≤◌, ◌+ℤ◌, ◌-ℤ◌, ◌&&◌, ◌||◌, nat_le, nat_lt, int_le, pos, length, unsigned_abs};
 ghost use Rattle.tt_core.specs.Bits.{bit};
-ghost use Rattle.tt_scan.specs.Marks.{covers};
+ghost use Rattle.tt_scan.specs.Marks.{covers, covers_from};
 
 use crate::bytes::fill;
 use crate::mark::Span;
@@ -60,6 +60,8 @@ fn paint_span(span: Span, window: Window, row: &mut [u8])
 }
 
 /// Blackens the columns of all spans, moved by `shift` columns to the right.
+#[cold]
+#[inline(never)]
 pub(crate) fn paint_spans(spans: &[Span], shift: i64, width: u32, row: &mut [u8])
     requires shift { unsigned_abs shift < 2 ^ 40 }
     requires width { width ≤ 8 * length row.old }
@@ -69,5 +71,18 @@ pub(crate) fn paint_spans(spans: &[Span], shift: i64, width: u32, row: &mut [u8]
     let window = Window { low: -shift, width };
     for i in 0..spans.len() {
         paint_span(spans[i], window, row);
+    }
+}
+
+/// The same from each pen.
+#[cold]
+#[inline(never)]
+pub(crate) fn paint_spans_at(spans: &[Span], pens: &[u32], width: u32, row: &mut [u8])
+    requires width { width ≤ 8 * length row.old }
+    ensures bits { (k : ℕ) → bit row.new k ≡ (bit row.old k || (nat_lt k width && covers_from spans.now pens.now k)) }
+    ensures len { length row.new ≡ length row.old }
+{
+    for pen in pens {
+        paint_spans(spans, i64::from(*pen), width, row);
     }
 }

@@ -1,14 +1,14 @@
 //! The black columns of a narrow row as one word, which is painted at a place by eight bytes.
 
-ghost use Rattle.std.specs.Prelude.{◌≡◌, ℕ, ℤ, ◌+◌, ◌-◌, ◌*◌, ◌/◌, ◌%◌, ◌^◌, ◌<◌, ◌≤◌, ◌+ℤ◌, ◌-ℤ◌, ◌&&◌, ◌||◌, ◌==◌, nat_le, nat_lt, int_le, pos, length, unsigned_abs, IfSome};
+ghost use Rattle.std.specs.Prelude.{◌≡◌, ℕ, ℤ, ◌+◌, ◌-◌, ◌*◌, ◌/◌, ◌%◌, ◌^◌, ◌<◌, ◌≤◌, ◌+ℤ◌, ◌-ℤ◌, ◌&&◌, ◌||◌, ◌==◌, nat_le, nat_lt, int_le, pos, [], ◌∷◌, length, take, slice_index, unsigned_abs, IfSome};
 ghost use Rattle.std.specs.Int.{bit_at};
 ghost use Rattle.tt_core.specs.Bits.{bit};
-ghost use Rattle.tt_scan.specs.Marks.{covers};
+ghost use Rattle.tt_scan.specs.Marks.{covers, covers_from};
 ghost use Rattle.tt_scan.specs.Stamps.{in_word, shows, IsStampOf};
 ghost use Rattle.tt_scan.specs.declared.stamp.Stamp.{Stamp};
 
 use crate::mark::Span;
-use crate::paint::paint_spans;
+use crate::paint::{paint_spans, paint_spans_at};
 
 /// So many columns from `low` on, at most 57: a bit for each, from the highest on.
 #[derive(Clone, Copy)]
@@ -47,9 +47,10 @@ fn or_byte(row: &mut [u8], byte: usize, mask: u8)
     row[byte] |= mask;
 }
 
-/// Blackens the columns of a word, which has so many, the first of them at column `at` of the row.
-#[inline(always)]
-fn or_word(row: &mut [u8], at: usize, columns: u32, word: u64)
+/// The columns of a word, which has so many, blackened byte by byte, the first of them at column `at` of the row.
+#[cold]
+#[inline(never)]
+fn or_bytes(row: &mut [u8], at: usize, columns: u32, word: u64)
     requires narrow { columns ≤ 57 }
     requires within { at + columns ≤ 8 * length row.old }
     requires free { (i : ℕ) → i < 64 - columns → bit_at word i ≡ 0 }
@@ -60,6 +61,55 @@ fn or_word(row: &mut [u8], at: usize, columns: u32, word: u64)
     let by = 56 + at % 8;
     for i in 0..(at % 8 + columns as usize + 7) / 8 {
         or_byte(row, start + i, word_byte(word, by - 8 * i));
+    }
+}
+
+/// Eight bytes of a row from `start` on as one number, the first of them the lowest.
+fn read_eight(row: &[u8], start: usize) -> u64
+    requires { start + 8 ≤ length row.now }
+    ensures { (i : ℕ) → i < 8 → (b : ℕ) → b < 8 → bit_at result (8 * i + b) ≡ bit_at (slice_index row.now (start + i)) b }
+{
+    u64::from_le_bytes(*row[start..start + 8].as_array::<8>().unwrap())
+}
+
+/// Writes such a number in the place of eight bytes of a row.
+fn write_eight(row: &mut [u8], start: usize, eight: u64)
+    requires { start + 8 ≤ length row.old }
+    ensures within { (i : ℕ) → i < 8 → (b : ℕ) → b < 8 → bit_at (slice_index row.new (start + i)) b ≡ bit_at eight (8 * i + b) }
+    ensures before { (at : ℕ) → at < start → slice_index row.new at ≡ slice_index row.old at }
+    ensures after { (at : ℕ) → start + 8 ≤ at → slice_index row.new at ≡ slice_index row.old at }
+    ensures len { length row.new ≡ length row.old }
+{
+    row[start..start + 8].copy_from_slice(&eight.to_le_bytes());
+}
+
+/// Blackens the columns of a word in eight bytes of a row, from byte `start` on.
+#[inline(always)]
+fn or_eight(row: &mut [u8], start: usize, word: u64)
+    requires { start + 8 ≤ length row.old }
+    ensures bits { (k : ℕ) → bit row.new k ≡ (bit row.old k
+        || ((nat_le (8 * start) k && nat_lt k (8 * start + 64)) && (bit_at word (63 - (k - 8 * start)) == 1))) }
+    ensures len { length row.new ≡ length row.old }
+{
+    let old = read_eight(row, start);
+    write_eight(row, start, old | word.swap_bytes());
+}
+
+/// Blackens the columns of a word, which has so many, the first of them at column `at` of the row.
+#[inline(always)]
+fn or_word(row: &mut [u8], at: usize, columns: u32, word: u64)
+    requires narrow { columns ≤ 57 }
+    requires within { at + columns ≤ 8 * length row.old }
+    requires free { (i : ℕ) → i < 64 - columns → bit_at word i ≡ 0 }
+    ensures bits { (k : ℕ) → bit row.new k ≡ (bit row.old k || (nat_le at k && in_word word (k - at))) }
+    ensures len { length row.new ≡ length row.old }
+{
+    if row.len() < 8 {
+        or_bytes(row, at, columns, word);
+    } else {
+        // The last eight bytes of the row hold what eight from the word's own byte on would pass.
+        let start = (at / 8).min(row.len() - 8);
+        or_eight(row, start, word >> ((at - 8 * start) % 64));
     }
 }
 
@@ -102,12 +152,24 @@ fn lowest(spans: &[Span]) -> i64
         .clamp(-(1 << 40), 1 << 40)
 }
 
+/// Whether the last span ends too far right of a column for a stamp: of stretches in order none ends further right.
+#[inline(always)]
+fn is_far(spans: &[Span], low: i64) -> bool
+    requires { unsigned_abs low ≤ 2 ^ 40 }
+{
+    !spans.is_empty() && low + 56 < spans[spans.len() - 1].last
+}
+
 /// The columns of all spans as a stamp, where one has room for them.
 pub(crate) fn stamped(spans: &[Span]) -> Option<Stamp>
     ensures { IfSome result (λ s. IsStampOf spans.now s) }
 {
+    let low = lowest(spans);
+    if is_far(spans, low) {
+        return None;
+    }
     let mut stamp = Stamp {
-        low: lowest(spans),
+        low,
         columns: 0,
         word: 0,
     };
@@ -126,7 +188,8 @@ fn place_of(stamp: Stamp, shift: i64, width: u32) -> Option<usize>
     ensures within { IfSome result (λ at. at + stamp.columns ≤ width) }
 {
     let at = stamp.low + shift;
-    if 0 <= at && at + i64::from(stamp.columns) <= i64::from(width) {
+    let room = width.saturating_sub(stamp.columns.saturating_sub(1));
+    if 0 <= at && at < i64::from(room) {
         Some(at as usize)
     } else {
         None
@@ -134,6 +197,7 @@ fn place_of(stamp: Stamp, shift: i64, width: u32) -> Option<usize>
 }
 
 /// Blackens the columns of all spans, moved by `shift` columns to the right: by their stamp, or at a border by themselves.
+#[inline(always)]
 pub(crate) fn paint_stamp(stamp: Stamp, spans: &[Span], shift: i64, width: u32, row: &mut [u8])
     requires stamp { IsStampOf spans.now stamp }
     requires shift { unsigned_abs shift < 2 ^ 40 }
@@ -144,5 +208,102 @@ pub(crate) fn paint_stamp(stamp: Stamp, spans: &[Span], shift: i64, width: u32, 
     match place_of(stamp, shift, width) {
         Some(at) => or_word(row, at, stamp.columns, stamp.word),
         None => paint_spans(spans, shift, width, row),
+    }
+}
+
+/// Blackens a stamp's columns from one pen after another, up to the first from which some lie outside of the row, or to
+/// the first of all if the row has fewer than eight bytes. Returns from how many.
+#[inline(always)]
+fn paint_fitting(stamp: Stamp, spans: &[Span], pens: &[u32], width: u32, row: &mut [u8]) -> usize
+    requires stamp { IsStampOf spans.now stamp }
+    requires width { width ≤ 8 * length row.old }
+    ensures bits { (k : ℕ) → bit row.new k ≡ (bit row.old k || (nat_lt k width && covers_from spans.now (take result pens.now) k)) }
+    ensures len { length row.new ≡ length row.old }
+    ensures within { result ≤ length pens.now }
+{
+    if row.len() < 8 {
+        return 0;
+    }
+    for i in 0..pens.len() {
+        match place_of(stamp, i64::from(pens[i]), width) {
+            Some(at) => or_word(row, at, stamp.columns, stamp.word),
+            None => return i,
+        }
+    }
+    pens.len()
+}
+
+/// Blackens the columns of all spans from each pen: moved by so many columns to the right.
+#[inline(always)]
+fn paint_stamps(stamp: Stamp, spans: &[Span], pens: &[u32], width: u32, row: &mut [u8])
+    requires stamp { IsStampOf spans.now stamp }
+    requires width { width ≤ 8 * length row.old }
+    ensures bits { (k : ℕ) → bit row.new k ≡ (bit row.old k || (nat_lt k width && covers_from spans.now pens.now k)) }
+    ensures len { length row.new ≡ length row.old }
+{
+    let done = paint_fitting(stamp, spans, pens, width, row);
+    if done < pens.len() {
+        paint_spans_at(spans, &pens[done..], width, row);
+    }
+}
+
+/// The columns of one span as a stamp, where it has room for them.
+#[inline(always)]
+fn stamp_of(span: Span) -> Option<Stamp>
+    ensures { IfSome result (λ s. IsStampOf (span ∷ []) s) }
+{
+    if span.first < -(1 << 40) || 1 << 40 < span.first {
+        return None;
+    }
+    let start = Stamp {
+        low: span.first,
+        columns: 0,
+        word: 0,
+    };
+    let stamp = with_span(start, span)?;
+    Some(stamp)
+}
+
+/// Blackens the columns of one span from each pen.
+#[inline(always)]
+fn paint_one(span: Span, pens: &[u32], width: u32, row: &mut [u8])
+    requires width { width ≤ 8 * length row.old }
+    ensures bits { (k : ℕ) → bit row.new k ≡ (bit row.old k || (nat_lt k width && covers_from (span ∷ []) pens.now k)) }
+    ensures len { length row.new ≡ length row.old }
+{
+    match stamp_of(span) {
+        Some(stamp) => paint_stamps(stamp, &[span], pens, width, row),
+        None => paint_spans_at(&[span], pens, width, row),
+    }
+}
+
+/// Blackens the columns of all spans from each pen, span by span.
+fn paint_each(spans: &[Span], pens: &[u32], width: u32, row: &mut [u8])
+    requires width { width ≤ 8 * length row.old }
+    ensures bits { (k : ℕ) → bit row.new k ≡ (bit row.old k || (nat_lt k width && covers_from spans.now pens.now k)) }
+    ensures len { length row.new ≡ length row.old }
+{
+    for i in 0..spans.len() {
+        paint_one(spans[i], pens, width, row);
+    }
+}
+
+/// Blackens the columns of all spans from each pen: by their stamp, or where they have none span by span.
+#[inline(always)]
+pub(crate) fn paint_from(
+    stamp: Option<Stamp>,
+    spans: &[Span],
+    pens: &[u32],
+    width: u32,
+    row: &mut [u8],
+)
+    requires stamp { IfSome stamp (IsStampOf spans.now) }
+    requires width { width ≤ 8 * length row.old }
+    ensures bits { (k : ℕ) → bit row.new k ≡ (bit row.old k || (nat_lt k width && covers_from spans.now pens.now k)) }
+    ensures len { length row.new ≡ length row.old }
+{
+    match stamp {
+        Some(stamp) => paint_stamps(stamp, spans, pens, width, row),
+        None => paint_each(spans, pens, width, row),
     }
 }

@@ -2,12 +2,12 @@
 
 ghost use Rattle.std.specs.Prelude.{◌≡◌, ℕ, ℤ, ◌+◌, ◌-ℤ◌, ◌*◌, ◌^◌, ◌<◌, ◌≤◌, ◌<ℤ◌, ◌≤ℤ◌, ◌&&◌, ◌||◌, nat_lt, pos, [], length, unsigned_abs, IfOk};
 ghost use Rattle.tt_core.specs.Bits.{bit};
-ghost use Rattle.tt_scan.specs.Marks.{covers};
+ghost use Rattle.tt_scan.specs.Marks.{covers, covers_from};
 ghost use Rattle.tt_scan.specs.Winding.{is_black, column_x, row_y, rows_met};
 
 use crate::mark::{Mark, Span};
 use crate::paint::paint_spans;
-use crate::stamp::{Stamp, paint_stamp, stamped};
+use crate::stamp::{Stamp, paint_from, paint_stamp, stamped};
 use crate::stretch::{sort, wind};
 use crate::tape::Tape;
 use std::alloc::{AllocError, Global};
@@ -85,5 +85,17 @@ impl Sweep {
             Some(stamp) => paint_stamp(stamp, &self.spans, shift, width, row),
             None => paint_spans(&self.spans, shift, width, row),
         }
+    }
+
+    /// Blackens the same from each pen of a glyph: moved by as many columns to the right as the pen says, in a row of
+    /// so many pixels. It takes no memory.
+    #[inline(never)]
+    pub fn paint_all(&self, pens: &[u32], width: u32, row: &mut [u8])
+        requires width { width ≤ 8 * length row.old }
+        ensures bits { (k : ℕ) → bit row.new k
+            ≡ (bit row.old k || (nat_lt k width && covers_from self.now.spans pens.now k)) }
+        ensures len { length row.new ≡ length row.old }
+    {
+        paint_from(self.stamp, &self.spans, pens, width, row);
     }
 }

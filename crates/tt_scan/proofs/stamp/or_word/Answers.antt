@@ -1,22 +1,11 @@
-use Rattle.std.proofs.Common.{◌-◌, rules, arith}
+use Rattle.std.proofs.Common.{◌∙◌, ◌-◌, ◌*◌, ◌%◌, length, refl, rules, arith}
 use Rattle.tt_core.specs.Bits.{bit}
-use Rattle.tt_scan.specs.Stamps.{in_word}
-use Rattle.tt_scan.proofs.Words.{word_begin, word_step, word_end}
+use Rattle.tt_scan.proofs.EightBytes.{word_ored}
 use Rattle.tt_scan.proofs.stamp.or_word.Goals as goal
 
-pub loop-i-init : goal.loop-i-init
-loop-i-init c = record {
-  bits = λ k. word_begin (bit c.args.row.now k) (in_word c.args.word (k - c.args.at)) c.args.at k;
-  len = search rules;
-}
-
-pub loop-i-preserved : goal.loop-i-preserved
-loop-i-preserved c = record {
-  bits = λ k. word_step c.args.word c.args.at c.loop-i.i k c.word_byte.result (bit c.args.row.now k) (bit c.loop-i.row k) (bit c.or_byte.new.row k)
-      (search rules) (λ b low. c.requires.free b (omega (arith, c.requires.narrow))) (omega (arith, c.loop-i-test.true, c.requires.narrow)) c.word_byte.ensures (c.loop-i.invariant.bits k) (c.or_byte.ensures.bits k);
-  len = search rules;
-}
-
-pub returns-clause-bits : goal.returns-clause-bits
-returns-clause-bits c = λ k.
-    word_end (bit c.args.row.now k) (bit c.loop-i.row k) c.args.word c.args.columns c.args.at c.loop-i.i k c.requires.narrow c.requires.free (omega (arith, c.loop-i-test.false)) (c.loop-i.invariant.bits k)
+pub returns-else-row-lt8-clause-bits : goal.returns-else-row-lt8-clause-bits
+returns-else-row-lt8-clause-bits c = λ k.
+    let start = c.min-start.result in
+    c.or_eight.ensures.bits k
+    ∙ word_ored c.args.word c.args.columns c.args.at (length c.args.row.now) start ((c.args.at - 8 * start) % 64) k (bit c.args.row.now k)
+    (search rules) c.requires.narrow c.requires.free c.requires.within (omega (arith, c.if-row-lt8.false)) c.min-start.ensures refl

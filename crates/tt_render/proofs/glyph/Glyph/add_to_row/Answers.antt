@@ -25,7 +25,7 @@ returns-clause-bits c =
     let wide : c.args.frame.width < 2 ^ 63 = search rules in
     let cut = simp to_z-of_z at c.cut.ensures.black in
     let black = rw (tape, frame, c.from.ensures) at cut in
-    λ k. c.paint_at.ensures.bits k ∙ rw (c.deref.ensures.value, pens) (painted_from c.args.frame g.tape.edges
+    λ k. c.paint_all.ensures.bits k ∙ rw (c.deref.ensures.value, pens) (painted_from c.args.frame g.tape.edges
     c.cut.new.self.spans g.pens k c.args.r c.args.frame.width (bit c.args.row.now k) wide black)
 
 pub returns-clause-glyph : goal.returns-clause-glyph

@@ -1,12 +1,12 @@
 use Rattle.std.proofs.Common.{◌≡◌, ℕ, ◌||◌, ◌&&◌, nat_lt, length, take}
 use Rattle.tt_core.specs.Bits.{bit}
-use Rattle.tt_render.specs.Pixels.{covers_from}
-use Rattle.tt_render.proofs.painting.paint_at.Given as goal
+use Rattle.tt_scan.specs.Marks.{covers_from}
+use Rattle.tt_scan.proofs.paint.paint_spans_at.Given as goal
 
 -- the pens so far are done
 abbrev pub invariant-loop-pen : goal.invariant-loop-pen
 invariant-loop-pen l = record {
-  bits : (k : ℕ) → bit l.row k ≡ (bit l.fn.row k || (nat_lt k l.width && covers_from l.sweep.spans
+  bits : (k : ℕ) → bit l.row k ≡ (bit l.fn.row k || (nat_lt k l.width && covers_from l.spans
       (take l.pen-index l.pens) k));
   len : length l.row ≡ length l.fn.row;
 }

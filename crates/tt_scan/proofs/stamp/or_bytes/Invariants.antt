@@ -1,7 +1,7 @@
 use Rattle.std.proofs.Common.{◌≡◌, ℕ, ◌+◌, ◌-◌, ◌*◌, ◌/◌, ◌&&◌, ◌||◌, nat_le, nat_lt, length}
 use Rattle.tt_core.specs.Bits.{bit}
 use Rattle.tt_scan.specs.Stamps.{in_word}
-use Rattle.tt_scan.proofs.stamp.or_word.Given as goal
+use Rattle.tt_scan.proofs.stamp.or_bytes.Given as goal
 
 -- the word's columns in the bytes so far are black
 abbrev pub invariant-loop-i : goal.invariant-loop-i
