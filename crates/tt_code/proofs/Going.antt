@@ -1,9 +1,9 @@
 -- A skip that has come to a place goes on as the whole skip does.
-use Rattle.std.proofs.Common.{◌≡◌, ℕ, zero, suc, ◌+◌, ◌<◌, ◌≤◌, nat_le, true, false, List, length, Result, Ok, Err, refl, sym, ◌∙◌, arith}
+use Rattle.std.proofs.Common.{◌≡◌, ℕ, zero, suc, ◌+◌, ◌<◌, ◌≤◌, nat_le, true, false, List, [], length, slice_index, Result, Ok, Err, refl, sym, ◌∙◌, arith}
 use Rattle.std.proofs.lemmas.Bool.Decides.{nat_tests}
 use Rattle.tt_code.specs.declared.decoding.Halt.{Halt}
 use Rattle.tt_code.specs.declared.skips.Sought.{Sought}
-use Rattle.tt_code.specs.Decoding.{Instr, instruction_at}
+use Rattle.tt_code.specs.Decoding.{Instr, instruction_at, takes_data}
 use Rattle.tt_code.specs.Skips.{ends, depth_after, skip_from}
 
 -- the rest of the skip is the whole, and instructions enough are counted for it
@@ -68,3 +68,18 @@ pub further : {sought : Sought} {code : List ℕ} {lost : Halt} {whole : Result 
     → GoesOn sought code lost whole (place + i.len) (depth_after depth i.op)
 further {sought} {code} {lost} {whole} {place} {depth} i inside on there none some =
     further_by on.fuel sought code lost whole place depth i inside on.enough on.same there none some
+
+-- at an opcode without data
+plain : (code : List ℕ) (place : ℕ) → place < length code → takes_data (slice_index code place) ≡ false
+    → instruction_at code place ≡ Ok (record { op = slice_index code place; args = []; len = 1 })
+plain code place inside none = grind (arith, nat_tests)
+
+-- at an opcode at which nothing is to be done
+pub passed : {sought : Sought} {code : List ℕ} {lost : Halt} {whole : Result ℕ Halt} {place depth : ℕ}
+    → place < length code → GoesOn sought code lost whole place depth
+    → takes_data (slice_index code place) ≡ false → ends sought depth (slice_index code place) ≡ false
+    → depth_after depth (slice_index code place) ≡ depth
+    → GoesOn sought code lost whole (place + 1) depth
+passed {sought} {code} {lost} {whole} {place} {depth} inside on none no_end level =
+    let i : Instr = record { op = slice_index code place; args = []; len = 1 } in
+    rw level at (further i inside on (plain code place inside none) no_end (omega arith))

@@ -1,6 +1,6 @@
-use Rattle.std.proofs.Common.{◌≡◌, ◌<◌, length, true, false, rules, sym, ◌∙◌, arith}
+use Rattle.std.proofs.Common.{◌≡◌, ◌<◌, length, true, false, rules, refl, sym, ◌∙◌, arith}
 use Rattle.tt_code.specs.Skips.{ends}
-use Rattle.tt_code.proofs.Going.{halted, ended, further}
+use Rattle.tt_code.proofs.Going.{halted, ended, further, passed}
 use Rattle.tt_code.proofs.skips.skip.Goals as goal
 
 pub returns-in_err-i-clause-exact : goal.returns-in_err-i-clause-exact
@@ -26,4 +26,15 @@ instructions-preserved c =
       few = omega (arith, c.in_ok-i.ensures.some, c.depth_after-depth.ensures.bound);
       within = c.in_ok-i.ensures.within;
       goes_on = rw c.depth_after-depth.ensures.exact on;
+    }
+
+pub instructions-preserved-then-is_passed : goal.instructions-preserved-then-is_passed
+instructions-preserved-then-is_passed c = 
+    let inside : c.instructions.place < length c.args.code.now = omega arith in
+    let is = c.if-is_passed.ensures in
+    record {
+      begun = omega arith;
+      few = omega arith;
+      within = omega arith;
+      goes_on = passed inside c.instructions.invariant.goes_on (is.plain refl) (is.inside refl c.args.sought c.instructions.depth) (is.level refl c.instructions.depth);
     }
