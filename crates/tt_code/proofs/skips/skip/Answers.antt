@@ -1,6 +1,7 @@
-use Rattle.std.proofs.Common.{◌≡◌, ◌<◌, length, true, false, rules, refl, sym, ◌∙◌, arith}
+use Rattle.std.proofs.Common.{◌≡◌, ◌+◌, ◌<◌, ◌≤◌, length, true, false, rules, sym, ◌∙◌, arith}
 use Rattle.tt_code.specs.Skips.{ends}
 use Rattle.tt_code.proofs.Going.{halted, ended, further, passed}
+use Rattle.tt_code.proofs.Passed.{Told}
 use Rattle.tt_code.proofs.skips.skip.Goals as goal
 
 pub returns-in_err-i-clause-exact : goal.returns-in_err-i-clause-exact
@@ -28,13 +29,15 @@ instructions-preserved c =
       goes_on = rw c.depth_after-depth.ensures.exact on;
     }
 
-pub instructions-preserved-then-is_passed : goal.instructions-preserved-then-is_passed
-instructions-preserved-then-is_passed c = 
-    let inside : c.instructions.place < length c.args.code.now = omega arith in
-    let is = c.if-is_passed.ensures in
+pub instructions-preserved-then-passed-code : goal.instructions-preserved-then-passed-code
+instructions-preserved-then-passed-code c =
+    let some = c.if-passed-gt0.true in
+    let within : c.instructions.place + c.passed-passed.result ≤ length c.args.code.now = omega arith in
+    let is = c.passed-passed.ensures in
+    let told : Told _ c.passed-passed.result = record { len = is.len some; inside = is.inside some; level = is.level some } in
     record {
       begun = omega arith;
       few = omega arith;
-      within = omega arith;
-      goes_on = passed inside c.instructions.invariant.goes_on (is.plain refl) (is.inside refl c.args.sought c.instructions.depth) (is.level refl c.instructions.depth);
+      within = within;
+      goes_on = passed c.passed-passed.result some within c.instructions.invariant.goes_on told;
     }
