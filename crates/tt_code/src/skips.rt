@@ -63,12 +63,14 @@ const PASSED: [u8; 256] = [
     0, 0, 1, 1, 1, 1, 1, 1, 1, 1, 1, 1, 1, 1, 1, 1, 1, 1, 1, 1, 1, 1, 1, 1, 0, 0, 1, 1, 1, 1, 1, 1,
     1, 1, 1, 1, 1, 1, 1, 1, 1, 1, 1, 1, 1, 1, 1, 1, 1, 1, 1, 1, 1, 1, 1, 1, 1, 1, 1, 1, 1, 1, 1, 1,
     1, 1, 1, 1, 1, 1, 1, 1, 1, 1, 1, 1, 1, 1, 1, 1, 1, 1, 1, 1, 1, 1, 1, 1, 1, 1, 1, 1, 1, 1, 1, 1,
-    1, 1, 1, 1, 1, 1, 1, 1, 1, 1, 1, 1, 1, 1, 1, 1, 2, 3, 4, 5, 6, 7, 8, 9, 3, 5, 7, 9, 11, 13, 15, 17,
+    1, 1, 1, 1, 1, 1, 1, 1, 1, 1, 1, 1, 1, 1, 1, 1, 2, 3, 4, 5, 6, 7, 8, 9, 3, 5, 7, 9, 11, 13, 15,
+    17, 1, 1, 1, 1, 1, 1, 1, 1, 1, 1, 1, 1, 1, 1, 1, 1, 1, 1, 1, 1, 1, 1, 1, 1, 1, 1, 1, 1, 1, 1,
     1, 1, 1, 1, 1, 1, 1, 1, 1, 1, 1, 1, 1, 1, 1, 1, 1, 1, 1, 1, 1, 1, 1, 1, 1, 1, 1, 1, 1, 1, 1, 1,
-    1, 1, 1, 1, 1, 1, 1, 1, 1, 1, 1, 1, 1, 1, 1, 1, 1, 1, 1, 1, 1, 1, 1, 1, 1, 1, 1, 1, 1, 1, 1, 1,
+    1, 1,
 ];
 
 fn passed(op: u8) -> usize
+    ensures few { result < 256 }
     ensures len { 0 < result → (count : ℕ) → head_length op + data_length op count ≡ result }
     ensures inside { 0 < result → (sought : Sought) (depth : ℕ) → ends sought depth op ≡ false }
     ensures level { 0 < result → (depth : ℕ) → depth_after depth op ≡ depth }
@@ -110,9 +112,9 @@ fn skip(sought: Sought, code: &[u8], at: usize, lost: Why) -> Result<usize, Halt
     let mut place = at + 1;
     let mut depth = 0;
     'instructions: while place < code.len() {
-        let passed = passed(code[place]);
-        if 0 < passed && passed <= code.len() - place {
-            place += passed;
+        let next_place = place + passed(code[place]);
+        if place < next_place && next_place <= code.len() {
+            place = next_place;
             continue;
         }
         let i = next(code, place)?;
@@ -127,6 +129,7 @@ fn skip(sought: Sought, code: &[u8], at: usize, lost: Why) -> Result<usize, Halt
 
 /// Of an IF at `at` whose condition is false: the place after its ELSE or EIF. Errors: CodeShort at an instruction
 /// whose data passes the end, IfOpen at `at`.
+#[inline(always)]
 pub fn skip_if(code: &[u8], at: usize) -> Result<usize, Halt>
     requires { at < length code.now }
     ensures exact { Gives (λ j. j) result (if_end code.now at) }
@@ -142,6 +145,7 @@ pub fn skip_if(code: &[u8], at: usize) -> Result<usize, Halt>
 
 /// Of an ELSE at `at` that is come to: the place after its EIF. Errors: CodeShort at an instruction whose data passes
 /// the end, IfOpen at `at`.
+#[inline(never)]
 pub fn skip_else(code: &[u8], at: usize) -> Result<usize, Halt>
     requires { at < length code.now }
     ensures exact { Gives (λ j. j) result (else_end code.now at) }

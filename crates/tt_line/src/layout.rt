@@ -79,6 +79,7 @@ fn sum_of_advances(metrics: &Metrics, cmap: &mut KnownGlyphs, text: &str, ppem: 
     requires glyphs { cmap.old.glyphs ≡ glyphs_of metrics.now }
     ensures exact { result ≡ sum (advances_of metrics.now ppem (text_glyphs cmap.old text.now)) }
     ensures bound { result < 2 ^ 40 }
+    ensures same { cmap.new ≡ cmap.old }
 {
     let mut sum = 0;
     for c in text.chars() {

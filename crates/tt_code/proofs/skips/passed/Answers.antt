@@ -1,5 +1,5 @@
-use Rattle.std.proofs.Common.{◌≡◌, ◌<◌, slice_index_or, sym, subst, arith}
-use Rattle.tt_code.proofs.Passed.{Told, passed, told}
+use Rattle.std.proofs.Common.{◌≡◌, slice_index_or, arith}
+use Rattle.tt_code.proofs.Passed.{passed, told}
 use Rattle.tt_code.proofs.skips.passed.Goals as goal
 
 pub returns-clause-len : goal.returns-clause-len

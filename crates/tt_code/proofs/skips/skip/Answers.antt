@@ -1,4 +1,4 @@
-use Rattle.std.proofs.Common.{◌≡◌, ◌+◌, ◌<◌, ◌≤◌, length, true, false, rules, sym, ◌∙◌, arith}
+use Rattle.std.proofs.Common.{◌≡◌, ◌<◌, length, true, false, rules, sym, ◌∙◌, arith}
 use Rattle.tt_code.specs.Skips.{ends}
 use Rattle.tt_code.proofs.Going.{halted, ended, further, passed}
 use Rattle.tt_code.proofs.Passed.{Told}
@@ -29,15 +29,14 @@ instructions-preserved c =
       goes_on = rw c.depth_after-depth.ensures.exact on;
     }
 
-pub instructions-preserved-then-passed-code : goal.instructions-preserved-then-passed-code
-instructions-preserved-then-passed-code c =
-    let some = c.if-passed-gt0.true in
-    let within : c.instructions.place + c.passed-passed.result ≤ length c.args.code.now = omega arith in
-    let is = c.passed-passed.ensures in
-    let told : Told _ c.passed-passed.result = record { len = is.len some; inside = is.inside some; level = is.level some } in
+pub instructions-preserved-then-next_place-code : goal.instructions-preserved-then-next_place-code
+instructions-preserved-then-next_place-code c =
+    let some : 0 < c.passed.result = omega arith in
+    let is = c.passed.ensures in
+    let told : Told _ c.passed.result = record { len = is.len some; inside = is.inside some; level = is.level some } in
     record {
       begun = omega arith;
       few = omega arith;
-      within = within;
-      goes_on = passed c.passed-passed.result some within c.instructions.invariant.goes_on told;
+      within = omega arith;
+      goes_on = passed c.passed.result some (omega arith) c.instructions.invariant.goes_on told;
     }
