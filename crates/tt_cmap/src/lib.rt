@@ -4,10 +4,12 @@
 mod format12;
 mod format4;
 mod glyphs;
+mod known;
 pub mod laws;
 mod lookup;
 mod ranges;
 mod records;
 mod table;
 
+pub use known::KnownGlyphs;
 pub use lookup::{Cmap, Lookup};

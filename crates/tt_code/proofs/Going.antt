@@ -1,10 +1,11 @@
 -- A skip that has come to a place goes on as the whole skip does.
-use Rattle.std.proofs.Common.{◌≡◌, ℕ, zero, suc, ◌+◌, ◌<◌, ◌≤◌, nat_le, true, false, List, length, Result, Ok, Err, refl, sym, ◌∙◌, arith}
+use Rattle.std.proofs.Common.{◌≡◌, ℕ, zero, suc, ◌+◌, ◌<◌, ◌≤◌, nat_le, true, false, List, length, slice_index, slice_range, Result, Ok, Err, refl, sym, ◌∙◌, arith}
 use Rattle.std.proofs.lemmas.Bool.Decides.{nat_tests}
 use Rattle.tt_code.specs.declared.decoding.Halt.{Halt}
 use Rattle.tt_code.specs.declared.skips.Sought.{Sought}
-use Rattle.tt_code.specs.Decoding.{Instr, instruction_at}
+use Rattle.tt_code.specs.Decoding.{Instr, head_length, data_length, instruction_at}
 use Rattle.tt_code.specs.Skips.{ends, depth_after, skip_from}
+use Rattle.tt_code.proofs.Passed.{Told}
 
 -- the rest of the skip is the whole, and instructions enough are counted for it
 pub record GoesOn (sought : Sought) (code : List ℕ) (lost : Halt) (whole : Result ℕ Halt) (place depth : ℕ)
@@ -68,3 +69,17 @@ pub further : {sought : Sought} {code : List ℕ} {lost : Halt} {whole : Result 
     → GoesOn sought code lost whole (place + i.len) (depth_after depth i.op)
 further {sought} {code} {lost} {whole} {place} {depth} i inside on there none some =
     further_by on.fuel sought code lost whole place depth i inside on.enough on.same there none some
+
+-- at an opcode that a skip passes, with so many bytes
+pub passed : {sought : Sought} {code : List ℕ} {lost : Halt} {whole : Result ℕ Halt} {place depth : ℕ} (n : ℕ)
+    → 0 < n → place + n ≤ length code → GoesOn sought code lost whole place depth → Told (slice_index code place) n
+    → GoesOn sought code lost whole (place + n) depth
+passed {sought} {code} {lost} {whole} {place} {depth} n some within on told =
+    let op = slice_index code place in
+    let head = head_length op in
+    let more = data_length op (slice_index code (place + 1)) in
+    let len : head + more ≡ n = told.len (slice_index code (place + 1)) in
+    let i : Instr = record { op = op; args = slice_range code (place + head) (place + head + more); len = n } in
+    let fits : nat_le (place + (head + more)) (length code) ≡ true = grind (arith, nat_tests) in
+    let there : instruction_at code place ≡ Ok i = rw (fits, len) refl in
+    rw (told.level depth) at (further i (omega arith) on there (told.inside sought depth) some)

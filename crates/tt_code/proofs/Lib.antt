@@ -1,2 +1,3 @@
 mod Going
 mod Least
+mod Passed

@@ -1,11 +1,12 @@
 //! Where a skip ends. Apple TrueType Reference Manual, "Instruction Set" (IF, ELSE, EIF, FDEF, ENDF). A skip goes from
 //! instruction to instruction, so that data which looks like an opcode is passed over.
 
-ghost use Rattle.std.specs.Prelude.{◌≡◌, ◌+◌, ◌^◌, ◌<◌, ◌≤◌, length, IfOk, IfErr};
+ghost use Rattle.std.specs.Prelude.{◌≡◌, ℕ, ◌+◌, ◌^◌, ◌<◌, ◌≤◌, false, length, IfOk, IfErr};
 ghost use Rattle.tt_core.specs.Outcomes.{Gives};
-ghost use Rattle.tt_code.specs.Decoding.{instruction_at};
+ghost use Rattle.tt_code.specs.Decoding.{head_length, data_length, instruction_at};
 ghost use Rattle.tt_code.specs.Views.{instr_view};
 ghost use Rattle.tt_code.specs.Skips.{ends, depth_after, skip_end, if_end, else_end, definition_end, IsSkip};
+ghost use Rattle.tt_code.specs.declared.skips.Sought.{Sought};
 ghost use Rattle.tt_code.specs.declared.skips.Sought.TheVariants as sought;
 
 use crate::decoding::{Halt, Instr, decode, plain_opcode};
@@ -54,6 +55,29 @@ fn depth_after(depth: usize, op: u8) -> usize
     }
 }
 
+/// How many bytes a skip passes at an opcode. 0 where the opcode alone does not say it, as a count follows, and where
+/// the skip may end or another IF opens or closes.
+const PASSED: [u8; 256] = [
+    1, 1, 1, 1, 1, 1, 1, 1, 1, 1, 1, 1, 1, 1, 1, 1, 1, 1, 1, 1, 1, 1, 1, 1, 1, 1, 1, 0, 1, 1, 1, 1,
+    1, 1, 1, 1, 1, 1, 1, 1, 1, 1, 1, 1, 1, 0, 1, 1, 1, 1, 1, 1, 1, 1, 1, 1, 1, 1, 1, 1, 1, 1, 1, 1,
+    0, 0, 1, 1, 1, 1, 1, 1, 1, 1, 1, 1, 1, 1, 1, 1, 1, 1, 1, 1, 1, 1, 1, 1, 0, 0, 1, 1, 1, 1, 1, 1,
+    1, 1, 1, 1, 1, 1, 1, 1, 1, 1, 1, 1, 1, 1, 1, 1, 1, 1, 1, 1, 1, 1, 1, 1, 1, 1, 1, 1, 1, 1, 1, 1,
+    1, 1, 1, 1, 1, 1, 1, 1, 1, 1, 1, 1, 1, 1, 1, 1, 1, 1, 1, 1, 1, 1, 1, 1, 1, 1, 1, 1, 1, 1, 1, 1,
+    1, 1, 1, 1, 1, 1, 1, 1, 1, 1, 1, 1, 1, 1, 1, 1, 2, 3, 4, 5, 6, 7, 8, 9, 3, 5, 7, 9, 11, 13, 15,
+    17, 1, 1, 1, 1, 1, 1, 1, 1, 1, 1, 1, 1, 1, 1, 1, 1, 1, 1, 1, 1, 1, 1, 1, 1, 1, 1, 1, 1, 1, 1,
+    1, 1, 1, 1, 1, 1, 1, 1, 1, 1, 1, 1, 1, 1, 1, 1, 1, 1, 1, 1, 1, 1, 1, 1, 1, 1, 1, 1, 1, 1, 1, 1,
+    1, 1,
+];
+
+fn passed(op: u8) -> usize
+    ensures few { result < 256 }
+    ensures len { 0 < result → (count : ℕ) → head_length op + data_length op count ≡ result }
+    ensures inside { 0 < result → (sought : Sought) (depth : ℕ) → ends sought depth op ≡ false }
+    ensures level { 0 < result → (depth : ℕ) → depth_after depth op ≡ depth }
+{
+    usize::from(PASSED[usize::from(op)])
+}
+
 /// The instruction at a byte, as `decode` tells it; sooner where no data follows, as after most opcodes.
 #[inline(always)]
 fn next<'a>(code: &'a [u8], at: usize) -> Result<Instr<'a>, Halt>
@@ -88,6 +112,11 @@ fn skip(sought: Sought, code: &[u8], at: usize, lost: Why) -> Result<usize, Halt
     let mut place = at + 1;
     let mut depth = 0;
     'instructions: while place < code.len() {
+        let next_place = place + passed(code[place]);
+        if place < next_place && next_place <= code.len() {
+            place = next_place;
+            continue;
+        }
         let i = next(code, place)?;
         if is_end(sought, depth, i.op) {
             return Ok(place + i.len);
@@ -100,6 +129,7 @@ fn skip(sought: Sought, code: &[u8], at: usize, lost: Why) -> Result<usize, Halt
 
 /// Of an IF at `at` whose condition is false: the place after its ELSE or EIF. Errors: CodeShort at an instruction
 /// whose data passes the end, IfOpen at `at`.
+#[inline(always)]
 pub fn skip_if(code: &[u8], at: usize) -> Result<usize, Halt>
     requires { at < length code.now }
     ensures exact { Gives (λ j. j) result (if_end code.now at) }
@@ -115,6 +145,7 @@ pub fn skip_if(code: &[u8], at: usize) -> Result<usize, Halt>
 
 /// Of an ELSE at `at` that is come to: the place after its EIF. Errors: CodeShort at an instruction whose data passes
 /// the end, IfOpen at `at`.
+#[inline(never)]
 pub fn skip_else(code: &[u8], at: usize) -> Result<usize, Halt>
     requires { at < length code.now }
     ensures exact { Gives (λ j. j) result (else_end code.now at) }

@@ -11,7 +11,7 @@ use crate::extent::{test_limits, with_margins};
 use crate::fault::LineFault;
 use crate::pixels::{advance, depth, rise};
 use std::alloc::{AllocError, Global};
-use tt_cmap::Cmap;
+use tt_cmap::{Cmap, KnownGlyphs};
 use tt_metrics::Metrics;
 
 /// A line of text laid out.
@@ -60,9 +60,10 @@ pub fn lay(
 {
     let rise = rise(metrics, ppem);
     // The text is walked once for its width, so that no memory is taken for a line that is refused.
-    let advances = sum_of_advances(metrics, cmap, text, ppem);
+    let mut cmap = KnownGlyphs::new(cmap);
+    let advances = sum_of_advances(metrics, &mut cmap, text, ppem);
     let extent = test_limits(with_margins(advances, rise, depth(metrics, ppem), margin))?;
-    let glyphs = placed_glyphs(alloc, metrics, cmap, text, ppem)?;
+    let glyphs = placed_glyphs(alloc, metrics, &mut cmap, text, ppem)?;
     Ok(Line {
         width: extent.width as u32,
         height: extent.height as u32,
@@ -72,12 +73,13 @@ pub fn lay(
 }
 
 /// The sum of the advances of a text's characters, in pixels. Of 4,096 characters it can pass 32 bits.
-fn sum_of_advances(metrics: &Metrics, cmap: &Cmap, text: &str, ppem: u32) -> u64
+fn sum_of_advances(metrics: &Metrics, cmap: &mut KnownGlyphs, text: &str, ppem: u32) -> u64
     requires size { ppem ≤ size_limit }
     requires text { length (chars text.now) ≤ text_limit }
-    requires glyphs { cmap.now.glyphs ≡ glyphs_of metrics.now }
-    ensures exact { result ≡ sum (advances_of metrics.now ppem (text_glyphs cmap.now text.now)) }
+    requires glyphs { cmap.old.glyphs ≡ glyphs_of metrics.now }
+    ensures exact { result ≡ sum (advances_of metrics.now ppem (text_glyphs cmap.old text.now)) }
     ensures bound { result < 2 ^ 40 }
+    ensures same { cmap.new ≡ cmap.old }
 {
     let mut sum = 0;
     for c in text.chars() {
@@ -90,19 +92,19 @@ fn sum_of_advances(metrics: &Metrics, cmap: &Cmap, text: &str, ppem: u32) -> u64
 fn placed_glyphs(
     alloc: Global,
     metrics: &Metrics,
-    cmap: &Cmap,
+    cmap: &mut KnownGlyphs,
     text: &str,
     ppem: u32,
 ) -> Result<Vec<(u16, u32)>, AllocError>
     requires size { ppem ≤ size_limit }
-    requires glyphs { cmap.now.glyphs ≡ glyphs_of metrics.now }
-    requires fits { sum (advances_of metrics.now ppem (text_glyphs cmap.now text.now)) ≤ width_limit }
-    ensures exact { IfOk result (λ v. v.items ≡ placed_glyphs metrics.now ppem (text_glyphs cmap.now text.now)) }
+    requires glyphs { cmap.old.glyphs ≡ glyphs_of metrics.now }
+    requires fits { sum (advances_of metrics.now ppem (text_glyphs cmap.old text.now)) ≤ width_limit }
+    ensures exact { IfOk result (λ v. v.items ≡ placed_glyphs metrics.now ppem (text_glyphs cmap.old text.now)) }
     ensures memory { IfErr result (λ e. 0 < length (chars text.now)) }
     ensures count { IfOk result (λ v. length v.items ≡ length (chars text.now)) }
-    ensures glyphs { IfOk result (λ v. map (λ p. p.0) v.items ≡ text_glyphs cmap.now text.now) }
+    ensures glyphs { IfOk result (λ v. map (λ p. p.0) v.items ≡ text_glyphs cmap.old text.now) }
     ensures known { IfOk result (λ v. All (λ p. p.0 < glyphs_of metrics.now) v.items) }
-    ensures pens { IfOk result (λ v. All (λ p. p.1 ≤ sum (advances_of metrics.now ppem (text_glyphs cmap.now text.now))) v.items) }
+    ensures pens { IfOk result (λ v. All (λ p. p.1 ≤ sum (advances_of metrics.now ppem (text_glyphs cmap.old text.now))) v.items) }
 {
     let mut glyphs = Vec::new(alloc);
     let mut pen = 0;

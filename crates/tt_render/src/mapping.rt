@@ -15,7 +15,7 @@ use crate::job::test_text;
 use crate::reading::read_font;
 use crate::tables::open_face;
 use std::alloc::{AllocError, Global};
-use tt_cmap::Cmap;
+use tt_cmap::{Cmap, KnownGlyphs};
 use tt_core::{FontFault, Sink, Source};
 use tt_metrics::Metrics;
 use tt_pbm::{Ascii, write_all_of};
@@ -62,6 +62,7 @@ fn lines(alloc: Global, metrics: &Metrics, cmap: &Cmap, text: &str) -> Result<Ve
     ensures { IfOk result (λ lines. lines.items ≡ map_lines metrics.now cmap.now text.now) }
 {
     let mut lines = Vec::new(alloc);
+    let mut cmap = KnownGlyphs::new(cmap);
     for c in text.chars() {
         let glyph = cmap.glyph(c);
         let line = line(c, glyph, metrics.advance(glyph));

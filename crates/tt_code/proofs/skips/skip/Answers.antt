@@ -1,6 +1,7 @@
 use Rattle.std.proofs.Common.{◌≡◌, ◌<◌, length, true, false, rules, sym, ◌∙◌, arith}
 use Rattle.tt_code.specs.Skips.{ends}
-use Rattle.tt_code.proofs.Going.{halted, ended, further}
+use Rattle.tt_code.proofs.Going.{halted, ended, further, passed}
+use Rattle.tt_code.proofs.Passed.{Told}
 use Rattle.tt_code.proofs.skips.skip.Goals as goal
 
 pub returns-in_err-i-clause-exact : goal.returns-in_err-i-clause-exact
@@ -26,4 +27,16 @@ instructions-preserved c =
       few = omega (arith, c.in_ok-i.ensures.some, c.depth_after-depth.ensures.bound);
       within = c.in_ok-i.ensures.within;
       goes_on = rw c.depth_after-depth.ensures.exact on;
+    }
+
+pub instructions-preserved-then-next_place-code : goal.instructions-preserved-then-next_place-code
+instructions-preserved-then-next_place-code c =
+    let some : 0 < c.passed.result = omega arith in
+    let is = c.passed.ensures in
+    let told : Told _ c.passed.result = record { len = is.len some; inside = is.inside some; level = is.level some } in
+    record {
+      begun = omega arith;
+      few = omega arith;
+      within = omega arith;
+      goes_on = passed c.passed.result some (omega arith) c.instructions.invariant.goes_on told;
     }

@@ -22,9 +22,12 @@ loop-c-preserved c =
     let f = advance_in_pixels c.args.metrics.now c.args.ppem in
     let g = glyph_of c.args.cmap.now in
     let items : c.push.new.self.items ≡ c.loop-c.glyphs.items ++ (c.glyph-glyph.result, c.loop-c.pen) ∷ [] = c.in_ok-push.ensures.items in
+    let glyph : c.glyph-glyph.result ≡ g c.in-Some.c = rw c.loop-c.invariant.same at c.glyph-glyph.ensures.exact in
+    let within : c.glyph-glyph.result < c.args.cmap.now.glyphs = rw c.loop-c.invariant.same at c.glyph-glyph.ensures.bound in
     record {
-      pen = next_pen f g c.loop-c.yielded c.in-Some.c c.glyph-glyph.result c.loop-c.pen c.advance-pen.result c.loop-c.invariant.pen c.glyph-glyph.ensures.exact c.advance-pen.ensures.exact;
-      placed = next_placed f g c.loop-c.yielded c.in-Some.c c.glyph-glyph.result c.loop-c.pen c.loop-c.glyphs.items c.push.new.self.items c.loop-c.invariant.pen c.loop-c.invariant.placed c.glyph-glyph.ensures.exact items;
+      same = c.glyph-glyph.ensures.same ∙ c.loop-c.invariant.same;
+      pen = next_pen f g c.loop-c.yielded c.in-Some.c c.glyph-glyph.result c.loop-c.pen c.advance-pen.result c.loop-c.invariant.pen glyph c.advance-pen.ensures.exact;
+      placed = next_placed f g c.loop-c.yielded c.in-Some.c c.glyph-glyph.result c.loop-c.pen c.loop-c.glyphs.items c.push.new.self.items c.loop-c.invariant.pen c.loop-c.invariant.placed glyph items;
       known = rw items (All-push (λ (p : ℕ × ℕ). p.0 < glyphs_of c.args.metrics.now) c.loop-c.glyphs.items (c.glyph-glyph.result, c.loop-c.pen) c.loop-c.invariant.known (omega arith));
     }
 

@@ -4,4 +4,7 @@ use Rattle.tt_render.proofs.mapping.lines.Given as goal
 
 -- the lines of the characters so far
 abbrev pub invariant-loop-c : goal.invariant-loop-c
-invariant-loop-c l = l.lines.items ≡ flat_map (map_line l.metrics l.cmap) l.yielded
+invariant-loop-c l = record {
+  lines : l.lines.items ≡ flat_map (map_line l.metrics l.fn.cmap) l.yielded;
+  same : l.cmap ≡ l.fn.cmap;
+}

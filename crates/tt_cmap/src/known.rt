@@ -1,0 +1,71 @@
+//! Glyphs that are found once. A text has few characters, and most of them many times.
+
+ghost use Rattle.std.specs.Prelude.{◌≡◌, ◌<◌};
+ghost use Rattle.tt_cmap.specs.Lookup.{glyph_of};
+
+use crate::lookup::Cmap;
+use std::marker::Model;
+
+/// How many characters are kept.
+const KEPT: usize = 128;
+
+/// A character and its glyph.
+#[derive(Clone, Copy)]
+struct Known {
+    code: u32,
+    glyph: u16,
+}
+
+/// A character map that keeps the glyphs of the characters asked for last, one for each remainder of their codes by
+/// 128. A clause sees it as the map.
+#[derive(Drop)]
+pub struct KnownGlyphs<'c, 'a> {
+    cmap: &'c Cmap<'a>,
+    known: [Known; KEPT],
+}
+
+impl<'c, 'a> Model for KnownGlyphs<'c, 'a> {
+    ghost use Rattle.std.specs.Prelude.{◌<◌, ◌≡◌, All};
+    ghost use Rattle.tt_cmap.specs.Lookup as lookup;
+
+    ghost Value = { lookup.Cmap };
+
+    ghost view = { λ k. k.cmap.now };
+
+    ghost invariant = { λ k. All (λ e. (e.glyph ≡ lookup.glyph_of k.cmap.now e.code) × (e.glyph < k.cmap.now.glyphs)) k.known };
+}
+
+impl<'c, 'a> KnownGlyphs<'c, 'a> {
+    /// A map that has found only the glyph of U+0000 yet.
+    pub fn new(cmap: &'c Cmap<'a>) -> Self
+        ensures { result ≡ cmap.now }
+    {
+        let first = Known {
+            code: 0,
+            glyph: cmap.glyph('\0'),
+        };
+        KnownGlyphs {
+            cmap,
+            known: [first; KEPT],
+        }
+    }
+
+    /// The glyph of a character: 0 where the map has none, or one that the font lacks (profile).
+    pub fn glyph(&mut self, c: char) -> u16
+        ensures exact { result ≡ glyph_of self.old c }
+        ensures bound { result < self.old.glyphs }
+        ensures same { self.new ≡ self.old }
+    {
+        let place = c as usize % KEPT;
+        let known = self.known[place];
+        if known.code == c as u32 {
+            return known.glyph;
+        }
+        let glyph = self.cmap.glyph(c);
+        self.known[place] = Known {
+            code: c as u32,
+            glyph,
+        };
+        glyph
+    }
+}
