@@ -69,6 +69,7 @@ const PASSED: [u8; 256] = [
     1, 1,
 ];
 
+/// The opcode's entry.
 fn passed(op: u8) -> usize
     ensures few { result < 256 }
     ensures len { 0 < result → (count : ℕ) → head_length op + data_length op count ≡ result }
