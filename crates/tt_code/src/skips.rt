@@ -79,7 +79,7 @@ fn passed(op: u8) -> usize
     usize::from(PASSED[usize::from(op)])
 }
 
-/// The instruction at a byte, as `decode` tells it; sooner where no data follows, as after most opcodes.
+/// The instruction at a byte, as `decode` tells it; sooner where no data follows, as after all at which a skip may end.
 #[inline(always)]
 fn next<'a>(code: &'a [u8], at: usize) -> Result<Instr<'a>, Halt>
     requires { at < length code.now }
@@ -130,6 +130,7 @@ fn skip(sought: Sought, code: &[u8], at: usize, lost: Why) -> Result<usize, Halt
 
 /// Of an IF at `at` whose condition is false: the place after its ELSE or EIF. Errors: CodeShort at an instruction
 /// whose data passes the end, IfOpen at `at`.
+// In line, since most IFs of a font whose condition is false skip only a few instructions.
 #[inline(always)]
 pub fn skip_if(code: &[u8], at: usize) -> Result<usize, Halt>
     requires { at < length code.now }
@@ -146,6 +147,7 @@ pub fn skip_if(code: &[u8], at: usize) -> Result<usize, Halt>
 
 /// Of an ELSE at `at` that is come to: the place after its EIF. Errors: CodeShort at an instruction whose data passes
 /// the end, IfOpen at `at`.
+// Out of line, so that it takes no registers from the loop that runs a program.
 #[inline(never)]
 pub fn skip_else(code: &[u8], at: usize) -> Result<usize, Halt>
     requires { at < length code.now }
