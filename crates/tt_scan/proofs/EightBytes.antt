@@ -1,6 +1,6 @@
 -- Eight bytes of a row as one number.
 use Rattle.std.proofs.Common.{◌≡◌, ◌∙◌, sym, ap, refl, ℕ, zero, suc, ◌+◌, ◌-◌, ◌*◌, ◌/◌, ◌%◌, ◌^◌, ◌<◌, ◌≤◌, Bool, true, false, ◌&&◌, ◌||◌, ◌==◌, nat_le, nat_lt, List, length, take, drop, slice_index, bit_or, min, w64, arith, inl, inr, length-take}
-use Rattle.std.specs.Int.{bit_at, to_le_bytes, to_be_bytes, from_le_bytes, from_be_bytes, swap_bytes}
+use Rattle.std.specs.Int.{bit_at, to_le_bytes, to_be_bytes, from_le_bytes, swap_bytes}
 use Rattle.std.proofs.lemmas.Bool.Decides.{nat_tests}
 use Rattle.std.proofs.lemmas.Bool.{cases_lt}
 use Rattle.std.proofs.lemmas.List.{get_or-take, get_or-drop, get_or_past}

@@ -1,4 +1,4 @@
-use Rattle.std.proofs.Common.{◌∙◌, nat_lt, pos, refl}
+use Rattle.std.proofs.Common.{◌∙◌, nat_lt, refl}
 use Rattle.tt_core.specs.Bits.{bit}
 use Rattle.tt_scan.proofs.Pens.{no_spans, none_painted, one_span_painted}
 use Rattle.tt_scan.proofs.stamp.paint_each.Goals as goal

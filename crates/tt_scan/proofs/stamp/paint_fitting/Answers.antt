@@ -1,4 +1,4 @@
-use Rattle.std.proofs.Common.{◌∙◌, ap, ◌&&◌, ◌||◌, Bool, nat_lt, slice_index, pos, SFits, w64, rules}
+use Rattle.std.proofs.Common.{◌∙◌, ap, ◌||◌, Bool, nat_lt, slice_index, pos, SFits, w64, rules}
 use Rattle.std.proofs.lemmas.Int.{to_z-of_z}
 use Rattle.tt_core.specs.Bits.{bit}
 use Rattle.tt_scan.proofs.Pens.{one_pen_painted}
