@@ -1,18 +1,16 @@
 //! What a glyph's program makes of its outline. Apple TrueType Reference Manual, "Instructing TrueType Glyphs".
 
-ghost use Rattle.std.specs.Prelude.{◌≡◌, ◌≢◌, false, option_map, IfOk, Ok, OnOk};
-ghost use Rattle.tt_core.specs.Outcomes.{◌>>=◌};
+ghost use Rattle.std.specs.Prelude.{◌≡◌, ◌≢◌, false, option_map, IfOk, OnOk};
 ghost use Rattle.tt_exec.specs.declared.fault.ExecFault.TheVariants as exec;
 ghost use Rattle.tt_exec.specs.declared.work.WorkFault.TheVariants as machine;
 ghost use Rattle.tt_exec.specs.Machines.{begun_again, exec_fault, parts_in, run_from};
-ghost use Rattle.tt_exec.specs.Runs.{run_outcome};
 ghost use Rattle.tt_exec.specs.Work.{run_work};
 ghost use Rattle.tt_exec.specs.Parts.{parts_of};
 ghost use Rattle.tt_exec.specs.Views.{code_of};
 ghost use Rattle.tt_points_zones.specs.Zones.{IsZones, SameShape};
 ghost use Rattle.tt_fit.specs.GlyphZone.{program_in_glyf};
 ghost use Rattle.tt_fit.specs.Outline.{outline_of, phantom_of, ArePhantom, IsOutline};
-ghost use Rattle.tt_fit.specs.Hinting.{IsHinting, by_program, hinted, run_of};
+ghost use Rattle.tt_fit.specs.Hinting.{IsHinting, by_program, hinted, run_of, run_on};
 ghost use Rattle.tt_fit.specs.Parts.{AreParts, parts_with};
 ghost use Rattle.tt_fit.specs.Views.{hinting_view, program_view, units_view};
 ghost use Rattle.tt_fit.specs.Work.{Makes, WorkGives, code_work, hinted_work, program_work, work_fault};
@@ -65,7 +63,7 @@ fn unmade(fault: WorkFault) -> Unmade
 /// Runs a program on a machine that has not failed. Errors: those of the program, Memory, Spent.
 fn run_on<'a>(machine: &mut Machine<'a>, code: Code<'a>, work: &mut Work) -> Result<(), Unmade>
     requires { machine.old.failed ≡ false }
-    ensures exact { Makes (λ _. parts_in machine.new.state) result (run_outcome (run_from (code_of code.entry) machine.old.state) >>= λ left. Ok (parts_in left)) }
+    ensures exact { Makes (λ _. parts_in machine.new.state) result (run_on (code_of code.entry) machine.old.state) }
     ensures work { WorkGives result work.new.left (run_work (run_from (code_of code.entry) machine.old.state) work.old.left) }
     ensures shape { OnOk result (SameShape machine.old.state.zones machine.new.state.zones) }
     ensures done { OnOk result (machine.new.failed ≡ false) }
