@@ -1,4 +1,3 @@
-use Rattle.std.proofs.Common.{arith}
 use Rattle.tt_exec.proofs.Tables.{read-body}
 use Rattle.tt_exec.proofs.function_table.body_at.Goals as goal
 

@@ -1,4 +1,4 @@
-use Rattle.std.proofs.Common.{◌≡◌, map}
+use Rattle.std.proofs.Common.{map}
 use Rattle.tt_exec.specs.Views.{body_of}
 use Rattle.tt_exec.proofs.Tables.{grown-are}
 use Rattle.tt_exec.proofs.function_table.Functions.set.Goals as goal
