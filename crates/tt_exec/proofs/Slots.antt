@@ -119,7 +119,8 @@ same-slots : (ps : List ℕ) (bs : List Body) (b : Body) → All (λ p. p ≤ le
     → slots ps (bs ++ b ∷ []) ≡ slots ps bs
 same-slots [] bs b all = refl
 same-slots (p ∷ ps) bs b all =
-    rw (same-place bs b p (all 0 0 (omega arith)), same-slots ps bs b (λ k d lt. all (suc k) d (omega (arith, lt)))) refl
+    let tail : All (λ p. p ≤ length bs) ps = λ k d lt. all (suc k) d (omega (arith, lt)) in
+    rw (same-place bs b p (all 0 0 (omega arith)), same-slots ps bs b tail) refl
 
 pub new-slots : (ps : List ℕ) (bs : List Body) (b : Body) (i : ℕ) → All (λ p. p ≤ length bs) ps
     → slots (set ps i (length bs + 1)) (bs ++ b ∷ []) ≡ set (slots ps bs) i (Some b)
@@ -162,7 +163,8 @@ pub put-slots : (ps : List ℕ) (bs : List Body) (b : Body) (i q : ℕ) → i < 
     → slots ps (set bs q b) ≡ set (slots ps bs) i (Some b)
 put-slots [] bs b i q lt within is apart = absurd (omega arith)
 put-slots (p ∷ ps) bs b zero q lt within is apart =
-    let others = other-slots ps bs b q (λ k below. apart (suc k) (omega (arith, below)) (λ same. absurd (omega (arith, same)))) in
+    let others = other-slots ps bs b q
+    (λ k below. apart (suc k) (omega (arith, below)) (λ same. absurd (omega (arith, same)))) in
     rw (is, get-put bs b q within, others) refl
 put-slots (p ∷ ps) bs b (suc i) q lt within is apart =
     let head : p ≢ suc q = apart 0 (omega arith) (λ same. absurd (omega (arith, same))) in

@@ -48,8 +48,8 @@ place-within ps m n all k d lt =
       | inr above ↦
           let count : k < length ps + m = simp (length-append, length-replicate) at lt in
           let rest : k - length ps < m = omega arith in
-          rw (get_or-append_right ps (replicate m 0) (length ps) k d refl above, get_or-replicate m (k - length ps) 0 d rest)
-          (omega arith)
+          let none = get_or-replicate m (k - length ps) 0 d rest in
+          rw (get_or-append_right ps (replicate m 0) (length ps) k d refl above, none) (omega arith)
     ]
 
 pub grown-apart : (ps : List ℕ) (m : ℕ)

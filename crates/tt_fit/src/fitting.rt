@@ -451,8 +451,14 @@ impl<'a> Fitter<'a> {
                 code_at,
             } => {
                 let start = self.start(x_min, g)?;
-                let joined =
-                    self.joined(machine, hinting, levels, records.as_slice(), start, work)?;
+                let joined = self.joined(
+                    machine,
+                    hinting,
+                    levels,
+                    records.as_slice(),
+                    start,
+                    work,
+                )?;
                 hinted(
                     self.alloc,
                     machine,

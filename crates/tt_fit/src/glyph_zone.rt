@@ -89,10 +89,7 @@ fn outline_point(point: (i32, i32, bool)) -> Point
 }
 
 /// The points of an outline, with room for the phantom points, in the memory that is there.
-fn outline_points(
-    room: Vec<Point>,
-    points: &[(i32, i32, bool)],
-) -> Result<Vec<Point>, AllocError>
+fn outline_points(room: Vec<Point>, points: &[(i32, i32, bool)]) -> Result<Vec<Point>, AllocError>
     requires { All IsPoint points.now }
     ensures exact { IfOk result (λ v. v.items ≡ map outline_point points.now) }
     ensures valid { IfOk result (λ v. All IsZonePoint v.items) }
@@ -150,10 +147,7 @@ pub(crate) fn glyph_zone(
 }
 
 /// Each contour's first point and the number one past its last, in the memory that is there.
-pub(crate) fn contours(
-    room: Vec<(u32, u32)>,
-    ends: &[u32],
-) -> Result<Vec<(u32, u32)>, AllocError>
+pub(crate) fn contours(room: Vec<(u32, u32)>, ends: &[u32]) -> Result<Vec<(u32, u32)>, AllocError>
     ensures { IfOk result (λ v. v.items ≡ contours_from 0 ends.now) }
 {
     let mut contours = room;

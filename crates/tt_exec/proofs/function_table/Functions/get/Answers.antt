@@ -10,6 +10,7 @@ returns c =
     let fits = simp to_z-of_z at c.in-Ok.ensures in
     let few : c.in-Ok.n < 65536 = search rules in
     let is : c.args.n ≡ pos c.in-Ok.n = as_number c.args.n c.in-Ok.n fits.0 fits.1 in
-    let found = number_at c.args.n c.in-Ok.n c.self.inside.places.items (map body_of c.self.inside.bodies.items) is few in
+    let bodies = map body_of c.self.inside.bodies.items in
+    let found = number_at c.args.n c.in-Ok.n c.self.inside.places.items bodies is few in
     let there = rw (c.from.ensures, c.deref.ensures.value, c.deref-2.ensures.value) at c.body_at.ensures in
     rw (← c.self.view_is) (there ∙ found)
