@@ -5,7 +5,9 @@ pub mod Lacking
 pub mod Loosened
 pub mod Single
 pub mod Sizes
+pub mod Slots
 pub mod Steps
 pub mod StepsPaid
+pub mod Tables
 pub mod WithAll
 pub mod WorkPaid

@@ -1,6 +1,7 @@
 pub mod Examples
 pub mod Flags
 pub mod Flow
+pub mod FunctionTable
 pub mod Functions
 pub mod Loosened
 pub mod MachineState

@@ -39,6 +39,10 @@ fresh p = record {
   kind = kind.Glyph;
 }
 
+-- a machine of these parts, new or begun again
+abbrev pub begun_again : Parts → Machine
+begun_again p = record { state = fresh p; failed = false }
+
 -- the parts of a machine, without what belongs to a run
 abbrev pub parts_in : MachineState → Parts
 parts_in m = record {
@@ -92,3 +96,9 @@ OutcomeIs outcome (Err exec.Failed) new = Unit {0}
 abbrev pub GivesParts : Machine → Option Parts → Type 0
 GivesParts m (Some p) = (m.failed ≡ false) × (p ≡ parts_in m.state)
 GivesParts m None = m.failed ≡ true
+
+-- a law: where a new machine and one that is begun again are of the same parts, a run of any program begins in the same
+-- state on both, which is all that its outcome and its work go by
+abbrev pub RunsBeginAgain : Type 0
+RunsBeginAgain = (parts : Parts) (new again : Machine) → new ≡ begun_again parts → again ≡ begun_again parts
+    → (code : Code) → run_from code again.state ≡ run_from code new.state

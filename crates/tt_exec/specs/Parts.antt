@@ -1,12 +1,11 @@
 -- No part of the standard: what a machine is made of and keeps between runs, as contracts see it.
-use Rattle.std.specs.Prelude.{ℕ, ℤ, Bool, List, map}
+use Rattle.std.specs.Prelude.{ℕ, ℤ, Bool, List}
 use Rattle.tt_core.specs.declared.scaling.Scale.{Scale}
 use Rattle.tt_state.specs.declared.graphics_state.GraphicsState.{GraphicsState}
 use Rattle.tt_state.specs.declared.tolerance.Tolerance.{Tolerance}
 use Rattle.tt_points_zones.specs.Zones.{ZoneLists, zones_view}
 use Rattle.tt_exec.specs.declared.parts.Parts as declared
 use Rattle.tt_exec.specs.MachineState.{Body}
-use Rattle.tt_exec.specs.Views.{entry_of}
 
 pub record Parts : Type 0 where
   pub scale : Scale
@@ -28,8 +27,8 @@ parts_of p = record {
   cvt = p.cvt.items;
   storage = p.storage.items;
   zones = zones_view p.zones;
-  functions = map entry_of p.functions.entries;
-  instructions = map entry_of p.instructions.entries;
+  functions = p.functions;
+  instructions = p.instructions;
   state = p.state;
   tolerance = p.tolerance;
   skip_glyphs = p.skip_glyphs;

@@ -1,45 +1,98 @@
 //! The functions that programs define, by number. Apple TrueType Reference Manual, "Instruction set" (defining and
 //! using functions).
 
-ghost use Rattle.std.specs.Prelude.{◌≡◌, ◌^◌, ◌<◌, length, map, OnOk, OnErr};
+ghost use Rattle.std.specs.Prelude.{◌≡◌, ◌^◌, ◌<◌, ◌≤◌, [], length, map, All, IfOk, OnOk};
 ghost use Rattle.std.specs.Option.{option_map};
+ghost use Rattle.tt_exec.specs.FunctionTable.{AreFunctions, IsGrown, body_at, listed};
 ghost use Rattle.tt_exec.specs.Numbered.{function_at, with_function};
-ghost use Rattle.tt_exec.specs.Views.{entry_of, body_of};
+ghost use Rattle.tt_exec.specs.Views.{body_of};
 
 use crate::program::Body;
-use std::alloc::AllocError;
-use std::collections::BTreeMap;
+use std::alloc::{AllocError, Global};
 use std::marker::Model;
 
 /// Functions by number. A clause sees them as a list, the least number first.
 #[derive(Drop)]
-pub(crate) struct Bodies<'a> {
-    by_number: BTreeMap<u16, Body<'a>>,
+pub struct Functions<'a> {
+    /// For each number one more than the place of its body, 0 where there is none.
+    places: Vec<u32>,
+    /// In the order in which their numbers were first defined.
+    bodies: Vec<Body<'a>>,
 }
 
-impl<'a> Model for Bodies<'a> {
+impl<'a> Model for Functions<'a> {
     ghost use Rattle.std.specs.Prelude.{ℕ, List, map};
     ghost use Rattle.tt_exec.specs.MachineState.{Body};
-    ghost use Rattle.tt_exec.specs.Views.{entry_of};
+    ghost use Rattle.tt_exec.specs.FunctionTable.{AreFunctions, listed};
+    ghost use Rattle.tt_exec.specs.Views.{body_of};
 
     ghost Value = { List (ℕ × Body) };
 
-    ghost view = { λ b. map entry_of b.by_number.entries };
+    ghost view = { λ f. listed f.places.items (map body_of f.bodies.items) };
+
+    ghost invariant = { λ f. AreFunctions f.places.items (map body_of f.bodies.items) };
 }
 
-impl<'a> Bodies<'a> {
-    pub(crate) fn new(functions: BTreeMap<u16, Body<'a>>) -> Bodies<'a>
-        ensures { result ≡ map entry_of functions.entry.entries }
-    {
-        Bodies {
-            by_number: functions,
-        }
+/// The body of a number, whose place is told as one more than it is.
+fn body_at<'a>(places: &[u32], bodies: &[Body<'a>], n: usize) -> Option<Body<'a>>
+    requires { All (λ p. p ≤ length bodies.now) places.now }
+    ensures { option_map body_of result ≡ body_at n places.now (map body_of bodies.now) }
+{
+    if n >= places.len() {
+        return None;
     }
+    let place = places[n] as usize;
+    if place == 0 {
+        return None;
+    }
+    Some(bodies[place - 1])
+}
 
-    pub(crate) fn into_map(self) -> BTreeMap<u16, Body<'a>>
-        ensures { map entry_of result.entries ≡ self.entry }
+/// Has a place for a number, 0 if there was none.
+fn make_room(places: &mut Vec<u32>, n: usize) -> Result<(), AllocError>
+    requires number { n < 65536 }
+    requires few { length places.old.items ≤ 65536 }
+    ensures grown { IsGrown places.old.items places.new.items }
+    ensures few { length places.new.items ≤ 65536 }
+    ensures room { OnOk result (n < length places.new.items) }
+{
+    if places.len() <= n {
+        places.resize(n + 1, 0)?;
+    }
+    Ok(())
+}
+
+/// Gives a number a body, in the place of its earlier one, or behind all others.
+fn put<'a>(
+    places: &mut Vec<u32>,
+    bodies: &mut Vec<Body<'a>>,
+    n: usize,
+    body: Body<'a>,
+) -> Result<(), AllocError>
+    requires room { n < length places.old.items }
+    requires functions { AreFunctions places.old.items (map body_of bodies.old.items) }
+    ensures exact { OnOk result (listed places.new.items (map body_of bodies.new.items) ≡ with_function n (body_of body.entry) (listed places.old.items (map body_of bodies.old.items))) }
+    ensures functions { AreFunctions places.new.items (map body_of bodies.new.items) }
+{
+    let place = places[n] as usize;
+    if place > 0 {
+        bodies[place - 1] = body;
+        return Ok(());
+    }
+    bodies.push(body)?;
+    places[n] = bodies.as_slice().len() as u32;
+    Ok(())
+}
+
+impl<'a> Functions<'a> {
+    /// None is defined.
+    pub fn new(alloc: Global) -> Functions<'a>
+        ensures { result ≡ [] }
     {
-        self.by_number
+        Functions {
+            places: Vec::new(alloc),
+            bodies: Vec::new(alloc),
+        }
     }
 
     /// How many there are.
@@ -47,24 +100,57 @@ impl<'a> Bodies<'a> {
         ensures exact { result ≡ length self.now }
         ensures few { result < 2 ^ 63 }
     {
-        self.by_number.len()
+        self.bodies.as_slice().len()
+    }
+
+    /// One more than the greatest number that may have a function.
+    pub fn end(&self) -> usize
+        ensures { result ≤ 65536 }
+    {
+        self.places.len()
     }
 
     /// The function of a number.
-    pub(crate) fn get(&self, n: i32) -> Option<Body<'a>>
+    #[inline]
+    pub fn get(&self, n: i32) -> Option<Body<'a>>
         ensures { option_map body_of result ≡ function_at n self.now }
     {
         let Ok(n) = u16::try_from(n) else {
             return None;
         };
-        self.by_number.get(&n).copied()
+        body_at(&self.places, &self.bodies, usize::from(n))
     }
 
     /// Gives a number a function, in the place of an earlier one.
     pub(crate) fn set(&mut self, n: u16, body: Body<'a>) -> Result<(), AllocError>
         ensures { OnOk result (self.new ≡ with_function n (body_of body.entry) self.old) }
     {
-        self.by_number.insert(n, body)?;
+        let n = usize::from(n);
+        make_room(&mut self.places, n)?;
+        put(&mut self.places, &mut self.bodies, n, body)
+    }
+
+    /// The same as others, in memory of their own.
+    pub fn copy(&self) -> Result<Functions<'a>, AllocError>
+        ensures { IfOk result (λ f. f ≡ self.now) }
+    {
+        Ok(Functions {
+            places: self.places.clone()?,
+            bodies: self.bodies.clone()?,
+        })
+    }
+
+    /// Takes what others are, in the memory that is there; it is none where more is wanted and refused.
+    pub(crate) fn copy_from(&mut self, others: &Functions<'a>) -> Result<(), AllocError>
+        ensures { OnOk result (self.new ≡ others.now) }
+    {
+        self.places.clear();
+        self.bodies.clear();
+        self.bodies.extend_from_slice(&others.bodies)?;
+        if let Err(refusal) = self.places.extend_from_slice(&others.places) {
+            self.bodies.clear();
+            return Err(refusal);
+        }
         Ok(())
     }
 }

@@ -3,6 +3,7 @@
 ghost use Rattle.std.specs.Prelude.{ℕ};
 ghost use Rattle.tt_points_zones.specs.Zones.{SameShape};
 ghost use Rattle.tt_exec.specs.Loosened.{RunsLoosen, TolerantRunsLackNothing};
+ghost use Rattle.tt_exec.specs.Machines.{RunsBeginAgain};
 ghost use Rattle.tt_exec.specs.MachineState.{MachineState};
 ghost use Rattle.tt_exec.specs.Outcomes.{HasOneOutcome};
 ghost use Rattle.tt_exec.specs.Runs.{Ends};
@@ -58,6 +59,11 @@ pub fn tolerant_runs_lack_nothing()
     tt_exec_state::laws::answers_are_total();
     tt_exec_points::laws::points_total();
 }
+
+/// A run on a machine that is begun again is the run on a new one.
+pub fn runs_begin_again()
+    ensures { RunsBeginAgain }
+{}
 
 /// A run whose work is not bounded is never refused for it.
 pub fn unbounded_work()

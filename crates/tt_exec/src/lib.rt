@@ -22,6 +22,7 @@ mod taking;
 mod work;
 
 pub use fault::ExecFault;
+pub use function_table::Functions;
 pub use machine::Machine;
 pub use parts::Parts;
 pub use program::{Body, Code};

@@ -1,12 +1,13 @@
 //! A machine and its runs. Apple TrueType Reference Manual, "Instructing TrueType Glyphs".
 
-ghost use Rattle.std.specs.Prelude.{◌≡◌, ◌<◌, ◌≤◌, length, reverse, true, false, IfOk, IfSome};
+ghost use Rattle.std.specs.Prelude.{◌≡◌, ◌<◌, ◌≤◌, length, reverse, true, false, All, IfOk, IfSome, OnErr, OnOk};
 ghost use Rattle.std.specs.Option.{option_map};
 ghost use Rattle.tt_core.specs.Scales.{IsScale};
 ghost use Rattle.tt_core.specs.Limits.{size_limit};
-ghost use Rattle.tt_points_zones.specs.Zones.{zones_view, IsZones, SameShape};
+ghost use Rattle.tt_exec_points.specs.Zones.{no_zones};
+ghost use Rattle.tt_points_zones.specs.Zones.{zones_view, IsPoint, IsZones, SameShape};
 ghost use Rattle.tt_core.specs.Limits.{stack_limit};
-ghost use Rattle.tt_exec.specs.Machines.{fresh, kind_of, run_from, GivesParts, OutcomeIs, RunGives};
+ghost use Rattle.tt_exec.specs.Machines.{begun_again, kind_of, run_from, GivesParts, OutcomeIs, RunGives};
 ghost use Rattle.tt_exec.specs.Parts.{parts_of};
 ghost use Rattle.tt_exec.specs.Runs.{run_outcome};
 ghost use Rattle.tt_exec.specs.Sizes.{SameSizes};
@@ -16,7 +17,6 @@ ghost use Rattle.tt_exec.specs.Worked.{OutcomeWithin, Paid, RunsWithin, WorkIs};
 
 use crate::callers::Callers;
 use crate::fault::ExecFault;
-use crate::function_table::Bodies;
 use crate::laws;
 use crate::machine_state::{Kind, MachineState};
 use crate::parts::Parts;
@@ -24,9 +24,12 @@ use crate::program::{Code, Frame};
 use crate::work::{Work, WorkFault};
 use std::alloc::{AllocError, Global};
 use std::marker::Model;
+use std::mem::replace;
 use tt_exec_points::Points;
 use tt_exec_stack::Stack;
 use tt_exec_state::Size;
+use tt_points::Zones;
+use tt_state::{Point, ScanControl};
 
 /// A machine, which runs programs one after the other. A clause sees what it holds, and whether a run failed.
 #[derive(Drop)]
@@ -65,14 +68,14 @@ impl<'a> Machine<'a> {
         requires size { parts.ppem ≤ size_limit }
         requires scale { IsScale parts.scale }
         requires zones { IsZones (zones_view parts.zones) }
-        ensures { IfOk result (λ m. m ≡ record { state = fresh (parts_of parts.entry); failed = false }) }
+        ensures { IfOk result (λ m. m ≡ begun_again (parts_of parts.entry)) }
     {
         let state = MachineState {
             stack: Stack::new(alloc)?,
             frame: Frame::idle(),
             callers: Callers::new(alloc),
-            functions: Bodies::new(parts.functions),
-            instructions: Bodies::new(parts.instructions),
+            functions: parts.functions,
+            instructions: parts.instructions,
             storage: parts.storage,
             cvt: parts.cvt,
             graphics: parts.state,
@@ -87,6 +90,30 @@ impl<'a> Machine<'a> {
             state,
             failed: false,
         })
+    }
+
+    /// Takes the zones out, whose memory those of the next glyph may have; the machine has none.
+    pub fn take_zones(&mut self, alloc: Global) -> Zones
+        ensures exact { zones_view result ≡ self.old.state.zones }
+        ensures valid { IsZones (zones_view result) }
+        ensures none { self.new ≡ record self.old { state = record self.old.state { zones = no_zones } } }
+    {
+        replace(&mut self.state.points, Points::none(alloc)).into_zones()
+    }
+
+    /// Becomes what a new machine is that is made of these parts, with other zones in them, whatever runs left of this
+    /// one. All that it holds is copied into the memory that is there. Where more is wanted and refused, it has failed
+    /// until it is begun again.
+    pub fn begin_again(&mut self, parts: &Parts<'a>, zones: Zones) -> Result<(), AllocError>
+        requires size { parts.now.ppem ≤ size_limit }
+        requires scale { IsScale parts.now.scale }
+        requires zones { IsZones (zones_view zones) }
+        ensures exact { OnOk result (self.new ≡ begun_again (record (parts_of parts.now) { zones = zones_view zones })) }
+        ensures refused { OnErr result (self.new.failed ≡ true) }
+    {
+        let begun = self.state.begin_again(parts, zones);
+        self.failed = begun.is_err();
+        begun
     }
 
     /// Runs a program from its first byte, with an empty stack and everything else as it is, and tells the steps that
@@ -142,6 +169,21 @@ impl<'a> Machine<'a> {
         ensures limit { length result.now ≤ stack_limit }
     {
         self.state.stack.items()
+    }
+
+    /// The points of the glyph.
+    pub fn glyph_points(&self) -> &[Point]
+        ensures exact { result.now ≡ self.now.state.zones.glyph }
+        ensures valid { All IsPoint result.now }
+    {
+        self.state.points.glyph()
+    }
+
+    /// What SCANCTRL and SCANTYPE left.
+    pub fn scan(&self) -> ScanControl
+        ensures { result ≡ self.now.state.graphics.scan }
+    {
+        self.state.graphics.scan
     }
 
     /// What the machine is made of, as its runs left it; None after Font or Memory.

@@ -1,23 +1,25 @@
 //! What a machine holds while a program runs. Apple TrueType Reference Manual, "Instructing TrueType Glyphs".
 
-ghost use Rattle.std.specs.Prelude.{◌≡◌, ◌<◌, ◌≤◌, length};
+ghost use Rattle.std.specs.Prelude.{◌≡◌, ◌<◌, ◌≤◌, length, OnOk};
 ghost use Rattle.tt_core.specs.Limits.{size_limit};
 ghost use Rattle.tt_core.specs.Scales.{IsScale};
 ghost use Rattle.tt_points_zones.specs.Zones.{zones_view, IsZones};
-ghost use Rattle.tt_exec.specs.Machines.{begun, parts_in};
+ghost use Rattle.tt_exec.specs.Machines.{begun, fresh, parts_in};
 ghost use Rattle.tt_exec.specs.MachineState.{fault_in};
 ghost use Rattle.tt_exec.specs.Parts.{parts_of};
 ghost use Rattle.tt_exec.specs.States.{state_of};
 ghost use Rattle.tt_exec.specs.Views.{frame_of, code_of};
 
 use crate::callers::Callers;
-use crate::function_table::Bodies;
+use crate::function_table::Functions;
 use crate::parts::Parts;
 use crate::program::{Code, Frame};
+use std::alloc::AllocError;
 use tt_core::{Fault, Why};
 use tt_exec_points::Points;
 use tt_exec_stack::Stack;
 use tt_exec_state::Size;
+use tt_points::Zones;
 use tt_state::{GraphicsState, Tolerance};
 
 /// Which program is run: it says where functions may be defined and flags set.
@@ -37,9 +39,9 @@ pub(crate) struct MachineState<'a> {
     pub(crate) frame: Frame<'a>,
     /// What waits for it.
     pub(crate) callers: Callers<'a>,
-    pub(crate) functions: Bodies<'a>,
+    pub(crate) functions: Functions<'a>,
     /// By opcode.
-    pub(crate) instructions: Bodies<'a>,
+    pub(crate) instructions: Functions<'a>,
     pub(crate) storage: Vec<i32>,
     pub(crate) cvt: Vec<i32>,
     pub(crate) graphics: GraphicsState,
@@ -51,7 +53,36 @@ pub(crate) struct MachineState<'a> {
     pub(crate) kind: Kind,
 }
 
+/// Takes what other values are, in the memory that is there.
+fn copy_in(values: &mut Vec<i32>, others: &[i32]) -> Result<(), AllocError>
+    ensures { OnOk result (values.new.items ≡ others.now) }
+{
+    values.clear();
+    values.extend_from_slice(others)
+}
+
 impl<'a> MachineState<'a> {
+    /// Becomes what a new machine is that is made of these parts and zones, in the memory that is there.
+    pub(crate) fn begin_again(&mut self, parts: &Parts<'a>, zones: Zones) -> Result<(), AllocError>
+        requires size { parts.now.ppem ≤ size_limit }
+        requires scale { IsScale parts.now.scale }
+        requires zones { IsZones (zones_view zones) }
+        ensures { OnOk result (state_of self.new ≡ fresh (record (parts_of parts.now) { zones = zones_view zones })) }
+    {
+        self.begin(Frame::idle().code, Kind::Glyph);
+        self.functions.copy_from(&parts.functions)?;
+        self.instructions.copy_from(&parts.instructions)?;
+        copy_in(&mut self.storage, &parts.storage)?;
+        copy_in(&mut self.cvt, &parts.cvt)?;
+        self.graphics = parts.state;
+        self.tolerance = parts.tolerance;
+        self.points = Points::new(zones);
+        self.skip_glyphs = parts.skip_glyphs;
+        self.default_state = parts.default_state;
+        self.size = Size::new(parts.ppem, parts.scale);
+        Ok(())
+    }
+
     /// Begins a run of a program.
     pub(crate) fn begin(&mut self, code: Code<'a>, kind: Kind)
         ensures { state_of self.new ≡ begun kind (code_of code.entry) (state_of self.old) }
@@ -75,8 +106,8 @@ impl<'a> MachineState<'a> {
             cvt: self.cvt,
             storage: self.storage,
             zones: self.points.into_zones(),
-            functions: self.functions.into_map(),
-            instructions: self.instructions.into_map(),
+            functions: self.functions,
+            instructions: self.instructions,
             state: self.graphics,
             tolerance: self.tolerance,
             skip_glyphs: self.skip_glyphs,

@@ -3,9 +3,8 @@
 ghost use Rattle.std.specs.Prelude.{◌≡◌, IfOk};
 ghost use Rattle.tt_exec.specs.Parts.{parts_of};
 
-use crate::program::Body;
+use crate::function_table::Functions;
 use std::alloc::AllocError;
-use std::collections::BTreeMap;
 use tt_core::Scale;
 use tt_points::Zones;
 use tt_state::{GraphicsState, Tolerance};
@@ -22,9 +21,9 @@ pub struct Parts<'a> {
     /// The storage area.
     pub storage: Vec<i32>,
     pub zones: Zones,
-    pub functions: BTreeMap<u16, Body<'a>>,
+    pub functions: Functions<'a>,
     /// The instructions that IDEF defined, by opcode.
-    pub instructions: BTreeMap<u16, Body<'a>>,
+    pub instructions: Functions<'a>,
     pub state: GraphicsState,
     /// What becomes of an instruction that asks for what is not there. No program sets it.
     pub tolerance: Tolerance,
@@ -45,8 +44,8 @@ impl<'a> Parts<'a> {
             cvt: self.cvt.clone()?,
             storage: self.storage.clone()?,
             zones: self.zones.copy()?,
-            functions: self.functions.clone()?,
-            instructions: self.instructions.clone()?,
+            functions: self.functions.copy()?,
+            instructions: self.instructions.copy()?,
             state: self.state,
             tolerance: self.tolerance,
             skip_glyphs: self.skip_glyphs,

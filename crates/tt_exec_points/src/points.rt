@@ -1,10 +1,15 @@
 //! The zones of a machine. Apple TrueType Reference Manual, "Instructing TrueType Glyphs" (zones).
 
-ghost use Rattle.std.specs.Prelude.{◌≡◌, ◌^◌, ◌<◌, length};
-ghost use Rattle.tt_points_zones.specs.Zones.{zones_view, IsZones};
+ghost use Rattle.std.specs.Prelude.{◌≡◌, ◌^◌, ◌<◌, length, All};
+ghost use Rattle.tt_exec_points.specs.Zones.{no_zones};
+ghost use Rattle.tt_points_zones.specs.Zones.{zones_view, IsPoint, IsZones};
 
+use std::alloc::Global;
 use std::marker::Model;
+use tt_core::Halves;
 use tt_points::Zones;
+use tt_points_zones::Originals;
+use tt_state::Point;
 
 /// Zones as instructions leave them. A clause sees them as their lists.
 #[derive(Drop)]
@@ -23,6 +28,20 @@ impl Model for Points {
 }
 
 impl Points {
+    /// No point and no contour.
+    pub fn none(alloc: Global) -> Points
+        ensures { result ≡ no_zones }
+    {
+        Points {
+            zones: Zones {
+                twilight: Vec::new(alloc),
+                glyph: Vec::new(alloc),
+                contours: Vec::new(alloc),
+                originals: Originals::in_pixels(Halves::Up),
+            },
+        }
+    }
+
     pub fn new(zones: Zones) -> Points
         requires { IsZones (zones_view zones) }
         ensures { result ≡ zones_view zones }
@@ -52,6 +71,14 @@ impl Points {
         ensures few { result < 2 ^ 62 }
     {
         self.zones.glyph.as_slice().len()
+    }
+
+    /// The points of the glyph.
+    pub fn glyph(&self) -> &[Point]
+        ensures exact { result.now ≡ self.now.glyph }
+        ensures valid { All IsPoint result.now }
+    {
+        &self.zones.glyph
     }
 
     pub fn into_zones(self) -> Zones

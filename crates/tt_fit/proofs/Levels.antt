@@ -8,8 +8,9 @@ use Rattle.tt_fit.specs.declared.unmade.Unmade.{Unmade}
 use Rattle.tt_fit.specs.declared.unmade.Unmade.TheVariants as unmade
 use Rattle.tt_fit.specs.Joining.{placed}
 use Rattle.tt_glyf.specs.GlyphData.{glyph_data_of}
-use Rattle.tt_glyf.specs.Raw.{SimpleGlyph, simple}
-use Rattle.tt_fit.specs.Fitting.{Fitter, size_of, start, simple_program, simple_outline, joined, added, outline_at, added_work, outline_work}
+use Rattle.tt_glyf.specs.Raw.{CompositeGlyph, SimpleGlyph, composite, simple}
+use Rattle.tt_fit.specs.Hinting.{hinted}
+use Rattle.tt_fit.specs.Fitting.{Fitter, size_of, start, simple_program, composite_program, simple_outline, joined, added, outline_at, added_work, outline_work}
 use Rattle.tt_fit.specs.Outline.{Outline}
 use Rattle.tt_fit.specs.Work.{RefusalLeaves, joined_work, unmade_fault}
 
@@ -37,6 +38,12 @@ pub simple_made : (s : Fitter) (levels g : ℕ) (d : SimpleGlyph) (o : Outline) 
     → start s d.x_min g ≡ Ok o
     → outline_at s levels g ≡ simple_outline s g d.points d.ends (simple_program s g d) o
 simple_made s levels g d o read begun = rw (read, begun) refl
+
+pub composite_made : (s : Fitter) (levels g : ℕ) (d : CompositeGlyph) (o so_far : Outline)
+    → glyph_data_of s.tables g ≡ Ok (composite d) → start s d.x_min g ≡ Ok o
+    → joined (added s levels) d.records o ≡ Ok so_far
+    → outline_at s levels g ≡ hinted s.hinting (composite_program s g d) so_far
+composite_made s levels g d o so_far read begun joins = rw (read, begun, joins) refl
 
 -- the work of one record more
 pub one_record_paid : (add : Record → Outline → Result Outline Fault) (work : Record → Option ℕ → Worked)

@@ -25,7 +25,7 @@ ghost use Rattle.tt_exec.specs.Work.{spent};
 use crate::counting::points_of;
 use crate::dropouts::{DropoutRules, DropoutsBy, rules_by};
 use crate::fallback::{Fallback, is_program_fault};
-use crate::hinting::{Hinting, hinted};
+use crate::hinting::{GlyphMachine, Hinting, hinted};
 use crate::joining::placed;
 use crate::outline::Outline;
 use crate::preparation::{Preparation, prepared};
@@ -53,6 +53,8 @@ pub struct Fitter<'a> {
     ppem: u32,
     scaling: Scaling,
     hinting: Hinting<'a>,
+    /// Used again for the program of each glyph; none before the first. No clause sees it.
+    machine: GlyphMachine<'a>,
     fallback: Fallback,
     levels: u32,
     work: Work,
@@ -111,6 +113,7 @@ impl<'a> Fitter<'a> {
             ppem,
             scaling,
             hinting,
+            machine: None,
             fallback,
             levels: levels_of(fit),
             work,
@@ -146,7 +149,7 @@ impl<'a> Fitter<'a> {
         ensures outline { IfOk result (λ o. IsOutline (outline_of o)) }
     {
         let mut work = self.work;
-        self.made_by_fallback(g, &mut work)
+        self.made_by_fallback(g, &mut None, &mut work)
     }
 
     /// The same, and what the programs were of the job's work is not left for the glyphs after, where it is bounded.
@@ -166,7 +169,9 @@ impl<'a> Fitter<'a> {
         ensures kept { OnErr result (self.new ≡ self.old) }
     {
         let mut work = self.work;
-        let outline = self.made_by_fallback(g, &mut work)?;
+        let mut machine = self.machine.take();
+        let outline = self.made_by_fallback(g, &mut machine, &mut work)?;
+        self.machine = machine;
         self.work = work;
         Ok(outline)
     }
@@ -181,7 +186,12 @@ impl<'a> Fitter<'a> {
     /// The outline of a glyph, with the fault of a program for which it is made without, by what is left of the job's
     /// work.
     #[tactic(auto, unfolding(crate::specs::Fitting::fitted_outline, crate::specs::Fitting::unfitted_fault))]
-    fn made_by_fallback(&self, g: u16, work: &mut Work) -> Result<Outline, FontFault>
+    fn made_by_fallback(
+        &self,
+        g: u16,
+        machine: &mut GlyphMachine<'a>,
+        work: &mut Work,
+    ) -> Result<Outline, FontFault>
         requires known { g < self.now.tables.glyphs }
         requires work { work.old.left ≡ self.now.work }
         ensures exact { FontGives outline_of result (fitted_outline self.now g) }
@@ -190,15 +200,20 @@ impl<'a> Fitter<'a> {
         ensures left { OnOk result (work.new.left ≡ (after_glyph self.now g).work) }
     {
         match self.fallback {
-            Fallback::Never => self.made(&self.hinting, g, None),
-            Fallback::WhereRefused => self.made_or_unfitted(g, work),
-            Fallback::Everywhere(fault) => self.made(&Hinting::Off, g, Some(fault)),
+            Fallback::Never => self.made(machine, &self.hinting, g, None),
+            Fallback::WhereRefused => self.made_or_unfitted(g, machine, work),
+            Fallback::Everywhere(fault) => self.made(machine, &Hinting::Off, g, Some(fault)),
         }
     }
 
     /// The outline of a glyph with its program, or, where one is refused or more work than is left, without.
     #[tactic(auto, unfolding(crate::specs::Fitting::fitted_outline, crate::specs::Fitting::unfitted_fault))]
-    fn made_or_unfitted(&self, g: u16, work: &mut Work) -> Result<Outline, FontFault>
+    fn made_or_unfitted(
+        &self,
+        g: u16,
+        machine: &mut GlyphMachine<'a>,
+        work: &mut Work,
+    ) -> Result<Outline, FontFault>
         requires known { g < self.now.tables.glyphs }
         requires work { work.old.left ≡ self.now.work }
         requires fallback { self.now.fallback ≡ where_refused }
@@ -207,14 +222,20 @@ impl<'a> Fitter<'a> {
         ensures valid { IfOk result (λ o. IsOutline (outline_of o)) }
         ensures left { OnOk result (work.new.left ≡ (after_glyph self.now g).work) }
     {
-        match self.made_within(&self.hinting, g, None, work) {
+        match self.made_within(machine, &self.hinting, g, None, work) {
             Ok(outline) => Ok(outline),
-            Err(refusal) => self.unmade(g, refusal, work),
+            Err(refusal) => self.unmade(g, refusal, machine, work),
         }
     }
 
     /// The outline of a glyph that is not made with its program, or its fault.
-    fn unmade(&self, g: u16, refusal: Unmade, work: &mut Work) -> Result<Outline, FontFault>
+    fn unmade(
+        &self,
+        g: u16,
+        refusal: Unmade,
+        machine: &mut GlyphMachine<'a>,
+        work: &mut Work,
+    ) -> Result<Outline, FontFault>
         requires known { g < self.now.tables.glyphs }
         requires fallback { self.now.fallback ≡ where_refused }
         requires work { RefusalLeaves refusal work.old.left (glyph_work self.now g self.now.work) }
@@ -225,18 +246,23 @@ impl<'a> Fitter<'a> {
         ensures left { OnOk result (work.new.left ≡ (after_glyph self.now g).work) }
     {
         match refusal {
-            Unmade::Font(fault) => self.refused(g, fault),
+            Unmade::Font(fault) => self.refused(g, fault, machine),
             Unmade::Memory => Err(FontFault::Memory),
             Unmade::Spent(fault) => {
                 *work = Work { left: Some(0) };
-                self.spent(g, fault)
+                self.spent(g, fault, machine)
             }
         }
     }
 
     /// The outline of a glyph that has this fault with its program.
     #[tactic(auto, unfolding(crate::specs::Fitting::fitted_outline, crate::specs::Fitting::unfitted_fault))]
-    fn refused(&self, g: u16, fault: Fault) -> Result<Outline, FontFault>
+    fn refused(
+        &self,
+        g: u16,
+        fault: Fault,
+        machine: &mut GlyphMachine<'a>,
+    ) -> Result<Outline, FontFault>
         requires known { g < self.now.tables.glyphs }
         requires fallback { self.now.fallback ≡ where_refused }
         requires work { IsEnough (glyph_work self.now g self.now.work) }
@@ -248,12 +274,17 @@ impl<'a> Fitter<'a> {
         if !is_program_fault(fault) {
             return Err(FontFault::Font(fault));
         }
-        self.made(&Hinting::Off, g, Some(fault))
+        self.made(machine, &Hinting::Off, g, Some(fault))
     }
 
     /// The outline of a glyph whose programs are more work than is left, with this fault.
     #[tactic(auto, unfolding(crate::specs::Fitting::fitted_outline, crate::specs::Fitting::unfitted_fault))]
-    fn spent(&self, g: u16, over: Fault) -> Result<Outline, FontFault>
+    fn spent(
+        &self,
+        g: u16,
+        over: Fault,
+        machine: &mut GlyphMachine<'a>,
+    ) -> Result<Outline, FontFault>
         requires known { g < self.now.tables.glyphs }
         requires fallback { self.now.fallback ≡ where_refused }
         requires work { glyph_work self.now g self.now.work ≡ spent over }
@@ -261,12 +292,13 @@ impl<'a> Fitter<'a> {
         ensures unfitted { IfOk result (λ o. o.unfitted ≡ unfitted_fault self.now g) }
         ensures valid { IfOk result (λ o. IsOutline (outline_of o)) }
     {
-        self.made(&Hinting::Off, g, Some(over))
+        self.made(machine, &Hinting::Off, g, Some(over))
     }
 
     /// The outline of a glyph by what the programs leave, with the fault for which it is unfitted. Work is not bounded.
     fn made(
         &self,
+        machine: &mut GlyphMachine<'a>,
         hinting: &Hinting<'a>,
         g: u16,
         unfitted: Option<Fault>,
@@ -278,7 +310,7 @@ impl<'a> Fitter<'a> {
         ensures valid { IfOk result (λ o. IsOutline (outline_of o)) }
     {
         let mut work = Work { left: None };
-        match self.made_within(hinting, g, unfitted, &mut work) {
+        match self.made_within(machine, hinting, g, unfitted, &mut work) {
             Ok(made) => Ok(made),
             Err(refusal) => Err(unbounded(refusal)),
         }
@@ -287,6 +319,7 @@ impl<'a> Fitter<'a> {
     /// The same by what is left of the job's work.
     fn made_within(
         &self,
+        machine: &mut GlyphMachine<'a>,
         hinting: &Hinting<'a>,
         g: u16,
         unfitted: Option<Fault>,
@@ -299,7 +332,7 @@ impl<'a> Fitter<'a> {
         ensures unfitted { IfOk result (λ o. o.unfitted ≡ unfitted) }
         ensures valid { IfOk result (λ o. IsOutline (outline_of o)) }
     {
-        let outline = self.outline(hinting, self.levels, g, work)?;
+        let outline = self.outline(machine, hinting, self.levels, g, work)?;
         Ok(Outline {
             unfitted,
             ..outline
@@ -358,6 +391,7 @@ impl<'a> Fitter<'a> {
     /// The outline of a simple glyph, begun without points. Errors: CoordRange, those of its program, Memory, Spent.
     fn simple(
         &self,
+        machine: &mut GlyphMachine<'a>,
         hinting: &Hinting<'a>,
         g: u16,
         points: &[RawPoint],
@@ -377,13 +411,14 @@ impl<'a> Fitter<'a> {
     {
         let at = self.glyf.start(g);
         let scaled = scaled_outline(self.alloc, self.size(), at, points, last_points, start)?;
-        hinted(self.alloc, hinting, program, scaled, work)
+        hinted(self.alloc, machine, hinting, program, scaled, work)
     }
 
     /// The outline of a glyph, where so many levels of components are left.
     #[cycle(fitting)]
     fn outline(
         &self,
+        machine: &mut GlyphMachine<'a>,
         hinting: &Hinting<'a>,
         levels: u32,
         g: u16,
@@ -407,7 +442,7 @@ impl<'a> Fitter<'a> {
                 let start = self.start(x_min, g)?;
                 let units = self.units(g, x_min, &points);
                 let program = self.program(g, code, code_at, units);
-                self.simple(hinting, g, &points, &ends, program, start, work)
+                self.simple(machine, hinting, g, &points, &ends, program, start, work)
             }
             Raw::Composite {
                 x_min,
@@ -416,9 +451,17 @@ impl<'a> Fitter<'a> {
                 code_at,
             } => {
                 let start = self.start(x_min, g)?;
-                let joined = self.joined(hinting, levels, records.as_slice(), start, work)?;
+                let joined = self.joined(
+                    machine,
+                    hinting,
+                    levels,
+                    records.as_slice(),
+                    start,
+                    work,
+                )?;
                 hinted(
                     self.alloc,
+                    machine,
                     hinting,
                     self.program(g, code, code_at, None),
                     joined,
@@ -432,6 +475,7 @@ impl<'a> Fitter<'a> {
     #[cycle(fitting)]
     fn joined(
         &self,
+        machine: &mut GlyphMachine<'a>,
         hinting: &Hinting<'a>,
         levels: u32,
         records: &[Record],
@@ -448,7 +492,7 @@ impl<'a> Fitter<'a> {
     {
         let mut so_far = start;
         for part in records {
-            so_far = self.added(hinting, levels, *part, so_far, work)?;
+            so_far = self.added(machine, hinting, levels, *part, so_far, work)?;
         }
         Ok(so_far)
     }
@@ -458,6 +502,7 @@ impl<'a> Fitter<'a> {
     #[tactic(auto, using(crate::proofs::Levels::one_level, crate::proofs::Levels::one_level_work), unfolding(crate::specs::Fitting::added, crate::specs::Fitting::added_work))]
     fn added(
         &self,
+        machine: &mut GlyphMachine<'a>,
         hinting: &Hinting<'a>,
         levels: u32,
         part: Record,
@@ -475,7 +520,7 @@ impl<'a> Fitter<'a> {
         if levels == 0 {
             return Err(Unmade::Font(glyf_fault(part.at, Why::ComponentDepth)));
         }
-        let component = self.outline(hinting, levels - 1, part.glyph, work)?;
+        let component = self.outline(machine, hinting, levels - 1, part.glyph, work)?;
         Ok(placed(self.size(), part, &component, so_far)?)
     }
 }

@@ -88,13 +88,15 @@ fn outline_point(point: (i32, i32, bool)) -> Point
     untouched((point.0, point.1), (point.0, point.1), point.2)
 }
 
-/// The points of an outline, with room for the phantom points.
-fn outline_points(alloc: Global, points: &[(i32, i32, bool)]) -> Result<Vec<Point>, AllocError>
+/// The points of an outline, with room for the phantom points, in the memory that is there.
+fn outline_points(room: Vec<Point>, points: &[(i32, i32, bool)]) -> Result<Vec<Point>, AllocError>
     requires { All IsPoint points.now }
     ensures exact { IfOk result (λ v. v.items ≡ map outline_point points.now) }
     ensures valid { IfOk result (λ v. All IsZonePoint v.items) }
 {
-    let mut zone = Vec::with_capacity(alloc, points.len().saturating_add(4))?;
+    let mut zone = room;
+    zone.clear();
+    zone.reserve(points.len().saturating_add(4))?;
     for point in points {
         zone.push(outline_point(*point))?;
     }
@@ -120,9 +122,10 @@ fn push_phantom(
     Ok(())
 }
 
-/// The points of an outline, and after them its phantom points, which have gone to the grid.
+/// The points of an outline, and after them its phantom points, which have gone to the grid, in the memory that is
+/// there.
 pub(crate) fn glyph_zone(
-    alloc: Global,
+    room: Vec<Point>,
     units: Option<Units>,
     outline: &Outline,
     grid: &[(i32, i32); 4],
@@ -132,7 +135,7 @@ pub(crate) fn glyph_zone(
     ensures exact { IfOk result (λ v. v.items ≡ glyph_zone (option_map units_view units.entry) (outline_of outline.now) (phantom_of grid.now)) }
     ensures valid { IfOk result (λ v. All IsZonePoint v.items) }
 {
-    let mut zone = outline_points(alloc, &outline.points)?;
+    let mut zone = outline_points(room, &outline.points)?;
     put_units(&mut zone, places_of(units));
     let places = phantom_places(units);
     let was = &outline.phantom;
@@ -143,11 +146,13 @@ pub(crate) fn glyph_zone(
     Ok(zone)
 }
 
-/// Each contour's first point and the number one past its last.
-pub(crate) fn contours(alloc: Global, ends: &[u32]) -> Result<Vec<(u32, u32)>, AllocError>
+/// Each contour's first point and the number one past its last, in the memory that is there.
+pub(crate) fn contours(room: Vec<(u32, u32)>, ends: &[u32]) -> Result<Vec<(u32, u32)>, AllocError>
     ensures { IfOk result (λ v. v.items ≡ contours_from 0 ends.now) }
 {
-    let mut contours = Vec::with_capacity(alloc, ends.len())?;
+    let mut contours = room;
+    contours.clear();
+    contours.reserve(ends.len())?;
     let mut first = 0;
     for end in ends {
         contours.push((first, *end))?;
@@ -172,13 +177,18 @@ fn place_of(point: Point) -> (i32, i32)
     (point.x, point.y)
 }
 
-/// Where a program left the points of an outline.
-fn seen_points(alloc: Global, zone: &[Point]) -> Result<Vec<(i32, i32, bool)>, AllocError>
+/// Where a program left the points of an outline, in the memory that is there.
+fn seen_points(
+    room: Vec<(i32, i32, bool)>,
+    zone: &[Point],
+) -> Result<Vec<(i32, i32, bool)>, AllocError>
     requires { All IsZonePoint zone.now }
     ensures exact { IfOk result (λ v. v.items ≡ map seen zone.now) }
     ensures valid { IfOk result (λ v. All IsPoint v.items) }
 {
-    let mut points = Vec::with_capacity(alloc, zone.len())?;
+    let mut points = room;
+    points.clear();
+    points.reserve(zone.len())?;
     for point in zone {
         points.push(seen(*point))?;
     }
@@ -202,7 +212,6 @@ fn seen_phantom(zone: &[Point]) -> [(i32, i32); 4]
 
 /// The outline whose points stand in the glyph zone, its phantom points after them, with the scan control left beside.
 pub(crate) fn left_outline(
-    alloc: Global,
     outline: Outline,
     zone: &[Point],
     scan: ScanControl,
@@ -214,7 +223,7 @@ pub(crate) fn left_outline(
     ensures valid { IfOk result (λ o. IsOutline (outline_of o)) }
 {
     let (own, phantom) = zone.split_at(outline.points.len());
-    let points = seen_points(alloc, own)?;
+    let points = seen_points(outline.points, own)?;
     Ok(Outline {
         points,
         ends: outline.ends,

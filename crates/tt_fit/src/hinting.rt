@@ -1,27 +1,32 @@
 //! What a glyph's program makes of its outline. Apple TrueType Reference Manual, "Instructing TrueType Glyphs".
 
-ghost use Rattle.std.specs.Prelude.{◌≡◌, ◌≢◌, IfOk};
+ghost use Rattle.std.specs.Prelude.{◌≡◌, ◌≢◌, false, option_map, IfOk, OnOk};
 ghost use Rattle.tt_exec.specs.declared.fault.ExecFault.TheVariants as exec;
 ghost use Rattle.tt_exec.specs.declared.work.WorkFault.TheVariants as machine;
-ghost use Rattle.tt_exec.specs.Machines.{exec_fault};
+ghost use Rattle.tt_exec.specs.Machines.{begun_again, exec_fault, parts_in, run_from};
+ghost use Rattle.tt_exec.specs.Work.{run_work};
 ghost use Rattle.tt_exec.specs.Parts.{parts_of};
 ghost use Rattle.tt_exec.specs.Views.{code_of};
-ghost use Rattle.tt_points_zones.specs.Zones.{SameShape};
+ghost use Rattle.tt_points_zones.specs.Zones.{IsZones, SameShape};
 ghost use Rattle.tt_fit.specs.GlyphZone.{program_in_glyf};
 ghost use Rattle.tt_fit.specs.Outline.{outline_of, phantom_of, ArePhantom, IsOutline};
-ghost use Rattle.tt_fit.specs.Hinting.{IsHinting, by_program, hinted, run_of};
+ghost use Rattle.tt_fit.specs.Hinting.{IsHinting, by_program, hinted, run_of, run_on};
 ghost use Rattle.tt_fit.specs.Parts.{AreParts, parts_with};
-ghost use Rattle.tt_fit.specs.Views.{hinting_view, program_view};
+ghost use Rattle.tt_fit.specs.Views.{hinting_view, program_view, units_view};
 ghost use Rattle.tt_fit.specs.Work.{Makes, WorkGives, code_work, hinted_work, program_work, work_fault};
 
 use crate::glyph_zone::{left_outline, on_grid};
 use crate::outline::Outline;
-use crate::parts::with_glyph;
+use crate::parts::glyph_zones;
 use crate::programs::GlyphProgram;
+use crate::units::Units;
 use crate::unmade::Unmade;
-use std::alloc::Global;
+use std::alloc::{AllocError, Global};
 use tt_core::FontFault;
 use tt_exec::{Code, ExecFault, Machine, Parts, Work, WorkFault};
+
+/// The machine that runs the programs of all glyphs, one after the other; none before the first.
+pub(crate) type GlyphMachine<'a> = Option<Box<Machine<'a>>>;
 
 /// What the font program and the control value program left to the programs of glyphs.
 #[derive(Drop)]
@@ -55,6 +60,20 @@ fn unmade(fault: WorkFault) -> Unmade
     }
 }
 
+/// Runs a program on a machine that has not failed. Errors: those of the program, Memory, Spent.
+fn run_on<'a>(machine: &mut Machine<'a>, code: Code<'a>, work: &mut Work) -> Result<(), Unmade>
+    requires { machine.old.failed ≡ false }
+    ensures exact { Makes (λ _. parts_in machine.new.state) result (run_on (code_of code.entry) machine.old.state) }
+    ensures work { WorkGives result work.new.left (run_work (run_from (code_of code.entry) machine.old.state) work.old.left) }
+    ensures shape { OnOk result (SameShape machine.old.state.zones machine.new.state.zones) }
+    ensures done { OnOk result (machine.new.failed ≡ false) }
+{
+    match machine.run_within(code, work) {
+        Ok(_) => Ok(()),
+        Err(fault) => Err(unmade(fault)),
+    }
+}
+
 /// What a program leaves of a machine's parts. Errors: those of the program, Memory, Spent.
 #[tactic(auto, unfolding(crate::specs::Hinting::run_of))]
 pub(crate) fn run<'a>(
@@ -70,9 +89,7 @@ pub(crate) fn run<'a>(
     ensures shape { IfOk result (λ p. SameShape (parts_of parts.entry).zones (parts_of p).zones) }
 {
     let mut machine = Machine::new(alloc, parts)?;
-    if let Err(fault) = machine.run_within(code, work) {
-        return Err(unmade(fault));
-    }
+    run_on(&mut machine, code, work)?;
     match machine.into_parts() {
         Some(left) => Ok(left),
         None => unreachable!(),
@@ -89,11 +106,38 @@ fn code_in_glyf<'a>(program: GlyphProgram<'a, '_>) -> Code<'a>
     }
 }
 
-/// The outline that a glyph's program leaves. Errors: CoordRange of a phantom point, those of the program, Memory,
-/// Spent.
-#[tactic(auto, unfolding(crate::specs::Hinting::by_program, crate::specs::Work::program_work))]
-fn by_program<'a>(
+/// A machine for the programs of all glyphs.
+fn first_machine<'a>(alloc: Global, parts: &Parts<'a>) -> Result<Box<Machine<'a>>, AllocError>
+    requires { AreParts (parts_of parts.now) }
+{
+    Ok(Box::new(alloc, Machine::new(alloc, parts.copy()?)?)?)
+}
+
+/// Puts a glyph into a machine, which then is as one that is made of the parts with the glyph in them.
+fn put_glyph<'a>(
     alloc: Global,
+    machine: &mut Machine<'a>,
+    parts: &Parts<'a>,
+    units: Option<Units>,
+    outline: &Outline,
+    grid: &[(i32, i32); 4],
+) -> Result<(), AllocError>
+    requires parts { AreParts (parts_of parts.now) }
+    requires outline { IsOutline (outline_of outline.now) }
+    requires grid { ArePhantom (phantom_of grid.now) }
+    ensures exact { OnOk result (machine.new ≡ begun_again (parts_with (parts_of parts.now) (option_map units_view units.entry) (outline_of outline.now) (phantom_of grid.now))) }
+    ensures valid { OnOk result (IsZones machine.new.state.zones) }
+{
+    let zones = glyph_zones(machine.take_zones(alloc), parts, units, outline, grid)?;
+    machine.begin_again(parts, zones)
+}
+
+/// The outline that a glyph's program leaves, by a machine into which the glyph is put first. Errors: CoordRange of a
+/// phantom point, those of the program, Memory, Spent.
+#[tactic(auto, unfolding(crate::specs::Hinting::by_program, crate::specs::Work::program_work))]
+fn by_machine<'a>(
+    alloc: Global,
+    machine: &mut Machine<'a>,
     parts: &Parts<'a>,
     program: GlyphProgram<'a, '_>,
     outline: Outline,
@@ -106,14 +150,42 @@ fn by_program<'a>(
     ensures valid { IfOk result (λ o. IsOutline (outline_of o)) }
 {
     let grid = on_grid(program.glyph_at, &outline.phantom)?;
-    let begun = with_glyph(alloc, parts, program.units, &outline, &grid)?;
-    let left = run(alloc, begun, code_in_glyf(program), work)?;
-    Ok(left_outline(alloc, outline, &left.zones.glyph, left.state.scan)?)
+    put_glyph(alloc, machine, parts, program.units, &outline, &grid)?;
+    run_on(machine, code_in_glyf(program), work)?;
+    Ok(left_outline(outline, machine.glyph_points(), machine.scan())?)
+}
+
+/// The outline that a glyph's program leaves. The machine is used again for each glyph; there is none before the first.
+/// Errors: CoordRange of a phantom point, those of the program, Memory, Spent.
+fn by_program<'a>(
+    alloc: Global,
+    machine: &mut GlyphMachine<'a>,
+    parts: &Parts<'a>,
+    program: GlyphProgram<'a, '_>,
+    outline: Outline,
+    work: &mut Work,
+) -> Result<Outline, Unmade>
+    requires parts { AreParts (parts_of parts.now) }
+    requires outline { IsOutline (outline_of outline) }
+    ensures exact { Makes outline_of result (by_program (parts_of parts.now) (program_view program.entry) (outline_of outline)) }
+    ensures work { WorkGives result work.new.left (program_work (parts_of parts.now) (program_view program.entry) (outline_of outline) work.old.left) }
+    ensures valid { IfOk result (λ o. IsOutline (outline_of o)) }
+{
+    match machine {
+        Some(machine) => by_machine(alloc, machine.as_mut(), parts, program, outline, work),
+        None => {
+            let mut first = first_machine(alloc, parts)?;
+            let made = by_machine(alloc, first.as_mut(), parts, program, outline, work);
+            *machine = Some(first);
+            made
+        }
+    }
 }
 
 /// The outline that a glyph's program leaves, of scaled points or of joined components.
 pub(crate) fn hinted<'a>(
     alloc: Global,
+    machine: &mut GlyphMachine<'a>,
     hinting: &Hinting<'a>,
     program: GlyphProgram<'a, '_>,
     outline: Outline,
@@ -131,7 +203,7 @@ pub(crate) fn hinted<'a>(
             if parts.skip_glyphs || program.code.is_empty() {
                 return Ok(outline);
             }
-            by_program(alloc, parts, program, outline, work)
+            by_program(alloc, machine, parts, program, outline, work)
         }
     }
 }

@@ -17,12 +17,11 @@ use crate::rules::Rules;
 use crate::size::FontSize;
 use crate::units::Units;
 use std::alloc::{AllocError, Global};
-use std::collections::BTreeMap;
 use tt_core::{Halves, Scale, i16_at};
-use tt_exec::Parts;
+use tt_exec::{Functions, Parts};
 use tt_metrics::Metrics;
 use tt_points_zones::{Originals, Zones};
-use tt_state::GraphicsState;
+use tt_state::{GraphicsState, Point};
 
 /// A control value in 26.6 pixels.
 fn control_value(size: FontSize, cvt: &[u8], i: usize) -> i32
@@ -77,8 +76,8 @@ pub(crate) fn begun_parts<'a>(
         cvt: control_values(alloc, size, cvt)?,
         storage: vec![in alloc; 0; usize::from(metrics.storage())]?,
         zones: without_glyph(alloc, size.scale.halves, metrics.twilight())?,
-        functions: BTreeMap::new(alloc),
-        instructions: BTreeMap::new(alloc),
+        functions: Functions::new(alloc),
+        instructions: Functions::new(alloc),
         state: GraphicsState::new(rules.whole),
         tolerance: rules.tolerance,
         skip_glyphs: false,
@@ -139,68 +138,34 @@ fn originals_by(scale: Scale, units: Option<Units>) -> Originals
     }
 }
 
-/// A glyph's zones: the twilight points as they were, and the outline's points and contours.
-fn glyph_zones(
-    alloc: Global,
-    zones: Zones,
-    scale: Scale,
+/// Points in the memory that is there.
+fn copied(mut room: Vec<Point>, points: &[Point]) -> Result<Vec<Point>, AllocError>
+    ensures { IfOk result (λ v. v.items ≡ points.now) }
+{
+    room.clear();
+    room.extend_from_slice(points)?;
+    Ok(room)
+}
+
+/// A glyph's zones: the twilight points that the control value program left, and the outline's points and contours. The
+/// memory is that of other zones, of which nothing else is kept.
+pub(crate) fn glyph_zones(
+    room: Zones,
+    parts: &Parts,
     units: Option<Units>,
     outline: &Outline,
     grid: &[(i32, i32); 4],
 ) -> Result<Zones, AllocError>
-    requires zones { IsZones (zones_view zones) }
-    requires scale { IsScale scale }
-    requires outline { IsOutline (outline_of outline.now) }
-    requires grid { ArePhantom (phantom_of grid.now) }
-    ensures exact { IfOk result (λ z. zones_view z ≡ zones_of zones.twilight.items scale (option_map units_view units.entry) (outline_of outline.now) (phantom_of grid.now)) }
-    ensures valid { IfOk result (λ z. IsZones (zones_view z)) }
-{
-    Ok(Zones {
-        twilight: zones.twilight,
-        glyph: glyph_zone(alloc, units, outline, grid)?,
-        contours: contours(alloc, &outline.ends)?,
-        originals: originals_by(scale, units),
-    })
-}
-
-/// A machine's parts with a glyph in them, in memory of their own.
-pub(crate) fn with_glyph<'a>(
-    alloc: Global,
-    parts: &Parts<'a>,
-    units: Option<Units>,
-    outline: &Outline,
-    grid: &[(i32, i32); 4],
-) -> Result<Parts<'a>, AllocError>
     requires parts { AreParts (parts_of parts.now) }
     requires outline { IsOutline (outline_of outline.now) }
     requires grid { ArePhantom (phantom_of grid.now) }
-    ensures exact { IfOk result (λ p. parts_of p ≡ parts_with (parts_of parts.now) (option_map units_view units.entry) (outline_of outline.now) (phantom_of grid.now)) }
-    ensures valid { IfOk result (λ p. AreParts (parts_of p)) }
+    ensures exact { IfOk result (λ z. zones_view z ≡ (parts_with (parts_of parts.now) (option_map units_view units.entry) (outline_of outline.now) (phantom_of grid.now)).zones) }
+    ensures valid { IfOk result (λ z. IsZones (zones_view z)) }
 {
-    let Parts {
-        scale,
-        ppem,
-        cvt,
-        storage,
-        zones,
-        functions,
-        instructions,
-        state,
-        tolerance,
-        skip_glyphs,
-        default_state,
-    } = parts.copy()?;
-    Ok(Parts {
-        scale,
-        ppem,
-        cvt,
-        storage,
-        zones: glyph_zones(alloc, zones, scale, units, outline, grid)?,
-        functions,
-        instructions,
-        state,
-        tolerance,
-        skip_glyphs,
-        default_state,
+    Ok(Zones {
+        twilight: copied(room.twilight, &parts.zones.twilight)?,
+        glyph: glyph_zone(room.glyph, units, outline, grid)?,
+        contours: contours(room.contours, &outline.ends)?,
+        originals: originals_by(parts.scale, units),
     })
 }

@@ -25,6 +25,7 @@ use crate::rules::{rules_of, work_of};
 use crate::size::FontSize;
 use crate::unmade::{Unmade, unbounded};
 use std::alloc::Global;
+use std::mem::swap;
 use tt_core::{Fault, FontFault};
 use tt_exec::{Code, Work};
 use tt_metrics::Metrics;
@@ -69,10 +70,10 @@ fn left_by_programs<'a>(
 {
     let rules = rules_of(fit);
     let begun = begun_parts(alloc, metrics, programs.cvt, size, rules)?;
-    let font = run(alloc, begun, whole_table(*b"fpgm", programs.fpgm), work)?;
+    let mut font = run(alloc, begun, whole_table(*b"fpgm", programs.fpgm), work)?;
     let mut prep_parts = begun_parts(alloc, metrics, programs.cvt, size, rules)?;
-    prep_parts.functions = font.functions;
-    prep_parts.instructions = font.instructions;
+    swap(&mut prep_parts.functions, &mut font.functions);
+    swap(&mut prep_parts.instructions, &mut font.instructions);
     let prep = whole_table(*b"prep", programs.prep);
     let left = run(alloc, prep_parts, prep, work)?;
     Ok(Hinting::Ready(left_to_glyphs(left)))

@@ -36,9 +36,8 @@ use crate::lines::Answers;
 use crate::words::Words;
 use anyhow::{Result, bail};
 use std::alloc::Global;
-use std::collections::BTreeMap;
 use std::io::Write;
-use tt_exec::{Body, Code, Machine, Parts};
+use tt_exec::{Code, Functions, Machine, Parts};
 
 /// What answers them: it keeps the font program.
 #[derive(Drop)]
@@ -107,7 +106,7 @@ fn answer<'a, W: Write>(
     print_run(out, Machine::new(alloc, parts)?, code, &before)
 }
 
-type Definitions<'a> = BTreeMap<u16, Body<'a>>;
+type Definitions<'a> = Functions<'a>;
 
 /// The functions that the font program defines, and the instructions.
 fn definitions_of<'a>(

@@ -9,9 +9,8 @@ ghost use Rattle.tt_points_zones.specs.Zones.{AreContours, IsPoint, IsZones, zon
 use crate::words::{MOST, Words};
 use anyhow::{Result, bail};
 use std::alloc::Global;
-use std::collections::BTreeMap;
 use tt_core::{COORDINATE_LIMIT, Halves, SIZE_LIMIT, Scale};
-use tt_exec::{Code, Parts};
+use tt_exec::{Code, Functions, Parts};
 use tt_points_zones::{Originals, Zones};
 use tt_state::{GraphicsState, Point, Tolerance};
 
@@ -187,8 +186,8 @@ pub(crate) fn parts_in<'a>(alloc: Global, words: &mut Words, rules: Rules) -> Re
         cvt,
         storage,
         zones,
-        functions: BTreeMap::new(alloc),
-        instructions: BTreeMap::new(alloc),
+        functions: Functions::new(alloc),
+        instructions: Functions::new(alloc),
         state: GraphicsState::new(rules.are_whole()),
         tolerance: rules.tolerance(),
         skip_glyphs: false,

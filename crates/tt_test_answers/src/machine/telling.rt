@@ -2,9 +2,8 @@
 
 use crate::tables::Refusal;
 use anyhow::{Result, bail};
-use std::collections::BTreeMap;
 use std::io::Write;
-use tt_exec::{Body, Code, ExecFault, Machine, Parts};
+use tt_exec::{Body, Code, ExecFault, Functions, Machine, Parts};
 use tt_state::{GraphicsState, Point, Round, Vector};
 
 /// Runs a program, and prints what it leaves of the parts that were there before.
@@ -144,14 +143,16 @@ fn print_point<W: Write>(out: &mut W, point: &Point) -> Result<()> {
 }
 
 /// Prints what each number of a function or an opcode stands for.
-fn print_bodies<W: Write>(out: &mut W, bodies: &BTreeMap<u16, Body>) -> Result<()> {
-    for (number, body) in bodies.iter() {
-        print_body(out, *number, body)?;
+fn print_bodies<W: Write>(out: &mut W, bodies: &Functions) -> Result<()> {
+    for number in 0..bodies.end() {
+        if let Some(body) = bodies.get(number as i32) {
+            print_body(out, number, &body)?;
+        }
     }
     Ok(())
 }
 
-fn print_body<W: Write>(out: &mut W, number: u16, body: &Body) -> Result<()> {
+fn print_body<W: Write>(out: &mut W, number: usize, body: &Body) -> Result<()> {
     write!(out, " {number} ")?;
     for byte in &body.code.table {
         let letter = char::from(*byte);

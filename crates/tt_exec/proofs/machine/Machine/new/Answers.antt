@@ -8,8 +8,6 @@ returns c =
       c.idle.ensures,
       c.new-2.ensures,
       c.new-3.ensures,
-      c.new-4.ensures,
-      c.new-5.ensures,
-      c.new-6.ensures.ppem,
-      c.new-6.ensures.scale,
+      c.new-4.ensures.ppem,
+      c.new-4.ensures.scale,
     ) refl

@@ -1,5 +1,4 @@
 use Rattle.std.proofs.Common.{◌≡◌, List, [], ◌∷◌, refl}
-use Rattle.std.proofs.lemmas.Map.Entries.{entries_from_clone}
 use Rattle.std.specs.List.{AllZip}
 use Rattle.tt_exec.proofs.parts.Parts.copy.Goals as goal
 
@@ -14,7 +13,4 @@ pub returns : goal.returns
 returns c =
     let cvt = same_items _ (λ x y same. same) c.args.self.now.cvt.items _ c.in_ok-clone.ensures.cases.0 in
     let storage = same_items _ (λ x y same. same) c.args.self.now.storage.items _ c.in_ok-clone-2.ensures.cases.0 in
-    let functions = entries_from_clone _ _ (λ x y same. same) (λ v w same. same) _ _ c.in_ok-clone-3.ensures.cases in
-    let instructions =
-    entries_from_clone _ _ (λ x y same. same) (λ v w same. same) _ _ c.in_ok-clone-4.ensures.cases in
-    rw (cvt, storage, c.in_ok-copy.ensures, functions, instructions) refl
+    rw (cvt, storage, c.in_ok-copy.ensures, c.in_ok-copy-2.ensures, c.in_ok-copy-3.ensures) refl

@@ -1,13 +1,12 @@
-use Rattle.std.proofs.Common.{◌≡◌, ◌∙◌, ◌<◌, None, Ok, SFits, w16, rules, arith}
+use Rattle.std.proofs.Common.{◌≡◌, ◌∙◌, ◌<◌, Ok, SFits, w16, rules, arith}
 use Rattle.std.proofs.lemmas.Int.{to_z-of_z}
 use Rattle.std.proofs.lemmas.Result.{err_from_is_err_and}
 use Rattle.tt_glyf.specs.GlyphData.{glyph_data_of}
-use Rattle.tt_glyf.specs.Raw.{SimpleGlyph, simple}
-use Rattle.tt_fit.specs.Fitting.{with_hinting, start, glyph_program, added, added_work, outline_at}
+use Rattle.tt_glyf.specs.Raw.{CompositeGlyph, SimpleGlyph, composite, simple}
+use Rattle.tt_fit.specs.Fitting.{with_hinting, start, added, added_work}
 use Rattle.tt_fit.specs.Outline.{outline_of}
-use Rattle.tt_fit.specs.Hinting.{hinted}
 use Rattle.tt_fit.specs.Views.{hinting_view}
-use Rattle.tt_fit.proofs.Levels.{one_record_more, one_record_paid, one_record_refused, one_level_done, one_level_work, simple_made}
+use Rattle.tt_fit.proofs.Levels.{one_record_more, one_record_paid, one_record_refused, one_level_done, one_level_work, composite_made, simple_made}
 use Rattle.tt_fit.proofs.fitting.Fitter.+fitting.Goals as goal
 
 pub joined-loop-part-preserved : goal.joined-loop-part-preserved
@@ -97,9 +96,18 @@ pub outline-returns-in_ok-joined-in-Composite-clause-exact : goal.outline-return
 outline-returns-in_ok-joined-in-Composite-clause-exact t c =
     let s = with_hinting c.args.self.now (hinting_view c.args.hinting.now) in
     let d = c.in-Composite in
-    let program = glyph_program s c.args.g d.code.now d.code_at None in
+    let glyph : CompositeGlyph = record {
+      x_min = d.x_min;
+      records = d.records.items;
+      code = d.code.now;
+      code_at = d.code_at;
+    } in
+    let read : glyph_data_of s.tables c.args.g ≡ Ok (composite glyph) = grind
+    (arith, c.self.view_is, c.in_ok-read.ensures.exact, d.is) in
+    let x_min : SFits w16 d.x_min = search rules in
+    let o = outline_of c.in_ok-start-in-Composite.start in
+    let begun : start s d.x_min c.args.g ≡ Ok o = simp to_z-of_z at c.in_ok-start-in-Composite.ensures.exact in
+    let so_far = outline_of c.in_ok-joined-in-Composite.joined in
     let joins = rw c.as_slice.ensures.value at c.in_ok-joined-in-Composite.ensures.exact in
-    let is : outline_at s c.args.levels c.args.g ≡ hinted s.hinting program
-    (outline_of c.in_ok-joined-in-Composite.joined) = grind
-    (arith, c.self.view_is, c.in_ok-read.ensures.exact, d.is, c.in_ok-start-in-Composite.ensures.exact, joins) in
-    rw is (rw c.program.ensures at c.hinted.ensures.exact)
+    rw (composite_made s c.args.levels c.args.g glyph o so_far read begun joins)
+    (rw c.program.ensures at c.hinted.ensures.exact)

@@ -14,14 +14,15 @@ returns-in_err-outline-clause-fault c =
     let e = err_from_is_err_and c.from_residual.result c.from_residual.ensures.1 in
     rw (e.1, e.2)
     (if-told outline_of (Err c.in_err-outline.field-0.0) (fitted_outline s c.args.g) (IsOutlineDefect s c.args.g)
-    c.in_err-outline.ensures.exact (faults-stand s c.args.g))
+    (rw c.self.view_is at c.in_err-outline.ensures.exact) (faults-stand s c.args.g))
 
 pub returns-clause-sound : goal.returns-clause-sound
 returns-clause-sound c =
-    outlines-whole c.args.self.now c.args.g (outline_of c.in_ok-outline.outline) c.in_ok-outline.ensures.exact
+    outlines-whole c.args.self.now c.args.g (outline_of c.in_ok-outline.outline)
+    (rw c.self.view_is at c.in_ok-outline.ensures.exact)
 
 pub returns-clause-after : goal.returns-clause-after
 returns-clause-after c =
     let left = c.made_by_fallback.new.work.left in
     ap {A = Fitter} (λ s. record s { work = left }) c.self.view_is
-    ∙ after-is c.args.self.now c.args.g left c.in_ok-outline.ensures.left
+    ∙ after-is c.args.self.now c.args.g left (rw c.self.view_is at c.in_ok-outline.ensures.left)

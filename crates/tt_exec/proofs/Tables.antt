@@ -1,0 +1,203 @@
+-- A table of functions with more room, with another body, and with a new one.
+use Rattle.std.proofs.Common.{◌≡◌, ◌≢◌, ◌∙◌, ap, sym, ℕ, zero, suc, ◌+◌, ◌-◌, ◌<◌, ◌≤◌, List, [], ◌∷◌, ◌++◌, length, map, set, get_or, replicate, All, inl, inr, refl, arith, length-set, length-append, get_or-set_same, get_or-set_other}
+use Rattle.std.proofs.lemmas.Bool.{cases_eq, cases_lt}
+use Rattle.std.proofs.lemmas.List.{length-map, map-append, map-set, get_or_append_left, get_or-append_right, get_or-replicate, length-replicate}
+use Rattle.std.proofs.lemmas.List.Elements.{All-set}
+use Rattle.std.proofs.lemmas.Option.{slice_get-map, slice_get-get_or, slice_get_read, get_or_from_slice_get}
+use Rattle.std.specs.BTreeMap.{insert_entry}
+use Rattle.std.specs.List.{slice_get}
+use Rattle.std.specs.Option.{option_map}
+use Rattle.std.specs.Ordering.{nat_cmp}
+use Rattle.std.specs.declared.option.Option.TheVariants.{None, Some}
+use Rattle.tt_exec.specs.declared.program.Body as body
+use Rattle.tt_exec.specs.MachineState.{Body}
+use Rattle.tt_exec.specs.FunctionTable.{AreFunctions, IsGrown, body_at, body_of_place, listed, slots}
+use Rattle.tt_exec.specs.Views.{body_of}
+use Rattle.tt_exec.proofs.Slots.{as-many, few-listed, grown, new-slots, one-more, put-slot, put-slots}
+
+-- none is defined
+pub no-functions : AreFunctions [] []
+no-functions = record {
+  few = omega arith;
+  within = λ k d lt. absurd (omega (arith, lt));
+  apart = λ n m before below same. refl;
+  many = refl;
+}
+
+-- more room
+zeros : (m i : ℕ) → get_or {A = ℕ} (replicate m 0) i 0 ≡ 0
+zeros zero i = refl
+zeros (suc m) zero = refl
+zeros (suc m) (suc i) = zeros m i
+
+past : (ps : List ℕ) (m i : ℕ) → length ps ≤ i → get_or (ps ++ replicate m 0) i 0 ≡ 0
+past ps m i le = get_or-append_right ps (replicate m 0) (length ps) i 0 refl le ∙ zeros m (i - length ps)
+
+no-bodies : (bs : List Body) (m : ℕ) → slots (replicate m 0) bs ≡ replicate m None
+no-bodies bs zero = refl
+no-bodies bs (suc m) = rw (no-bodies bs m) refl
+
+pub same-list : (ps : List ℕ) (bs : List Body) (m : ℕ) → listed (ps ++ replicate m 0) bs ≡ listed ps bs
+same-list ps bs m =
+    rw (map-append (body_of_place bs) ps (replicate m 0), no-bodies bs m) (grown 0 m (slots ps bs))
+
+place-within : (ps : List ℕ) (m n : ℕ) → All (λ p. p ≤ n) ps → All (λ p. p ≤ n) (ps ++ replicate m 0)
+place-within ps m n all k d lt =
+    elim (cases_lt k (length ps)) [
+      | inl below ↦ rw (get_or_append_left ps (replicate m 0) d k below) (all k d below)
+      | inr above ↦
+          let count : k < length ps + m = simp (length-append, length-replicate) at lt in
+          let rest : k - length ps < m = omega arith in
+          let none = get_or-replicate m (k - length ps) 0 d rest in
+          rw (get_or-append_right ps (replicate m 0) (length ps) k d refl above, none) (omega arith)
+    ]
+
+pub grown-apart : (ps : List ℕ) (m : ℕ)
+    → ((i j : ℕ) → i < j → j < length ps → get_or ps i 0 ≡ get_or ps j 0 → get_or ps i 0 ≡ 0)
+    → (i j : ℕ) → i < j → get_or (ps ++ replicate m 0) i 0 ≡ get_or (ps ++ replicate m 0) j 0
+    → get_or (ps ++ replicate m 0) i 0 ≡ 0
+grown-apart ps m apart i j before same =
+    elim (cases_lt j (length ps)) [
+      | inl below ↦
+          let low : i < length ps = omega arith in
+          let left = get_or_append_left ps (replicate m 0) 0 i low in
+          let right = get_or_append_left ps (replicate m 0) 0 j below in
+          left ∙ apart i j before below (sym left ∙ same ∙ right)
+      | inr above ↦ same ∙ past ps m j above
+    ]
+
+pub grown-are : (ps qs : List ℕ) (bs : List Body) → AreFunctions ps bs → IsGrown ps qs → length qs ≤ 65536
+    → AreFunctions qs bs × (listed qs bs ≡ listed ps bs)
+grown-are ps qs bs are (m, is) few =
+    let list = same-list ps bs m in (
+      record {
+        few = few;
+        within = rw is (place-within ps m (length bs) are.within);
+        apart = rw is (λ i j before below same. grown-apart ps m are.apart i j before same);
+        many = rw (is, list) are.many;
+      },
+      rw is list,
+    )
+
+slot-at : (ps : List ℕ) (bs : List Body) (n : ℕ) → n < length ps
+    → slice_get (slots ps bs) n ≡ Some (body_of_place bs (get_or ps n 0))
+slot-at ps bs n lt =
+    slice_get-map (body_of_place bs) ps n ∙ ap (option_map (body_of_place bs)) (slice_get-get_or ps n 0 lt)
+
+-- another body in a place
+others-apart : (ps : List ℕ) (bs : List Body) (n q : ℕ) → AreFunctions ps bs → n < length ps → get_or ps n 0 ≡ suc q
+    → (k : ℕ) → k < length ps → k ≢ n → get_or ps k 0 ≢ suc q
+others-apart ps bs n q are lt is k below ne same =
+    elim (cases_lt k n) [
+      | inl before ↦ absurd (omega (arith, same, are.apart k n before lt (same ∙ sym is)))
+      | inr after ↦
+          let later : n < k = omega (arith, ne) in
+          absurd (omega (arith, is, are.apart n k later below (is ∙ sym same)))
+    ]
+
+pub put-again : (ps : List ℕ) (bs : List Body) (b : Body) (n q : ℕ) → AreFunctions ps bs → n < length ps
+    → get_or ps n 0 ≡ suc q
+    → AreFunctions ps (set bs q b) × (listed ps (set bs q b) ≡ insert_entry nat_cmp (listed ps bs) n b)
+put-again ps bs b n q are lt is =
+    let within : q < length bs = omega (arith, is, are.within n 0 lt) in
+    let put = put-slots ps bs b n q lt within is (others-apart ps bs n q are lt is) in
+    let some : n < length (slots ps bs) = rw length-map lt in
+    let had : slice_get (slots ps bs) n ≡ Some (Some (get_or bs q b)) =
+    slot-at ps bs n lt ∙ rw is (ap Some (slice_get-get_or bs q b within)) in
+    let many = as-many 0 n b (get_or bs q b) (slots ps bs) some had in (
+      record {
+        few = are.few;
+        within = rw length-set are.within;
+        apart = are.apart;
+        many = rw (put, length-set) (many ∙ are.many);
+      },
+      rw put (put-slot n 0 n b (slots ps bs) some (omega arith)),
+    )
+
+-- a new body
+apart-still : (ps : List ℕ) (n most : ℕ) → All (λ p. p ≤ most) ps → n < length ps
+    → ((i j : ℕ) → i < j → j < length ps → get_or ps i 0 ≡ get_or ps j 0 → get_or ps i 0 ≡ 0)
+    → (i j : ℕ) → i < j → j < length ps → get_or (set ps n (most + 1)) i 0 ≡ get_or (set ps n (most + 1)) j 0
+    → get_or (set ps n (most + 1)) i 0 ≡ 0
+apart-still ps n most all lt apart i j before below same =
+    elim (cases_eq i n) [
+      | inl first ↦
+          let ne : j ≢ n = omega (arith, first) in
+          let at : get_or (set ps n (most + 1)) i 0 ≡ most + 1 = rw first (get_or-set_same ps n (most + 1) 0 lt) in
+          let other = get_or-set_other ps n j (most + 1) 0 ne in
+          absurd (omega (arith, at, same, other, all j 0 below))
+      | inr unlike ↦ elim (cases_eq j n) [
+        | inl second ↦
+            let at : get_or (set ps n (most + 1)) j 0 ≡ most + 1 = rw second (get_or-set_same ps n (most + 1) 0 lt) in
+            let other = get_or-set_other ps n i (most + 1) 0 unlike in
+            absurd (omega (arith, at, same, other, all i 0 (omega arith)))
+        | inr apart_too ↦
+            let left = get_or-set_other ps n i (most + 1) 0 unlike in
+            let right = get_or-set_other ps n j (most + 1) 0 apart_too in
+            left ∙ apart i j before below (sym left ∙ same ∙ right)
+      ]
+    ]
+
+pub put-new : (ps : List ℕ) (bs : List Body) (b : Body) (n : ℕ) → AreFunctions ps bs → n < length ps
+    → get_or ps n 0 ≡ 0
+    → AreFunctions (set ps n (length bs + 1)) (bs ++ b ∷ [])
+    × (listed (set ps n (length bs + 1)) (bs ++ b ∷ []) ≡ insert_entry nat_cmp (listed ps bs) n b)
+put-new ps bs b n are lt is =
+    let put = new-slots ps bs b n are.within in
+    let some : n < length (slots ps bs) = rw length-map lt in
+    let had : slice_get (slots ps bs) n ≡ Some None = slot-at ps bs n lt ∙ rw is refl in
+    let many = one-more 0 n b (slots ps bs) some had in
+    let count : length (bs ++ b ∷ []) ≡ length bs + 1 = length-append bs (b ∷ []) in
+    let more : All (λ p. p ≤ length bs + 1) ps = λ k d below. omega (arith, are.within k d below) in (
+      record {
+        few = rw length-set are.few;
+        within = rw count (All-set (λ p. p ≤ length bs + 1) ps n (length bs + 1) (omega arith) more);
+        apart = λ i j before below same. apart-still ps n (length bs) are.within lt are.apart i j before
+            (simp length-set at below) same;
+        many = rw (put, count) (omega (arith, many, are.many));
+      },
+      rw put (put-slot n 0 n b (slots ps bs) some (omega arith)),
+    )
+
+-- the same of what the code holds
+there : (ps : List ℕ) (n v : ℕ) → n < length ps → v ≡ get_or ps n v → get_or ps n 0 ≡ v
+there ps n v lt is = get_or_from_slice_get ps n v 0 (slice_get_read ps (length ps) n v refl lt is)
+
+place-body : (xs : List body.Body) (p : ℕ) (b : body.Body) → p ≢ 0 → p ≤ length xs → b ≡ get_or xs (p - 1) b
+    → body_of_place (map body_of xs) p ≡ Some (body_of b)
+place-body xs zero b ne le is = absurd (ne refl)
+place-body xs (suc q) b ne le is =
+    let same : suc q - 1 ≡ q = omega arith in
+    let at : b ≡ get_or xs q b = rw same at is in
+    slice_get-map body_of xs q ∙ ap (option_map body_of) (slice_get_read xs (length xs) q b refl (omega arith) at)
+
+pub read-body : (ps : List ℕ) (xs : List body.Body) (n : ℕ) (b : body.Body) → n < length ps → get_or ps n 0 ≢ 0
+    → get_or ps n 0 ≤ length xs → b ≡ get_or xs (get_or ps n 0 - 1) b
+    → Some (body_of b) ≡ body_at n ps (map body_of xs)
+read-body ps xs n b lt ne le is =
+    rw (slice_get-get_or ps n 0 lt) (sym (place-body xs (get_or ps n 0) b ne le is))
+
+pub put-in-place : (ps : List ℕ) (xs : List body.Body) (b : body.Body) (n v : ℕ) → AreFunctions ps (map body_of xs)
+    → n < length ps → v ≡ get_or ps n v → 0 < v
+    → AreFunctions ps (map body_of (set xs (v - 1) b))
+    × (listed ps (map body_of (set xs (v - 1) b)) ≡ insert_entry nat_cmp (listed ps (map body_of xs)) n (body_of b))
+put-in-place ps xs b n v are lt is some =
+    let at : get_or ps n 0 ≡ suc (v - 1) = there ps n v lt is ∙ omega arith in
+    rw (map-set body_of xs (v - 1) b) (put-again ps (map body_of xs) (body_of b) n (v - 1) are lt at)
+
+pub put-behind : (ps : List ℕ) (xs ys : List body.Body) (b : body.Body) (n v count : ℕ)
+    → AreFunctions ps (map body_of xs) → n < length ps → v ≡ get_or ps n v → v ≤ 0 → ys ≡ xs ++ b ∷ []
+    → count ≡ length ys
+    → AreFunctions (set ps n count) (map body_of ys)
+    × (listed (set ps n count) (map body_of ys) ≡ insert_entry nat_cmp (listed ps (map body_of xs)) n (body_of b))
+put-behind ps xs ys b n v count are lt is none pushed counted =
+    let at : get_or ps n 0 ≡ 0 = there ps n v lt is ∙ omega arith in
+    let behind : map body_of ys ≡ map body_of xs ++ body_of b ∷ [] = rw (pushed, map-append body_of xs (b ∷ [])) refl in
+    let more : count ≡ length (map body_of xs) + 1 = rw (counted, pushed, length-map, length-append) refl in
+    rw (behind, more) (put-new ps (map body_of xs) (body_of b) n are lt at)
+
+pub few-bodies : (ps : List ℕ) (xs : List body.Body) → AreFunctions ps (map body_of xs) → length xs ≤ 65536
+few-bodies ps xs are =
+    let many : length (listed ps (map body_of xs)) ≡ length xs = are.many ∙ rw length-map refl in
+    let as_places : length (slots ps (map body_of xs)) ≡ length ps = rw length-map refl in
+    omega (arith, many, few-listed 0 (slots ps (map body_of xs)), as_places, are.few)

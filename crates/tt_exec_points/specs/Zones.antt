@@ -1,0 +1,8 @@
+-- No part of the standard: the zones of a machine from which they were taken.
+use Rattle.std.specs.Prelude.{[]}
+use Rattle.tt_core.specs.declared.halves.Halves.TheVariants as halves
+use Rattle.tt_points_zones.specs.Zones.{ZoneLists, in_pixels}
+
+-- no point and no contour
+abbrev pub no_zones : ZoneLists
+no_zones = record { twilight = []; glyph = []; contours = []; originals = in_pixels halves.Up }
