@@ -32,7 +32,8 @@ impl<'c, 'a> Model for KnownGlyphs<'c, 'a> {
 
     ghost view = { λ k. k.cmap.now };
 
-    ghost invariant = { λ k. All (λ e. (e.glyph ≡ lookup.glyph_of k.cmap.now e.code) × (e.glyph < k.cmap.now.glyphs)) k.known };
+    ghost invariant = { λ k. let cmap = k.cmap.now in
+        All (λ e. (e.glyph ≡ lookup.glyph_of cmap e.code) × (e.glyph < cmap.glyphs)) k.known };
 }
 
 impl<'c, 'a> KnownGlyphs<'c, 'a> {

@@ -86,4 +86,5 @@ by_entry op n agreed some =
     }
 
 pub told : (op d : ℕ) → op < 256 → 0 < slice_index_or passed op d → Told op (slice_index_or passed op d)
-told op d few some = by_entry op (slice_index_or passed op d) (entry_agrees passed 0 op op d they_do (omega arith) (omega arith)) some
+told op d few some =
+    by_entry op (slice_index_or passed op d) (entry_agrees passed 0 op op d they_do (omega arith) (omega arith)) some

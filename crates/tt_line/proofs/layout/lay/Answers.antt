@@ -4,5 +4,7 @@ use Rattle.tt_line.proofs.layout.lay.Goals as goal
 
 pub returns-in_err-extent-clause-fault : goal.returns-in_err-extent-clause-fault
 returns-in_err-extent-clause-fault c =
-    let advances : c.sum_of_advances-advances.result ≡ sum (advances_of c.args.metrics.now c.args.ppem (text_glyphs c.args.cmap.now c.args.text.now)) = rw c.new-cmap.ensures at c.sum_of_advances-advances.ensures.exact in
+    let glyphs = text_glyphs c.args.cmap.now c.args.text.now in
+    let advances : c.sum_of_advances-advances.result ≡ sum (advances_of c.args.metrics.now c.args.ppem glyphs) =
+    rw c.new-cmap.ensures at c.sum_of_advances-advances.ensures.exact in
     search rules

@@ -16,7 +16,8 @@ returns c =
 pub loop-c-preserved : goal.loop-c-preserved
 loop-c-preserved c =
     let line = map_line c.args.metrics.now c.args.cmap.now in
-    let glyph : c.glyph-glyph.result ≡ glyph_of c.args.cmap.now c.in-Some.c = rw c.loop-c.invariant.same at c.glyph-glyph.ensures.exact in
+    let glyph : c.glyph-glyph.result ≡ glyph_of c.args.cmap.now c.in-Some.c =
+    rw c.loop-c.invariant.same at c.glyph-glyph.ensures.exact in
     record {
       lines = rw (c.in_ok-extend_from_slice.ensures.items, c.as_bytes.ensures.exact, c.line-line.ensures)
           (rw (c.advance.ensures, glyph, c.loop-c.invariant.lines)
