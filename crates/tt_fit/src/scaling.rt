@@ -11,7 +11,7 @@ ghost use Rattle.tt_fit.specs.Scaling.{is_coordinate, glyf_fault, coordinate_fau
 ghost use Rattle.tt_fit.specs.Views.{size_view, landing_view, phantom_view, phantom_units_view};
 
 use crate::outline::Outline;
-use crate::size::FontSize;
+use crate::size::{FontSize, Shift};
 use crate::units::PhantomUnits;
 use std::alloc::{AllocError, Global};
 use tt_core::{COORDINATE_LIMIT, Fault, FontFault, Why};
@@ -89,9 +89,35 @@ fn scaled_points(
     ensures count { IfOk result (λ v. length v.items ≡ length points.now) }
     ensures coordinates { IfOk result (λ v. All IsPoint v.items) }
 {
+    match size.shift() {
+        Some(shift) => Ok(shifted_points(alloc, shift, points)?),
+        None => tested_points(alloc, size, at, points),
+    }
+}
+
+#[inline(never)]
+fn shifted_points(
+    alloc: Global,
+    shift: Shift,
+    points: &[RawPoint],
+) -> Result<Vec<(i32, i32, bool)>, AllocError> {
     let mut scaled = Vec::with_capacity(alloc, points.len())?;
     for point in points {
-        scaled.push(scaled_point(size, at, *point)?)?;
+        scaled.push_reserved((shift.scaled(point.x), shift.scaled(point.y), point.on));
+    }
+    Ok(scaled)
+}
+
+#[inline(never)]
+fn tested_points(
+    alloc: Global,
+    size: FontSize,
+    at: u32,
+    points: &[RawPoint],
+) -> Result<Vec<(i32, i32, bool)>, FontFault> {
+    let mut scaled = Vec::with_capacity(alloc, points.len())?;
+    for point in points {
+        scaled.push_reserved(scaled_point(size, at, *point)?);
     }
     Ok(scaled)
 }

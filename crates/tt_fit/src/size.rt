@@ -5,7 +5,7 @@ ghost use Rattle.tt_core.specs.Limits.{size_limit};
 ghost use Rattle.tt_core.specs.Scales.{IsScale, scaled_by};
 
 use crate::rules::Scaling;
-use tt_core::Scale;
+use tt_core::{COORDINATE_LIMIT, Halves, Scale};
 use tt_metrics::Metrics;
 
 /// Pixels per em, and from font units to 26.6 pixels.
@@ -53,5 +53,40 @@ impl FontSize {
         ensures close { unsigned_abs result ≤ 1200 * unsigned_abs v }
     {
         self.scale.scaled(v)
+    }
+
+    pub(crate) fn shift(self) -> Option<Shift> {
+        let scale = self.scale;
+        let units = i64::from(scale.units);
+        let pixels = i64::from(scale.pixels);
+        if !scale.units.is_power_of_two() || pixels * 32768 > units * i64::from(COORDINATE_LIMIT) {
+            return None;
+        }
+        Some(Shift {
+            pixels: pixels * 2,
+            half: units,
+            halves: scale.halves,
+            by: scale.units.trailing_zeros() + 1,
+        })
+    }
+}
+
+#[derive(Clone, Copy)]
+pub(crate) struct Shift {
+    pixels: i64,
+    half: i64,
+    halves: Halves,
+    by: u32,
+}
+
+impl Shift {
+    #[inline(always)]
+    pub(crate) fn scaled(self, v: i16) -> i32 {
+        let n = i64::from(v) * self.pixels;
+        let up = n + self.half;
+        match self.halves {
+            Halves::Up => (up >> self.by) as i32,
+            Halves::AwayFromZero => ((up + (n >> 63)) >> self.by) as i32,
+        }
     }
 }
