@@ -1,5 +1,5 @@
 -- The points read in one list, one at a time; and that they are those of the definition.
-use Rattle.std.proofs.Common.{◌≡◌, ℕ, zero, suc, ◌+◌, ◌<◌, ◌≤◌, List, [], ◌∷◌, ◌++◌, length, map, drop, take, set, get_or, All, Result, Ok, Err, ℤ, pos, refl, arith, add-one, append-nil, drop-cons, ap, ◌∙◌, sym}
+use Rattle.std.proofs.Common.{◌≡◌, ℕ, zero, suc, ◌+◌, ◌<◌, ◌≤◌, List, [], ◌∷◌, ◌++◌, length, map, drop, take, set, get_or, All, Result, Ok, Err, ℤ, refl, arith, add-one, append-nil, drop-cons, ap, ◌∙◌, sym}
 use Rattle.std.proofs.Math.ListN.{replicate}
 use Rattle.std.proofs.lemmas.List.{drop_all, drop_more, drop-set-lt, take_all, take_more_set}
 use Rattle.std.proofs.lemmas.List.Elements.{All-rest}

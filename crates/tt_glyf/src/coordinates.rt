@@ -136,11 +136,7 @@ fn coordinate_at(
 /// Gives each point that holds its flag its x; answers where the y deltas begin. Errors: GlyphShort, CoordRange.
 #[inline(never)]
 #[tactic(auto, using(crate::proofs::InPlace::turn, crate::proofs::InPlace::breaks, crate::proofs::InPlace::done))]
-pub(crate) fn read_x(
-    glyph: &GlyphBytes,
-    points: &mut [RawPoint],
-    at: usize,
-) -> Result<usize, Fault>
+pub(crate) fn read_x(glyph: &GlyphBytes, points: &mut [RawPoint], at: usize) -> Result<usize, Fault>
     requires place { at ≤ length glyph.now.bytes }
     requires held { All HoldsFlag points.old }
     ensures exact { Gives (placed_listing points.new) result (with_x glyph.now points.old at) }
@@ -159,11 +155,7 @@ pub(crate) fn read_x(
 /// CoordRange.
 #[inline(never)]
 #[tactic(auto, using(crate::proofs::InPlace::turn, crate::proofs::InPlace::breaks, crate::proofs::InPlace::done))]
-pub(crate) fn read_y(
-    glyph: &GlyphBytes,
-    points: &mut [RawPoint],
-    at: usize,
-) -> Result<usize, Fault>
+pub(crate) fn read_y(glyph: &GlyphBytes, points: &mut [RawPoint], at: usize) -> Result<usize, Fault>
     requires place { at ≤ length glyph.now.bytes }
     requires held { All HoldsFlag points.old }
     ensures exact { Gives (placed_listing points.new) result (with_y glyph.now points.old at) }

@@ -1,8 +1,8 @@
-use Rattle.std.proofs.Common.{◌≡◌, ◌<◌, ◌∙◌, sym, length, get_or, false, pos, SFits, w16, arith, rules}
+use Rattle.std.proofs.Common.{◌<◌, ◌∙◌, sym, length, get_or, false, pos, SFits, w16, arith, rules}
 use Rattle.std.proofs.lemmas.Int.{to_z-of_z}
 use Rattle.tt_glyf.specs.declared.raw.RawPoint.{RawPoint}
 use Rattle.tt_glyf.specs.Coordinates.{y_axis}
-use Rattle.tt_glyf.specs.InPlace.{held_flag, put_y}
+use Rattle.tt_glyf.specs.InPlace.{put_y}
 use Rattle.tt_glyf.specs.Views.{coordinate_of}
 use Rattle.tt_glyf.proofs.InPlace.{set-turn, set-done, others-hold}
 use Rattle.tt_glyf.proofs.coordinates.read_y.Goals as goal
@@ -18,9 +18,11 @@ loop-i-preserved c =
     let was = rw flag at c.in_ok-last.ensures.exact in
     let step = set-turn c.args.glyph.now y_axis put_y c.loop-i.points c.loop-i.i none (coordinate_of c.loop-i.last)
     (coordinate_of c.in_ok-last.last) below was in
-    simp to_z-of_z (step ∙ c.loop-i.invariant.0,
-    others-hold c.loop-i.points c.loop-i.i (put_y (get_or c.loop-i.points c.loop-i.i none) c.in_ok-last.last.value) below c.loop-i.invariant.1,
-    c.in_ok-last.ensures.room)
+    simp to_z-of_z (
+      step ∙ c.loop-i.invariant.0,
+      others-hold c.loop-i.points c.loop-i.i (put_y (get_or c.loop-i.points c.loop-i.i none) c.in_ok-last.last.value) below c.loop-i.invariant.1,
+      c.in_ok-last.ensures.room,
+    )
 
 pub returns : goal.returns
 returns c =

@@ -1,8 +1,8 @@
-use Rattle.std.proofs.Common.{◌≡◌, ◌+◌, ◌++◌, ◌∙◌, sym, refl, map, All, arith}
+use Rattle.std.proofs.Common.{◌+◌, ◌++◌, ◌∙◌, sym, refl, map, All, arith}
 use Rattle.std.proofs.Math.ListN.{replicate}
 use Rattle.std.proofs.lemmas.List.Elements.{All-append, All-replicate}
 use Rattle.std.proofs.lemmas.Result.{err_from_is_err_and}
-use Rattle.tt_glyf.specs.InPlace.{held, held_flag, held_of, HoldsFlag}
+use Rattle.tt_glyf.specs.InPlace.{held_flag, held_of, HoldsFlag}
 use Rattle.tt_glyf.specs.Views.{run_of}
 use Rattle.tt_glyf.proofs.InPlace.{flags-more, held-more}
 use Rattle.tt_glyf.proofs.Runs.{turn, breaks, done}
@@ -26,9 +26,13 @@ loop-left-preserved c =
     let step = turn c.args.glyph.now (map held_flag c.loop-left.points.items) c.loop-left.next c.loop-left.left
     (run_of c.in_ok-run.run') (omega arith) c.in_ok-run.ensures.within c.in_ok-run.ensures.exact in
     let more = flags-more c.loop-left.points.items copies flag in
-    let all : All HoldsFlag (c.loop-left.points.items ++ replicate copies c.held.result) = All-append HoldsFlag _ _ c.loop-left.invariant.2 (All-replicate HoldsFlag copies c.held.result c.held.ensures.holds) in
-    (rw (pushed, point, more) (sym step ∙ c.loop-left.invariant.0), rw (pushed, point) (held-more c.loop-left.points.items copies flag c.loop-left.invariant.1),
-    rw pushed all, omega (arith, c.push_copies.ensures.grown, c.push_copies.ensures.capacity, c.in_ok-run.ensures.within), c.in_ok-run.ensures.room)
+    let all : All HoldsFlag (c.loop-left.points.items ++ replicate copies c.held.result) = All-append HoldsFlag _ _ c.loop-left.invariant.2 (All-replicate HoldsFlag copies c.held.result c.held.ensures.holds) in (
+      rw (pushed, point, more) (sym step ∙ c.loop-left.invariant.0),
+      rw (pushed, point) (held-more c.loop-left.points.items copies flag c.loop-left.invariant.1),
+      rw pushed all,
+      omega (arith, c.push_copies.ensures.grown, c.push_copies.ensures.capacity, c.in_ok-run.ensures.within),
+      c.in_ok-run.ensures.room,
+    )
 
 pub returns-clause-exact : goal.returns-clause-exact
 unfolding held_of
