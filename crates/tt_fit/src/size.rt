@@ -1,8 +1,10 @@
 //! The size that outlines are made for.
 
-ghost use Rattle.std.specs.Prelude.{◌≡◌, ◌<◌, ◌≤◌, ◌*◌, ◌^◌, unsigned_abs};
-ghost use Rattle.tt_core.specs.Limits.{size_limit};
-ghost use Rattle.tt_core.specs.Scales.{IsScale, scaled_by};
+ghost use Rattle.std.specs.Prelude.{◌≡◌, ◌<◌, ◌≤◌, ◌*◌, ◌*ℤ◌, ◌^◌, pos, unsigned_abs, IfSome};
+ghost use Rattle.tt_core.specs.Limits.{coordinate_limit, size_limit};
+ghost use Rattle.tt_core.specs.Numbers.{nearest_quotient};
+ghost use Rattle.tt_core.specs.Scales.{IsScale, quotient, scaled_by};
+ghost use Rattle.tt_fit.specs.Outline.{IsCoordinate};
 
 use crate::rules::Scaling;
 use tt_core::{COORDINATE_LIMIT, Halves, Scale};
@@ -55,38 +57,80 @@ impl FontSize {
         self.scale.scaled(v)
     }
 
-    pub(crate) fn shift(self) -> Option<Shift> {
-        let scale = self.scale;
-        let units = i64::from(scale.units);
-        let pixels = i64::from(scale.pixels);
-        if !scale.units.is_power_of_two() || pixels * 32768 > units * i64::from(COORDINATE_LIMIT) {
+    /// The same by a shift; None where font units are no power of two, or where a coordinate of 16 bits could leave the
+    /// limit.
+    pub(crate) fn shift(self) -> Option<Shift>
+        ensures { IfSome result (λ s. s.scale ≡ self.scale) }
+    {
+        let units = u64::from(self.scale.units);
+        let by = self.scale.units.trailing_zeros() + 1;
+        let limit = units * u64::from(COORDINATE_LIMIT.unsigned_abs());
+        if 1u64 << by != 2 * units || u64::from(self.scale.pixels) * 32768 > limit {
             return None;
         }
         Some(Shift {
-            pixels: pixels * 2,
-            half: units,
-            halves: scale.halves,
-            by: scale.units.trailing_zeros() + 1,
+            scale: self.scale,
+            by,
         })
     }
 }
 
+/// A scale of so many font units as a power of two, by which no coordinate of 16 bits leaves the limit.
 #[derive(Clone, Copy)]
 pub(crate) struct Shift {
-    pixels: i64,
-    half: i64,
-    halves: Halves,
+    scale: Scale,
     by: u32,
+    pub(crate) ghost valid: { IsScale scale },
+    pub(crate) ghost power: { 2 ^ by ≡ 2 * scale.units },
+    pub(crate) ghost few: { by < 64 },
+    pub(crate) ghost within: { 32768 * scale.pixels ≤ scale.units * coordinate_limit },
+}
+
+/// `v` pixels.
+#[inline(always)]
+fn product(v: i16, pixels: u32) -> i64
+    requires { pixels < 2 ^ 27 }
+    ensures exact { result ≡ v *ℤ pos pixels }
+    ensures bound { unsigned_abs result ≤ 32768 * pixels }
+{
+    i64::from(v) * i64::from(pixels)
 }
 
 impl Shift {
+    /// `n` by the font units, rounded to the nearest whole number, a half upwards.
     #[inline(always)]
-    pub(crate) fn scaled(self, v: i16) -> i32 {
-        let n = i64::from(v) * self.pixels;
-        let up = n + self.half;
-        match self.halves {
-            Halves::Up => (up >> self.by) as i32,
-            Halves::AwayFromZero => ((up + (n >> 63)) >> self.by) as i32,
+    fn nearest(self, n: i64) -> i64
+        requires { unsigned_abs n < 2 ^ 46 }
+        ensures exact { result ≡ nearest_quotient n (pos self.scale.units) }
+        ensures bound { unsigned_abs result < 2 ^ 60 }
+    {
+        (2 * n + i64::from(self.scale.units)) >> self.by
+    }
+
+    /// The same as by the scale. Of either sign, so that halves go away from zero.
+    #[inline(always)]
+    fn quotient(self, n: i64) -> i64
+        requires { unsigned_abs n < 2 ^ 46 }
+        ensures { result ≡ quotient self.scale.halves n (pos self.scale.units) }
+    {
+        match self.scale.halves {
+            Halves::Up => self.nearest(n),
+            Halves::AwayFromZero => {
+                if n < 0 {
+                    -self.nearest(-n)
+                } else {
+                    self.nearest(n)
+                }
+            }
         }
+    }
+
+    /// A coordinate in font units as 26.6.
+    #[inline(always)]
+    pub(crate) fn scaled(self, v: i16) -> i32
+        ensures exact { result ≡ scaled_by self.scale v }
+        ensures within { IsCoordinate result }
+    {
+        self.quotient(product(v, self.scale.pixels)) as i32
     }
 }
