@@ -109,7 +109,7 @@ fn tested_points(
 {
     let mut scaled = Vec::with_capacity(alloc, points.len())?;
     for point in points {
-        scaled.push_reserved(scaled_point(size, at, *point)?);
+        scaled.push(scaled_point(size, at, *point)?)?;
     }
     Ok(scaled)
 }
