@@ -6,7 +6,6 @@ use Rattle.std.proofs.lemmas.Int.{ints}
 use Rattle.std.proofs.lemmas.List.Elements.{All-head, All-tail}
 use Rattle.tt_core.specs.declared.halves.Halves.{Halves}
 use Rattle.tt_core.specs.declared.halves.Halves.TheVariants as halves
-use Rattle.tt_core.specs.Numbers.{nearest_quotient}
 use Rattle.tt_core.specs.Outcomes.{each}
 use Rattle.tt_core.specs.Scales.{quotient}
 use Rattle.tt_core.proofs.Quotients.{nearest_at_most}
@@ -45,5 +44,6 @@ pub each-within : (z : FontSize) (at : ℕ) (ps : List RawPoint) → All IsPoint
 each-within z at [] all = refl
 each-within z at (p ∷ ps) all =
     let first = settled-within at (scaled_by_scale z.scale p) (All-head IsPoint _ _ all) in
-    let rest = each-within z at ps (All-tail IsPoint (scaled_by_scale z.scale p) (map (scaled_by_scale z.scale) ps) all) in
+    let rest = each-within z at ps (All-tail IsPoint (scaled_by_scale z.scale p) (map
+    (scaled_by_scale z.scale) ps) all) in
     rw (first, rest) refl

@@ -15,14 +15,16 @@ use Rattle.tt_glyf.specs.Simple.{points_from, points_of}
 use Rattle.tt_glyf.specs.InPlace.{all_held, held, held_flag, held_of, HoldsFlag, placed_from, placed_of, put_x, put_y, with_x, with_y}
 use Rattle.tt_glyf.proofs.Chains.{after-after, came-after}
 
-pub turn : (g : GlyphBytes) (a : Axis) (put : RawPoint → ℤ → RawPoint) (before ps : List RawPoint) (i : ℕ) (d : RawPoint)
+pub turn : (g : GlyphBytes) (a : Axis) (put : RawPoint → ℤ → RawPoint) (before ps : List RawPoint) (i : ℕ)
+    (d : RawPoint)
     (last c : Coordinate) → i < length ps → coordinate_at g a (held_flag (get_or ps i d)) last ≡ Ok c
     → after before (placed_from g a put (drop i ps) last) ≡ after (before ++ put (get_or ps i d) c.value ∷ [])
     (placed_from g a put (drop (i + 1) ps) c)
 unfolding placed_from
 turn g a put before ps i d last c below was = rw (add-one, drop-cons ps i d, was, after-after) refl
 
-pub breaks : (g : GlyphBytes) (a : Axis) (put : RawPoint → ℤ → RawPoint) (before ps : List RawPoint) (i : ℕ) (d : RawPoint)
+pub breaks : (g : GlyphBytes) (a : Axis) (put : RawPoint → ℤ → RawPoint) (before ps : List RawPoint) (i : ℕ)
+    (d : RawPoint)
     (last : Coordinate) (f : Fault) → i < length ps → coordinate_at g a (held_flag (get_or ps i d)) last ≡ Err f
     → after before (placed_from g a put (drop i ps) last) ≡ Err f
 unfolding placed_from
@@ -50,15 +52,19 @@ put-after put p ps v (Err f) = refl
 
 placed-step : (g : GlyphBytes) (a : Axis) (put : RawPoint → ℤ → RawPoint) (p : RawPoint) (ps : List RawPoint)
     (r : Result Coordinate Fault)
-    → ((c : Coordinate) → placed_from g a put ps c ≡ (coordinates_from g a (map held_flag ps) c >>= λ l. Ok (put_listing put ps l)))
+    → ((c : Coordinate) → placed_from g a put ps c ≡ (coordinates_from g a (map held_flag ps) c >>= λ l. Ok
+    (put_listing put ps l)))
     → (r >>= λ c. after (put p c.value ∷ []) (placed_from g a put ps c))
-    ≡ ((r >>= λ c. after (c.value ∷ []) (coordinates_from g a (map held_flag ps) c)) >>= λ l. Ok (put_listing put (p ∷ ps) l))
+    ≡ ((r >>= λ c. after (c.value ∷ []) (coordinates_from g a (map held_flag ps) c)) >>= λ l. Ok (put_listing put
+    (p ∷ ps) l))
 placed-step g a put p ps (Err f) rest = refl
-placed-step g a put p ps (Ok c) rest = rw (rest c) (put-after put p ps c.value (coordinates_from g a (map held_flag ps) c))
+placed-step g a put p ps (Ok c) rest = rw (rest c) (put-after put p ps c.value (coordinates_from g a
+    (map held_flag ps) c))
 
 -- the coordinates of the flags that the points hold, put in
 pub placed-is : (g : GlyphBytes) (a : Axis) (put : RawPoint → ℤ → RawPoint) (ps : List RawPoint) (before : Coordinate)
-    → placed_from g a put ps before ≡ (coordinates_from g a (map held_flag ps) before >>= λ l. Ok (put_listing put ps l))
+    → placed_from g a put ps before ≡ (coordinates_from g a (map held_flag ps) before >>= λ l. Ok
+    (put_listing put ps l))
 unfolding placed_from coordinates_from
 placed-is g a put [] before = refl
 placed-is g a put (p ∷ ps) before =
@@ -69,7 +75,8 @@ held-run : (n flag : ℕ) → map held_flag (replicate n (held flag)) ≡ replic
 held-run zero flag = refl
 held-run (suc n) flag = ap (λ (fs : List ℕ). flag ∷ fs) (held-run n flag)
 
-pub flags-more : (ps : List RawPoint) (n flag : ℕ) → map held_flag (ps ++ replicate n (held flag)) ≡ map held_flag ps ++ replicate n flag
+pub flags-more : (ps : List RawPoint) (n flag : ℕ) → map held_flag (ps ++ replicate n (held flag))
+    ≡ map held_flag ps ++ replicate n flag
 flags-more [] n flag = held-run n flag
 flags-more (p ∷ ps) n flag = ap (λ (fs : List ℕ). held_flag p ∷ fs) (flags-more ps n flag)
 
@@ -94,7 +101,8 @@ pub set-turn : (g : GlyphBytes) (a : Axis) (put : RawPoint → ℤ → RawPoint)
 set-turn g a put ps i d last c below was =
     let v = put (get_or ps i d) c.value in
     let one : i < i + 1 = omega arith in
-    rw (take_more_set ps i v below, drop-set-lt (i + 1) ps i v one) (sym (turn g a put (take i ps) ps i d last c below was))
+    rw (take_more_set ps i v below, drop-set-lt (i + 1) ps i v one) (sym (turn g a put
+    (take i ps) ps i d last c below was))
 
 pub set-done : (g : GlyphBytes) (a : Axis) (put : RawPoint → ℤ → RawPoint) (ps : List RawPoint) (i : ℕ)
     (last : Coordinate) → length ps ≤ i
@@ -106,7 +114,8 @@ pub others-hold : (ps : List RawPoint) (i : ℕ) (v : RawPoint) → i < length p
     → All HoldsFlag (drop (i + 1) (set ps i v))
 others-hold ps i v below all =
     let one : i < i + 1 = omega arith in
-    rw (drop-set-lt (i + 1) ps i v one) (All-rest HoldsFlag (get_or ps i (held 0)) (drop (i + 1) ps) (drop i ps) (drop_more ps i (held 0) below) all)
+    rw (drop-set-lt (i + 1) ps i v one) (All-rest HoldsFlag (get_or ps i (held 0)) (drop (i + 1) ps) (drop i ps)
+    (drop_more ps i (held 0) below) all)
 
 -- as many coordinates as flags
 coordinates-many : (g : GlyphBytes) (a : Axis) (flags : List ℕ) (before : Coordinate) (read : Listing ℤ)
@@ -116,7 +125,8 @@ coordinates-many g a [] before read was =
     let is : read ≡ record { items = []; next = before.next } = cc in
     rw is refl
 coordinates-many g a (flag ∷ flags) before read was =
-    let through = came-through (coordinate_at g a flag before) (λ c. after (c.value ∷ []) (coordinates_from g a flags c)) read was in
+    let through = came-through (coordinate_at g a flag before) (λ c. after (c.value ∷ [])
+    (coordinates_from g a flags c)) read was in
     let later = came-after (through.value.value ∷ []) (coordinates_from g a flags through.value) read through.rest in
     let is = later.is in
     rw is (ap suc (coordinates-many g a flags through.value later.read later.was))
@@ -131,7 +141,8 @@ flags-kept [] xs many = refl
 flags-kept (flag ∷ flags) [] many = absurd (omega arith)
 flags-kept (flag ∷ flags) (x ∷ xs) many = ap (λ (fs : List ℕ). flag ∷ fs) (flags-kept flags xs (omega arith))
 
-points-are : (flags : List ℕ) (xs ys : List ℤ) → put_all put_y (put_all put_x (map held flags) xs) ys ≡ points_from flags xs ys
+points-are : (flags : List ℕ) (xs ys : List ℤ) → put_all put_y (put_all put_x (map held flags) xs) ys
+    ≡ points_from flags xs ys
 points-are [] xs ys = refl
 points-are (flag ∷ flags) [] ys = refl
 points-are (flag ∷ flags) (x ∷ xs) [] = refl
@@ -151,7 +162,8 @@ y-step g flags xs next many =
     rw (placed-is g y_axis put_y (put_all put_x (map held flags) xs) (origin next), flags-kept flags xs many)
     (y-values flags xs (coordinates_of g y_axis flags next))
 
-x-cases : (g : GlyphBytes) (flags : List ℕ) (next : ℕ) (r : Result (Listing ℤ) Fault) → coordinates_of g x_axis flags next ≡ r
+x-cases : (g : GlyphBytes) (flags : List ℕ) (next : ℕ) (r : Result (Listing ℤ) Fault)
+    → coordinates_of g x_axis flags next ≡ r
     → ((r >>= λ l. Ok (put_listing put_x (map held flags) l)) >>= λ xs. with_y g xs.items xs.next >>= λ ys. Ok ys.items)
     ≡ (r >>= λ xs. coordinates_of g y_axis flags xs.next >>= λ ys. Ok (points_from flags xs.items ys.items))
 x-cases g flags next (Ok l) was = y-step g flags l.items l.next (coordinates-many g x_axis flags (origin next) l was)
@@ -166,9 +178,11 @@ x-step g flags next =
     (x-cases g flags next (coordinates_of g x_axis flags next) refl)
 
 flags-step : (g : GlyphBytes) (r : Result (Listing ℕ) Fault)
-    → ((r >>= λ flags. Ok (all_held flags)) >>= λ begun. with_x g begun.items begun.next >>= λ xs. with_y g xs.items xs.next
+    → ((r >>= λ flags. Ok (all_held flags)) >>= λ begun. with_x g begun.items begun.next >>= λ xs. with_y g xs.items
+    xs.next
     >>= λ ys. Ok ys.items)
-    ≡ (r >>= λ flags. coordinates_of g x_axis flags.items flags.next >>= λ xs. coordinates_of g y_axis flags.items xs.next
+    ≡ (r >>= λ flags. coordinates_of g x_axis flags.items flags.next >>= λ xs. coordinates_of g y_axis flags.items
+    xs.next
     >>= λ ys. Ok (points_from flags.items xs.items ys.items))
 flags-step g (Ok flags) = x-step g flags.items flags.next
 flags-step g (Err f) = refl

@@ -1,5 +1,3 @@
-use Rattle.std.proofs.Common.{◌≡◌, map, sym, ◌∙◌, ap}
-use Rattle.tt_fit.specs.Scaling.{scaled_by_scale}
 use Rattle.tt_fit.specs.Views.{size_view}
 use Rattle.tt_fit.proofs.Shifts.{each-within}
 use Rattle.tt_fit.proofs.scaling.scaled_points.Goals as goal

@@ -1,4 +1,4 @@
-use Rattle.std.proofs.Common.{◌≡◌, ◌<◌, length, get_or, false, pos, SFits, w16, w32, refl, arith, rules}
+use Rattle.std.proofs.Common.{◌<◌, length, get_or, false, pos, SFits, w16, w32, refl, arith, rules}
 use Rattle.std.proofs.lemmas.Int.{to_z-of_z}
 use Rattle.std.proofs.lemmas.List.{map_more}
 use Rattle.std.proofs.lemmas.List.Elements.{All-push}
@@ -23,7 +23,8 @@ loop-point-preserved c =
     let more = map_more (scaled_by_scale c.args.shift.scale) c.args.points.now c.loop-point.point-index none below in
     record {
       so_far = rw (pushed, more, x_is, y_is, c.loop-point.invariant.so_far) refl;
-      coordinates = rw pushed (All-push IsPoint _ _ c.loop-point.invariant.coordinates (c.scaled.ensures.within, c.scaled-in-loop-point.ensures.within));
+      coordinates = rw pushed (All-push IsPoint _ _ c.loop-point.invariant.coordinates
+          (c.scaled.ensures.within, c.scaled-in-loop-point.ensures.within));
       many = omega (arith, c.push_reserved.ensures.len, c.loop-point.invariant.many);
       room = omega (arith, c.push_reserved.ensures.capacity, c.loop-point.invariant.room);
     }

@@ -1,4 +1,4 @@
-use Rattle.std.proofs.Common.{◌≡◌, ℕ, ◌*◌, ◌^◌, ◌≤◌, ◌*ℤ◌, SFits, w16, w64, unsigned_abs, arith, rules}
+use Rattle.std.proofs.Common.{◌≡◌, ℕ, ◌*◌, ◌^◌, ◌≤◌, ◌*ℤ◌, SFits, w64, unsigned_abs, arith, rules}
 use Rattle.std.proofs.lemmas.Int.{to_z-of_z, ints, fits_signed_mul, unsigned_abs-mul}
 use Rattle.tt_fit.proofs.size.product.Goals as goal
 
@@ -11,6 +11,13 @@ returns-clause-bound c =
     let b : SFits w64 c.from-2.result = search rules in
     let left : unsigned_abs c.from.result ≤ 32768 = omega (arith, ints, c.from.ensures, c.ranges.v) in
     let right : unsigned_abs c.from-2.result ≤ 2 ^ 27 = omega (arith, ints, c.from-2.ensures, c.requires) in
-    let fits : SFits w64 (c.from.result *ℤ c.from-2.result) = fits_signed_mul w64 c.from.result c.from-2.result 32768 (2 ^ 27) left right (omega arith) in
+    let fits : SFits w64 (c.from.result *ℤ c.from-2.result) = fits_signed_mul w64 c.from.result c.from-2.result
+    32768 (2 ^ 27) left right (omega arith) in
     let same : unsigned_abs c.from-2.result ≡ c.args.pixels = omega (arith, ints, c.from-2.ensures) in
-    simp to_z-of_z (omega (arith, unsigned_abs-mul c.from.result c.from-2.result, same, times_less (unsigned_abs c.from.result) (unsigned_abs c.from-2.result) 32768 left))
+    simp to_z-of_z (omega (
+      arith,
+      unsigned_abs-mul c.from.result c.from-2.result,
+      same,
+      times_less
+          (unsigned_abs c.from.result) (unsigned_abs c.from-2.result) 32768 left,
+    ))

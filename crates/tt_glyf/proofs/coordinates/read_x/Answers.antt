@@ -22,11 +22,13 @@ loop-i-preserved c =
     let holds = c.loop-i.invariant.1 c.loop-i.i none below in
     simp to_z-of_z (
       step ∙ c.loop-i.invariant.0,
-      All-set HoldsFlag c.loop-i.points c.loop-i.i (put_x (get_or c.loop-i.points c.loop-i.i none) c.in_ok-last.last.value) holds c.loop-i.invariant.1,
+      All-set HoldsFlag c.loop-i.points c.loop-i.i (put_x (get_or c.loop-i.points c.loop-i.i none)
+          c.in_ok-last.last.value) holds c.loop-i.invariant.1,
       c.in_ok-last.ensures.room,
     )
 
 pub returns-clause-exact : goal.returns-clause-exact
 returns-clause-exact c =
-    let end = set-done c.args.glyph.now x_axis put_x c.loop-i.points c.loop-i.i (coordinate_of c.loop-i.last) (omega (arith, c.loop-i-test.false)) in
+    let end = set-done c.args.glyph.now x_axis put_x c.loop-i.points c.loop-i.i (coordinate_of c.loop-i.last)
+    (omega (arith, c.loop-i-test.false)) in
     sym c.loop-i.invariant.0 ∙ end

@@ -20,11 +20,13 @@ loop-i-preserved c =
     (coordinate_of c.in_ok-last.last) below was in
     simp to_z-of_z (
       step ∙ c.loop-i.invariant.0,
-      others-hold c.loop-i.points c.loop-i.i (put_y (get_or c.loop-i.points c.loop-i.i none) c.in_ok-last.last.value) below c.loop-i.invariant.1,
+      others-hold c.loop-i.points c.loop-i.i (put_y (get_or c.loop-i.points c.loop-i.i none)
+          c.in_ok-last.last.value) below c.loop-i.invariant.1,
       c.in_ok-last.ensures.room,
     )
 
 pub returns : goal.returns
 returns c =
-    let end = set-done c.args.glyph.now y_axis put_y c.loop-i.points c.loop-i.i (coordinate_of c.loop-i.last) (omega (arith, c.loop-i-test.false)) in
+    let end = set-done c.args.glyph.now y_axis put_y c.loop-i.points c.loop-i.i (coordinate_of c.loop-i.last)
+    (omega (arith, c.loop-i-test.false)) in
     record { exact = sym c.loop-i.invariant.0 ∙ end }

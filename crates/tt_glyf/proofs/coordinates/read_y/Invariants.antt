@@ -7,5 +7,6 @@ use Rattle.tt_glyf.proofs.coordinates.read_y.Given as goal
 
 abbrev pub invariant-loop-i : goal.invariant-loop-i
 invariant-loop-i l =
-    (after (take l.i l.points) (placed_from l.glyph y_axis put_y (drop l.i l.points) (coordinate_of l.last)) ≡ with_y l.glyph l.fn.points l.at)
+    (after (take l.i l.points) (placed_from l.glyph y_axis put_y (drop l.i l.points) (coordinate_of l.last))
+    ≡ with_y l.glyph l.fn.points l.at)
     × All HoldsFlag (drop l.i l.points) × (l.last.next ≤ length l.glyph.bytes)

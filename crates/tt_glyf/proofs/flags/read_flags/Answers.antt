@@ -26,7 +26,8 @@ loop-left-preserved c =
     let step = turn c.args.glyph.now (map held_flag c.loop-left.points.items) c.loop-left.next c.loop-left.left
     (run_of c.in_ok-run.run') (omega arith) c.in_ok-run.ensures.within c.in_ok-run.ensures.exact in
     let more = flags-more c.loop-left.points.items copies flag in
-    let all : All HoldsFlag (c.loop-left.points.items ++ replicate copies c.held.result) = All-append HoldsFlag _ _ c.loop-left.invariant.2 (All-replicate HoldsFlag copies c.held.result c.held.ensures.holds) in (
+    let all : All HoldsFlag (c.loop-left.points.items ++ replicate copies c.held.result) = All-append HoldsFlag _ _
+    c.loop-left.invariant.2 (All-replicate HoldsFlag copies c.held.result c.held.ensures.holds) in (
       rw (pushed, point, more) (sym step ∙ c.loop-left.invariant.0),
       rw (pushed, point) (held-more c.loop-left.points.items copies flag c.loop-left.invariant.1),
       rw pushed all,
@@ -37,7 +38,8 @@ loop-left-preserved c =
 pub returns-clause-exact : goal.returns-clause-exact
 unfolding held_of
 returns-clause-exact c =
-    let end = done c.args.glyph.now (map held_flag c.loop-left.points.items) c.loop-left.next c.loop-left.left (omega (arith, c.loop-left-test.false)) in
+    let end = done c.args.glyph.now (map held_flag c.loop-left.points.items) c.loop-left.next c.loop-left.left
+    (omega (arith, c.loop-left-test.false)) in
     let flags = c.loop-left.invariant.0 in
     let are = c.loop-left.invariant.1 in
     rw (← flags, end, are) refl

@@ -6,7 +6,8 @@ use Rattle.tt_glyf.proofs.flags.read_flags.Given as goal
 
 abbrev pub invariant-loop-left : goal.invariant-loop-left
 invariant-loop-left l =
-    (after (map held_flag l.points.items) (flags_from l.left l.glyph l.next l.left) ≡ flags_from l.count l.glyph l.at l.count)
+    (after (map held_flag l.points.items) (flags_from l.left l.glyph l.next l.left)
+    ≡ flags_from l.count l.glyph l.at l.count)
     × (map held (map held_flag l.points.items) ≡ l.points.items) × All HoldsFlag l.points.items
     × (vec_len l.points + l.left ≤ vec_capacity l.points) × (l.next ≤ length l.glyph.bytes)
 
