@@ -13,3 +13,4 @@ pub mod Placing
 pub mod Standing
 pub mod Unbounded
 pub mod Zones
+pub mod Shifts

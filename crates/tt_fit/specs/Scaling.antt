@@ -7,6 +7,8 @@ use Rattle.tt_core.specs.declared.fault.Why.TheVariants as why
 use Rattle.tt_core.specs.Faults.{fault_at}
 use Rattle.tt_core.specs.Limits.{coordinate_limit}
 use Rattle.tt_core.specs.Outcomes.{◌>>=◌, each}
+use Rattle.tt_core.specs.Scales.{scaled_by}
+use Rattle.tt_core.specs.declared.scaling.Scale.{Scale}
 use Rattle.tt_glyf.specs.Bytes.{glyf_tag}
 use Rattle.tt_glyf.specs.declared.raw.RawPoint.{RawPoint}
 use Rattle.tt_metrics.specs.Metrics.{Metrics, ascent_of, descent_of, advance_of, left_side_bearing_of}
@@ -35,6 +37,10 @@ coordinate_fault at = glyf_fault at why.CoordRange
 -- a point whose coordinates are within the limit
 unfoldable pub settled : ℕ → ℤ × ℤ × Bool → Result (ℤ × ℤ × Bool) Fault
 settled at p = if is_coordinate p.0 && is_coordinate p.1 then Ok p else Err (coordinate_fault at)
+
+-- the same as scaled_position, by its scale alone
+abbrev pub scaled_by_scale : Scale → RawPoint → ℤ × ℤ × Bool
+scaled_by_scale s p = (scaled_by s p.x, scaled_by s p.y, p.on)
 
 abbrev pub scaled_position : FontSize → RawPoint → ℤ × ℤ × Bool
 scaled_position z p = (scale z p.x, scale z p.y, p.on)

@@ -7,11 +7,11 @@ ghost use Rattle.tt_core.specs.Outcomes.{each, FontGives, Gives};
 ghost use Rattle.tt_metrics.specs.Metrics.{glyphs_of};
 ghost use Rattle.tt_glyf.specs.Meaning.{AreEnds as EndContours};
 ghost use Rattle.tt_fit.specs.Outline.{Outline, outline_of, IsCoordinate, IsPoint, AreEnds, IsOutline};
-ghost use Rattle.tt_fit.specs.Scaling.{is_coordinate, glyf_fault, coordinate_fault, settled, scaled_position, scaled_point, phantom_points, phantom_units, blank, scaled_outline};
+ghost use Rattle.tt_fit.specs.Scaling.{is_coordinate, glyf_fault, coordinate_fault, settled, scaled_position, scaled_by_scale, scaled_point, phantom_points, phantom_units, blank, scaled_outline};
 ghost use Rattle.tt_fit.specs.Views.{size_view, landing_view, phantom_view, phantom_units_view};
 
 use crate::outline::Outline;
-use crate::size::FontSize;
+use crate::size::{FontSize, Shift};
 use crate::units::PhantomUnits;
 use std::alloc::{AllocError, Global};
 use tt_core::{COORDINATE_LIMIT, Fault, FontFault, Why};
@@ -77,9 +77,27 @@ fn scaled_point(size: FontSize, at: u32, point: RawPoint) -> Result<(i32, i32, b
     settled(at, scaled_position(size, point))
 }
 
+/// Where no coordinate leaves the limit.
+#[inline(never)]
+fn shifted_points(
+    alloc: Global,
+    shift: Shift,
+    points: &[RawPoint],
+) -> Result<Vec<(i32, i32, bool)>, AllocError>
+    ensures exact { IfOk result (λ v. v.items ≡ map (scaled_by_scale shift.scale) points.now) }
+    ensures coordinates { IfOk result (λ v. All IsPoint v.items) }
+{
+    let mut scaled = Vec::with_capacity(alloc, points.len())?;
+    for point in points {
+        scaled.push_reserved((shift.scaled(point.x), shift.scaled(point.y), point.on));
+    }
+    Ok(scaled)
+}
+
 /// Errors: CoordRange, Memory.
+#[inline(never)]
 #[tactic(auto, using(crate::proofs::Lists::points, crate::proofs::Lists::from_nothing))]
-fn scaled_points(
+fn tested_points(
     alloc: Global,
     size: FontSize,
     at: u32,
@@ -94,6 +112,23 @@ fn scaled_points(
         scaled.push(scaled_point(size, at, *point)?)?;
     }
     Ok(scaled)
+}
+
+/// Errors: CoordRange, Memory.
+fn scaled_points(
+    alloc: Global,
+    size: FontSize,
+    at: u32,
+    points: &[RawPoint],
+) -> Result<Vec<(i32, i32, bool)>, FontFault>
+    ensures exact { FontGives (λ v. v.items) result (each (scaled_point (size_view size) at) points.now) }
+    ensures count { IfOk result (λ v. length v.items ≡ length points.now) }
+    ensures coordinates { IfOk result (λ v. All IsPoint v.items) }
+{
+    match size.shift() {
+        Some(shift) => Ok(shifted_points(alloc, shift, points)?),
+        None => tested_points(alloc, size, at, points),
+    }
 }
 
 /// The places one past the last point of each contour.

@@ -1,11 +1,13 @@
 //! The size that outlines are made for.
 
-ghost use Rattle.std.specs.Prelude.{◌≡◌, ◌<◌, ◌≤◌, ◌*◌, ◌^◌, unsigned_abs};
-ghost use Rattle.tt_core.specs.Limits.{size_limit};
-ghost use Rattle.tt_core.specs.Scales.{IsScale, scaled_by};
+ghost use Rattle.std.specs.Prelude.{◌≡◌, ◌<◌, ◌≤◌, ◌*◌, ◌*ℤ◌, ◌^◌, pos, unsigned_abs, IfSome};
+ghost use Rattle.tt_core.specs.Limits.{coordinate_limit, size_limit};
+ghost use Rattle.tt_core.specs.Numbers.{nearest_quotient};
+ghost use Rattle.tt_core.specs.Scales.{IsScale, quotient, scaled_by};
+ghost use Rattle.tt_fit.specs.Outline.{IsCoordinate};
 
 use crate::rules::Scaling;
-use tt_core::Scale;
+use tt_core::{COORDINATE_LIMIT, Halves, Scale};
 use tt_metrics::Metrics;
 
 /// Pixels per em, and from font units to 26.6 pixels.
@@ -53,5 +55,82 @@ impl FontSize {
         ensures close { unsigned_abs result ≤ 1200 * unsigned_abs v }
     {
         self.scale.scaled(v)
+    }
+
+    /// The same by a shift; None where font units are no power of two, or where a coordinate of 16 bits could leave the
+    /// limit.
+    pub(crate) fn shift(self) -> Option<Shift>
+        ensures { IfSome result (λ s. s.scale ≡ self.scale) }
+    {
+        let units = u64::from(self.scale.units);
+        let by = self.scale.units.trailing_zeros() + 1;
+        let limit = units * u64::from(COORDINATE_LIMIT.unsigned_abs());
+        if 1u64 << by != 2 * units || u64::from(self.scale.pixels) * 32768 > limit {
+            return None;
+        }
+        Some(Shift {
+            scale: self.scale,
+            by,
+        })
+    }
+}
+
+/// A scale of so many font units as a power of two, by which no coordinate of 16 bits leaves the limit.
+#[derive(Clone, Copy)]
+pub(crate) struct Shift {
+    scale: Scale,
+    by: u32,
+    pub(crate) ghost valid: { IsScale scale },
+    pub(crate) ghost power: { 2 ^ by ≡ 2 * scale.units },
+    pub(crate) ghost few: { by < 64 },
+    pub(crate) ghost within: { 32768 * scale.pixels ≤ scale.units * coordinate_limit },
+}
+
+/// `v` pixels.
+#[inline(always)]
+fn product(v: i16, pixels: u32) -> i64
+    requires { pixels < 2 ^ 27 }
+    ensures exact { result ≡ v *ℤ pos pixels }
+    ensures bound { unsigned_abs result ≤ 32768 * pixels }
+{
+    i64::from(v) * i64::from(pixels)
+}
+
+impl Shift {
+    /// `n` by the font units, rounded to the nearest whole number, a half upwards.
+    #[inline(always)]
+    fn nearest(self, n: i64) -> i64
+        requires { unsigned_abs n < 2 ^ 46 }
+        ensures exact { result ≡ nearest_quotient n (pos self.scale.units) }
+        ensures bound { unsigned_abs result < 2 ^ 60 }
+    {
+        (2 * n + i64::from(self.scale.units)) >> self.by
+    }
+
+    /// The same as by the scale. Of either sign, so that halves go away from zero.
+    #[inline(always)]
+    fn quotient(self, n: i64) -> i64
+        requires { unsigned_abs n < 2 ^ 46 }
+        ensures { result ≡ quotient self.scale.halves n (pos self.scale.units) }
+    {
+        match self.scale.halves {
+            Halves::Up => self.nearest(n),
+            Halves::AwayFromZero => {
+                if n < 0 {
+                    -self.nearest(-n)
+                } else {
+                    self.nearest(n)
+                }
+            }
+        }
+    }
+
+    /// A coordinate in font units as 26.6.
+    #[inline(always)]
+    pub(crate) fn scaled(self, v: i16) -> i32
+        ensures exact { result ≡ scaled_by self.scale v }
+        ensures within { IsCoordinate result }
+    {
+        self.quotient(product(v, self.scale.pixels)) as i32
     }
 }

@@ -7,7 +7,7 @@ pub mod Deltas
 pub mod Fields
 pub mod Reading
 pub mod Runs
-pub mod Sums
+pub mod InPlace
 pub mod Covers
 pub mod Defects
 pub mod Whole

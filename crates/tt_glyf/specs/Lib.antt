@@ -3,6 +3,7 @@ pub mod Composite
 pub mod Coordinates
 pub mod Defects
 pub mod Flags
+pub mod InPlace
 pub mod Format
 pub mod GlyphData
 pub mod Laws

@@ -1,17 +1,17 @@
 -- How the definitions see the values that the code reads into.
-use Rattle.std.specs.Prelude.{ℕ, ℤ}
+use Rattle.std.specs.Prelude.{ℕ, List}
 use Rattle.tt_glyf.specs.declared.component.Arguments as arguments
 use Rattle.tt_glyf.specs.declared.composite.Program as program
 use Rattle.tt_glyf.specs.declared.composite.RecordList as record_list
 use Rattle.tt_glyf.specs.declared.component.Transform as transform
 use Rattle.tt_glyf.specs.declared.coordinates.Axis as axis
 use Rattle.tt_glyf.specs.declared.coordinates.Coordinate as coordinate
-use Rattle.tt_glyf.specs.declared.coordinates.Coordinates as coordinates
 use Rattle.tt_glyf.specs.declared.coordinates.Delta as delta
 use Rattle.tt_glyf.specs.declared.coordinates.Sum as sum
 use Rattle.tt_glyf.specs.declared.flags.FlagList as flag_list
 use Rattle.tt_glyf.specs.declared.flags.Run as run
 use Rattle.tt_glyf.specs.declared.header.Header as header
+use Rattle.tt_glyf.specs.declared.raw.RawPoint.{RawPoint}
 use Rattle.tt_glyf.specs.declared.raw.Record.{Record}
 use Rattle.tt_glyf.specs.declared.simple.EndList as end_list
 use Rattle.tt_glyf.specs.Bytes.{Listing}
@@ -23,8 +23,8 @@ use Rattle.tt_glyf.specs.GlyphData.{Header}
 abbrev pub run_of : run.Run → Run
 run_of r = record { flag = r.flag; copies = r.copies; next = r.next }
 
-abbrev pub flags_listing : flag_list.FlagList → Listing ℕ
-flags_listing f = record { items = f.flags.items; next = f.next }
+abbrev pub held_listing : flag_list.FlagList → Listing RawPoint
+held_listing f = record { items = f.points.items; next = f.next }
 
 abbrev pub axis_of : axis.Axis → Axis
 axis_of a = record { short = a.short.0; same = a.same.0 }
@@ -38,8 +38,9 @@ sum_of s = record { value = s.value; next = s.next }
 abbrev pub coordinate_of : coordinate.Coordinate → Coordinate
 coordinate_of c = record { value = c.value; next = c.next }
 
-abbrev pub coordinates_listing : coordinates.Coordinates → Listing ℤ
-coordinates_listing c = record { items = c.values.items; next = c.next }
+-- the points as they stand once those along an axis are put in, and the place after these
+abbrev pub placed_listing : List RawPoint → ℕ → Listing RawPoint
+placed_listing points next = record { items = points; next = next }
 
 abbrev pub ends_listing : end_list.EndList → Listing ℕ
 ends_listing e = record { items = e.ends.items; next = e.next }

@@ -93,7 +93,10 @@ impl<'a> GlyphBytes<'a> {
         ensures room { IfOk result (λ n. at + 2 ≤ length self.now.bytes) }
         ensures limit { length self.now.bytes ≤ font_limit }
     {
-        u16_at(self.bytes, at).ok_or(self.short())
+        match u16_at(self.bytes, at) {
+            Some(word) => Ok(word),
+            None => Err(self.short()),
+        }
     }
 
     /// Error: GlyphShort.
@@ -104,7 +107,10 @@ impl<'a> GlyphBytes<'a> {
         ensures room { IfOk result (λ n. at + 2 ≤ length self.now.bytes) }
         ensures limit { length self.now.bytes ≤ font_limit }
     {
-        i16_at(self.bytes, at).ok_or(self.short())
+        match i16_at(self.bytes, at) {
+            Some(word) => Ok(word),
+            None => Err(self.short()),
+        }
     }
 
     /// So many bytes from a place on. Error: GlyphShort.

@@ -1,16 +1,16 @@
 //! The coordinates of the points along one axis. OpenType, "The 'glyf' table", "Simple Glyph Description".
 
-ghost use Rattle.std.specs.Prelude.{◌≡◌, ◌+◌, ◌<◌, ◌≤◌, length, vec_len, unsigned_abs, ◌+ℤ◌, IsTrue, IfOk, IfErr};
+ghost use Rattle.std.specs.Prelude.{◌≡◌, ◌+◌, ◌<◌, ◌≤◌, length, unsigned_abs, ◌+ℤ◌, All, IsTrue, IfOk, IfErr, OnOk};
 ghost use Rattle.tt_core.specs.Outcomes.{Gives};
-ghost use Rattle.tt_glyf.specs.Coordinates.{short_delta, delta_at, summed, within_words, coordinate_at, coordinates_of};
-ghost use Rattle.tt_glyf.specs.Views.{axis_of, delta_of, sum_of, coordinate_of, coordinates_listing};
-ghost use Rattle.tt_core.specs.Outcomes.{FontGives};
+ghost use Rattle.tt_glyf.specs.Coordinates.{short_delta, delta_at, summed, within_words, coordinate_at};
+ghost use Rattle.tt_glyf.specs.Views.{axis_of, delta_of, sum_of, coordinate_of, placed_listing};
+ghost use Rattle.tt_glyf.specs.InPlace.{HoldsFlag, with_x, with_y};
 
 use crate::bytes::GlyphBytes;
-use crate::flags::{PointFlags, has_flag};
+use crate::flags::{PointFlags, has_flag, held_flag};
 use crate::format::WORD_SIZE;
-use std::alloc::Global;
-use tt_core::{Fault, FontFault, Why};
+use crate::raw::RawPoint;
+use tt_core::{Fault, Why};
 
 /// The two flags that tell how a delta along an axis is written.
 #[derive(Clone, Copy)]
@@ -18,6 +18,16 @@ pub(crate) struct Axis {
     pub(crate) short: PointFlags,
     pub(crate) same: PointFlags,
 }
+
+const X_AXIS: Axis = Axis {
+    short: PointFlags::X_SHORT_VECTOR,
+    same: PointFlags::X_IS_SAME_OR_POSITIVE,
+};
+
+const Y_AXIS: Axis = Axis {
+    short: PointFlags::Y_SHORT_VECTOR,
+    same: PointFlags::Y_IS_SAME_OR_POSITIVE,
+};
 
 /// A delta, and the place after it.
 #[derive(Clone, Copy)]
@@ -123,37 +133,37 @@ fn coordinate_at(
     within_words(glyph, summed(before, delta))
 }
 
-/// The coordinates of all points along one axis, and the place after their deltas.
-#[derive(Drop)]
-pub(crate) struct Coordinates {
-    /// One for each point, in font units.
-    pub(crate) values: Vec<i16>,
-    /// Where the next list of the glyph begins.
-    pub(crate) next: usize,
+/// Gives each point that holds its flag its x; answers where the y deltas begin. Errors: GlyphShort, CoordRange.
+#[inline(never)]
+#[tactic(auto, using(crate::proofs::InPlace::turn, crate::proofs::InPlace::breaks, crate::proofs::InPlace::done))]
+pub(crate) fn read_x(glyph: &GlyphBytes, points: &mut [RawPoint], at: usize) -> Result<usize, Fault>
+    requires place { at ≤ length glyph.now.bytes }
+    requires held { All HoldsFlag points.old }
+    ensures exact { Gives (placed_listing points.new) result (with_x glyph.now points.old at) }
+    ensures held { OnOk result (All HoldsFlag points.new) }
+    ensures room { IfOk result (λ n. n ≤ length glyph.now.bytes) }
+{
+    let mut last = Coordinate { value: 0, next: at };
+    for i in 0..points.len() {
+        last = coordinate_at(glyph, X_AXIS, held_flag(points[i]), last)?;
+        points[i].x = last.value;
+    }
+    Ok(last.next)
 }
 
-/// Errors: GlyphShort, CoordRange, Memory.
-#[tactic(auto, using(crate::proofs::Sums::turn, crate::proofs::Sums::breaks, crate::proofs::Sums::done))]
-pub(crate) fn read_coordinates(
-    alloc: Global,
-    glyph: &GlyphBytes,
-    axis: Axis,
-    flags: &[u8],
-    at: usize,
-) -> Result<Coordinates, FontFault>
-    requires { at ≤ length glyph.now.bytes }
-    ensures exact { FontGives coordinates_listing result (coordinates_of glyph.now (axis_of axis) flags.now at) }
-    ensures count { IfOk result (λ c. vec_len c.values ≡ length flags.now) }
-    ensures room { IfOk result (λ c. c.next ≤ length glyph.now.bytes) }
+/// Gives each point its y, in the place of the flag that it holds; answers where the deltas end. Errors: GlyphShort,
+/// CoordRange.
+#[inline(never)]
+#[tactic(auto, using(crate::proofs::InPlace::turn, crate::proofs::InPlace::breaks, crate::proofs::InPlace::done))]
+pub(crate) fn read_y(glyph: &GlyphBytes, points: &mut [RawPoint], at: usize) -> Result<usize, Fault>
+    requires place { at ≤ length glyph.now.bytes }
+    requires held { All HoldsFlag points.old }
+    ensures exact { Gives (placed_listing points.new) result (with_y glyph.now points.old at) }
 {
-    let mut values = Vec::with_capacity(alloc, flags.len())?;
     let mut last = Coordinate { value: 0, next: at };
-    for flag in flags {
-        last = coordinate_at(glyph, axis, *flag, last)?;
-        values.push(last.value)?;
+    for i in 0..points.len() {
+        last = coordinate_at(glyph, Y_AXIS, held_flag(points[i]), last)?;
+        points[i].y = last.value;
     }
-    Ok(Coordinates {
-        values,
-        next: last.next,
-    })
+    Ok(last.next)
 }

@@ -1,15 +1,17 @@
 //! The flags of the points of a simple glyph. OpenType, "The 'glyf' table", "Simple Glyph Flags".
 
-ghost use Rattle.std.specs.Prelude.{◌≡◌, ◌+◌, ◌^◌, ◌<◌, ◌≤◌, ◌++◌, length, replicate, vec_len, IsTrue, IfOk, IfErr, OnOk};
+ghost use Rattle.std.specs.Prelude.{◌≡◌, ◌+◌, ◌^◌, ◌<◌, ◌≤◌, ◌++◌, length, replicate, vec_len, vec_capacity, All, IsTrue, IfOk, IfErr};
 ghost use Rattle.tt_core.specs.Outcomes.{Gives};
-ghost use Rattle.tt_glyf.specs.Flags.{run_at, flags_of};
+ghost use Rattle.tt_glyf.specs.Flags.{run_at};
 ghost use Rattle.tt_glyf.specs.Format.{has};
+ghost use Rattle.tt_glyf.specs.InPlace.{held, held_flag, held_of, HoldsFlag};
 ghost use Rattle.tt_core.specs.Outcomes.{FontGives};
-ghost use Rattle.tt_glyf.specs.Views.{run_of, flags_listing};
+ghost use Rattle.tt_glyf.specs.Views.{run_of, held_listing};
 
 use crate::bytes::GlyphBytes;
+use crate::raw::RawPoint;
 use bitflags::{Flag, Flags, bitflag_items};
-use std::alloc::{AllocError, Global};
+use std::alloc::Global;
 use tt_core::{Fault, FontFault, Why};
 
 /// The flags of a point.
@@ -60,17 +62,36 @@ pub(crate) fn has_flag(flags: u8, flag: PointFlags) -> bool
     PointFlags::from_bits_retain(flags).contains(flag)
 }
 
-/// The flags of all points, and the place after them.
+/// A point that holds its flag in the place of its y until that is read.
+#[inline(always)]
+fn held(flag: u8) -> RawPoint
+    ensures exact { result ≡ held flag }
+    ensures holds { HoldsFlag result }
+{
+    RawPoint {
+        x: 0,
+        y: i16::from(flag),
+        on: has_flag(flag, PointFlags::ON_CURVE_POINT),
+    }
+}
+
+/// The flag that a point holds.
+#[inline(always)]
+pub(crate) fn held_flag(point: RawPoint) -> u8
+    requires { HoldsFlag point }
+    ensures { result ≡ held_flag point }
+{
+    point.y as u8
+}
+
+/// The points, each holding its flag, and the place after the flags.
 #[derive(Drop)]
 pub(crate) struct FlagList {
-    /// One for each point: a repeated flag stands here as often as it holds.
-    pub(crate) flags: Vec<u8>,
+    /// A repeated flag stands here as often as it holds.
+    pub(crate) points: Vec<RawPoint>,
     /// Where the x coordinates begin in the glyph.
     pub(crate) next: usize,
 }
-
-/// A flag and its count, two bytes, stand for at most 256 points.
-const POINTS_A_BYTE: usize = 128;
 
 /// A flag byte, how many further points it stands for, and the place after it.
 #[derive(Clone, Copy)]
@@ -109,41 +130,39 @@ fn run_at(glyph: &GlyphBytes, at: usize, left: usize) -> Result<Run, Fault>
 }
 
 #[inline(always)]
-fn push_copies(flags: &mut Vec<u8>, flag: u8, n: usize) -> Result<(), AllocError>
-    requires { vec_len flags.old + n < 2 ^ 32 }
-    ensures pushed { OnOk result (flags.new.items ≡ flags.old.items ++ replicate n flag) }
-    ensures grown { OnOk result (vec_len flags.new ≡ vec_len flags.old + n) }
+fn push_copies(points: &mut Vec<RawPoint>, point: RawPoint, n: usize)
+    requires { vec_len points.old + n ≤ vec_capacity points.old }
+    ensures pushed { points.new.items ≡ points.old.items ++ replicate n point }
+    ensures grown { vec_len points.new ≡ vec_len points.old + n }
+    ensures capacity { vec_capacity points.new ≡ vec_capacity points.old }
 {
-    if n == 1 {
-        flags.push(flag)?;
-        return Ok(());
+    for _ in 0..n {
+        points.push_reserved(point);
     }
-    flags.resize(flags.len() + n, flag)?;
-    Ok(())
 }
 
 /// Errors: GlyphShort, FlagRun, Memory.
-#[tactic(auto, using(crate::proofs::Runs::turn, crate::proofs::Runs::breaks, crate::proofs::Runs::done))]
+#[inline(never)]
 pub(crate) fn read_flags(
     alloc: Global,
     glyph: &GlyphBytes,
     at: usize,
-    points: usize,
+    count: usize,
 ) -> Result<FlagList, FontFault>
     requires place { at ≤ length glyph.now.bytes }
-    requires size { points < 2 ^ 32 }
-    ensures exact { FontGives flags_listing result (flags_of glyph.now at points) }
-    ensures count { IfOk result (λ f. vec_len f.flags ≡ points) }
-    ensures room { IfOk result (λ f. f.next ≤ length glyph.now.bytes) }
+    requires size { count < 2 ^ 32 }
+    ensures exact { FontGives held_listing result (held_of glyph.now at count) }
+    ensures held { IfOk result (λ l. All HoldsFlag l.points.items) }
+    ensures room { IfOk result (λ l. l.next ≤ length glyph.now.bytes) }
 {
-    let mut flags = Vec::with_capacity(alloc, points.min(glyph.len() * POINTS_A_BYTE))?;
+    let mut points = Vec::with_capacity(alloc, count)?;
     let mut next = at;
-    let mut left = points;
+    let mut left = count;
     while left > 0 {
         let run = run_at(glyph, next, left)?;
-        push_copies(&mut flags, run.flag, run.copies + 1)?;
+        push_copies(&mut points, held(run.flag), run.copies + 1);
         next = run.next;
         left -= run.copies + 1;
     }
-    Ok(FlagList { flags, next })
+    Ok(FlagList { points, next })
 }

@@ -4,29 +4,20 @@ ghost use Rattle.std.specs.Prelude.{◌≡◌, ◌+◌, ◌*◌, ◌^◌, ◌<�
 ghost use Rattle.tt_core.specs.Limits.{point_limit};
 ghost use Rattle.tt_core.specs.Outcomes.{Gives};
 ghost use Rattle.tt_glyf.specs.Format.{end_place, header_size, word_size};
+ghost use Rattle.tt_glyf.specs.InPlace.{placed_of};
 ghost use Rattle.tt_glyf.specs.Meaning.{HasArguments, IfComposite};
 ghost use Rattle.tt_glyf.specs.Raw.{raw_view};
 ghost use Rattle.tt_core.specs.Outcomes.{FontGives};
-ghost use Rattle.tt_glyf.specs.Simple.{end_at, ends_of, points_within, points_from, points_of, simple_of};
+ghost use Rattle.tt_glyf.specs.Simple.{end_at, ends_of, points_within, points_of, simple_of};
 ghost use Rattle.tt_glyf.specs.Views.{ends_listing};
 
 use crate::bytes::GlyphBytes;
-use crate::coordinates::{Axis, read_coordinates};
-use crate::flags::{PointFlags, has_flag, read_flags};
+use crate::coordinates::{read_x, read_y};
+use crate::flags::read_flags;
 use crate::format::{HEADER_SIZE, WORD_SIZE};
 use crate::raw::{Raw, RawPoint};
-use std::alloc::{AllocError, Global};
+use std::alloc::Global;
 use tt_core::{Fault, FontFault, POINT_LIMIT, Why};
-
-const X_AXIS: Axis = Axis {
-    short: PointFlags::X_SHORT_VECTOR,
-    same: PointFlags::X_IS_SAME_OR_POSITIVE,
-};
-
-const Y_AXIS: Axis = Axis {
-    short: PointFlags::Y_SHORT_VECTOR,
-    same: PointFlags::Y_IS_SAME_OR_POSITIVE,
-};
 
 /// The end of a contour, not below the one before it. Errors: GlyphShort, ContourOrder.
 #[inline(always)]
@@ -87,31 +78,26 @@ fn point_count(glyph: &GlyphBytes, list: &EndList) -> Result<usize, Fault>
     Ok(count)
 }
 
-/// The points of these flags and coordinates.
-fn assembled(
+/// So many points from a place on, read in one list.
+#[tactic(auto, unfolding(crate::specs::InPlace::placed_of))]
+fn placed_points(
     alloc: Global,
-    flags: &[u8],
-    xs: &[i16],
-    ys: &[i16],
-) -> Result<Vec<RawPoint>, AllocError>
-    requires xs { length xs.now ≡ length flags.now }
-    requires ys { length ys.now ≡ length flags.now }
-    ensures exact { IfOk result (λ p. p.items ≡ points_from flags.now xs.now ys.now) }
+    glyph: &GlyphBytes,
+    at: usize,
+    count: usize,
+) -> Result<Vec<RawPoint>, FontFault>
+    requires place { at ≤ length glyph.now.bytes }
+    requires few { count ≤ point_limit }
+    ensures exact { FontGives (λ p. p.items) result (placed_of glyph.now at count) }
 {
-    let mut points = Vec::with_capacity(alloc, flags.len())?;
-    for i in 0..flags.len() {
-        let point = RawPoint {
-            x: xs[i],
-            y: ys[i],
-            on: has_flag(flags[i], PointFlags::ON_CURVE_POINT),
-        };
-        points.push(point)?;
-    }
+    let list = read_flags(alloc, glyph, at, count)?;
+    let mut points = list.points;
+    let after_x = read_x(glyph, &mut points, list.next)?;
+    read_y(glyph, &mut points, after_x)?;
     Ok(points)
 }
 
 /// So many points from a place on. Errors: GlyphShort, FlagRun, CoordRange, Memory.
-#[tactic(auto, unfolding(crate::specs::Simple::points_of))]
 fn read_points(
     alloc: Global,
     glyph: &GlyphBytes,
@@ -122,10 +108,7 @@ fn read_points(
     requires few { count ≤ point_limit }
     ensures exact { FontGives (λ p. p.items) result (points_of glyph.now at count) }
 {
-    let list = read_flags(alloc, glyph, at, count)?;
-    let xs = read_coordinates(alloc, glyph, X_AXIS, &list.flags, list.next)?;
-    let ys = read_coordinates(alloc, glyph, Y_AXIS, &list.flags, xs.next)?;
-    Ok(assembled(alloc, &list.flags, &xs.values, &ys.values)?)
+    placed_points(alloc, glyph, at, count)
 }
 
 /// What stands after the header of a glyph of some contours. Errors: GlyphShort, ContourOrder,

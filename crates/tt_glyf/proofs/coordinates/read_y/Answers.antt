@@ -1,0 +1,32 @@
+use Rattle.std.proofs.Common.{◌<◌, ◌∙◌, sym, length, get_or, false, pos, SFits, w16, arith, rules}
+use Rattle.std.proofs.lemmas.Int.{to_z-of_z}
+use Rattle.tt_glyf.specs.declared.raw.RawPoint.{RawPoint}
+use Rattle.tt_glyf.specs.Coordinates.{y_axis}
+use Rattle.tt_glyf.specs.InPlace.{put_y}
+use Rattle.tt_glyf.specs.Views.{coordinate_of}
+use Rattle.tt_glyf.proofs.InPlace.{set-turn, set-done, others-hold}
+use Rattle.tt_glyf.proofs.coordinates.read_y.Goals as goal
+
+abbrev none : RawPoint
+none = record { x = pos 0; y = pos 0; on = false }
+
+pub loop-i-preserved : goal.loop-i-preserved
+loop-i-preserved c =
+    let fits : SFits w16 c.in_ok-last.last.value = search rules in
+    let below : c.loop-i.i < length c.loop-i.points = omega (arith, c.loop-i-test.true) in
+    let flag = c.held_flag.ensures in
+    let was = rw flag at c.in_ok-last.ensures.exact in
+    let step = set-turn c.args.glyph.now y_axis put_y c.loop-i.points c.loop-i.i none (coordinate_of c.loop-i.last)
+    (coordinate_of c.in_ok-last.last) below was in
+    simp to_z-of_z (
+      step ∙ c.loop-i.invariant.0,
+      others-hold c.loop-i.points c.loop-i.i (put_y (get_or c.loop-i.points c.loop-i.i none)
+          c.in_ok-last.last.value) below c.loop-i.invariant.1,
+      c.in_ok-last.ensures.room,
+    )
+
+pub returns : goal.returns
+returns c =
+    let end = set-done c.args.glyph.now y_axis put_y c.loop-i.points c.loop-i.i (coordinate_of c.loop-i.last)
+    (omega (arith, c.loop-i-test.false)) in
+    record { exact = sym c.loop-i.invariant.0 ∙ end }

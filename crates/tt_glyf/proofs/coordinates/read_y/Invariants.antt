@@ -1,0 +1,12 @@
+use Rattle.std.proofs.Common.{◌≡◌, ◌≤◌, length, drop, take, All}
+use Rattle.tt_glyf.specs.Bytes.{after}
+use Rattle.tt_glyf.specs.Coordinates.{y_axis}
+use Rattle.tt_glyf.specs.InPlace.{HoldsFlag, placed_from, put_y, with_y}
+use Rattle.tt_glyf.specs.Views.{coordinate_of}
+use Rattle.tt_glyf.proofs.coordinates.read_y.Given as goal
+
+abbrev pub invariant-loop-i : goal.invariant-loop-i
+invariant-loop-i l =
+    (after (take l.i l.points) (placed_from l.glyph y_axis put_y (drop l.i l.points) (coordinate_of l.last))
+    ≡ with_y l.glyph l.fn.points l.at)
+    × All HoldsFlag (drop l.i l.points) × (l.last.next ≤ length l.glyph.bytes)
