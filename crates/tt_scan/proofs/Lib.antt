@@ -4,6 +4,7 @@ pub mod ActiveEdges
 pub mod Columns
 pub mod Crosses
 pub mod Floors
+pub mod Gaps
 pub mod Moved
 pub mod Points
 pub mod Ranges

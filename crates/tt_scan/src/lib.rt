@@ -20,6 +20,7 @@ mod collect;
 mod counted;
 mod crossing;
 mod edge;
+mod edge_list;
 mod edge_table;
 pub mod laws;
 mod mark;
@@ -35,6 +36,7 @@ mod tape;
 
 pub use bytes::blacken;
 pub use edge::{Cross, Edge, Frame};
+pub use edge_list::EdgeList;
 pub use mark::Span;
 pub use row::row_into;
 pub use sweep::Sweep;

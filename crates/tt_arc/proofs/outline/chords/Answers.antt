@@ -14,7 +14,9 @@ returns-clause-exact c =
     let dx : SFits w64 c.args.dx = c.ranges.dx in
     let dy : SFits w64 c.args.dy = c.ranges.dy in
     let pushed = simp to_z-of_z at c.in_ok-push_contours.ensures.exact in
-    rw (pushed, c.reserve.ensures, c.new-tape.ensures, c.deref-2.ensures.value, c.deref-3.ensures.value) refl
+    let made : c.push_contours.new.list.edges ≡ chord_edges c.args.outline.now.points.items c.args.outline.now.ends.items
+        c.args.dx c.args.dy = rw (pushed, c.reserve.ensures.edges, c.new-list.ensures, c.deref-2.ensures.value, c.deref-3.ensures.value) refl in
+    rw made at c.of.ensures
 
 pub returns-clause-few : goal.returns-clause-few
 returns-clause-few c =
