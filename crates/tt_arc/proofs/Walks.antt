@@ -1,5 +1,5 @@
 -- A tape on which the edges of points stand, one more point at a time.
-use Rattle.std.proofs.Common.{◌≡◌, ℕ, suc, ◌+◌, ◌-◌, ◌<◌, ◌≤◌, false, pos, List, [], ◌∷◌, ◌++◌, length, map, take, drop, get_or, All, refl, sym, ◌∙◌, arith, append_assoc, append-nil, length-drop, add-one, drop-cons}
+use Rattle.std.proofs.Common.{◌≡◌, ℕ, suc, ◌+◌, ◌-◌, ◌<◌, ◌≤◌, false, pos, List, [], ◌∷◌, ◌++◌, length, map, take, drop, get_or, refl, sym, ◌∙◌, arith, append_assoc, append-nil, length-drop, add-one, drop-cons}
 use Rattle.std.specs.List.{flat_map, range_with_len}
 use Rattle.std.proofs.lemmas.Bool.{lt-ltb}
 use Rattle.std.proofs.lemmas.List.{take_all, get_or-map}
@@ -29,11 +29,6 @@ last_of p (q ∷ ps) = last_of q ps
 abbrev nowhere : Point
 nowhere = record { x = pos 0; y = pos 0; on = false }
 
-last_is : {X : Type 0} (f : X → Point) (p : X) (ps : List X) (d : X) → last_of (f p) (map f ps)
-    ≡ f (get_or (p ∷ ps) (length ps) d)
-last_is f p [] d = refl
-last_is f p (q ∷ ps) d = last_is f q ps d
-
 -- the points following the first, as the code walks them
 abbrev pub rest : {X : Type 0} → List X → List X
 rest ps = take (length ps - 1) (drop 1 ps)
@@ -44,15 +39,10 @@ rest_is p ps =
     let tail : drop 1 (p ∷ ps) ≡ ps = refl in
     rw (less, tail, take_all (length ps) ps (omega arith)) refl
 
-pub all_of_rest : {X : Type 0} (P : X → Type 0) (ps : List X) → All P ps → All P (rest ps)
-all_of_rest P [] all k d below = absurd (omega arith)
-all_of_rest P (p ∷ ps) all k d below =
-    let shorter = rw (rest_is p ps) at below in rw (rest_is p ps) (all (suc k) d (omega arith))
-
 after_last : (n i : ℕ) → i + 1 ≡ n → number_after n i ≡ 0
 after_last n i is = grind (arith, is)
 
-after_inner : (n i : ℕ) → i + 1 < n → number_after n i ≡ i + 1
+pub after_inner : (n i : ℕ) → i + 1 < n → number_after n i ≡ i + 1
 after_inner n i below = grind (arith, below)
 
 one_point : (ps : List Point) (k : ℕ) (before p after : Point) → before ≡ point_at ps (number_before (length ps) k) → p

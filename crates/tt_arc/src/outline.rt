@@ -64,5 +64,6 @@ pub fn chords(
     // Memory is taken once.
     list.reserve(most_edges(&outline.points))?;
     push_contours(&mut list, &outline.points, &outline.ends, Offset { dx, dy })?;
-    Tape::of(alloc, frame, list)
+    let tape = Tape::of(alloc, frame, list)?;
+    Ok(tape)
 }

@@ -1,15 +1,15 @@
 -- Gaps between the centre lines of rows, and edges that lie in one: no row meets them.
-use Rattle.std.proofs.Common.{◌≡◌, ◌∙◌, ℕ, ◌+◌, ◌<◌, ◌≤◌, ◌^◌, length, take, get_or, All, SFits, w64, Bool, true, false, ◌&&◌, List, [], ◌∷◌, ◌++◌, ◌⊎◌, inl, inr, ℤ, pos, ◌+ℤ◌, ◌-ℤ◌, ◌*ℤ◌, ◌≤ℤ◌, ◌<ℤ◌, refl, sym, arith, append-nil}
-use Rattle.std.specs.Prelude.{int_lt, int_le, unsigned_abs}
+use Rattle.std.proofs.Common.{◌≡◌, ◌∙◌, ℕ, ◌+◌, ◌<◌, ◌≤◌, ◌^◌, length, take, get_or, All, SFits, w64, true, false, ◌&&◌, List, [], ◌∷◌, ◌++◌, inl, ℤ, pos, ◌+ℤ◌, ◌-ℤ◌, ◌*ℤ◌, ◌≤ℤ◌, ◌<ℤ◌, refl, sym, arith, append-nil}
+use Rattle.std.specs.Prelude.{int_lt, unsigned_abs}
 use Rattle.std.proofs.lemmas.Int.{ints, by_lt_z}
 use Rattle.std.proofs.lemmas.List.{take_all, take_more, length-take}
 use Rattle.tt_scan.specs.declared.edge.Edge.{Edge}
 use Rattle.tt_scan.specs.declared.edge.Frame.{Frame}
 use Rattle.tt_scan.specs.declared.edge_table.Entry.{Entry}
 use Rattle.tt_scan.specs.declared.rows.Gap.{Gap}
-use Rattle.tt_scan.specs.Crossing.{AreRows, AreAllRows, has_row}
+use Rattle.tt_scan.specs.Crossing.{AreRows, has_row}
 use Rattle.tt_scan.specs.EdgeList.{IsGapAt, AreEntered, is_in}
-use Rattle.tt_scan.specs.EdgeTable.{IsTableOf, IsUnmet}
+use Rattle.tt_scan.specs.EdgeTable.{IsUnmet}
 use Rattle.tt_scan.specs.Winding.{EdgeFits, row_y, is_between}
 use Rattle.tt_scan.proofs.Ranges.{none_at}
 use Rattle.tt_scan.proofs.Standing.{entry_pushed}

@@ -4,6 +4,7 @@
 //! The way of a row, from edges to black pixels:
 //!
 //! ```text
+//! edge_list.rt    the edges while they are made; their rows are found for all at once, by `Tape::of`
 //! edge_table.rt   the active edges, those that meet the row
 //! counted.rt      each of them is crossed, and each crossing is counted
 //! crossing.rt     what an edge does at the height of the row: the columns that it touches, and where it turns

@@ -125,7 +125,6 @@ impl Tape {
     }
 
     /// The tape of some edges. Those that follow on each other between two rows cost little. Error: memory ran out.
-    #[inline(never)]
     pub fn of(alloc: Global, frame: Frame, list: EdgeList) -> Result<Tape, AllocError>
         requires { FrameFits frame }
         ensures { IfOk result (λ t. t ≡ record { frame = frame; edges = list.edges; crosses = 0 }) }

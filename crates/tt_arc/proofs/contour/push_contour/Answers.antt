@@ -1,7 +1,7 @@
-use Rattle.std.proofs.Common.{◌≡◌, ◌+◌, ◌-◌, ◌<◌, ◌++◌, ℤ, pos, Bool, false, length, map, ap, refl, arith, add-one, ◌∙◌}
+use Rattle.std.proofs.Common.{◌≡◌, ◌-◌, ◌++◌, ℤ, pos, Bool, false, length, map, ap, arith, add-one, ◌∙◌}
 use Rattle.std.proofs.lemmas.List.{length-map}
-use Rattle.tt_arc.specs.Chords.{IsNear, moved, number_after, point_at}
-use Rattle.tt_arc.proofs.Walks.{all_onward, none_onward, one_point_more, point_is, after_inner}
+use Rattle.tt_arc.specs.Chords.{moved, number_after, point_at}
+use Rattle.tt_arc.proofs.Walks.{all_onward, one_point_more, point_is, after_inner}
 use Rattle.tt_arc.proofs.contour.push_contour.Goals as goal
 
 nowhere : ℤ × ℤ × Bool
@@ -12,7 +12,7 @@ unfolding nowhere
 loop-i-init c =
     let ps = c.args.points.now in
     let f = moved c.args.by.dx c.args.by.dy in
-    let long = length-map f ps in
+    let long = length-map ps f in
     record {
       walked = ap (λ es. c.args.list.now.edges ++ es) (all_onward (map f ps) (omega (arith, long, c.if-points-lt2.false)));
       before = rw c.moved-before.ensures (point_is f ps (length ps - 1) nowhere (omega (arith, c.if-points-lt2.false)));
@@ -28,12 +28,12 @@ loop-i-preserved c =
     let f = moved c.args.by.dx c.args.by.dy in
     let i = c.loop-i.i in
     let inv = c.loop-i.invariant in
-    let long = length-map f ps in
+    let long = length-map ps f in
     let below = c.loop-i-test.true in
     let next = c.number_after.ensures.exact in
     let within = c.number_after.ensures.within in
     let after : c.moved-after.result ≡ point_at (map f ps) (number_after (length ps) i) =
-        rw (c.moved-after.ensures, ← next) (point_is f ps c.number_after.result nowhere within) in
+    rw (c.moved-after.ensures, ← next) (point_is f ps c.number_after.result nowhere within) in
     record {
       walked = one_point_more (map f ps) c.loop-i.list.edges c.push_edges.new.list.edges i c.loop-i.before c.loop-i.p
           c.moved-after.result (omega (arith, long, below)) (rw long inv.before) (inv.p below) (rw long after)

@@ -1,4 +1,3 @@
-use Rattle.std.proofs.Common.{◌≡◌, arith}
 use Rattle.tt_scan.proofs.Standing.{entry_pushed}
 use Rattle.tt_scan.proofs.Unmet.{rows_joined}
 use Rattle.tt_scan.proofs.tape.enter.Goals as goal

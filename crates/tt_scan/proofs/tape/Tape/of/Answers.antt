@@ -1,7 +1,5 @@
-use Rattle.std.proofs.Common.{◌≡◌, ◌∙◌, sym, ◌<◌, ◌≤◌, pos, All, SFits, w64, length, take, get_or, refl, arith}
-use Rattle.std.proofs.lemmas.Int.{ints, to_z-of_z}
-use Rattle.tt_scan.specs.declared.edge.Edge.{Edge}
-use Rattle.tt_scan.specs.Winding.{EdgeFits}
+use Rattle.std.proofs.Common.{◌∙◌, sym, ◌≤◌, length, take, get_or, refl, arith}
+use Rattle.std.proofs.lemmas.Int.{to_z-of_z}
 use Rattle.tt_scan.proofs.Gaps.{still_in, unmet_in, unmet_entered, entered_next, taken, all_entered, none_entered, edge_is_wide, is_lent, nothing}
 use Rattle.tt_scan.proofs.tape.Tape.of.Goals as goal
 use Rattle.tt_scan.proofs.tape.Tape.of.Goals.{then-not-is_in+in_ok-enter, else-not-is_in}
@@ -18,19 +16,19 @@ gap_from-gap-requires-clause-gap c = c.loop-i.invariant.gap
 pub gap_from-gap-requires-clause-fits : goal.gap_from-gap-requires-clause-fits
 gap_from-gap-requires-clause-fits c =
     let k = is_lent c.args.list.edges c.into_edges-edges.result.edges c.lend.result.now c.loop-i.i c.len-i-end.result
-        c.into_edges-edges.ensures.edges c.into_edges-edges.ensures.fit c.lend.ensures c.len-i-end.ensures.exact c.loop-i-test.true in
+    c.into_edges-edges.ensures.edges c.into_edges-edges.ensures.fit c.lend.ensures c.len-i-end.ensures.exact c.loop-i-test.true in
     let wide = edge_is_wide (get_or c.args.list.edges c.loop-i.i nothing) k.fits in
     let ay = wide.ay in
     rw k.same (simp to_z-of_z k.fits.ay)
 
 pub enter-requires-clause-edge : goal.enter-requires-clause-edge
 enter-requires-clause-edge c = let k = is_lent c.args.list.edges c.into_edges-edges.result.edges c.lend.result.now c.loop-i.i c.len-i-end.result
-        c.into_edges-edges.ensures.edges c.into_edges-edges.ensures.fit c.lend.ensures c.len-i-end.ensures.exact c.loop-i-test.true in rw k.same k.fits
+    c.into_edges-edges.ensures.edges c.into_edges-edges.ensures.fit c.lend.ensures c.len-i-end.ensures.exact c.loop-i-test.true in rw k.same k.fits
 
 pub gap_at-gap-requires-then-not-is_in : goal.gap_at-gap-requires-then-not-is_in
 gap_at-gap-requires-then-not-is_in c =
     let k = is_lent c.args.list.edges c.into_edges-edges.result.edges c.lend.result.now c.loop-i.i c.len-i-end.result
-        c.into_edges-edges.ensures.edges c.into_edges-edges.ensures.fit c.lend.ensures c.len-i-end.ensures.exact c.loop-i-test.true in
+    c.into_edges-edges.ensures.edges c.into_edges-edges.ensures.fit c.lend.ensures c.len-i-end.ensures.exact c.loop-i-test.true in
     let wide = edge_is_wide (get_or c.args.list.edges c.loop-i.i nothing) k.fits in
     let by = wide.by in
     rw k.same (simp to_z-of_z k.fits.by)
@@ -38,7 +36,7 @@ gap_at-gap-requires-then-not-is_in c =
 pub loop-i-preserved : goal.loop-i-preserved
 loop-i-preserved c =
     let k = is_lent c.args.list.edges c.into_edges-edges.result.edges c.lend.result.now c.loop-i.i c.len-i-end.result
-        c.into_edges-edges.ensures.edges c.into_edges-edges.ensures.fit c.lend.ensures c.len-i-end.ensures.exact c.loop-i-test.true in
+    c.into_edges-edges.ensures.edges c.into_edges-edges.ensures.fit c.lend.ensures c.len-i-end.ensures.exact c.loop-i-test.true in
     let es = c.args.list.edges in
     let i = c.loop-i.i in
     let e = get_or es i nothing in
@@ -51,10 +49,10 @@ loop-i-preserved c =
     let tested = simp to_z-of_z at (rw k.same at c.is_in.ensures) in
     elim c.if-not-is_in.branch [
       | then-not-is_in+in_ok-enter w ↦ record {
-          entered = rw (w.rows-is, w.table-is) (entered_next es i nothing c.args.frame w.enter.new.all w.enter.new.table.entries
-              k.below (rw k.same at (w.in_ok-enter.ensures (take i es) (taken es i k.below) inv.entered)));
-          gap = rw w.gap-is w.gap_at-gap-then-not-is_in.ensures;
-        }
+        entered = rw (w.rows-is, w.table-is) (entered_next es i nothing c.args.frame w.enter.new.all w.enter.new.table.entries
+            k.below (rw k.same at (w.in_ok-enter.ensures (take i es) (taken es i k.below) inv.entered)));
+        gap = rw w.gap-is w.gap_at-gap-then-not-is_in.ensures;
+      }
       | else-not-is_in w ↦
           let within = sym tested ∙ w.if-not-is_in.false in record {
             entered = rw (w.rows-is, w.table-is) (entered_next es i nothing c.args.frame c.loop-i.rows c.loop-i.table.entries
