@@ -1,5 +1,5 @@
 -- The weights of the coordinates of a quadratic, and how large a coordinate is k eighths along it.
-use Rattle.std.proofs.Common.{◌≡◌, ℕ, zero, suc, ◌+◌, ◌^◌, ◌<◌, ◌≤◌, pos, ◌+ℤ◌, ◌-ℤ◌, ◌*ℤ◌, unsigned_abs, List, ◌∷◌, ◌++◌, [], refl, arith, add-one, append-nil}
+use Rattle.std.proofs.Common.{◌≡◌, ℕ, zero, suc, ◌+◌, ◌^◌, ◌<◌, ◌≤◌, pos, ◌+ℤ◌, ◌-ℤ◌, ◌*ℤ◌, unsigned_abs, SFits, w64, List, ◌∷◌, ◌++◌, [], refl, arith, add-one, append-nil}
 use Rattle.std.proofs.lemmas.Int.{ints}
 use Rattle.tt_scan.specs.declared.edge.Edge.{Edge}
 use Rattle.tt_arc.specs.declared.quadratic.Coordinates.{Coordinates}
@@ -71,10 +71,38 @@ first_within b k s le is = let small = is.small in omega arith
 pub second_within : (b : Coordinates) (k : ℕ) (s : Differences) → CoordinatesFit b → AreDifferences b k s → unsigned_abs s.second ≤ 2 ^ 27
 second_within b k s fits is = rw is.second (second_small b fits)
 
+-- the parts of the differences where a quadratic begins, as the code adds them up
+pub record PartsFit (b : Coordinates) : Type 0 where
+  pub value : SFits w64 (pos 64 *ℤ b.from)
+  pub four : SFits w64 (pos 4 *ℤ b.control)
+  pub ends : SFits w64 (b.from +ℤ b.to)
+  pub bend : SFits w64 ((b.from +ℤ b.to) -ℤ (pos 4 *ℤ b.control))
+  pub twice : SFits w64 (pos 2 *ℤ b.from)
+  pub out : SFits w64 ((pos 4 *ℤ b.control) -ℤ (pos 2 *ℤ b.from))
+  pub eight : SFits w64 (pos 8 *ℤ ((pos 4 *ℤ b.control) -ℤ (pos 2 *ℤ b.from)))
+  pub first : SFits w64 (((b.from +ℤ b.to) -ℤ (pos 4 *ℤ b.control)) +ℤ (pos 8 *ℤ ((pos 4 *ℤ b.control) -ℤ (pos 2 *ℤ b.from))))
+  pub second : SFits w64 (pos 2 *ℤ ((b.from +ℤ b.to) -ℤ (pos 4 *ℤ b.control)))
+
+pub parts_fit : (b : Coordinates) → CoordinatesFit b → PartsFit b
+parts_fit b fits =
+    let q = fits.from in
+    let p = fits.control in
+    let r = fits.to in record {
+      value = omega (arith, ints);
+      four = omega (arith, ints);
+      ends = omega (arith, ints);
+      bend = omega (arith, ints);
+      twice = omega (arith, ints);
+      out = omega (arith, ints);
+      eight = omega (arith, ints);
+      first = omega (arith, ints);
+      second = omega (arith, ints);
+    }
+
 pub first_differences : (b : Coordinates) → CoordinatesFit b → AreDifferences b 0 (record {
   value = pos 64 *ℤ b.from;
-  first = ((pos 28 *ℤ b.control) -ℤ (pos 15 *ℤ b.from)) +ℤ b.to;
-  second = (pos 2 *ℤ (b.from +ℤ b.to)) -ℤ (pos 8 *ℤ b.control);
+  first = ((b.from +ℤ b.to) -ℤ (pos 4 *ℤ b.control)) +ℤ (pos 8 *ℤ ((pos 4 *ℤ b.control) -ℤ (pos 2 *ℤ b.from)));
+  second = pos 2 *ℤ ((b.from +ℤ b.to) -ℤ (pos 4 *ℤ b.control));
 })
 first_differences b fits =
     let q = fits.from in
@@ -82,7 +110,7 @@ first_differences b fits =
     let r = fits.to in record {
       value = omega (arith, ints);
       first = λ less. omega (arith, ints);
-      second = refl;
+      second = omega (arith, ints);
       small = omega (arith, ints);
     }
 

@@ -1,21 +1,19 @@
 -- A tape on which the edges of points stand, one more point at a time.
-use Rattle.std.proofs.Common.{◌≡◌, ℕ, suc, ◌+◌, ◌-◌, ◌<◌, ◌≤◌, false, pos, List, [], ◌∷◌, ◌++◌, length, map, take, drop, get_or, All, refl, sym, ◌∙◌, arith, append_assoc, append-nil, length-drop, add-one, drop-cons}
+use Rattle.std.proofs.Common.{◌≡◌, ℕ, suc, ◌+◌, ◌-◌, ◌<◌, ◌≤◌, false, pos, List, [], ◌∷◌, ◌++◌, length, map, take, drop, get_or, refl, sym, ◌∙◌, arith, append_assoc, append-nil, length-drop, add-one, drop-cons}
 use Rattle.std.specs.List.{flat_map, range_with_len}
 use Rattle.std.proofs.lemmas.Bool.{lt-ltb}
-use Rattle.std.proofs.lemmas.List.{take_all}
+use Rattle.std.proofs.lemmas.List.{take_all, get_or-map}
 use Rattle.tt_scan.specs.declared.edge.Edge.{Edge}
-use Rattle.tt_scan.specs.Tape.{Tape}
 use Rattle.tt_arc.specs.declared.quadratic.Quadratic.{Quadratic}
 use Rattle.tt_arc.specs.declared.quadratic.EdgeEnd.{EdgeEnd}
 use Rattle.tt_arc.specs.declared.point.Point.{Point}
 use Rattle.tt_arc.specs.Chords.{chord_end, edge_between, first_chords, edges_of, point_at, number_before, number_after, edges_at, contour_edges}
 use Rattle.tt_arc.proofs.Eighths.{one_chord_more}
 
-pub one_chord_pushed : (t u v : Tape) (c : Quadratic) (k : ℕ) (from to : EdgeEnd) (e : Edge) → u
-    ≡ record t { edges = t.edges ++ first_chords c k } → from ≡ chord_end c k → to ≡ chord_end c (k + 1) → e
-    ≡ edge_between from to → v ≡ record u { edges = u.edges ++ e ∷ [] } → v
-    ≡ record t { edges = t.edges ++ first_chords c (k + 1) }
-one_chord_pushed t u v c k from to e before is_from is_to is_e after =
+pub one_chord_pushed : (out old new : List Edge) (c : Quadratic) (k : ℕ) (from to : EdgeEnd) (e : Edge) → old
+    ≡ out ++ first_chords c k → from ≡ chord_end c k → to ≡ chord_end c (k + 1) → e ≡ edge_between from to → new
+    ≡ old ++ e ∷ [] → new ≡ out ++ first_chords c (k + 1)
+one_chord_pushed out old new c k from to e before is_from is_to is_e after =
     rw (after, before, is_e, is_from, is_to, one_chord_more c k, append_assoc) refl
 
 -- the edges of a point and those that follow it, where one more point stands before and one following them
@@ -31,11 +29,6 @@ last_of p (q ∷ ps) = last_of q ps
 abbrev nowhere : Point
 nowhere = record { x = pos 0; y = pos 0; on = false }
 
-last_is : {X : Type 0} (f : X → Point) (p : X) (ps : List X) (d : X) → last_of (f p) (map f ps)
-    ≡ f (get_or (p ∷ ps) (length ps) d)
-last_is f p [] d = refl
-last_is f p (q ∷ ps) d = last_is f q ps d
-
 -- the points following the first, as the code walks them
 abbrev pub rest : {X : Type 0} → List X → List X
 rest ps = take (length ps - 1) (drop 1 ps)
@@ -46,15 +39,10 @@ rest_is p ps =
     let tail : drop 1 (p ∷ ps) ≡ ps = refl in
     rw (less, tail, take_all (length ps) ps (omega arith)) refl
 
-pub all_of_rest : {X : Type 0} (P : X → Type 0) (ps : List X) → All P ps → All P (rest ps)
-all_of_rest P [] all k d below = absurd (omega arith)
-all_of_rest P (p ∷ ps) all k d below =
-    let shorter = rw (rest_is p ps) at below in rw (rest_is p ps) (all (suc k) d (omega arith))
-
 after_last : (n i : ℕ) → i + 1 ≡ n → number_after n i ≡ 0
 after_last n i is = grind (arith, is)
 
-after_inner : (n i : ℕ) → i + 1 < n → number_after n i ≡ i + 1
+pub after_inner : (n i : ℕ) → i + 1 < n → number_after n i ≡ i + 1
 after_inner n i below = grind (arith, below)
 
 one_point : (ps : List Point) (k : ℕ) (before p after : Point) → before ≡ point_at ps (number_before (length ps) k) → p
@@ -104,21 +92,25 @@ contour_whole p q ps =
     let last : last_of q ps ≡ point_at (p ∷ q ∷ ps) (number_before (length (p ∷ q ∷ ps)) 0) = rw less (last_at q ps) in
     along_is (p ∷ q ∷ ps) 0 (last_of q ps) p (q ∷ ps) p last refl refl ∙ sym (of_two (p ∷ q ∷ ps) (omega arith))
 
--- a contour of two points or more, as the code walks it
-pub contour_is : {X : Type 0} (f : X → Point) (ps : List X) (d : X) (first before : Point) → 2 ≤ length ps → first
-    ≡ f (get_or ps 0 d) → before ≡ f (get_or ps (length ps - 1) d) → edges_along before first (map f (rest ps)) first
-    ≡ contour_edges (map f ps)
-contour_is f [] d first before two is_first is_before = absurd (omega arith)
-contour_is f (p ∷ []) d first before two is_first is_before = absurd (omega arith)
-contour_is f (p ∷ q ∷ ps) d first before two is_first is_before =
-    let less : length (p ∷ q ∷ ps) - 1 ≡ suc (length ps) = omega arith in
-    let at_last = rw less at is_before in
-    rw (rest_is p (q ∷ ps), is_first, at_last, ← last_is f q ps d) (contour_whole (f p) (f q) (map f ps))
+-- the edges of the points from point i on
+abbrev pub edges_onward : List Point → ℕ → List Edge
+edges_onward ps i = flat_map (edges_at ps) (range_with_len i (length ps - i))
+
+pub all_onward : (ps : List Point) → 1 < length ps → edges_onward ps 0 ≡ contour_edges ps
+all_onward ps two = let whole : length ps - 0 ≡ length ps = omega arith in rw whole (sym (of_two ps two))
+
+pub none_onward : (ps : List Point) (i : ℕ) → length ps ≤ i → edges_onward ps i ≡ []
+none_onward ps i past = let none : length ps - i ≡ 0 = omega arith in rw none refl
 
 -- one point of a contour done
-pub one_point_more : {X : Type 0} (f : X → Point) (out new : List Edge) (xs : List X) (i : ℕ) (d : X)
-    (before p after following : Point) → i < length xs → after ≡ f (get_or xs i d) → new ≡ out ++ edges_of before p after
-    → new ++ edges_along p after (map f (drop (i + 1) xs)) following ≡ out ++ edges_along before p
-    (map f (drop i xs)) following
-one_point_more f out new xs i d before p after following below is_after is_new =
-    rw (is_new, is_after, append_assoc, add-one, drop-cons xs i d below) refl
+pub one_point_more : (ps : List Point) (out new : List Edge) (i : ℕ) (before p after : Point) → i < length ps → before
+    ≡ point_at ps (number_before (length ps) i) → p ≡ point_at ps i → after ≡ point_at ps (number_after (length ps) i)
+    → new ≡ out ++ edges_of before p after → new ++ edges_onward ps (i + 1) ≡ out ++ edges_onward ps i
+one_point_more ps out new i before p after below is_before is_p is_after is_new =
+    let more : length ps - i ≡ suc (length ps - (i + 1)) = omega arith in
+    rw (is_new, more, ← one_point ps i before p after is_before is_p is_after, append_assoc) refl
+
+-- a point of a contour where it is moved
+pub point_is : {X : Type 0} (f : X → Point) (xs : List X) (i : ℕ) (d : X) → i < length xs → f (get_or xs i d)
+    ≡ point_at (map f xs) i
+point_is f xs i d below = sym (get_or-map f xs i d nowhere below)

@@ -10,24 +10,24 @@ use crate::contour::push_contour;
 use crate::point::Offset;
 use std::alloc::{AllocError, Global};
 use tt_fit::Outline;
-use tt_scan::{Frame, Tape};
+use tt_scan::{EdgeList, Frame, Tape};
 
-/// Adds the edges of all contours to a tape. Each end is one past its contour's last point. Error: memory ran out.
+/// Adds the edges of all contours to a list. Each end is one past its contour's last point. Error: memory ran out.
 #[tactic(auto, using(crate::proofs::Contours::none_left))]
 fn push_contours(
-    tape: &mut Tape,
+    list: &mut EdgeList,
     points: &[(i32, i32, bool)],
     ends: &[u32],
     by: Offset,
 ) -> Result<(), AllocError>
     requires ends { AreEnds (length points.now) ends.now }
     requires near { All (IsNear by.dx by.dy) points.now }
-    ensures exact { OnOk result (tape.new ≡ record tape.old { edges = tape.old.edges ++ outline_edges (map (moved by.dx by.dy) points.now) ends.now }) }
+    ensures exact { OnOk result (list.new.edges ≡ list.old.edges ++ outline_edges (map (moved by.dx by.dy) points.now) ends.now) }
 {
     let mut from = 0;
     for end in ends {
         let to = *end as usize;
-        push_contour(tape, &points[from..to], by)?;
+        push_contour(list, &points[from..to], by)?;
         from = to;
     }
     Ok(())
@@ -60,9 +60,10 @@ pub fn chords(
     ensures exact { IfOk result (λ t. t ≡ record { frame = frame; edges = chord_edges outline.now.points.items outline.now.ends.items dx dy; crosses = 0 }) }
     ensures few { IfOk result (λ t. length t.edges ≤ 8 * length outline.now.points.items) }
 {
-    let mut tape = Tape::new(alloc, frame);
+    let mut list = EdgeList::new(alloc);
     // Memory is taken once.
-    tape.reserve(most_edges(&outline.points))?;
-    push_contours(&mut tape, &outline.points, &outline.ends, Offset { dx, dy })?;
+    list.reserve(most_edges(&outline.points))?;
+    push_contours(&mut list, &outline.points, &outline.ends, Offset { dx, dy })?;
+    let tape = Tape::of(alloc, frame, list)?;
     Ok(tape)
 }

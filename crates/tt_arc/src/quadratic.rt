@@ -18,7 +18,7 @@ ghost use Rattle.tt_arc.specs.Chords.{PointFits, CurveEndFits, QuadraticFits, Co
 
 use crate::point::Point;
 use std::alloc::AllocError;
-use tt_scan::{Edge, Tape};
+use tt_scan::{Edge, EdgeList};
 
 /// Where a quadratic begins or ends, in 1/128 pixel.
 #[derive(Clone, Copy)]
@@ -124,10 +124,13 @@ fn differences_at_start(coordinates: Coordinates) -> Differences
     ensures { AreDifferences coordinates 0 result }
 {
     let Coordinates { from, control, to } = coordinates;
+    // With shifts and sums alone, where the plain form has two products.
+    let four = 4 * control;
+    let bend = from + to - four;
     Differences {
         value: 64 * from,
-        first: 28 * control - 15 * from + to,
-        second: 2 * (from + to) - 8 * control,
+        first: bend + 8 * (four - 2 * from),
+        second: 2 * bend,
     }
 }
 
@@ -184,12 +187,14 @@ pub(crate) fn edge_between(a: EdgeEnd, b: EdgeEnd) -> Edge
     }
 }
 
-/// Adds the eight chords of a quadratic to a tape. Error: memory ran out.
+/// Adds the eight chords of a quadratic to a list. Error: memory ran out.
+#[inline(always)]
 #[tactic(auto, using(crate::proofs::Eighths::no_chord))]
-pub(crate) fn push_chords(tape: &mut Tape, curve: Quadratic) -> Result<(), AllocError>
+pub(crate) fn push_chords(list: &mut EdgeList, curve: Quadratic) -> Result<(), AllocError>
     requires { QuadraticFits curve }
-    ensures exact { OnOk result (tape.new ≡ record tape.old { edges = tape.old.edges ++ first_chords curve 8 }) }
+    ensures exact { OnOk result (list.new.edges ≡ list.old.edges ++ first_chords curve 8) }
 {
+    list.reserve(8)?;
     let mut x = differences_at_start(along_x(curve));
     let mut y = differences_at_start(along_y(curve));
     let mut from = edge_end(x, y);
@@ -197,7 +202,7 @@ pub(crate) fn push_chords(tape: &mut Tape, curve: Quadratic) -> Result<(), Alloc
         x = next(x);
         y = next(y);
         let to = edge_end(x, y);
-        tape.push(edge_between(from, to))?;
+        list.push_reserved(edge_between(from, to));
         from = to;
     }
     Ok(())

@@ -5,6 +5,7 @@ pub mod ActiveEdges
 pub mod Columns
 pub mod Crosses
 pub mod Floors
+pub mod Gaps
 pub mod Moved
 mod Pens
 pub mod Points

@@ -1,6 +1,7 @@
 pub mod Contours
 pub mod Counted
 pub mod Crossing
+pub mod EdgeList
 pub mod EdgeTable
 pub mod Marks
 pub mod Stamps

@@ -4,6 +4,7 @@
 //! The way of a row, from edges to black pixels:
 //!
 //! ```text
+//! edge_list.rt    the edges while they are made; their rows are found for all at once, by `Tape::of`
 //! edge_table.rt   the active edges, those that meet the row
 //! counted.rt      each of them is crossed, and each crossing is counted
 //! crossing.rt     what an edge does at the height of the row: the columns that it touches, and where it turns
@@ -20,6 +21,7 @@ mod collect;
 mod counted;
 mod crossing;
 mod edge;
+mod edge_list;
 mod edge_table;
 pub mod laws;
 mod mark;
@@ -35,6 +37,7 @@ mod tape;
 
 pub use bytes::blacken;
 pub use edge::{Cross, Edge, Frame};
+pub use edge_list::EdgeList;
 pub use mark::Span;
 pub use row::row_into;
 pub use sweep::Sweep;

@@ -2,11 +2,12 @@
 
 ghost use Rattle.std.specs.Prelude.{◌≡◌, ℤ, ◌^◌, ◌<◌, ◌+ℤ◌, ◌*ℤ◌, ◌-ℤ◌, ◌⊎◌, true, ◌&&◌, pos, int_lt, int_le, ◌<ℤ◌, ◌≤ℤ◌, unsigned_abs, IfSome};
 ghost use Rattle.tt_scan.specs.Crossing.{AreRows, has_row, spans};
+ghost use Rattle.tt_scan.specs.EdgeList.{IsGapAt, is_in};
 ghost use Rattle.tt_scan.specs.Winding.{EdgeFits, FrameFits, is_between};
 
 use crate::crossing::HALF;
 use crate::edge::{Edge, Frame};
-use crate::quotient::pixels_between;
+use crate::quotient::{PIXEL, pixels_between, whole_pixels};
 
 /// Of the rows from `first` to `last` those of a frame of so many rows: the first of them, and one past the last.
 #[inline(always)]
@@ -19,6 +20,10 @@ fn within(first: i64, last: i64, height: i64) -> (i64, i64)
     ensures order { result.0 ≤ℤ result.1 }
     ensures high { result.1 ≤ℤ height }
 {
+    // Most edges lie within the frame.
+    if 0 <= first && first <= last && last < height {
+        return (first, last + 1);
+    }
     let from = first.clamp(0, height);
     (from, (last + 1).clamp(from, height))
 }
@@ -33,6 +38,44 @@ fn lines_met(edge: Edge) -> Option<(i64, i64)>
     ensures high { IfSome result (λ t. unsigned_abs t.1 < 2 ^ 24) }
 {
     pixels_between(edge.ay.min(edge.by) + HALF, edge.ay.max(edge.by) + HALF)
+}
+
+/// The centre lines of two rows, one above the other, or twice the same: no other stands between them. In 1/8192 pixel.
+#[derive(Clone, Copy)]
+pub(crate) struct Gap {
+    pub(crate) low: i64,
+    pub(crate) high: i64,
+}
+
+/// The gap in which a height lies; nothing lies in it where the height is that of a centre line.
+#[inline(always)]
+pub(crate) fn gap_at(y: i64) -> Gap
+    requires { unsigned_abs y < 2 ^ 30 }
+    ensures { IsGapAt y result }
+{
+    let low = PIXEL * whole_pixels(y + HALF) - HALF;
+    Gap {
+        low,
+        high: if low < y { low + PIXEL } else { low },
+    }
+}
+
+/// The gap in which height `y` lies. That of height `at` is known: edges follow on each other.
+#[inline(always)]
+pub(crate) fn gap_from(gap: Gap, at: i64, y: i64) -> Gap
+    requires gap { IsGapAt at gap }
+    requires fits { unsigned_abs y < 2 ^ 30 }
+    ensures { IsGapAt y result }
+{
+    if y == at { gap } else { gap_at(y) }
+}
+
+/// Whether a height lies in a gap.
+#[inline(always)]
+pub(crate) fn is_in(gap: Gap, y: i64) -> bool
+    ensures { result ≡ is_in gap y }
+{
+    gap.low < y && y < gap.high
 }
 
 /// The centre line of row 0.

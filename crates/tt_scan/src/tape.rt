@@ -1,19 +1,22 @@
 //! The edges of one glyph, in the frame of its picture. They stand in `counted.rt`, so that each crossing is counted.
 
-ghost use Rattle.std.specs.Prelude.{◌≡◌, ℕ, ℤ, false, int_lt, if◌then◌else◌, vec_capacity, ◌+◌, ◌*◌, ◌^◌, ◌<◌, ◌≤◌, ◌<ℤ◌, ◌≤ℤ◌, pos, length, [], ◌∷◌, ◌++◌, get_or, unsigned_abs, All, IfOk, OnOk, OnErr};
+ghost use Rattle.std.specs.Prelude.{◌≡◌, ℕ, ℤ, false, int_lt, if◌then◌else◌, vec_capacity, ◌+◌, ◌*◌, ◌^◌, ◌<◌, ◌≤◌, ◌<ℤ◌, ◌≤ℤ◌, pos, List, length, [], ◌∷◌, ◌++◌, get_or, unsigned_abs, All, IfOk, OnOk, OnErr};
+ghost use Rattle.tt_scan.specs.declared.edge.Edge.{Edge};
 ghost use Rattle.tt_core.specs.Limits.{width_limit, height_limit};
 ghost use Rattle.tt_scan.specs.Winding.{EdgeFits, FrameFits, is_black, column_x, row_y, lies_on_one, winding, rows_met, crossings_of};
 ghost use Rattle.tt_scan.specs.Marks.{covers, turns};
 ghost use Rattle.tt_scan.specs.Crossing.{IsCross, AreRows, AreAllRows, has_row};
+ghost use Rattle.tt_scan.specs.EdgeList.{AreEntered};
 ghost use Rattle.tt_scan.specs.Tape.{edge_at};
 
 use crate::collect::visit_all;
 use crate::counted::CountedEdges;
 use crate::crossing::row_height;
 use crate::edge::{Cross, Edge, Frame};
+use crate::edge_list::EdgeList;
 use crate::edge_table::{EdgeTable, Entry};
 use crate::mark::{Mark, Span};
-use crate::rows::{join, row_range};
+use crate::rows::{gap_at, gap_from, is_in, join, row_range};
 use std::alloc::{AllocError, Global};
 use std::marker::Model;
 
@@ -63,6 +66,26 @@ fn add_entry(table: &mut EdgeTable, rows: (i64, i64), edge: usize) -> Result<(),
     }
 }
 
+/// Adds what is found of an edge with this number, that of the edges before it: its entry, and its rows to those of all.
+#[inline(always)]
+fn enter(
+    table: &mut EdgeTable,
+    all: &mut (i64, i64),
+    edge: Edge,
+    frame: Frame,
+    number: usize,
+) -> Result<(), AllocError>
+    requires edge { EdgeFits edge }
+    requires frame { FrameFits frame }
+    ensures { OnOk result ((es : List Edge) → number ≡ length es → AreEntered es frame all.old table.old.entries
+        → AreEntered (es ++ edge ∷ []) frame all.new table.new.entries) }
+{
+    let rows = row_range(edge, frame);
+    add_entry(table, rows, number)?;
+    join(all, rows);
+    Ok(())
+}
+
 impl Tape {
     /// A tape without edges. It takes no memory yet.
     pub fn new(alloc: Global, frame: Frame) -> Tape
@@ -99,6 +122,35 @@ impl Tape {
         join(&mut self.rows, rows);
         self.edges.push_reserved(edge);
         Ok(())
+    }
+
+    /// The tape of some edges. Those that follow on each other between two rows cost little. Error: memory ran out.
+    pub fn of(alloc: Global, frame: Frame, list: EdgeList) -> Result<Tape, AllocError>
+        requires { FrameFits frame }
+        ensures { IfOk result (λ t. t ≡ record { frame = frame; edges = list.edges; crosses = 0 }) }
+    {
+        let edges = list.into_edges();
+        let mut table = EdgeTable::new(alloc);
+        // Each of them may meet a row.
+        table.reserve(edges.len())?;
+        let mut rows = (0, 0);
+        let mut at = 0;
+        let mut gap = gap_at(at);
+        for i in 0..edges.len() {
+            let edge = edges.lend()[i];
+            gap = gap_from(gap, at, edge.ay);
+            if !is_in(gap, edge.by) {
+                enter(&mut table, &mut rows, edge, frame, i)?;
+                gap = gap_at(edge.by);
+            }
+            at = edge.by;
+        }
+        Ok(Tape {
+            frame,
+            edges,
+            rows,
+            table,
+        })
     }
 
     /// The same edges on a tape of its own, of which no crossing was asked for yet. Error: memory ran out.

@@ -1,42 +1,45 @@
-use Rattle.std.proofs.Common.{◌++◌, ◌-◌, ℤ, pos, Bool, false, length, ap, refl, arith, ◌∙◌}
-use Rattle.tt_arc.specs.Chords.{IsNear, moved}
-use Rattle.tt_arc.proofs.Walks.{rest, all_of_rest, contour_is, one_point_more}
+use Rattle.std.proofs.Common.{◌≡◌, ◌-◌, ◌++◌, ℤ, pos, Bool, false, length, map, ap, arith, add-one, ◌∙◌}
+use Rattle.std.proofs.lemmas.List.{length-map}
+use Rattle.tt_arc.specs.Chords.{moved, number_after, point_at}
+use Rattle.tt_arc.proofs.Walks.{all_onward, one_point_more, point_is, after_inner}
 use Rattle.tt_arc.proofs.contour.push_contour.Goals as goal
 
 nowhere : ℤ × ℤ × Bool
 nowhere = (pos 0, pos 0, false)
 
-pub loop-point-init : goal.loop-point-init
+pub loop-i-init : goal.loop-i-init
 unfolding nowhere
-loop-point-init c =
+loop-i-init c =
     let ps = c.args.points.now in
     let f = moved c.args.by.dx c.args.by.dy in
+    let long = length-map ps f in
     record {
-      walked = ap (λ es. c.args.tape.now.edges ++ es)
-          (contour_is f ps nowhere c.moved-first.result c.moved-before.result c.if-points-lt2.false
-          c.moved-first.ensures c.moved-before.ensures);
-      frame = refl;
-      crosses = refl;
-      rest = all_of_rest (IsNear c.args.by.dx c.args.by.dy) ps c.requires;
-      before = rw c.moved-before.ensures (c.requires (length ps - 1) nowhere (omega (arith, c.if-points-lt2.false)));
-      p = rw c.moved-first.ensures (c.requires 0 nowhere (omega (arith, c.if-points-lt2.false)));
+      walked = ap (λ es. c.args.list.now.edges ++ es) (all_onward (map f ps) (omega (arith, long, c.if-points-lt2.false)));
+      before = rw c.moved-before.ensures (point_is f ps (length ps - 1) nowhere (omega (arith, c.if-points-lt2.false)));
+      p = λ below. rw c.moved-p.ensures (point_is f ps 0 nowhere below);
+      before_fits = rw c.moved-before.ensures (c.requires (length ps - 1) nowhere (omega (arith, c.if-points-lt2.false)));
+      p_fits = rw c.moved-p.ensures (c.requires 0 nowhere (omega (arith, c.if-points-lt2.false)));
     }
 
-pub loop-point-preserved : goal.loop-point-preserved
+pub loop-i-preserved : goal.loop-i-preserved
 unfolding nowhere
-loop-point-preserved c =
-    let xs = rest c.args.points.now in
+loop-i-preserved c =
+    let ps = c.args.points.now in
     let f = moved c.args.by.dx c.args.by.dy in
-    let i = c.loop-point.point-index in
-    let inv = c.loop-point.invariant in
-    let pushed = c.in_ok-push_edges.ensures.exact in
+    let i = c.loop-i.i in
+    let inv = c.loop-i.invariant in
+    let long = length-map ps f in
+    let below = c.loop-i-test.true in
+    let next = c.number_after.ensures.exact in
+    let within = c.number_after.ensures.within in
+    let after : c.moved-after.result ≡ point_at (map f ps) (number_after (length ps) i) =
+    rw (c.moved-after.ensures, ← next) (point_is f ps c.number_after.result nowhere within) in
     record {
-      walked = one_point_more f c.loop-point.tape.edges c.push_edges.new.tape.edges xs i nowhere c.loop-point.before
-          c.loop-point.p c.moved-after.result c.moved-first.result c.loop-point-test.true c.moved-after.ensures
-          (rw pushed refl) ∙ inv.walked;
-      frame = rw pushed inv.frame;
-      crosses = rw pushed inv.crosses;
-      rest = inv.rest;
-      before = inv.p;
-      p = rw c.moved-after.ensures (inv.rest i nowhere c.loop-point-test.true);
+      walked = one_point_more (map f ps) c.loop-i.list.edges c.push_edges.new.list.edges i c.loop-i.before c.loop-i.p
+          c.moved-after.result (omega (arith, long, below)) (rw long inv.before) (inv.p below) (rw long after)
+          c.in_ok-push_edges.ensures.exact ∙ inv.walked;
+      before = rw add-one (inv.p below);
+      p = λ more. rw (← after_inner (length ps) i more) after;
+      before_fits = inv.p_fits;
+      p_fits = rw c.moved-after.ensures (c.requires c.number_after.result nowhere within);
     }

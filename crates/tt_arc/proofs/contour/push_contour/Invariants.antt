@@ -1,15 +1,14 @@
-use Rattle.std.proofs.Common.{◌≡◌, ◌++◌, All, map, drop}
-use Rattle.tt_arc.specs.Chords.{PointFits, IsNear, moved, contour_edges}
-use Rattle.tt_arc.proofs.Walks.{edges_along}
+use Rattle.std.proofs.Common.{◌≡◌, ◌<◌, ◌++◌, length, map}
+use Rattle.tt_arc.specs.Chords.{PointFits, moved, point_at, number_before, contour_edges}
+use Rattle.tt_arc.proofs.Walks.{edges_onward}
 use Rattle.tt_arc.proofs.contour.push_contour.Given as goal
 
-abbrev pub invariant-loop-point : goal.invariant-loop-point
-invariant-loop-point l = record {
-  walked : l.tape.edges ++ edges_along l.before l.p (map (moved l.by.dx l.by.dy) (drop l.point-index l.point-items))
-      l.first ≡ l.fn.tape.edges ++ contour_edges (map (moved l.by.dx l.by.dy) l.points);
-  frame : l.tape.frame ≡ l.fn.tape.frame;
-  crosses : l.tape.crosses ≡ l.fn.tape.crosses;
-  rest : All (IsNear l.by.dx l.by.dy) l.point-items;
-  before : PointFits l.before;
-  p : PointFits l.p;
+abbrev pub invariant-loop-i : goal.invariant-loop-i
+invariant-loop-i l = record {
+  walked : l.list.edges ++ edges_onward (map (moved l.by.dx l.by.dy) l.points) l.i
+      ≡ l.fn.list.edges ++ contour_edges (map (moved l.by.dx l.by.dy) l.points);
+  before : l.before ≡ point_at (map (moved l.by.dx l.by.dy) l.points) (number_before (length l.points) l.i);
+  p : l.i < length l.points → l.p ≡ point_at (map (moved l.by.dx l.by.dy) l.points) l.i;
+  before_fits : PointFits l.before;
+  p_fits : PointFits l.p;
 }

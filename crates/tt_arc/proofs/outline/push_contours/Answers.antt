@@ -24,9 +24,7 @@ loop-end-preserved c =
     let pushed = c.in_ok-push_contour.ensures.exact in
     record {
       walked = one_contour_more (moved c.args.by.dx c.args.by.dy) c.args.points.now c.args.ends.now
-          c.loop-end.tape.edges c.push_contour.new.tape.edges c.loop-end.from i
-          (slice_index c.args.ends.now i) c.loop-end-test.true inv.from refl (rw pushed refl) ∙ inv.walked;
-      frame = rw pushed inv.frame;
-      crosses = rw pushed inv.crosses;
+          c.loop-end.list.edges c.push_contour.new.list.edges c.loop-end.from i
+          (slice_index c.args.ends.now i) c.loop-end-test.true inv.from refl pushed ∙ inv.walked;
       from = rw add-one refl;
     }

@@ -5,9 +5,7 @@ use Rattle.tt_arc.proofs.outline.push_contours.Given as goal
 
 abbrev pub invariant-loop-end : goal.invariant-loop-end
 invariant-loop-end l = record {
-  walked : l.tape.edges ++ edges_from (map (moved l.by.dx l.by.dy) l.points) l.ends l.end-index ≡ l.fn.tape.edges
+  walked : l.list.edges ++ edges_from (map (moved l.by.dx l.by.dy) l.points) l.ends l.end-index ≡ l.fn.list.edges
       ++ outline_edges (map (moved l.by.dx l.by.dy) l.points) l.ends;
-  frame : l.tape.frame ≡ l.fn.tape.frame;
-  crosses : l.tape.crosses ≡ l.fn.tape.crosses;
   from : l.from ≡ contour_start l.ends l.end-index;
 }
