@@ -25,8 +25,8 @@ none_in low high j k is over =
     (λ less. let after : high ≤ℤ (pos 8192 *ℤ k -ℤ pos 4096) = omega (arith, ints) in grind (arith, ints))
     (λ more. let under : (pos 8192 *ℤ k -ℤ pos 4096) ≤ℤ low = omega (arith, ints) in grind (arith, ints))
 
-pub gap_above : (y j low : ℤ) → low ≡ (pos 8192 *ℤ j) -ℤ pos 4096 → (y +ℤ pos 4096) <ℤ (pos 8192 *ℤ (j +ℤ pos 1)) → int_lt low y ≡ true
-    → IsGapAt y (record { low = low; high = low +ℤ pos 8192 })
+pub gap_above : (y j low : ℤ) → low ≡ (pos 8192 *ℤ j) -ℤ pos 4096
+    → (y +ℤ pos 4096) <ℤ (pos 8192 *ℤ (j +ℤ pos 1)) → int_lt low y ≡ true → IsGapAt y (record { low = low; high = low +ℤ pos 8192 })
 gap_above y j low is floor above =
     let over : low <ℤ y = grind (arith, ints) in record {
       none = λ k. none_in low (low +ℤ pos 8192) j k is (omega (arith, ints));
@@ -89,8 +89,8 @@ none_of_none : (row : ℤ) → has_row (pos 0, pos 0) row ≡ true → int_lt (p
 none_of_none row within = absurd (grind (arith, ints))
 
 -- one edge more that no row meets: nothing is to be found of it
-pub unmet_entered : (es : List Edge) (e : Edge) (f : Frame) (r : ℤ × ℤ) (ms : List Entry) → AreEntered es f r ms → IsUnmet f e
-    → AreEntered (es ++ e ∷ []) f r ms
+pub unmet_entered : (es : List Edge) (e : Edge) (f : Frame) (r : ℤ × ℤ) (ms : List Entry)
+    → AreEntered es f r ms → IsUnmet f e → AreEntered (es ++ e ∷ []) f r ms
 unmet_entered es e f r ms are unmet =
     let none = no_rows f e unmet in record {
       rows = rows_joined es e f r (pos 0, pos 0) r are.rows none (λ row has. has)

@@ -1,5 +1,5 @@
--- No part of the standard: the edges of one glyph while they are made, for how many there is memory, and what is found of
--- their rows.
+-- No part of the standard: the edges of one glyph while they are made, for how many there is memory, and what is
+-- found of their rows.
 use Rattle.std.specs.Prelude.{◌≡◌, ℕ, Bool, false, ◌&&◌, ℤ, pos, int_lt, ◌<ℤ◌, ◌-ℤ◌, ◌*ℤ◌, List}
 use Rattle.tt_scan.specs.declared.edge.Edge.{Edge}
 use Rattle.tt_scan.specs.declared.edge.Frame.{Frame}

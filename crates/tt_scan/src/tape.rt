@@ -66,7 +66,7 @@ fn add_entry(table: &mut EdgeTable, rows: (i64, i64), edge: usize) -> Result<(),
     }
 }
 
-/// Adds what is found of an edge with this number, that of the edges before it: its entry, and its rows to those of all.
+/// Adds what is found of an edge, whose number is that of the edges before it: its entry, and its rows to those of all.
 #[inline(always)]
 fn enter(
     table: &mut EdgeTable,
