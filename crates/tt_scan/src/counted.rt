@@ -10,7 +10,10 @@ ghost use Rattle.tt_scan.specs.Tape.{edge_at};
 
 use crate::crossing::{crossing, crossing_met};
 use crate::edge::{Cross, Edge, Frame};
+use crate::edge_table::Entry;
+use crate::mark::Span;
 use crate::rows::row_range;
+use crate::walk::{Walk, begun};
 use std::alloc::{AllocError, Global};
 use std::marker::Model;
 
@@ -131,5 +134,19 @@ impl CountedEdges {
     {
         self.crosses += 1;
         crossing_met(self.edges[i], margin, y)
+    }
+
+    /// An edge at a height that it meets.
+    #[inline(always)]
+    pub(crate) fn begin(&mut self, entry: Entry, margin: u32, y: i64, black: &mut Vec<Span>) -> Walk {
+        self.crosses += 1;
+        begun(self.edges[entry.edge], entry, margin, y, black)
+    }
+
+    /// The same edge in the row below.
+    #[inline(always)]
+    pub(crate) fn walk(&mut self, a: &mut Walk) {
+        self.crosses += 1;
+        a.walk();
     }
 }

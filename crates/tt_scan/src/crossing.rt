@@ -52,7 +52,7 @@ fn from_centre(x: i64, margin: u32) -> i64
 /// The last column whose centre is not right of a rising edge, at a height between its ends; no rest is left where the
 /// edge stands on that centre.
 #[inline(always)]
-fn standing(edge: Edge, margin: u32, y: i64) -> Quotient
+pub(crate) fn standing(edge: Edge, margin: u32, y: i64) -> Quotient
     requires edge { EdgeFits edge }
     requires margin { margin ≤ margin_limit }
     requires rises { edge.ay <ℤ edge.by }
@@ -205,4 +205,12 @@ pub(crate) fn crossing(edge: Edge, margin: u32, y: i64) -> Cross
     } else {
         apart()
     }
+}
+
+/// The columns that a level edge touches.
+#[inline(always)]
+pub(crate) fn flat_touch(edge: Edge, margin: u32) -> Option<(i64, i64)> {
+    let left = from_centre(edge.ax.min(edge.bx), margin);
+    let right = from_centre(edge.ax.max(edge.bx), margin);
+    pixels_between(left, right)
 }
