@@ -13,7 +13,7 @@ use crate::edge::{Cross, Edge, Frame};
 use crate::edge_table::Entry;
 use crate::mark::Span;
 use crate::rows::row_range;
-use crate::walk::{Walk, begun};
+use crate::walk::{Live, Walk, begin_edge};
 use std::alloc::{AllocError, Global};
 use std::marker::Model;
 
@@ -138,15 +138,15 @@ impl CountedEdges {
 
     /// An edge at a height that it meets.
     #[inline(always)]
-    pub(crate) fn begin(&mut self, entry: Entry, margin: u32, y: i64, black: &mut Vec<Span>) -> Walk {
+    pub(crate) fn begin(&mut self, entry: Entry, margin: u32, y: i64, walks: &mut Vec<Walk>, order: &mut Vec<Live>, black: &mut Vec<Span>) {
         self.crosses += 1;
-        begun(self.edges[entry.edge], entry, margin, y, black)
+        begin_edge(self.edges[entry.edge], entry, margin, y, walks, order, black)
     }
 
     /// The same edge in the row below.
     #[inline(always)]
-    pub(crate) fn walk(&mut self, a: &mut Walk) {
+    pub(crate) fn walk(&mut self, walk: &mut Walk, live: Live, black: &mut Vec<Span>) -> Live {
         self.crosses += 1;
-        a.walk();
+        walk.walked(live, black)
     }
 }

@@ -13,7 +13,7 @@ use crate::edge::{Cross, Edge, Frame};
 use crate::edge_table::{EdgeTable, Entry};
 use crate::mark::{Mark, Span};
 use crate::rows::{join, row_range};
-use crate::walk::Walk;
+use crate::walk::Live;
 use std::alloc::{AllocError, Global};
 use std::marker::Model;
 
@@ -203,7 +203,7 @@ impl Tape {
         self.table.activate(&mut self.edges, self.frame.margin, y, r as i32, black);
     }
 
-    pub(crate) fn active(&self) -> &[Walk] {
+    pub(crate) fn active(&self) -> &[Live] {
         self.table.active()
     }
 }
