@@ -4,14 +4,13 @@ use Rattle.std.specs.Prelude.{◌≡◌, ℕ, ◌<◌, ◌≤◌, Bool, false, �
 use Rattle.tt_scan.specs.declared.edge.Edge.{Edge}
 use Rattle.tt_scan.specs.declared.edge.Frame.{Frame}
 use Rattle.tt_scan.specs.declared.edge_table.Entry.{Entry}
-use Rattle.tt_scan.specs.declared.walk.Live.{Live}
 use Rattle.tt_scan.specs.Crossing.{AreRows, has_row}
 use Rattle.tt_scan.specs.Tape.{edge_at}
 use Rattle.tt_scan.specs.Winding.{row_y, is_between}
 
 pub record EdgeTable : Type 0 where
   pub entries : List Entry
-  pub active : List Live
+  pub active : List Entry
 
 -- the edge of an entry meets a row
 abbrev pub meets_row : ℤ → Entry → Bool

@@ -11,9 +11,8 @@ ghost use Rattle.tt_scan.specs.Tape.{edge_at};
 use crate::crossing::{crossing, crossing_met};
 use crate::edge::{Cross, Edge, Frame};
 use crate::edge_table::Entry;
-use crate::mark::Span;
 use crate::rows::row_range;
-use crate::walk::{Live, Walk, begin_edge};
+use crate::walk::Walk;
 use std::alloc::{AllocError, Global};
 use std::marker::Model;
 
@@ -136,17 +135,17 @@ impl CountedEdges {
         crossing_met(self.edges[i], margin, y)
     }
 
-    /// An edge at a height that it meets.
+    /// An edge that is to be walked from a height down; it's not crossed yet.
     #[inline(always)]
-    pub(crate) fn begin(&mut self, entry: Entry, margin: u32, y: i64, walks: &mut Vec<Walk>, order: &mut Vec<Live>, black: &mut Vec<Span>) {
-        self.crosses += 1;
-        begin_edge(self.edges[entry.edge], entry, margin, y, walks, order, black)
+    pub(crate) fn start(&self, entry: Entry, margin: u32, y: i64) -> Walk {
+        Walk::new(self.edges[entry.edge], entry, margin, y)
     }
 
-    /// The same edge in the row below.
+    /// What an edge does in the row below the one where it was asked last.
     #[inline(always)]
-    pub(crate) fn walk(&mut self, walk: &mut Walk, live: Live, black: &mut Vec<Span>) -> Live {
+    pub(crate) fn cross_below(&mut self, walk: &mut Walk) -> Cross {
         self.crosses += 1;
-        walk.walked(live, black)
+        walk.go_down();
+        walk.cross()
     }
 }

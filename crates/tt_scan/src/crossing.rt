@@ -70,7 +70,7 @@ pub(crate) fn standing(edge: Edge, margin: u32, y: i64) -> Quotient
 
 /// That column as the columns which the edge touches.
 #[inline(always)]
-fn touched(at: Quotient) -> Option<(i64, i64)>
+pub(crate) fn touched(at: Quotient) -> Option<(i64, i64)>
     ensures exact { (c : ℤ) → spans result c ≡ (is_zero at.rest && is_zero (at.whole -ℤ c)) }
     ensures order { IfSome result (λ t. t.0 ≤ℤ t.1) }
 {
@@ -205,12 +205,4 @@ pub(crate) fn crossing(edge: Edge, margin: u32, y: i64) -> Cross
     } else {
         apart()
     }
-}
-
-/// The columns that a level edge touches.
-#[inline(always)]
-pub(crate) fn flat_touch(edge: Edge, margin: u32) -> Option<(i64, i64)> {
-    let left = from_centre(edge.ax.min(edge.bx), margin);
-    let right = from_centre(edge.ax.max(edge.bx), margin);
-    pixels_between(left, right)
 }

@@ -64,9 +64,11 @@ impl Sweep {
         // Each edge is crossed once where it meets the row, and else not at all.
         ensures crosses { tape.new.crosses ≡ tape.old.crosses + rows_met tape.old.edges (row_y tape.old.frame r) }
     {
+        self.marks.clear();
         self.spans.clear();
-        tape.collect(r, &mut self.spans);
-        wind(tape.active(), &mut self.spans);
+        tape.collect(r, &mut self.marks, &mut self.spans);
+        sort(&mut self.marks);
+        wind(&self.marks, &mut self.spans);
         self.stamp = stamped(&self.spans);
     }
 

@@ -13,7 +13,6 @@ use crate::edge::{Cross, Edge, Frame};
 use crate::edge_table::{EdgeTable, Entry};
 use crate::mark::{Mark, Span};
 use crate::rows::{join, row_range};
-use crate::walk::Live;
 use std::alloc::{AllocError, Global};
 use std::marker::Model;
 
@@ -196,14 +195,34 @@ impl Tape {
             .cross(i, self.frame.margin, row_height(self.frame, row))
     }
 
-    /// The edges that meet a row become active, in order of their columns. Each of them is crossed once, and no other.
-    pub(crate) fn collect(&mut self, r: i64, black: &mut Vec<Span>)
+    /// What the edges that meet a row leave of it. Each of them is crossed once, and no other.
+    pub(crate) fn collect(&mut self, r: i64, marks: &mut Vec<Mark>, black: &mut Vec<Span>)
+        requires row_low { pos 0 ≤ℤ r }
+        requires row_high { r <ℤ pos self.old.frame.height }
+        requires count { self.old.crosses + length self.old.edges ≤ 2 ^ 63 }
+        requires none { marks.old.items ≡ [] }
+        requires white { black.old.items ≡ [] }
+        requires room { length self.old.edges ≤ vec_capacity marks.old }
+        requires black_room { length self.old.edges ≤ vec_capacity black.old }
+        ensures black { (c : ℤ) → covers black.new.items c
+            ≡ lies_on_one self.old.edges (column_x self.old.frame.margin c) (row_y self.old.frame r) }
+        ensures turns { (c : ℤ) → turns marks.new.items c
+            ≡ winding self.old.edges (column_x self.old.frame.margin c) (row_y self.old.frame r) }
+        ensures count { length marks.new.items ≤ length self.old.edges }
+        ensures black_count { length black.new.items ≤ length self.old.edges }
+        ensures capacity { vec_capacity marks.new ≡ vec_capacity marks.old }
+        ensures black_capacity { vec_capacity black.new ≡ vec_capacity black.old }
+        ensures tape { self.new ≡ record self.old { crosses = self.new.crosses } }
+        ensures crosses { self.new.crosses ≡ self.old.crosses + rows_met self.old.edges (row_y self.old.frame r) }
     {
         let y = row_height(self.frame, r);
-        self.table.activate(&mut self.edges, self.frame.margin, y, r as i32, black);
-    }
-
-    pub(crate) fn active(&self) -> &[Live] {
-        self.table.active()
+        self.table.visit(
+            &mut self.edges,
+            self.frame.margin,
+            y,
+            r as i32,
+            marks,
+            black,
+        );
     }
 }
