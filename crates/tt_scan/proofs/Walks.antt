@@ -1,5 +1,5 @@
 -- An edge from row to row, by a column and a rest.
-use Rattle.std.proofs.Common.{◌≡◌, ℕ, ◌^◌, ◌<◌, ◌≤◌, ap, ◌∙◌, sym, refl, true, ◌&&◌, unsigned_abs, SFits, w64, arith}
+use Rattle.std.proofs.Common.{◌≡◌, ℕ, ◌+◌, ◌*◌, ◌^◌, ◌<◌, ◌≤◌, ap, ◌∙◌, sym, refl, true, ◌&&◌, unsigned_abs, SFits, w64, arith}
 use Rattle.std.specs.Prelude.{ℤ, pos, negsuc, ◌+ℤ◌, ◌-ℤ◌, ◌*ℤ◌, ◌≤ℤ◌, ◌<ℤ◌, int_lt}
 use Rattle.std.proofs.lemmas.Int.{ints, by_lt_z}
 use lib.IntN.{*ℤ_comm}
@@ -59,3 +59,20 @@ on_there e m y c q is = rw (side_there e m y c) (at_floor (divisor_of e) q.whole
 pub right_there : (e : Edge) (m : ℕ) (y c : ℤ) (q : Quotient) → StandsAt e m y q
     → int_lt (side e (column_x m c) y) (pos 0) ≡ int_lt q.whole c
 right_there e m y c q is = rw (side_there e m y c) (below_floor (divisor_of e) q.whole q.rest (number_at e m y) c is.low is.high is.exact)
+
+-- how large a quotient may be
+
+pub small_quotient : (k : ℕ) (d q rest n : ℤ) → pos 2 ≤ℤ d → pos 0 ≤ℤ rest → rest <ℤ d → d *ℤ q +ℤ rest ≡ n → unsigned_abs n ≤ 2 * k
+    → unsigned_abs q ≤ k + 1
+small_quotient k d q rest n large low high is small =
+    let twice : (pos (k + 1) *ℤ pos 2) ≤ℤ (pos (k + 1) *ℤ d) = mul_mono (pos (k + 1)) (pos 2) d (omega (arith, ints)) large in
+    let turned : d *ℤ (pos 0 -ℤ pos (k + 1)) ≡ pos 0 -ℤ d *ℤ pos (k + 1) = omega (arith, ints, mul_diff d (pos 0) (pos (k + 1))) in
+    by_lt_z q (pos 0 -ℤ pos (k + 1))
+    (λ far.
+        let under = floor_above d q rest n (pos 0 -ℤ pos (k + 1)) low high is far in
+        absurd (omega (arith, ints, *ℤ_comm (pos (k + 1)) d)))
+    (λ near. by_lt_z (pos (k + 1)) q
+    (λ far.
+        let above = floor_below d q rest n (pos (k + 1)) (omega (arith, ints)) low is (omega (arith, ints)) in
+        absurd (omega (arith, ints, *ℤ_comm (pos (k + 1)) d)))
+    (λ within. omega (arith, ints)))
