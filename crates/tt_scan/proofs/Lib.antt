@@ -16,3 +16,4 @@ pub mod Unmet
 pub mod Visits
 pub mod Walks
 pub mod Words
+pub mod Followed
