@@ -1,5 +1,5 @@
 -- An edge that is followed from row to row: what it does in each.
-use Rattle.std.proofs.Common.{◌≡◌, ◌≢◌, ℕ, Bool, true, ◌&&◌, ◌×◌, refl, sym, arith}
+use Rattle.std.proofs.Common.{◌≡◌, ◌≢◌, ℕ, Bool, true, ◌&&◌, refl, sym, arith}
 use Rattle.std.specs.Prelude.{ℤ, pos, negsuc, ◌+ℤ◌, ◌-ℤ◌, ◌≤ℤ◌, ◌<ℤ◌, neg_ℤ, IfSome}
 use Rattle.std.proofs.lemmas.Int.{ints, by_lt_z}
 use Rattle.tt_scan.specs.declared.edge.Cross.{Cross}
@@ -29,13 +29,13 @@ walk_crosses e m y w r is sloped here above touch order turn first =
     (λ up.
         let low = from_lower e.ay e.by y up here in
         let high = to_upper e.ay e.by (y +ℤ pos 8192) up above in
-        up_crosses e m y w.at r (is.rises up).0 low (omega (arith, ints, high)) touch order (rw turn (is.rises up).1.1) first)
+        up_crosses e m y w.at r (is.rises up).0 low (omega (arith, ints, high)) touch order (rw (turn, (is.rises up).2) refl) first)
     (λ more. by_lt_z e.by e.ay
     (λ down.
         let low = from_lower_turned e.ay e.by y down here in
         let high = to_upper_turned e.ay e.by (y +ℤ pos 8192) down above in
         let one : Cross = record { touch = r.touch; turn = pos 1; first = r.first } in
-        let falls = (is.falls down).1.1 in
+        let falls = (is.falls down).2 in
         round_cross e (turned_round e) m y one r refl refl refl refl
         (up_crosses (turned_round e) m y w.at one (is.falls down).0 low (omega (arith, ints, high)) touch order refl first)
         refl (rw (turn, falls) refl) refl)
