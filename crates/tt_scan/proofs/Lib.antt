@@ -1,6 +1,6 @@
 mod Edges
-pub mod Bools
 pub mod ActiveEdges
+pub mod Bools
 pub mod Columns
 pub mod Crosses
 pub mod Floors
@@ -14,4 +14,6 @@ pub mod Stretches
 pub mod Totals
 pub mod Unmet
 pub mod Visits
+pub mod Walks
 pub mod Words
+pub mod Followed

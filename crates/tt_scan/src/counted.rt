@@ -2,15 +2,19 @@
 //! `cross` and `cross_met` alone, and each call of these is counted. Its rows are told by `rows_of`, which says nothing of
 //! columns. The edges themselves are lent to dropout control alone, which stands above this crate.
 
-ghost use Rattle.std.specs.Prelude.{◌≡◌, true, ◌+◌, ◌^◌, ◌<◌, ◌≤◌, length, [], ◌∷◌, ◌++◌, unsigned_abs, IfOk, OnOk};
+ghost use Rattle.std.specs.Prelude.{◌≡◌, true, ◌+◌, ◌^◌, ◌≢◌, ◌+ℤ◌, pos, ◌<◌, ◌≤◌, length, [], ◌∷◌, ◌++◌, unsigned_abs, IfOk, OnOk};
 ghost use Rattle.tt_core.specs.Limits.{margin_limit};
 ghost use Rattle.tt_scan.specs.Winding.{EdgeFits, FrameFits, is_between};
 ghost use Rattle.tt_scan.specs.Crossing.{IsCross, AreRows};
+ghost use Rattle.tt_scan.specs.EdgeTable.{edge_of};
 ghost use Rattle.tt_scan.specs.Tape.{edge_at};
+ghost use Rattle.tt_scan.specs.Walks.{IsWalk};
 
 use crate::crossing::{crossing, crossing_met};
 use crate::edge::{Cross, Edge, Frame};
+use crate::edge_table::Entry;
 use crate::rows::row_range;
+use crate::walk::Walk;
 use std::alloc::{AllocError, Global};
 use std::marker::Model;
 
@@ -131,5 +135,41 @@ impl CountedEdges {
     {
         self.crosses += 1;
         crossing_met(self.edges[i], margin, y)
+    }
+
+    /// An edge that is to be walked from a height down; it's not crossed yet.
+    #[inline(always)]
+    pub(crate) fn start(&self, entry: Entry, margin: u32, y: i64) -> Walk
+        requires within { entry.edge < length self.now.edges }
+        requires edge { EdgeFits (edge_of self.now.edges entry) }
+        requires margin { margin ≤ margin_limit }
+        requires sloped { (edge_of self.now.edges entry).ay ≢ (edge_of self.now.edges entry).by }
+        requires met { is_between (edge_of self.now.edges entry).ay (edge_of self.now.edges entry).by y ≡ true }
+        ensures exact { IsWalk (edge_of self.now.edges entry) margin y result }
+        ensures entry { result.entry ≡ entry }
+    {
+        Walk::new(self.edges[entry.edge], entry, margin, y)
+    }
+
+    /// What an edge does at a height a row below the one to which it was walked.
+    #[inline(always)]
+    pub(crate) fn cross_below(&mut self, walk: &mut Walk, margin: u32, y: i64) -> Cross
+        requires within { walk.old.entry.edge < length self.old.edges }
+        requires edge { EdgeFits (edge_of self.old.edges walk.old.entry) }
+        requires margin { margin ≤ margin_limit }
+        requires sloped { (edge_of self.old.edges walk.old.entry).ay ≢ (edge_of self.old.edges walk.old.entry).by }
+        requires met { is_between (edge_of self.old.edges walk.old.entry).ay (edge_of self.old.edges walk.old.entry).by y ≡ true }
+        requires above { is_between (edge_of self.old.edges walk.old.entry).ay (edge_of self.old.edges walk.old.entry).by (y +ℤ pos 8192) ≡ true }
+        requires walk { IsWalk (edge_of self.old.edges walk.old.entry) margin (y +ℤ pos 8192) walk.old }
+        requires count { self.old.crosses < 2 ^ 63 }
+        ensures exact { IsCross (edge_of self.old.edges walk.old.entry) margin y result }
+        ensures bound { unsigned_abs result.turn ≤ 1 }
+        ensures walk { IsWalk (edge_of self.old.edges walk.old.entry) margin y walk.new }
+        ensures entry { walk.new.entry ≡ walk.old.entry }
+        ensures count { self.new ≡ record self.old { crosses = self.old.crosses + 1 } }
+    {
+        self.crosses += 1;
+        walk.go_down();
+        walk.cross()
     }
 }

@@ -19,6 +19,7 @@
 ghost use Rattle.std.specs.Prelude.{◌≡◌, true, ℤ, ◌+◌, ◌^◌, ◌<◌, ◌≤◌, ◌&&◌, pos, int_lt, ◌-ℤ◌, ◌<ℤ◌, ◌≤ℤ◌, unsigned_abs, IfSome};
 ghost use Rattle.tt_core.specs.Limits.{margin_limit};
 ghost use Rattle.tt_scan.specs.Crossing.{spans, IsCross};
+ghost use Rattle.tt_scan.specs.Walks.{StandsAt};
 ghost use Rattle.tt_scan.specs.Winding.{EdgeFits, FrameFits, column_x, row_y, side, is_between, is_zero};
 
 use crate::edge::{Cross, Edge, Frame};
@@ -52,7 +53,7 @@ fn from_centre(x: i64, margin: u32) -> i64
 /// The last column whose centre is not right of a rising edge, at a height between its ends; no rest is left where the
 /// edge stands on that centre.
 #[inline(always)]
-fn standing(edge: Edge, margin: u32, y: i64) -> Quotient
+pub(crate) fn standing(edge: Edge, margin: u32, y: i64) -> Quotient
     requires edge { EdgeFits edge }
     requires margin { margin ≤ margin_limit }
     requires rises { edge.ay <ℤ edge.by }
@@ -61,6 +62,7 @@ fn standing(edge: Edge, margin: u32, y: i64) -> Quotient
     ensures on { (c : ℤ) → is_zero (side edge (column_x margin c) y) ≡ (is_zero result.rest && is_zero (result.whole -ℤ c)) }
     ensures right { (c : ℤ) → int_lt (side edge (column_x margin c) y) (pos 0) ≡ int_lt result.whole c }
     ensures small { unsigned_abs result.whole ≤ 2 ^ 62 + 1 }
+    ensures stands { StandsAt edge margin y result }
 {
     let run = edge.bx - edge.ax;
     let rise = edge.by - edge.ay;
@@ -70,7 +72,7 @@ fn standing(edge: Edge, margin: u32, y: i64) -> Quotient
 
 /// That column as the columns which the edge touches.
 #[inline(always)]
-fn touched(at: Quotient) -> Option<(i64, i64)>
+pub(crate) fn touched(at: Quotient) -> Option<(i64, i64)>
     ensures exact { (c : ℤ) → spans result c ≡ (is_zero at.rest && is_zero (at.whole -ℤ c)) }
     ensures order { IfSome result (λ t. t.0 ≤ℤ t.1) }
 {

@@ -32,6 +32,7 @@ mod stamp;
 mod stretch;
 mod sweep;
 mod tape;
+mod walk;
 
 pub use bytes::blacken;
 pub use edge::{Cross, Edge, Frame};

@@ -7,7 +7,6 @@ ghost use Rattle.tt_scan.specs.Marks.{covers, turns};
 ghost use Rattle.tt_scan.specs.Crossing.{IsCross, AreRows, AreAllRows, has_row};
 ghost use Rattle.tt_scan.specs.Tape.{edge_at};
 
-use crate::collect::visit_all;
 use crate::counted::CountedEdges;
 use crate::crossing::row_height;
 use crate::edge::{Cross, Edge, Frame};
@@ -217,12 +216,11 @@ impl Tape {
         ensures crosses { self.new.crosses ≡ self.old.crosses + rows_met self.old.edges (row_y self.old.frame r) }
     {
         let y = row_height(self.frame, r);
-        self.table.activate(r as i32);
-        visit_all(
+        self.table.visit(
             &mut self.edges,
-            self.table.active(),
             self.frame.margin,
             y,
+            r as i32,
             marks,
             black,
         );
