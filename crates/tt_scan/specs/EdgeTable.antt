@@ -32,6 +32,10 @@ abbrev pub IsInOrder : List Entry → ℤ → Type 0
 IsInOrder ms row = (i j : ℕ) (d : Entry) → i ≤ j → j < length ms → row <ℤ (get_or ms i d).first
     → (get_or ms i d).first ≤ℤ (get_or ms j d).first
 
+-- the first `n` entries stand in order of their first rows
+abbrev pub IsOrderedTo : List Entry → ℕ → Type 0
+IsOrderedTo ms n = (i j : ℕ) (d : Entry) → i ≤ j → j < n → (get_or ms i d).first ≤ℤ (get_or ms j d).first
+
 -- the first `ended` entries end above a row, those after them up to `begun` are active there; what the rest do is not said
 pub record AreSplit (ms : List Entry) (ended begun : ℕ) (row : ℤ) : Type 0 where
   pub order : ended ≤ begun
