@@ -15,3 +15,4 @@ pub mod Totals
 pub mod Unmet
 pub mod Visits
 pub mod Words
+pub mod RowOrder
