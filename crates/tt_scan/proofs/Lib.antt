@@ -17,3 +17,4 @@ pub mod Visits
 pub mod Walks
 pub mod Words
 pub mod Followed
+pub mod RowOrder

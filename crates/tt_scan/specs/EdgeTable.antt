@@ -1,6 +1,6 @@
 -- No part of the standard: the edge table of a scan converter. Its entries are the edges that meet some row of the frame,
 -- and of these the active ones meet the row asked last.
-use Rattle.std.specs.Prelude.{◌≡◌, ℕ, ◌<◌, ◌≤◌, Bool, false, ℤ, pos, ◌<ℤ◌, ◌≤ℤ◌, ◌-ℤ◌, unsigned_abs, List, map, length, get_or, sum_by, All}
+use Rattle.std.specs.Prelude.{◌≡◌, ◌≢◌, ℕ, ◌<◌, ◌≤◌, Bool, false, ℤ, pos, ◌<ℤ◌, ◌≤ℤ◌, ◌-ℤ◌, unsigned_abs, List, map, length, get_or, sum_by, All}
 use Rattle.tt_scan.specs.declared.edge.Edge.{Edge}
 use Rattle.tt_scan.specs.declared.edge.Frame.{Frame}
 use Rattle.tt_scan.specs.declared.edge_table.Entry.{Entry}
@@ -31,6 +31,14 @@ edges_of es ms = map (λ m. edge_of es m) ms
 abbrev pub IsInOrder : List Entry → ℤ → Type 0
 IsInOrder ms row = (i j : ℕ) (d : Entry) → i ≤ j → j < length ms → row <ℤ (get_or ms i d).first
     → (get_or ms i d).first ≤ℤ (get_or ms j d).first
+
+-- the first `n` entries stand in order of their first rows
+abbrev pub IsOrderedTo : List Entry → ℕ → Type 0
+IsOrderedTo ms n = (i j : ℕ) (d : Entry) → i ≤ j → j < n → (get_or ms i d).first ≤ℤ (get_or ms j d).first
+
+-- the first `n` stand so, but entry `k` may belong before its place
+abbrev pub IsOrderedBut : List Entry → ℕ → ℕ → Type 0
+IsOrderedBut ms n k = (i j : ℕ) (d : Entry) → i ≤ j → j < n → j ≢ k → (get_or ms i d).first ≤ℤ (get_or ms j d).first
 
 -- the first `ended` entries end above a row, those after them up to `begun` are active there; what the rest do is not said
 pub record AreSplit (ms : List Entry) (ended begun : ℕ) (row : ℤ) : Type 0 where

@@ -27,6 +27,7 @@ mod paint;
 mod pixel;
 mod quotient;
 mod row;
+mod row_order;
 mod rows;
 mod stamp;
 mod stretch;
