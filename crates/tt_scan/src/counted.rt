@@ -139,15 +139,9 @@ impl CountedEdges {
 
     /// An edge that is to be walked from a height down; it's not crossed yet.
     #[inline(always)]
-    pub(crate) fn start(&self, entry: Entry, margin: u32, y: i64) -> Walk
-        requires within { entry.edge < length self.now.edges }
-        requires edge { EdgeFits (edge_of self.now.edges entry) }
-        requires margin { margin ≤ margin_limit }
-        requires sloped { (edge_of self.now.edges entry).ay ≢ (edge_of self.now.edges entry).by }
-        requires met { is_between (edge_of self.now.edges entry).ay (edge_of self.now.edges entry).by y ≡ true }
-        ensures exact { IsWalk (edge_of self.now.edges entry) margin y result }
-        ensures entry { result.entry ≡ entry }
+    pub(crate) fn start(&mut self, entry: Entry, margin: u32, y: i64) -> (Walk, Cross)
     {
+        self.crosses += 1;
         Walk::new(self.edges[entry.edge], entry, margin, y)
     }
 
