@@ -1,8 +1,9 @@
 -- No part of the standard: the edge table of a scan converter. Its entries are the edges that meet some row of the frame,
 -- and of these some are walked from row to row.
-use Rattle.std.specs.Prelude.{◌≡◌, ◌≢◌, ℕ, ◌<◌, ◌≤◌, Bool, false, ℤ, pos, int_lt, ◌<ℤ◌, ◌≤ℤ◌, ◌+ℤ◌, ◌-ℤ◌, unsigned_abs, if◌then◌else◌, List, map, length, get_or, take, sum_by, All}
+use Rattle.std.specs.Prelude.{◌≡◌, ◌≢◌, ℕ, ◌<◌, ◌≤◌, Bool, true, false, ℤ, pos, int_lt, ◌<ℤ◌, ◌≤ℤ◌, ◌+ℤ◌, ◌-ℤ◌, unsigned_abs, if◌then◌else◌, List, map, length, get_or, take, sum_by, vec_capacity, All}
 use Rattle.tt_scan.specs.declared.edge.Edge.{Edge}
 use Rattle.tt_scan.specs.declared.edge.Frame.{Frame}
+use Rattle.tt_scan.specs.declared.edge_table.EdgeTable.{EdgeTable}
 use Rattle.tt_scan.specs.declared.edge_table.Entry.{Entry}
 use Rattle.tt_scan.specs.declared.mark.Mark.{Mark}
 use Rattle.tt_scan.specs.declared.mark.Span.{Span}
@@ -12,13 +13,6 @@ use Rattle.tt_scan.specs.Marks.{covers, turns}
 use Rattle.tt_scan.specs.Tape.{edge_at}
 use Rattle.tt_scan.specs.Walks.{IsWalk}
 use Rattle.tt_scan.specs.Winding.{column_x, row_y, is_between, lies_on_one, winding}
-
-pub record EdgeTable : Type 0 where
-  pub entries : List Entry
-  pub walks : List Walk
-  pub begun : ℕ
-  pub row : ℤ
-  pub sorted : Bool
 
 -- the edge of an entry meets a row
 abbrev pub meets_row : ℤ → Entry → Bool
@@ -73,11 +67,11 @@ pub record AreWalked (es : List Edge) (f : Frame) (row : ℤ) (ms : List Entry) 
   pub on : All (λ w. (row +ℤ pos 1) <ℤ w.entry.past) ws
 
 -- what the edges of some entries leave of a row
-pub record AreLeft (es : List Edge) (margin : ℕ) (y : ℤ) (ms : List Entry) (marks : List Mark) (black : List Span) : Type 0 where
-  pub black : (c : ℤ) → covers black c ≡ lies_on_one (edges_of es ms) (column_x margin c) y
-  pub turns : (c : ℤ) → turns marks c ≡ winding (edges_of es ms) (column_x margin c) y
-  pub count : length marks ≤ length ms
-  pub black_count : length black ≤ length ms
+pub record AreLeft (es : List Edge) (margin : ℕ) (y : ℤ) (ms : List Entry) (left : List Mark) (spans : List Span) : Type 0 where
+  pub black : (c : ℤ) → covers spans c ≡ lies_on_one (edges_of es ms) (column_x margin c) y
+  pub turn : (c : ℤ) → turns left c ≡ winding (edges_of es ms) (column_x margin c) y
+  pub count : length left ≤ length ms
+  pub black_count : length spans ≤ length ms
 
 -- no row of the frame meets an edge
 abbrev pub IsUnmet : Frame → Edge → Type 0
@@ -89,3 +83,15 @@ pub record IsTableOf (es : List Edge) (f : Frame) (ms : List Entry) : Type 0 whe
   pub numbers : All (λ m. m.edge < length es) ms
   pub rows : All (λ m. AreRows (edge_of es m) f (m.first, m.past)) ms
   pub sums : (g : Edge → ℕ) → ((e : Edge) → IsUnmet f e → g e ≡ 0) → sum_by (λ m. g (edge_of es m)) ms ≡ sum_by g es
+
+-- there is memory for the walks of all edges of more rows than one
+pub record HasRoom (t : EdgeTable) : Type 0 where
+  pub long : t.long ≡ sum_by is_long t.entries.items
+  pub room : t.long ≤ vec_capacity t.walks
+
+-- the edge table of a tape between two calls
+pub record IsReady (es : List Edge) (f : Frame) (t : EdgeTable) : Type 0 where
+  pub table : IsTableOf es f t.entries.items
+  pub room : HasRoom t
+  pub walked : t.sorted ≡ true → AreWalked es f t.row t.entries.items t.begun t.walks.items
+  pub order : t.sorted ≡ true → (row : ℤ) → IsInOrder t.entries.items row

@@ -137,9 +137,20 @@ impl CountedEdges {
         crossing_met(self.edges[i], margin, y)
     }
 
-    /// An edge that is to be walked from a height down; it's not crossed yet.
+    /// An edge that is to be walked from a height down, and what it does there.
     #[inline(always)]
     pub(crate) fn start(&mut self, entry: Entry, margin: u32, y: i64) -> (Walk, Cross)
+        requires within { entry.edge < length self.old.edges }
+        requires edge { EdgeFits (edge_of self.old.edges entry) }
+        requires margin { margin ≤ margin_limit }
+        requires sloped { (edge_of self.old.edges entry).ay ≢ (edge_of self.old.edges entry).by }
+        requires met { is_between (edge_of self.old.edges entry).ay (edge_of self.old.edges entry).by y ≡ true }
+        requires count { self.old.crosses < 2 ^ 63 }
+        ensures walk { IsWalk (edge_of self.old.edges entry) margin y result.0 }
+        ensures entry { result.0.entry ≡ entry }
+        ensures exact { IsCross (edge_of self.old.edges entry) margin y result.1 }
+        ensures bound { unsigned_abs result.1.turn ≤ 1 }
+        ensures count { self.new ≡ record self.old { crosses = self.old.crosses + 1 } }
     {
         self.crosses += 1;
         Walk::new(self.edges[entry.edge], entry, margin, y)
@@ -158,6 +169,7 @@ impl CountedEdges {
         requires count { self.old.crosses < 2 ^ 63 }
         ensures exact { IsCross (edge_of self.old.edges walk.old.entry) margin y result }
         ensures bound { unsigned_abs result.turn ≤ 1 }
+        ensures some { result.turn ≢ pos 0 }
         ensures walk { IsWalk (edge_of self.old.edges walk.old.entry) margin y walk.new }
         ensures entry { walk.new.entry ≡ walk.old.entry }
         ensures count { self.new ≡ record self.old { crosses = self.old.crosses + 1 } }
