@@ -87,5 +87,13 @@ turn_small e m y w sloped is =
     (λ down. let one = (is.falls down).2 in omega (arith, ints, one))
     (λ other. absurd (sloped (omega (arith, ints)))))
 
+pub turn_some : (e : Edge) (m : ℕ) (y : ℤ) (w : Walk) → e.ay ≢ e.by → IsWalk e m y w → w.turn ≢ pos 0
+turn_some e m y w sloped is = λ none.
+    by_lt_z e.ay e.by
+    (λ up. let one = (is.rises up).2 in absurd (omega (arith, ints, one, none)))
+    (λ more. by_lt_z e.by e.ay
+    (λ down. let one = (is.falls down).2 in absurd (omega (arith, ints, one, none)))
+    (λ other. absurd (sloped (omega (arith, ints)))))
+
 pub back_up : (e : Edge) (m : ℕ) (y : ℤ) (w : Walk) → IsWalk e m ((y +ℤ pos 8192) -ℤ pos 8192) w → IsWalk e m y w
 back_up e m y w is = let same : (y +ℤ pos 8192) -ℤ pos 8192 ≡ y = omega (arith, ints) in rw same at is

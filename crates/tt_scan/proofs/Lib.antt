@@ -18,3 +18,4 @@ pub mod Walks
 pub mod Words
 pub mod Followed
 pub mod RowOrder
+pub mod Walked

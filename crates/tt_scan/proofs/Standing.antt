@@ -252,11 +252,11 @@ few_stand es f r active stands =
 
 -- one edge more of the list
 
-on_push : (es : List Edge) (e : Edge) (x y : ℤ) → lies_on_one (es ++ e ∷ []) x y ≡ (lies_on_one es x y || lies_on e x y)
+pub on_push : (es : List Edge) (e : Edge) (x y : ℤ) → lies_on_one (es ++ e ∷ []) x y ≡ (lies_on_one es x y || lies_on e x y)
 on_push [] e x y = or_false (lies_on e x y)
 on_push (d ∷ es) e x y = rw (on_push es e x y) (or_or (lies_on d x y) (lies_on_one es x y) (lies_on e x y))
 
-winding_push : (es : List Edge) (e : Edge) (x y : ℤ) → winding (es ++ e ∷ []) x y ≡ winding es x y +ℤ turned e x y
+pub winding_push : (es : List Edge) (e : Edge) (x y : ℤ) → winding (es ++ e ∷ []) x y ≡ winding es x y +ℤ turned e x y
 winding_push [] e x y = omega (arith, ints)
 winding_push (d ∷ es) e x y = let more = winding_push es e x y in omega (arith, ints)
 

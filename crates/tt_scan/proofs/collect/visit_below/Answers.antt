@@ -4,7 +4,7 @@ use Rattle.tt_scan.specs.Crossing.{IsCross}
 use Rattle.tt_scan.specs.Tape.{edge_at}
 use Rattle.tt_scan.proofs.collect.visit_below.Goals as goal
 
-crossed : (c : goal.After-leave_turn) → IsCross (edge_at c.args.edges.now.edges c.args.walk.now.entry.edge) c.args.margin c.args.y c.cross_below-cross.result
+crossed : (c : goal.After-leave_mark) → IsCross (edge_at c.args.edges.now.edges c.args.walk.now.entry.edge) c.args.margin c.args.y c.cross_below-cross.result
 crossed c = let y : SFits w64 c.args.y = c.ranges.y in simp to_z-of_z at c.cross_below-cross.ensures.exact
 
 pub returns-clause-black : goal.returns-clause-black
@@ -15,4 +15,4 @@ returns-clause-turns c = λ at.
     let turn : SFits w8 c.cross_below-cross.result.turn = search rules in
     let first : SFits w64 c.cross_below-cross.result.first = search rules in
     let exact = crossed c in
-    rw (exact.right at) (c.leave_turn.ensures.turns at)
+    rw (exact.right at) (c.leave_mark.ensures.turns at)

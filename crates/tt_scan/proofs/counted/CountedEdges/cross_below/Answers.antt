@@ -1,8 +1,8 @@
-use Rattle.std.proofs.Common.{◌+ℤ◌, pos, SFits, w64, rules}
+use Rattle.std.proofs.Common.{◌≡◌, ◌≢◌, unsigned_abs, ◌+ℤ◌, pos, SFits, w64, rules}
 use Rattle.std.proofs.lemmas.Int.{to_z-of_z}
 use Rattle.tt_scan.specs.EdgeTable.{edge_of}
 use Rattle.tt_scan.specs.Walks.{IsWalk}
-use Rattle.tt_scan.proofs.Followed.{walk_fits, turn_small, back_up}
+use Rattle.tt_scan.proofs.Followed.{walk_fits, turn_small, turn_some, back_up}
 use Rattle.tt_scan.proofs.counted.CountedEdges.cross_below.Goals as goal
 
 pub go_down-requires : goal.go_down-requires
@@ -35,3 +35,8 @@ returns-clause-exact c =
 
 pub returns-clause-walk : goal.returns-clause-walk
 returns-clause-walk c = went c
+
+pub returns-clause-some : goal.returns-clause-some
+returns-clause-some c =
+    let other = turn_some (edge_of c.args.self.now.edges c.args.walk.now.entry) c.args.margin c.args.y c.go_down.new.self c.requires.sloped (went c) in
+    λ same. other (rw c.cross.ensures.turn at same)
