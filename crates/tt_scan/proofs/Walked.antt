@@ -1,8 +1,9 @@
 -- Edges walked from row to row, those that begin in a row, and what they leave there.
-use Rattle.std.proofs.Common.{◌≡◌, ◌≢◌, ◌∙◌, sym, refl, ap, ℕ, zero, suc, ◌+◌, ◌<◌, ◌≤◌, Bool, true, false, ◌&&◌, ◌||◌, List, [], ◌∷◌, ◌++◌, length, map, take, get_or, filter, sum_by, All, ℤ, pos, ◌+ℤ◌, ◌-ℤ◌, ◌≤ℤ◌, ◌<ℤ◌, int_lt, int_le, if◌then◌else◌, arith}
+use Rattle.std.proofs.Common.{◌≡◌, ◌≢◌, ◌∙◌, sym, refl, ap, ℕ, zero, suc, ◌+◌, ◌<◌, ◌≤◌, Bool, true, false, ◌&&◌, ◌||◌, List, [], ◌∷◌, ◌++◌, length, map, take, get_or, filter, sum_by, All, inl, inr, ℤ, pos, ◌+ℤ◌, ◌-ℤ◌, ◌≤ℤ◌, ◌<ℤ◌, int_lt, int_le, if◌then◌else◌, arith}
 use Rattle.std.specs.List.Sorted.{IsPermutation}
 use Rattle.std.proofs.lemmas.Int.{ints}
-use Rattle.std.proofs.lemmas.List.{append-nil, map-append, take_more}
+use Rattle.std.proofs.lemmas.Bool.{cases_eq}
+use Rattle.std.proofs.lemmas.List.{append-nil, map-append, take_more, length-map, set, get_or-set_same, get_or-set_other}
 use Rattle.std.proofs.lemmas.List.Elements.{All-push, filter-append}
 use Rattle.std.proofs.lemmas.List.Sums.{sum_by-cons, sum_by_push, sum_by-take-le}
 use Rattle.tt_scan.specs.declared.edge.Edge.{Edge}
@@ -40,6 +41,14 @@ met_at e f first past r y are height low high =
     let to = are.high in
     rw height (are.met r (omega (arith, ints, from, low)) (omega (arith, ints, to, high)) ∙ inside first past r low high)
 
+pub sloped_long : (e : Edge) (f : Frame) (first past r y : ℤ) → AreRows e f (first, past) → y ≡ row_y f r → first ≤ℤ r → (r +ℤ pos 1) <ℤ past
+    → e.ay ≢ e.by
+sloped_long e f first past r y are height low on =
+    let up : row_y f (r +ℤ pos 1) +ℤ pos 8192 ≡ y = omega (arith, ints, height) in
+    let here = met_at e f first past (r +ℤ pos 1) (row_y f (r +ℤ pos 1)) are refl (omega (arith, ints, low)) on in
+    let above = met_at e f first past r y are height low (omega (arith, ints, on)) in
+    met_twice e.ay e.by (row_y f (r +ℤ pos 1)) here (rw up above)
+
 pub record GoesBelow (es : List Edge) (margin : ℕ) (y : ℤ) (w : Walk) : Type 0 where
   pub sloped : (edge_of es w.entry).ay ≢ (edge_of es w.entry).by
   pub met : is_between (edge_of es w.entry).ay (edge_of es w.entry).by y ≡ true
@@ -71,6 +80,35 @@ at_below es f r y w v is past height same walk =
       past = rw same past;
       walk = rw (same, ← height) walk;
     }
+
+pub walk_here : (es : List Edge) (f : Frame) (r y : ℤ) (ws vs : List Walk) (i : ℕ) (d : Walk) → All (IsWalkAt es f (r -ℤ pos 1)) vs
+    → All (λ w. r <ℤ w.entry.past) vs → get_or ws i d ≡ get_or vs i d → i < length vs → y ≡ row_y f r → GoesBelow es f.margin y (get_or ws i d)
+walk_here es f r y ws vs i d walks on same below height = rw same (goes_below es f r y (get_or vs i d) (walks i d below) (on i d below) height)
+
+pub walked_here : (es : List Edge) (f : Frame) (r y : ℤ) (ws vs : List Walk) (i : ℕ) (d v : Walk) → All (IsWalkAt es f (r -ℤ pos 1)) vs
+    → All (λ w. r <ℤ w.entry.past) vs → get_or ws i d ≡ get_or vs i d → i < length vs → y ≡ row_y f r
+    → v.entry ≡ (get_or ws i d).entry → IsWalk (edge_of es (get_or ws i d).entry) f.margin y v → IsWalkAt es f r v
+walked_here es f r y ws vs i d v walks on same below height entry walk =
+    at_below es f r y (get_or vs i d) v (walks i d below) (on i d below) height (rw same at entry) (rw same at walk)
+
+-- one walk more stands in the row
+
+pub set_walked : (P : Walk → Type 0) (ws : List Walk) (i : ℕ) (v : Walk) → i < length ws → ((k : ℕ) (d : Walk) → k < i → P (get_or ws k d)) → P v
+    → (k : ℕ) (d : Walk) → k < i + 1 → P (get_or (set ws i v) k d)
+set_walked P ws i v below so_far new = λ k d under. elim (cases_eq k i) [
+  | inl same ↦ rw (same, get_or-set_same ws i v d below) new
+  | inr other ↦ rw (get_or-set_other ws i k v d other) (so_far k d (omega (arith, under, other)))
+]
+
+pub set_above : (ws vs : List Walk) (i : ℕ) (v : Walk) → ((k : ℕ) (d : Walk) → i ≤ k → get_or ws k d ≡ get_or vs k d)
+    → (k : ℕ) (d : Walk) → i + 1 ≤ k → get_or (set ws i v) k d ≡ get_or vs k d
+set_above ws vs i v so_far = λ k d over. rw (get_or-set_other ws i k v d (λ same. omega (arith, same, over))) (so_far k d (omega (arith, over)))
+
+pub entries_more : (ws vs us : List Walk) (i : ℕ) (d : Walk) → i < length us → get_or ws i d ≡ get_or us i d
+    → take (i + 1) (map (λ (w : Walk). w.entry) us) ≡ take i (map (λ (w : Walk). w.entry) us) ++ (get_or ws i d).entry ∷ []
+entries_more ws vs us i d below same =
+    let long : i < length (map (λ (w : Walk). w.entry) us) = rw (length-map (λ (w : Walk). w.entry) us) below in
+    rw (take_more (map (λ (w : Walk). w.entry) us) i d.entry long, entry_at us i d below, same) refl
 
 -- an edge more
 
@@ -178,6 +216,26 @@ room_for_walk es f r ms n d ws are below first on =
 
 -- the entries so far that meet the row
 
+few_met : (r : ℤ) (ms : List Entry) (n : ℕ) → length (filter (meets_row r) (take n ms)) ≤ length (filter (meets_row r) ms)
+few_met r [] zero = omega arith
+few_met r [] (suc n) = omega arith
+few_met r (m ∷ ms) zero = omega arith
+few_met r (m ∷ ms) (suc n) = few_met_at r m ms n (meets_row r m) refl (few_met r ms n)
+
+few_met_at : (r : ℤ) (m : Entry) (ms : List Entry) (n : ℕ) (b : Bool) → meets_row r m ≡ b
+    → length (filter (meets_row r) (take n ms)) ≤ length (filter (meets_row r) ms)
+    → length (filter (meets_row r) (m ∷ take n ms)) ≤ length (filter (meets_row r) (m ∷ ms))
+few_met_at r m ms n true is rest = rw is (omega (arith, rest))
+few_met_at r m ms n false is rest = rw is rest
+
 pub met_more : (r : ℤ) (ms : List Entry) (n : ℕ) (d : Entry) → n < length ms
     → filter (meets_row r) (take (n + 1) ms) ≡ filter (meets_row r) (take n ms) ++ filter (meets_row r) (get_or ms n d ∷ [])
 met_more r ms n d below = rw (take_more ms n d below) (filter-append (meets_row r) (take n ms) (get_or ms n d ∷ []))
+
+pub room_for_mark : (r : ℤ) (ms : List Entry) (n : ℕ) (d : Entry) → n < length ms → meets_row r (get_or ms n d) ≡ true
+    → length (filter (meets_row r) (take n ms)) < length (filter (meets_row r) ms)
+room_for_mark r ms n d below met =
+    let few = few_met r ms (n + 1) in
+    let one : length (filter (meets_row r) (take (n + 1) ms)) ≡ length (filter (meets_row r) (take n ms)) + 1 =
+    rw (met_more r ms n d below, met) (longer (filter (meets_row r) (take n ms)) (get_or ms n d)) in
+    omega (arith, few, one)

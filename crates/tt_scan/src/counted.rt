@@ -89,6 +89,15 @@ impl CountedEdges {
         self.edges.as_slice()
     }
 
+    /// Edge `i`.
+    #[inline(always)]
+    fn edge(&self, i: usize) -> Edge
+        requires { i < length self.now.edges }
+        ensures { result ≡ edge_at self.now.edges i }
+    {
+        self.edges[i]
+    }
+
     /// How many crossings were asked for.
     pub(crate) fn crosses(&self) -> u64
         ensures { result ≡ self.now.crosses }
@@ -152,8 +161,9 @@ impl CountedEdges {
         ensures bound { unsigned_abs result.1.turn ≤ 1 }
         ensures count { self.new ≡ record self.old { crosses = self.old.crosses + 1 } }
     {
+        let edge = self.edge(entry.edge);
         self.crosses += 1;
-        Walk::new(self.edges[entry.edge], entry, margin, y)
+        Walk::new(edge, entry, margin, y)
     }
 
     /// What an edge does at a height a row below the one to which it was walked.
