@@ -1,10 +1,11 @@
 -- Edges walked from row to row, those that begin in a row, and what they leave there.
-use Rattle.std.proofs.Common.{◌≡◌, ◌≢◌, ◌∙◌, sym, refl, ap, ℕ, zero, suc, ◌+◌, ◌<◌, ◌≤◌, Bool, true, false, ◌&&◌, ◌||◌, List, [], ◌∷◌, ◌++◌, length, map, take, get_or, filter, sum_by, All, inl, inr, ℤ, pos, ◌+ℤ◌, ◌-ℤ◌, ◌≤ℤ◌, ◌<ℤ◌, int_lt, int_le, if◌then◌else◌, arith}
+use Rattle.std.proofs.Common.{◌≡◌, ◌≢◌, ◌∙◌, sym, refl, ap, ℕ, zero, suc, ◌+◌, ◌<◌, ◌≤◌, Bool, true, false, ◌&&◌, ◌||◌, List, [], ◌∷◌, ◌++◌, length, map, take, drop, get_or, filter, sum_by, All, inl, inr, ℤ, pos, ◌+ℤ◌, ◌-ℤ◌, ◌≤ℤ◌, ◌<ℤ◌, int_lt, int_le, if◌then◌else◌, arith}
 use Rattle.std.specs.List.Sorted.{IsPermutation}
+use Rattle.std.specs.Prelude.{set}
 use Rattle.std.proofs.lemmas.Int.{ints}
 use Rattle.std.proofs.lemmas.Bool.{cases_eq}
-use Rattle.std.proofs.lemmas.List.{append-nil, map-append, take_more, length-map, set, get_or-set_same, get_or-set_other}
-use Rattle.std.proofs.lemmas.List.Elements.{All-push, filter-append}
+use Rattle.std.proofs.lemmas.List.{append-nil, map-append, take_more, take_all, take-append-drop, get_or-drop, length-drop, length-map, get_or-set_same, get_or-set_other}
+use Rattle.std.proofs.lemmas.List.Elements.{All-push, All-cons, filter-append}
 use Rattle.std.proofs.lemmas.List.Sums.{sum_by-cons, sum_by_push, sum_by-take-le}
 use Rattle.tt_scan.specs.declared.edge.Edge.{Edge}
 use Rattle.tt_scan.specs.declared.edge.Frame.{Frame}
@@ -13,10 +14,11 @@ use Rattle.tt_scan.specs.declared.mark.Mark.{Mark}
 use Rattle.tt_scan.specs.declared.mark.Span.{Span}
 use Rattle.tt_scan.specs.declared.walk.Walk.{Walk}
 use Rattle.tt_scan.specs.Crossing.{AreRows}
-use Rattle.tt_scan.specs.EdgeTable.{AreLeft, AreWalked, IsWalkAt, edge_of, edges_of, if_on, is_long, meets_row}
+use Rattle.tt_scan.specs.EdgeTable.{AreLeft, AreWalked, IsInOrder, IsWalkAt, edge_of, edges_of, if_on, is_long, meets_row}
 use Rattle.tt_scan.specs.Marks.{covers, turns}
 use Rattle.tt_scan.specs.Walks.{IsWalk}
 use Rattle.tt_scan.specs.Winding.{column_x, row_y, is_between, lies_on, lies_on_one, turned, winding}
+use Rattle.tt_scan.proofs.ActiveEdges.{none_met}
 use Rattle.tt_scan.proofs.Crosses.{level_here}
 use Rattle.tt_scan.proofs.Standing.{on_push, winding_push}
 
@@ -78,7 +80,7 @@ at_below es f r y w v is past height same walk =
       rows = rw same is.rows;
       first = rw same (omega (arith, ints, first));
       past = rw same past;
-      walk = rw (same, ← height) walk;
+      walk = rw height at (rw (← same) at walk);
     }
 
 pub walk_here : (es : List Edge) (f : Frame) (r y : ℤ) (ws vs : List Walk) (i : ℕ) (d : Walk) → All (IsWalkAt es f (r -ℤ pos 1)) vs
@@ -104,10 +106,15 @@ pub set_above : (ws vs : List Walk) (i : ℕ) (v : Walk) → ((k : ℕ) (d : Wal
     → (k : ℕ) (d : Walk) → i + 1 ≤ k → get_or (set ws i v) k d ≡ get_or vs k d
 set_above ws vs i v so_far = λ k d over. rw (get_or-set_other ws i k v d (λ same. omega (arith, same, over))) (so_far k d (omega (arith, over)))
 
+pub entry_at : (ws : List Walk) (i : ℕ) (d : Walk) → i < length ws → get_or (map (λ (w : Walk). w.entry) ws) i d.entry ≡ (get_or ws i d).entry
+entry_at [] i d below = absurd (omega arith)
+entry_at (w ∷ ws) zero d below = refl
+entry_at (w ∷ ws) (suc i) d below = entry_at ws i d (omega arith)
+
 pub entries_more : (ws vs us : List Walk) (i : ℕ) (d : Walk) → i < length us → get_or ws i d ≡ get_or us i d
     → take (i + 1) (map (λ (w : Walk). w.entry) us) ≡ take i (map (λ (w : Walk). w.entry) us) ++ (get_or ws i d).entry ∷ []
 entries_more ws vs us i d below same =
-    let long : i < length (map (λ (w : Walk). w.entry) us) = rw (length-map (λ (w : Walk). w.entry) us) below in
+    let long : i < length (map (λ (w : Walk). w.entry) us) = rw (length-map us (λ (w : Walk). w.entry)) below in
     rw (take_more (map (λ (w : Walk). w.entry) us) i d.entry long, entry_at us i d below, same) refl
 
 -- an edge more
@@ -136,20 +143,10 @@ left_push es m y ms n ks kt ss st are black turn count black_count =
 
 -- entries of walks
 
-pub entry_at : (ws : List Walk) (i : ℕ) (d : Walk) → i < length ws → get_or (map (λ (w : Walk). w.entry) ws) i d.entry ≡ (get_or ws i d).entry
-entry_at [] i d below = absurd (omega arith)
-entry_at (w ∷ ws) zero d below = refl
-entry_at (w ∷ ws) (suc i) d below = entry_at ws i d (omega arith)
-
 pub sum_of_entries : (g : Entry → ℕ) (ws : List Walk) → sum_by g (map (λ (w : Walk). w.entry) ws) ≡ sum_by (λ w. g w.entry) ws
 sum_of_entries g [] = refl
 sum_of_entries g (w ∷ ws) =
     sum_by-cons g w.entry (map (λ (v : Walk). v.entry) ws) ∙ rw (sum_of_entries g ws) (sym (sum_by-cons (λ (v : Walk). g v.entry) w ws))
-
-pub sum_if : (r : ℤ) (g : Entry → ℕ) (ws : List Walk)
-    → sum_by (λ w. g w.entry) (filter (λ (w : Walk). int_lt (r +ℤ pos 1) w.entry.past) ws) ≡ sum_by (if_on r g) (map (λ (w : Walk). w.entry) ws)
-sum_if r g [] = refl
-sum_if r g (w ∷ ws) = sum_if_at r g w ws (int_lt (r +ℤ pos 1) w.entry.past) refl (sum_if r g ws)
 
 sum_if_at : (r : ℤ) (g : Entry → ℕ) (w : Walk) (ws : List Walk) (b : Bool) → int_lt (r +ℤ pos 1) w.entry.past ≡ b
     → sum_by (λ v. g v.entry) (filter (λ (v : Walk). int_lt (r +ℤ pos 1) v.entry.past) ws) ≡ sum_by (if_on r g) (map (λ (v : Walk). v.entry) ws)
@@ -161,6 +158,11 @@ sum_if_at r g w ws true is rest =
 sum_if_at r g w ws false is rest =
     let whole = sum_by-cons (if_on r g) w.entry (map (λ (v : Walk). v.entry) ws) in
     rw (whole, is) (omega (arith, rest))
+
+pub sum_if : (r : ℤ) (g : Entry → ℕ) (ws : List Walk)
+    → sum_by (λ w. g w.entry) (filter (λ (w : Walk). int_lt (r +ℤ pos 1) w.entry.past) ws) ≡ sum_by (if_on r g) (map (λ (w : Walk). w.entry) ws)
+sum_if r g [] = refl
+sum_if r g (w ∷ ws) = sum_if_at r g w ws (int_lt (r +ℤ pos 1) w.entry.past) refl (sum_if r g ws)
 
 -- so many entries begun
 
@@ -193,7 +195,7 @@ ones (w ∷ ws) = let whole = sum_by-cons (λ (v : Walk). 1) w ws in let rest = 
 on_long : (first past r : ℤ) → first ≤ℤ r → (if int_lt (r +ℤ pos 1) past then 1 else 0) ≤ (if int_lt (first +ℤ pos 1) past then 1 else 0)
 on_long first past r begun = grind (arith, ints)
 
-long_there : (first past r : ℤ) → first ≤ℤ r → (r +ℤ pos 1) <ℤ past → (if int_lt (first +ℤ pos 1) past then 1 else 0) ≡ 1
+long_there : (first past r : ℤ) → first ≤ℤ r → (r +ℤ pos 1) <ℤ past → ◌≡◌ {A = ℕ} (if int_lt (first +ℤ pos 1) past then 1 else 0) 1
 long_there first past r begun on = grind (arith, ints)
 
 pub few_walks : (es : List Edge) (f : Frame) (r : ℤ) (ms : List Entry) (n : ℕ) (ws : List Walk) → AreWalked es f r ms n ws → length ws ≤ sum_by is_long (take n ms)
@@ -216,17 +218,17 @@ room_for_walk es f r ms n d ws are below first on =
 
 -- the entries so far that meet the row
 
-few_met : (r : ℤ) (ms : List Entry) (n : ℕ) → length (filter (meets_row r) (take n ms)) ≤ length (filter (meets_row r) ms)
-few_met r [] zero = omega arith
-few_met r [] (suc n) = omega arith
-few_met r (m ∷ ms) zero = omega arith
-few_met r (m ∷ ms) (suc n) = few_met_at r m ms n (meets_row r m) refl (few_met r ms n)
-
 few_met_at : (r : ℤ) (m : Entry) (ms : List Entry) (n : ℕ) (b : Bool) → meets_row r m ≡ b
     → length (filter (meets_row r) (take n ms)) ≤ length (filter (meets_row r) ms)
     → length (filter (meets_row r) (m ∷ take n ms)) ≤ length (filter (meets_row r) (m ∷ ms))
 few_met_at r m ms n true is rest = rw is (omega (arith, rest))
 few_met_at r m ms n false is rest = rw is rest
+
+few_met : (r : ℤ) (ms : List Entry) (n : ℕ) → length (filter (meets_row r) (take n ms)) ≤ length (filter (meets_row r) ms)
+few_met r [] zero = omega arith
+few_met r [] (suc n) = omega arith
+few_met r (m ∷ ms) zero = omega arith
+few_met r (m ∷ ms) (suc n) = few_met_at r m ms n (meets_row r m) refl (few_met r ms n)
 
 pub met_more : (r : ℤ) (ms : List Entry) (n : ℕ) (d : Entry) → n < length ms
     → filter (meets_row r) (take (n + 1) ms) ≡ filter (meets_row r) (take n ms) ++ filter (meets_row r) (get_or ms n d ∷ [])
@@ -239,3 +241,68 @@ room_for_mark r ms n d below met =
     let one : length (filter (meets_row r) (take (n + 1) ms)) ≡ length (filter (meets_row r) (take n ms)) + 1 =
     rw (met_more r ms n d below, met) (longer (filter (meets_row r) (take n ms)) (get_or ms n d)) in
     omega (arith, few, one)
+
+-- where an entry begins below the row, so do those after it
+
+pub all_met : (r : ℤ) (ms : List Entry) (n : ℕ) → IsInOrder ms r → n < length ms → ((d : Entry) → r <ℤ (get_or ms n d).first)
+    → filter (meets_row r) (take n ms) ≡ filter (meets_row r) ms
+all_met r ms n order below after =
+    let later = none_met r (drop n ms) (λ i d under.
+        let long = length-drop n ms in
+        let first = after d in
+        let up = order n (n + i) d (omega arith) (omega (arith, under, long)) first in
+        rw (get_or-drop n ms i d) (omega (arith, ints, first, up))) in
+    let whole : filter (meets_row r) (take n ms ++ drop n ms) ≡ filter (meets_row r) (take n ms) ++ filter (meets_row r) (drop n ms) =
+    filter-append (meets_row r) (take n ms) (drop n ms) in
+    let parted : filter (meets_row r) ms ≡ filter (meets_row r) (take n ms) ++ filter (meets_row r) (drop n ms) = rw (take-append-drop n ms) at whole in
+    sym (parted ∙ rw later (append-nil (filter (meets_row r) (take n ms))))
+
+-- a walk begun in the row
+
+pub begun_at : (es : List Edge) (f : Frame) (r y : ℤ) (m : Entry) (w : Walk) → w.entry ≡ m → m.edge < length es
+    → AreRows (edge_of es m) f (m.first, m.past) → m.first ≤ℤ r → r <ℤ m.past → y ≡ row_y f r → IsWalk (edge_of es m) f.margin y w → IsWalkAt es f r w
+begun_at es f r y m w same number rows first past height walk = record {
+  number = rw same number;
+  rows = rw same rows;
+  first = rw same first;
+  past = rw same past;
+  walk = rw height at (rw (← same) at walk);
+}
+
+-- the walks that go on
+
+goes_on : (r past : ℤ) → int_lt (r +ℤ pos 1) past ≡ true → (r +ℤ pos 1) <ℤ past
+goes_on r past is = grind (arith, ints)
+
+kept_on_at : (r : ℤ) (w : Walk) (ws : List Walk) (b : Bool) → int_lt (r +ℤ pos 1) w.entry.past ≡ b
+    → All (λ v. (r +ℤ pos 1) <ℤ v.entry.past) (filter (λ (v : Walk). int_lt (r +ℤ pos 1) v.entry.past) ws)
+    → All (λ v. (r +ℤ pos 1) <ℤ v.entry.past) (filter (λ (v : Walk). int_lt (r +ℤ pos 1) v.entry.past) (w ∷ ws))
+kept_on_at r w ws true is rest =
+    rw is (All-cons (λ (v : Walk). (r +ℤ pos 1) <ℤ v.entry.past) w (filter (λ (v : Walk). int_lt (r +ℤ pos 1) v.entry.past) ws) (goes_on r w.entry.past is) rest)
+kept_on_at r w ws false is rest = rw is rest
+
+pub kept_on : (r : ℤ) (ws : List Walk) → All (λ v. (r +ℤ pos 1) <ℤ v.entry.past) (filter (λ (v : Walk). int_lt (r +ℤ pos 1) v.entry.past) ws)
+kept_on r [] = λ k d below. absurd (omega arith)
+kept_on r (w ∷ ws) = kept_on_at r w ws (int_lt (r +ℤ pos 1) w.entry.past) refl (kept_on r ws)
+
+on_is : (r past : ℤ) → (r +ℤ pos 1) <ℤ past → int_lt (r +ℤ pos 1) past ≡ true
+on_is r past on = grind (arith, ints)
+
+pub sum_on : (r : ℤ) (g : Entry → ℕ) (ws : List Walk) → All (λ v. (r +ℤ pos 1) <ℤ v.entry.past) ws
+    → sum_by (λ w. g w.entry) ws ≡ sum_by (if_on r g) (map (λ (w : Walk). w.entry) ws)
+sum_on r g [] on = refl
+sum_on r g (w ∷ ws) on =
+    let one = on_is r w.entry.past (on 0 w (omega arith)) in
+    let rest = sum_on r g ws (λ k d below. on (suc k) d (omega arith)) in
+    let whole = sum_by-cons (if_on r g) w.entry (map (λ (v : Walk). v.entry) ws) in
+    let part = sum_by-cons (λ (v : Walk). g v.entry) w ws in
+    rw (part, whole, one, rest) refl
+
+-- no walk
+abbrev pub no_walk : Walk
+no_walk = record {
+  entry = record { first = pos 0; past = pos 0; edge = 0 };
+  at = record { whole = pos 0; rest = pos 0 };
+  slope = record { step = record { whole = pos 0; rest = pos 0 }; divisor = pos 0 };
+  turn = pos 0;
+}
