@@ -19,3 +19,4 @@ pub mod Words
 pub mod Followed
 pub mod RowOrder
 pub mod Walked
+pub mod Reached

@@ -30,6 +30,9 @@ row_above f r y is = omega (arith, ints, is)
 pub inside : (a b row : ℤ) → a ≤ℤ row → row <ℤ b → (int_le a row && int_lt row b) ≡ true
 inside a b row low high = grind (arith, ints)
 
+pub ended_above : (first past row : ℤ) → past ≤ℤ row → (int_le first row && int_lt row past) ≡ false
+ended_above first past row over = grind (arith, ints)
+
 pub met_twice : (ay by y : ℤ) → is_between ay by y ≡ true → is_between ay by (y +ℤ pos 8192) ≡ true → ay ≢ by
 met_twice ay by y here above = λ level.
     let one = level_here ay by y level here in

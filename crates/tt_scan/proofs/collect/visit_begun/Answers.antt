@@ -1,4 +1,4 @@
-use Rattle.std.proofs.Common.{◌≡◌, ◌∙◌, sym, ◌+◌, ◌<◌, ◌≤◌, ◌≤ℤ◌, ◌<ℤ◌, get_or, length, filter, take, All, refl, SFits, w32, w64, rules, arith}
+use Rattle.std.proofs.Common.{◌≡◌, ◌∙◌, sym, ap, ◌+◌, [], ◌∷◌, length-append, ◌<◌, ◌≤◌, ◌≤ℤ◌, ◌<ℤ◌, get_or, length, filter, take, All, refl, SFits, w32, w64, rules, arith}
 use Rattle.std.proofs.lemmas.Int.{ints, to_z-of_z}
 use Rattle.std.proofs.lemmas.List.{get_or_default, take_all}
 use Rattle.tt_scan.specs.EdgeTable.{AreLeft, AreWalked, meets_row}
@@ -75,13 +75,50 @@ visit_entry-requires-clause-walk_room c =
     omega (arith, room, c.requires.walk_room, c.loop-next.invariant.walk_capacity)
 
 pub loop-next-preserved : goal.loop-next-preserved
-loop-next-preserved c = ?
+loop-next-preserved c =
+    let y : SFits w64 c.args.y = c.ranges.y in
+    let r : SFits w32 c.args.r = c.ranges.r in
+    let first : SFits w32 (get_or c.args.entries.now c.loop-next.next no_entry).first = search rules in
+    let low : (get_or c.args.entries.now c.loop-next.next no_entry).first ≤ℤ c.args.r = reached c.args.r (get_or c.args.entries.now c.loop-next.next no_entry).first (simp to_z-of_z at c.if-r-entries.false) in
+    let walked : AreWalked c.args.edges.now.edges c.args.frame c.args.r c.args.entries.now c.loop-next.next c.loop-next.walks.items = simp to_z-of_z at c.loop-next.invariant.walked in
+    let left : AreLeft c.args.edges.now.edges c.args.frame.margin c.args.y (filter (meets_row c.args.r) (take c.loop-next.next c.args.entries.now)) c.loop-next.marks.items c.loop-next.black.items = simp to_z-of_z at c.loop-next.invariant.left in
+    let count : c.loop-next.edges.crosses + length (filter (meets_row c.args.r) (take c.args.from c.args.entries.now)) ≡ c.args.edges.now.crosses + length (filter (meets_row c.args.r) (take c.loop-next.next c.args.entries.now)) = simp to_z-of_z at c.loop-next.invariant.count in
+    let same : c.loop-next.edges.edges ≡ c.args.edges.now.edges = rw c.loop-next.invariant.edges refl in
+    let more : length (filter (meets_row c.args.r) (take (c.loop-next.next + 1) c.args.entries.now)) ≡ length (filter (meets_row c.args.r) (take c.loop-next.next c.args.entries.now)) + length (filter (meets_row c.args.r) (get_or c.args.entries.now c.loop-next.next no_entry ∷ [])) =
+    rw (met_more c.args.r c.args.entries.now c.loop-next.next no_entry c.loop-next-test.true) (length-append (filter (meets_row c.args.r) (take c.loop-next.next c.args.entries.now)) (filter (meets_row c.args.r) (get_or c.args.entries.now c.loop-next.next no_entry ∷ []))) in
+    let crosses : c.visit_entry.new.edges.crosses ≡ c.loop-next.edges.crosses + length (filter (meets_row c.args.r) (get_or c.args.entries.now c.loop-next.next no_entry ∷ [])) = simp to_z-of_z at (ap (λ e. e.crosses) c.visit_entry.ensures.crosses) in
+    record {
+      walked = simp to_z-of_z (walked_more c.args.edges.now.edges c.args.frame c.args.r c.args.entries.now c.loop-next.next no_entry c.loop-next.walks.items c.visit_entry.new.walks.items
+          walked c.loop-next-test.true low (λ g. simp to_z-of_z at (c.visit_entry.ensures.sums g))
+          ((rw same at (simp to_z-of_z at c.visit_entry.ensures.walks)) walked.walks) ((simp to_z-of_z at c.visit_entry.ensures.on) walked.on));
+      left = simp to_z-of_z (rw (met_more c.args.r c.args.entries.now c.loop-next.next no_entry c.loop-next-test.true)
+          ((rw same at (simp to_z-of_z at (c.visit_entry.ensures.left (filter (meets_row c.args.r) (take c.loop-next.next c.args.entries.now))))) left));
+      edges = rw (c.visit_entry.ensures.crosses, c.loop-next.invariant.edges) refl;
+      count = simp to_z-of_z (omega (arith, count, more, crosses));
+      capacity = search rules;
+      black_capacity = search rules;
+      walk_capacity = search rules;
+    }
 
 pub returns-clause-walked : goal.returns-clause-walked
-returns-clause-walked c = ?
+returns-clause-walked c =
+    let y : SFits w64 c.args.y = c.ranges.y in
+    let r : SFits w32 c.args.r = c.ranges.r in
+    let walked : AreWalked c.args.edges.now.edges c.args.frame c.args.r c.args.entries.now c.loop-next.next c.loop-next.walks.items = simp to_z-of_z at c.loop-next.invariant.walked in
+    let within = walked.within in
+    let done : c.loop-next.next ≡ length c.args.entries.now = omega (arith, c.loop-next-test.false, within) in
+    rw done at walked
 
 pub returns-clause-left : goal.returns-clause-left
-returns-clause-left c = ?
+returns-clause-left c =
+    let y : SFits w64 c.args.y = c.ranges.y in
+    let r : SFits w32 c.args.r = c.ranges.r in
+    let all : take c.loop-next.next c.args.entries.now ≡ c.args.entries.now = take_all c.loop-next.next c.args.entries.now c.loop-next-test.false in
+    rw all at (simp to_z-of_z at c.loop-next.invariant.left)
 
 pub returns-clause-crosses : goal.returns-clause-crosses
-returns-clause-crosses c = ?
+returns-clause-crosses c =
+    let y : SFits w64 c.args.y = c.ranges.y in
+    let r : SFits w32 c.args.r = c.ranges.r in
+    let all : take c.loop-next.next c.args.entries.now ≡ c.args.entries.now = take_all c.loop-next.next c.args.entries.now c.loop-next-test.false in
+    rw all at (simp to_z-of_z at c.loop-next.invariant.count)

@@ -8,7 +8,7 @@ use Rattle.tt_scan.specs.declared.walk.Walk.{Walk}
 use Rattle.tt_scan.specs.EdgeTable.{IsWalkAt, edge_of, meets_row}
 use Rattle.tt_scan.specs.Walks.{IsWalk}
 use Rattle.tt_scan.proofs.ActiveEdges.{is_less, reached}
-use Rattle.tt_scan.proofs.Walked.{inside, met_at, sloped_long, left_push, begun_at}
+use Rattle.tt_scan.proofs.Walked.{inside, ended_above, met_at, sloped_long, left_push, begun_at}
 use Rattle.tt_scan.proofs.collect.visit_entry.Goals as goal
 
 pub visit_first-requires-clause-edge : goal.visit_first-requires-clause-edge
@@ -190,5 +190,5 @@ returns-else-r-entry-2-clause-left c =
     let past : SFits w32 c.args.entry.past = search rules in
     let more : SFits w32 (c.args.r +ℤ pos 1) = omega (arith, ints, c.requires.high, c.requires.frame.height_high) in
     let over : c.args.entry.past ≤ℤ c.args.r = reached c.args.r c.args.entry.past (simp to_z-of_z at c.if-r-entry-2.false) in
-    let off : meets_row c.args.r c.args.entry ≡ false = grind (arith, ints, over) in
+    let off : meets_row c.args.r c.args.entry ≡ false = ended_above c.args.entry.first c.args.entry.past c.args.r over in
     λ ms are. rw (off, append-nil ms) are
