@@ -1,19 +1,22 @@
 -- Walked edges stand for those that begin above a row and meet it.
 use Rattle.std.proofs.Common.{◌≡◌, ◌∙◌, sym, refl, ℕ, zero, suc, ◌+◌, ◌<◌, ◌≤◌, Bool, true, false, ◌&&◌, List, [], ◌∷◌, length, map, take, get_or, filter, sum_by, All, ℤ, pos, ◌+ℤ◌, ◌-ℤ◌, ◌≤ℤ◌, ◌<ℤ◌, int_lt, int_le, if◌then◌else◌, arith}
 use Rattle.std.specs.List.Sorted.{IsPermutation}
+use Rattle.std.specs.Prelude.{vec_capacity}
 use Rattle.std.proofs.lemmas.Int.{ints, by_lt_z}
 use Rattle.std.proofs.lemmas.List.Sums.{sum_by-cons}
+use Rattle.std.proofs.lemmas.List.{length-map}
 use Rattle.std.proofs.lemmas.List.Sorted.{All-permutation, sum_by-IsPermutation}
 use Rattle.tt_scan.specs.declared.edge.Edge.{Edge}
 use Rattle.tt_scan.specs.declared.edge.Frame.{Frame}
+use Rattle.tt_scan.specs.declared.edge_table.EdgeTable.{EdgeTable}
 use Rattle.tt_scan.specs.declared.edge_table.Entry.{Entry}
 use Rattle.tt_scan.specs.declared.mark.Mark.{Mark}
 use Rattle.tt_scan.specs.declared.mark.Span.{Span}
 use Rattle.tt_scan.specs.declared.walk.Walk.{Walk}
-use Rattle.tt_scan.specs.EdgeTable.{AreLeft, AreWalked, IsWalkAt, edge_of, edges_of, if_on, is_long, meets_row}
+use Rattle.tt_scan.specs.EdgeTable.{AreLeft, AreWalked, HasRoom, IsInOrder, IsReady, IsTableOf, IsWalkAt, edge_of, edges_of, if_on, is_long, meets_row}
 use Rattle.tt_scan.specs.Winding.{column_x, lies_on_one, winding}
-use Rattle.tt_scan.proofs.Standing.{sum_kept, sum_of_edges, up_of, down_of, on_of, wound, touched}
-use Rattle.tt_scan.proofs.Walked.{sum_of_entries, few_walks}
+use Rattle.tt_scan.proofs.Standing.{stand, few_stand, entries_permuted, sum_kept, sum_of_edges, up_of, down_of, on_of, wound, touched}
+use Rattle.tt_scan.proofs.Walked.{sum_of_entries, few_met}
 
 -- what is counted of one list of entries, and as much of another
 
@@ -119,4 +122,54 @@ walks_permuted es f r ms n ws vs are same = record {
   sums = λ g. sum_by-IsPermutation (λ (w : Walk). g w.entry) ws vs same ∙ are.sums g;
   walks = All-permutation (IsWalkAt es f r) ws vs same are.walks;
   on = All-permutation (λ (w : Walk). (r +ℤ pos 1) <ℤ w.entry.past) ws vs same are.on;
+}
+
+-- no more walks than edges
+
+pub few_there : (es : List Edge) (f : Frame) (r : ℤ) (ms : List Entry) (n : ℕ) (ws : List Walk) → AreWalked es f (r -ℤ pos 1) ms n ws
+    → IsTableOf es f ms → pos 0 ≤ℤ r → r <ℤ pos f.height → length ws ≤ length es
+few_there es f r ms n ws are table low high =
+    let same = same_length (map (λ (w : Walk). w.entry) ws) (filter (meets_row r) (take n ms)) (same_met es f r ms n ws are) in
+    let long = length-map ws (λ (w : Walk). w.entry) in
+    let part = few_met r ms n in
+    let most = few_stand es f r (filter (meets_row r) ms) (stand es f ms r table low high) in
+    omega (arith, same, long, part, most)
+
+pub met_length : (es : List Edge) (f : Frame) (r : ℤ) (ms : List Entry) (n : ℕ) (ws : List Walk) → AreWalked es f (r -ℤ pos 1) ms n ws
+    → length ws ≡ length (filter (meets_row r) (take n ms))
+met_length es f r ms n ws are =
+    sym (length-map ws (λ (w : Walk). w.entry)) ∙ same_length (map (λ (w : Walk). w.entry) ws) (filter (meets_row r) (take n ms)) (same_met es f r ms n ws are)
+
+-- the edge table of a tape between two calls
+
+not_both : (b : Bool) → b ≡ false → b ≡ true → ◌≡◌ {A = Bool} true false
+not_both b off on = sym on ∙ off
+
+true_false : ◌≡◌ {A = Bool} true false → {P : Type 0} → P
+true_false same = absurd (cc)
+
+pub ready_unsorted : (es : List Edge) (f : Frame) (t : EdgeTable) → IsTableOf es f t.entries.items → HasRoom t → t.sorted ≡ false → IsReady es f t
+ready_unsorted es f t table room off = record {
+  table = table;
+  room = room;
+  walked = λ on. true_false (not_both t.sorted off on);
+  order = λ on. true_false (not_both t.sorted off on);
+}
+
+pub ready_kept : (es : List Edge) (f : Frame) (t u : EdgeTable) → IsReady es f t → u.entries.items ≡ t.entries.items → IsPermutation t.walks.items u.walks.items
+    → vec_capacity t.walks ≤ vec_capacity u.walks → u.long ≡ t.long → u.begun ≡ t.begun → u.row ≡ t.row → u.sorted ≡ t.sorted → IsReady es f u
+ready_kept es f t u are entries walks capacity long begun row sorted =
+    let room = are.room.room in
+    record {
+      table = rw entries are.table;
+      room = record { long = rw (long, entries) are.room.long; room = omega (arith, long, room, capacity) };
+      walked = λ on. rw (row, entries, begun) (walks_permuted es f t.row t.entries.items t.begun t.walks.items u.walks.items (are.walked (sym sorted ∙ on)) walks);
+      order = λ on. rw entries (are.order (sym sorted ∙ on));
+    }
+
+pub empty_table : (f : Frame) → IsTableOf [] f []
+empty_table f = record {
+  numbers = λ k d below. absurd (omega arith);
+  rows = λ k d below. absurd (omega arith);
+  sums = λ g none. refl;
 }

@@ -227,7 +227,7 @@ few_met_at : (r : ℤ) (m : Entry) (ms : List Entry) (n : ℕ) (b : Bool) → me
 few_met_at r m ms n true is rest = rw is (omega (arith, rest))
 few_met_at r m ms n false is rest = rw is rest
 
-few_met : (r : ℤ) (ms : List Entry) (n : ℕ) → length (filter (meets_row r) (take n ms)) ≤ length (filter (meets_row r) ms)
+pub few_met : (r : ℤ) (ms : List Entry) (n : ℕ) → length (filter (meets_row r) (take n ms)) ≤ length (filter (meets_row r) ms)
 few_met r [] zero = omega arith
 few_met r [] (suc n) = omega arith
 few_met r (m ∷ ms) zero = omega arith
