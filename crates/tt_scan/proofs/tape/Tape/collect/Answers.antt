@@ -11,7 +11,7 @@ visit-requires-clause-high c =
     let row : SFits w64 c.args.r = c.ranges.r in
     let frame : FrameFits c.args.self.now.frame = rw (← c.self.view_is) c.self.invariant.0 in
     let short : SFits w32 c.args.r = omega (arith, ints, frame.height_high, c.requires.row_low, c.requires.row_high) in
-    rw (← c.self.view_is) at (simp to_z-of_z c.requires.row_high)
+    simp to_z-of_z (rw (← c.self.view_is) at c.requires.row_high)
 
 pub invariant_of-self : goal.invariant_of-self
 invariant_of-self c =
