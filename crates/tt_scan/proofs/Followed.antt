@@ -28,18 +28,18 @@ pub walk_crosses : (e : Edge) (m : ℕ) (y : ℤ) (w : Walk) (r : Cross) → IsW
 walk_crosses e m y w r is sloped here above touch order turn first =
     by_lt_z e.ay e.by
     (λ up.
-        let low = from_lower e.ay e.by y up here in
-        let high = to_upper e.ay e.by (y +ℤ pos 8192) up above in
-        up_crosses e m y w.at r (is.rises up).0 low (omega (arith, ints, high)) touch order (rw (turn, (is.rises up).2) refl) first)
+    let low = from_lower e.ay e.by y up here in
+    let high = to_upper e.ay e.by (y +ℤ pos 8192) up above in
+    up_crosses e m y w.at r (is.rises up).0 low (omega (arith, ints, high)) touch order (rw (turn, (is.rises up).2) refl) first)
     (λ more. by_lt_z e.by e.ay
     (λ down.
-        let low = from_lower_turned e.ay e.by y down here in
-        let high = to_upper_turned e.ay e.by (y +ℤ pos 8192) down above in
-        let one : Cross = record { touch = r.touch; turn = pos 1; first = r.first } in
-        let falls = (is.falls down).2 in
-        round_cross e (turned_round e) m y one r refl refl refl refl
-        (up_crosses (turned_round e) m y w.at one (is.falls down).0 low (omega (arith, ints, high)) touch order refl first)
-        refl (rw (turn, falls) refl) refl)
+    let low = from_lower_turned e.ay e.by y down here in
+    let high = to_upper_turned e.ay e.by (y +ℤ pos 8192) down above in
+    let one : Cross = record { touch = r.touch; turn = pos 1; first = r.first } in
+    let falls = (is.falls down).2 in
+    round_cross e (turned_round e) m y one r refl refl refl refl
+    (up_crosses (turned_round e) m y w.at one (is.falls down).0 low (omega (arith, ints, high)) touch order refl first)
+    refl (rw (turn, falls) refl) refl)
     (λ other. absurd (sloped (omega (arith, ints)))))
 
 -- the numbers of a walked edge are small
@@ -63,7 +63,7 @@ up_fits u m y w fits margin rises low high is slope =
       high = rw slope.divisor is.high;
       step =
           let small = small_quotient (2 ^ 43) (divisor_of u) w.slope.step.whole w.slope.step.rest (pos 8192 *ℤ (u.bx -ℤ u.ax)) large slope.step.low slope.step.high slope.step.exact
-              (omega (arith, ints, fits.ax, fits.bx)) in
+          (omega (arith, ints, fits.ax, fits.bx)) in
           omega (arith, small);
       step_low = slope.step.low;
       step_high = rw slope.divisor slope.step.high;
@@ -76,7 +76,7 @@ walk_fits e m y w fits margin sloped here is =
     (λ up. up_fits e m y w fits margin up (from_lower e.ay e.by y up here) (to_upper e.ay e.by y up here) (is.rises up).0 (is.rises up).1)
     (λ more. by_lt_z e.by e.ay
     (λ down. up_fits (turned_round e) m y w (record { ax = fits.bx; ay = fits.by; bx = fits.ax; by = fits.ay }) margin down
-        (from_lower_turned e.ay e.by y down here) (to_upper_turned e.ay e.by y down here) (is.falls down).0 (is.falls down).1)
+    (from_lower_turned e.ay e.by y down here) (to_upper_turned e.ay e.by y down here) (is.falls down).0 (is.falls down).1)
     (λ other. absurd (sloped (omega (arith, ints)))))
 
 pub turn_small : (e : Edge) (m : ℕ) (y : ℤ) (w : Walk) → e.ay ≢ e.by → IsWalk e m y w → unsigned_abs w.turn ≤ 1

@@ -251,10 +251,10 @@ pub all_met : (r : ℤ) (ms : List Entry) (n : ℕ) → IsInOrder ms r → n < l
     → filter (meets_row r) (take n ms) ≡ filter (meets_row r) ms
 all_met r ms n order below after =
     let later = none_met r (drop n ms) (λ i d under.
-        let long = length-drop n ms in
-        let first = after d in
-        let up = order n (n + i) d (omega arith) (omega (arith, under, long)) first in
-        rw (get_or-drop n ms i d) (omega (arith, ints, first, up))) in
+    let long = length-drop n ms in
+    let first = after d in
+    let up = order n (n + i) d (omega arith) (omega (arith, under, long)) first in
+    rw (get_or-drop n ms i d) (omega (arith, ints, first, up))) in
     let whole : filter (meets_row r) (take n ms ++ drop n ms) ≡ filter (meets_row r) (take n ms) ++ filter (meets_row r) (drop n ms) =
     filter-append (meets_row r) (take n ms) (drop n ms) in
     let parted : filter (meets_row r) ms ≡ filter (meets_row r) (take n ms) ++ filter (meets_row r) (drop n ms) = rw (take-append-drop n ms) at whole in

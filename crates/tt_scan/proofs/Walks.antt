@@ -42,7 +42,7 @@ pub goes_left : (e : Edge) (m : ℕ) (y : ℤ) (at step to : Quotient) → Stand
 goes_left e m y at step to is off whole rest below = record {
   exact = rw (whole, rest, number_below e m y)
       (one_less (divisor_of e) (at.whole -ℤ step.whole) (at.rest -ℤ step.rest) (number_at e m y -ℤ pos 8192 *ℤ (e.bx -ℤ e.ax))
-          (less (divisor_of e) at.whole at.rest step.whole step.rest (number_at e m y) (pos 8192 *ℤ (e.bx -ℤ e.ax)) is.exact off.exact));
+      (less (divisor_of e) at.whole at.rest step.whole step.rest (number_at e m y) (pos 8192 *ℤ (e.bx -ℤ e.ax)) is.exact off.exact));
   low = let bottom = is.low in let left = off.high in omega (arith, ints);
   high = omega (arith, ints);
 }
@@ -69,10 +69,10 @@ small_quotient k d q rest n large low high is small =
     let turned : d *ℤ (pos 0 -ℤ pos (k + 1)) ≡ pos 0 -ℤ d *ℤ pos (k + 1) = omega (arith, ints, mul_diff d (pos 0) (pos (k + 1))) in
     by_lt_z q (pos 0 -ℤ pos (k + 1))
     (λ far.
-        let under = floor_above d q rest n (pos 0 -ℤ pos (k + 1)) low high is far in
-        absurd (omega (arith, ints, *ℤ_comm (pos (k + 1)) d)))
+    let under = floor_above d q rest n (pos 0 -ℤ pos (k + 1)) low high is far in
+    absurd (omega (arith, ints, *ℤ_comm (pos (k + 1)) d)))
     (λ near. by_lt_z (pos (k + 1)) q
     (λ far.
-        let above = floor_below d q rest n (pos (k + 1)) (omega (arith, ints)) low is (omega (arith, ints)) in
-        absurd (omega (arith, ints, *ℤ_comm (pos (k + 1)) d)))
+    let above = floor_below d q rest n (pos (k + 1)) (omega (arith, ints)) low is (omega (arith, ints)) in
+    absurd (omega (arith, ints, *ℤ_comm (pos (k + 1)) d)))
     (λ within. omega (arith, ints)))

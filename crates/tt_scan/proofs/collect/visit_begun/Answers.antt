@@ -13,7 +13,7 @@ returns-then-r-entries-clause-left c =
     let first : SFits w32 (get_or c.args.entries.now c.loop-next.next no_entry).first = search rules in
     let after : c.args.r <ℤ (get_or c.args.entries.now c.loop-next.next no_entry).first = is_less c.args.r (get_or c.args.entries.now c.loop-next.next no_entry).first (simp to_z-of_z at c.if-r-entries.true) in
     let all = all_met c.args.r c.args.entries.now c.loop-next.next c.requires.order c.loop-next-test.true
-        (λ d. rw (get_or_default c.args.entries.now c.loop-next.next d no_entry c.loop-next-test.true) after) in
+    (λ d. rw (get_or_default c.args.entries.now c.loop-next.next d no_entry c.loop-next-test.true) after) in
     rw all at (simp to_z-of_z at c.loop-next.invariant.left)
 
 pub returns-then-r-entries-clause-crosses : goal.returns-then-r-entries-clause-crosses
@@ -23,7 +23,7 @@ returns-then-r-entries-clause-crosses c =
     let first : SFits w32 (get_or c.args.entries.now c.loop-next.next no_entry).first = search rules in
     let after : c.args.r <ℤ (get_or c.args.entries.now c.loop-next.next no_entry).first = is_less c.args.r (get_or c.args.entries.now c.loop-next.next no_entry).first (simp to_z-of_z at c.if-r-entries.true) in
     let all = all_met c.args.r c.args.entries.now c.loop-next.next c.requires.order c.loop-next-test.true
-        (λ d. rw (get_or_default c.args.entries.now c.loop-next.next d no_entry c.loop-next-test.true) after) in
+    (λ d. rw (get_or_default c.args.entries.now c.loop-next.next d no_entry c.loop-next-test.true) after) in
     rw all at (simp to_z-of_z at c.loop-next.invariant.count)
 
 pub visit_entry-requires-clause-fits : goal.visit_entry-requires-clause-fits

@@ -22,7 +22,7 @@ visit_first-requires-clause-met c =
     let more : SFits w32 (c.args.r +ℤ pos 1) = omega (arith, ints, c.requires.high, c.requires.frame.height_high) in
     let on : (c.args.r +ℤ pos 1) <ℤ c.args.entry.past = is_less (c.args.r +ℤ pos 1) c.args.entry.past (simp to_z-of_z at c.if-r-entry.true) in
     simp to_z-of_z (met_at (edge_of c.args.edges.now.edges c.args.entry) c.args.frame c.args.entry.first c.args.entry.past c.args.r c.args.y c.requires.rows c.requires.height
-        c.requires.first (omega (arith, ints, on)))
+    c.requires.first (omega (arith, ints, on)))
 
 pub visit_first-requires-clause-crosses : goal.visit_first-requires-clause-crosses
 visit_first-requires-clause-crosses c =
@@ -65,7 +65,7 @@ visit-requires-clause-met c =
     let more : SFits w32 (c.args.r +ℤ pos 1) = omega (arith, ints, c.requires.high, c.requires.frame.height_high) in
     let here : c.args.r <ℤ c.args.entry.past = is_less c.args.r c.args.entry.past (simp to_z-of_z at c.if-r-entry-2.true) in
     simp to_z-of_z (met_at (edge_of c.args.edges.now.edges c.args.entry) c.args.frame c.args.entry.first c.args.entry.past c.args.r c.args.y c.requires.rows c.requires.height
-        c.requires.first here)
+    c.requires.first here)
 
 pub visit-requires-clause-crosses : goal.visit-requires-clause-crosses
 visit-requires-clause-crosses c =
@@ -115,8 +115,8 @@ returns-then-r-entry-clause-left c =
     let on : (c.args.r +ℤ pos 1) <ℤ c.args.entry.past = is_less (c.args.r +ℤ pos 1) c.args.entry.past (simp to_z-of_z at c.if-r-entry.true) in
     let meets : meets_row c.args.r c.args.entry ≡ true = inside c.args.entry.first c.args.entry.past c.args.r c.requires.first (omega (arith, ints, on)) in
     λ ms are. rw meets (left_push c.args.edges.now.edges c.args.frame.margin c.args.y ms c.args.entry c.args.marks.now.items c.visit_first.new.marks.items
-        c.args.black.now.items c.visit_first.new.black.items are (λ at. simp to_z-of_z at (c.visit_first.ensures.black at)) (λ at. simp to_z-of_z at (c.visit_first.ensures.turns at))
-        c.visit_first.ensures.count c.visit_first.ensures.black_count)
+    c.args.black.now.items c.visit_first.new.black.items are (λ at. simp to_z-of_z at (c.visit_first.ensures.black at)) (λ at. simp to_z-of_z at (c.visit_first.ensures.turns at))
+    c.visit_first.ensures.count c.visit_first.ensures.black_count)
 
 pub returns-then-r-entry-2-clause-left : goal.returns-then-r-entry-2-clause-left
 returns-then-r-entry-2-clause-left c =
@@ -127,8 +127,8 @@ returns-then-r-entry-2-clause-left c =
     let here : c.args.r <ℤ c.args.entry.past = is_less c.args.r c.args.entry.past (simp to_z-of_z at c.if-r-entry-2.true) in
     let meets : meets_row c.args.r c.args.entry ≡ true = inside c.args.entry.first c.args.entry.past c.args.r c.requires.first here in
     λ ms are. rw meets (left_push c.args.edges.now.edges c.args.frame.margin c.args.y ms c.args.entry c.args.marks.now.items c.visit.new.marks.items
-        c.args.black.now.items c.visit.new.black.items are (λ at. simp to_z-of_z at (c.visit.ensures.black at)) (λ at. simp to_z-of_z at (c.visit.ensures.turns at))
-        c.visit.ensures.count c.visit.ensures.black_count)
+    c.args.black.now.items c.visit.new.black.items are (λ at. simp to_z-of_z at (c.visit.ensures.black at)) (λ at. simp to_z-of_z at (c.visit.ensures.turns at))
+    c.visit.ensures.count c.visit.ensures.black_count)
 
 pub returns-then-r-entry-clause-sums : goal.returns-then-r-entry-clause-sums
 returns-then-r-entry-clause-sums c =
@@ -138,8 +138,8 @@ returns-then-r-entry-clause-sums c =
     let more : SFits w32 (c.args.r +ℤ pos 1) = omega (arith, ints, c.requires.high, c.requires.frame.height_high) in
     let test : int_lt (c.args.r +ℤ pos 1) c.args.entry.past ≡ true = simp to_z-of_z at c.if-r-entry.true in
     λ g. sum_by-IsPermutation (λ (w : Walk). g w.entry) _ c.visit_first.new.walks.items c.visit_first.ensures.permutation
-        ∙ sum_by_push (λ (w : Walk). g w.entry) c.args.walks.now.items c.visit_first.result
-        ∙ rw (c.visit_first.ensures.entry, test) refl
+    ∙ sum_by_push (λ (w : Walk). g w.entry) c.args.walks.now.items c.visit_first.result
+    ∙ rw (c.visit_first.ensures.entry, test) refl
 
 pub returns-then-r-entry-clause-walks : goal.returns-then-r-entry-clause-walks
 returns-then-r-entry-clause-walks c =
@@ -150,9 +150,9 @@ returns-then-r-entry-clause-walks c =
     let on : (c.args.r +ℤ pos 1) <ℤ c.args.entry.past = is_less (c.args.r +ℤ pos 1) c.args.entry.past (simp to_z-of_z at c.if-r-entry.true) in
     let walk : IsWalk (edge_of c.args.edges.now.edges c.args.entry) c.args.frame.margin c.args.y c.visit_first.result = simp to_z-of_z at c.visit_first.ensures.walk in
     let new = begun_at c.args.edges.now.edges c.args.frame c.args.r c.args.y c.args.entry c.visit_first.result c.visit_first.ensures.entry c.requires.number c.requires.rows
-        c.requires.first (omega (arith, ints, on)) c.requires.height walk in
+    c.requires.first (omega (arith, ints, on)) c.requires.height walk in
     λ all. All-permutation (IsWalkAt c.args.edges.now.edges c.args.frame c.args.r) _ c.visit_first.new.walks.items c.visit_first.ensures.permutation
-        (All-push (IsWalkAt c.args.edges.now.edges c.args.frame c.args.r) c.args.walks.now.items c.visit_first.result all new)
+    (All-push (IsWalkAt c.args.edges.now.edges c.args.frame c.args.r) c.args.walks.now.items c.visit_first.result all new)
 
 pub returns-then-r-entry-clause-on : goal.returns-then-r-entry-clause-on
 returns-then-r-entry-clause-on c =
@@ -162,7 +162,7 @@ returns-then-r-entry-clause-on c =
     let more : SFits w32 (c.args.r +ℤ pos 1) = omega (arith, ints, c.requires.high, c.requires.frame.height_high) in
     let on : (c.args.r +ℤ pos 1) <ℤ c.args.entry.past = is_less (c.args.r +ℤ pos 1) c.args.entry.past (simp to_z-of_z at c.if-r-entry.true) in
     λ all. All-permutation (λ (w : Walk). (c.args.r +ℤ pos 1) <ℤ w.entry.past) _ c.visit_first.new.walks.items c.visit_first.ensures.permutation
-        (All-push (λ (w : Walk). (c.args.r +ℤ pos 1) <ℤ w.entry.past) c.args.walks.now.items c.visit_first.result all (rw c.visit_first.ensures.entry on))
+    (All-push (λ (w : Walk). (c.args.r +ℤ pos 1) <ℤ w.entry.past) c.args.walks.now.items c.visit_first.result all (rw c.visit_first.ensures.entry on))
 
 pub returns-then-r-entry-clause-crosses : goal.returns-then-r-entry-clause-crosses
 returns-then-r-entry-clause-crosses c =

@@ -12,28 +12,28 @@ pub visit_below-requires-clause-sloped : goal.visit_below-requires-clause-sloped
 visit_below-requires-clause-sloped c =
     let below : c.loop-i.i < length c.args.walks.now = omega (arith, c.loop-i-test.true, c.loop-i.invariant.len) in
     rw c.loop-i.invariant.crosses (walk_here c.args.edges.now.edges c.args.frame c.args.r c.args.y c.loop-i.walks c.args.walks.now c.loop-i.i _
-        c.requires.walks c.requires.on (c.loop-i.invariant.above c.loop-i.i _ (omega arith)) below c.requires.height).sloped
+    c.requires.walks c.requires.on (c.loop-i.invariant.above c.loop-i.i _ (omega arith)) below c.requires.height).sloped
 
 pub visit_below-requires-clause-met : goal.visit_below-requires-clause-met
 visit_below-requires-clause-met c =
     let y : SFits w64 c.args.y = c.ranges.y in
     let below : c.loop-i.i < length c.args.walks.now = omega (arith, c.loop-i-test.true, c.loop-i.invariant.len) in
     rw c.loop-i.invariant.crosses (simp to_z-of_z (walk_here c.args.edges.now.edges c.args.frame c.args.r c.args.y c.loop-i.walks c.args.walks.now c.loop-i.i _
-        c.requires.walks c.requires.on (c.loop-i.invariant.above c.loop-i.i _ (omega arith)) below c.requires.height).met)
+    c.requires.walks c.requires.on (c.loop-i.invariant.above c.loop-i.i _ (omega arith)) below c.requires.height).met)
 
 pub visit_below-requires-clause-above : goal.visit_below-requires-clause-above
 visit_below-requires-clause-above c =
     let y : SFits w64 c.args.y = c.ranges.y in
     let below : c.loop-i.i < length c.args.walks.now = omega (arith, c.loop-i-test.true, c.loop-i.invariant.len) in
     rw c.loop-i.invariant.crosses (simp to_z-of_z (walk_here c.args.edges.now.edges c.args.frame c.args.r c.args.y c.loop-i.walks c.args.walks.now c.loop-i.i _
-        c.requires.walks c.requires.on (c.loop-i.invariant.above c.loop-i.i _ (omega arith)) below c.requires.height).above)
+    c.requires.walks c.requires.on (c.loop-i.invariant.above c.loop-i.i _ (omega arith)) below c.requires.height).above)
 
 pub visit_below-requires-clause-walk : goal.visit_below-requires-clause-walk
 visit_below-requires-clause-walk c =
     let y : SFits w64 c.args.y = c.ranges.y in
     let below : c.loop-i.i < length c.args.walks.now = omega (arith, c.loop-i-test.true, c.loop-i.invariant.len) in
     rw c.loop-i.invariant.crosses (simp to_z-of_z (walk_here c.args.edges.now.edges c.args.frame c.args.r c.args.y c.loop-i.walks c.args.walks.now c.loop-i.i _
-        c.requires.walks c.requires.on (c.loop-i.invariant.above c.loop-i.i _ (omega arith)) below c.requires.height).walk)
+    c.requires.walks c.requires.on (c.loop-i.invariant.above c.loop-i.i _ (omega arith)) below c.requires.height).walk)
 
 pub loop-i-preserved : goal.loop-i-preserved
 loop-i-preserved c =
@@ -46,7 +46,7 @@ loop-i-preserved c =
     simp to_z-of_z at (rw c.loop-i.invariant.crosses at c.visit_below.ensures.walk) in
     let new : IsWalkAt c.args.edges.now.edges c.args.frame c.args.r c.visit_below.new.walk =
     walked_here c.args.edges.now.edges c.args.frame c.args.r c.args.y c.loop-i.walks c.args.walks.now c.loop-i.i no_walk c.visit_below.new.walk
-        c.requires.walks c.requires.on same below c.requires.height c.visit_below.ensures.entry walk in
+    c.requires.walks c.requires.on same below c.requires.height c.visit_below.ensures.entry walk in
     let so_far : AreLeft c.args.edges.now.edges c.args.frame.margin c.args.y (take c.loop-i.i (map (λ (w : Walk). w.entry) c.args.walks.now)) c.loop-i.marks.items c.loop-i.black.items =
     simp to_z-of_z at c.loop-i.invariant.left in
     record {
@@ -60,10 +60,10 @@ loop-i-preserved c =
           (rw (get_or-set_same c.loop-i.walks c.loop-i.i c.visit_below.new.walk no_walk within) at (simp to_z-of_z at (c.ended_by-ended.ensures.on no))) k d under);
       left = simp to_z-of_z (rw (entries_more c.loop-i.walks c.loop-i.walks c.args.walks.now c.loop-i.i no_walk below same)
           (left_push c.args.edges.now.edges c.args.frame.margin c.args.y (take c.loop-i.i (map (λ (w : Walk). w.entry) c.args.walks.now))
-              (get_or c.loop-i.walks c.loop-i.i no_walk).entry c.loop-i.marks.items c.visit_below.new.marks.items c.loop-i.black.items c.visit_below.new.black.items so_far
-              (λ at. simp to_z-of_z at (rw c.loop-i.invariant.crosses at (c.visit_below.ensures.black at)))
-              (λ at. simp to_z-of_z at (rw c.loop-i.invariant.crosses at (c.visit_below.ensures.turns at)))
-              c.visit_below.ensures.count c.visit_below.ensures.black_count));
+          (get_or c.loop-i.walks c.loop-i.i no_walk).entry c.loop-i.marks.items c.visit_below.new.marks.items c.loop-i.black.items c.visit_below.new.black.items so_far
+          (λ at. simp to_z-of_z at (rw c.loop-i.invariant.crosses at (c.visit_below.ensures.black at)))
+          (λ at. simp to_z-of_z at (rw c.loop-i.invariant.crosses at (c.visit_below.ensures.turns at)))
+          c.visit_below.ensures.count c.visit_below.ensures.black_count));
       crosses = rw (c.visit_below.ensures.crosses, c.loop-i.invariant.crosses, add_assoc c.args.edges.now.crosses c.loop-i.i 1) refl;
       capacity = search rules;
       black_capacity = search rules;

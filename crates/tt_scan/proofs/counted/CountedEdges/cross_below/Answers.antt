@@ -19,7 +19,7 @@ down c = back_up (edge_of c.args.self.now.edges c.args.walk.now.entry) c.args.ma
 pub cross-requires-clause-whole : goal.cross-requires-clause-whole
 cross-requires-clause-whole c =
     (walk_fits (edge_of c.args.self.now.edges c.args.walk.now.entry) c.args.margin c.args.y c.go_down.new.self
-        c.requires.edge c.requires.margin c.requires.sloped c.requires.met (down c)).whole
+    c.requires.edge c.requires.margin c.requires.sloped c.requires.met (down c)).whole
 
 pub cross-requires-clause-turn : goal.cross-requires-clause-turn
 cross-requires-clause-turn c =

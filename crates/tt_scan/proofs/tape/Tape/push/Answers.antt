@@ -18,7 +18,7 @@ invariant_of-self-2 c =
           c.join.ensures.left c.join.ensures.right c.join.ensures.first c.join.ensures.last c.join.ensures.order),
       rw items (ready_unsorted (c.self.inside.edges.edges ++ c.args.edge ∷ []) c.self.inside.frame c.add_entry.new.table
           (entry_pushed c.self.inside.edges.edges c.self.inside.frame c.self.inside.table.entries.items c.add_entry.new.table.entries.items c.args.edge c.row_range-rows.result
-              c.self.invariant.3.table c.row_range-rows.ensures (rw place at c.in_ok-add_entry.ensures.added))
+          c.self.invariant.3.table c.row_range-rows.ensures (rw place at c.in_ok-add_entry.ensures.added))
           c.in_ok-add_entry.ensures.room c.in_ok-add_entry.ensures.sorted),
     )
 
