@@ -1,8 +1,8 @@
 -- Walked edges stand for those that begin above a row and meet it.
-use Rattle.std.proofs.Common.{◌≡◌, ◌∙◌, sym, refl, ℕ, zero, suc, ◌+◌, ◌<◌, ◌≤◌, Bool, true, false, ◌&&◌, List, [], ◌∷◌, length, map, take, get_or, filter, sum_by, All, ℤ, pos, ◌+ℤ◌, ◌-ℤ◌, ◌≤ℤ◌, ◌<ℤ◌, int_lt, int_le, if◌then◌else◌, arith}
+use Rattle.std.proofs.Common.{◌≡◌, ◌∙◌, sym, refl, ℕ, suc, ◌≤◌, Bool, true, false, ◌&&◌, List, [], ◌∷◌, length, map, take, get_or, filter, sum_by, All, ℤ, pos, ◌+ℤ◌, ◌-ℤ◌, ◌≤ℤ◌, ◌<ℤ◌, int_lt, int_le, if◌then◌else◌, arith}
 use Rattle.std.specs.List.Sorted.{IsPermutation}
 use Rattle.std.specs.Prelude.{vec_capacity}
-use Rattle.std.proofs.lemmas.Int.{ints, by_lt_z}
+use Rattle.std.proofs.lemmas.Int.{ints}
 use Rattle.std.proofs.lemmas.List.Sums.{sum_by-cons}
 use Rattle.std.proofs.lemmas.List.{length-map}
 use Rattle.std.proofs.lemmas.List.Sorted.{All-permutation, sum_by-IsPermutation}
@@ -13,9 +13,9 @@ use Rattle.tt_scan.specs.declared.edge_table.Entry.{Entry}
 use Rattle.tt_scan.specs.declared.mark.Mark.{Mark}
 use Rattle.tt_scan.specs.declared.mark.Span.{Span}
 use Rattle.tt_scan.specs.declared.walk.Walk.{Walk}
-use Rattle.tt_scan.specs.EdgeTable.{AreLeft, AreWalked, HasRoom, IsInOrder, IsReady, IsTableOf, IsWalkAt, edge_of, edges_of, if_on, is_long, meets_row}
-use Rattle.tt_scan.specs.Winding.{column_x, lies_on_one, winding}
-use Rattle.tt_scan.proofs.Standing.{stand, few_stand, entries_permuted, sum_kept, sum_of_edges, up_of, down_of, on_of, wound, touched}
+use Rattle.tt_scan.specs.EdgeTable.{AreLeft, AreWalked, HasRoom, IsReady, IsTableOf, IsWalkAt, edge_of, edges_of, if_on, meets_row}
+use Rattle.tt_scan.specs.Winding.{column_x}
+use Rattle.tt_scan.proofs.Standing.{stand, few_stand, sum_kept, sum_of_edges, up_of, down_of, on_of, wound, touched}
 use Rattle.tt_scan.proofs.Walked.{sum_of_entries, few_met}
 
 -- what is counted of one list of entries, and as much of another

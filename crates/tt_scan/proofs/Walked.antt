@@ -1,10 +1,9 @@
 -- Edges walked from row to row, those that begin in a row, and what they leave there.
-use Rattle.std.proofs.Common.{◌≡◌, ◌≢◌, ◌∙◌, sym, refl, ap, ℕ, zero, suc, ◌+◌, ◌<◌, ◌≤◌, Bool, true, false, ◌&&◌, ◌||◌, List, [], ◌∷◌, ◌++◌, length, map, take, drop, get_or, filter, sum_by, All, inl, inr, ℤ, pos, ◌+ℤ◌, ◌-ℤ◌, ◌≤ℤ◌, ◌<ℤ◌, int_lt, int_le, if◌then◌else◌, arith}
-use Rattle.std.specs.List.Sorted.{IsPermutation}
+use Rattle.std.proofs.Common.{◌≡◌, ◌≢◌, ◌∙◌, sym, refl, ℕ, zero, suc, ◌+◌, ◌<◌, ◌≤◌, Bool, true, false, ◌&&◌, ◌||◌, List, [], ◌∷◌, ◌++◌, length, map, take, drop, get_or, filter, sum_by, All, inl, inr, ℤ, pos, ◌+ℤ◌, ◌-ℤ◌, ◌≤ℤ◌, ◌<ℤ◌, int_lt, int_le, if◌then◌else◌, arith}
 use Rattle.std.specs.Prelude.{set}
 use Rattle.std.proofs.lemmas.Int.{ints}
 use Rattle.std.proofs.lemmas.Bool.{cases_eq}
-use Rattle.std.proofs.lemmas.List.{append-nil, map-append, take_more, take_all, take-append-drop, get_or-drop, length-drop, length-map, get_or-set_same, get_or-set_other}
+use Rattle.std.proofs.lemmas.List.{append-nil, map-append, take_more, take-append-drop, get_or-drop, length-drop, length-map, get_or-set_same, get_or-set_other}
 use Rattle.std.proofs.lemmas.List.Elements.{All-push, All-cons, filter-append}
 use Rattle.std.proofs.lemmas.List.Sums.{sum_by-cons, sum_by_push, sum_by-take-le}
 use Rattle.tt_scan.specs.declared.edge.Edge.{Edge}
@@ -17,7 +16,7 @@ use Rattle.tt_scan.specs.Crossing.{AreRows}
 use Rattle.tt_scan.specs.EdgeTable.{AreLeft, AreWalked, IsInOrder, IsWalkAt, edge_of, edges_of, if_on, is_long, meets_row}
 use Rattle.tt_scan.specs.Marks.{covers, turns}
 use Rattle.tt_scan.specs.Walks.{IsWalk}
-use Rattle.tt_scan.specs.Winding.{column_x, row_y, is_between, lies_on, lies_on_one, turned, winding}
+use Rattle.tt_scan.specs.Winding.{column_x, row_y, is_between, lies_on, turned}
 use Rattle.tt_scan.proofs.ActiveEdges.{none_met}
 use Rattle.tt_scan.proofs.Crosses.{level_here}
 use Rattle.tt_scan.proofs.Standing.{on_push, winding_push}

@@ -1,13 +1,13 @@
 -- An edge from row to row, by a column and a rest.
-use Rattle.std.proofs.Common.{◌≡◌, ℕ, ◌+◌, ◌*◌, ◌^◌, ◌<◌, ◌≤◌, ap, ◌∙◌, sym, refl, true, ◌&&◌, unsigned_abs, SFits, w64, arith}
-use Rattle.std.specs.Prelude.{ℤ, pos, negsuc, ◌+ℤ◌, ◌-ℤ◌, ◌*ℤ◌, ◌≤ℤ◌, ◌<ℤ◌, int_lt}
+use Rattle.std.proofs.Common.{◌≡◌, ℕ, ◌+◌, ◌*◌, ◌≤◌, refl, ◌&&◌, unsigned_abs, arith}
+use Rattle.std.specs.Prelude.{ℤ, pos, ◌+ℤ◌, ◌-ℤ◌, ◌*ℤ◌, ◌≤ℤ◌, ◌<ℤ◌, int_lt}
 use Rattle.std.proofs.lemmas.Int.{ints, by_lt_z}
 use lib.IntN.{*ℤ_comm}
-use Rattle.tt_core.specs.Products.{mul_sum, mul_diff, mul_mono, mul_assoc_z, floor_above, floor_below}
+use Rattle.tt_core.specs.Products.{mul_diff, mul_mono, floor_above, floor_below}
 use Rattle.tt_scan.specs.declared.edge.Edge.{Edge}
 use Rattle.tt_scan.specs.declared.quotient.Quotient.{Quotient}
 use Rattle.tt_scan.specs.Walks.{divisor_of, number_at, StandsAt, IsStep}
-use Rattle.tt_scan.specs.Winding.{EdgeFits, column_x, side, is_zero}
+use Rattle.tt_scan.specs.Winding.{column_x, side, is_zero}
 use Rattle.tt_scan.proofs.Floors.{at_floor, below_floor}
 use Rattle.tt_scan.proofs.Sides.{side_at}
 

@@ -1,4 +1,4 @@
-use Rattle.std.proofs.Common.{◌≡◌, ◌≢◌, ◌∙◌, ap, SFits, to_z, w8, w64, of_z, pos, rules, refl}
+use Rattle.std.proofs.Common.{◌≡◌, ◌∙◌, SFits, to_z, w8, w64, of_z, rules, refl}
 use Rattle.std.proofs.lemmas.Int.{to_z-of_z}
 use Rattle.tt_scan.specs.Marks.{turns}
 use Rattle.tt_scan.proofs.Stretches.{turns_more}

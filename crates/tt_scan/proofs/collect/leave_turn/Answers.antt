@@ -1,4 +1,4 @@
-use Rattle.std.proofs.Common.{◌≢◌, ◌∙◌, ap, of_z, pos, w8}
+use Rattle.std.proofs.Common.{◌∙◌, ap, of_z, w8}
 use Rattle.tt_scan.proofs.Stretches.{turns_permuted}
 use Rattle.tt_scan.proofs.collect.leave_turn.Goals as goal
 

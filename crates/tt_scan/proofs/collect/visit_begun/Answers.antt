@@ -1,9 +1,9 @@
-use Rattle.std.proofs.Common.{◌≡◌, ◌∙◌, sym, ap, ◌+◌, [], ◌∷◌, length-append, ◌<◌, ◌≤◌, ◌≤ℤ◌, ◌<ℤ◌, get_or, length, filter, take, All, refl, SFits, w32, w64, rules, arith}
-use Rattle.std.proofs.lemmas.Int.{ints, to_z-of_z}
+use Rattle.std.proofs.Common.{◌≡◌, ap, ◌+◌, [], ◌∷◌, length-append, ◌≤ℤ◌, ◌<ℤ◌, get_or, length, filter, take, refl, SFits, w32, w64, rules, arith}
+use Rattle.std.proofs.lemmas.Int.{to_z-of_z}
 use Rattle.std.proofs.lemmas.List.{get_or_default, take_all}
 use Rattle.tt_scan.specs.EdgeTable.{AreLeft, AreWalked, meets_row}
 use Rattle.tt_scan.proofs.ActiveEdges.{no_entry, is_less, reached}
-use Rattle.tt_scan.proofs.Walked.{all_met, few_walks, room_for_mark, room_for_walk, walked_more, met_more}
+use Rattle.tt_scan.proofs.Walked.{all_met, room_for_mark, room_for_walk, walked_more, met_more}
 use Rattle.tt_scan.proofs.collect.visit_begun.Goals as goal
 
 pub returns-then-r-entries-clause-left : goal.returns-then-r-entries-clause-left

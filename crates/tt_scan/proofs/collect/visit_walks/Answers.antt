@@ -1,6 +1,6 @@
-use Rattle.std.proofs.Common.{◌≡◌, ◌∙◌, ◌+◌, ◌<◌, add_assoc, length, get_or, take, map, refl, sym, ap, SFits, w32, w64, pos, ◌+ℤ◌, ◌<ℤ◌, rules, arith}
+use Rattle.std.proofs.Common.{◌≡◌, ◌∙◌, ◌<◌, add_assoc, length, get_or, take, map, refl, SFits, w32, w64, pos, ◌+ℤ◌, ◌<ℤ◌, rules, arith}
 use Rattle.std.proofs.Math.Seq.{take-length, map-set_same}
-use Rattle.std.proofs.lemmas.Int.{ints, to_z-of_z}
+use Rattle.std.proofs.lemmas.Int.{to_z-of_z}
 use Rattle.std.proofs.lemmas.List.{length-map, length-set, get_or-set_same}
 use Rattle.tt_scan.specs.declared.walk.Walk.{Walk}
 use Rattle.tt_scan.specs.EdgeTable.{AreLeft, IsWalkAt, edge_of}

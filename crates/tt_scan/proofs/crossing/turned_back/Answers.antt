@@ -1,5 +1,5 @@
 use Rattle.std.proofs.Common.{SFits, w8, refl, rules, arith}
-use Rattle.std.proofs.lemmas.Int.{ints, to_z-of_z}
+use Rattle.std.proofs.lemmas.Int.{ints}
 use Rattle.tt_scan.specs.Walks.{turned_round}
 use Rattle.tt_scan.proofs.Crosses.{round_cross}
 use Rattle.tt_scan.proofs.crossing.turned_back.Goals as goal

@@ -1,5 +1,4 @@
-use Rattle.std.proofs.Common.{◌≡◌, ◌≢◌, unsigned_abs, ◌+ℤ◌, pos, SFits, w64, rules}
-use Rattle.std.proofs.lemmas.Int.{to_z-of_z}
+use Rattle.std.proofs.Common.{◌+ℤ◌, pos}
 use Rattle.tt_scan.specs.EdgeTable.{edge_of}
 use Rattle.tt_scan.specs.Walks.{IsWalk}
 use Rattle.tt_scan.proofs.Followed.{walk_fits, turn_small, turn_some, back_up}
