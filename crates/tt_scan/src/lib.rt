@@ -4,7 +4,7 @@
 //! The way of a row, from edges to black pixels:
 //!
 //! ```text
-//! edge_table.rt   the active edges, those that meet the row
+//! edge_table.rt   the edges that meet the row: those walked from the row above, and those that begin there
 //! counted.rt      each of them is crossed, and each crossing is counted
 //! crossing.rt     what an edge does at the height of the row: the columns that it touches, and where it turns
 //! collect.rt      touched columns are black spans (rule 2), turns are marks
