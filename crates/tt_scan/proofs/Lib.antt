@@ -17,4 +17,9 @@ pub mod Stretches
 pub mod Totals
 pub mod Unmet
 pub mod Visits
+pub mod Walks
 pub mod Words
+pub mod Followed
+pub mod RowOrder
+pub mod Walked
+pub mod Reached

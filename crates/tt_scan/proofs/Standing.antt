@@ -107,12 +107,12 @@ kept_at h p m ms false is none rest =
     let zero = none is in
     rw (is, whole, zero) (omega (arith, rest))
 
-sum_kept : (h : Entry → ℕ) (p : Entry → Bool) (ms : List Entry) → All (λ m. p m ≡ false → h m ≡ 0) ms → sum_by h (filter p ms) ≡ sum_by h ms
+pub sum_kept : (h : Entry → ℕ) (p : Entry → Bool) (ms : List Entry) → All (λ m. p m ≡ false → h m ≡ 0) ms → sum_by h (filter p ms) ≡ sum_by h ms
 sum_kept h p [] none = refl
 sum_kept h p (m ∷ ms) none =
     kept_at h p m ms (p m) refl (none 0 m (omega arith)) (sum_kept h p ms (λ k d below. none (suc k) d (omega arith)))
 
-sum_of_edges : (es : List Edge) (g : Edge → ℕ) (ms : List Entry) → sum_by g (edges_of es ms) ≡ sum_by (λ m. g (edge_of es m)) ms
+pub sum_of_edges : (es : List Edge) (g : Edge → ℕ) (ms : List Entry) → sum_by g (edges_of es ms) ≡ sum_by (λ m. g (edge_of es m)) ms
 sum_of_edges es g [] = refl
 sum_of_edges es g (m ∷ ms) =
     sum_by-cons g (edge_of es m) (edges_of es ms) ∙ rw (sum_of_edges es g ms) (sym (sum_by-cons (λ (n : Entry). g (edge_of es n)) m ms))
@@ -127,15 +127,15 @@ module _ (es : List Edge) (f : Frame) (ms : List Entry) (r : ℤ) (are : IsTable
 
 -- the turns of edges, the edges that a point lies on, and those that a row meets, as counts
 
-up_of : ℤ → ℤ → Edge → ℕ
+pub up_of : ℤ → ℤ → Edge → ℕ
 up_of x y e = if int_le e.ay y && int_lt y e.by && int_lt (side e x y) (pos 0) then 1 else 0
 
-down_of : ℤ → ℤ → Edge → ℕ
+pub down_of : ℤ → ℤ → Edge → ℕ
 down_of x y e =
     if int_le e.ay y && int_lt y e.by && int_lt (side e x y) (pos 0) then 0
     else (if int_le e.by y && int_lt y e.ay && int_lt (pos 0) (side e x y) then 1 else 0)
 
-on_of : ℤ → ℤ → Edge → ℕ
+pub on_of : ℤ → ℤ → Edge → ℕ
 on_of x y e = if lies_on e x y then 1 else 0
 
 met_of : ℤ → Edge → ℕ
@@ -146,7 +146,7 @@ one_turn true b = refl
 one_turn false true = refl
 one_turn false false = refl
 
-wound : (es : List Edge) (x y : ℤ) → winding es x y ≡ pos (sum_by (up_of x y) es) -ℤ pos (sum_by (down_of x y) es)
+pub wound : (es : List Edge) (x y : ℤ) → winding es x y ≡ pos (sum_by (up_of x y) es) -ℤ pos (sum_by (down_of x y) es)
 unfolding up_of down_of
 wound [] x y = refl
 wound (e ∷ es) x y =
@@ -160,7 +160,7 @@ some_at : (b : Bool) (n : ℕ) → (b || nat_lt 0 n) ≡ nat_lt 0 ((if b then 1 
 some_at true n = grind (arith, nat_tests)
 some_at false n = grind (arith, nat_tests)
 
-touched : (es : List Edge) (x y : ℤ) → lies_on_one es x y ≡ nat_lt 0 (sum_by (on_of x y) es)
+pub touched : (es : List Edge) (x y : ℤ) → lies_on_one es x y ≡ nat_lt 0 (sum_by (on_of x y) es)
 unfolding on_of
 touched [] x y = refl
 touched (e ∷ es) x y =
@@ -224,7 +224,7 @@ pub record StandForAll (es : List Edge) (f : Frame) (r : ℤ) (active : List Ent
   pub turns : (x : ℤ) → winding (edges_of es active) x (row_y f r) ≡ winding es x (row_y f r)
   pub count : rows_met es (row_y f r) ≡ length active
 
-stand : (es : List Edge) (f : Frame) (ms : List Entry) (r : ℤ) → IsTableOf es f ms → pos 0 ≤ℤ r → r <ℤ pos f.height
+pub stand : (es : List Edge) (f : Frame) (ms : List Entry) (r : ℤ) → IsTableOf es f ms → pos 0 ≤ℤ r → r <ℤ pos f.height
     → StandForAll es f r (filter (meets_row r) ms)
 stand es f ms r are low high =
     let y = row_y f r in
@@ -239,11 +239,6 @@ stand es f ms r are low high =
       count = met_counted es y ∙ sym count ∙ sym (met_counted (edges_of es (filter (meets_row r) ms)) y) ∙ met_all es y (filter (meets_row r) ms) met;
     }
 
-pub stand_for_all : (es : List Edge) (f : Frame) (before ms found active : List Entry) (r : ℤ) → IsTableOf es f before → IsPermutation before ms
-    → found ≡ filter (meets_row r) ms → active ≡ found → pos 0 ≤ℤ r → r <ℤ pos f.height → StandForAll es f r active
-stand_for_all es f before ms found active r are same is_found is low high =
-    rw (is, is_found) (stand es f ms r (entries_permuted es f before ms are same) low high)
-
 pub few_stand : (es : List Edge) (f : Frame) (r : ℤ) (active : List Entry) → StandForAll es f r active → length active ≤ length es
 few_stand es f r active stands =
     let count = stands.count in
@@ -252,11 +247,11 @@ few_stand es f r active stands =
 
 -- one edge more of the list
 
-on_push : (es : List Edge) (e : Edge) (x y : ℤ) → lies_on_one (es ++ e ∷ []) x y ≡ (lies_on_one es x y || lies_on e x y)
+pub on_push : (es : List Edge) (e : Edge) (x y : ℤ) → lies_on_one (es ++ e ∷ []) x y ≡ (lies_on_one es x y || lies_on e x y)
 on_push [] e x y = or_false (lies_on e x y)
 on_push (d ∷ es) e x y = rw (on_push es e x y) (or_or (lies_on d x y) (lies_on_one es x y) (lies_on e x y))
 
-winding_push : (es : List Edge) (e : Edge) (x y : ℤ) → winding (es ++ e ∷ []) x y ≡ winding es x y +ℤ turned e x y
+pub winding_push : (es : List Edge) (e : Edge) (x y : ℤ) → winding (es ++ e ∷ []) x y ≡ winding es x y +ℤ turned e x y
 winding_push [] e x y = omega (arith, ints)
 winding_push (d ∷ es) e x y = let more = winding_push es e x y in omega (arith, ints)
 

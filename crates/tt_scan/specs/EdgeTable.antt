@@ -1,16 +1,18 @@
 -- No part of the standard: the edge table of a scan converter. Its entries are the edges that meet some row of the frame,
--- and of these the active ones meet the row asked last.
-use Rattle.std.specs.Prelude.{◌≡◌, ℕ, ◌<◌, ◌≤◌, Bool, false, ℤ, pos, ◌<ℤ◌, ◌≤ℤ◌, ◌-ℤ◌, unsigned_abs, List, map, length, get_or, sum_by, All}
+-- and of these some are walked from row to row.
+use Rattle.std.specs.Prelude.{◌≡◌, ◌≢◌, ℕ, ◌<◌, ◌≤◌, Bool, true, false, ℤ, pos, int_lt, ◌<ℤ◌, ◌≤ℤ◌, ◌+ℤ◌, ◌-ℤ◌, unsigned_abs, if◌then◌else◌, List, map, length, get_or, take, sum_by, vec_capacity, All}
 use Rattle.tt_scan.specs.declared.edge.Edge.{Edge}
 use Rattle.tt_scan.specs.declared.edge.Frame.{Frame}
+use Rattle.tt_scan.specs.declared.edge_table.EdgeTable.{EdgeTable}
 use Rattle.tt_scan.specs.declared.edge_table.Entry.{Entry}
+use Rattle.tt_scan.specs.declared.mark.Mark.{Mark}
+use Rattle.tt_scan.specs.declared.mark.Span.{Span}
+use Rattle.tt_scan.specs.declared.walk.Walk.{Walk}
 use Rattle.tt_scan.specs.Crossing.{AreRows, has_row}
+use Rattle.tt_scan.specs.Marks.{covers, turns}
 use Rattle.tt_scan.specs.Tape.{edge_at}
-use Rattle.tt_scan.specs.Winding.{row_y, is_between}
-
-pub record EdgeTable : Type 0 where
-  pub entries : List Entry
-  pub active : List Entry
+use Rattle.tt_scan.specs.Walks.{IsWalk}
+use Rattle.tt_scan.specs.Winding.{column_x, row_y, is_between, lies_on_one, winding}
 
 -- the edge of an entry meets a row
 abbrev pub meets_row : ℤ → Entry → Bool
@@ -32,13 +34,44 @@ abbrev pub IsInOrder : List Entry → ℤ → Type 0
 IsInOrder ms row = (i j : ℕ) (d : Entry) → i ≤ j → j < length ms → row <ℤ (get_or ms i d).first
     → (get_or ms i d).first ≤ℤ (get_or ms j d).first
 
--- the first `ended` entries end above a row, those after them up to `begun` are active there; what the rest do is not said
-pub record AreSplit (ms : List Entry) (ended begun : ℕ) (row : ℤ) : Type 0 where
-  pub order : ended ≤ begun
+-- the first `n` entries stand in order of their first rows
+abbrev pub IsOrderedTo : List Entry → ℕ → Type 0
+IsOrderedTo ms n = (i j : ℕ) (d : Entry) → i ≤ j → j < n → (get_or ms i d).first ≤ℤ (get_or ms j d).first
+
+-- the first `n` stand so, but entry `k` may belong before its place
+abbrev pub IsOrderedBut : List Entry → ℕ → ℕ → Type 0
+IsOrderedBut ms n k = (i j : ℕ) (d : Entry) → i ≤ j → j < n → j ≢ k → (get_or ms i d).first ≤ℤ (get_or ms j d).first
+
+-- an edge has rows below its first
+abbrev pub is_long : Entry → ℕ
+is_long m = if int_lt (m.first +ℤ pos 1) m.past then 1 else 0
+
+-- what is counted of the entries that go on below a row
+abbrev pub if_on : ℤ → (Entry → ℕ) → Entry → ℕ
+if_on row g m = if int_lt (row +ℤ pos 1) m.past then g m else 0
+
+-- an edge that meets a row, to which it was walked
+pub record IsWalkAt (es : List Edge) (f : Frame) (row : ℤ) (w : Walk) : Type 0 where
+  pub number : w.entry.edge < length es
+  pub rows : AreRows (edge_of es w.entry) f (w.entry.first, w.entry.past)
+  pub first : w.entry.first ≤ℤ row
+  pub past : row <ℤ w.entry.past
+  pub walk : IsWalk (edge_of es w.entry) f.margin (row_y f row) w
+
+-- the edges of the first `begun` entries that go on below a row: each is walked once, whatever is counted of them
+pub record AreWalked (es : List Edge) (f : Frame) (row : ℤ) (ms : List Entry) (begun : ℕ) (ws : List Walk) : Type 0 where
   pub within : begun ≤ length ms
-  pub begin : (i : ℕ) (d : Entry) → i < begun → (get_or ms i d).first ≤ℤ row
-  pub end : (i : ℕ) (d : Entry) → i < ended → (get_or ms i d).past ≤ℤ row
-  pub active : (i : ℕ) (d : Entry) → ended ≤ i → i < begun → row <ℤ (get_or ms i d).past
+  pub first : All (λ m. m.first ≤ℤ row) (take begun ms)
+  pub sums : (g : Entry → ℕ) → sum_by (λ w. g w.entry) ws ≡ sum_by (if_on row g) (take begun ms)
+  pub walks : All (IsWalkAt es f row) ws
+  pub on : All (λ w. (row +ℤ pos 1) <ℤ w.entry.past) ws
+
+-- what the edges of some entries leave of a row
+pub record AreLeft (es : List Edge) (margin : ℕ) (y : ℤ) (ms : List Entry) (left : List Mark) (spans : List Span) : Type 0 where
+  pub black : (c : ℤ) → covers spans c ≡ lies_on_one (edges_of es ms) (column_x margin c) y
+  pub turn : (c : ℤ) → turns left c ≡ winding (edges_of es ms) (column_x margin c) y
+  pub count : length left ≤ length ms
+  pub black_count : length spans ≤ length ms
 
 -- no row of the frame meets an edge
 abbrev pub IsUnmet : Frame → Edge → Type 0
@@ -50,3 +83,15 @@ pub record IsTableOf (es : List Edge) (f : Frame) (ms : List Entry) : Type 0 whe
   pub numbers : All (λ m. m.edge < length es) ms
   pub rows : All (λ m. AreRows (edge_of es m) f (m.first, m.past)) ms
   pub sums : (g : Edge → ℕ) → ((e : Edge) → IsUnmet f e → g e ≡ 0) → sum_by (λ m. g (edge_of es m)) ms ≡ sum_by g es
+
+-- there is memory for the walks of all edges of more rows than one
+pub record HasRoom (t : EdgeTable) : Type 0 where
+  pub long : t.long ≡ sum_by is_long t.entries.items
+  pub room : t.long ≤ vec_capacity t.walks
+
+-- the edge table of a tape between two calls
+pub record IsReady (es : List Edge) (f : Frame) (t : EdgeTable) : Type 0 where
+  pub table : IsTableOf es f t.entries.items
+  pub room : HasRoom t
+  pub walked : t.sorted ≡ true → AreWalked es f t.row t.entries.items t.begun t.walks.items
+  pub order : t.sorted ≡ true → (row : ℤ) → IsInOrder t.entries.items row

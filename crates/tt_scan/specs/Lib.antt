@@ -7,3 +7,4 @@ pub mod Marks
 pub mod Stamps
 pub mod Tape
 pub mod Winding
+pub mod Walks

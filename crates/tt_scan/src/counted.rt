@@ -1,16 +1,20 @@
 //! The edges of a tape, and how many crossings were asked for. What an edge does at a height is told to this crate by
-//! `cross` and `cross_met` alone, and each call of these is counted. Its rows are told by `rows_of`, which says nothing of
+//! `cross`, `cross_met`, `start` and `cross_below` alone, and each call of these is counted. Its rows are told by `rows_of`, which says nothing of
 //! columns. The edges themselves are lent to dropout control alone, which stands above this crate.
 
-ghost use Rattle.std.specs.Prelude.{◌≡◌, true, ◌+◌, ◌^◌, ◌<◌, ◌≤◌, length, [], ◌∷◌, ◌++◌, unsigned_abs, IfOk, OnOk};
+ghost use Rattle.std.specs.Prelude.{◌≡◌, true, ◌+◌, ◌^◌, ◌≢◌, ◌+ℤ◌, pos, ◌<◌, ◌≤◌, length, [], ◌∷◌, ◌++◌, unsigned_abs, IfOk, OnOk};
 ghost use Rattle.tt_core.specs.Limits.{margin_limit};
 ghost use Rattle.tt_scan.specs.Winding.{EdgeFits, FrameFits, is_between};
 ghost use Rattle.tt_scan.specs.Crossing.{IsCross, AreRows};
+ghost use Rattle.tt_scan.specs.EdgeTable.{edge_of};
 ghost use Rattle.tt_scan.specs.Tape.{edge_at};
+ghost use Rattle.tt_scan.specs.Walks.{IsWalk};
 
 use crate::crossing::{crossing, crossing_met};
 use crate::edge::{Cross, Edge, Frame};
+use crate::edge_table::Entry;
 use crate::rows::row_range;
+use crate::walk::Walk;
 use std::alloc::{AllocError, Global};
 use std::marker::Model;
 
@@ -85,6 +89,15 @@ impl CountedEdges {
         self.edges.as_slice()
     }
 
+    /// Edge `i`.
+    #[inline(always)]
+    fn edge(&self, i: usize) -> Edge
+        requires { i < length self.now.edges }
+        ensures { result ≡ edge_at self.now.edges i }
+    {
+        self.edges[i]
+    }
+
     /// How many crossings were asked for.
     pub(crate) fn crosses(&self) -> u64
         ensures { result ≡ self.now.crosses }
@@ -131,5 +144,48 @@ impl CountedEdges {
     {
         self.crosses += 1;
         crossing_met(self.edges[i], margin, y)
+    }
+
+    /// An edge that is to be walked from a height down, and what it does there.
+    #[inline(always)]
+    pub(crate) fn start(&mut self, entry: Entry, margin: u32, y: i64) -> (Walk, Cross)
+        requires within { entry.edge < length self.old.edges }
+        requires edge { EdgeFits (edge_of self.old.edges entry) }
+        requires margin { margin ≤ margin_limit }
+        requires sloped { (edge_of self.old.edges entry).ay ≢ (edge_of self.old.edges entry).by }
+        requires met { is_between (edge_of self.old.edges entry).ay (edge_of self.old.edges entry).by y ≡ true }
+        requires count { self.old.crosses < 2 ^ 63 }
+        ensures walk { IsWalk (edge_of self.old.edges entry) margin y result.0 }
+        ensures entry { result.0.entry ≡ entry }
+        ensures exact { IsCross (edge_of self.old.edges entry) margin y result.1 }
+        ensures bound { unsigned_abs result.1.turn ≤ 1 }
+        ensures count { self.new ≡ record self.old { crosses = self.old.crosses + 1 } }
+    {
+        let edge = self.edge(entry.edge);
+        self.crosses += 1;
+        Walk::new(edge, entry, margin, y)
+    }
+
+    /// What an edge does at a height a row below the one to which it was walked.
+    #[inline(always)]
+    pub(crate) fn cross_below(&mut self, walk: &mut Walk, margin: u32, y: i64) -> Cross
+        requires within { walk.old.entry.edge < length self.old.edges }
+        requires edge { EdgeFits (edge_of self.old.edges walk.old.entry) }
+        requires margin { margin ≤ margin_limit }
+        requires sloped { (edge_of self.old.edges walk.old.entry).ay ≢ (edge_of self.old.edges walk.old.entry).by }
+        requires met { is_between (edge_of self.old.edges walk.old.entry).ay (edge_of self.old.edges walk.old.entry).by y ≡ true }
+        requires above { is_between (edge_of self.old.edges walk.old.entry).ay (edge_of self.old.edges walk.old.entry).by (y +ℤ pos 8192) ≡ true }
+        requires walk { IsWalk (edge_of self.old.edges walk.old.entry) margin (y +ℤ pos 8192) walk.old }
+        requires count { self.old.crosses < 2 ^ 63 }
+        ensures exact { IsCross (edge_of self.old.edges walk.old.entry) margin y result }
+        ensures bound { unsigned_abs result.turn ≤ 1 }
+        ensures some { result.turn ≢ pos 0 }
+        ensures walk { IsWalk (edge_of self.old.edges walk.old.entry) margin y walk.new }
+        ensures entry { walk.new.entry ≡ walk.old.entry }
+        ensures count { self.new ≡ record self.old { crosses = self.old.crosses + 1 } }
+    {
+        self.crosses += 1;
+        walk.go_down();
+        walk.cross()
     }
 }

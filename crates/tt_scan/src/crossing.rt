@@ -16,10 +16,12 @@
 //! the edge, and it adds `turn` to the winding number there. The lower end counts, the upper does not, so that a joint of
 //! two edges counts once. `touch` serves rule 2, a centre on the contour is black: both ends count.
 
-ghost use Rattle.std.specs.Prelude.{◌≡◌, true, ℤ, ◌+◌, ◌^◌, ◌<◌, ◌≤◌, ◌&&◌, pos, int_lt, ◌-ℤ◌, ◌<ℤ◌, ◌≤ℤ◌, unsigned_abs, IfSome};
+ghost use Rattle.std.specs.Prelude.{◌≡◌, true, ℕ, ℤ, ◌+◌, ◌^◌, ◌<◌, ◌≤◌, ◌&&◌, pos, int_lt, ◌-ℤ◌, ◌<ℤ◌, ◌≤ℤ◌, unsigned_abs, IfSome};
 ghost use Rattle.tt_core.specs.Limits.{margin_limit};
 ghost use Rattle.tt_scan.specs.Crossing.{spans, IsCross};
+ghost use Rattle.tt_scan.specs.Walks.{StandsAt, turned_round};
 ghost use Rattle.tt_scan.specs.Winding.{EdgeFits, FrameFits, column_x, row_y, side, is_between, is_zero};
+ghost use Rattle.tt_scan.specs.declared.edge.Edge.{Edge};
 
 use crate::edge::{Cross, Edge, Frame};
 use crate::quotient::{PIXEL, Quotient, divided, pixels_between, product};
@@ -52,7 +54,7 @@ fn from_centre(x: i64, margin: u32) -> i64
 /// The last column whose centre is not right of a rising edge, at a height between its ends; no rest is left where the
 /// edge stands on that centre.
 #[inline(always)]
-fn standing(edge: Edge, margin: u32, y: i64) -> Quotient
+pub(crate) fn standing(edge: Edge, margin: u32, y: i64) -> Quotient
     requires edge { EdgeFits edge }
     requires margin { margin ≤ margin_limit }
     requires rises { edge.ay <ℤ edge.by }
@@ -61,6 +63,7 @@ fn standing(edge: Edge, margin: u32, y: i64) -> Quotient
     ensures on { (c : ℤ) → is_zero (side edge (column_x margin c) y) ≡ (is_zero result.rest && is_zero (result.whole -ℤ c)) }
     ensures right { (c : ℤ) → int_lt (side edge (column_x margin c) y) (pos 0) ≡ int_lt result.whole c }
     ensures small { unsigned_abs result.whole ≤ 2 ^ 62 + 1 }
+    ensures stands { StandsAt edge margin y result }
 {
     let run = edge.bx - edge.ax;
     let rise = edge.by - edge.ay;
@@ -70,7 +73,7 @@ fn standing(edge: Edge, margin: u32, y: i64) -> Quotient
 
 /// That column as the columns which the edge touches.
 #[inline(always)]
-fn touched(at: Quotient) -> Option<(i64, i64)>
+pub(crate) fn touched(at: Quotient) -> Option<(i64, i64)>
     ensures exact { (c : ℤ) → spans result c ≡ (is_zero at.rest && is_zero (at.whole -ℤ c)) }
     ensures order { IfSome result (λ t. t.0 ≤ℤ t.1) }
 {
@@ -95,18 +98,17 @@ fn apart() -> Cross
     }
 }
 
-/// What an edge with a below b does at a height from a to b.
+/// What an edge with a below b does at a height from a to b, where it stands at that height.
 #[inline(always)]
-fn rising(edge: Edge, margin: u32, y: i64) -> Cross
+pub(crate) fn risen(edge: Edge, y: i64, at: Quotient) -> Cross
     requires edge { EdgeFits edge }
-    requires margin { margin ≤ margin_limit }
     requires rises { edge.ay <ℤ edge.by }
     requires low { edge.ay ≤ℤ y }
     requires high { y ≤ℤ edge.by }
-    ensures exact { IsCross edge margin y result }
+    requires small { unsigned_abs at.whole ≤ 2 ^ 62 + 1 }
+    ensures exact { (m : ℕ) → StandsAt edge m y at → IsCross edge m y result }
     ensures bound { unsigned_abs result.turn ≤ 1 }
 {
-    let at = standing(edge, margin, y);
     let touch = touched(at);
     if y < edge.by {
         Cross {
@@ -120,6 +122,34 @@ fn rising(edge: Edge, margin: u32, y: i64) -> Cross
             turn: 0,
             first: 0,
         }
+    }
+}
+
+/// What an edge with a below b does at a height from a to b.
+#[inline(always)]
+fn rising(edge: Edge, margin: u32, y: i64) -> Cross
+    requires edge { EdgeFits edge }
+    requires margin { margin ≤ margin_limit }
+    requires rises { edge.ay <ℤ edge.by }
+    requires low { edge.ay ≤ℤ y }
+    requires high { y ≤ℤ edge.by }
+    ensures exact { IsCross edge margin y result }
+    ensures bound { unsigned_abs result.turn ≤ 1 }
+{
+    risen(edge, y, standing(edge, margin, y))
+}
+
+/// What an edge does, told of the same edge from b to a.
+#[inline(always)]
+pub(crate) fn turned_back(up: Cross) -> Cross
+    requires { unsigned_abs up.turn ≤ 1 }
+    ensures exact { (e : Edge) (m : ℕ) (y : ℤ) → IsCross (turned_round e) m y up → IsCross e m y result }
+    ensures bound { unsigned_abs result.turn ≤ 1 }
+{
+    Cross {
+        touch: up.touch,
+        turn: -up.turn,
+        first: up.first,
     }
 }
 
@@ -140,12 +170,7 @@ fn falling(edge: Edge, margin: u32, y: i64) -> Cross
         bx: edge.ax,
         by: edge.ay,
     };
-    let up = rising(reversed, margin, y);
-    Cross {
-        touch: up.touch,
-        turn: -up.turn,
-        first: up.first,
-    }
+    turned_back(rising(reversed, margin, y))
 }
 
 /// What an edge with a and b at one height does there; they may be one point.

@@ -5,7 +5,7 @@
 //!
 //! ```text
 //! edge_list.rt    the edges while they are made; their rows are found for all at once, by `Tape::of`
-//! edge_table.rt   the active edges, those that meet the row
+//! edge_table.rt   the edges that meet the row: those walked from the row above, and those that begin there
 //! counted.rt      each of them is crossed, and each crossing is counted
 //! crossing.rt     what an edge does at the height of the row: the columns that it touches, and where it turns
 //! collect.rt      touched columns are black spans (rule 2), turns are marks
@@ -29,11 +29,13 @@ mod paint;
 mod pixel;
 mod quotient;
 mod row;
+mod row_order;
 mod rows;
 mod stamp;
 mod stretch;
 mod sweep;
 mod tape;
+mod walk;
 
 pub use bytes::blacken;
 pub use edge::{Cross, Edge, Frame};

@@ -8,7 +8,7 @@ ghost use Rattle.tt_scan.specs.Winding.{is_black, column_x, row_y, rows_met};
 use crate::mark::{Mark, Span};
 use crate::paint::paint_spans;
 use crate::stamp::{Stamp, paint_from, paint_stamp, stamped};
-use crate::stretch::{sort, wind};
+use crate::stretch::wind;
 use crate::tape::Tape;
 use std::alloc::{AllocError, Global};
 use std::marker::Model;
@@ -67,7 +67,6 @@ impl Sweep {
         self.marks.clear();
         self.spans.clear();
         tape.collect(r, &mut self.marks, &mut self.spans);
-        sort(&mut self.marks);
         wind(&self.marks, &mut self.spans);
         self.stamp = stamped(&self.spans);
     }

@@ -4,12 +4,12 @@ ghost use Rattle.std.specs.Prelude.{◌≡◌, ℕ, ℤ, false, int_lt, if◌the
 ghost use Rattle.tt_scan.specs.declared.edge.Edge.{Edge};
 ghost use Rattle.tt_core.specs.Limits.{width_limit, height_limit};
 ghost use Rattle.tt_scan.specs.Winding.{EdgeFits, FrameFits, is_black, column_x, row_y, lies_on_one, winding, rows_met, crossings_of};
-ghost use Rattle.tt_scan.specs.Marks.{covers, turns};
+ghost use Rattle.tt_scan.specs.Marks.{covers, turns, IsRising};
 ghost use Rattle.tt_scan.specs.Crossing.{IsCross, AreRows, AreAllRows, has_row};
 ghost use Rattle.tt_scan.specs.EdgeList.{AreEntered};
+ghost use Rattle.tt_scan.specs.EdgeTable.{HasRoom};
 ghost use Rattle.tt_scan.specs.Tape.{edge_at};
 
-use crate::collect::visit_all;
 use crate::counted::CountedEdges;
 use crate::crossing::row_height;
 use crate::edge::{Cross, Edge, Frame};
@@ -34,7 +34,7 @@ pub struct Tape {
 impl Model for Tape {
     ghost use Rattle.std.specs.Prelude.{All};
     ghost use Rattle.tt_scan.specs.Crossing.{AreAllRows};
-    ghost use Rattle.tt_scan.specs.EdgeTable.{IsTableOf};
+    ghost use Rattle.tt_scan.specs.EdgeTable.{IsReady};
     ghost use Rattle.tt_scan.specs.Tape as tape;
     ghost use Rattle.tt_scan.specs.Winding.{EdgeFits, FrameFits};
 
@@ -43,18 +43,22 @@ impl Model for Tape {
     ghost view = { λ t. record { frame = t.frame; edges = t.edges.edges; crosses = t.edges.crosses } };
 
     ghost invariant = { λ t. FrameFits t.frame × All EdgeFits t.edges.edges × AreAllRows t.edges.edges t.frame t.rows
-        × IsTableOf t.edges.edges t.frame t.table.entries };
+        × IsReady t.edges.edges t.frame t.table };
 }
 
-/// Adds the entry of an edge with these rows, if it has any. After an error the table is as it was.
+/// Adds the entry of an edge with these rows, if it has any. After an error the entries are as they were.
 #[inline(always)]
 fn add_entry(table: &mut EdgeTable, rows: (i64, i64), edge: usize) -> Result<(), AllocError>
     requires low { pos 0 ≤ℤ rows.0 }
     requires high { rows.1 <ℤ pos (2 ^ 31) }
-    ensures added { OnOk result (table.new.entries ≡ table.old.entries ++ (if int_lt rows.0 rows.1
+    requires room { HasRoom table.old }
+    ensures added { OnOk result (table.new.entries.items ≡ table.old.entries.items ++ (if int_lt rows.0 rows.1
         then (record { first = rows.0; past = rows.1; edge = edge }) ∷ [] else [])) }
-    ensures kept { OnErr result (table.new.entries ≡ table.old.entries) }
+    ensures kept { OnErr result (table.new.entries.items ≡ table.old.entries.items) }
+    ensures room { HasRoom table.new }
+    ensures sorted { table.new.sorted ≡ false }
 {
+    table.forget();
     if rows.0 < rows.1 {
         table.add(Entry {
             first: rows.0 as i32,
@@ -77,8 +81,11 @@ fn enter(
 ) -> Result<(), AllocError>
     requires edge { EdgeFits edge }
     requires frame { FrameFits frame }
-    ensures { OnOk result ((es : List Edge) → number ≡ length es → AreEntered es frame all.old table.old.entries
-        → AreEntered (es ++ edge ∷ []) frame all.new table.new.entries) }
+    requires room { HasRoom table.old }
+    ensures entered { OnOk result ((es : List Edge) → number ≡ length es → AreEntered es frame all.old table.old.entries.items
+        → AreEntered (es ++ edge ∷ []) frame all.new table.new.entries.items) }
+    ensures room { HasRoom table.new }
+    ensures sorted { table.new.sorted ≡ false }
 {
     let rows = row_range(edge, frame);
     add_entry(table, rows, number)?;
@@ -248,7 +255,8 @@ impl Tape {
             .cross(i, self.frame.margin, row_height(self.frame, row))
     }
 
-    /// What the edges that meet a row leave of it. Each of them is crossed once, and no other.
+    /// What the edges that meet a row leave of it, the marks in order of their columns. Each of them is crossed once, and
+    /// no other.
     pub(crate) fn collect(&mut self, r: i64, marks: &mut Vec<Mark>, black: &mut Vec<Span>)
         requires row_low { pos 0 ≤ℤ r }
         requires row_high { r <ℤ pos self.old.frame.height }
@@ -261,6 +269,7 @@ impl Tape {
             ≡ lies_on_one self.old.edges (column_x self.old.frame.margin c) (row_y self.old.frame r) }
         ensures turns { (c : ℤ) → turns marks.new.items c
             ≡ winding self.old.edges (column_x self.old.frame.margin c) (row_y self.old.frame r) }
+        ensures order { IsRising marks.new.items }
         ensures count { length marks.new.items ≤ length self.old.edges }
         ensures black_count { length black.new.items ≤ length self.old.edges }
         ensures capacity { vec_capacity marks.new ≡ vec_capacity marks.old }
@@ -269,14 +278,8 @@ impl Tape {
         ensures crosses { self.new.crosses ≡ self.old.crosses + rows_met self.old.edges (row_y self.old.frame r) }
     {
         let y = row_height(self.frame, r);
-        self.table.activate(r as i32);
-        visit_all(
-            &mut self.edges,
-            self.table.active(),
-            self.frame.margin,
-            y,
-            marks,
-            black,
-        );
+        self.table
+            .visit(&mut self.edges, self.frame, y, r as i32, marks, black);
+        self.table.settle(marks);
     }
 }

@@ -1,18 +1,10 @@
-use Rattle.std.proofs.Common.{◌≡◌, ◌≢◌, ◌∙◌, ap, SFits, to_z, w8, w64, of_z, pos, rules, refl}
-use Rattle.std.proofs.lemmas.Int.{to_z-of_z}
-use Rattle.tt_scan.specs.Marks.{turns}
-use Rattle.tt_scan.proofs.Stretches.{turns_more}
-use Rattle.tt_scan.proofs.Visits.{sign_is}
+use Rattle.std.proofs.Common.{◌∙◌, ap, of_z, w8}
+use Rattle.tt_scan.proofs.Stretches.{turns_permuted}
 use Rattle.tt_scan.proofs.collect.leave_turn.Goals as goal
+
+pub leave_mark-requires-clause-some : goal.leave_mark-requires-clause-some
+leave_mark-requires-clause-some c = λ same. c.if-cross-ne0.true (ap (of_z w8) same)
 
 pub returns-then-cross-ne0-clause-turns : goal.returns-then-cross-ne0-clause-turns
 returns-then-cross-ne0-clause-turns c = λ at.
-    let first : SFits w64 c.args.cross.first = search rules in
-    let turn : SFits w8 c.args.cross.turn = search rules in
-    let some : c.args.cross.turn ≢ pos 0 = λ same. c.if-cross-ne0.true (ap (of_z w8) same) in
-    let whole : SFits w64 c.from.result = search rules in
-    let is : c.from.result ≡ c.args.cross.turn = simp to_z-of_z at c.from.ensures in
-    let at_first : to_z w64 (of_z w64 c.args.cross.first) ≡ c.args.cross.first = simp to_z-of_z refl in
-    let at_sign : to_z w64 (of_z w64 c.from.result) ≡ c.args.cross.turn = simp to_z-of_z is in
-    rw c.push_reserved.ensures.items (turns_more c.args.marks.now.items _ at
-    ∙ sign_is (turns c.args.marks.now.items at) at _ _ _ _ at_first at_sign c.requires.bound some)
+    turns_permuted c.leave_mark.new.marks.items c.sink.new.marks.items at c.sink.ensures.permutation ∙ c.leave_mark.ensures.turns at

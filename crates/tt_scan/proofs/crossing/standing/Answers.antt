@@ -1,5 +1,6 @@
-use Rattle.std.proofs.Common.{◌≡◌, ◌+ℤ◌, ◌-ℤ◌, ◌*ℤ◌, ◌<ℤ◌, pos, ℤ, SFits, w64, refl, rules}
+use Rattle.std.proofs.Common.{◌≡◌, ◌∙◌, ◌+ℤ◌, ◌-ℤ◌, ◌*ℤ◌, ◌<ℤ◌, pos, ℤ, SFits, w64, refl, rules}
 use Rattle.std.proofs.lemmas.Int.{to_z-of_z}
+use Rattle.tt_scan.specs.Walks.{number_at}
 use Rattle.tt_scan.specs.Winding.{column_x, side}
 use Rattle.tt_scan.proofs.Floors.{at_floor, below_floor}
 use Rattle.tt_scan.proofs.Sides.{Computed, computed, sum_fits, side_at}
@@ -74,3 +75,28 @@ returns-clause-right c = λ k.
 
 pub returns-clause-small : goal.returns-clause-small
 returns-clause-small c = c.divided.ensures.small
+
+number_is : (c : goal.After-divided) → number c ≡ number_at c.args.edge c.args.margin c.args.y
+number_is c =
+    let ax : SFits w64 c.args.edge.ax = search rules in
+    let ay : SFits w64 c.args.edge.ay = search rules in
+    let bx : SFits w64 c.args.edge.bx = search rules in
+    let by : SFits w64 c.args.edge.by = search rules in
+    let y : SFits w64 c.args.y = c.ranges.y in
+    let p : Computed c.args.edge c.args.y =
+    computed c.args.edge c.args.y c.requires.edge c.requires.rises c.requires.low c.requires.high in
+    let run : SFits w64 (c.args.edge.bx -ℤ c.args.edge.ax) = p.run in
+    let rise : SFits w64 (c.args.edge.by -ℤ c.args.edge.ay) = p.rise in
+    let height : SFits w64 (c.args.y -ℤ c.args.edge.ay) = p.height in
+    let far : SFits w64 c.from_centre.result = search rules in
+    let one : SFits w64 c.product.result = search rules in
+    let two : SFits w64 c.product-2.result = search rules in
+    let at = simp to_z-of_z at c.from_centre.ensures.exact in
+    let left = simp to_z-of_z at c.product.ensures.exact in
+    let right = simp to_z-of_z at c.product-2.ensures.exact in
+    rw (left, right, at) refl
+
+pub returns-clause-stands : goal.returns-clause-stands
+returns-clause-stands c =
+    let p = parts c (pos 0) in
+    record { exact = p.1 ∙ number_is c; low = c.divided.ensures.low; high = p.2 }

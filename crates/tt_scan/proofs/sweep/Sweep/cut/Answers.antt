@@ -2,7 +2,7 @@ use Rattle.std.proofs.Common.{◌≡◌, ◌∙◌, ◌||◌, SFits, w64, pos, r
 use Rattle.std.proofs.lemmas.Int.{to_z-of_z}
 use Rattle.tt_scan.specs.Marks.{covers, turns, stretches}
 use Rattle.tt_scan.specs.Winding.{column_x, row_y, lies_on_one, winding}
-use Rattle.tt_scan.proofs.Stretches.{stretches_of_sorted}
+use Rattle.tt_scan.proofs.Stretches.{all_stretches}
 use Rattle.tt_scan.proofs.sweep.Sweep.cut.Goals as goal
 
 pub returns-clause-black : goal.returns-clause-black
@@ -13,8 +13,8 @@ returns-clause-black c = λ at below.
     let y = row_y c.args.tape.now.frame c.args.r in
     let touched : covers c.collect.new.black.items at ≡ lies_on_one es x y = simp to_z-of_z at (c.collect.ensures.black at) in
     let turned : turns c.collect.new.marks.items at ≡ winding es x y = simp to_z-of_z at (c.collect.ensures.turns at) in
-    let wound = stretches_of_sorted (pos 0) c.collect.new.marks.items c.sort.new.marks.items at c.sort.ensures.permutation c.sort.ensures.order in
-    let painted : covers c.wind.new.black.items at ≡ (covers c.collect.new.black.items at || stretches (pos 0) (pos 0) c.sort.new.marks.items at) =
+    let wound = all_stretches (pos 0) c.collect.new.marks.items at c.collect.ensures.order in
+    let painted : covers c.wind.new.black.items at ≡ (covers c.collect.new.black.items at || stretches (pos 0) (pos 0) c.collect.new.marks.items at) =
     rw c.deref.ensures.value at (c.wind.ensures.black at below) in
     painted ∙ rw (touched, wound, turned) refl
 

@@ -1,6 +1,7 @@
 use Rattle.std.proofs.Common.{◌≡◌, length, ◌++◌, ◌∷◌, [], refl, arith}
 use Rattle.std.proofs.lemmas.List.Elements.{All-push}
 use Rattle.tt_scan.specs.Winding.{EdgeFits}
+use Rattle.tt_scan.proofs.Reached.{ready_unsorted}
 use Rattle.tt_scan.proofs.Standing.{entry_pushed}
 use Rattle.tt_scan.proofs.Unmet.{rows_joined}
 use Rattle.tt_scan.proofs.tape.Tape.push.Goals as goal
@@ -15,8 +16,10 @@ invariant_of-self-2 c =
       rw items (rows_joined c.self.inside.edges.edges c.args.edge c.self.inside.frame c.self.inside.rows c.row_range-rows.result c.join.new.all
           c.self.invariant.2 c.row_range-rows.ensures
           c.join.ensures.left c.join.ensures.right c.join.ensures.first c.join.ensures.last c.join.ensures.order),
-      rw items (entry_pushed c.self.inside.edges.edges c.self.inside.frame c.self.inside.table.entries c.add_entry.new.table.entries c.args.edge c.row_range-rows.result
-          c.self.invariant.3 c.row_range-rows.ensures (rw place at c.in_ok-add_entry.ensures.added)),
+      rw items (ready_unsorted (c.self.inside.edges.edges ++ c.args.edge ∷ []) c.self.inside.frame c.add_entry.new.table
+          (entry_pushed c.self.inside.edges.edges c.self.inside.frame c.self.inside.table.entries.items c.add_entry.new.table.entries.items c.args.edge c.row_range-rows.result
+          c.self.invariant.3.table c.row_range-rows.ensures (rw place at c.in_ok-add_entry.ensures.added))
+          c.in_ok-add_entry.ensures.room c.in_ok-add_entry.ensures.sorted),
     )
 
 pub returns-clause-added : goal.returns-clause-added

@@ -1,0 +1,41 @@
+use Rattle.std.proofs.Common.{◌+ℤ◌, pos}
+use Rattle.tt_scan.specs.EdgeTable.{edge_of}
+use Rattle.tt_scan.specs.Walks.{IsWalk}
+use Rattle.tt_scan.proofs.Followed.{walk_fits, turn_small, turn_some, back_up}
+use Rattle.tt_scan.proofs.counted.CountedEdges.cross_below.Goals as goal
+
+pub go_down-requires : goal.go_down-requires
+go_down-requires c = record {
+  fits = walk_fits (edge_of c.args.self.now.edges c.args.walk.now.entry) c.args.margin (c.args.y +ℤ pos 8192) c.args.walk.now
+      c.requires.edge c.requires.margin c.requires.sloped c.requires.above c.requires.walk;
+}
+
+-- the walk a row down
+down : (c : goal.After-go_down) → IsWalk (edge_of c.args.self.now.edges c.args.walk.now.entry) c.args.margin c.args.y c.go_down.new.self
+down c = back_up (edge_of c.args.self.now.edges c.args.walk.now.entry) c.args.margin c.args.y c.go_down.new.self
+    (c.go_down.ensures.exact (edge_of c.args.self.now.edges c.args.walk.now.entry) c.args.margin (c.args.y +ℤ pos 8192) c.requires.walk)
+
+pub cross-requires-clause-whole : goal.cross-requires-clause-whole
+cross-requires-clause-whole c =
+    (walk_fits (edge_of c.args.self.now.edges c.args.walk.now.entry) c.args.margin c.args.y c.go_down.new.self
+    c.requires.edge c.requires.margin c.requires.sloped c.requires.met (down c)).whole
+
+pub cross-requires-clause-turn : goal.cross-requires-clause-turn
+cross-requires-clause-turn c =
+    turn_small (edge_of c.args.self.now.edges c.args.walk.now.entry) c.args.margin c.args.y c.go_down.new.self c.requires.sloped (down c)
+
+went : (c : goal.After-cross) → IsWalk (edge_of c.args.self.now.edges c.args.walk.now.entry) c.args.margin c.args.y c.go_down.new.self
+went c = back_up (edge_of c.args.self.now.edges c.args.walk.now.entry) c.args.margin c.args.y c.go_down.new.self
+    (c.go_down.ensures.exact (edge_of c.args.self.now.edges c.args.walk.now.entry) c.args.margin (c.args.y +ℤ pos 8192) c.requires.walk)
+
+pub returns-clause-exact : goal.returns-clause-exact
+returns-clause-exact c =
+    c.cross.ensures.exact (edge_of c.args.self.now.edges c.args.walk.now.entry) c.args.margin c.args.y (went c) c.requires.sloped c.requires.met c.requires.above
+
+pub returns-clause-walk : goal.returns-clause-walk
+returns-clause-walk c = went c
+
+pub returns-clause-some : goal.returns-clause-some
+returns-clause-some c =
+    let other = turn_some (edge_of c.args.self.now.edges c.args.walk.now.entry) c.args.margin c.args.y c.go_down.new.self c.requires.sloped (went c) in
+    λ same. other (rw c.cross.ensures.turn at same)
