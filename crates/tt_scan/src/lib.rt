@@ -23,6 +23,7 @@ mod crossing;
 mod edge;
 mod edge_list;
 mod edge_table;
+mod insertion;
 pub mod laws;
 mod mark;
 mod paint;

@@ -3,12 +3,21 @@
 ghost use Rattle.std.specs.Prelude.{◌≡◌, ◌≤◌, unsigned_abs};
 ghost use Rattle.tt_scan.specs.Marks.{turn_of};
 
+use crate::insertion::HasColumn;
+
 /// An edge turns left of the centres from this column on.
 #[derive(Clone, Copy)]
 pub(crate) struct Mark {
     pub(crate) first: i64,
     /// Not below 0 where the edge rises: it adds 1 to the winding of those centres. Else it falls, and takes 1 away.
     pub(crate) sign: i64,
+}
+
+impl HasColumn for Mark {
+    #[inline(always)]
+    fn column(&self) -> i64 {
+        self.first
+    }
 }
 
 impl Mark {
