@@ -81,8 +81,7 @@ invariant_of-result c =
     let made = c.into_edges-edges.ensures.edges in
     let many = rw made at c.len-i-end.ensures.exact in
     let past : length es ≤ c.loop-i.i = omega (arith, many, c.loop-i-test.false) in
-    let are = all_entered es c.loop-i.i c.args.frame c.loop-i.rows c.loop-i.table.entries.items past c.loop-i.invariant.entered in
-    (
+    let are = all_entered es c.loop-i.i c.args.frame c.loop-i.rows c.loop-i.table.entries.items past c.loop-i.invariant.entered in (
       c.requires,
       c.into_edges-edges.ensures.fit,
       rw made are.rows,
