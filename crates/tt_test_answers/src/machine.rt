@@ -37,6 +37,7 @@ use crate::words::Words;
 use anyhow::{Result, bail};
 use std::alloc::Global;
 use std::io::Write;
+use std::mem::swap;
 use tt_exec::{Code, Functions, Machine, Parts};
 
 /// What answers them: it keeps the font program.
@@ -100,9 +101,9 @@ fn answer<'a, W: Write>(
     requires zones { IsZones (zones_view parts.zones) }
 {
     let before = parts.copy()?;
-    let (functions, instructions) = definitions_of(alloc, parts.copy()?, font)?;
-    parts.functions = functions;
-    parts.instructions = instructions;
+    let (mut functions, mut instructions) = definitions_of(alloc, parts.copy()?, font)?;
+    swap(&mut parts.functions, &mut functions);
+    swap(&mut parts.instructions, &mut instructions);
     print_run(out, Machine::new(alloc, parts)?, code, &before)
 }
 
