@@ -1,6 +1,7 @@
 //! The edges of a tape, and how many crossings were asked for. What an edge does at a height is told to this crate by
-//! `cross`, `cross_met`, `start` and `cross_below` alone, and each call of these is counted. Its rows are told by `rows_of`, which says nothing of
-//! columns. The edges themselves are lent to dropout control alone, which stands above this crate.
+//! `cross`, `cross_met`, `start` and `cross_below` alone, and each call of these is counted. Its rows are told by
+//! `rows_of`, which says nothing of columns. The edges themselves are lent to dropout control alone, which stands above
+//! this crate.
 
 ghost use Rattle.std.specs.Prelude.{◌≡◌, true, ◌+◌, ◌^◌, ◌≢◌, ◌+ℤ◌, pos, ◌<◌, ◌≤◌, length, [], ◌∷◌, ◌++◌, unsigned_abs, IfOk, OnOk};
 ghost use Rattle.tt_core.specs.Limits.{margin_limit};
