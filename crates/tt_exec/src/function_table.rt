@@ -1,7 +1,7 @@
 //! The functions that programs define, by number. Apple TrueType Reference Manual, "Instruction set" (defining and
 //! using functions).
 
-ghost use Rattle.std.specs.Prelude.{◌≡◌, ◌^◌, ◌<◌, ◌≤◌, [], length, map, All, IfOk, OnOk};
+ghost use Rattle.std.specs.Prelude.{◌≡◌, ℕ, ◌^◌, ◌<◌, ◌≤◌, pos, [], length, map, All, None, IfOk, OnOk};
 ghost use Rattle.std.specs.Option.{option_map};
 ghost use Rattle.tt_exec.specs.FunctionTable.{AreFunctions, IsGrown, body_at, listed};
 ghost use Rattle.tt_exec.specs.Numbered.{function_at, with_function};
@@ -103,9 +103,10 @@ impl<'a> Functions<'a> {
         self.bodies.as_slice().len()
     }
 
-    /// One more than the greatest number that may have a function.
+    /// From here on no number has a function.
     pub fn end(&self) -> usize
-        ensures { result ≤ 65536 }
+        ensures few { result ≤ 65536 }
+        ensures none { (n : ℕ) → result ≤ n → n < 65536 → function_at (pos n) self.now ≡ None }
     {
         self.places.len()
     }
