@@ -304,7 +304,11 @@ sum_on r g (w ∷ ws) on =
 abbrev pub no_walk : Walk
 no_walk = record {
   entry = record { first = pos 0; past = pos 0; edge = 0 };
-  at = record { whole = pos 0; rest = pos 0 };
-  slope = record { step = record { whole = pos 0; rest = pos 0 }; divisor = pos 0 };
+  column = pos 0;
+  rest = pos 0;
+  part = pos 0;
   turn = pos 0;
+  step = pos 0;
+  step_rest = pos 0;
+  rise = pos 0;
 }

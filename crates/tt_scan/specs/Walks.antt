@@ -1,9 +1,8 @@
 -- No part of the standard: where an edge that rises stands at the centre line of a row, as a column and a rest, and what
 -- both lose from row to row.
-use Rattle.std.specs.Prelude.{◌≡◌, ℕ, ◌+◌, ◌^◌, ◌≤◌, ℤ, pos, negsuc, unsigned_abs, ◌+ℤ◌, ◌-ℤ◌, ◌*ℤ◌, ◌≤ℤ◌, ◌<ℤ◌}
+use Rattle.std.specs.Prelude.{◌≡◌, ℕ, ◌^◌, ◌<◌, ◌≤◌, ℤ, pos, negsuc, unsigned_abs, ◌+ℤ◌, ◌-ℤ◌, ◌*ℤ◌, ◌≤ℤ◌, ◌<ℤ◌}
 use Rattle.tt_scan.specs.declared.edge.Edge.{Edge}
 use Rattle.tt_scan.specs.declared.quotient.Quotient.{Quotient}
-use Rattle.tt_scan.specs.declared.walk.Slope.{Slope}
 use Rattle.tt_scan.specs.declared.walk.Walk.{Walk}
 use Rattle.tt_scan.specs.Winding.{column_x}
 
@@ -27,24 +26,36 @@ pub record IsStep (e : Edge) (q : Quotient) : Type 0 where
   pub low : pos 0 ≤ℤ q.rest
   pub high : q.rest <ℤ divisor_of e
 
-pub record IsSlope (e : Edge) (s : Slope) : Type 0 where
-  pub step : IsStep e s.step
-  pub divisor : s.divisor ≡ divisor_of e
-
 -- the same edge from b to a
 abbrev pub turned_round : Edge → Edge
 turned_round e = record { ax = e.bx; ay = e.by; bx = e.ax; by = e.ay }
 
+-- the quotients that a walk holds: their rests are so many times 8192, and a part that stays
+abbrev pub at_of : Walk → Quotient
+at_of w = record { whole = w.column; rest = pos 8192 *ℤ w.rest +ℤ w.part }
+
+abbrev pub step_of : Walk → Quotient
+step_of w = record { whole = w.step; rest = pos 8192 *ℤ w.step_rest }
+
+-- an edge that rises, followed to a height, and how it turns in the rows below
+pub record IsWalkUp (e : Edge) (margin : ℕ) (y way : ℤ) (w : Walk) : Type 0 where
+  pub at : StandsAt e margin y (at_of w)
+  pub step : IsStep e (step_of w)
+  pub rise : w.rise ≡ e.by -ℤ e.ay
+  pub part_low : pos 0 ≤ℤ w.part
+  pub part_high : w.part <ℤ pos 8192
+  pub turn : w.turn ≡ way
+
 -- an edge followed to a height: by itself where it rises, and from its other end where it falls
 pub record IsWalk (e : Edge) (margin : ℕ) (y : ℤ) (w : Walk) : Type 0 where
-  pub rises : e.ay <ℤ e.by → StandsAt e margin y w.at × IsSlope e w.slope × (w.turn ≡ pos 1)
-  pub falls : e.by <ℤ e.ay → StandsAt (turned_round e) margin y w.at × IsSlope (turned_round e) w.slope × (w.turn ≡ negsuc 0)
+  pub rises : e.ay <ℤ e.by → IsWalkUp e margin y (pos 1) w
+  pub falls : e.by <ℤ e.ay → IsWalkUp (turned_round e) margin y (negsuc 0) w
 
 -- numbers that a row down takes
 pub record WalkFits (w : Walk) : Type 0 where
-  pub whole : unsigned_abs w.at.whole ≤ 2 ^ 62 + 1
-  pub low : pos 0 ≤ℤ w.at.rest
-  pub high : w.at.rest <ℤ w.slope.divisor
-  pub step : unsigned_abs w.slope.step.whole ≤ 2 ^ 61
-  pub step_low : pos 0 ≤ℤ w.slope.step.rest
-  pub step_high : w.slope.step.rest <ℤ w.slope.divisor
+  pub column : unsigned_abs w.column < 2 ^ 20
+  pub rest : pos 0 ≤ℤ w.rest
+  pub part : pos 0 ≤ℤ w.part
+  pub step : unsigned_abs w.step ≤ 2 ^ 20
+  pub step_rest : pos 0 ≤ℤ w.step_rest
+  pub rise : pos 0 ≤ℤ w.rise

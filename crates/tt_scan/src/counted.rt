@@ -141,6 +141,7 @@ impl CountedEdges {
         requires count { self.old.crosses < 2 ^ 63 }
         ensures exact { IsCross (edge_at self.old.edges i) margin y result }
         ensures bound { unsigned_abs result.turn ≤ 1 }
+        ensures near { unsigned_abs result.first ≤ 2 ^ 20 }
         ensures count { self.new ≡ record self.old { crosses = self.old.crosses + 1 } }
     {
         self.crosses += 1;
@@ -160,9 +161,10 @@ impl CountedEdges {
         ensures entry { result.0.entry ≡ entry }
         ensures exact { IsCross (edge_of self.old.edges entry) margin y result.1 }
         ensures bound { unsigned_abs result.1.turn ≤ 1 }
+        ensures near { unsigned_abs result.1.first ≤ 2 ^ 20 }
         ensures count { self.new ≡ record self.old { crosses = self.old.crosses + 1 } }
     {
-        let edge = self.edge(entry.edge);
+        let edge = self.edge(entry.edge as usize);
         self.crosses += 1;
         Walk::new(edge, entry, margin, y)
     }
@@ -180,6 +182,7 @@ impl CountedEdges {
         requires count { self.old.crosses < 2 ^ 63 }
         ensures exact { IsCross (edge_of self.old.edges walk.old.entry) margin y result }
         ensures bound { unsigned_abs result.turn ≤ 1 }
+        ensures near { unsigned_abs result.first ≤ 2 ^ 20 }
         ensures some { result.turn ≢ pos 0 }
         ensures walk { IsWalk (edge_of self.old.edges walk.old.entry) margin y walk.new }
         ensures entry { walk.new.entry ≡ walk.old.entry }

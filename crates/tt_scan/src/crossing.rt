@@ -62,7 +62,7 @@ pub(crate) fn standing(edge: Edge, margin: u32, y: i64) -> Quotient
     requires high { y ≤ℤ edge.by }
     ensures on { (c : ℤ) → is_zero (side edge (column_x margin c) y) ≡ (is_zero result.rest && is_zero (result.whole -ℤ c)) }
     ensures right { (c : ℤ) → int_lt (side edge (column_x margin c) y) (pos 0) ≡ int_lt result.whole c }
-    ensures small { unsigned_abs result.whole ≤ 2 ^ 62 + 1 }
+    ensures near { unsigned_abs result.whole < 2 ^ 20 }
     ensures stands { StandsAt edge margin y result }
 {
     let run = edge.bx - edge.ax;
@@ -105,9 +105,10 @@ pub(crate) fn risen(edge: Edge, y: i64, at: Quotient) -> Cross
     requires rises { edge.ay <ℤ edge.by }
     requires low { edge.ay ≤ℤ y }
     requires high { y ≤ℤ edge.by }
-    requires small { unsigned_abs at.whole ≤ 2 ^ 62 + 1 }
+    requires near { unsigned_abs at.whole < 2 ^ 20 }
     ensures exact { (m : ℕ) → StandsAt edge m y at → IsCross edge m y result }
     ensures bound { unsigned_abs result.turn ≤ 1 }
+    ensures near { unsigned_abs result.first ≤ 2 ^ 20 }
 {
     let touch = touched(at);
     if y < edge.by {
@@ -135,6 +136,7 @@ fn rising(edge: Edge, margin: u32, y: i64) -> Cross
     requires high { y ≤ℤ edge.by }
     ensures exact { IsCross edge margin y result }
     ensures bound { unsigned_abs result.turn ≤ 1 }
+    ensures near { unsigned_abs result.first ≤ 2 ^ 20 }
 {
     risen(edge, y, standing(edge, margin, y))
 }
@@ -145,6 +147,7 @@ pub(crate) fn turned_back(up: Cross) -> Cross
     requires { unsigned_abs up.turn ≤ 1 }
     ensures exact { (e : Edge) (m : ℕ) (y : ℤ) → IsCross (turned_round e) m y up → IsCross e m y result }
     ensures bound { unsigned_abs result.turn ≤ 1 }
+    ensures first { result.first ≡ up.first }
 {
     Cross {
         touch: up.touch,
@@ -163,6 +166,7 @@ fn falling(edge: Edge, margin: u32, y: i64) -> Cross
     requires high { y ≤ℤ edge.ay }
     ensures exact { IsCross edge margin y result }
     ensures bound { unsigned_abs result.turn ≤ 1 }
+    ensures near { unsigned_abs result.first ≤ 2 ^ 20 }
 {
     let reversed = Edge {
         ax: edge.bx,
@@ -182,6 +186,7 @@ fn flat(edge: Edge, margin: u32, y: i64) -> Cross
     requires here { y ≡ edge.ay }
     ensures exact { IsCross edge margin y result }
     ensures bound { unsigned_abs result.turn ≤ 1 }
+    ensures near { unsigned_abs result.first ≤ 2 ^ 20 }
 {
     let left = from_centre(edge.ax.min(edge.bx), margin);
     let right = from_centre(edge.ax.max(edge.bx), margin);
@@ -200,6 +205,7 @@ pub(crate) fn crossing_met(edge: Edge, margin: u32, y: i64) -> Cross
     requires met { is_between edge.ay edge.by y ≡ true }
     ensures exact { IsCross edge margin y result }
     ensures bound { unsigned_abs result.turn ≤ 1 }
+    ensures near { unsigned_abs result.first ≤ 2 ^ 20 }
 {
     if edge.ay < edge.by {
         rising(edge, margin, y)

@@ -8,14 +8,14 @@ use crate::insertion::HasColumn;
 /// An edge turns left of the centres from this column on.
 #[derive(Clone, Copy)]
 pub(crate) struct Mark {
-    pub(crate) first: i64,
+    pub(crate) first: i32,
     /// Not below 0 where the edge rises: it adds 1 to the winding of those centres. Else it falls, and takes 1 away.
-    pub(crate) sign: i64,
+    pub(crate) sign: i32,
 }
 
 impl HasColumn for Mark {
     #[inline(always)]
-    fn column(&self) -> i64 {
+    fn column(&self) -> i32 {
         self.first
     }
 }

@@ -46,11 +46,12 @@ impl Model for Tape {
         × IsReady t.edges.edges t.frame t.table };
 }
 
-/// Adds the entry of an edge with these rows, if it has any. After an error the entries are as they were.
+/// Adds the entry of an edge with these rows, if it has any. Error: memory ran out, or the number is 2^32 or more, for
+/// which an entry has no room. After an error the entries are as they were.
 #[inline(always)]
 fn add_entry(table: &mut EdgeTable, rows: (i64, i64), edge: usize) -> Result<(), AllocError>
     requires low { pos 0 ≤ℤ rows.0 }
-    requires high { rows.1 <ℤ pos (2 ^ 31) }
+    requires high { rows.1 <ℤ pos (2 ^ 15) }
     requires room { HasRoom table.old }
     ensures added { OnOk result (table.new.entries.items ≡ table.old.entries.items ++ (if int_lt rows.0 rows.1
         then (record { first = rows.0; past = rows.1; edge = edge }) ∷ [] else [])) }
@@ -59,15 +60,17 @@ fn add_entry(table: &mut EdgeTable, rows: (i64, i64), edge: usize) -> Result<(),
     ensures sorted { table.new.sorted ≡ false }
 {
     table.forget();
-    if rows.0 < rows.1 {
-        table.add(Entry {
-            first: rows.0 as i32,
-            past: rows.1 as i32,
-            edge,
-        })
-    } else {
-        Ok(())
+    if rows.0 >= rows.1 {
+        return Ok(());
     }
+    let Ok(edge) = u32::try_from(edge) else {
+        return Err(AllocError);
+    };
+    table.add(Entry {
+        first: rows.0 as i16,
+        past: rows.1 as i16,
+        edge,
+    })
 }
 
 /// Adds what is found of an edge, whose number is that of the edges before it: its entry, and its rows to those of all.

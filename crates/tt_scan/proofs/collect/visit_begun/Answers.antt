@@ -1,4 +1,4 @@
-use Rattle.std.proofs.Common.{◌≡◌, ap, ◌+◌, [], ◌∷◌, length-append, ◌≤ℤ◌, ◌<ℤ◌, get_or, length, filter, take, refl, SFits, w32, w64, rules, arith}
+use Rattle.std.proofs.Common.{◌≡◌, ◌∙◌, sym, ap, ◌+◌, [], ◌∷◌, length-append, ◌≤ℤ◌, ◌<ℤ◌, get_or, length, filter, take, refl, SFits, w32, w64, rules, arith}
 use Rattle.std.proofs.lemmas.Int.{to_z-of_z}
 use Rattle.std.proofs.lemmas.List.{get_or_default, take_all}
 use Rattle.tt_scan.specs.EdgeTable.{AreLeft, AreWalked, meets_row}
@@ -6,22 +6,20 @@ use Rattle.tt_scan.proofs.ActiveEdges.{no_entry, is_less, reached}
 use Rattle.tt_scan.proofs.Walked.{all_met, room_for_mark, room_for_walk, walked_more, met_more}
 use Rattle.tt_scan.proofs.collect.visit_begun.Goals as goal
 
-pub returns-then-r-entries-clause-left : goal.returns-then-r-entries-clause-left
-returns-then-r-entries-clause-left c =
+pub returns-then-begins_below-clause-left : goal.returns-then-begins_below-clause-left
+returns-then-begins_below-clause-left c =
     let y : SFits w64 c.args.y = c.ranges.y in
     let r : SFits w32 c.args.r = c.ranges.r in
-    let first : SFits w32 (get_or c.args.entries.now c.loop-next.next no_entry).first = search rules in
-    let after : c.args.r <ℤ (get_or c.args.entries.now c.loop-next.next no_entry).first = is_less c.args.r (get_or c.args.entries.now c.loop-next.next no_entry).first (simp to_z-of_z at c.if-r-entries.true) in
+    let after : c.args.r <ℤ (get_or c.args.entries.now c.loop-next.next no_entry).first = is_less c.args.r (get_or c.args.entries.now c.loop-next.next no_entry).first (sym (simp to_z-of_z at c.begins_below.ensures) ∙ c.if-begins_below.true) in
     let all = all_met c.args.r c.args.entries.now c.loop-next.next c.requires.order c.loop-next-test.true
     (λ d. rw (get_or_default c.args.entries.now c.loop-next.next d no_entry c.loop-next-test.true) after) in
     rw all at (simp to_z-of_z at c.loop-next.invariant.left)
 
-pub returns-then-r-entries-clause-crosses : goal.returns-then-r-entries-clause-crosses
-returns-then-r-entries-clause-crosses c =
+pub returns-then-begins_below-clause-crosses : goal.returns-then-begins_below-clause-crosses
+returns-then-begins_below-clause-crosses c =
     let y : SFits w64 c.args.y = c.ranges.y in
     let r : SFits w32 c.args.r = c.ranges.r in
-    let first : SFits w32 (get_or c.args.entries.now c.loop-next.next no_entry).first = search rules in
-    let after : c.args.r <ℤ (get_or c.args.entries.now c.loop-next.next no_entry).first = is_less c.args.r (get_or c.args.entries.now c.loop-next.next no_entry).first (simp to_z-of_z at c.if-r-entries.true) in
+    let after : c.args.r <ℤ (get_or c.args.entries.now c.loop-next.next no_entry).first = is_less c.args.r (get_or c.args.entries.now c.loop-next.next no_entry).first (sym (simp to_z-of_z at c.begins_below.ensures) ∙ c.if-begins_below.true) in
     let all = all_met c.args.r c.args.entries.now c.loop-next.next c.requires.order c.loop-next-test.true
     (λ d. rw (get_or_default c.args.entries.now c.loop-next.next d no_entry c.loop-next-test.true) after) in
     rw all at (simp to_z-of_z at c.loop-next.invariant.count)
@@ -36,7 +34,6 @@ pub visit_entry-requires-clause-crosses : goal.visit_entry-requires-clause-cross
 visit_entry-requires-clause-crosses c =
     let y : SFits w64 c.args.y = c.ranges.y in
     let r : SFits w32 c.args.r = c.ranges.r in
-    let first : SFits w32 (get_or c.args.entries.now c.loop-next.next no_entry).first = search rules in
     λ meets.
     let met = room_for_mark c.args.r c.args.entries.now c.loop-next.next no_entry c.loop-next-test.true (simp to_z-of_z at meets) in
     let left : AreLeft c.args.edges.now.edges c.args.frame.margin c.args.y (filter (meets_row c.args.r) (take c.loop-next.next c.args.entries.now)) c.loop-next.marks.items c.loop-next.black.items = simp to_z-of_z at c.loop-next.invariant.left in
@@ -47,7 +44,6 @@ pub visit_entry-requires-clause-room : goal.visit_entry-requires-clause-room
 visit_entry-requires-clause-room c =
     let y : SFits w64 c.args.y = c.ranges.y in
     let r : SFits w32 c.args.r = c.ranges.r in
-    let first : SFits w32 (get_or c.args.entries.now c.loop-next.next no_entry).first = search rules in
     λ meets.
     let met = room_for_mark c.args.r c.args.entries.now c.loop-next.next no_entry c.loop-next-test.true (simp to_z-of_z at meets) in
     let left : AreLeft c.args.edges.now.edges c.args.frame.margin c.args.y (filter (meets_row c.args.r) (take c.loop-next.next c.args.entries.now)) c.loop-next.marks.items c.loop-next.black.items = simp to_z-of_z at c.loop-next.invariant.left in
@@ -57,7 +53,6 @@ pub visit_entry-requires-clause-black_room : goal.visit_entry-requires-clause-bl
 visit_entry-requires-clause-black_room c =
     let y : SFits w64 c.args.y = c.ranges.y in
     let r : SFits w32 c.args.r = c.ranges.r in
-    let first : SFits w32 (get_or c.args.entries.now c.loop-next.next no_entry).first = search rules in
     λ meets.
     let met = room_for_mark c.args.r c.args.entries.now c.loop-next.next no_entry c.loop-next-test.true (simp to_z-of_z at meets) in
     let left : AreLeft c.args.edges.now.edges c.args.frame.margin c.args.y (filter (meets_row c.args.r) (take c.loop-next.next c.args.entries.now)) c.loop-next.marks.items c.loop-next.black.items = simp to_z-of_z at c.loop-next.invariant.left in
@@ -67,8 +62,7 @@ pub visit_entry-requires-clause-walk_room : goal.visit_entry-requires-clause-wal
 visit_entry-requires-clause-walk_room c =
     let y : SFits w64 c.args.y = c.ranges.y in
     let r : SFits w32 c.args.r = c.ranges.r in
-    let first : SFits w32 (get_or c.args.entries.now c.loop-next.next no_entry).first = search rules in
-    let low : (get_or c.args.entries.now c.loop-next.next no_entry).first ≤ℤ c.args.r = reached c.args.r (get_or c.args.entries.now c.loop-next.next no_entry).first (simp to_z-of_z at c.if-r-entries.false) in
+    let low : (get_or c.args.entries.now c.loop-next.next no_entry).first ≤ℤ c.args.r = reached c.args.r (get_or c.args.entries.now c.loop-next.next no_entry).first (sym (simp to_z-of_z at c.begins_below.ensures) ∙ c.if-begins_below.false) in
     let walked : AreWalked c.args.edges.now.edges c.args.frame c.args.r c.args.entries.now c.loop-next.next c.loop-next.walks.items = simp to_z-of_z at c.loop-next.invariant.walked in
     λ on.
     let room = room_for_walk c.args.edges.now.edges c.args.frame c.args.r c.args.entries.now c.loop-next.next no_entry c.loop-next.walks.items walked c.loop-next-test.true low (simp to_z-of_z at on) in
@@ -78,8 +72,7 @@ pub loop-next-preserved : goal.loop-next-preserved
 loop-next-preserved c =
     let y : SFits w64 c.args.y = c.ranges.y in
     let r : SFits w32 c.args.r = c.ranges.r in
-    let first : SFits w32 (get_or c.args.entries.now c.loop-next.next no_entry).first = search rules in
-    let low : (get_or c.args.entries.now c.loop-next.next no_entry).first ≤ℤ c.args.r = reached c.args.r (get_or c.args.entries.now c.loop-next.next no_entry).first (simp to_z-of_z at c.if-r-entries.false) in
+    let low : (get_or c.args.entries.now c.loop-next.next no_entry).first ≤ℤ c.args.r = reached c.args.r (get_or c.args.entries.now c.loop-next.next no_entry).first (sym (simp to_z-of_z at c.begins_below.ensures) ∙ c.if-begins_below.false) in
     let walked : AreWalked c.args.edges.now.edges c.args.frame c.args.r c.args.entries.now c.loop-next.next c.loop-next.walks.items = simp to_z-of_z at c.loop-next.invariant.walked in
     let left : AreLeft c.args.edges.now.edges c.args.frame.margin c.args.y (filter (meets_row c.args.r) (take c.loop-next.next c.args.entries.now)) c.loop-next.marks.items c.loop-next.black.items = simp to_z-of_z at c.loop-next.invariant.left in
     let count : c.loop-next.edges.crosses + length (filter (meets_row c.args.r) (take c.args.from c.args.entries.now)) ≡ c.args.edges.now.crosses + length (filter (meets_row c.args.r) (take c.loop-next.next c.args.entries.now)) = simp to_z-of_z at c.loop-next.invariant.count in

@@ -9,7 +9,7 @@ pub returns-then-y-edge-clause-exact : goal.returns-then-y-edge-clause-exact
 returns-then-y-edge-clause-exact c = λ m is.
     let y : SFits w64 c.args.y = c.ranges.y in
     let whole : SFits w64 c.args.at.whole = search rules in
-    let one : SFits w64 (c.args.at.whole +ℤ pos 1) = omega (arith, ints, c.requires.small) in
+    let one : SFits w64 (c.args.at.whole +ℤ pos 1) = omega (arith, ints, c.requires.near) in
     simp to_z-of_z (rising_cross c.args.edge m c.args.y
     (record { touch = c.touched-touch.result; turn = pos 1; first = c.args.at.whole +ℤ pos 1 }) c.args.at.whole
     (λ (k : ℤ). is_zero c.args.at.rest && is_zero (c.args.at.whole -ℤ k))

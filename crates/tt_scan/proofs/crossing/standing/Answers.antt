@@ -4,6 +4,7 @@ use Rattle.tt_scan.specs.Walks.{number_at}
 use Rattle.tt_scan.specs.Winding.{column_x, side}
 use Rattle.tt_scan.proofs.Floors.{at_floor, below_floor}
 use Rattle.tt_scan.proofs.Sides.{Computed, computed, sum_fits, side_at}
+use Rattle.tt_scan.proofs.Walks.{column_near}
 use Rattle.tt_scan.proofs.crossing.standing.Goals as goal
 
 pub overflow_add-sum : goal.overflow_add-sum
@@ -73,9 +74,6 @@ returns-clause-right c = λ k.
     let p = parts c k in
     rw p.0 (below_floor (divisor c) c.divided.result.whole c.divided.result.rest (number c) k c.divided.ensures.low p.2 p.1)
 
-pub returns-clause-small : goal.returns-clause-small
-returns-clause-small c = c.divided.ensures.small
-
 number_is : (c : goal.After-divided) → number c ≡ number_at c.args.edge c.args.margin c.args.y
 number_is c =
     let ax : SFits w64 c.args.edge.ax = search rules in
@@ -100,3 +98,10 @@ pub returns-clause-stands : goal.returns-clause-stands
 returns-clause-stands c =
     let p = parts c (pos 0) in
     record { exact = p.1 ∙ number_is c; low = c.divided.ensures.low; high = p.2 }
+
+pub returns-clause-near : goal.returns-clause-near
+returns-clause-near c =
+    let p = parts c (pos 0) in
+    column_near c.args.edge c.args.margin c.args.y c.divided.result c.requires.edge c.requires.margin c.requires.rises
+    c.requires.low c.requires.high
+    (record { exact = p.1 ∙ number_is c; low = c.divided.ensures.low; high = p.2 })
