@@ -180,10 +180,10 @@ pub(crate) fn edge_between(a: EdgeEnd, b: EdgeEnd) -> Edge
     ensures valid { EdgeFits result }
 {
     Edge {
-        ax: a.x,
-        ay: a.y,
-        bx: b.x,
-        by: b.y,
+        ax: a.x as i32,
+        ay: a.y as i32,
+        bx: b.x as i32,
+        by: b.y as i32,
     }
 }
 

@@ -122,7 +122,7 @@ pub goes_down_up : (e : Edge) (m : ℕ) (y turn : ℤ) (w v : Walk) → IsWalkUp
     → v.part ≡ w.part → v.turn ≡ w.turn
     → (w.step_rest ≤ℤ w.rest → (v.column ≡ w.column -ℤ w.step) × (v.rest ≡ w.rest -ℤ w.step_rest))
     → (w.rest <ℤ w.step_rest → (v.column ≡ (w.column -ℤ w.step) -ℤ pos 1)
-        × (v.rest ≡ (w.rest -ℤ w.step_rest) +ℤ w.rise))
+    × (v.rest ≡ (w.rest -ℤ w.step_rest) +ℤ w.rise))
     → IsWalkUp e m (y -ℤ pos 8192) turn v
 goes_down_up e m y turn w v is step step_rest rise part turns down left =
     let low = is.part_low in

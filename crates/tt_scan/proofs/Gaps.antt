@@ -1,5 +1,5 @@
 -- Gaps between the centre lines of rows, and edges that lie in one: no row meets them.
-use Rattle.std.proofs.Common.{◌≡◌, ◌∙◌, ℕ, ◌+◌, ◌<◌, ◌≤◌, ◌^◌, length, take, get_or, All, SFits, w64, true, false, ◌&&◌, List, [], ◌∷◌, ◌++◌, inl, ℤ, pos, ◌+ℤ◌, ◌-ℤ◌, ◌*ℤ◌, ◌≤ℤ◌, ◌<ℤ◌, refl, sym, arith, append-nil}
+use Rattle.std.proofs.Common.{◌≡◌, ◌∙◌, ℕ, ◌+◌, ◌<◌, ◌≤◌, ◌^◌, length, take, get_or, All, SFits, w32, true, false, ◌&&◌, List, [], ◌∷◌, ◌++◌, inl, ℤ, pos, ◌+ℤ◌, ◌-ℤ◌, ◌*ℤ◌, ◌≤ℤ◌, ◌<ℤ◌, refl, sym, arith, append-nil}
 use Rattle.std.specs.Prelude.{int_lt, unsigned_abs}
 use Rattle.std.proofs.lemmas.Int.{ints, by_lt_z}
 use Rattle.std.proofs.lemmas.List.{take_all, take_more, length-take}
@@ -42,9 +42,9 @@ no_gap y low = record {
 }
 
 pub record LineFits (j : ℤ) : Type 0 where
-  pub times : SFits w64 (pos 8192 *ℤ j)
-  pub low : SFits w64 ((pos 8192 *ℤ j) -ℤ pos 4096)
-  pub high : SFits w64 (((pos 8192 *ℤ j) -ℤ pos 4096) +ℤ pos 8192)
+  pub times : SFits w32 (pos 8192 *ℤ j)
+  pub low : SFits w32 ((pos 8192 *ℤ j) -ℤ pos 4096)
+  pub high : SFits w32 (((pos 8192 *ℤ j) -ℤ pos 4096) +ℤ pos 8192)
 
 pub line_fits : (y j : ℤ) → unsigned_abs y < 2 ^ 30 → (pos 8192 *ℤ j) ≤ℤ (y +ℤ pos 4096)
     → (y +ℤ pos 4096) <ℤ (pos 8192 *ℤ (j +ℤ pos 1)) → LineFits j
@@ -130,8 +130,8 @@ none_entered f ms is = rw is (record {
 
 -- the numbers of an edge
 pub record EdgeIsWide (e : Edge) : Type 0 where
-  pub ay : SFits w64 e.ay
-  pub by : SFits w64 e.by
+  pub ay : SFits w32 e.ay
+  pub by : SFits w32 e.by
 
 pub edge_is_wide : (e : Edge) → EdgeFits e → EdgeIsWide e
 edge_is_wide e fits = record { ay = omega (arith, ints, fits.ay); by = omega (arith, ints, fits.by) }

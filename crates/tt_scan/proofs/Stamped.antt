@@ -1,5 +1,5 @@
 -- The columns of spans as a stamp, and a stamp painted.
-use Rattle.std.proofs.Common.{◌≡◌, ◌∙◌, sym, refl, ℕ, ◌+◌, ◌-◌, ◌<◌, ◌≤◌, Bool, true, false, ◌&&◌, ◌||◌, ◌==◌, nat_le, nat_lt, List, [], ◌∷◌, length, take, get_or, bit_or, ℤ, pos, ◌+ℤ◌, ◌-ℤ◌, ◌≤ℤ◌, ◌^◌, int_le, int_lt, unsigned_abs, SFits, w64, to_z, of_z, arith, inl, inr}
+use Rattle.std.proofs.Common.{◌≡◌, ◌∙◌, sym, refl, ℕ, ◌+◌, ◌-◌, ◌<◌, ◌≤◌, Bool, true, false, ◌&&◌, ◌||◌, ◌==◌, nat_le, nat_lt, List, [], ◌∷◌, length, take, get_or, bit_or, ℤ, pos, ◌+ℤ◌, ◌-ℤ◌, ◌≤ℤ◌, ◌<ℤ◌, ◌^◌, int_le, int_lt, unsigned_abs, SFits, w64, to_z, of_z, arith, inl, inr}
 use Rattle.std.specs.Int.{bit_at}
 use Rattle.std.proofs.lemmas.Bool.Decides.{nat_tests}
 use Rattle.std.proofs.lemmas.Bool.{cases_lt}
@@ -140,6 +140,23 @@ stamp_painted ss s at k width shift is is_at room =
           let same : unsigned_abs ((pos k -ℤ shift) -ℤ s.low) ≡ k - at = omega (arith, ints) in
           rw (on, in_it, same) (within_row s.word s.columns at k width is.narrow is.free room)
     ])
+
+-- both tests of a place that lies within are passed
+both_true : (a b : Bool) → (a && b) ≡ true → (a ≡ true) × (b ≡ true)
+both_true true b is = (refl, is)
+both_true false b is = absurd cc
+
+pub inside_painted : (ss : List Span) (s : Stamp) (shift inside : ℤ) (k width : ℕ) → IsStampOf ss s
+    → (int_le (pos 0) (s.low +ℤ shift) && int_lt (s.low +ℤ shift) inside) ≡ true
+    → ((at : ℕ) → pos at <ℤ inside → at + 64 ≤ width)
+    → (nat_le (unsigned_abs (s.low +ℤ shift)) k && in_word s.word (k - unsigned_abs (s.low +ℤ shift))) ≡ (nat_lt k width && covers ss (pos k -ℤ shift))
+inside_painted ss s shift inside k width is passed room =
+    let tests = both_true (int_le (pos 0) (s.low +ℤ shift)) (int_lt (s.low +ℤ shift) inside) passed in
+    let from : pos 0 ≤ℤ (s.low +ℤ shift) = by_lt_z (s.low +ℤ shift) (pos 0) (λ left. let test = tests.0 in absurd (grind (arith, ints))) (λ right. right) in
+    let below : (s.low +ℤ shift) <ℤ inside = by_lt_z (s.low +ℤ shift) inside (λ left. left) (λ right. let test = tests.1 in absurd (grind (arith, ints))) in
+    let at : pos (unsigned_abs (s.low +ℤ shift)) ≡ s.low +ℤ shift = omega (arith, ints) in
+    let fits = room (unsigned_abs (s.low +ℤ shift)) (rw at below) in
+    stamp_painted ss s (unsigned_abs (s.low +ℤ shift)) k width shift is at (omega (arith, is.narrow))
 
 -- a span alone
 

@@ -108,7 +108,7 @@ impl CountedEdges {
 
     /// The first of a frame's rows whose centre line meets edge `i`, its ends included, and one past the last; two equal
     /// numbers where none does.
-    pub(crate) fn rows_of(&self, i: usize, frame: Frame) -> (i64, i64)
+    pub(crate) fn rows_of(&self, i: usize, frame: Frame) -> (i32, i32)
         requires within { i < length self.now.edges }
         requires edge { EdgeFits (edge_at self.now.edges i) }
         requires frame { FrameFits frame }

@@ -27,7 +27,7 @@ use crate::edge::{Cross, Edge, Frame};
 use crate::quotient::{PIXEL, Quotient, divided, pixels_between, product};
 
 /// From a border of a pixel to its centre, in 1/8192 pixel.
-pub(crate) const HALF: i64 = PIXEL / 2;
+const HALF: i64 = PIXEL / 2;
 
 /// Where the centres of a row stand, in 1/8192 pixel.
 pub(crate) fn row_height(frame: Frame, row: i64) -> i64
@@ -42,13 +42,13 @@ pub(crate) fn row_height(frame: Frame, row: i64) -> i64
 
 /// How far a place stands right of the centres of column 0. Both are in 1/8192 pixel.
 #[inline(always)]
-fn from_centre(x: i64, margin: u32) -> i64
+fn from_centre(x: i32, margin: u32) -> i64
     requires place { unsigned_abs x < 2 ^ 30 }
     requires margin { margin ≤ margin_limit }
     ensures exact { result ≡ x -ℤ column_x margin (pos 0) }
     ensures bound { unsigned_abs result < 2 ^ 31 }
 {
-    x + (PIXEL * i64::from(margin) - HALF)
+    i64::from(x) + (PIXEL * i64::from(margin) - HALF)
 }
 
 /// The last column whose centre is not right of a rising edge, at a height between its ends; no rest is left where the
@@ -65,9 +65,9 @@ pub(crate) fn standing(edge: Edge, margin: u32, y: i64) -> Quotient
     ensures near { unsigned_abs result.whole < 2 ^ 20 }
     ensures stands { StandsAt edge margin y result }
 {
-    let run = edge.bx - edge.ax;
-    let rise = edge.by - edge.ay;
-    let sum = product(run, y - edge.ay) + product(rise, from_centre(edge.ax, margin));
+    let rise = edge.rise();
+    let sum = product(edge.run(), y - i64::from(edge.ay))
+        + product(rise, from_centre(edge.ax, margin));
     divided(sum, PIXEL * rise)
 }
 
@@ -111,7 +111,7 @@ pub(crate) fn risen(edge: Edge, y: i64, at: Quotient) -> Cross
     ensures near { unsigned_abs result.first ≤ 2 ^ 20 }
 {
     let touch = touched(at);
-    if y < edge.by {
+    if y < i64::from(edge.by) {
         Cross {
             touch,
             turn: 1,
@@ -216,12 +216,20 @@ pub(crate) fn crossing_met(edge: Edge, margin: u32, y: i64) -> Cross
     }
 }
 
+/// Whether a height lies between two others, both included.
+#[inline(always)]
+fn is_between(a: i64, b: i64, y: i64) -> bool
+    ensures { result ≡ is_between a b y }
+{
+    (a <= y && y <= b) || (b <= y && y <= a)
+}
+
 /// Whether an edge reaches a height, its ends included.
 #[inline(always)]
 fn reaches(edge: Edge, y: i64) -> bool
     ensures { result ≡ is_between edge.ay edge.by y }
 {
-    (edge.ay <= y && y <= edge.by) || (edge.by <= y && y <= edge.ay)
+    is_between(i64::from(edge.ay), i64::from(edge.by), y)
 }
 
 /// What an edge does at a height.

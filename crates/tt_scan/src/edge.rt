@@ -1,12 +1,34 @@
 //! An edge, the frame of a picture, and what an edge does at the height of a row.
 
+ghost use Rattle.std.specs.Prelude.{◌≡◌, ◌^◌, ◌≤◌, ◌-ℤ◌, unsigned_abs};
+
 /// A straight edge from a to b, in 1/8192 pixel.
 #[derive(Clone, Copy, Debug, PartialEq, Eq)]
 pub struct Edge {
-    pub ax: i64,
-    pub ay: i64,
-    pub bx: i64,
-    pub by: i64,
+    pub ax: i32,
+    pub ay: i32,
+    pub bx: i32,
+    pub by: i32,
+}
+
+impl Edge {
+    /// How far it goes to the right, in 1/8192 pixel.
+    #[inline(always)]
+    pub fn run(self) -> i64
+        ensures exact { result ≡ self.bx -ℤ self.ax }
+        ensures bound { unsigned_abs result ≤ 2 ^ 32 }
+    {
+        i64::from(self.bx) - i64::from(self.ax)
+    }
+
+    /// How far it rises, in 1/8192 pixel.
+    #[inline(always)]
+    pub fn rise(self) -> i64
+        ensures exact { result ≡ self.by -ℤ self.ay }
+        ensures bound { unsigned_abs result ≤ 2 ^ 32 }
+    {
+        i64::from(self.by) - i64::from(self.ay)
+    }
 }
 
 /// A picture of `width` times `height` pixels, with `margin` pixels round the line; the base line runs

@@ -1,17 +1,49 @@
 //! The rows of a frame that an edge meets.
 
-ghost use Rattle.std.specs.Prelude.{◌≡◌, ℤ, ◌^◌, ◌<◌, ◌+ℤ◌, ◌*ℤ◌, ◌-ℤ◌, ◌⊎◌, true, ◌&&◌, pos, int_lt, int_le, ◌<ℤ◌, ◌≤ℤ◌, unsigned_abs, IfSome};
+ghost use Rattle.std.specs.Prelude.{◌≡◌, ℤ, ◌+◌, ◌^◌, ◌<◌, ◌+ℤ◌, ◌*ℤ◌, ◌-ℤ◌, ◌⊎◌, true, ◌&&◌, pos, int_lt, int_le, ◌<ℤ◌, ◌≤ℤ◌, unsigned_abs, IfSome};
 ghost use Rattle.tt_scan.specs.Crossing.{AreRows, has_row, spans};
 ghost use Rattle.tt_scan.specs.EdgeList.{IsGapAt, is_in};
 ghost use Rattle.tt_scan.specs.Winding.{EdgeFits, FrameFits, is_between};
 
-use crate::crossing::HALF;
 use crate::edge::{Edge, Frame};
-use crate::quotient::{PIXEL, pixels_between, whole_pixels};
+
+/// From a centre line to the next, in 1/8192 pixel.
+const LINE: i32 = 8192;
+
+/// From a centre line to the border of its row.
+const HALF: i32 = LINE / 2;
+
+/// How many rows high `n` is, which is in 1/8192 pixel: the floor.
+#[inline(always)]
+fn whole_lines(n: i32) -> i32
+    ensures low { (pos 8192 *ℤ result) ≤ℤ n }
+    ensures high { n <ℤ (pos 8192 *ℤ (result +ℤ pos 1)) }
+{
+    n >> 13
+}
+
+/// The first and the last of the whole numbers of rows from `low` to `high`, which are in 1/8192 pixel; None where
+/// there is none.
+#[inline(always)]
+fn lines_between(low: i32, high: i32) -> Option<(i32, i32)>
+    requires low { unsigned_abs low < 2 ^ 30 + 2 ^ 13 }
+    requires high { unsigned_abs high < 2 ^ 30 + 2 ^ 13 }
+    ensures exact { (k : ℤ) → spans result k ≡ (int_le low (pos 8192 *ℤ k) && int_le (pos 8192 *ℤ k) high) }
+    ensures first { IfSome result (λ t. unsigned_abs t.0 < 2 ^ 24) }
+    ensures last { IfSome result (λ t. unsigned_abs t.1 < 2 ^ 24) }
+{
+    let first = whole_lines(low + (LINE - 1));
+    let last = whole_lines(high);
+    if first <= last {
+        Some((first, last))
+    } else {
+        None
+    }
+}
 
 /// Of the rows from `first` to `last` those of a frame of so many rows: the first of them, and one past the last.
 #[inline(always)]
-fn within(first: i64, last: i64, height: i64) -> (i64, i64)
+fn within(first: i32, last: i32, height: i32) -> (i32, i32)
     requires first { unsigned_abs first < 2 ^ 25 }
     requires last { unsigned_abs last < 2 ^ 25 }
     requires height { pos 0 ≤ℤ height }
@@ -31,38 +63,38 @@ fn within(first: i64, last: i64, height: i64) -> (i64, i64)
 /// The centre lines that meet an edge, from the lowest to the highest: line k runs half a pixel below k pixels over the
 /// base line. None where the edge lies between two of them.
 #[inline(always)]
-fn lines_met(edge: Edge) -> Option<(i64, i64)>
+fn lines_met(edge: Edge) -> Option<(i32, i32)>
     requires { EdgeFits edge }
     ensures exact { (k : ℤ) → spans result k ≡ is_between edge.ay edge.by (pos 8192 *ℤ k -ℤ pos 4096) }
     ensures low { IfSome result (λ t. unsigned_abs t.0 < 2 ^ 24) }
     ensures high { IfSome result (λ t. unsigned_abs t.1 < 2 ^ 24) }
 {
-    pixels_between(edge.ay.min(edge.by) + HALF, edge.ay.max(edge.by) + HALF)
+    lines_between(edge.ay.min(edge.by) + HALF, edge.ay.max(edge.by) + HALF)
 }
 
 /// The centre lines of two rows, one above the other, or twice the same: no other stands between them. In 1/8192 pixel.
 #[derive(Clone, Copy)]
 pub(crate) struct Gap {
-    pub(crate) low: i64,
-    pub(crate) high: i64,
+    pub(crate) low: i32,
+    pub(crate) high: i32,
 }
 
 /// The gap in which a height lies; nothing lies in it where the height is that of a centre line.
 #[inline(always)]
-pub(crate) fn gap_at(y: i64) -> Gap
+pub(crate) fn gap_at(y: i32) -> Gap
     requires { unsigned_abs y < 2 ^ 30 }
     ensures { IsGapAt y result }
 {
-    let low = PIXEL * whole_pixels(y + HALF) - HALF;
+    let low = LINE * whole_lines(y + HALF) - HALF;
     Gap {
         low,
-        high: if low < y { low + PIXEL } else { low },
+        high: if low < y { low + LINE } else { low },
     }
 }
 
 /// The gap in which height `y` lies. That of height `at` is known: edges follow on each other.
 #[inline(always)]
-pub(crate) fn gap_from(gap: Gap, at: i64, y: i64) -> Gap
+pub(crate) fn gap_from(gap: Gap, at: i32, y: i32) -> Gap
     requires gap { IsGapAt at gap }
     requires fits { unsigned_abs y < 2 ^ 30 }
     ensures { IsGapAt y result }
@@ -72,7 +104,7 @@ pub(crate) fn gap_from(gap: Gap, at: i64, y: i64) -> Gap
 
 /// Whether a height lies in a gap.
 #[inline(always)]
-pub(crate) fn is_in(gap: Gap, y: i64) -> bool
+pub(crate) fn is_in(gap: Gap, y: i32) -> bool
     ensures { result ≡ is_in gap y }
 {
     gap.low < y && y < gap.high
@@ -80,18 +112,18 @@ pub(crate) fn is_in(gap: Gap, y: i64) -> bool
 
 /// The centre line of row 0.
 #[inline(always)]
-fn top_line(frame: Frame) -> i64
+fn top_line(frame: Frame) -> i32
     requires { FrameFits frame }
     ensures exact { result ≡ frame.rise +ℤ pos frame.margin }
     ensures small { unsigned_abs result < 2 ^ 21 }
 {
-    i64::from(frame.rise) + i64::from(frame.margin)
+    frame.rise + frame.margin as i32
 }
 
 /// The first of the frame's rows whose centre line meets the edge, its ends included, and one past the last; two equal
 /// numbers where none does.
 #[inline(always)]
-pub(crate) fn row_range(edge: Edge, frame: Frame) -> (i64, i64)
+pub(crate) fn row_range(edge: Edge, frame: Frame) -> (i32, i32)
     requires edge { EdgeFits edge }
     requires frame { FrameFits frame }
     ensures { AreRows edge frame result }
@@ -100,15 +132,23 @@ pub(crate) fn row_range(edge: Edge, frame: Frame) -> (i64, i64)
         Some((low, high)) => {
             // Rows count downwards.
             let top = top_line(frame);
-            within(top - high, top - low, i64::from(frame.height))
+            within(top - high, top - low, frame.height as i32)
         }
         None => (0, 0),
     }
 }
 
+/// The same rows, as they are told outside.
+#[inline(always)]
+pub(crate) fn widened(rows: (i32, i32)) -> (i64, i64)
+    ensures { result ≡ rows }
+{
+    (i64::from(rows.0), i64::from(rows.1))
+}
+
 /// Adds a range of rows: all are then those from the first to the last of both, where an empty one counts for nothing.
 #[inline(always)]
-pub(crate) fn join(all: &mut (i64, i64), more: (i64, i64))
+pub(crate) fn join(all: &mut (i32, i32), more: (i32, i32))
     ensures left { (row : ℤ) → has_row all.old row ≡ true → has_row all.new row ≡ true }
     ensures right { (row : ℤ) → has_row more row ≡ true → has_row all.new row ≡ true }
     ensures first { ((all.new.0 ≡ all.old.0) × (all.new.0 <ℤ all.new.1 → all.old.0 <ℤ all.old.1))
@@ -125,7 +165,7 @@ pub(crate) fn join(all: &mut (i64, i64), more: (i64, i64))
 
 /// The rows from the first to the last of two ranges of rows, where an empty one counts for nothing.
 #[inline(always)]
-fn joined(all: (i64, i64), more: (i64, i64)) -> (i64, i64)
+fn joined(all: (i32, i32), more: (i32, i32)) -> (i32, i32)
     ensures left { (row : ℤ) → has_row all row ≡ true → has_row result row ≡ true }
     ensures right { (row : ℤ) → has_row more row ≡ true → has_row result row ≡ true }
     ensures first { ((result.0 ≡ all.0) × (result.0 <ℤ result.1 → all.0 <ℤ all.1))

@@ -1,6 +1,6 @@
 //! The black columns of a narrow row as one word, which is painted at a place by eight bytes.
 
-ghost use Rattle.std.specs.Prelude.{◌≡◌, ℕ, ℤ, ◌+◌, ◌-◌, ◌*◌, ◌/◌, ◌%◌, ◌^◌, ◌<◌, ◌≤◌, ◌+ℤ◌, ◌-ℤ◌, ◌&&◌, ◌||◌, ◌==◌, nat_le, nat_lt, int_le, pos, [], ◌∷◌, length, take, slice_index, unsigned_abs, IfSome};
+ghost use Rattle.std.specs.Prelude.{◌≡◌, ℕ, ℤ, ◌+◌, ◌-◌, ◌*◌, ◌/◌, ◌%◌, ◌^◌, ◌<◌, ◌≤◌, ◌+ℤ◌, ◌-ℤ◌, ◌<ℤ◌, ◌≤ℤ◌, ◌&&◌, ◌||◌, ◌==◌, true, false, nat_le, nat_lt, int_le, pos, [], ◌∷◌, length, take, slice_index, unsigned_abs, IfSome};
 ghost use Rattle.std.specs.Int.{bit_at};
 ghost use Rattle.tt_core.specs.Bits.{bit};
 ghost use Rattle.tt_scan.specs.Marks.{covers, covers_from};
@@ -113,6 +113,19 @@ fn or_word(row: &mut [u8], at: usize, columns: u32, word: u64)
     }
 }
 
+/// The same in a row that has eight bytes from the word's own byte on.
+#[inline(always)]
+fn or_inside(row: &mut [u8], at: usize, columns: u32, word: u64)
+    requires narrow { columns ≤ 57 }
+    requires within { at + columns ≤ 8 * length row.old }
+    requires inside { at / 8 + 8 ≤ length row.old }
+    requires free { (i : ℕ) → i < 64 - columns → bit_at word i ≡ 0 }
+    ensures bits { (k : ℕ) → bit row.new k ≡ (bit row.old k || (nat_le at k && in_word word (k - at))) }
+    ensures len { length row.new ≡ length row.old }
+{
+    or_eight(row, at / 8, word >> (at % 8));
+}
+
 /// A span's columns added to a stamp, where it has room for them.
 #[inline(always)]
 fn with_span(stamp: Stamp, span: Span) -> Option<Stamp>
@@ -196,6 +209,49 @@ fn place_of(stamp: Stamp, shift: i64, width: u32) -> Option<usize>
     }
 }
 
+/// Before which column of a row of so many pixels a stamp begins whose columns all lie within the row, and eight bytes
+/// from its first one's on.
+#[inline(always)]
+fn inside(width: u32) -> i64
+    ensures low { pos 0 ≤ℤ result }
+    ensures within { (at : ℕ) → pos at <ℤ result → at + 64 ≤ width }
+{
+    i64::from(width.saturating_sub(63))
+}
+
+/// Blackens the columns of all spans from a pen, where all lie within a row of eight bytes and more; else does nothing.
+/// Returns whether they do.
+#[inline(always)]
+fn paint_fit(
+    stamp: Stamp,
+    spans: &[Span],
+    pen: u32,
+    inside: i64,
+    width: u32,
+    row: &mut [u8],
+) -> bool
+    requires stamp { IsStampOf spans.now stamp }
+    requires low { pos 0 ≤ℤ inside }
+    requires inside { (at : ℕ) → pos at <ℤ inside → at + 64 ≤ width }
+    requires width { width ≤ 8 * length row.old }
+    ensures bits { result ≡ true → (k : ℕ) → bit row.new k ≡ (bit row.old k || (nat_lt k width && covers spans.now (pos k -ℤ pos pen))) }
+    ensures none { result ≡ false → row.new ≡ row.old }
+    ensures len { length row.new ≡ length row.old }
+{
+    let at = stamp.low + i64::from(pen);
+    if (0 <= at) & (at < inside) {
+        or_inside(row, at as usize, stamp.columns, stamp.word);
+        return true;
+    }
+    match place_of(stamp, i64::from(pen), width) {
+        Some(at) => {
+            or_word(row, at, stamp.columns, stamp.word);
+            true
+        }
+        None => false,
+    }
+}
+
 /// Blackens the columns of all spans, moved by `shift` columns to the right: by their stamp, or at a border by themselves.
 #[inline(always)]
 pub(crate) fn paint_stamp(stamp: Stamp, spans: &[Span], shift: i64, width: u32, row: &mut [u8])
@@ -224,10 +280,10 @@ fn paint_fitting(stamp: Stamp, spans: &[Span], pens: &[u32], width: u32, row: &m
     if row.len() < 8 {
         return 0;
     }
+    let inside = inside(width);
     for i in 0..pens.len() {
-        match place_of(stamp, i64::from(pens[i]), width) {
-            Some(at) => or_word(row, at, stamp.columns, stamp.word),
-            None => return i,
+        if !paint_fit(stamp, spans, pens[i], inside, width, row) {
+            return i;
         }
     }
     pens.len()

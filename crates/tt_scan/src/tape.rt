@@ -16,7 +16,7 @@ use crate::edge::{Cross, Edge, Frame};
 use crate::edge_list::EdgeList;
 use crate::edge_table::{EdgeTable, Entry};
 use crate::mark::{Mark, Span};
-use crate::rows::{gap_at, gap_from, is_in, join, row_range};
+use crate::rows::{gap_at, gap_from, is_in, join, row_range, widened};
 use std::alloc::{AllocError, Global};
 use std::marker::Model;
 
@@ -26,7 +26,7 @@ pub struct Tape {
     frame: Frame,
     edges: CountedEdges,
     /// The rows of all edges: the first, and one past the last.
-    rows: (i64, i64),
+    rows: (i32, i32),
     /// The edges that meet some row, each with its rows.
     table: EdgeTable,
 }
@@ -49,7 +49,7 @@ impl Model for Tape {
 /// Adds the entry of an edge with these rows, if it has any. Error: memory ran out, or the number is 2^32 or more, for
 /// which an entry has no room. After an error the entries are as they were.
 #[inline(always)]
-fn add_entry(table: &mut EdgeTable, rows: (i64, i64), edge: usize) -> Result<(), AllocError>
+fn add_entry(table: &mut EdgeTable, rows: (i32, i32), edge: usize) -> Result<(), AllocError>
     requires low { pos 0 ≤ℤ rows.0 }
     requires high { rows.1 <ℤ pos (2 ^ 15) }
     requires room { HasRoom table.old }
@@ -77,7 +77,7 @@ fn add_entry(table: &mut EdgeTable, rows: (i64, i64), edge: usize) -> Result<(),
 #[inline(always)]
 fn enter(
     table: &mut EdgeTable,
-    all: &mut (i64, i64),
+    all: &mut (i32, i32),
     edge: Edge,
     frame: Frame,
     number: usize,
@@ -232,7 +232,7 @@ impl Tape {
         ensures blank { (r c : ℤ) → pos 0 ≤ℤ r → r <ℤ pos self.now.frame.height → has_row result r ≡ false
             → is_black self.now.edges (column_x self.now.frame.margin c) (row_y self.now.frame r) ≡ false }
     {
-        self.rows
+        widened(self.rows)
     }
 
     /// The first of the frame's rows whose centre line meets edge `i`, its ends included, and one past the
@@ -241,7 +241,7 @@ impl Tape {
         requires { i < length self.now.edges }
         ensures { AreRows (edge_at self.now.edges i) self.now.frame result }
     {
-        self.edges.rows_of(i, self.frame)
+        widened(self.edges.rows_of(i, self.frame))
     }
 
     /// What edge `i` does at the centre line of a row. Only `pixel` and tests call it.

@@ -12,7 +12,7 @@ use crate::mark::Columns;
 use tt_scan::Edge;
 
 /// The columns with a centre from the least to the greatest x, or else the one that is nearer to the middle.
-fn columns_between(low: i64, high: i64) -> Columns
+fn columns_between(low: i32, high: i32) -> Columns
     requires low { unsigned_abs low < 2 ^ 30 }
     requires high { unsigned_abs high < 2 ^ 30 }
     ensures exact { result ≡ columns_between low high }
@@ -22,7 +22,7 @@ fn columns_between(low: i64, high: i64) -> Columns
     let last = gap_at(high);
     if first <= last {
         Columns { first, last }
-    } else if 2 * PIXEL * first <= low + high {
+    } else if 2 * PIXEL * first <= i64::from(low) + i64::from(high) {
         Columns { first, last: first }
     } else {
         Columns { first: last, last }
@@ -32,13 +32,13 @@ fn columns_between(low: i64, high: i64) -> Columns
 /// How far some places reach, in 1/8192 pixel.
 #[derive(Clone, Copy)]
 struct Extent {
-    low: i64,
-    high: i64,
+    low: i32,
+    high: i32,
 }
 
 /// An extent with two places more.
 #[inline(always)]
-fn with(extent: Extent, a: i64, b: i64) -> Extent
+fn with(extent: Extent, a: i32, b: i32) -> Extent
     requires extent { ExtentFits extent }
     requires a { unsigned_abs a < 2 ^ 30 }
     requires b { unsigned_abs b < 2 ^ 30 }
@@ -53,7 +53,7 @@ fn with(extent: Extent, a: i64, b: i64) -> Extent
 }
 
 /// How far the ends of edges reach in x and in y, and a place.
-fn extents(x: i64, y: i64, edges: &[Edge]) -> (Extent, Extent)
+fn extents(x: i32, y: i32, edges: &[Edge]) -> (Extent, Extent)
     requires x { unsigned_abs x < 2 ^ 30 }
     requires y { unsigned_abs y < 2 ^ 30 }
     requires edges { All EdgeFits edges.now }

@@ -35,22 +35,22 @@ pub(crate) fn centre(line: i64) -> i64
 
 /// The first line that is not below a height.
 #[inline(always)]
-pub(crate) fn line_from(y: i64) -> i64
+pub(crate) fn line_from(y: i32) -> i64
     requires { unsigned_abs y < 2 ^ 31 }
     ensures exact { result ≡ line_from y }
     ensures small { unsigned_abs result < 2 ^ 19 }
 {
-    whole_pixels(y + (HALF - 1))
+    whole_pixels(i64::from(y) + (HALF - 1))
 }
 
 /// The last centre that is not right of a place.
 #[inline(always)]
-pub(crate) fn gap_at(x: i64) -> i64
+pub(crate) fn gap_at(x: i32) -> i64
     requires { unsigned_abs x < 2 ^ 30 }
     ensures exact { result ≡ gap_at x }
     ensures small { unsigned_abs result < 2 ^ 19 }
 {
-    whole_pixels(x - HALF)
+    whole_pixels(i64::from(x) - HALF)
 }
 
 /// The edge from its lower end to its upper.
@@ -85,16 +85,16 @@ pub(crate) fn lines_crossed(edge: Edge) -> u64
 
 /// Whether a height is that of a line.
 #[inline(always)]
-pub(crate) fn is_on_line(y: i64) -> bool
+pub(crate) fn is_on_line(y: i32) -> bool
     requires { unsigned_abs y < 2 ^ 30 }
     ensures { result ≡ is_on_line y }
 {
-    (y - HALF).rem_euclid(PIXEL) == 0
+    (i64::from(y) - HALF).rem_euclid(PIXEL) == 0
 }
 
 /// Whether an edge from one height to another crosses a line or, where that counts, has an end on one.
 #[inline(always)]
-pub(crate) fn meets_line(ends_count: bool, a: i64, b: i64) -> bool
+pub(crate) fn meets_line(ends_count: bool, a: i32, b: i32) -> bool
     requires a { unsigned_abs a < 2 ^ 30 }
     requires b { unsigned_abs b < 2 ^ 30 }
     ensures { result ≡ meets_line ends_count a b }
@@ -129,7 +129,7 @@ fn run_to(up: Edge, y: i64) -> i64
     ensures exact { result ≡ int_div_euclid ((up.bx -ℤ up.ax) *ℤ (y -ℤ up.ay)) (up.by -ℤ up.ay) }
     ensures small { unsigned_abs result ≤ 2 ^ 31 }
 {
-    ((up.bx - up.ax) * (y - up.ay)).div_euclid(up.by - up.ay)
+    (up.run() * (y - i64::from(up.ay))).div_euclid(up.rise())
 }
 
 /// Where an edge stands at a height that it crosses.
@@ -142,7 +142,7 @@ fn edge_x(edge: Edge, y: i64) -> i64
     ensures small { unsigned_abs result < 2 ^ 33 }
 {
     let up = upward(edge);
-    up.ax + run_to(up, y)
+    i64::from(up.ax) + run_to(up, y)
 }
 
 /// The gap in which an edge crosses a line, after `k` others. Where both its ends lie in one gap no division is needed.
@@ -194,9 +194,9 @@ pub(crate) fn touch(edge: Edge) -> Option<Crossing>
     ensures none { IfNone result (touches edge ≡ []) }
 {
     let up = upward(edge);
-    let from = up.by - HALF;
+    let from = i64::from(up.by) - HALF;
     if up.ay < up.by && from.rem_euclid(PIXEL) == 0 {
-        Some(crossing_at(edge.ay < edge.by, from.div_euclid(PIXEL), up.bx))
+        Some(crossing_at(edge.ay < edge.by, from.div_euclid(PIXEL), i64::from(up.bx)))
     } else {
         None
     }

@@ -58,7 +58,7 @@ fn reach(edge: Edge) -> u64
     ensures enough { 8192 * (lines_crossed edge + lines_crossed (turned_round edge)) ≤ result + 16384 }
     ensures small { result ≤ 2 ^ 32 - 4 }
 {
-    (edge.bx - edge.ax).unsigned_abs() + (edge.by - edge.ay).unsigned_abs()
+    edge.run().unsigned_abs() + edge.rise().unsigned_abs()
 }
 
 /// No fewer than `crossings`, with less work: along each axis an edge crosses at most one line more than it has whole

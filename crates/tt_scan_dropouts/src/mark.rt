@@ -19,7 +19,7 @@ pub(crate) enum Step {
     /// An edge crosses a line.
     Cross(Crossing),
     /// It ends at a height, in 1/8192 pixel.
-    End(i64),
+    End(i32),
 }
 
 /// A crossing, or an end that counts as one.

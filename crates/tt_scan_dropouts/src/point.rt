@@ -16,8 +16,8 @@ fn sides(edge: Edge, x: i64, y: i64) -> (i64, i64)
     ensures second { result.1 ≡ (edge.by -ℤ edge.ay) *ℤ (x -ℤ edge.ax) }
 {
     (
-        (edge.bx - edge.ax) * (y - edge.ay),
-        (edge.by - edge.ay) * (x - edge.ax),
+        edge.run() * (y - i64::from(edge.ay)),
+        edge.rise() * (x - i64::from(edge.ax)),
     )
 }
 
@@ -54,11 +54,13 @@ fn turned(edge: &Edge, x: i64, y: i64) -> i64
     ensures small { unsigned_abs result ≤ 1 }
 {
     // Most edges are above or below the point.
-    if !goes_through(edge.ay, edge.by, y) {
+    let from = i64::from(edge.ay);
+    let to = i64::from(edge.by);
+    if !goes_through(from, to, y) {
         return 0;
     }
     let (p, q) = sides(*edge, x, y);
-    turn_by(edge.ay, edge.by, y, p, q)
+    turn_by(from, to, y, p, q)
 }
 
 /// How often edges wind round a point.

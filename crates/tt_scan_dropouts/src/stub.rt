@@ -40,7 +40,7 @@ fn way(steps: &[Step], k: usize, forward: bool, y: i64) -> Option<Leg>
     for m in 0..steps.len() - 1 {
         match other(steps, k, forward, m) {
             Step::Cross(next) => return Some(Leg { next, far }),
-            Step::End(h) => far = far.max(h.abs_diff(y)),
+            Step::End(h) => far = far.max(i64::from(h).abs_diff(y)),
         }
     }
     None

@@ -48,10 +48,10 @@ fn edge_in(words: &mut Words) -> Result<Edge>
     ensures { IfOk result EdgeFits }
 {
     Ok(Edge {
-        ax: words.number(1 - REACH, REACH - 1)?,
-        ay: words.number(1 - REACH, REACH - 1)?,
-        bx: words.number(1 - REACH, REACH - 1)?,
-        by: words.number(1 - REACH, REACH - 1)?,
+        ax: words.number(1 - REACH, REACH - 1)? as i32,
+        ay: words.number(1 - REACH, REACH - 1)? as i32,
+        bx: words.number(1 - REACH, REACH - 1)? as i32,
+        by: words.number(1 - REACH, REACH - 1)? as i32,
     })
 }
 

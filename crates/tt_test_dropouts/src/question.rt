@@ -64,10 +64,10 @@ fn edge_in(numbers: &mut Numbers) -> Result<Edge>
     ensures { IfOk result EdgeFits }
 {
     Ok(Edge {
-        ax: numbers.next(1 - REACH, REACH - 1)?,
-        ay: numbers.next(1 - REACH, REACH - 1)?,
-        bx: numbers.next(1 - REACH, REACH - 1)?,
-        by: numbers.next(1 - REACH, REACH - 1)?,
+        ax: numbers.next(1 - REACH, REACH - 1)? as i32,
+        ay: numbers.next(1 - REACH, REACH - 1)? as i32,
+        bx: numbers.next(1 - REACH, REACH - 1)? as i32,
+        by: numbers.next(1 - REACH, REACH - 1)? as i32,
     })
 }
 

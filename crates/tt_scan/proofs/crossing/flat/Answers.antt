@@ -1,24 +1,24 @@
-use Rattle.std.proofs.Common.{SFits, w64, refl, rules, arith}
+use Rattle.std.proofs.Common.{SFits, w32, w64, refl, rules, arith}
 use Rattle.std.proofs.lemmas.Int.{ints, clamps, to_z-of_z}
 use Rattle.tt_scan.proofs.Crosses.{level_cross}
 use Rattle.tt_scan.proofs.crossing.flat.Goals as goal
 
 pub from_centre-right-requires-clause-place : goal.from_centre-right-requires-clause-place
 from_centre-right-requires-clause-place c =
-    let ax : SFits w64 c.args.edge.ax = search rules in
-    let bx : SFits w64 c.args.edge.bx = search rules in
-    let max : SFits w64 c.max.result = search rules in
+    let ax : SFits w32 c.args.edge.ax = search rules in
+    let bx : SFits w32 c.args.edge.bx = search rules in
+    let max : SFits w32 c.max.result = search rules in
     let is = simp to_z-of_z at c.max.ensures.value in
     simp to_z-of_z (omega (arith, ints, clamps))
 
 pub returns-clause-exact : goal.returns-clause-exact
 returns-clause-exact c =
-    let ax : SFits w64 c.args.edge.ax = search rules in
-    let bx : SFits w64 c.args.edge.bx = search rules in
-    let ay : SFits w64 c.args.edge.ay = search rules in
+    let ax : SFits w32 c.args.edge.ax = search rules in
+    let bx : SFits w32 c.args.edge.bx = search rules in
+    let ay : SFits w32 c.args.edge.ay = search rules in
     let y : SFits w64 c.args.y = c.ranges.y in
-    let min : SFits w64 c.min.result = search rules in
-    let max : SFits w64 c.max.result = search rules in
+    let min : SFits w32 c.min.result = search rules in
+    let max : SFits w32 c.max.result = search rules in
     let low : SFits w64 c.from_centre-left.result = search rules in
     let high : SFits w64 c.from_centre-right.result = search rules in
     let is_min = simp to_z-of_z at c.min.ensures.value in

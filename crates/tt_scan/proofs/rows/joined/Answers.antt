@@ -1,4 +1,4 @@
-use Rattle.std.proofs.Common.{◌≡◌, ◌⊎◌, inl, inr, true, false, ◌&&◌, ◌∙◌, SFits, w64, rules, arith}
+use Rattle.std.proofs.Common.{◌≡◌, ◌⊎◌, inl, inr, true, false, ◌&&◌, ◌∙◌, SFits, w32, rules, arith}
 use Rattle.std.specs.Prelude.{ℤ, ◌≤ℤ◌, ◌<ℤ◌, int_lt, int_le}
 use Rattle.std.specs.Int.{int_min, int_max}
 use Rattle.std.proofs.lemmas.Int.{ints, clamps, by_lt_z, to_z-of_z}
@@ -27,10 +27,10 @@ record Known (c : goal.After-max) : Type 0 where
 
 known : (c : goal.After-max) → Known c
 known c =
-    let a : SFits w64 c.args.all.0 = search rules in
-    let b : SFits w64 c.args.all.1 = search rules in
-    let m : SFits w64 c.args.more.0 = search rules in
-    let n : SFits w64 c.args.more.1 = search rules in
+    let a : SFits w32 c.args.all.0 = search rules in
+    let b : SFits w32 c.args.all.1 = search rules in
+    let m : SFits w32 c.args.more.0 = search rules in
+    let n : SFits w32 c.args.more.1 = search rules in
     record {
       low = simp to_z-of_z at c.min.ensures.value;
       high = simp to_z-of_z at c.max.ensures.value;
@@ -40,23 +40,23 @@ known c =
 
 pub returns-else-all-clause-left : goal.returns-else-all-clause-left
 returns-else-all-clause-left c = λ row within.
-    let low : SFits w64 c.min.result = search rules in
-    let high : SFits w64 c.max.result = search rules in
+    let low : SFits w32 c.min.result = search rules in
+    let high : SFits w32 c.max.result = search rules in
     let k = known c in
     simp to_z-of_z (longer c.args.all.0 c.args.all.1 c.min.result c.max.result row
     (rw k.low (omega (arith, ints, clamps))) (rw k.high (omega (arith, ints, clamps))) within)
 
 pub returns-else-all-clause-right : goal.returns-else-all-clause-right
 returns-else-all-clause-right c = λ row within.
-    let low : SFits w64 c.min.result = search rules in
-    let high : SFits w64 c.max.result = search rules in
+    let low : SFits w32 c.min.result = search rules in
+    let high : SFits w32 c.max.result = search rules in
     let k = known c in
     simp to_z-of_z (longer c.args.more.0 c.args.more.1 c.min.result c.max.result row
     (rw k.low (omega (arith, ints, clamps))) (rw k.high (omega (arith, ints, clamps))) within)
 
 pub returns-else-all-clause-first : goal.returns-else-all-clause-first
 returns-else-all-clause-first c =
-    let low : SFits w64 c.min.result = search rules in
+    let low : SFits w32 c.min.result = search rules in
     let k = known c in
     simp to_z-of_z (elim (lesser c.args.all.0 c.args.more.0) [
       | inl is ↦ inl (k.low ∙ is, λ _. k.all)
@@ -65,7 +65,7 @@ returns-else-all-clause-first c =
 
 pub returns-else-all-clause-last : goal.returns-else-all-clause-last
 returns-else-all-clause-last c =
-    let high : SFits w64 c.max.result = search rules in
+    let high : SFits w32 c.max.result = search rules in
     let k = known c in
     simp to_z-of_z (elim (greater c.args.all.1 c.args.more.1) [
       | inl is ↦ inl (k.high ∙ is, λ _. k.all)
@@ -74,7 +74,7 @@ returns-else-all-clause-last c =
 
 pub returns-else-all-clause-order : goal.returns-else-all-clause-order
 returns-else-all-clause-order c = λ _.
-    let low : SFits w64 c.min.result = search rules in
-    let high : SFits w64 c.max.result = search rules in
+    let low : SFits w32 c.min.result = search rules in
+    let high : SFits w32 c.max.result = search rules in
     let k = known c in
     simp to_z-of_z (rw (k.low, k.high) (omega (arith, ints, clamps)))

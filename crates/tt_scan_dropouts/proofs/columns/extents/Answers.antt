@@ -1,4 +1,4 @@
-use Rattle.std.proofs.Common.{◌≡◌, ◌<◌, ◌∙◌, sym, SFits, w64, get_or, length, pos, arith}
+use Rattle.std.proofs.Common.{◌≡◌, ◌<◌, ◌∙◌, sym, SFits, w32, get_or, length, pos, arith}
 use Rattle.std.specs.Int.{int_max, int_min}
 use Rattle.std.proofs.lemmas.Int.{ints, to_z-of_z}
 use Rattle.tt_scan.specs.declared.edge.Edge.{Edge}
@@ -25,10 +25,10 @@ loop-edge-preserved c =
     let below : i < length es = c.loop-edge-test.true in
     let e : Edge = get_or es i none in
     let fits = c.requires.edges i none below in
-    let ax : SFits w64 e.ax = omega (arith, ints, fits.ax) in
-    let ay : SFits w64 e.ay = omega (arith, ints, fits.ay) in
-    let bx : SFits w64 e.bx = omega (arith, ints, fits.bx) in
-    let by : SFits w64 e.by = omega (arith, ints, fits.by) in
+    let ax : SFits w32 e.ax = omega (arith, ints, fits.ax) in
+    let ay : SFits w32 e.ay = omega (arith, ints, fits.ay) in
+    let bx : SFits w32 e.bx = omega (arith, ints, fits.bx) in
+    let by : SFits w32 e.by = omega (arith, ints, fits.by) in
     let across = c.loop-edge.across in
     let up = c.loop-edge.up in
     let wide = c.with-across in

@@ -1,4 +1,4 @@
-use Rattle.std.proofs.Common.{◌≡◌, refl, ap, sym, ◌∙◌, SFits, w64, to_z, arith}
+use Rattle.std.proofs.Common.{◌≡◌, refl, ap, sym, ◌∙◌, SFits, w32, w64, to_z, arith}
 use Rattle.std.specs.Prelude.{pos, ◌-ℤ◌}
 use Rattle.std.proofs.lemmas.Int.{ints, to_z-of_z}
 use Rattle.tt_scan_dropouts.specs.Crossings.{edge_x, centre, gap_at}
@@ -7,8 +7,8 @@ use Rattle.tt_scan_dropouts.proofs.crossing.gap_crossed.Goals as goal
 
 pub returns-then-gap-gap_at-clause-exact : goal.returns-then-gap-gap_at-clause-exact
 returns-then-gap-gap_at-clause-exact c =
-    let ax : SFits w64 c.args.edge.ax = omega (arith, ints, c.requires.edge.ax) in
-    let bx : SFits w64 c.args.edge.bx = omega (arith, ints, c.requires.edge.bx) in
+    let ax : SFits w32 c.args.edge.ax = omega (arith, ints, c.requires.edge.ax) in
+    let bx : SFits w32 c.args.edge.bx = omega (arith, ints, c.requires.edge.bx) in
     let gap : SFits w64 c.gap_at-gap.result = omega (arith, ints, c.gap_at-gap.ensures.small) in
     let other : SFits w64 c.gap_at.result = omega (arith, ints, c.gap_at.ensures.small) in
     let at_a : c.gap_at-gap.result ≡ gap_at c.args.edge.ax = simp to_z-of_z at c.gap_at-gap.ensures.exact in

@@ -1,4 +1,4 @@
-use Rattle.std.proofs.Common.{◌≡◌, w64, pos, ◌+ℤ◌, ◌-ℤ◌, to_z}
+use Rattle.std.proofs.Common.{◌≡◌, w32, w64, pos, ◌+ℤ◌, ◌-ℤ◌, to_z}
 use Rattle.std.proofs.Common.{SFits, arith}
 use Rattle.std.proofs.lemmas.Int.{ints, to_z-of_z}
 use Rattle.tt_scan_dropouts.proofs.Lines.{few_lines, line_falling, line_high, line_low, line_small}
@@ -6,8 +6,8 @@ use Rattle.tt_scan_dropouts.proofs.crossing.line_crossed.Goals as goal
 
 pub overflow_sub-result-else-edge : goal.overflow_sub-result-else-edge
 overflow_sub-result-else-edge c =
-    let ay : SFits w64 c.args.edge.ay = omega (arith, ints, c.requires.edge.ay) in
-    let by : SFits w64 c.args.edge.by = omega (arith, ints, c.requires.edge.by) in
+    let ay : SFits w32 c.args.edge.ay = omega (arith, ints, c.requires.edge.ay) in
+    let by : SFits w32 c.args.edge.by = omega (arith, ints, c.requires.edge.by) in
     let result : SFits w64 c.line_from-from.result = omega (arith, ints, c.line_from-from.ensures.small) in
     let from = simp to_z-of_z at c.line_from-from.ensures.exact in
     let few = few_lines c.args.edge c.requires.edge in
@@ -19,8 +19,8 @@ overflow_sub-result-else-edge c =
 
 pub returns-then-edge-clause-exact : goal.returns-then-edge-clause-exact
 returns-then-edge-clause-exact c =
-    let ay : SFits w64 c.args.edge.ay = omega (arith, ints, c.requires.edge.ay) in
-    let by : SFits w64 c.args.edge.by = omega (arith, ints, c.requires.edge.by) in
+    let ay : SFits w32 c.args.edge.ay = omega (arith, ints, c.requires.edge.ay) in
+    let by : SFits w32 c.args.edge.by = omega (arith, ints, c.requires.edge.by) in
     let result : SFits w64 c.line_from-from.result = omega (arith, ints, c.line_from-from.ensures.small) in
     let from = simp to_z-of_z at c.line_from-from.ensures.exact in
     let few = few_lines c.args.edge c.requires.edge in
@@ -46,8 +46,8 @@ returns-then-edge-clause-high c =
 
 pub returns-else-edge-clause-exact : goal.returns-else-edge-clause-exact
 returns-else-edge-clause-exact c =
-    let ay : SFits w64 c.args.edge.ay = omega (arith, ints, c.requires.edge.ay) in
-    let by : SFits w64 c.args.edge.by = omega (arith, ints, c.requires.edge.by) in
+    let ay : SFits w32 c.args.edge.ay = omega (arith, ints, c.requires.edge.ay) in
+    let by : SFits w32 c.args.edge.by = omega (arith, ints, c.requires.edge.by) in
     let result : SFits w64 c.line_from-from.result = omega (arith, ints, c.line_from-from.ensures.small) in
     let from = simp to_z-of_z at c.line_from-from.ensures.exact in
     let few = few_lines c.args.edge c.requires.edge in

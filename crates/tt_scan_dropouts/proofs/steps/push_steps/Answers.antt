@@ -1,4 +1,4 @@
-use Rattle.std.proofs.Common.{List, refl, ◌≡◌, append_assoc, arith, SFits, w64, rules}
+use Rattle.std.proofs.Common.{List, refl, ◌≡◌, append_assoc, arith, SFits, w32, rules}
 use Rattle.std.proofs.lemmas.Int.{to_z-of_z}
 use Rattle.tt_scan_dropouts.specs.Crossings.{lines_crossed}
 use Rattle.tt_scan_dropouts.specs.declared.mark.Step.{Step}
@@ -13,6 +13,6 @@ loop-k-preserved c =
 pub returns : goal.returns
 returns c =
     let all : c.loop-k.k ≡ lines_crossed c.args.edge = omega (arith, c.lines_crossed-k-end.ensures.exact) in
-    let height : SFits w64 c.args.edge.by = search rules in
+    let height : SFits w32 c.args.edge.by = search rules in
     let pushed = simp to_z-of_z at c.in_ok-push-2.ensures.items in
     rw (pushed, c.loop-k.invariant, all, append_assoc) (refl {A = List Step})
