@@ -1,3 +1,4 @@
+pub mod Known
 pub mod Laws
 pub mod Layout
 pub mod Outcome

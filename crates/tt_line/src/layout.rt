@@ -9,9 +9,10 @@ ghost use Rattle.tt_metrics.specs.Metrics.{glyphs_of};
 
 use crate::extent::{test_limits, with_margins};
 use crate::fault::LineFault;
-use crate::pixels::{advance, depth, rise};
+use crate::known::KnownAdvances;
+use crate::pixels::{depth, rise};
 use std::alloc::{AllocError, Global};
-use tt_cmap::{Cmap, KnownGlyphs};
+use tt_cmap::Cmap;
 use tt_metrics::Metrics;
 
 /// A line of text laid out.
@@ -60,10 +61,10 @@ pub fn lay(
 {
     let rise = rise(metrics, ppem);
     // The text is walked once for its width, so that no memory is taken for a line that is refused.
-    let mut cmap = KnownGlyphs::new(cmap);
-    let advances = sum_of_advances(metrics, &mut cmap, text, ppem);
+    let mut known = KnownAdvances::new(metrics, cmap, ppem);
+    let advances = sum_of_advances(&mut known, text);
     let extent = test_limits(with_margins(advances, rise, depth(metrics, ppem), margin))?;
-    let glyphs = placed_glyphs(alloc, metrics, &mut cmap, text, ppem)?;
+    let glyphs = placed_glyphs(alloc, &mut known, text)?;
     Ok(Line {
         width: extent.width as u32,
         height: extent.height as u32,
@@ -73,17 +74,15 @@ pub fn lay(
 }
 
 /// The sum of the advances of a text's characters, in pixels. Of 4,096 characters it can pass 32 bits.
-fn sum_of_advances(metrics: &Metrics, cmap: &mut KnownGlyphs, text: &str, ppem: u32) -> u64
-    requires size { ppem ≤ size_limit }
+fn sum_of_advances(known: &mut KnownAdvances, text: &str) -> u64
     requires text { length (chars text.now) ≤ text_limit }
-    requires glyphs { cmap.old.glyphs ≡ glyphs_of metrics.now }
-    ensures exact { result ≡ sum (advances_of metrics.now ppem (text_glyphs cmap.old text.now)) }
+    ensures exact { result ≡ sum (advances_of known.old.metrics known.old.ppem (text_glyphs known.old.cmap text.now)) }
     ensures bound { result < 2 ^ 40 }
-    ensures same { cmap.new ≡ cmap.old }
+    ensures same { known.new ≡ known.old }
 {
     let mut sum = 0;
     for c in text.chars() {
-        sum += u64::from(advance(metrics, ppem, cmap.glyph(c)));
+        sum += u64::from(known.step(c).advance);
     }
     sum
 }
@@ -91,27 +90,23 @@ fn sum_of_advances(metrics: &Metrics, cmap: &mut KnownGlyphs, text: &str, ppem: 
 /// The glyph of each character with its pen: the pixels from the left margin to its origin.
 fn placed_glyphs(
     alloc: Global,
-    metrics: &Metrics,
-    cmap: &mut KnownGlyphs,
+    known: &mut KnownAdvances,
     text: &str,
-    ppem: u32,
 ) -> Result<Vec<(u16, u32)>, AllocError>
-    requires size { ppem ≤ size_limit }
-    requires glyphs { cmap.old.glyphs ≡ glyphs_of metrics.now }
-    requires fits { sum (advances_of metrics.now ppem (text_glyphs cmap.old text.now)) ≤ width_limit }
-    ensures exact { IfOk result (λ v. v.items ≡ placed_glyphs metrics.now ppem (text_glyphs cmap.old text.now)) }
+    requires fits { sum (advances_of known.old.metrics known.old.ppem (text_glyphs known.old.cmap text.now)) ≤ width_limit }
+    ensures exact { IfOk result (λ v. v.items ≡ placed_glyphs known.old.metrics known.old.ppem (text_glyphs known.old.cmap text.now)) }
     ensures memory { IfErr result (λ e. 0 < length (chars text.now)) }
     ensures count { IfOk result (λ v. length v.items ≡ length (chars text.now)) }
-    ensures glyphs { IfOk result (λ v. map (λ p. p.0) v.items ≡ text_glyphs cmap.old text.now) }
-    ensures known { IfOk result (λ v. All (λ p. p.0 < glyphs_of metrics.now) v.items) }
-    ensures pens { IfOk result (λ v. All (λ p. p.1 ≤ sum (advances_of metrics.now ppem (text_glyphs cmap.old text.now))) v.items) }
+    ensures glyphs { IfOk result (λ v. map (λ p. p.0) v.items ≡ text_glyphs known.old.cmap text.now) }
+    ensures known { IfOk result (λ v. All (λ p. p.0 < glyphs_of known.old.metrics) v.items) }
+    ensures pens { IfOk result (λ v. All (λ p. p.1 ≤ sum (advances_of known.old.metrics known.old.ppem (text_glyphs known.old.cmap text.now))) v.items) }
 {
     let mut glyphs = Vec::new(alloc);
     let mut pen = 0;
     for c in text.chars() {
-        let glyph = cmap.glyph(c);
-        glyphs.push((glyph, pen))?;
-        pen += advance(metrics, ppem, glyph);
+        let step = known.step(c);
+        glyphs.push((step.glyph, pen))?;
+        pen += step.advance;
     }
     Ok(glyphs)
 }

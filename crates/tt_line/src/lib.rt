@@ -3,6 +3,7 @@
 
 mod extent;
 mod fault;
+mod known;
 pub mod laws;
 mod layout;
 mod pixels;

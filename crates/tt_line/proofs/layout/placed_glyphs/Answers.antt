@@ -13,22 +13,24 @@ pub overflow_add-pen : goal.overflow_add-pen
 overflow_add-pen c =
     let cs = chars c.args.text.now in
     let part = sym (map-id c.loop-c.yielded) ∙ YieldsList-so_far (YieldsList-from_chars c.args.text.now c.utf8.text cc) c.loop-c.yielded _ c.loop-c.yielded_by in
-    let within = part_within (advance_in_pixels c.args.metrics.now c.args.ppem) (glyph_of c.args.cmap.now) c.loop-c.yielded cs (length c.loop-c.yielded) part in
-    let pen : c.loop-c.pen ≤ sum (advances_of c.args.metrics.now c.args.ppem (text_glyphs c.args.cmap.now c.args.text.now)) = rw c.loop-c.invariant.pen within in
+    let within = part_within (advance_in_pixels c.args.known.now.metrics c.args.known.now.ppem) (glyph_of c.args.known.now.cmap) c.loop-c.yielded cs (length c.loop-c.yielded) part in
+    let pen : c.loop-c.pen ≤ sum (advances_of c.args.known.now.metrics c.args.known.now.ppem (text_glyphs c.args.known.now.cmap c.args.text.now)) = rw c.loop-c.invariant.pen within in
     omega arith
 
 pub loop-c-preserved : goal.loop-c-preserved
 loop-c-preserved c =
-    let f = advance_in_pixels c.args.metrics.now c.args.ppem in
-    let g = glyph_of c.args.cmap.now in
-    let items : c.push.new.self.items ≡ c.loop-c.glyphs.items ++ (c.glyph-glyph.result, c.loop-c.pen) ∷ [] = c.in_ok-push.ensures.items in
-    let glyph : c.glyph-glyph.result ≡ g c.in-Some.c = rw c.loop-c.invariant.same at c.glyph-glyph.ensures.exact in
-    let within : c.glyph-glyph.result < c.args.cmap.now.glyphs = rw c.loop-c.invariant.same at c.glyph-glyph.ensures.bound in
+    let f = advance_in_pixels c.args.known.now.metrics c.args.known.now.ppem in
+    let g = glyph_of c.args.known.now.cmap in
+    let was = c.loop-c.invariant.same in
+    let items : c.push.new.self.items ≡ c.loop-c.glyphs.items ++ (c.step-step.result.glyph, c.loop-c.pen) ∷ [] = c.in_ok-push.ensures.items in
+    let glyph : c.step-step.result.glyph ≡ g c.in-Some.c = rw was at c.step-step.ensures.glyph in
+    let within : c.step-step.result.glyph < glyphs_of c.args.known.now.metrics = rw was at c.step-step.ensures.known in
+    let advance : c.step-step.result.advance ≡ f c.step-step.result.glyph = rw was at c.step-step.ensures.advance in
     record {
-      same = c.glyph-glyph.ensures.same ∙ c.loop-c.invariant.same;
-      pen = next_pen f g c.loop-c.yielded c.in-Some.c c.glyph-glyph.result c.loop-c.pen c.advance-pen.result c.loop-c.invariant.pen glyph c.advance-pen.ensures.exact;
-      placed = next_placed f g c.loop-c.yielded c.in-Some.c c.glyph-glyph.result c.loop-c.pen c.loop-c.glyphs.items c.push.new.self.items c.loop-c.invariant.pen c.loop-c.invariant.placed glyph items;
-      known = rw items (All-push (λ (p : ℕ × ℕ). p.0 < glyphs_of c.args.metrics.now) c.loop-c.glyphs.items (c.glyph-glyph.result, c.loop-c.pen) c.loop-c.invariant.known (omega arith));
+      same = c.step-step.ensures.same ∙ was;
+      pen = next_pen f g c.loop-c.yielded c.in-Some.c c.step-step.result.glyph c.loop-c.pen c.step-step.result.advance c.loop-c.invariant.pen glyph advance;
+      placed = next_placed f g c.loop-c.yielded c.in-Some.c c.step-step.result.glyph c.loop-c.pen c.loop-c.glyphs.items c.push.new.self.items c.loop-c.invariant.pen c.loop-c.invariant.placed glyph items;
+      known = rw items (All-push (λ (p : ℕ × ℕ). p.0 < glyphs_of c.args.known.now.metrics) c.loop-c.glyphs.items (c.step-step.result.glyph, c.loop-c.pen) c.loop-c.invariant.known (omega arith));
     }
 
 some_characters : {X E : Type 0} (r : Result X E) (n : ℕ) → 0 < n → IfErr r (λ e. 0 < n)
@@ -49,15 +51,15 @@ returns-clause-exact c =
 
 pub returns-clause-count : goal.returns-clause-count
 returns-clause-count c =
-    let glyphs = text_glyphs c.args.cmap.now c.args.text.now in
-    ap length (returns-clause-exact c) ∙ length-placed (advance_in_pixels c.args.metrics.now c.args.ppem) glyphs ∙ length-map (chars c.args.text.now) (glyph_of c.args.cmap.now)
+    let glyphs = text_glyphs c.args.known.now.cmap c.args.text.now in
+    ap length (returns-clause-exact c) ∙ length-placed (advance_in_pixels c.args.known.now.metrics c.args.known.now.ppem) glyphs ∙ length-map (chars c.args.text.now) (glyph_of c.args.known.now.cmap)
 
 pub returns-clause-glyphs : goal.returns-clause-glyphs
 returns-clause-glyphs c =
-    let glyphs = text_glyphs c.args.cmap.now c.args.text.now in
-    rw (returns-clause-exact c) (glyphs_of_placed (advance_in_pixels c.args.metrics.now c.args.ppem) glyphs)
+    let glyphs = text_glyphs c.args.known.now.cmap c.args.text.now in
+    rw (returns-clause-exact c) (glyphs_of_placed (advance_in_pixels c.args.known.now.metrics c.args.known.now.ppem) glyphs)
 
 pub returns-clause-pens : goal.returns-clause-pens
 returns-clause-pens c =
-    let glyphs = text_glyphs c.args.cmap.now c.args.text.now in
-    rw (returns-clause-exact c) (pens_within (advance_in_pixels c.args.metrics.now c.args.ppem) glyphs)
+    let glyphs = text_glyphs c.args.known.now.cmap c.args.text.now in
+    rw (returns-clause-exact c) (pens_within (advance_in_pixels c.args.known.now.metrics c.args.known.now.ppem) glyphs)

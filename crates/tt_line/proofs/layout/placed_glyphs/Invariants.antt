@@ -7,8 +7,8 @@ use Rattle.tt_line.proofs.layout.placed_glyphs.Given as goal
 -- the characters so far
 abbrev pub invariant-loop-c : goal.invariant-loop-c
 invariant-loop-c l = record {
-  pen : l.pen ≡ sum (advances_of l.metrics l.ppem (map (glyph_of l.fn.cmap) l.yielded));
-  placed : l.glyphs.items ≡ placed_glyphs l.metrics l.ppem (map (glyph_of l.fn.cmap) l.yielded);
-  same : l.cmap ≡ l.fn.cmap;
-  known : All (λ p. p.0 < glyphs_of l.metrics) l.glyphs.items;
+  pen : l.pen ≡ sum (advances_of l.fn.known.metrics l.fn.known.ppem (map (glyph_of l.fn.known.cmap) l.yielded));
+  placed : l.glyphs.items ≡ placed_glyphs l.fn.known.metrics l.fn.known.ppem (map (glyph_of l.fn.known.cmap) l.yielded);
+  same : l.known ≡ l.fn.known;
+  known : All (λ p. p.0 < glyphs_of l.fn.known.metrics) l.glyphs.items;
 }

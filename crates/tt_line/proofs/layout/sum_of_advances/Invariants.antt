@@ -6,7 +6,7 @@ use Rattle.tt_line.proofs.layout.sum_of_advances.Given as goal
 -- the advances so far
 abbrev pub invariant-loop-c : goal.invariant-loop-c
 invariant-loop-c l = record {
-  sum : l.sum ≡ sum (advances_of l.metrics l.ppem (map (glyph_of l.fn.cmap) l.yielded));
-  same : l.cmap ≡ l.fn.cmap;
+  sum : l.sum ≡ sum (advances_of l.fn.known.metrics l.fn.known.ppem (map (glyph_of l.fn.known.cmap) l.yielded));
+  same : l.known ≡ l.fn.known;
   bound : l.sum ≤ length l.yielded * 2 ^ 25;
 }

@@ -1,0 +1,19 @@
+-- No part of the standard: what is kept of the characters of a text.
+use Rattle.std.specs.Prelude.{◌≡◌, ◌<◌, ◌^◌, ℕ}
+use Rattle.tt_cmap.specs.Lookup.{Cmap, glyph_of}
+use Rattle.tt_line.specs.Layout.{advance_in_pixels}
+use Rattle.tt_line.specs.declared.known.Step.{Step}
+use Rattle.tt_metrics.specs.Metrics.{Metrics, glyphs_of}
+
+-- what glyphs and advances follow from
+pub record Source : Type 0 where
+  pub metrics : Metrics
+  pub cmap : Cmap
+  pub ppem : ℕ
+
+-- the glyph and the advance of a character
+pub record IsKnown (s : Source) (c : ℕ) (step : Step) : Type 0 where
+  pub glyph : step.glyph ≡ glyph_of s.cmap c
+  pub known : step.glyph < glyphs_of s.metrics
+  pub advance : step.advance ≡ advance_in_pixels s.metrics s.ppem step.glyph
+  pub bound : step.advance < 2 ^ 25

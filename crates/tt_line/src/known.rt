@@ -1,0 +1,111 @@
+//! Glyphs and advances that are found once. A text has few characters, and most of them many times.
+
+ghost use Rattle.std.specs.Prelude.{◌≡◌, ◌<◌, ◌≤◌, ◌^◌};
+ghost use Rattle.tt_cmap.specs.Lookup.{glyph_of};
+ghost use Rattle.tt_core.specs.Limits.{size_limit};
+ghost use Rattle.tt_line.specs.Known.{IsKnown};
+ghost use Rattle.tt_line.specs.Layout.{advance_in_pixels};
+ghost use Rattle.tt_metrics.specs.Metrics.{glyphs_of};
+
+use crate::pixels::advance;
+use std::marker::Model;
+use tt_cmap::Cmap;
+use tt_metrics::Metrics;
+
+/// How many characters are kept.
+const KEPT: usize = 128;
+
+/// A glyph and its advance in pixels.
+#[derive(Clone, Copy)]
+pub(crate) struct Step {
+    pub(crate) glyph: u16,
+    pub(crate) advance: u32,
+}
+
+/// A character and its step.
+#[derive(Clone, Copy)]
+struct Known {
+    code: u32,
+    step: Step,
+}
+
+/// The steps of the characters asked for last, one for each remainder of their codes by 128. A clause sees what they
+/// follow from.
+#[derive(Drop)]
+pub(crate) struct KnownAdvances<'t, 'a> {
+    metrics: &'t Metrics<'a>,
+    cmap: &'t Cmap<'a>,
+    ppem: u32,
+    known: [Known; KEPT],
+}
+
+impl<'t, 'a> Model for KnownAdvances<'t, 'a> {
+    ghost use Rattle.std.specs.Prelude.{◌<◌, ◌≤◌, ◌≡◌, All};
+    ghost use Rattle.tt_core.specs.Limits.{size_limit};
+    ghost use Rattle.tt_metrics.specs.Metrics.{glyphs_of};
+    ghost use Rattle.tt_line.specs.Known.{Source, IsKnown};
+
+    ghost Value = { Source };
+
+    ghost view = { λ k. record { metrics = k.metrics.now; cmap = k.cmap.now; ppem = k.ppem } };
+
+    ghost invariant = { λ k. (k.ppem ≤ size_limit) × (k.cmap.now.glyphs ≡ glyphs_of k.metrics.now)
+        × All (λ e. IsKnown (record { metrics = k.metrics.now; cmap = k.cmap.now; ppem = k.ppem }) e.code e.step) k.known };
+}
+
+/// The step of a character, which is looked up.
+#[cold]
+#[inline(never)]
+fn found(metrics: &Metrics, cmap: &Cmap, ppem: u32, c: char) -> Step
+    requires size { ppem ≤ size_limit }
+    requires glyphs { cmap.now.glyphs ≡ glyphs_of metrics.now }
+    ensures { IsKnown (record { metrics = metrics.now; cmap = cmap.now; ppem = ppem }) c result }
+{
+    let glyph = cmap.glyph(c);
+    Step {
+        glyph,
+        advance: advance(metrics, ppem, glyph),
+    }
+}
+
+impl<'t, 'a> KnownAdvances<'t, 'a> {
+    /// The characters of a font at a size; only the step of U+0000 is found yet.
+    pub(crate) fn new(metrics: &'t Metrics<'a>, cmap: &'t Cmap<'a>, ppem: u32) -> Self
+        requires size { ppem ≤ size_limit }
+        requires glyphs { cmap.now.glyphs ≡ glyphs_of metrics.now }
+        ensures { result ≡ record { metrics = metrics.now; cmap = cmap.now; ppem = ppem } }
+    {
+        let first = Known {
+            code: 0,
+            step: found(metrics, cmap, ppem, '\0'),
+        };
+        KnownAdvances {
+            metrics,
+            cmap,
+            ppem,
+            known: [first; KEPT],
+        }
+    }
+
+    /// The step of a character.
+    #[inline(always)]
+    pub(crate) fn step(&mut self, c: char) -> Step
+        ensures glyph { result.glyph ≡ glyph_of self.old.cmap c }
+        ensures known { result.glyph < glyphs_of self.old.metrics }
+        ensures advance { result.advance ≡ advance_in_pixels self.old.metrics self.old.ppem result.glyph }
+        ensures bound { result.advance < 2 ^ 25 }
+        ensures same { self.new ≡ self.old }
+    {
+        let place = c as usize % KEPT;
+        let known = self.known[place];
+        if known.code == c as u32 {
+            return known.step;
+        }
+        let step = found(self.metrics, self.cmap, self.ppem, c);
+        self.known[place] = Known {
+            code: c as u32,
+            step,
+        };
+        step
+    }
+}
