@@ -56,5 +56,6 @@ pub(crate) fn test_text(text: &str) -> Result<(), JobFault>
 fn is_long(text: &str) -> bool
     ensures { result ≡ nat_lt text_limit (length (chars text.now)) }
 {
-    text.chars().count() > TEXT_LIMIT
+    // A character has a byte and more.
+    text.len() > TEXT_LIMIT && text.chars().count() > TEXT_LIMIT
 }
