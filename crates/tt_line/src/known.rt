@@ -29,8 +29,8 @@ struct Known {
     step: Step,
 }
 
-/// The steps of the characters asked for last, one for each remainder of their codes by 128. A clause sees what they
-/// follow from.
+/// The steps of the characters asked for last, one for each remainder of their codes by 128. In contracts it is what they
+/// follow from: the tables and the size.
 #[derive(Drop)]
 pub(crate) struct KnownAdvances<'t, 'a> {
     metrics: &'t Metrics<'a>,

@@ -50,51 +50,34 @@ times_low a part low high = omega (arith, ints, low, high)
 times_low_alone : (a : ℤ) → pos 0 ≤ℤ (pos 8192 *ℤ a) → pos 0 ≤ℤ a
 times_low_alone a low = omega (arith, ints, low)
 
-up_fits : (u : Edge) (m : ℕ) (y turn : ℤ) (w : Walk) → EdgeFits u → m ≤ margin_limit → u.ay ≤ℤ y → (y +ℤ pos 8192) ≤ℤ u.by
-    → IsWalkUp u m y turn w → WalkFits w
-up_fits u m y turn w fits margin low high is =
+up_fits : (u : Edge) (m : ℕ) (z turn : ℤ) (w : Walk) → EdgeFits u → m ≤ margin_limit → pos 8192 ≤ℤ (u.by -ℤ u.ay) → u.ay ≤ℤ z → z ≤ℤ u.by
+    → IsWalkUp u m z turn w → WalkFits w
+up_fits u m z turn w fits margin tall low high is =
     let rise = is.rise in
     record {
-      column = column_near u m y (at_of w) fits margin (omega (arith, ints, low, high)) low (omega (arith, ints, high)) is.at;
+      column = column_near u m z (at_of w) fits margin (omega (arith, ints, tall)) low high is.at;
       rest = times_low w.rest w.part is.at.low is.part_high;
       part = is.part_low;
-      step = step_small u (step_of w) fits (omega (arith, ints, low, high)) is.step;
+      step = step_small u (step_of w) fits tall is.step;
       step_rest = times_low_alone w.step_rest is.step.low;
-      rise = omega (arith, ints, rise, low, high);
+      rise = omega (arith, ints, rise, tall);
     }
 
-pub walk_fits : (e : Edge) (m : ℕ) (y : ℤ) (w : Walk) → EdgeFits e → m ≤ margin_limit → e.ay ≢ e.by → is_between e.ay e.by y ≡ true
-    → is_between e.ay e.by (y +ℤ pos 8192) ≡ true → IsWalk e m y w → WalkFits w
-walk_fits e m y w fits margin sloped here above is =
+-- where an edge meets a row and the one above, at any height that it meets
+pub walk_fits : (e : Edge) (m : ℕ) (y z : ℤ) (w : Walk) → EdgeFits e → m ≤ margin_limit → e.ay ≢ e.by → is_between e.ay e.by y ≡ true
+    → is_between e.ay e.by (y +ℤ pos 8192) ≡ true → is_between e.ay e.by z ≡ true → IsWalk e m z w → WalkFits w
+walk_fits e m y z w fits margin sloped here above there is =
     by_lt_z e.ay e.by
-    (λ up. up_fits e m y (pos 1) w fits margin (from_lower e.ay e.by y up here) (to_upper e.ay e.by (y +ℤ pos 8192) up above) (is.rises up))
+    (λ up.
+    let low = from_lower e.ay e.by y up here in
+    let high = to_upper e.ay e.by (y +ℤ pos 8192) up above in
+    up_fits e m z (pos 1) w fits margin (omega (arith, ints, low, high)) (from_lower e.ay e.by z up there) (to_upper e.ay e.by z up there) (is.rises up))
     (λ more. by_lt_z e.by e.ay
-    (λ down. up_fits (turned_round e) m y (negsuc 0) w (record { ax = fits.bx; ay = fits.by; bx = fits.ax; by = fits.ay }) margin
-    (from_lower_turned e.ay e.by y down here) (to_upper_turned e.ay e.by (y +ℤ pos 8192) down above) (is.falls down))
-    (λ other. absurd (sloped (omega (arith, ints)))))
-
--- the same of the row above, where the row below meets the edge too
-up_fits_above : (u : Edge) (m : ℕ) (y turn : ℤ) (w : Walk) → EdgeFits u → m ≤ margin_limit → u.ay ≤ℤ y → (y +ℤ pos 8192) ≤ℤ u.by
-    → IsWalkUp u m (y +ℤ pos 8192) turn w → WalkFits w
-up_fits_above u m y turn w fits margin low high is =
-    let rise = is.rise in
-    record {
-      column = column_near u m (y +ℤ pos 8192) (at_of w) fits margin (omega (arith, ints, low, high)) (omega (arith, ints, low)) high is.at;
-      rest = times_low w.rest w.part is.at.low is.part_high;
-      part = is.part_low;
-      step = step_small u (step_of w) fits (omega (arith, ints, low, high)) is.step;
-      step_rest = times_low_alone w.step_rest is.step.low;
-      rise = omega (arith, ints, rise, low, high);
-    }
-
-pub walk_fits_above : (e : Edge) (m : ℕ) (y : ℤ) (w : Walk) → EdgeFits e → m ≤ margin_limit → e.ay ≢ e.by → is_between e.ay e.by y ≡ true
-    → is_between e.ay e.by (y +ℤ pos 8192) ≡ true → IsWalk e m (y +ℤ pos 8192) w → WalkFits w
-walk_fits_above e m y w fits margin sloped here above is =
-    by_lt_z e.ay e.by
-    (λ up. up_fits_above e m y (pos 1) w fits margin (from_lower e.ay e.by y up here) (to_upper e.ay e.by (y +ℤ pos 8192) up above) (is.rises up))
-    (λ more. by_lt_z e.by e.ay
-    (λ down. up_fits_above (turned_round e) m y (negsuc 0) w (record { ax = fits.bx; ay = fits.by; bx = fits.ax; by = fits.ay }) margin
-    (from_lower_turned e.ay e.by y down here) (to_upper_turned e.ay e.by (y +ℤ pos 8192) down above) (is.falls down))
+    (λ down.
+    let low = from_lower_turned e.ay e.by y down here in
+    let high = to_upper_turned e.ay e.by (y +ℤ pos 8192) down above in
+    up_fits (turned_round e) m z (negsuc 0) w (record { ax = fits.bx; ay = fits.by; bx = fits.ax; by = fits.ay }) margin
+    (omega (arith, ints, low, high)) (from_lower_turned e.ay e.by z down there) (to_upper_turned e.ay e.by z down there) (is.falls down))
     (λ other. absurd (sloped (omega (arith, ints)))))
 
 pub turn_small : (e : Edge) (m : ℕ) (y : ℤ) (w : Walk) → e.ay ≢ e.by → IsWalk e m y w → unsigned_abs w.turn ≤ 1

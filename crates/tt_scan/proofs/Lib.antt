@@ -1,11 +1,13 @@
 mod Edges
 mod EightBytes
 pub mod Bools
+pub mod Extents
 pub mod ActiveEdges
 pub mod Columns
 pub mod Crosses
 pub mod Floors
 pub mod Gaps
+pub mod Heights
 pub mod Moved
 mod Pens
 pub mod Points

@@ -1,3 +1,4 @@
+pub mod Bounds
 pub mod Contours
 pub mod Counted
 pub mod Crossing

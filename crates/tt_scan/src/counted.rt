@@ -74,6 +74,15 @@ impl CountedEdges {
         Ok(CountedEdges { edges, crosses: 0 })
     }
 
+    /// The same edges for another tape, of which no crossing was asked for yet: the count belongs to the tape that asked.
+    pub(crate) fn anew(self) -> CountedEdges
+        ensures edges { result.edges ≡ self.edges }
+        ensures crosses { result.crosses ≡ 0 }
+    {
+        let CountedEdges { edges, .. } = self;
+        CountedEdges { edges, crosses: 0 }
+    }
+
     /// How many edges there are.
     #[inline(always)]
     pub(crate) fn len(&self) -> usize

@@ -1,7 +1,9 @@
 //! The edges of one glyph while they are made, before their rows are known: `Tape::of` finds these for all at once.
 
-ghost use Rattle.std.specs.Prelude.{◌≡◌, ◌+◌, ◌<◌, ◌≤◌, length, [], ◌∷◌, ◌++◌, All, OnOk};
-ghost use Rattle.tt_scan.specs.Winding.{EdgeFits};
+ghost use Rattle.std.specs.Prelude.{◌≡◌, ℤ, false, ◌+◌, ◌^◌, ◌<◌, ◌≤◌, ◌≤ℤ◌, unsigned_abs, length, [], ◌∷◌, ◌++◌, All, IfSome, OnOk};
+ghost use Rattle.tt_scan.specs.Crossing.{spans};
+ghost use Rattle.tt_scan.specs.EdgeList.{heights_of, heights_with};
+ghost use Rattle.tt_scan.specs.Winding.{EdgeFits, is_black};
 
 use crate::counted::CountedEdges;
 use crate::edge::Edge;
@@ -24,6 +26,19 @@ impl Model for EdgeList {
     ghost view = { λ l. record { edges = l.edges.edges; capacity = l.edges.capacity } };
 
     ghost invariant = { λ l. All EdgeFits l.edges.edges × (l.edges.crosses ≡ 0) };
+}
+
+/// The least and the greatest height of the ends of an edge and of others.
+#[inline(always)]
+fn with_edge(heights: Option<(i32, i32)>, edge: Edge) -> (i32, i32)
+    ensures { result ≡ heights_with edge heights }
+{
+    let low = edge.ay.min(edge.by);
+    let high = edge.ay.max(edge.by);
+    match heights {
+        Some((least, greatest)) => (low.min(least), high.max(greatest)),
+        None => (low, high),
+    }
 }
 
 impl EdgeList {
@@ -53,6 +68,32 @@ impl EdgeList {
         ensures { self.new ≡ record self.old { edges = self.old.edges ++ edge ∷ [] } }
     {
         self.edges.push_reserved(edge);
+    }
+
+    /// The least and the greatest height of the ends of all edges, in 1/8192 pixel; None where there are no edges. At
+    /// heights outside nothing is black.
+    pub fn heights(&self) -> Option<(i32, i32)>
+        ensures exact { result ≡ heights_of self.now.edges }
+        ensures blank { (x y : ℤ) → spans result y ≡ false → is_black self.now.edges x y ≡ false }
+        ensures order { IfSome result (λ t. t.0 ≤ℤ t.1) }
+        ensures low { IfSome result (λ t. unsigned_abs t.0 < 2 ^ 30) }
+        ensures high { IfSome result (λ t. unsigned_abs t.1 < 2 ^ 30) }
+    {
+        let edges = self.edges.lend();
+        let mut heights = None;
+        for edge in edges {
+            heights = Some(with_edge(heights, *edge));
+        }
+        heights
+    }
+
+    /// The list of some edges, of which no crossing was asked for on any tape yet.
+    pub(crate) fn of(edges: CountedEdges) -> EdgeList
+        requires fit { All EdgeFits edges.edges }
+        requires crosses { edges.crosses ≡ 0 }
+        ensures { result.edges ≡ edges.edges }
+    {
+        EdgeList { edges }
     }
 
     /// The edges, of which no crossing was asked for yet.

@@ -11,11 +11,13 @@
 //! collect.rt      touched columns are black spans (rule 2), turns are marks
 //! stretch.rt      the marks in order of their columns, and black spans where their sum isn't 0 (rule 1)
 //! paint.rt        the spans in a row of bytes; stamp.rt the same for a narrow glyph, by one word
+//! bounds.rt       how far the spans reach
 //! ```
 //!
 //! `pixel.rt` asks all edges for one pixel: slow, and the rule itself.
 #![tactic(auto)]
 
+mod bounds;
 mod bytes;
 mod collect;
 mod counted;
@@ -38,10 +40,12 @@ mod sweep;
 mod tape;
 mod walk;
 
+pub use bounds::bounds_of;
 pub use bytes::blacken;
 pub use edge::{Cross, Edge, Frame};
 pub use edge_list::EdgeList;
 pub use mark::Span;
 pub use row::row_into;
+pub use stamp::paint_columns;
 pub use sweep::Sweep;
 pub use tape::Tape;

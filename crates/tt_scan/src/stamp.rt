@@ -363,3 +363,15 @@ pub(crate) fn paint_from(
         None => paint_each(spans, pens, width, row),
     }
 }
+
+/// Blackens the pixels of the columns that spans cover from each pen of a glyph: moved by as many columns to the right
+/// as the pen says, in a row of so many pixels, the leftmost in the highest bit of the first byte. All other bits stay
+/// as they are. It takes no memory. It is `Sweep::paint_all` of spans that were kept.
+#[inline(never)]
+pub fn paint_columns(spans: &[Span], pens: &[u32], width: u32, row: &mut [u8])
+    requires width { width ≤ 8 * length row.old }
+    ensures bits { (k : ℕ) → bit row.new k ≡ (bit row.old k || (nat_lt k width && covers_from spans.now pens.now k)) }
+    ensures len { length row.new ≡ length row.old }
+{
+    paint_from(stamped(spans), spans, pens, width, row);
+}

@@ -2,9 +2,11 @@
 
 ghost use Rattle.std.specs.Prelude.{◌≡◌, ℕ, ℤ, ◌+◌, ◌-ℤ◌, ◌*◌, ◌^◌, ◌<◌, ◌≤◌, ◌<ℤ◌, ◌≤ℤ◌, ◌&&◌, ◌||◌, nat_lt, pos, [], length, unsigned_abs, IfOk};
 ghost use Rattle.tt_core.specs.Bits.{bit};
+ghost use Rattle.tt_scan.specs.Bounds.{AreBounds};
 ghost use Rattle.tt_scan.specs.Marks.{covers, covers_from};
 ghost use Rattle.tt_scan.specs.Winding.{is_black, column_x, row_y, rows_met};
 
+use crate::bounds::bounds_of;
 use crate::mark::{Mark, Span};
 use crate::paint::paint_spans;
 use crate::stamp::{Stamp, paint_from, paint_stamp, stamped};
@@ -24,7 +26,7 @@ pub struct Sweep {
 }
 
 impl Model for Sweep {
-    ghost use Rattle.std.specs.Prelude.{IfSome, ◌+◌, ◌*◌, ◌^◌, ◌<◌, ◌≤◌};
+    ghost use Rattle.std.specs.Prelude.{IfSome, ◌+◌, ◌*◌, ◌^◌, ◌<◌, ◌≤◌, length};
     ghost use Rattle.std.specs.Vec.{vec_capacity};
     ghost use Rattle.tt_scan.specs.Marks.{Swept};
     ghost use Rattle.tt_scan.specs.Stamps.{IsStampOf};
@@ -34,7 +36,7 @@ impl Model for Sweep {
     ghost view = { λ s. record { spans = s.spans.items; room = s.room } };
 
     ghost invariant = { λ s. (s.room < 2 ^ 61) × (s.room ≤ vec_capacity s.marks) × (2 * s.room + 1 ≤ vec_capacity s.spans)
-        × IfSome s.stamp (IsStampOf s.spans.items) };
+        × (length s.spans.items ≤ 2 * s.room + 1) × IfSome s.stamp (IsStampOf s.spans.items) };
 }
 
 impl Sweep {
@@ -96,5 +98,20 @@ impl Sweep {
         ensures len { length row.new ≡ length row.old }
     {
         paint_from(self.stamp, &self.spans, pens, width, row);
+    }
+
+    /// The black columns of the row cut last, in no order; some may be told twice. `paint_columns` paints them.
+    pub fn spans(&self) -> &[Span]
+        ensures exact { result.now ≡ self.now.spans }
+        ensures few { length result.now ≤ 2 * self.now.room + 1 }
+    {
+        &self.spans
+    }
+
+    /// The least and the greatest column that is black in the row cut last, both included; None where none is.
+    pub fn bounds(&self) -> Option<(i64, i64)>
+        ensures { AreBounds self.now.spans result }
+    {
+        bounds_of(&self.spans)
     }
 }

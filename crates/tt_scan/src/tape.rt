@@ -119,7 +119,7 @@ impl Tape {
         self.table.reserve(more)
     }
 
-    /// Adds an edge. After an error the tape is as it was.
+    /// Adds an edge. Error: memory ran out, or there are 2^32 edges before it. After an error the tape is as it was.
     #[inline(always)]
     pub fn push(&mut self, edge: Edge) -> Result<(), AllocError>
         requires { EdgeFits edge }
@@ -134,7 +134,8 @@ impl Tape {
         Ok(())
     }
 
-    /// The tape of some edges. Those that follow on each other between two rows cost little. Error: memory ran out.
+    /// The tape of some edges. Those that follow on each other between two rows cost little. Error: memory ran out, or
+    /// there are more than 2^32 edges.
     pub fn of(alloc: Global, frame: Frame, list: EdgeList) -> Result<Tape, AllocError>
         requires { FrameFits frame }
         ensures { IfOk result (λ t. t ≡ record { frame = frame; edges = list.edges; crosses = 0 }) }
@@ -161,6 +162,15 @@ impl Tape {
             rows,
             table,
         })
+    }
+
+    /// The edges given back, for a tape in another frame. What was asked of them on this tape is counted no more: the count
+    /// belongs to the tape. It takes no memory.
+    pub fn into_list(self) -> EdgeList
+        ensures { result.edges ≡ self.edges }
+    {
+        let Tape { edges, .. } = self;
+        EdgeList::of(edges.anew())
     }
 
     /// The same edges on a tape of its own, of which no crossing was asked for yet. Error: memory ran out.

@@ -1,13 +1,13 @@
 use Rattle.std.proofs.Common.{◌+ℤ◌, pos}
 use Rattle.tt_scan.specs.EdgeTable.{edge_of}
 use Rattle.tt_scan.specs.Walks.{IsWalk, WalkFits}
-use Rattle.tt_scan.proofs.Followed.{walk_fits, walk_fits_above, turn_small, turn_some, back_up}
+use Rattle.tt_scan.proofs.Followed.{walk_fits, turn_small, turn_some, back_up}
 use Rattle.tt_scan.proofs.counted.CountedEdges.cross_below.Goals as goal
 
 pub go_down-requires : goal.go_down-requires
 go_down-requires c = record {
-  fits = walk_fits_above (edge_of c.args.self.now.edges c.args.walk.now.entry) c.args.margin c.args.y c.args.walk.now
-      c.requires.edge c.requires.margin c.requires.sloped c.requires.met c.requires.above c.requires.walk;
+  fits = walk_fits (edge_of c.args.self.now.edges c.args.walk.now.entry) c.args.margin c.args.y (c.args.y +ℤ pos 8192) c.args.walk.now
+      c.requires.edge c.requires.margin c.requires.sloped c.requires.met c.requires.above c.requires.above c.requires.walk;
 }
 
 -- the walk a row down
@@ -16,8 +16,8 @@ down c = back_up (edge_of c.args.self.now.edges c.args.walk.now.entry) c.args.ma
     (c.go_down.ensures.exact (edge_of c.args.self.now.edges c.args.walk.now.entry) c.args.margin (c.args.y +ℤ pos 8192) c.requires.walk)
 
 fits : (c : goal.After-go_down) → WalkFits c.go_down.new.self
-fits c = walk_fits (edge_of c.args.self.now.edges c.args.walk.now.entry) c.args.margin c.args.y c.go_down.new.self
-    c.requires.edge c.requires.margin c.requires.sloped c.requires.met c.requires.above (down c)
+fits c = walk_fits (edge_of c.args.self.now.edges c.args.walk.now.entry) c.args.margin c.args.y c.args.y c.go_down.new.self
+    c.requires.edge c.requires.margin c.requires.sloped c.requires.met c.requires.above c.requires.met (down c)
 
 pub cross-requires-clause-column : goal.cross-requires-clause-column
 cross-requires-clause-column c = (fits c).column

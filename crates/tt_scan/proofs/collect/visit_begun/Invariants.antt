@@ -1,6 +1,6 @@
 use Rattle.std.proofs.Common.{◌≡◌, ◌+◌, filter, length, take, vec_capacity}
 use Rattle.tt_scan.specs.EdgeTable.{AreLeft, AreWalked, meets_row}
-use Rattle.tt_scan.proofs.collect.visit_from.Given as goal
+use Rattle.tt_scan.proofs.collect.visit_begun.Given as goal
 
 -- the entries so far have left what they leave, and those that go on are walked
 abbrev pub invariant-loop-next : goal.invariant-loop-next

@@ -1,0 +1,4 @@
+use Rattle.tt_scan.proofs.stamp.paint_columns.Goals as goal
+
+pub returns-clause-bits : goal.returns-clause-bits
+returns-clause-bits c = c.paint_from.ensures.bits
