@@ -3,6 +3,7 @@ pub mod Format12
 pub mod Format4
 pub mod Glyphs
 pub mod Halves
+pub mod Lacking
 pub mod Laws
 pub mod Lookup
 pub mod Ranges

@@ -49,12 +49,12 @@ glyph_follows_ranges m c = record {
 }
 
 -- worked values: two segments, 0041 to 0042 by a delta of -64, and the last one
-abbrev two_segments : List ℕ
+abbrev pub two_segments : List ℕ
 two_segments =
     0 ∷ 0 ∷ 0 ∷ 1 ∷ 0 ∷ 3 ∷ 0 ∷ 1 ∷ 0 ∷ 0 ∷ 0 ∷ 12 ∷ 0 ∷ 4 ∷ 0 ∷ 32 ∷ 0 ∷ 0 ∷ 0 ∷ 4 ∷ 0 ∷ 4 ∷ 0 ∷ 1 ∷ 0 ∷ 0
     ∷ 0 ∷ 66 ∷ 255 ∷ 255 ∷ 0 ∷ 0 ∷ 0 ∷ 65 ∷ 255 ∷ 255 ∷ 255 ∷ 192 ∷ 0 ∷ 1 ∷ 0 ∷ 0 ∷ 0 ∷ 0 ∷ []
 
-abbrev by_segments : ℕ → Cmap
+abbrev pub by_segments : ℕ → Cmap
 by_segments glyphs = record { subtable = segments (record { table = two_segments; at = 12 }); glyphs = glyphs }
 
 its_subtable : chosen_subtable two_segments ≡ Some (choice_of Segments 12)
@@ -79,12 +79,12 @@ past_the_last_segment : glyph_of (by_segments 3) 65536 ≡ 0
 past_the_last_segment = refl
 
 -- one group, 0001F600 to 0001F602 from glyph 1 on
-abbrev one_group : List ℕ
+abbrev pub one_group : List ℕ
 one_group =
     0 ∷ 0 ∷ 0 ∷ 1 ∷ 0 ∷ 3 ∷ 0 ∷ 10 ∷ 0 ∷ 0 ∷ 0 ∷ 12 ∷ 0 ∷ 12 ∷ 0 ∷ 0 ∷ 0 ∷ 0 ∷ 0 ∷ 28 ∷ 0 ∷ 0 ∷ 0 ∷ 0 ∷ 0 ∷ 0 ∷ 0 ∷ 1
     ∷ 0 ∷ 1 ∷ 246 ∷ 0 ∷ 0 ∷ 1 ∷ 246 ∷ 2 ∷ 0 ∷ 0 ∷ 0 ∷ 1 ∷ []
 
-abbrev by_groups : Cmap
+abbrev pub by_groups : Cmap
 by_groups = record { subtable = groups (record { table = one_group; at = 12 }); glyphs = 3 }
 
 its_groups : chosen_subtable one_group ≡ Some (choice_of Groups 12)

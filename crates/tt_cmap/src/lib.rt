@@ -7,9 +7,11 @@ mod glyphs;
 mod known;
 pub mod laws;
 mod lookup;
+mod missing;
 mod ranges;
 mod records;
 mod table;
 
 pub use known::KnownGlyphs;
 pub use lookup::{Cmap, Lookup};
+pub use missing::lacking;
