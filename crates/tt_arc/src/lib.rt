@@ -9,4 +9,4 @@ mod point;
 mod quadratic;
 
 pub use ends::contour_ends;
-pub use outline::chords;
+pub use outline::{chords, edges};

@@ -1,4 +1,4 @@
-//! The edges of an outline, put on a tape.
+//! The edges of an outline, as a list and on a tape.
 
 ghost use Rattle.std.specs.Prelude.{◌≡◌, ◌*◌, ◌≤◌, ◌++◌, length, map, if◌then◌else◌, All, IfOk, OnOk};
 ghost use Rattle.std.specs.List.{sum_by};
@@ -47,6 +47,20 @@ fn most_edges(points: &[(i32, i32, bool)]) -> usize
 /// The edges of an outline that is moved by `dx` and `dy`, in 26.6: the straight lines of its closed
 /// contours, and each curve as eight chords (profile). A contour of one point has none. Apple TrueType
 /// Reference Manual, "Digitizing Letterform Designs". Error: memory ran out.
+pub fn edges(alloc: Global, outline: &Outline, dx: i64, dy: i64) -> Result<EdgeList, AllocError>
+    requires ends { AreEnds (length outline.now.points.items) outline.now.ends.items }
+    requires near { All (IsNear dx dy) outline.now.points.items }
+    ensures exact { IfOk result (λ l. l.edges ≡ chord_edges outline.now.points.items outline.now.ends.items dx dy) }
+    ensures few { IfOk result (λ l. length l.edges ≤ 8 * length outline.now.points.items) }
+{
+    let mut list = EdgeList::new(alloc);
+    // Memory is taken once.
+    list.reserve(most_edges(&outline.points))?;
+    push_contours(&mut list, &outline.points, &outline.ends, Offset { dx, dy })?;
+    Ok(list)
+}
+
+/// The same edges, put on the tape of a frame. Error: memory ran out.
 pub fn chords(
     alloc: Global,
     outline: &Outline,
@@ -60,10 +74,7 @@ pub fn chords(
     ensures exact { IfOk result (λ t. t ≡ record { frame = frame; edges = chord_edges outline.now.points.items outline.now.ends.items dx dy; crosses = 0 }) }
     ensures few { IfOk result (λ t. length t.edges ≤ 8 * length outline.now.points.items) }
 {
-    let mut list = EdgeList::new(alloc);
-    // Memory is taken once.
-    list.reserve(most_edges(&outline.points))?;
-    push_contours(&mut list, &outline.points, &outline.ends, Offset { dx, dy })?;
+    let list = edges(alloc, outline, dx, dy)?;
     let tape = Tape::of(alloc, frame, list)?;
     Ok(tape)
 }

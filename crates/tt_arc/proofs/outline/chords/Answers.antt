@@ -1,23 +1,19 @@
-use Rattle.std.proofs.Common.{◌≡◌, SFits, w64, refl}
+use Rattle.std.proofs.Common.{SFits, w64}
 use Rattle.std.proofs.lemmas.Int.{to_z-of_z}
-use Rattle.tt_arc.specs.Chords.{chord_edges}
 use Rattle.tt_arc.proofs.Few.{few_edges}
 use Rattle.tt_arc.proofs.outline.chords.Goals as goal
 
-pub push_contours-requires-clause-near : goal.push_contours-requires-clause-near
-push_contours-requires-clause-near c =
+pub edges-requires-clause-near : goal.edges-requires-clause-near
+edges-requires-clause-near c =
     let dx : SFits w64 c.args.dx = c.ranges.dx in
     let dy : SFits w64 c.args.dy = c.ranges.dy in
-    rw c.deref-2.ensures.value (simp to_z-of_z c.requires.near)
+    simp to_z-of_z c.requires.near
 
 pub returns-clause-exact : goal.returns-clause-exact
 returns-clause-exact c =
     let dx : SFits w64 c.args.dx = c.ranges.dx in
     let dy : SFits w64 c.args.dy = c.ranges.dy in
-    let pushed = simp to_z-of_z at c.in_ok-push_contours.ensures.exact in
-    let made : c.push_contours.new.list.edges ≡ chord_edges c.args.outline.now.points.items c.args.outline.now.ends.items
-    c.args.dx c.args.dy =
-    rw (pushed, c.reserve.ensures.edges, c.new-list.ensures, c.deref-2.ensures.value, c.deref-3.ensures.value) refl in
+    let made = simp to_z-of_z at c.in_ok-list.ensures.exact in
     rw made at c.in_ok-tape.ensures
 
 pub returns-clause-few : goal.returns-clause-few
