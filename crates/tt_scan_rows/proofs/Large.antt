@@ -1,0 +1,30 @@
+-- Edges that are given back, since their raster would be too large.
+use Rattle.std.proofs.Common.{◌≡◌, ℕ, ◌+◌, ◌*◌, ◌^◌, ◌<◌, ◌≤◌, min, List, length, inr, arith}
+use Rattle.std.proofs.Math.Nat.{mul-le-mul_right}
+use Rattle.tt_scan.specs.EdgeList.{EdgeList, heights_of}
+use Rattle.tt_scan.specs.declared.edge.Edge.{Edge}
+use Rattle.tt_scan_rows.specs.Cut.{IfEdges, IsLarge}
+use Rattle.tt_scan_rows.specs.Raster.{lines_in}
+use Rattle.tt_scan_rows.specs.declared.raster.Cut.{Cut}
+use Rattle.tt_scan_rows.specs.declared.raster.Cut.TheVariants as cut
+
+-- spans that are too many
+
+pub many_spans : (most n height edges : ℕ) → n ≡ min most (2 ^ 40) → n < height * (2 * edges + 1) → height ≤ 4100
+    → edges ≤ 2 ^ 17 → most < height * (2 * edges + 1)
+many_spans most n height edges least many rows few =
+    let all : height * (2 * edges + 1) ≤ 4100 * (2 * edges + 1) = mul-le-mul_right (2 * edges + 1) rows in
+    omega (arith, all, least, many, few)
+
+-- edges that are too large
+
+pub edges_then : (made : Cut) (P Q : EdgeList → Type 0) → ((l : EdgeList) → P l → Q l) → IfEdges made P → IfEdges made Q
+edges_then (cut.Raster k) P Q then is = tt
+edges_then (cut.Edges l) P Q then is = then l is
+
+pub many_in_lines : (es : List Edge) (rows spans height : ℕ) → spans < height * (2 * length es + 1)
+    → height ≤ lines_in (heights_of es) → IsLarge es rows spans
+many_in_lines es rows spans height many few =
+    let all : height * (2 * length es + 1) ≤ lines_in (heights_of es) * (2 * length es + 1) =
+    mul-le-mul_right (2 * length es + 1) few in
+    inr (inr (omega (arith, all, many)))

@@ -1,0 +1,4 @@
+pub mod CutRows
+pub mod Large
+pub mod Lines
+pub mod Starts

@@ -1,0 +1,30 @@
+use Rattle.std.proofs.Common.{◌≡◌, ◌∙◌, ap, ◌+◌, ◌++◌, ◌∷◌, [], length, vec_len, refl, arith}
+use Rattle.std.proofs.lemmas.List.{length-append}
+use Rattle.tt_scan_rows.proofs.Starts.{rows_pushed, starts_pushed}
+use Rattle.tt_scan_rows.proofs.rows.Rows.push.Goals as goal
+
+pub invariant_of-self-2 : goal.invariant_of-self-2
+invariant_of-self-2 c =
+    let rows = c.self.inside in
+    let row = c.args.row.now in
+    let spans : c.extend_from_slice.new.self.items ≡ rows.spans.items ++ row = c.in_ok-extend_from_slice.ensures.items in
+    let long : vec_len c.extend_from_slice.new.self ≡ length c.extend_from_slice.new.self.items = c.extend_from_slice.new.self.ok.0 in
+    let count : c.len.result ≡ length c.extend_from_slice.new.self.items = c.len.ensures ∙ long in
+    let starts : c.push_reserved.new.self.items ≡ rows.starts.items ++ length c.extend_from_slice.new.self.items ∷ [] =
+    c.push_reserved.ensures.items ∙ rw (c.reserve.ensures.items, count) refl in
+    let more : length c.extend_from_slice.new.self.items ≡ length rows.spans.items + length row =
+    ap length spans ∙ length-append rows.spans.items row in
+    rw starts (starts_pushed (length rows.spans.items) (length c.extend_from_slice.new.self.items) rows.starts.items
+    (omega (arith, more)) c.self.invariant)
+
+pub returns-clause-added : goal.returns-clause-added
+returns-clause-added c =
+    let rows = c.self.inside in
+    let row = c.args.row.now in
+    let spans : c.extend_from_slice.new.self.items ≡ rows.spans.items ++ row = c.in_ok-extend_from_slice.ensures.items in
+    let long : vec_len c.extend_from_slice.new.self ≡ length c.extend_from_slice.new.self.items = c.extend_from_slice.new.self.ok.0 in
+    let count : c.len.result ≡ length rows.spans.items + length row =
+    c.len.ensures ∙ long ∙ ap length spans ∙ length-append rows.spans.items row in
+    let starts : c.push_reserved.new.self.items ≡ rows.starts.items ++ (length rows.spans.items + length row) ∷ [] =
+    c.push_reserved.ensures.items ∙ rw (c.reserve.ensures.items, count) refl in
+    rw (spans, starts, ← c.self.view_is) (rows_pushed rows.spans.items row rows.starts.items c.self.invariant)

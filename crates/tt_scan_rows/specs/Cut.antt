@@ -1,0 +1,23 @@
+-- No part of the standard: what a glyph's edges become, a raster or, where that would be too large, themselves.
+use Rattle.std.specs.Prelude.{⊤, ℕ, ◌+◌, ◌*◌, ◌<◌, List, length, ◌⊎◌}
+use Rattle.tt_core.specs.Limits.{height_limit}
+use Rattle.tt_scan.specs.EdgeList.{EdgeList, heights_of}
+use Rattle.tt_scan.specs.declared.edge.Edge.{Edge}
+use Rattle.tt_scan_rows.specs.Raster.{Raster, lines_in}
+use Rattle.tt_scan_rows.specs.declared.raster.Cut.{Cut}
+use Rattle.tt_scan_rows.specs.declared.raster.Cut.TheVariants as cut
+
+-- what holds of the raster, if one was made
+abbrev pub IfRaster : Cut → (Raster → Type 0) → Type 0
+IfRaster (cut.Raster k) P = P k
+IfRaster (cut.Edges l) P = ⊤
+
+-- what holds of the edges, if these were given back
+abbrev pub IfEdges : Cut → (EdgeList → Type 0) → Type 0
+IfEdges (cut.Raster k) P = ⊤
+IfEdges (cut.Edges l) P = P l
+
+-- edges may meet more lines than so many, or than a frame has rows, or may leave more spans than so many
+abbrev pub IsLarge : List Edge → ℕ → ℕ → Type 0
+IsLarge es rows spans = (rows < lines_in (heights_of es)) ⊎ (height_limit + 4 < lines_in (heights_of es))
+    ⊎ (spans < lines_in (heights_of es) * (2 * length es + 1))

@@ -1,0 +1,3 @@
+pub mod Cut
+pub mod Raster
+pub mod Rows

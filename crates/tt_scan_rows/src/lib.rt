@@ -1,0 +1,7 @@
+//! The black columns of one glyph: a glyph that stands in many lines is cut once, and painted in each.
+#![tactic(auto)]
+
+mod raster;
+mod rows;
+
+pub use raster::{Cut, Raster};

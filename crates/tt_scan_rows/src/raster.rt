@@ -1,0 +1,259 @@
+//! The raster of one glyph: its black columns line by line, cut once, then painted wherever its base line and its pens
+//! stand.
+//!
+//! A line counts pixel rows upwards from the base line: the centres of line j stand at 8192 j + 4096, in 1/8192 pixel.
+//! Columns count rightwards from the glyph's pen: the centres of column c stand at 8192 c + 4096.
+
+ghost use Rattle.std.specs.Prelude.{◌≡◌, ℕ, ℤ, false, ◌+◌, ◌*◌, ◌^◌, ◌<◌, ◌≤◌, ◌&&◌, ◌||◌, ◌+ℤ◌, ◌-ℤ◌, ◌*ℤ◌, ◌<ℤ◌, ◌≤ℤ◌, pos, nat_lt, unsigned_abs, [], length, IfNone, IfOk, IfSome};
+ghost use Rattle.tt_core.specs.Bits.{bit};
+ghost use Rattle.tt_core.specs.Limits.{height_limit};
+ghost use Rattle.tt_scan.specs.Bounds.{AreBounds};
+ghost use Rattle.tt_scan.specs.Crossing.{has_row, spans};
+ghost use Rattle.tt_scan.specs.EdgeList.{heights_of};
+ghost use Rattle.tt_scan.specs.Winding.{FrameFits, column_x, is_black};
+ghost use Rattle.tt_scan_rows.specs.Raster.{IsRasterOf, line_y, lines_in, shows, shows_from, spans_at};
+ghost use Rattle.tt_scan_rows.specs.Rows.{row_at, spans_in};
+ghost use Rattle.tt_scan_rows.specs.Cut.{IfEdges, IfRaster, IsLarge};
+
+use crate::rows::Rows;
+use std::alloc::{AllocError, Global};
+use std::marker::Model;
+use tt_core::HEIGHT_LIMIT;
+use tt_scan::{EdgeList, Frame, Sweep, Tape};
+
+/// The most rows of a frame: those of a picture, and two more on each side.
+const MOST_ROWS: u32 = HEIGHT_LIMIT + 4;
+
+/// More spans than the edges of a glyph leave in all rows of a frame.
+const MANY_SPANS: usize = 1 << 40;
+
+/// The black columns of a glyph's lines.
+#[derive(Drop)]
+pub struct Raster {
+    rows: Rows,
+    /// The line of the first row; each row is one line below the row before it.
+    top: i32,
+}
+
+impl Model for Raster {
+    ghost use Rattle.std.specs.Prelude.{◌^◌, ◌<◌, ◌≤◌, length, unsigned_abs};
+    ghost use Rattle.tt_scan_rows.specs.Raster as raster;
+    ghost use Rattle.tt_scan_rows.specs.Rows.{spans_in};
+
+    ghost Value = { raster.Raster };
+
+    ghost view = { λ k. record { top = k.top; rows = k.rows.rows } };
+
+    ghost invariant = { λ k. (unsigned_abs k.top < 2 ^ 20) × (length k.rows.rows < 2 ^ 20)
+        × (spans_in k.rows.rows ≤ 2 ^ 40) };
+}
+
+/// What a glyph's edges became.
+#[derive(Drop)]
+pub enum Cut {
+    /// The raster of the glyph.
+    Raster(Raster),
+    /// The edges as they were: their raster would be too large.
+    Edges(EdgeList),
+}
+
+/// How many whole lines high `y` is, which is in 1/8192 pixel: the floor.
+#[inline(always)]
+fn whole_lines(y: i32) -> i32
+    ensures low { (pos 8192 *ℤ result) ≤ℤ y }
+    ensures high { y <ℤ (pos 8192 *ℤ (result +ℤ pos 1)) }
+{
+    y >> 13
+}
+
+/// The first and the last of the lines whose centres stand from height `low` up to `high`; None where there is none.
+fn lines_between(low: i32, high: i32) -> Option<(i32, i32)>
+    requires low { unsigned_abs low < 2 ^ 30 }
+    requires high { unsigned_abs high < 2 ^ 30 }
+    ensures exact { (j : ℤ) → spans result j ≡ spans (Some (low, high)) (line_y j) }
+    ensures order { IfSome result (λ t. t.0 ≤ℤ t.1) }
+    ensures first { IfSome result (λ t. unsigned_abs t.0 < 2 ^ 19) }
+    ensures last { IfSome result (λ t. unsigned_abs t.1 < 2 ^ 19) }
+    ensures few { IfSome result (λ t. (pos 8192 *ℤ (t.1 -ℤ t.0)) ≤ℤ (high -ℤ low)) }
+{
+    let first = whole_lines(low + 4095);
+    let last = whole_lines(high - 4096);
+    if first <= last {
+        Some((first, last))
+    } else {
+        None
+    }
+}
+
+/// The first and the last of the lines that edges may meet; None where there is none. All other lines are blank.
+fn lines_met(list: &EdgeList) -> Option<(i32, i32)>
+    ensures blank { (x j : ℤ) → spans result j ≡ false → is_black list.now.edges x (line_y j) ≡ false }
+    ensures order { IfSome result (λ t. t.0 ≤ℤ t.1) }
+    ensures first { IfSome result (λ t. unsigned_abs t.0 < 2 ^ 19) }
+    ensures last { IfSome result (λ t. unsigned_abs t.1 < 2 ^ 19) }
+    ensures few { IfSome result (λ t. unsigned_abs (t.1 -ℤ t.0) < lines_in (heights_of list.now.edges)) }
+{
+    match list.heights() {
+        Some((low, high)) => lines_between(low, high),
+        None => None,
+    }
+}
+
+/// How many lines there are from the first to the last.
+fn count_of(first: i32, last: i32) -> u32
+    requires order { first ≤ℤ last }
+    requires first { unsigned_abs first < 2 ^ 19 }
+    requires last { unsigned_abs last < 2 ^ 19 }
+    ensures exact { result ≡ unsigned_abs (last -ℤ first) + 1 }
+    ensures small { result < 2 ^ 21 }
+{
+    (last - first) as u32 + 1
+}
+
+/// The frame whose rows are so many lines from the last down, and whose columns count from the pen.
+fn frame_of(count: u32, last: i32) -> Frame
+    requires some { 1 ≤ count }
+    requires count { count ≤ height_limit + 4 }
+    requires last { unsigned_abs last < 2 ^ 19 }
+    ensures exact { result ≡ record { width = 1; height = count; margin = 0; rise = last +ℤ pos 1 } }
+    ensures fits { FrameFits result }
+{
+    Frame {
+        width: 1,
+        height: count,
+        margin: 0,
+        rise: last + 1,
+    }
+}
+
+impl Raster {
+    /// The raster of a glyph that is blank. Error: memory ran out.
+    fn blank(alloc: Global) -> Result<Raster, AllocError>
+        ensures { IfOk result (λ k. k ≡ record { top = pos 0; rows = [] }) }
+    {
+        Ok(Raster {
+            rows: Rows::empty(alloc, 0)?,
+            top: 0,
+        })
+    }
+
+    /// The raster of all lines that edges meet. The edges are given back where these lie over more than `most_rows` lines,
+    /// or more than a frame has rows, or leave more than `most_spans` spans: how many a line has is left to the sweep, but
+    /// never more than twice as many as there are edges, and one. Error: memory ran out.
+    pub fn cut(
+        alloc: Global,
+        list: EdgeList,
+        most_rows: u32,
+        most_spans: usize,
+    ) -> Result<Cut, AllocError>
+        requires { length list.edges ≤ 2 ^ 17 }
+        ensures black { IfOk result (λ cut. IfRaster cut (IsRasterOf list.edges)) }
+        ensures rows { IfOk result (λ cut. IfRaster cut (λ k. length k.rows ≤ most_rows)) }
+        ensures held { IfOk result (λ cut. IfRaster cut (λ k. spans_in k.rows ≤ most_spans)) }
+        ensures edges { IfOk result (λ cut. IfEdges cut (λ l. l.edges ≡ list.edges)) }
+        ensures large { IfOk result (λ cut. IfEdges cut (λ _. IsLarge list.edges most_rows most_spans)) }
+    {
+        let Some((first, last)) = lines_met(&list) else {
+            return Ok(Cut::Raster(Raster::blank(alloc)?));
+        };
+        let count = count_of(first, last);
+        if most_rows < count || MOST_ROWS < count {
+            return Ok(Cut::Edges(list));
+        }
+        Raster::cut_in(alloc, list, frame_of(count, last), last, most_spans)
+    }
+
+    /// The raster of the rows of a frame, the first of which is line `top`; the edges where these leave more than
+    /// `most_spans` spans. Error: memory ran out.
+    fn cut_in(
+        alloc: Global,
+        list: EdgeList,
+        frame: Frame,
+        top: i32,
+        most_spans: usize,
+    ) -> Result<Cut, AllocError>
+        requires few { length list.edges ≤ 2 ^ 17 }
+        requires frame { FrameFits frame }
+        requires margin { frame.margin ≡ 0 }
+        requires top { frame.rise ≡ top +ℤ pos 1 }
+        requires small { unsigned_abs top < 2 ^ 19 }
+        requires blank { (x j : ℤ) → has_row ((top +ℤ pos 1) -ℤ pos frame.height, top +ℤ pos 1) j ≡ false
+            → is_black list.edges x (line_y j) ≡ false }
+        ensures black { IfOk result (λ cut. IfRaster cut (IsRasterOf list.edges)) }
+        ensures rows { IfOk result (λ cut. IfRaster cut (λ k. length k.rows ≡ frame.height)) }
+        ensures held { IfOk result (λ cut. IfRaster cut (λ k. spans_in k.rows ≤ most_spans)) }
+        ensures edges { IfOk result (λ cut. IfEdges cut (λ l. l.edges ≡ list.edges)) }
+        ensures large { IfOk result (λ cut. IfEdges cut (λ _.
+            most_spans < frame.height * (2 * length list.edges + 1))) }
+    {
+        let mut tape = Tape::of(alloc, frame, list)?;
+        let mut sweep = Sweep::new(alloc, tape.edges())?;
+        match Rows::cut(alloc, &mut tape, &mut sweep, most_spans.min(MANY_SPANS))? {
+            Some(rows) => Ok(Cut::Raster(Raster { rows, top })),
+            None => Ok(Cut::Edges(tape.into_list())),
+        }
+    }
+
+    /// The row of a line; None where there is none.
+    #[inline(always)]
+    fn row_of(&self, line: i64) -> Option<usize>
+        ensures within { IfSome result (λ r. r < length self.now.rows) }
+        ensures row { IfSome result (λ r. spans_at self.now line ≡ row_at self.now.rows r) }
+        ensures none { IfNone result (spans_at self.now line ≡ []) }
+    {
+        let top = i64::from(self.top);
+        if line > top {
+            return None;
+        }
+        let r = top.abs_diff(line) as usize;
+        if r < self.rows.height() {
+            Some(r)
+        } else {
+            None
+        }
+    }
+
+    /// Blackens the pixels of the black columns of a line from each pen of the glyph: moved by as many columns to the
+    /// right as the pen says, in a row of so many pixels, the leftmost in the highest bit of the first byte. All other
+    /// bits stay as they are. It takes no memory.
+    pub fn paint(&self, line: i64, pens: &[u32], width: u32, row: &mut [u8])
+        requires { width ≤ 8 * length row.old }
+        ensures bits { (k : ℕ) → bit row.new k
+            ≡ (bit row.old k || (nat_lt k width && shows_from self.now pens.now (pos k) line)) }
+        ensures len { length row.new ≡ length row.old }
+    {
+        if let Some(r) = self.row_of(line) {
+            self.rows.paint(r, pens, width, row);
+        }
+    }
+
+    /// The least and the greatest black column of a line, both included; None where it is blank.
+    pub fn bounds(&self, line: i64) -> Option<(i64, i64)>
+        ensures { AreBounds (spans_at self.now line) result }
+    {
+        match self.row_of(line) {
+            Some(r) => self.rows.bounds(r),
+            None => None,
+        }
+    }
+
+    /// The lowest line that has a row, and one past the highest; two equal numbers where none has. All other lines are
+    /// blank.
+    pub fn lines(&self) -> (i64, i64)
+        ensures exact { result ≡ ((self.now.top +ℤ pos 1) -ℤ pos (length self.now.rows), self.now.top +ℤ pos 1) }
+        ensures blank { (c j : ℤ) → has_row result j ≡ false → shows self.now c j ≡ false }
+        ensures order { result.0 ≤ℤ result.1 }
+        ensures low { unsigned_abs result.0 < 2 ^ 21 }
+        ensures high { unsigned_abs result.1 < 2 ^ 21 }
+    {
+        let past = i64::from(self.top) + 1;
+        (past - self.rows.height() as i64, past)
+    }
+
+    /// How many bytes the rows take: 16 each span, and 8 each row.
+    pub fn bytes(&self) -> usize
+        ensures { result ≡ 16 * spans_in self.now.rows + 8 * length self.now.rows }
+    {
+        16 * self.rows.spans() + 8 * self.rows.height()
+    }
+}

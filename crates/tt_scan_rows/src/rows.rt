@@ -1,0 +1,156 @@
+//! The black columns of the rows of a glyph, cut once, then painted wherever the glyph stands.
+
+ghost use Rattle.std.specs.Prelude.{◌≡◌, ℕ, ◌+◌, ◌*◌, ◌^◌, ◌<◌, ◌≤◌, ◌&&◌, ◌||◌, nat_lt, [], ◌∷◌, ◌++◌, length, slice_range, IfNone, IfOk, IfSome, OnErr, OnOk};
+ghost use Rattle.tt_core.specs.Bits.{bit};
+ghost use Rattle.tt_scan.specs.Bounds.{AreBounds};
+ghost use Rattle.tt_scan.specs.Marks.{covers_from};
+ghost use Rattle.tt_scan.specs.Winding.{crossings_of};
+ghost use Rattle.tt_scan_rows.specs.Rows.{AreRowsOf, row_at, spans_in};
+
+use std::alloc::{AllocError, Global};
+use std::marker::Model;
+use tt_scan::{Span, Sweep, Tape, bounds_of, paint_columns};
+
+/// The black columns of all rows of a glyph, row by row from the top of the frame that it was cut in.
+#[derive(Drop)]
+pub(crate) struct Rows {
+    /// The spans of all rows, one row after the other.
+    spans: Vec<Span>,
+    /// Before which span each row begins; then how many spans there are.
+    starts: Vec<usize>,
+}
+
+impl Model for Rows {
+    ghost use Rattle.std.specs.Prelude.{length};
+    ghost use Rattle.tt_scan_rows.specs.Rows as rows;
+    ghost use Rattle.tt_scan_rows.specs.Rows.{AreStarts, rows_at};
+
+    ghost Value = { rows.Rows };
+
+    ghost view = { λ r. record { rows = rows_at r.spans.items r.starts.items } };
+
+    ghost invariant = { λ r. AreStarts (length r.spans.items) r.starts.items };
+}
+
+/// The spans from a number up to another.
+#[inline(always)]
+fn part(spans: &[Span], from: usize, to: usize) -> &[Span]
+    requires order { from ≤ to }
+    requires within { to ≤ length spans.now }
+    ensures { result.now ≡ slice_range spans.now from to }
+{
+    &spans[from..to]
+}
+
+impl Rows {
+    /// No row yet, and memory for where so many begin. Error: memory ran out.
+    pub(crate) fn empty(alloc: Global, height: u32) -> Result<Rows, AllocError>
+        ensures { IfOk result (λ rows. rows ≡ record { rows = [] }) }
+    {
+        let mut starts = Vec::with_capacity(alloc, height as usize + 1)?;
+        starts.push_reserved(0);
+        Ok(Rows {
+            spans: Vec::new(alloc),
+            starts,
+        })
+    }
+
+    /// Adds a row below the others. After an error the rows are as they were.
+    fn push(&mut self, row: &[Span]) -> Result<(), AllocError>
+        ensures added { OnOk result (self.new.rows ≡ self.old.rows ++ row.now ∷ []) }
+        ensures kept { OnErr result (self.new ≡ self.old) }
+    {
+        self.starts.reserve(1)?;
+        self.spans.extend_from_slice(row)?;
+        self.starts.push_reserved(self.spans.len());
+        Ok(())
+    }
+
+    /// Gives back the memory that no span needs.
+    fn shrink(&mut self)
+        ensures { self.new ≡ self.old }
+    {
+        self.spans.shrink_to_fit();
+    }
+
+    /// Cuts all rows of a tape's frame, each once. None, if more than `most` spans would be held: how many a row has is
+    /// left to the sweep, but never more than twice as many as it has room for edges, and one. Error: memory ran out.
+    /// Whatever the result, the tape's edges and the sweep's room stay.
+    pub(crate) fn cut(
+        alloc: Global,
+        tape: &mut Tape,
+        sweep: &mut Sweep,
+        most: usize,
+    ) -> Result<Option<Rows>, AllocError>
+        requires count { tape.old.crosses + tape.old.frame.height * length tape.old.edges ≤ 2 ^ 63 }
+        requires room { length tape.old.edges ≤ sweep.old.room }
+        ensures rows { IfOk result (λ found. IfSome found (λ rows. AreRowsOf tape.old.edges tape.old.frame rows.rows)) }
+        ensures held { IfOk result (λ found. IfSome found (λ rows. spans_in rows.rows ≤ most)) }
+        ensures none { IfOk result (λ found. IfNone found (most < tape.old.frame.height * (2 * sweep.old.room + 1))) }
+        ensures tape { tape.new ≡ record tape.old { crosses = tape.new.crosses } }
+        // Each edge is crossed once in each row that it meets, and else not at all.
+        ensures crosses { IfOk result (λ found. IfSome found (λ _. tape.new.crosses
+            ≡ tape.old.crosses + crossings_of tape.old.frame tape.old.edges)) }
+        ensures most_crosses { tape.new.crosses ≤ tape.old.crosses + crossings_of tape.old.frame tape.old.edges }
+        ensures room { sweep.new.room ≡ sweep.old.room }
+    {
+        let height = tape.frame().height;
+        let mut rows = Rows::empty(alloc, height)?;
+        for r in 0..height {
+            sweep.cut(tape, i64::from(r));
+            if most - rows.spans() < sweep.spans().len() {
+                return Ok(None);
+            }
+            rows.push(sweep.spans())?;
+        }
+        rows.shrink();
+        Ok(Some(rows))
+    }
+
+    /// How many rows there are.
+    pub(crate) fn height(&self) -> usize
+        ensures { result ≡ length self.now.rows }
+    {
+        self.starts.len() - 1
+    }
+
+    /// How many spans are held, of all rows together. A span takes 16 bytes, a row 8 more.
+    pub(crate) fn spans(&self) -> usize
+        ensures { result ≡ spans_in self.now.rows }
+    {
+        self.spans.len()
+    }
+
+    /// The black columns of row `r`, counted from the top.
+    fn row(&self, r: usize) -> &[Span]
+        requires { r < length self.now.rows }
+        ensures { result.now ≡ row_at self.now.rows r }
+    {
+        part(&self.spans, self.starts[r], self.starts[r + 1])
+    }
+
+    /// Blackens the pixels of the black columns of row `r`, counted from the top, from each pen of the glyph: moved by
+    /// as many columns to the right as the pen says, in a row of so many pixels, the leftmost in the highest bit of the
+    /// first byte. All other bits stay as they are. It takes no memory.
+    pub(crate) fn paint(&self, r: usize, pens: &[u32], width: u32, row: &mut [u8])
+        requires within { r < length self.now.rows }
+        requires width { width ≤ 8 * length row.old }
+        ensures bits { (k : ℕ) → bit row.new k
+            ≡ (bit row.old k || (nat_lt k width && covers_from (row_at self.now.rows r) pens.now k)) }
+        ensures len { length row.new ≡ length row.old }
+    {
+        let spans = self.row(r);
+        // Many rows of a line are blank.
+        if !spans.is_empty() {
+            paint_columns(spans, pens, width, row);
+        }
+    }
+
+    /// The least and the greatest black column of row `r`, counted from the top, both included; None where it is blank.
+    pub(crate) fn bounds(&self, r: usize) -> Option<(i64, i64)>
+        requires { r < length self.now.rows }
+        ensures { AreBounds (row_at self.now.rows r) result }
+    {
+        bounds_of(self.row(r))
+    }
+}
