@@ -1,0 +1,61 @@
+-- No part of the standard: the glyphs that a font at a size keeps from line to line, as many as a bound allows.
+use Rattle.std.specs.Prelude.{◌≡◌, refl, ℕ, ◌+◌, ◌-◌, ◌*◌, if◌then◌else◌, nat_le, pos, List, [], ◌∷◌, length, None}
+use Rattle.std.specs.List.{sum_by}
+use Rattle.std.specs.Map.{values_of}
+use Rattle.tt_scan_rows.specs.Rows.{spans_in}
+use Rattle.tt_strike_kept.specs.Glyph.{KeptGlyph}
+
+-- glyphs with their numbers, the newest first, and how many bytes they may take
+pub record Kept : Type 0 where
+  pub entries : List (ℕ × KeptGlyph)
+  pub most : ℕ
+
+-- how many bytes a glyph takes: 16 each span and 8 each row of its raster, and 128 for its place
+abbrev pub bytes_of : KeptGlyph → ℕ
+bytes_of g = 16 * spans_in g.raster.rows + 8 * length g.raster.rows + 128
+
+-- how many all glyphs of a list take
+abbrev pub bytes_in : List (ℕ × KeptGlyph) → ℕ
+bytes_in es = sum_by bytes_of (values_of es)
+
+-- the longest front of a list whose glyphs take at most so many bytes
+abbrev pub fitting : ℕ → List (ℕ × KeptGlyph) → List (ℕ × KeptGlyph)
+fitting room [] = []
+fitting room (e ∷ es) = if nat_le (bytes_of e.1) room then e ∷ fitting (room - bytes_of e.1) es else []
+
+-- worked values: a blank glyph, and one that is black in a column of its only line
+blank : KeptGlyph
+blank = record { raster = record { top = pos 0; rows = [] }; unfitted = None }
+
+dot : KeptGlyph
+dot = record {
+  raster = record { top = pos 0; rows = (record { first = pos 1; last = pos 1 } ∷ []) ∷ [] };
+  unfitted = None;
+}
+
+three : List (ℕ × KeptGlyph)
+three = (7, dot) ∷ (3, blank) ∷ (9, dot) ∷ []
+
+a_blank_glyph_takes_its_place_alone : bytes_of blank ≡ 128
+unfolding blank
+a_blank_glyph_takes_its_place_alone = refl
+
+a_dot_takes_a_span_and_a_row_more : bytes_of dot ≡ 152
+unfolding dot
+a_dot_takes_a_span_and_a_row_more = refl
+
+three_take_all_their_bytes : bytes_in three ≡ 432
+unfolding three dot blank
+three_take_all_their_bytes = refl
+
+all_stay_where_they_just_fit : fitting 432 three ≡ three
+unfolding three dot blank
+all_stay_where_they_just_fit = refl
+
+the_oldest_goes_where_a_byte_lacks : fitting 431 three ≡ (7, dot) ∷ (3, blank) ∷ []
+unfolding three dot blank
+the_oldest_goes_where_a_byte_lacks = refl
+
+no_smaller_one_stays_behind_one_that_goes : fitting 151 three ≡ []
+unfolding three dot blank
+no_smaller_one_stays_behind_one_that_goes = refl

@@ -1,0 +1,131 @@
+//! Glyphs that are kept by their numbers, as many as a bound in bytes allows.
+
+ghost use Rattle.std.specs.Prelude.{◌≡◌, ◌+◌, ◌-◌, ◌∷◌, ◌<◌, ◌≤◌, ◌⊎◌, [], length, nat_eq, take, IfOk, IfSome};
+ghost use Rattle.std.specs.Map.{lookup, remove_entry};
+ghost use Rattle.tt_strike_kept.specs.Kept.{bytes_in, bytes_of, fitting};
+
+use crate::glyph::KeptGlyph;
+use lru::LruCache;
+use std::alloc::{AllocError, Global};
+use std::marker::Model;
+
+/// Glyphs by their numbers, at most so many bytes of them; the oldest are given up first. In contracts they are the
+/// list of the glyphs with their numbers, the newest first.
+#[derive(Drop)]
+pub struct KeptGlyphs {
+    glyphs: LruCache<u16, KeptGlyph>,
+    /// How many bytes all of them take.
+    bytes: usize,
+    /// How many they may take.
+    most: usize,
+}
+
+impl Model for KeptGlyphs {
+    ghost use Rattle.std.specs.Prelude.{◌≡◌, ◌-◌, ◌^◌, ◌≤◌};
+    ghost use Rattle.tt_strike_kept.specs.Kept.{Kept, bytes_in};
+
+    ghost Value = { Kept };
+
+    ghost view = { λ k. record { entries = k.glyphs.entries; most = k.most } };
+
+    ghost invariant = { λ k. (k.bytes ≡ bytes_in k.glyphs.entries) × (k.bytes ≤ k.most) × (k.glyphs.cap ≡ 2 ^ 64 - 1) };
+}
+
+impl KeptGlyphs {
+    /// No glyph yet, and room for `most` bytes of them. Error: memory ran out.
+    pub fn new(alloc: Global, most: usize) -> Result<KeptGlyphs, AllocError>
+        ensures { IfOk result (λ kept. kept ≡ record { entries = []; most = most }) }
+    {
+        Ok(KeptGlyphs {
+            glyphs: LruCache::unbounded(alloc)?,
+            bytes: 0,
+            most,
+        })
+    }
+
+    /// The glyph of a number, whose raster has one more owner then; the order stays. None where no glyph is kept under
+    /// the number, and where its raster has too many owners to be counted.
+    pub fn find(&self, number: u16) -> Option<KeptGlyph>
+        ensures { IfSome result (λ g. lookup (nat_eq number) self.now.entries ≡ Some g) }
+    {
+        self.glyphs.peek(&number)?.clone().ok()
+    }
+
+    /// Keeps a glyph as the newest, in the place of one that has its number, and gives up the oldest so that all take
+    /// at most as many bytes as they may. A glyph that takes more alone is not kept, and nothing is given up for it.
+    /// Where memory runs out it is not kept either, and what was given up for it does not come back.
+    pub fn keep(&mut self, number: u16, glyph: KeptGlyph)
+        ensures most { self.new.most ≡ self.old.most }
+        ensures larger { self.old.most < bytes_of glyph → self.new ≡ self.old }
+        ensures entries { let others = remove_entry (nat_eq number) self.old.entries in bytes_of glyph ≤ self.old.most
+            → (self.new.entries ≡ fitting self.old.most ((number, glyph) ∷ others))
+            ⊎ (self.new.entries ≡ fitting (self.old.most - bytes_of glyph) others) }
+    {
+        let Some(room) = glyph.room_beside(self.most) else {
+            return;
+        };
+        self.give_up(number);
+        self.make_room(room);
+        self.put_newest(number, glyph, room);
+    }
+
+    /// Puts a glyph first beside which there is so much room, unless memory runs out.
+    fn put_newest(&mut self, number: u16, glyph: KeptGlyph, room: usize)
+        requires none { lookup (nat_eq number) self.old.entries ≡ None }
+        requires room { room + bytes_of glyph ≡ self.old.most }
+        requires left { bytes_in self.old.entries ≤ room }
+        ensures most { self.new.most ≡ self.old.most }
+        ensures entries { (self.new.entries ≡ (number, glyph) ∷ self.old.entries)
+            ⊎ (self.new.entries ≡ self.old.entries) }
+    {
+        if self.glyphs.put(number, glyph).is_ok() {
+            self.bytes += self.most - room;
+        }
+    }
+
+    /// Gives up the glyph of a number, if there is one.
+    fn give_up(&mut self, number: u16)
+        ensures entries { self.new ≡ record self.old { entries = remove_entry (nat_eq number) self.old.entries } }
+        ensures none { lookup (nat_eq number) self.new.entries ≡ None }
+    {
+        // A cache tells with its length that no two of its keys are equal.
+        let _count = self.glyphs.len();
+        if let Some(glyph) = self.glyphs.pop(&number) {
+            self.bytes = glyph.taken_off(self.bytes);
+        }
+    }
+
+    /// Gives up the oldest glyph, if there is one.
+    fn give_up_oldest(&mut self)
+        ensures { self.new ≡ record self.old { entries = take (length self.old.entries - 1) self.old.entries } }
+    {
+        if let Some((_, oldest)) = self.glyphs.pop_lru() {
+            self.bytes = oldest.taken_off(self.bytes);
+        }
+    }
+
+    /// Gives up the oldest glyphs, as few as leave no more than `room` bytes.
+    fn make_room(&mut self, room: usize)
+        ensures { self.new ≡ record self.old { entries = fitting room self.old.entries } }
+    {
+        while self.bytes() > room {
+            self.give_up_oldest();
+        }
+    }
+
+    /// How many bytes all glyphs take: for each those of its raster, and 128.
+    pub fn bytes(&self) -> usize
+        ensures exact { result ≡ bytes_in self.now.entries }
+        ensures most { result ≤ self.now.most }
+    {
+        self.bytes
+    }
+
+    /// Gives up all glyphs.
+    pub fn clear(&mut self)
+        ensures { self.new ≡ record self.old { entries = [] } }
+    {
+        self.glyphs.clear();
+        self.bytes = 0;
+    }
+}
