@@ -3,14 +3,14 @@ use Rattle.std.specs.Prelude.{◌≡◌, ℕ, List, [], codes, Option, Some, Non
 use Rattle.std.specs.Str.{bytes_eq}
 use Rattle.tt_fit.specs.declared.programs.Fit.{Fit}
 use Rattle.tt_fit.specs.declared.programs.Fit.TheVariants as fit
-use Rattle.tt_render.specs.Job.{Job, job_view}
-use Rattle.tt_render.specs.Defects.{IsFaceDefect, IsRunDefect}
+use Rattle.tt_strike.specs.Job.{Job, job_view}
+use Rattle.tt_strike.specs.Defects.{IsFaceDefect, IsRunDefect}
 use Rattle.tt_render.specs.MapLines.{map_wanted}
 use Rattle.tt_render.specs.Outcome.{Traffic}
-use Rattle.tt_render.specs.Picture.{run_wanted}
-use Rattle.tt_render.specs.Report.{ListsOnce, report_of}
-use Rattle.tt_render.specs.declared.report.Report.{Report}
-use Rattle.tt_render.specs.declared.report.Unfitted.{Unfitted}
+use Rattle.tt_render.specs.Run.{run_wanted}
+use Rattle.tt_strike.specs.Report.{ListsOnce, report_of}
+use Rattle.tt_strike.specs.declared.report.Report.{Report}
+use Rattle.tt_strike.specs.declared.report.Unfitted.{Unfitted}
 use Rattle.tt_program_decisions.specs.declared.request.Request.{Request}
 use Rattle.tt_program_decisions.specs.declared.request.Request.TheVariants.{Map, Draw}
 use Rattle.tt_program_decisions.specs.declared.request.Words.{Words}

@@ -6,7 +6,7 @@ use Rattle.tt_render.specs.declared.fault.RunFault.{RunFault}
 use Rattle.tt_render.specs.declared.fault.RunFault.TheVariants as run
 use Rattle.tt_render.specs.Defects.{TellsDefectsOf}
 use Rattle.tt_render.specs.Outcome.{CallGives, Traffic, Wanted}
-use Rattle.tt_render.specs.declared.report.Unfitted.{Unfitted}
+use Rattle.tt_strike.specs.declared.report.Unfitted.{Unfitted}
 use Rattle.tt_render.specs.Messages.{line_of, status_of, unfitted_line_of}
 
 -- standard error before a call and after it: the bytes that went out, None where no contract knows them, and whether it

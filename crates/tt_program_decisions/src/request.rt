@@ -1,7 +1,7 @@
 //! What a command line asks for.
 
 ghost use Rattle.std.specs.Prelude.{◌≡◌, ◌≢◌, ℕ, List, Option, None, codes, option_map};
-ghost use Rattle.tt_render.specs.Job.{job_view};
+ghost use Rattle.tt_strike.specs.Job.{job_view};
 ghost use Rattle.tt_program_decisions.specs.Requests.{asked, asked_of, draw_asked, fit_named, font_of, map_asked};
 
 use tt_fit::Fit;

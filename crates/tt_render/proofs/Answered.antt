@@ -9,14 +9,16 @@ use Rattle.tt_core.specs.declared.fault.JobFault.TheVariants as fault
 use Rattle.tt_core.specs.Faults.{Fault}
 use Rattle.tt_core.specs.Limits.{font_limit}
 use Rattle.tt_core.specs.Outcomes.{font_fault}
-use Rattle.tt_render.specs.declared.fault.DrawFault.{DrawFault}
-use Rattle.tt_render.specs.declared.fault.DrawFault.TheVariants as draw
+use Rattle.tt_strike.specs.declared.fault.DrawFault.{DrawFault}
+use Rattle.tt_strike.specs.declared.fault.DrawFault.TheVariants as draw
 use Rattle.tt_render.specs.declared.fault.RunFault.{RunFault}
 use Rattle.tt_render.specs.declared.fault.RunFault.TheVariants as run
-use Rattle.tt_render.specs.Job.{Job}
-use Rattle.tt_render.specs.Defects.{TellsDefectsOf, IsFontRefusal, IsJobRefusal, draw_font_fault, draw_job_fault}
-use Rattle.tt_render.specs.Tables.{Face, face_of}
-use Rattle.tt_render.specs.Outcome.{Refused, Wanted, as_font, CallFails, IfJob, IfLarge, needs_font, refusal}
+use Rattle.tt_strike.specs.Job.{Job}
+use Rattle.tt_render.specs.Defects.{TellsDefectsOf, IsJobRefusal}
+use Rattle.tt_strike.specs.Defects.{IsFontRefusal, draw_font_fault, draw_job_fault}
+use Rattle.tt_strike.specs.Tables.{Face, face_of}
+use Rattle.tt_strike.specs.Refusals.{Refused, as_font, needs_font, refusal}
+use Rattle.tt_render.specs.Outcome.{Wanted, CallFails, IfJob, IfLarge}
 use Rattle.tt_render.specs.Reading.{ReadFails}
 use Rattle.tt_render.specs.Views.{run_fault_of_font, run_fault_of_draw}
 use Rattle.tt_render.proofs.Calls.{IsOfFont, IsRead, font_fails, late_job_fails, memory_fails, known_of, tells_of_known}

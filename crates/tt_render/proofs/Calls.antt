@@ -7,11 +7,13 @@ use Rattle.tt_core.specs.Faults.{Fault}
 use Rattle.tt_core.specs.Limits.{font_limit}
 use Rattle.tt_render.specs.declared.fault.RunFault.{RunFault}
 use Rattle.tt_render.specs.declared.fault.RunFault.TheVariants as run
-use Rattle.tt_render.specs.Job.{Job, tested, text_tested}
+use Rattle.tt_strike.specs.Job.{Job, tested, text_tested}
 use Rattle.tt_render.specs.Defects.{CallTellsDefects, TellsDefectsOf}
 use Rattle.tt_render.specs.MapLines.{lines_of, map_outcome}
-use Rattle.tt_render.specs.Outcome.{Refused, font, job, large, as_font, of_font, Wanted, WithBytes, CallFails, needs_font}
-use Rattle.tt_render.specs.Picture.{pictured, run_outcome}
+use Rattle.tt_strike.specs.Refusals.{Refused, font, job, large, as_font, needs_font}
+use Rattle.tt_render.specs.Outcome.{of_font, Wanted, WithBytes, CallFails}
+use Rattle.tt_strike.specs.Picture.{pictured}
+use Rattle.tt_render.specs.Run.{run_outcome}
 use Rattle.tt_render.specs.Reading.{ReadFails}
 use Rattle.tt_render.proofs.Known.{consumes_all}
 

@@ -1,12 +1,11 @@
 -- What went out, where lists of bytes are written one after the other.
-use Rattle.std.proofs.Common.{◌≡◌, ℕ, ◌+◌, ◌*◌, ◌^◌, ◌<◌, ◌≤◌, Bool, List, ◌++◌, length, take, Option, Some, None, append_assoc, append-nil, refl, sym, arith, zero-add}
+use Rattle.std.proofs.Common.{◌≡◌, ℕ, ◌+◌, ◌*◌, ◌^◌, ◌<◌, ◌≤◌, zero, suc, List, [], ◌∷◌, ◌++◌, length, take, drop, Option, Some, None, ap, append_assoc, append-nil, refl, sym, arith}
 use Rattle.std.proofs.Math.Seq.{take-append-add}
+use Rattle.std.proofs.lemmas.List.{length-take-le, take-append-drop}
 use Rattle.std.proofs.lemmas.Nat.{mul-le}
 use Rattle.std.specs.Io.KnownBytes.{Appends}
 use Rattle.tt_core.specs.Bits.{stride}
 use Rattle.tt_core.specs.Limits.{width_limit, height_limit}
-use Rattle.tt_pbm.specs.P4.{rows}
-use Rattle.tt_pbm.specs.Rows.{rows_more, take-rows}
 
 -- all of the first, and then so many of the second
 pub appends_both : (a b c : Option (List ℕ)) (first second : List ℕ) (sent : ℕ) → Appends a b first
@@ -27,9 +26,9 @@ appends_more (Some xs) (Some ys) (Some zs) first second both one two is = rw (tw
     (append_assoc xs first second)
 
 -- nothing
-pub appends_none : (a : Option (List ℕ)) (w : ℕ) (black : ℕ → ℕ → Bool) (n : ℕ) → n ≡ 0 → Appends a a (rows w black 0 n)
-appends_none None w black n none = tt
-appends_none (Some xs) w black n none = rw none (sym (append-nil xs))
+pub appends_none : (a : Option (List ℕ)) (bytes : List ℕ) (n : ℕ) → n ≡ 0 → Appends a a (take n bytes)
+appends_none None bytes n none = tt
+appends_none (Some xs) bytes n none = rw none (sym (append-nil xs))
 
 -- a row ends within the rows
 pub row_ends : (w h r : ℕ) → r < h → stride w * r + stride w ≤ stride w * h
@@ -38,20 +37,23 @@ row_ends w h r below =
     in
     omega (arith, least)
 
--- the rows before row r, and some bytes of it
-pub part_of_row : (w h r sent : ℕ) (black : ℕ → ℕ → Bool) (row : List ℕ) → r < h → sent ≤ stride w
-    → row ≡ rows w black (stride w * r) (stride w)
-    → rows w black 0 (stride w * r) ++ take sent row ≡ take (stride w * r + sent) (rows w black 0 (stride w * h))
-part_of_row w h r sent black row below within is =
-    let ends = row_ends w h r below in
-    let first : take sent (rows w black (stride w * r) (stride w)) ≡ rows w black (stride w * r) sent =
-    take-rows w black (stride w * r) (stride w) sent within in
-    let split : rows w black 0 (stride w * r + sent) ≡ rows w black 0 (stride w * r) ++ rows w black (stride w * r)
-    sent =
-    rw zero-add at (rows_more w black 0 (stride w * r) sent) in
-    let all : take (stride w * r + sent) (rows w black 0 (stride w * h)) ≡ rows w black 0 (stride w * r + sent) =
-    take-rows w black 0 (stride w * h) (stride w * r + sent) (omega (arith, ends, within)) in
-    rw (is, first, all, split) refl
+-- the first bytes, and then so many of those after them
+pub next_part : (m n : ℕ) (bytes : List ℕ) → m ≤ length bytes → take m bytes ++ take n (drop m bytes) ≡ take (m + n) bytes
+next_part m n bytes within =
+    let many : length (take m bytes) ≡ m = length-take-le m bytes within in
+    let whole : take m bytes ++ drop m bytes ≡ bytes = take-append-drop m bytes in
+    sym (rw (many, whole) at (take-append-add (take m bytes) (drop m bytes) n))
+
+-- fewer of the first bytes
+take_fewer : (n m : ℕ) (bytes : List ℕ) → n ≤ m → take n (take m bytes) ≡ take n bytes
+take_fewer zero m bytes within = refl
+take_fewer (suc n) zero bytes within = absurd (omega (arith, within))
+take_fewer (suc n) (suc m) [] within = refl
+take_fewer (suc n) (suc m) (b ∷ bytes) within = ap (λ bs. b ∷ bs) (take_fewer n m bytes (omega (arith, within)))
+
+pub part_of_next : (m n sent : ℕ) (bytes : List ℕ) → m ≤ length bytes → sent ≤ n
+    → take m bytes ++ take sent (take n (drop m bytes)) ≡ take (m + sent) bytes
+part_of_next m n sent bytes within few = rw (take_fewer sent n (drop m bytes) few) (next_part m sent bytes within)
 
 -- the rows of a lawful picture have few bytes
 pub few_bytes : (w h : ℕ) → w ≤ width_limit → h ≤ height_limit → stride w * h ≤ 2 ^ 23

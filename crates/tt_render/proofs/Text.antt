@@ -1,9 +1,10 @@
--- The hexadecimal digits of a code point, the last one first.
-use Rattle.std.proofs.Common.{◌≡◌, ℕ, suc, ◌==◌, ◌/◌, ◌%◌, ◌<◌, ◌≤◌, ◌⊎◌, inl, inr, true, false, List, [], ◌∷◌, refl, ◌∙◌, arith}
-use Rattle.std.specs.Fmt.{digits, digits_onto, digit_glyph}
+-- The hexadecimal digits of a code point, the last one first, and as they are formatted.
+use Rattle.std.proofs.Common.{◌≡◌, ℕ, suc, ◌-◌, ◌^◌, ◌==◌, ◌/◌, ◌%◌, ◌<◌, ◌≤◌, ◌⊎◌, inl, inr, true, false, List, [], ◌∷◌, refl, ◌∙◌, arith}
+use Rattle.std.specs.Fmt.{char_count, digits, digits_onto, digit_glyph, format_spec, padded_integral}
 use Rattle.std.proofs.lemmas.Bool.{cases_lt}
 use Rattle.std.proofs.lemmas.Bool.Decides.{nat_tests}
-use Rattle.tt_render.specs.MapLines.{code_point}
+use Rattle.std.proofs.lemmas.List.{append-nil}
+use Rattle.tt_render.specs.MapLines.{at_least_four, code_point}
 
 begins : (c : ℕ) → digits 16 true c ≡ digits_onto 64 16 true c []
 unfolding digits
@@ -109,3 +110,11 @@ five_are c large small = rw (exactly_five c large small) refl
 pub six_are : (c : ℕ) → 1048576 ≤ c → c < 16777216 → code_point c
     ≡ digit_glyph true (c / 1048576) ∷ digit_glyph true (c / 65536 % 16) ∷ four c []
 six_are c large small = rw (exactly_six c large small) refl
+
+minus_none : (n : ℕ) → n - 0 ≡ n
+minus_none n = omega arith
+
+-- what `{:04X}` writes of digits
+pub padded_to_four : (ds : List ℕ) → padded_integral (format_spec 32 0 4 4 (2 ^ 64 - 1)) false [] ds ≡ at_least_four ds
+unfolding padded_integral char_count
+padded_to_four ds = simp (append-nil, minus_none)

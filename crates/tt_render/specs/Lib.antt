@@ -1,15 +1,8 @@
-pub mod Job
 pub mod Defects
-pub mod Distinct
-pub mod Tables
-pub mod Glyphs
 pub mod Laws
 pub mod MapLines
 pub mod Messages
 pub mod Outcome
-pub mod Picture
-pub mod Pixels
 pub mod Reading
-pub mod Report
+pub mod Run
 pub mod Views
-pub mod Work

@@ -5,9 +5,10 @@ use Rattle.tt_core.specs.Faults.{Fault}
 use Rattle.tt_core.specs.Outcomes.{◌>>=◌}
 use Rattle.tt_cmap.specs.Lookup.{Cmap, glyph_of}
 use Rattle.tt_metrics.specs.Metrics.{Metrics, advance_of}
-use Rattle.tt_render.specs.Job.{text_tested}
-use Rattle.tt_render.specs.Tables.{face_of}
-use Rattle.tt_render.specs.Outcome.{Refused, Wanted, as_font, outcome_of}
+use Rattle.tt_strike.specs.Job.{text_tested}
+use Rattle.tt_strike.specs.Tables.{face_of}
+use Rattle.tt_strike.specs.Refusals.{Refused, as_font}
+use Rattle.tt_render.specs.Outcome.{Wanted, outcome_of}
 
 -- digits after as many zeros as make them four
 abbrev pub at_least_four : List ℕ → List ℕ

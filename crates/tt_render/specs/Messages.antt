@@ -1,5 +1,5 @@
--- What the program says of a fault: its exit status, and its line on standard error; and of a glyph that is not
--- fitted.
+-- What the program says of a fault: its exit status, and its line on standard error; of a glyph that is not fitted; and
+-- of a character that has no glyph.
 use Rattle.std.specs.Prelude.{ℕ, List, ◌++◌, codes, decimal, ◌≡◌, refl}
 use Rattle.std.specs.Fmt.{digits}
 use Rattle.tt_core.specs.declared.fault.JobFault.{JobFault}
@@ -7,7 +7,8 @@ use Rattle.tt_core.specs.declared.fault.Why.TheVariants as why
 use Rattle.tt_core.specs.Faults.{Fault, fault_at, why_number, why_name, job_number, job_name}
 use Rattle.tt_render.specs.declared.fault.RunFault.{RunFault}
 use Rattle.tt_render.specs.declared.fault.RunFault.TheVariants as run
-use Rattle.tt_render.specs.declared.report.Unfitted.{Unfitted}
+use Rattle.tt_strike.specs.declared.report.Unfitted.{Unfitted}
+use Rattle.tt_render.specs.MapLines.{code_point}
 
 abbrev pub status_of : RunFault → ℕ
 status_of (run.Font f) = 1
@@ -32,6 +33,10 @@ abbrev pub unfitted_line_of : Unfitted → List ℕ
 unfitted_line_of u =
     codes "tt_render: glyph " ++ (decimal u.glyph ++ (codes " unfitted: " ++ fault_words u.fault))
 
+-- `tt_render: U+<code point> has no glyph`
+abbrev pub missing_line_of : ℕ → List ℕ
+missing_line_of c = codes "tt_render: U+" ++ (code_point c ++ codes " has no glyph")
+
 -- `tt_render: <number> <name>`
 abbrev pub job_line : JobFault → List ℕ
 job_line j = codes "tt_render: " ++ (decimal (job_number j) ++ (codes " " ++ job_name j))
@@ -54,3 +59,19 @@ a_glyph_not_fitted : unfitted_line_of (record { glyph = 1; fault = fault_at (cod
     ≡ codes "tt_render: glyph 1 unfitted: glyf+14: 35 OffProfile"
 unfolding digits why_number why_name
 a_glyph_not_fitted = refl
+
+a_letter_without_a_glyph : missing_line_of 0x41 ≡ codes "tt_render: U+0041 has no glyph"
+unfolding digits
+a_letter_without_a_glyph = refl
+
+an_ideograph_without_a_glyph : missing_line_of 0x4E2D ≡ codes "tt_render: U+4E2D has no glyph"
+unfolding digits
+an_ideograph_without_a_glyph = refl
+
+an_emoji_without_a_glyph : missing_line_of 0x1F600 ≡ codes "tt_render: U+1F600 has no glyph"
+unfolding digits
+an_emoji_without_a_glyph = refl
+
+the_last_character_without_a_glyph : missing_line_of 0x10FFFF ≡ codes "tt_render: U+10FFFF has no glyph"
+unfolding digits
+the_last_character_without_a_glyph = refl

@@ -1,29 +1,12 @@
 -- No part of the standard: what a call promises of its answer and of both devices, on each of its answers.
-use Rattle.std.specs.Prelude.{◌≡◌, ℕ, ◌<◌, Bool, true, false, nat_lt, if◌then◌else◌, List, length, take, Option, Some, None, IfSome, Result, Ok, Err, ⊤}
+use Rattle.std.specs.Prelude.{◌≡◌, ℕ, ◌<◌, Bool, true, false, nat_lt, if◌then◌else◌, List, length, take, Option, IfSome, Result, Ok, Err, ⊤}
 use Rattle.std.specs.Io.KnownBytes.{Appends, Consumes, IsAtEnd, Keeps}
 use Rattle.tt_core.specs.declared.fault.JobFault.{JobFault}
-use Rattle.tt_core.specs.declared.fault.JobFault.TheVariants as fault
-use Rattle.tt_core.specs.Faults.{Fault}
 use Rattle.tt_core.specs.Limits.{font_limit}
 use Rattle.tt_core.specs.Outcomes.{◌>>=◌}
-use Rattle.tt_render.specs.declared.fault.DrawFault.{DrawFault}
-use Rattle.tt_render.specs.declared.fault.DrawFault.TheVariants as draw
+use Rattle.tt_strike.specs.Refusals.{Refused, as_job, font, job, large, needs_font}
 use Rattle.tt_render.specs.declared.fault.RunFault.{RunFault}
 use Rattle.tt_render.specs.declared.fault.RunFault.TheVariants as run
-
--- why nothing is written though both devices serve
-pub data Refused : Type 0 where
-  font : Fault → Refused
-  job : JobFault → Refused
-  large : Refused
-
-abbrev pub as_font : {X : Type 0} → Result X Fault → Result X Refused
-as_font (Ok x) = Ok x
-as_font (Err fault) = Err (font fault)
-
-abbrev pub as_job : {X : Type 0} → Result X JobFault → Result X Refused
-as_job (Ok x) = Ok x
-as_job (Err fault) = Err (job fault)
 
 -- what is made of a font, if it is not too large to be read
 abbrev pub of_font : (List ℕ → Result (List ℕ) Refused) → List ℕ → Result (List ℕ) Refused
@@ -33,12 +16,6 @@ of_font made file = if nat_lt font_limit (length file) then Err large else made 
 abbrev pub outcome_of : Result (Unit {0}) JobFault → (List ℕ → Result (List ℕ) Refused) → List ℕ
     → Result (List ℕ) Refused
 outcome_of tested made file = as_job tested >>= λ u. of_font made file
-
--- what stops the making of a picture: nothing is told where memory ran out
-abbrev pub refusal : DrawFault → Option Refused
-refusal (draw.Font f) = Some (font f)
-refusal (draw.Job j) = Some (job j)
-refusal draw.Memory = None
 
 -- a reader and a writer, before a call and after it: the bytes that the reader will still give, those that went out by
 -- the writer, each None where no contract knows them (a file's), and whether the device has failed
@@ -118,13 +95,6 @@ WithBytes wanted Q file = (bytes : List ℕ) × (wanted file ≡ Ok bytes) × Q 
 -- the same of the bytes that the reader had
 abbrev pub WithBytesFor : Traffic → Wanted → (List ℕ → Type 0) → Type 0
 WithBytesFor t w Q = IfSome t.left_before (WithBytes w.bytes Q)
-
--- a job is tested before the font is read, but for the extent of its picture and the work of its glyphs
-abbrev pub needs_font : JobFault → Bool
-needs_font fault.EmptyPicture = true
-needs_font fault.PictureLarge = true
-needs_font fault.WorkLarge = true
-needs_font j = false
 
 -- a job that fails its tests is refused whatever the reader has
 abbrev pub RefusedAtOnce : JobFault → Wanted → Type 0

@@ -1,46 +1,19 @@
-//! Laws of the definitions. Each function takes nothing and gives nothing: its clauses hold of all jobs, files and
-//! glyphs.
+//! Laws of the definitions. Each function takes nothing and gives nothing: its clauses hold of all jobs and files.
 
-ghost use Rattle.tt_render.specs.Laws.{DrawnFontsAreWhole, MappedFontsAreWhole, OthersListNothing, MarginMoves, GlyphsByThemselves, UnfilledAreEdges, OthersFillNone, OthersDrawByEdges};
+ghost use Rattle.tt_render.specs.Laws.{WrittenFontsAreWhole, MappedFontsAreWhole, OthersWriteByEdges};
 
 /// Where the definition of what `run` or `map` is to write gives bytes, the font has no defect for it. So there is
 /// none whenever a call wrote, all or a part.
 pub fn fonts_are_whole()
-    ensures run { DrawnFontsAreWhole }
+    ensures run { WrittenFontsAreWhole }
     ensures map { MappedFontsAreWhole }
 {
-    tt_core::laws::tables_are_whole();
-    tt_metrics::laws::metrics_are_whole();
-    tt_cmap::laws::cmaps_are_whole();
-    tt_glyf::laws::locations_are_whole();
-    tt_line::laws::glyphs_are_placed();
+    tt_strike::laws::fonts_are_whole();
 }
 
-/// Where the definition of what `run` is to report gives a list, it is empty unless the job's fit is `Fit::Fallback`
-/// or `Fit::Best`.
-pub fn others_list_nothing()
-    ensures { OthersListNothing }
-{
-    tt_fit::laws::glyphs_fall_back();
-    tt_fit::laws::work_unfits();
-}
-
-/// A greater margin moves each pixel by as much, and changes nothing else.
-pub fn margins_move()
-    ensures { MarginMoves }
-{}
-
-/// What is black of a glyph, a dropout too, does not depend on the glyphs beside it.
-pub fn glyphs_by_themselves()
-    ensures { GlyphsByThemselves }
-{}
-
-/// Where no dropouts of some glyphs are filled, these are black where their edges blacken, and nowhere else. So are all
-/// glyphs of a line with every way of fitting but `Fit::Best`: their picture is as if there were no dropout control.
+/// With every way of fitting but `Fit::Best` `run` writes a picture as if there were no dropout control.
 pub fn others_fill_none()
-    ensures pixels { UnfilledAreEdges }
-    ensures glyphs { OthersFillNone }
-    ensures picture { OthersDrawByEdges }
+    ensures { OthersWriteByEdges }
 {
-    tt_fit::laws::others_fill_none();
+    tt_strike::laws::others_fill_none();
 }

@@ -1,28 +1,17 @@
 //! A font and a text, from a reader to a writer.
 #![tactic(auto)]
 
-mod distinct;
 mod drawing;
-mod dropouts;
 mod fault;
-mod glyph;
-mod glyphs;
-mod job;
 pub mod laws;
 mod mapping;
 mod messages;
-mod painting;
 mod reading;
-mod report;
-mod rows;
 mod running;
-mod tables;
-mod work;
 mod writing;
 
 pub use fault::RunFault;
-pub use job::Job;
 pub use mapping::map;
-pub use messages::{line, status, unfitted_line};
-pub use report::{Report, Unfitted};
+pub use messages::{line, missing_line, status, unfitted_line};
 pub use running::run;
+pub use tt_strike::{Job, Report, Unfitted};

@@ -6,19 +6,19 @@ ghost use Rattle.tt_core.specs.declared.fault.JobFault.TheVariants.{TextLong};
 ghost use Rattle.tt_core.specs.Limits.{font_limit, text_limit};
 ghost use Rattle.tt_core.specs.Outcomes.{FontGives, font_fault};
 ghost use Rattle.tt_metrics.specs.Metrics.{glyphs_of};
-ghost use Rattle.tt_render.specs.Defects.{IsFaceDefect, TellsDefects, TellsDefectsOf};
+ghost use Rattle.tt_strike.specs.Defects.{IsFaceDefect, TellsDefects};
+ghost use Rattle.tt_render.specs.Defects.{TellsDefectsOf};
 ghost use Rattle.tt_render.specs.MapLines.{code_point, line_text, lines_of, map_lines, map_wanted};
 ghost use Rattle.tt_render.specs.Outcome.{CallGives, IfJob, IfLarge, traffic_of};
 
 use crate::fault::RunFault;
-use crate::job::test_text;
 use crate::reading::read_font;
-use crate::tables::open_face;
 use std::alloc::{AllocError, Global};
 use tt_cmap::{Cmap, KnownGlyphs};
 use tt_core::{FontFault, Sink, Source};
 use tt_metrics::Metrics;
 use tt_pbm::{Ascii, write_all_of};
+use tt_strike::{Face, test_text};
 
 /// Writes a line `U+NNNN glyph advance` for each character of the text: the code point in capital
 /// hexadecimal, the glyph's number and its advance in font units. Nothing is written before all lines
@@ -53,8 +53,8 @@ fn lines_by(alloc: Global, file: &[u8], text: &str) -> Result<Vec<u8>, FontFault
     ensures exact { FontGives (λ lines. lines.items) result (lines_of file.now text.now) }
     ensures defects { TellsDefects font_fault (IsFaceDefect file.now) result }
 {
-    let face = open_face(file)?;
-    Ok(lines(alloc, &face.metrics, &face.cmap, text)?)
+    let face = Face::open(file)?;
+    Ok(lines(alloc, face.metrics(), face.cmap(), text)?)
 }
 
 fn lines(alloc: Global, metrics: &Metrics, cmap: &Cmap, text: &str) -> Result<Vec<u8>, AllocError>

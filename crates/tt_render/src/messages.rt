@@ -1,12 +1,12 @@
-//! What the program says of a fault, and of a glyph that is not fitted.
+//! What the program says of a fault, of a glyph that is not fitted, and of a character that has no glyph.
 
 ghost use Rattle.std.specs.Prelude.{◌≡◌, string_bytes, IfOk};
-ghost use Rattle.tt_render.specs.Messages.{status_of, line_of, font_line, unfitted_line_of};
+ghost use Rattle.tt_render.specs.Messages.{status_of, line_of, font_line, missing_line_of, unfitted_line_of};
 
 use crate::fault::RunFault;
-use crate::report::Unfitted;
 use std::alloc::{AllocError, Global};
 use tt_core::Fault;
+use tt_strike::Unfitted;
 
 /// The program's exit status.
 pub fn status(fault: &RunFault) -> u8
@@ -64,4 +64,13 @@ pub fn unfitted_line(alloc: Global, unfitted: &Unfitted) -> Result<String, Alloc
     let number = fault.why.number();
     let name = fault.why.name();
     format!(in alloc; "tt_render: glyph {glyph} unfitted: {table}+{offset}: {number} {name}")
+}
+
+/// The program's line on standard error for a character that the font has no glyph for, without the line feed. Its code
+/// point stands in capital hexadecimal with at least four digits.
+pub fn missing_line(alloc: Global, c: char) -> Result<String, AllocError>
+    ensures { IfOk result (λ text. string_bytes text ≡ missing_line_of c) }
+{
+    let code = c as u32;
+    format!(in alloc; "tt_render: U+{code:04X} has no glyph")
 }

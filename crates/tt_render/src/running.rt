@@ -2,20 +2,20 @@
 
 ghost use Rattle.std.specs.Prelude.{◌≡◌, ◌<◌, false, length, Ok, IfOk, IfSome};
 ghost use Rattle.tt_core.specs.Limits.{font_limit};
-ghost use Rattle.tt_render.specs.Job.{job_view};
-ghost use Rattle.tt_render.specs.Defects.{IsRunDefect, IsJobRefusal, TellsDefectsOf};
+ghost use Rattle.tt_strike.specs.Job.{job_view};
+ghost use Rattle.tt_strike.specs.Defects.{IsRunDefect};
+ghost use Rattle.tt_render.specs.Defects.{IsJobRefusal, TellsDefectsOf};
 ghost use Rattle.tt_render.specs.Outcome.{CallGives, IfJob, IfLarge, traffic_of};
-ghost use Rattle.tt_render.specs.Picture.{run_wanted};
-ghost use Rattle.tt_render.specs.Report.{report_of, ListsOnce};
+ghost use Rattle.tt_render.specs.Run.{run_wanted};
+ghost use Rattle.tt_strike.specs.Report.{report_of, ListsOnce};
 
-use crate::drawing::{Picture, draw};
+use crate::drawing::{Drawn, draw};
 use crate::fault::RunFault;
-use crate::job::{Job, test_job};
 use crate::reading::read_font;
-use crate::report::Report;
 use crate::writing::write_picture;
 use std::alloc::Global;
 use tt_core::{Sink, Source};
+use tt_strike::{Job, Report, test_job};
 
 /// Draws a line of text and writes its picture as binary PBM (P4): a pixel is black where its centre lies
 /// on, or inside, the chord outline of some glyph of the line, in which each curve is eight chords; with `Fit::Best` also
@@ -48,6 +48,6 @@ pub fn run<R: Source, W: Sink>(
     let file = read_font(alloc, font)?;
     let mut picture = draw(alloc, &file, job)?;
     write_picture(out, &mut picture)?;
-    let Picture { report, .. } = picture;
-    Ok(report)
+    let Drawn { picture, .. } = picture;
+    Ok(picture.into_report())
 }

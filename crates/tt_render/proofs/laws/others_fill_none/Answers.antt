@@ -1,16 +1,5 @@
-use Rattle.tt_render.proofs.Beside.{unfilled_are_edges}
-use Rattle.tt_render.proofs.Unfilled.{FillLaws, others_fill_none, others_draw_by_edges}
+use Rattle.tt_render.proofs.Made.{written-by-edges}
 use Rattle.tt_render.proofs.laws.others_fill_none.Goals as goal
 
-pub returns-clause-pixels : goal.returns-clause-pixels
-returns-clause-pixels c = unfilled_are_edges
-
-pub returns-clause-glyphs : goal.returns-clause-glyphs
-returns-clause-glyphs c =
-    let laws : FillLaws = record { none = c.others_fill_none.ensures.none; stay = c.others_fill_none.ensures.stay } in
-    others_fill_none laws
-
-pub returns-clause-picture : goal.returns-clause-picture
-returns-clause-picture c =
-    let laws : FillLaws = record { none = c.others_fill_none.ensures.none; stay = c.others_fill_none.ensures.stay } in
-    others_draw_by_edges laws
+pub returns : goal.returns
+returns c = written-by-edges c.others_fill_none.ensures.picture

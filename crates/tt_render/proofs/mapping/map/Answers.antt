@@ -1,9 +1,9 @@
 use Rattle.std.proofs.Common.{◌≡◌, ◌<◌, List, ℕ, length, take, Result, Ok, refl}
 use Rattle.std.proofs.lemmas.Result.{err_from_is_err_and}
 use Rattle.std.specs.Io.KnownBytes.{Appends}
-use Rattle.tt_render.specs.Defects.{IsFaceDefect}
+use Rattle.tt_strike.specs.Defects.{IsFaceDefect}
 use Rattle.tt_render.specs.MapLines.{lines_of, map_wanted}
-use Rattle.tt_render.specs.Outcome.{Refused, as_font}
+use Rattle.tt_strike.specs.Refusals.{Refused, as_font}
 use Rattle.tt_render.proofs.Answered.{reading_job, reading_large, reading_defects, lines_fail, lines_job, lines_large, lines_defects}
 use Rattle.tt_render.proofs.Calls.{IsRead, map_is_of_font, map_refused, job_fails, reading_fails, with_bytes, tells_of_known}
 use Rattle.tt_render.proofs.mapping.map.Goals as goal

@@ -1,10 +1,11 @@
 use Rattle.std.proofs.Common.{◌<◌, List, ℕ, length, take}
 use Rattle.std.proofs.lemmas.Result.{err_from_is_err_and}
 use Rattle.std.specs.Io.KnownBytes.{Appends}
-use Rattle.tt_render.specs.Job.{job_view}
-use Rattle.tt_render.specs.Defects.{IsRunDefect}
-use Rattle.tt_render.specs.Picture.{pictured, run_wanted}
-use Rattle.tt_render.specs.Views.{picture_bytes}
+use Rattle.tt_strike.specs.Job.{job_view}
+use Rattle.tt_strike.specs.Defects.{IsRunDefect}
+use Rattle.tt_strike.specs.Picture.{pictured}
+use Rattle.tt_render.specs.Run.{run_wanted}
+use Rattle.tt_strike.specs.Pictures.{picture_bytes}
 use Rattle.tt_render.proofs.Answered.{reading_job, reading_large, reading_defects, drawing_fails, drawing_job, drawing_large, drawing_defects}
 use Rattle.tt_render.proofs.Calls.{IsRead, run_is_of_font, run_refused, job_fails, reading_fails, with_bytes, tells_of_known}
 use Rattle.tt_render.proofs.running.run.Goals as goal
@@ -103,7 +104,7 @@ returns-in_err-write_picture-clause-outcome g c =
     let a = job_view c.args.job.now in
     let of_font = run_is_of_font a c.in_ok-test_job.ensures.exact in
     let file = c.in_ok-file in
-    let bytes = picture_bytes c.in_ok-picture.picture in
+    let bytes = picture_bytes c.in_ok-picture.picture.picture in
     let cut = c.in_err-write_picture in
     let made = rw c.deref.ensures.value at c.in_ok-picture.ensures.exact in
     let Q : List ℕ → Type 0 = λ bs. (cut.field-0.0.sent < length bs) × Appends (written c.args.out.now)
@@ -130,7 +131,7 @@ returns-clause-outcome g c =
     let a = job_view c.args.job.now in
     let of_font = run_is_of_font a c.in_ok-test_job.ensures.exact in
     let file = c.in_ok-file in
-    let bytes = picture_bytes c.in_ok-picture.picture in
+    let bytes = picture_bytes c.in_ok-picture.picture.picture in
     let made = rw c.deref.ensures.value at c.in_ok-picture.ensures.exact in
     let Q : List ℕ → Type 0 = Appends (written c.args.out.now) (written c.write_picture.new.out) in
     (of_font.tested, with_bytes (run_wanted a) (pictured a) of_font Q (left c.args.font.now) (left c.read_font.new.font) file.file.items bytes file.ensures.0 file.ensures.1 file.ensures.2 made c.in_ok-write_picture.ensures.all, (file.ensures.1, file.ensures.3), c.in_ok-write_picture.ensures.failure)

@@ -1,0 +1,56 @@
+-- What a strike of a font tells of a line, told of the font's file.
+use Rattle.std.proofs.Common.{◌≡◌, List, ℕ, Ok, Err, inl, inr, refl, arith}
+use Rattle.std.specs.Prelude.{IfSome, IsOkAnd}
+use Rattle.tt_core.specs.declared.fault.JobFault.{JobFault}
+use Rattle.tt_core.specs.declared.fault.JobFault.TheVariants as job_of
+use Rattle.tt_core.specs.Directory.{HasNo}
+use Rattle.tt_line.specs.Layout.{text_glyphs}
+use Rattle.tt_strike.specs.Defects.{IsFaceDefect, IsFontRefusal, IsLineDefect, IsLineRefusal, IsRunDefect, draw_font_fault, draw_job_fault}
+use Rattle.tt_strike.specs.Job.{Job, IsJob, size_tested, tested}
+use Rattle.tt_strike.specs.Picture.{line_outcome, pictured_by}
+use Rattle.tt_strike.specs.Refusals.{job}
+use Rattle.tt_strike.specs.Tables.{Face, face_of}
+use Rattle.tt_strike.specs.declared.fault.DrawFault.{DrawFault}
+use Rattle.tt_strike.specs.declared.fault.DrawFault.TheVariants as draw
+
+pub no_defect : (a : Job) (file : List ℕ) (face : Face) → face_of file ≡ Ok face → HasNo (IsFaceDefect file)
+    → HasNo (IsLineDefect face a (text_glyphs face.cmap a.text)) → HasNo (IsRunDefect a file)
+no_defect a file face there none line = λ fault defect. elim defect [
+  | inl tables ↦ none fault tables
+  | inr glyphs ↦ line fault (rw there at glyphs)
+]
+
+pub defect_tells : (a : Job) (file : List ℕ) (face : Face) (e : DrawFault) → face_of file ≡ Ok face
+    → IfSome (draw_font_fault e) (IsLineDefect face a (text_glyphs face.cmap a.text))
+    → IfSome (draw_font_fault e) (IsRunDefect a file)
+defect_tells a file face (draw.Font f) there stands = inr (rw there stands)
+defect_tells a file face (draw.Job j) there stands = tt
+defect_tells a file face draw.Memory there stands = tt
+
+-- a line of a job within its limits is refused by its font
+by_font : (a : Job) (face : Face) (j : JobFault) → IsJob a → IsLineRefusal face a j → IsFontRefusal face a j
+by_font a face job_of.SizeRange valid stands = absurd (elim stands [
+  | inl small ↦ omega (arith, small, valid.low)
+  | inr large ↦ omega (arith, large, valid.high)
+])
+by_font a face job_of.MarginRange valid stands = absurd (omega (arith, stands, valid.margin))
+by_font a face job_of.TextLong valid stands = absurd (omega (arith, stands, valid.text))
+by_font a face job_of.EmptyPicture valid stands = stands
+by_font a face job_of.PictureLarge valid stands = stands
+by_font a face job_of.WorkLarge valid stands = stands
+
+pub refusal_tells : (a : Job) (file : List ℕ) (face : Face) (e : DrawFault) → IsJob a → face_of file ≡ Ok face
+    → IfSome (draw_job_fault e) (IsLineRefusal face a)
+    → IfSome (draw_job_fault e) (λ j. IsOkAnd (face_of file) (λ face. IsFontRefusal face a j))
+refusal_tells a file face (draw.Font f) valid there stands = tt
+refusal_tells a file face (draw.Job j) valid there stands = rw there (by_font a face j valid stands)
+refusal_tells a file face draw.Memory valid there stands = tt
+
+-- a size out of range is what a job is refused for first
+pub size_first : (a : Job) (face : Face) (j : JobFault) → size_tested a.ppem ≡ Err j → line_outcome face a ≡ Err (job j)
+unfolding line_outcome tested
+size_first a face j refused = rw refused refl
+
+pub within : (a : Job) (face : Face) → tested a ≡ Ok tt → line_outcome face a ≡ pictured_by face a
+unfolding line_outcome
+within a face passes = rw passes refl

@@ -1,0 +1,60 @@
+-- The dropouts of glyphs, one glyph more, and which glyphs they can be asked of.
+use Rattle.std.proofs.Common.{◌≡◌, refl, ℕ, zero, suc, ◌+◌, ◌<◌, ◌≤◌, pos, ◌-ℤ◌, false, ◌||◌, List, [], ◌∷◌, length, take, get_or, Option, None, Some, arith}
+use Rattle.std.specs.Prelude.{All, IfSome}
+use Rattle.tt_arc.proofs.Closed.{all_closed}
+use Rattle.tt_core.specs.Limits.{width_limit}
+use Rattle.tt_fit.specs.Fitting.{Fitter}
+use Rattle.tt_scan.specs.Contours.{IsClosed, contours_at}
+use Rattle.tt_scan.specs.declared.edge.Edge.{Edge}
+use Rattle.tt_scan.specs.declared.edge.Frame.{Frame}
+use Rattle.tt_scan_dropouts.specs.Pictures.{is_dropout_from}
+use Rattle.tt_scan_dropouts.specs.declared.mark.Rules.{Rules}
+use Rattle.tt_strike.specs.Glyphs.{AreDrawn, AreWithin, CanBeFilled, Glyph, IsDrawn}
+use Rattle.tt_strike.specs.Picture.{contours_of, origin_of}
+use Rattle.tt_strike.specs.Pixels.{Stamp, is_filled_by, is_filled_from}
+use Rattle.tt_strike.proofs.Blackened.{or_false, or_or}
+
+-- by rules that there are
+pub filled_from : (f : Frame) (rules : Rules) (contours : List (List Edge)) (pens : List ℕ) (c r : ℕ)
+    → is_dropout_from f rules contours pens c r ≡ is_filled_from f (Some rules) contours pens c r
+filled_from f rules contours [] c r = refl
+filled_from f rules contours (pen ∷ pens) c r = rw (filled_from f rules contours pens c r) refl
+
+-- without any
+pub none_filled : (f : Frame) (contours : List (List Edge)) (pens : List ℕ) (c r : ℕ) → is_filled_from f None contours pens c r ≡ false
+none_filled f contours [] c r = refl
+none_filled f contours (pen ∷ pens) c r = none_filled f contours pens c r
+
+pub filled_more : (f : Frame) (gs : List Stamp) (i : ℕ) (d : Stamp) (c r : ℕ) → i < length gs
+    → is_filled_by f (take (i + 1) gs) c r
+    ≡ (is_filled_by f (take i gs) c r || is_filled_from f (get_or gs i d).filled (get_or gs i d).contours (get_or gs i d).pens c r)
+filled_more f [] i d c r below = absurd (omega arith)
+filled_more f (g ∷ gs) zero d c r below = or_false (is_filled_from f g.filled g.contours g.pens c r)
+filled_more f (g ∷ gs) (suc i) d c r below =
+    let next : suc i + 1 ≡ suc (i + 1) = omega arith in
+    let more = filled_more f gs i d c r (omega arith) in
+    rw (next, more) (or_or (is_filled_from f g.filled g.contours g.pens c r) (is_filled_by f (take i gs) c r)
+    (is_filled_from f (get_or gs i d).filled (get_or gs i d).contours (get_or gs i d).pens c r))
+
+-- a drawn glyph can be filled: its contours are those of its outline, which are closed
+closed_as : (filled : Option Rules) (contours outlined : List (List Edge)) → All IsClosed outlined
+    → IfSome filled (λ rules. contours ≡ outlined) → IfSome filled (λ rules. All IsClosed contours)
+closed_as None contours outlined closed are = are
+closed_as (Some rules) contours outlined closed are = rw are closed
+
+one_can_be_filled : (s : Fitter) (f : Frame) (g : Glyph) → IsDrawn s f g → All (λ pen. pen ≤ width_limit) g.pens
+    → CanBeFilled g
+one_can_be_filled s f g drawn pens =
+    let o = drawn.shape in
+    record {
+      few = drawn.fits.edges;
+      ends = drawn.ends;
+      closed = closed_as g.filled (contours_at g.tape.edges g.ends) (contours_of 0 o)
+          (all_closed o.points o.ends (pos 0 -ℤ origin_of o) (pos 0)) drawn.contours;
+      pens = pens;
+    }
+
+pub can_be_filled : (maker : ℕ → Fitter) {f : Frame} (gs : List Glyph) → AreDrawn maker f gs → AreWithin gs
+    → All CanBeFilled gs
+can_be_filled maker {f} gs drawn within = λ k d below.
+    let g = get_or gs k d in one_can_be_filled (maker g.number) f g (drawn k d below) (within k d below)

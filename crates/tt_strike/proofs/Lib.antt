@@ -1,0 +1,20 @@
+mod Drawn
+mod Blackened
+mod Telling
+mod Keeping
+mod Pens
+pub mod Places
+mod Standings
+mod Seats
+mod Turns
+mod Crossed
+mod Filled
+mod Alike
+mod Beside
+mod Unfilled
+mod Listing
+mod Whole
+mod Stopped
+mod FirstMet
+mod Setting
+mod RowsCut

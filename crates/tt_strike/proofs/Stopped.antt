@@ -1,0 +1,150 @@
+-- What stopped a step of a drawing stops the picture.
+use Rattle.std.proofs.Common.{◌≡◌, ◌<◌, nat_lt, Bool, true, false, ◌&&◌, if◌then◌else◌, List, map, Result, Ok, Err, inl, inr, refl, arith}
+use Rattle.std.proofs.lemmas.Bool.Decides.{nat_tests}
+use Rattle.std.specs.Prelude.{IfSome}
+use Rattle.tt_core.specs.declared.font_fault.FontFault.{FontFault}
+use Rattle.tt_core.specs.declared.font_fault.FontFault.TheVariants as font
+use Rattle.tt_core.specs.declared.fault.JobFault.{JobFault}
+use Rattle.tt_core.specs.declared.fault.JobFault.TheVariants as job_of
+use Rattle.tt_core.specs.Faults.{Fault}
+use Rattle.tt_core.specs.Limits.{crossing_limit, point_work_limit}
+use Rattle.tt_core.specs.Outcomes.{FontGives, IfTold, font_fault}
+use Rattle.tt_fit.specs.Fitting.{Fitter}
+use Rattle.tt_line.specs.declared.fault.LineFault.{LineFault}
+use Rattle.tt_line.specs.declared.fault.LineFault.TheVariants as line
+use Rattle.tt_line.specs.Layout.{Placement, placement}
+use Rattle.tt_line.specs.Outcome.{job_fault}
+use Rattle.tt_strike.specs.Job.{Job, tested}
+use Rattle.tt_strike.specs.Defects.{IsTooMuchWork, IsExtentRefusal, IsLineRefusal, draw_font_fault, draw_job_fault}
+use Rattle.tt_strike.specs.Tables.{Face}
+use Rattle.tt_strike.specs.Refusals.{Refused, as_job, job, refusal}
+use Rattle.tt_strike.specs.Refusals as outcome
+use Rattle.tt_strike.specs.Picture.{crossings_tested, drawn, line_outcome, pictured_by, shapes_in, frame_of, points_tested, setting_in}
+use Rattle.tt_strike.specs.declared.fault.DrawFault.{DrawFault}
+use Rattle.tt_strike.specs.declared.fault.DrawFault.TheVariants as draw
+use Rattle.tt_strike.specs.Pixels.{Shape}
+use Rattle.tt_strike.specs.Work.{crossings_in, is_bounded, points_in, work_tested}
+use Rattle.tt_strike.specs.Views.{draw_fault_of_font, draw_fault_of_line}
+
+pub laying_stops : (a : Job) (face : Face) (e : LineFault) → tested a ≡ Ok tt
+    → IfSome (job_fault e) (λ j. placement face.metrics face.cmap a.text a.ppem a.margin ≡ Err j)
+    → IfSome (refusal (draw_fault_of_line e)) (λ r. line_outcome face a ≡ Err r)
+unfolding line_outcome pictured_by
+laying_stops a face (line.Job j) passes fails = rw (passes, fails) refl
+laying_stops a face line.Memory passes fails = tt
+
+-- a line that is too much work is refused by its font
+pub work_refuses : {V : Type 0} (r : Result V DrawFault) (a : Job) (face : Face) (l : Placement)
+    → placement face.metrics face.cmap a.text a.ppem a.margin ≡ Ok l
+    → IfTold draw_job_fault r (λ j. (j ≡ job_of.WorkLarge) × IsTooMuchWork face a l)
+    → IfTold draw_job_fault r (IsLineRefusal face a)
+work_refuses (Ok v) a face l laid refused = tt
+work_refuses (Err (draw.Font f)) a face l laid refused = tt
+work_refuses (Err (draw.Job j)) a face l laid refused = rw (refused.0, laid) refused.1
+work_refuses (Err draw.Memory) a face l laid refused = tt
+
+-- what stopped the making of the setting, or of a glyph, stops the line
+pub setting_stops : (face : Face) (a : Job) (l : Placement) (e : FontFault)
+    → FontGives {X = Fitter} (λ f. f) (Err e) (setting_in face a)
+    → IfSome (refusal (draw_fault_of_font e)) (λ r. drawn face a l ≡ Err r)
+unfolding drawn
+setting_stops face a l (font.Font f) fails = rw fails refl
+setting_stops face a l font.Memory fails = tt
+
+pub glyph_stops : (face : Face) (a : Job) (l : Placement) (s : Fitter) (e : FontFault) → setting_in face a ≡ Ok s
+    → as_job (points_tested s a l) ≡ Ok tt → IfSome (font_fault e) (λ f. shapes_in s l ≡ Err f)
+    → IfSome (refusal (draw_fault_of_font e)) (λ r. drawn face a l ≡ Err r)
+unfolding drawn
+glyph_stops face a l s (font.Font f) there few fails = rw (there, few, fails) refl
+glyph_stops face a l s font.Memory there few fails = tt
+
+pub font_tells : (P : Fault → Type 0) (e : FontFault) → IfSome (font_fault e) P
+    → IfSome (draw_font_fault (draw_fault_of_font e)) P
+font_tells P (font.Font f) stands = stands
+font_tells P font.Memory stands = tt
+
+-- and so do crossings past the limit
+pub crossings_stop : (face : Face) (a : Job) (l : Placement) (s : Fitter) (glyphs : List Shape) (j : JobFault)
+    → setting_in face a ≡ Ok s → as_job (points_tested s a l) ≡ Ok tt → shapes_in s l ≡ Ok glyphs
+    → crossings_tested a l glyphs ≡ Err j → drawn face a l ≡ Err (job j)
+unfolding drawn
+crossings_stop face a l s glyphs j there few made refused = rw (there, few, made, refused) refl
+
+tested_as : (bounded past : Bool) (j : JobFault)
+    → ◌≡◌ {A = Result (Unit {0}) JobFault} (if bounded && past then Err job_of.WorkLarge else Ok tt) (Err j)
+    → (j ≡ job_of.WorkLarge) × (bounded ≡ true) × (past ≡ true)
+tested_as true true j was = (cc, refl, refl)
+tested_as true false j was = absurd cc
+tested_as false past j was = absurd cc
+
+pub crossings_tell : (face : Face) (a : Job) (l : Placement) (s : Fitter) (glyphs : List Shape) (j : JobFault)
+    → setting_in face a ≡ Ok s → shapes_in s l ≡ Ok glyphs → crossings_tested a l glyphs ≡ Err j
+    → (j ≡ job_of.WorkLarge) × IsTooMuchWork face a l
+unfolding work_tested
+crossings_tell face a l s glyphs j there made refused =
+    let parts = tested_as (is_bounded a.fit) (nat_lt crossing_limit (crossings_in (frame_of l a.margin) glyphs)) j refused in
+    let past : crossing_limit < crossings_in (frame_of l a.margin) glyphs = let is = parts.2 in grind (arith, nat_tests) in
+    (parts.0, (parts.1, inr (rw (there, made) past)))
+
+-- a job that is refused is refused by no font
+refused_job : (r : Result (Unit {0}) JobFault) (j : JobFault) → as_job r ≡ Err (job j) → r ≡ Err j
+refused_job (Ok u) j was = absurd cc
+refused_job (Err i) j was = cc
+
+no_font_refused : (r : Result (Unit {0}) JobFault) (f : Fault) → as_job r ≡ Err (outcome.font f) → ⊥
+no_font_refused (Ok u) f was = absurd cc
+no_font_refused (Err i) f was = absurd cc
+
+-- points past the limit stop the line before a glyph is made
+pub points_stop : (face : Face) (a : Job) (l : Placement) (s : Fitter) (e : DrawFault) → setting_in face a ≡ Ok s
+    → IfSome (refusal e) (λ r. as_job (points_tested s a l) ≡ Err r) → IfSome (refusal e) (λ r. drawn face a l ≡ Err r)
+unfolding drawn
+points_stop face a l s (draw.Font f) there fails = rw (there, fails) refl
+points_stop face a l s (draw.Job j) there fails = rw (there, fails) refl
+points_stop face a l s draw.Memory there fails = tt
+
+pub points_tell_no_defect : (P : Fault → Type 0) (s : Fitter) (a : Job) (l : Placement) (e : DrawFault)
+    → IfSome (refusal e) (λ r. as_job (points_tested s a l) ≡ Err r) → IfSome (draw_font_fault e) P
+points_tell_no_defect P s a l (draw.Font f) fails = absurd (no_font_refused (points_tested s a l) f fails)
+points_tell_no_defect P s a l (draw.Job j) fails = tt
+points_tell_no_defect P s a l draw.Memory fails = tt
+
+too_many_points : (face : Face) (a : Job) (l : Placement) (s : Fitter) (j : JobFault) → setting_in face a ≡ Ok s
+    → points_tested s a l ≡ Err j → (j ≡ job_of.WorkLarge) × IsTooMuchWork face a l
+unfolding work_tested
+too_many_points face a l s j there refused =
+    let gs = map (λ g. g.0) l.glyphs in
+    let parts = tested_as (is_bounded a.fit) (nat_lt point_work_limit (points_in s gs)) j refused in
+    let past : point_work_limit < points_in s gs = let is = parts.2 in grind (arith, nat_tests) in
+    (parts.0, (parts.1, inl (rw there past)))
+
+pub points_tell : (face : Face) (a : Job) (l : Placement) (s : Fitter) (e : DrawFault) → setting_in face a ≡ Ok s
+    → IfSome (refusal e) (λ r. as_job (points_tested s a l) ≡ Err r)
+    → IfSome (draw_job_fault e) (λ j. (j ≡ job_of.WorkLarge) × IsTooMuchWork face a l)
+points_tell face a l s (draw.Font f) there fails = tt
+points_tell face a l s (draw.Job j) there fails =
+    too_many_points face a l s j there (refused_job (points_tested s a l) j fails)
+points_tell face a l s draw.Memory there fails = tt
+
+-- a refused extent is a refusal of the line by its font
+of_extent : (face : Face) (a : Job) (j : JobFault) → IsExtentRefusal face a j → IsLineRefusal face a j
+of_extent face a job_of.SizeRange stands = absurd stands
+of_extent face a job_of.TextLong stands = absurd stands
+of_extent face a job_of.EmptyPicture stands = stands
+of_extent face a job_of.PictureLarge stands = stands
+of_extent face a job_of.MarginRange stands = absurd stands
+of_extent face a job_of.WorkLarge stands = absurd stands
+
+pub laying_tells : (a : Job) (face : Face) (e : LineFault) → IfSome (job_fault e) (IsExtentRefusal face a)
+    → IfSome (draw_job_fault (draw_fault_of_line e)) (IsLineRefusal face a)
+laying_tells a face (line.Job j) stands = of_extent face a j stands
+laying_tells a face line.Memory stands = tt
+
+-- laying out finds no defect of the font, and drawing refuses no job
+pub laying_tells_no_defect : (P : Fault → Type 0) (e : LineFault) → IfSome (draw_font_fault (draw_fault_of_line e)) P
+laying_tells_no_defect P (line.Job j) = tt
+laying_tells_no_defect P line.Memory = tt
+
+pub drawing_refuses_no_job : (P : JobFault → Type 0) (e : FontFault) → IfSome (draw_job_fault (draw_fault_of_font e)) P
+drawing_refuses_no_job P (font.Font f) = tt
+drawing_refuses_no_job P font.Memory = tt

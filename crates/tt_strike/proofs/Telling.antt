@@ -1,0 +1,128 @@
+-- The defects that the steps of a drawing tell, joined.
+use Rattle.std.proofs.Common.{◌≡◌, ℕ, List, map, Result, Ok, Err, inl, inr, subst}
+use Rattle.std.specs.Prelude.{IsOkAnd, IfSome, OnOk}
+use Rattle.tt_core.specs.Chains.{came-through, was-err}
+use Rattle.tt_core.specs.Faults.{Fault}
+use Rattle.tt_core.specs.Directory.{HasNo, IsDefectIn, IsTableDefect}
+use Rattle.tt_core.specs.declared.font_fault.FontFault.{FontFault}
+use Rattle.tt_core.specs.declared.font_fault.FontFault.TheVariants as fault
+use Rattle.tt_fit.specs.Fitting.{Fitter}
+use Rattle.tt_fit.specs.declared.programs.Fit.{Fit}
+use Rattle.tt_fit.specs.Preparation.{ProgramTables, prepared, fitter_of}
+use Rattle.tt_core.specs.Outcomes.{FontGives, each, font_fault}
+use Rattle.tt_glyf.specs.Bytes.{glyf_tag}
+use Rattle.tt_glyf.specs.Loca.{Glyf, loca_tag, IsLocaDefect}
+use Rattle.tt_line.specs.Layout.{text_glyphs}
+use Rattle.tt_metrics.specs.Metrics.{Metrics}
+use Rattle.tt_strike.specs.Job.{Job}
+use Rattle.tt_strike.specs.Defects.{IsFaceDefect, IsGlyphTableDefect, IsProgramTableDefect, IsSettingDefect, IsGlyphDefect, IsLineDefect, IsRunDefect}
+use Rattle.tt_strike.specs.Distinct.{line_fitter}
+use Rattle.tt_strike.specs.Tables.{Face, face_of, programs_in}
+use Rattle.tt_strike.specs.Picture.{setting_in, glyph_shape}
+use Rattle.tt_strike.specs.Pixels.{Shape}
+use Rattle.tt_strike.proofs.Drawn.{defect_of_line, no_defect_of_line}
+
+pub no_glyph_table_defect : {X : Type 0} (r : Result X Fault) (directory : List ℕ) (m : Metrics)
+    → OnOk r (HasNo (IsDefectIn directory loca_tag (λ loca. IsLocaDefect loca m)))
+    → HasNo (IsTableDefect directory glyf_tag) → OnOk r (HasNo (IsGlyphTableDefect directory m))
+no_glyph_table_defect (Err e) directory m loca glyf = tt
+no_glyph_table_defect (Ok x) directory m loca glyf = λ fault defect. elim defect [
+  | inl of_loca ↦ loca fault of_loca
+  | inr of_glyf ↦ glyf fault of_glyf
+]
+
+-- what was told of a setting, where the way to fit is the one that is asked for
+pub failed_by : {fit : Fit} (m : Metrics) (tables : Glyf) (programs : ProgramTables) (ppem : ℕ) (asked : Fit)
+    (e : FontFault) → FontGives {X = Fitter} (λ f. f) (Err e) (fitter_of m tables programs ppem fit) → fit ≡ asked
+    → FontGives {X = Fitter} (λ f. f) (Err e) (fitter_of m tables programs ppem asked)
+failed_by m tables programs ppem asked e fails same =
+    let P : Fit → Type 0 = λ fit. FontGives {X = Fitter} (λ f. f) (Err e) (fitter_of m tables programs ppem fit) in
+    subst P same fails
+
+pub made_by : {fit : Fit} (m : Metrics) (tables : Glyf) (programs : ProgramTables) (ppem : ℕ) (asked : Fit)
+    (s : Fitter) → fitter_of m tables programs ppem fit ≡ Ok s → fit ≡ asked
+    → fitter_of m tables programs ppem asked ≡ Ok s
+made_by m tables programs ppem asked s made same =
+    let P : Fit → Type 0 = λ fit. fitter_of m tables programs ppem fit ≡ Ok s in subst P same made
+
+-- what is made from what the programs leave has their fault
+preparation-fault : (m : Metrics) (tables : Glyf) (programs : ProgramTables) (ppem : ℕ) (how : Fit) (f : Fault)
+    → fitter_of m tables programs ppem how ≡ Err f → prepared m programs ppem how ≡ Err f
+unfolding fitter_of
+preparation-fault m tables programs ppem how f fails = elim (was-err (prepared m programs ppem how) _ f fails) [
+  | inl preparing ↦ preparing
+  | inr later ↦ let never = later.rest in absurd (cc)
+]
+
+-- a fault of preparing the programs is one of what outlines are made from
+pub preparing_tells : (face : Face) (a : Job) (tables : Glyf) (programs : ProgramTables)
+    → programs_in face.directory a.fit ≡ Ok programs → (e : FontFault) → FontGives {X = Fitter} (λ f. f) (Err e)
+    (fitter_of face.metrics tables programs a.ppem a.fit) → IfSome (font_fault e) (IsSettingDefect face a)
+preparing_tells face a tables programs there (fault.Font f) fails =
+    inr (inr (rw there (preparation-fault face.metrics tables programs a.ppem a.fit f fails)))
+preparing_tells face a tables programs there fault.Memory fails = tt
+
+-- what is made from what the programs leave is made without a fault of theirs
+prepared-without-fault : (m : Metrics) (tables : Glyf) (programs : ProgramTables) (ppem : ℕ) (how : Fit)
+    (s : Fitter) (f : Fault) → fitter_of m tables programs ppem how ≡ Ok s → prepared m programs ppem how ≡ Err f → ⊥
+unfolding fitter_of
+prepared-without-fault m tables programs ppem how s f made fails =
+    let by_hints = came-through (prepared m programs ppem how) _ s made in
+    let first = by_hints.first in
+    absurd (cc)
+
+pub no_setting_defect : (face : Face) (a : Job) (tables : Glyf) (programs : ProgramTables) (s : Fitter)
+    → HasNo (IsGlyphTableDefect face.directory face.metrics) → HasNo (IsProgramTableDefect face.directory a.fit)
+    → programs_in face.directory a.fit ≡ Ok programs → fitter_of face.metrics tables programs a.ppem a.fit ≡ Ok s
+    → HasNo (IsSettingDefect face a)
+no_setting_defect face a tables programs s good kept there made = λ fault defect. elim defect [
+  | inl of_tables ↦ good fault of_tables
+  | inr (inl of_programs) ↦ kept fault of_programs
+  | inr (inr preparing) ↦
+      let P : Result ProgramTables Fault → Type 0 = λ r. IsOkAnd r
+      (λ t. prepared face.metrics t a.ppem a.fit ≡ Err fault) in
+      prepared-without-fault face.metrics tables programs a.ppem a.fit s fault made (subst P there preparing)
+]
+
+-- a glyph's fault is one of the line
+pub glyph_tells : {X : Type 0} (view : X → List Shape) (face : Face) (a : Job) (s : Fitter) (gs : List (ℕ × ℕ))
+    → setting_in face a ≡ Ok s → (e : FontFault) → FontGives view (Err e)
+    (each (glyph_shape (line_fitter s (map (λ g. g.0) gs))) gs)
+    → IfSome (font_fault e) (IsLineDefect face a (map (λ g. g.0) gs))
+glyph_tells view face a s gs there (fault.Font f) fails = inr (rw there
+    (defect_of_line (line_fitter s (map (λ g. g.0) gs)) gs f fails))
+glyph_tells view face a s gs there fault.Memory fails = tt
+
+pub no_line_defect : (face : Face) (a : Job) (s : Fitter) (gs : List (ℕ × ℕ)) (shapes : List Shape)
+    → setting_in face a ≡ Ok s → HasNo (IsSettingDefect face a) → each (glyph_shape (line_fitter s (map (λ g. g.0) gs))) gs
+    ≡ Ok shapes
+    → HasNo (IsLineDefect face a (map (λ g. g.0) gs))
+no_line_defect face a s gs shapes there good made = λ fault defect. elim defect [
+  | inl of_setting ↦ good fault of_setting
+  | inr glyph ↦
+      let P : Result Fitter Fault → Type 0 = λ r. IsOkAnd r
+      (λ s. IsGlyphDefect (line_fitter s (map (λ g. g.0) gs)) (map (λ g. g.0) gs) fault) in
+      no_defect_of_line (line_fitter s (map (λ g. g.0) gs)) gs shapes made fault (subst P there glyph)
+]
+
+-- what stopped the making of the setting is a defect of the line
+pub setting_tells : (face : Face) (a : Job) (gs : List ℕ) (e : FontFault) → IfSome (font_fault e)
+    (IsSettingDefect face a) → IfSome (font_fault e) (IsLineDefect face a gs)
+setting_tells face a gs (fault.Font f) stands = inl stands
+setting_tells face a gs fault.Memory stands = tt
+
+-- what is told of the line is told of the font
+pub no_run_defect : (a : Job) (file : List ℕ) (face : Face) (gs : List ℕ) → face_of file ≡ Ok face
+    → HasNo (IsFaceDefect file) → gs ≡ text_glyphs face.cmap a.text → HasNo (IsLineDefect face a gs)
+    → HasNo (IsRunDefect a file)
+no_run_defect a file face gs there good glyphs none = λ fault defect. elim defect [
+  | inl of_face ↦ good fault of_face
+  | inr of_line ↦
+      let P : Result Face Fault → Type 0 = λ r. IsOkAnd r (λ face. IsLineDefect face a
+      (text_glyphs face.cmap a.text) fault) in
+      none fault (rw glyphs (subst P there of_line))
+]
+
+pub line_tells : (a : Job) (file : List ℕ) (face : Face) (gs : List ℕ) (f : Fault) → face_of file ≡ Ok face → gs
+    ≡ text_glyphs face.cmap a.text → IsLineDefect face a gs f → IsRunDefect a file f
+line_tells a file face gs f there glyphs stands = inr (rw there (rw (← glyphs) stands))

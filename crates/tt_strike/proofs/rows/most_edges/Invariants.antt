@@ -1,0 +1,10 @@
+use Rattle.std.proofs.Common.{◌≡◌, ◌≤◌, length}
+use Rattle.std.specs.List.{AllWithin}
+use Rattle.tt_strike.proofs.rows.most_edges.Given as goal
+
+-- none of those so far has more
+abbrev pub invariant-loop-i : goal.invariant-loop-i
+invariant-loop-i l = record {
+  end : l.i-end ≡ length l.fn.glyphs;
+  most : AllWithin (λ g. length g.tape.edges ≤ l.most) l.fn.glyphs 0 l.i;
+}

@@ -1,0 +1,123 @@
+-- The defects that a call can meet in a font.
+use Rattle.std.specs.Prelude.{◌≡◌, ◌<◌, List, ℕ, length, map, slice_index, Option, Some, None, Result, Ok, Err, IsOkAnd, IfSome, Bool, true, false, ◌⊎◌}
+use Rattle.tt_core.specs.Faults.{Fault}
+use Rattle.tt_core.specs.Directory.{HasNo, IsDefectIn, PassesEnd, IsTableDefect, IsDirectoryDefect}
+use Rattle.tt_fit.specs.declared.programs.Fit.{Fit}
+use Rattle.tt_fit.specs.declared.programs.Fit.TheVariants as fit
+use Rattle.tt_fit.specs.Defects.{IsOutlineDefect}
+use Rattle.tt_fit.specs.Fitting.{Fitter}
+use Rattle.tt_fit.specs.Preparation.{prepared}
+use Rattle.tt_glyf.specs.Bytes.{glyf_tag}
+use Rattle.tt_glyf.specs.Loca.{loca_tag, IsLocaDefect}
+use Rattle.tt_line.specs.Layout.{Placement, placement, text_glyphs, extent_of, IsRefusal}
+use Rattle.tt_cmap.specs.Defects.{IsBadCmap}
+use Rattle.tt_metrics.specs.Metrics.{Metrics, IsMetricsDefect}
+use Rattle.tt_core.specs.declared.fault.JobFault.{JobFault}
+use Rattle.tt_core.specs.declared.fault.JobFault.TheVariants as fault
+use Rattle.tt_core.specs.Limits.{crossing_limit, point_work_limit}
+use Rattle.tt_strike.specs.Distinct.{line_fitter}
+use Rattle.tt_strike.specs.Job.{Job, IsTestRefusal}
+use Rattle.tt_strike.specs.declared.fault.DrawFault.{DrawFault}
+use Rattle.tt_strike.specs.declared.fault.DrawFault.TheVariants as draw
+use Rattle.tt_strike.specs.Tables.{Face, face_of, cmap_tag, cvt_tag, fpgm_tag, prep_tag, programs_in}
+use Rattle.tt_strike.specs.Refusals.{needs_font}
+use Rattle.tt_strike.specs.Picture.{setting_in, shapes_in, frame_of}
+use Rattle.tt_strike.specs.Work.{crossings_in, is_bounded, points_in}
+
+-- a defect of the directory, or of a table that every text is looked up in
+abbrev pub IsFaceDefect : List ℕ → Fault → Type 0
+IsFaceDefect file fault = IsDirectoryDefect file fault ⊎ IsMetricsDefect file fault
+    ⊎ IsDefectIn file cmap_tag IsBadCmap fault
+
+-- a defect of loca, or of where glyf stands
+abbrev pub IsGlyphTableDefect : List ℕ → Metrics → Fault → Type 0
+IsGlyphTableDefect directory m fault = IsDefectIn directory loca_tag (λ loca. IsLocaDefect loca m) fault
+    ⊎ IsTableDefect directory glyf_tag fault
+
+-- a defect of one of some glyphs, or of a component that is reached from it, by what each is made from
+abbrev pub IsGlyphDefect : (ℕ → Fitter) → List ℕ → Fault → Type 0
+IsGlyphDefect maker glyphs fault = (i : ℕ) × (i < length glyphs)
+    × IsOutlineDefect (maker (slice_index glyphs i)) (slice_index glyphs i) fault
+
+-- the control values, the font program or the control value program pass the end of the file
+abbrev pub HasProgramPastEnd : List ℕ → Fault → Type 0
+HasProgramPastEnd directory fault = PassesEnd directory cvt_tag fault ⊎ PassesEnd directory fpgm_tag fault
+    ⊎ PassesEnd directory prep_tag fault
+
+-- a defect of where the programs stand; without fitting none is looked at
+abbrev pub IsProgramTableDefect : List ℕ → Fit → Fault → Type 0
+IsProgramTableDefect directory fit.None fault = ⊥
+IsProgramTableDefect directory fit.Full fault = HasProgramPastEnd directory fault
+IsProgramTableDefect directory fit.Fallback fault = HasProgramPastEnd directory fault
+IsProgramTableDefect directory fit.Best fault = HasProgramPastEnd directory fault
+
+-- what the font program and the control value program leave at the size is this fault; with fallback and best it is
+-- kept, and no defect
+abbrev pub IsPreparationDefect : Face → Job → Fault → Type 0
+IsPreparationDefect face a fault = IsOkAnd (programs_in face.directory a.fit)
+    (λ programs. prepared face.metrics programs a.ppem a.fit ≡ Err fault)
+
+-- a defect of what outlines are made from
+abbrev pub IsSettingDefect : Face → Job → Fault → Type 0
+IsSettingDefect face a fault = IsGlyphTableDefect face.directory face.metrics fault
+    ⊎ IsProgramTableDefect face.directory a.fit fault ⊎ IsPreparationDefect face a fault
+
+-- a defect of what some glyphs are drawn from
+abbrev pub IsLineDefect : Face → Job → List ℕ → Fault → Type 0
+IsLineDefect face a glyphs fault = IsSettingDefect face a fault ⊎ IsOkAnd (setting_in face a)
+    (λ s. IsGlyphDefect (line_fitter s glyphs) glyphs fault)
+
+-- a defect of what every text is looked up in, or of what the glyphs of this one are drawn from
+abbrev pub IsRunDefect : Job → List ℕ → Fault → Type 0
+IsRunDefect a file fault = IsFaceDefect file fault ⊎ IsOkAnd (face_of file)
+    (λ face. IsLineDefect face a (text_glyphs face.cmap a.text) fault)
+
+-- Ok means that there is no defect, and a fault that an error tells is one
+abbrev pub TellsDefects : {V E : Type 0} → (E → Option Fault) → (Fault → Type 0) → Result V E → Type 0
+TellsDefects told IsOne (Ok v) = HasNo IsOne
+TellsDefects told IsOne (Err e) = IfSome (told e) IsOne
+
+-- the fault of the font that stopped the making of a picture
+abbrev pub draw_font_fault : DrawFault → Option Fault
+draw_font_fault (draw.Font f) = Some f
+draw_font_fault (draw.Job j) = None
+draw_font_fault draw.Memory = None
+
+-- the refusal of the job that stopped the making of a picture
+abbrev pub draw_job_fault : DrawFault → Option JobFault
+draw_job_fault (draw.Font f) = None
+draw_job_fault (draw.Job j) = Some j
+draw_job_fault draw.Memory = None
+
+-- the fact for which the extent of a picture is refused
+abbrev pub IsExtentRefusal : Face → Job → JobFault → Type 0
+IsExtentRefusal face a j = IsRefusal (extent_of face.metrics a.ppem a.margin (text_glyphs face.cmap a.text)) j
+
+-- the glyphs of a line that is laid out are made of too many points
+abbrev pub HasTooManyPoints : Face → Job → Placement → Type 0
+HasTooManyPoints face a line = IsOkAnd (setting_in face a)
+    (λ s. point_work_limit < points_in s (map (λ g. g.0) line.glyphs))
+
+-- or cross the rows of its picture too often
+abbrev pub CrossesTooOften : Face → Job → Placement → Type 0
+CrossesTooOften face a line = IsOkAnd (setting_in face a)
+    (λ s. IsOkAnd (shapes_in s line) (λ glyphs. crossing_limit < crossings_in (frame_of line a.margin) glyphs))
+
+-- the work of the job is bounded, and its line is more
+abbrev pub IsTooMuchWork : Face → Job → Placement → Type 0
+IsTooMuchWork face a line =
+    (is_bounded a.fit ≡ true) × (HasTooManyPoints face a line ⊎ CrossesTooOften face a line)
+
+-- the fact for which a job is refused by a font: the extent of its picture, or the work of its glyphs
+abbrev pub IsFontRefusal : Face → Job → JobFault → Type 0
+IsFontRefusal face a fault.WorkLarge = IsOkAnd (placement face.metrics face.cmap a.text a.ppem a.margin)
+    (IsTooMuchWork face a)
+IsFontRefusal face a j = IsExtentRefusal face a j
+
+-- the fact for which a line is refused, alone or by its font
+abbrev pub IsRefusedLine : Bool → Face → Job → JobFault → Type 0
+IsRefusedLine true face a j = IsFontRefusal face a j
+IsRefusedLine false face a j = IsTestRefusal a j
+
+abbrev pub IsLineRefusal : Face → Job → JobFault → Type 0
+IsLineRefusal face a j = IsRefusedLine (needs_font j) face a j

@@ -1,0 +1,131 @@
+-- No part of the standard: the distinct glyphs of a line, each with its edges where its pen is 0 and the pens at which
+-- it stands.
+use Rattle.std.specs.Prelude.{◌≡◌, ℕ, ◌<◌, ◌≤◌, ◌-◌, ◌+◌, ◌*◌, ◌^◌, Bool, ◌||◌, List, [], ◌∷◌, length, map, slice_index, pos, All, IfSome, Option, Ok}
+use Rattle.tt_core.specs.Bits.{stride}
+use Rattle.tt_core.specs.Faults.{Fault}
+use Rattle.tt_core.specs.Limits.{width_limit}
+use Rattle.tt_pbm.specs.P4.{rows}
+use Rattle.tt_fit.specs.Fitting.{Fitter, fitted_outline, unfitted_fault}
+use Rattle.tt_fit.specs.Outline.{Outline}
+use Rattle.tt_scan.specs.Contours.{AreEnds, IsClosed, contours_at}
+use Rattle.tt_scan.specs.declared.edge.Frame.{Frame}
+use Rattle.tt_scan.specs.Tape.{Tape}
+use Rattle.tt_scan.specs.Winding.{is_black, column_x, row_y, crossings_of}
+use Rattle.tt_scan_dropouts.specs.Pictures.{column_at, is_among, line_at}
+use Rattle.tt_scan_dropouts.specs.declared.mark.Rules.{Rules}
+use Rattle.tt_scan_dropouts.specs.declared.picture.Dropout.{Dropout}
+use Rattle.tt_strike.specs.Picture.{contours_of, edges_at, filled_by}
+use Rattle.tt_strike.specs.Pixels.{Shape, Stamp, TapeFits, is_black_by, is_filled, is_filled_by, some_black, some_filled}
+use Rattle.tt_strike.specs.Work.{crossings_in, filling_crossings}
+
+-- a glyph by its number in the font, with its edges where its pen is 0, by which rules its dropouts are filled, where
+-- its contours end among the edges if they are, its pens, and the fault for which it is not fitted
+pub record Glyph : Type 0 where
+  pub number : ℕ
+  pub tape : Tape
+  pub filled : Option Rules
+  pub ends : List ℕ
+  pub pens : List ℕ
+  pub unfitted : Option Fault
+
+-- what it blackens a picture with
+abbrev pub stamp_of : Glyph → Stamp
+stamp_of g = record {
+  edges = g.tape.edges;
+  filled = g.filled;
+  contours = contours_at g.tape.edges g.ends;
+  pens = g.pens;
+}
+
+abbrev pub stamps_in : List Glyph → List Stamp
+stamps_in gs = map stamp_of gs
+
+-- the numbers of some glyphs, in their order
+abbrev pub numbers_of : List Glyph → List ℕ
+numbers_of gs = map (λ g. g.number) gs
+
+-- a glyph has the edges of its outline, dropouts as its contours have them, and the fault for which it is not fitted
+pub record IsDrawn (s : Fitter) (f : Frame) (g : Glyph) : Type 0 where
+  pub shape : Outline
+  pub unfitted : g.unfitted ≡ unfitted_fault s g.number
+  pub outline : fitted_outline s g.number ≡ Ok shape
+  pub edges : g.tape.edges ≡ edges_at 0 shape
+  pub filled : g.filled ≡ filled_by s g.number shape
+  pub contours : IfSome g.filled (λ rules. contours_at g.tape.edges g.ends ≡ contours_of 0 shape)
+  pub ends : IfSome g.filled (λ rules. AreEnds (length g.tape.edges) g.ends)
+  pub fits : TapeFits f 0 g.tape
+
+-- each pen of some glyphs lies within the width of a picture
+abbrev pub AreWithin : List Glyph → Type 0
+AreWithin gs = All (λ g. All (λ pen. pen ≤ width_limit) g.pens) gs
+
+-- the dropouts of a glyph can be asked for: its edges are few, its contours end among them and are closed, and its pens
+-- lie within the width of a picture
+pub record CanBeFilled (g : Glyph) : Type 0 where
+  pub few : length g.tape.edges ≤ 2 ^ 17
+  pub ends : IfSome g.filled (λ rules. AreEnds (length g.tape.edges) g.ends)
+  pub closed : IfSome g.filled (λ rules. All IsClosed (contours_at g.tape.edges g.ends))
+  pub pens : All (λ pen. pen ≤ width_limit) g.pens
+
+-- some glyphs, by their edges, or some dropouts have column c of row r
+abbrev pub shows_by : Frame → List Stamp → List Dropout → ℕ → ℕ → Bool
+shows_by f stamps ds c r = is_black_by f stamps c r || is_among ds c r
+
+-- the rows of a picture of some glyphs and dropouts, one after the other: so many bytes of them, from a byte on
+abbrev pub rows_by : Frame → List Glyph → List Dropout → ℕ → ℕ → List ℕ
+rows_by f gs ds from len = rows f.width (shows_by f (stamps_in gs) ds) from len
+
+abbrev pub row_of : Frame → List Glyph → List Dropout → ℕ → List ℕ
+row_of f gs ds r = rows_by f gs ds (stride f.width * r) (stride f.width)
+
+abbrev pub all_rows : Frame → List Glyph → List Dropout → List ℕ
+all_rows f gs ds = rows_by f gs ds 0 (stride f.width * f.height)
+
+-- how often a glyph crosses the rows of the picture, and the lines that are asked for its dropouts, at a pen and at all
+abbrev pub pen_crossings : Glyph → ℕ
+pen_crossings g = crossings_of g.tape.frame g.tape.edges + filling_crossings g.filled g.tape.edges
+
+abbrev pub glyph_crossings : Glyph → ℕ
+glyph_crossings g = pen_crossings g * length g.pens
+
+-- and some glyphs
+abbrev pub crossings_standing : List Glyph → ℕ
+crossings_standing [] = 0
+crossings_standing (g ∷ gs) = glyph_crossings g + crossings_standing gs
+
+-- some glyphs at their pens blacken the pixels that these do, have the same dropouts, and cross as many lines
+pub record Stand (f : Frame) (gs : List Glyph) (shapes : List Shape) : Type 0 where
+  pub black : (c r : ℕ) → is_black_by f (stamps_in gs) c r
+      ≡ some_black shapes (column_x f.margin (pos c)) (row_y f (pos r))
+  pub dropouts : (c r : ℕ) → is_filled_by f (stamps_in gs) c r ≡ some_filled f shapes c r
+  pub crossings : crossings_standing gs ≡ crossings_in f shapes
+
+-- some do what those before them did and one more does
+pub record Adds (f : Frame) (before after : List Glyph) (s : Shape) : Type 0 where
+  pub black : (c r : ℕ) → is_black_by f (stamps_in after) c r
+      ≡ (is_black_by f (stamps_in before) c r || is_black s.edges (column_x f.margin (pos c)) (row_y f (pos r)))
+  pub dropouts : (c r : ℕ) → is_filled_by f (stamps_in after) c r
+      ≡ (is_filled_by f (stamps_in before) c r || is_filled s.filled s.contours (column_at f 0 c) (line_at f r))
+  pub crossings : crossings_standing after
+      ≡ crossings_standing before + (crossings_of f s.edges + filling_crossings s.filled s.edges)
+
+-- for each glyph of the font one more than its place among some numbers, or 0 where it has none
+pub record ArePlaces (table numbers : List ℕ) : Type 0 where
+  pub within : (n : ℕ) → slice_index table n ≤ length numbers
+  pub found : (n : ℕ) → 0 < slice_index table n → slice_index numbers (slice_index table n - 1) ≡ n
+  pub there : (i : ℕ) → i < length numbers → slice_index table (slice_index numbers i) ≡ i + 1
+
+-- a glyph of which so many crossings were asked for at most, on a tape of the frame, with no more edges than a sweep
+-- has memory for
+pub record GlyphFits (f : Frame) (asked most : ℕ) (g : Glyph) : Type 0 where
+  pub tape : TapeFits f asked g.tape
+  pub room : length g.tape.edges ≤ most
+
+-- each glyph is drawn as it is made
+abbrev pub AreDrawn : (ℕ → Fitter) → Frame → List Glyph → Type 0
+AreDrawn maker f gs = All (λ g. IsDrawn (maker g.number) f g) gs
+
+-- what is kept of a line, in a font of so many glyphs: the places of its glyphs, and these
+pub record AreKept (glyphs : ℕ) (table : List ℕ) (gs : List Glyph) : Type 0 where
+  pub room : length table ≡ glyphs
+  pub places : ArePlaces table (numbers_of gs)

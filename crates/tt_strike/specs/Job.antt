@@ -1,0 +1,68 @@
+-- No part of the standard: what is asked of a call, and the tests that a job passes before the font is read (profile).
+use Rattle.std.specs.Prelude.{◌≡◌, refl, ℕ, ◌<◌, ◌≤◌, ◌||◌, nat_lt, if◌then◌else◌, List, length, chars, codes, Result, Ok, Err, ◌⊎◌}
+use Rattle.tt_core.specs.declared.fault.JobFault.{JobFault}
+use Rattle.tt_core.specs.declared.fault.JobFault.TheVariants as fault
+use Rattle.tt_core.specs.Limits.{text_limit, size_limit, margin_limit}
+use Rattle.tt_core.specs.Outcomes.{◌>>=◌}
+use Rattle.tt_fit.specs.declared.programs.Fit.{Fit}
+use Rattle.tt_fit.specs.declared.programs.Fit.TheVariants as fit
+use Rattle.tt_strike.specs.declared.job.Job as declared
+
+-- a text, the pixels per em, the pixels round the line, and how outlines are fitted
+pub record Job : Type 0 where
+  pub text : List ℕ
+  pub ppem : ℕ
+  pub margin : ℕ
+  pub fit : Fit
+
+abbrev pub job_view : declared.Job → Job
+job_view j = record { text = j.text.now; ppem = j.ppem; margin = j.margin; fit = j.fit }
+
+-- the limit of a text, in characters
+unfoldable pub text_tested : List ℕ → Result (Unit {0}) JobFault
+text_tested text = if nat_lt text_limit (length (chars text)) then Err fault.TextLong else Ok tt
+
+-- the limits of a size in pixels per em, and of a margin in pixels
+unfoldable pub size_tested : ℕ → Result (Unit {0}) JobFault
+size_tested ppem = if nat_lt ppem 1 || nat_lt size_limit ppem then Err fault.SizeRange else Ok tt
+
+unfoldable pub margin_tested : ℕ → Result (Unit {0}) JobFault
+margin_tested margin = if nat_lt margin_limit margin then Err fault.MarginRange else Ok tt
+
+-- the limits of a job, in the order in which they are tested
+unfoldable pub tested : Job → Result (Unit {0}) JobFault
+tested a = size_tested a.ppem >>= λ u. margin_tested a.margin >>= λ u. text_tested a.text
+
+-- a job within its limits
+pub record IsJob (a : Job) : Type 0 where
+  pub low : 1 ≤ a.ppem
+  pub high : a.ppem ≤ size_limit
+  pub margin : a.margin ≤ margin_limit
+  pub text : length (chars a.text) ≤ text_limit
+
+-- the fact for which a size is refused
+abbrev pub IsSizeRefusal : ℕ → JobFault → Type 0
+IsSizeRefusal ppem j = (j ≡ fault.SizeRange) × ((ppem < 1) ⊎ (size_limit < ppem))
+
+-- the fact for which a job is refused before the font is read
+abbrev pub IsTestRefusal : Job → JobFault → Type 0
+IsTestRefusal a fault.SizeRange = (a.ppem < 1) ⊎ (size_limit < a.ppem)
+IsTestRefusal a fault.MarginRange = margin_limit < a.margin
+IsTestRefusal a fault.TextLong = text_limit < length (chars a.text)
+IsTestRefusal a j = ⊥
+
+-- worked values
+of_size : ℕ → Job
+of_size ppem = record { text = codes "A"; ppem = ppem; margin = 0; fit = fit.None }
+
+no_size : tested (of_size 0) ≡ Err fault.SizeRange
+unfolding of_size tested size_tested
+no_size = refl
+
+a_larger_size : tested (of_size 301) ≡ Err fault.SizeRange
+unfolding of_size tested size_tested
+a_larger_size = refl
+
+size_before_margin : tested (record (of_size 301) { margin = 65 }) ≡ Err fault.SizeRange
+unfolding of_size tested size_tested
+size_before_margin = refl

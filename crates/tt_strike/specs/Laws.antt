@@ -1,0 +1,109 @@
+-- Laws of the definitions: where there is a picture, the font has no defect; only fallback and best leave a
+-- glyph that is not fitted; which pixels are black with another margin, beside other glyphs, and where no dropouts are
+-- filled.
+use Rattle.std.specs.Prelude.{◌≡◌, ◌≢◌, refl, ℕ, ◌+◌, ◌||◌, true, false, pos, All, List, [], ◌∷◌, ◌++◌, codes, Option, Some, None, Ok}
+use Rattle.std.specs.Fmt.{digits}
+use Rattle.tt_core.specs.Directory.{HasNo}
+use Rattle.tt_fit.specs.declared.programs.Fit.TheVariants as fit
+use Rattle.tt_fit.specs.Fitting.{Fitter}
+use Rattle.tt_fit.specs.Rules.{falls_back}
+use Rattle.tt_line.specs.Layout.{Placement, placement}
+use Rattle.tt_pbm.specs.P4.{p4}
+use Rattle.tt_scan.specs.declared.edge.Edge.{Edge}
+use Rattle.tt_scan.specs.declared.edge.Frame.{Frame}
+use Rattle.tt_scan.specs.Winding.{column_x, row_y}
+use Rattle.tt_scan_dropouts.specs.declared.mark.Rules.{Rules}
+use Rattle.tt_strike.specs.Job.{Job}
+use Rattle.tt_strike.specs.declared.report.Unfitted.{Unfitted}
+use Rattle.tt_strike.specs.Defects.{IsFaceDefect, IsRunDefect}
+use Rattle.tt_strike.specs.Picture.{setting_in, frame_of, picture, pictured, shapes_in}
+use Rattle.tt_strike.specs.Pixels.{Shape, some_black, is_black_pixel}
+use Rattle.tt_strike.specs.Report.{report_of}
+use Rattle.tt_strike.specs.Tables.{Face, face_of}
+
+-- where a file has the tables of a font, no defect stands in them
+abbrev pub FacesAreWhole : Type 0
+FacesAreWhole = (file : List ℕ) (face : Face) → face_of file ≡ Ok face → HasNo (IsFaceDefect file)
+
+-- where a job has a picture by a font file, no defect of the job stands in it
+abbrev pub DrawnFontsAreWhole : Type 0
+DrawnFontsAreWhole = (a : Job) (file bytes : List ℕ) → pictured a file ≡ Ok bytes → HasNo (IsRunDefect a file)
+
+-- where glyphs are fitted in a way that doesn't fall back, none is listed as not fitted
+abbrev pub OthersListNothing : Type 0
+OthersListNothing = (a : Job) (file : List ℕ) (entries : List Unfitted) → report_of a file ≡ Ok entries
+    → falls_back a.fit ≡ false → entries ≡ []
+
+-- a margin that is greater by m moves each pixel by as much, and changes nothing else
+abbrev pub MarginMoves : Type 0
+MarginMoves = (f g : Frame) (m : ℕ) (glyphs : List Shape) (c r : ℕ) → g.margin ≡ f.margin + m → g.rise ≡ f.rise
+    → is_black_pixel g glyphs (c + m) (r + m) ≡ is_black_pixel f glyphs c r
+
+-- what is black of some glyphs and others is what is black of either
+abbrev pub GlyphsByThemselves : Type 0
+GlyphsByThemselves = (f : Frame) (glyphs others : List Shape) (c r : ℕ)
+    → is_black_pixel f (glyphs ++ others) c r ≡ (is_black_pixel f glyphs c r || is_black_pixel f others c r)
+
+-- no dropouts of some glyphs are filled
+abbrev pub AreUnfilled : List Shape → Type 0
+AreUnfilled glyphs = All (λ s. s.filled ≡ None) glyphs
+
+-- such are black where their edges blacken, and nowhere else
+abbrev pub UnfilledAreEdges : Type 0
+UnfilledAreEdges = (f : Frame) (glyphs : List Shape) (c r : ℕ) → AreUnfilled glyphs
+    → is_black_pixel f glyphs c r ≡ some_black glyphs (column_x f.margin (pos c)) (row_y f (pos r))
+
+-- with every way of fitting but Best the glyphs of a line are such
+abbrev pub OthersFillNone : Type 0
+OthersFillNone = (face : Face) (a : Job) (line : Placement) (s : Fitter) (glyphs : List Shape) → a.fit ≢ fit.Best
+    → setting_in face a ≡ Ok s → shapes_in s line ≡ Ok glyphs → AreUnfilled glyphs
+
+-- the file of a picture in which some glyphs are drawn as if there were no dropout control
+abbrev pub edges_picture : Frame → List Shape → List ℕ
+edges_picture f glyphs = p4 f.width f.height (λ c r. some_black glyphs (column_x f.margin (pos c)) (row_y f (pos r)))
+
+-- that is the picture of a job by a font file, of the glyphs that its definition has
+pub record IsByEdges (a : Job) (file bytes : List ℕ) : Type 0 where
+  pub face : Face
+  pub line : Placement
+  pub setting : Fitter
+  pub glyphs : List Shape
+  pub read : face_of file ≡ Ok face
+  pub laid : placement face.metrics face.cmap a.text a.ppem a.margin ≡ Ok line
+  pub made : setting_in face a ≡ Ok setting
+  pub fitted : shapes_in setting line ≡ Ok glyphs
+  pub unfilled : AreUnfilled glyphs
+  pub drawn : bytes ≡ edges_picture (frame_of line a.margin) glyphs
+
+abbrev pub OthersDrawByEdges : Type 0
+OthersDrawByEdges = (a : Job) (file bytes : List ℕ) → a.fit ≢ fit.Best → pictured a file ≡ Ok bytes
+    → IsByEdges a file bytes
+
+-- worked values: a stem between the centres of two columns, with its dropouts filled by scan type 0 and without
+stem_edge : ℕ → ℕ → ℕ → ℕ → Edge
+stem_edge ax ay bx by = record { ax = pos ax; ay = pos ay; bx = pos bx; by = pos by }
+
+stem_edges : List Edge
+stem_edges = stem_edge 5120 0 5120 16384 ∷ stem_edge 5120 16384 7168 16384 ∷ stem_edge 7168 16384 7168 0
+    ∷ stem_edge 7168 0 5120 0 ∷ []
+
+stem : Option Rules → Shape
+stem filled = record { edges = stem_edges; contours = stem_edges ∷ []; filled = filled }
+
+by_type_zero : Option Rules
+by_type_zero = Some (record { stubs = true; smart = false })
+
+two_rows : Frame
+two_rows = record { width = 2; height = 2; margin = 0; rise = pos 2 }
+
+filled_it_is_seen : picture two_rows (stem by_type_zero ∷ []) ≡ codes "P4\n2 2\n" ++ (0x80 ∷ 0x80 ∷ [])
+unfolding digits two_rows stem stem_edges stem_edge by_type_zero
+filled_it_is_seen = refl
+
+unfilled_it_is_lost : picture two_rows (stem None ∷ []) ≡ codes "P4\n2 2\n" ++ (0x00 ∷ 0x00 ∷ [])
+unfolding digits two_rows stem stem_edges stem_edge
+unfilled_it_is_lost = refl
+
+by_edges_it_is_lost : edges_picture two_rows (stem by_type_zero ∷ []) ≡ codes "P4\n2 2\n" ++ (0x00 ∷ 0x00 ∷ [])
+unfolding digits two_rows stem stem_edges stem_edge by_type_zero
+by_edges_it_is_lost = refl

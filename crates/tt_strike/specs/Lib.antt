@@ -1,0 +1,15 @@
+pub mod Job
+pub mod Refusals
+pub mod Defects
+pub mod Distinct
+pub mod Tables
+pub mod Glyphs
+pub mod Laws
+pub mod Makers
+pub mod Picture
+pub mod Pictures
+pub mod Pixels
+pub mod Report
+pub mod Strikes
+pub mod Views
+pub mod Work

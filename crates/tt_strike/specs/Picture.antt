@@ -1,0 +1,112 @@
+-- The picture of a line of text: each glyph's outline moved to its pen, blackened by the scan converter's rules
+-- (OpenType, "TrueType Fundamentals"), written as format P4 of Netpbm's PBM. Margins and limits are profile.
+use Rattle.std.specs.Prelude.{ℕ, ◌*◌, ℤ, pos, ◌-ℤ◌, List, map, Option, Some, None, Result, Ok}
+use Rattle.tt_arc.specs.Chords.{chord_contours, chord_edges}
+use Rattle.tt_core.specs.declared.fault.JobFault.{JobFault}
+use Rattle.tt_core.specs.Faults.{Fault}
+use Rattle.tt_core.specs.Limits.{crossing_limit, point_work_limit}
+use Rattle.tt_core.specs.Outcomes.{◌>>=◌, each}
+use Rattle.tt_fit.specs.Dropouts.{dropouts_of}
+use Rattle.tt_fit.specs.Fitting.{Fitter, fitted_outline, unfitted_fault}
+use Rattle.tt_fit.specs.Outline.{Outline}
+use Rattle.tt_fit.specs.Preparation.{fitter_of}
+use Rattle.tt_fit.specs.declared.dropouts.DropoutRules.{DropoutRules}
+use Rattle.tt_fit.specs.declared.programs.Fit.{Fit}
+use Rattle.tt_line.specs.Layout.{Placement, placement}
+use Rattle.tt_pbm.specs.P4.{p4}
+use Rattle.tt_scan.specs.declared.edge.Edge.{Edge}
+use Rattle.tt_scan.specs.declared.edge.Frame.{Frame}
+use Rattle.tt_scan_dropouts.specs.declared.mark.Rules.{Rules}
+use Rattle.tt_strike.specs.Distinct.{line_fitter}
+use Rattle.tt_strike.specs.Job.{Job, tested}
+use Rattle.tt_strike.specs.Refusals.{Refused, as_font, as_job}
+use Rattle.tt_strike.specs.Pixels.{Shape, is_black_pixel}
+use Rattle.tt_strike.specs.Tables.{Face, face_of, glyphs_in, programs_in}
+use Rattle.tt_strike.specs.Work.{crossings_in, points_in, work_tested}
+
+-- what outlines are made from: the glyph data, and what the font's programs leave at the size
+unfoldable pub setting : Face → ℕ → Fit → Result Fitter Fault
+setting face ppem how = do
+  tables ← glyphs_in face.directory face.metrics
+  programs ← programs_in face.directory how
+  fitter_of face.metrics tables programs ppem how
+
+abbrev pub setting_in : Face → Job → Result Fitter Fault
+setting_in face a = setting face a.ppem a.fit
+
+-- the x of the first phantom point, which is to stand at the pen
+abbrev pub origin_of : Outline → ℤ
+origin_of o = o.phantom.left.0
+
+-- the edges of an outline at a pen; a pixel has 64 units
+abbrev pub edges_at : ℕ → Outline → List Edge
+edges_at pen o = chord_edges o.points o.ends (pos (64 * pen) -ℤ origin_of o) (pos 0)
+
+-- the same contour by contour
+abbrev pub contours_of : ℕ → Outline → List (List Edge)
+contours_of pen o = chord_contours o.points o.ends (pos (64 * pen) -ℤ origin_of o) (pos 0)
+
+-- the rules by which dropouts are filled, as the scan converter takes them
+abbrev pub rules_for : Option DropoutRules → Option Rules
+rules_for None = None
+rules_for (Some rules) = Some (record { stubs = rules.stubs; smart = rules.smart })
+
+-- those of a character's glyph
+abbrev pub filled_by : Fitter → ℕ → Outline → Option Rules
+filled_by s g o = rules_for (dropouts_of s (unfitted_fault s g) o)
+
+-- a glyph at its pen, by what each glyph is made from
+abbrev pub shape_at : Fitter → ℕ × ℕ → Outline → Shape
+shape_at s g o = record { edges = edges_at g.1 o; contours = contours_of g.1 o; filled = filled_by s g.0 o }
+
+abbrev pub glyph_shape : (ℕ → Fitter) → ℕ × ℕ → Result Shape Fault
+glyph_shape maker g = fitted_outline (maker g.0) g.0 >>= λ o. Ok (shape_at (maker g.0) g o)
+
+-- where the picture of a line stands
+abbrev pub frame_of : Placement → ℕ → Frame
+frame_of line margin = record { width = line.width; height = line.height; margin = margin; rise = line.rise }
+
+-- the file of a picture in which some glyphs are drawn
+abbrev pub picture : Frame → List Shape → List ℕ
+picture f glyphs = p4 f.width f.height (is_black_pixel f glyphs)
+
+-- the glyphs of a line that is laid out, made one after the other
+abbrev pub shapes_in : Fitter → Placement → Result (List Shape) Fault
+shapes_in s line = each (glyph_shape (line_fitter s (map (λ g. g.0) line.glyphs))) line.glyphs
+
+-- that the glyphs of a line are made of not too many points for the job
+abbrev pub points_tested : Fitter → Job → Placement → Result (Unit {0}) JobFault
+points_tested s a line = work_tested a.fit point_work_limit (points_in s (map (λ g. g.0) line.glyphs))
+
+-- that their edges cross the rows of its picture not too often for the job
+abbrev pub crossings_tested : Job → Placement → List Shape → Result (Unit {0}) JobFault
+crossings_tested a line glyphs = work_tested a.fit crossing_limit (crossings_in (frame_of line a.margin) glyphs)
+
+-- the glyphs that are drawn for a job, or its first refusal
+abbrev pub line_shapes : Fitter → Job → Placement → Result (List Shape) Refused
+line_shapes s a line =
+    as_job (points_tested s a line) >>= λ u.
+    as_font (shapes_in s line) >>= λ glyphs.
+    as_job (crossings_tested a line glyphs) >>= λ u.
+    Ok glyphs
+
+-- the picture of a line that is laid out
+unfoldable pub drawn : Face → Job → Placement → Result (List ℕ) Refused
+drawn face a line =
+    as_font (setting_in face a) >>= λ s.
+    line_shapes s a line >>= λ glyphs.
+    Ok (picture (frame_of line a.margin) glyphs)
+
+-- the picture of a text by a font's tables, or the first refusal
+unfoldable pub pictured_by : Face → Job → Result (List ℕ) Refused
+pictured_by face a =
+    as_job (placement face.metrics face.cmap a.text a.ppem a.margin) >>= λ line.
+    drawn face a line
+
+-- the same of a job that is tested first
+unfoldable pub line_outcome : Face → Job → Result (List ℕ) Refused
+line_outcome face a = as_job (tested a) >>= λ u. pictured_by face a
+
+-- and by a font file
+unfoldable pub pictured : Job → List ℕ → Result (List ℕ) Refused
+pictured a file = as_font (face_of file) >>= λ face. pictured_by face a

@@ -1,0 +1,14 @@
+-- No part of the standard: a font at a size, with a way of fitting, and the jobs that its lines are.
+use Rattle.std.specs.Prelude.{ℕ, List}
+use Rattle.tt_fit.specs.declared.programs.Fit.{Fit}
+use Rattle.tt_strike.specs.Job.{Job}
+use Rattle.tt_strike.specs.Tables.{Face}
+
+pub record Strike : Type 0 where
+  pub face : Face
+  pub ppem : ℕ
+  pub fit : Fit
+
+-- the job of a line
+abbrev pub job_of : Strike → List ℕ → ℕ → Job
+job_of s text margin = record { text = text; ppem = s.ppem; margin = margin; fit = s.fit }

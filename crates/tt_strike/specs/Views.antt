@@ -1,0 +1,16 @@
+-- How the definitions see the values that the code works with.
+use Rattle.tt_core.specs.declared.font_fault.FontFault.{FontFault}
+use Rattle.tt_core.specs.declared.font_fault.FontFault.TheVariants as font
+use Rattle.tt_line.specs.declared.fault.LineFault.{LineFault}
+use Rattle.tt_line.specs.declared.fault.LineFault.TheVariants as line
+use Rattle.tt_strike.specs.declared.fault.DrawFault.{DrawFault}
+use Rattle.tt_strike.specs.declared.fault.DrawFault.TheVariants as draw
+
+-- what stopped a part of a drawing stops it
+abbrev pub draw_fault_of_font : FontFault → DrawFault
+draw_fault_of_font (font.Font f) = draw.Font f
+draw_fault_of_font font.Memory = draw.Memory
+
+abbrev pub draw_fault_of_line : LineFault → DrawFault
+draw_fault_of_line (line.Job j) = draw.Job j
+draw_fault_of_line line.Memory = draw.Memory

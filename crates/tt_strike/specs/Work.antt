@@ -1,0 +1,56 @@
+-- No part of the standard: how much work a job may be (profile). It is bounded with best alone.
+use Rattle.std.specs.Prelude.{◌≡◌, refl, ℕ, ◌+◌, ◌*◌, ◌&&◌, nat_lt, Bool, true, false, if◌then◌else◌, List, [], ◌∷◌, Option, Some, None, Result, Ok, Err}
+use Rattle.std.specs.List.{sum_by}
+use Rattle.tt_core.specs.declared.fault.JobFault.{JobFault}
+use Rattle.tt_core.specs.declared.fault.JobFault.TheVariants as fault
+use Rattle.tt_core.specs.Limits.{crossing_limit}
+use Rattle.tt_fit.specs.Counting.{points_asked}
+use Rattle.tt_fit.specs.Fitting.{Fitter}
+use Rattle.tt_strike.specs.Distinct.{distinct}
+use Rattle.tt_fit.specs.declared.programs.Fit.{Fit}
+use Rattle.tt_fit.specs.declared.programs.Fit.TheVariants as fit
+use Rattle.tt_scan.specs.declared.edge.Edge.{Edge}
+use Rattle.tt_scan.specs.declared.edge.Frame.{Frame}
+use Rattle.tt_scan.specs.Winding.{crossings_of}
+use Rattle.tt_scan_dropouts.specs.Dropouts.{crossed}
+use Rattle.tt_scan_dropouts.specs.declared.mark.Rules.{Rules}
+use Rattle.tt_strike.specs.Pixels.{Shape}
+
+-- the ways of fitting with which the work of a job is bounded
+abbrev pub is_bounded : Fit → Bool
+is_bounded fit.Full = false
+is_bounded fit.None = false
+is_bounded fit.Fallback = false
+is_bounded fit.Best = true
+
+-- so much work, by the limit that there is for it
+unfoldable pub work_tested : Fit → ℕ → ℕ → Result (Unit {0}) JobFault
+work_tested how limit work = if is_bounded how && nat_lt limit work then Err fault.WorkLarge else Ok tt
+
+-- how many points the glyphs of a line are made of, each glyph once
+abbrev pub points_in : Fitter → List ℕ → ℕ
+points_in s gs = sum_by (points_asked s.tables s.levels) (distinct gs)
+
+-- where dropouts are filled, each line of rows and of columns that the edges of a glyph cross counts as four crossings
+abbrev pub filling_crossings : Option Rules → List Edge → ℕ
+filling_crossings None edges = 0
+filling_crossings (Some rules) edges = 4 * crossed edges
+
+-- how often the edges of some glyphs cross the rows of a picture, and the lines that are asked for dropouts
+abbrev pub crossings_in : Frame → List Shape → ℕ
+crossings_in f [] = 0
+crossings_in f (s ∷ ss) =
+    (crossings_of f s.edges + filling_crossings s.filled s.edges) + crossings_in f ss
+
+-- worked values
+at_the_limit : work_tested fit.Best crossing_limit 16000000 ≡ Ok tt
+unfolding work_tested
+at_the_limit = refl
+
+past_the_limit : work_tested fit.Best crossing_limit 16000001 ≡ Err fault.WorkLarge
+unfolding work_tested
+past_the_limit = refl
+
+without_a_bound : work_tested fit.Fallback crossing_limit 16000001 ≡ Ok tt
+unfolding work_tested
+without_a_bound = refl

@@ -1,0 +1,162 @@
+//! The distinct glyphs of a line.
+
+ghost use Rattle.std.specs.Prelude.{◌≡◌, ◌≢◌, false, ℕ, ◌+◌, ◌-◌, ◌^◌, ◌<◌, ◌≤◌, ◌++◌, [], ◌∷◌, length, map, set, get_or, slice_index, replicate, All, IfOk, IfSome, IfNone, IsOkAnd, OnOk, Err};
+ghost use Rattle.tt_core.specs.Limits.{text_limit, width_limit};
+ghost use Rattle.tt_core.specs.Outcomes.{IfTold, each, font_fault};
+ghost use Rattle.tt_fit.specs.Fitting.{Fitter, fitted_outline};
+ghost use Rattle.tt_scan.specs.Winding.{FrameFits};
+ghost use Rattle.tt_scan.specs.Winding.{is_black, column_x, row_y};
+ghost use Rattle.tt_strike.specs.Distinct.{IsNext, distinct, fitter_after, fitter_past, is_among, line_fitter, with_glyph};
+ghost use Rattle.tt_strike.specs.Glyphs.{AreDrawn, AreKept, AreWithin, Adds, ArePlaces, Stand, crossings_standing, numbers_of, stamps_in};
+ghost use Rattle.tt_strike.specs.Picture.{glyph_shape};
+ghost use Rattle.tt_strike.specs.Pixels.{is_black_by, is_filled_by};
+
+use crate::glyph::Glyph;
+use std::alloc::{AllocError, Global};
+use tt_core::FontFault;
+use tt_fit::Fitter;
+use tt_scan::Frame;
+
+/// Distinct glyphs, in order of first appearance.
+#[derive(Drop)]
+struct Glyphs {
+    /// For each glyph of the font one more than its place among those kept, or 0.
+    places: Vec<u16>,
+    kept: Vec<Glyph>,
+    /// For so many pens each glyph has room at first.
+    room: usize,
+}
+
+impl Glyphs {
+    /// No glyphs of a font that has so many, for a line of so many characters.
+    fn new(alloc: Global, glyphs: u16, count: usize) -> Result<Glyphs, AllocError>
+        ensures room { IfOk result (λ g. length g.places.items ≡ glyphs) }
+        ensures places { IfOk result (λ g. ArePlaces g.places.items (numbers_of g.kept.items)) }
+        ensures kept { IfOk result (λ g. g.kept.items ≡ []) }
+    {
+        Ok(Glyphs {
+            places: vec![in alloc; 0u16; usize::from(glyphs)]?,
+            kept: Vec::new(alloc),
+            room: (count / 16).clamp(4, 64),
+        })
+    }
+
+    /// Where a glyph is kept; None where it is not.
+    fn find(&self, number: u16) -> Option<usize>
+        requires known { number < length self.now.places.items }
+        requires places { ArePlaces self.now.places.items (numbers_of self.now.kept.items) }
+        ensures found { IfSome result (λ i. (i < length self.now.kept.items) × (slice_index (numbers_of self.now.kept.items) i ≡ number)) }
+        ensures absent { IfNone result (All (λ n. n ≢ number) (numbers_of self.now.kept.items)) }
+    {
+        match self.places[usize::from(number)] {
+            0 => None,
+            place => Some(usize::from(place) - 1),
+        }
+    }
+
+    /// Keeps a glyph after the others.
+    fn add(&mut self, glyph: Glyph, number: u16) -> Result<(), AllocError>
+        requires number { glyph.number ≡ number }
+        requires known { number < length self.old.places.items }
+        requires absent { All (λ n. n ≢ number) (numbers_of self.old.kept.items) }
+        requires few { length self.old.kept.items < text_limit }
+        requires places { ArePlaces self.old.places.items (numbers_of self.old.kept.items) }
+        ensures kept { OnOk result (self.new.kept.items ≡ self.old.kept.items ++ glyph ∷ []) }
+        ensures room { OnOk result (length self.new.places.items ≡ length self.old.places.items) }
+        ensures places { OnOk result (ArePlaces self.new.places.items (numbers_of self.new.kept.items)) }
+    {
+        self.kept.push(glyph)?;
+        self.places[usize::from(number)] = self.kept.len() as u16;
+        Ok(())
+    }
+
+    /// Where a glyph is kept; where it is not, it is made, without a pen, from what those before it left. Errors: those
+    /// of its outline, Memory.
+    fn keep(
+        &mut self,
+        alloc: Global,
+        fitter: &mut Fitter,
+        number: u16,
+        frame: Frame,
+    ) -> Result<usize, FontFault>
+        requires known { number < fitter.old.tables.glyphs }
+        requires frame { FrameFits frame }
+        requires few { length self.old.kept.items < text_limit }
+        requires valid { AreKept fitter.old.tables.glyphs self.old.places.items self.old.kept.items }
+        ensures found { IfOk result (λ i. (i < length self.new.kept.items) × (slice_index (numbers_of self.new.kept.items) i ≡ number)) }
+        ensures valid { OnOk result (AreKept fitter.old.tables.glyphs self.new.places.items self.new.kept.items) }
+        ensures drawn { OnOk result ((maker : ℕ → Fitter) → IsNext maker fitter.old (numbers_of self.old.kept.items) number → AreDrawn maker frame self.old.kept.items → AreDrawn maker frame self.new.kept.items) }
+        ensures after { OnOk result (fitter.new ≡ fitter_past fitter.old (numbers_of self.old.kept.items) number) }
+        ensures tables { OnOk result (fitter.new.tables ≡ fitter.old.tables) }
+        ensures few { OnOk result (length self.new.kept.items ≤ length self.old.kept.items + 1) }
+        ensures numbers { OnOk result (numbers_of self.new.kept.items ≡ with_glyph (numbers_of self.old.kept.items) number) }
+        ensures black { OnOk result ((c r : ℕ) → is_black_by frame (stamps_in self.new.kept.items) c r ≡ is_black_by frame (stamps_in self.old.kept.items) c r) }
+        ensures dropouts { OnOk result ((c r : ℕ) → is_filled_by frame (stamps_in self.new.kept.items) c r ≡ is_filled_by frame (stamps_in self.old.kept.items) c r) }
+        ensures crossings { OnOk result (crossings_standing self.new.kept.items ≡ crossings_standing self.old.kept.items) }
+        ensures pens { OnOk result (AreWithin self.old.kept.items → AreWithin self.new.kept.items) }
+        ensures fault { IfTold font_fault result (λ f. (is_among number (numbers_of self.old.kept.items) ≡ false) × (fitted_outline fitter.old number ≡ Err f)) }
+    {
+        if let Some(i) = self.find(number) {
+            return Ok(i);
+        }
+        let room = self.room;
+        self.add(Glyph::new(alloc, fitter, number, frame, room)?, number)?;
+        Ok(self.kept.len() - 1)
+    }
+
+    /// Adds a pen of a glyph, which is made where it is not kept yet. Errors: those of its outline, Memory.
+    fn place(
+        &mut self,
+        alloc: Global,
+        fitter: &mut Fitter,
+        placed: (u16, u32),
+        frame: Frame,
+    ) -> Result<(), FontFault>
+        requires known { placed.0 < fitter.old.tables.glyphs }
+        requires frame { FrameFits frame }
+        requires few { length self.old.kept.items < text_limit }
+        requires valid { AreKept fitter.old.tables.glyphs self.old.places.items self.old.kept.items }
+        ensures valid { OnOk result (AreKept fitter.old.tables.glyphs self.new.places.items self.new.kept.items) }
+        ensures drawn { OnOk result ((maker : ℕ → Fitter) → IsNext maker fitter.old (numbers_of self.old.kept.items) placed.0 → AreDrawn maker frame self.old.kept.items → AreDrawn maker frame self.new.kept.items) }
+        ensures after { OnOk result (fitter.new ≡ fitter_past fitter.old (numbers_of self.old.kept.items) placed.0) }
+        ensures tables { OnOk result (fitter.new.tables ≡ fitter.old.tables) }
+        ensures few { OnOk result (length self.new.kept.items ≤ length self.old.kept.items + 1) }
+        ensures numbers { OnOk result (numbers_of self.new.kept.items ≡ with_glyph (numbers_of self.old.kept.items) placed.0) }
+        ensures pens { OnOk result (placed.1 ≤ width_limit → AreWithin self.old.kept.items → AreWithin self.new.kept.items) }
+        ensures adds { OnOk result ((maker : ℕ → Fitter) → IsNext maker fitter.old (numbers_of self.old.kept.items) placed.0 → AreDrawn maker frame self.old.kept.items → IsOkAnd (glyph_shape maker placed) (Adds frame self.old.kept.items self.new.kept.items)) }
+        ensures fault { IfTold font_fault result (λ f. (is_among placed.0 (numbers_of self.old.kept.items) ≡ false) × (fitted_outline fitter.old placed.0 ≡ Err f)) }
+    {
+        let (number, pen) = placed;
+        let at = self.keep(alloc, fitter, number, frame)?;
+        self.kept[at].stand(pen)?;
+        Ok(())
+    }
+}
+
+/// The glyphs of a line, each once, and each at its pens. Errors: those of their outlines in the order of the line,
+/// Memory.
+pub(crate) fn line_glyphs(
+    alloc: Global,
+    fitter: &mut Fitter,
+    glyphs: u16,
+    line: &[(u16, u32)],
+    frame: Frame,
+) -> Result<Vec<Glyph>, FontFault>
+    requires glyphs { glyphs ≡ fitter.old.tables.glyphs }
+    requires known { All (λ g. g.0 < glyphs) line.now }
+    requires pens { All (λ g. g.1 ≤ width_limit) line.now }
+    requires count { length line.now ≤ text_limit }
+    requires frame { FrameFits frame }
+    ensures after { IfOk result (λ v. fitter.new ≡ fitter_after fitter.old (numbers_of v.items)) }
+    ensures pens { IfOk result (λ v. AreWithin v.items) }
+    ensures valid { IfOk result (λ v. AreDrawn (line_fitter fitter.old (map (λ g. g.0) line.now)) frame v.items) }
+    ensures numbers { IfOk result (λ v. numbers_of v.items ≡ distinct (map (λ g. g.0) line.now)) }
+    ensures stand { IfOk result (λ v. IsOkAnd (each (glyph_shape (line_fitter fitter.old (map (λ g. g.0) line.now))) line.now) (Stand frame v.items)) }
+    ensures fault { IfTold font_fault result (λ f. each (glyph_shape (line_fitter fitter.old (map (λ g. g.0) line.now))) line.now ≡ Err f) }
+{
+    let mut kept = Glyphs::new(alloc, glyphs, line.len())?;
+    for placed in line {
+        kept.place(alloc, fitter, *placed, frame)?;
+    }
+    Ok(kept.kept)
+}

@@ -1,0 +1,93 @@
+//! What makes the outlines of a font at a size, found when the first line is drawn.
+
+ghost use Rattle.std.specs.Prelude.{◌≡◌, true, false, IfOk};
+ghost use Rattle.tt_core.specs.Outcomes.{FontGives, font_fault};
+ghost use Rattle.tt_strike.specs.Defects.{IsSettingDefect, TellsDefects};
+ghost use Rattle.tt_strike.specs.Job.{job_view, IsJob};
+ghost use Rattle.tt_strike.specs.Makers.{IsMaker, IsSetting};
+ghost use Rattle.tt_strike.specs.declared.maker.Maker.TheVariants.{Ready, Refused};
+ghost use Rattle.tt_strike.specs.Picture.{setting_in};
+ghost use Rattle.tt_strike.specs.Work.{is_bounded};
+
+use crate::job::Job;
+use crate::tables::{Face, open_glyf, open_programs};
+use crate::work::is_bounded;
+use std::alloc::Global;
+use std::mem;
+use tt_core::{Fault, FontFault};
+use tt_fit::{Fit, Fitter};
+
+/// What makes the outlines of a font at a size.
+#[derive(Drop)]
+pub(crate) enum Maker<'a> {
+    /// Not looked for yet, or given up.
+    Unmade,
+    Ready(Fitter<'a>),
+    /// There is none, for this defect.
+    Refused(Fault),
+}
+
+/// What makes the outlines of a job. Errors, the first of: those of loca and glyf; TableRange of the control values and
+/// the two programs; those of running the two. Memory comes where a growth was refused.
+#[tactic(auto, unfolding(crate::specs::Picture::setting))]
+fn open_fitter<'a>(alloc: Global, face: &Face<'a>, job: &Job) -> Result<Fitter<'a>, FontFault>
+    requires { IsJob (job_view job.now) }
+    ensures exact { FontGives (λ f. f) result (setting_in face.now (job_view job.now)) }
+    ensures setting { IfOk result (IsSetting face.now job.now.ppem job.now.fit) }
+    ensures defects { TellsDefects font_fault (IsSettingDefect face.now (job_view job.now)) result }
+{
+    tt_fit::laws::work_unfits();
+    let glyf = open_glyf(face)?;
+    let programs = open_programs(face, job.fit)?;
+    Ok(Fitter::new(alloc, face.metrics(), glyf, programs, job.ppem, job.fit)?)
+}
+
+impl<'a> Maker<'a> {
+    /// Keeps the defect for which there is nothing that makes outlines.
+    fn refuse(&mut self, fault: Fault)
+        ensures { self.new ≡ Refused fault }
+    {
+        *self = Maker::Refused(fault);
+    }
+
+    /// What makes the outlines of a job, taken out; it is looked for where it is not there. Errors: as `open_fitter`.
+    /// The defect of a font is kept.
+    pub(crate) fn take(
+        &mut self,
+        alloc: Global,
+        face: &Face<'a>,
+        job: &Job,
+    ) -> Result<Fitter<'a>, FontFault>
+        requires asked { IsJob (job_view job.now) }
+        requires maker { IsMaker face.now job.now.ppem job.now.fit self.old }
+        ensures exact { FontGives (λ f. f) result (setting_in face.now (job_view job.now)) }
+        ensures setting { IfOk result (IsSetting face.now job.now.ppem job.now.fit) }
+        ensures defects { TellsDefects font_fault (IsSettingDefect face.now (job_view job.now)) result }
+        ensures maker { IsMaker face.now job.now.ppem job.now.fit self.new }
+    {
+        match mem::replace(self, Maker::Unmade) {
+            Maker::Ready(fitter) => Ok(fitter),
+            Maker::Refused(fault) => {
+                self.refuse(fault);
+                Err(FontFault::Font(fault))
+            }
+            Maker::Unmade => {
+                let made = open_fitter(alloc, face, job);
+                if let Err(FontFault::Font(fault)) = &made {
+                    self.refuse(*fault);
+                }
+                made
+            }
+        }
+    }
+
+    /// Keeps what makes outlines for the lines after, unless a line uses up some of its work.
+    pub(crate) fn give_back(&mut self, fitter: Fitter<'a>, fit: Fit)
+        ensures kept { is_bounded fit ≡ false → self.new ≡ Ready fitter.entry }
+        ensures same { is_bounded fit ≡ true → self.new ≡ self.old }
+    {
+        if !is_bounded(fit) {
+            *self = Maker::Ready(fitter);
+        }
+    }
+}

@@ -1,0 +1,71 @@
+//! The rows of a picture, made one at a time.
+
+ghost use Rattle.std.specs.Prelude.{◌≡◌, ℕ, ◌+◌, ◌*◌, ◌<◌, ◌≤◌, ◌||◌, ◌&&◌, nat_lt, length, replicate, All};
+ghost use Rattle.tt_core.specs.Bits.{bit, stride};
+ghost use Rattle.tt_core.specs.Limits.{width_limit, height_limit};
+ghost use Rattle.tt_scan_dropouts.specs.Pictures.{AreDropouts};
+ghost use Rattle.tt_strike.specs.Glyphs.{GlyphFits, row_of, stamps_in};
+ghost use Rattle.tt_strike.specs.Pixels.{is_black_by, row_crossings};
+
+use crate::glyph::Glyph;
+use tt_scan::{Frame, Sweep};
+use tt_scan_dropouts::{Dropout, blacken_dropouts};
+
+/// The greatest number of edges that some glyph has.
+pub(crate) fn most_edges(glyphs: &[Glyph]) -> usize
+    ensures { All (λ g. length g.tape.edges ≤ result) glyphs.now }
+{
+    let mut most = 0;
+    for i in 0..glyphs.len() {
+        most = most.max(glyphs[i].edges());
+    }
+    most
+}
+
+/// Makes row `r` of a picture in the place of what was there. It takes no memory.
+pub(crate) fn make_row(
+    glyphs: &mut [Glyph],
+    sweep: &mut Sweep,
+    frame: Frame,
+    dropouts: &[Dropout],
+    r: u32,
+    row: &mut [u8],
+)
+    requires dropouts { AreDropouts frame.width dropouts.now }
+    requires glyphs { All (GlyphFits frame (r * row_crossings) sweep.old.room) glyphs.old }
+    requires height { frame.height ≤ height_limit }
+    requires within { r < frame.height }
+    requires len { length row.old ≡ stride frame.width }
+    ensures row { row.new ≡ row_of frame glyphs.old dropouts.now r }
+    ensures glyphs { All (GlyphFits frame ((r + 1) * row_crossings) sweep.new.room) glyphs.new }
+    ensures stamps { stamps_in glyphs.new ≡ stamps_in glyphs.old }
+    ensures room { sweep.new.room ≡ sweep.old.room }
+{
+    whiten(row);
+    add_glyphs(glyphs, sweep, frame, r, row);
+    blacken_dropouts(dropouts, frame.width, r, row);
+}
+
+/// Makes each pixel of a row white.
+fn whiten(row: &mut [u8])
+    ensures { row.new ≡ replicate (length row.old) 0 }
+{
+    row.fill(0);
+}
+
+/// Blackens the pixels of a row that some glyph covers; all others stay as they are.
+fn add_glyphs(glyphs: &mut [Glyph], sweep: &mut Sweep, frame: Frame, r: u32, row: &mut [u8])
+    requires glyphs { All (GlyphFits frame (r * row_crossings) sweep.old.room) glyphs.old }
+    requires height { frame.height ≤ height_limit }
+    requires within { r < frame.height }
+    requires width { frame.width ≤ 8 * length row.old }
+    ensures bits { (k : ℕ) → bit row.new k ≡ (bit row.old k || (nat_lt k frame.width && is_black_by frame (stamps_in glyphs.old) k r)) }
+    ensures len { length row.new ≡ length row.old }
+    ensures glyphs { All (GlyphFits frame ((r + 1) * row_crossings) sweep.new.room) glyphs.new }
+    ensures stamps { stamps_in glyphs.new ≡ stamps_in glyphs.old }
+    ensures room { sweep.new.room ≡ sweep.old.room }
+{
+    for i in 0..glyphs.len() {
+        glyphs[i].add_to_row(sweep, frame, r, row);
+    }
+}

@@ -1,0 +1,107 @@
+//! A font at a size: many lines are drawn with what its programs left once.
+
+ghost use Rattle.std.specs.Prelude.{◌≡◌, Ok, IfOk, IfErr, IsOkAnd};
+ghost use Rattle.tt_core.specs.Outcomes.{Gives, GivesUnless, IfTold};
+ghost use Rattle.tt_line.specs.Layout.{placement, text_glyphs};
+ghost use Rattle.tt_strike.specs.Defects.{IsLineDefect, IsLineRefusal, TellsDefects, draw_font_fault, draw_job_fault};
+ghost use Rattle.tt_strike.specs.Job.{size_tested, IsSizeRefusal};
+ghost use Rattle.tt_strike.specs.Picture.{frame_of, line_outcome};
+ghost use Rattle.tt_strike.specs.Pictures.{IsReady, picture_bytes};
+ghost use Rattle.tt_strike.specs.Refusals.{refusal};
+ghost use Rattle.tt_strike.specs.Report.{report_by, ListsOnce};
+ghost use Rattle.tt_strike.specs.Strikes.{job_of};
+
+use crate::drawing::draw_line;
+use crate::fault::DrawFault;
+use crate::job::{Job, test_job, test_size};
+use crate::maker::Maker;
+use crate::picture::Picture;
+use crate::tables::Face;
+use std::alloc::Global;
+use std::marker::Model;
+use tt_core::JobFault;
+use tt_fit::Fit;
+use tt_line::lay;
+
+/// A font at a size, with a way of fitting: lines are drawn one after the other, and the font's programs are run once,
+/// when the first line is drawn; with `Fit::Best` for each line anew, since a line uses up some of its work. A clause sees the font's tables, the size
+/// and the way of fitting, which stay as they are, whatever a line answers.
+#[derive(Drop)]
+pub struct Strike<'f, 'a> {
+    alloc: Global,
+    face: &'f Face<'a>,
+    ppem: u32,
+    fit: Fit,
+    maker: Maker<'a>,
+}
+
+impl<'f, 'a> Model for Strike<'f, 'a> {
+    ghost use Rattle.std.specs.Prelude.{◌≤◌};
+    ghost use Rattle.tt_core.specs.Limits.{size_limit};
+    ghost use Rattle.tt_strike.specs.Makers.{IsMaker};
+    ghost use Rattle.tt_strike.specs.Strikes as strikes;
+
+    ghost Value = { strikes.Strike };
+
+    ghost view = { λ s. record { face = s.face.now; ppem = s.ppem; fit = s.fit } };
+
+    ghost invariant = { λ s. (1 ≤ s.ppem) × (s.ppem ≤ size_limit)
+        × IsMaker s.face.now s.ppem s.fit s.maker };
+}
+
+impl<'f, 'a> Strike<'f, 'a> {
+    /// A font at a size in pixels per em, 1 to 300. Nothing is looked at yet but the tables that the face has. Error:
+    /// SizeRange.
+    pub fn new(
+        alloc: Global,
+        face: &'f Face<'a>,
+        ppem: u32,
+        fit: Fit,
+    ) -> Result<Strike<'f, 'a>, JobFault>
+        ensures tested { Gives (λ s. tt) result (size_tested ppem) }
+        ensures exact { IfOk result (λ s. s ≡ record { face = face.now; ppem = ppem; fit = fit }) }
+        ensures refused { IfErr result (IsSizeRefusal ppem) }
+    {
+        test_size(ppem)?;
+        Ok(Strike {
+            alloc,
+            face,
+            ppem,
+            fit,
+            maker: Maker::Unmade,
+        })
+    }
+
+    /// The picture of a text of at most 4,096 characters, with a margin of 0 to 64 pixels: what `run` would write of
+    /// this font for this job. Errors, the first of: MarginRange, TextLong; EmptyPicture, PictureLarge; those of loca
+    /// and glyf; those of the programs; WorkLarge of the points; those of the glyphs in the order of the text; WorkLarge
+    /// of the crossings. Memory comes where a growth was refused. A line that is refused leaves the strike as it was.
+    #[tactic(auto, unfolding(crate::specs::Picture::line_outcome, crate::specs::Picture::pictured_by, crate::specs::Report::report_by))]
+    pub fn line(&mut self, text: &str, margin: u32) -> Result<Picture, DrawFault>
+        ensures exact { GivesUnless refusal picture_bytes result (line_outcome self.old.face (job_of self.old text.now margin)) }
+        ensures valid { IfOk result IsReady }
+        ensures frame { IfOk result (λ p. IsOkAnd (placement self.old.face.metrics self.old.face.cmap text.now self.old.ppem margin) (λ l. p.frame ≡ frame_of l margin)) }
+        ensures report { IfOk result (λ p. report_by self.old.face (job_of self.old text.now margin) ≡ Ok p.unfitted) }
+        ensures once { IfOk result (λ p. ListsOnce p.unfitted) }
+        ensures defects { TellsDefects draw_font_fault (IsLineDefect self.old.face (job_of self.old text.now margin) (text_glyphs self.old.face.cmap text.now)) result }
+        ensures job { IfTold draw_job_fault result (IsLineRefusal self.old.face (job_of self.old text.now margin)) }
+        ensures same { self.new ≡ self.old }
+    {
+        let job = Job {
+            text,
+            ppem: self.ppem,
+            margin,
+            fit: self.fit,
+        };
+        test_job(&job)?;
+        let line = lay(
+            self.alloc,
+            self.face.metrics(),
+            self.face.cmap(),
+            text,
+            self.ppem,
+            margin,
+        )?;
+        draw_line(self.alloc, self.face, &mut self.maker, &job, &line)
+    }
+}

@@ -1,0 +1,112 @@
+//! The work of a job, which is bounded with `Fit::Best`.
+
+ghost use Rattle.std.specs.List.{sum_by};
+ghost use Rattle.std.specs.Prelude.{◌≡◌, ◌<◌, ◌≤◌, ◌-◌, ◌^◌, nat_lt, ◌&&◌, min, length, map, All, IfOk};
+ghost use Rattle.tt_core.specs.Limits.{crossing_limit, point_work_limit};
+ghost use Rattle.tt_core.specs.Outcomes.{Gives, GivesUnless};
+ghost use Rattle.tt_fit.specs.Counting.{left_of, points_asked};
+ghost use Rattle.tt_strike.specs.Glyphs.{crossings_standing};
+ghost use Rattle.tt_strike.specs.Refusals.{as_job, refusal};
+ghost use Rattle.tt_strike.specs.Work.{is_bounded, points_in, work_tested};
+
+use crate::distinct::distinct;
+use crate::fault::DrawFault;
+use crate::glyph::Glyph;
+use std::alloc::{AllocError, Global};
+use tt_core::{CROSSING_LIMIT, JobFault, POINT_WORK_LIMIT};
+use tt_fit::{Fit, Fitter};
+
+/// Whether the work of a job is bounded.
+pub(crate) fn is_bounded(fit: Fit) -> bool
+    ensures { result ≡ is_bounded fit }
+{
+    match fit {
+        Fit::Full | Fit::None | Fit::Fallback => false,
+        Fit::Best => true,
+    }
+}
+
+/// Errors: WorkLarge, where the work of a job is bounded and the glyphs of its line, each once, are made of too many
+/// points; Memory.
+#[tactic(auto, unfolding(crate::specs::Work::work_tested))]
+pub(crate) fn test_points(
+    alloc: Global,
+    fit: Fit,
+    fitter: &Fitter,
+    glyphs: u16,
+    line: &[(u16, u32)],
+) -> Result<(), DrawFault>
+    requires glyphs { glyphs ≡ fitter.now.tables.glyphs }
+    requires known { All (λ g. g.0 < glyphs) line.now }
+    ensures exact { GivesUnless refusal (λ u. u) result (as_job (work_tested fit point_work_limit (points_in fitter.now (map (λ g. g.0) line.now)))) }
+{
+    if !is_bounded(fit) {
+        return Ok(());
+    }
+    let numbers = distinct(alloc, glyphs, line)?;
+    match points_left(fitter, numbers.as_slice(), POINT_WORK_LIMIT)? {
+        Some(_) => Ok(()),
+        None => Err(DrawFault::Job(JobFault::WorkLarge)),
+    }
+}
+
+/// What some glyphs leave of so many points, or None where they are made of more. Error: want of memory.
+fn points_left(fitter: &Fitter, glyphs: &[u16], most: u64) -> Result<Option<u64>, AllocError>
+    requires { All (λ g. g < fitter.now.tables.glyphs) glyphs.now }
+    ensures { IfOk result (λ left. left ≡ left_of most (sum_by (points_asked fitter.now.tables fitter.now.levels) glyphs.now)) }
+{
+    let mut left = most;
+    for glyph in glyphs {
+        match fitter.points(*glyph, left)? {
+            Some(points) => left -= points,
+            None => return Ok(None),
+        }
+    }
+    Ok(Some(left))
+}
+
+/// Error: WorkLarge, where the work of a job is bounded and its glyphs at their pens cross the rows of the picture too
+/// often.
+#[tactic(auto, unfolding(crate::specs::Work::work_tested))]
+pub(crate) fn test_crossings(fit: Fit, glyphs: &[Glyph]) -> Result<(), JobFault>
+    requires tapes { All (λ g. length g.tape.edges ≤ 2 ^ 17) glyphs.now }
+    ensures exact { Gives (λ u. u) result (work_tested fit crossing_limit (crossings_standing glyphs.now)) }
+{
+    if is_bounded(fit) && cross_too_often(glyphs) {
+        return Err(JobFault::WorkLarge);
+    }
+    Ok(())
+}
+
+/// How often some glyphs cross the rows of the picture, each at its pens; the greatest number stands for more.
+fn crossings(glyphs: &[Glyph]) -> u64
+    requires tapes { All (λ g. length g.tape.edges ≤ 2 ^ 17) glyphs.now }
+    ensures { result ≡ min (crossings_standing glyphs.now) (2 ^ 64 - 1) }
+{
+    let mut all: u64 = 0;
+    for glyph in glyphs {
+        all = all.saturating_add(glyph.crossings());
+    }
+    all
+}
+
+/// No fewer than that, with less work.
+fn most_crossings(glyphs: &[Glyph]) -> u64
+    requires tapes { All (λ g. length g.tape.edges ≤ 2 ^ 17) glyphs.now }
+    ensures { min (crossings_standing glyphs.now) (2 ^ 64 - 1) ≤ result }
+{
+    let mut all: u64 = 0;
+    for glyph in glyphs {
+        all = all.saturating_add(glyph.most_crossings());
+    }
+    all
+}
+
+/// Whether some glyphs cross the rows of the picture more often than the limit. They are counted only where that is not
+/// plain without it.
+fn cross_too_often(glyphs: &[Glyph]) -> bool
+    requires tapes { All (λ g. length g.tape.edges ≤ 2 ^ 17) glyphs.now }
+    ensures { result ≡ nat_lt crossing_limit (crossings_standing glyphs.now) }
+{
+    most_crossings(glyphs) > CROSSING_LIMIT && crossings(glyphs) > CROSSING_LIMIT
+}
