@@ -24,8 +24,8 @@ use tt_fit::Fit;
 use tt_line::lay;
 
 /// A font at a size, with a way of fitting: lines are drawn one after the other, and the font's programs are run once,
-/// when the first line is drawn; with `Fit::Best` for each line anew, since a line uses up some of its work. A clause sees the font's tables, the size
-/// and the way of fitting, which stay as they are, whatever a line answers.
+/// when the first line is drawn; with `Fit::Best` for each line anew, since a line uses up some of its work. A clause
+/// sees the font's tables, the size and the way of fitting, which stay as they are, whatever a line answers.
 #[derive(Drop)]
 pub struct Strike<'f, 'a> {
     alloc: Global,
