@@ -1,14 +1,17 @@
 -- What a strike of a font tells of a line, told of the font's file.
-use Rattle.std.proofs.Common.{◌≡◌, List, ℕ, Ok, Err, inl, inr, refl, arith}
+use Rattle.std.proofs.Common.{◌≡◌, List, ℕ, Result, Ok, Err, inl, inr, refl, arith}
 use Rattle.std.specs.Prelude.{IfSome, IsOkAnd}
 use Rattle.tt_core.specs.declared.fault.JobFault.{JobFault}
 use Rattle.tt_core.specs.declared.fault.JobFault.TheVariants as job_of
 use Rattle.tt_core.specs.Directory.{HasNo}
+use Rattle.tt_core.specs.Faults.{Fault}
+use Rattle.tt_core.specs.Outcomes.{◌>>=◌}
 use Rattle.tt_line.specs.Layout.{text_glyphs}
 use Rattle.tt_strike.specs.Defects.{IsFaceDefect, IsFontRefusal, IsLineDefect, IsLineRefusal, IsRunDefect, draw_font_fault, draw_job_fault}
-use Rattle.tt_strike.specs.Job.{Job, IsJob, size_tested, tested}
+use Rattle.tt_strike.specs.Job.{Job, IsJob, IsSizeRefusal, size_tested, tested}
 use Rattle.tt_strike.specs.Picture.{line_outcome, pictured_by}
-use Rattle.tt_strike.specs.Refusals.{job}
+use Rattle.tt_strike.specs.Refusals.{Refused, as_job, refusal, job}
+use Rattle.tt_strike.specs.Refusals as outcome
 use Rattle.tt_strike.specs.Tables.{Face, face_of}
 use Rattle.tt_strike.specs.declared.fault.DrawFault.{DrawFault}
 use Rattle.tt_strike.specs.declared.fault.DrawFault.TheVariants as draw
@@ -47,9 +50,32 @@ refusal_tells a file face (draw.Job j) valid there stands = rw there (by_font a 
 refusal_tells a file face draw.Memory valid there stands = tt
 
 -- a size out of range is what a job is refused for first
-pub size_first : (a : Job) (face : Face) (j : JobFault) → size_tested a.ppem ≡ Err j → line_outcome face a ≡ Err (job j)
+first_refused : (t : Result (Unit {0}) JobFault) (f : Unit {0} → Result (Unit {0}) JobFault) (r : Refused)
+    → as_job t ≡ Err r → as_job (t >>= f) ≡ Err r
+first_refused (Ok u) f r refused = absurd cc
+first_refused (Err j) f r refused = refused
+
+size_first : (a : Job) (face : Face) (r : Refused) → as_job (size_tested a.ppem) ≡ Err r → line_outcome face a ≡ Err r
 unfolding line_outcome tested
-size_first a face j refused = rw refused refl
+size_first a face r refused = rw (first_refused (size_tested a.ppem) _ r refused) refl
+
+pub size_stops : (a : Job) (face : Face) (e : DrawFault)
+    → IfSome (refusal e) (λ r. as_job (size_tested a.ppem) ≡ Err r) → IfSome (refusal e) (λ r. line_outcome face a ≡ Err r)
+size_stops a face (draw.Font f) refused = size_first a face (outcome.font f) refused
+size_stops a face (draw.Job j) refused = size_first a face (job j) refused
+size_stops a face draw.Memory refused = tt
+
+pub size_refuses : (a : Job) (face : Face) (e : DrawFault) → IfSome (draw_job_fault e) (IsSizeRefusal a.ppem)
+    → IfSome (draw_job_fault e) (IsLineRefusal face a)
+size_refuses a face (draw.Font f) stands = tt
+size_refuses a face (draw.Job j) stands = rw stands.0 stands.1
+size_refuses a face draw.Memory stands = tt
+
+-- and no defect of a font
+pub size_tells : (P : Fault → Type 0) (e : DrawFault) → IfSome (draw_font_fault e) (λ _. ⊥) → IfSome (draw_font_fault e) P
+size_tells P (draw.Font f) none = absurd none
+size_tells P (draw.Job j) none = tt
+size_tells P draw.Memory none = tt
 
 pub within : (a : Job) (face : Face) → tested a ≡ Ok tt → line_outcome face a ≡ pictured_by face a
 unfolding line_outcome

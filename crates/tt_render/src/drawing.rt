@@ -32,7 +32,7 @@ fn draw_by(alloc: Global, face: &Face, job: &Job) -> Result<Picture, DrawFault>
     ensures defects { TellsDefects draw_font_fault (IsLineDefect face.now (job_view job.now) (text_glyphs face.now.cmap job.now.text.now)) result }
     ensures job { IfTold draw_job_fault result (IsLineRefusal face.now (job_view job.now)) }
 {
-    let mut strike = Strike::new(alloc, face, job.ppem, job.fit)?;
+    let mut strike = Strike::new(alloc, face, job.ppem, job.fit, 0)?;
     strike.line(job.text, job.margin)
 }
 

@@ -1,5 +1,5 @@
 -- Pictures whose pixels are alike have the same rows.
-use Rattle.std.proofs.Common.{◌≡◌, ℕ, zero, suc, ◌+◌, ◌*◌, ◌/◌, ◌%◌, ◌<◌, ◌≤◌, Bool, true, false, ◌&&◌, ◌||◌, nat_lt, List, ◌++◌, map, refl, ap, ap₂, ◌∙◌, arith}
+use Rattle.std.proofs.Common.{◌≡◌, ℕ, zero, suc, ◌+◌, ◌*◌, ◌/◌, ◌%◌, ◌<◌, ◌≤◌, ◌^◌, Bool, true, false, ◌&&◌, ◌||◌, nat_lt, List, ◌++◌, map, refl, ap, ap₂, ◌∙◌, arith}
 use Rattle.std.proofs.lemmas.Bool.Decides.{nat_tests}
 use Rattle.std.proofs.Math.Nat.{div-lt_iff_lt-mul, mul_comm}
 use Rattle.std.specs.List.{range_with_len}
@@ -49,10 +49,10 @@ rows_alike w h a b same =
     map_alike (byte_at w a) (byte_at w b) (stride w * h) 0 (stride w * h) (byte_alike w h a b same) (omega arith)
 
 -- glyphs that blacken what some do, and the dropouts of these, have the picture of those
-pub same_picture : (f : Frame) (gs : List Glyph) (ds : List Dropout) (shapes : List Shape) (header : List ℕ)
-    → header ≡ p4_header_of f.width f.height → Stand f gs shapes
+pub same_picture : {keeps : Bool} (f : Frame) (gs : List Glyph) (ds : List Dropout) (shapes : List Shape) (header : List ℕ)
+    → header ≡ p4_header_of f.width f.height → f.width < 2 ^ 62 → Stand keeps f gs shapes
     → AreAlike f.width f.height (is_among ds) (is_filled_by f (stamps_in gs))
     → header ++ all_rows f gs ds ≡ picture f shapes
-same_picture f gs ds shapes header is stand drops = rw is (ap (λ bytes. p4_header_of f.width f.height ++ bytes)
+same_picture f gs ds shapes header is wide stand drops = rw is (ap (λ bytes. p4_header_of f.width f.height ++ bytes)
     (rows_alike f.width f.height (shows_by f (stamps_in gs) ds) (is_black_pixel f shapes)
-    (λ c r column row. ap₂ (λ a b. a || b) (stand.black c r) (drops c r column row ∙ stand.dropouts c r))))
+    (λ c r column row. ap₂ (λ a b. a || b) (stand.black c r (omega (arith, column, wide))) (drops c r column row ∙ stand.dropouts c r))))

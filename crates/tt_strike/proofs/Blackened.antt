@@ -13,14 +13,14 @@ or_or false b c = refl
 
 by_one_more : (f : Frame) (gs : List Stamp) (i : ℕ) (d : Stamp) (c r : ℕ) → i < length gs
     → is_black_by f (take (i + 1) gs) c r
-    ≡ (is_black_by f (take i gs) c r || is_black_from f (get_or gs i d).edges (get_or gs i d).pens c r)
+    ≡ (is_black_by f (take i gs) c r || is_black_from f (get_or gs i d).drawn (get_or gs i d).pens c r)
 by_one_more f [] i d c r below = absurd (omega arith)
-by_one_more f (g ∷ gs) zero d c r below = or_false (is_black_from f g.edges g.pens c r)
+by_one_more f (g ∷ gs) zero d c r below = or_false (is_black_from f g.drawn g.pens c r)
 by_one_more f (g ∷ gs) (suc i) d c r below =
     let next : suc i + 1 ≡ suc (i + 1) = omega arith in
     let more = by_one_more f gs i d c r (omega arith) in
-    rw (next, more) (or_or (is_black_from f g.edges g.pens c r) (is_black_by f (take i gs) c r)
-    (is_black_from f (get_or gs i d).edges (get_or gs i d).pens c r))
+    rw (next, more) (or_or (is_black_from f g.drawn g.pens c r) (is_black_by f (take i gs) c r)
+    (is_black_from f (get_or gs i d).drawn (get_or gs i d).pens c r))
 
 joined : (old inside some one : Bool) → ((old || (inside && some)) || (inside && one))
     ≡ (old || (inside && (some || one)))
@@ -31,11 +31,11 @@ joined false false some one = refl
 -- what was in a row with the first i glyphs, and glyph i
 pub one_glyph_more : (f : Frame) (gs : List Stamp) (i : ℕ) (d : Stamp) (c r : ℕ) (old inside : Bool) → i < length gs
     → ((old || (inside && is_black_by f (take i gs) c r))
-    || (inside && is_black_from f (get_or gs i d).edges (get_or gs i d).pens c r))
+    || (inside && is_black_from f (get_or gs i d).drawn (get_or gs i d).pens c r))
     ≡ (old || (inside && is_black_by f (take (i + 1) gs) c r))
 one_glyph_more f gs i d c r old inside below = rw (by_one_more f gs i d c r below)
     (joined old inside (is_black_by f (take i gs) c r)
-    (is_black_from f (get_or gs i d).edges (get_or gs i d).pens c r))
+    (is_black_from f (get_or gs i d).drawn (get_or gs i d).pens c r))
 
 -- what the glyphs blacken of a row, and then the dropouts
 pub both_shown : (inside some one first then : Bool) → first ≡ (inside && some) → then ≡ (first || (inside && one))

@@ -17,4 +17,5 @@ mod Whole
 mod Stopped
 mod FirstMet
 mod Setting
+mod Kept
 mod RowsCut

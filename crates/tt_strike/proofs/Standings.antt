@@ -1,5 +1,5 @@
 -- What glyphs blacken at their pens, one glyph or one pen more at a time.
-use Rattle.std.proofs.Common.{◌≡◌, map, ℕ, ◌*◌, ◌+ℤ◌, ◌*ℤ◌, Ok, ap, zero, suc, ◌<◌, Bool, true, false, ◌||◌, List, [], ◌∷◌, ◌++◌, length, get_or, set, ℤ, pos, ◌-ℤ◌, refl, sym, ◌∙◌, arith}
+use Rattle.std.proofs.Common.{◌≡◌, map, ℕ, ◌+◌, ◌*◌, ◌^◌, ◌+ℤ◌, ◌*ℤ◌, ◌<ℤ◌, Ok, ap, zero, suc, ◌<◌, Bool, true, false, ◌||◌, List, [], ◌∷◌, ◌++◌, length, get_or, set, ℤ, pos, ◌-ℤ◌, refl, sym, ◌∙◌, arith}
 use Rattle.std.specs.Prelude.{◌≤◌, All, IfSome, IsOkAnd, Option, Some, None}
 use Rattle.std.proofs.lemmas.Int.{ints}
 use Rattle.std.proofs.lemmas.List.{get_or-map}
@@ -7,7 +7,7 @@ use Rattle.std.proofs.lemmas.List.Elements.{All-push, All-set}
 use Rattle.std.proofs.Math.Seq.{map-set_same}
 use Rattle.std.specs.List.{slice_index}
 use Rattle.tt_arc.proofs.Moves.{contours_there, outline_at}
-use Rattle.tt_core.specs.Limits.{width_limit}
+use Rattle.tt_core.specs.Limits.{margin_limit, width_limit}
 use Rattle.tt_arc.specs.Chords.{chord_contours, chord_edges}
 use Rattle.tt_fit.specs.Fitting.{Fitter, fitted_outline}
 use Rattle.tt_fit.specs.Outline.{Outline}
@@ -21,9 +21,10 @@ use Rattle.tt_scan_dropouts.specs.Laws.{moved, outline_moved}
 use Rattle.tt_scan_dropouts.proofs.Moved.{dropouts_move}
 use Rattle.tt_scan_dropouts.specs.Pictures.{column_at, line_at}
 use Rattle.tt_scan_dropouts.specs.declared.mark.Rules.{Rules}
-use Rattle.tt_strike.specs.Glyphs.{Glyph, IsDrawn, AreDrawn, AreKept, AreWithin, Adds, Stand, crossings_standing, stamps_in, numbers_of}
+use Rattle.tt_scan_rows.specs.Raster.{line_y}
+use Rattle.tt_strike.specs.Glyphs.{Body, tape, raster, BodyFits, IsBodyOf, IsTape, body_crossings, drawn_of, edges_of, left_of, Glyph, IsDrawn, AreDrawn, AreKept, AreWithin, Adds, Stand, crossings_standing, stamps_in, numbers_of}
 use Rattle.tt_strike.specs.Picture.{contours_of, origin_of, edges_at, filled_by, glyph_shape}
-use Rattle.tt_strike.specs.Pixels.{Shape, is_black_from, is_black_by, is_filled, is_filled_from, is_filled_by, some_black, some_filled}
+use Rattle.tt_strike.specs.Pixels.{Drawn, Shape, is_drawn, is_black_from, is_black_by, is_filled, is_filled_from, is_filled_by, some_black, some_filled}
 use Rattle.tt_strike.specs.Work.{filling_crossings}
 use Rattle.tt_strike.proofs.Crossed.{crossings_moved, crosses_at, crossings_more, filling_moved}
 use Rattle.tt_strike.proofs.Places.{ok_and}
@@ -48,14 +49,12 @@ pub stands_nowhere : (f : Frame) (gs : List Glyph) (g : Glyph) (c r : ℕ) → g
 stands_nowhere f [] g c r none = rw none refl
 stands_nowhere f (h ∷ hs) g c r none = rw (stands_nowhere f hs g c r none) refl
 
-one_pen_more : (f : Frame) (edges : List Edge) (pens : List ℕ) (pen c r : ℕ) → is_black_from f edges
-    (pens ++ pen ∷ []) c r
-    ≡ (is_black_from f edges pens c r || is_black edges (column_x f.margin (pos c -ℤ pos pen)) (row_y f (pos r)))
-one_pen_more f edges [] pen c r = or_false _
-one_pen_more f edges (p ∷ ps) pen c r =
-    rw (one_pen_more f edges ps pen c r)
-    (or_or (is_black edges (column_x f.margin (pos c -ℤ pos p)) (row_y f (pos r))) (is_black_from f edges ps c r)
-    (is_black edges (column_x f.margin (pos c -ℤ pos pen)) (row_y f (pos r))))
+one_pen_more : (f : Frame) (drawn : Drawn) (pens : List ℕ) (pen c r : ℕ) → is_black_from f drawn (pens ++ pen ∷ []) c r
+    ≡ (is_black_from f drawn pens c r || is_drawn f drawn (pos c -ℤ pos pen) r)
+one_pen_more f drawn [] pen c r = or_false _
+one_pen_more f drawn (p ∷ ps) pen c r =
+    rw (one_pen_more f drawn ps pen c r)
+    (or_or (is_drawn f drawn (pos c -ℤ pos p) r) (is_black_from f drawn ps c r) (is_drawn f drawn (pos c -ℤ pos pen) r))
 
 -- the same of dropouts
 pub fills_nowhere : (f : Frame) (gs : List Glyph) (g : Glyph) (c r : ℕ) → g.pens ≡ []
@@ -75,33 +74,32 @@ fills_one_pen_more f filled contours (p ∷ ps) pen c r =
 pub fills_at : (f : Frame) (gs : List Glyph) (i : ℕ) (g : Glyph) (pen c r : ℕ) → i < length gs → g ≡ get_or gs i g
     → is_filled_by f (stamps_in (set gs i (record g { pens = g.pens ++ pen ∷ [] }))) c r
     ≡ (is_filled_by f (stamps_in gs) c r
-    || is_filled g.filled (contours_at g.tape.edges g.ends) (column_at f pen c) (line_at f r))
+    || is_filled g.filled (contours_at (edges_of g.body) g.ends) (column_at f pen c) (line_at f r))
 fills_at f [] i g pen c r below is = absurd (omega arith)
 fills_at f (h ∷ hs) zero g pen c r below is =
-    let contours = contours_at h.tape.edges h.ends in
+    let contours = contours_at (edges_of h.body) h.ends in
     rw (is, fills_one_pen_more f h.filled contours h.pens pen c r)
     (or_swap (is_filled_from f h.filled contours h.pens c r)
     (is_filled h.filled contours (column_at f pen c) (line_at f r)) (is_filled_by f (stamps_in hs) c r))
 fills_at f (h ∷ hs) (suc i) g pen c r below is =
     rw (fills_at f hs i g pen c r (omega arith) is)
-    (or_or (is_filled_from f h.filled (contours_at h.tape.edges h.ends) h.pens c r) (is_filled_by f (stamps_in hs) c r)
-    (is_filled g.filled (contours_at g.tape.edges g.ends) (column_at f pen c) (line_at f r)))
+    (or_or (is_filled_from f h.filled (contours_at (edges_of h.body) h.ends) h.pens c r) (is_filled_by f (stamps_in hs) c r)
+    (is_filled g.filled (contours_at (edges_of g.body) g.ends) (column_at f pen c) (line_at f r)))
 
 -- glyph i stands at one more pen
 pub stands_at : (f : Frame) (gs : List Glyph) (i : ℕ) (g : Glyph) (pen c r : ℕ) → i < length gs → g ≡ get_or gs
     i g
     → is_black_by f (stamps_in (set gs i (record g { pens = g.pens ++ pen ∷ [] }))) c r
-    ≡ (is_black_by f (stamps_in gs) c r || is_black g.tape.edges (column_x f.margin (pos c -ℤ pos pen))
-    (row_y f (pos r)))
+    ≡ (is_black_by f (stamps_in gs) c r || is_drawn f (drawn_of g.body) (pos c -ℤ pos pen) r)
 stands_at f [] i g pen c r below is = absurd (omega arith)
 stands_at f (h ∷ hs) zero g pen c r below is =
-    rw (is, one_pen_more f h.tape.edges h.pens pen c r)
-    (or_swap (is_black_from f h.tape.edges h.pens c r) (is_black h.tape.edges (column_x f.margin (pos c -ℤ pos pen))
-    (row_y f (pos r))) (is_black_by f (stamps_in hs) c r))
+    rw (is, one_pen_more f (drawn_of h.body) h.pens pen c r)
+    (or_swap (is_black_from f (drawn_of h.body) h.pens c r) (is_drawn f (drawn_of h.body) (pos c -ℤ pos pen) r)
+    (is_black_by f (stamps_in hs) c r))
 stands_at f (h ∷ hs) (suc i) g pen c r below is =
     rw (stands_at f hs i g pen c r (omega arith) is)
-    (or_or (is_black_from f h.tape.edges h.pens c r) (is_black_by f (stamps_in hs) c r)
-    (is_black g.tape.edges (column_x f.margin (pos c -ℤ pos pen)) (row_y f (pos r))))
+    (or_or (is_black_from f (drawn_of h.body) h.pens c r) (is_black_by f (stamps_in hs) c r)
+    (is_drawn f (drawn_of g.body) (pos c -ℤ pos pen) r))
 
 some_more : (ss : List Shape) (s : Shape) (x y : ℤ) → some_black (ss ++ s ∷ []) x y
     ≡ (some_black ss x y || is_black s.edges x y)
@@ -117,14 +115,14 @@ some_filled_more f (h ∷ hs) s c r =
     (is_filled s.filled s.contours (column_at f 0 c) (line_at f r)))
 
 -- the glyphs so far, and one place more
-pub one_place_more : (f : Frame) (before after : List Glyph) (shapes : List Shape) (new : Shape)
-    → Stand f before shapes → Adds f before after new → Stand f after (shapes ++ new ∷ [])
-one_place_more f before after shapes new stand adds = record {
-  black = λ c r.
-      rw (adds.black c r, stand.black c r) (sym (some_more shapes new (column_x f.margin (pos c)) (row_y f (pos r))));
+pub one_place_more : (keeps : Bool) (f : Frame) (before after : List Glyph) (shapes : List Shape) (new : Shape)
+    → Stand keeps f before shapes → Adds keeps f before after new → Stand keeps f after (shapes ++ new ∷ [])
+one_place_more keeps f before after shapes new stand adds = record {
+  black = λ c r small.
+      rw (adds.black c r small, stand.black c r small) (sym (some_more shapes new (column_x f.margin (pos c)) (row_y f (pos r))));
   dropouts = λ c r. rw (adds.dropouts c r, stand.dropouts c r) (sym (some_filled_more f shapes new c r));
-  crossings = let more = crossings_more f shapes new in
-      omega (arith, adds.crossings, stand.crossings, more);
+  crossings = λ none. let more = crossings_more f shapes new in
+      omega (arith, adds.crossings none, stand.crossings none, more);
 }
 
 -- the edges of an outline at a pen are those at pen 0, moved
@@ -181,44 +179,64 @@ filled_from_pen (Some rules) f o pen c r =
     sym (dropouts_move rules (contours_of 0 o) (pos pen) (pos 0) (column_at f pen c) (line_at f r))
     ∙ rw (contours_at_pen o pen, column) (ap (is_dropout rules (outline_moved (pos pen) (pos 0) (contours_of 0 o)) (column_at f pen c +ℤ pos pen)) (sym line))
 
--- the dropouts of a glyph whose contours are those of an outline, and the work for them
-fills_as : (f : Frame) (g : Glyph) (o : Outline) (filled : Option Rules) (pen c r : ℕ) → g.filled ≡ filled
-    → IfSome g.filled (λ rules. contours_at g.tape.edges g.ends ≡ contours_of 0 o)
-    → is_filled g.filled (contours_at g.tape.edges g.ends) (column_at f pen c) (line_at f r)
-    ≡ is_filled filled (contours_of pen o) (column_at f 0 c) (line_at f r)
-fills_as f g o filled pen c r is contours =
-    same_filled g.filled (contours_at g.tape.edges g.ends) (contours_of 0 o) (column_at f pen c) (line_at f r) contours
-    ∙ filled_from_pen g.filled f o pen c r
-    ∙ ap (λ filled. is_filled filled (contours_of pen o) (column_at f 0 c) (line_at f r)) is
+-- what the body of a glyph blackens from a pen
+black_at : (f : Frame) (o : Outline) (body : Body) (pen c r : ℕ) → pen ≤ width_limit → c < 2 ^ 62 → IsBodyOf (edges_at 0 o) body
+    → is_drawn f (drawn_of body) (pos c -ℤ pos (pen + left_of f body)) r
+    ≡ is_black (edges_at pen o) (column_x f.margin (pos c)) (row_y f (pos r))
+black_at f o (tape t) pen c r near small is =
+    let here : pen + 0 ≡ pen = omega arith in
+    rw (here, is) (sym (from_pen f.margin o pen (pos c) (row_y f (pos r))))
+black_at f o (raster k) pen c r near small is =
+    let at : ℤ = pos c -ℤ pos (pen + f.margin) in
+    let low : at <ℤ pos (2 ^ 63) = omega (arith, ints, small) in
+    let column : column_x 0 at ≡ column_x f.margin (pos c -ℤ pos pen) = omega (arith, ints) in
+    let line : line_y (line_at f r) ≡ row_y f (pos r) = omega (arith, ints) in
+    is at (line_at f r) low ∙ rw (column, line) (sym (from_pen f.margin o pen (pos c) (row_y f (pos r))))
 
-works_as : (g : Glyph) (o : Outline) (filled : Option Rules) (pen : ℕ) → g.filled ≡ filled → g.tape.edges ≡ edges_at 0 o
-    → filling_crossings g.filled g.tape.edges ≡ filling_crossings filled (edges_at pen o)
-works_as g o filled pen is edges =
-    rw (is, edges, at_pen o pen) (sym (filling_moved filled (pos pen) (edges_at 0 o)))
+-- the work for a glyph at a pen, where its body is a tape
+works_as : (f : Frame) (o : Outline) (body : Body) (these filled : Option Rules) (pen : ℕ) → IsTape body → these ≡ filled
+    → BodyFits f 0 body → IsBodyOf (edges_at 0 o) body
+    → body_crossings body these ≡ crossings_of f (edges_at pen o) + filling_crossings filled (edges_at pen o)
+works_as f o (tape t) these filled pen is same fits edges =
+    rw (same, fits.frame, edges, crosses_from f o pen, at_pen o pen)
+    (ap (λ n. crossings_of f (edges_at 0 o) + n) (sym (filling_moved filled (pos pen) (edges_at 0 o))))
+works_as f o (raster k) these filled pen is same fits edges = absurd is
+
+-- the dropouts of a glyph at a pen: those of a raster are not filled
+fills_by : (f : Frame) (o : Outline) (body : Body) (these filled : Option Rules) (ends : List ℕ) (pen c r : ℕ) → these ≡ filled
+    → IfSome these (λ rules. IsTape body) → IfSome these (λ rules. contours_at (edges_of body) ends ≡ contours_of 0 o)
+    → is_filled these (contours_at (edges_of body) ends) (column_at f (pen + left_of f body) c) (line_at f r)
+    ≡ is_filled filled (contours_of pen o) (column_at f 0 c) (line_at f r)
+fills_by f o (tape t) these filled ends pen c r is of_tape contours =
+    let here : pen + 0 ≡ pen = omega arith in
+    rw here (same_filled these (contours_at t.edges ends) (contours_of 0 o) (column_at f pen c) (line_at f r) contours)
+    ∙ filled_from_pen these f o pen c r
+    ∙ ap (λ filled. is_filled filled (contours_of pen o) (column_at f 0 c) (line_at f r)) is
+fills_by f o (raster k) None filled ends pen c r is of_tape contours = rw (← is) refl
+fills_by f o (raster k) (Some rules) filled ends pen c r is of_tape contours = absurd of_tape
 
 -- a drawn glyph stands at one more pen
-pub adds_at : (maker : ℕ → Fitter) (f : Frame) (before gs : List Glyph) (i : ℕ) (g : Glyph) (placed : ℕ × ℕ)
-    → ((c r : ℕ) → is_black_by f (stamps_in gs) c r ≡ is_black_by f (stamps_in before) c r)
+pub adds_at : (keeps : Bool) (maker : ℕ → Fitter) (f : Frame) (before gs : List Glyph) (i : ℕ) (g : Glyph) (placed : ℕ × ℕ)
+    → placed.1 ≤ width_limit → ((c r : ℕ) → is_black_by f (stamps_in gs) c r ≡ is_black_by f (stamps_in before) c r)
     → ((c r : ℕ) → is_filled_by f (stamps_in gs) c r ≡ is_filled_by f (stamps_in before) c r)
     → crossings_standing gs ≡ crossings_standing before → i < length gs
-    → g ≡ get_or gs i g → IsDrawn (maker g.number) f g → g.number ≡ placed.0
-    → IsOkAnd (glyph_shape maker placed) (Adds f before (set gs i (record g { pens = g.pens ++ placed.1 ∷ [] })))
-adds_at maker f before gs i g placed same same_dropouts as_often below is drawn number =
-    let made : fitted_outline (maker placed.0) placed.0 ≡ Ok drawn.shape = rw number at drawn.outline in
-    let one : crossings_of g.tape.frame g.tape.edges ≡ crossings_of f (edges_at placed.1 drawn.shape) =
-    rw (drawn.fits.frame, drawn.edges) (sym (crosses_from f drawn.shape placed.1)) in
-    let more = crosses_at gs i g placed.1 below is in
-    let filled : g.filled ≡ filled_by (maker placed.0) placed.0 drawn.shape = rw number at drawn.filled in
-    let work = works_as g drawn.shape (filled_by (maker placed.0) placed.0 drawn.shape) placed.1 filled drawn.edges in
+    → g ≡ get_or gs i g → IsDrawn keeps (maker g.number) f g → g.number ≡ placed.0
+    → IsOkAnd (glyph_shape maker placed) (Adds keeps f before (set gs i (record g { pens = g.pens ++ (placed.1 + g.left) ∷ [] })))
+adds_at keeps maker f before gs i g placed near same same_dropouts as_often below is drawn number =
+    let o = drawn.shape in
+    let made : fitted_outline (maker placed.0) placed.0 ≡ Ok o = rw number at drawn.outline in
+    let rules = filled_by (maker placed.0) placed.0 o in
+    let filled : g.filled ≡ rules = rw number at drawn.filled in
     rw made (record {
-      black = λ c r.
-          let black = from_pen f.margin drawn.shape placed.1 (pos c) (row_y f (pos r)) in
-          stands_at f gs i g placed.1 c r below is ∙ rw (same c r, drawn.edges, black) refl;
+      black = λ c r small.
+          stands_at f gs i g (placed.1 + g.left) c r below is
+          ∙ rw (same c r, drawn.left, black_at f o g.body placed.1 c r near small drawn.body) refl;
       dropouts = λ c r.
-          let fills = fills_as f g drawn.shape (filled_by (maker placed.0) placed.0 drawn.shape) placed.1 c r filled
-          drawn.contours in
-          fills_at f gs i g placed.1 c r below is ∙ rw (same_dropouts c r, fills) refl;
-      crossings = more ∙ rw (as_often, one, work) refl;
+          fills_at f gs i g (placed.1 + g.left) c r below is
+          ∙ rw (same_dropouts c r, drawn.left, fills_by f o g.body g.filled rules g.ends placed.1 c r filled drawn.of_tape drawn.contours) refl;
+      crossings = λ none.
+          crosses_at gs i g (placed.1 + g.left) below is
+          ∙ rw (as_often, works_as f o g.body g.filled rules placed.1 (drawn.tape none) filled drawn.fits drawn.body) refl;
     })
 
 -- and is the glyph that it was
@@ -232,43 +250,57 @@ pub number_is : (gs : List Glyph) (i : ℕ) (g : Glyph) (n : ℕ) → i < length
 number_is gs i g n below is found = ap (λ (t : Glyph). t.number) is
     ∙ sym (get_or-map (λ (t : Glyph). t.number) gs i g 0 below) ∙ found
 
-pub drawn_is : (maker : ℕ → Fitter) (f : Frame) (gs : List Glyph) (i : ℕ) (g : Glyph)
-    → AreDrawn maker f gs → i < length gs → g ≡ get_or gs i g → IsDrawn (maker g.number) f g
-drawn_is maker f gs i g drawn below is = rw (← is) at (drawn i g below)
+pub drawn_is : (keeps : Bool) (maker : ℕ → Fitter) (f : Frame) (gs : List Glyph) (i : ℕ) (g : Glyph)
+    → AreDrawn keeps maker f gs → i < length gs → g ≡ get_or gs i g → IsDrawn keeps (maker g.number) f g
+drawn_is keeps maker f gs i g drawn below is = rw (← is) at (drawn i g below)
 
-pub drawn_stood : (maker : ℕ → Fitter) (f : Frame) (gs : List Glyph) (i : ℕ) (g : Glyph) (ps : List ℕ)
-    → AreDrawn maker f gs → i < length gs → g ≡ get_or gs i g → AreDrawn maker f (set gs i (record g { pens = ps }))
-drawn_stood maker f gs i g ps all below is =
-    let drawn = drawn_is maker f gs i g all below is in
+pub drawn_stood : (keeps : Bool) (maker : ℕ → Fitter) (f : Frame) (gs : List Glyph) (i : ℕ) (g : Glyph) (ps : List ℕ)
+    → AreDrawn keeps maker f gs → i < length gs → g ≡ get_or gs i g
+    → AreDrawn keeps maker f (set gs i (record g { pens = ps }))
+drawn_stood keeps maker f gs i g ps all below is =
+    let drawn = drawn_is keeps maker f gs i g all below is in
     let stood : Glyph = record g { pens = ps } in
-    let here : IsDrawn (maker stood.number) f stood = record {
+    let here : IsDrawn keeps (maker stood.number) f stood = record {
       shape = drawn.shape;
       unfitted = drawn.unfitted;
       outline = drawn.outline;
-      edges = drawn.edges;
+      body = drawn.body;
+      left = drawn.left;
+      tape = drawn.tape;
       filled = drawn.filled;
+      of_tape = drawn.of_tape;
       contours = drawn.contours;
       ends = drawn.ends;
       fits = drawn.fits;
     } in
-    All-set (λ g. IsDrawn (maker g.number) f g) gs i stood here all
+    All-set (λ g. IsDrawn keeps (maker g.number) f g) gs i stood here all
 
 pub kept_stood : (glyphs : ℕ) (table : List ℕ) (gs : List Glyph) (i : ℕ) (g : Glyph) (ps : List ℕ)
-    → AreKept glyphs table gs → g ≡ get_or gs i g → AreKept glyphs table (set gs i (record g { pens = ps }))
-kept_stood glyphs table gs i g ps kept is = record { room = kept.room; places = rw (numbers_stood gs i g ps is) kept.places }
+    → AreKept glyphs table gs → i < length gs → g ≡ get_or gs i g → AreKept glyphs table (set gs i (record g { pens = ps }))
+kept_stood glyphs table gs i g ps kept below is =
+    let own : g.left ≤ margin_limit = rw (← is) at (kept.lefts i g below) in
+    record {
+      room = kept.room;
+      places = rw (numbers_stood gs i g ps is) kept.places;
+      lefts = All-set (λ g. g.left ≤ margin_limit) gs i (record g { pens = ps }) own kept.lefts;
+    }
+
+pub left_is : (glyphs : ℕ) (table : List ℕ) (gs : List Glyph) (i : ℕ) (g : Glyph) → AreKept glyphs table gs → i < length gs
+    → g ≡ get_or gs i g → g.left ≤ margin_limit
+left_is glyphs table gs i g kept below is = rw (← is) at (kept.lefts i g below)
 
 -- what a place adds, at whatever pen that was asked for
-pub made_at : {pen : ℕ} (maker : ℕ → Fitter) (f : Frame) (before after : List Glyph) (g : ℕ × ℕ)
-    → IsOkAnd (glyph_shape maker (g.0, pen)) (Adds f before after) → g ≡ (g.0, pen)
-    → (new : Shape) × (glyph_shape maker g ≡ Ok new) × Adds f before after new
-made_at {pen} maker f before after g black is =
+pub made_at : {pen : ℕ} (keeps : Bool) (maker : ℕ → Fitter) (f : Frame) (before after : List Glyph) (g : ℕ × ℕ)
+    → IsOkAnd (glyph_shape maker (g.0, pen)) (Adds keeps f before after) → g ≡ (g.0, pen)
+    → (new : Shape) × (glyph_shape maker g ≡ Ok new) × Adds keeps f before after new
+made_at {pen} keeps maker f before after g black is =
     let same : g.1 ≡ pen = ap (λ (g : ℕ × ℕ). g.1) is in
-    rw same (ok_and (glyph_shape maker (g.0, pen)) (Adds f before after) black)
+    rw same (ok_and (glyph_shape maker (g.0, pen)) (Adds keeps f before after) black)
 
 -- a glyph that has its pens within the width has them there with one pen more, too
 pub within_stood : (gs : List Glyph) (i : ℕ) (g : Glyph) (pen : ℕ) → i < length gs → g ≡ get_or gs i g → pen ≤ width_limit
-    → AreWithin gs → AreWithin (set gs i (record g { pens = g.pens ++ pen ∷ [] }))
+    → AreWithin gs → AreWithin (set gs i (record g { pens = g.pens ++ (pen + g.left) ∷ [] }))
 within_stood gs i g pen below is low within =
-    let own : All (λ pen. pen ≤ width_limit) g.pens = rw (← is) at (within i g below) in
-    All-set (λ g. All (λ pen. pen ≤ width_limit) g.pens) gs i (record g { pens = g.pens ++ pen ∷ [] })
-    (All-push (λ pen. pen ≤ width_limit) g.pens pen own low) within
+    let own : All (λ pen. pen ≤ width_limit + g.left) g.pens = rw (← is) at (within i g below) in
+    All-set (λ g. All (λ pen. pen ≤ width_limit + g.left) g.pens) gs i (record g { pens = g.pens ++ (pen + g.left) ∷ [] })
+    (All-push (λ pen. pen ≤ width_limit + g.left) g.pens (pen + g.left) own (omega (arith, low))) within

@@ -1,39 +1,65 @@
 -- No part of the standard: the distinct glyphs of a line, each with its edges where its pen is 0 and the pens at which
 -- it stands.
-use Rattle.std.specs.Prelude.{◌≡◌, ℕ, ◌<◌, ◌≤◌, ◌-◌, ◌+◌, ◌*◌, ◌^◌, Bool, ◌||◌, List, [], ◌∷◌, length, map, slice_index, pos, All, IfSome, Option, Ok}
+use Rattle.std.specs.Prelude.{◌≡◌, ℕ, ◌<◌, ◌≤◌, ◌-◌, ◌+◌, ◌*◌, ◌^◌, Bool, false, ◌||◌, List, [], ◌∷◌, length, map, slice_index, pos, All, IfSome, Option, Ok, ⊤}
 use Rattle.tt_core.specs.Bits.{stride}
 use Rattle.tt_core.specs.Faults.{Fault}
-use Rattle.tt_core.specs.Limits.{width_limit}
+use Rattle.tt_core.specs.Limits.{margin_limit, width_limit}
 use Rattle.tt_pbm.specs.P4.{rows}
 use Rattle.tt_fit.specs.Fitting.{Fitter, fitted_outline, unfitted_fault}
 use Rattle.tt_fit.specs.Outline.{Outline}
 use Rattle.tt_scan.specs.Contours.{AreEnds, IsClosed, contours_at}
+use Rattle.tt_scan.specs.declared.edge.Edge.{Edge}
 use Rattle.tt_scan.specs.declared.edge.Frame.{Frame}
 use Rattle.tt_scan.specs.Tape.{Tape}
 use Rattle.tt_scan.specs.Winding.{is_black, column_x, row_y, crossings_of}
 use Rattle.tt_scan_dropouts.specs.Pictures.{column_at, is_among, line_at}
 use Rattle.tt_scan_dropouts.specs.declared.mark.Rules.{Rules}
 use Rattle.tt_scan_dropouts.specs.declared.picture.Dropout.{Dropout}
+use Rattle.tt_scan_rows.specs.Raster.{IsRasterOf, Raster}
 use Rattle.tt_strike.specs.Picture.{contours_of, edges_at, filled_by}
-use Rattle.tt_strike.specs.Pixels.{Shape, Stamp, TapeFits, is_black_by, is_filled, is_filled_by, some_black, some_filled}
+use Rattle.tt_strike.specs.Pixels as pixels
+use Rattle.tt_strike.specs.Pixels.{Drawn, Shape, Stamp, TapeFits, is_black_by, is_filled, is_filled_by, some_black, some_filled}
 use Rattle.tt_strike.specs.Work.{crossings_in, filling_crossings}
 
--- a glyph by its number in the font, with its edges where its pen is 0, by which rules its dropouts are filled, where
--- its contours end among the edges if they are, its pens, and the fault for which it is not fitted
+-- what a glyph blackens rows with: a tape of its edges, or the black columns of its lines
+pub data Body : Type 0 where
+  tape : Tape → Body
+  raster : Raster → Body
+
+abbrev pub edges_of : Body → List Edge
+edges_of (tape t) = t.edges
+edges_of (raster k) = []
+
+abbrev pub drawn_of : Body → Drawn
+drawn_of (tape t) = pixels.edges t.edges
+drawn_of (raster k) = pixels.raster k
+
+abbrev pub IsTape : Body → Type 0
+IsTape (tape t) = ⊤
+IsTape (raster k) = ⊥
+
+-- how far the pens of a glyph are moved, so that they count from where its body has its columns
+abbrev pub left_of : Frame → Body → ℕ
+left_of f (tape t) = 0
+left_of f (raster k) = f.margin
+
+-- a glyph by its number in the font, with what it blackens rows with, by which rules its dropouts are filled, where its
+-- contours end among the edges if they are, how far its pens are moved, these, and the fault for which it is not fitted
 pub record Glyph : Type 0 where
   pub number : ℕ
-  pub tape : Tape
+  pub body : Body
   pub filled : Option Rules
   pub ends : List ℕ
+  pub left : ℕ
   pub pens : List ℕ
   pub unfitted : Option Fault
 
 -- what it blackens a picture with
 abbrev pub stamp_of : Glyph → Stamp
 stamp_of g = record {
-  edges = g.tape.edges;
+  drawn = drawn_of g.body;
   filled = g.filled;
-  contours = contours_at g.tape.edges g.ends;
+  contours = contours_at (edges_of g.body) g.ends;
   pens = g.pens;
 }
 
@@ -44,28 +70,43 @@ stamps_in gs = map stamp_of gs
 abbrev pub numbers_of : List Glyph → List ℕ
 numbers_of gs = map (λ g. g.number) gs
 
--- a glyph has the edges of its outline, dropouts as its contours have them, and the fault for which it is not fitted
-pub record IsDrawn (s : Fitter) (f : Frame) (g : Glyph) : Type 0 where
+-- a body has the edges of an outline, or their black columns
+abbrev pub IsBodyOf : List Edge → Body → Type 0
+IsBodyOf es (tape t) = t.edges ≡ es
+IsBodyOf es (raster k) = IsRasterOf es k
+
+-- a tape has this frame, few edges, and a crossing count of at most `asked`
+abbrev pub BodyFits : Frame → ℕ → Body → Type 0
+BodyFits f asked (tape t) = TapeFits f asked t
+BodyFits f asked (raster k) = ⊤
+
+-- a glyph has the body of its outline, dropouts as its contours have them, and the fault for which it is not fitted; it
+-- is a tape where glyphs are not kept from line to line
+pub record IsDrawn (keeps : Bool) (s : Fitter) (f : Frame) (g : Glyph) : Type 0 where
   pub shape : Outline
   pub unfitted : g.unfitted ≡ unfitted_fault s g.number
   pub outline : fitted_outline s g.number ≡ Ok shape
-  pub edges : g.tape.edges ≡ edges_at 0 shape
+  pub body : IsBodyOf (edges_at 0 shape) g.body
+  pub left : g.left ≡ left_of f g.body
+  pub tape : keeps ≡ false → IsTape g.body
   pub filled : g.filled ≡ filled_by s g.number shape
-  pub contours : IfSome g.filled (λ rules. contours_at g.tape.edges g.ends ≡ contours_of 0 shape)
-  pub ends : IfSome g.filled (λ rules. AreEnds (length g.tape.edges) g.ends)
-  pub fits : TapeFits f 0 g.tape
+  pub of_tape : IfSome g.filled (λ rules. IsTape g.body)
+  pub contours : IfSome g.filled (λ rules. contours_at (edges_of g.body) g.ends ≡ contours_of 0 shape)
+  pub ends : IfSome g.filled (λ rules. AreEnds (length (edges_of g.body)) g.ends)
+  pub fits : BodyFits f 0 g.body
 
 -- each pen of some glyphs lies within the width of a picture
 abbrev pub AreWithin : List Glyph → Type 0
-AreWithin gs = All (λ g. All (λ pen. pen ≤ width_limit) g.pens) gs
+AreWithin gs = All (λ g. All (λ pen. pen ≤ width_limit + g.left) g.pens) gs
 
--- the dropouts of a glyph can be asked for: its edges are few, its contours end among them and are closed, and its pens
+-- the dropouts of a glyph can be asked for: it is a tape, its contours end among the edges and are closed, and its pens
 -- lie within the width of a picture
 pub record CanBeFilled (g : Glyph) : Type 0 where
-  pub few : length g.tape.edges ≤ 2 ^ 17
-  pub ends : IfSome g.filled (λ rules. AreEnds (length g.tape.edges) g.ends)
-  pub closed : IfSome g.filled (λ rules. All IsClosed (contours_at g.tape.edges g.ends))
-  pub pens : All (λ pen. pen ≤ width_limit) g.pens
+  pub few : length (edges_of g.body) ≤ 2 ^ 17
+  pub tape : IfSome g.filled (λ rules. IsTape g.body)
+  pub ends : IfSome g.filled (λ rules. AreEnds (length (edges_of g.body)) g.ends)
+  pub closed : IfSome g.filled (λ rules. All IsClosed (contours_at (edges_of g.body) g.ends))
+  pub pens : IfSome g.filled (λ rules. All (λ pen. pen ≤ width_limit) g.pens)
 
 -- some glyphs, by their edges, or some dropouts have column c of row r
 abbrev pub shows_by : Frame → List Stamp → List Dropout → ℕ → ℕ → Bool
@@ -81,9 +122,14 @@ row_of f gs ds r = rows_by f gs ds (stride f.width * r) (stride f.width)
 abbrev pub all_rows : Frame → List Glyph → List Dropout → List ℕ
 all_rows f gs ds = rows_by f gs ds 0 (stride f.width * f.height)
 
--- how often a glyph crosses the rows of the picture, and the lines that are asked for its dropouts, at a pen and at all
+-- how often a glyph crosses the rows of the picture, and the lines that are asked for its dropouts, at a pen and at all;
+-- a raster is cut already
+abbrev pub body_crossings : Body → Option Rules → ℕ
+body_crossings (tape t) filled = crossings_of t.frame t.edges + filling_crossings filled t.edges
+body_crossings (raster k) filled = 0
+
 abbrev pub pen_crossings : Glyph → ℕ
-pen_crossings g = crossings_of g.tape.frame g.tape.edges + filling_crossings g.filled g.tape.edges
+pen_crossings g = body_crossings g.body g.filled
 
 abbrev pub glyph_crossings : Glyph → ℕ
 glyph_crossings g = pen_crossings g * length g.pens
@@ -93,20 +139,21 @@ abbrev pub crossings_standing : List Glyph → ℕ
 crossings_standing [] = 0
 crossings_standing (g ∷ gs) = glyph_crossings g + crossings_standing gs
 
--- some glyphs at their pens blacken the pixels that these do, have the same dropouts, and cross as many lines
-pub record Stand (f : Frame) (gs : List Glyph) (shapes : List Shape) : Type 0 where
-  pub black : (c r : ℕ) → is_black_by f (stamps_in gs) c r
+-- some glyphs at their pens blacken the pixels that these do, have the same dropouts, and, where none is kept, cross as
+-- many lines
+pub record Stand (keeps : Bool) (f : Frame) (gs : List Glyph) (shapes : List Shape) : Type 0 where
+  pub black : (c r : ℕ) → c < 2 ^ 62 → is_black_by f (stamps_in gs) c r
       ≡ some_black shapes (column_x f.margin (pos c)) (row_y f (pos r))
   pub dropouts : (c r : ℕ) → is_filled_by f (stamps_in gs) c r ≡ some_filled f shapes c r
-  pub crossings : crossings_standing gs ≡ crossings_in f shapes
+  pub crossings : keeps ≡ false → crossings_standing gs ≡ crossings_in f shapes
 
 -- some do what those before them did and one more does
-pub record Adds (f : Frame) (before after : List Glyph) (s : Shape) : Type 0 where
-  pub black : (c r : ℕ) → is_black_by f (stamps_in after) c r
+pub record Adds (keeps : Bool) (f : Frame) (before after : List Glyph) (s : Shape) : Type 0 where
+  pub black : (c r : ℕ) → c < 2 ^ 62 → is_black_by f (stamps_in after) c r
       ≡ (is_black_by f (stamps_in before) c r || is_black s.edges (column_x f.margin (pos c)) (row_y f (pos r)))
   pub dropouts : (c r : ℕ) → is_filled_by f (stamps_in after) c r
       ≡ (is_filled_by f (stamps_in before) c r || is_filled s.filled s.contours (column_at f 0 c) (line_at f r))
-  pub crossings : crossings_standing after
+  pub crossings : keeps ≡ false → crossings_standing after
       ≡ crossings_standing before + (crossings_of f s.edges + filling_crossings s.filled s.edges)
 
 -- for each glyph of the font one more than its place among some numbers, or 0 where it has none
@@ -118,14 +165,16 @@ pub record ArePlaces (table numbers : List ℕ) : Type 0 where
 -- a glyph of which so many crossings were asked for at most, on a tape of the frame, with no more edges than a sweep
 -- has memory for
 pub record GlyphFits (f : Frame) (asked most : ℕ) (g : Glyph) : Type 0 where
-  pub tape : TapeFits f asked g.tape
-  pub room : length g.tape.edges ≤ most
+  pub body : BodyFits f asked g.body
+  pub room : length (edges_of g.body) ≤ most
 
 -- each glyph is drawn as it is made
-abbrev pub AreDrawn : (ℕ → Fitter) → Frame → List Glyph → Type 0
-AreDrawn maker f gs = All (λ g. IsDrawn (maker g.number) f g) gs
+abbrev pub AreDrawn : Bool → (ℕ → Fitter) → Frame → List Glyph → Type 0
+AreDrawn keeps maker f gs = All (λ g. IsDrawn keeps (maker g.number) f g) gs
 
--- what is kept of a line, in a font of so many glyphs: the places of its glyphs, and these
+-- what is kept of a line, in a font of so many glyphs: the places of its glyphs, and these, whose pens are moved by no
+-- more than a margin
 pub record AreKept (glyphs : ℕ) (table : List ℕ) (gs : List Glyph) : Type 0 where
   pub room : length table ≡ glyphs
   pub places : ArePlaces table (numbers_of gs)
+  pub lefts : All (λ g. g.left ≤ margin_limit) gs

@@ -4,6 +4,7 @@ pub mod Defects
 pub mod Distinct
 pub mod Tables
 pub mod Glyphs
+pub mod Kept
 pub mod Laws
 pub mod Makers
 pub mod Picture

@@ -9,6 +9,7 @@ use Rattle.tt_scan.specs.Winding.{is_black, column_x, row_y}
 use Rattle.tt_scan_dropouts.specs.Dropouts.{is_dropout}
 use Rattle.tt_scan_dropouts.specs.Pictures.{column_at, line_at}
 use Rattle.tt_scan_dropouts.specs.declared.mark.Rules.{Rules}
+use Rattle.tt_scan_rows.specs.Raster.{Raster, shows}
 
 -- a glyph at its pen: its edges, the same contour by contour, and by which rules its dropouts are filled, if they are
 pub record Shape : Type 0 where
@@ -36,24 +37,34 @@ abbrev pub is_black_pixel : Frame → List Shape → ℕ → ℕ → Bool
 is_black_pixel f glyphs c r =
     some_black glyphs (column_x f.margin (pos c)) (row_y f (pos r)) || some_filled f glyphs c r
 
--- the edges of a glyph where its pen is 0, by which rules its dropouts are filled, its contours where they are, and the
--- pens at which it stands
+-- what one glyph is drawn by: its edges where its pen is 0, or the black columns of its lines
+pub data Drawn : Type 0 where
+  edges : List Edge → Drawn
+  raster : Raster → Drawn
+
+-- they blacken column c of row r, the column counted from the glyph's pen: that of edges stands at the margin, that of
+-- a raster at the left end
+abbrev pub is_drawn : Frame → Drawn → ℤ → ℕ → Bool
+is_drawn f (edges es) c r = is_black es (column_x f.margin c) (row_y f (pos r))
+is_drawn f (raster k) c r = shows k c (line_at f r)
+
+-- what a glyph is drawn by, by which rules its dropouts are filled, its contours where they are, and the pens at which it
+-- stands
 pub record Stamp : Type 0 where
-  pub edges : List Edge
+  pub drawn : Drawn
   pub filled : Option Rules
   pub contours : List (List Edge)
   pub pens : List ℕ
 
--- edges that were made for pen 0 blacken column c of row r from some pen: they blacken the column so far to its left
-abbrev pub is_black_from : Frame → List Edge → List ℕ → ℕ → ℕ → Bool
-is_black_from f edges [] c r = false
-is_black_from f edges (pen ∷ pens) c r =
-    is_black edges (column_x f.margin (pos c -ℤ pos pen)) (row_y f (pos r)) || is_black_from f edges pens c r
+-- what was made for pen 0 blackens column c of row r from some pen: it blackens the column so far to its left
+abbrev pub is_black_from : Frame → Drawn → List ℕ → ℕ → ℕ → Bool
+is_black_from f drawn [] c r = false
+is_black_from f drawn (pen ∷ pens) c r = is_drawn f drawn (pos c -ℤ pos pen) r || is_black_from f drawn pens c r
 
 -- some glyph blackens it from one of its pens
 abbrev pub is_black_by : Frame → List Stamp → ℕ → ℕ → Bool
 is_black_by f [] c r = false
-is_black_by f (g ∷ gs) c r = is_black_from f g.edges g.pens c r || is_black_by f gs c r
+is_black_by f (g ∷ gs) c r = is_black_from f g.drawn g.pens c r || is_black_by f gs c r
 
 -- the same of its dropouts
 abbrev pub is_filled_from : Frame → Option Rules → List (List Edge) → List ℕ → ℕ → ℕ → Bool

@@ -1,4 +1,5 @@
--- No part of the standard: a font at a size, with a way of fitting, and the jobs that its lines are.
+-- No part of the standard: a font at a size, with a way of fitting, how many bytes of its glyphs may be kept from line
+-- to line, and the jobs that its lines are.
 use Rattle.std.specs.Prelude.{ℕ, List}
 use Rattle.tt_fit.specs.declared.programs.Fit.{Fit}
 use Rattle.tt_strike.specs.Job.{Job}
@@ -8,6 +9,7 @@ pub record Strike : Type 0 where
   pub face : Face
   pub ppem : ℕ
   pub fit : Fit
+  pub most : ℕ
 
 -- the job of a line
 abbrev pub job_of : Strike → List ℕ → ℕ → Job

@@ -1,18 +1,21 @@
 //! A line that is laid out, drawn.
 
-ghost use Rattle.std.specs.Prelude.{◌≡◌, ◌<◌, ◌≤◌, ◌^◌, length, map, unsigned_abs, All, Ok, IfOk};
+ghost use Rattle.std.specs.Prelude.{◌≡◌, ◌<◌, ◌≤◌, ◌^◌, ◌&&◌, not, nat_lt, true, length, map, unsigned_abs, All, Ok, IfOk};
 ghost use Rattle.tt_core.specs.declared.fault.JobFault.TheVariants.{WorkLarge};
 ghost use Rattle.tt_core.specs.Limits.{text_limit, width_limit, height_limit};
 ghost use Rattle.tt_core.specs.Outcomes.{GivesUnless, IfTold};
+ghost use Rattle.tt_fit.specs.Fitting.{Fitter};
 ghost use Rattle.tt_line.specs.Outcome.{placement_of};
 ghost use Rattle.tt_metrics.specs.Metrics.{glyphs_of};
 ghost use Rattle.tt_strike.specs.Defects.{IsLineDefect, IsTooMuchWork, TellsDefects, draw_font_fault, draw_job_fault};
 ghost use Rattle.tt_strike.specs.Job.{job_view, IsJob};
+ghost use Rattle.tt_strike.specs.Kept.{AreKeptFor};
 ghost use Rattle.tt_strike.specs.Makers.{IsMaker};
-ghost use Rattle.tt_strike.specs.Picture.{drawn, frame_of};
+ghost use Rattle.tt_strike.specs.Picture.{drawn, frame_of, setting_in};
 ghost use Rattle.tt_strike.specs.Pictures.{IsReady, picture_bytes};
 ghost use Rattle.tt_strike.specs.Refusals.{refusal};
 ghost use Rattle.tt_strike.specs.Report.{line_report, ListsOnce};
+ghost use Rattle.tt_strike.specs.Work.{is_bounded};
 
 use crate::dropouts::line_dropouts;
 use crate::fault::DrawFault;
@@ -21,10 +24,19 @@ use crate::job::Job;
 use crate::maker::Maker;
 use crate::picture::Picture;
 use crate::tables::Face;
-use crate::work::{test_crossings, test_points};
+use crate::work::{is_bounded, test_crossings, test_points};
 use std::alloc::Global;
+use tt_fit::Fit;
 use tt_line::Line;
 use tt_scan::Frame;
+use tt_strike_kept::KeptGlyphs;
+
+/// Whether glyphs are kept from line to line: not where a line uses up some of the work of what makes them.
+fn keeps_glyphs(kept: &KeptGlyphs, fit: Fit) -> bool
+    ensures { result ≡ (nat_lt 0 kept.now.most && not (is_bounded fit)) }
+{
+    kept.most() > 0 && !is_bounded(fit)
+}
 
 /// The picture of a line that is laid out. Errors: those of loca and glyf, of the programs; WorkLarge of its points;
 /// those of the glyphs in the order of the line; WorkLarge of its crossings; Memory.
@@ -33,11 +45,13 @@ pub(crate) fn draw_line<'a>(
     alloc: Global,
     face: &Face<'a>,
     maker: &mut Maker<'a>,
+    kept: &mut KeptGlyphs,
     job: &Job,
     line: &Line,
 ) -> Result<Picture, DrawFault>
     requires asked { IsJob (job_view job.now) }
     requires maker { IsMaker face.now job.now.ppem job.now.fit maker.old }
+    requires kept { (s : Fitter) → setting_in face.now (job_view job.now) ≡ Ok s → AreKeptFor s kept.old.entries }
     requires width { (1 ≤ line.now.width) × (line.now.width ≤ width_limit) }
     requires height { (1 ≤ line.now.height) × (line.now.height ≤ height_limit) }
     requires rise { unsigned_abs line.now.rise ≤ 10 ^ 6 }
@@ -50,6 +64,9 @@ pub(crate) fn draw_line<'a>(
     ensures report { IfOk result (λ p. line_report face.now (job_view job.now) (placement_of line.now) ≡ Ok p.unfitted) }
     ensures once { IfOk result (λ p. ListsOnce p.unfitted) }
     ensures maker { IsMaker face.now job.now.ppem job.now.fit maker.new }
+    ensures kept { (s : Fitter) → setting_in face.now (job_view job.now) ≡ Ok s → AreKeptFor s kept.new.entries }
+    ensures same { is_bounded job.now.fit ≡ true → kept.new ≡ kept.old }
+    ensures most { kept.new.most ≡ kept.old.most }
     ensures defects { TellsDefects draw_font_fault (IsLineDefect face.now (job_view job.now) (map (λ g. g.0) line.now.glyphs.items)) result }
     ensures work { IfTold draw_job_fault result (λ j. (j ≡ WorkLarge) × IsTooMuchWork face.now (job_view job.now) (placement_of line.now)) }
 {
@@ -61,9 +78,10 @@ pub(crate) fn draw_line<'a>(
         margin: job.margin,
         rise: line.rise,
     };
+    let keeps = keeps_glyphs(kept, job.fit);
     let count = face.metrics().glyphs();
     test_points(alloc, job.fit, &fitter, count, &line.glyphs)?;
-    let glyphs = line_glyphs(alloc, &mut fitter, count, &line.glyphs, frame)?;
+    let glyphs = line_glyphs(alloc, &mut fitter, count, &line.glyphs, frame, kept, keeps)?;
     test_crossings(job.fit, &glyphs)?;
     let dropouts = line_dropouts(alloc, frame, &glyphs)?;
     let picture = Picture::new(alloc, frame, glyphs, dropouts)?;

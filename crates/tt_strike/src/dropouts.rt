@@ -5,11 +5,11 @@ ghost use Rattle.tt_core.specs.Limits.{height_limit};
 ghost use Rattle.tt_scan.specs.Contours.{contours_at};
 ghost use Rattle.tt_scan.specs.Winding.{FrameFits};
 ghost use Rattle.tt_scan_dropouts.specs.Pictures.{AreDropouts, AreInColumns, is_among};
-ghost use Rattle.tt_strike.specs.Glyphs.{CanBeFilled, stamps_in};
+ghost use Rattle.tt_strike.specs.Glyphs.{CanBeFilled, edges_of, stamps_in};
 ghost use Rattle.tt_strike.specs.Picture.{rules_for};
 ghost use Rattle.tt_strike.specs.Pixels.{is_filled_by, is_filled_from};
 
-use crate::glyph::Glyph;
+use crate::glyph::{Body, Glyph};
 use std::alloc::{AllocError, Global};
 use tt_fit::DropoutRules;
 use tt_scan::Frame;
@@ -41,20 +41,14 @@ fn push_glyph(
     requires glyph { CanBeFilled glyph.now }
     requires found { AreInColumns frame.width found.old.items }
     ensures added { OnOk result ((c r : ℕ) → c < frame.width → r < frame.height → is_among found.new.items c r
-        ≡ (is_among found.old.items c r || is_filled_from frame glyph.now.filled (contours_at glyph.now.tape.edges glyph.now.ends) glyph.now.pens c r)) }
+        ≡ (is_among found.old.items c r || is_filled_from frame glyph.now.filled (contours_at (edges_of glyph.now.body) glyph.now.ends) glyph.now.pens c r)) }
     ensures within { OnOk result (AreInColumns frame.width found.new.items) }
 {
-    match glyph.filled {
-        Some(rules) => push_dropouts(
-            alloc,
-            found,
-            frame,
-            rules,
-            &glyph.tape,
-            &glyph.ends,
-            &glyph.pens,
-        ),
-        None => Ok(()),
+    match (glyph.filled, &glyph.body) {
+        (Some(rules), Body::Tape(tape)) => {
+            push_dropouts(alloc, found, frame, rules, tape, &glyph.ends, &glyph.pens)
+        }
+        _ => Ok(()),
     }
 }
 

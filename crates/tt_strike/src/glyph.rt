@@ -1,34 +1,65 @@
 //! A glyph of a line: made once, however often it stands in the line. How it is painted: painting.rt.
 
-ghost use Rattle.std.specs.Prelude.{◌≡◌, ◌<◌, ◌≤◌, ◌-◌, ◌^◌, min, ◌++◌, [], ◌∷◌, length, IfOk, IfSome, IfNone, OnOk, Some, None, Err};
+ghost use Rattle.std.specs.Prelude.{◌≡◌, ◌+◌, ◌*◌, ◌<◌, ◌≤◌, ◌-◌, ◌^◌, min, true, false, ◌++◌, [], ◌∷◌, length, nat_eq, IfOk, IfSome, IfNone, OnOk, Some, None, Err};
+ghost use Rattle.std.specs.Map.{lookup};
+ghost use Rattle.tt_core.specs.Limits.{margin_limit, width_limit};
 ghost use Rattle.tt_core.specs.Outcomes.{IfTold, font_fault};
-ghost use Rattle.tt_fit.specs.Fitting.{fitted_outline, after_glyph};
+ghost use Rattle.tt_fit.specs.Fitting.{Fitter, fitted_outline, after_glyph};
 ghost use Rattle.tt_fit.specs.Outline.{IsOutline, outline_of};
 ghost use Rattle.tt_scan.specs.Contours.{AreEnds, contours_at};
 ghost use Rattle.tt_scan.specs.Winding.{FrameFits};
-ghost use Rattle.tt_strike.specs.Glyphs.{IsDrawn, glyph_crossings, pen_crossings};
+ghost use Rattle.tt_scan_rows.specs.Raster.{IsRasterOf, Raster};
+ghost use Rattle.tt_strike.specs.Glyphs.{BodyFits, IsBodyOf, IsDrawn, IsTape, edges_of, glyph_crossings, left_of, pen_crossings};
+ghost use Rattle.tt_strike.specs.Kept.{AreKeptFor, IsKept};
 ghost use Rattle.tt_strike.specs.Picture.{contours_of, edges_at};
-ghost use Rattle.tt_strike.specs.Pixels.{TapeFits};
+ghost use Rattle.tt_strike.specs.Views.{body_view};
 
 use crate::dropouts::rules_for;
 use crate::report::Unfitted;
 use std::alloc::{AllocError, Global};
 use std::marker::Model;
-use tt_arc::{chords, contour_ends};
+use std::rc::Rc;
+use tt_arc::{contour_ends, edges};
 use tt_core::{Fault, FontFault};
 use tt_fit::{Fitter, Outline};
-use tt_scan::{Frame, Tape};
+use tt_scan::{EdgeList, Frame, Tape};
 use tt_scan_dropouts::{Rules, crossings, most_crossings};
+use tt_scan_rows::{Cut, Raster};
+use tt_strike_kept::{KeptGlyph, KeptGlyphs};
 
-/// A glyph by its number in the font, with its edges where its pen is 0.
+/// What a glyph blackens rows with.
+#[derive(Drop)]
+pub(crate) enum Body {
+    /// Its edges where its pen is 0.
+    Tape(Tape),
+    /// The black columns of its lines.
+    Raster(Rc<Raster>),
+}
+
+impl Body {
+    /// How far the pens of a glyph are moved, so that they count from where its body has its columns.
+    fn left(&self, frame: Frame) -> u32
+        ensures exact { result ≡ left_of frame (body_view self.now) }
+        ensures limit { frame.margin ≤ margin_limit → result ≤ margin_limit }
+    {
+        match self {
+            Body::Tape(_) => 0,
+            Body::Raster(_) => frame.margin,
+        }
+    }
+}
+
+/// A glyph by its number in the font, with what it blackens rows with.
 #[derive(Drop)]
 pub(crate) struct Glyph {
     number: u16,
-    pub(crate) tape: Tape,
+    pub(crate) body: Body,
     /// By which rules its dropouts are filled.
     pub(crate) filled: Option<Rules>,
     /// How many edges there are up to the end of each contour; none where no dropouts are filled.
     pub(crate) ends: Vec<usize>,
+    /// How many columns of the picture lie left of pen 0 where the body has none for them.
+    left: u32,
     /// Where it stands in the line, in pixels from the left end.
     pub(crate) pens: Vec<u32>,
     /// The fault for which its outline is not fitted.
@@ -37,40 +68,115 @@ pub(crate) struct Glyph {
 
 impl Model for Glyph {
     ghost use Rattle.tt_strike.specs.Glyphs as glyphs;
+    ghost use Rattle.tt_strike.specs.Views.{body_view};
 
     ghost Value = { glyphs.Glyph };
 
-    ghost view = { λ g. record { number = g.number; tape = g.tape; filled = g.filled; ends = g.ends.items; pens = g.pens.items; unfitted = g.unfitted } };
+    ghost view = { λ g. record { number = g.number; body = body_view g.body; filled = g.filled; ends = g.ends.items; left = g.left; pens = g.pens.items; unfitted = g.unfitted } };
 }
 
 impl Glyph {
-    /// A glyph without a pen, with room for so many; the fitter is left to the glyphs after. Errors: those of its outline,
-    /// Memory.
-    pub(crate) fn new(
+    /// A glyph without a pen, with room for so many; one that is kept from line to line is not made anew. The fitter is
+    /// left to the glyphs after. Errors: those of its outline, Memory.
+    pub(crate) fn of(
         alloc: Global,
         fitter: &mut Fitter,
         number: u16,
         frame: Frame,
         room: usize,
+        kept: &mut KeptGlyphs,
+        keeps: bool,
     ) -> Result<Glyph, FontFault>
         requires known { number < fitter.old.tables.glyphs }
         requires frame { FrameFits frame }
+        requires keeps { keeps ≡ true → fitter.old.work ≡ None }
+        requires kept { AreKeptFor fitter.old kept.old.entries }
         ensures number { IfOk result (λ g. g.number ≡ number) }
         ensures pens { IfOk result (λ g. g.pens ≡ []) }
-        ensures valid { IfOk result (IsDrawn fitter.old frame) }
+        ensures left { IfOk result (λ g. g.left ≤ margin_limit) }
+        ensures valid { IfOk result (IsDrawn keeps fitter.old frame) }
         ensures after { OnOk result (fitter.new ≡ after_glyph fitter.old number) }
+        ensures kept { AreKeptFor fitter.old kept.new.entries }
+        ensures same { keeps ≡ false → kept.new ≡ kept.old }
+        ensures most { kept.new.most ≡ kept.old.most }
         ensures fault { IfTold font_fault result (λ f. fitted_outline fitter.old number ≡ Err f) }
     {
-        // The outline is given up once the tape stands.
+        match found(kept, number, keeps) {
+            Some(glyph) => {
+                tt_fit::laws::work_unfits();
+                Ok(Glyph::kept(alloc, number, glyph, frame, room)?)
+            }
+            None => Glyph::new(alloc, fitter, number, frame, room, kept, keeps),
+        }
+    }
+
+    /// A glyph without a pen, made from its outline, with room for so many; the fitter is left to the glyphs after.
+    /// Where glyphs are kept from line to line it is, if it is small enough. Errors: those of its outline, Memory.
+    fn new(
+        alloc: Global,
+        fitter: &mut Fitter,
+        number: u16,
+        frame: Frame,
+        room: usize,
+        kept: &mut KeptGlyphs,
+        keeps: bool,
+    ) -> Result<Glyph, FontFault>
+        requires known { number < fitter.old.tables.glyphs }
+        requires frame { FrameFits frame }
+        requires keeps { keeps ≡ true → fitter.old.work ≡ None }
+        requires kept { AreKeptFor fitter.old kept.old.entries }
+        ensures number { IfOk result (λ g. g.number ≡ number) }
+        ensures pens { IfOk result (λ g. g.pens ≡ []) }
+        ensures left { IfOk result (λ g. g.left ≤ margin_limit) }
+        ensures valid { IfOk result (IsDrawn keeps fitter.old frame) }
+        ensures after { OnOk result (fitter.new ≡ after_glyph fitter.old number) }
+        ensures kept { AreKeptFor fitter.old kept.new.entries }
+        ensures same { keeps ≡ false → kept.new ≡ kept.old }
+        ensures most { kept.new.most ≡ kept.old.most }
+        ensures fault { IfTold font_fault result (λ f. fitted_outline fitter.old number ≡ Err f) }
+    {
+        // The outline is given up once the edges stand.
         let outline = fitter.fit(number)?;
         let filled = rules_for(fitter.dropouts(&outline));
+        let list = edges_of(alloc, &outline)?;
+        let ends = ends_of(alloc, &outline, filled)?;
+        let unfitted = outline.unfitted;
+        let plain = can_be_kept(keeps, filled);
+        let body = body_of(alloc, list, frame, number, unfitted, kept, plain)?;
+        let left = body.left(frame);
         Ok(Glyph {
             number,
-            tape: tape_of(alloc, &outline, frame)?,
+            body,
             filled,
-            ends: ends_of(alloc, &outline, filled)?,
+            ends,
+            left,
             pens: Vec::with_capacity(alloc, room)?,
-            unfitted: outline.unfitted,
+            unfitted,
+        })
+    }
+
+    /// A glyph that is kept, without a pen, with room for so many. Error: Memory.
+    fn kept(
+        alloc: Global,
+        number: u16,
+        kept: KeptGlyph,
+        frame: Frame,
+        room: usize,
+    ) -> Result<Glyph, AllocError>
+        ensures number { IfOk result (λ g. g.number ≡ number) }
+        ensures pens { IfOk result (λ g. g.pens ≡ []) }
+        ensures left { IfOk result (λ g. g.left ≡ frame.margin) }
+        ensures valid { IfOk result (λ g. (s : Fitter) → IsKept s number kept → IsDrawn true s frame g) }
+    {
+        let KeptGlyph { raster, unfitted } = kept;
+        Ok(Glyph {
+            number,
+            body: Body::Raster(raster),
+            filled: None,
+            ends: Vec::new(alloc),
+            left: frame.margin,
+            pens: Vec::with_capacity(alloc, room)?,
+            unfitted,
         })
     }
 
@@ -88,29 +194,34 @@ impl Glyph {
         }
     }
 
-    /// Adds a pen at which the glyph stands, in pixels. Error: Memory.
+    /// Adds a pen at which the glyph stands, in pixels from the left end of the line. Error: Memory.
     pub(crate) fn stand(&mut self, pen: u32) -> Result<(), AllocError>
-        ensures { OnOk result (self.new ≡ record self.old { pens = self.old.pens ++ pen ∷ [] }) }
+        requires pen { pen ≤ width_limit }
+        requires left { self.old.left ≤ margin_limit }
+        ensures { OnOk result (self.new ≡ record self.old { pens = self.old.pens ++ (pen + self.old.left) ∷ [] }) }
     {
-        Ok(self.pens.push(pen)?)
+        Ok(self.pens.push(pen + self.left)?)
     }
 
     /// How often it crosses the rows of the picture, and the lines that are asked for its dropouts, at a pen. A line of
     /// these counts as four crossings.
     fn pen_crossings(&self) -> u64
-        requires few { length self.now.tape.edges ≤ 2 ^ 17 }
+        requires few { length (edges_of self.now.body) ≤ 2 ^ 17 }
         ensures { result ≡ pen_crossings self.now }
     {
-        let rows = self.tape.crossings();
+        let Body::Tape(tape) = &self.body else {
+            return 0;
+        };
+        let rows = tape.crossings();
         match self.filled {
-            Some(_) => rows + 4 * crossings(self.tape.lend()),
+            Some(_) => rows + 4 * crossings(tape.lend()),
             None => rows,
         }
     }
 
     /// The same at all its pens; the greatest number stands for more.
     pub(crate) fn crossings(&self) -> u64
-        requires few { length self.now.tape.edges ≤ 2 ^ 17 }
+        requires few { length (edges_of self.now.body) ≤ 2 ^ 17 }
         ensures { result ≡ min (glyph_crossings self.now) (2 ^ 64 - 1) }
     {
         self.pen_crossings().saturating_mul(self.pens.len() as u64)
@@ -118,19 +229,22 @@ impl Glyph {
 
     /// No fewer than `pen_crossings`, with less work: no line is counted that is asked for dropouts.
     fn most_pen_crossings(&self) -> u64
-        requires few { length self.now.tape.edges ≤ 2 ^ 17 }
+        requires few { length (edges_of self.now.body) ≤ 2 ^ 17 }
         ensures { pen_crossings self.now ≤ result }
     {
-        let rows = self.tape.crossings();
+        let Body::Tape(tape) = &self.body else {
+            return 0;
+        };
+        let rows = tape.crossings();
         match self.filled {
-            Some(_) => rows + 4 * most_crossings(self.tape.lend()),
+            Some(_) => rows + 4 * most_crossings(tape.lend()),
             None => rows,
         }
     }
 
     /// No fewer than `crossings`, with less work.
     pub(crate) fn most_crossings(&self) -> u64
-        requires few { length self.now.tape.edges ≤ 2 ^ 17 }
+        requires few { length (edges_of self.now.body) ≤ 2 ^ 17 }
         ensures { min (glyph_crossings self.now) (2 ^ 64 - 1) ≤ result }
     {
         self.most_pen_crossings()
@@ -139,21 +253,109 @@ impl Glyph {
 
     /// How many edges it has.
     pub(crate) fn edges(&self) -> usize
-        ensures { result ≡ length self.now.tape.edges }
+        ensures { result ≡ length (edges_of self.now.body) }
     {
-        self.tape.edges()
+        match &self.body {
+            Body::Tape(tape) => tape.edges(),
+            Body::Raster(_) => 0,
+        }
+    }
+}
+
+/// The glyph that is kept under a number, where glyphs are kept at all.
+fn found(kept: &KeptGlyphs, number: u16, keeps: bool) -> Option<KeptGlyph>
+    ensures keeps { IfSome result (λ _. keeps ≡ true) }
+    ensures found { IfSome result (λ g. lookup (nat_eq number) kept.now.entries ≡ Some g) }
+{
+    if keeps { kept.find(number) } else { None }
+}
+
+/// Whether a glyph is to be kept: not one whose dropouts are filled, since these are asked of its edges.
+fn can_be_kept(keeps: bool, filled: Option<Rules>) -> bool
+    ensures kept { result ≡ true → (keeps ≡ true) × (filled ≡ None) }
+    ensures off { keeps ≡ false → result ≡ false }
+    ensures filled { IfSome filled (λ _. result ≡ false) }
+{
+    match filled {
+        Some(_) => false,
+        None => keeps,
     }
 }
 
 /// The edges of an outline whose first phantom point stands at the left end of the line.
-fn tape_of(alloc: Global, outline: &Outline, frame: Frame) -> Result<Tape, AllocError>
-    requires frame { FrameFits frame }
+fn edges_of(alloc: Global, outline: &Outline) -> Result<EdgeList, AllocError>
     requires outline { IsOutline (outline_of outline.now) }
-    ensures exact { IfOk result (λ t. t ≡ record { frame = frame; edges = edges_at 0 (outline_of outline.now); crosses = 0 }) }
-    ensures valid { IfOk result (TapeFits frame 0) }
+    ensures exact { IfOk result (λ l. l.edges ≡ edges_at 0 (outline_of outline.now)) }
+    ensures few { IfOk result (λ l. length l.edges ≤ 2 ^ 17) }
 {
     let origin = outline.phantom[0].0;
-    chords(alloc, outline, -i64::from(origin), 0, frame)
+    edges(alloc, outline, -i64::from(origin), 0)
+}
+
+/// A tape of edges, of which each row is cut when it is made.
+fn tape_of(alloc: Global, list: EdgeList, frame: Frame) -> Result<Body, AllocError>
+    requires frame { FrameFits frame }
+    requires few { length list.edges ≤ 2 ^ 17 }
+    ensures body { IfOk result (λ b. IsBodyOf list.edges (body_view b) × IsTape (body_view b) × BodyFits frame 0 (body_view b)) }
+{
+    Ok(Body::Tape(Tape::of(alloc, frame, list)?))
+}
+
+/// The raster of a glyph, which is kept for the lines after; where there are too many of its lines, or too many black
+/// columns in them, a tape of its edges.
+fn raster_of(
+    alloc: Global,
+    list: EdgeList,
+    frame: Frame,
+    number: u16,
+    unfitted: Option<Fault>,
+    kept: &mut KeptGlyphs,
+) -> Result<Body, AllocError>
+    requires frame { FrameFits frame }
+    requires few { length list.edges ≤ 2 ^ 17 }
+    ensures body { IfOk result (λ b. IsBodyOf list.edges (body_view b) × BodyFits frame 0 (body_view b)) }
+    ensures kept { (s : Fitter) → ((k : Raster) → IsRasterOf list.edges k → IsKept s number (record { raster = k; unfitted = unfitted })) → AreKeptFor s kept.old.entries → AreKeptFor s kept.new.entries }
+    ensures most { kept.new.most ≡ kept.old.most }
+{
+    match Raster::cut(alloc, list, 2 * frame.height, kept.most() / 16)? {
+        Cut::Raster(raster) => {
+            let raster = Rc::new(alloc, raster)?;
+            kept.keep(
+                number,
+                KeptGlyph {
+                    raster: raster.clone()?,
+                    unfitted,
+                },
+            );
+            Ok(Body::Raster(raster))
+        }
+        Cut::Edges(list) => tape_of(alloc, list, frame),
+    }
+}
+
+/// What a glyph of these edges blackens rows with: a raster that is kept, or a tape. Error: Memory.
+fn body_of(
+    alloc: Global,
+    list: EdgeList,
+    frame: Frame,
+    number: u16,
+    unfitted: Option<Fault>,
+    kept: &mut KeptGlyphs,
+    keeps: bool,
+) -> Result<Body, AllocError>
+    requires frame { FrameFits frame }
+    requires few { length list.edges ≤ 2 ^ 17 }
+    ensures body { IfOk result (λ b. IsBodyOf list.edges (body_view b) × BodyFits frame 0 (body_view b)) }
+    ensures tape { IfOk result (λ b. keeps ≡ false → IsTape (body_view b)) }
+    ensures kept { (s : Fitter) → (keeps ≡ true → (k : Raster) → IsRasterOf list.edges k → IsKept s number (record { raster = k; unfitted = unfitted })) → AreKeptFor s kept.old.entries → AreKeptFor s kept.new.entries }
+    ensures same { keeps ≡ false → kept.new ≡ kept.old }
+    ensures most { kept.new.most ≡ kept.old.most }
+{
+    if keeps {
+        raster_of(alloc, list, frame, number, unfitted, kept)
+    } else {
+        tape_of(alloc, list, frame)
+    }
 }
 
 /// How many edges of an outline there are up to the end of each contour, if its dropouts are filled. Error: Memory.

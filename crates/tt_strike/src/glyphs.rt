@@ -1,6 +1,6 @@
 //! The distinct glyphs of a line.
 
-ghost use Rattle.std.specs.Prelude.{◌≡◌, ◌≢◌, false, ℕ, ◌+◌, ◌-◌, ◌^◌, ◌<◌, ◌≤◌, ◌++◌, [], ◌∷◌, length, map, set, get_or, slice_index, replicate, All, IfOk, IfSome, IfNone, IsOkAnd, OnOk, Err};
+ghost use Rattle.std.specs.Prelude.{◌≡◌, ◌≢◌, true, false, None, ℕ, ◌+◌, ◌-◌, ◌^◌, ◌<◌, ◌≤◌, ◌++◌, [], ◌∷◌, length, map, set, get_or, slice_index, replicate, All, IfOk, IfSome, IfNone, IsOkAnd, OnOk, Err};
 ghost use Rattle.tt_core.specs.Limits.{text_limit, width_limit};
 ghost use Rattle.tt_core.specs.Outcomes.{IfTold, each, font_fault};
 ghost use Rattle.tt_fit.specs.Fitting.{Fitter, fitted_outline};
@@ -8,6 +8,7 @@ ghost use Rattle.tt_scan.specs.Winding.{FrameFits};
 ghost use Rattle.tt_scan.specs.Winding.{is_black, column_x, row_y};
 ghost use Rattle.tt_strike.specs.Distinct.{IsNext, distinct, fitter_after, fitter_past, is_among, line_fitter, with_glyph};
 ghost use Rattle.tt_strike.specs.Glyphs.{AreDrawn, AreKept, AreWithin, Adds, ArePlaces, Stand, crossings_standing, numbers_of, stamps_in};
+ghost use Rattle.tt_strike.specs.Kept.{AreKeptFor};
 ghost use Rattle.tt_strike.specs.Picture.{glyph_shape};
 ghost use Rattle.tt_strike.specs.Pixels.{is_black_by, is_filled_by};
 
@@ -16,6 +17,7 @@ use std::alloc::{AllocError, Global};
 use tt_core::FontFault;
 use tt_fit::Fitter;
 use tt_scan::Frame;
+use tt_strike_kept::KeptGlyphs;
 
 /// Distinct glyphs, in order of first appearance.
 #[derive(Drop)]
@@ -78,14 +80,21 @@ impl Glyphs {
         fitter: &mut Fitter,
         number: u16,
         frame: Frame,
+        kept: &mut KeptGlyphs,
+        keeps: bool,
     ) -> Result<usize, FontFault>
         requires known { number < fitter.old.tables.glyphs }
         requires frame { FrameFits frame }
+        requires keeps { keeps ≡ true → fitter.old.work ≡ None }
+        requires kept { AreKeptFor fitter.old kept.old.entries }
         requires few { length self.old.kept.items < text_limit }
         requires valid { AreKept fitter.old.tables.glyphs self.old.places.items self.old.kept.items }
+        ensures kept { AreKeptFor fitter.old kept.new.entries }
+        ensures same { keeps ≡ false → kept.new ≡ kept.old }
+        ensures most { kept.new.most ≡ kept.old.most }
         ensures found { IfOk result (λ i. (i < length self.new.kept.items) × (slice_index (numbers_of self.new.kept.items) i ≡ number)) }
         ensures valid { OnOk result (AreKept fitter.old.tables.glyphs self.new.places.items self.new.kept.items) }
-        ensures drawn { OnOk result ((maker : ℕ → Fitter) → IsNext maker fitter.old (numbers_of self.old.kept.items) number → AreDrawn maker frame self.old.kept.items → AreDrawn maker frame self.new.kept.items) }
+        ensures drawn { OnOk result ((maker : ℕ → Fitter) → IsNext maker fitter.old (numbers_of self.old.kept.items) number → AreDrawn keeps maker frame self.old.kept.items → AreDrawn keeps maker frame self.new.kept.items) }
         ensures after { OnOk result (fitter.new ≡ fitter_past fitter.old (numbers_of self.old.kept.items) number) }
         ensures tables { OnOk result (fitter.new.tables ≡ fitter.old.tables) }
         ensures few { OnOk result (length self.new.kept.items ≤ length self.old.kept.items + 1) }
@@ -99,8 +108,8 @@ impl Glyphs {
         if let Some(i) = self.find(number) {
             return Ok(i);
         }
-        let room = self.room;
-        self.add(Glyph::new(alloc, fitter, number, frame, room)?, number)?;
+        let glyph = Glyph::of(alloc, fitter, number, frame, self.room, kept, keeps)?;
+        self.add(glyph, number)?;
         Ok(self.kept.len() - 1)
     }
 
@@ -111,23 +120,31 @@ impl Glyphs {
         fitter: &mut Fitter,
         placed: (u16, u32),
         frame: Frame,
+        kept: &mut KeptGlyphs,
+        keeps: bool,
     ) -> Result<(), FontFault>
         requires known { placed.0 < fitter.old.tables.glyphs }
         requires frame { FrameFits frame }
+        requires keeps { keeps ≡ true → fitter.old.work ≡ None }
+        requires kept { AreKeptFor fitter.old kept.old.entries }
         requires few { length self.old.kept.items < text_limit }
+        requires pen { placed.1 ≤ width_limit }
         requires valid { AreKept fitter.old.tables.glyphs self.old.places.items self.old.kept.items }
+        ensures kept { AreKeptFor fitter.old kept.new.entries }
+        ensures same { keeps ≡ false → kept.new ≡ kept.old }
+        ensures most { kept.new.most ≡ kept.old.most }
         ensures valid { OnOk result (AreKept fitter.old.tables.glyphs self.new.places.items self.new.kept.items) }
-        ensures drawn { OnOk result ((maker : ℕ → Fitter) → IsNext maker fitter.old (numbers_of self.old.kept.items) placed.0 → AreDrawn maker frame self.old.kept.items → AreDrawn maker frame self.new.kept.items) }
+        ensures drawn { OnOk result ((maker : ℕ → Fitter) → IsNext maker fitter.old (numbers_of self.old.kept.items) placed.0 → AreDrawn keeps maker frame self.old.kept.items → AreDrawn keeps maker frame self.new.kept.items) }
         ensures after { OnOk result (fitter.new ≡ fitter_past fitter.old (numbers_of self.old.kept.items) placed.0) }
         ensures tables { OnOk result (fitter.new.tables ≡ fitter.old.tables) }
         ensures few { OnOk result (length self.new.kept.items ≤ length self.old.kept.items + 1) }
         ensures numbers { OnOk result (numbers_of self.new.kept.items ≡ with_glyph (numbers_of self.old.kept.items) placed.0) }
-        ensures pens { OnOk result (placed.1 ≤ width_limit → AreWithin self.old.kept.items → AreWithin self.new.kept.items) }
-        ensures adds { OnOk result ((maker : ℕ → Fitter) → IsNext maker fitter.old (numbers_of self.old.kept.items) placed.0 → AreDrawn maker frame self.old.kept.items → IsOkAnd (glyph_shape maker placed) (Adds frame self.old.kept.items self.new.kept.items)) }
+        ensures pens { OnOk result (AreWithin self.old.kept.items → AreWithin self.new.kept.items) }
+        ensures adds { OnOk result ((maker : ℕ → Fitter) → IsNext maker fitter.old (numbers_of self.old.kept.items) placed.0 → AreDrawn keeps maker frame self.old.kept.items → IsOkAnd (glyph_shape maker placed) (Adds keeps frame self.old.kept.items self.new.kept.items)) }
         ensures fault { IfTold font_fault result (λ f. (is_among placed.0 (numbers_of self.old.kept.items) ≡ false) × (fitted_outline fitter.old placed.0 ≡ Err f)) }
     {
         let (number, pen) = placed;
-        let at = self.keep(alloc, fitter, number, frame)?;
+        let at = self.keep(alloc, fitter, number, frame, kept, keeps)?;
         self.kept[at].stand(pen)?;
         Ok(())
     }
@@ -141,22 +158,30 @@ pub(crate) fn line_glyphs(
     glyphs: u16,
     line: &[(u16, u32)],
     frame: Frame,
+    kept: &mut KeptGlyphs,
+    keeps: bool,
 ) -> Result<Vec<Glyph>, FontFault>
+    requires keeps { keeps ≡ true → fitter.old.work ≡ None }
+    requires kept { AreKeptFor fitter.old kept.old.entries }
     requires glyphs { glyphs ≡ fitter.old.tables.glyphs }
     requires known { All (λ g. g.0 < glyphs) line.now }
     requires pens { All (λ g. g.1 ≤ width_limit) line.now }
     requires count { length line.now ≤ text_limit }
     requires frame { FrameFits frame }
+    ensures kept { AreKeptFor fitter.old kept.new.entries }
+    ensures same { keeps ≡ false → kept.new ≡ kept.old }
+    ensures most { kept.new.most ≡ kept.old.most }
     ensures after { IfOk result (λ v. fitter.new ≡ fitter_after fitter.old (numbers_of v.items)) }
     ensures pens { IfOk result (λ v. AreWithin v.items) }
-    ensures valid { IfOk result (λ v. AreDrawn (line_fitter fitter.old (map (λ g. g.0) line.now)) frame v.items) }
+    ensures valid { IfOk result (λ v. AreDrawn keeps (line_fitter fitter.old (map (λ g. g.0) line.now)) frame v.items) }
     ensures numbers { IfOk result (λ v. numbers_of v.items ≡ distinct (map (λ g. g.0) line.now)) }
-    ensures stand { IfOk result (λ v. IsOkAnd (each (glyph_shape (line_fitter fitter.old (map (λ g. g.0) line.now))) line.now) (Stand frame v.items)) }
+    ensures stand { IfOk result (λ v. IsOkAnd (each (glyph_shape (line_fitter fitter.old (map (λ g. g.0) line.now))) line.now) (Stand keeps frame v.items)) }
     ensures fault { IfTold font_fault result (λ f. each (glyph_shape (line_fitter fitter.old (map (λ g. g.0) line.now))) line.now ≡ Err f) }
 {
-    let mut kept = Glyphs::new(alloc, glyphs, line.len())?;
+    tt_fit::laws::work_unfits();
+    let mut distinct = Glyphs::new(alloc, glyphs, line.len())?;
     for placed in line {
-        kept.place(alloc, fitter, *placed, frame)?;
+        distinct.place(alloc, fitter, *placed, frame, kept, keeps)?;
     }
-    Ok(kept.kept)
+    Ok(distinct.kept)
 }

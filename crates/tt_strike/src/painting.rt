@@ -4,39 +4,66 @@ ghost use Rattle.std.specs.Prelude.{◌≡◌, ℕ, ℤ, ◌+◌, ◌*◌, ◌<�
 ghost use Rattle.tt_core.specs.Bits.{bit};
 ghost use Rattle.tt_core.specs.Limits.{height_limit};
 ghost use Rattle.tt_scan.specs.Winding.{is_black, column_x, row_y};
-ghost use Rattle.tt_strike.specs.Glyphs.{GlyphFits, stamp_of};
-ghost use Rattle.tt_strike.specs.Pixels.{is_black_from, row_crossings};
+ghost use Rattle.tt_scan_dropouts.specs.Pictures.{line_at};
+ghost use Rattle.tt_strike.specs.Glyphs.{GlyphFits, drawn_of, stamp_of};
+ghost use Rattle.tt_strike.specs.Pixels.{TapeFits, edges, is_black_from, row_crossings};
 
-use crate::glyph::Glyph;
-use tt_scan::{Frame, Sweep};
+use crate::glyph::{Body, Glyph};
+use tt_scan::{Frame, Sweep, Tape};
+
+/// Which line row `r` of a picture is, counted upwards from the base line.
+fn line_of(frame: Frame, r: u32) -> i64
+    ensures { result ≡ line_at frame r }
+{
+    i64::from(frame.rise) + i64::from(frame.margin) - 1 - i64::from(r)
+}
+
+/// Whether some edge of a tape may meet a row of the picture; without one it blackens nothing there.
+fn meets(tape: &Tape, r: u32) -> bool
+    requires { r < tape.now.frame.height }
+    ensures { result ≡ false → (c : ℤ) → is_black tape.now.edges (column_x tape.now.frame.margin c) (row_y tape.now.frame (pos r)) ≡ false }
+{
+    let (first, past) = tape.rows();
+    let row = i64::from(r);
+    first <= row && row < past
+}
+
+/// Blackens the pixels of a row of the picture that the edges of a tape cover from some pens; all others stay as they are.
+fn add_tape(tape: &mut Tape, sweep: &mut Sweep, pens: &[u32], frame: Frame, r: u32, row: &mut [u8])
+    requires tape { TapeFits frame (r * row_crossings) tape.old }
+    requires room { length tape.old.edges ≤ sweep.old.room }
+    requires height { frame.height ≤ height_limit }
+    requires within { r < frame.height }
+    requires width { frame.width ≤ 8 * length row.old }
+    ensures bits { (k : ℕ) → bit row.new k ≡ (bit row.old k || (nat_lt k frame.width && is_black_from frame (edges tape.old.edges) pens.now k r)) }
+    ensures len { length row.new ≡ length row.old }
+    ensures tape { TapeFits frame ((r + 1) * row_crossings) tape.new }
+    ensures edges { tape.new.edges ≡ tape.old.edges }
+    ensures room { sweep.new.room ≡ sweep.old.room }
+{
+    if !meets(tape, r) {
+        return;
+    }
+    sweep.cut(tape, i64::from(r));
+    sweep.paint_all(pens, frame.width, row);
+}
 
 impl Glyph {
-    /// Whether some edge of the glyph may meet a row of the picture; without one it blackens nothing there.
-    fn meets(&self, r: u32) -> bool
-        requires { r < self.now.tape.frame.height }
-        ensures { result ≡ false → (c : ℤ) → is_black self.now.tape.edges (column_x self.now.tape.frame.margin c) (row_y self.now.tape.frame (pos r)) ≡ false }
-    {
-        let (first, past) = self.tape.rows();
-        let row = i64::from(r);
-        first <= row && row < past
-    }
-
     /// Blackens the pixels of a row of the picture that the glyph covers at its pens; all others stay as they are.
     pub(crate) fn add_to_row(&mut self, sweep: &mut Sweep, frame: Frame, r: u32, row: &mut [u8])
         requires glyph { GlyphFits frame (r * row_crossings) sweep.old.room self.old }
         requires height { frame.height ≤ height_limit }
         requires within { r < frame.height }
         requires width { frame.width ≤ 8 * length row.old }
-        ensures bits { (k : ℕ) → bit row.new k ≡ (bit row.old k || (nat_lt k frame.width && is_black_from frame self.old.tape.edges self.old.pens k r)) }
+        ensures bits { (k : ℕ) → bit row.new k ≡ (bit row.old k || (nat_lt k frame.width && is_black_from frame (drawn_of self.old.body) self.old.pens k r)) }
         ensures len { length row.new ≡ length row.old }
         ensures glyph { GlyphFits frame ((r + 1) * row_crossings) sweep.new.room self.new }
         ensures stamp { stamp_of self.new ≡ stamp_of self.old }
         ensures room { sweep.new.room ≡ sweep.old.room }
     {
-        if !self.meets(r) {
-            return;
+        match &mut self.body {
+            Body::Tape(tape) => add_tape(tape, sweep, &self.pens, frame, r, row),
+            Body::Raster(raster) => raster.paint(line_of(frame, r), &self.pens, frame.width, row),
         }
-        sweep.cut(&mut self.tape, i64::from(r));
-        sweep.paint_all(&self.pens, frame.width, row);
     }
 }

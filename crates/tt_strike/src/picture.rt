@@ -5,9 +5,8 @@ ghost use Rattle.tt_core.specs.Bits.{stride};
 ghost use Rattle.tt_core.specs.Limits.{width_limit, height_limit};
 ghost use Rattle.tt_scan.specs.Winding.{FrameFits};
 ghost use Rattle.tt_scan_dropouts.specs.Pictures.{AreDropouts};
-ghost use Rattle.tt_strike.specs.Glyphs.{all_rows};
+ghost use Rattle.tt_strike.specs.Glyphs.{BodyFits, all_rows};
 ghost use Rattle.tt_strike.specs.Pictures.{IsReady, row_at};
-ghost use Rattle.tt_strike.specs.Pixels.{TapeFits};
 ghost use Rattle.tt_strike.specs.Report.{unfitted_standing};
 
 use crate::glyph::Glyph;
@@ -60,7 +59,7 @@ impl Picture {
     ) -> Result<Picture, AllocError>
         requires frame { FrameFits frame }
         requires height { frame.height ≤ height_limit }
-        requires glyphs { All (λ g. TapeFits frame 0 g.tape) glyphs.items }
+        requires glyphs { All (λ g. BodyFits frame 0 g.body) glyphs.items }
         requires dropouts { AreDropouts frame.width dropouts.items }
         ensures exact { IfOk result (λ p. p ≡ record { frame = frame; rows = all_rows frame glyphs.items dropouts.items; made = 0; unfitted = unfitted_standing glyphs.items }) }
         ensures valid { IfOk result IsReady }

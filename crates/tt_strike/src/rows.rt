@@ -4,7 +4,7 @@ ghost use Rattle.std.specs.Prelude.{◌≡◌, ℕ, ◌+◌, ◌*◌, ◌<◌, �
 ghost use Rattle.tt_core.specs.Bits.{bit, stride};
 ghost use Rattle.tt_core.specs.Limits.{width_limit, height_limit};
 ghost use Rattle.tt_scan_dropouts.specs.Pictures.{AreDropouts};
-ghost use Rattle.tt_strike.specs.Glyphs.{GlyphFits, row_of, stamps_in};
+ghost use Rattle.tt_strike.specs.Glyphs.{GlyphFits, edges_of, row_of, stamps_in};
 ghost use Rattle.tt_strike.specs.Pixels.{is_black_by, row_crossings};
 
 use crate::glyph::Glyph;
@@ -13,7 +13,7 @@ use tt_scan_dropouts::{Dropout, blacken_dropouts};
 
 /// The greatest number of edges that some glyph has.
 pub(crate) fn most_edges(glyphs: &[Glyph]) -> usize
-    ensures { All (λ g. length g.tape.edges ≤ result) glyphs.now }
+    ensures { All (λ g. length (edges_of g.body) ≤ result) glyphs.now }
 {
     let mut most = 0;
     for i in 0..glyphs.len() {

@@ -1,15 +1,16 @@
 //! A font at a size: many lines are drawn with what its programs left once.
 
-ghost use Rattle.std.specs.Prelude.{◌≡◌, Ok, IfOk, IfErr, IsOkAnd};
-ghost use Rattle.tt_core.specs.Outcomes.{Gives, GivesUnless, IfTold};
+ghost use Rattle.std.specs.Prelude.{◌≡◌, ◌≤◌, true, Ok, IfOk, IsOkAnd};
+ghost use Rattle.tt_core.specs.Outcomes.{GivesUnless, IfTold};
 ghost use Rattle.tt_line.specs.Layout.{placement, text_glyphs};
 ghost use Rattle.tt_strike.specs.Defects.{IsLineDefect, IsLineRefusal, TellsDefects, draw_font_fault, draw_job_fault};
 ghost use Rattle.tt_strike.specs.Job.{size_tested, IsSizeRefusal};
 ghost use Rattle.tt_strike.specs.Picture.{frame_of, line_outcome};
 ghost use Rattle.tt_strike.specs.Pictures.{IsReady, picture_bytes};
-ghost use Rattle.tt_strike.specs.Refusals.{refusal};
+ghost use Rattle.tt_strike.specs.Refusals.{as_job, refusal};
 ghost use Rattle.tt_strike.specs.Report.{report_by, ListsOnce};
 ghost use Rattle.tt_strike.specs.Strikes.{job_of};
+ghost use Rattle.tt_strike.specs.Work.{is_bounded};
 
 use crate::drawing::draw_line;
 use crate::fault::DrawFault;
@@ -19,13 +20,14 @@ use crate::picture::Picture;
 use crate::tables::Face;
 use std::alloc::Global;
 use std::marker::Model;
-use tt_core::JobFault;
 use tt_fit::Fit;
 use tt_line::lay;
+use tt_strike_kept::KeptGlyphs;
 
 /// A font at a size, with a way of fitting: lines are drawn one after the other, and the font's programs are run once,
-/// when the first line is drawn; with `Fit::Best` for each line anew, since a line uses up some of its work. A clause
-/// sees the font's tables, the size and the way of fitting, which stay as they are, whatever a line answers.
+/// when the first line is drawn; with `Fit::Best` for each line anew, since a line uses up some of its work. Glyphs are
+/// kept for the lines after. A clause sees the font's tables, the size, the way of fitting and how many bytes of glyphs
+/// may be kept, which stay as they are, whatever a line answers.
 #[derive(Drop)]
 pub struct Strike<'f, 'a> {
     alloc: Global,
@@ -33,34 +35,43 @@ pub struct Strike<'f, 'a> {
     ppem: u32,
     fit: Fit,
     maker: Maker<'a>,
+    kept: KeptGlyphs,
 }
 
 impl<'f, 'a> Model for Strike<'f, 'a> {
-    ghost use Rattle.std.specs.Prelude.{◌≤◌};
+    ghost use Rattle.std.specs.Prelude.{◌≡◌, ◌≤◌, true, [], Ok};
     ghost use Rattle.tt_core.specs.Limits.{size_limit};
+    ghost use Rattle.tt_fit.specs.Fitting.{Fitter};
+    ghost use Rattle.tt_strike.specs.Kept.{AreKeptFor};
     ghost use Rattle.tt_strike.specs.Makers.{IsMaker};
+    ghost use Rattle.tt_strike.specs.Picture.{setting};
     ghost use Rattle.tt_strike.specs.Strikes as strikes;
+    ghost use Rattle.tt_strike.specs.Work.{is_bounded};
 
     ghost Value = { strikes.Strike };
 
-    ghost view = { λ s. record { face = s.face.now; ppem = s.ppem; fit = s.fit } };
+    ghost view = { λ s. record { face = s.face.now; ppem = s.ppem; fit = s.fit; most = s.kept.most } };
 
     ghost invariant = { λ s. (1 ≤ s.ppem) × (s.ppem ≤ size_limit)
-        × IsMaker s.face.now s.ppem s.fit s.maker };
+        × IsMaker s.face.now s.ppem s.fit s.maker
+        × ((t : Fitter) → setting s.face.now s.ppem s.fit ≡ Ok t → AreKeptFor t s.kept.entries)
+        × (is_bounded s.fit ≡ true → s.kept.entries ≡ []) };
 }
 
 impl<'f, 'a> Strike<'f, 'a> {
-    /// A font at a size in pixels per em, 1 to 300. Nothing is looked at yet but the tables that the face has. Error:
-    /// SizeRange.
+    /// A font at a size in pixels per em, 1 to 300, that keeps at most `most` bytes of glyphs from line to line; 0 keeps
+    /// none. Nothing is looked at yet but the tables that the face has. Errors: SizeRange, Memory.
     pub fn new(
         alloc: Global,
         face: &'f Face<'a>,
         ppem: u32,
         fit: Fit,
-    ) -> Result<Strike<'f, 'a>, JobFault>
-        ensures tested { Gives (λ s. tt) result (size_tested ppem) }
-        ensures exact { IfOk result (λ s. s ≡ record { face = face.now; ppem = ppem; fit = fit }) }
-        ensures refused { IfErr result (IsSizeRefusal ppem) }
+        most: usize,
+    ) -> Result<Strike<'f, 'a>, DrawFault>
+        ensures tested { GivesUnless refusal (λ s. tt) result (as_job (size_tested ppem)) }
+        ensures exact { IfOk result (λ s. s ≡ record { face = face.now; ppem = ppem; fit = fit; most = most }) }
+        ensures font { IfTold draw_font_fault result (λ _. ⊥) }
+        ensures refused { IfTold draw_job_fault result (IsSizeRefusal ppem) }
     {
         test_size(ppem)?;
         Ok(Strike {
@@ -69,6 +80,7 @@ impl<'f, 'a> Strike<'f, 'a> {
             ppem,
             fit,
             maker: Maker::Unmade,
+            kept: KeptGlyphs::new(alloc, most)?,
         })
     }
 
@@ -102,6 +114,22 @@ impl<'f, 'a> Strike<'f, 'a> {
             self.ppem,
             margin,
         )?;
-        draw_line(self.alloc, self.face, &mut self.maker, &job, &line)
+        draw_line(
+            self.alloc,
+            self.face,
+            &mut self.maker,
+            &mut self.kept,
+            &job,
+            &line,
+        )
+    }
+
+    /// How many bytes the glyphs take that are kept from line to line: for each those of its black columns, and 128.
+    /// With `Fit::None`, `Fit::Full` and `Fit::Fallback` those stay that were made last; with `Fit::Best` none is kept.
+    pub fn kept_bytes(&self) -> usize
+        ensures most { result ≤ self.now.most }
+        ensures best { is_bounded self.now.fit ≡ true → result ≡ 0 }
+    {
+        self.kept.bytes()
     }
 }

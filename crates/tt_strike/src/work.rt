@@ -5,7 +5,7 @@ ghost use Rattle.std.specs.Prelude.{◌≡◌, ◌<◌, ◌≤◌, ◌-◌, ◌^
 ghost use Rattle.tt_core.specs.Limits.{crossing_limit, point_work_limit};
 ghost use Rattle.tt_core.specs.Outcomes.{Gives, GivesUnless};
 ghost use Rattle.tt_fit.specs.Counting.{left_of, points_asked};
-ghost use Rattle.tt_strike.specs.Glyphs.{crossings_standing};
+ghost use Rattle.tt_strike.specs.Glyphs.{crossings_standing, edges_of};
 ghost use Rattle.tt_strike.specs.Refusals.{as_job, refusal};
 ghost use Rattle.tt_strike.specs.Work.{is_bounded, points_in, work_tested};
 
@@ -69,7 +69,7 @@ fn points_left(fitter: &Fitter, glyphs: &[u16], most: u64) -> Result<Option<u64>
 /// often.
 #[tactic(auto, unfolding(crate::specs::Work::work_tested))]
 pub(crate) fn test_crossings(fit: Fit, glyphs: &[Glyph]) -> Result<(), JobFault>
-    requires tapes { All (λ g. length g.tape.edges ≤ 2 ^ 17) glyphs.now }
+    requires tapes { All (λ g. length (edges_of g.body) ≤ 2 ^ 17) glyphs.now }
     ensures exact { Gives (λ u. u) result (work_tested fit crossing_limit (crossings_standing glyphs.now)) }
 {
     if is_bounded(fit) && cross_too_often(glyphs) {
@@ -80,7 +80,7 @@ pub(crate) fn test_crossings(fit: Fit, glyphs: &[Glyph]) -> Result<(), JobFault>
 
 /// How often some glyphs cross the rows of the picture, each at its pens; the greatest number stands for more.
 fn crossings(glyphs: &[Glyph]) -> u64
-    requires tapes { All (λ g. length g.tape.edges ≤ 2 ^ 17) glyphs.now }
+    requires tapes { All (λ g. length (edges_of g.body) ≤ 2 ^ 17) glyphs.now }
     ensures { result ≡ min (crossings_standing glyphs.now) (2 ^ 64 - 1) }
 {
     let mut all: u64 = 0;
@@ -92,7 +92,7 @@ fn crossings(glyphs: &[Glyph]) -> u64
 
 /// No fewer than that, with less work.
 fn most_crossings(glyphs: &[Glyph]) -> u64
-    requires tapes { All (λ g. length g.tape.edges ≤ 2 ^ 17) glyphs.now }
+    requires tapes { All (λ g. length (edges_of g.body) ≤ 2 ^ 17) glyphs.now }
     ensures { min (crossings_standing glyphs.now) (2 ^ 64 - 1) ≤ result }
 {
     let mut all: u64 = 0;
@@ -105,7 +105,7 @@ fn most_crossings(glyphs: &[Glyph]) -> u64
 /// Whether some glyphs cross the rows of the picture more often than the limit. They are counted only where that is not
 /// plain without it.
 fn cross_too_often(glyphs: &[Glyph]) -> bool
-    requires tapes { All (λ g. length g.tape.edges ≤ 2 ^ 17) glyphs.now }
+    requires tapes { All (λ g. length (edges_of g.body) ≤ 2 ^ 17) glyphs.now }
     ensures { result ≡ nat_lt crossing_limit (crossings_standing glyphs.now) }
 {
     most_crossings(glyphs) > CROSSING_LIMIT && crossings(glyphs) > CROSSING_LIMIT

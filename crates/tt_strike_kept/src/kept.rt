@@ -121,6 +121,13 @@ impl KeptGlyphs {
         self.bytes
     }
 
+    /// How many bytes all glyphs may take.
+    pub fn most(&self) -> usize
+        ensures { result ≡ self.now.most }
+    {
+        self.most
+    }
+
     /// Gives up all glyphs.
     pub fn clear(&mut self)
         ensures { self.new ≡ record self.old { entries = [] } }

@@ -1,25 +1,30 @@
-use Rattle.std.proofs.Common.{◌≡◌, ◌∙◌, List, ap, sym, refl, map, Ok, SFits, w32, arith}
+use Rattle.std.proofs.Common.{◌≡◌, ◌∙◌, true, List, ap, sym, refl, map, Ok, SFits, w32, arith}
 use Rattle.std.proofs.lemmas.Int.{ints, to_z-of_z}
 use Rattle.std.proofs.lemmas.Result.{err_from_is_err_and}
+use Rattle.tt_core.specs.Limits.{crossing_limit}
 use Rattle.tt_core.specs.Outcomes.{each}
+use Rattle.tt_fit.specs.Fitting.{Fitter}
 use Rattle.tt_line.specs.Outcome.{placement_of}
 use Rattle.tt_pbm.specs.P4.{p4_header_of}
 use Rattle.tt_strike.specs.Defects.{IsLineDefect}
 use Rattle.tt_strike.specs.Job.{job_view}
 use Rattle.tt_strike.specs.Distinct.{line_fitter}
 use Rattle.tt_strike.specs.Glyphs.{Stand, all_rows, numbers_of}
-use Rattle.tt_strike.specs.Picture.{drawn, shapes_in, frame_of, glyph_shape, picture}
+use Rattle.tt_strike.specs.Kept.{AreKeptFor}
+use Rattle.tt_strike.specs.Picture.{drawn, shapes_in, frame_of, glyph_shape, picture, setting_in}
 use Rattle.tt_strike.specs.Pixels.{Shape}
 use Rattle.tt_strike.specs.Report.{line_report, unfitted_standing}
 use Rattle.tt_strike.specs.Pictures.{Picture, picture_bytes}
 use Rattle.tt_strike.specs.Work.{is_bounded}
 use Rattle.tt_strike.proofs.Alike.{same_picture}
-use Rattle.tt_strike.proofs.Filled.{can_be_filled}
+use Rattle.tt_strike.proofs.Filled.{can_be_filled, tapes_few}
+use Rattle.tt_strike.proofs.Kept.{kept_for, none_where, unbounded_where, work_alike}
 use Rattle.tt_strike.proofs.Listing.{of_line, lists_once}
 use Rattle.tt_strike.proofs.Places.{ok_and}
 use Rattle.tt_strike.proofs.Setting.{given_back, unchanged}
 use Rattle.tt_strike.proofs.Stopped.{crossings_stop, crossings_tell, drawing_refuses_no_job, font_tells, glyph_stops, points_stop, points_tell, points_tell_no_defect, setting_stops}
 use Rattle.tt_strike.proofs.Telling.{glyph_tells, no_line_defect, setting_tells}
+use Rattle.tt_strike.proofs.drawing.draw_line.Goals.{After-line_glyphs}
 use Rattle.tt_strike.proofs.drawing.draw_line.Goals as goal
 
 pub returns-in_err-fitter-clause-exact : goal.returns-in_err-fitter-clause-exact
@@ -100,8 +105,10 @@ returns-in_err-test_crossings-clause-exact c =
     let p = err_from_is_err_and c.from_residual-in_err-test_crossings.result
     c.from_residual-in_err-test_crossings.ensures.1 in
     let stand = simp to_z-of_z at (rw c.deref-2.ensures.value at c.in_ok-glyphs.ensures.stand) in
-    let made = ok_and (shapes_in s l) (Stand (frame_of l a.margin) c.in_ok-glyphs.glyphs.items) stand in
-    let refused = rw (c.deref-3.ensures.value, made.2.crossings) at c.in_err-test_crossings.ensures.exact in
+    let made = ok_and (shapes_in s l) (Stand c.keeps_glyphs-keeps.result (frame_of l a.margin) c.in_ok-glyphs.glyphs.items) stand in
+    let other = unbounded_where a.fit _ c.keeps_glyphs-keeps.result c.keeps_glyphs-keeps.ensures in
+    let refused = sym (work_alike c.keeps_glyphs-keeps.result a.fit crossing_limit _ _ other made.2.crossings)
+    ∙ (rw c.deref-3.ensures.value at c.in_err-test_crossings.ensures.exact) in
     let few = rw c.deref.ensures.value at c.in_ok-test_points.ensures.exact in
     rw (p.1, p.2) (crossings_stop c.args.face.now a l s made.0 c.in_err-test_crossings.field-0.0
     c.in_ok-fitter.ensures.exact few made.1 refused)
@@ -115,15 +122,18 @@ returns-in_err-test_crossings-clause-work c =
     let p = err_from_is_err_and c.from_residual-in_err-test_crossings.result
     c.from_residual-in_err-test_crossings.ensures.1 in
     let stand = simp to_z-of_z at (rw c.deref-2.ensures.value at c.in_ok-glyphs.ensures.stand) in
-    let made = ok_and (shapes_in s l) (Stand (frame_of l a.margin) c.in_ok-glyphs.glyphs.items) stand in
-    let refused = rw (c.deref-3.ensures.value, made.2.crossings) at c.in_err-test_crossings.ensures.exact in
+    let made = ok_and (shapes_in s l) (Stand c.keeps_glyphs-keeps.result (frame_of l a.margin) c.in_ok-glyphs.glyphs.items) stand in
+    let other = unbounded_where a.fit _ c.keeps_glyphs-keeps.result c.keeps_glyphs-keeps.ensures in
+    let refused = sym (work_alike c.keeps_glyphs-keeps.result a.fit crossing_limit _ _ other made.2.crossings)
+    ∙ (rw c.deref-3.ensures.value at c.in_err-test_crossings.ensures.exact) in
     rw (p.1, p.2) (crossings_tell c.args.face.now a l s made.0 c.in_err-test_crossings.field-0.0
     c.in_ok-fitter.ensures.exact made.1 refused)
 
 pub test_crossings-requires : goal.test_crossings-requires
 test_crossings-requires c =
     let valid = rw c.deref-2.ensures.value at c.in_ok-glyphs.ensures.valid in
-    rw c.deref-3.ensures.value (record { tapes = λ k d below. (valid k d below).fits.edges })
+    let maker = line_fitter c.in_ok-fitter.fitter (map (λ g. g.0) c.args.line.now.glyphs.items) in
+    rw c.deref-3.ensures.value (record { tapes = tapes_few maker c.in_ok-glyphs.glyphs.items valid })
 
 pub line_dropouts-requires-clause-glyphs : goal.line_dropouts-requires-clause-glyphs
 line_dropouts-requires-clause-glyphs c =
@@ -142,15 +152,17 @@ returns-clause-exact c =
     let frame = frame_of (placement_of line) c.args.job.now.margin in
     let glyphs = c.in_ok-glyphs.glyphs.items in
     let black = simp to_z-of_z at (rw c.deref-2.ensures.value at c.in_ok-glyphs.ensures.stand) in
-    let made = ok_and (each (glyph_shape maker) line.glyphs.items) (Stand frame glyphs) black in
+    let made = ok_and (each (glyph_shape maker) line.glyphs.items) (Stand c.keeps_glyphs-keeps.result frame glyphs) black in
     let p = c.in_ok-picture.picture in
     let its : p ≡ record { frame = frame; rows = all_rows frame glyphs c.in_ok-dropouts.dropouts.items; made = 0; unfitted = unfitted_standing glyphs } =
     simp to_z-of_z at c.in_ok-picture.ensures.exact in
     let alike = simp to_z-of_z at (rw c.deref-4.ensures.value at c.in_ok-dropouts.ensures.exact) in
     let bytes : picture_bytes p ≡ picture frame made.0 = rw its
-    (same_picture frame glyphs c.in_ok-dropouts.dropouts.items made.0 (p4_header_of frame.width frame.height) refl made.2
-    alike) in
-    let tested = rw (c.deref-3.ensures.value, made.2.crossings) at c.in_ok-test_crossings.ensures.exact in
+    (same_picture frame glyphs c.in_ok-dropouts.dropouts.items made.0 (p4_header_of frame.width frame.height) refl
+    (omega (arith, c.requires.width)) made.2 alike) in
+    let other = unbounded_where c.args.job.now.fit _ c.keeps_glyphs-keeps.result c.keeps_glyphs-keeps.ensures in
+    let tested = sym (work_alike c.keeps_glyphs-keeps.result c.args.job.now.fit crossing_limit _ _ other made.2.crossings)
+    ∙ (rw c.deref-3.ensures.value at c.in_ok-test_crossings.ensures.exact) in
     let few = rw c.deref.ensures.value at c.in_ok-test_points.ensures.exact in
     rw (there, few, made.1, tested) (ap Ok {x = picture frame made.0} {y = picture_bytes p} (sym bytes))
 
@@ -175,8 +187,10 @@ returns-clause-report c =
     let numbers = rw c.deref-2.ensures.value at c.in_ok-glyphs.ensures.numbers in
     let valid = rw c.deref-2.ensures.value at c.in_ok-glyphs.ensures.valid in
     let stand = simp to_z-of_z at (rw c.deref-2.ensures.value at c.in_ok-glyphs.ensures.stand) in
-    let made = ok_and (shapes_in s l) (Stand (frame_of l a.margin) glyphs) stand in
-    let tested = rw (c.deref-3.ensures.value, made.2.crossings) at c.in_ok-test_crossings.ensures.exact in
+    let made = ok_and (shapes_in s l) (Stand c.keeps_glyphs-keeps.result (frame_of l a.margin) glyphs) stand in
+    let other = unbounded_where c.args.job.now.fit _ c.keeps_glyphs-keeps.result c.keeps_glyphs-keeps.ensures in
+    let tested = sym (work_alike c.keeps_glyphs-keeps.result c.args.job.now.fit crossing_limit _ _ other made.2.crossings)
+    ∙ (rw c.deref-3.ensures.value at c.in_ok-test_crossings.ensures.exact) in
     let entries = of_line (line_fitter s (map (λ g. g.0) c.args.line.now.glyphs.items)) _ glyphs
     c.args.line.now.glyphs.items c.in_ok-picture.picture.unfitted
     valid numbers (ap (λ (p : Picture). p.unfitted) c.in_ok-picture.ensures.exact) in
@@ -203,3 +217,51 @@ returns-clause-maker c =
     c.give_back.new.self (is_bounded c.args.job.now.fit) setting
     (λ other. after ∙ unchanged c.work_unfits.ensures.stays s (numbers_of c.in_ok-glyphs.glyphs.items) (setting.unbounded other))
     c.take.ensures.maker c.give_back.ensures.kept c.give_back.ensures.same
+
+pub line_glyphs-requires-clause-keeps : goal.line_glyphs-requires-clause-keeps
+line_glyphs-requires-clause-keeps c = λ on.
+    c.in_ok-fitter.ensures.setting.unbounded
+    (unbounded_where c.args.job.now.fit _ c.keeps_glyphs-keeps.result c.keeps_glyphs-keeps.ensures on)
+
+pub line_glyphs-requires-clause-kept : goal.line_glyphs-requires-clause-kept
+line_glyphs-requires-clause-kept c = c.requires.kept c.in_ok-fitter.fitter c.in_ok-fitter.ensures.exact
+
+-- what is kept then is kept for what the font has, and is as before where the work is bounded
+kept_then : (c : After-line_glyphs) (s : Fitter) → setting_in c.args.face.now (job_view c.args.job.now) ≡ Ok s
+    → AreKeptFor s c.line_glyphs.new.kept.entries
+kept_then c = kept_for (setting_in c.args.face.now (job_view c.args.job.now)) c.in_ok-fitter.fitter
+    c.line_glyphs.new.kept.entries c.in_ok-fitter.ensures.exact c.line_glyphs.ensures.kept
+
+same_then : (c : After-line_glyphs) → is_bounded c.args.job.now.fit ≡ true → c.line_glyphs.new.kept ≡ c.args.kept.now
+same_then c bounded = c.line_glyphs.ensures.same
+    (none_where c.args.job.now.fit _ c.keeps_glyphs-keeps.result c.keeps_glyphs-keeps.ensures bounded)
+
+pub returns-in_err-glyphs-clause-kept : goal.returns-in_err-glyphs-clause-kept
+returns-in_err-glyphs-clause-kept c = kept_then (goal.at.returns-in_err-glyphs-clause-kept c).After-line_glyphs
+
+pub returns-in_err-glyphs-clause-same : goal.returns-in_err-glyphs-clause-same
+returns-in_err-glyphs-clause-same c = same_then (goal.at.returns-in_err-glyphs-clause-same c).After-line_glyphs
+
+pub returns-in_err-test_crossings-clause-kept : goal.returns-in_err-test_crossings-clause-kept
+returns-in_err-test_crossings-clause-kept c = kept_then (goal.at.returns-in_err-test_crossings-clause-kept c).After-line_glyphs
+
+pub returns-in_err-test_crossings-clause-same : goal.returns-in_err-test_crossings-clause-same
+returns-in_err-test_crossings-clause-same c = same_then (goal.at.returns-in_err-test_crossings-clause-same c).After-line_glyphs
+
+pub returns-in_err-dropouts-clause-kept : goal.returns-in_err-dropouts-clause-kept
+returns-in_err-dropouts-clause-kept c = kept_then (goal.at.returns-in_err-dropouts-clause-kept c).After-line_glyphs
+
+pub returns-in_err-dropouts-clause-same : goal.returns-in_err-dropouts-clause-same
+returns-in_err-dropouts-clause-same c = same_then (goal.at.returns-in_err-dropouts-clause-same c).After-line_glyphs
+
+pub returns-in_err-picture-clause-kept : goal.returns-in_err-picture-clause-kept
+returns-in_err-picture-clause-kept c = kept_then (goal.at.returns-in_err-picture-clause-kept c).After-line_glyphs
+
+pub returns-in_err-picture-clause-same : goal.returns-in_err-picture-clause-same
+returns-in_err-picture-clause-same c = same_then (goal.at.returns-in_err-picture-clause-same c).After-line_glyphs
+
+pub returns-clause-kept : goal.returns-clause-kept
+returns-clause-kept c = kept_then (goal.at.returns-clause-kept c).After-line_glyphs
+
+pub returns-clause-same : goal.returns-clause-same
+returns-clause-same c = same_then (goal.at.returns-clause-same c).After-line_glyphs

@@ -27,7 +27,7 @@ loop-i-preserved c =
     let within : i < length stamps = rw length-map below in
     let adds : (k : ℕ) → bit c.add_to_row.new.row k ≡ (bit c.loop-i.row k
     || (nat_lt k c.args.frame.width && is_black_from
-    c.args.frame (get_or stamps i d).edges (get_or stamps i d).pens k c.args.r)) = λ k. rw its_stamp
+    c.args.frame (get_or stamps i d).drawn (get_or stamps i d).pens k c.args.r)) = λ k. rw its_stamp
     (c.add_to_row.ensures.bits k) in
     record {
       end = refl;

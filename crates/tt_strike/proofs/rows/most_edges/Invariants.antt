@@ -1,10 +1,11 @@
 use Rattle.std.proofs.Common.{◌≡◌, ◌≤◌, length}
 use Rattle.std.specs.List.{AllWithin}
+use Rattle.tt_strike.specs.Glyphs.{edges_of}
 use Rattle.tt_strike.proofs.rows.most_edges.Given as goal
 
 -- none of those so far has more
 abbrev pub invariant-loop-i : goal.invariant-loop-i
 invariant-loop-i l = record {
   end : l.i-end ≡ length l.fn.glyphs;
-  most : AllWithin (λ g. length g.tape.edges ≤ l.most) l.fn.glyphs 0 l.i;
+  most : AllWithin (λ g. length (edges_of g.body) ≤ l.most) l.fn.glyphs 0 l.i;
 }

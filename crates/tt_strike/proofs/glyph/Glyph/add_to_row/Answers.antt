@@ -1,52 +1,28 @@
-use Rattle.std.proofs.Common.{◌≡◌, ◌∙◌, ◌+◌, ◌*◌, ◌^◌, ◌<◌, ◌≤◌, nat_lt, length, SFits, w64, rules, arith, ap}
+use Rattle.std.proofs.Common.{◌≡◌, ◌∙◌, ◌||◌, ◌&&◌, nat_lt, SFits, w64, rules, ap, sym}
 use Rattle.std.proofs.lemmas.Int.{to_z-of_z}
 use Rattle.tt_core.specs.Bits.{bit}
-use Rattle.tt_scan.specs.Tape.{Tape}
-use Rattle.tt_scan.specs.Winding.{row_y}
-use Rattle.tt_strike.specs.Pixels.{row_crossings}
-use Rattle.tt_strike.proofs.Pens.{none_from, painted_from, met_few}
+use Rattle.tt_strike.specs.Glyphs as glyphs
+use Rattle.tt_strike.specs.Views.{body_view}
+use Rattle.tt_strike.proofs.Pens.{shown_from}
+use Rattle.tt_strike.proofs.glyph.Glyph.add_to_row.Goals.{in-Tape, in-Raster}
 use Rattle.tt_strike.proofs.glyph.Glyph.add_to_row.Goals as goal
-
-pub returns-then-not-meets-clause-bits : goal.returns-then-not-meets-clause-bits
-returns-then-not-meets-clause-bits c =
-    let g = c.args.self.now in
-    let frame = c.requires.glyph.tape.frame in
-    let white = rw frame at (c.meets.ensures c.if-not-meets.true) in
-    λ k. none_from c.args.frame g.tape.edges g.pens k c.args.r (bit c.args.row.now k) (nat_lt k c.args.frame.width)
-    white
 
 pub returns-clause-bits : goal.returns-clause-bits
 returns-clause-bits c =
     let g = c.args.self.now in
-    let row : SFits w64 c.from.result = search rules in
-    let frame = c.requires.glyph.tape.frame in
-    let tape : c.self.inside.tape ≡ g.tape = ap (λ g. g.tape) c.self.view_is in
-    let pens : c.self.inside.pens.items ≡ g.pens = ap (λ g. g.pens) c.self.view_is in
-    let wide : c.args.frame.width < 2 ^ 63 = search rules in
-    let cut = simp to_z-of_z at c.cut.ensures.black in
-    let black = rw (tape, frame, c.from.ensures) at cut in
-    λ k. c.paint_all.ensures.bits k ∙ rw (c.deref.ensures.value, pens) (painted_from c.args.frame g.tape.edges
-    c.cut.new.self.spans g.pens k c.args.r c.args.frame.width (bit c.args.row.now k) wide black)
-
-pub returns-clause-glyph : goal.returns-clause-glyph
-returns-clause-glyph c =
-    let g = c.args.self.now in
-    let fits = c.requires.glyph in
-    let tape : c.self.inside.tape ≡ g.tape = ap (λ g. g.tape) c.self.view_is in
-    let kept : c.cut.new.tape ≡ record g.tape { crosses = c.cut.new.tape.crosses } = rw tape at c.cut.ensures.tape in
-    let row : SFits w64 c.from.result = search rules in
-    let crosses = rw tape at (simp to_z-of_z at c.cut.ensures.crosses) in
-    let few = met_few g.tape.edges (row_y g.tape.frame c.from.result) in
-    let edges : c.cut.new.tape.edges ≡ g.tape.edges = ap (λ (t : Tape). t.edges) kept in
-    let many : length g.tape.edges ≤ 2 ^ 17 = fits.tape.edges in
-    let before : g.tape.crosses ≤ c.args.r * row_crossings = fits.tape.crosses in
-    let after : c.cut.new.tape.crosses ≤ (c.args.r + 1) * row_crossings = omega (arith, crosses, few) in
-    record {
-      tape = record {
-        frame = ap (λ (t : Tape). t.frame) kept ∙ fits.tape.frame;
-        edges = rw edges many;
-        crosses
-            = after;
-      };
-      room = rw (edges, c.cut.ensures.room) fits.room;
-    }
+    let body : body_view c.self.inside.body ≡ g.body = ap (λ (g : glyphs.Glyph). g.body) c.self.view_is in
+    let pens : c.self.inside.pens.items ≡ g.pens = ap (λ (g : glyphs.Glyph). g.pens) c.self.view_is in
+    elim c.match-self.branch [
+      | in-Tape w ↦
+          let is : g.body ≡ glyphs.tape w.in-Tape.tape = sym body ∙ ap body_view w.in-Tape.is in
+          let its : w.deref.result.now ≡ g.pens = w.deref.ensures.value ∙ pens in
+          λ k. rw (w.row-is, is, ← its) (w.add_tape.ensures.bits k)
+      | in-Raster w ↦
+          let is : g.body ≡ glyphs.raster w.in-Raster.raster.value = sym body ∙ ap body_view w.in-Raster.is in
+          let its : w.deref-in-Raster-2.result.now ≡ g.pens = w.deref-in-Raster-2.ensures.value ∙ pens in
+          let row : SFits w64 w.line_of.result = search rules in
+          λ k. let painted = simp to_z-of_z at w.paint.ensures.bits k in
+          rw (w.row-is, is) ((rw (w.deref-in-Raster.ensures, its, w.line_of.ensures) at painted)
+          ∙ ap (λ b. bit c.args.row.now k || (nat_lt k c.args.frame.width && b))
+          (shown_from c.args.frame w.in-Raster.raster.value g.pens k c.args.r))
+    ]

@@ -26,7 +26,7 @@ returns-in_err-test_job-clause-job c =
 pub returns-in_err-line-clause-exact : goal.returns-in_err-line-clause-exact
 returns-in_err-line-clause-exact c =
     let p = err_from_is_err_and c.from_residual-in_err-line.result c.from_residual-in_err-line.ensures.1 in
-    let s : Strike = record { face = c.self.inside.face.now; ppem = c.self.inside.ppem; fit = c.self.inside.fit } in
+    let s : Strike = record { face = c.self.inside.face.now; ppem = c.self.inside.ppem; fit = c.self.inside.fit; most = c.self.inside.kept.most } in
     let fails = rw (c.metrics.ensures, c.cmap.ensures.exact) at c.in_err-line.ensures.exact in
     rw (p.1, p.2, ← c.self.view_is) (laying_stops (job_of s c.args.text.now c.args.margin) s.face
     c.in_err-line.field-0.0 c.in_ok-test_job.ensures.exact fails)
@@ -39,7 +39,7 @@ returns-in_err-line-clause-defects c =
 pub returns-in_err-line-clause-job : goal.returns-in_err-line-clause-job
 returns-in_err-line-clause-job c =
     let p = err_from_is_err_and c.from_residual-in_err-line.result c.from_residual-in_err-line.ensures.1 in
-    let s : Strike = record { face = c.self.inside.face.now; ppem = c.self.inside.ppem; fit = c.self.inside.fit } in
+    let s : Strike = record { face = c.self.inside.face.now; ppem = c.self.inside.ppem; fit = c.self.inside.fit; most = c.self.inside.kept.most } in
     let fault = rw (c.metrics.ensures, c.cmap.ensures.exact) at c.in_err-line.ensures.fault in
     rw (p.1, p.2, ← c.self.view_is) (laying_tells (job_of s c.args.text.now c.args.margin) s.face
     c.in_err-line.field-0.0 fault)
@@ -63,7 +63,7 @@ returns-clause-defects c =
 
 pub returns-clause-job : goal.returns-clause-job
 returns-clause-job c =
-    let s : Strike = record { face = c.self.inside.face.now; ppem = c.self.inside.ppem; fit = c.self.inside.fit } in
+    let s : Strike = record { face = c.self.inside.face.now; ppem = c.self.inside.ppem; fit = c.self.inside.fit; most = c.self.inside.kept.most } in
     let laid = rw (c.metrics.ensures, c.cmap.ensures.exact) at c.in_ok-line.ensures.exact in
     rw (← c.self.view_is) (work_refuses c.draw_line.result (job_of s c.args.text.now c.args.margin) s.face
     (placement_of c.in_ok-line.line) laid c.draw_line.ensures.work)

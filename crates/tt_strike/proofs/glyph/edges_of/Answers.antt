@@ -1,7 +1,7 @@
 use Rattle.std.proofs.Common.{◌≤◌, ◌-ℤ◌, pos, unsigned_abs, SFits, w32, w64, get_or, rules, arith}
 use Rattle.std.proofs.lemmas.Int.{ints, to_z-of_z}
 use Rattle.tt_core.specs.Limits.{coordinate_limit}
-use Rattle.tt_strike.proofs.glyph.tape_of.Goals as goal
+use Rattle.tt_strike.proofs.glyph.edges_of.Goals as goal
 
 pub returns-clause-exact : goal.returns-clause-exact
 returns-clause-exact c =
@@ -11,5 +11,5 @@ returns-clause-exact c =
     let origin_is = simp to_z-of_z at c.from.ensures in
     let small : unsigned_abs c.from.result ≤ coordinate_limit = rw origin_is within in
     let moved : SFits w64 (pos 0 -ℤ c.from.result) = omega (arith, ints) in
-    let made = simp to_z-of_z at c.chords.ensures.exact in
+    let made = simp to_z-of_z at c.edges.ensures.exact in
     rw origin_is at made
