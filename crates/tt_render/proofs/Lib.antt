@@ -1,4 +1,6 @@
+pub mod DrawnLines
 pub mod Known
+pub mod HeldLines
 pub mod Calls
 mod Sent
 pub mod Text

@@ -1,5 +1,8 @@
 pub mod Defects
 pub mod Laws
+pub mod LineReading
+pub mod Lines
+pub mod LinesOutcome
 pub mod MapLines
 pub mod Messages
 pub mod Outcome

@@ -35,7 +35,11 @@ fn make_room(file: &mut Vec<u8>, filled: usize) -> Result<(), AllocError>
 }
 
 /// One read, to the place behind the filled front.
-fn read_behind<R: Source>(font: &mut R, buf: &mut [u8], filled: usize) -> Result<usize, IoFailed>
+pub(crate) fn read_behind<R: Source>(
+    font: &mut R,
+    buf: &mut [u8],
+    filled: usize,
+) -> Result<usize, IoFailed>
     requires { filled < length buf.old }
     ensures front { take filled buf.new ≡ take filled buf.old }
     ensures bound { IfOk result (λ n. filled + n ≤ length buf.new) }

@@ -1,0 +1,67 @@
+-- What reading the lines of a text promises.
+use Rattle.std.specs.Prelude.{◌≡◌, ◌≢◌, ℕ, ◌-◌, ◌<◌, ◌≤◌, Bool, true, false, List, [], ◌∷◌, ◌++◌, length, take, drop, slice_index, vec_len, All, Option, Some, None, IfSome, Result, Ok, Err, ⊤}
+use Rattle.std.specs.Io.KnownBytes.{Consumes, IsAtEnd, Keeps, prepend_known}
+use Rattle.tt_render.specs.declared.lines.ReadFault.{ReadFault}
+use Rattle.tt_render.specs.declared.lines.ReadFault.TheVariants as fault
+use Rattle.tt_render.specs.declared.lines.LinePlace.{LinePlace}
+use Rattle.tt_render.specs.declared.lines.LineReader.{LineReader}
+use Rattle.tt_render.specs.Lines.{line_limit, lines_of}
+
+-- the bytes of a reader's buffer
+abbrev pub line_room : ℕ
+line_room = 81922
+
+-- what was read and not yet given out
+abbrev pub held : LineReader → List ℕ
+held r = drop r.from (take r.until r.buf.items)
+
+pub record IsReader (r : LineReader) : Type 0 where
+  pub front : r.from ≤ r.until
+  pub back : r.until ≤ vec_len r.buf
+  pub room : vec_len r.buf ≡ line_room
+
+-- the bytes of a line that was given out
+abbrev pub line_at : LineReader → LinePlace → List ℕ
+line_at r place = take (place.until - place.from) (drop place.from r.buf.items)
+
+-- the first line feed of some bytes
+pub record IsFirstFeed (bytes : List ℕ) (at : ℕ) : Type 0 where
+  pub within : at < length bytes
+  pub feed : slice_index bytes at ≡ 10
+  pub before : All (λ x. x ≢ 10) (take at bytes)
+
+-- a reader holds n bytes more, which its source gave
+abbrev pub GetsMore : List ℕ → List ℕ → Option (List ℕ) → Option (List ℕ) → ℕ → Type 0
+GetsMore before after left_before left_after n =
+    (bytes : List ℕ) × (length bytes ≡ n) × (after ≡ before ++ bytes) × Consumes left_before left_after bytes
+
+-- the text that is left, where it is known: what a reader holds, and then what its source has left
+abbrev pub text_left : LineReader → Option (List ℕ) → Option (List ℕ)
+text_left r left = prepend_known (held r) left
+
+-- a known text loses its first line
+abbrev pub LosesLine : Option (List ℕ) → Option (List ℕ) → List ℕ → Type 0
+LosesLine None after line = ⊤
+LosesLine (Some text) None line = ⊥
+LosesLine (Some text) (Some rest) line = lines_of text ≡ line ∷ lines_of rest
+
+-- the first line of a text is too long
+abbrev pub BeginsLong : List ℕ → Type 0
+BeginsLong text = (line : List ℕ) × (rest : List (List ℕ)) × (lines_of text ≡ line ∷ rest) × (line_limit < length line)
+
+-- the place of a line lies in the buffer
+abbrev pub IsPlace : LineReader → LinePlace → Type 0
+IsPlace r place = (place.from ≤ place.until) × (place.until ≤ vec_len r.buf)
+
+-- what reading a line did to the text that is left
+abbrev pub ReadsLine : LineReader → Result (Option LinePlace) ReadFault → Option (List ℕ) → Option (List ℕ) → Type 0
+ReadsLine r (Ok (Some place)) before after = IsPlace r place × LosesLine before after (line_at r place)
+ReadsLine r (Ok None) before after = IfSome before (λ text. lines_of text ≡ []) × IsAtEnd after
+ReadsLine r (Err fault.Long) before after = IfSome before BeginsLong × Keeps before after
+ReadsLine r (Err fault.Read) before after = Keeps before after
+
+-- the source failed where a line could not be read, and only there
+abbrev pub FailsByRead : Bool → Result (Option LinePlace) ReadFault → Type 0
+FailsByRead failed (Ok place) = failed ≡ false
+FailsByRead failed (Err fault.Long) = failed ≡ false
+FailsByRead failed (Err fault.Read) = failed ≡ true

@@ -1,0 +1,203 @@
+//! The lines of a text, read one after the other.
+
+ghost use Rattle.std.specs.Prelude.{◌≡◌, ◌≢◌, ℕ, ◌+◌, ◌-◌, ◌<◌, ◌≤◌, [], false, length, take, drop, vec_len, All, IfOk, OnErr, MatchOption};
+ghost use Rattle.tt_core.specs.Device.{RemembersFailure};
+ghost use Rattle.tt_render.specs.declared.lines.ReadFault.TheVariants.{Read};
+ghost use Rattle.tt_render.specs.LineReading.{IsReader, IsFirstFeed, GetsMore, ReadsLine, FailsByRead, held, line_at, line_room, text_left};
+ghost use Rattle.tt_render.specs.Lines.{before_feed};
+ghost use Rattle.std.specs.Io.KnownBytes.{IsAtEnd, Keeps};
+
+use crate::reading::read_behind;
+use std::alloc::{AllocError, Global};
+use tt_core::{IoFailed, Source};
+
+/// The longest line, in bytes.
+pub(crate) const LINE_LIMIT: usize = 16_384;
+
+/// How many bytes a reader has room for: a line with its end, and what one read brings.
+const LINE_ROOM: usize = LINE_LIMIT + 2 + 65_536;
+
+/// What is read of a text and not yet given out as lines: the bytes of `buf` from `from` to `until`.
+#[derive(Drop)]
+pub(crate) struct LineReader {
+    buf: Vec<u8>,
+    from: usize,
+    until: usize,
+}
+
+/// Where a line stands in the buffer of its reader.
+#[derive(Clone, Copy)]
+pub(crate) struct LinePlace {
+    from: usize,
+    until: usize,
+}
+
+/// Why a line is not read.
+#[derive(Clone, Copy, Debug, PartialEq, Eq)]
+pub(crate) enum ReadFault {
+    /// The line has more than 16,384 bytes.
+    Long,
+    /// The device failed.
+    Read,
+}
+
+impl From<IoFailed> for ReadFault {
+    ghost from_gives = { λ _ e. e ≡ Read };
+
+    fn from(_e: IoFailed) -> ReadFault {
+        ReadFault::Read
+    }
+}
+
+/// Where the first line feed of some bytes is.
+fn first_feed(bytes: &[u8]) -> Option<usize>
+    ensures { MatchOption result (All (λ x. x ≢ 10) bytes.now) (IsFirstFeed bytes.now) }
+{
+    for (i, b) in bytes.iter().enumerate() {
+        if *b == b'\n' {
+            return Some(i);
+        }
+    }
+    None
+}
+
+/// How long a line is without the carriage return before its line feed.
+fn len_before_feed(line: &[u8]) -> usize
+    ensures within { result ≤ length line.now }
+    ensures exact { take result line.now ≡ before_feed line.now }
+{
+    if !line.is_empty() && line[line.len() - 1] == b'\r' {
+        return line.len() - 1;
+    }
+    line.len()
+}
+
+impl LineReader {
+    /// A reader that has read nothing yet.
+    pub(crate) fn new(alloc: Global) -> Result<LineReader, AllocError>
+        ensures valid { IfOk result IsReader }
+        ensures empty { IfOk result (λ r. held r ≡ []) }
+    {
+        Ok(LineReader {
+            buf: vec![in alloc; 0u8; LINE_ROOM]?,
+            from: 0,
+            until: 0,
+        })
+    }
+
+    /// Moves what is held to the front of the buffer.
+    fn move_to_front(&mut self)
+        requires valid { IsReader self.old }
+        ensures valid { IsReader self.new }
+        ensures front { self.new.from ≡ 0 }
+        ensures held { held self.new ≡ held self.old }
+    {
+        self.buf.copy_within(self.from..self.until, 0);
+        self.until -= self.from;
+        self.from = 0;
+    }
+
+    /// Holds some more bytes, and answers how many: 0 only at the end.
+    fn read_more<R: Source>(&mut self, source: &mut R) -> Result<usize, IoFailed>
+        requires valid { IsReader self.old }
+        requires room { length (held self.old) < line_room }
+        ensures valid { IsReader self.new }
+        ensures more { IfOk result (GetsMore (held self.old) (held self.new) (R.left source.old) (R.left source.new)) }
+        ensures end { IfOk result (λ n. n ≡ 0 → IsAtEnd (R.left source.new)) }
+        ensures same { OnErr result (held self.new ≡ held self.old) }
+        ensures unchanged { OnErr result (Keeps (R.left source.old) (R.left source.new)) }
+        ensures failure { RemembersFailure (R.has_failed source.old) (R.has_failed source.new) result }
+    {
+        self.move_to_front();
+        let until = self.until;
+        let n = read_behind(source, &mut self.buf, until)?;
+        self.until = until + n;
+        Ok(n)
+    }
+
+    /// Gives out a line of so many bytes before its line feed.
+    fn give_line(&mut self, len: usize) -> LinePlace
+        requires valid { IsReader self.old }
+        requires within { len < length (held self.old) }
+        ensures valid { IsReader self.new }
+        ensures place { result.from ≤ result.until }
+        ensures within { result.until ≤ vec_len self.new.buf }
+        ensures line { line_at self.new result ≡ before_feed (take len (held self.old)) }
+        ensures rest { held self.new ≡ drop (len + 1) (held self.old) }
+    {
+        let from = self.from;
+        let end = from + len;
+        let len = len_before_feed(&self.buf[from..end]);
+        self.from = end + 1;
+        LinePlace {
+            from,
+            until: from + len,
+        }
+    }
+
+    /// Gives out all that is held, as a line with no line feed.
+    fn give_rest(&mut self) -> LinePlace
+        requires valid { IsReader self.old }
+        ensures valid { IsReader self.new }
+        ensures place { result.from ≤ result.until }
+        ensures within { result.until ≤ vec_len self.new.buf }
+        ensures line { line_at self.new result ≡ held self.old }
+        ensures rest { held self.new ≡ [] }
+    {
+        let from = self.from;
+        self.from = self.until;
+        LinePlace {
+            from,
+            until: self.until,
+        }
+    }
+
+    /// Where the first line feed of what is held is, if not among so many bytes at the front.
+    fn feed_behind(&self, known: usize) -> Option<usize>
+        requires valid { IsReader self.now }
+        requires within { known ≤ length (held self.now) }
+        requires none { All (λ x. x ≢ 10) (take known (held self.now)) }
+        ensures { MatchOption result (All (λ x. x ≢ 10) (held self.now)) (IsFirstFeed (held self.now)) }
+    {
+        let at = first_feed(&self.buf[self.from + known..self.until])?;
+        Some(known + at)
+    }
+
+    /// The next line, where there is one. A line that is refused stays what is read next. Errors: Long, Read.
+    pub(crate) fn read_line<R: Source>(
+        &mut self,
+        source: &mut R,
+    ) -> Result<Option<LinePlace>, ReadFault>
+        requires valid { IsReader self.old }
+        requires source { R.has_failed source.old ≡ false }
+        ensures valid { IsReader self.new }
+        ensures outcome { ReadsLine self.new result (text_left self.old (R.left source.old)) (text_left self.new (R.left source.new)) }
+        ensures failure { FailsByRead (R.has_failed source.new) result }
+    {
+        let mut known = 0;
+        'pieces: loop {
+            if let Some(at) = self.feed_behind(known) {
+                return Ok(Some(self.give_line(at)));
+            }
+            known = self.until - self.from;
+            if known > LINE_LIMIT + 1 {
+                return Err(ReadFault::Long);
+            }
+            if self.read_more(source)? == 0 {
+                if known == 0 {
+                    return Ok(None);
+                }
+                return Ok(Some(self.give_rest()));
+            }
+        }
+    }
+
+    /// The bytes of a line that was given out last.
+    pub(crate) fn line(&self, place: LinePlace) -> &[u8]
+        requires place { place.from ≤ place.until }
+        requires within { place.until ≤ vec_len self.now.buf }
+        ensures { result.now ≡ line_at self.now place }
+    {
+        &self.buf[place.from..place.until]
+    }
+}
