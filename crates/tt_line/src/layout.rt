@@ -49,7 +49,7 @@ pub fn lay(
     ensures exact { GivesUnless job_fault placement_of result (placement metrics.now cmap.now text.now ppem margin) }
     ensures width { IfOk result (λ l. (1 ≤ l.width) × (l.width ≤ width_limit)) }
     ensures height { IfOk result (λ l. (1 ≤ l.height) × (l.height ≤ height_limit)) }
-    ensures rise { IfOk result (λ l. unsigned_abs l.rise ≤ 10 ^ 6) }
+    ensures rise { IfOk result (λ l. unsigned_abs l.rise ≤ 614400) }
     ensures count { IfOk result (λ l. length l.glyphs.items ≡ length (chars text.now)) }
     ensures glyphs { IfOk result (λ l. map (λ p. p.0) l.glyphs.items ≡ text_glyphs cmap.now text.now) }
     ensures known { IfOk result (λ l. All (λ p. p.0 < glyphs_of metrics.now) l.glyphs.items) }

@@ -10,3 +10,4 @@ mod pixels;
 
 pub use fault::LineFault;
 pub use layout::{Line, lay};
+pub use pixels::advance;

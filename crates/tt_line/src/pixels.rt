@@ -10,8 +10,8 @@ ghost use Rattle.tt_metrics.specs.Metrics.{glyphs_of};
 use tt_core::rq;
 use tt_metrics::Metrics;
 
-/// The advance of a glyph, rounded to the nearest pixel.
-pub(crate) fn advance(metrics: &Metrics, ppem: u32, glyph: u16) -> u32
+/// The advance of a glyph at `ppem` pixels per em, rounded to the nearest pixel.
+pub fn advance(metrics: &Metrics, ppem: u32, glyph: u16) -> u32
     requires size { ppem ≤ size_limit }
     requires known { glyph < glyphs_of metrics.now }
     ensures exact { result ≡ advance_in_pixels metrics.now ppem glyph }
@@ -24,7 +24,7 @@ pub(crate) fn advance(metrics: &Metrics, ppem: u32, glyph: u16) -> u32
 pub(crate) fn rise(metrics: &Metrics, ppem: u32) -> i32
     requires size { ppem ≤ size_limit }
     ensures exact { result ≡ rise_of metrics.now ppem }
-    ensures bound { unsigned_abs result ≤ 10 ^ 6 }
+    ensures bound { unsigned_abs result ≤ 614400 }
 {
     rounded_up(i32::from(metrics.ascent()), ppem, metrics.units_per_em())
 }
@@ -33,7 +33,7 @@ pub(crate) fn rise(metrics: &Metrics, ppem: u32) -> i32
 pub(crate) fn depth(metrics: &Metrics, ppem: u32) -> i32
     requires size { ppem ≤ size_limit }
     ensures exact { result ≡ depth_of metrics.now ppem }
-    ensures bound { unsigned_abs result ≤ 10 ^ 6 }
+    ensures bound { unsigned_abs result ≤ 614400 }
 {
     rounded_up(-i32::from(metrics.descent()), ppem, metrics.units_per_em())
 }
@@ -54,7 +54,7 @@ fn rounded_up(units: i32, ppem: u32, em: u16) -> i32
     requires size { ppem ≤ size_limit }
     requires em { smallest_em ≤ em }
     ensures exact { result ≡ ceiling_quotient (units *ℤ pos ppem) (pos em) }
-    ensures bound { unsigned_abs result ≤ 10 ^ 6 }
+    ensures bound { unsigned_abs result ≤ 614400 }
 {
     ceiling(units * ppem as i32, i32::from(em))
 }
@@ -64,7 +64,7 @@ fn ceiling(n: i32, d: i32) -> i32
     requires numerator { unsigned_abs n ≤ size_limit * 2 ^ 15 }
     requires denominator { pos smallest_em ≤ℤ d }
     ensures exact { result ≡ ceiling_quotient n d }
-    ensures bound { unsigned_abs result ≤ 10 ^ 6 }
+    ensures bound { unsigned_abs result ≤ 614400 }
 {
     -(-n).div_euclid(d)
 }

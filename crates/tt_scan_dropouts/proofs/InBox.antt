@@ -48,7 +48,7 @@ all_of_map P f (x ∷ xs) h =
     All-cons (λ x. P (f x)) x xs (All-head P (f x) (map f xs) h) (all_of_map P f xs (All-tail P (f x) (map f xs) h))
 
 -- the edges of an outline lie in its box
-edges_within : (x y : ℤ) (es : List Edge) → All (EdgeWithin (least_x x es) (greatest_x x es)
+pub edges_within : (x y : ℤ) (es : List Edge) → All (EdgeWithin (least_x x es) (greatest_x x es)
     (least_x y (map turned_round es)) (greatest_x y (map turned_round es))) es
 edges_within x y es =
     let low = all_of_map (λ e. least_x y (map turned_round es) ≤ℤ int_min e.ax e.bx) turned_round es
@@ -113,7 +113,7 @@ boxed_within : (b : Columns) (c p : ℤ) (right : Bool) → IsGapOf b c
 boxed_within b c p true gap is = record { first = grind (arith, ints); last = grind (arith, ints) }
 boxed_within b c p false gap is = record { first = grind (arith, ints); last = grind (arith, ints) }
 
-line_within : (b t j : ℤ) → b ≤ℤ centre j → centre j ≤ℤ t → IsColumnOf (columns_between b t) j
+pub line_within : (b t j : ℤ) → b ≤ℤ centre j → centre j ≤ℤ t → IsColumnOf (columns_between b t) j
 line_within b t j low high =
     let b_low = floor_low (b +ℤ pos 4095) in
     let t_high = floor_high (t -ℤ pos 4096) in
@@ -182,13 +182,13 @@ added_in_box rules contours (e ∷ es) black p j all is =
 
 -- the edges of the turned outline are the turned edges, and turned again the edges
 
-edges_turned : (contours : List (List Edge)) → edges_of (outline_turned contours) ≡ map turned_round (edges_of contours)
+pub edges_turned : (contours : List (List Edge)) → edges_of (outline_turned contours) ≡ map turned_round (edges_of contours)
 edges_turned [] = refl
 edges_turned (es ∷ contours) =
     ap (λ rest. map turned_round es ++ rest) (edges_turned contours)
     ∙ sym (map-append turned_round es (edges_of contours))
 
-turned_twice : (es : List Edge) → map turned_round (map turned_round es) ≡ es
+pub turned_twice : (es : List Edge) → map turned_round (map turned_round es) ≡ es
 turned_twice [] = refl
 turned_twice (e ∷ es) = ap (λ rest. e ∷ rest) (turned_twice es)
 

@@ -120,7 +120,7 @@ on_append [] fs x y = refl
 on_append (e ∷ es) fs x y =
     rw (on_append es fs x y) (or_or (lies_on e x y) (lies_on_one es x y) (lies_on_one fs x y))
 
-round_all : (contours : List (List Edge)) (x y : ℤ) → All IsClosed contours
+pub round_all : (contours : List (List Edge)) (x y : ℤ) → All IsClosed contours
     → lies_on_one (edges_of contours) x y ≡ false
     → winding (edges_of contours) x y +ℤ winding (edges_of (outline_turned contours)) y x ≡ pos 0
 round_all [] x y round off = refl

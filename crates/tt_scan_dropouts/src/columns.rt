@@ -72,8 +72,9 @@ fn extents(x: i32, y: i32, edges: &[Edge]) -> (Extent, Extent)
     (across, up)
 }
 
-/// The columns and the rows of the box of edges.
-pub(crate) fn box_of(edges: &[Edge]) -> (Columns, Columns)
+/// The columns and the rows of the box of edges: those with a centre from the least to the greatest x and y; where none
+/// has, the one that is nearer to the middle.
+pub fn box_of(edges: &[Edge]) -> (Columns, Columns)
     requires { All EdgeFits edges.now }
     ensures columns { result.0 ≡ columns_of edges.now }
     ensures rows { result.1 ≡ columns_of (map turned_round edges.now) }

@@ -44,7 +44,8 @@ mod steps;
 mod stub;
 mod window;
 
+pub use columns::box_of;
 pub use filling::{crossings, dropouts, most_crossings};
-pub use mark::{Pixel, Rules};
+pub use mark::{Columns, Pixel, Rules};
 pub use picture::{Dropout, blacken_dropouts, push_dropouts, sort_by_rows};
 pub use window::Window;

@@ -54,9 +54,9 @@ pub(crate) struct Leg {
     pub(crate) far: u64,
 }
 
-/// The columns of a glyph's box, the first and the last.
+/// The columns of a glyph's box, the first and the last, both included; or its rows.
 #[derive(Clone, Copy)]
-pub(crate) struct Columns {
-    pub(crate) first: i64,
-    pub(crate) last: i64,
+pub struct Columns {
+    pub first: i64,
+    pub last: i64,
 }

@@ -1,0 +1,41 @@
+use Rattle.std.proofs.Common.{◌≡◌, ◌∙◌, ap, Bool, ℤ, map, All}
+use Rattle.std.specs.Prelude.{IfSome}
+use Rattle.std.proofs.lemmas.Result.{IfOk-weaker}
+use Rattle.tt_scan.specs.Contours.{contours_at}
+use Rattle.tt_scan.specs.Winding.{EdgeFits}
+use Rattle.tt_scan_dropouts.specs.Dropouts.{columns_of, is_dropout, turned_round}
+use Rattle.tt_scan_ink.specs.Ink.{count_of, dropouts_ink, ink_in}
+use Rattle.tt_scan_ink.specs.Least.{IsInk, IsNear, shown}
+use Rattle.tt_scan_ink.proofs.Near.{columns_near, lines_near}
+use Rattle.tt_scan_ink.proofs.NearInk.{dropouts_near}
+use Rattle.tt_scan_ink.proofs.Regions.{found_is}
+use Rattle.tt_scan_ink.proofs.dropouts.dropouts_ink.Goals as goal
+
+pub windows_ink-requires-clause-columns : goal.windows_ink-requires-clause-columns
+windows_ink-requires-clause-columns c =
+    rw c.box_of.ensures.columns (columns_near c.lend.result.now c.lend.ensures.fits)
+
+pub windows_ink-requires-clause-rows : goal.windows_ink-requires-clause-rows
+windows_ink-requires-clause-rows c = rw c.box_of.ensures.rows (lines_near c.lend.result.now c.lend.ensures.fits)
+
+pub returns-clause-exact : goal.returns-clause-exact
+returns-clause-exact c =
+    let es = c.args.tape.now.edges in
+    let fits : All EdgeFits es = rw c.lend.ensures.exact at c.lend.ensures.fits in
+    let columns : c.box_of.result.0 ≡ columns_of es = c.box_of.ensures.columns ∙ ap columns_of c.lend.ensures.exact in
+    let rows : c.box_of.result.1 ≡ columns_of (map turned_round es) =
+    c.box_of.ensures.rows ∙ ap (λ es. columns_of (map turned_round es)) c.lend.ensures.exact in
+    let black : ℤ → ℤ → Bool = is_dropout c.args.rules (contours_at es c.args.ends.now) in
+    IfOk-weaker c.windows_ink.result
+    (IsInk (shown (columns_of es) (columns_of (map turned_round es)).first (count_of (columns_of (map turned_round es)))
+    black))
+    (λ ink. ink ≡ ink_in black (columns_of es) (columns_of (map turned_round es)))
+    (λ ink is. found_is black (columns_of es) (columns_of (map turned_round es)) ink (columns_near es fits) is)
+    (rw (columns, rows) at c.windows_ink.ensures)
+
+pub returns-clause-near : goal.returns-clause-near
+returns-clause-near c =
+    let es = c.args.tape.now.edges in
+    let fits : All EdgeFits es = rw c.lend.ensures.exact at c.lend.ensures.fits in
+    IfOk-weaker c.windows_ink.result (λ ink. ink ≡ dropouts_ink c.args.rules (contours_at es c.args.ends.now) es) (λ ink. IfSome ink IsNear) (λ ink is. rw is (dropouts_near c.args.rules (contours_at es c.args.ends.now) es fits))
+    (returns-clause-exact c)

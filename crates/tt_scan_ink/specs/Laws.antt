@@ -1,0 +1,24 @@
+-- What the definitions come to: the box holds all that is black, wherever it stands, and no smaller box does.
+use Rattle.std.specs.Prelude.{Bool, ◌||◌, ℤ, All, List, Option}
+use Rattle.tt_scan.specs.Contours.{IsClosed}
+use Rattle.tt_scan.specs.declared.edge.Edge.{Edge}
+use Rattle.tt_scan_dropouts.specs.Dropouts.{edges_of, is_dropout, is_inked}
+use Rattle.tt_scan_dropouts.specs.declared.mark.Rules.{Rules}
+use Rattle.tt_scan_ink.specs.Ink.{dropouts_ink, edges_ink, joined}
+use Rattle.tt_scan_ink.specs.Least.{IsInk}
+use Rattle.tt_scan_ink.specs.declared.ink.GlyphInk.{GlyphInk}
+
+-- where all contours are closed, their edges blacken nothing outside the box of the edges
+abbrev pub EdgesInkHoldsAll : Type 0
+EdgesInkHoldsAll = (contours : List (List Edge)) → All IsClosed contours
+    → IsInk (is_inked contours) (edges_ink (edges_of contours))
+
+-- no dropout lies outside it, whatever the contours
+abbrev pub DropoutsInkHoldsAll : Type 0
+DropoutsInkHoldsAll = (rules : Rules) (contours : List (List Edge))
+    → IsInk (is_dropout rules contours) (dropouts_ink rules contours (edges_of contours))
+
+-- two boxes joined are the box of what is black in either
+abbrev pub JoinedHoldsBoth : Type 0
+JoinedHoldsBoth = (black other : ℤ → ℤ → Bool) (a b : Option GlyphInk) → IsInk black a → IsInk other b
+    → IsInk (λ c j. black c j || other c j) (joined a b)

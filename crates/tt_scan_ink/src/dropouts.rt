@@ -1,0 +1,123 @@
+//! The box of a glyph's dropouts.
+
+ghost use Rattle.std.specs.Prelude.{◌≡◌, ◌&&◌, ◌+◌, ◌^◌, ◌<◌, ◌≤◌, [], ◌∷◌, length, unsigned_abs, IfOk, IfSome};
+ghost use Rattle.tt_core.specs.Limits.{height_limit};
+ghost use Rattle.tt_scan.specs.Contours.{AreEnds, contours_at};
+ghost use Rattle.tt_scan_dropouts.specs.Dropouts.{is_dropout};
+ghost use Rattle.tt_scan_dropouts.specs.Gaps.{has_pixel};
+ghost use Rattle.tt_scan_dropouts.specs.Windows.{WindowFits, has, widened};
+ghost use Rattle.tt_scan_ink.specs.Ink.{count_of, dropouts_ink};
+ghost use Rattle.tt_scan_ink.specs.Least.{AreNear, IsInk, IsNear, shown};
+
+use crate::ink::{GlyphInk, joined};
+use crate::lines::count_of;
+use std::alloc::{AllocError, Global};
+use tt_core::HEIGHT_LIMIT;
+use tt_scan::Tape;
+use tt_scan_dropouts::{Columns, Pixel, Rules, Window, box_of, dropouts};
+
+/// The box of one pixel.
+#[inline(always)]
+fn pixel_ink(pixel: Pixel) -> Option<GlyphInk>
+    ensures { IsInk (has_pixel (pixel ∷ [])) result }
+{
+    Some(GlyphInk {
+        left: pixel.column,
+        bottom: pixel.row,
+        right: pixel.column,
+        top: pixel.row,
+    })
+}
+
+/// The box of some pixels.
+fn pixels_ink(pixels: &[Pixel]) -> Option<GlyphInk>
+    ensures { IsInk (has_pixel pixels.now) result }
+{
+    let mut ink = None;
+    for pixel in pixels {
+        ink = joined(ink, pixel_ink(*pixel));
+    }
+    ink
+}
+
+/// The window of some columns and of so many lines, from one on.
+fn window_of(columns: Columns, bottom: i64, height: u32) -> Window
+    requires columns { AreNear columns }
+    requires some { 1 ≤ height }
+    requires few { height ≤ height_limit }
+    requires bottom { unsigned_abs bottom < 2 ^ 19 }
+    ensures exact { result
+        ≡ record { left = columns.first; bottom = bottom; width = count_of columns; height = height } }
+    ensures fits { WindowFits (widened 2 result) }
+{
+    Window {
+        left: columns.first as i32,
+        bottom: bottom as i32,
+        width: count_of(columns),
+        height,
+    }
+}
+
+/// The box of the dropouts in a window. Error: memory ran out.
+fn window_ink(
+    alloc: Global,
+    rules: Rules,
+    tape: &Tape,
+    ends: &[usize],
+    window: Window,
+) -> Result<Option<GlyphInk>, AllocError>
+    requires few { length tape.now.edges ≤ 2 ^ 32 }
+    requires ends { AreEnds (length tape.now.edges) ends.now }
+    requires window { WindowFits (widened 2 window) }
+    ensures { IfOk result (IsInk (λ c j. has window c j
+        && is_dropout rules (contours_at tape.now.edges ends.now) c j)) }
+{
+    let found = dropouts(alloc, rules, tape, ends, window)?;
+    Ok(pixels_ink(&found))
+}
+
+/// The box of the dropouts in some columns and rows, window after window from the lowest on: a window has no more rows
+/// than a picture. Error: memory ran out.
+fn windows_ink(
+    alloc: Global,
+    rules: Rules,
+    tape: &Tape,
+    ends: &[usize],
+    columns: Columns,
+    rows: Columns,
+) -> Result<Option<GlyphInk>, AllocError>
+    requires few { length tape.now.edges ≤ 2 ^ 32 }
+    requires ends { AreEnds (length tape.now.edges) ends.now }
+    requires columns { AreNear columns }
+    requires rows { AreNear rows }
+    ensures { IfOk result (IsInk (shown columns rows.first (count_of rows)
+        (is_dropout rules (contours_at tape.now.edges ends.now)))) }
+{
+    let count = count_of(rows);
+    let mut ink = None;
+    let mut done = 0;
+    while done < count {
+        let height = (count - done).min(HEIGHT_LIMIT);
+        let window = window_of(columns, rows.first + i64::from(done), height);
+        ink = joined(ink, window_ink(alloc, rules, tape, ends, window)?);
+        done += height;
+    }
+    Ok(ink)
+}
+
+/// The least box that holds all dropouts of a glyph whose edges stand on a tape, and whose contours each end before the
+/// edge of a number; None where there are none. The tape's frame is of no account. Error: memory ran out.
+pub fn dropouts_ink(
+    alloc: Global,
+    rules: Rules,
+    tape: &Tape,
+    ends: &[usize],
+) -> Result<Option<GlyphInk>, AllocError>
+    requires few { length tape.now.edges ≤ 2 ^ 32 }
+    requires ends { AreEnds (length tape.now.edges) ends.now }
+    ensures exact { IfOk result (λ ink. ink ≡ dropouts_ink rules (contours_at tape.now.edges ends.now) tape.now.edges) }
+    ensures near { IfOk result (λ ink. IfSome ink IsNear) }
+{
+    let (columns, rows) = box_of(tape.lend());
+    windows_ink(alloc, rules, tape, ends, columns, rows)
+}

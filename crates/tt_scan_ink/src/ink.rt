@@ -1,0 +1,37 @@
+//! Boxes of black pixels.
+
+ghost use Rattle.std.specs.Prelude.{◌≡◌};
+ghost use Rattle.tt_scan_ink.specs.Ink.{joined, joined_boxes};
+
+/// The least box that holds the black pixels of a glyph: columns count rightwards from its pen, lines of pixels upwards
+/// from the base line, and all four are included.
+#[derive(Clone, Copy, Debug, PartialEq, Eq)]
+pub struct GlyphInk {
+    pub left: i64,
+    pub bottom: i64,
+    pub right: i64,
+    pub top: i64,
+}
+
+/// The least box that holds two.
+fn joined_boxes(a: GlyphInk, b: GlyphInk) -> GlyphInk
+    ensures { result ≡ joined_boxes a b }
+{
+    GlyphInk {
+        left: a.left.min(b.left),
+        bottom: a.bottom.min(b.bottom),
+        right: a.right.max(b.right),
+        top: a.top.max(b.top),
+    }
+}
+
+/// The least box that holds two; the other where one of them is none.
+pub fn joined(a: Option<GlyphInk>, b: Option<GlyphInk>) -> Option<GlyphInk>
+    ensures { result ≡ joined a b }
+{
+    match (a, b) {
+        (Some(a), Some(b)) => Some(joined_boxes(a, b)),
+        (Some(a), None) => Some(a),
+        (None, b) => b,
+    }
+}
