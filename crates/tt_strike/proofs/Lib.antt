@@ -18,4 +18,10 @@ mod Stopped
 mod FirstMet
 mod Setting
 mod Kept
+mod Made
+mod Among
+mod GrownMeasures
+mod GrownStops
+mod Larger
+mod Agreeing
 mod RowsCut

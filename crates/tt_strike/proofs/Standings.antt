@@ -134,7 +134,7 @@ at_pen o pen =
     ∙ outline_at o.points o.ends (pos (64 * 0) -ℤ origin_of o) (pos 0) (pos pen)
 
 -- what it blackens from a pen it blackens so far to the left from pen 0
-from_pen : (m : ℕ) (o : Outline) (pen : ℕ) (c y : ℤ) → is_black (edges_at pen o) (column_x m c) y
+pub from_pen : (m : ℕ) (o : Outline) (pen : ℕ) (c y : ℤ) → is_black (edges_at pen o) (column_x m c) y
     ≡ is_black (edges_at 0 o) (column_x m (c -ℤ pos pen)) y
 from_pen m o pen c y =
     let edges = at_pen o pen in
@@ -169,7 +169,7 @@ contours_at_pen o pen =
     ∙ contours_there o.points o.ends (pos (64 * 0) -ℤ origin_of o) (pos 0) (pos pen)
     ∙ all_moved (pos pen) (contours_of 0 o)
 
-filled_from_pen : (filled : Option Rules) (f : Frame) (o : Outline) (pen c r : ℕ)
+pub filled_from_pen : (filled : Option Rules) (f : Frame) (o : Outline) (pen c r : ℕ)
     → is_filled filled (contours_of 0 o) (column_at f pen c) (line_at f r)
     ≡ is_filled filled (contours_of pen o) (column_at f 0 c) (line_at f r)
 filled_from_pen None f o pen c r = refl

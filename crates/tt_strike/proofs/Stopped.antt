@@ -1,5 +1,5 @@
 -- What stopped a step of a drawing stops the picture.
-use Rattle.std.proofs.Common.{◌≡◌, ◌<◌, nat_lt, Bool, true, false, ◌&&◌, if◌then◌else◌, List, map, Result, Ok, Err, inl, inr, refl, arith}
+use Rattle.std.proofs.Common.{◌≡◌, ◌∙◌, ◌<◌, nat_lt, Bool, true, false, ◌&&◌, if◌then◌else◌, List, map, Result, Ok, Err, inl, inr, refl, arith}
 use Rattle.std.proofs.lemmas.Bool.Decides.{nat_tests}
 use Rattle.std.specs.Prelude.{IfSome}
 use Rattle.tt_core.specs.declared.font_fault.FontFault.{FontFault}
@@ -8,7 +8,7 @@ use Rattle.tt_core.specs.declared.fault.JobFault.{JobFault}
 use Rattle.tt_core.specs.declared.fault.JobFault.TheVariants as job_of
 use Rattle.tt_core.specs.Faults.{Fault}
 use Rattle.tt_core.specs.Limits.{crossing_limit, point_work_limit}
-use Rattle.tt_core.specs.Outcomes.{FontGives, IfTold, font_fault}
+use Rattle.tt_core.specs.Outcomes.{◌>>=◌, FontGives, IfTold, font_fault}
 use Rattle.tt_fit.specs.Fitting.{Fitter}
 use Rattle.tt_line.specs.declared.fault.LineFault.{LineFault}
 use Rattle.tt_line.specs.declared.fault.LineFault.TheVariants as line
@@ -17,19 +17,21 @@ use Rattle.tt_line.specs.Outcome.{job_fault}
 use Rattle.tt_strike.specs.Job.{Job, tested}
 use Rattle.tt_strike.specs.Defects.{IsTooMuchWork, IsExtentRefusal, IsLineRefusal, draw_font_fault, draw_job_fault}
 use Rattle.tt_strike.specs.Tables.{Face}
-use Rattle.tt_strike.specs.Refusals.{Refused, as_job, job, refusal}
+use Rattle.tt_strike.specs.Refusals.{Refused, as_font, as_job, job, refusal}
 use Rattle.tt_strike.specs.Refusals as outcome
-use Rattle.tt_strike.specs.Picture.{crossings_tested, drawn, line_outcome, pictured_by, shapes_in, frame_of, points_tested, setting_in}
+use Rattle.tt_strike.specs.Picture.{crossings_tested, drawn, laid_out, line_outcome, line_shapes, pictured_by, shapes_in, frame_of, points_tested, setting_in}
 use Rattle.tt_strike.specs.declared.fault.DrawFault.{DrawFault}
 use Rattle.tt_strike.specs.declared.fault.DrawFault.TheVariants as draw
+use Rattle.tt_strike.specs.Grown.{grown_outcome, grown_placement}
+use Rattle.tt_strike.specs.Made.{shapes_made}
+use Rattle.tt_strike.specs.Measures.{measured, measured_line}
 use Rattle.tt_strike.specs.Pixels.{Shape}
 use Rattle.tt_strike.specs.Work.{crossings_in, is_bounded, points_in, work_tested}
 use Rattle.tt_strike.specs.Views.{draw_fault_of_font, draw_fault_of_line}
 
 pub laying_stops : (a : Job) (face : Face) (e : LineFault) → tested a ≡ Ok tt
     → IfSome (job_fault e) (λ j. placement face.metrics face.cmap a.text a.ppem a.margin ≡ Err j)
-    → IfSome (refusal (draw_fault_of_line e)) (λ r. line_outcome face a ≡ Err r)
-unfolding line_outcome pictured_by
+    → IfSome (refusal (draw_fault_of_line e)) (λ r. laid_out face a ≡ Err r)
 laying_stops a face (line.Job j) passes fails = rw (passes, fails) refl
 laying_stops a face line.Memory passes fails = tt
 
@@ -46,15 +48,13 @@ work_refuses (Err draw.Memory) a face l laid refused = tt
 -- what stopped the making of the setting, or of a glyph, stops the line
 pub setting_stops : (face : Face) (a : Job) (l : Placement) (e : FontFault)
     → FontGives {X = Fitter} (λ f. f) (Err e) (setting_in face a)
-    → IfSome (refusal (draw_fault_of_font e)) (λ r. drawn face a l ≡ Err r)
-unfolding drawn
+    → IfSome (refusal (draw_fault_of_font e)) (λ r. shapes_made face a l ≡ Err r)
 setting_stops face a l (font.Font f) fails = rw fails refl
 setting_stops face a l font.Memory fails = tt
 
 pub glyph_stops : (face : Face) (a : Job) (l : Placement) (s : Fitter) (e : FontFault) → setting_in face a ≡ Ok s
     → as_job (points_tested s a l) ≡ Ok tt → IfSome (font_fault e) (λ f. shapes_in s l ≡ Err f)
-    → IfSome (refusal (draw_fault_of_font e)) (λ r. drawn face a l ≡ Err r)
-unfolding drawn
+    → IfSome (refusal (draw_fault_of_font e)) (λ r. shapes_made face a l ≡ Err r)
 glyph_stops face a l s (font.Font f) there few fails = rw (there, few, fails) refl
 glyph_stops face a l s font.Memory there few fails = tt
 
@@ -66,8 +66,7 @@ font_tells P font.Memory stands = tt
 -- and so do crossings past the limit
 pub crossings_stop : (face : Face) (a : Job) (l : Placement) (s : Fitter) (glyphs : List Shape) (j : JobFault)
     → setting_in face a ≡ Ok s → as_job (points_tested s a l) ≡ Ok tt → shapes_in s l ≡ Ok glyphs
-    → crossings_tested a l glyphs ≡ Err j → drawn face a l ≡ Err (job j)
-unfolding drawn
+    → crossings_tested a l glyphs ≡ Err j → shapes_made face a l ≡ Err (job j)
 crossings_stop face a l s glyphs j there few made refused = rw (there, few, made, refused) refl
 
 tested_as : (bounded past : Bool) (j : JobFault)
@@ -97,8 +96,7 @@ no_font_refused (Err i) f was = absurd cc
 
 -- points past the limit stop the line before a glyph is made
 pub points_stop : (face : Face) (a : Job) (l : Placement) (s : Fitter) (e : DrawFault) → setting_in face a ≡ Ok s
-    → IfSome (refusal e) (λ r. as_job (points_tested s a l) ≡ Err r) → IfSome (refusal e) (λ r. drawn face a l ≡ Err r)
-unfolding drawn
+    → IfSome (refusal e) (λ r. as_job (points_tested s a l) ≡ Err r) → IfSome (refusal e) (λ r. shapes_made face a l ≡ Err r)
 points_stop face a l s (draw.Font f) there fails = rw (there, fails) refl
 points_stop face a l s (draw.Job j) there fails = rw (there, fails) refl
 points_stop face a l s draw.Memory there fails = tt
@@ -148,3 +146,60 @@ laying_tells_no_defect P line.Memory = tt
 pub drawing_refuses_no_job : (P : JobFault → Type 0) (e : FontFault) → IfSome (draw_job_fault (draw_fault_of_font e)) P
 drawing_refuses_no_job P (font.Font f) = tt
 drawing_refuses_no_job P font.Memory = tt
+
+-- and what stopped the glyphs of a line stops its picture and its measure
+stops_after : {A B C E : Type 0} (x : Result A E) (f : A → Result B E) (g : A → B → Result C E) (e : E)
+    → (x >>= f) ≡ Err e → (x >>= λ s. f s >>= λ b. g s b) ≡ Err e
+stops_after (Ok s) f g e stopped = rw stopped refl
+stops_after (Err d) f g e stopped = let same : d ≡ e = cc in rw same refl
+
+-- an error that tells why one thing is not there tells why another is not, which hangs on it
+pub stops : {A B : Type 0} (e : DrawFault) (x : Result A Refused) (y : Result B Refused)
+    → ((r : Refused) → x ≡ Err r → y ≡ Err r) → IfSome (refusal e) (λ r. x ≡ Err r) → IfSome (refusal e) (λ r. y ≡ Err r)
+stops (draw.Font f) x y more stopped = more _ stopped
+stops (draw.Job j) x y more stopped = more _ stopped
+stops draw.Memory x y more stopped = tt
+
+pub drawing_stops : (face : Face) (a : Job) (l : Placement) (e : DrawFault)
+    → IfSome (refusal e) (λ r. shapes_made face a l ≡ Err r) → IfSome (refusal e) (λ r. drawn face a l ≡ Err r)
+unfolding drawn
+drawing_stops face a l e stopped =
+    stops e (shapes_made face a l) (drawn face a l)
+    (λ r. stops_after (as_font (setting_in face a)) (λ s. line_shapes s a l) _ r) stopped
+
+pub measuring_stops : (face : Face) (a : Job) (l : Placement) (e : DrawFault)
+    → IfSome (refusal e) (λ r. shapes_made face a l ≡ Err r) → IfSome (refusal e) (λ r. measured_line face a l ≡ Err r)
+unfolding measured_line
+measuring_stops face a l e stopped =
+    stops e (shapes_made face a l) (measured_line face a l)
+    (λ r. stops_after (as_font (setting_in face a)) (λ s. line_shapes s a l) _ r) stopped
+
+after_test : {A B : Type 0} (t : Result (Unit {0}) JobFault) (r : Result A Refused) (f : A → Result B Refused)
+    → (as_job t >>= λ u. r >>= f) ≡ ((as_job t >>= λ u. r) >>= f)
+after_test (Ok u) r f = refl
+after_test (Err e) r f = refl
+
+-- a text that is laid out has its picture, and what stopped that stops the picture
+pub line_as_laid : (face : Face) (a : Job) → line_outcome face a ≡ (laid_out face a >>= λ l. drawn face a l)
+unfolding line_outcome pictured_by
+line_as_laid face a = after_test (tested a) (as_job (placement face.metrics face.cmap a.text a.ppem a.margin)) (drawn face a)
+
+pub line_stops : (face : Face) (a : Job) (e : DrawFault) → IfSome (refusal e) (λ r. laid_out face a ≡ Err r)
+    → IfSome (refusal e) (λ r. line_outcome face a ≡ Err r)
+line_stops face a e stopped = stops e (laid_out face a) (line_outcome face a) (λ r fails. line_as_laid face a ∙ rw fails refl) stopped
+
+pub measure_stops : (face : Face) (a : Job) (e : DrawFault) → IfSome (refusal e) (λ r. laid_out face a ≡ Err r)
+    → IfSome (refusal e) (λ r. measured face a ≡ Err r)
+unfolding measured
+measure_stops face a e stopped = stops e (laid_out face a) (measured face a) (λ r fails. rw fails refl) stopped
+
+pub grown_stops : (face : Face) (a : Job) (e : DrawFault) → IfSome (refusal e) (λ r. laid_out face a ≡ Err r)
+    → IfSome (refusal e) (λ r. grown_outcome face a ≡ Err r)
+unfolding grown_outcome grown_placement
+grown_stops face a e stopped = stops e (laid_out face a) (grown_outcome face a) (λ r fails. rw fails refl) stopped
+
+-- laying out tells no defect
+pub no_defect_told : (P : Fault → Type 0) (e : DrawFault) → IfSome (draw_font_fault e) (λ f. ⊥) → IfSome (draw_font_fault e) P
+no_defect_told P (draw.Font f) never = absurd never
+no_defect_told P (draw.Job j) never = tt
+no_defect_told P draw.Memory never = tt

@@ -16,6 +16,8 @@ use Rattle.tt_scan_dropouts.specs.Pictures.{column_at, is_among, line_at}
 use Rattle.tt_scan_dropouts.specs.declared.mark.Rules.{Rules}
 use Rattle.tt_scan_dropouts.specs.declared.picture.Dropout.{Dropout}
 use Rattle.tt_scan_rows.specs.Raster.{IsRasterOf, Raster}
+use Rattle.tt_scan_ink.specs.declared.ink.GlyphInk.{GlyphInk}
+use Rattle.tt_strike.specs.Ink.{ink_by}
 use Rattle.tt_strike.specs.Picture.{contours_of, edges_at, filled_by}
 use Rattle.tt_strike.specs.Pixels as pixels
 use Rattle.tt_strike.specs.Pixels.{Drawn, Shape, Stamp, TapeFits, is_black_by, is_filled, is_filled_by, some_black, some_filled}
@@ -107,6 +109,10 @@ pub record CanBeFilled (g : Glyph) : Type 0 where
   pub ends : IfSome g.filled (λ rules. AreEnds (length (edges_of g.body)) g.ends)
   pub closed : IfSome g.filled (λ rules. All IsClosed (contours_at (edges_of g.body) g.ends))
   pub pens : IfSome g.filled (λ rules. All (λ pen. pen ≤ width_limit) g.pens)
+
+-- the box of what a tape of a glyph blackens where its pen is 0
+abbrev pub ink_standing : Glyph → Option GlyphInk
+ink_standing g = ink_by (edges_of g.body) (contours_at (edges_of g.body) g.ends) g.filled
 
 -- some glyphs, by their edges, or some dropouts have column c of row r
 abbrev pub shows_by : Frame → List Stamp → List Dropout → ℕ → ℕ → Bool

@@ -1,9 +1,10 @@
 -- Laws of the definitions: where there is a picture, the font has no defect; only fallback and best leave a
 -- glyph that is not fitted; which pixels are black with another margin, beside other glyphs, and where no dropouts are
 -- filled.
-use Rattle.std.specs.Prelude.{◌≡◌, ◌≢◌, refl, ℕ, ◌+◌, ◌||◌, true, false, pos, All, List, [], ◌∷◌, ◌++◌, codes, Option, Some, None, Ok}
+use Rattle.std.specs.Prelude.{◌≡◌, ◌≢◌, refl, ℕ, ◌+◌, ◌||◌, true, false, pos, All, List, [], ◌∷◌, ◌++◌, ◌↔◌, codes, Option, Some, None, Ok, Err}
 use Rattle.std.specs.Fmt.{digits}
 use Rattle.tt_core.specs.Directory.{HasNo}
+use Rattle.tt_core.specs.Outcomes.{each}
 use Rattle.tt_fit.specs.declared.programs.Fit.TheVariants as fit
 use Rattle.tt_fit.specs.Fitting.{Fitter}
 use Rattle.tt_fit.specs.Rules.{falls_back}
@@ -16,7 +17,11 @@ use Rattle.tt_scan_dropouts.specs.declared.mark.Rules.{Rules}
 use Rattle.tt_strike.specs.Job.{Job}
 use Rattle.tt_strike.specs.declared.report.Unfitted.{Unfitted}
 use Rattle.tt_strike.specs.Defects.{IsFaceDefect, IsRunDefect}
-use Rattle.tt_strike.specs.Picture.{setting_in, frame_of, picture, pictured, shapes_in}
+use Rattle.tt_strike.specs.Grown.{with_sides}
+use Rattle.tt_strike.specs.declared.growing.Sides.{Sides}
+use Rattle.tt_strike.specs.Picture.{setting_in, frame_of, glyph_shape, line_outcome, picture, pictured, shapes_in}
+use Rattle.tt_strike.specs.Measures.{measured}
+use Rattle.tt_strike.specs.Refusals.{Refused}
 use Rattle.tt_strike.specs.Pixels.{Shape, some_black, is_black_pixel}
 use Rattle.tt_strike.specs.Report.{report_of}
 use Rattle.tt_strike.specs.Tables.{Face, face_of}
@@ -38,6 +43,18 @@ OthersListNothing = (a : Job) (file : List ℕ) (entries : List Unfitted) → re
 abbrev pub MarginMoves : Type 0
 MarginMoves = (f g : Frame) (m : ℕ) (glyphs : List Shape) (c r : ℕ) → g.margin ≡ f.margin + m → g.rise ≡ f.rise
     → is_black_pixel g glyphs (c + m) (r + m) ≡ is_black_pixel f glyphs c r
+
+-- a text is measured where it has a picture, and refused for the same
+abbrev pub MeasuredAsDrawn : Type 0
+MeasuredAsDrawn = (face : Face) (a : Job) (r : Refused) → line_outcome face a ≡ Err r ↔ measured face a ≡ Err r
+
+-- a line with so many columns and rows more on each side has its pixels so far to the right and down, and no others there
+abbrev pub SidesMove : Type 0
+SidesMove = (maker : ℕ → Fitter) (line : Placement) (s : Sides) (margin : ℕ) (glyphs larger : List Shape) (c r : ℕ)
+    → each (glyph_shape maker) line.glyphs ≡ Ok glyphs
+    → each (glyph_shape maker) (with_sides line s).glyphs ≡ Ok larger
+    → is_black_pixel (frame_of (with_sides line s) margin) larger (c + s.left) (r + s.top)
+    ≡ is_black_pixel (frame_of line margin) glyphs c r
 
 -- what is black of some glyphs and others is what is black of either
 abbrev pub GlyphsByThemselves : Type 0

@@ -4,9 +4,13 @@ pub mod Defects
 pub mod Distinct
 pub mod Tables
 pub mod Glyphs
+pub mod Grown
+pub mod Ink
 pub mod Kept
 pub mod Laws
+pub mod Made
 pub mod Makers
+pub mod Measures
 pub mod Picture
 pub mod Pictures
 pub mod Pixels

@@ -97,6 +97,10 @@ drawn face a line =
     line_shapes s a line >>= λ glyphs.
     Ok (picture (frame_of line a.margin) glyphs)
 
+-- a text laid out by a font's tables, once its job is tested, or the first refusal
+abbrev pub laid_out : Face → Job → Result Placement Refused
+laid_out face a = as_job (tested a) >>= λ u. as_job (placement face.metrics face.cmap a.text a.ppem a.margin)
+
 -- the picture of a text by a font's tables, or the first refusal
 unfoldable pub pictured_by : Face → Job → Result (List ℕ) Refused
 pictured_by face a =

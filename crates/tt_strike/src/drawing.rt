@@ -19,16 +19,15 @@ ghost use Rattle.tt_strike.specs.Work.{is_bounded};
 
 use crate::dropouts::line_dropouts;
 use crate::fault::DrawFault;
-use crate::glyphs::line_glyphs;
 use crate::job::Job;
 use crate::maker::Maker;
 use crate::picture::Picture;
 use crate::tables::Face;
-use crate::work::{is_bounded, test_crossings, test_points};
+use crate::tested::{frame_of, tested_glyphs};
+use crate::work::is_bounded;
 use std::alloc::Global;
 use tt_fit::Fit;
 use tt_line::Line;
-use tt_scan::Frame;
 use tt_strike_kept::KeptGlyphs;
 
 /// Whether glyphs are kept from line to line: not where a line uses up some of the work of what makes them.
@@ -70,21 +69,9 @@ pub(crate) fn draw_line<'a>(
     ensures defects { TellsDefects draw_font_fault (IsLineDefect face.now (job_view job.now) (map (λ g. g.0) line.now.glyphs.items)) result }
     ensures work { IfTold draw_job_fault result (λ j. (j ≡ WorkLarge) × IsTooMuchWork face.now (job_view job.now) (placement_of line.now)) }
 {
-    tt_fit::laws::work_unfits();
-    let mut fitter = maker.take(alloc, face, job)?;
-    let frame = Frame {
-        width: line.width,
-        height: line.height,
-        margin: job.margin,
-        rise: line.rise,
-    };
     let keeps = keeps_glyphs(kept, job.fit);
-    let count = face.metrics().glyphs();
-    test_points(alloc, job.fit, &fitter, count, &line.glyphs)?;
-    let glyphs = line_glyphs(alloc, &mut fitter, count, &line.glyphs, frame, kept, keeps)?;
-    test_crossings(job.fit, &glyphs)?;
+    let glyphs = tested_glyphs(alloc, face, maker, kept, job, line, keeps)?.kept;
+    let frame = frame_of(line, job.margin);
     let dropouts = line_dropouts(alloc, frame, &glyphs)?;
-    let picture = Picture::new(alloc, frame, glyphs, dropouts)?;
-    maker.give_back(fitter, job.fit);
-    Ok(picture)
+    Ok(Picture::new(alloc, frame, glyphs, dropouts)?)
 }

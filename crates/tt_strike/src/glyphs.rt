@@ -21,10 +21,10 @@ use tt_strike_kept::KeptGlyphs;
 
 /// Distinct glyphs, in order of first appearance.
 #[derive(Drop)]
-struct Glyphs {
+pub(crate) struct Glyphs {
     /// For each glyph of the font one more than its place among those kept, or 0.
     places: Vec<u16>,
-    kept: Vec<Glyph>,
+    pub(crate) kept: Vec<Glyph>,
     /// For so many pens each glyph has room at first.
     room: usize,
 }
@@ -44,7 +44,7 @@ impl Glyphs {
     }
 
     /// Where a glyph is kept; None where it is not.
-    fn find(&self, number: u16) -> Option<usize>
+    pub(crate) fn find(&self, number: u16) -> Option<usize>
         requires known { number < length self.now.places.items }
         requires places { ArePlaces self.now.places.items (numbers_of self.now.kept.items) }
         ensures found { IfSome result (λ i. (i < length self.now.kept.items) × (slice_index (numbers_of self.now.kept.items) i ≡ number)) }
@@ -160,7 +160,7 @@ pub(crate) fn line_glyphs(
     frame: Frame,
     kept: &mut KeptGlyphs,
     keeps: bool,
-) -> Result<Vec<Glyph>, FontFault>
+) -> Result<Glyphs, FontFault>
     requires keeps { keeps ≡ true → fitter.old.work ≡ None }
     requires kept { AreKeptFor fitter.old kept.old.entries }
     requires glyphs { glyphs ≡ fitter.old.tables.glyphs }
@@ -171,11 +171,13 @@ pub(crate) fn line_glyphs(
     ensures kept { AreKeptFor fitter.old kept.new.entries }
     ensures same { keeps ≡ false → kept.new ≡ kept.old }
     ensures most { kept.new.most ≡ kept.old.most }
-    ensures after { IfOk result (λ v. fitter.new ≡ fitter_after fitter.old (numbers_of v.items)) }
-    ensures pens { IfOk result (λ v. AreWithin v.items) }
-    ensures valid { IfOk result (λ v. AreDrawn keeps (line_fitter fitter.old (map (λ g. g.0) line.now)) frame v.items) }
-    ensures numbers { IfOk result (λ v. numbers_of v.items ≡ distinct (map (λ g. g.0) line.now)) }
-    ensures stand { IfOk result (λ v. IsOkAnd (each (glyph_shape (line_fitter fitter.old (map (λ g. g.0) line.now))) line.now) (Stand keeps frame v.items)) }
+    ensures places { IfOk result (λ g. ArePlaces g.places.items (numbers_of g.kept.items)) }
+    ensures room { IfOk result (λ g. length g.places.items ≡ glyphs) }
+    ensures after { IfOk result (λ g. fitter.new ≡ fitter_after fitter.old (numbers_of g.kept.items)) }
+    ensures pens { IfOk result (λ g. AreWithin g.kept.items) }
+    ensures valid { IfOk result (λ g. AreDrawn keeps (line_fitter fitter.old (map (λ g. g.0) line.now)) frame g.kept.items) }
+    ensures numbers { IfOk result (λ g. numbers_of g.kept.items ≡ distinct (map (λ g. g.0) line.now)) }
+    ensures stand { IfOk result (λ g. IsOkAnd (each (glyph_shape (line_fitter fitter.old (map (λ g. g.0) line.now))) line.now) (Stand keeps frame g.kept.items)) }
     ensures fault { IfTold font_fault result (λ f. each (glyph_shape (line_fitter fitter.old (map (λ g. g.0) line.now))) line.now ≡ Err f) }
 {
     tt_fit::laws::work_unfits();
@@ -183,5 +185,5 @@ pub(crate) fn line_glyphs(
     for placed in line {
         distinct.place(alloc, fitter, *placed, frame, kept, keeps)?;
     }
-    Ok(distinct.kept)
+    Ok(distinct)
 }

@@ -1,7 +1,7 @@
 //! Laws of the definitions. Each function takes nothing and gives nothing: its clauses hold of all jobs, files and
 //! glyphs.
 
-ghost use Rattle.tt_strike.specs.Laws.{DrawnFontsAreWhole, FacesAreWhole, OthersListNothing, MarginMoves, GlyphsByThemselves, UnfilledAreEdges, OthersFillNone, OthersDrawByEdges};
+ghost use Rattle.tt_strike.specs.Laws.{DrawnFontsAreWhole, FacesAreWhole, OthersListNothing, MarginMoves, MeasuredAsDrawn, GlyphsByThemselves, UnfilledAreEdges, OthersFillNone, OthersDrawByEdges, SidesMove};
 
 /// Where the definitions have the tables of a font, or a picture by it, the font has no defect for it.
 pub fn fonts_are_whole()
@@ -27,6 +27,17 @@ pub fn others_list_nothing()
 /// A greater margin moves each pixel by as much, and changes nothing else.
 pub fn margins_move()
     ensures { MarginMoves }
+{}
+
+/// A text is measured where it has a picture, and refused for the same.
+pub fn measured_as_drawn()
+    ensures { MeasuredAsDrawn }
+{}
+
+/// The picture of a line that is made larger on each side has the pixels of the picture without that so far to the right
+/// and down.
+pub fn sides_move()
+    ensures { SidesMove }
 {}
 
 /// What is black of a glyph, a dropout too, does not depend on the glyphs beside it.

@@ -4,7 +4,9 @@ ghost use Rattle.std.specs.Prelude.{◌≡◌, ◌≤◌, true, Ok, IfOk, IsOkAn
 ghost use Rattle.tt_core.specs.Outcomes.{GivesUnless, IfTold};
 ghost use Rattle.tt_line.specs.Layout.{placement, text_glyphs};
 ghost use Rattle.tt_strike.specs.Defects.{IsLineDefect, IsLineRefusal, TellsDefects, draw_font_fault, draw_job_fault};
+ghost use Rattle.tt_strike.specs.Grown.{grown_measured, grown_outcome, grown_placement};
 ghost use Rattle.tt_strike.specs.Job.{size_tested, IsSizeRefusal};
+ghost use Rattle.tt_strike.specs.Measures.{measure_view, measured};
 ghost use Rattle.tt_strike.specs.Picture.{frame_of, line_outcome};
 ghost use Rattle.tt_strike.specs.Pictures.{IsReady, picture_bytes};
 ghost use Rattle.tt_strike.specs.Refusals.{as_job, refusal};
@@ -14,14 +16,16 @@ ghost use Rattle.tt_strike.specs.Work.{is_bounded};
 
 use crate::drawing::draw_line;
 use crate::fault::DrawFault;
-use crate::job::{Job, test_job, test_size};
+use crate::growing::grown;
+use crate::job::{Job, test_size};
+use crate::laying::lay_out;
 use crate::maker::Maker;
+use crate::measuring::{Measure, measure_line};
 use crate::picture::Picture;
 use crate::tables::Face;
 use std::alloc::Global;
 use std::marker::Model;
 use tt_fit::Fit;
-use tt_line::lay;
 use tt_strike_kept::KeptGlyphs;
 
 /// A font at a size, with a way of fitting: lines are drawn one after the other, and the font's programs are run once,
@@ -105,15 +109,7 @@ impl<'f, 'a> Strike<'f, 'a> {
             margin,
             fit: self.fit,
         };
-        test_job(&job)?;
-        let line = lay(
-            self.alloc,
-            self.face.metrics(),
-            self.face.cmap(),
-            text,
-            self.ppem,
-            margin,
-        )?;
+        let line = lay_out(self.alloc, self.face, &job)?;
         draw_line(
             self.alloc,
             self.face,
@@ -121,6 +117,109 @@ impl<'f, 'a> Strike<'f, 'a> {
             &mut self.kept,
             &job,
             &line,
+        )
+    }
+
+    /// Where the picture of a text has its base line and its ink, and where each character stands in it, without the
+    /// picture. Errors as those of `line`. No glyph is kept for the lines after, and the strike is left as it was.
+    #[tactic(auto, unfolding(crate::specs::Measures::measured, crate::specs::Report::report_by))]
+    pub fn measure(&mut self, text: &str, margin: u32) -> Result<Measure, DrawFault>
+        ensures exact { GivesUnless refusal measure_view result (measured self.old.face (job_of self.old text.now margin)) }
+        ensures report { IfOk result (λ m. report_by self.old.face (job_of self.old text.now margin) ≡ Ok m.report.unfitted.items) }
+        ensures once { IfOk result (λ m. ListsOnce m.report.unfitted.items) }
+        ensures defects { TellsDefects draw_font_fault (IsLineDefect self.old.face (job_of self.old text.now margin) (text_glyphs self.old.face.cmap text.now)) result }
+        ensures job { IfTold draw_job_fault result (IsLineRefusal self.old.face (job_of self.old text.now margin)) }
+        ensures same { self.new ≡ self.old }
+    {
+        let job = Job {
+            text,
+            ppem: self.ppem,
+            margin,
+            fit: self.fit,
+        };
+        let line = lay_out(self.alloc, self.face, &job)?;
+        measure_line(
+            self.alloc,
+            self.face,
+            &mut self.maker,
+            &mut self.kept,
+            &job,
+            &line,
+        )
+    }
+
+    /// The picture of a text that has so many columns and rows more on each side that no ink is cut; where none is, that
+    /// of `line`. Errors: those of `line`, and PictureLarge and WorkLarge of the larger picture. A line that is refused
+    /// leaves the strike as it was.
+    #[tactic(auto, unfolding(crate::specs::Grown::grown_outcome, crate::specs::Grown::grown_placement, crate::specs::Grown::grown_line))]
+    pub fn grown_line(&mut self, text: &str, margin: u32) -> Result<Picture, DrawFault>
+        ensures exact { GivesUnless refusal picture_bytes result (grown_outcome self.old.face (job_of self.old text.now margin)) }
+        ensures valid { IfOk result IsReady }
+        ensures frame { IfOk result (λ p. IsOkAnd (grown_placement self.old.face (job_of self.old text.now margin)) (λ l. p.frame ≡ frame_of l margin)) }
+        ensures report { IfOk result (λ p. report_by self.old.face (job_of self.old text.now margin) ≡ Ok p.unfitted) }
+        ensures once { IfOk result (λ p. ListsOnce p.unfitted) }
+        ensures defects { TellsDefects draw_font_fault (IsLineDefect self.old.face (job_of self.old text.now margin) (text_glyphs self.old.face.cmap text.now)) result }
+        ensures same { self.new ≡ self.old }
+    {
+        let job = Job {
+            text,
+            ppem: self.ppem,
+            margin,
+            fit: self.fit,
+        };
+        let line = lay_out(self.alloc, self.face, &job)?;
+        let measure = measure_line(
+            self.alloc,
+            self.face,
+            &mut self.maker,
+            &mut self.kept,
+            &job,
+            &line,
+        )?;
+        let larger = grown(line, measure.ink)?;
+        draw_line(
+            self.alloc,
+            self.face,
+            &mut self.maker,
+            &mut self.kept,
+            &job,
+            &larger,
+        )
+    }
+
+    /// The same as `measure` tells, of the picture that `grown_line` makes. Errors: those of `measure`, and PictureLarge
+    /// and WorkLarge of the larger picture. No glyph is kept for the lines after, and the strike is left as it was.
+    #[tactic(auto, unfolding(crate::specs::Grown::grown_measured, crate::specs::Grown::grown_placement, crate::specs::Grown::grown_line))]
+    pub fn grown_measure(&mut self, text: &str, margin: u32) -> Result<Measure, DrawFault>
+        ensures exact { GivesUnless refusal measure_view result (grown_measured self.old.face (job_of self.old text.now margin)) }
+        ensures report { IfOk result (λ m. report_by self.old.face (job_of self.old text.now margin) ≡ Ok m.report.unfitted.items) }
+        ensures once { IfOk result (λ m. ListsOnce m.report.unfitted.items) }
+        ensures defects { TellsDefects draw_font_fault (IsLineDefect self.old.face (job_of self.old text.now margin) (text_glyphs self.old.face.cmap text.now)) result }
+        ensures same { self.new ≡ self.old }
+    {
+        let job = Job {
+            text,
+            ppem: self.ppem,
+            margin,
+            fit: self.fit,
+        };
+        let line = lay_out(self.alloc, self.face, &job)?;
+        let plain = measure_line(
+            self.alloc,
+            self.face,
+            &mut self.maker,
+            &mut self.kept,
+            &job,
+            &line,
+        )?;
+        let larger = grown(line, plain.ink)?;
+        measure_line(
+            self.alloc,
+            self.face,
+            &mut self.maker,
+            &mut self.kept,
+            &job,
+            &larger,
         )
     }
 

@@ -1,0 +1,108 @@
+-- A picture that has columns and rows more on each side has the pixels of the picture without them.
+use Rattle.std.proofs.Common.{◌≡◌, ◌∙◌, refl, ap, sym, ℕ, ◌+◌, ◌||◌, List, [], ◌∷◌, map, Option, ℤ, pos, ◌+ℤ◌, ◌-ℤ◌, Result, Ok, arith}
+use Rattle.std.proofs.lemmas.Int.{ints}
+use Rattle.tt_core.specs.Chains.{came-through}
+use Rattle.tt_core.specs.Faults.{Fault}
+use Rattle.tt_core.specs.Outcomes.{each}
+use Rattle.tt_fit.specs.Fitting.{Fitter, fitted_outline}
+use Rattle.tt_fit.specs.Outline.{Outline}
+use Rattle.tt_scan.specs.declared.edge.Frame.{Frame}
+use Rattle.tt_scan.specs.Winding.{column_x, is_black, row_y}
+use Rattle.tt_scan_dropouts.specs.Pictures.{column_at, line_at}
+use Rattle.tt_scan_dropouts.specs.declared.mark.Rules.{Rules}
+use Rattle.tt_strike.specs.Grown.{with_sides}
+use Rattle.tt_strike.specs.Laws.{SidesMove}
+use Rattle.tt_strike.specs.Picture.{contours_of, edges_at, frame_of, glyph_shape, shape_at}
+use Rattle.tt_strike.specs.Pixels.{Shape, is_filled, some_black, some_filled}
+use Rattle.tt_strike.proofs.Standings.{filled_from_pen, from_pen}
+
+-- one glyph, in a frame with so many rows more above
+one_black : (m : ℕ) (o : Outline) (pen left c : ℕ) (y : ℤ)
+    → is_black (edges_at (pen + left) o) (column_x m (pos (c + left))) y ≡ is_black (edges_at pen o) (column_x m (pos c)) y
+one_black m o pen left c y =
+    let back : pos (c + left) -ℤ pos (pen + left) ≡ pos c -ℤ pos pen = omega (arith, ints) in
+    from_pen m o (pen + left) (pos (c + left)) y
+    ∙ ap (λ k. is_black (edges_at 0 o) (column_x m k) y) back
+    ∙ sym (from_pen m o pen (pos c) y)
+
+one_filled : (filled : Option Rules) (f g : Frame) (o : Outline) (pen left top c r : ℕ) → g.margin ≡ f.margin
+    → g.rise ≡ f.rise +ℤ pos top
+    → is_filled filled (contours_of (pen + left) o) (column_at g 0 (c + left)) (line_at g (r + top))
+    ≡ is_filled filled (contours_of pen o) (column_at f 0 c) (line_at f r)
+one_filled filled f g o pen left top c r margin rise =
+    let column : column_at g (pen + left) (c + left) ≡ column_at f pen c = omega (arith, ints, margin) in
+    let line : line_at g (r + top) ≡ line_at f r = omega (arith, ints, margin, rise) in
+    sym (filled_from_pen filled g o (pen + left) (c + left) (r + top))
+    ∙ rw (column, line) (filled_from_pen filled f o pen c r)
+
+-- the shapes of a line, one by one: what the first glyph makes, and what the others do
+record First (maker : ℕ → Fitter) (g : ℕ × ℕ) (gs : List (ℕ × ℕ)) (shapes : List Shape) : Type 0 where
+  pub outline : Outline
+  pub rest : List Shape
+  pub fitted : fitted_outline (maker g.0) g.0 ≡ Ok outline
+  pub others : each (glyph_shape maker) gs ≡ Ok rest
+  pub all : shapes ≡ shape_at (maker g.0) g outline ∷ rest
+
+first_of : (maker : ℕ → Fitter) (g : ℕ × ℕ) (gs : List (ℕ × ℕ)) (shapes : List Shape)
+    → each (glyph_shape maker) (g ∷ gs) ≡ Ok shapes → First maker g gs shapes
+first_of maker g gs shapes made =
+    let one = came-through (glyph_shape maker g) _ shapes made in
+    let rest = came-through (each (glyph_shape maker) gs) _ shapes one.rest in
+    let o = came-through (fitted_outline (maker g.0) g.0) _ one.value one.first in
+    let here : ◌≡◌ {A = Result Shape Fault} (Ok (shape_at (maker g.0) g o.value)) (Ok one.value) = o.rest in
+    let both : ◌≡◌ {A = Result (List Shape) Fault} (Ok (one.value ∷ rest.value)) (Ok shapes) = rest.rest in
+    record {
+      outline = o.value;
+      rest = rest.value;
+      fitted = o.first;
+      others = rest.first;
+      all = cc;
+    }
+
+all_black : (maker : ℕ → Fitter) (m left c : ℕ) (y : ℤ) (gs : List (ℕ × ℕ)) (glyphs larger : List Shape)
+    → each (glyph_shape maker) gs ≡ Ok glyphs
+    → each (glyph_shape maker) (map (λ g. (g.0, g.1 + left)) gs) ≡ Ok larger
+    → some_black larger (column_x m (pos (c + left))) y ≡ some_black glyphs (column_x m (pos c)) y
+all_black maker m left c y [] glyphs larger made moved =
+    let none : glyphs ≡ [] = cc in
+    let also : larger ≡ [] = cc in
+    rw (none, also) refl
+all_black maker m left c y (g ∷ gs) glyphs larger made moved =
+    let one = first_of maker g gs glyphs made in
+    let other = first_of maker (g.0, g.1 + left) (map (λ g. (g.0, g.1 + left)) gs) larger moved in
+    let there = one.fitted in
+    let again = other.fitted in
+    let same : other.outline ≡ one.outline = cc in
+    rw (one.all, other.all, same, one_black m one.outline g.1 left c y)
+    (ap (λ b. is_black (edges_at g.1 one.outline) (column_x m (pos c)) y || b)
+    (all_black maker m left c y gs one.rest other.rest one.others other.others))
+
+all_filled : (maker : ℕ → Fitter) (f h : Frame) (left top c r : ℕ) (gs : List (ℕ × ℕ)) (glyphs larger : List Shape)
+    → h.margin ≡ f.margin → h.rise ≡ f.rise +ℤ pos top → each (glyph_shape maker) gs ≡ Ok glyphs
+    → each (glyph_shape maker) (map (λ g. (g.0, g.1 + left)) gs) ≡ Ok larger
+    → some_filled h larger (c + left) (r + top) ≡ some_filled f glyphs c r
+all_filled maker f h left top c r [] glyphs larger margin rise made moved =
+    let none : glyphs ≡ [] = cc in
+    let also : larger ≡ [] = cc in
+    rw (none, also) refl
+all_filled maker f h left top c r (g ∷ gs) glyphs larger margin rise made moved =
+    let one = first_of maker g gs glyphs made in
+    let other = first_of maker (g.0, g.1 + left) (map (λ g. (g.0, g.1 + left)) gs) larger moved in
+    let there = one.fitted in
+    let again = other.fitted in
+    let same : other.outline ≡ one.outline = cc in
+    let rules = (shape_at (maker g.0) g one.outline).filled in
+    rw (one.all, other.all, same, one_filled rules f h one.outline g.1 left top c r margin rise)
+    (ap (λ b. is_filled rules (contours_of g.1 one.outline) (column_at f 0 c) (line_at f r) || b)
+    (all_filled maker f h left top c r gs one.rest other.rest margin rise one.others other.others))
+
+pub sides_move : SidesMove
+sides_move maker line s margin glyphs larger c r made moved =
+    let f = frame_of line margin in
+    let h = frame_of (with_sides line s) margin in
+    let row : row_y h (pos (r + s.top)) ≡ row_y f (pos r) = omega (arith, ints) in
+    rw (
+      row,
+      all_black maker margin s.left c (row_y f (pos r)) line.glyphs glyphs larger made moved,
+      all_filled maker f h s.left s.top c r line.glyphs glyphs larger refl refl made moved,
+    ) refl

@@ -1,0 +1,69 @@
+use Rattle.std.proofs.Common.{◌≡◌, ◌∙◌, refl, ap, ℕ, ◌+◌, ◌≤◌, List, [], ◌∷◌, length, map, nat_lt, false, pos, ◌+ℤ◌, SFits, w32, to_z, Some, Ok, arith, rules}
+use Rattle.std.specs.Prelude.{All}
+use Rattle.std.proofs.lemmas.Bool.Decides.{nat_tests}
+use Rattle.std.proofs.lemmas.Int.{ints, to_z-of_z, to_z_pos}
+use Rattle.std.proofs.lemmas.List.{length-map, with_items_is}
+use Rattle.std.proofs.lemmas.List.Elements.{All-map}
+use Rattle.std.specs.Vec.{with_items}
+use Rattle.tt_core.specs.Limits.{height_limit, width_limit}
+use Rattle.tt_line.specs.Layout.{Placement}
+use Rattle.tt_line.specs.Outcome.{placement_of}
+use Rattle.tt_strike.specs.Grown.{grown, lacking, not_large, with_sides}
+use Rattle.tt_strike.specs.declared.ink_box.InkBox.{InkBox}
+use Rattle.tt_strike.proofs.growing.grown.Goals.{After-move_pens}
+use Rattle.tt_strike.proofs.growing.grown.Goals as goal
+
+-- a line that is not too large
+grown_is : (line : Placement) (b : InkBox) (w h : ℕ)
+    → w ≡ line.width + (lacking line.width line.height b).left + (lacking line.width line.height b).right → w ≤ width_limit
+    → h ≡ line.height + (lacking line.width line.height b).top + (lacking line.width line.height b).bottom → h ≤ height_limit
+    → grown line (Some b) ≡ Ok (record (with_sides line (lacking line.width line.height b)) { width = w; height = h })
+unfolding not_large
+grown_is line b w h wide narrow high low =
+    let across : nat_lt width_limit w ≡ false = grind (arith, nat_tests) in
+    let up : nat_lt height_limit h ≡ false = grind (arith, nat_tests) in
+    rw (← wide, ← high, across, up) refl
+
+-- the pens of the line, moved
+glyphs_then : (c : After-move_pens) → (with_items c.args.line.glyphs c.move_pens.new.glyphs).items
+    ≡ map (λ (g : ℕ × ℕ). (g.0, g.1 + c.lacking-sides.result.left)) c.args.line.glyphs.items
+glyphs_then c =
+    let f : ℕ × ℕ → ℕ × ℕ = λ g. (g.0, g.1 + c.lacking-sides.result.left) in
+    let new : c.move_pens.new.glyphs ≡ map f c.args.line.glyphs.items = c.move_pens.ensures ∙ ap (map f) c.deref_mut.ensures.value in
+    let count : length c.move_pens.new.glyphs ≡ c.args.line.glyphs.len =
+    ap length c.move_pens.ensures ∙ length-map c.deref_mut.result.now f ∙ c.deref_mut.ensures.len in
+    with_items_is c.args.line.glyphs c.move_pens.new.glyphs count ∙ new
+
+pub returns-clause-exact : goal.returns-clause-exact
+returns-clause-exact c =
+    let line = placement_of c.args.line in
+    let b = c.in-Some.ink in
+    let sides : c.lacking-sides.result ≡ lacking line.width line.height b = c.lacking-sides.ensures in
+    let wide = rw sides at c.in_ok-width.ensures.exact in
+    let high = rw sides at c.in_ok-height.ensures.exact in
+    let glyphs = glyphs_then (goal.at.returns-clause-exact c).After-move_pens in
+    let old : SFits w32 c.args.line.rise = search rules in
+    let few : c.lacking-sides.result.top ≤ height_limit = omega (arith, c.in_ok-height.ensures.exact, c.in_ok-height.ensures.within) in
+    let top : to_z w32 c.lacking-sides.result.top ≡ pos c.lacking-sides.result.top = to_z_pos w32 c.lacking-sides.result.top (omega arith) in
+    let fits : SFits w32 (c.args.line.rise +ℤ pos c.lacking-sides.result.top) = omega (arith, ints, c.requires.rise) in
+    rw (c.in-Some.is, glyphs, top) (simp to_z-of_z (rw sides
+    (grown_is line b c.in_ok-width.width c.in_ok-height.height wide c.in_ok-width.ensures.within high c.in_ok-height.ensures.within)))
+
+pub returns-clause-pens : goal.returns-clause-pens
+returns-clause-pens c =
+    let gs = c.args.line.glyphs.items in
+    let left = c.lacking-sides.result.left in
+    let low : All (λ (g : ℕ × ℕ). g.1 + left ≤ width_limit) gs = λ k d below.
+    omega (arith, c.requires.pens k d below, c.in_ok-width.ensures.exact, c.in_ok-width.ensures.within) in
+    rw (glyphs_then (goal.at.returns-clause-pens c).After-move_pens)
+    (All-map (λ (g : ℕ × ℕ). g.1 ≤ width_limit) (λ (g : ℕ × ℕ). (g.0, g.1 + left)) gs low)
+
+same_numbers : (gs : List (ℕ × ℕ)) (right : ℕ)
+    → map (λ (g : ℕ × ℕ). g.0) (map (λ (g : ℕ × ℕ). (g.0, g.1 + right)) gs) ≡ map (λ (g : ℕ × ℕ). g.0) gs
+same_numbers [] right = refl
+same_numbers (g ∷ gs) right = ap (λ (ns : List ℕ). g.0 ∷ ns) (same_numbers gs right)
+
+pub returns-clause-glyphs : goal.returns-clause-glyphs
+returns-clause-glyphs c =
+    rw (glyphs_then (goal.at.returns-clause-glyphs c).After-move_pens)
+    (same_numbers c.args.line.glyphs.items c.lacking-sides.result.left)

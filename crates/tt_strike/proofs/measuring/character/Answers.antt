@@ -1,0 +1,34 @@
+use Rattle.std.proofs.Common.{◌≡◌, ◌∙◌, ap, ℕ, ◌+◌, ◌<◌, List, length, map, slice_index, slice_index_or, pos, SFits, w64, Option, arith}
+use Rattle.std.proofs.lemmas.Int.{ints, to_z-of_z}
+use Rattle.std.proofs.lemmas.List.{get_or-map, length-map}
+use Rattle.tt_scan_ink.specs.declared.ink.GlyphInk.{GlyphInk}
+use Rattle.tt_strike.specs.Glyphs.{Glyph, numbers_of}
+use Rattle.tt_strike.proofs.Keeping.{is_not_there}
+use Rattle.tt_strike.proofs.measuring.character.Goals.{in-Some, in-None}
+use Rattle.tt_strike.proofs.measuring.character.Goals as goal
+
+-- the box at a place, of boxes of some numbers
+box_found : (inked : ℕ → Option GlyphInk) (boxes : List (Option GlyphInk)) (gs : List Glyph) (i n : ℕ)
+    (d : Option GlyphInk) → boxes ≡ map inked (numbers_of gs) → i < length gs → slice_index (numbers_of gs) i ≡ n
+    → slice_index_or boxes i d ≡ inked n
+box_found inked boxes gs i n d are below is =
+    let count = length-map gs (λ (g : Glyph). g.number) in
+    let here : i < length (numbers_of gs) = omega (arith, count, below) in
+    rw are (get_or-map inked (numbers_of gs) i 0 d here ∙ ap inked is)
+
+pub returns : goal.returns
+returns c = λ inked same.
+    let gs = c.args.glyphs.now.kept.items in
+    let found : c.match-find.ink ≡ inked c.args.placed.0 =
+    elim c.match-find.branch [
+      | in-Some w ↦
+          let at = w.in-Some.ensures.found in
+          w.ink-is ∙ box_found inked c.args.inks.now gs w.in-Some.i c.args.placed.0 _ same at.0 at.1
+      | in-None w ↦
+          let none = is_not_there (numbers_of gs) c.args.placed.0 w.in-None.ensures.absent in
+          let there = c.requires.among in
+          absurd cc
+    ] in
+    let fits : SFits w64 (pos (c.args.placed.1 + c.args.frame.margin)) =
+    omega (arith, ints, c.requires.pen, c.requires.frame.margin) in
+    rw (c.from.ensures, c.advance.ensures.exact, c.ink_at.ensures, found) (simp to_z-of_z)

@@ -1,0 +1,76 @@
+-- No part of the standard: a line measured. Where its picture has the base line, and where each character and its ink
+-- stand. Columns and rows are those of the picture.
+use Rattle.std.specs.Prelude.{ℕ, ◌+◌, ℤ, pos, ◌+ℤ◌, List, map, Option, None, Result, Ok}
+use Rattle.tt_core.specs.Outcomes.{◌>>=◌}
+use Rattle.tt_fit.specs.Fitting.{Fitter}
+use Rattle.tt_line.specs.Layout.{Placement, advance_in_pixels}
+use Rattle.tt_metrics.specs.Metrics.{Metrics}
+use Rattle.tt_scan.specs.declared.edge.Frame.{Frame}
+use Rattle.tt_scan_ink.specs.declared.ink.GlyphInk.{GlyphInk}
+use Rattle.tt_strike.specs.Distinct.{line_fitter}
+use Rattle.tt_strike.specs.Ink.{all_joined, glyph_ink, ink_at}
+use Rattle.tt_strike.specs.Job.{Job}
+use Rattle.tt_strike.specs.Picture.{frame_of, laid_out, line_shapes, setting_in}
+use Rattle.tt_strike.specs.Refusals.{Refused, as_font}
+use Rattle.tt_strike.specs.Tables.{Face}
+use Rattle.tt_strike.specs.declared.ink_box.InkBox.{InkBox}
+use Rattle.tt_strike.specs.declared.measuring.CharacterMeasure.{CharacterMeasure}
+use Rattle.tt_strike.specs.declared.measuring.Measure as declared
+
+-- the picture's size, how many of its rows lie above the base line, the box of all ink, and the characters in their order
+pub record Measure : Type 0 where
+  pub width : ℕ
+  pub height : ℕ
+  pub baseline : ℤ
+  pub ink : Option InkBox
+  pub characters : List CharacterMeasure
+
+abbrev pub measure_view : declared.Measure → Measure
+measure_view m = record {
+  width = m.width;
+  height = m.height;
+  baseline = m.baseline;
+  ink = m.ink;
+  characters = m.characters.items;
+}
+
+-- a glyph at its pen, by the ink that each glyph has where its pen is 0
+abbrev pub character_at : Metrics → ℕ → Frame → (ℕ → Option GlyphInk) → ℕ × ℕ → CharacterMeasure
+character_at m ppem f inked g = record {
+  glyph = g.0;
+  pen = pos (g.1 + f.margin);
+  advance = advance_in_pixels m ppem g.0;
+  ink = ink_at f g.1 (inked g.0);
+}
+
+-- the box of the ink of some characters
+abbrev pub ink_of : List CharacterMeasure → Option InkBox
+ink_of characters = all_joined None (map (λ c. c.ink) characters)
+
+-- a line that is laid out, by the same
+abbrev pub measure_by : Metrics → ℕ → ℕ → (ℕ → Option GlyphInk) → Placement → Measure
+measure_by m ppem margin inked line =
+    let f = frame_of line margin in
+    let characters = map (character_at m ppem f inked) line.glyphs in
+    record {
+      width = line.width;
+      height = line.height;
+      baseline = f.rise +ℤ pos f.margin;
+      ink = ink_of characters;
+      characters = characters;
+    }
+
+-- the ink of each glyph of a line, by what it is made from
+abbrev pub line_ink : Fitter → Placement → ℕ → Option GlyphInk
+line_ink s line g = glyph_ink (line_fitter s (map (λ g. g.0) line.glyphs) g) g
+
+-- the measure of a line that is laid out; it is refused where its picture is
+unfoldable pub measured_line : Face → Job → Placement → Result Measure Refused
+measured_line face a line =
+    as_font (setting_in face a) >>= λ s.
+    line_shapes s a line >>= λ glyphs.
+    Ok (measure_by face.metrics a.ppem a.margin (line_ink s line) line)
+
+-- the measure of a text by a font's tables, or the first refusal
+unfoldable pub measured : Face → Job → Result Measure Refused
+measured face a = laid_out face a >>= λ line. measured_line face a line

@@ -1,0 +1,110 @@
+//! A line whose picture is made larger, so that no ink is cut.
+
+ghost use Rattle.std.specs.Prelude.{◌≡◌, ◌+◌, ◌<◌, ◌≤◌, ◌^◌, map, unsigned_abs, All, IfOk, IfErr};
+ghost use Rattle.tt_core.specs.declared.fault.JobFault.TheVariants.{PictureLarge};
+ghost use Rattle.tt_core.specs.Limits.{height_limit, width_limit};
+ghost use Rattle.tt_core.specs.Outcomes.{Gives};
+ghost use Rattle.tt_line.specs.Outcome.{placement_of};
+ghost use Rattle.tt_strike.specs.Grown.{before, grown, lacking, past};
+
+use crate::ink_box::InkBox;
+use tt_core::{HEIGHT_LIMIT, JobFault, WIDTH_LIMIT};
+use tt_line::Line;
+
+/// How many columns and rows more a picture is to have on each side.
+#[derive(Clone, Copy)]
+pub(crate) struct Sides {
+    pub(crate) left: u64,
+    pub(crate) top: u64,
+    pub(crate) right: u64,
+    pub(crate) bottom: u64,
+}
+
+/// How far a place lies before the first one.
+fn before(at: i64) -> u64
+    ensures { result ≡ before at }
+{
+    if at < 0 { at.unsigned_abs() } else { 0 }
+}
+
+/// How far a place lies past the last of so many.
+fn past(count: u32, at: i64) -> u64
+    requires { 1 ≤ count }
+    ensures { result ≡ past count at }
+{
+    if at < i64::from(count) {
+        return 0;
+    }
+    (at - i64::from(count)).unsigned_abs() + 1
+}
+
+/// The least columns and rows that a picture of this size lacks on each side for a box.
+fn lacking(width: u32, height: u32, ink: InkBox) -> Sides
+    requires width { 1 ≤ width }
+    requires height { 1 ≤ height }
+    ensures { result ≡ lacking width height ink }
+{
+    Sides {
+        left: before(ink.left),
+        top: before(ink.top),
+        right: past(width, ink.right),
+        bottom: past(height, ink.bottom),
+    }
+}
+
+/// So many columns or rows with others on both sides. Error: PictureLarge, where they are more than a limit.
+fn longer(count: u32, first: u64, last: u64, limit: u32) -> Result<u32, JobFault>
+    ensures exact { IfOk result (λ n. n ≡ count + first + last) }
+    ensures within { IfOk result (λ n. n ≤ limit) }
+    ensures large { IfErr result (λ e. (e ≡ PictureLarge) × (limit < count + first + last)) }
+{
+    let all = u64::from(count).saturating_add(first).saturating_add(last);
+    if all > u64::from(limit) {
+        return Err(JobFault::PictureLarge);
+    }
+    Ok(all as u32)
+}
+
+/// Moves each pen to the right.
+fn move_pens(glyphs: &mut [(u16, u32)], right: u32)
+    requires { All (λ g. g.1 + right < 2 ^ 32) glyphs.old }
+    ensures { glyphs.new ≡ map (λ g. (g.0, g.1 + right)) glyphs.old }
+{
+    for i in 0..glyphs.len() {
+        glyphs[i].1 += right;
+    }
+}
+
+/// A line in whose picture this ink is not cut: with as many columns and rows more as that takes. Error: PictureLarge.
+#[tactic(auto, unfolding(crate::specs::Grown::not_large))]
+pub(crate) fn grown(line: Line, ink: Option<InkBox>) -> Result<Line, JobFault>
+    requires width { (1 ≤ line.width) × (line.width ≤ width_limit) }
+    requires height { (1 ≤ line.height) × (line.height ≤ height_limit) }
+    requires rise { unsigned_abs line.rise ≤ 614400 }
+    requires pens { All (λ g. g.1 ≤ line.width) line.glyphs.items }
+    ensures exact { Gives placement_of result (grown (placement_of line) ink) }
+    ensures width { IfOk result (λ l. (1 ≤ l.width) × (l.width ≤ width_limit)) }
+    ensures height { IfOk result (λ l. (1 ≤ l.height) × (l.height ≤ height_limit)) }
+    ensures rise { IfOk result (λ l. unsigned_abs l.rise ≤ 10 ^ 6) }
+    ensures pens { IfOk result (λ l. All (λ g. g.1 ≤ width_limit) l.glyphs.items) }
+    ensures glyphs { IfOk result (λ l. map (λ g. g.0) l.glyphs.items ≡ map (λ g. g.0) line.glyphs.items) }
+{
+    let Some(ink) = ink else {
+        return Ok(line);
+    };
+    let sides = lacking(line.width, line.height, ink);
+    let width = longer(line.width, sides.left, sides.right, WIDTH_LIMIT)?;
+    let height = longer(line.height, sides.top, sides.bottom, HEIGHT_LIMIT)?;
+    let Line {
+        rise,
+        mut glyphs,
+        ..
+    } = line;
+    move_pens(&mut glyphs, sides.left as u32);
+    Ok(Line {
+        width,
+        height,
+        rise: rise + sides.top as i32,
+        glyphs,
+    })
+}
