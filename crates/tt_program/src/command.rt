@@ -1,36 +1,67 @@
 //! The command line, as clap reads it.
 
-ghost use Rattle.std.specs.Prelude.{◌≡◌, ℕ, List, Some, None};
+ghost use Rattle.std.specs.Prelude.{◌≡◌, ℕ, Bool, true, false, List, Some, None, codes};
 ghost use Rattle.std.specs.Str.Parse.{ParsesUnsigned, ExplainsUnsignedError, HasUnsignedDigitsIfOk};
 ghost use Rattle.clap.specs.Words.{ReadsOne, first_value, found_of, one_text};
 
 use clap::{Arg, ArgAction, ArgMatches, Command, value_parser};
 use std::alloc::{AllocError, Global};
-use tt_program_decisions::{Arguments, FITS, FULL, Request, request_of};
+use tt_program_decisions::{Arguments, DRAW, FITS, FULL, MISSING_WORDS, Request, request_of};
 
-/// `tt_render map FONT TEXT` and `tt_render draw --size N [--margin N] [--fit full|none|fallback|best] FONT
-/// TEXT`.
+/// `tt_render map FONT TEXT`, and `tt_render draw` or `tt_render measure` with `--size N [--margin N]
+/// [--fit full|none|fallback|best] [--missing draw|tell|refuse] [--grow] FONT TEXT`, or `--lines FONT`.
 pub(crate) fn command<'a>(alloc: Global) -> Result<Command<'a>, AllocError> {
     Command::new(alloc, "tt_render")
         .bin_name("tt_render")?
-        .about("Draws a line of text from a TrueType font")
+        .about("Draws lines of text from a TrueType font")
         .version("0.1.0")
         .subcommand_required(true)
         .subcommand(draw_command(alloc)?)?
+        .subcommand(measure_command(alloc)?)?
         .subcommand(map_command(alloc)?)
 }
 
 fn draw_command<'a>(alloc: Global) -> Result<Command<'a>, AllocError> {
-    Command::new(alloc, "draw")
+    let command = Command::new(alloc, "draw")
         .about("Writes the picture of a line of text on standard output, as binary PBM (P4)")
         .after_help(
             "A TEXT that begins with '-' goes behind '--': tt_render draw --size N FONT -- -text",
-        )
+        );
+    drawing(
+        alloc,
+        command,
+        "Draw each line of standard input, in place of TEXT",
+    )
+}
+
+fn measure_command<'a>(alloc: Global) -> Result<Command<'a>, AllocError> {
+    let command = Command::new(alloc, "measure")
+        .about("Prints where the picture of a line, its ink and each character stand, in pixels")
+        .after_help(
+            "A TEXT that begins with '-' goes behind '--': tt_render measure --size N FONT -- -text",
+        );
+    drawing(
+        alloc,
+        command,
+        "Measure each line of standard input, in place of TEXT",
+    )
+}
+
+/// A subcommand with what says how a line is drawn, and which.
+fn drawing<'a>(
+    alloc: Global,
+    command: Command<'a>,
+    each: &'a str,
+) -> Result<Command<'a>, AllocError> {
+    command
         .arg(size(alloc))?
         .arg(margin(alloc))?
         .arg(fit(alloc))?
+        .arg(missing(alloc))?
+        .arg(grow(alloc))?
+        .arg(lines(alloc, each)?)?
         .arg(font(alloc))?
-        .arg(text(alloc))
+        .arg(text(alloc).required_unless_present("lines")?)
 }
 
 fn map_command<'a>(alloc: Global) -> Result<Command<'a>, AllocError> {
@@ -38,7 +69,7 @@ fn map_command<'a>(alloc: Global) -> Result<Command<'a>, AllocError> {
         .about("Prints each character's glyph number and advance in font units")
         .after_help("A TEXT that begins with '-' goes behind '--': tt_render map FONT -- -text")
         .arg(font(alloc))?
-        .arg(text(alloc))
+        .arg(text(alloc).required(true))
 }
 
 fn font<'a>(alloc: Global) -> Arg<'a> {
@@ -50,7 +81,6 @@ fn font<'a>(alloc: Global) -> Arg<'a> {
 
 fn text<'a>(alloc: Global) -> Arg<'a> {
     Arg::new(alloc, "TEXT")
-        .required(true)
         .action(ArgAction::Set)
         .help("At most 4096 characters")
 }
@@ -85,6 +115,33 @@ fn fit<'a>(alloc: Global) -> Arg<'a> {
         )
 }
 
+fn missing<'a>(alloc: Global) -> Arg<'a> {
+    Arg::new(alloc, "missing")
+        .long("missing")
+        .value_name("HOW")
+        .value_parser(MISSING_WORDS.as_slice())
+        .default_value(DRAW)
+        .help(
+            "Where the font has no glyph for a character: draw: glyph 0 in its place; tell: so, and name \
+             the character; refuse: refuse the text",
+        )
+}
+
+fn grow<'a>(alloc: Global) -> Arg<'a> {
+    Arg::new(alloc, "grow")
+        .long("grow")
+        .action(ArgAction::SetTrue)
+        .help("Make the picture larger where ink would be cut")
+}
+
+fn lines<'a>(alloc: Global, help: &'a str) -> Result<Arg<'a>, AllocError> {
+    Arg::new(alloc, "lines")
+        .long("lines")
+        .action(ArgAction::SetTrue)
+        .help(help)
+        .conflicts_with("TEXT")
+}
+
 /// The arguments of a subcommand, as clap found them.
 #[derive(Drop)]
 struct Found<'m, 'a> {
@@ -97,12 +154,20 @@ impl<'m, 'a> Arguments<'a> for Found<'m, 'a> {
     ghost IsNumber = { λ f name n. (one_text (found_of f.matches.now) name ≡ None → n ≡ None)
         × ((t : List ℕ) → one_text (found_of f.matches.now) name ≡ Some t → ReadsOne (λ bs r. ParsesUnsigned 32 10 bs r × ExplainsUnsignedError 10 bs r × HasUnsignedDigitsIfOk bs r) t n) };
 
+    ghost IsFlag = { λ f name b. (one_text (found_of f.matches.now) name ≡ None → b ≡ false)
+        × (one_text (found_of f.matches.now) name ≡ Some (codes "true") → b ≡ true)
+        × (one_text (found_of f.matches.now) name ≡ Some (codes "false") → b ≡ false) };
+
     fn text_for(&self, name: &str) -> Option<&'a str> {
         self.matches.get_str(name)
     }
 
     fn number_for(&self, name: &str) -> Option<u32> {
         self.matches.get_one::<u32>(name)
+    }
+
+    fn is_set(&self, name: &str) -> bool {
+        self.matches.get_flag(name)
     }
 }
 

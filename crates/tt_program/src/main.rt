@@ -10,17 +10,21 @@ use clap::error::ErrorKind;
 use clap::{ArgMatches, Error};
 use std::alloc::Global;
 use std::process::ExitCode;
-use std::rt::{Env, Files, Stderr};
+use std::rt::{Env, Files, Stderr, Stdin};
 use std::{env, fs, io};
 use tt_core::Device;
 use tt_program_decisions::{Stop, perform, stop_of_open, stop_of_words, tell_stop};
 
 fn main(rt: HostRuntime) -> ExitCode {
-    ExitCode::from(program(&rt, rt.stderr()))
+    ExitCode::from(program(&rt, rt.stdin(), rt.stderr()))
 }
 
 /// Reads the command line and does what it asks for; answers the exit status.
-fn program<R: Files + Env + Print + Eprint + AllocGlobal>(rt: &R, stderr: Stderr) -> u8
+fn program<R: Files + Env + Print + Eprint + AllocGlobal>(
+    rt: &R,
+    stdin: Stdin,
+    stderr: Stderr,
+) -> u8
     ensures { result ≤ 5 }
 {
     let mut errors = Device::new(stderr);
@@ -40,8 +44,16 @@ fn program<R: Files + Env + Print + Eprint + AllocGlobal>(rt: &R, stderr: Stderr
         Err(error) => return tell_stop(stop_of_open(error.kind()), &mut errors),
     };
     let mut font = Device::new(file);
+    let mut lines = Device::new(stdin);
     let mut out = Device::new(io::writer(rt));
-    perform(rt.alloc(), &request, &mut font, &mut out, &mut errors)
+    perform(
+        rt.alloc(),
+        &request,
+        &mut font,
+        &mut lines,
+        &mut out,
+        &mut errors,
+    )
 }
 
 fn words<R: Env + AllocGlobal>(rt: &R) -> io::Result<Vec<String>> {

@@ -6,7 +6,8 @@ use Rattle.tt_pbm.specs.declared.writing.Cut.{Cut}
 use Rattle.tt_render.specs.declared.fault.RunFault.TheVariants as run
 use Rattle.tt_strike.specs.declared.report.Unfitted.{Unfitted}
 use Rattle.tt_render.specs.Messages.{unfitted_line_of}
-use Rattle.tt_program_decisions.specs.Telling.{Errors, Prints, PrintsUnless, TellsFault, TellsReport, report_lines}
+use Rattle.tt_render.specs.Printing.{Errors, Prints, PrintsUnless}
+use Rattle.tt_program_decisions.specs.Telling.{TellsFault, TellsReport, report_lines}
 
 -- a text was told, or want of memory for it
 pub text_told : {S E : Type 0} (r : Result S E) (bytes : S → List ℕ) (line : List ℕ) (status_then status : ℕ)

@@ -1,20 +1,28 @@
 -- No part of the standard: what the program's command lines ask for, and what is done for them.
-use Rattle.std.specs.Prelude.{◌≡◌, ℕ, List, [], codes, Option, Some, None, IfSome, option_map, if◌then◌else◌, Ok, ⊤}
+use Rattle.std.specs.Prelude.{◌≡◌, ℕ, Bool, true, false, List, [], codes, Option, Some, None, IfSome, if◌then◌else◌, Ok, ⊤}
 use Rattle.std.specs.Str.{bytes_eq}
 use Rattle.tt_fit.specs.declared.programs.Fit.{Fit}
 use Rattle.tt_fit.specs.declared.programs.Fit.TheVariants as fit
 use Rattle.tt_strike.specs.Job.{Job, job_view}
 use Rattle.tt_strike.specs.Defects.{IsFaceDefect, IsRunDefect}
+use Rattle.tt_render.specs.declared.setting.Missing.{Missing}
+use Rattle.tt_render.specs.declared.setting.Missing.TheVariants as missing
+use Rattle.tt_render.specs.declared.setting.Product.{Product}
+use Rattle.tt_render.specs.declared.setting.Product.TheVariants as product
+use Rattle.tt_render.specs.declared.setting.Setting.{Setting}
+use Rattle.tt_render.specs.LinesOutcome.{FontLinesGive}
 use Rattle.tt_render.specs.MapLines.{map_wanted}
 use Rattle.tt_render.specs.Outcome.{Traffic}
 use Rattle.tt_render.specs.Run.{run_wanted}
+use Rattle.tt_render.specs.TextOutcome.{FontTextGives, TextTellsDefectsOf, job_by, reader_in}
 use Rattle.tt_strike.specs.Report.{ListsOnce, report_of}
 use Rattle.tt_strike.specs.declared.report.Report.{Report}
 use Rattle.tt_strike.specs.declared.report.Unfitted.{Unfitted}
 use Rattle.tt_program_decisions.specs.declared.request.Request.{Request}
-use Rattle.tt_program_decisions.specs.declared.request.Request.TheVariants.{Map, Draw}
+use Rattle.tt_program_decisions.specs.declared.request.Request.TheVariants.{Map, Draw, Text, Lines}
 use Rattle.tt_program_decisions.specs.declared.request.Words.{Words}
-use Rattle.tt_program_decisions.specs.Telling.{Does, Errors}
+use Rattle.tt_render.specs.Printing.{Errors}
+use Rattle.tt_program_decisions.specs.Telling.{Does, DoesTexts}
 
 -- the ways to fit by their names
 abbrev pub fit_named : List ℕ → Option Fit
@@ -24,49 +32,120 @@ fit_named name =
     else (if bytes_eq name (codes "fallback") then Some fit.Fallback
     else (if bytes_eq name (codes "best") then Some fit.Best else None)))
 
--- the job of a text at a size, with a margin, fitted in the way of this name
-abbrev pub job_asked : List ℕ → ℕ → ℕ → List ℕ → Option Job
-job_asked text size margin how =
-    option_map (λ f. record { text = text; ppem = size; margin = margin; fit = f }) (fit_named how)
+-- what is done with characters without a glyph, by its names
+abbrev pub missing_named : List ℕ → Option Missing
+missing_named name =
+    if bytes_eq name (codes "draw") then Some missing.Draw
+    else (if bytes_eq name (codes "tell") then Some missing.Tell
+    else (if bytes_eq name (codes "refuse") then Some missing.Refuse else None))
 
--- what the words of a drawing ask for
-abbrev pub asked : Words → Option Job
-asked w = job_asked w.text.now w.size w.margin w.fit.now
+-- bytes of glyphs that are kept from line to line
+abbrev pub glyphs_kept : ℕ
+glyphs_kept = 4194304
 
--- what is asked for: the lines of a text by a font, or the picture of a job by a font
+-- what goes out for a text: its measures or its picture, of the picture that grows or of the one that does not
+abbrev pub product_asked : Bool → Bool → Product
+product_asked false false = product.Picture
+product_asked false true = product.Grown
+product_asked true false = product.Measure
+product_asked true true = product.GrownMeasure
+
+-- a setting of these two, where both names are known
+abbrev pub setting_named : ℕ → ℕ → Option Fit → Option Missing → Product → Option Setting
+setting_named size margin (Some f) (Some m) wanted =
+    Some (record { ppem = size; margin = margin; fit = f; missing = m; product = wanted; most = glyphs_kept })
+setting_named size margin f m wanted = None
+
+-- the setting of a size and a margin, with the names of the way to fit and of what is done with missing glyphs
+abbrev pub setting_asked : ℕ → ℕ → List ℕ → List ℕ → Product → Option Setting
+setting_asked size margin how what wanted = setting_named size margin (fit_named how) (missing_named what) wanted
+
+-- what the options of a drawing ask for
+abbrev pub asked : Words → Product → Option Setting
+asked w wanted = setting_asked w.size w.margin w.fit.now w.missing.now wanted
+
+-- `--size SIZE --margin MARGIN --fit FIT --missing MISSING`, of options that may lack
+abbrev pub options_asked
+    : Option ℕ → Option ℕ → Option (List ℕ) → Option (List ℕ) → Product → Option Setting
+options_asked (Some size) (Some margin) (Some how) (Some what) wanted = setting_asked size margin how what wanted
+options_asked size margin how what wanted = None
+
+-- what is asked for, each by a font: the lines that map a text, the picture of a job, the product of a text with a
+-- setting, or the products of the lines of standard input
 pub data Asked : Type 0 where
-  lines : List ℕ → List ℕ → Asked
-  picture : List ℕ → Job → Asked
+  map_text : List ℕ → List ℕ → Asked
+  draw_job : List ℕ → Job → Asked
+  draw_text : List ℕ → List ℕ → Setting → Asked
+  draw_lines : List ℕ → Setting → Asked
 
 abbrev pub asked_of : Request → Asked
-asked_of (Map font text) = lines font.now text.now
-asked_of (Draw font job) = picture font.now (job_view job)
+asked_of (Map font text) = map_text font.now text.now
+asked_of (Draw font job) = draw_job font.now (job_view job)
+asked_of (Text font text setting) = draw_text font.now text.now setting
+asked_of (Lines font setting) = draw_lines font.now setting
 
 -- `map FONT TEXT`, of words that may lack
 abbrev pub map_asked : Option (List ℕ) → Option (List ℕ) → Option Asked
-map_asked (Some font) (Some text) = Some (lines font text)
+map_asked (Some font) (Some text) = Some (map_text font text)
 map_asked font text = None
 
--- `draw --size SIZE --margin MARGIN --fit FIT FONT TEXT`, of words that may lack
-abbrev pub draw_asked : Option (List ℕ) → Option (List ℕ) → Option ℕ → Option ℕ → Option (List ℕ) → Option Asked
-draw_asked (Some font) (Some text) (Some size) (Some margin) (Some how) =
-    option_map (λ job. picture font job) (job_asked text size margin how)
-draw_asked font text size margin how = None
+-- the picture of a text with a setting is its job alone, where characters without a glyph are drawn as others are
+abbrev pub picture_asked : Missing → List ℕ → List ℕ → Setting → Asked
+picture_asked missing.Draw font text s = draw_job font (job_by s text)
+picture_asked missing.Tell font text s = draw_text font text s
+picture_asked missing.Refuse font text s = draw_text font text s
+
+-- what is asked for of a text with a setting, by its product
+abbrev pub text_asked : Product → List ℕ → List ℕ → Setting → Asked
+text_asked product.Picture font text s = picture_asked s.missing font text s
+text_asked product.Grown font text s = draw_text font text s
+text_asked product.Measure font text s = draw_text font text s
+text_asked product.GrownMeasure font text s = draw_text font text s
+
+-- `draw OPTION.. FONT TEXT`, or with standard input's lines `draw OPTION.. --lines FONT`, of words and options that may
+-- lack
+abbrev pub draw_asked : Option (List ℕ) → Option (List ℕ) → Bool → Option Setting → Option Asked
+draw_asked (Some font) (Some text) false (Some s) = Some (text_asked s.product font text s)
+draw_asked (Some font) None true (Some s) = Some (draw_lines font s)
+draw_asked font text lines s = None
+
+-- what `draw`, or `measure`, asks for by its arguments: a name's text, its number, and whether its flag is set
+abbrev pub AsksDrawing
+    : (List ℕ → Option (List ℕ)) → (List ℕ → Option ℕ → Type 0) → (List ℕ → Bool → Type 0) → Bool → Option Asked
+    → Type 0
+AsksDrawing text IsNumber IsFlag measures answer =
+    (size margin : Option ℕ) × (lines grows : Bool) × IsNumber (codes "size") size × IsNumber (codes "margin") margin
+    × IsFlag (codes "lines") lines × IsFlag (codes "grow") grows
+    × (answer ≡ draw_asked (text (codes "FONT")) (text (codes "TEXT")) lines
+    (options_asked size margin (text (codes "fit")) (text (codes "missing")) (product_asked measures grows)))
 
 -- the path of a request's font
 abbrev pub font_of : Request → List ℕ
 font_of (Map font text) = font.now
 font_of (Draw font job) = font.now
+font_of (Text font text setting) = font.now
+font_of (Lines font setting) = font.now
 
 -- the glyphs that a picture of a text by a font file lists as not fitted
 abbrev pub IsListed : Job → Option (List ℕ) → List Unfitted → Type 0
 IsListed a left entries = IfSome left (λ file. report_of a file ≡ Ok entries) × ListsOnce entries
 
 -- a request is done and told: what it wants to be written for a font file, what it lists, and for which defects of the
--- file it is refused
-abbrev pub Performs : Request → Traffic → Errors → ℕ → Type 0
-Performs (Map font text) t e status =
+-- file it is refused; of texts with a setting what their call's contract says. The second traffic is that of standard
+-- input, and of the writer again
+abbrev pub Performs : Request → Traffic → Traffic → Errors → ℕ → Type 0
+Performs (Map font text) t lines e status =
     Does {V = Unit {0}} (λ v. []) (map_wanted text.now) (λ entries. ⊤) IsFaceDefect t e status
-Performs (Draw font job) t e status =
+Performs (Draw font job) t lines e status =
     Does {V = Report} (λ r. r.unfitted.items) (run_wanted (job_view job)) (IsListed (job_view job) t.left_before)
     (IsRunDefect (job_view job)) t e status
+Performs (Text font text setting) t lines e status =
+    DoesTexts (λ answer told. FontTextGives setting text.now answer t told
+    × TextTellsDefectsOf t.left_before (IsRunDefect (job_by setting text.now)) answer) e status
+Performs (Lines font setting) t lines e status =
+    DoesTexts (λ answer told. FontLinesGive setting answer (reader_in t) lines told) e status
+
+-- this holds where standard input's lines are not asked for
+abbrev pub UnlessLines : Request → Type 0 → Type 0
+UnlessLines (Lines font setting) P = ⊤
+UnlessLines r P = P

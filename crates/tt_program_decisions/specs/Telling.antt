@@ -1,37 +1,17 @@
 -- No part of the standard: what the program tells of an answer, by its exit status and on standard error.
-use Rattle.std.specs.Prelude.{◌≡◌, ◌⊎◌, ℕ, ◌<◌, Bool, true, false, List, [], ◌∷◌, ◌++◌, length, take, codes, Option, Result, Ok, Err, IfOk}
-use Rattle.std.specs.Io.KnownBytes.{Appends, Keeps}
+use Rattle.std.specs.Prelude.{◌≡◌, ◌⊎◌, ℕ, Bool, true, false, List, [], ◌∷◌, ◌++◌, codes, Option, Result, Ok, Err, IfOk}
+use Rattle.std.specs.Io.KnownBytes.{Keeps}
 use Rattle.tt_core.specs.Faults.{Fault}
 use Rattle.tt_render.specs.declared.fault.RunFault.{RunFault}
 use Rattle.tt_render.specs.declared.fault.RunFault.TheVariants as run
 use Rattle.tt_render.specs.Defects.{TellsDefectsOf}
 use Rattle.tt_render.specs.Outcome.{CallGives, Traffic, Wanted}
+use Rattle.tt_render.specs.Printing.{Errors, Prints, PrintsNothing}
+use Rattle.tt_render.specs.TextsMessages.{texts_line_of, texts_status_of}
+use Rattle.tt_render.specs.declared.texts_fault.TextsFault.{TextsFault}
+use Rattle.tt_render.specs.declared.texts_fault.TextsFault.TheVariants as texts
 use Rattle.tt_strike.specs.declared.report.Unfitted.{Unfitted}
 use Rattle.tt_render.specs.Messages.{line_of, status_of, unfitted_line_of}
-
--- standard error before a call and after it: the bytes that went out, None where no contract knows them, and whether it
--- has failed
-pub record Errors : Type 0 where
-  pub before : Option (List ℕ)
-  pub after : Option (List ℕ)
-  pub failed : Bool
-
--- what the device says of itself
-abbrev pub errors_of : {E : Type 0} → (E → Option (List ℕ)) → (E → Bool) → E → E → Errors
-errors_of written has_failed before after =
-    record { before = written before; after = written after; failed = has_failed after }
-
-abbrev pub PrintsUnless : Bool → Option (List ℕ) → Option (List ℕ) → List ℕ → Type 0
-PrintsUnless false before after text = Appends before after text
-PrintsUnless true before after text = (sent : ℕ) × (sent < length text) × Appends before after (take sent text)
-
--- a text went out, and where the device has failed a part of it
-abbrev pub Prints : Errors → List ℕ → Type 0
-Prints e text = PrintsUnless e.failed e.before e.after text
-
--- nothing was printed
-abbrev pub PrintsNothing : Errors → Type 0
-PrintsNothing e = Keeps e.before e.after × (e.failed ≡ false)
 
 -- the status and the line of one fault
 abbrev pub TellsFault : RunFault → ℕ → Errors → Type 0
@@ -67,3 +47,28 @@ pub record Does {V : Type 0} (entries : V → List Unfitted) (wanted : Wanted) (
     pub listed : IfOk answer (λ v. IsListed (entries v))
     pub defects : TellsDefectsOf t.left_before IsDefect answer
     pub told : Tells entries answer status e
+
+-- the status and the line of one fault of a call that draws texts
+abbrev pub TellsTextsFault : TextsFault → ℕ → Errors → Type 0
+TellsTextsFault fault status e = (status ≡ texts_status_of fault) × Prints e (texts_line_of fault ++ codes "\n")
+
+-- such a fault is told by status and line, and want of memory for that line in the fault's place; by the status alone
+-- where standard error had failed before
+abbrev pub TellsTextsFailure : Bool → TextsFault → ℕ → Errors → Type 0
+TellsTextsFailure false fault status e = TellsTextsFault fault status e ⊎ TellsTextsFault texts.Memory status e
+TellsTextsFailure true fault status e =
+    (status ≡ texts_status_of fault) × Keeps e.before e.after × (e.failed ≡ true)
+
+-- an answer after its reports: nothing is printed where it is Ok
+abbrev pub TellsTexts : {V : Type 0} → Bool → Result V TextsFault → ℕ → Errors → Type 0
+TellsTexts had_failed (Ok v) status e = (status ≡ 0) × Keeps e.before e.after × (e.failed ≡ had_failed)
+TellsTexts had_failed (Err fault) status e = TellsTextsFailure had_failed fault status e
+
+-- a call that draws texts gave some answer, with what its contract says of the devices, and left standard error with
+-- these bytes, failed or not; and the program told that answer after them
+pub record DoesTexts (Gives : Result (Unit {0}) TextsFault → Errors → Type 0) (e : Errors) (status : ℕ) : Type 0 where
+  pub answer : Result (Unit {0}) TextsFault
+  pub between : Option (List ℕ)
+  pub had_failed : Bool
+  pub outcome : Gives answer (record { before = e.before; after = between; failed = had_failed })
+  pub told : TellsTexts had_failed answer status (record { before = between; after = e.after; failed = e.failed })

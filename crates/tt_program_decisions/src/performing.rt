@@ -1,30 +1,34 @@
 //! A request done, over its font and the standard streams.
 
 ghost use Rattle.std.specs.Prelude.{◌≡◌, ◌≤◌, false};
-ghost use Rattle.tt_program_decisions.specs.Requests.{Performs};
-ghost use Rattle.tt_program_decisions.specs.Telling.{errors_of};
+ghost use Rattle.tt_program_decisions.specs.Requests.{Performs, UnlessLines};
 ghost use Rattle.tt_render.specs.Outcome.{traffic_of};
+ghost use Rattle.tt_render.specs.Printing.{errors_of};
 
 use crate::request::Request;
 use crate::telling::{tell, tell_picture};
+use crate::telling_texts::tell_texts;
 use std::alloc::Global;
 use tt_core::{Sink, Source};
 
-/// Does what a request asks for, and tells on standard error a fault, or which glyphs are not fitted though that was
-/// asked for; answers the exit status.
-pub fn perform<R: Source, W: Sink, E: Sink>(
+/// Does what a request asks for, and tells on standard error a fault, or which glyphs are not fitted and which
+/// characters have no glyph though that was asked for; answers the exit status.
+pub fn perform<R: Source, L: Source, W: Sink, E: Sink>(
     alloc: Global,
     request: &Request,
     font: &mut R,
+    lines: &mut L,
     out: &mut W,
     error: &mut E,
 ) -> u8
     requires font { R.has_failed font.old ≡ false }
+    requires lines { L.has_failed lines.old ≡ false }
     requires out { W.has_failed out.old ≡ false }
     requires error { E.has_failed error.old ≡ false }
     ensures bound { result ≤ 5 }
     // Some answer stands for what went through the devices, and the status and the lines are told of that answer.
-    ensures outcome { Performs request.now (traffic_of R.left R.has_failed W.written W.has_failed font.old font.new out.old out.new) (errors_of E.written E.has_failed error.old error.new) result }
+    ensures outcome { Performs request.now (traffic_of R.left R.has_failed W.written W.has_failed font.old font.new out.old out.new) (traffic_of L.left L.has_failed W.written W.has_failed lines.old lines.new out.old out.new) (errors_of E.written E.has_failed error.old error.new) result }
+    ensures lines { UnlessLines request.now (lines.new ≡ lines.old) }
 {
     match request {
         Request::Map { text, .. } => {
@@ -34,6 +38,14 @@ pub fn perform<R: Source, W: Sink, E: Sink>(
         Request::Draw { job, .. } => {
             let drawn = tt_render::run(alloc, font, out, job);
             tell_picture(alloc, &drawn, error)
+        }
+        Request::Text { text, setting, .. } => {
+            let drawn = tt_render::draw_text(alloc, font, out, error, text, setting);
+            tell_texts(alloc, &drawn, error)
+        }
+        Request::Lines { setting, .. } => {
+            let drawn = tt_render::draw_lines(alloc, font, lines, out, error, setting);
+            tell_texts(alloc, &drawn, error)
         }
     }
 }

@@ -1,19 +1,38 @@
 //! What a command line asks for.
 
-ghost use Rattle.std.specs.Prelude.{◌≡◌, ◌≢◌, ℕ, List, Option, None, codes, option_map};
+ghost use Rattle.std.specs.Prelude.{◌≡◌, ◌≢◌, ℕ, Bool, true, false, List, Option, None, codes, option_map};
 ghost use Rattle.tt_strike.specs.Job.{job_view};
-ghost use Rattle.tt_program_decisions.specs.Requests.{asked, asked_of, draw_asked, fit_named, font_of, map_asked};
+ghost use Rattle.tt_render.specs.TextOutcome.{job_by};
+ghost use Rattle.tt_program_decisions.specs.Requests.{AsksDrawing, asked, asked_of, draw_asked, fit_named, font_of, map_asked, missing_named, options_asked, picture_asked, product_asked, text_asked};
 
 use tt_fit::Fit;
-use tt_render::Job;
+use tt_render::{Job, Missing, Product, Setting};
 
 /// What a command line asks for.
 #[derive(Clone, Copy)]
 pub enum Request<'a> {
     /// Write each character's code point, glyph and advance.
-    Map { font: &'a str, text: &'a str },
+    Map {
+        font: &'a str,
+        text: &'a str,
+    },
     /// Draw a line of text.
-    Draw { font: &'a str, job: Job<'a> },
+    Draw {
+        font: &'a str,
+        job: Job<'a>,
+    },
+    /// Draw a line of text of whose characters those without a glyph are told or refused, or whose picture grows; or
+    /// tell its measures.
+    Text {
+        font: &'a str,
+        text: &'a str,
+        setting: Setting,
+    },
+    /// Draw each line of standard input, or tell its measures.
+    Lines {
+        font: &'a str,
+        setting: Setting,
+    },
 }
 
 impl<'a> Request<'a> {
@@ -22,7 +41,10 @@ impl<'a> Request<'a> {
         ensures { result.now ≡ font_of self.now }
     {
         match self {
-            Request::Map { font, .. } | Request::Draw { font, .. } => font,
+            Request::Map { font, .. }
+            | Request::Draw { font, .. }
+            | Request::Text { font, .. }
+            | Request::Lines { font, .. } => font,
         }
     }
 }
@@ -35,6 +57,9 @@ pub trait Arguments<'a> {
     // Whether this is the number that stands for a name, None where none does.
     ghost IsNumber: { Self → List ℕ → Option ℕ → Type 0 };
 
+    // Whether this says if the flag of a name is set.
+    ghost IsFlag: { Self → List ℕ → Bool → Type 0 };
+
     /// The text that stands for a name, if one does.
     fn text_for(&self, name: &str) -> Option<&'a str>
         ensures { option_map (λ s. s.now) result ≡ text self.now name.now };
@@ -42,26 +67,44 @@ pub trait Arguments<'a> {
     /// The number that stands for a name, if one does.
     fn number_for(&self, name: &str) -> Option<u32>
         ensures { IsNumber self.now name.now result };
+
+    /// Whether the flag of a name is set.
+    fn is_set(&self, name: &str) -> bool
+        ensures { IsFlag self.now name.now result };
 }
 
-/// What a subcommand with these arguments asks for; None where there is no subcommand of that name, an argument lacks, or
-/// the way to fit has no such name.
+/// What a subcommand with these arguments asks for; None where there is no subcommand of that name, an argument lacks, a
+/// text stands beside standard input's lines, or a way to fit or to take characters without a glyph has no such name.
 pub fn request_of<'a, A: Arguments<'a>>(subcommand: &str, arguments: &A) -> Option<Request<'a>>
     ensures map { subcommand.now ≡ codes "map" → option_map asked_of result ≡ map_asked (A.text arguments.now (codes "FONT")) (A.text arguments.now (codes "TEXT")) }
-    ensures draw { subcommand.now ≡ codes "draw" → (size margin : Option ℕ) × A.IsNumber arguments.now (codes "size") size × A.IsNumber arguments.now (codes "margin") margin × (option_map asked_of result ≡ draw_asked (A.text arguments.now (codes "FONT")) (A.text arguments.now (codes "TEXT")) size margin (A.text arguments.now (codes "fit"))) }
-    ensures other { subcommand.now ≢ codes "map" → subcommand.now ≢ codes "draw" → result ≡ None }
+    ensures draw { subcommand.now ≡ codes "draw" → AsksDrawing (A.text arguments.now) (A.IsNumber arguments.now) (A.IsFlag arguments.now) false (option_map asked_of result) }
+    ensures measure { subcommand.now ≡ codes "measure" → AsksDrawing (A.text arguments.now) (A.IsNumber arguments.now) (A.IsFlag arguments.now) true (option_map asked_of result) }
+    ensures other { subcommand.now ≢ codes "map" → subcommand.now ≢ codes "draw" → subcommand.now ≢ codes "measure" → result ≡ None }
 {
     match subcommand {
         "map" => map_of(arguments.text_for("FONT"), arguments.text_for("TEXT")),
-        "draw" => draw_of(
-            arguments.text_for("FONT"),
-            arguments.text_for("TEXT"),
+        "draw" => drawing_of(arguments, false),
+        "measure" => drawing_of(arguments, true),
+        _ => None,
+    }
+}
+
+/// What the arguments of `draw`, or of `measure`, ask for.
+fn drawing_of<'a, A: Arguments<'a>>(arguments: &A, measures: bool) -> Option<Request<'a>>
+    ensures { AsksDrawing (A.text arguments.now) (A.IsNumber arguments.now) (A.IsFlag arguments.now) measures (option_map asked_of result) }
+{
+    draw_of(
+        arguments.text_for("FONT"),
+        arguments.text_for("TEXT"),
+        arguments.is_set("lines"),
+        options_of(
             arguments.number_for("size"),
             arguments.number_for("margin"),
             arguments.text_for("fit"),
+            arguments.text_for("missing"),
+            product_of(measures, arguments.is_set("grow")),
         ),
-        _ => None,
-    }
+    )
 }
 
 /// What `map FONT TEXT` asks for, where both are there.
@@ -74,47 +117,132 @@ fn map_of<'a>(font: Option<&'a str>, text: Option<&'a str>) -> Option<Request<'a
     })
 }
 
-/// What `draw --size SIZE --margin MARGIN --fit FIT FONT TEXT` asks for, where all are there.
+/// What `draw OPTION.. FONT TEXT` asks for, or `draw OPTION.. --lines FONT`, where its words and options are there.
 fn draw_of<'a>(
     font: Option<&'a str>,
     text: Option<&'a str>,
-    size: Option<u32>,
-    margin: Option<u32>,
-    fit: Option<&'a str>,
+    lines: bool,
+    setting: Option<Setting>,
 ) -> Option<Request<'a>>
-    ensures { option_map asked_of result ≡ draw_asked (option_map (λ s. s.now) font.entry) (option_map (λ s. s.now) text.entry) size margin (option_map (λ s. s.now) fit.entry) }
+    ensures { option_map asked_of result ≡ draw_asked (option_map (λ s. s.now) font.entry) (option_map (λ s. s.now) text.entry) lines setting }
 {
     let font = font?;
+    let setting = setting?;
+    match text {
+        Some(text) => {
+            if lines {
+                return None;
+            }
+            Some(text_of(font, text, setting))
+        }
+        None => {
+            if !lines {
+                return None;
+            }
+            Some(Request::Lines { font, setting })
+        }
+    }
+}
+
+/// What is asked for of a text with a setting, by the product.
+fn text_of<'a>(font: &'a str, text: &'a str, setting: Setting) -> Request<'a>
+    ensures { asked_of result ≡ text_asked setting.product font.now text.now setting }
+{
+    match setting.product {
+        Product::Picture => picture_of(font, text, setting),
+        Product::Grown | Product::Measure | Product::GrownMeasure => Request::Text {
+            font,
+            text,
+            setting,
+        },
+    }
+}
+
+/// The picture of a text with a setting: its job alone, where characters without a glyph are drawn as others are.
+fn picture_of<'a>(font: &'a str, text: &'a str, setting: Setting) -> Request<'a>
+    ensures { asked_of result ≡ picture_asked setting.missing font.now text.now setting }
+{
+    match setting.missing {
+        Missing::Draw => Request::Draw {
+            font,
+            job: job_of(text, &setting),
+        },
+        Missing::Tell | Missing::Refuse => Request::Text {
+            font,
+            text,
+            setting,
+        },
+    }
+}
+
+/// The job of a text with a setting.
+pub fn job_of<'a>(text: &'a str, setting: &Setting) -> Job<'a>
+    ensures { job_view result ≡ job_by setting.now text.now }
+{
+    Job {
+        text,
+        ppem: setting.ppem,
+        margin: setting.margin,
+        fit: setting.fit,
+    }
+}
+
+/// What `--size SIZE --margin MARGIN --fit FIT --missing MISSING` asks for of a product, where all are there.
+fn options_of(
+    size: Option<u32>,
+    margin: Option<u32>,
+    fit: Option<&str>,
+    missing: Option<&str>,
+    product: Product,
+) -> Option<Setting>
+    ensures { result ≡ options_asked size margin (option_map (λ s. s.now) fit.entry) (option_map (λ s. s.now) missing.entry) product }
+{
     let words = Words {
-        text: text?,
         size: size?,
         margin: margin?,
         fit: fit?,
+        missing: missing?,
     };
-    Some(Request::Draw {
-        font,
-        job: job_of(&words)?,
-    })
+    setting_of(&words, product)
 }
 
-/// The words of a drawing, as they stand on the command line.
+/// What goes out for a text: its measures or its picture, of the picture that grows or of the one that does not.
+fn product_of(measures: bool, grows: bool) -> Product
+    ensures { result ≡ product_asked measures grows }
+{
+    match (measures, grows) {
+        (false, false) => Product::Picture,
+        (false, true) => Product::Grown,
+        (true, false) => Product::Measure,
+        (true, true) => Product::GrownMeasure,
+    }
+}
+
+/// The options of a drawing, as they stand on the command line.
 #[derive(Clone, Copy)]
 pub struct Words<'a> {
-    pub text: &'a str,
     pub size: u32,
     pub margin: u32,
     pub fit: &'a str,
+    pub missing: &'a str,
 }
 
-/// The job that is asked for; None where the way to fit has no such name.
-pub fn job_of<'a>(words: &Words<'a>) -> Option<Job<'a>>
-    ensures { option_map job_view result ≡ asked words.now }
+/// Bytes of glyphs that are kept from line to line: all letters of a Latin font at the largest size, and some thousand
+/// glyphs at a usual one.
+const GLYPHS_KEPT: usize = 4_194_304;
+
+/// How a product is asked for; None where the way to fit, or what is done with characters without a glyph, has no such
+/// name.
+pub fn setting_of(words: &Words, product: Product) -> Option<Setting>
+    ensures { result ≡ asked words.now product }
 {
-    Some(Job {
-        text: words.text,
+    Some(Setting {
         ppem: words.size,
         margin: words.margin,
         fit: way_of(words.fit)?,
+        missing: missing_of(words.missing)?,
+        product,
+        most: GLYPHS_KEPT,
     })
 }
 
@@ -139,6 +267,28 @@ fn way_of(name: &str) -> Option<Fit>
         NONE => Some(Fit::None),
         FALLBACK => Some(Fit::Fallback),
         BEST => Some(Fit::Best),
+        _ => None,
+    }
+}
+
+/// What is done with characters without a glyph where nothing is asked for.
+pub const DRAW: &str = "draw";
+
+const TELL: &str = "tell";
+
+const REFUSE: &str = "refuse";
+
+/// The words of `--missing`.
+pub static MISSING_WORDS: [&str; 3] = [DRAW, TELL, REFUSE];
+
+/// What is done with characters without a glyph, by its name.
+fn missing_of(name: &str) -> Option<Missing>
+    ensures { result ≡ missing_named name.now }
+{
+    match name {
+        DRAW => Some(Missing::Draw),
+        TELL => Some(Missing::Tell),
+        REFUSE => Some(Missing::Refuse),
         _ => None,
     }
 }

@@ -3,7 +3,8 @@
 ghost use Rattle.std.specs.Prelude.{◌≡◌, ◌≤◌, ◌++◌, [], false, codes, string_bytes, IfOk, IfErr};
 ghost use Rattle.tt_render.specs.declared.fault.RunFault.TheVariants.{Memory};
 ghost use Rattle.tt_render.specs.Messages.{line_of};
-ghost use Rattle.tt_program_decisions.specs.Telling.{Prints, Tells, TellsFailure, TellsFault, TellsReport, errors_of, report_lines};
+ghost use Rattle.tt_render.specs.Printing.{Prints, errors_of};
+ghost use Rattle.tt_program_decisions.specs.Telling.{Tells, TellsFailure, TellsFault, TellsReport, report_lines};
 
 use std::alloc::{AllocError, Global};
 use tt_core::Sink;
@@ -54,7 +55,11 @@ fn tell_report<E: Sink>(alloc: Global, unfitted: &[Unfitted], error: &mut E) -> 
 }
 
 /// Tells a text with a status, or want of memory where that was refused for the text.
-fn tell_text<E: Sink>(text: Result<String, AllocError>, status_then: u8, error: &mut E) -> u8
+pub(crate) fn tell_text<E: Sink>(
+    text: Result<String, AllocError>,
+    status_then: u8,
+    error: &mut E,
+) -> u8
     requires status { status_then ≤ 5 }
     requires error { E.has_failed error.old ≡ false }
     ensures bound { result ≤ 5 }

@@ -4,8 +4,15 @@ pub mod LineReading
 pub mod Lines
 pub mod LinesOutcome
 pub mod MapLines
+pub mod MeasureText
 pub mod Messages
 pub mod Outcome
+pub mod Printing
 pub mod Reading
+pub mod Reports
 pub mod Run
+pub mod Settings
+pub mod TextOutcome
+pub mod Texts
+pub mod TextsMessages
 pub mod Views

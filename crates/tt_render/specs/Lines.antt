@@ -1,11 +1,15 @@
 -- No part of the standard: the lines of a text, and what is drawn of them one after the other (profile).
 use Rattle.std.specs.Prelude.{◌≡◌, refl, ℕ, ◌+◌, ◌==◌, nat_lt, if◌then◌else◌, List, [], ◌∷◌, ◌++◌, length, codes, Option, Some, None, Result, Ok, Err}
 use Rattle.std.specs.Io.BufRead.{strip_last}
+use Rattle.std.specs.Fmt.{digits}
 use Rattle.std.specs.Str.{is_utf8}
 use Rattle.tt_core.specs.declared.fault.JobFault.TheVariants as fault
-use Rattle.tt_strike.specs.Picture.{line_outcome}
-use Rattle.tt_strike.specs.Refusals.{Refused, job}
-use Rattle.tt_strike.specs.Strikes.{Strike, job_of}
+use Rattle.tt_strike.specs.Refusals.{job}
+use Rattle.tt_strike.specs.Strikes.{Strike}
+use Rattle.tt_render.specs.declared.setting.Missing.{Missing}
+use Rattle.tt_render.specs.declared.setting.Product.{Product}
+use Rattle.tt_render.specs.Reports.{report_text_of, told_of}
+use Rattle.tt_render.specs.Texts.{TextAnswer, TextRefusal, not_utf8, refused, text_answer}
 
 -- bytes of a line
 abbrev pub line_limit : ℕ
@@ -34,39 +38,40 @@ lines_after front (x ∷ xs) =
 unfoldable pub lines_of : List ℕ → List (List ℕ)
 lines_of text = lines_after [] text
 
--- why a line is not drawn
-pub data LineRefusal : Type 0 where
-  refused : Refused → LineRefusal
-  not_utf8 : LineRefusal
-
-abbrev pub as_line : Result (List ℕ) Refused → Result (List ℕ) LineRefusal
-as_line (Ok bytes) = Ok bytes
-as_line (Err why) = Err (refused why)
-
--- what a line answers: its picture by a strike, with a margin; its length is tested first
-unfoldable pub line_drawn : Strike → ℕ → List ℕ → Result (List ℕ) LineRefusal
-line_drawn s margin line =
+-- what a line answers: its length is tested first, and then whether it is a text
+abbrev pub line_answer : (List ℕ → Result TextAnswer TextRefusal) → List ℕ → Result TextAnswer TextRefusal
+line_answer answer line =
     if nat_lt line_limit (length line) then Err (refused (job fault.TextLong))
-    else if is_utf8 line then as_line (line_outcome s.face (job_of s line margin))
+    else if is_utf8 line then answer line
     else Err not_utf8
 
--- what is drawn of lines: the bytes of the pictures up to the first line that is refused, and its number and why
-pub record LinesDrawn (E : Type 0) : Type 0 where
+-- the same of a line that is drawn by a strike, with a margin
+unfoldable pub line_drawn : Strike → Product → Missing → ℕ → List ℕ → Result TextAnswer TextRefusal
+line_drawn s wanted missing margin line = line_answer (text_answer s wanted missing margin) line
+
+-- what is drawn of lines: the bytes of the pictures up to the first line that is refused, what is told of these lines,
+-- and the number of that line and why it is refused
+pub record LinesDrawn : Type 0 where
   pub bytes : List ℕ
-  pub stop : Option (ℕ × E)
+  pub told : List ℕ
+  pub stop : Option (ℕ × TextRefusal)
 
 -- a line was answered so, and what is drawn of those after it
-abbrev pub drawn_with : {E : Type 0} → ℕ → Result (List ℕ) E → LinesDrawn E → LinesDrawn E
-drawn_with number (Ok bytes) after = record { bytes = bytes ++ after.bytes; stop = after.stop }
-drawn_with number (Err why) after = record { bytes = []; stop = Some (number, why) }
+abbrev pub drawn_with : ℕ → Result TextAnswer TextRefusal → LinesDrawn → LinesDrawn
+drawn_with number (Ok a) after = record {
+  bytes = a.bytes ++ after.bytes;
+  told = told_of (Some number) a ++ after.told;
+  stop = after.stop;
+}
+drawn_with number (Err why) after = record { bytes = []; told = []; stop = Some (number, why) }
 
 -- the first of these lines has this number
-abbrev pub drawn_from : {E : Type 0} → ℕ → (List ℕ → Result (List ℕ) E) → List (List ℕ) → LinesDrawn E
-drawn_from number draw [] = record { bytes = []; stop = None }
+abbrev pub drawn_from : ℕ → (List ℕ → Result TextAnswer TextRefusal) → List (List ℕ) → LinesDrawn
+drawn_from number draw [] = record { bytes = []; told = []; stop = None }
 drawn_from number draw (line ∷ lines) = drawn_with number (draw line) (drawn_from (number + 1) draw lines)
 
 -- what is drawn of a text's lines, which are counted from 1
-abbrev pub text_drawn : {E : Type 0} → (List ℕ → Result (List ℕ) E) → List ℕ → LinesDrawn E
+abbrev pub text_drawn : (List ℕ → Result TextAnswer TextRefusal) → List ℕ → LinesDrawn
 text_drawn draw text = drawn_from 1 draw (lines_of text)
 
 -- worked values
@@ -86,7 +91,14 @@ a_return_before_the_feed : lines_of (codes "a\r\n\r\r\nb\rc\r") ≡ codes "a" �
 unfolding lines_of
 a_return_before_the_feed = refl
 
-as_many_as_are_drawn : drawn_from 1 (λ line. if nat_lt 1 (length line) then Err not_utf8 else Ok line)
-    (codes "a" ∷ (codes "b" ∷ (codes "cd" ∷ (codes "e" ∷ []))))
-    ≡ record { bytes = codes "ab"; stop = Some (3, not_utf8) }
+-- of these lines the first two are drawn: a letter A is told, and two letters are refused
+as_many_as_are_drawn : drawn_from 1 (λ line. if nat_lt 1 (length line) then Err not_utf8
+    else Ok (record { bytes = line; unfitted = []; lacking = line }))
+    (codes "A" ∷ (codes "B" ∷ (codes "CD" ∷ (codes "E" ∷ []))))
+    ≡ record {
+      bytes = codes "AB";
+      told = codes "tt_render: line 1: U+0041 has no glyph\ntt_render: line 2: U+0042 has no glyph\n";
+      stop = Some (3, not_utf8);
+    }
+unfolding report_text_of digits
 as_many_as_are_drawn = refl

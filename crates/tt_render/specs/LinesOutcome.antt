@@ -1,150 +1,186 @@
--- What drawing the lines of a text promises of its answer and of both devices.
-use Rattle.std.specs.Prelude.{◌≡◌, ℕ, ◌+◌, ◌<◌, Bool, true, false, List, [], ◌∷◌, ◌++◌, length, take, Option, Some, None, IfOk, IfSome, Result, Ok, Err, ⊤}
+-- What drawing the lines of a text promises of its answer and of the devices.
+use Rattle.std.specs.Prelude.{◌≡◌, ◌⊎◌, ℕ, ◌+◌, ◌<◌, Bool, true, false, List, [], ◌∷◌, ◌++◌, length, take, Option, Some, None, IfSome, Result, Ok, Err, string_bytes, ⊤}
 use Rattle.std.specs.Io.KnownBytes.{Appends, IsAtEnd}
-use Rattle.tt_render.specs.declared.drawing.Drawn.{Drawn}
-use Rattle.tt_render.specs.declared.lines_fault.LineFault.{LineFault}
-use Rattle.tt_render.specs.declared.lines_fault.LineFault.TheVariants as fault
-use Rattle.tt_render.specs.declared.lines_fault.LineStop.{LineStop}
-use Rattle.tt_render.specs.declared.lines_fault.LineStop.TheVariants as stop
-use Rattle.tt_render.specs.declared.lines_fault.LinesFault.{LinesFault}
-use Rattle.tt_render.specs.declared.lines_fault.LinesFault.TheVariants as lines
+use Rattle.tt_core.specs.declared.fault.JobFault.{JobFault}
+use Rattle.tt_core.specs.Bits.{stride}
+use Rattle.tt_core.specs.Limits.{font_limit}
+use Rattle.tt_render.specs.declared.setting.Setting.{Setting}
+use Rattle.tt_render.specs.declared.text_answers.ReadyText.{ReadyText}
+use Rattle.tt_render.specs.declared.products.Output.{Output}
+use Rattle.tt_render.specs.declared.products.Output.TheVariants as output
+use Rattle.tt_render.specs.declared.texts_fault.TextFault.{TextFault}
+use Rattle.tt_render.specs.declared.texts_fault.TextFault.TheVariants as fault
+use Rattle.tt_render.specs.declared.texts_fault.TextStop.{TextStop}
+use Rattle.tt_render.specs.declared.texts_fault.TextStop.TheVariants as stop
+use Rattle.tt_render.specs.declared.texts_fault.TextsFault.{TextsFault}
+use Rattle.tt_render.specs.declared.texts_fault.TextsFault.TheVariants as texts
 use Rattle.tt_render.specs.LineReading.{LosesLine}
-use Rattle.tt_render.specs.Lines.{LineRefusal, drawn_from, line_drawn, lines_limit, lines_of, not_utf8, refused, text_drawn}
+use Rattle.tt_render.specs.Lines.{drawn_from, line_drawn, lines_limit, lines_of, text_drawn}
 use Rattle.tt_render.specs.Outcome.{Traffic, SendsAll, ReadsNothing, ReadsToEnd, WritesNothing, WriterServes, WriterFails}
-use Rattle.tt_strike.specs.Pictures.{picture_bytes}
-use Rattle.tt_strike.specs.Job.{size_tested}
-use Rattle.tt_strike.specs.Refusals.{Refused, as_font, as_job, font, job}
-use Rattle.tt_strike.specs.Report.{report_by}
+use Rattle.tt_render.specs.Printing.{Errors, Prints, PrintsNothing}
+use Rattle.tt_render.specs.Reading.{FontReader, FontFails, FontIsBegun, FontIsRead, FontIsUnread}
+use Rattle.tt_render.specs.Reports.{report_text_of}
+use Rattle.tt_render.specs.Settings.{setting_tested, strike_of}
+use Rattle.tt_render.specs.Texts.{TextAnswer, TextRefusal, missing, not_utf8, refused}
 use Rattle.tt_strike.specs.declared.report.Unfitted.{Unfitted}
-use Rattle.tt_strike.specs.Strikes.{Strike, job_of}
-use Rattle.tt_strike.specs.Tables.{face_of}
-use Rattle.tt_core.specs.Outcomes.{◌>>=◌}
-use Rattle.tt_render.specs.declared.line_drawing.LinesSetting.{LinesSetting}
+use Rattle.tt_strike.specs.Pictures.{IsReady, picture_bytes}
+use Rattle.tt_strike.specs.Refusals.{Refused, font, job}
+use Rattle.tt_strike.specs.Strikes.{Strike}
 
--- how a line is drawn, or why it is not
+-- what a line answers, or why it is refused
 abbrev pub Draws : Type 0
-Draws = List ℕ → Result (List ℕ) LineRefusal
+Draws = List ℕ → Result TextAnswer TextRefusal
 
-abbrev pub refusal_of : LineFault → LineRefusal
+abbrev pub refusal_of : TextFault → TextRefusal
 refusal_of (fault.Font f) = refused (font f)
 refusal_of (fault.Job j) = refused (job j)
 refusal_of fault.NotUtf8 = not_utf8
+refusal_of (fault.Missing c) = missing c
 
--- what stops a line: nothing is told where it could not be read, or memory ran out
-abbrev pub told : LineStop → Option LineRefusal
+-- what stops a text: nothing is told where it could not be read, or memory ran out
+abbrev pub told : TextStop → Option TextRefusal
 told (stop.Refused f) = Some (refusal_of f)
 told stop.Read = None
 told stop.Memory = None
 
-abbrev pub lines_fault_of : ℕ → LineStop → LinesFault
-lines_fault_of number (stop.Refused f) = lines.Line number f
-lines_fault_of number stop.Read = lines.Read
-lines_fault_of number stop.Memory = lines.Memory
+abbrev pub texts_fault_of : Option ℕ → TextStop → TextsFault
+texts_fault_of number (stop.Refused f) = texts.Text number f
+texts_fault_of number stop.Read = texts.Read
+texts_fault_of number stop.Memory = texts.Memory
 
--- a line was not stopped by its reader
-abbrev pub IsNoRead : {V : Type 0} → Result V LineStop → Type 0
+-- a text was not stopped by its reader
+abbrev pub IsNoRead : {V : Type 0} → Result V TextStop → Type 0
 IsNoRead (Err stop.Read) = ⊥
 IsNoRead r = ⊤
 
--- this holds of what was drawn
-abbrev pub IfDrawn : Result (Option Drawn) LineStop → (Drawn → Type 0) → Type 0
-IfDrawn (Ok (Some d)) P = P d
-IfDrawn r P = ⊤
+-- what is ready to go out: its bytes, and the glyphs that are not fitted
+abbrev pub bytes_in : Output → List ℕ
+bytes_in (output.Picture drawn) = picture_bytes drawn.picture
+bytes_in (output.Text text report) = string_bytes text
+
+abbrev pub unfitted_in : Output → List Unfitted
+unfitted_in (output.Picture drawn) = drawn.picture.unfitted
+unfitted_in (output.Text text report) = report.unfitted.items
+
+-- a picture of which no row was made yet, with memory for one
+abbrev pub CanGoOut : Output → Type 0
+CanGoOut (output.Picture drawn) =
+    IsReady drawn.picture × (length drawn.row.items ≡ stride drawn.picture.frame.width)
+CanGoOut (output.Text text report) = ⊤
+
+-- the answer that is ready to go out
+abbrev pub answer_view : ReadyText → TextAnswer
+answer_view r = record {
+  bytes = bytes_in r.output;
+  unfitted = unfitted_in r.output;
+  lacking = r.lacking.items;
+}
+
+-- the report of what is ready is this text's, of this number where it is a line
+abbrev pub TellsOf : Option ℕ → ReadyText → Type 0
+TellsOf number r = string_bytes r.report ≡ report_text_of number (unfitted_in r.output) r.lacking.items
+
+-- this holds of what is ready
+abbrev pub IfReady : Result (Option ReadyText) TextStop → (ReadyText → Type 0) → Type 0
+IfReady (Ok (Some d)) P = P d
+IfReady r P = ⊤
 
 -- the first line of a text is refused
-abbrev pub BeginsRefused : Draws → LineRefusal → List ℕ → Type 0
+abbrev pub BeginsRefused : Draws → TextRefusal → List ℕ → Type 0
 BeginsRefused draw why text =
     (line : List ℕ) × (rest : List (List ℕ)) × (lines_of text ≡ line ∷ rest) × (draw line ≡ Err why)
 
 -- what drawing the next line did to the text that is left
-abbrev pub DrawsLine : Draws → Result (Option Drawn) LineStop → Option (List ℕ) → Option (List ℕ) → Type 0
+abbrev pub DrawsLine : Draws → Result (Option ReadyText) TextStop → Option (List ℕ) → Option (List ℕ) → Type 0
 DrawsLine draw (Ok (Some d)) before after =
-    (line : List ℕ) × LosesLine before after line × (draw line ≡ Ok (picture_bytes d.picture))
+    (line : List ℕ) × LosesLine before after line × (draw line ≡ Ok (answer_view d))
 DrawsLine draw (Ok None) before after = IfSome before (λ text. lines_of text ≡ []) × IsAtEnd after
 DrawsLine draw (Err (stop.Refused f)) before after = IfSome before (BeginsRefused draw (refusal_of f))
 DrawsLine draw (Err e) before after = ⊤
 
--- the glyphs of a line that are not fitted, as its picture lists them
-abbrev pub line_report : Strike → ℕ → List ℕ → Result (List Unfitted) Refused
-line_report s margin line = report_by s.face (job_of s line margin)
-
--- the next line's picture lists its glyphs that are not fitted
-abbrev pub ReportsLine : (List ℕ → Result (List Unfitted) Refused) → Result (Option Drawn) LineStop → Option (List ℕ)
-    → Option (List ℕ) → Type 0
-ReportsLine report (Ok (Some d)) before after =
-    (line : List ℕ) × LosesLine before after line × (report line ≡ Ok d.picture.unfitted)
-ReportsLine report r before after = ⊤
-
 -- the reader failed where it stopped the line, and only there
-abbrev pub FailsByStop : Bool → Result (Option Drawn) LineStop → Type 0
+abbrev pub FailsByStop : Bool → Result (Option ReadyText) TextStop → Type 0
 FailsByStop failed (Err stop.Read) = failed ≡ true
 FailsByStop failed r = failed ≡ false
 
--- these bytes are the pictures of these lines, none of which is refused
-abbrev pub AreDrawn : Draws → List (List ℕ) → List ℕ → Type 0
-AreDrawn draw lines bytes = ((drawn_from 1 draw lines).stop ≡ None) × ((drawn_from 1 draw lines).bytes ≡ bytes)
+-- none of these lines, from line 1, is refused; their pictures went out, and then these bytes; their reports were printed
+abbrev pub SendsLines : Draws → Option (List ℕ) → Option (List ℕ) → Errors → List (List ℕ) → List ℕ → Type 0
+SendsLines draw out_before out_after e lines more =
+    ((drawn_from 1 draw lines).stop ≡ None) × Appends out_before out_after ((drawn_from 1 draw lines).bytes ++ more)
+    × Prints e (drawn_from 1 draw lines).told
 
--- the first lines of a text, so many, are drawn, and their pictures went out, and then these bytes; this holds of the
--- lines after them
-abbrev pub SendsLines : Draws → Option (List ℕ) → Option (List ℕ) → ℕ → List ℕ → (List (List ℕ) → Type 0) → List ℕ
-    → Type 0
-SendsLines draw out_before out_after number more P text =
-    (first : List (List ℕ)) × (rest : List (List ℕ)) × (done : List ℕ) × (lines_of text ≡ first ++ rest)
-    × (length first ≡ number) × AreDrawn draw first done × Appends out_before out_after (done ++ more) × P rest
+-- the first lines of a text, so many, were sent, and then these bytes; this holds of the lines after them
+abbrev pub SendsFirstLines : Draws → Traffic → Errors → ℕ → List ℕ → (List (List ℕ) → Type 0) → List ℕ → Type 0
+SendsFirstLines draw t e number more P text =
+    (first : List (List ℕ)) × (rest : List (List ℕ)) × (lines_of text ≡ first ++ rest) × (length first ≡ number)
+    × SendsLines draw t.out_before t.out_after e first more × P rest
 
 -- the first of these lines has a picture, of which a front was sent
 abbrev pub IsCutAfter : Draws → ℕ → List ℕ → List (List ℕ) → Type 0
 IsCutAfter draw sent part [] = ⊥
 IsCutAfter draw sent part (line ∷ rest) =
-    (picture : List ℕ) × (draw line ≡ Ok picture) × (sent < length picture) × (part ≡ take sent picture)
+    (a : TextAnswer) × (draw line ≡ Ok a) × (sent < length a.bytes) × (part ≡ take sent a.bytes)
 
--- some whole pictures went out
-abbrev pub SendsSome : Draws → Traffic → List ℕ → Type 0
-SendsSome draw t text = (number : ℕ) × SendsLines draw t.out_before t.out_after number [] (λ rest. ⊤) text
+-- some whole pictures went out, and their reports
+abbrev pub SendsSome : Draws → Traffic → Errors → List ℕ → Type 0
+SendsSome draw t e text = (number : ℕ) × SendsFirstLines draw t e number [] (λ rest. ⊤) text
 
--- all that is drawn of the lines went out, and they are refused so
-abbrev pub SendsDrawn : Draws → Traffic → Option (ℕ × LineRefusal) → List ℕ → Type 0
-SendsDrawn draw t why text =
-    ((text_drawn draw text).stop ≡ why) × SendsAll t (text_drawn draw text).bytes
+-- all that is drawn of the lines went out, with the reports, and they are refused so
+abbrev pub SendsDrawn : Draws → Traffic → Errors → Option (ℕ × TextRefusal) → List ℕ → Type 0
+SendsDrawn draw t e why text =
+    ((text_drawn draw text).stop ≡ why) × SendsAll t (text_drawn draw text).bytes × Prints e (text_drawn draw text).told
 
 abbrev pub ReaderServes : Traffic → Type 0
 ReaderServes t = t.read_failed ≡ false
 
--- a call drew all lines, or failed so
-abbrev pub LinesFail : Draws → LinesFault → Traffic → Type 0
-LinesFail draw (lines.Line number f) t =
-    IfSome t.left_before (SendsDrawn draw t (Some (number, refusal_of f))) × ReaderServes t × WriterServes t
-LinesFail draw (lines.Font f) t = ⊥
-LinesFail draw (lines.Job j) t = ⊥
-LinesFail draw lines.Read t = IfSome t.left_before (SendsSome draw t) × (t.read_failed ≡ true) × WriterServes t
-LinesFail draw (lines.Write number sent) t =
+-- a call that draws lines by a font that stands failed so
+abbrev pub LinesFail : Draws → TextsFault → Traffic → Errors → Type 0
+LinesFail draw (texts.Text (Some number) f) t e =
+    IfSome t.left_before (SendsDrawn draw t e (Some (number, refusal_of f))) × ReaderServes t × WriterServes t
+LinesFail draw texts.Read t e =
+    IfSome t.left_before (SendsSome draw t e) × (t.read_failed ≡ true) × WriterServes t
+LinesFail draw (texts.Write (Some number) sent) t e =
     IfSome t.left_before (λ text. (before : ℕ) × (part : List ℕ) × (before + 1 ≡ number)
-    × SendsLines draw t.out_before t.out_after before part (IsCutAfter draw sent part) text)
+    × SendsFirstLines draw t e before part (IsCutAfter draw sent part) text)
     × ReaderServes t × WriterFails t
-LinesFail draw lines.Many t =
-    IfSome t.left_before (SendsLines draw t.out_before t.out_after lines_limit [] (λ rest. ⊤)) × ReaderServes t
-    × WriterServes t
-LinesFail draw lines.Memory t = IfSome t.left_before (SendsSome draw t) × ReaderServes t × WriterServes t
+LinesFail draw texts.Many t e =
+    IfSome t.left_before (SendsFirstLines draw t e lines_limit [] (λ rest. ⊤)) × ReaderServes t × WriterServes t
+LinesFail draw texts.Memory t e = IfSome t.left_before (SendsSome draw t e) × ReaderServes t × WriterServes t
+LinesFail draw e t errors = ⊥
 
-abbrev pub LinesGive : {V : Type 0} → Draws → Result V LinesFault → Traffic → Type 0
-LinesGive draw (Ok v) t = IfSome t.left_before (SendsDrawn draw t None) × ReadsToEnd t × WriterServes t
-LinesGive draw (Err e) t = LinesFail draw e t
+-- such a call drew all lines, or failed so
+abbrev pub LinesGive : {V : Type 0} → Draws → Result V TextsFault → Traffic → Errors → Type 0
+LinesGive draw (Ok v) t e = IfSome t.left_before (SendsDrawn draw t e None) × ReadsToEnd t × WriterServes t
+LinesGive draw (Err fault) t e = LinesFail draw fault t e
 
--- what lines are drawn by: the font's tables and the size are tested before a line is read
-unfoldable pub strike_for : LinesSetting → List ℕ → Result Strike Refused
-strike_for a file =
-    as_font (face_of file) >>= λ face.
-    as_job (size_tested a.ppem) >>= λ u.
-    Ok (record { face = face; ppem = a.ppem; fit = a.fit; most = a.most })
+-- a call stopped by these tests, alone or with the reader of its font, or by the font's tables; or memory ran out by then
+abbrev pub StopsAtFont : {V S : Type 0} → Result (Unit {0}) JobFault → (List ℕ → Result S Refused) → Result V TextsFault
+    → FontReader → Type 0
+StopsAtFont tests opened (Err (texts.Job j)) f = (tests ≡ Err j) × FontIsUnread f
+StopsAtFont tests opened (Err texts.FontRead) f = (tests ≡ Ok tt) × FontFails f
+StopsAtFont tests opened (Err texts.FontLarge) f =
+    (tests ≡ Ok tt) × IfSome f.before (λ file. font_limit < length file) × FontIsBegun f
+StopsAtFont tests opened (Err (texts.Font fault)) f =
+    (tests ≡ Ok tt) × (file : List ℕ) × FontIsRead f file × (opened file ≡ Err (font fault))
+StopsAtFont tests opened (Err texts.Memory) f = (tests ≡ Ok tt) × FontIsBegun f
+StopsAtFont tests opened r f = ⊥
 
--- nothing was read or written
-abbrev pub RefusedBefore : Result Strike Refused → Refused → Traffic → Type 0
-RefusedBefore made why t = (made ≡ Err why) × ReadsNothing t × WritesNothing t
+-- the tests passed, the font was read to its end, and this holds of what was made of it
+abbrev pub OpensFont : {S : Type 0} → Result (Unit {0}) JobFault → (List ℕ → Result S Refused) → FontReader
+    → (S → Type 0) → Type 0
+OpensFont {S} tests opened f P =
+    (tests ≡ Ok tt) × (file : List ℕ) × FontIsRead f file × (s : S) × (opened file ≡ Ok s) × P s
 
--- a call drew all lines by a font, or failed so
-abbrev pub FontLinesGive : {V : Type 0} → ℕ → Result Strike Refused → Result V LinesFault → Traffic → Type 0
-FontLinesGive margin made (Err (lines.Font f)) t = RefusedBefore made (font f) t
-FontLinesGive margin made (Err (lines.Job j)) t = RefusedBefore made (job j) t
-FontLinesGive {V} margin made (Err lines.Memory) t =
-    IfOk made (λ s. LinesGive {V = V} (line_drawn s margin) (Err lines.Memory) t) × ReaderServes t × WriterServes t
-FontLinesGive {V} margin made r t = (s : Strike) × (made ≡ Ok s) × LinesGive {V = V} (line_drawn s margin) r t
+-- no line was read, nothing was written, nothing was printed
+abbrev pub IsIdle : Traffic → Errors → Type 0
+IsIdle t e = ReadsNothing t × WritesNothing t × PrintsNothing e
+
+-- how lines are drawn by a strike
+abbrev pub draws_by : Setting → Strike → Draws
+draws_by a s = line_drawn s a.product a.missing a.margin
+
+-- a call stopped before it read a line, or drew the lines of a text by a font
+abbrev pub FontLinesGive : {V : Type 0} → Setting → Result V TextsFault → FontReader → Traffic → Errors → Type 0
+FontLinesGive a r f t e =
+    (StopsAtFont (setting_tested a) (strike_of a) r f × IsIdle t e)
+    ⊎ OpensFont (setting_tested a) (strike_of a) f (λ s. LinesGive (draws_by a s) r t e)

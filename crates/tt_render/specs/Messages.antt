@@ -33,13 +33,21 @@ abbrev pub unfitted_line_of : Unfitted → List ℕ
 unfitted_line_of u =
     codes "tt_render: glyph " ++ (decimal u.glyph ++ (codes " unfitted: " ++ fault_words u.fault))
 
+-- `U+<code point> has no glyph`
+abbrev pub missing_words : ℕ → List ℕ
+missing_words c = codes "U+" ++ (code_point c ++ codes " has no glyph")
+
 -- `tt_render: U+<code point> has no glyph`
 abbrev pub missing_line_of : ℕ → List ℕ
-missing_line_of c = codes "tt_render: U+" ++ (code_point c ++ codes " has no glyph")
+missing_line_of c = codes "tt_render: " ++ missing_words c
+
+-- `<number> <name>`
+abbrev pub job_words : JobFault → List ℕ
+job_words j = decimal (job_number j) ++ (codes " " ++ job_name j)
 
 -- `tt_render: <number> <name>`
 abbrev pub job_line : JobFault → List ℕ
-job_line j = codes "tt_render: " ++ (decimal (job_number j) ++ (codes " " ++ job_name j))
+job_line j = codes "tt_render: " ++ job_words j
 
 abbrev pub line_of : RunFault → List ℕ
 line_of (run.Font f) = font_line f

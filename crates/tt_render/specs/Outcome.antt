@@ -9,7 +9,7 @@ use Rattle.tt_render.specs.declared.fault.RunFault.{RunFault}
 use Rattle.tt_render.specs.declared.fault.RunFault.TheVariants as run
 
 -- what is made of a font, if it is not too large to be read
-abbrev pub of_font : (List ℕ → Result (List ℕ) Refused) → List ℕ → Result (List ℕ) Refused
+abbrev pub of_font : {X : Type 0} → (List ℕ → Result X Refused) → List ℕ → Result X Refused
 of_font made file = if nat_lt font_limit (length file) then Err large else made file
 
 -- what is to be written for a font file, or why nothing is: the job is tested first, then the file's size

@@ -1,6 +1,6 @@
 -- What reading a font to its end promises.
 use Rattle.std.specs.Prelude.{◌≡◌, ℕ, ◌<◌, ◌≤◌, Bool, true, false, List, length, Option, Result, Ok, Err, IfSome}
-use Rattle.std.specs.Io.KnownBytes.{Consumes, IsAtEnd}
+use Rattle.std.specs.Io.KnownBytes.{Consumes, IsAtEnd, Keeps}
 use Rattle.tt_core.specs.Limits.{font_limit}
 use Rattle.tt_render.specs.declared.fault.RunFault.{RunFault}
 use Rattle.tt_render.specs.declared.fault.RunFault.TheVariants as run
@@ -19,3 +19,28 @@ abbrev pub ReadsAll : {V : Type 0} → (V → List ℕ) → Result V RunFault �
 ReadsAll view (Ok v) before after failed =
     Consumes before after (view v) × IsAtEnd after × (length (view v) ≤ font_limit) × (failed ≡ false)
 ReadsAll view (Err e) before after failed = ReadFails e before after failed
+
+-- the reader of a font beside other devices, before a call and after it: the bytes that it will still give, None where no
+-- contract knows them, and whether it has failed
+pub record FontReader : Type 0 where
+  pub before : Option (List ℕ)
+  pub after : Option (List ℕ)
+  pub failed : Bool
+
+-- what the reader says of itself
+abbrev pub font_reader_of : {R : Type 0} → (R → Option (List ℕ)) → (R → Bool) → R → R → FontReader
+font_reader_of left has_failed before after =
+    record { before = left before; after = left after; failed = has_failed after }
+
+-- the reader was not asked; it gave some bytes, perhaps none; it failed after some bytes; it gave these, which were all
+abbrev pub FontIsUnread : FontReader → Type 0
+FontIsUnread f = Keeps f.before f.after × (f.failed ≡ false)
+
+abbrev pub FontIsBegun : FontReader → Type 0
+FontIsBegun f = Advances f.before f.after × (f.failed ≡ false)
+
+abbrev pub FontFails : FontReader → Type 0
+FontFails f = Advances f.before f.after × (f.failed ≡ true)
+
+abbrev pub FontIsRead : FontReader → List ℕ → Type 0
+FontIsRead f file = Consumes f.before f.after file × IsAtEnd f.after × (f.failed ≡ false)

@@ -1,13 +1,14 @@
 -- How the definitions see the values that the code works with.
+use Rattle.std.specs.Prelude.{None}
 use Rattle.tt_core.specs.declared.font_fault.FontFault.{FontFault}
 use Rattle.tt_core.specs.declared.font_fault.FontFault.TheVariants as font
 use Rattle.tt_strike.specs.declared.fault.DrawFault.{DrawFault}
 use Rattle.tt_strike.specs.declared.fault.DrawFault.TheVariants as draw
-use Rattle.tt_render.specs.declared.lines_fault.LineFault.TheVariants as line
-use Rattle.tt_render.specs.declared.lines_fault.LineStop.{LineStop}
-use Rattle.tt_render.specs.declared.lines_fault.LineStop.TheVariants as stop
-use Rattle.tt_render.specs.declared.lines_fault.LinesFault.{LinesFault}
-use Rattle.tt_render.specs.declared.lines_fault.LinesFault.TheVariants as lines
+use Rattle.tt_render.specs.declared.texts_fault.TextFault.TheVariants as text
+use Rattle.tt_render.specs.declared.texts_fault.TextStop.{TextStop}
+use Rattle.tt_render.specs.declared.texts_fault.TextStop.TheVariants as stop
+use Rattle.tt_render.specs.declared.texts_fault.TextsFault.{TextsFault}
+use Rattle.tt_render.specs.declared.texts_fault.TextsFault.TheVariants as texts
 use Rattle.tt_render.specs.declared.fault.RunFault.{RunFault}
 use Rattle.tt_render.specs.declared.fault.RunFault.TheVariants as run
 
@@ -21,14 +22,23 @@ run_fault_of_draw (draw.Font f) = run.Font f
 run_fault_of_draw (draw.Job j) = run.Job j
 run_fault_of_draw draw.Memory = run.Memory
 
--- what stopped the making of a picture stops its line
-abbrev pub line_stop_of_draw : DrawFault → LineStop
-line_stop_of_draw (draw.Font f) = stop.Refused (line.Font f)
-line_stop_of_draw (draw.Job j) = stop.Refused (line.Job j)
-line_stop_of_draw draw.Memory = stop.Memory
+-- what stopped the making of a picture stops its text
+abbrev pub text_stop_of_draw : DrawFault → TextStop
+text_stop_of_draw (draw.Font f) = stop.Refused (text.Font f)
+text_stop_of_draw (draw.Job j) = stop.Refused (text.Job j)
+text_stop_of_draw draw.Memory = stop.Memory
 
 -- what stopped the making of a strike stops the call
-abbrev pub lines_fault_of_draw : DrawFault → LinesFault
-lines_fault_of_draw (draw.Font f) = lines.Font f
-lines_fault_of_draw (draw.Job j) = lines.Job j
-lines_fault_of_draw draw.Memory = lines.Memory
+abbrev pub texts_fault_of_draw : DrawFault → TextsFault
+texts_fault_of_draw (draw.Font f) = texts.Font f
+texts_fault_of_draw (draw.Job j) = texts.Job j
+texts_fault_of_draw draw.Memory = texts.Memory
+
+-- what stopped the reading of a font stops the call
+abbrev pub texts_fault_of_run : RunFault → TextsFault
+texts_fault_of_run (run.Font f) = texts.Font f
+texts_fault_of_run (run.Job j) = texts.Job j
+texts_fault_of_run run.Read = texts.FontRead
+texts_fault_of_run run.FontLarge = texts.FontLarge
+texts_fault_of_run (run.Write sent) = texts.Write None sent
+texts_fault_of_run run.Memory = texts.Memory

@@ -1,79 +1,69 @@
 //! The lines of a text drawn one after the other, from a reader to a writer.
 
-ghost use Rattle.std.specs.Prelude.{◌≡◌, ◌+◌, ◌≤◌, false, length, Ok, Some, None, IfOk, IfSome};
-ghost use Rattle.tt_core.specs.Bits.{stride};
-ghost use Rattle.tt_core.specs.Limits.{font_limit};
+ghost use Rattle.std.specs.Prelude.{◌≡◌, false, length, Some, IfOk};
 ghost use Rattle.tt_core.specs.Outcomes.{GivesUnless};
-ghost use Rattle.tt_strike.specs.Pictures.{IsReady, picture_bytes};
 ghost use Rattle.tt_render.specs.LineReading.{IsReader, text_left};
-ghost use Rattle.tt_render.specs.Lines.{line_drawn};
-ghost use Rattle.tt_render.specs.LinesOutcome.{DrawsLine, IsNoRead, FailsByStop, FontLinesGive, IfDrawn, LinesGive, ReportsLine, line_report, strike_for, told, lines_fault_of};
+ghost use Rattle.tt_render.specs.LinesOutcome.{CanGoOut, DrawsLine, FailsByStop, FontLinesGive, IfReady, IsNoRead, LinesGive, TellsOf, answer_view, draws_by, told};
 ghost use Rattle.tt_render.specs.Outcome.{traffic_of};
+ghost use Rattle.tt_render.specs.Printing.{errors_of};
+ghost use Rattle.tt_render.specs.Reading.{font_reader_of};
 
-use crate::drawing::Drawn;
 use crate::lines::{LINE_LIMIT, LineReader, ReadFault};
-use crate::lines_fault::{LineFault, LineStop, LinesFault};
-use crate::writing::write_picture;
+use crate::printing::print_text;
+use crate::reading::read_font;
+use crate::setting::{Setting, test_setting};
+use crate::text_answers::{ReadyText, answer_text};
+use crate::texts_fault::{TextFault, TextStop, TextsFault, texts_fault};
+use crate::writing::write_output;
 use std::alloc::Global;
 use std::str;
 use tt_core::{JobFault, Sink, Source};
-use tt_fit::Fit;
 use tt_strike::{Face, Strike};
 
-/// How the lines of a text are drawn.
-#[derive(Clone, Copy)]
-pub struct LinesSetting {
-    /// Pixels per em, 1 to 300.
-    pub ppem: u32,
-    /// Pixels round each line, 0 to 64.
-    pub margin: u32,
-    pub fit: Fit,
-    /// How many bytes of glyphs are kept from line to line, at most.
-    pub most: usize,
-}
-
-/// The picture of a line, and memory for a row of it. Errors, the first of: TextLong, of more than 16,384 bytes;
-/// NotUtf8; those of `Strike::line`.
+/// The answer of the line of this number. Errors, the first of: TextLong, of more than 16,384 bytes; NotUtf8; those of
+/// a text.
 #[tactic(auto, unfolding(crate::specs::Lines::line_drawn))]
 fn draw_line(
     alloc: Global,
     strike: &mut Strike,
-    margin: u32,
+    face: &Face,
+    setting: &Setting,
+    number: u32,
     line: &[u8],
-) -> Result<Drawn, LineStop>
-    ensures exact { GivesUnless told (λ d. picture_bytes d.picture) result (line_drawn strike.old margin line.now) }
-    ensures valid { IfOk result (λ d. IsReady d.picture) }
-    ensures row { IfOk result (λ d. length d.row.items ≡ stride d.picture.frame.width) }
-    ensures report { IfOk result (λ d. line_report strike.old margin line.now ≡ Ok d.picture.unfitted) }
+) -> Result<ReadyText, TextStop>
+    requires face { strike.old.face ≡ face.now }
+    ensures exact { GivesUnless told answer_view result (draws_by setting.now strike.old line.now) }
+    ensures valid { IfOk result (λ r. CanGoOut r.output) }
+    ensures report { IfOk result (TellsOf (Some number)) }
     ensures serves { IsNoRead result }
     ensures same { strike.new ≡ strike.old }
 {
     if line.len() > LINE_LIMIT {
-        return Err(LineStop::Refused(LineFault::Job(JobFault::TextLong)));
+        return Err(TextStop::Refused(TextFault::Job(JobFault::TextLong)));
     }
     let Ok(text) = str::from_utf8(line) else {
-        return Err(LineStop::Refused(LineFault::NotUtf8));
+        return Err(TextStop::Refused(TextFault::NotUtf8));
     };
-    let picture = strike.line(text, margin)?;
-    let row = vec![in alloc; 0u8; picture.row_bytes()]?;
-    Ok(Drawn { picture, row })
+    answer_text(alloc, strike, face, setting, Some(number), text)
 }
 
-/// The picture of the next line, where there is one. Errors: those of a line; Read.
-fn next_picture<R: Source>(
+/// The answer of the next line, which has this number, where there is one. Errors: those of a line; Read.
+fn next_text<R: Source>(
     alloc: Global,
     reader: &mut LineReader,
     lines: &mut R,
     strike: &mut Strike,
-    margin: u32,
-) -> Result<Option<Drawn>, LineStop>
+    face: &Face,
+    setting: &Setting,
+    number: u32,
+) -> Result<Option<ReadyText>, TextStop>
     requires valid { IsReader reader.old }
     requires source { R.has_failed lines.old ≡ false }
+    requires face { strike.old.face ≡ face.now }
     ensures valid { IsReader reader.new }
-    ensures outcome { DrawsLine (line_drawn strike.old margin) result (text_left reader.old (R.left lines.old)) (text_left reader.new (R.left lines.new)) }
-    ensures ready { IfDrawn result (λ d. IsReady d.picture) }
-    ensures row { IfDrawn result (λ d. length d.row.items ≡ stride d.picture.frame.width) }
-    ensures report { ReportsLine (line_report strike.old margin) result (text_left reader.old (R.left lines.old)) (text_left reader.new (R.left lines.new)) }
+    ensures outcome { DrawsLine (draws_by setting.now strike.old) result (text_left reader.old (R.left lines.old)) (text_left reader.new (R.left lines.new)) }
+    ensures ready { IfReady result (λ r. CanGoOut r.output) }
+    ensures report { IfReady result (TellsOf (Some number)) }
     ensures failure { FailsByStop (R.has_failed lines.new) result }
     ensures same { strike.new ≡ strike.old }
 {
@@ -81,81 +71,82 @@ fn next_picture<R: Source>(
         Ok(Some(place)) => place,
         Ok(None) => return Ok(None),
         Err(ReadFault::Long) => {
-            return Err(LineStop::Refused(LineFault::Job(JobFault::TextLong)));
+            return Err(TextStop::Refused(TextFault::Job(JobFault::TextLong)));
         }
-        Err(ReadFault::Read) => return Err(LineStop::Read),
+        Err(ReadFault::Read) => return Err(TextStop::Read),
     };
-    let drawn = draw_line(alloc, strike, margin, reader.line(place))?;
-    Ok(Some(drawn))
+    let line = reader.line(place);
+    let ready = draw_line(alloc, strike, face, setting, number, line)?;
+    Ok(Some(ready))
 }
 
-/// What stopped the line of this number stops the call.
-fn lines_fault(number: u32, stop: LineStop) -> LinesFault
-    ensures { result ≡ lines_fault_of number stop }
-{
-    match stop {
-        LineStop::Refused(fault) => LinesFault::Line { number, fault },
-        LineStop::Read => LinesFault::Read,
-        LineStop::Memory => LinesFault::Memory,
-    }
-}
-
-/// Draws the lines of a text by a font file: as `draw_lines_by`, with a strike that is made once.
-///
-/// Errors, before a line is read: Font, of the tables that every text is looked up in; Job (SizeRange). Then those of
-/// `draw_lines_by`.
-#[tactic(auto, unfolding(crate::specs::LinesOutcome::strike_for))]
-pub fn draw_lines<R: Source, W: Sink>(
-    alloc: Global,
-    file: &[u8],
-    lines: &mut R,
-    out: &mut W,
-    setting: &LinesSetting,
-) -> Result<(), LinesFault>
-    requires size { length file.now ≤ font_limit }
-    requires lines { R.has_failed lines.old ≡ false }
-    requires out { W.has_failed out.old ≡ false }
-    ensures outcome { FontLinesGive setting.now.margin (strike_for setting.now file.now) result (traffic_of R.left R.has_failed W.written W.has_failed lines.old lines.new out.old out.new) }
-{
-    let face = Face::open(file)?;
-    let mut strike = Strike::new(alloc, &face, setting.ppem, setting.fit, setting.most)?;
-    draw_lines_by(alloc, &mut strike, setting.margin, lines, out)
-}
-
-/// Draws the lines of a text one after the other, by a font at a size, and writes their pictures, each as `run` would
-/// write it, as soon as it is made. A line ends before its line feed, and before a carriage return there; what comes
-/// after the last line feed is a line too, unless it is empty. Nothing of a line that is refused goes out, and the
-/// lines after it are not looked at.
-///
-/// Errors, the first of, line by line: Read; Line, with the line's number, from 1: TextLong, of more than 16,384 bytes;
-/// NotUtf8; those of `Strike::line`; Write. Many comes after 4,294,967,295 lines. Memory comes where a growth was
-/// refused.
-pub fn draw_lines_by<R: Source, W: Sink>(
+/// Draws the lines of a text by a font, as `draw_lines` says, with a strike of that font.
+fn draw_lines_by<R: Source, W: Sink, E: Sink>(
     alloc: Global,
     strike: &mut Strike,
-    margin: u32,
+    face: &Face,
     lines: &mut R,
     out: &mut W,
-) -> Result<(), LinesFault>
+    error: &mut E,
+    setting: &Setting,
+) -> Result<(), TextsFault>
+    requires face { strike.old.face ≡ face.now }
     requires lines { R.has_failed lines.old ≡ false }
     requires out { W.has_failed out.old ≡ false }
-    ensures outcome { LinesGive (line_drawn strike.old margin) result (traffic_of R.left R.has_failed W.written W.has_failed lines.old lines.new out.old out.new) }
-    ensures same { strike.new ≡ strike.old }
+    requires error { E.has_failed error.old ≡ false }
+    ensures outcome { LinesGive (draws_by setting.now strike.old) result (traffic_of R.left R.has_failed W.written W.has_failed lines.old lines.new out.old out.new) (errors_of E.written E.has_failed error.old error.new) }
 {
     let mut reader = LineReader::new(alloc)?;
     for before in 0..u32::MAX {
         let number = before + 1;
-        let mut drawn = match next_picture(alloc, &mut reader, lines, strike, margin) {
-            Ok(Some(drawn)) => drawn,
+        let next = next_text(alloc, &mut reader, lines, strike, face, setting, number);
+        let mut ready = match next {
+            Ok(Some(ready)) => ready,
             Ok(None) => return Ok(()),
-            Err(stop) => return Err(lines_fault(number, stop)),
+            Err(stop) => return Err(texts_fault(Some(number), stop)),
         };
-        if let Err(cut) = write_picture(out, &mut drawn) {
-            return Err(LinesFault::Write {
-                number,
+        if let Err(cut) = write_output(out, &mut ready.output) {
+            return Err(TextsFault::Write {
+                number: Some(number),
                 sent: cut.sent,
             });
         }
+        print_text(error, &ready.report);
     }
-    Err(LinesFault::Many)
+    Err(TextsFault::Many)
+}
+
+/// Draws the lines of a text one after the other by a font, and writes what is asked for of each, as `draw_text` would
+/// write it, as soon as it is made. A line ends before its line feed, and before a carriage return there; what comes
+/// after the last line feed is a line too, unless it is empty. Nothing of a line that is refused goes out, and the
+/// lines after it are not looked at. When that of a line is out, its report is printed on `error`: a line for each of
+/// its glyphs that is not fitted though its fitting was asked for, and then, where that is asked for, one for each
+/// character that has no glyph. Where `error` fails, the lines are drawn nevertheless.
+///
+/// Errors, the first of: Job (SizeRange, MarginRange), before the font is read; FontRead, FontLarge; Font, of the
+/// tables that every text is looked up in; then, line by line: Read; Text, with the line's number, from 1: TextLong, of
+/// more than 16,384 bytes; NotUtf8; those of `Strike::line`, `Strike::grown_line` or `Strike::measure`; Missing; and
+/// Write. Many comes after 4,294,967,295 lines. Memory comes where a growth was refused.
+#[tactic(auto, unfolding(crate::specs::Settings::strike_of))]
+pub fn draw_lines<F: Source, R: Source, W: Sink, E: Sink>(
+    alloc: Global,
+    font: &mut F,
+    lines: &mut R,
+    out: &mut W,
+    error: &mut E,
+    setting: &Setting,
+) -> Result<(), TextsFault>
+    requires font { F.has_failed font.old ≡ false }
+    requires lines { R.has_failed lines.old ≡ false }
+    requires out { W.has_failed out.old ≡ false }
+    requires error { E.has_failed error.old ≡ false }
+    // Either the call stopped before it read a line, and did nothing else; or the font was read to its end and opened,
+    // and what was read of the lines, written and printed is what the definition says of the lines by that font.
+    ensures outcome { FontLinesGive setting.now result (font_reader_of F.left F.has_failed font.old font.new) (traffic_of R.left R.has_failed W.written W.has_failed lines.old lines.new out.old out.new) (errors_of E.written E.has_failed error.old error.new) }
+{
+    test_setting(setting)?;
+    let file = read_font(alloc, font)?;
+    let face = Face::open(&file)?;
+    let mut strike = Strike::new(alloc, &face, setting.ppem, setting.fit, setting.most)?;
+    draw_lines_by(alloc, &mut strike, &face, lines, out, error, setting)
 }

@@ -1,11 +1,11 @@
 //! What the program says of a fault, of a glyph that is not fitted, and of a character that has no glyph.
 
 ghost use Rattle.std.specs.Prelude.{◌≡◌, string_bytes, IfOk};
-ghost use Rattle.tt_render.specs.Messages.{status_of, line_of, font_line, missing_line_of, unfitted_line_of};
+ghost use Rattle.tt_render.specs.Messages.{status_of, line_of, font_line, job_line, missing_line_of, unfitted_line_of};
 
 use crate::fault::RunFault;
 use std::alloc::{AllocError, Global};
-use tt_core::Fault;
+use tt_core::{Fault, JobFault};
 use tt_strike::Unfitted;
 
 /// The program's exit status.
@@ -27,11 +27,7 @@ pub fn line(alloc: Global, fault: &RunFault) -> Result<String, AllocError>
 {
     match fault {
         RunFault::Font(fault) => font_line(alloc, *fault),
-        RunFault::Job(job) => {
-            let number = job.number();
-            let name = job.name();
-            format!(in alloc; "tt_render: {number} {name}")
-        }
+        RunFault::Job(job) => job_line(alloc, *job),
         RunFault::Read => String::from_str(alloc, "tt_render: cannot read the font"),
         RunFault::FontLarge => {
             String::from_str(alloc, "tt_render: font larger than 67108864 bytes")
@@ -43,7 +39,8 @@ pub fn line(alloc: Global, fault: &RunFault) -> Result<String, AllocError>
     }
 }
 
-fn font_line(alloc: Global, fault: Fault) -> Result<String, AllocError>
+/// The line of a defect of the font.
+pub(crate) fn font_line(alloc: Global, fault: Fault) -> Result<String, AllocError>
     ensures { IfOk result (λ text. string_bytes text ≡ font_line fault) }
 {
     let table = fault.tag();
@@ -51,6 +48,15 @@ fn font_line(alloc: Global, fault: Fault) -> Result<String, AllocError>
     let number = fault.why.number();
     let name = fault.why.name();
     format!(in alloc; "tt_render: {table}+{offset}: {number} {name}")
+}
+
+/// The line of a job that is refused.
+pub(crate) fn job_line(alloc: Global, job: JobFault) -> Result<String, AllocError>
+    ensures { IfOk result (λ text. string_bytes text ≡ job_line job) }
+{
+    let number = job.number();
+    let name = job.name();
+    format!(in alloc; "tt_render: {number} {name}")
 }
 
 /// The program's line on standard error for a glyph that is not fitted, without the line feed.

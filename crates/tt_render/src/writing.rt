@@ -3,9 +3,11 @@
 ghost use Rattle.std.specs.Prelude.{◌≡◌, ◌+◌, ◌*◌, ◌^◌, ◌<◌, ◌≤◌, false, is_err, length, take, IfErr, OnOk};
 ghost use Rattle.std.specs.Io.KnownBytes.{Appends};
 ghost use Rattle.tt_core.specs.Bits.{stride};
+ghost use Rattle.tt_render.specs.LinesOutcome.{CanGoOut, bytes_in};
 ghost use Rattle.tt_strike.specs.Pictures.{IsReady, picture_bytes, row_at};
 
 use crate::drawing::Drawn;
+use crate::products::Output;
 use tt_core::Sink;
 use tt_pbm::{Cut, p4_header, write_all_of};
 use tt_strike::Picture;
@@ -70,4 +72,19 @@ fn write_row<W: Sink>(out: &mut W, picture: &mut Picture, row: &mut [u8]) -> Res
 {
     picture.next_row(row);
     write_all_of(out, row)
+}
+
+/// Writes what goes out for a text: a picture as `write_picture` does, lines of text by one call. It takes no memory.
+pub(crate) fn write_output<W: Sink>(out: &mut W, output: &mut Output) -> Result<(), Cut>
+    requires out { W.has_failed out.old ≡ false }
+    requires ready { CanGoOut output.old }
+    ensures all { OnOk result (Appends (W.written out.old) (W.written out.new) (bytes_in output.old)) }
+    ensures part { IfErr result (λ cut. Appends (W.written out.old) (W.written out.new) (take cut.sent (bytes_in output.old))) }
+    ensures within { IfErr result (λ cut. cut.sent < length (bytes_in output.old)) }
+    ensures failure { W.has_failed out.new ≡ is_err result }
+{
+    match output {
+        Output::Picture(drawn) => write_picture(out, drawn),
+        Output::Text(text, _) => write_all_of(out, text.as_bytes()),
+    }
 }

@@ -32,13 +32,12 @@ mod telling;
 
 use self::parts::{Program, Rules, parts_in, program_in};
 use self::telling::print_run;
-use crate::lines::Answers;
-use crate::words::Words;
 use anyhow::{Result, bail};
 use std::alloc::Global;
 use std::io::Write;
 use std::mem::swap;
 use tt_exec::{Code, Functions, Machine, Parts};
+use tt_test_words::{Answers, Words};
 
 /// What answers them: it keeps the font program.
 #[derive(Drop)]

@@ -6,29 +6,23 @@
 //!     tt_test_answers outlines FONT SIZE FIT pixels GLYPH WIDTH HEIGHT MARGIN RISE
 //!     tt_test_answers pixels
 //!     tt_test_answers machine
-//!     tt_test_answers fonts
 //!
-//! FIT is `full`, `none`, `fallback` or `best`. `pixels`, of edges and pixels, `machine`, of runs of the bytecode
-//! machine, and `fonts`, of all that the program does, read their questions from standard input. The module of each word
-//! says what its lines hold. A glyph for which memory was refused is told on standard error, and asked for again.
+//! FIT is `full`, `none`, `fallback` or `best`. `pixels`, of edges and pixels, and `machine`, of runs of the bytecode
+//! machine, read their questions from standard input. The module of each word says what its lines hold. A glyph for which memory was refused is told on standard error, and asked for again.
 #![tactic(auto)]
 
-mod fonts;
+mod asking;
 mod glyphs;
-mod lines;
 mod machine;
 mod outlines;
 mod pixels;
 mod tables;
-mod words;
 
-use crate::fonts::Fonts;
-use crate::lines::{Answers, take_all};
 use crate::machine::Runs;
 use crate::pixels::Pixels;
-use crate::words::Words;
 use anyhow::{Result, bail};
 use std::{env, fs};
+use tt_test_words::{Answers, Words, take_all};
 
 fn main(rt: HostRuntime) -> Result<()> {
     let all: Vec<String> = env::args(&rt)?.collect(rt.alloc())?;
@@ -46,7 +40,6 @@ fn main(rt: HostRuntime) -> Result<()> {
         }
         "pixels" => answer(&rt, &mut words, Pixels),
         "machine" => answer(&rt, &mut words, Runs::new(rt.alloc())),
-        "fonts" => answer(&rt, &mut words, Fonts::new(rt.alloc())),
         _ => bail!("no such table"),
     }
 }

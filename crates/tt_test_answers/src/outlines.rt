@@ -9,9 +9,9 @@ ghost use Rattle.std.specs.Prelude.{◌≡◌, ◌<◌, length, All, IfOk};
 ghost use Rattle.tt_fit.specs.Outline.{AreEnds, IsPoint};
 ghost use Rattle.tt_scan.specs.Winding.{FrameFits};
 
+use crate::asking::{fit_in, frame_in};
 use crate::pixels::print_pixels;
 use crate::tables::{Refusal, defect_of, failed, programs_of, tables_of, tell};
-use crate::words::Words;
 use anyhow::{Result, bail};
 use std::alloc::AllocError;
 use std::io::{self, BufWriter, Write};
@@ -19,6 +19,7 @@ use tt_arc::chords;
 use tt_core::{COORDINATE_LIMIT, FontFault, SIZE_LIMIT};
 use tt_fit::{Fit, Fitter, Outline, Programs};
 use tt_scan::{Frame, Tape};
+use tt_test_words::Words;
 
 const SIZE: i64 = SIZE_LIMIT as i64;
 
@@ -35,7 +36,7 @@ pub(crate) fn print_table<R: Print + Eprint + AllocGlobal>(
     words: &mut Words,
 ) -> Result<()> {
     let size = words.number(1, SIZE)? as u32;
-    let fit = words.fit()?;
+    let fit = fit_in(words)?;
     let (metrics, glyphs) = tables_of(font)?;
     let programs = match fit {
         Fit::Full | Fit::Fallback | Fit::Best => programs_of(font)?,
@@ -66,7 +67,7 @@ fn print_glyphs<R: Print + Eprint + AllocGlobal>(
         }
         "pixels" => {
             let g = glyph_in(words.word()?, glyphs)?;
-            let frame = words.frame()?;
+            let frame = frame_in(words)?;
             words.end()?;
             print_picture(rt, &mut out, fitter, g, frame)?;
         }

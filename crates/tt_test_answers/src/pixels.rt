@@ -12,11 +12,11 @@
 ghost use Rattle.std.specs.Prelude.{◌≡◌, IfOk};
 ghost use Rattle.tt_scan.specs.Winding.{EdgeFits, FrameFits};
 
-use crate::lines::Answers;
-use crate::words::{MOST, Words};
+use crate::asking::frame_in;
 use anyhow::{Result, bail};
 use std::io::Write;
 use tt_scan::{Edge, Frame, Tape};
+use tt_test_words::{Answers, MOST, Words};
 
 /// More crossings than are asked for.
 const MOST_CROSSES: u64 = 1 << 40;
@@ -31,7 +31,7 @@ pub(crate) struct Pixels;
 impl Answers for Pixels {
     fn take<W: Write>(&mut self, rt: &HostRuntime, out: &mut W, words: &mut Words) -> Result<()> {
         let what = words.word()?;
-        let frame = words.frame()?;
+        let frame = frame_in(words)?;
         let mut tape = tape_in(rt, words, frame)?;
         words.end()?;
         match what {

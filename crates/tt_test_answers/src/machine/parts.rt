@@ -6,13 +6,13 @@ ghost use Rattle.tt_core.specs.Limits.{coordinate_limit, size_limit};
 ghost use Rattle.tt_core.specs.Scales.{IsScale};
 ghost use Rattle.tt_points_zones.specs.Zones.{AreContours, IsPoint, IsZones, zones_view};
 
-use crate::words::{MOST, Words};
 use anyhow::{Result, bail};
 use std::alloc::Global;
 use tt_core::{COORDINATE_LIMIT, Halves, SIZE_LIMIT, Scale};
 use tt_exec::{Code, Functions, Parts};
 use tt_points_zones::{Originals, Zones};
 use tt_state::{GraphicsState, Point, Tolerance};
+use tt_test_words::{MOST, Words};
 
 const SIZE: i64 = SIZE_LIMIT as i64;
 

@@ -1,21 +1,30 @@
-use Rattle.std.proofs.Common.{◌≡◌, ◌∙◌, arith, ap, refl}
+use Rattle.std.proofs.Common.{◌≡◌, ◌∙◌, ◌+◌, Some, arith, ap, refl}
 use Rattle.std.proofs.lemmas.Result.{err_from_is_err_and}
-use Rattle.tt_strike.specs.Pictures.{picture_bytes}
 use Rattle.tt_strike.specs.Strikes.{Strike}
 use Rattle.tt_render.specs.LineReading.{held, text_left}
-use Rattle.tt_render.specs.Lines.{line_drawn, lines_limit}
+use Rattle.tt_render.specs.Lines.{lines_limit}
+use Rattle.tt_render.specs.LinesOutcome.{answer_view, draws_by}
 use Rattle.tt_render.specs.Outcome.{traffic_of}
-use Rattle.tt_render.proofs.DrawnLines.{all_drawn, cut_sent, keeps_itself, many_sent, none_so_far, one_more, reader_at_end, some_sent, stopped, whole_text}
+use Rattle.tt_render.specs.Printing.{PrintsBehind, errors_of}
+use Rattle.tt_render.specs.Reports.{told_of}
+use Rattle.tt_render.proofs.DrawnLines.{all_drawn, cut_sent, many_sent, none_so_far, one_more, reader_at_end, some_sent, stopped, whole_text}
+use Rattle.tt_render.proofs.Printed.{keeps_itself}
 use Rattle.tt_render.proofs.line_drawing.draw_lines_by.Goals as goal
 
-pub returns-in_err-reader-clause-outcome : goal.returns-in_err-reader-clause-outcome
-returns-in_err-reader-clause-outcome g c =
-    let draw = line_drawn c.args.strike.now c.args.margin in
+pub returns-in_err-reader : goal.returns-in_err-reader
+returns-in_err-reader g c =
+    let draw = draws_by c.args.setting.now c.args.strike.now in
     let left = g.R.Source.left c.args.lines.now in
     let out = g.W.Sink.written c.args.out.now in
+    let error = g.E.Sink.written c.args.error.now in
+    let failed = g.E.Sink.has_failed c.args.error.now in
     let p = err_from_is_err_and c.from_residual.result c.from_residual.ensures.1 in
-    let sends = some_sent draw left left out out 0 (none_so_far draw left left out (keeps_itself left)) in
-    rw (p.1, p.2) (sends, c.requires.lines, c.requires.out)
+    let t = traffic_of g.R.Source.left g.R.Source.has_failed g.W.Sink.written g.W.Sink.has_failed c.args.lines.now
+    c.args.lines.now c.args.out.now c.args.out.now in
+    let e = errors_of g.E.Sink.written g.E.Sink.has_failed c.args.error.now c.args.error.now in
+    let sends = some_sent draw left t e 0
+    (none_so_far draw left left out error failed (keeps_itself left) c.requires.error) in
+    rw (p.1, p.2) (record { outcome = (sends, c.requires.lines, c.requires.out) })
 
 pub loop-before-init : goal.loop-before-init
 loop-before-init g c =
@@ -26,79 +35,98 @@ loop-before-init g c =
       strike = refl;
       reads = c.requires.lines;
       writes = c.requires.out;
-      so_far = none_so_far (line_drawn c.args.strike.now c.args.margin) left (text_left reader.reader left)
-          (g.W.Sink.written c.args.out.now) (whole_text (held reader.reader) left reader.ensures.empty);
+      so_far = none_so_far (draws_by c.args.setting.now c.args.strike.now) left (text_left reader.reader left)
+          (g.W.Sink.written c.args.out.now) (g.E.Sink.written c.args.error.now)
+          (g.E.Sink.has_failed c.args.error.now) (whole_text (held reader.reader) left reader.ensures.empty)
+          c.requires.error;
     }
 
-pub returns-in-Ok-None-clause-outcome : goal.returns-in-Ok-None-clause-outcome
-returns-in-Ok-None-clause-outcome g c =
+pub returns-in-Ok-None : goal.returns-in-Ok-None
+returns-in-Ok-None g c =
     let so_far = c.loop-before.invariant in
-    let draw = line_drawn c.args.strike.now c.args.margin in
+    let draw = draws_by c.args.setting.now c.args.strike.now in
     let left = g.R.Source.left in
-    let written = g.W.Sink.written in
+    let t = traffic_of left g.R.Source.has_failed g.W.Sink.written g.W.Sink.has_failed c.args.lines.now
+    c.next_text-next.new.lines c.args.out.now c.loop-before.out in
+    let e = errors_of g.E.Sink.written g.E.Sink.has_failed c.args.error.now c.loop-before.error in
     let none = rw c.in-Ok-None.field-0-is at c.in-Ok-None.ensures.outcome in
     let reads = c.in-Ok-None.ensures.failure in
-    let sends = all_drawn draw (left c.args.lines.now) (text_left c.loop-before.reader (left c.loop-before.lines))
-    (written c.args.out.now) (written c.loop-before.out) c.loop-before.before so_far.so_far none.0 in
-    let end = reader_at_end (held c.next_picture.new.reader) (left c.next_picture.new.lines) none.1 in
-    (sends, (end, reads), so_far.writes)
+    let sends = all_drawn draw (text_left c.loop-before.reader (left c.loop-before.lines)) t e c.loop-before.before
+    so_far.so_far none.0 in
+    let end = reader_at_end (held c.next_text-next.new.reader) (left c.next_text-next.new.lines) none.1 in
+    record { outcome = (sends, (end, reads), so_far.writes) }
 
-pub returns-in-Err-clause-outcome : goal.returns-in-Err-clause-outcome
-returns-in-Err-clause-outcome g c =
+pub returns-in-Err : goal.returns-in-Err
+returns-in-Err g c =
     let so_far = c.loop-before.invariant in
-    let draw = line_drawn c.args.strike.now c.args.margin in
+    let a = c.args.setting.now in
     let left = g.R.Source.left in
-    let written = g.W.Sink.written in
-    let t = traffic_of left g.R.Source.has_failed written g.W.Sink.has_failed c.args.lines.now c.next_picture.new.lines
-    c.args.out.now c.loop-before.out in
-    let same = ap (λ (s : Strike). line_drawn s c.args.margin) so_far.strike in
-    rw c.lines_fault.ensures (stopped draw (line_drawn c.loop-before.strike c.args.margin) c.in-Err.stop
+    let t = traffic_of left g.R.Source.has_failed g.W.Sink.written g.W.Sink.has_failed c.args.lines.now
+    c.next_text-next.new.lines c.args.out.now c.loop-before.out in
+    let e = errors_of g.E.Sink.written g.E.Sink.has_failed c.args.error.now c.loop-before.error in
+    let same = ap (λ (s : Strike). draws_by a s) so_far.strike in
+    let fails = stopped (draws_by a c.args.strike.now) (draws_by a c.loop-before.strike) c.in-Err.stop
     (text_left c.loop-before.reader (left c.loop-before.lines))
-    (text_left c.next_picture.new.reader (left c.next_picture.new.lines)) t c.loop-before.before same so_far.so_far
-    c.in-Err.ensures.outcome c.in-Err.ensures.failure so_far.writes)
+    (text_left c.next_text-next.new.reader (left c.next_text-next.new.lines)) t e c.loop-before.before same
+    so_far.so_far c.in-Err.ensures.outcome c.in-Err.ensures.failure so_far.writes in
+    record { outcome = rw c.texts_fault.ensures fails }
 
-pub returns-in-Err-write_picture-clause-outcome : goal.returns-in-Err-write_picture-clause-outcome
-returns-in-Err-write_picture-clause-outcome g c =
+pub returns-in-Err-write_output : goal.returns-in-Err-write_output
+returns-in-Err-write_output g c =
     let so_far = c.loop-before.invariant in
-    let draw = line_drawn c.args.strike.now c.args.margin in
+    let draw = draws_by c.args.setting.now c.args.strike.now in
     let left = g.R.Source.left in
     let written = g.W.Sink.written in
     let next = rw (c.in-Ok-Some.field-0-is, so_far.strike) at c.in-Ok-Some.ensures.outcome in
     let reads = c.in-Ok-Some.ensures.failure in
-    let cut = c.in-Err-write_picture in
-    let sends = cut_sent draw (left c.args.lines.now) (text_left c.loop-before.reader (left c.loop-before.lines))
-    (text_left c.next_picture.new.reader (left c.next_picture.new.lines)) (written c.args.out.now)
-    (written c.loop-before.out) (written c.write_picture.new.out) c.loop-before.before cut.cut.sent next.0
-    (picture_bytes c.in-Ok-Some.drawn.picture) so_far.so_far next.1 next.2 cut.ensures.within cut.ensures.part in
-    (sends, reads, cut.ensures.failure)
+    let cut = c.in-Err-write_output in
+    let t = traffic_of left g.R.Source.has_failed written g.W.Sink.has_failed c.args.lines.now
+    c.next_text-next.new.lines c.args.out.now c.write_output.new.out in
+    let e = errors_of g.E.Sink.written g.E.Sink.has_failed c.args.error.now c.loop-before.error in
+    let sends = cut_sent draw (text_left c.loop-before.reader (left c.loop-before.lines))
+    (text_left c.next_text-next.new.reader (left c.next_text-next.new.lines)) (written c.loop-before.out) t e
+    c.loop-before.before cut.cut.sent next.0 (answer_view c.in-Ok-Some.ready) so_far.so_far next.1 next.2
+    cut.ensures.within cut.ensures.part in
+    record { outcome = (sends, reads, cut.ensures.failure) }
 
 pub loop-before-preserved : goal.loop-before-preserved
 loop-before-preserved g c =
     let so_far = c.loop-before.invariant in
-    let draw = line_drawn c.args.strike.now c.args.margin in
+    let draw = draws_by c.args.setting.now c.args.strike.now in
     let left = g.R.Source.left in
     let written = g.W.Sink.written in
+    let told = g.E.Sink.written in
+    let failed = g.E.Sink.has_failed in
     let drawn = c.in-Ok-Some.ensures in
     let next = rw (c.in-Ok-Some.field-0-is, so_far.strike) at drawn.outcome in
+    let printed : PrintsBehind (failed c.loop-before.error)
+    (errors_of told failed c.loop-before.error c.print_text.new.error)
+    (told_of (Some (c.loop-before.before + 1)) (answer_view c.in-Ok-Some.ready)) =
+    let report = rw c.in-Ok-Some.field-0-is at drawn.report in
+    rw (c.deref.ensures, report) at c.print_text.ensures in
     record {
       valid = drawn.valid;
       strike = drawn.same ∙ so_far.strike;
       reads = drawn.failure;
       writes = c.in_default.ensures.failure;
       so_far = one_more draw (left c.args.lines.now) (text_left c.loop-before.reader (left c.loop-before.lines))
-          (text_left c.next_picture.new.reader (left c.next_picture.new.lines)) (written c.args.out.now)
-          (written c.loop-before.out) (written c.write_picture.new.out) c.loop-before.before next.0
-          (picture_bytes c.in-Ok-Some.drawn.picture) so_far.so_far next.1 next.2 c.in_default.ensures.all;
+          (text_left c.next_text-next.new.reader (left c.next_text-next.new.lines)) (written c.args.out.now)
+          (written c.loop-before.out) (written c.write_output.new.out) (told c.args.error.now)
+          (told c.loop-before.error) (told c.print_text.new.error) (failed c.loop-before.error)
+          (failed c.print_text.new.error) c.loop-before.before next.0 (answer_view c.in-Ok-Some.ready) so_far.so_far
+          next.1 next.2 c.in_default.ensures.all printed;
     }
 
-pub returns-clause-outcome : goal.returns-clause-outcome
-returns-clause-outcome g c =
+pub returns : goal.returns
+returns g c =
     let so_far = c.loop-before.invariant in
-    let draw = line_drawn c.args.strike.now c.args.margin in
+    let draw = draws_by c.args.setting.now c.args.strike.now in
     let left = g.R.Source.left in
-    let written = g.W.Sink.written in
     let all : c.loop-before.before ≡ lines_limit =
     omega (arith, c.loop-before.auto.before-end, c.loop-before-test.false) in
-    let sends = many_sent draw (left c.args.lines.now) (text_left c.loop-before.reader (left c.loop-before.lines))
-    (written c.args.out.now) (written c.loop-before.out) c.loop-before.before lines_limit all so_far.so_far in
-    (sends, so_far.reads, so_far.writes)
+    let t = traffic_of left g.R.Source.has_failed g.W.Sink.written g.W.Sink.has_failed c.args.lines.now
+    c.loop-before.lines c.args.out.now c.loop-before.out in
+    let e = errors_of g.E.Sink.written g.E.Sink.has_failed c.args.error.now c.loop-before.error in
+    let sends = many_sent draw (text_left c.loop-before.reader (left c.loop-before.lines)) t e c.loop-before.before
+    lines_limit all so_far.so_far in
+    record { outcome = (sends, so_far.reads, so_far.writes) }

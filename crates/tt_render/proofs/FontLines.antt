@@ -1,0 +1,75 @@
+-- Where a call stops before it reads a line, and the font that lines are drawn by.
+use Rattle.std.proofs.Common.{◌≡◌, ℕ, ◌≤◌, Bool, false, nat_lt, List, length, Option, Result, Ok, Err, IfSome, refl, arith}
+use Rattle.std.proofs.lemmas.Bool.Decides.{nat_tests}
+use Rattle.tt_core.specs.declared.fault.JobFault.{JobFault}
+use Rattle.tt_core.specs.Faults.{Fault}
+use Rattle.tt_core.specs.Limits.{font_limit}
+use Rattle.tt_core.specs.Outcomes.{◌>>=◌}
+use Rattle.tt_strike.specs.declared.fault.DrawFault.{DrawFault}
+use Rattle.tt_strike.specs.declared.fault.DrawFault.TheVariants as draw
+use Rattle.tt_strike.specs.Job.{size_tested}
+use Rattle.tt_strike.specs.Refusals.{Refused, as_job, font, refusal}
+use Rattle.tt_strike.specs.Tables.{Face, face_of}
+use Rattle.tt_render.specs.declared.fault.RunFault.{RunFault}
+use Rattle.tt_render.specs.declared.fault.RunFault.TheVariants as run
+use Rattle.tt_render.specs.declared.setting.Setting.{Setting}
+use Rattle.tt_render.specs.LinesOutcome.{IsIdle, StopsAtFont}
+use Rattle.tt_render.specs.Reading.{FontIsRead, FontReader, ReadFails}
+use Rattle.tt_render.specs.Settings.{setting_tested, strike_by, strike_of}
+use Rattle.tt_render.specs.Views.{texts_fault_of_draw, texts_fault_of_run}
+use Rattle.tt_render.proofs.Printed.{keeps_itself}
+
+-- devices that were not asked
+pub idle : (left out error : Option (List ℕ)) (read write failed : Bool) → read ≡ false → write ≡ false
+    → failed ≡ false → IsIdle
+    (record { left_before = left; left_after = left; read_failed = read; out_before = out; out_after = out; write_failed = write })
+    (record { before = error; after = error; failed = failed })
+idle left out error read write failed reads writes prints =
+    ((keeps_itself left, reads), (keeps_itself out, writes), (keeps_itself error, prints))
+
+-- the font was not read to its end
+pub reading_stops : {S : Type 0} (tests : Result (Unit {0}) JobFault) (opened : List ℕ → Result S Refused)
+    (fault : RunFault) (before after : Option (List ℕ)) (failed : Bool) → tests ≡ Ok tt
+    → ReadFails fault before after failed
+    → StopsAtFont {V = Unit {0}} tests opened (Err (texts_fault_of_run fault))
+    (record { before = before; after = after; failed = failed })
+reading_stops tests opened (run.Font f) before after failed passes fails = absurd fails
+reading_stops tests opened (run.Job j) before after failed passes fails = absurd fails
+reading_stops tests opened run.Read before after failed passes fails = (passes, fails)
+reading_stops tests opened run.FontLarge before after failed passes fails =
+    (passes, fails.0, (fails.1, fails.2))
+reading_stops tests opened (run.Write sent) before after failed passes fails = absurd fails
+reading_stops tests opened run.Memory before after failed passes fails = (passes, fails)
+
+-- the tables of a font that is not too large
+pub font_opened : (a : Setting) (file : List ℕ) (face : Face) → length file ≤ font_limit → face_of file ≡ Ok face
+    → strike_of a file ≡ Ok (strike_by a face)
+unfolding strike_of
+font_opened a file face small there =
+    let fits : nat_lt font_limit (length file) ≡ false = grind (arith, nat_tests) in
+    rw (fits, there) refl
+
+pub font_refused : (a : Setting) (file : List ℕ) (f : Fault) → length file ≤ font_limit → face_of file ≡ Err f
+    → strike_of a file ≡ Err (font f)
+unfolding strike_of
+font_refused a file f small there =
+    let fits : nat_lt font_limit (length file) ≡ false = grind (arith, nat_tests) in
+    rw (fits, there) refl
+
+-- a size that passed its test is not what a strike is refused for
+pub size_passes : (r : Result (Unit {0}) JobFault) (rest : Unit {0} → Result (Unit {0}) JobFault) (why : Refused)
+    → (r >>= rest) ≡ Ok tt → as_job r ≡ Err why → ⊥
+size_passes (Ok u) rest why passes refused = absurd cc
+size_passes (Err j) rest why passes refused = absurd cc
+
+-- so it is memory that the strike was refused for
+pub strike_stops : {S : Type 0} (a : Setting) (opened : List ℕ → Result S Refused) (fault : DrawFault) (f : FontReader)
+    (file : List ℕ) → setting_tested a ≡ Ok tt → FontIsRead f file
+    → IfSome (refusal fault) (λ why. as_job (size_tested a.ppem) ≡ Err why)
+    → StopsAtFont {V = Unit {0}} (setting_tested a) opened (Err (texts_fault_of_draw fault)) f
+unfolding setting_tested
+strike_stops a opened (draw.Font fault) f file passes read refused =
+    absurd (size_passes (size_tested a.ppem) _ _ passes refused)
+strike_stops a opened (draw.Job j) f file passes read refused =
+    absurd (size_passes (size_tested a.ppem) _ _ passes refused)
+strike_stops a opened draw.Memory f file passes read refused = (passes, ((file, read.0), read.2))

@@ -1,0 +1,24 @@
+use Rattle.std.proofs.Common.{◌≡◌, refl, Result, Ok, Err, []}
+use Rattle.std.proofs.lemmas.Str.{chars-nil}
+use Rattle.tt_core.specs.declared.fault.JobFault.{JobFault}
+use Rattle.tt_core.specs.Outcomes.{◌>>=◌}
+use Rattle.tt_strike.specs.Job.{Job, margin_tested, size_tested, tested, text_tested}
+use Rattle.tt_render.specs.Settings.{setting_tested}
+use Rattle.tt_render.proofs.setting.test_setting.Goals as goal
+
+-- a test that passes adds nothing behind others
+passes_behind : (r : Result (Unit {0}) JobFault) → (r >>= λ u. Ok tt) ≡ r
+passes_behind (Ok u) = refl
+passes_behind (Err j) = refl
+
+-- a text of no characters passes its test
+same_tests : (a : Job) → a.text ≡ []
+    → tested a ≡ (size_tested a.ppem >>= λ u. margin_tested a.margin)
+unfolding tested text_tested
+same_tests a none = rw (none, chars-nil, passes_behind (margin_tested a.margin)) refl
+
+pub returns : goal.returns
+unfolding setting_tested
+returns c =
+    let a = c.args.setting.now in
+    rw (← same_tests (record { text = []; ppem = a.ppem; margin = a.margin; fit = a.fit }) refl) c.test_job.ensures.exact

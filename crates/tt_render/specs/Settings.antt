@@ -1,0 +1,42 @@
+-- No part of the standard: the tests of a setting before the font is read, and what texts are drawn by (profile).
+use Rattle.std.specs.Prelude.{◌≡◌, refl, ℕ, List, Result, Ok, Err}
+use Rattle.tt_core.specs.declared.fault.JobFault.{JobFault}
+use Rattle.tt_core.specs.declared.fault.JobFault.TheVariants as fault
+use Rattle.tt_core.specs.Outcomes.{◌>>=◌}
+use Rattle.tt_fit.specs.declared.programs.Fit.TheVariants as fit
+use Rattle.tt_strike.specs.Job.{margin_tested, size_tested}
+use Rattle.tt_strike.specs.Refusals.{Refused, as_font}
+use Rattle.tt_strike.specs.Strikes.{Strike}
+use Rattle.tt_strike.specs.Tables.{Face, face_of}
+use Rattle.tt_render.specs.declared.setting.Missing.TheVariants as how
+use Rattle.tt_render.specs.declared.setting.Product.TheVariants as product
+use Rattle.tt_render.specs.declared.setting.Setting.{Setting}
+use Rattle.tt_render.specs.Outcome.{of_font}
+
+-- the limits of a setting, in the order in which they are tested
+unfoldable pub setting_tested : Setting → Result (Unit {0}) JobFault
+setting_tested a = size_tested a.ppem >>= λ u. margin_tested a.margin
+
+-- what texts are drawn by, of a font's tables
+abbrev pub strike_by : Setting → Face → Strike
+strike_by a face = record { face = face; ppem = a.ppem; fit = a.fit; most = a.most }
+
+-- the same of a font's file, if it is not too large, or the first fault of the tables that every text is looked up in
+unfoldable pub strike_of : Setting → List ℕ → Result Strike Refused
+strike_of a file = of_font (λ font. as_font (face_of font) >>= λ face. Ok (strike_by a face)) file
+
+-- worked values
+sized : ℕ → ℕ → Setting
+sized ppem margin = record { ppem = ppem; margin = margin; fit = fit.None; missing = how.Draw; product = product.Picture; most = 0 }
+
+size_before_margin : setting_tested (sized 301 65) ≡ Err fault.SizeRange
+unfolding sized setting_tested size_tested
+size_before_margin = refl
+
+margin_alone : setting_tested (sized 300 65) ≡ Err fault.MarginRange
+unfolding sized setting_tested size_tested margin_tested
+margin_alone = refl
+
+within_both : setting_tested (sized 300 64) ≡ Ok tt
+unfolding sized setting_tested size_tested margin_tested
+within_both = refl

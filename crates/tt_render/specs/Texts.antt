@@ -1,0 +1,90 @@
+-- No part of the standard: what a text answers, by a font at a size (profile).
+use Rattle.std.specs.Prelude.{◌≡◌, refl, ℕ, List, [], ◌∷◌, chars, codes, Result, Ok, Err}
+use Rattle.tt_cmap.specs.Lacking.{lacking_of}
+use Rattle.tt_cmap.specs.Lookup.{Cmap, by_segments}
+use Rattle.tt_core.specs.Outcomes.{◌>>=◌}
+use Rattle.tt_strike.specs.declared.report.Unfitted.{Unfitted}
+use Rattle.tt_strike.specs.Grown.{grown_measured, grown_outcome}
+use Rattle.tt_strike.specs.Measures.{measured}
+use Rattle.tt_strike.specs.Picture.{line_outcome}
+use Rattle.tt_strike.specs.Refusals.{Refused}
+use Rattle.tt_strike.specs.Report.{report_by}
+use Rattle.tt_strike.specs.Strikes.{Strike, job_of}
+use Rattle.tt_render.specs.declared.setting.Missing.{Missing}
+use Rattle.tt_render.specs.declared.setting.Missing.TheVariants as how
+use Rattle.tt_render.specs.declared.setting.Product.{Product}
+use Rattle.tt_render.specs.declared.setting.Product.TheVariants as product
+use Rattle.tt_render.specs.MeasureText.{measure_text}
+
+-- why a text is not drawn: it is refused; it is no text; the font has no glyph for this character
+pub data TextRefusal : Type 0 where
+  refused : Refused → TextRefusal
+  not_utf8 : TextRefusal
+  missing : ℕ → TextRefusal
+
+abbrev pub as_text : {X : Type 0} → Result X Refused → Result X TextRefusal
+as_text (Ok x) = Ok x
+as_text (Err why) = Err (refused why)
+
+-- what a text answers: the bytes that go out for it; and what is told of it, the glyphs that are not fitted and the
+-- characters that have no glyph
+pub record TextAnswer : Type 0 where
+  pub bytes : List ℕ
+  pub unfitted : List Unfitted
+  pub lacking : List ℕ
+
+-- no character is missing, or the first that is refuses the text
+abbrev pub none_missing : List ℕ → Result (List ℕ) TextRefusal
+none_missing [] = Ok []
+none_missing (c ∷ cs) = Err (missing c)
+
+-- which of the characters that have no glyph are told
+abbrev pub missing_among : Missing → List ℕ → Result (List ℕ) TextRefusal
+missing_among how.Draw cs = Ok []
+missing_among how.Tell cs = Ok cs
+missing_among how.Refuse cs = none_missing cs
+
+-- the same of a text
+unfoldable pub missing_tested : Cmap → Missing → List ℕ → Result (List ℕ) TextRefusal
+missing_tested m asked text = missing_among asked (lacking_of m (chars text))
+
+-- the answer of a text by its parts, or the first refusal: what goes out for it, its glyphs that are not fitted, and its
+-- characters that have no glyph
+abbrev pub answer_of : Result (List ℕ) Refused → Result (List Unfitted) Refused → Result (List ℕ) TextRefusal
+    → Result TextAnswer TextRefusal
+answer_of product report lacking =
+    as_text product >>= λ bytes.
+    as_text report >>= λ unfitted.
+    lacking >>= λ cs.
+    Ok (record { bytes = bytes; unfitted = unfitted; lacking = cs })
+
+-- what goes out for a text that is drawn by a strike, with a margin
+unfoldable pub product_of : Strike → Product → ℕ → List ℕ → Result (List ℕ) Refused
+product_of s product.Picture margin text = line_outcome s.face (job_of s text margin)
+product_of s product.Grown margin text = grown_outcome s.face (job_of s text margin)
+product_of s product.Measure margin text =
+    measured s.face (job_of s text margin) >>= λ m. Ok (measure_text s.face.metrics (chars text) m)
+product_of s product.GrownMeasure margin text =
+    grown_measured s.face (job_of s text margin) >>= λ m. Ok (measure_text s.face.metrics (chars text) m)
+
+-- the answer of such a text
+unfoldable pub text_answer : Strike → Product → Missing → ℕ → List ℕ → Result TextAnswer TextRefusal
+text_answer s wanted asked margin text =
+    answer_of (product_of s wanted margin text) (report_by s.face (job_of s text margin))
+    (missing_tested s.face.cmap asked text)
+
+-- worked values: A and B have glyphs, C and @ have none
+told_in_their_order : missing_among how.Tell (lacking_of (by_segments 3) (codes "CA@BC")) ≡ Ok (codes "C@")
+unfolding lacking_of
+told_in_their_order = refl
+
+refused_for_the_first : missing_among how.Refuse (lacking_of (by_segments 3) (codes "ACB@")) ≡ Err (missing 67)
+unfolding lacking_of
+refused_for_the_first = refl
+
+none_to_refuse : missing_among how.Refuse (lacking_of (by_segments 3) (codes "AB")) ≡ Ok []
+unfolding lacking_of
+none_to_refuse = refl
+
+not_asked_for : missing_among how.Draw (lacking_of (by_segments 3) (codes "C")) ≡ Ok []
+not_asked_for = refl

@@ -1,0 +1,81 @@
+//! What a text answers: what goes out for it, and what is told of it.
+
+ghost use Rattle.std.specs.Prelude.{◌≡◌, IfOk};
+ghost use Rattle.tt_core.specs.Outcomes.{GivesUnless, IfTold};
+ghost use Rattle.tt_line.specs.Layout.{text_glyphs};
+ghost use Rattle.tt_render.specs.LinesOutcome.{CanGoOut, IsNoRead, TellsOf, answer_view, told};
+ghost use Rattle.tt_render.specs.TextOutcome.{stop_font_fault};
+ghost use Rattle.tt_render.specs.Texts.{missing_tested, text_answer};
+ghost use Rattle.tt_strike.specs.Defects.{IsLineDefect, TellsDefects};
+ghost use Rattle.tt_strike.specs.Strikes.{job_of};
+
+use crate::products::{Output, make_output};
+use crate::setting::{Missing, Setting};
+use crate::texts_fault::{TextFault, TextStop};
+use crate::texts_messages::report_text;
+use std::alloc::Global;
+use tt_cmap::{Cmap, lacking};
+use tt_strike::{Face, Strike};
+
+/// The answer of a text, ready to go out; the characters that are told as without a glyph; and its report as it is
+/// printed.
+#[derive(Drop)]
+pub(crate) struct ReadyText {
+    pub(crate) output: Output,
+    pub(crate) lacking: Vec<char>,
+    pub(crate) report: String,
+}
+
+/// Which of the characters of a text that have no glyph are told. Error: Missing, the first, where none may be.
+#[tactic(auto, unfolding(crate::specs::Texts::missing_tested))]
+fn missing_of(
+    alloc: Global,
+    cmap: &Cmap,
+    missing: Missing,
+    text: &str,
+) -> Result<Vec<char>, TextStop>
+    ensures exact { GivesUnless told (λ v. v.items) result (missing_tested cmap.now missing text.now) }
+    ensures font { IfTold stop_font_fault result (λ _. ⊥) }
+    ensures serves { IsNoRead result }
+{
+    match missing {
+        Missing::Draw => Ok(Vec::new(alloc)),
+        Missing::Tell => Ok(lacking(alloc, cmap, text)?),
+        Missing::Refuse => {
+            let lacking = lacking(alloc, cmap, text)?;
+            match lacking.first() {
+                Some(c) => Err(TextStop::Refused(TextFault::Missing(*c))),
+                None => Ok(lacking),
+            }
+        }
+    }
+}
+
+/// The answer of a text by a strike of a font, of this number where it is a line. Errors, the first of: those of
+/// `make_output`; Missing.
+#[tactic(auto, unfolding(crate::specs::Texts::text_answer))]
+pub(crate) fn answer_text(
+    alloc: Global,
+    strike: &mut Strike,
+    face: &Face,
+    setting: &Setting,
+    number: Option<u32>,
+    text: &str,
+) -> Result<ReadyText, TextStop>
+    requires face { strike.old.face ≡ face.now }
+    ensures exact { GivesUnless told answer_view result (text_answer strike.old setting.now.product setting.now.missing setting.now.margin text.now) }
+    ensures valid { IfOk result (λ r. CanGoOut r.output) }
+    ensures report { IfOk result (TellsOf number) }
+    ensures serves { IsNoRead result }
+    ensures defects { TellsDefects stop_font_fault (IsLineDefect strike.old.face (job_of strike.old text.now setting.now.margin) (text_glyphs strike.old.face.cmap text.now)) result }
+    ensures same { strike.new ≡ strike.old }
+{
+    let output = make_output(alloc, strike, face, setting, text)?;
+    let lacking = missing_of(alloc, face.cmap(), setting.missing, text)?;
+    let report = report_text(alloc, number, output.unfitted(), &lacking)?;
+    Ok(ReadyText {
+        output,
+        lacking,
+        report,
+    })
+}

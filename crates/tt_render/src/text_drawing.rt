@@ -1,0 +1,91 @@
+//! One text drawn, from a reader to a writer.
+
+ghost use Rattle.std.specs.Prelude.{◌≡◌, ◌≤◌, false, length, Ok, None, IfOk};
+ghost use Rattle.tt_core.specs.Limits.{font_limit};
+ghost use Rattle.tt_render.specs.LinesOutcome.{CanGoOut, TellsOf};
+ghost use Rattle.tt_render.specs.Outcome.{traffic_of};
+ghost use Rattle.tt_render.specs.Printing.{errors_of};
+ghost use Rattle.tt_render.specs.Settings.{strike_of};
+ghost use Rattle.tt_render.specs.TextOutcome.{FontTextGives, ReadiesText, TextTellsDefects, TextTellsDefectsOf, job_by, text_by};
+ghost use Rattle.tt_strike.specs.Defects.{IsRunDefect};
+ghost use Rattle.tt_strike.specs.Job.{tested};
+
+use crate::printing::print_text;
+use crate::reading::read_font;
+use crate::setting::Setting;
+use crate::text_answers::{ReadyText, answer_text};
+use crate::texts_fault::{TextsFault, texts_fault};
+use crate::writing::write_output;
+use std::alloc::Global;
+use tt_core::{Sink, Source};
+use tt_strike::{Face, Job, Strike, test_job};
+
+/// The answer of the one text by a font file. Errors, the first of: Font, of the tables that every text is looked up
+/// in; Text. Memory comes where a growth was refused.
+fn ready_text(
+    alloc: Global,
+    file: &[u8],
+    text: &str,
+    setting: &Setting,
+) -> Result<ReadyText, TextsFault>
+    requires size { length file.now ≤ font_limit }
+    requires tested { tested (job_by setting.now text.now) ≡ Ok tt }
+    ensures outcome { ReadiesText (text_by setting.now text.now) (strike_of setting.now file.now) result }
+    ensures defects { TextTellsDefects (IsRunDefect (job_by setting.now text.now) file.now) result }
+    ensures valid { IfOk result (λ r. CanGoOut r.output) }
+    ensures report { IfOk result (TellsOf None) }
+{
+    let face = Face::open(file)?;
+    // There is no other line to keep glyphs for.
+    let mut strike = Strike::new(alloc, &face, setting.ppem, setting.fit, 0)?;
+    match answer_text(alloc, &mut strike, &face, setting, None, text) {
+        Ok(ready) => Ok(ready),
+        Err(stop) => Err(texts_fault(None, stop)),
+    }
+}
+
+/// Draws one text by a font, and writes what is asked for: its picture, as `run` would write it; the same so much
+/// larger that no ink is cut; or where the picture, its ink and each character stand. When that is out, its report is
+/// printed on `error`: a line for each of its glyphs that is not fitted though its fitting was asked for, and then,
+/// where that is asked for, one for each character that has no glyph. Where `error` fails, the call answers as if it
+/// had not.
+///
+/// Errors, the first of: Job (SizeRange, MarginRange, and TextLong, of more than 4,096 characters), before the font is
+/// read; FontRead, FontLarge; Font, of the tables that every text is looked up in; Text, with no number: those of
+/// `Strike::line`, `Strike::grown_line` or `Strike::measure`; Missing; and Write, with no number. Memory comes where a
+/// growth was refused, and then nothing was written.
+pub fn draw_text<R: Source, W: Sink, E: Sink>(
+    alloc: Global,
+    font: &mut R,
+    out: &mut W,
+    error: &mut E,
+    text: &str,
+    setting: &Setting,
+) -> Result<(), TextsFault>
+    requires font { R.has_failed font.old ≡ false }
+    requires out { W.has_failed out.old ≡ false }
+    requires error { E.has_failed error.old ≡ false }
+    // Either the call stopped before the text was drawn, and did nothing else; or the font was read to its end and
+    // opened, and what was written and printed is what the definition says of the text by that font.
+    ensures outcome { FontTextGives setting.now text.now result (traffic_of R.left R.has_failed W.written W.has_failed font.old font.new out.old out.new) (errors_of E.written E.has_failed error.old error.new) }
+    ensures defects { TextTellsDefectsOf (R.left font.old) (IsRunDefect (job_by setting.now text.now)) result }
+{
+    test_job(&Job {
+        text,
+        ppem: setting.ppem,
+        margin: setting.margin,
+        fit: setting.fit,
+    })?;
+    let file = read_font(alloc, font)?;
+    let mut ready = ready_text(alloc, &file, text, setting)?;
+    match write_output(out, &mut ready.output) {
+        Ok(()) => {
+            print_text(error, &ready.report);
+            Ok(())
+        }
+        Err(cut) => Err(TextsFault::Write {
+            number: None,
+            sent: cut.sent,
+        }),
+    }
+}

@@ -1,0 +1,168 @@
+//! What the program says of texts that are drawn: of what stops a call, and of a picture that went out.
+
+ghost use Rattle.std.specs.Prelude.{◌≡◌, ◌++◌, flat_map, length, string_bytes, IfOk, IsOk, OnOk};
+ghost use Rattle.tt_render.specs.Reports.{head_of, lacking_told, report_text_of, unfitted_told};
+ghost use Rattle.tt_render.specs.TextsMessages.{cut_line_of, text_line_of, text_status_of, texts_line_of, texts_status_of};
+
+use crate::messages::{font_line, job_line};
+use crate::texts_fault::{TextFault, TextsFault};
+use std::alloc::{AllocError, Global};
+use tt_strike::Unfitted;
+
+/// The program's exit status where `draw_text` or `draw_lines` ends so.
+pub fn texts_status(fault: &TextsFault) -> u8
+    ensures { result ≡ texts_status_of fault.now }
+{
+    match fault {
+        TextsFault::Font(_) => 1,
+        TextsFault::Job(_) | TextsFault::Many => 2,
+        TextsFault::FontRead | TextsFault::FontLarge | TextsFault::Read => 3,
+        TextsFault::Text { fault, .. } => text_status(fault),
+        TextsFault::Write { .. } => 4,
+        TextsFault::Memory => 5,
+    }
+}
+
+fn text_status(fault: &TextFault) -> u8
+    ensures { result ≡ text_status_of fault.now }
+{
+    match fault {
+        TextFault::Font(_) => 1,
+        TextFault::Job(_) | TextFault::NotUtf8 | TextFault::Missing(_) => 2,
+    }
+}
+
+/// The program's line on standard error where `draw_text` or `draw_lines` ends so, without the line feed.
+pub fn texts_line(alloc: Global, fault: &TextsFault) -> Result<String, AllocError>
+    ensures { IfOk result (λ text. string_bytes text ≡ texts_line_of fault.now) }
+{
+    match fault {
+        TextsFault::Font(fault) => font_line(alloc, *fault),
+        TextsFault::Job(job) => job_line(alloc, *job),
+        TextsFault::FontRead => String::from_str(alloc, "tt_render: cannot read the font"),
+        TextsFault::FontLarge => {
+            String::from_str(alloc, "tt_render: font larger than 67108864 bytes")
+        }
+        TextsFault::Text { number, fault } => text_line(alloc, *number, fault),
+        TextsFault::Read => String::from_str(alloc, "tt_render: cannot read the lines"),
+        TextsFault::Write { number, sent } => cut_line(alloc, *number, *sent),
+        TextsFault::Many => String::from_str(alloc, "tt_render: more than 4294967295 lines"),
+        TextsFault::Memory => String::from_str(alloc, "tt_render: out of memory"),
+    }
+}
+
+/// The line of a text that is not drawn.
+fn text_line(alloc: Global, number: Option<u32>, fault: &TextFault) -> Result<String, AllocError>
+    ensures { IfOk result (λ text. string_bytes text ≡ text_line_of number fault.now) }
+{
+    let head = head(alloc, number)?;
+    match fault {
+        TextFault::Font(fault) => {
+            let table = fault.tag();
+            let offset = fault.offset;
+            let code = fault.why.number();
+            let name = fault.why.name();
+            format!(in alloc; "{head}{table}+{offset}: {code} {name}")
+        }
+        TextFault::Job(job) => {
+            let code = job.number();
+            let name = job.name();
+            format!(in alloc; "{head}{code} {name}")
+        }
+        TextFault::NotUtf8 => format!(in alloc; "{head}not UTF-8"),
+        TextFault::Missing(c) => {
+            let code = *c as u32;
+            format!(in alloc; "{head}U+{code:04X} has no glyph")
+        }
+    }
+}
+
+/// The line of a picture that could not be written.
+fn cut_line(alloc: Global, number: Option<u32>, sent: u64) -> Result<String, AllocError>
+    ensures { IfOk result (λ text. string_bytes text ≡ cut_line_of number sent) }
+{
+    let head = head(alloc, number)?;
+    format!(in alloc; "{head}cannot write after {sent} bytes")
+}
+
+/// How a line begins that speaks of the one text, or of the line of this number.
+fn head(alloc: Global, number: Option<u32>) -> Result<String, AllocError>
+    ensures { IfOk result (λ text. string_bytes text ≡ head_of number) }
+{
+    match number {
+        None => String::from_str(alloc, "tt_render: "),
+        Some(number) => format!(in alloc; "tt_render: line {number}: "),
+    }
+}
+
+/// The report of a text that was drawn, of this number where it is a line: a line, with its line feed, for each glyph
+/// that is not fitted, and then one for each character that has no glyph. It takes no memory where there is nothing to
+/// tell.
+#[tactic(auto, unfolding(crate::specs::Reports::report_text_of))]
+pub(crate) fn report_text(
+    alloc: Global,
+    number: Option<u32>,
+    unfitted: &[Unfitted],
+    lacking: &[char],
+) -> Result<String, AllocError>
+    ensures exact { IfOk result (λ text. string_bytes text ≡ report_text_of number unfitted.now lacking.now) }
+    ensures memory { length unfitted.now ≡ 0 → length lacking.now ≡ 0 → IsOk result }
+{
+    let mut text = String::new(alloc);
+    push_unfitted(alloc, &mut text, number, unfitted)?;
+    push_lacking(alloc, &mut text, number, lacking)?;
+    Ok(text)
+}
+
+/// Puts a line for each glyph that is not fitted after a text.
+fn push_unfitted(
+    alloc: Global,
+    text: &mut String,
+    number: Option<u32>,
+    unfitted: &[Unfitted],
+) -> Result<(), AllocError>
+    ensures exact { OnOk result (string_bytes text.new ≡ string_bytes text.old ++ flat_map (unfitted_told number) unfitted.now) }
+    ensures memory { length unfitted.now ≡ 0 → IsOk result }
+{
+    for entry in unfitted {
+        text.push_str(&glyph_line(alloc, number, entry)?)?;
+    }
+    Ok(())
+}
+
+/// Puts a line for each character that has no glyph after a text.
+fn push_lacking(
+    alloc: Global,
+    text: &mut String,
+    number: Option<u32>,
+    lacking: &[char],
+) -> Result<(), AllocError>
+    ensures exact { OnOk result (string_bytes text.new ≡ string_bytes text.old ++ flat_map (lacking_told number) lacking.now) }
+    ensures memory { length lacking.now ≡ 0 → IsOk result }
+{
+    for c in lacking {
+        text.push_str(&character_line(alloc, number, *c)?)?;
+    }
+    Ok(())
+}
+
+fn glyph_line(alloc: Global, number: Option<u32>, unfitted: &Unfitted) -> Result<String, AllocError>
+    ensures { IfOk result (λ text. string_bytes text ≡ unfitted_told number unfitted.now) }
+{
+    let head = head(alloc, number)?;
+    let glyph = unfitted.glyph;
+    let fault = unfitted.fault;
+    let table = fault.tag();
+    let offset = fault.offset;
+    let code = fault.why.number();
+    let name = fault.why.name();
+    format!(in alloc; "{head}glyph {glyph} unfitted: {table}+{offset}: {code} {name}\n")
+}
+
+fn character_line(alloc: Global, number: Option<u32>, c: char) -> Result<String, AllocError>
+    ensures { IfOk result (λ text. string_bytes text ≡ lacking_told number c) }
+{
+    let head = head(alloc, number)?;
+    let code = c as u32;
+    format!(in alloc; "{head}U+{code:04X} has no glyph\n")
+}
