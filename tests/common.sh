@@ -39,7 +39,12 @@ test_program() {
 
 # Leaves the one that prints what the libraries say, or that of TT_ANSWERS=PATH, as $program.
 answers_program() {
-  test_program tt_test_answers "${TT_ANSWERS:-}" fonts
+  test_program tt_test_answers "${TT_ANSWERS:-}" machine
+}
+
+# Leaves the one that does what tt_render does, over memory, or that of TT_FONTS=PATH, as $program.
+fonts_program() {
+  test_program tt_test_fonts "${TT_FONTS:-}"
 }
 
 # Leaves the one that prints dropouts, or that of TT_DROPOUTS=PATH, as $program.
@@ -58,9 +63,10 @@ render_program() {
   fi
 }
 
-# A script that asks a program for tests says `asks=answers` or `asks=dropouts` before it sources this file.
+# A script that asks a program for tests says `asks=answers`, `asks=fonts` or `asks=dropouts` before it sources this file.
 case ${asks:-render} in
   answers) answers_program ;;
+  fonts) fonts_program ;;
   dropouts) dropouts_program ;;
   *) render_program ;;
 esac

@@ -5,7 +5,7 @@ import sys
 from pathlib import Path
 
 sys.path.insert(0, str(Path(__file__).resolve().parent.parent / "damaged"))
-from asking import NOTHING, asked, font_in_file, report, rows, sum_of, words_of, words_of_program
+from asking import NOTHING, answer_of, asked, font_in_file, report, rows, sum_of, words_of, words_of_program
 
 # More than any reader or writer moves here.
 ALL = 1 << 40
@@ -62,6 +62,38 @@ def cases():
             yield f"{row.name}, {row.kind}, devices {devices}", [*lines, f"devices {devices}", row.question()], want
 
 
+def told(row, count):
+    """Returns what is told of a row's text, drawn as so many lines."""
+    return b"".join(row.stderr.replace(b"tt_render: ", b"tt_render: line %d: " % (n + 1)) for n in range(count))
+
+
+def lines_question(row, fails_at, lines):
+    """Returns the question of some lines, of whose reads one fails."""
+    size, margin = row.shape
+    return f"lines {words_of(lines)} {fails_at} draw {size} {margin} {row.kind} {len(row.font)}"
+
+
+def line_cases():
+    """Yields cases of two lines, each a row's text: each read of them fails in turn, and a writer takes each number of
+    bytes below the answer's."""
+    drawn = [row for row in whole_rows() if row.kind != "map" and row.status == 0 and row.text and len(row.stdout) < 100]
+    for row in (row for row in drawn[::7] if b"\n" not in row.text and not row.text.endswith(b"\r")):
+        line, both = row.text + b"\n", 2 * row.stdout
+        font = [f"font {words_of(row.font)}"]
+        for number in range(1, 2 * len(line) + 2):
+            count = (number - 1) // len(line)
+            want = answer_of(3, count * row.stdout, told(row, count) + b"tt_render: cannot read the lines\n")
+            asks = [*font, f"devices 1 0 {ALL} {ALL} fails", lines_question(row, number, 2 * line)]
+            yield f"{row.name}, {row.kind}, read {number} of the lines fails", asks, want
+        for room in range(len(both)):
+            count, sent = divmod(room, len(row.stdout))
+            last = b"tt_render: line %d: cannot write after %d bytes\n" % (count + 1, sent)
+            asks = [*font, f"devices {ALL} 0 1 {room} fails", lines_question(row, 0, 2 * line)]
+            yield f"{row.name}, {row.kind}, lines in room for {room}", asks, answer_of(4, both[:room], told(row, count) + last)
+        asks = [*font, f"devices 1 0 1 {len(both)} fails", lines_question(row, 0, 2 * line)]
+        yield f"{row.name}, {row.kind}, two lines", asks, answer_of(0, both, told(row, 2))
+
+
 def writes_of(row):
     """Returns what tt_render hands over in each of its writes, by a socket that keeps them apart."""
     ours, theirs = socket.socketpair(socket.AF_UNIX, socket.SOCK_SEQPACKET)
@@ -94,7 +126,7 @@ def is_by_rows(row):
 
 def main():
     names, lines, wanted = [], [], []
-    for name, ask, want in cases():
+    for name, ask, want in (*cases(), *line_cases()):
         names.append(name)
         lines += ask
         wanted.append(want)
