@@ -16,8 +16,8 @@ use tt_exec_stack::{Arithmetic, Logic, Managing};
 use tt_exec_state::{Query, Setting, StoredValues, Vectors};
 use tt_points::Keeping;
 use tt_points::measuring::Position;
-use tt_points::several::deltas::DeltaRange;
-use tt_points::several::shifting::ReferencePoint;
+use tt_points_loops::deltas::DeltaRange;
+use tt_points_loops::shifting::ReferencePoint;
 use tt_state::{Axis, Round};
 
 /// An opcode that has the bit of this value.

@@ -19,7 +19,7 @@ use Rattle.tt_points_loops.specs.Flipping as flipping
 use Rattle.tt_points_loops.specs.Moving as moving
 use Rattle.tt_points_loops.specs.Series.{one_by_one}
 use Rattle.tt_points_loops.specs.Shapes as on_many
-use Rattle.tt_points_loops.specs.Shapes.{whatever, through, same}
+use Rattle.tt_points_zones.specs.Shapes.{whatever, through, same}
 use Rattle.tt_points_loops.specs.Shifting as shifting
 use Rattle.tt_points_zones.specs.Points.{has_point}
 use Rattle.tt_points_zones.specs.Zones.{ZoneLists, AreContours, SameShape, KeepsShape, KeepsShapeBefore}

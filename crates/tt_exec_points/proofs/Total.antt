@@ -22,7 +22,8 @@ use Rattle.tt_points_iup.specs.Interpolation.{along_in, iup, contours, limited, 
 use Rattle.tt_points_loops.specs.declared.deltas.DeltaRange.{DeltaRange}
 use Rattle.tt_points_loops.specs.declared.shifting.ReferencePoint.{ReferencePoint}
 use Rattle.tt_points_loops.specs.Deltas.{delta_of}
-use Rattle.tt_points_loops.specs.Total.{SeveralTotal, either, enough_of_either, passing}
+use Rattle.tt_points_loops.specs.Total.{SeveralTotal, passing}
+use Rattle.tt_points_zones.specs.Total.{either, enough_of_either}
 use Rattle.tt_points_loops.specs.Deltas as deltas
 use Rattle.tt_points_loops.specs.Flipping as flipping
 use Rattle.tt_points_loops.specs.Moving as moving
@@ -33,7 +34,7 @@ use Rattle.tt_exec_stack.specs.Stack.{is_value, pushed, top}
 use Rattle.tt_exec_stack.proofs.Takes.{pushed_total}
 use Rattle.tt_exec_state.specs.StoredValues.{place}
 use Rattle.tt_exec_points.specs.ControlValues.{value_of, change_by, change_pair, changes, popped, deltac}
-use Rattle.tt_exec_points.specs.Instruction.{control_value, mirp_value, has_reference, with_values, with_points, on_points}
+use Rattle.tt_exec_points.specs.Instruction.{control_value, mirp_value, has_reference, with_values, with_points}
 use Rattle.tt_exec_points.specs.Instruction as is
 use Rattle.tt_exec_points.specs.Laws.{PointsAreTotal}
 use Rattle.tt_exec_points.specs.Popping.{Left, after, after_move, nothing_looped, looped, pairs_counted, pairs_there, taken_in_pairs, counted}

@@ -15,18 +15,17 @@ use Rattle.tt_points_loops.specs.Deltas as deltas
 use Rattle.tt_points_loops.specs.Flipping as flipping
 use Rattle.tt_points_loops.specs.Moving as moving
 use Rattle.tt_points_loops.specs.Shifting as shifting
-use Rattle.tt_points_loops.specs.WithAll.{SeveralStay, StaysBeside}
-use Rattle.tt_points_loops.specs.WithAll as zones
+use Rattle.tt_points_loops.specs.WithAll.{SeveralStay}
 use Rattle.tt_points_loops.specs.declared.deltas.DeltaRange.{DeltaRange}
 use Rattle.tt_points_loops.specs.declared.shifting.ReferencePoint.{ReferencePoint}
 use Rattle.tt_points_loops.specs.declared.shifting.ReferencePoint.TheVariants as by
-use Rattle.tt_points_zones.specs.WithAll.{with_all, Stays, StaysSame, same, chained, passed_over}
+use Rattle.tt_points_zones.specs.WithAll.{with_all, Stays, StaysBeside, StaysSame, same, chained, passed_over}
 use Rattle.tt_points_zones.specs.WithAll as given
 use Rattle.tt_points_zones.specs.Points.{has_point}
 use Rattle.tt_points_zones.specs.Zones.{ZoneLists}
 use Rattle.tt_exec_stack.specs.Stack.{pushed}
 use Rattle.tt_exec_points.specs.ControlValues.{deltac}
-use Rattle.tt_exec_points.specs.Instruction.{after_setting, has_reference, with_values, with_points, on_points}
+use Rattle.tt_exec_points.specs.Instruction.{after_setting, has_reference, with_values, with_points}
 use Rattle.tt_exec_points.specs.Instruction as is
 use Rattle.tt_exec_points.specs.Popping.{Left, after, after_move, taken, too_little, looped, counted}
 use Rattle.tt_exec_points.specs.WithAll.{beside, PointsStay}
@@ -48,7 +47,7 @@ StaysThird r with = Stays third r with
 
 changed : (s : List ℤ) (r with : Result (ZoneLists × GraphicsState) Why) → StaysBeside r with
     → StaysThird (after s r) (after s with)
-changed s r with stays = chained zones.beside third r with _ _ stays (λ t. refl)
+changed s r with stays = chained given.beside third r with _ _ stays (λ t. refl)
 
 moved : (s : List ℤ) (g : GraphicsState) (r with : Result ZoneLists Why) → StaysSame r with
     → StaysThird (after_move s g r) (after_move s (with_all g) with)
@@ -98,7 +97,7 @@ miap : Single → (t : Tolerance) (round : Bool) (cvt s : List ℤ) (z : ZoneLis
     → StaysThird (is.miap t round cvt s z g) (is.miap t round cvt s z (with_all g))
 miap k t round cvt (n ∷ p ∷ s) z g =
     passed t s z _ _ _ (changed s (is.miap_by round p (is.control_value n cvt) z g) _
-    (given.after zones.beside (is.control_value n cvt) _ _ (λ c. (k z g).miap round p c)))
+    (given.after given.beside (is.control_value n cvt) _ _ (λ c. (k z g).miap round p c)))
 miap k t round cvt (n ∷ []) z g = λ other. refl
 miap k t round cvt [] z g = λ other. refl
 
@@ -106,7 +105,7 @@ mirp : Single → (t : Tolerance) (keeping : Keeping) (cvt s : List ℤ) (z : Zo
     → StaysThird (is.mirp t keeping cvt s z g) (is.mirp t keeping cvt s z (with_all g))
 mirp k t keeping cvt (n ∷ p ∷ s) z g =
     passed t s z _ _ _ (changed s (is.mirp_by keeping p (is.mirp_value t n cvt) z g) _
-    (given.after zones.beside (is.mirp_value t n cvt) _ _ (λ c. (k z g).mirp keeping p c)))
+    (given.after given.beside (is.mirp_value t n cvt) _ _ (λ c. (k z g).mirp keeping p c)))
 mirp k t keeping cvt (n ∷ []) z g = λ other. refl
 mirp k t keeping cvt [] z g = λ other. refl
 

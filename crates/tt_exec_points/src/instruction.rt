@@ -1,5 +1,6 @@
 //! The instructions on points, and those that change control values by exceptions, with the interpreter's stack. What
-//! each does to its points stands in the crate tt_points and below it, by the same name. A tolerant machine takes the
+//! each does to its points stands in the crates tt_points, tt_points_loops and
+//! tt_points_iup, by the same name. A tolerant machine takes the
 //! values of an instruction that asks for what is not there, and does nothing else; but MIAP, MDRP and MIRP set the
 //! reference points all the same, and GC and MD measure 0 (profile). Apple TrueType Reference Manual, "Instruction set".
 
@@ -14,11 +15,12 @@ use crate::points::Points;
 use tt_core::Why;
 use tt_exec_stack::Stack;
 use tt_exec_state::Size;
+use tt_points::Keeping;
 use tt_points::control_values::{miap, mirp};
 use tt_points::lines::{Ends, alignpts, isect, sdpvtl, sfvtl, spvtl};
 use tt_points::measuring::{Position, gc, md, scfs, utp};
 use tt_points::moving::{mdap, mdrp, msirp, refer};
-use tt_points::{Keeping, iup};
+use tt_points_iup::iup;
 use tt_points_loops::deltas::{DeltaRange, deltap};
 use tt_points_loops::flipping::{flippt, fliprgoff, fliprgon};
 use tt_points_loops::moving::{alignrp, ip, shpix};

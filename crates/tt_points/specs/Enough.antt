@@ -11,7 +11,7 @@ use Rattle.tt_state.specs.declared.graphics_state.Zone.{Zone}
 use Rattle.tt_state.specs.declared.graphics_state.Zone.TheVariants as zone
 use Rattle.tt_state.specs.declared.point.Point.{Point}
 use Rattle.tt_state.specs.declared.vector.Vector.{Vector}
-use Rattle.tt_points_loops.specs.Total.{enough_of, enough_of_either, point_enough, pushed_total, moved_total, direction_total}
+use Rattle.tt_points_zones.specs.Total.{enough_of, enough_of_either, point_enough, pushed_total, moved_total, direction_total}
 use Rattle.tt_points_zones.specs.Meeting.{met, meeting, limited}
 use Rattle.tt_points_zones.specs.Motions.{direction, cur, current_distance, original_distance, put_further, marked, steps, moved}
 use Rattle.tt_points_zones.specs.Originals.{distance_by, scale_between}

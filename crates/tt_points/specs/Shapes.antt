@@ -10,7 +10,7 @@ use Rattle.tt_points_zones.specs.Points.{point_in, with_point}
 use Rattle.tt_points_zones.specs.Meeting.{met}
 use Rattle.tt_points_zones.specs.Motions.{cur, current_distance, original_distance, direction, marked, moved}
 use Rattle.tt_points_zones.specs.Originals.{distance_by, scale_between}
-use Rattle.tt_points_loops.specs.Shapes.{whatever, through, same, joined, put_one, put}
+use Rattle.tt_points_zones.specs.Shapes.{whatever, through, same, joined, put_one, put}
 use Rattle.tt_points_zones.specs.Zones.{ZoneLists, SameShape, KeepsShape, KeepsShapeBefore}
 use Rattle.tt_points_zones.specs.declared.motion.Motion.{Motion}
 use Rattle.tt_points.specs.declared.distances.Keeping.{Keeping}

@@ -2,7 +2,7 @@
 -- gives with it too.
 use Rattle.std.proofs.Common.{ℤ, Bool, refl}
 use Rattle.tt_state.specs.declared.graphics_state.GraphicsState.{GraphicsState}
-use Rattle.tt_points_loops.specs.WithAll.{beside, StaysBeside, by_vectors}
+use Rattle.tt_points_zones.specs.WithAll.{beside, StaysBeside, by_vectors}
 use Rattle.tt_points_zones.specs.Motions.{direction, cur, moved}
 use Rattle.tt_points_zones.specs.Points.{point_in}
 use Rattle.tt_points_zones.specs.WithAll.{with_all, Stays, StaysSame, same, chained, after, directed}

@@ -1,7 +1,7 @@
-//! The points that TrueType programs move. The crates below hold the zones, the instructions on several points
-//! (`several`) and the interpolation of untouched points. The instructions on one point stand here, above them all: those
-//! that keep a distance, set a coordinate or measure share the rules of distances and of the twilight zone, which no
-//! instruction on several points knows. Those on lines through points stand beside them.
+//! The instructions on one point, and on lines through points. Those that keep a distance, set a coordinate or measure
+//! share the rules of distances and of the twilight zone, which no instruction on several points knows. The zones stand in
+//! the crate tt_points_zones below; the instructions on several points in tt_points_loops, and the interpolation of
+//! untouched points in tt_points_iup, beside this one, so that none waits for the proof of another.
 #![tactic(auto)]
 
 pub mod control_values;
@@ -14,6 +14,4 @@ mod pairs;
 mod twilight;
 
 pub use distances::Keeping;
-pub use tt_points_iup::iup;
-pub use tt_points_loops as several;
 pub use tt_points_zones::Zones;

@@ -1,6 +1,5 @@
 -- No part of the standard: no instruction on several points makes a point or drops one.
-use Rattle.std.proofs.Common.{◌≡◌, ◌∙◌, ℕ, suc, ◌+◌, nat_le, nat_lt, ℤ, unsigned_abs, Bool, true, false, ◌&&◌, if◌then◌else◌, List, [], ◌∷◌, length, reverse, Option, Some, None, Result, Ok, Err, IfOk, ap, refl, length-set}
-use Rattle.tt_core.specs.Outcomes.{◌>>=◌}
+use Rattle.std.proofs.Common.{◌≡◌, ℕ, suc, ◌+◌, nat_le, nat_lt, ℤ, unsigned_abs, Bool, true, false, ◌&&◌, if◌then◌else◌, List, [], ◌∷◌, length, reverse, Option, Some, None, Result, Ok, Err, IfOk, ap, refl}
 use Rattle.tt_core.specs.declared.fault.Why.{Why}
 use Rattle.tt_state.specs.Tolerance.{passes_over, unless_missing}
 use Rattle.tt_state.specs.declared.graphics_state.GraphicsState.{GraphicsState}
@@ -9,8 +8,9 @@ use Rattle.tt_state.specs.declared.graphics_state.Zone.TheVariants as zone
 use Rattle.tt_state.specs.declared.point.Point.{Point}
 use Rattle.tt_state.specs.declared.tolerance.Tolerance.{Tolerance}
 use Rattle.tt_points_zones.specs.Motions.{direction, moved, moved_along}
-use Rattle.tt_points_zones.specs.Points.{point_in, points_in, with_point}
+use Rattle.tt_points_zones.specs.Points.{point_in, points_in}
 use Rattle.tt_points_zones.specs.ZoneNumbers.{zone_of}
+use Rattle.tt_points_zones.specs.Shapes.{whatever, through, same, joined, put_one, put}
 use Rattle.tt_points_zones.specs.Zones.{ZoneLists, SameShape, KeepsShape, KeepsShapeBefore}
 use Rattle.tt_points_loops.specs.declared.deltas.DeltaRange.{DeltaRange}
 use Rattle.tt_points_loops.specs.declared.shifting.ReferencePoint.{ReferencePoint}
@@ -24,49 +24,14 @@ use Rattle.tt_points_loops.specs.Flipping as flipping
 use Rattle.tt_points_loops.specs.Moving as moving
 use Rattle.tt_points_loops.specs.Shifting as shifting
 
--- what holds whatever comes first holds after it
-pub whatever : {A B : Type 0} (P : B → Type 0) (r : Result A Why) (f : A → Result B Why) → ((x : A) → IfOk (f x) P)
-    → IfOk (r >>= f) P
-whatever P (Ok x) f every = every x
-whatever P (Err why) f every = tt
-
--- what holds after something of which another thing holds
-pub through : {A B : Type 0} (P : A → Type 0) (Q : B → Type 0) (r : Result A Why) (f : A → Result B Why) → IfOk r P
-    → ((x : A) → P x → IfOk (f x) Q) → IfOk (r >>= f) Q
-through P Q (Ok x) f holds next = next x holds
-through P Q (Err why) f holds next = tt
-
-pub same : (z : ZoneLists) → SameShape z z
-same z = record { twilight = refl; glyph = refl; contours = refl; originals = refl }
-
-pub joined : (a b c : ZoneLists) → SameShape a b → SameShape b c → SameShape a c
-joined a b c first second = record {
-  twilight = second.twilight ∙ first.twilight;
-  glyph = second.glyph ∙ first.glyph;
-  contours = second.contours ∙ first.contours;
-  originals = second.originals ∙ first.originals;
-}
-
 weaker : (r : Result ZoneLists Why) (a b : ZoneLists) → SameShape a b → KeepsShape b r → KeepsShape a r
 weaker (Ok c) a b first second = joined a b c first second
 weaker (Err why) a b first second = tt
-
-pub put_one : (zone : Zone) (n : ℤ) (p : Point) (z : ZoneLists) → SameShape z (with_point zone n p z)
-put_one zone.Twilight n p z =
-    record { twilight = length-set z.twilight (unsigned_abs n) p; glyph = refl; contours = refl; originals = refl }
-put_one zone.Glyph n p z =
-    record { twilight = refl; glyph = length-set z.glyph (unsigned_abs n) p; contours = refl; originals = refl }
 
 put_all : (zone : Zone) (ps : List Point) (z : ZoneLists) → length ps ≡ length (points_in zone z)
     → SameShape z (with_points zone ps z)
 put_all zone.Twilight ps z many = record { twilight = many; glyph = refl; contours = refl; originals = refl }
 put_all zone.Glyph ps z many = record { twilight = refl; glyph = many; contours = refl; originals = refl }
-
--- one point in the place of another
-pub put : (zone : Zone) (n : ℤ) (z : ZoneLists) (r : Result Point Why)
-    → KeepsShape z (r >>= λ q. Ok (with_point zone n q z))
-put zone n z (Ok q) = put_one zone n q z
-put zone n z (Err why) = tt
 
 -- nothing is done in the place of a refusal that is passed over
 instead : (b : Bool) (why : Why) (z : ZoneLists) → KeepsShape z (if b then Ok z else Err why)

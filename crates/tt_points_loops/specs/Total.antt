@@ -1,6 +1,6 @@
 -- No part of the standard: refusals that the instructions on several points do not have. Where the machine is tolerant,
 -- they are never refused for something that is not there. None of them is ever short of values.
-use Rattle.std.proofs.Common.{◌≡◌, ℕ, suc, ◌+◌, nat_le, nat_lt, ℤ, pos, int_lt, unsigned_abs, slice_get, ◌+ℤ◌, ◌-ℤ◌, Bool, true, false, ◌&&◌, ◌||◌, if◌then◌else◌, List, [], ◌∷◌, length, reverse, Option, Some, None, Result, Ok, Err, refl}
+use Rattle.std.proofs.Common.{◌≡◌, ℕ, suc, ◌+◌, nat_le, nat_lt, ℤ, pos, int_lt, unsigned_abs, slice_get, ◌-ℤ◌, Bool, true, false, ◌&&◌, ◌||◌, if◌then◌else◌, List, [], ◌∷◌, length, reverse, Option, Some, None, Result, Ok, Err, refl}
 use Rattle.std.specs.Option.{ok_or}
 use Rattle.std.specs.Ordering.{int_eq}
 use Rattle.tt_core.specs.Outcomes.{◌>>=◌}
@@ -10,16 +10,16 @@ use Rattle.tt_core.specs.declared.halves.Halves.{Halves}
 use Rattle.tt_core.specs.declared.scaling.Scale.{Scale}
 use Rattle.tt_state.specs.Loosening.{IsTotal, Enough, total_after, enough_after, total_passed_over, is_short}
 use Rattle.tt_state.specs.Tolerance.{is_missing}
-use Rattle.tt_state.specs.Vectors.{Pair, along}
+use Rattle.tt_state.specs.Vectors.{along}
 use Rattle.tt_state.specs.Axes.{pair_of}
 use Rattle.tt_state.specs.declared.graphics_state.GraphicsState.{GraphicsState}
 use Rattle.tt_state.specs.declared.graphics_state.Zone.{Zone}
 use Rattle.tt_state.specs.declared.graphics_state.Zone.TheVariants as zone
 use Rattle.tt_state.specs.declared.point.Point.{Point}
 use Rattle.tt_state.specs.declared.tolerance.Tolerance.TheVariants as tolerance
-use Rattle.tt_state.specs.declared.vector.Vector.{Vector}
-use Rattle.tt_points_zones.specs.Motions.{direction, is_same, vectors_of, current_distance, pushed_to, put_further, pushed, steps, moved, moved_along, offset}
-use Rattle.tt_points_zones.specs.Points.{is_coordinate, points_in, point_in, with_point}
+use Rattle.tt_points_zones.specs.Motions.{direction, current_distance, steps, moved, moved_along, offset}
+use Rattle.tt_points_zones.specs.Points.{points_in, point_in, with_point}
+use Rattle.tt_points_zones.specs.Total.{direction_total, either, enough_of, enough_of_either, found, further_total, moved_total, point_enough, pushed_total}
 use Rattle.tt_points_zones.specs.ZoneNumbers.{zone_of}
 use Rattle.tt_points_zones.specs.Zones.{ZoneLists}
 use Rattle.tt_points_zones.specs.declared.motion.Motion.{Motion}
@@ -29,31 +29,11 @@ use Rattle.tt_points_loops.specs.Deltas.{delta_of, move_by, except, pairs_of}
 use Rattle.tt_points_loops.specs.Flipping.{flip, put_on, flip_range}
 use Rattle.tt_points_loops.specs.Moving.{aligned, align, interpolated, kept_between, scale_among, other_end, in_between, interpolate, push}
 use Rattle.tt_points_loops.specs.Series.{one_by_one, passing_over, looped, set_back, each_from_to}
-use Rattle.tt_points_loops.specs.Shifting.{reference_zone, reference_number, reference, moved_as, shifted_as, follow, number_in, is_but, follow_but, shift, shift_range, contour_at, contour_in, outline_in, shc, shz}
+use Rattle.tt_points_loops.specs.Shifting.{reference_zone, reference_number, reference, moved_as, shifted_as, follow, number_in, is_but, follow_but, shift, shift_range, contour_in, outline_in, shc, shz}
 use Rattle.tt_points_loops.specs.Deltas as deltas
 use Rattle.tt_points_loops.specs.Flipping as flipping
 use Rattle.tt_points_loops.specs.Moving as moving
 use Rattle.tt_points_loops.specs.Shifting as shifting
-
--- one of two answers
-pub either : {A : Type 0} (b : Bool) (r other : Result A Why) → IsTotal r → IsTotal other
-    → IsTotal (if b then r else other)
-either true r other total also = total
-either false r other total also = also
-
-pub enough_of_either : {A : Type 0} (b : Bool) (r other : Result A Why) → Enough r → Enough other
-    → Enough (if b then r else other)
-enough_of_either true r other enough also = enough
-enough_of_either false r other enough also = also
-
--- a total answer is not short of values
-not_short : (missing short : Bool) → (missing || short) ≡ false → short ≡ false
-not_short false short never = never
-not_short true short never = absurd cc
-
-pub enough_of : {A : Type 0} (r : Result A Why) → IsTotal r → Enough r
-enough_of (Ok a) total = record {}
-enough_of (Err e) total = not_short (is_missing e) (is_short e) total
 
 -- nor is it refused for something that is not there
 not_missing : (missing short : Bool) → (missing || short) ≡ false → missing ≡ false
@@ -65,40 +45,6 @@ there_of (Ok a) e total is = absurd cc
 there_of (Err f) e total is =
     let same : e ≡ f = cc in
     rw same (not_missing (is_missing f) (is_short f) total)
-
--- a point is found, or is not there
-pub found : {A : Type 0} (o : Option A) (e : Why) → is_short e ≡ false → Enough (ok_or o e)
-found (Some a) e enough = record {}
-found None e enough = enough
-
-pub point_enough : (zone : Zone) (n : ℤ) (z : ZoneLists) → Enough (point_in zone n z)
-point_enough zone n z =
-    enough_of_either (int_lt n (pos 0)) (Err why.PointRange)
-    (ok_or (slice_get (points_in zone z) (unsigned_abs n)) why.PointRange) refl
-    (found (slice_get (points_in zone z) (unsigned_abs n)) why.PointRange refl)
-
--- and is moved, unless past the limit
-put_total : (part by at : ℤ) → IsTotal (pushed_to part by at)
-put_total part by at =
-    either (int_eq part (pos 0)) (Ok at)
-    (if is_coordinate (at +ℤ by) then Ok (at +ℤ by) else Err why.ValueRange) (record {})
-    (either (is_coordinate (at +ℤ by)) (Ok (at +ℤ by)) (Err why.ValueRange) (record {}) refl)
-
-further_total : (free : Vector) (by : Pair) (p : Point) → IsTotal (put_further free by p)
-further_total free by p =
-    total_after (pushed_to (pair_of free).x by.x p.x) _ (put_total (pair_of free).x by.x p.x) (λ x.
-    total_after (pushed_to (pair_of free).y by.y p.y) _ (put_total (pair_of free).y by.y p.y) (λ y. record {}))
-
-pub pushed_total : (free : Vector) (by : Pair) (p : Point) → IsTotal (pushed free by p)
-pushed_total free by p = total_after (put_further free by p) _ (further_total free by p) (λ q. record {})
-
-pub moved_total : (m : Motion) (d : ℤ) (p : Point) → IsTotal (moved m d p)
-moved_total m d p = pushed_total m.free (steps m d) p
-
-pub direction_total : (g : GraphicsState) → IsTotal (direction g)
-unfolding direction
-direction_total g =
-    either (g.whole || is_same g.proj g.free) (Ok (vectors_of g)) (Err why.Perpendicular) (record {}) refl
 
 follow_total : (touch : Bool) (g : GraphicsState) (r p : Point) → IsTotal (follow touch g r p)
 follow_total touch g r p =

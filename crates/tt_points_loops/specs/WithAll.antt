@@ -7,10 +7,9 @@ use Rattle.tt_state.specs.declared.graphics_state.GraphicsState.{GraphicsState}
 use Rattle.tt_state.specs.declared.graphics_state.Zone.{Zone}
 use Rattle.tt_state.specs.declared.point.Point.{Point}
 use Rattle.tt_state.specs.declared.tolerance.Tolerance.{Tolerance}
-use Rattle.tt_points_zones.specs.Motions.{direction, current_distance, moved}
+use Rattle.tt_points_zones.specs.Motions.{current_distance, moved}
 use Rattle.tt_points_zones.specs.Points.{points_in, point_in, with_point}
-use Rattle.tt_points_zones.specs.WithAll.{with_all, Stays, StaysSame, same, chained, after, directed, passed_over}
-use Rattle.tt_points_zones.specs.declared.motion.Motion.{Motion}
+use Rattle.tt_points_zones.specs.WithAll.{with_all, StaysSame, StaysBeside, beside, same, chained, after, by_vectors, passed_over}
 use Rattle.tt_points_zones.specs.ZoneNumbers.{zone_of}
 use Rattle.tt_points_zones.specs.Zones.{ZoneLists}
 use Rattle.tt_points_loops.specs.declared.deltas.DeltaRange.{DeltaRange}
@@ -18,26 +17,15 @@ use Rattle.tt_points_loops.specs.declared.shifting.ReferencePoint.{ReferencePoin
 use Rattle.tt_points_loops.specs.declared.shifting.ReferencePoint.TheVariants as by
 use Rattle.tt_points_loops.specs.Deltas.{delta_of, move_by, except, pairs_of}
 use Rattle.tt_points_loops.specs.Flipping.{flip}
-use Rattle.tt_points_loops.specs.Moving.{aligned, align, interpolated, kept_between, scale_among, other_end, in_between, interpolate, push}
+use Rattle.tt_points_loops.specs.Moving.{aligned, align, interpolated, scale_among, other_end, in_between, interpolate, push}
 use Rattle.tt_points_loops.specs.Series.{one_by_one, passing_over, looped, set_back, each_from_to}
-use Rattle.tt_points_loops.specs.Shifting.{reference_zone, reference_number, reference, moved_as, shifted_as, follow, number_in, is_but, follow_but, shift, shift_range, follow_in, with_points, contour_in, outline_in, shc, shz}
+use Rattle.tt_points_loops.specs.Shifting.{reference, moved_as, shifted_as, follow, number_in, is_but, follow_but, shift, shift_range, follow_in, with_points, contour_in, outline_in, shc, shz}
 use Rattle.tt_points_loops.specs.Deltas as deltas
 use Rattle.tt_points_loops.specs.Flipping as flipping
 use Rattle.tt_points_loops.specs.Moving as moving
 use Rattle.tt_points_loops.specs.Shifting as shifting
 
--- the graphics state after an instruction, beside the zones
-abbrev pub beside : {A : Type 0} → A × GraphicsState → A × GraphicsState
-beside t = (t.0, with_all t.1)
-
-abbrev pub StaysBeside : {A : Type 0} → Result (A × GraphicsState) Why → Result (A × GraphicsState) Why → Type 0
-StaysBeside r with = Stays beside r with
-
--- a point that is moved by the vectors, and one that is put in the place of another
-pub by_vectors : {A : Type 0} (g : GraphicsState) (f : Motion → Result A Why)
-    → StaysSame (direction g >>= f) (direction (with_all g) >>= f)
-by_vectors g f = chained (λ m. m) (λ a. a) (direction g) (direction (with_all g)) f f (directed g) (λ m. same (f m))
-
+-- one point in the place of another
 put : (zone : Zone) (n : ℤ) (z : ZoneLists) (r with : Result Point Why) → StaysSame r with
     → StaysSame (r >>= λ q. Ok (with_point zone n q z)) (with >>= λ q. Ok (with_point zone n q z))
 put zone n z r with stays =

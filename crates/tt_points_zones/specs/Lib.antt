@@ -1,4 +1,6 @@
 pub mod WithAll
+pub mod Shapes
+pub mod Total
 pub mod Zones
 pub mod Points
 pub mod ZoneNumbers

@@ -79,3 +79,15 @@ permitted false m = λ other. absurd cc
 pub directed : (g : GraphicsState) → StaysSame (direction g) (direction (with_all g))
 unfolding direction
 directed g = permitted (g.whole || is_same g.proj g.free) (vectors_of g)
+
+-- the graphics state after an instruction, beside the zones
+abbrev pub beside : {A : Type 0} → A × GraphicsState → A × GraphicsState
+beside t = (t.0, with_all t.1)
+
+abbrev pub StaysBeside : {A : Type 0} → Result (A × GraphicsState) Why → Result (A × GraphicsState) Why → Type 0
+StaysBeside r with = Stays beside r with
+
+-- what is done by the vectors
+pub by_vectors : {A : Type 0} (g : GraphicsState) (f : Motion → Result A Why)
+    → StaysSame (direction g >>= f) (direction (with_all g) >>= f)
+by_vectors g f = chained (λ m. m) (λ a. a) (direction g) (direction (with_all g)) f f (directed g) (λ m. same (f m))
