@@ -1,0 +1,81 @@
+-- What an answer tells of what stopped a call.
+use Rattle.std.proofs.Common.{◌≡◌, ◌≢◌, List, ℕ, Bool, true, false, Result, Ok, Err, inl, inr, refl, nat_lt, length, arith}
+use Rattle.std.specs.Prelude.{IfSome, if◌then◌else◌}
+use Rattle.tt_core.specs.declared.fault.JobFault.{JobFault}
+use Rattle.tt_core.specs.Faults.{Fault}
+use Rattle.tt_core.specs.Limits.{font_limit}
+use Rattle.tt_core.specs.Outcomes.{◌>>=◌}
+use Rattle.tt_render.specs.Outcome.{of_font}
+use Rattle.tt_strike.specs.Refusals.{Refused, as_font, as_job, job, large}
+use Rattle.tt_strike.specs.Tables.{Face, face_of}
+use Rattle.tt_c_calls.specs.declared.fault.CallFault.{CallFault}
+use Rattle.tt_c_calls.specs.declared.fault.CallFault.TheVariants as call
+use Rattle.tt_c_calls.specs.Answers.{DefectStands, TellsRefusal, call_answer}
+use Rattle.tt_c_calls.specs.Fonts.{face_wanted}
+use Rattle.tt_c_calls.specs.Refusals.{Refusal, as_call, call_font_fault, call_refusal, refused}
+
+tells_memory : {X : Type 0} (wanted : Result X Refusal) → TellsRefusal wanted (call_answer call.Memory)
+tells_memory (Ok x) = refl
+tells_memory (Err why) = inr refl
+
+-- an answer tells the refusal that a fault is
+pub tells : {X : Type 0} (wanted : Result X Refusal) (f : CallFault) → IfSome (call_refusal f) (λ why. wanted ≡ Err why)
+    → TellsRefusal wanted (call_answer f)
+tells wanted (call.Font f) is = rw is (inl refl)
+tells wanted (call.Job j) is = rw is (inl refl)
+tells wanted call.FontLarge is = rw is (inl refl)
+tells wanted call.UnknownFit is = rw is (inl refl)
+tells wanted call.LineEnds is = rw is (inl refl)
+tells wanted call.NotUtf8 is = rw is (inl refl)
+tells wanted call.Memory is = tells_memory wanted
+
+-- and the defect that it is
+pub stands : (P : Fault → Type 0) (f : CallFault) → IfSome (call_font_fault f) P → DefectStands P (call_answer f)
+stands P (call.Font f) is = λ _. (f, refl, is)
+stands P (call.Job j) is = λ h. absurd (omega (arith, h))
+stands P call.FontLarge is = λ h. absurd (omega (arith, h))
+stands P call.UnknownFit is = λ h. absurd (omega (arith, h))
+stands P call.LineEnds is = λ h. absurd (omega (arith, h))
+stands P call.NotUtf8 is = λ h. absurd (omega (arith, h))
+stands P call.Memory is = λ h. absurd (omega (arith, h))
+
+-- nor does it tell that memory was refused where it was not
+pub serves : (f : CallFault) → f ≢ call.Memory → (call_answer f).status ≢ 5
+serves (call.Font f) other = λ h. omega (arith, h)
+serves (call.Job j) other = λ h. omega (arith, h)
+serves call.FontLarge other = λ h. omega (arith, h)
+serves call.UnknownFit other = λ h. omega (arith, h)
+serves call.LineEnds other = λ h. omega (arith, h)
+serves call.NotUtf8 other = λ h. omega (arith, h)
+serves call.Memory other = λ h. other refl
+
+-- why the first part has no value is why there is none at all
+pub first_stops : {A B : Type 0} (wanted : Result A Refusal) (f : A → Result B Refusal) (fault : CallFault)
+    → IfSome (call_refusal fault) (λ why. wanted ≡ Err why)
+    → IfSome (call_refusal fault) (λ why. (wanted >>= f) ≡ Err why)
+first_stops wanted f (call.Font d) is = rw is refl
+first_stops wanted f (call.Job j) is = rw is refl
+first_stops wanted f call.FontLarge is = rw is refl
+first_stops wanted f call.UnknownFit is = rw is refl
+first_stops wanted f call.LineEnds is = rw is refl
+first_stops wanted f call.NotUtf8 is = rw is refl
+first_stops wanted f call.Memory is = tt
+
+by_size : {X : Type 0} (is_large : Bool) (face : Result Face Fault) (make : Face → Result X Refused)
+    → as_call (if is_large then Err large else (as_font face >>= make))
+    ≡ (as_call (if is_large then Err large else as_font face) >>= λ face. as_call (make face))
+by_size true face make = refl
+by_size false (Ok face) make = refl
+by_size false (Err f) make = refl
+
+-- what is asked of a font passes its tests, and is of the font's tables
+pub by_face : {X : Type 0} (test : Result (Unit {0}) JobFault) (make : Face → Result X Refused) (font : List ℕ)
+    → test ≡ Ok tt → as_call (as_job test >>= λ u. of_font (λ file. as_font (face_of file) >>= make) font)
+    ≡ (face_wanted font >>= λ face. as_call (make face))
+unfolding face_wanted
+by_face test make font passes = rw passes (by_size (nat_lt font_limit (length font)) (face_of font) make)
+
+-- or fails them
+pub by_test : {X : Type 0} (test : Result (Unit {0}) JobFault) (make : Unit {0} → Result X Refused) (j : JobFault)
+    → test ≡ Err j → as_call (as_job test >>= make) ≡ Err (refused (job j))
+by_test test make j fails = rw fails refl

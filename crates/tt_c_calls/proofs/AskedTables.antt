@@ -1,0 +1,95 @@
+-- What is asked of a font, by the font's tables.
+use Rattle.std.proofs.Common.{◌≡◌, List, ℕ, Bool, true, false, Result, Ok, Err, inl, inr, ap, nat_lt, length, ◌==◌}
+use Rattle.std.specs.Prelude.{IfSome, if◌then◌else◌}
+use Rattle.std.specs.Str.{is_utf8}
+use Rattle.tt_core.specs.Directory.{HasNo}
+use Rattle.tt_core.specs.Faults.{Fault}
+use Rattle.tt_core.specs.Limits.{font_limit}
+use Rattle.tt_core.specs.Outcomes.{◌>>=◌}
+use Rattle.tt_fit.specs.declared.programs.Fit.TheVariants as fit
+use Rattle.tt_line.specs.Layout.{text_glyphs}
+use Rattle.tt_strike.specs.Defects.{IsFaceDefect, IsLineDefect, TellsDefects}
+use Rattle.tt_strike.specs.Job.{Job, tested}
+use Rattle.tt_strike.specs.Refusals.{Refused, as_font, font, large}
+use Rattle.tt_strike.specs.Tables.{Face, face_of}
+use Rattle.tt_c_calls.specs.declared.asked.CJob.{CJob}
+use Rattle.tt_c_calls.specs.declared.fault.CallFault.{CallFault}
+use Rattle.tt_c_calls.specs.declared.fault.CallFault.TheVariants as call
+use Rattle.tt_c_calls.specs.Asked.{IsAskedDefect, asked, fit_asked, text_asked}
+use Rattle.tt_c_calls.specs.Fonts.{face_wanted}
+use Rattle.tt_c_calls.specs.Pictures.{made_of}
+use Rattle.tt_c_calls.specs.Refusals.{Refusal, as_call, call_font_fault, call_refusal, not_utf8, refused, unknown_fit}
+use Rattle.tt_c_calls.proofs.Answered.{by_face}
+
+-- what is asked for is never refused as `run` refuses
+pub no_fit : (a b c d : Bool) (r : Refused)
+    → (if a then Ok fit.Full else if b then Ok fit.None else if c then Ok fit.Fallback
+    else if d then Ok fit.Best else Err unknown_fit) ≡ Err (refused r) → ⊥
+no_fit true b c d r is = cc
+no_fit false true c d r is = cc
+no_fit false false true d r is = cc
+no_fit false false false true r is = cc
+no_fit false false false false r is = cc
+
+no_text : (b : Bool) (text : List ℕ) (r : Refused) → (if b then Ok text else Err not_utf8) ≡ Err (refused r) → ⊥
+no_text true text r is = cc
+no_text false text r is = cc
+
+neither : {A B C : Type 0} (a : Result A Refusal) (b : Result B Refusal) (make : A → B → C) (r : Refused)
+    → (a ≡ Err (refused r) → ⊥) → (b ≡ Err (refused r) → ⊥)
+    → (a >>= λ x. b >>= λ y. Ok (make x y)) ≡ Err (refused r) → ⊥
+neither (Ok x) (Ok y) make r first second is = cc
+neither (Ok x) (Err e) make r first second is = let same : e ≡ refused r = cc in second (ap Err same)
+neither (Err e) b make r first second is = let same : e ≡ refused r = cc in first (ap Err same)
+
+by_itself : (j : CJob) (text : List ℕ) (r : Refused) → asked j text ≡ Err (refused r) → ⊥
+unfolding asked fit_asked text_asked
+by_itself j text r is =
+    neither (fit_asked j.fit) (text_asked text) _ r (no_fit (j.fit == 0) (j.fit == 1) (j.fit == 2) (j.fit == 3) r)
+    (no_text (is_utf8 text) text r) is
+
+pub asked_tells : (P : Fault → Type 0) (j : CJob) (text : List ℕ) (f : CallFault)
+    → IfSome (call_refusal f) (λ why. asked j text ≡ Err why) → IfSome (call_font_fault f) P
+asked_tells P j text (call.Font d) is = absurd (by_itself j text (font d) is)
+asked_tells P j text (call.Job d) is = tt
+asked_tells P j text call.FontLarge is = tt
+asked_tells P j text call.UnknownFit is = tt
+asked_tells P j text call.LineEnds is = tt
+asked_tells P j text call.NotUtf8 is = tt
+asked_tells P j text call.Memory is = tt
+
+-- a job that passes its tests is for its font's tables
+pub of_tables : {X : Type 0} (make : Face → Job → Result X Refused) (j : CJob) (text file : List ℕ) (a : Job)
+    → asked j text ≡ Ok a → tested a ≡ Ok tt
+    → (asked j text >>= λ a. as_call (made_of (λ face. make face a) a file))
+    ≡ (face_wanted file >>= λ face. as_call (make face a))
+of_tables make j text file a is passes = rw is (by_face (tested a) (λ face. make face a) file passes)
+
+read_by : (is_large : Bool) (read : Result Face Fault) (face : Face)
+    → as_call (if is_large then Err large else as_font read) ≡ Ok face → read ≡ Ok face
+read_by true read face is = absurd cc
+read_by false (Ok own) face is = cc
+read_by false (Err f) face is = absurd cc
+
+-- the tables that are wanted are those of the file
+pub face_read : (file : List ℕ) (face : Face) → face_wanted file ≡ Ok face → face_of file ≡ Ok face
+unfolding face_wanted
+face_read file face is = read_by (nat_lt font_limit (length file)) (face_of file) face is
+
+-- what a line tells of a font's tables is told of the file
+pub asked_defects : {V : Type 0} (j : CJob) (text file : List ℕ) (a : Job) (face : Face) (r : Result V CallFault)
+    → asked j text ≡ Ok a → face_wanted file ≡ Ok face → HasNo (IsFaceDefect file)
+    → TellsDefects call_font_fault (IsLineDefect face a (text_glyphs face.cmap a.text)) r
+    → TellsDefects call_font_fault (IsAskedDefect j text file) r
+asked_defects j text file a face (Ok v) is read none line =
+    rw is (λ fault defect. elim (rw (face_read file face read) at defect) [
+      | inl tables ↦ none fault tables
+      | inr glyphs ↦ line fault glyphs
+    ])
+asked_defects j text file a face (Err (call.Font d)) is read none line = rw (is, face_read file face read) (inr line)
+asked_defects j text file a face (Err (call.Job d)) is read none line = tt
+asked_defects j text file a face (Err call.FontLarge) is read none line = tt
+asked_defects j text file a face (Err call.UnknownFit) is read none line = tt
+asked_defects j text file a face (Err call.LineEnds) is read none line = tt
+asked_defects j text file a face (Err call.NotUtf8) is read none line = tt
+asked_defects j text file a face (Err call.Memory) is read none line = tt

@@ -1,0 +1,22 @@
+-- Entries written one after the other at the front of a room.
+use Rattle.std.proofs.Common.{◌≡◌, ℕ, ◌+◌, ◌<◌, ◌≤◌, List, [], ◌∷◌, ◌++◌, length, get_or, take, drop, map, sym, refl, ap, ◌∙◌, append_assoc, add-one, drop-cons, length-take-le, arith}
+use Rattle.std.proofs.Math.ListN.{set}
+use Rattle.std.proofs.lemmas.List.{length-map, map_more}
+use Rattle.std.proofs.Math.Seq.{set-append_seam}
+
+pub one_more : {A : Type 0} (xs old : List A) (i : ℕ) (v : A) → i ≡ length xs → i < length old
+    → set (xs ++ drop i old) i v ≡ (xs ++ (v ∷ [])) ++ drop (i + 1) old
+one_more xs old i v n within =
+    let next : drop i old ≡ get_or old i v ∷ drop (i + 1) old = rw (add-one, drop-cons old i v) refl in
+    rw (next, n) (set-append_seam xs (get_or old (length xs) v) (drop (length xs + 1) old) v
+    ∙ sym (append_assoc xs (v ∷ []) (drop (length xs + 1) old)))
+
+-- the entry of one element more, by what is told of each
+pub next_told : {A B : Type 0} (told : A → B) (xs : List A) (old : List B) (i : ℕ) (d : A) → i < length xs
+    → length xs ≤ length old
+    → set (map told (take i xs) ++ drop i old) i (told (get_or xs i d)) ≡ map told (take (i + 1) xs) ++ drop (i + 1) old
+next_told told xs old i d within few =
+    let upto : i ≤ length xs = omega arith in
+    let many : i ≡ length (map told (take i xs)) = rw (length-map, length-take-le) refl in
+    one_more (map told (take i xs)) old i (told (get_or xs i d)) many (omega arith)
+    ∙ ap (λ m. m ++ drop (i + 1) old) (sym (map_more told xs i d within))

@@ -1,0 +1,176 @@
+-- Lines drawn one after the other: what is true of one line more.
+use Rattle.std.proofs.Common.{◌≡◌, ◌∙◌, sym, ap, refl, ℕ, zero, suc, ◌+◌, ◌-◌, ◌≤◌, ◌<◌, List, [], ◌∷◌, ◌++◌, length, take, drop, get_or, set, arith, inr, length-append, length-drop}
+use Rattle.std.proofs.lemmas.List.{append-nil, drop-drop, drop-set-lt, drop-take, drop_all, drop_at, length-take-le, take_all, take_at, take_more_set}
+use Rattle.std.proofs.Math.Seq.{take-take}
+use Rattle.std.proofs.lemmas.Slice.{take-put_mid_below}
+use borrow.Rule.Slice.PartMut.{put_mid, same_len_mid}
+use Rattle.tt_c_calls.specs.declared.answer.CAnswer.{CAnswer}
+use Rattle.tt_c_calls.specs.declared.asked.CJob.{CJob}
+use Rattle.tt_c_calls.specs.declared.line_drawing.CLine.{CLine}
+use Rattle.tt_c_calls.specs.Lines.{AreEnds, AreLinesDrawn, DrawsLines, EndsWith, IsLineDrawn, IsLineWritten, IsTextStopped, line_between, line_bytes, line_told, lines_by, lines_bytes, start_of, stopped_answer}
+use Rattle.tt_c_calls.specs.Pictures.{IsPictureOf, IsWritten}
+use Rattle.tt_strike.specs.Pictures.{Picture}
+
+-- a part within what is the same is the same
+same_part : (m at n : ℕ) (old new : List ℕ) → take m new ≡ take m old → at + n ≤ m
+    → take n (drop at new) ≡ take n (drop at old)
+same_part m at n old new same within =
+    sym (drop-take at n new)
+    ∙ ap (drop at) (sym (take-take (at + n) m new within) ∙ ap (take (at + n)) same ∙ take-take (at + n) m old within)
+    ∙ drop-take at n old
+
+-- a line that was drawn stays where the rows up to its end stay
+line_stays : (j : CJob) (font old new : List ℕ) (m at : ℕ) (line : List ℕ) (told : CLine) → take m new ≡ take m old
+    → at + line_bytes told ≤ m → IsLineDrawn j font old at line told → IsLineDrawn j font new at line told
+line_stays j font old new m at line told same within (p, of, known, rows) =
+    let many : length p.rows ≡ line_bytes told = rw known of.ready.rows in
+    (p, of, known, same_part m at (length p.rows) old new same (rw many within) ∙ rows)
+
+-- so do lines
+lines_stay : (j : CJob) (font old new : List ℕ) (m at : ℕ) (lines : List (List ℕ)) (told : List CLine)
+    → take m new ≡ take m old → at + lines_bytes told ≤ m → AreLinesDrawn j font old at lines told
+    → AreLinesDrawn j font new at lines told
+lines_stay j font old new m at [] [] same within drawn = tt
+lines_stay j font old new m at [] (t ∷ ts) same within drawn = drawn
+lines_stay j font old new m at (l ∷ ls) [] same within drawn = drawn
+lines_stay j font old new m at (l ∷ ls) (t ∷ ts) same within drawn = (
+  line_stays j font old new m at l t same (omega arith) drawn.0,
+  lines_stay j font old new m (at + line_bytes t) ls ts same (omega arith) drawn.1,
+)
+
+-- a line is drawn behind others
+line_behind : (j : CJob) (font texts room : List ℕ) (from at i : ℕ) (ends : List ℕ) (told : List CLine) (x : CLine)
+    → i < length ends → AreLinesDrawn j font room at (lines_by texts from (take i ends)) told
+    → IsLineDrawn j font room (at + lines_bytes told)
+    (line_between texts (get_or (from ∷ ends) i 0) (get_or ends i 0)) x
+    → AreLinesDrawn j font room at (lines_by texts from (take (suc i) ends)) (told ++ x ∷ [])
+line_behind j font texts room from at i [] told x few drawn next = absurd (omega arith)
+line_behind j font texts room from at zero (e ∷ es) [] x few drawn next =
+    let here : at + 0 ≡ at = omega arith in (rw here at next, tt)
+line_behind j font texts room from at zero (e ∷ es) (t ∷ ts) x few drawn next = absurd drawn
+line_behind j font texts room from at (suc i) (e ∷ es) [] x few drawn next = absurd drawn
+line_behind j font texts room from at (suc i) (e ∷ es) (t ∷ ts) x few drawn next = (
+  drawn.0,
+  line_behind j font texts room e (at + line_bytes t) i es ts x (omega arith) drawn.1
+      (let there : at + line_bytes t + lines_bytes ts ≡ at + lines_bytes (t ∷ ts) = omega arith in rw there next),
+)
+
+ends_behind : (bytes from i : ℕ) (ends : List ℕ) → i < length ends → AreEnds bytes from (take i ends)
+    → get_or (from ∷ ends) i 0 ≤ get_or ends i 0 → get_or ends i 0 ≤ bytes → AreEnds bytes from (take (suc i) ends)
+ends_behind bytes from i [] few within order small = absurd (omega arith)
+ends_behind bytes from zero (e ∷ es) few within order small = (order, small, tt)
+ends_behind bytes from (suc i) (e ∷ es) few within order small =
+    (within.0, within.1, ends_behind bytes e i es (omega arith) within.2 order small)
+
+bytes_behind : (told : List CLine) (x : CLine) → lines_bytes (told ++ x ∷ []) ≡ lines_bytes told + line_bytes x
+bytes_behind [] x = omega arith
+bytes_behind (t ∷ ts) x = omega (arith, bytes_behind ts x)
+
+-- a room from a place on
+room_behind : (room : List ℕ) (used : ℕ) → take (length room - used) (drop used room) ≡ drop used room
+room_behind room used = take_all (length room - used) (drop used room) (omega (arith, length-drop used room))
+
+-- rows that were written there have room
+few_rows : (rows room new : List ℕ) (used : ℕ) → used ≤ length room → IsWritten rows (drop used room) new
+    → length new ≡ length (drop used room) → used + length rows ≤ length room
+few_rows rows room new used within written many =
+    omega (
+      arith,
+      ap length written,
+      length-append rows (drop (length rows) (drop used room)),
+      length-drop used room,
+      length-drop (length rows) (drop used room),
+    )
+
+-- and stand before what was behind them
+pub rows_behind : (rows room new : List ℕ) (used : ℕ) → used ≤ length room → IsWritten rows (drop used room) new
+    → drop used (put_mid used (length room - used) room new) ≡ rows ++ drop (length rows) (drop used room)
+rows_behind rows room new used within written =
+    let none : drop (length room - used) (drop used room) ≡ [] =
+    drop_all (length room - used) (drop used room) (omega (arith, length-drop used room)) in
+    drop_at (take used room) (new ++ drop (length room - used) (drop used room)) used (length-take-le used room within)
+    ∙ ap (λ l. new ++ l) none ∙ append-nil new ∙ written
+
+-- the lines so far, and one line more
+line_more : (j : CJob) (font texts ends before room new : List ℕ) (told_before told : List CLine) (used i : ℕ)
+    (p : Picture) → DrawsLines j font texts ends before room told_before told used i → i < length ends
+    → i < length told → used ≤ length room → start_of ends i ≤ get_or ends i 0 → get_or ends i 0 ≤ length texts
+    → IsPictureOf j (line_between texts (start_of ends i) (get_or ends i 0)) font p
+    → IsWritten p.rows (drop used room) new
+    → DrawsLines j font texts ends before (put_mid used (length room - used) room new) told_before
+    (set told i (line_told p used)) (used + length p.rows) (i + 1)
+line_more j font texts ends before room new told_before told used i p so_far few room_few within order small of
+    written =
+    let room_new = put_mid used (length room - used) room new in
+    let x = line_told p used in
+    let n = length p.rows in
+    let line = line_between texts (start_of ends i) (get_or ends i 0) in
+    let next : i + 1 ≡ suc i = omega arith in
+    let place : 0 + lines_bytes (take i told) ≡ used = omega (arith, so_far.bytes) in
+    let lines : take (i + 1) (set told i x) ≡ take i told ++ x ∷ [] = take_more_set told i x room_few in
+    let front : take used room_new ≡ take used room = take-put_mid_below used (length room - used) room new used
+    (omega arith) within in
+    let placed = rows_behind p.rows room new used within written in
+    let stay = lines_stay j font room room_new used 0 (lines_by texts 0 (take i ends)) (take i told) front
+    (omega (arith, place)) so_far.drawn in
+    let there : IsLineDrawn j font room_new used line x =
+    (p, of, refl, ap (take n) placed ∙ take_at p.rows _ n refl) in
+    let one : IsLineDrawn j font room_new (0 + lines_bytes (take i told)) line x = rw place there in
+    record {
+      few = omega arith;
+      within = rw next (ends_behind (length texts) 0 i ends few so_far.within order small);
+      drawn = rw (lines, next) (line_behind j font texts room_new 0 0 i ends (take i told) x few stay one);
+      bytes = rw (lines, bytes_behind (take i told) x, of.ready.rows, so_far.bytes) refl;
+      rest = sym (drop-drop n used room_new) ∙ ap (drop n) placed ∙ drop_at p.rows _ n refl
+          ∙ ap (drop n) so_far.rest ∙ drop-drop n used before;
+      others = drop-set-lt (i + 1) told i x (omega arith) ∙ sym (drop-drop 1 i told) ∙ ap (drop 1) so_far.others
+          ∙ drop-drop 1 i told_before;
+    }
+
+-- what a loop over lines knows before each
+pub record IsDrawnTo (j : CJob) (font texts ends before room : List ℕ) (told_before told : List CLine)
+    (from used i : ℕ) : Type 0 where
+  pub start : from ≡ start_of ends i
+  pub room_used : used ≤ length room
+  pub so_far : DrawsLines j font texts ends before room told_before told used i
+
+-- where the next line begins
+start_behind : (ends : List ℕ) (i : ℕ) → get_or ends i 0 ≡ start_of ends (i + 1)
+start_behind ends i = let next : i + 1 ≡ suc i = omega arith in rw next refl
+
+-- and behind one that was drawn
+pub drawn_on : (j : CJob) (font texts ends before room new : List ℕ) (told_before told : List CLine) (told_new : CLine)
+    (from used i : ℕ) (a : CAnswer) → IsDrawnTo j font texts ends before room told_before told from used i
+    → i < length ends → i < length told → from ≤ get_or ends i 0 → get_or ends i 0 ≤ length texts
+    → IsLineWritten j font (line_between texts from (get_or ends i 0)) used
+    (take (length room - used) (drop used room)) new told_new a
+    → length new ≡ length (take (length room - used) (drop used room))
+    → IsDrawnTo j font texts ends before (put_mid used (length room - used) room new) told_before
+    (set told i told_new) (get_or ends i 0) (used + a.bytes) (i + 1)
+drawn_on j font texts ends before room new told_before told told_new from used i a so_far few room_few order small w
+    many =
+    let p = w.picture in
+    let written : IsWritten p.rows (drop used room) new = rw (room_behind room used) at w.rows in
+    let many_new : length new ≡ length (drop used room) = rw (room_behind room used) at many in
+    let keeps : length (put_mid used (length room - used) room new) ≡ length room =
+    same_len_mid used (length room - used) room new many in
+    record {
+      start = start_behind ends i;
+      room_used = rw (w.answer, keeps) (few_rows p.rows room new used so_far.room_used written many_new);
+      so_far = rw (w.answer, w.known) (line_more j font texts ends before room new told_before told used i p
+          so_far.so_far few room_few so_far.room_used
+          (rw so_far.start at order) small (rw so_far.start at w.of) written);
+    }
+
+-- a call that a line stopped, after those before it
+pub line_stops : (j : CJob) (font texts ends room : List ℕ) (used from i : ℕ) (own : CAnswer) (most : ℕ)
+    → i < length ends
+    → (own.status ≡ 0 → ⊥) → from ≡ start_of ends i → from ≤ get_or ends i 0 → get_or ends i 0 ≤ length texts
+    → length room ≡ most
+    → IsTextStopped j font (line_between texts from (get_or ends i 0))
+    (length (take (length room - used) (drop used room))) own
+    → EndsWith j font texts ends most used (stopped_answer own used i)
+line_stops j font texts ends room used from i own most few not_done start order small same stopped =
+    let left : length (take (length room - used) (drop used room)) ≡ most - used =
+    rw (room_behind room used) (omega (arith, length-drop used room, same)) in
+    inr (not_done, inr (inr (own, few, refl, inr (rw start at order, small, rw (left, start) at stopped))))

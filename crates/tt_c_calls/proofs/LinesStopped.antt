@@ -1,0 +1,153 @@
+-- A call that draws lines, and stops before the first.
+use Rattle.std.proofs.Common.{◌≡◌, ◌∙◌, refl, ℕ, List, [], length, IfSome, Result, Ok, Err, inl, inr, arith, subst, sym}
+use Rattle.std.specs.Prelude.{◌==◌}
+use Rattle.tt_core.proofs.Whole.{directory-same}
+use Rattle.tt_core.specs.Chains.{came-through}
+use Rattle.tt_core.specs.Directory.{directory_of}
+use Rattle.tt_core.specs.declared.fault.JobFault.{JobFault}
+use Rattle.tt_core.specs.Faults.{Fault}
+use Rattle.tt_core.specs.Outcomes.{◌>>=◌}
+use Rattle.tt_cmap.specs.Lookup.{cmap_of}
+use Rattle.tt_core.specs.Directory.{needed_table}
+use Rattle.tt_fit.specs.declared.programs.Fit.{Fit}
+use Rattle.tt_metrics.specs.Metrics.{glyphs_of, metrics_of}
+use Rattle.tt_strike.specs.declared.fault.DrawFault.{DrawFault}
+use Rattle.tt_strike.specs.declared.fault.DrawFault.TheVariants as draw
+use Rattle.tt_strike.specs.Job.{Job, size_tested, tested}
+use Rattle.tt_strike.specs.Refusals.{as_job, font, job, large, refusal}
+use Rattle.tt_strike.specs.Strikes.{Strike}
+use Rattle.tt_strike.specs.Tables.{Face, cmap_tag, face_of}
+use Rattle.tt_c_calls.specs.Fonts.{face_wanted}
+use Rattle.tt_c_calls.specs.declared.asked.CJob.{CJob}
+use Rattle.tt_c_calls.specs.declared.fault.CallFault.{CallFault}
+use Rattle.tt_c_calls.specs.declared.fault.CallFault.TheVariants as call
+use Rattle.tt_c_calls.specs.declared.line_drawing.CLine.{CLine}
+use Rattle.tt_c_calls.specs.Answers.{call_answer}
+use Rattle.tt_c_calls.specs.Asked.{fit_asked}
+use Rattle.tt_c_calls.specs.Lines.{DrawsLines, EndsWith, IsStrikeFor, LineDefectStands, lines_wanted}
+use Rattle.tt_c_calls.specs.Refusals.{Refusal, as_call, call_font_fault, call_of_draw, call_refusal, line_ends, not_utf8, refused, unknown_fit}
+use Rattle.tt_c_calls.proofs.Answered.{by_face}
+use Rattle.tt_c_calls.proofs.AskedTables.{face_read, no_fit}
+use Rattle.tt_c_calls.proofs.StrikeLines.{if_some_more, not_done}
+
+-- no line was drawn
+none_drawn : (j : CJob) (file texts ends room : List ℕ) (told : List CLine)
+    → DrawsLines j file texts ends room room told told 0 0
+none_drawn j file texts ends room told =
+    record { few = omega arith; within = tt; drawn = tt; bytes = refl; rest = refl; others = refl }
+
+-- and why not
+abbrev IsDrawnNone : CJob → List ℕ → List ℕ → List ℕ → List ℕ → List CLine → CallFault → Type 0
+IsDrawnNone j file texts ends room told e = (used : ℕ)
+    × DrawsLines j file texts ends room room told told used (call_answer e).count
+    × EndsWith j file texts ends (length room) used (call_answer e)
+
+pub lines_refused : (j : CJob) (file texts ends room : List ℕ) (told : List CLine) (e : CallFault)
+    → IfSome (call_refusal e) (λ why. lines_wanted j file ≡ Err why) → IsDrawnNone j file texts ends room told e
+lines_refused j file texts ends room told (call.Font f) h =
+    (0, none_drawn j file texts ends room told, inr (not_done (call.Font f), inl (refused (font f), h, refl)))
+lines_refused j file texts ends room told (call.Job why) h =
+    (0, none_drawn j file texts ends room told, inr (not_done (call.Job why), inl (refused (job why), h, refl)))
+lines_refused j file texts ends room told call.FontLarge h =
+    (0, none_drawn j file texts ends room told, inr (not_done call.FontLarge, inl (refused large, h, refl)))
+lines_refused j file texts ends room told call.UnknownFit h =
+    (0, none_drawn j file texts ends room told, inr (not_done call.UnknownFit, inl (unknown_fit, h, refl)))
+lines_refused j file texts ends room told call.LineEnds h =
+    (0, none_drawn j file texts ends room told, inr (not_done call.LineEnds, inl (line_ends, h, refl)))
+lines_refused j file texts ends room told call.NotUtf8 h =
+    (0, none_drawn j file texts ends room told, inr (not_done call.NotUtf8, inl (not_utf8, h, refl)))
+lines_refused j file texts ends room told call.Memory h =
+    (0, none_drawn j file texts ends room told, inr (not_done call.Memory, inr (inl refl)))
+
+-- the way to fit is refused
+pub fit_refused : (j : CJob) (file : List ℕ) (e : CallFault)
+    → IfSome (call_refusal e) (λ why. fit_asked j.fit ≡ Err why)
+    → IfSome (call_refusal e) (λ why. lines_wanted j file ≡ Err why)
+unfolding lines_wanted
+fit_refused j file e = if_some_more (call_refusal e) _ _ (λ why h. rw h refl)
+
+pub fit_defect : (n : ℕ) (IsOne : Fault → Type 0) (e : CallFault)
+    → IfSome (call_refusal e) (λ why. fit_asked n ≡ Err why) → IfSome (call_font_fault e) IsOne
+unfolding fit_asked
+fit_defect n IsOne (call.Font f) is = absurd (no_fit (n == 0) (n == 1) (n == 2) (n == 3) (font f) is)
+fit_defect n IsOne (call.Job j) is = tt
+fit_defect n IsOne call.FontLarge is = tt
+fit_defect n IsOne call.UnknownFit is = tt
+fit_defect n IsOne call.LineEnds is = tt
+fit_defect n IsOne call.NotUtf8 is = tt
+fit_defect n IsOne call.Memory is = tt
+
+-- the defect that an answer tells
+pub lines_defect_told : (IsOne : Fault → Type 0) (e : CallFault) → IfSome (call_font_fault e) IsOne
+    → LineDefectStands IsOne (call_answer e)
+lines_defect_told IsOne (call.Font f) stands is = (f, refl, stands)
+lines_defect_told IsOne (call.Job j) stands is = absurd (omega arith)
+lines_defect_told IsOne call.FontLarge stands is = absurd (omega arith)
+lines_defect_told IsOne call.UnknownFit stands is = absurd (omega arith)
+lines_defect_told IsOne call.LineEnds stands is = absurd (omega arith)
+lines_defect_told IsOne call.NotUtf8 stands is = absurd (omega arith)
+lines_defect_told IsOne call.Memory stands is = absurd (omega arith)
+
+-- the size or the margin is refused
+abbrev of_no_text : CJob → Fit → Job
+of_no_text j how = record { text = []; ppem = j.size; margin = j.margin; fit = how }
+
+pub job_refused : (j : CJob) (file : List ℕ) (how : Fit) (why : JobFault) → fit_asked j.fit ≡ Ok how
+    → tested (of_no_text j how) ≡ Err why → lines_wanted j file ≡ Err (refused (job why))
+unfolding lines_wanted
+job_refused j file how why fits test = rw (fits, test) refl
+
+-- the font is refused
+all_faces : (r : Result Face Refusal) → (r >>= λ face. as_call {X = Face} (Ok face)) ≡ r
+all_faces (Ok face) = refl
+all_faces (Err why) = refl
+
+lines_of_font : (j : CJob) (file : List ℕ) (how : Fit) → fit_asked j.fit ≡ Ok how → tested (of_no_text j how) ≡ Ok tt
+    → lines_wanted j file ≡ face_wanted file
+unfolding lines_wanted
+lines_of_font j file how fits test =
+    rw fits (by_face (tested (of_no_text j how)) (λ face. Ok face) file test ∙ all_faces (face_wanted file))
+
+pub face_refused : (j : CJob) (file : List ℕ) (how : Fit) (e : CallFault) → fit_asked j.fit ≡ Ok how
+    → tested (of_no_text j how) ≡ Ok tt → IfSome (call_refusal e) (λ why. face_wanted file ≡ Err why)
+    → IfSome (call_refusal e) (λ why. lines_wanted j file ≡ Err why)
+face_refused j file how e fits test = if_some_more (call_refusal e) _ _
+    (λ why h. lines_of_font j file how fits test ∙ h)
+
+-- the strike is refused where memory ran out, and nowhere else
+size_passed : (j : CJob) (how : Fit) → tested (of_no_text j how) ≡ Ok tt → size_tested j.size ≡ Ok tt
+unfolding tested
+size_passed j how test = (came-through (size_tested j.size) _ tt test).first
+
+no_memory : (d : DrawFault) (t : Result (Unit {0}) JobFault) → t ≡ Ok tt
+    → IfSome (refusal d) (λ why. as_job t ≡ Err why) → call_of_draw d ≡ call.Memory
+no_memory (draw.Font f) t passed h = let never = rw passed at h in absurd cc
+no_memory (draw.Job j) t passed h = let never = rw passed at h in absurd cc
+no_memory draw.Memory t passed h = refl
+
+pub strike_refused : (j : CJob) (how : Fit) (d : DrawFault) → tested (of_no_text j how) ≡ Ok tt
+    → IfSome (refusal d) (λ why. as_job (size_tested j.size) ≡ Err why) → call_of_draw d ≡ call.Memory
+strike_refused j how d test h = no_memory d (size_tested j.size) (size_passed j how test) h
+
+-- the font of a strike
+face_directory : (file : List ℕ) (face : Face) → face_of file ≡ Ok face → face.directory ≡ file
+unfolding face_of
+face_directory file face was =
+    let d = came-through (directory_of file) _ face was in
+    let m = came-through (metrics_of d.value) _ face d.rest in
+    let t = came-through (needed_table d.value cmap_tag) _ face m.rest in
+    let c = came-through (cmap_of t.value (glyphs_of m.value)) _ face t.rest in
+    let same : record { directory = d.value; metrics = m.value; cmap = c.value } ≡ face = let done = c.rest in cc in
+    rw (← same) (directory-same file d.value d.first)
+
+pub directory_is : (file : List ℕ) (face : Face) → face_wanted file ≡ Ok face → face.directory ≡ file
+directory_is file face is = face_directory file face (face_read file face is)
+
+pub strike_for : (j : CJob) (file : List ℕ) (how : Fit) (face : Face) (s : Strike) (most : ℕ) → fit_asked j.fit ≡ Ok how
+    → tested (of_no_text j how) ≡ Ok tt → face_wanted file ≡ Ok face
+    → s ≡ record { face = face; ppem = j.size; fit = how; most = most } → IsStrikeFor j s.face.directory s
+strike_for j file how face s most fits test found is =
+    let for : IsStrikeFor j file s =
+    rw is (record { face = lines_of_font j file how fits test ∙ found; fit = fits; size = refl }) in
+    let same : s.face.directory ≡ file = rw is (directory_is file face found) in
+    let P : List ℕ → Type 0 = λ l. IsStrikeFor j l s in subst P (sym same) for

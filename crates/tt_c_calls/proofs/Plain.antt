@@ -1,0 +1,36 @@
+-- A picture that is not made larger is what `run` writes.
+use Rattle.std.proofs.Common.{◌≡◌, Bool, true, false, List, ℕ, Result, Ok, Err, refl, nat_lt, length}
+use Rattle.std.specs.Prelude.{if◌then◌else◌}
+use Rattle.tt_core.specs.declared.fault.JobFault.{JobFault}
+use Rattle.tt_core.specs.Faults.{Fault}
+use Rattle.tt_core.specs.Limits.{font_limit}
+use Rattle.tt_core.specs.Outcomes.{◌>>=◌}
+use Rattle.tt_render.specs.Run.{run_outcome}
+use Rattle.tt_strike.specs.Job.{Job, tested}
+use Rattle.tt_strike.specs.Picture.{line_outcome, pictured, pictured_by}
+use Rattle.tt_strike.specs.Refusals.{as_font, large}
+use Rattle.tt_strike.specs.Tables.{Face, face_of}
+use Rattle.tt_c_calls.specs.Laws.{PlainIsRun}
+use Rattle.tt_c_calls.specs.Pictures.{made_of, picture_by, picture_wanted}
+
+-- a line of a job that is tested is not refused by its tests
+line_drawn : (face : Face) (a : Job) → tested a ≡ Ok tt → line_outcome face a ≡ pictured_by face a
+unfolding line_outcome
+line_drawn face a passes = rw passes refl
+
+by_size : (is_large : Bool) (face : Result Face Fault) (a : Job) → tested a ≡ Ok tt
+    → (if is_large then Err large else (as_font face >>= λ face. line_outcome face a))
+    ≡ (if is_large then Err large else (as_font face >>= λ face. pictured_by face a))
+by_size true face a passes = refl
+by_size false (Ok face) a passes = line_drawn face a passes
+by_size false (Err f) a passes = refl
+
+by_test : (test : Result (Unit {0}) JobFault) (a : Job) (font : List ℕ) → tested a ≡ test
+    → made_of (λ face. line_outcome face a) a font ≡ run_outcome a font
+unfolding run_outcome pictured
+by_test (Ok u) a font is = rw is (by_size (nat_lt font_limit (length font)) (face_of font) a is)
+by_test (Err j) a font is = rw is refl
+
+pub plain_is_run : PlainIsRun
+unfolding picture_wanted picture_by
+plain_is_run j text font a plain is = rw (is, plain, by_test (tested a) a font refl) refl

@@ -1,0 +1,32 @@
+use Rattle.std.proofs.Common.{◌≡◌, ◌∙◌, ◌-◌, arith, length, set}
+use Rattle.std.proofs.lemmas.List.{set-get_or}
+use borrow.Rule.Slice.PartMut.{put_mid, put_same}
+use Rattle.tt_c_calls.proofs.LinesDrawn.{drawn_on, line_stops}
+use Rattle.tt_c_calls.proofs.line_drawing.draw_by.Goals as goal
+
+pub loop-i-preserved : goal.loop-i-preserved
+loop-i-preserved g c =
+    let so_far = c.loop-i.invariant in
+    let own = c.draw_line-answer in
+    record {
+      strike = own.ensures.strike ∙ so_far.strike;
+      drawn = drawn_on _ _ _ _ _ _ _ _ _ _ _ _ _ _ so_far.drawn c.loop-i-test.true (omega arith) (omega arith)
+          (omega arith) (own.ensures.done c.if-answer-ne0.false) own.auto.room;
+    }
+
+pub returns-then-answer-ne0-clause-drawn : goal.returns-then-answer-ne0-clause-drawn
+returns-then-answer-ne0-clause-drawn g c =
+    let so_far = c.loop-i.invariant in
+    let own = c.draw_line-answer in
+    let room_kept = own.ensures.kept c.if-answer-ne0.true in
+    let told_kept = own.ensures.told_kept c.if-answer-ne0.true in
+    let rows : put_mid c.loop-i.used (length c.loop-i.rows - c.loop-i.used) c.loop-i.rows own.new.room ≡ c.loop-i.rows =
+    rw room_kept (put_same c.loop-i.used (length c.loop-i.rows - c.loop-i.used) c.loop-i.rows) in
+    let lines : set c.loop-i.lines c.loop-i.i own.new.told ≡ c.loop-i.lines =
+    rw told_kept (set-get_or c.loop-i.lines c.loop-i.i _) in
+    rw c.stopped-then-answer-ne0.ensures (
+      c.loop-i.used,
+      rw (rows, lines) so_far.drawn.so_far,
+      line_stops _ _ _ _ _ _ _ _ _ _ c.loop-i-test.true c.if-answer-ne0.true so_far.drawn.start (omega arith)
+          (omega arith) c.loop-i.auto.rows (own.ensures.stopped c.if-answer-ne0.true),
+    )

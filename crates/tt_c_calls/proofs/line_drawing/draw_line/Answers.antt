@@ -1,0 +1,51 @@
+use Rattle.std.proofs.Common.{◌≡◌}
+use Rattle.tt_c_calls.proofs.Answered.{stands}
+use Rattle.tt_c_calls.proofs.StrikeLines.{line_defect, line_refused, line_stopped, line_written, picture_of_line, room_small, text_refused}
+use Rattle.tt_c_calls.proofs.line_drawing.draw_line.Goals as goal
+use Rattle.tt_c_calls.proofs.line_drawing.draw_line.Goals.{then-answer-eq0, else-answer-eq0}
+
+pub returns-in-Err-clause-stopped : goal.returns-in-Err-clause-stopped
+returns-in-Err-clause-stopped g c not_done =
+    let e = c.in-Err.fault in
+    rw c.answer_of.ensures (line_stopped c.args.job.now g.font c.args.line.now _ e
+    (text_refused c.args.job.now g.font c.args.line.now c.args.strike.now e c.requires c.in-Err.ensures.exact))
+
+pub returns-in-Err-clause-stands : goal.returns-in-Err-clause-stands
+returns-in-Err-clause-stands g c = rw c.answer_of.ensures (stands _ c.in-Err.fault
+    (rw c.in-Err.ensures.refused tt))
+
+pub returns-in-Err-picture_by-clause-stopped : goal.returns-in-Err-picture_by-clause-stopped
+returns-in-Err-picture_by-clause-stopped g c not_done =
+    let e = c.in-Err-picture_by.fault in
+    let exact = rw c.grows.ensures at c.in-Err-picture_by.ensures.exact in
+    rw c.answer_of-in-Err-picture_by.ensures (line_stopped c.args.job.now g.font c.args.line.now _ e
+    (line_refused c.args.job.now g.font c.args.line.now c.in-Ok.text.now c.args.strike.now e c.requires
+    c.in-Ok.ensures.exact exact))
+
+pub returns-in-Err-picture_by-clause-stands : goal.returns-in-Err-picture_by-clause-stands
+returns-in-Err-picture_by-clause-stands g c =
+    let e = c.in-Err-picture_by.fault in
+    rw c.answer_of-in-Err-picture_by.ensures (stands _ e
+    (line_defect c.args.job.now g.font c.args.line.now c.in-Ok.text.now c.args.strike.now e c.requires
+    c.in-Ok.ensures.exact c.in-Err-picture_by.ensures.defects))
+
+pub returns-clause-done : goal.returns-clause-done
+returns-clause-done g c done =
+    let made = rw c.grows.ensures at c.in-Ok-picture_by.ensures in
+    let of = picture_of_line c.args.job.now g.font c.args.line.now c.in-Ok.text.now c.args.strike.now _ c.requires
+    c.in-Ok.ensures.exact made.exact made.ready made.made in
+    let told : c.if-answer-eq0.told ≡ record { picture = c.write_band-answer.new.told; at = c.args.at } =
+    elim c.if-answer-eq0.branch [
+      | then-answer-eq0 w ↦ w.told-is
+      | else-answer-eq0 w ↦ absurd (w.if-answer-eq0.false done)
+    ] in
+    line_written c.args.job.now g.font c.args.line.now c.args.at _ c.in-Ok-picture_by.picture c.args.room.now _ _ _ _ of
+    c.height-height.ensures.exact (c.write_band-answer.ensures.done done) told
+
+pub returns-clause-stopped : goal.returns-clause-stopped
+returns-clause-stopped g c not_done =
+    let made = rw c.grows.ensures at c.in-Ok-picture_by.ensures in
+    room_small c.args.job.now g.font c.args.line.now c.args.room.now _ c.in-Ok-picture_by.picture _
+    (picture_of_line c.args.job.now g.font c.args.line.now c.in-Ok.text.now c.args.strike.now _ c.requires
+    c.in-Ok.ensures.exact made.exact made.ready made.made)
+    c.height-height.ensures.exact (c.write_band-answer.ensures.small not_done)

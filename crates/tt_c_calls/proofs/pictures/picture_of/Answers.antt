@@ -1,0 +1,75 @@
+use Rattle.std.proofs.Common.{◌≡◌, List, ℕ, Result, Ok, Err, refl, ◌∙◌}
+use Rattle.std.specs.Prelude.{IfOk}
+use Rattle.std.proofs.lemmas.Result.{err_from_is_err_and}
+use Rattle.tt_core.specs.Outcomes.{GivesUnless, ◌>>=◌}
+use Rattle.tt_strike.specs.Job.{Job, job_view, tested}
+use Rattle.tt_strike.specs.Pictures.{IsReady, Picture, picture_bytes}
+use Rattle.tt_strike.specs.Tables.{Face}
+use Rattle.tt_c_calls.specs.declared.asked.CJob.{CJob}
+use Rattle.tt_c_calls.specs.declared.fault.CallFault.{CallFault}
+use Rattle.tt_c_calls.specs.Asked.{IsAskedDefect, asked, grows}
+use Rattle.tt_c_calls.specs.Fonts.{face_wanted}
+use Rattle.tt_c_calls.specs.Pictures.{IsMadeBy, IsPictureOf, picture_by, picture_wanted}
+use Rattle.tt_c_calls.specs.Refusals.{as_call, call_refusal}
+use Rattle.tt_c_calls.proofs.Answered.{first_stops}
+use Rattle.tt_c_calls.proofs.AskedTables.{asked_defects, asked_tells, face_read, of_tables}
+use Rattle.tt_c_calls.proofs.pictures.picture_of.Goals as goal
+
+by_tables : (j : CJob) (text font : List ℕ) (a : Job) → asked j text ≡ Ok a → tested a ≡ Ok tt
+    → picture_wanted j text font ≡ (face_wanted font >>= λ face. as_call (picture_by (grows j) face a))
+unfolding picture_wanted
+by_tables j text font a is passes = of_tables (picture_by (grows j)) j text font a is passes
+
+by_face : (j : CJob) (text font : List ℕ) (a : Job) (face : Face) → asked j text ≡ Ok a → tested a ≡ Ok tt
+    → face_wanted font ≡ Ok face → picture_wanted j text font ≡ as_call (picture_by (grows j) face a)
+by_face j text font a face is passes read = by_tables j text font a is passes ∙ rw read refl
+
+is_picture : (j : CJob) (text font : List ℕ) (a : Job) (face : Face) (r : Result Picture CallFault)
+    → asked j text ≡ Ok a → face_wanted font ≡ Ok face
+    → GivesUnless call_refusal picture_bytes r (picture_wanted j text font) → IfOk r IsReady
+    → IfOk r (λ p. IsMadeBy (grows j) a p face) → IfOk r (IsPictureOf j text font)
+is_picture j text font a face (Ok p) is read gives ready made = record {
+  file = gives;
+  ready = ready;
+  made = rw (is, face_read font face read) made;
+}
+is_picture j text font a face (Err e) is read gives ready made = tt
+
+pub returns-in_err-asked-clause-defects : goal.returns-in_err-asked-clause-defects
+returns-in_err-asked-clause-defects c =
+    let p = err_from_is_err_and c.from_residual.result c.from_residual.ensures.1 in
+    let job = c.args.job.now in
+    let text = c.args.text.now in
+    rw (p.1, p.2) (asked_tells (IsAskedDefect job text c.args.font.now) job text c.in_err-asked.field-0.0 c.in_err-asked.ensures)
+
+pub returns-in_err-face-clause-exact : goal.returns-in_err-face-clause-exact
+returns-in_err-face-clause-exact c =
+    let p = err_from_is_err_and c.from_residual-in_err-face.result c.from_residual-in_err-face.ensures.1 in
+    let font = c.args.font.now in
+    let fault = c.in_err-face.field-0.0 in
+    let is = by_tables c.args.job.now c.args.text.now font (job_view c.in_ok-asked.asked) c.in_ok-asked.ensures c.in_ok-test_job.ensures.exact in
+    rw (p.1, p.2, is) (first_stops (face_wanted font) _ fault c.in_err-face.ensures.exact)
+
+pub returns-clause-exact : goal.returns-clause-exact
+returns-clause-exact c =
+    let is = by_face c.args.job.now c.args.text.now c.args.font.now (job_view c.in_ok-asked.asked) c.in_ok-face.face
+    c.in_ok-asked.ensures c.in_ok-test_job.ensures.exact c.in_ok-face.ensures.exact in
+    rw is (rw (c.in_ok-strike.ensures.exact, c.grows.ensures) at c.picture_by.ensures.exact)
+
+pub returns-clause-picture : goal.returns-clause-picture
+returns-clause-picture c =
+    let job = c.args.job.now in
+    let text = c.args.text.now in
+    let font = c.args.font.now in
+    let a = job_view c.in_ok-asked.asked in
+    let face = c.in_ok-face.face in
+    let is = by_face job text font a face c.in_ok-asked.ensures c.in_ok-test_job.ensures.exact c.in_ok-face.ensures.exact in
+    is_picture job text font a face c.picture_by.result c.in_ok-asked.ensures c.in_ok-face.ensures.exact
+    (rw is (rw (c.in_ok-strike.ensures.exact, c.grows.ensures) at c.picture_by.ensures.exact))
+    c.picture_by.ensures.ready (rw (c.in_ok-strike.ensures.exact, c.grows.ensures) at c.picture_by.ensures.made)
+
+pub returns-clause-defects : goal.returns-clause-defects
+returns-clause-defects c =
+    asked_defects c.args.job.now c.args.text.now c.args.font.now (job_view c.in_ok-asked.asked) c.in_ok-face.face
+    c.picture_by.result c.in_ok-asked.ensures c.in_ok-face.ensures.exact c.in_ok-face.ensures.defects
+    (rw c.in_ok-strike.ensures.exact at c.picture_by.ensures.defects)

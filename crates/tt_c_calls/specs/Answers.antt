@@ -1,0 +1,78 @@
+-- No part of the standard: what a call of C answers. The statuses 0 to 5 are those of the program (profile).
+use Rattle.std.specs.Prelude.{◌≡◌, refl, ℕ, [], ◌∷◌, codes, Result, Ok, Err, ◌⊎◌}
+use Rattle.tt_core.specs.declared.fault.JobFault.{JobFault}
+use Rattle.tt_core.specs.declared.fault.JobFault.TheVariants as fault
+use Rattle.tt_core.specs.declared.fault.Why.TheVariants as why
+use Rattle.tt_core.specs.Faults.{Fault, fault_at, job_number, why_number}
+use Rattle.tt_strike.specs.Refusals.{font, job, large}
+use Rattle.tt_c_calls.specs.declared.answer.CAnswer.{CAnswer}
+use Rattle.tt_c_calls.specs.declared.fault.CallFault.{CallFault}
+use Rattle.tt_c_calls.specs.declared.fault.CallFault.TheVariants as call
+use Rattle.tt_c_calls.specs.Refusals.{Refusal, line_ends, not_utf8, refused, unknown_fit}
+
+-- an answer with nothing but a status and the number of a refusal
+abbrev pub plain_answer : ℕ → ℕ → CAnswer
+plain_answer status number = record {
+  status = status;
+  number = number;
+  table = 0 ∷ 0 ∷ 0 ∷ 0 ∷ [];
+  offset = 0;
+  bytes = 0;
+  count = 0;
+}
+
+-- so many bytes were written, and so many rows, entries or lines
+abbrev pub done_answer : ℕ → ℕ → CAnswer
+done_answer bytes count = record (plain_answer 0 0) { bytes = bytes; count = count }
+
+-- there has to be room for so many
+abbrev pub room_answer : ℕ → ℕ → CAnswer
+room_answer bytes count = record (plain_answer 7 0) { bytes = bytes; count = count }
+
+abbrev pub fault_answer : Fault → CAnswer
+fault_answer f = record (plain_answer 1 (why_number f.why)) { table = f.table; offset = f.offset }
+
+abbrev pub job_answer : JobFault → CAnswer
+job_answer j = plain_answer 2 (job_number j)
+
+-- the answer for a reason
+abbrev pub refusal_answer : Refusal → CAnswer
+refusal_answer (refused (font f)) = fault_answer f
+refusal_answer (refused (job j)) = job_answer j
+refusal_answer (refused large) = plain_answer 3 0
+refusal_answer unknown_fit = plain_answer 2 66
+refusal_answer line_ends = plain_answer 2 67
+refusal_answer not_utf8 = plain_answer 6 0
+
+-- the answer where memory was refused
+abbrev pub memory_answer : CAnswer
+memory_answer = plain_answer 5 0
+
+-- the answer for what stopped a call
+abbrev pub call_answer : CallFault → CAnswer
+call_answer (call.Font f) = fault_answer f
+call_answer (call.Job j) = job_answer j
+call_answer call.FontLarge = plain_answer 3 0
+call_answer call.UnknownFit = plain_answer 2 66
+call_answer call.LineEnds = plain_answer 2 67
+call_answer call.NotUtf8 = plain_answer 6 0
+call_answer call.Memory = memory_answer
+
+-- an answer that tells why there is nothing that was wanted, or that memory was refused
+abbrev pub TellsRefusal : {X : Type 0} → Result X Refusal → CAnswer → Type 0
+TellsRefusal (Ok x) a = a ≡ memory_answer
+TellsRefusal (Err why) a = (a ≡ refusal_answer why) ⊎ (a ≡ memory_answer)
+
+-- where an answer tells a defect of the font, this holds of it
+abbrev pub DefectStands : (Fault → Type 0) → CAnswer → Type 0
+DefectStands IsOne a = a.status ≡ 1 → (f : Fault) × (a ≡ fault_answer f) × IsOne f
+
+-- worked values
+an_instruction : refusal_answer (refused (font (fault_at (codes "glyf") 14 why.DivZero)))
+    ≡ record { status = 1; number = 47; table = codes "glyf"; offset = 14; bytes = 0; count = 0 }
+unfolding why_number
+an_instruction = refl
+
+no_pixel : refusal_answer (refused (job fault.EmptyPicture)) ≡ plain_answer 2 62
+unfolding job_number
+no_pixel = refl

@@ -1,0 +1,52 @@
+-- No part of the standard: what a call of C asks for (profile).
+use Rattle.std.specs.Prelude.{◌≡◌, refl, ℕ, ◌==◌, if◌then◌else◌, Bool, not, List, Result, Ok, Err, IsOkAnd}
+use Rattle.std.specs.Str.{is_utf8}
+use Rattle.tt_core.specs.Faults.{Fault}
+use Rattle.tt_core.specs.Outcomes.{◌>>=◌}
+use Rattle.tt_fit.specs.declared.programs.Fit.{Fit}
+use Rattle.tt_fit.specs.declared.programs.Fit.TheVariants as fit
+use Rattle.tt_strike.specs.Defects.{IsRunDefect}
+use Rattle.tt_strike.specs.Job.{Job}
+use Rattle.tt_c_calls.specs.declared.asked.CJob.{CJob}
+use Rattle.tt_c_calls.specs.Refusals.{Refusal, not_utf8, unknown_fit}
+
+-- the way to fit that a number stands for
+unfoldable pub fit_asked : ℕ → Result Fit Refusal
+fit_asked n =
+    if n == 0 then Ok fit.Full
+    else if n == 1 then Ok fit.None
+    else if n == 2 then Ok fit.Fallback
+    else if n == 3 then Ok fit.Best
+    else Err unknown_fit
+
+-- bytes that are to be a text
+unfoldable pub text_asked : List ℕ → Result (List ℕ) Refusal
+text_asked text = if is_utf8 text then Ok text else Err not_utf8
+
+-- the job of a text; the way to fit is tested first
+unfoldable pub asked : CJob → List ℕ → Result Job Refusal
+asked j text =
+    fit_asked j.fit >>= λ f.
+    text_asked text >>= λ t.
+    Ok (record { text = t; ppem = j.size; margin = j.margin; fit = f })
+
+-- whether the picture is to be made so much larger that no ink is cut
+abbrev pub grows : CJob → Bool
+grows j = not (j.grow == 0)
+
+-- a defect of a font that a job of such a text meets
+abbrev pub IsAskedDefect : CJob → List ℕ → List ℕ → Fault → Type 0
+IsAskedDefect j text font f = IsOkAnd (asked j text) (λ a. IsRunDefect a font f)
+
+-- worked values
+by_its_programs : fit_asked 0 ≡ Ok fit.Full
+unfolding fit_asked
+by_its_programs = refl
+
+with_dropouts : fit_asked 3 ≡ Ok fit.Best
+unfolding fit_asked
+with_dropouts = refl
+
+none_of_the_four : fit_asked 4 ≡ Err unknown_fit
+unfolding fit_asked
+none_of_the_four = refl

@@ -1,0 +1,25 @@
+-- No part of the standard: a font opened by a call of C (profile).
+use Rattle.std.specs.Prelude.{◌≡◌, ℕ, List, Result, IsOkAnd}
+use Rattle.tt_metrics.specs.Metrics.{Metrics, ascent_of, descent_of, glyphs_of, units_per_em_of}
+use Rattle.tt_render.specs.Outcome.{of_font}
+use Rattle.tt_strike.specs.Refusals.{as_font}
+use Rattle.tt_strike.specs.Tables.{Face, face_of}
+use Rattle.tt_c_calls.specs.declared.opening.CFont.{CFont}
+use Rattle.tt_c_calls.specs.Refusals.{Refusal, as_call}
+
+-- the tables that every text is looked up in, of a file that is not too large
+unfoldable pub face_wanted : List ℕ → Result Face Refusal
+face_wanted font = as_call (of_font (λ file. as_font (face_of file)) font)
+
+-- what a font says of itself
+abbrev pub font_told : Metrics → CFont
+font_told m = record {
+  units_per_em = units_per_em_of m;
+  ascent = ascent_of m;
+  descent = descent_of m;
+  glyphs = glyphs_of m;
+}
+
+-- this is what a font file says of itself
+abbrev pub IsFontOf : List ℕ → CFont → Type 0
+IsFontOf font told = IsOkAnd (face_wanted font) (λ face. told ≡ font_told face.metrics)

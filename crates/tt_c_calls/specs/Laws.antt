@@ -1,0 +1,27 @@
+-- Laws of the definitions: an answer says what the program's line says, and a picture that is not made larger is what
+-- `run` writes.
+use Rattle.std.specs.Prelude.{◌≡◌, ℕ, true, List, Ok}
+use Rattle.tt_core.specs.declared.fault.JobFault.{JobFault}
+use Rattle.tt_core.specs.Faults.{Fault, is_ascii}
+use Rattle.tt_render.specs.Messages.{font_line, job_line}
+use Rattle.tt_render.specs.Run.{run_outcome}
+use Rattle.tt_strike.specs.Job.{Job}
+use Rattle.tt_c_calls.specs.declared.asked.CJob.{CJob}
+use Rattle.tt_c_calls.specs.Answers.{fault_answer, job_answer}
+use Rattle.tt_c_calls.specs.Asked.{asked}
+use Rattle.tt_c_calls.specs.Messages.{message_of}
+use Rattle.tt_c_calls.specs.Pictures.{picture_wanted}
+use Rattle.tt_c_calls.specs.Refusals.{as_call}
+
+-- the answer of a font that is refused says the program's line of the defect
+abbrev pub FontMessagesAreLines : Type 0
+FontMessagesAreLines = (f : Fault) → is_ascii f.table ≡ true → message_of (fault_answer f) ≡ font_line f
+
+-- and that of a job the program's line of the job
+abbrev pub JobMessagesAreLines : Type 0
+JobMessagesAreLines = (j : JobFault) → message_of (job_answer j) ≡ job_line j
+
+-- without `grow` the picture of what is asked for is what `run` writes, or is refused for the same
+abbrev pub PlainIsRun : Type 0
+PlainIsRun = (j : CJob) (text font : List ℕ) (a : Job) → j.grow ≡ 0 → asked j text ≡ Ok a
+    → picture_wanted j text font ≡ as_call (run_outcome a font)

@@ -1,0 +1,10 @@
+pub mod Refusals
+pub mod Answers
+pub mod Asked
+pub mod Fonts
+pub mod Pictures
+pub mod Lines
+pub mod Measures
+pub mod Maps
+pub mod Messages
+pub mod Laws

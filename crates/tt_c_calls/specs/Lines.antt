@@ -1,0 +1,132 @@
+-- No part of the standard: lines drawn one after the other by a call of C (profile).
+use Rattle.std.specs.Prelude.{◌≡◌, ◌≢◌, ℕ, ◌+◌, ◌-◌, ◌*◌, ◌<◌, ◌≤◌, List, [], ◌∷◌, length, take, drop, get_or, Result, Ok, Err, ◌⊎◌, ⊤}
+use Rattle.tt_core.specs.Faults.{Fault}
+use Rattle.tt_core.specs.Outcomes.{◌>>=◌}
+use Rattle.tt_strike.specs.Defects.{IsFaceDefect}
+use Rattle.tt_strike.specs.Pictures.{Picture}
+use Rattle.tt_strike.specs.Strikes.{Strike}
+use Rattle.tt_strike.specs.Tables.{Face}
+use Rattle.tt_c_calls.specs.declared.answer.CAnswer.{CAnswer}
+use Rattle.tt_c_calls.specs.declared.asked.CJob.{CJob}
+use Rattle.tt_c_calls.specs.declared.line_drawing.CLine.{CLine}
+use Rattle.tt_c_calls.specs.Answers.{done_answer, fault_answer, memory_answer, refusal_answer, room_answer}
+use Rattle.tt_c_calls.specs.Asked.{IsAskedDefect, fit_asked}
+use Rattle.tt_c_calls.specs.Pictures.{IsPictureOf, IsWritten, made_of, picture_told, picture_wanted}
+use Rattle.tt_c_calls.specs.Refusals.{Refusal, as_call, line_ends}
+
+-- a line of texts, from one place to before another
+abbrev pub line_between : List ℕ → ℕ → ℕ → List ℕ
+line_between texts from end = take (end - from) (drop from texts)
+
+-- the lines of texts, of which the first begins there, by where each ends
+abbrev pub lines_by : List ℕ → ℕ → List ℕ → List (List ℕ)
+lines_by texts from [] = []
+lines_by texts from (end ∷ ends) = line_between texts from end ∷ lines_by texts end ends
+
+-- each line ends where it begins or after, and within so many bytes
+abbrev pub AreEnds : ℕ → ℕ → List ℕ → Type 0
+AreEnds bytes from [] = ⊤
+AreEnds bytes from (end ∷ ends) = (from ≤ end) × (end ≤ bytes) × AreEnds bytes end ends
+
+-- where line i begins
+abbrev pub start_of : List ℕ → ℕ → ℕ
+start_of ends i = get_or (0 ∷ ends) i 0
+
+-- what is told of a line whose rows stand there
+abbrev pub line_told : Picture → ℕ → CLine
+line_told p at = record { picture = picture_told p; at = at }
+
+-- the bytes of a line's rows
+abbrev pub line_bytes : CLine → ℕ
+line_bytes l = l.picture.row_bytes * l.picture.height
+
+abbrev pub lines_bytes : List CLine → ℕ
+lines_bytes [] = 0
+lines_bytes (l ∷ ls) = line_bytes l + lines_bytes ls
+
+-- a line was drawn at a place of a room
+abbrev pub IsLineDrawn : CJob → List ℕ → List ℕ → ℕ → List ℕ → CLine → Type 0
+IsLineDrawn j font room at line told =
+    (p : Picture) × IsPictureOf j line font p × (told ≡ line_told p at)
+    × (take (length p.rows) (drop at room) ≡ p.rows)
+
+-- the picture of a line was written at the front of a room that stands at that place of the caller's
+pub record IsLineWritten (j : CJob) (font line : List ℕ) (at : ℕ) (old new : List ℕ) (told : CLine) (a : CAnswer)
+    : Type 0 where
+  pub picture : Picture
+  pub of : IsPictureOf j line font picture
+  pub rows : IsWritten picture.rows old new
+  pub known : told ≡ line_told picture at
+  pub answer : a ≡ done_answer (length picture.rows) picture.frame.height
+
+-- lines were drawn one after the other, the first at that place
+abbrev pub AreLinesDrawn : CJob → List ℕ → List ℕ → ℕ → List (List ℕ) → List CLine → Type 0
+AreLinesDrawn j font room at [] [] = ⊤
+AreLinesDrawn j font room at (line ∷ lines) (told ∷ others) =
+    IsLineDrawn j font room at line told × AreLinesDrawn j font room (at + line_bytes told) lines others
+AreLinesDrawn j font room at lines told = ⊥
+
+-- the first lines, so many, were drawn in so many bytes, and nothing else was changed
+pub record DrawsLines (j : CJob) (font texts ends room_before room : List ℕ) (told_before told : List CLine)
+    (used count : ℕ) : Type 0 where
+  pub few : count ≤ length ends
+  pub within : AreEnds (length texts) 0 (take count ends)
+  pub drawn : AreLinesDrawn j font room 0 (lines_by texts 0 (take count ends)) (take count told)
+  pub bytes : used ≡ lines_bytes (take count told)
+  pub rest : drop used room ≡ drop used room_before
+  pub others : drop count told ≡ drop count told_before
+
+-- the answer of a line that stopped a call, after lines that were drawn in so many bytes
+abbrev pub stopped_answer : CAnswer → ℕ → ℕ → CAnswer
+stopped_answer a used count = record a { bytes = used + a.bytes; count = count }
+
+-- why a line stopped a call, which left so much room, and the line's own answer: memory was refused; it is refused;
+-- there is too little room
+abbrev pub IsTextStopped : CJob → List ℕ → List ℕ → ℕ → CAnswer → Type 0
+IsTextStopped j font line left a =
+    (a ≡ memory_answer)
+    ⊎ ((why : Refusal) × (picture_wanted j line font ≡ Err why) × (a ≡ refusal_answer why))
+    ⊎ ((p : Picture) × IsPictureOf j line font p × (left < length p.rows)
+    × (a ≡ room_answer (length p.rows) p.frame.height))
+
+-- why the line from one place to another stopped a call: there are no such ends; or the line did
+abbrev pub IsLineStopped : CJob → List ℕ → List ℕ → ℕ → ℕ → ℕ → CAnswer → Type 0
+IsLineStopped j font texts from end left a =
+    ((a ≡ refusal_answer line_ends) × ((end < from) ⊎ (length texts < end)))
+    ⊎ ((from ≤ end) × (end ≤ length texts) × IsTextStopped j font (line_between texts from end) left a)
+
+-- the tables of a font for lines: the way to fit is tested first, then the size and the margin, and then the font
+unfoldable pub lines_wanted : CJob → List ℕ → Result Face Refusal
+lines_wanted j font =
+    fit_asked j.fit >>= λ f.
+    as_call (made_of (λ face. Ok face) (record { text = []; ppem = j.size; margin = j.margin; fit = f }) font)
+
+-- why a call drew no more than the first lines: the font or the job is refused, and no line is drawn; or the next line
+-- stopped it
+abbrev pub IsStopped : CJob → List ℕ → List ℕ → List ℕ → ℕ → ℕ → CAnswer → Type 0
+IsStopped j font texts ends room used a =
+    ((why : Refusal) × (lines_wanted j font ≡ Err why) × (a ≡ refusal_answer why))
+    ⊎ (a ≡ memory_answer)
+    ⊎ ((own : CAnswer) × (a.count < length ends) × (a ≡ stopped_answer own used a.count)
+    × IsLineStopped j font texts (start_of ends a.count) (get_or ends a.count 0) (room - used) own)
+
+-- a font at the size and with the way to fit that are asked for, for lines
+pub record IsStrikeFor (j : CJob) (font : List ℕ) (s : Strike) : Type 0 where
+  pub face : lines_wanted j font ≡ Ok s.face
+  pub fit : fit_asked j.fit ≡ Ok s.fit
+  pub size : s.ppem ≡ j.size
+
+-- all lines were drawn, in so many bytes, or why not
+abbrev pub EndsWith : CJob → List ℕ → List ℕ → List ℕ → ℕ → ℕ → CAnswer → Type 0
+EndsWith j font texts ends room used a =
+    (a ≡ done_answer used (length ends)) ⊎ ((a.status ≢ 0) × IsStopped j font texts ends room used a)
+
+-- a defect of the font: of the tables that every text is looked up in, or of what the line of this number is drawn from
+abbrev pub IsLinesDefect : CJob → List ℕ → List ℕ → List ℕ → ℕ → Fault → Type 0
+IsLinesDefect j font texts ends i f =
+    IsFaceDefect font f ⊎ IsAskedDefect j (line_between texts (start_of ends i) (get_or ends i 0)) font f
+
+-- where an answer tells a defect of the font, after lines that were drawn, this holds of the defect
+abbrev pub LineDefectStands : (Fault → Type 0) → CAnswer → Type 0
+LineDefectStands IsOne a = a.status ≡ 1 → (f : Fault)
+    × (a ≡ record (fault_answer f) { bytes = a.bytes; count = a.count }) × IsOne f

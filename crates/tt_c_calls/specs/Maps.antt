@@ -1,0 +1,44 @@
+-- No part of the standard: what a call of C tells of a text's characters in a font (profile).
+use Rattle.std.specs.Prelude.{◌≡◌, ℕ, List, ◌++◌, chars, length, drop, map, Result, Ok}
+use Rattle.tt_cmap.specs.Lookup.{Cmap, glyph_of}
+use Rattle.tt_core.specs.Outcomes.{◌>>=◌}
+use Rattle.tt_metrics.specs.Metrics.{Metrics, advance_of}
+use Rattle.tt_render.specs.Outcome.{of_font}
+use Rattle.tt_strike.specs.Job.{text_tested}
+use Rattle.tt_strike.specs.Refusals.{as_font, as_job}
+use Rattle.tt_strike.specs.Tables.{face_of}
+use Rattle.tt_c_calls.specs.declared.answer.CAnswer.{CAnswer}
+use Rattle.tt_c_calls.specs.declared.mapping.CGlyph.{CGlyph}
+use Rattle.tt_c_calls.specs.Answers.{done_answer}
+use Rattle.tt_c_calls.specs.Asked.{text_asked}
+use Rattle.tt_c_calls.specs.Measures.{IsEntriesSmall}
+use Rattle.tt_c_calls.specs.Refusals.{Refusal, as_call}
+
+-- a character in a font
+abbrev pub glyph_told : Metrics → Cmap → ℕ → CGlyph
+glyph_told m lookup c = record {
+  code_point = c;
+  glyph = glyph_of lookup c;
+  advance = advance_of m (glyph_of lookup c);
+}
+
+-- the characters of a text by a font file: the text is tested first, and then the font's size
+unfoldable pub glyphs_wanted : List ℕ → List ℕ → Result (List CGlyph) Refusal
+glyphs_wanted text font =
+    text_asked text >>= λ t. as_call (as_job (text_tested t) >>= λ u. of_font (λ file.
+    as_font (face_of file) >>= λ face. Ok (map (glyph_told face.metrics face.cmap) (chars t))) font)
+
+-- some characters were written at the front of a room
+abbrev pub AreGlyphsTold : List CGlyph → List CGlyph → List CGlyph → CAnswer → Type 0
+AreGlyphsTold glyphs old new a =
+    (new ≡ glyphs ++ drop (length glyphs) old) × (a ≡ done_answer 0 (length glyphs))
+
+-- the same of the characters of a text
+abbrev pub AreGlyphsOf : List ℕ → List ℕ → List CGlyph → List CGlyph → CAnswer → Type 0
+AreGlyphsOf text font old new a =
+    (glyphs : List CGlyph) × (glyphs_wanted text font ≡ Ok glyphs) × AreGlyphsTold glyphs old new a
+
+-- they are more than a room has, as the answer tells
+abbrev pub IsGlyphsSmall : List ℕ → List ℕ → ℕ → CAnswer → Type 0
+IsGlyphsSmall text font room a =
+    (glyphs : List CGlyph) × (glyphs_wanted text font ≡ Ok glyphs) × IsEntriesSmall (length glyphs) room a

@@ -1,0 +1,88 @@
+-- No part of the standard: what a call of C tells of a text's measure (profile).
+use Rattle.std.specs.Prelude.{◌≡◌, ℕ, ◌<◌, Bool, true, false, pos, List, ◌++◌, length, drop, map, Option, Some, None, Result, Ok, IsOkAnd}
+use Rattle.tt_core.specs.Outcomes.{◌>>=◌}
+use Rattle.tt_strike.specs.Grown.{grown_measured}
+use Rattle.tt_strike.specs.Job.{Job}
+use Rattle.tt_strike.specs.Measures.{Measure, measured}
+use Rattle.tt_strike.specs.Refusals.{Refused}
+use Rattle.tt_strike.specs.Report.{report_by}
+use Rattle.tt_strike.specs.Tables.{Face, face_of}
+use Rattle.tt_strike.specs.declared.ink_box.InkBox.{InkBox}
+use Rattle.tt_strike.specs.declared.measuring.CharacterMeasure.{CharacterMeasure}
+use Rattle.tt_strike.specs.declared.report.Unfitted.{Unfitted}
+use Rattle.tt_c_calls.specs.declared.answer.CAnswer.{CAnswer}
+use Rattle.tt_c_calls.specs.declared.asked.CJob.{CJob}
+use Rattle.tt_c_calls.specs.declared.measuring.CBox.{CBox}
+use Rattle.tt_c_calls.specs.declared.measuring.CCharacter.{CCharacter}
+use Rattle.tt_c_calls.specs.declared.measuring.CMeasure.{CMeasure}
+use Rattle.tt_c_calls.specs.Answers.{done_answer, room_answer}
+use Rattle.tt_c_calls.specs.Asked.{asked, grows}
+use Rattle.tt_c_calls.specs.Pictures.{made_of}
+use Rattle.tt_c_calls.specs.Refusals.{Refusal, as_call}
+
+-- the measure of a job by a font's tables, of its picture as it is, or so much larger that no ink is cut
+unfoldable pub measure_by : Bool → Face → Job → Result Measure Refused
+measure_by false face a = measured face a
+measure_by true face a = grown_measured face a
+
+-- the measure of a text by a font file
+unfoldable pub measure_wanted : CJob → List ℕ → List ℕ → Result Measure Refusal
+measure_wanted j text font = asked j text >>= λ a. as_call (made_of (λ face. measure_by (grows j) face a) a font)
+
+-- a measure is that of a text by a font file, and these of its glyphs are not fitted
+pub record IsMeasureOf (j : CJob) (text font : List ℕ) (m : Measure) (entries : List Unfitted) : Type 0 where
+  pub measure : measure_wanted j text font ≡ Ok m
+  pub unfitted : IsOkAnd (asked j text) (λ a. IsOkAnd (face_of font) (λ face. report_by face a ≡ Ok entries))
+
+-- whether there is ink, and its box
+abbrev pub ink_told : Option InkBox → ℕ
+ink_told None = 0
+ink_told (Some b) = 1
+
+abbrev pub box_told : Option InkBox → CBox
+box_told None = record { left = pos 0; top = pos 0; right = pos 0; bottom = pos 0 }
+box_told (Some b) = record { left = b.left; top = b.top; right = b.right; bottom = b.bottom }
+
+-- what is told of a measure with so many glyphs that are not fitted
+abbrev pub measure_told : Measure → ℕ → CMeasure
+measure_told m unfitted = record {
+  width = m.width;
+  height = m.height;
+  baseline = m.baseline;
+  unfitted = unfitted;
+  has_ink = ink_told m.ink;
+  ink = box_told m.ink;
+}
+
+abbrev pub character_told : CharacterMeasure → CCharacter
+character_told c = record {
+  glyph = c.glyph;
+  advance = c.advance;
+  pen = c.pen;
+  has_ink = ink_told c.ink;
+  ink = box_told c.ink;
+}
+
+-- the measure of a text was told
+abbrev pub IsMeasureTold : CJob → List ℕ → List ℕ → CMeasure → CAnswer → Type 0
+IsMeasureTold j text font told a =
+    (m : Measure) × (unfitted : List Unfitted) × IsMeasureOf j text font m unfitted
+    × (told ≡ measure_told m (length unfitted)) × (a ≡ done_answer 0 0)
+
+-- some characters were written at the front of a room
+abbrev pub AreCharactersTold : List CharacterMeasure → List CCharacter → List CCharacter → CAnswer → Type 0
+AreCharactersTold measured old new a =
+    (new ≡ map character_told measured ++ drop (length measured) old) × (a ≡ done_answer 0 (length measured))
+
+-- so many entries are more than a room has, as the answer tells
+abbrev pub IsEntriesSmall : ℕ → ℕ → CAnswer → Type 0
+IsEntriesSmall count room a = (room < count) × (a ≡ room_answer 0 count)
+
+-- the same of the characters of a text
+abbrev pub AreCharactersOf : CJob → List ℕ → List ℕ → List CCharacter → List CCharacter → CAnswer → Type 0
+AreCharactersOf j text font old new a =
+    (m : Measure) × (measure_wanted j text font ≡ Ok m) × AreCharactersTold m.characters old new a
+
+abbrev pub IsCharactersSmall : CJob → List ℕ → List ℕ → ℕ → CAnswer → Type 0
+IsCharactersSmall j text font room a =
+    (m : Measure) × (measure_wanted j text font ≡ Ok m) × IsEntriesSmall (length m.characters) room a

@@ -1,0 +1,106 @@
+-- No part of the standard: what a call of C writes of a picture (profile). Netpbm, "PBM", format P4, has the bytes of a
+-- row; a row begins with a byte of its own.
+use Rattle.std.specs.Prelude.{◌≡◌, refl, ℕ, ◌*◌, ◌-◌, ◌<◌, min, Bool, true, false, pos, ◌+ℤ◌, List, ◌++◌, length, take, drop, Result, Ok, IsOkAnd}
+use Rattle.tt_core.specs.Bits.{stride}
+use Rattle.tt_core.specs.Outcomes.{◌>>=◌}
+use Rattle.tt_line.specs.Layout.{placement}
+use Rattle.tt_render.specs.Outcome.{of_font}
+use Rattle.tt_scan.specs.declared.edge.Frame.{Frame}
+use Rattle.tt_strike.specs.Grown.{grown_outcome, grown_placement}
+use Rattle.tt_strike.specs.Job.{Job, tested}
+use Rattle.tt_strike.specs.Picture.{frame_of, line_outcome}
+use Rattle.tt_strike.specs.Pictures.{IsReady, Picture, picture_bytes}
+use Rattle.tt_strike.specs.Refusals.{Refused, as_font, as_job}
+use Rattle.tt_strike.specs.Report.{report_by}
+use Rattle.tt_strike.specs.Tables.{Face, face_of}
+use Rattle.tt_c_calls.specs.declared.answer.CAnswer.{CAnswer}
+use Rattle.tt_c_calls.specs.declared.asked.CJob.{CJob}
+use Rattle.tt_c_calls.specs.declared.pictures.CPicture.{CPicture}
+use Rattle.tt_c_calls.specs.Answers.{done_answer, room_answer}
+use Rattle.tt_c_calls.specs.Asked.{asked, grows}
+use Rattle.tt_c_calls.specs.Refusals.{Refusal, as_call}
+
+-- the file of the picture of a job by a font's tables, as it is, or so much larger that no ink is cut
+unfoldable pub picture_by : Bool → Face → Job → Result (List ℕ) Refused
+picture_by false face a = line_outcome face a
+picture_by true face a = grown_outcome face a
+
+-- what is made by a font's tables, once a job is tested, and then the font's size
+abbrev pub made_of : {X : Type 0} → (Face → Result X Refused) → Job → List ℕ → Result X Refused
+made_of make a font = as_job (tested a) >>= λ u. of_font (λ file. as_font (face_of file) >>= make) font
+
+-- the file of the picture of a text by a font file
+unfoldable pub picture_wanted : CJob → List ℕ → List ℕ → Result (List ℕ) Refusal
+picture_wanted j text font = asked j text >>= λ a. as_call (made_of (λ face. picture_by (grows j) face a) a font)
+
+-- where that picture stands
+abbrev pub IsFramed : Bool → Face → Job → Frame → Type 0
+IsFramed false face a f =
+    IsOkAnd (placement face.metrics face.cmap a.text a.ppem a.margin) (λ l. f ≡ frame_of l a.margin)
+IsFramed true face a f = IsOkAnd (grown_placement face a) (λ l. f ≡ frame_of l a.margin)
+
+-- a picture of a job by a font's tables: where it stands, and which of its glyphs are not fitted
+abbrev pub IsMadeBy : Bool → Job → Picture → Face → Type 0
+IsMadeBy grow a p face = IsFramed grow face a p.frame × (report_by face a ≡ Ok p.unfitted)
+
+-- a picture is that of a text by a font file
+pub record IsPictureOf (j : CJob) (text font : List ℕ) (p : Picture) : Type 0 where
+  pub file : picture_wanted j text font ≡ Ok (picture_bytes p)
+  pub ready : IsReady p
+  pub made : IsOkAnd (asked j text) (λ a. IsOkAnd (face_of font) (IsMadeBy (grows j) a p))
+
+-- what is told of a picture
+abbrev pub picture_told : Picture → CPicture
+picture_told p = record {
+  width = p.frame.width;
+  height = p.frame.height;
+  row_bytes = stride p.frame.width;
+  baseline = p.frame.rise +ℤ pos p.frame.margin;
+  unfitted = length p.unfitted;
+}
+
+-- how many rows a picture of so many has in a band of at most `count`, from row `first` on
+abbrev pub band_rows : ℕ → ℕ → ℕ → ℕ
+band_rows height first count = min count (height - first)
+
+-- the bytes of that band
+abbrev pub band_of : Picture → ℕ → ℕ → List ℕ
+band_of p first count =
+    take (stride p.frame.width * band_rows p.frame.height first count) (drop (stride p.frame.width * first) p.rows)
+
+-- these bytes were written at the front of a room
+abbrev pub IsWritten : List ℕ → List ℕ → List ℕ → Type 0
+IsWritten bytes old new = new ≡ bytes ++ drop (length bytes) old
+
+-- a band of a picture was written
+pub record IsBandWritten (p : Picture) (first count : ℕ) (old new : List ℕ) (told : CPicture) (a : CAnswer)
+    : Type 0 where
+  pub rows : IsWritten (band_of p first count) old new
+  pub picture : told ≡ picture_told p
+  pub answer : a ≡ done_answer (length (band_of p first count)) (band_rows p.frame.height first count)
+
+-- a band of the picture of a text was written
+abbrev pub IsBandDrawn : CJob → List ℕ → List ℕ → ℕ → ℕ → List ℕ → List ℕ → CPicture → CAnswer → Type 0
+IsBandDrawn j text font first count old new told a =
+    (p : Picture) × IsPictureOf j text font p × IsBandWritten p first count old new told a
+
+-- a band of a picture is more than a room has, as the answer tells
+abbrev pub IsBandSmall : Picture → ℕ → ℕ → List ℕ → CAnswer → Type 0
+IsBandSmall p first count room a =
+    (length room < length (band_of p first count))
+    × (a ≡ room_answer (length (band_of p first count)) (band_rows p.frame.height first count))
+
+-- the same of a band of the picture of a text
+abbrev pub IsRoomSmall : CJob → List ℕ → List ℕ → ℕ → ℕ → List ℕ → CAnswer → Type 0
+IsRoomSmall j text font first count room a =
+    (p : Picture) × IsPictureOf j text font p × IsBandSmall p first count room a
+
+-- worked values
+the_whole_of_three_rows : band_rows 3 0 4096 ≡ 3
+the_whole_of_three_rows = refl
+
+the_last_of_three_rows : band_rows 3 2 2 ≡ 1
+the_last_of_three_rows = refl
+
+past_three_rows : band_rows 3 4 2 ≡ 0
+past_three_rows = refl

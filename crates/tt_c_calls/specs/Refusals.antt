@@ -1,0 +1,41 @@
+-- No part of the standard: why a call of C has no answer (profile).
+use Rattle.std.specs.Prelude.{Option, Some, None, Result, Ok, Err}
+use Rattle.tt_core.specs.Faults.{Fault}
+use Rattle.tt_strike.specs.Refusals.{Refused, font, job, large}
+use Rattle.tt_strike.specs.declared.fault.DrawFault.{DrawFault}
+use Rattle.tt_strike.specs.declared.fault.DrawFault.TheVariants as draw
+use Rattle.tt_c_calls.specs.declared.fault.CallFault.{CallFault}
+use Rattle.tt_c_calls.specs.declared.fault.CallFault.TheVariants as call
+
+-- the font or the job is refused as `run` refuses it; the number of the way to fit is none of the four; a line ends past
+-- the texts, or before it begins; the text is not UTF-8
+pub data Refusal : Type 0 where
+  refused : Refused → Refusal
+  unknown_fit : Refusal
+  line_ends : Refusal
+  not_utf8 : Refusal
+
+abbrev pub as_call : {X : Type 0} → Result X Refused → Result X Refusal
+as_call (Ok x) = Ok x
+as_call (Err why) = Err (refused why)
+
+-- what stops a call: nothing is told where memory ran out
+abbrev pub call_refusal : CallFault → Option Refusal
+call_refusal (call.Font f) = Some (refused (font f))
+call_refusal (call.Job j) = Some (refused (job j))
+call_refusal call.FontLarge = Some (refused large)
+call_refusal call.UnknownFit = Some unknown_fit
+call_refusal call.LineEnds = Some line_ends
+call_refusal call.NotUtf8 = Some not_utf8
+call_refusal call.Memory = None
+
+-- the fault of the font that stops a call
+abbrev pub call_font_fault : CallFault → Option Fault
+call_font_fault (call.Font f) = Some f
+call_font_fault e = None
+
+-- what stopped the making of a picture stops the call
+abbrev pub call_of_draw : DrawFault → CallFault
+call_of_draw (draw.Font f) = call.Font f
+call_of_draw (draw.Job j) = call.Job j
+call_of_draw draw.Memory = call.Memory

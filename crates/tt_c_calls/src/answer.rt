@@ -1,0 +1,94 @@
+//! What a call answers.
+
+ghost use Rattle.std.specs.Prelude.{◌≡◌};
+ghost use Rattle.tt_c_calls.specs.Answers.{call_answer, done_answer, fault_answer, job_answer, plain_answer, room_answer};
+
+use crate::fault::CallFault;
+use tt_core::{Fault, JobFault};
+
+/// What a call answers. Fields that an answer has no use for are 0.
+#[repr(C)]
+#[derive(Clone, Copy)]
+pub struct CAnswer {
+    /// 0 done, 1 the font is refused, 2 the job is, 3 the font is larger than 67,108,864 bytes, 5 memory was refused,
+    /// 6 the text is not UTF-8, 7 the caller's room is too small.
+    pub status: u32,
+    /// The number of the refusal, with status 1 and 2.
+    pub number: u32,
+    /// The tag of the table that has the defect, with status 1.
+    pub table: [u8; 4],
+    /// The defect's offset in it, in bytes.
+    pub offset: u32,
+    /// How many bytes were written, or with status 7 how many there has to be room for.
+    pub bytes: u64,
+    /// How many rows, entries or lines were written, or with status 7 how many there has to be room for.
+    pub count: u64,
+}
+
+/// An answer with nothing but a status and the number of a refusal.
+fn plain(status: u32, number: u32) -> CAnswer
+    ensures { result ≡ plain_answer status number }
+{
+    CAnswer {
+        status,
+        number,
+        table: [0; 4],
+        offset: 0,
+        bytes: 0,
+        count: 0,
+    }
+}
+
+/// The answer of a call that wrote so many bytes, and so many rows, entries or lines.
+pub(crate) fn done(bytes: u64, count: u64) -> CAnswer
+    ensures { result ≡ done_answer bytes count }
+{
+    CAnswer {
+        bytes,
+        count,
+        ..plain(0, 0)
+    }
+}
+
+/// The answer of a call for which there has to be room for so many.
+pub(crate) fn wants_room(bytes: u64, count: u64) -> CAnswer
+    ensures { result ≡ room_answer bytes count }
+{
+    CAnswer {
+        bytes,
+        count,
+        ..plain(7, 0)
+    }
+}
+
+fn of_defect(fault: Fault) -> CAnswer
+    ensures { result ≡ fault_answer fault }
+{
+    let table = fault.table;
+    CAnswer {
+        table,
+        offset: fault.offset,
+        ..plain(1, u32::from(fault.why.number()))
+    }
+}
+
+fn of_job(fault: JobFault) -> CAnswer
+    ensures { result ≡ job_answer fault }
+{
+    plain(2, u32::from(fault.number()))
+}
+
+/// The answer of a call that has none for this reason.
+pub(crate) fn answer_of(fault: CallFault) -> CAnswer
+    ensures { result ≡ call_answer fault }
+{
+    match fault {
+        CallFault::Font(fault) => of_defect(fault),
+        CallFault::Job(fault) => of_job(fault),
+        CallFault::UnknownFit => plain(2, 66),
+        CallFault::LineEnds => plain(2, 67),
+        CallFault::FontLarge => plain(3, 0),
+        CallFault::Memory => plain(5, 0),
+        CallFault::NotUtf8 => plain(6, 0),
+    }
+}

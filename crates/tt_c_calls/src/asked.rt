@@ -1,0 +1,78 @@
+//! What a call asks for.
+
+ghost use Rattle.std.specs.Prelude.{◌≡◌, not, ◌==◌, IfErr};
+ghost use Rattle.tt_core.specs.Outcomes.{GivesUnless};
+ghost use Rattle.tt_strike.specs.Job.{job_view};
+ghost use Rattle.tt_c_calls.specs.Asked.{asked, fit_asked, grows, text_asked};
+ghost use Rattle.tt_c_calls.specs.declared.fault.CallFault.TheVariants as call;
+ghost use Rattle.tt_c_calls.specs.Refusals.{call_refusal};
+
+use crate::fault::CallFault;
+use std::str;
+use tt_fit::Fit;
+use tt_strike::Job;
+
+/// How a text is to be drawn.
+#[repr(C)]
+#[derive(Clone, Copy)]
+pub struct CJob {
+    /// Pixels per em, 1 to 300.
+    pub size: u32,
+    /// Pixels round the line, 0 to 64.
+    pub margin: u32,
+    /// How outlines are fitted: 0 full, 1 none, 2 fallback, 3 best.
+    pub fit: u32,
+    /// Not 0 where the picture is to be so much larger on each side, by the least whole columns and rows, that no ink is
+    /// cut.
+    pub grow: u32,
+}
+
+impl CJob {
+    /// Whether the picture is to be larger where ink would be cut.
+    pub(crate) fn grows(&self) -> bool
+        ensures { result ≡ grows self.now }
+    {
+        self.grow != 0
+    }
+}
+
+/// The way to fit of a number. Error: UnknownFit.
+#[tactic(auto, unfolding(crate::specs::Asked::fit_asked))]
+pub(crate) fn fit_of(number: u32) -> Result<Fit, CallFault>
+    ensures { GivesUnless call_refusal (λ f. f) result (fit_asked number) }
+{
+    match number {
+        0 => Ok(Fit::Full),
+        1 => Ok(Fit::None),
+        2 => Ok(Fit::Fallback),
+        3 => Ok(Fit::Best),
+        _ => Err(CallFault::UnknownFit),
+    }
+}
+
+/// The text of some bytes. Error: NotUtf8.
+#[tactic(auto, unfolding(crate::specs::Asked::text_asked))]
+pub(crate) fn text_of(bytes: &[u8]) -> Result<&str, CallFault>
+    ensures exact { GivesUnless call_refusal (λ t. t.now) result (text_asked bytes.now) }
+    ensures refused { IfErr result (λ f. f ≡ call.NotUtf8) }
+{
+    match str::from_utf8(bytes) {
+        Ok(text) => Ok(text),
+        Err(_) => Err(CallFault::NotUtf8),
+    }
+}
+
+/// The job of a text. Errors, the first of: UnknownFit, NotUtf8.
+#[tactic(auto, unfolding(crate::specs::Asked::asked))]
+pub(crate) fn job_of<'t>(job: &CJob, text: &'t [u8]) -> Result<Job<'t>, CallFault>
+    ensures { GivesUnless call_refusal job_view result (asked job.now text.now) }
+{
+    let fit = fit_of(job.fit)?;
+    let text = text_of(text)?;
+    Ok(Job {
+        text,
+        ppem: job.size,
+        margin: job.margin,
+        fit,
+    })
+}

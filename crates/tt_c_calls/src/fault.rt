@@ -1,0 +1,64 @@
+//! Why a call has no answer.
+
+ghost use Rattle.std.specs.Prelude.{◌≡◌};
+ghost use Rattle.tt_c_calls.specs.declared.fault.CallFault.TheVariants as call;
+ghost use Rattle.tt_c_calls.specs.Refusals.{call_of_draw};
+
+use std::alloc::AllocError;
+use tt_core::{Fault, JobFault};
+use tt_strike::DrawFault;
+
+/// Why a call has no answer.
+#[derive(Clone, Copy)]
+pub(crate) enum CallFault {
+    /// The font has this defect.
+    Font(Fault),
+    /// The job cannot be done.
+    Job(JobFault),
+    /// The font has more than 67,108,864 bytes.
+    FontLarge,
+    /// The number of the way to fit is none of the four.
+    UnknownFit,
+    /// A line ends past the texts, or before it begins.
+    LineEnds,
+    /// The text is not UTF-8.
+    NotUtf8,
+    /// Memory was refused.
+    Memory,
+}
+
+impl From<Fault> for CallFault {
+    ghost from_gives = { λ f e. e ≡ call.Font f };
+
+    fn from(fault: Fault) -> CallFault {
+        CallFault::Font(fault)
+    }
+}
+
+impl From<JobFault> for CallFault {
+    ghost from_gives = { λ j e. e ≡ call.Job j };
+
+    fn from(fault: JobFault) -> CallFault {
+        CallFault::Job(fault)
+    }
+}
+
+impl From<DrawFault> for CallFault {
+    ghost from_gives = { λ f e. e ≡ call_of_draw f };
+
+    fn from(fault: DrawFault) -> CallFault {
+        match fault {
+            DrawFault::Font(fault) => CallFault::Font(fault),
+            DrawFault::Job(fault) => CallFault::Job(fault),
+            DrawFault::Memory => CallFault::Memory,
+        }
+    }
+}
+
+impl From<AllocError> for CallFault {
+    ghost from_gives = { λ _ e. e ≡ call.Memory };
+
+    fn from(_e: AllocError) -> CallFault {
+        CallFault::Memory
+    }
+}

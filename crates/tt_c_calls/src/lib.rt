@@ -1,0 +1,24 @@
+//! What the calls of the C library do: fonts, texts and answers as C sees them. The crate tt_c exports each.
+#![tactic(auto)]
+
+mod answer;
+mod asked;
+mod drawing;
+mod fault;
+pub mod laws;
+mod line_drawing;
+mod mapping;
+mod measuring;
+mod messages;
+mod opening;
+mod pictures;
+
+pub use answer::CAnswer;
+pub use asked::CJob;
+pub use drawing::draw_band;
+pub use line_drawing::{CLine, draw_lines};
+pub use mapping::{CGlyph, map};
+pub use measuring::{CBox, CCharacter, CMeasure, characters, measure};
+pub use messages::message;
+pub use opening::{CFont, open};
+pub use pictures::CPicture;

@@ -1,0 +1,161 @@
+//! Lines drawn one after the other by one font.
+
+ghost use Rattle.std.specs.Prelude.{◌≡◌, ◌≢◌, ◌+◌, ◌<◌, ◌≤◌, ℕ, List, length};
+ghost use Rattle.tt_c_calls.specs.Answers.{DefectStands, room_answer};
+ghost use Rattle.tt_c_calls.specs.Asked.{IsAskedDefect};
+ghost use Rattle.tt_c_calls.specs.Lines.{DrawsLines, EndsWith, IsLineWritten, IsLinesDefect, IsStrikeFor, IsTextStopped, LineDefectStands, stopped_answer};
+
+use crate::answer::{CAnswer, answer_of, done, wants_room};
+use crate::asked::{CJob, fit_of, text_of};
+use crate::fault::CallFault;
+use crate::opening::face_of;
+use crate::pictures::{CPicture, picture_by, told_of, write_band};
+use std::alloc::Global;
+use tt_strike::{Job, Strike, test_job};
+
+/// A line that was drawn.
+#[repr(C)]
+#[derive(Clone, Copy)]
+pub struct CLine {
+    pub picture: CPicture,
+    /// Where its rows begin, in bytes from the start of the caller's room.
+    pub at: u64,
+}
+
+/// The answer of a call that a line stopped, whose own answer this is: `count` lines before it were drawn, in `used`
+/// bytes.
+fn stopped(answer: CAnswer, used: usize, count: usize) -> CAnswer
+    requires { used + answer.bytes < 18446744073709551616 }
+    ensures { result ≡ stopped_answer answer used count }
+{
+    CAnswer {
+        bytes: used as u64 + answer.bytes,
+        count: count as u64,
+        ..answer
+    }
+}
+
+/// Draws a line at the front of a room that stands at this place of the caller's. Answers as `draw_band`, of the whole
+/// picture.
+fn draw_line(
+    strike: &mut Strike,
+    job: &CJob,
+    line: &[u8],
+    at: usize,
+    room: &mut [u8],
+    told: &mut CLine,
+) -> CAnswer
+    ghost font: { List ℕ }
+    requires { IsStrikeFor job.now font strike.old }
+    ensures done { result.status ≡ 0 → IsLineWritten job.now font line.now at room.old room.new told.new result }
+    ensures stopped { result.status ≢ 0 → IsTextStopped job.now font line.now (length room.old) result }
+    ensures bytes { result.bytes ≤ 8388608 }
+    ensures kept { result.status ≢ 0 → room.new ≡ room.old }
+    ensures told_kept { result.status ≢ 0 → told.new ≡ told.old }
+    ensures strike { strike.new ≡ strike.old }
+    ensures stands { DefectStands (IsAskedDefect job.now line.now font) result }
+{
+    let text = match text_of(line) {
+        Ok(text) => text,
+        Err(fault) => return answer_of(fault),
+    };
+    let mut picture = match picture_by(strike, job.grows(), text, job.margin) {
+        Ok(picture) => picture,
+        Err(fault) => return answer_of(fault),
+    };
+    let height = picture.height();
+    let mut known = told_of(&picture);
+    let answer = write_band(&mut picture, 0, height, room, &mut known);
+    if answer.status == 0 {
+        *told = CLine {
+            picture: known,
+            at: at as u64,
+        };
+    }
+    answer
+}
+
+/// Draws lines by a strike, as `draw_lines` says.
+fn draw_by(
+    strike: &mut Strike,
+    job: &CJob,
+    texts: &[u8],
+    ends: &[u64],
+    rows: &mut [u8],
+    lines: &mut [CLine],
+) -> CAnswer
+    ghost font: { List ℕ }
+    requires strike { IsStrikeFor job.now font strike.old }
+    requires lines { length ends.now ≤ length lines.old }
+    ensures drawn { (used : ℕ) × DrawsLines job.now font texts.now ends.now rows.old rows.new lines.old lines.new used result.count × EndsWith job.now font texts.now ends.now (length rows.old) used result }
+    ensures stands { LineDefectStands (IsLinesDefect job.now font texts.now ends.now result.count) result }
+{
+    let mut from = 0;
+    let mut used = 0;
+    for i in 0..ends.len() {
+        let end = ends[i];
+        if end < from as u64 || end > texts.len() as u64 {
+            return stopped(answer_of(CallFault::LineEnds), used, i);
+        }
+        let line = &texts[from..end as usize];
+        let answer = draw_line(strike, job, line, used, &mut rows[used..], &mut lines[i]);
+        if answer.status != 0 {
+            return stopped(answer, used, i);
+        }
+        used += answer.bytes as usize;
+        from = end as usize;
+    }
+    done(used as u64, ends.len() as u64)
+}
+
+/// Draws lines one after the other, each as `draw_band` draws its whole picture, by a font that is opened once and whose
+/// programs are run once; with the way to fit `best` once a line. Line i begins in `texts` where the line before it ends,
+/// and ends before `ends[i]`. `rows` gets the rows of all lines one after the other, `lines[i]` what there is to know of
+/// line i. At most `keep` bytes of glyphs are kept from line to line.
+///
+/// Answers: done, with the bytes and the number of all lines; too small a room for `lines`, and then nothing is done; the
+/// font is refused, too large, or the size, the margin or the way to fit refused, and then no line is drawn. A line that
+/// is refused, that is no text, ends before it begins or past the texts, wants more room than there is left, or for which
+/// memory was refused, stops the call: the answer is the line's, with the number of the lines before it and the bytes of
+/// their rows, and, of a room that is too small, those of the line besides. What comes after these lines is as it was.
+pub fn draw_lines(
+    alloc: Global,
+    font: &[u8],
+    texts: &[u8],
+    ends: &[u64],
+    job: &CJob,
+    keep: usize,
+    rows: &mut [u8],
+    lines: &mut [CLine],
+) -> CAnswer
+    ensures room { length lines.old < length ends.now → (result ≡ room_answer 0 (length ends.now)) × (rows.new ≡ rows.old) × (lines.new ≡ lines.old) }
+    ensures drawn { length ends.now ≤ length lines.old → (used : ℕ) × DrawsLines job.now font.now texts.now ends.now rows.old rows.new lines.old lines.new used result.count × EndsWith job.now font.now texts.now ends.now (length rows.old) used result }
+    ensures stands { length ends.now ≤ length lines.old → LineDefectStands (IsLinesDefect job.now font.now texts.now ends.now result.count) result }
+{
+    if lines.len() < ends.len() {
+        return wants_room(0, ends.len() as u64);
+    }
+    let fit = match fit_of(job.fit) {
+        Ok(fit) => fit,
+        Err(fault) => return answer_of(fault),
+    };
+    // A text of no characters is never too long.
+    let none = Job {
+        text: "",
+        ppem: job.size,
+        margin: job.margin,
+        fit,
+    };
+    if let Err(fault) = test_job(&none) {
+        return answer_of(CallFault::Job(fault));
+    }
+    let face = match face_of(font) {
+        Ok(face) => face,
+        Err(fault) => return answer_of(fault),
+    };
+    let mut strike = match Strike::new(alloc, &face, job.size, fit, keep) {
+        Ok(strike) => strike,
+        Err(fault) => return answer_of(CallFault::from(fault)),
+    };
+    draw_by(&mut strike, job, texts, ends, rows, lines)
+}

@@ -1,0 +1,200 @@
+//! A text measured.
+
+ghost use Rattle.std.specs.Prelude.{◌≡◌, ◌≢◌, ◌<◌, length, Ok, IfOk};
+ghost use Rattle.tt_core.specs.Outcomes.{GivesUnless};
+ghost use Rattle.tt_line.specs.Layout.{text_glyphs};
+ghost use Rattle.tt_strike.specs.Defects.{IsLineDefect, TellsDefects};
+ghost use Rattle.tt_strike.specs.Measures.{measure_view};
+ghost use Rattle.tt_strike.specs.Report.{report_by};
+ghost use Rattle.tt_strike.specs.Strikes.{job_of};
+ghost use Rattle.tt_c_calls.specs.Answers.{DefectStands, TellsRefusal};
+ghost use Rattle.tt_c_calls.specs.Asked.{IsAskedDefect};
+ghost use Rattle.tt_c_calls.specs.Measures.{AreCharactersOf, AreCharactersTold, IsCharactersSmall, IsEntriesSmall, IsMeasureOf, IsMeasureTold, box_told, character_told, measure_by, measure_told, measure_wanted};
+ghost use Rattle.tt_c_calls.specs.Refusals.{as_call, call_font_fault, call_refusal};
+
+use crate::answer::{CAnswer, answer_of, done, wants_room};
+use crate::asked::{CJob, job_of};
+use crate::fault::CallFault;
+use crate::opening::face_of;
+use std::alloc::Global;
+use tt_strike::{CharacterMeasure, InkBox, Measure, Strike, test_job};
+
+/// A box of pixels, all four among those that it holds.
+#[repr(C)]
+#[derive(Clone, Copy)]
+pub struct CBox {
+    pub left: i64,
+    pub top: i64,
+    pub right: i64,
+    pub bottom: i64,
+}
+
+/// A text measured, in its picture's columns and rows.
+#[repr(C)]
+#[derive(Clone, Copy)]
+pub struct CMeasure {
+    /// Columns of the picture: 1 to 16,384.
+    pub width: u32,
+    /// Rows of the picture: 1 to 4,096.
+    pub height: u32,
+    /// How many rows lie above the base line. Below 0, or more than the picture has, where that stands outside.
+    pub baseline: i64,
+    /// How many distinct glyphs are drawn with their scaled points though their fitting was asked for.
+    pub unfitted: u64,
+    /// 0 where nothing is black; the box is then all 0.
+    pub has_ink: u64,
+    /// The box of all that the text blackens, past the picture's edges too.
+    pub ink: CBox,
+}
+
+/// Where a character of a text stands in its picture.
+#[repr(C)]
+#[derive(Clone, Copy)]
+pub struct CCharacter {
+    pub glyph: u32,
+    /// How many columns further the next character's origin stands.
+    pub advance: u32,
+    /// The column of the picture at which the glyph's origin stands, the margin included.
+    pub pen: i64,
+    /// 0 where the glyph blackens nothing; the box is then all 0.
+    pub has_ink: u64,
+    /// The box of what the glyph blackens.
+    pub ink: CBox,
+}
+
+/// The box of some ink, all 0 where there is none.
+fn box_of(ink: Option<InkBox>) -> CBox
+    ensures { result ≡ box_told ink }
+{
+    match ink {
+        Some(ink) => CBox {
+            left: ink.left,
+            top: ink.top,
+            right: ink.right,
+            bottom: ink.bottom,
+        },
+        None => CBox {
+            left: 0,
+            top: 0,
+            right: 0,
+            bottom: 0,
+        },
+    }
+}
+
+fn character_of(character: &CharacterMeasure) -> CCharacter
+    ensures { result ≡ character_told character.now }
+{
+    CCharacter {
+        glyph: u32::from(character.glyph),
+        advance: character.advance,
+        pen: character.pen,
+        has_ink: u64::from(character.ink.is_some()),
+        ink: box_of(character.ink),
+    }
+}
+
+fn measure_of(measure: &Measure) -> CMeasure
+    ensures { result ≡ measure_told (measure_view measure.now) (length measure.now.report.unfitted.items) }
+{
+    CMeasure {
+        width: measure.width,
+        height: measure.height,
+        baseline: measure.baseline,
+        unfitted: measure.report.unfitted.len() as u64,
+        has_ink: u64::from(measure.ink.is_some()),
+        ink: box_of(measure.ink),
+    }
+}
+
+/// The measure of a text by a strike, of its picture as it is or grown. Errors: those of `Strike::measure` or
+/// `Strike::grown_measure`.
+#[tactic(auto, unfolding(crate::specs::Measures::measure_by))]
+fn measured_by(
+    strike: &mut Strike,
+    grow: bool,
+    text: &str,
+    margin: u32,
+) -> Result<Measure, CallFault>
+    ensures exact { GivesUnless call_refusal measure_view result (as_call (measure_by grow strike.old.face (job_of strike.old text.now margin))) }
+    ensures report { IfOk result (λ m. report_by strike.old.face (job_of strike.old text.now margin) ≡ Ok m.report.unfitted.items) }
+    ensures defects { TellsDefects call_font_fault (IsLineDefect strike.old.face (job_of strike.old text.now margin) (text_glyphs strike.old.face.cmap text.now)) result }
+{
+    if grow {
+        Ok(strike.grown_measure(text, margin)?)
+    } else {
+        Ok(strike.measure(text, margin)?)
+    }
+}
+
+/// The measure of a text by a font file. Errors, the first of: UnknownFit, NotUtf8; SizeRange, MarginRange, TextLong;
+/// FontLarge; those of the tables that every text is looked up in; those of `measured_by`.
+#[tactic(auto, unfolding(crate::specs::Measures::measure_wanted))]
+fn measured(alloc: Global, font: &[u8], text: &[u8], job: &CJob) -> Result<Measure, CallFault>
+    ensures exact { GivesUnless call_refusal measure_view result (measure_wanted job.now text.now font.now) }
+    ensures measure { IfOk result (λ m. IsMeasureOf job.now text.now font.now (measure_view m) m.report.unfitted.items) }
+    ensures defects { TellsDefects call_font_fault (IsAskedDefect job.now text.now font.now) result }
+{
+    let asked = job_of(job, text)?;
+    test_job(&asked)?;
+    let face = face_of(font)?;
+    let mut strike = Strike::new(alloc, &face, asked.ppem, asked.fit, 0)?;
+    measured_by(&mut strike, job.grows(), asked.text, asked.margin)
+}
+
+/// Measures a text: how large its picture is, and where its base line and its ink stand. Answers: done; the font is
+/// refused, too large, or the job refused; memory was refused; the text is not UTF-8. Unless it is done, `told` is as
+/// it was.
+pub fn measure(alloc: Global, font: &[u8], text: &[u8], job: &CJob, told: &mut CMeasure) -> CAnswer
+    ensures done { result.status ≡ 0 → IsMeasureTold job.now text.now font.now told.new result }
+    ensures refused { result.status ≢ 0 → TellsRefusal (measure_wanted job.now text.now font.now) result }
+    ensures kept { result.status ≢ 0 → told.new ≡ told.old }
+    ensures stands { DefectStands (IsAskedDefect job.now text.now font.now) result }
+{
+    match measured(alloc, font, text, job) {
+        Ok(measure) => {
+            *told = measure_of(&measure);
+            done(0, 0)
+        }
+        Err(fault) => answer_of(fault),
+    }
+}
+
+/// Writes the characters of a text at the front of a caller's room. Answers: done; or too small a room, and then
+/// nothing is written.
+fn write_characters(measured: &[CharacterMeasure], room: &mut [CCharacter]) -> CAnswer
+    ensures done { result.status ≡ 0 → AreCharactersTold measured.now room.old room.new result }
+    ensures small { result.status ≢ 0 → IsEntriesSmall (length measured.now) (length room.old) result }
+    ensures kept { result.status ≢ 0 → room.new ≡ room.old }
+{
+    let count = measured.len();
+    if count > room.len() {
+        return wants_room(0, count as u64);
+    }
+    for i in 0..count {
+        room[i] = character_of(&measured[i]);
+    }
+    done(0, count as u64)
+}
+
+/// Tells where each character of a text stands in its picture, in the order of the text. Answers: done, with the number
+/// of characters; the font is refused, too large, or the job refused; memory was refused; the text is not UTF-8; too
+/// small a room. Unless it is done, `room` is as it was.
+pub fn characters(
+    alloc: Global,
+    font: &[u8],
+    text: &[u8],
+    job: &CJob,
+    room: &mut [CCharacter],
+) -> CAnswer
+    ensures done { result.status ≡ 0 → AreCharactersOf job.now text.now font.now room.old room.new result }
+    ensures refused { result.status ≢ 0 → result.status ≢ 7 → TellsRefusal (measure_wanted job.now text.now font.now) result }
+    ensures small { result.status ≡ 7 → IsCharactersSmall job.now text.now font.now (length room.old) result }
+    ensures kept { result.status ≢ 0 → room.new ≡ room.old }
+    ensures stands { DefectStands (IsAskedDefect job.now text.now font.now) result }
+{
+    match measured(alloc, font, text, job) {
+        Ok(measure) => write_characters(&measure.characters, room),
+        Err(fault) => answer_of(fault),
+    }
+}

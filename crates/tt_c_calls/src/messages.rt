@@ -1,0 +1,177 @@
+//! What an answer says, for a person.
+
+ghost use Rattle.std.specs.Prelude.{◌≡◌, ◌≢◌, ◌+◌, ◌<◌, length, string_bytes, IfOk};
+ghost use Rattle.tt_core.specs.Faults.{is_ascii};
+ghost use Rattle.tt_c_calls.specs.Answers.{memory_answer};
+ghost use Rattle.tt_c_calls.specs.Messages.{IsTextSmall, IsTextWritten, defect_message, defect_of, job_message, job_of, message_of, why_of};
+
+use crate::answer::{CAnswer, answer_of, done, wants_room};
+use crate::fault::CallFault;
+use std::alloc::{AllocError, Global};
+use tt_core::{Fault, JobFault, Why};
+use tt_render::{RunFault, line};
+
+/// What is wrong with a font, by the number that answers give.
+#[tactic(auto, unfolding(crate::specs::Messages::why_of))]
+fn why_of(number: u32) -> Option<Why>
+    ensures { result ≡ why_of number }
+{
+    let why = match number {
+        1 => Why::BadVersion,
+        2 => Why::DirShort,
+        3 => Why::NoTable,
+        4 => Why::TableRange,
+        5 => Why::HeadMagic,
+        6 => Why::EmRange,
+        7 => Why::LocaFormat,
+        8 => Why::MaxpVersion,
+        9 => Why::MetricsShort,
+        10 => Why::NoCmap,
+        11 => Why::CmapShape,
+        12 => Why::LocaShort,
+        13 => Why::GlyphRange,
+        14 => Why::GlyphShort,
+        15 => Why::ContourOrder,
+        16 => Why::FlagRun,
+        17 => Why::ComponentDepth,
+        18 => Why::ComponentCount,
+        19 => Why::ComponentGlyph,
+        20 => Why::MatchPoint,
+        21 => Why::ScaledOffset,
+        22 => Why::PointLimit,
+        23 => Why::CoordRange,
+        30 => Why::StepLimit,
+        31 => Why::StackFull,
+        32 => Why::StackShort,
+        33 => Why::CallDepth,
+        34 => Why::BadOpcode,
+        35 => Why::OffProfile,
+        36 => Why::JumpRange,
+        37 => Why::CodeShort,
+        38 => Why::NoFunction,
+        39 => Why::DefinitionPlace,
+        40 => Why::IfOpen,
+        41 => Why::NoEndf,
+        42 => Why::PointRange,
+        43 => Why::ContourRange,
+        44 => Why::ZoneRange,
+        45 => Why::CvtRange,
+        46 => Why::StorageRange,
+        47 => Why::DivZero,
+        48 => Why::ValueRange,
+        49 => Why::Perpendicular,
+        50 => Why::BadArgument,
+        _ => return None,
+    };
+    Some(why)
+}
+
+/// What is wrong with a job, by the number that answers give.
+#[tactic(auto, unfolding(crate::specs::Messages::job_of))]
+fn job_of(number: u32) -> Option<JobFault>
+    ensures { result ≡ job_of number }
+{
+    let fault = match number {
+        60 => JobFault::SizeRange,
+        61 => JobFault::TextLong,
+        62 => JobFault::EmptyPicture,
+        63 => JobFault::PictureLarge,
+        64 => JobFault::MarginRange,
+        65 => JobFault::WorkLarge,
+        _ => return None,
+    };
+    Some(fault)
+}
+
+/// Whether the bytes of a tag are ASCII.
+fn is_tag(table: &[u8]) -> bool
+    ensures { result ≡ is_ascii table.now }
+{
+    table.iter().all(|byte| *byte < 128)
+}
+
+/// The defect that an answer tells, if there is such a one.
+#[tactic(auto, unfolding(crate::specs::Messages::defect_of))]
+fn defect_of(told: &CAnswer) -> Option<Fault>
+    ensures { result ≡ defect_of told.now }
+{
+    let why = why_of(told.number)?;
+    if !is_tag(&told.table) {
+        return None;
+    }
+    Some(Fault::new(told.table, told.offset, why))
+}
+
+/// The text of an answer, without a zero at its end. Error: want of memory.
+#[tactic(auto, unfolding(crate::specs::Messages::message_of))]
+fn text_of(alloc: Global, told: &CAnswer) -> Result<String, AllocError>
+    ensures { IfOk result (λ text. string_bytes text ≡ message_of told.now) }
+{
+    match told.status {
+        0 => String::from_str(alloc, "tt_render: done"),
+        1 => defect_text(alloc, told),
+        2 => job_text(alloc, told),
+        3 => line(alloc, &RunFault::FontLarge),
+        5 => line(alloc, &RunFault::Memory),
+        6 => String::from_str(alloc, "tt_render: not UTF-8"),
+        7 => {
+            let bytes = told.bytes;
+            let count = told.count;
+            format!(in alloc; "tt_render: room for {bytes} bytes and {count} entries is wanted")
+        }
+        _ => String::from_str(alloc, "tt_render: no such answer"),
+    }
+}
+
+fn defect_text(alloc: Global, told: &CAnswer) -> Result<String, AllocError>
+    ensures { IfOk result (λ text. string_bytes text ≡ defect_message told.now) }
+{
+    match defect_of(told) {
+        Some(fault) => line(alloc, &RunFault::Font(fault)),
+        None => String::from_str(alloc, "tt_render: no such answer"),
+    }
+}
+
+fn job_text(alloc: Global, told: &CAnswer) -> Result<String, AllocError>
+    ensures { IfOk result (λ text. string_bytes text ≡ job_message told.now) }
+{
+    match told.number {
+        66 => String::from_str(alloc, "tt_render: 66 UnknownFit"),
+        67 => String::from_str(alloc, "tt_render: 67 LineEnds"),
+        number => match job_of(number) {
+            Some(fault) => line(alloc, &RunFault::Job(fault)),
+            None => String::from_str(alloc, "tt_render: no such answer"),
+        },
+    }
+}
+
+/// Writes a text and a zero at the front of a caller's room. Answers: done; or too small a room, and then nothing is
+/// written.
+fn write_text(text: &[u8], room: &mut [u8]) -> CAnswer
+    requires { length text.now < 9223372036854775808 }
+    ensures done { result.status ≡ 0 → IsTextWritten text.now room.old room.new result }
+    ensures small { result.status ≢ 0 → IsTextSmall text.now (length room.old) result }
+    ensures kept { result.status ≢ 0 → room.new ≡ room.old }
+{
+    let count = text.len();
+    if count >= room.len() {
+        return wants_room(count as u64 + 1, 0);
+    }
+    room[..count].copy_from_slice(text);
+    room[count] = 0;
+    done(count as u64 + 1, 0)
+}
+
+/// Writes what an answer says, as the program's line says it, and a zero after it. Answers: done, with the bytes, the
+/// zero among them; memory was refused; too small a room. Unless it is done, `room` is as it was.
+pub fn message(alloc: Global, told: &CAnswer, room: &mut [u8]) -> CAnswer
+    ensures done { result.status ≡ 0 → IsTextWritten (message_of told.now) room.old room.new result }
+    ensures refused { result.status ≢ 0 → result.status ≢ 7 → result ≡ memory_answer }
+    ensures small { result.status ≡ 7 → IsTextSmall (message_of told.now) (length room.old) result }
+    ensures kept { result.status ≢ 0 → room.new ≡ room.old }
+{
+    match text_of(alloc, told) {
+        Ok(text) => write_text(text.as_bytes(), room),
+        Err(fault) => answer_of(CallFault::from(fault)),
+    }
+}

@@ -1,0 +1,66 @@
+//! A font opened.
+
+ghost use Rattle.std.specs.Prelude.{◌≡◌, ◌≢◌, ◌≤◌, length, IfOk, IfErr};
+ghost use Rattle.tt_core.specs.Limits.{font_limit};
+ghost use Rattle.tt_core.specs.Outcomes.{GivesUnless};
+ghost use Rattle.tt_strike.specs.Defects.{IsFaceDefect, TellsDefects};
+ghost use Rattle.tt_c_calls.specs.Answers.{DefectStands, TellsRefusal, done_answer};
+ghost use Rattle.tt_c_calls.specs.Fonts.{IsFontOf, face_wanted};
+ghost use Rattle.tt_c_calls.specs.declared.fault.CallFault.TheVariants as call;
+ghost use Rattle.tt_c_calls.specs.Refusals.{call_font_fault, call_refusal};
+
+use crate::answer::{CAnswer, answer_of, done};
+use crate::fault::CallFault;
+use tt_core::FONT_LIMIT;
+use tt_strike::Face;
+
+/// What a font says of itself.
+#[repr(C)]
+#[derive(Clone, Copy)]
+pub struct CFont {
+    /// Font units in an em, 16 to 16,384.
+    pub units_per_em: u32,
+    /// Above the base line, in font units.
+    pub ascent: i32,
+    /// Above the base line, in font units, so mostly negative.
+    pub descent: i32,
+    /// How many glyphs there are.
+    pub glyphs: u32,
+}
+
+/// The tables of a font file that every text is looked up in. Errors: FontLarge, and those of the directory, of head,
+/// maxp, hhea and hmtx, and of cmap.
+#[tactic(auto, unfolding(crate::specs::Fonts::face_wanted))]
+pub(crate) fn face_of<'a>(font: &'a [u8]) -> Result<Face<'a>, CallFault>
+    ensures exact { GivesUnless call_refusal (λ f. f) result (face_wanted font.now) }
+    ensures defects { TellsDefects call_font_fault (IsFaceDefect font.now) result }
+    ensures memory { IfErr result (λ f. f ≢ call.Memory) }
+{
+    if font.len() > FONT_LIMIT {
+        return Err(CallFault::FontLarge);
+    }
+    Ok(Face::open(font)?)
+}
+
+/// Tests the tables of a font that every text is looked up in, and tells what the font says of itself. Answers: done;
+/// the font is refused, or too large. It takes no memory.
+pub fn open(font: &[u8], told: &mut CFont) -> CAnswer
+    ensures done { result.status ≡ 0 → IsFontOf font.now told.new × (result ≡ done_answer 0 0) }
+    ensures refused { result.status ≢ 0 → TellsRefusal (face_wanted font.now) result }
+    ensures memory { result.status ≢ 5 }
+    ensures kept { result.status ≢ 0 → told.new ≡ told.old }
+    ensures stands { DefectStands (IsFaceDefect font.now) result }
+{
+    let face = match face_of(font) {
+        Ok(face) => face,
+        Err(fault) => return answer_of(fault),
+    };
+    let metrics = face.metrics();
+    *told = CFont {
+        units_per_em: u32::from(metrics.units_per_em()),
+        ascent: i32::from(metrics.ascent()),
+        descent: i32::from(metrics.descent()),
+        glyphs: u32::from(metrics.glyphs()),
+    };
+    done(0, 0)
+}

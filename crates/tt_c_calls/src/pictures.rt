@@ -1,0 +1,146 @@
+//! The picture of a text, and its rows in a caller's room.
+
+ghost use Rattle.std.specs.Prelude.{◌≡◌, ◌≢◌, ◌*◌, ◌+◌, ◌-◌, ◌<◌, ◌≤◌, min, length, take, drop, Ok, IfOk};
+ghost use Rattle.tt_core.specs.Bits.{stride};
+ghost use Rattle.tt_core.specs.Outcomes.{GivesUnless};
+ghost use Rattle.tt_line.specs.Layout.{text_glyphs};
+ghost use Rattle.tt_strike.specs.Defects.{IsLineDefect, TellsDefects};
+ghost use Rattle.tt_strike.specs.Pictures.{IsReady, picture_bytes};
+ghost use Rattle.tt_strike.specs.Strikes.{job_of};
+ghost use Rattle.tt_c_calls.specs.Asked.{IsAskedDefect, grows};
+ghost use Rattle.tt_c_calls.specs.Pictures.{IsBandSmall, IsBandWritten, IsMadeBy, IsPictureOf, band_of, band_rows, picture_by, picture_told, picture_wanted};
+ghost use Rattle.tt_c_calls.specs.Answers.{room_answer};
+ghost use Rattle.tt_c_calls.specs.Refusals.{as_call, call_font_fault, call_refusal};
+
+use crate::answer::{CAnswer, done, wants_room};
+use crate::asked::{CJob, job_of};
+use crate::fault::CallFault;
+use crate::opening::face_of;
+use std::alloc::Global;
+use tt_strike::{Picture, Strike, test_job};
+
+/// What there is to know of a picture beside its pixels.
+#[repr(C)]
+#[derive(Clone, Copy)]
+pub struct CPicture {
+    /// Pixels in a row: 1 to 16,384.
+    pub width: u32,
+    /// Rows: 1 to 4,096.
+    pub height: u32,
+    /// Bytes of a row: a bit for each pixel, and up to seven bits more, which are 0.
+    pub row_bytes: u64,
+    /// How many rows lie above the base line. Below 0, or more than the picture has, where that stands outside.
+    pub baseline: i64,
+    /// How many distinct glyphs are drawn with their scaled points though their fitting was asked for.
+    pub unfitted: u64,
+}
+
+/// What there is to know of a picture.
+pub(crate) fn told_of(picture: &Picture) -> CPicture
+    ensures { result ≡ picture_told picture.now }
+{
+    CPicture {
+        width: picture.width(),
+        height: picture.height(),
+        row_bytes: picture.row_bytes() as u64,
+        baseline: picture.baseline(),
+        unfitted: picture.unfitted().len() as u64,
+    }
+}
+
+/// The picture of a text by a strike, as it is or grown. Errors: those of `Strike::line` or `Strike::grown_line`.
+#[tactic(auto, unfolding(crate::specs::Pictures::picture_by))]
+pub(crate) fn picture_by(
+    strike: &mut Strike,
+    grow: bool,
+    text: &str,
+    margin: u32,
+) -> Result<Picture, CallFault>
+    ensures exact { GivesUnless call_refusal picture_bytes result (as_call (picture_by grow strike.old.face (job_of strike.old text.now margin))) }
+    ensures ready { IfOk result IsReady }
+    ensures made { IfOk result (λ p. IsMadeBy grow (job_of strike.old text.now margin) p strike.old.face) }
+    ensures defects { TellsDefects call_font_fault (IsLineDefect strike.old.face (job_of strike.old text.now margin) (text_glyphs strike.old.face.cmap text.now)) result }
+    ensures same { strike.new ≡ strike.old }
+{
+    if grow {
+        Ok(strike.grown_line(text, margin)?)
+    } else {
+        Ok(strike.line(text, margin)?)
+    }
+}
+
+/// The picture of a text by a font file. Errors, the first of: UnknownFit, NotUtf8; SizeRange, MarginRange, TextLong;
+/// FontLarge; those of the tables that every text is looked up in; those of `picture_by`.
+#[tactic(auto, unfolding(crate::specs::Pictures::picture_wanted))]
+pub(crate) fn picture_of(
+    alloc: Global,
+    font: &[u8],
+    text: &[u8],
+    job: &CJob,
+) -> Result<Picture, CallFault>
+    ensures exact { GivesUnless call_refusal picture_bytes result (picture_wanted job.now text.now font.now) }
+    ensures picture { IfOk result (IsPictureOf job.now text.now font.now) }
+    ensures defects { TellsDefects call_font_fault (IsAskedDefect job.now text.now font.now) result }
+{
+    let asked = job_of(job, text)?;
+    test_job(&asked)?;
+    let face = face_of(font)?;
+    let mut strike = Strike::new(alloc, &face, asked.ppem, asked.fit, 0)?;
+    picture_by(&mut strike, job.grows(), asked.text, asked.margin)
+}
+
+/// Makes so many rows of a picture, of which none is kept, in the place of one.
+fn skip_rows(picture: &mut Picture, count: u32, row: &mut [u8])
+    requires none { picture.old.made ≡ 0 }
+    requires within { count ≤ picture.old.frame.height }
+    requires row { length row.old ≡ stride picture.old.frame.width }
+    ensures picture { picture.new ≡ record picture.old { made = count } }
+    ensures row { length row.new ≡ length row.old }
+{
+    for _r in 0..count {
+        picture.next_row(row);
+    }
+}
+
+/// Makes the next rows of a picture, as many as `rows` has room for exactly.
+fn make_rows(picture: &mut Picture, count: u32, rows: &mut [u8])
+    requires within { picture.old.made + count ≤ picture.old.frame.height }
+    requires whole { length picture.old.rows ≡ stride picture.old.frame.width * picture.old.frame.height }
+    requires room { length rows.old ≡ stride picture.old.frame.width * count }
+    ensures rows { rows.new ≡ take (stride picture.old.frame.width * count) (drop (stride picture.old.frame.width * picture.old.made) picture.old.rows) }
+{
+    let bytes = picture.row_bytes();
+    for r in 0..count as usize {
+        let at = bytes * r;
+        picture.next_row(&mut rows[at..at + bytes]);
+    }
+}
+
+/// Writes a band of a picture at the front of a caller's room, of at most `count` rows from row `first` on, and tells of
+/// the picture. Answers: done; or too small a room, and then nothing is written or told.
+pub(crate) fn write_band(
+    picture: &mut Picture,
+    first: u32,
+    count: u32,
+    room: &mut [u8],
+    told: &mut CPicture,
+) -> CAnswer
+    requires { IsReady picture.old }
+    ensures done { result.status ≡ 0 → IsBandWritten picture.old first count room.old room.new told.new result }
+    ensures small { result.status ≢ 0 → IsBandSmall picture.old first count room.old result }
+    ensures kept { result.status ≢ 0 → room.new ≡ room.old }
+    ensures told_kept { result.status ≢ 0 → told.new ≡ told.old }
+{
+    let bytes = picture.row_bytes();
+    let count = count.min(picture.height().saturating_sub(first));
+    let wanted = bytes * count as usize;
+    if wanted > room.len() {
+        return wants_room(wanted as u64, u64::from(count));
+    }
+    *told = told_of(picture);
+    if count > 0 {
+        skip_rows(picture, first, &mut room[..bytes]);
+        make_rows(picture, count, &mut room[..wanted]);
+    }
+    done(wanted as u64, u64::from(count))
+}
