@@ -1,0 +1,86 @@
+# shellcheck shell=bash
+# What the scripts of this folder share with each other and with the launcher, ../tt_render. A script sources it, and
+# its messages begin with $me.
+dist=$(cd -- "$(dirname -- "${BASH_SOURCE[0]}")" && pwd)
+
+# stop WORD..: says why there is nothing more to be done.
+stop() {
+  printf '%s: %s\n' "$me" "$*" >&2
+  exit 1
+}
+
+# proved WORD: prints what the file PROVED says by that word.
+proved() {
+  sed -n "s/^$1 //p" "$dist/PROVED"
+}
+
+# Whether the files are those that were made together.
+is_whole() {
+  (cd -- "$dist" && sha256sum --quiet --strict -c SHA256SUMS >/dev/null 2>&1)
+}
+
+# sum_of_sources ROOT: prints one sum of all that the proofs read of a repository.
+sum_of_sources() {
+  (
+    cd -- "$1" || exit 1
+    shopt -s nullglob
+    { printf '%s\0' crates.txt HANDLES && find crates/*/{src,specs,proofs} -type f -print0; } | LC_ALL=C sort -z |
+      xargs -0 sha256sum | sha256sum | cut -d ' ' -f 1
+  )
+}
+
+# is_made_of ROOT: whether the files were made of the sources as they are.
+is_made_of() {
+  local sum
+  sum=$(sum_of_sources "$1") && [ -n "$sum" ] && [ "$sum" = "$(proved sources)" ]
+}
+
+# find_compiler ROOM [FLAG..]: leaves as ${cc[@]} and ${flags[@]} the C compiler and its flags, those of CC and CFLAGS
+# where they are given, and as $machine the folder of the processor that it compiles for; tries it with the flags.
+find_compiler() {
+  local target tool tried
+  read -ra cc <<<"${CC:-cc}"
+  read -ra flags <<<"${CFLAGS--O2}"
+  for tool in "${cc[0]}" gzip sha256sum; do
+    command -v "$tool" >/dev/null || stop "$tool is not on the PATH"
+  done
+  target=$("${cc[@]}" -dumpmachine 2>/dev/null) || target=$(uname -m)-linux
+  case $target in
+    *-gnux32 | *-darwin* | *-mingw* | *-cygwin) machine= ;;
+    x86_64-*) machine=x86-64 ;;
+    aarch64-*) machine=aarch64 ;;
+    *) machine= ;;
+  esac
+  [ -n "$machine" ] || stop "${cc[*]} compiles for $target, for which there is no text"
+  echo 'int main(void) { return 0; }' >"$1/tried.c"
+  tried=("${cc[@]}" "${flags[@]}" "${@:2}")
+  "${tried[@]}" -o "$1/tried" "$1/tried.c" 2>/dev/null ||
+    stop "${tried[*]} makes no program here: an assembler, a linker or the C library's files lack"
+}
+
+# text_of NAME FILE: unpacks the assembler text of the program or the library.
+text_of() {
+  [ -f "$dist/$machine/$1.s.gz" ] || stop "there is no text for $machine"
+  gzip -dc <"$dist/$machine/$1.s.gz" >"$2"
+}
+
+# compile WORD..: calls the C compiler.
+compile() {
+  "${cc[@]}" "${flags[@]}" "$@" || stop "${cc[*]} failed, as it says above"
+}
+
+# link_program ROOM FILE [FLAG..]: makes the program, in a folder for what stands between.
+link_program() {
+  text_of tt_render "$1/tt_render.s"
+  compile "${@:3}" -o "$2" "$1/tt_render.s" "$dist/host.c" "$dist/heap.c" -Wl,--gc-sections -Wl,--wrap=main
+}
+
+# archive_library ROOM HEAP [FLAG..]: makes of the library's text, in the room, and of a heap in C the archive. It has two
+# members: a host that defines the three functions of the heap itself takes the first alone.
+archive_library() {
+  command -v ar >/dev/null || stop 'ar is not on the PATH'
+  compile -fPIC -c -o "$1/libtt_render.o" "$1/libtt_render.s"
+  compile "${@:3}" -fPIC -c -o "$1/heap.o" "$2"
+  rm -f -- "$1/libtt_render.a"
+  ar rcs "$1/libtt_render.a" "$1/libtt_render.o" "$1/heap.o" || stop 'ar failed'
+}

@@ -1,0 +1,106 @@
+# shellcheck shell=bash
+# What dist/make and dist/check share: they build a crate once more with the Rattle toolchain, over the libraries that
+# the gate, `rt ci`, left in crates/*/out/rlib, and keep the assembler text that its compiler can print. Sourced after
+# common.sh.
+root=$(cd -- "$dist/.." && pwd)
+gates_program=$root/crates/tt_program/out/tt_program
+
+# The targets, by the folder that has their texts, each with what its assembler takes the text for. Where code is
+# aligned, what fills the gap depends on the processor; this is the one that the compiler fills it for.
+declare -A triple_of=([x86-64]=x86_64-unknown-linux-gnu [aarch64]=aarch64-unknown-linux-gnu)
+declare -A march_of=([x86-64]=x86-64-v2 [aarch64]=armv8-a)
+
+# The crates, by the names that their texts have.
+declare -A crate_of=([tt_render]=tt_program [libtt_render]=tt_c)
+
+# find_toolchain ROOM: leaves the kit's folder as $kit, and in the room a toolchain that differs from the kit's in one
+# thing: where its compiler is to make an object, it also leaves the text of it as the room's file `text`. rattle hands
+# its compiler no environment, so the paths are written into the script.
+find_toolchain() {
+  local tool
+  command -v rt >/dev/null || stop 'rt, the command of the Rattle toolchain, is not on the PATH'
+  kit=$(dirname -- "$(rt doc)")
+  mkdir -p -- "$1/toolchain/bin"
+  ln -s -- "$kit/toolchain/lib" "$1/toolchain/lib"
+  for tool in "$kit"/toolchain/bin/*; do
+    ln -s -- "$tool" "$1/toolchain/bin/"
+  done
+  rm -- "$1/toolchain/bin/clang"
+  cat >"$1/toolchain/bin/clang" <<WRAPPER
+#!/usr/bin/env bash
+clang=$(printf %q "$kit/toolchain/bin/clang")
+text=$(printf %q "$1/text")
+WRAPPER
+  cat >>"$1/toolchain/bin/clang" <<'WRAPPER'
+"$clang" "$@" || exit
+words=()
+while [ $# -gt 0 ]; do
+  case $1 in
+    -c) compiles=1 words+=(-S -fno-verbose-asm) ;;
+    -o) words+=(-o "$text") && shift ;;
+    *) words+=("$1") ;;
+  esac
+  shift
+done
+[ -z "${compiles:-}" ] || exec "$clang" "${words[@]}"
+WRAPPER
+  chmod +x "$1/toolchain/bin/clang"
+}
+
+# assemble MACHINE TEXT OBJECT: makes of the compiler's text the object that the compiler made.
+assemble() {
+  "$kit/toolchain/bin/clang" --target="${triple_of[$1]}" -march="${march_of[$1]}" --no-default-config -Werror \
+    -c -x assembler -o "$3" "$2"
+}
+
+# GNU's assembler does not know the directives of LLVM that name the symbols whose addresses matter, which only LLVM's
+# linker asks for, and then only to fold functions that are the same. So they stand in dist/ as comments.
+hide_addrsig() {
+  sed 's/^\t\.addrsig/#&/'
+}
+
+show_addrsig() {
+  sed 's/^#\(\t\.addrsig\)/\1/'
+}
+
+# build NAME MACHINE ROOM TEXT OBJECT: proves and compiles a crate again, and leaves its text, as dist/ has it, and its
+# object, and rattle's report as the room's file `log`. What is proved for one processor is kept in the room, so that it
+# is not proved again for the other; the verdict then says `incremental=trusted`.
+build() {
+  local crate=${crate_of[$1]} dep folder from made=$3/made
+  local words=(--crate-name "$crate")
+  cd -- "$root/crates/$crate"
+  if [ -f src/main.rt ]; then words+=(src/main.rt); else words+=(src/lib.rt --crate-type staticlib); fi
+  words+=(--extern "std=$kit/rlibs/std.rlib" -L "dependency=$kit/rlibs")
+  for dep in $(sed -n "s/^$crate\( *staticlib\)\? *: *//p" "$root/crates.txt"); do
+    from=$root/crates/$dep/out/rlib
+    [ -d "$root/crates/$dep" ] || from=$kit/rlibs
+    [ -d "$from/$dep.rlib" ] || stop "there is no library $from/$dep.rlib, which the gate leaves"
+    words+=(--extern "$dep=$from/$dep.rlib")
+  done
+  for folder in "$root"/crates/*/out/rlib; do
+    words+=(-L "dependency=$folder")
+  done
+  words+=(--antt-project "$kit/rattle/logic/antt-project.json" --logic-built "$kit/logic_built" --links "$crate=")
+  words+=(--incremental "$3/incremental.$crate")
+  words+=(--jobs "$(nproc)" --target "${triple_of[$2]}" --toolchain "$3/toolchain" --backend llvm)
+  rm -rf -- "$made" "$3/text"
+  "$kit/bin/rattle" build "${words[@]}" -o "$made" >"$3/log" 2>&1 || {
+    grep -v ': proved$' "$3/log" | tail -n 20 >&2
+    stop "$crate was not built for $2"
+  }
+  [ -s "$3/text" ] || stop "the compiler printed no text of $crate for $2"
+  case $1 in
+    lib*) (cd -- "$3" && "$kit/toolchain/bin/llvm-ar" p made) >"$5" ;;
+    *) mv -- "$made" "$5" ;;
+  esac
+  assemble "$2" "$3/text" "$3/again.o" || stop "the text of $crate for $2 does not assemble"
+  cmp -s -- "$3/again.o" "$5" || stop "the text of $crate for $2 makes another object than its compiler made"
+  hide_addrsig <"$3/text" >"$4"
+}
+
+# link_as_gate OBJECT PROGRAM: links a program as the gate does.
+link_as_gate() {
+  "$kit/bin/rattle-link" --target "${triple_of[x86-64]}" --toolchain "$kit/toolchain" -o "$2" "$1" \
+    "$kit/c/libos_c.a" "$kit/c/liblibc_c.a" 2>/dev/null
+}
