@@ -1,0 +1,155 @@
+/* See calls.h. */
+#include "calls.h"
+
+#include <inttypes.h>
+#include <stdio.h>
+#include <stdlib.h>
+#include <string.h>
+
+#include "blocks.h"
+
+struct question question_of(struct room font, struct room text, struct tt_job job) {
+  return (struct question){
+      .font = font, .text = text, .job = held(&job, sizeof job), .ends = held(NULL, 0), .told = held(NULL, 0)};
+}
+
+void give_up_question(struct question q) {
+  give_up(q.job);
+  give_up(q.ends);
+  give_up(q.told);
+}
+
+#define FONT q->font.at, q->font.size
+#define TEXT q->text.at, q->text.size
+#define JOB (const struct tt_job *)q->job.at
+
+static uint32_t ask_open(const struct question *q, struct room room, void *told, struct tt_answer *answer) {
+  (void)room;
+  return tt_open(FONT, told, answer);
+}
+
+static uint32_t ask_map(const struct question *q, struct room room, void *told, struct tt_answer *answer) {
+  (void)told;
+  return tt_map(FONT, TEXT, (struct tt_glyph *)room.at, room.size / sizeof(struct tt_glyph), answer);
+}
+
+static uint32_t ask_measure(const struct question *q, struct room room, void *told, struct tt_answer *answer) {
+  (void)room;
+  return tt_measure(FONT, TEXT, JOB, told, answer);
+}
+
+static uint32_t ask_characters(const struct question *q, struct room room, void *told, struct tt_answer *answer) {
+  (void)told;
+  return tt_characters(FONT, TEXT, JOB, (struct tt_character *)room.at, room.size / sizeof(struct tt_character),
+                       answer);
+}
+
+static uint32_t ask_draw(const struct question *q, struct room room, void *told, struct tt_answer *answer) {
+  return tt_draw(FONT, TEXT, JOB, room.at, room.size, told, answer);
+}
+
+static uint32_t ask_band(const struct question *q, struct room room, void *told, struct tt_answer *answer) {
+  return tt_draw_band(FONT, TEXT, JOB, q->first, q->count, room.at, room.size, told, answer);
+}
+
+static uint32_t ask_message(const struct question *q, struct room room, void *told, struct tt_answer *answer) {
+  (void)told;
+  return tt_message((const struct tt_answer *)q->told.at, room.at, room.size, answer);
+}
+
+const struct call opens = {"tt_open", ask_open, 0, sizeof(struct tt_font)};
+const struct call maps = {"tt_map", ask_map, sizeof(struct tt_glyph), 0};
+const struct call measures = {"tt_measure", ask_measure, 0, sizeof(struct tt_measure)};
+const struct call characters = {"tt_characters", ask_characters, sizeof(struct tt_character), 0};
+const struct call draws = {"tt_draw", ask_draw, 1, sizeof(struct tt_picture)};
+const struct call draws_band = {"tt_draw_band", ask_band, 1, sizeof(struct tt_picture)};
+const struct call messages = {"tt_message", ask_message, 1, 0};
+
+bool are_alike(const struct tt_answer *one, const struct tt_answer *other) {
+  return memcmp(one, other, sizeof *one) == 0;
+}
+
+void expect_answer(const char *name, uint32_t status, const struct tt_answer *answer) {
+  static const uint8_t no_table[4];
+  bool refuses = answer->status == TT_FONT || answer->status == TT_JOB;
+  expect(status == answer->status, "%s: the status is %u, and the answer's is %u", name, status, answer->status);
+  expect(answer->status <= TT_ROOM && answer->status != 4, "%s: the status is %u", name, answer->status);
+  expect((answer->number != 0) == refuses, "%s: status %u has the number %u", name, status, answer->number);
+  if (answer->status != TT_FONT) {
+    expect(memcmp(answer->table, no_table, 4) == 0 && answer->offset == 0, "%s: status %u has a place", name, status);
+  }
+  expect(blocks_in_use == 0, "%s: %ld blocks are in use after it", name, blocks_in_use);
+}
+
+struct outcome asked(const struct call *call, const struct question *q, size_t size) {
+  struct room answer = room_of(sizeof(struct tt_answer));
+  struct outcome it = {.room = room_of(size), .told = room_of(call->told)};
+  uint32_t status = call->ask(q, it.room, it.told.at, (struct tt_answer *)answer.at);
+  it.answer = *(struct tt_answer *)answer.at;
+  expect_answer(call->name, status, &it.answer);
+  expect(kept_from(answer, sizeof it.answer), "%s writes before its answer", call->name);
+  expect(kept_from(it.told, status == TT_DONE ? call->told : 0), "%s: status %u, and something is told", call->name,
+         status);
+  if (status != TT_DONE) {
+    expect(kept_from(it.room, 0), "%s: status %u, and its room was written to", call->name, status);
+    expect(status == TT_ROOM || (it.answer.bytes == 0 && it.answer.count == 0),
+           "%s: status %u has %" PRIu64 " bytes and %" PRIu64 " entries", call->name, status, it.answer.bytes,
+           it.answer.count);
+  }
+  give_up(answer);
+  return it;
+}
+
+void forget(struct outcome it) {
+  give_up(it.room);
+  give_up(it.told);
+}
+
+/* Asks with a room of another size, which is to have the same answer, and the same told. */
+static void again(const struct call *call, const struct question *q, size_t size, const struct outcome *wanted) {
+  struct outcome it = asked(call, q, size);
+  expect(are_alike(&it.answer, &wanted->answer), "%s: status %u, and status %u with %zu bytes of room", call->name,
+         wanted->answer.status, it.answer.status, size);
+  if (it.answer.status == TT_DONE && wanted->answer.status == TT_DONE && wanted->room.size <= size) {
+    expect(memcmp(it.room.at, wanted->room.at, wanted->room.size) == 0, "%s: another answer in a larger room",
+           call->name);
+    expect(kept_from(it.room, wanted->room.size), "%s writes behind what it says", call->name);
+    expect(memcmp(it.told.at, wanted->told.at, call->told) == 0, "%s tells another thing in a larger room", call->name);
+  }
+  forget(it);
+}
+
+struct outcome tried(const struct call *call, const struct question *q) {
+  struct outcome none = asked(call, q, 0);
+  if (none.answer.status != TT_ROOM) {
+    again(call, q, 40 * call->entry, &none);
+    return none;
+  }
+  size_t wanted = call->entry == 1 ? none.answer.bytes : none.answer.count * call->entry;
+  expect(call->entry == 1 || none.answer.bytes == 0, "%s wants bytes, and not entries", call->name);
+  if (!expect(wanted > 0 && wanted < 1 << 28, "%s wants a room of %zu bytes", call->name, wanted)) return none;
+  again(call, q, wanted - call->entry, &none);
+  struct outcome it = asked(call, q, wanted);
+  expect(it.answer.status == TT_DONE, "%s: status %u with the room that it wants", call->name, it.answer.status);
+  expect(it.answer.bytes == none.answer.bytes && it.answer.count == none.answer.count,
+         "%s: not so many bytes and entries as it wants", call->name);
+  again(call, q, wanted + 3 * call->entry, &it);
+  forget(none);
+  return it;
+}
+
+const char *message_of(const struct tt_answer *answer) {
+  static char text[512];
+  struct question q = {.told = held(answer, sizeof *answer)};
+  struct outcome it = tried(&messages, &q);
+  text[0] = 0;
+  if (expect(it.answer.status == TT_DONE, "tt_message: status %u", it.answer.status) &&
+      expect(it.room.size <= sizeof text, "tt_message: %zu bytes", it.room.size)) {
+    memcpy(text, it.room.at, it.room.size);
+    expect(memchr(text, 0, it.room.size) == text + it.room.size - 1, "tt_message: no zero, or not where its end is");
+    expect(it.answer.count == 0, "tt_message: %" PRIu64 " entries", it.answer.count);
+  }
+  forget(it);
+  give_up(q.told);
+  return text;
+}

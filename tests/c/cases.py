@@ -1,0 +1,137 @@
+"""Writes questions to the library, as answers.c reads them, and the program's answers; see the script `run` beside
+this file, which starts it: cases.py ROOM FONT... The questions stand in ROOM/cases, the answers in ROOM/wanted, a line
+each, and the fonts of both in ROOM/fonts."""
+import os
+import re
+import subprocess
+import sys
+from concurrent.futures import ThreadPoolExecutor
+from pathlib import Path
+
+sys.path.insert(0, str(Path(__file__).resolve().parent.parent / "damaged"))
+from asking import rows
+
+PROGRAM = os.environ["TT_RENDER"]
+ROOM = Path(sys.argv[1])
+REAL = [Path(it) for it in sys.argv[2:]]
+# The number by which a job asks for each way to fit.
+FITS = {"full": 0, "none": 1, "fallback": 2, "best": 3}
+TEXTS = ("jolly staff", "Ǻjf gÇ|_ »q«", "Ωμέγα Жук ẞ\U0001f600", " . ", "")
+WORDS = "jolly staff Wax Öl naïve §4 {x|y} 3/4 Σ=12 ÅNGSTRÖM fjord No7 quick, brown; (über) «ñ» Жук λόγος ẞ".split()
+fonts = {}
+
+
+def file_of(font):
+    """Returns the file that holds a font's bytes."""
+    if font not in fonts:
+        fonts[font] = ROOM / "fonts" / f"{len(fonts)}.ttf"
+        fonts[font].write_bytes(font)
+    return fonts[font]
+
+
+def run(words, stdin=b""):
+    """Returns status, standard output and standard error, of which the numbers of lines are taken out."""
+    ended = subprocess.run([PROGRAM, *words], input=stdin, capture_output=True, timeout=120)
+    return ended.returncode, ended.stdout, re.sub(r"(?m)^tt_render: line \d+: ", "tt_render: ", ended.stderr.decode())
+
+
+def words_of(job):
+    size, margin, fit, grow = job
+    return ["--size", str(size), "--margin", str(margin), "--fit", fit, *(["--grow"] if grow else [])]
+
+
+def unfitted(stderr):
+    return stderr.count(" unfitted: ")
+
+
+def pictures(data):
+    """Returns how many pictures stand one after the other in these bytes."""
+    count = 0
+    while data:
+        head = re.match(rb"P4\n(\d+) (\d+)\n", data)
+        data = data[head.end() + (int(head[1]) + 7) // 8 * int(head[2]) :]
+        count += 1
+    return count
+
+
+def answer(case):
+    """Returns what the program answers to a question."""
+    call, font, text, job = case
+    font = str(file_of(font))
+    if call == "lines":
+        status, stdout, stderr = run(["draw", *words_of(job), "--lines", font], b"\n".join(text) + b"\n")
+        refusal = "" if status == 0 else " " + stderr.rstrip("\n").split("\n")[-1]
+        return f"{status} {pictures(stdout)} {unfitted(stderr)} {stdout.hex()}{refusal}"
+    words = ["map"] if call == "map" else [call, *words_of(job)]
+    status, stdout, stderr = run([*words, font, "--", text.decode()])
+    if status != 0:
+        return f"{status} " + stderr.rstrip("\n")
+    if call == "draw":
+        return f"0 {unfitted(stderr)} {stdout.hex()}"
+    return "0 " + stdout.decode().replace("\n", "/")
+
+
+def question(case):
+    """Returns the line that asks the library."""
+    call, font, text, job = case
+    texts = ",".join(it.hex() or "-" for it in (text if call == "lines" else [text]))
+    size, margin, fit, grow = job
+    return f"{call} {file_of(font)} {texts} {size} {margin} {FITS[fit]} {int(grow)}"
+
+
+def of_rows():
+    """Yields a question for each row of tests/rows, and for some of them more."""
+    seen = set()
+    for count, row in enumerate(rows()):
+        if b"\n" in row.text or b"\r" in row.text or (row.font, row.text, row.kind, row.shape) in seen:
+            continue
+        seen.add((row.font, row.text, row.kind, row.shape))
+        if row.kind == "map":
+            yield "map", row.font, row.text, (16, 0, "full", False)
+            continue
+        job = *row.shape, row.kind
+        yield "draw", row.font, row.text, (*job, False)
+        if count % 4 == 0:
+            yield "measure", row.font, row.text, (*job, False)
+        if count % 4 == 1:
+            yield "measure", row.font, row.text, (*job, True)
+        if count % 4 == 2:
+            yield "draw", row.font, row.text, (*job, True)
+        if count % 4 == 3:
+            yield "lines", row.font, [row.text, row.text], (*job, count % 8 == 3)
+
+
+def of_real_font(font):
+    """Yields questions about a font at several sizes, and about the same font cut short."""
+    texts = [it.encode() for it in TEXTS]
+    for text in texts:
+        yield "map", font, text, (16, 0, "full", False)
+        for count, (fit, size) in enumerate((fit, size) for fit in FITS for size in (1, 9, 16, 47, 300)):
+            job = size, (0, 3, 64)[count % 3], fit, count % 2 == 1
+            yield "draw", font, text, job
+            yield "measure", font, text, job
+    lines = [" ".join(WORDS[i % len(WORDS)] for i in range(3 * at, 3 * at + 3)).encode() for at in range(12)]
+    for fit in FITS:
+        yield "lines", font, lines, (12, 1, fit, False)
+        # The line without a character is refused, and stops the others.
+        yield "lines", font, [*lines[:3], b"", *lines[3:]], (20, 0, fit, True)
+    for length in (0, 1, 11, 12, 100, 1000, 20000, len(font) // 2, len(font) * 9 // 10, len(font) - 1):
+        job = 16, 0, "full", False
+        yield "map", font[:length], texts[0], job
+        yield "draw", font[:length], texts[0], job
+        yield "measure", font[:length], texts[0], job
+        yield "lines", font[:length], [texts[0]], job
+
+
+def main():
+    (ROOM / "fonts").mkdir()
+    cases = list(of_rows())
+    for real in REAL:
+        cases += of_real_font(real.read_bytes())
+    with (ROOM / "cases").open("w") as file:
+        file.writelines(question(it) + "\n" for it in cases)
+    with ThreadPoolExecutor(os.cpu_count()) as threads, (ROOM / "wanted").open("w") as file:
+        file.writelines(it + "\n" for it in threads.map(answer, cases))
+
+
+main()

@@ -1,0 +1,201 @@
+/* Tries what no font of the other questions shows: NULL where there are 0 bytes, numbers out of range, texts that are
+ * no UTF-8, lines whose ends are wrong, the largest font. edges FONT TEXT: of the text, in hexadecimal, each character
+ * has to have a glyph in the font.
+ */
+#define _DEFAULT_SOURCE
+#include <inttypes.h>
+#include <stdio.h>
+#include <stdlib.h>
+#include <string.h>
+#include <sys/mman.h>
+
+#include "calls.h"
+#include "lines.h"
+
+#define FONT_LIMIT 67108864
+
+static struct room font;
+
+static const struct tt_job usual = {.size = 16, .margin = 0, .fit = TT_FULL, .grow = 0};
+
+static struct room text_of(const char *text) { return held(text, strlen(text)); }
+
+/* What a call answers to a text and a job, tried in all rooms. */
+static struct tt_answer answer_to(const struct call *call, struct room with, struct room text, struct tt_job job) {
+  struct question q = question_of(with, text, job);
+  q.count = UINT32_MAX;
+  struct outcome it = tried(call, &q);
+  struct tt_answer answer = it.answer;
+  forget(it);
+  give_up_question(q);
+  return answer;
+}
+
+/* Each call that takes a text, and whether it takes a job. */
+static const struct call *const with_text[] = {&maps, &draws, &draws_band, &measures, &characters};
+#define CALLS (sizeof with_text / sizeof *with_text)
+
+/* All calls refuse it with that status and number; those that take no job only if `all` says so. */
+static void all_refuse(const char *name, struct room with, struct room text, struct tt_job job, bool all,
+                       uint32_t status, uint32_t number) {
+  for (size_t i = all ? 0 : 1; i < CALLS; i++) {
+    struct tt_answer answer = answer_to(with_text[i], with, text, job);
+    expect(answer.status == status && answer.number == number, "%s: status %u, number %u", with_text[i]->name,
+           answer.status, answer.number);
+  }
+  struct question q = question_of(with, text, job);
+  uint64_t end = text.size;
+  give_up(q.ends);
+  q.ends = held(&end, sizeof end);
+  struct drawn_lines it = tried_lines(&q);
+  expect(it.answer.status == status && it.answer.number == number && it.answer.count == 0,
+         "tt_draw_lines: status %u, number %u", it.answer.status, it.answer.number);
+  forget_lines(it);
+  give_up_question(q);
+  verdict("%s", name);
+}
+
+static void try_jobs(void) {
+  static const struct {
+    const char *name;
+    struct tt_job job;
+    uint32_t number;
+  } cases[] = {
+      {"a way to fit of 4", {16, 0, 4, 0}, 66},
+      {"the largest number as way to fit, and all else wrong", {0, UINT32_MAX, UINT32_MAX, 0}, 66},
+      {"a size of 0", {0, 0, TT_NONE, 0}, 60},
+      {"a size of 301, and a margin of 65", {301, 65, TT_BEST, 1}, 60},
+      {"the largest number as size", {UINT32_MAX, 0, TT_FULL, 0}, 60},
+      {"a margin of 65", {16, 65, TT_FULL, 0}, 64},
+      {"the largest number as margin", {16, UINT32_MAX, TT_FALLBACK, 1}, 64},
+  };
+  struct room text = text_of("A"), none = held(NULL, 0);
+  for (size_t i = 0; i < sizeof cases / sizeof *cases; i++) {
+    all_refuse(cases[i].name, font, text, cases[i].job, false, TT_JOB, cases[i].number);
+    all_refuse(cases[i].name, none, text, cases[i].job, false, TT_JOB, cases[i].number);
+  }
+  give_up(text);
+  give_up(none);
+}
+
+static void try_texts(void) {
+  static const char *const wrong[] = {"\xff",         "A\x80",            "\xc3",
+                                      "\xc0\x80",     "\xe0\x80\xaf",     "\xed\xa0\x80",
+                                      "\xf4\x90\x80\x80", "AAA\xf0\x9f\x98", "\xf8\x88\x80\x80\x80"};
+  for (size_t i = 0; i < sizeof wrong / sizeof *wrong; i++) {
+    struct room text = text_of(wrong[i]);
+    all_refuse("bytes that are no UTF-8", font, text, usual, true, TT_NOT_UTF8, 0);
+    give_up(text);
+  }
+  static char many[4097 * 2];
+  for (size_t i = 0; i < sizeof many; i += 2) memcpy(many + i, "\xce\xa9", 2);
+  struct room text = held(many, sizeof many);
+  all_refuse("4,097 characters", font, text, usual, true, TT_JOB, 61);
+  give_up(text);
+  text = held(many, sizeof many - 2);
+  struct tt_answer answer = answer_to(&maps, font, text, usual);
+  expect(answer.status == TT_DONE && answer.count == 4096, "tt_map: status %u", answer.status);
+  answer = answer_to(&characters, font, text, (struct tt_job){1, 1, TT_NONE, 0});
+  expect(answer.status == TT_DONE && answer.count == 4096, "tt_characters: status %u", answer.status);
+  verdict("4,096 characters");
+  give_up(text);
+  text = held("A\0B", 3);
+  answer = answer_to(&maps, font, text, usual);
+  expect(answer.status == TT_DONE && answer.count == 3, "tt_map: status %u", answer.status);
+  verdict("a zero in a text");
+  give_up(text);
+}
+
+static void try_nothing(struct room text) {
+  struct room none = held(NULL, 0);
+  all_refuse("a font of no byte", none, text, usual, true, TT_FONT, 2);
+  all_refuse("a text of no byte", font, none, usual, false, TT_JOB, 62);
+
+  struct tt_answer answer;
+  struct tt_font told_font;
+  struct tt_picture told;
+  struct tt_job wide = {.size = 16, .margin = 2, .fit = TT_FULL, .grow = 1};
+  uint8_t rows[4096];
+  expect(tt_open(NULL, 0, &told_font, &answer) == TT_FONT && memcmp(answer.table, "file", 4) == 0 && answer.offset == 0,
+         "tt_open: status %u", answer.status);
+  expect(tt_map(NULL, 0, NULL, 0, NULL, 0, &answer) == TT_FONT, "tt_map, of a font: status %u", answer.status);
+  expect(tt_map(font.at, font.size, NULL, 0, NULL, 0, &answer) == TT_DONE && answer.count == 0, "tt_map: status %u",
+         answer.status);
+  expect(tt_characters(font.at, font.size, NULL, 0, &wide, NULL, 0, &answer) == TT_DONE && answer.count == 0,
+         "tt_characters: status %u", answer.status);
+  expect(tt_draw(font.at, font.size, NULL, 0, &wide, NULL, 0, &told, &answer) == TT_ROOM && answer.bytes <= sizeof rows,
+         "tt_draw: status %u", answer.status);
+  expect(tt_draw(font.at, font.size, NULL, 0, &wide, rows, sizeof rows, &told, &answer) == TT_DONE,
+         "tt_draw, of rows: status %u", answer.status);
+  expect(tt_draw_band(font.at, font.size, NULL, 0, &wide, 0, 0, NULL, 0, &told, &answer) == TT_DONE,
+         "tt_draw_band: status %u", answer.status);
+  expect(tt_draw_lines(font.at, font.size, NULL, 0, NULL, 0, &wide, 0, NULL, 0, NULL, 0, &answer) == TT_DONE &&
+             answer.bytes == 0 && answer.count == 0,
+         "tt_draw_lines: status %u", answer.status);
+  expect(tt_message(&answer, NULL, 0, &answer) == TT_ROOM, "tt_message: status %u", answer.status);
+  verdict("NULL where there are 0 bytes");
+  give_up(none);
+}
+
+/* Draws lines that end there; so many are drawn before the status stops them. */
+static void try_ends(const char *name, struct room text, const uint64_t *ends, size_t count, struct tt_job job,
+                     uint32_t status, uint32_t number, uint64_t drawn) {
+  struct question q = question_of(font, text, job);
+  give_up(q.ends);
+  q.ends = held(ends, count * sizeof *ends);
+  struct drawn_lines it = tried_lines(&q);
+  expect(it.answer.status == status && it.answer.number == number && it.answer.count == drawn,
+         "tt_draw_lines: status %u, number %u after %" PRIu64 " lines", it.answer.status, it.answer.number,
+         it.answer.count);
+  forget_lines(it);
+  give_up_question(q);
+  verdict("%s", name);
+}
+
+static void try_all_ends(void) {
+  struct room text = text_of("AB\u03A9A");
+  struct tt_job wide = {.size = 16, .margin = 1, .fit = TT_FALLBACK, .grow = 0};
+  try_ends("lines", text, (const uint64_t[]){1, 2, 4, 5}, 4, usual, TT_DONE, 0, 4);
+  try_ends("lines that leave bytes over", text, (const uint64_t[]){1, 2}, 2, usual, TT_DONE, 0, 2);
+  try_ends("a line that ends before it begins", text, (const uint64_t[]){2, 1, 4}, 3, usual, TT_JOB, 67, 1);
+  try_ends("a line that ends past the texts", text, (const uint64_t[]){1, 2, 6}, 3, usual, TT_JOB, 67, 2);
+  try_ends("the largest number as end", text, (const uint64_t[]){UINT64_MAX}, 1, usual, TT_JOB, 67, 0);
+  try_ends("a line that ends in a character", text, (const uint64_t[]){2, 3, 5}, 3, usual, TT_NOT_UTF8, 0, 1);
+  try_ends("a line without a character", text, (const uint64_t[]){1, 1, 2}, 3, usual, TT_JOB, 62, 1);
+  try_ends("a line without a character in a margin", text, (const uint64_t[]){0, 1, 1}, 3, wide, TT_DONE, 0, 3);
+  try_ends("no line", text, NULL, 0, usual, TT_DONE, 0, 0);
+  give_up(text);
+}
+
+/* Zeros, and the font before them; the pages of the zeros take no memory, since nobody writes to them. */
+static void try_sizes(struct room text) {
+  uint8_t *large = mmap(NULL, FONT_LIMIT + 1, PROT_READ | PROT_WRITE, MAP_PRIVATE | MAP_ANONYMOUS, -1, 0);
+  if (large == MAP_FAILED) stop("no pages for a large font");
+  memcpy(large, font.at, font.size);
+  struct room most = {large, FONT_LIMIT}, more = {large, FONT_LIMIT + 1};
+  struct tt_answer answer = answer_to(&draws, most, text, usual);
+  expect(answer.status == TT_DONE, "tt_draw: status %u", answer.status);
+  verdict("the largest font");
+  all_refuse("a font of one byte too many", more, text, usual, true, TT_FONT_LARGE, 0);
+  answer = answer_to(&opens, more, text, usual);
+  expect(answer.status == TT_FONT_LARGE, "tt_open: status %u", answer.status);
+  verdict("opening a font of one byte too many");
+  munmap(large, FONT_LIMIT + 1);
+}
+
+int main(int count, char **words) {
+  static uint8_t bytes[1 << 20];
+  if (count != 3) stop("want FONT TEXT");
+  FILE *file = fopen(words[1], "rb");
+  if (!file) stop("cannot read the font");
+  font = held(bytes, fread(bytes, 1, sizeof bytes, file));
+  fclose(file);
+  struct room text = held_hex(words[2], strlen(words[2]));
+  try_jobs();
+  try_texts();
+  try_nothing(text);
+  try_all_ends();
+  try_sizes(text);
+  give_up(text);
+  return 0;
+}
