@@ -12,8 +12,12 @@
  *   - nothing that a call writes to overlaps with anything else that it was given, and no one else writes to what it
  *     reads before it returns;
  *   - some 64 KiB of stack are free; and the processor is x86-64-v2 or newer;
- *   - rattle_alloc, rattle_realloc and rattle_dealloc, at the end of this header, do what stands there.
+ *   - rattle_alloc, rattle_realloc and rattle_dealloc, at the end of this header, do what stands there. Beside these the
+ *     library wants memcpy, memmove, memset and, of the compiler's own runtime, __udivti3 (-lgcc where nothing else is).
  * Several threads may call at once.
+ *
+ * What is refused is refused for the first of: the way to fit, UTF-8, size, margin, the text's length; the font's size,
+ * its tables; the picture's size; the font's programs and glyphs. The room is looked at last.
  */
 #ifndef TT_RENDER_H
 #define TT_RENDER_H
@@ -33,7 +37,7 @@ enum {
     TT_FONT_LARGE = 3, /* the font has more than 67,108,864 bytes */
     TT_MEMORY = 5,     /* memory was refused */
     TT_NOT_UTF8 = 6,   /* the text is not UTF-8 */
-    TT_ROOM = 7        /* the caller's room is too small: bytes and count say how much is wanted */
+    TT_ROOM = 7        /* the caller's room is too small: bytes or count say how much is wanted */
 };
 
 /* What a call answers. Fields that an answer has no use for are 0. */
@@ -42,8 +46,8 @@ struct tt_answer {
     uint32_t number;  /* of a refusal: the table TT_REFUSALS below */
     uint8_t table[4]; /* the tag of the table that has the defect, "file" for the directory; no zero at the end */
     uint32_t offset;  /* the defect's offset in it, in bytes */
-    uint64_t bytes;   /* how many bytes were written, or are wanted */
-    uint64_t count;   /* how many rows, entries or lines were written, or are wanted */
+    uint64_t bytes;   /* how many bytes were written, or are wanted; 0 of entries */
+    uint64_t count;   /* how many rows, entries or lines were written, or are wanted; of lines, how many were drawn */
 };
 
 /* What a font says of itself, in font units but for the number of glyphs. */
@@ -126,7 +130,8 @@ uint32_t tt_open(const uint8_t *font, size_t font_bytes, struct tt_font *told, s
 
 /*
  * The glyph and the advance of each character of a text, in its order. There has to be room for as many entries as the
- * text has characters, which are at most its bytes. It takes no memory. count: characters.
+ * text has characters, which are at most its bytes. It takes no memory. Of a job it refuses only a text that is too
+ * long. count: characters.
  */
 uint32_t tt_map(const uint8_t *font, size_t font_bytes, const uint8_t *text, size_t text_bytes,
                 struct tt_glyph *glyphs, size_t room, struct tt_answer *answer);
@@ -169,7 +174,8 @@ uint32_t tt_draw_band(const uint8_t *font, size_t font_bytes, const uint8_t *tex
  *
  * A line that is refused stops the call: count lines before it are drawn, in bytes bytes of rows, and what comes after
  * these is as it was. With TT_ROOM bytes is what these lines and the next one want. Where ends[i] is less than the end
- * before it or more than text_bytes, the line is refused with number 67.
+ * before it or more than text_bytes, the line is refused with number 67. Where lines_room is less than ends_count nothing
+ * is drawn: TT_ROOM, with bytes 0, and with count ends_count.
  */
 uint32_t tt_draw_lines(const uint8_t *font, size_t font_bytes, const uint8_t *texts, size_t text_bytes,
                        const uint64_t *ends, size_t ends_count, const struct tt_job *job, size_t keep, uint8_t *rows,
