@@ -13,13 +13,18 @@ declare -A march_of=([x86-64]=x86-64-v2 [aarch64]=armv8-a)
 # The crates, by the names that their texts have.
 declare -A crate_of=([tt_render]=tt_program [libtt_render]=tt_c)
 
+# find_kit: leaves as $kit the folder of the Rattle toolchain.
+find_kit() {
+  command -v rt >/dev/null || stop 'rt, the command of the Rattle toolchain, is not on the PATH'
+  kit=$(dirname -- "$(rt doc)")
+}
+
 # find_toolchain ROOM: leaves the kit's folder as $kit, and in the room a toolchain that differs from the kit's in one
 # thing: where its compiler is to make an object, it also leaves the text of it as the room's file `text`. rattle hands
 # its compiler no environment, so the paths are written into the script.
 find_toolchain() {
   local tool
-  command -v rt >/dev/null || stop 'rt, the command of the Rattle toolchain, is not on the PATH'
-  kit=$(dirname -- "$(rt doc)")
+  find_kit
   mkdir -p -- "$1/toolchain/bin"
   ln -s -- "$kit/toolchain/lib" "$1/toolchain/lib"
   for tool in "$kit"/toolchain/bin/*; do
@@ -63,26 +68,42 @@ show_addrsig() {
   sed 's/^#\(\t\.addrsig\)/\1/'
 }
 
+# tell_of CRATE: leaves as ${told[@]} what rattle is told of a crate, whose folder is the current one: its root, and the
+# libraries below it in crates/*/out/rlib.
+tell_of() {
+  local dep from folder
+  told=(--crate-name "$1")
+  case $1 in
+    tt_program) told+=(src/main.rt) ;;
+    tt_c) told+=(src/lib.rt --crate-type staticlib) ;;
+    *) told+=(src/lib.rt) ;;
+  esac
+  told+=(--extern "std=$kit/rlibs/std.rlib" -L "dependency=$kit/rlibs")
+  for dep in $(libraries_of "$1"); do
+    from=$root/crates/$dep/out/rlib
+    [ -d "$root/crates/$dep" ] || from=$kit/rlibs
+    [ -d "$from/$dep.rlib" ] || stop "there is no library $from/$dep.rlib, which the gate leaves"
+    told+=(--extern "$dep=$from/$dep.rlib")
+  done
+  for folder in "$root"/crates/*/out/rlib; do
+    told+=(-L "dependency=$folder")
+  done
+  told+=(--antt-project "$kit/rattle/logic/antt-project.json" --logic-built "$kit/logic_built" --links "$1=")
+}
+
+# libraries_of CRATE: prints the libraries that crates.txt gives a crate.
+libraries_of() {
+  sed -n "s/^$1\( *staticlib\)\? *: *//p" "$root/crates.txt"
+}
+
 # build NAME MACHINE ROOM TEXT OBJECT: proves and compiles a crate again, and leaves its text, as dist/ has it, and its
 # object, and rattle's report as the room's file `log`. What is proved for one processor is kept in the room, so that it
 # is not proved again for the other; the verdict then says `incremental=trusted`.
 build() {
-  local crate=${crate_of[$1]} dep folder from made=$3/made
-  local words=(--crate-name "$crate")
+  local crate=${crate_of[$1]} made=$3/made words told
   cd -- "$root/crates/$crate"
-  if [ -f src/main.rt ]; then words+=(src/main.rt); else words+=(src/lib.rt --crate-type staticlib); fi
-  words+=(--extern "std=$kit/rlibs/std.rlib" -L "dependency=$kit/rlibs")
-  for dep in $(sed -n "s/^$crate\( *staticlib\)\? *: *//p" "$root/crates.txt"); do
-    from=$root/crates/$dep/out/rlib
-    [ -d "$root/crates/$dep" ] || from=$kit/rlibs
-    [ -d "$from/$dep.rlib" ] || stop "there is no library $from/$dep.rlib, which the gate leaves"
-    words+=(--extern "$dep=$from/$dep.rlib")
-  done
-  for folder in "$root"/crates/*/out/rlib; do
-    words+=(-L "dependency=$folder")
-  done
-  words+=(--antt-project "$kit/rattle/logic/antt-project.json" --logic-built "$kit/logic_built" --links "$crate=")
-  words+=(--incremental "$3/incremental.$crate")
+  tell_of "$crate"
+  words=("${told[@]}" --incremental "$3/incremental.$crate")
   words+=(--jobs "$(nproc)" --target "${triple_of[$2]}" --toolchain "$3/toolchain" --backend llvm)
   rm -rf -- "$made" "$3/text"
   "$kit/bin/rattle" build "${words[@]}" -o "$made" >"$3/log" 2>&1 || {
