@@ -93,18 +93,21 @@ tell_of() {
 
 # libraries_of CRATE: prints the libraries that crates.txt gives a crate.
 libraries_of() {
-  sed -n "s/^$1\( *staticlib\)\? *: *//p" "$root/crates.txt"
+  sed -n "s/^$1 *: *//p" "$root/crates.txt"
 }
 
 # build NAME MACHINE ROOM TEXT OBJECT: proves and compiles a crate again, and leaves its text, as dist/ has it, and its
 # object, and rattle's report as the room's file `log`. What is proved for one processor is kept in the room, so that it
 # is not proved again for the other; the verdict then says `incremental=trusted`.
 build() {
-  local crate=${crate_of[$1]} made=$3/made words told
+  local crate=${crate_of[$1]} made=$3/made jobs words told
   cd -- "$root/crates/$crate"
   tell_of "$crate"
-  words=("${told[@]}" --incremental "$3/incremental.$crate")
-  words+=(--jobs "$(nproc)" --target "${triple_of[$2]}" --toolchain "$3/toolchain" --backend llvm)
+  # The few short proofs of the library are no sooner done by several jobs, which each read all that it stands on.
+  jobs=$(nproc)
+  [ "$crate" != tt_c ] || jobs=1
+  words=("${told[@]}" --incremental "$3/incremental.$crate" --jobs "$jobs")
+  words+=(--target "${triple_of[$2]}" --toolchain "$3/toolchain" --backend llvm)
   rm -rf -- "$made" "$3/text"
   "$kit/bin/rattle" build "${words[@]}" -o "$made" >"$3/log" 2>&1 || {
     grep -v ': proved$' "$3/log" | tail -n 20 >&2

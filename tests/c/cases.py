@@ -1,6 +1,6 @@
-"""Writes questions to the library, as answers.c reads them, and the program's answers; see the script `run` beside
-this file, which starts it: cases.py ROOM FONT... The questions stand in ROOM/cases, the answers in ROOM/wanted, a line
-each, and the fonts of both in ROOM/fonts."""
+"""Writes questions to the library, as answers.c reads them, and the answers: those of the rows of tests/rows where a
+question is one, else the program's; see the script `run` beside this file, which starts it: cases.py ROOM FONT... The
+questions stand in ROOM/cases, the answers in ROOM/wanted, a line each, and the fonts of both in ROOM/fonts."""
 import os
 import re
 import subprocess
@@ -54,16 +54,19 @@ def pictures(data):
     return count
 
 
-def answer(case):
-    """Returns what the program answers to a question."""
+def answer(case, row):
+    """Returns what a row says that the program answers to a question, or with no row what it answers."""
     call, font, text, job = case
     font = str(file_of(font))
     if call == "lines":
         status, stdout, stderr = run(["draw", *words_of(job), "--lines", font], b"\n".join(text) + b"\n")
         refusal = "" if status == 0 else " " + stderr.rstrip("\n").split("\n")[-1]
         return f"{status} {pictures(stdout)} {unfitted(stderr)} {stdout.hex()}{refusal}"
-    words = ["map"] if call == "map" else [call, *words_of(job)]
-    status, stdout, stderr = run([*words, font, "--", text.decode()])
+    if row:
+        status, stdout, stderr = row.status, row.stdout, row.stderr.decode()
+    else:
+        words = ["map"] if call == "map" else [call, *words_of(job)]
+        status, stdout, stderr = run([*words, font, "--", text.decode()])
     if status != 0:
         return f"{status} " + stderr.rstrip("\n")
     if call == "draw":
@@ -80,25 +83,25 @@ def question(case):
 
 
 def of_rows():
-    """Yields a question for each row of tests/rows, and for some of them more."""
+    """Yields a question for each row of tests/rows, with the row, and for some of them more, with none."""
     seen = set()
     for count, row in enumerate(rows()):
         if b"\n" in row.text or b"\r" in row.text or (row.font, row.text, row.kind, row.shape) in seen:
             continue
         seen.add((row.font, row.text, row.kind, row.shape))
         if row.kind == "map":
-            yield "map", row.font, row.text, (16, 0, "full", False)
+            yield ("map", row.font, row.text, (16, 0, "full", False)), row
             continue
         job = *row.shape, row.kind
-        yield "draw", row.font, row.text, (*job, False)
+        yield ("draw", row.font, row.text, (*job, False)), row
         if count % 4 == 0:
-            yield "measure", row.font, row.text, (*job, False)
+            yield ("measure", row.font, row.text, (*job, False)), None
         if count % 4 == 1:
-            yield "measure", row.font, row.text, (*job, True)
+            yield ("measure", row.font, row.text, (*job, True)), None
         if count % 4 == 2:
-            yield "draw", row.font, row.text, (*job, True)
+            yield ("draw", row.font, row.text, (*job, True)), None
         if count % 4 == 3:
-            yield "lines", row.font, [row.text, row.text], (*job, count % 8 == 3)
+            yield ("lines", row.font, [row.text, row.text], (*job, count % 8 == 3)), None
 
 
 def of_real_font(font):
@@ -127,11 +130,11 @@ def main():
     (ROOM / "fonts").mkdir()
     cases = list(of_rows())
     for real in REAL:
-        cases += of_real_font(real.read_bytes())
+        cases += [(it, None) for it in of_real_font(real.read_bytes())]
     with (ROOM / "cases").open("w") as file:
-        file.writelines(question(it) + "\n" for it in cases)
+        file.writelines(question(it) + "\n" for it, _ in cases)
     with ThreadPoolExecutor(os.cpu_count()) as threads, (ROOM / "wanted").open("w") as file:
-        file.writelines(it + "\n" for it in threads.map(answer, cases))
+        file.writelines(it + "\n" for it in threads.map(answer, *zip(*cases)))
 
 
 main()

@@ -49,6 +49,36 @@ serves call.LineEnds other = λ h. omega (arith, h)
 serves call.NotUtf8 other = λ h. omega (arith, h)
 serves call.Memory other = λ h. other refl
 
+-- of what stopped a call the answer is not that all is done
+pub fails : (f : CallFault) → (call_answer f).status ≢ 0
+fails (call.Font f) = λ h. omega (arith, h)
+fails (call.Job j) = λ h. omega (arith, h)
+fails call.FontLarge = λ h. omega (arith, h)
+fails call.UnknownFit = λ h. omega (arith, h)
+fails call.LineEnds = λ h. omega (arith, h)
+fails call.NotUtf8 = λ h. omega (arith, h)
+fails call.Memory = λ h. omega (arith, h)
+
+-- nor that there is too little room
+pub wants_none : (f : CallFault) → (call_answer f).status ≢ 7
+wants_none (call.Font f) = λ h. omega (arith, h)
+wants_none (call.Job j) = λ h. omega (arith, h)
+wants_none call.FontLarge = λ h. omega (arith, h)
+wants_none call.UnknownFit = λ h. omega (arith, h)
+wants_none call.LineEnds = λ h. omega (arith, h)
+wants_none call.NotUtf8 = λ h. omega (arith, h)
+wants_none call.Memory = λ h. omega (arith, h)
+
+-- nor that anything was written
+pub writes_none : (f : CallFault) → (call_answer f).bytes ≡ 0
+writes_none (call.Font f) = refl
+writes_none (call.Job j) = refl
+writes_none call.FontLarge = refl
+writes_none call.UnknownFit = refl
+writes_none call.LineEnds = refl
+writes_none call.NotUtf8 = refl
+writes_none call.Memory = refl
+
 -- why the first part has no value is why there is none at all
 pub first_stops : {A B : Type 0} (wanted : Result A Refusal) (f : A → Result B Refusal) (fault : CallFault)
     → IfSome (call_refusal fault) (λ why. wanted ≡ Err why)

@@ -1,8 +1,22 @@
-use Rattle.std.proofs.Common.{◌≡◌}
-use Rattle.tt_c_calls.proofs.Answered.{stands}
+use Rattle.std.proofs.Common.{◌≡◌, ◌≢◌, arith, refl}
+use Rattle.tt_c_calls.proofs.Answered.{fails, stands, writes_none}
 use Rattle.tt_c_calls.proofs.StrikeLines.{line_defect, line_refused, line_stopped, line_written, picture_of_line, room_small, text_refused}
 use Rattle.tt_c_calls.proofs.line_drawing.draw_line.Goals as goal
 use Rattle.tt_c_calls.proofs.line_drawing.draw_line.Goals.{then-answer-eq0, else-answer-eq0}
+
+pub returns-in-Err-clause-done : goal.returns-in-Err-clause-done
+returns-in-Err-clause-done g c = rw c.answer_of.ensures (λ h. absurd (fails c.in-Err.fault h))
+
+pub returns-in-Err-clause-bytes : goal.returns-in-Err-clause-bytes
+returns-in-Err-clause-bytes g c = rw (c.answer_of.ensures, writes_none c.in-Err.fault) (omega arith)
+
+pub returns-in-Err-picture_by-clause-done : goal.returns-in-Err-picture_by-clause-done
+returns-in-Err-picture_by-clause-done g c =
+    rw c.answer_of-in-Err-picture_by.ensures (λ h. absurd (fails c.in-Err-picture_by.fault h))
+
+pub returns-in-Err-picture_by-clause-bytes : goal.returns-in-Err-picture_by-clause-bytes
+returns-in-Err-picture_by-clause-bytes g c =
+    rw (c.answer_of-in-Err-picture_by.ensures, writes_none c.in-Err-picture_by.fault) (omega arith)
 
 pub returns-in-Err-clause-stopped : goal.returns-in-Err-clause-stopped
 returns-in-Err-clause-stopped g c not_done =
@@ -49,3 +63,10 @@ returns-clause-stopped g c not_done =
     (picture_of_line c.args.job.now g.font c.args.line.now c.in-Ok.text.now c.args.strike.now _ c.requires
     c.in-Ok.ensures.exact made.exact made.ready made.made)
     c.height-height.ensures.exact (c.write_band-answer.ensures.small not_done)
+
+pub returns-clause-stands : goal.returns-clause-stands
+returns-clause-stands g c =
+    λ one.
+    let other : c.write_band-answer.result.status ≢ 0 = λ zero. omega (arith, one, zero) in
+    let seven : c.write_band-answer.result.status ≡ 7 = rw (c.write_band-answer.ensures.small other).1 refl in
+    absurd (omega (arith, one, seven))
