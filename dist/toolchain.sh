@@ -19,12 +19,14 @@ find_kit() {
   kit=$(dirname -- "$(rt doc)")
 }
 
-# find_toolchain ROOM: leaves the kit's folder as $kit, and in the room a toolchain that differs from the kit's in one
-# thing: where its compiler is to make an object, it also leaves the text of it as the room's file `text`. rattle hands
-# its compiler no environment, so the paths are written into the script.
+# find_toolchain ROOM [text]: leaves the kit's folder as $kit, and in the room a toolchain that differs from the kit's in
+# one thing: where its compiler is to make an object, it also leaves the text of it as the room's file `text`; with the
+# word `text` it makes the object of that, and so compiles once and not twice. rattle hands its compiler no environment,
+# so all that it is to know is written into the script.
 find_toolchain() {
   local tool
   find_kit
+  of_text=${2:-}
   mkdir -p -- "$1/toolchain/bin"
   ln -s -- "$kit/toolchain/lib" "$1/toolchain/lib"
   for tool in "$kit"/toolchain/bin/*; do
@@ -35,19 +37,26 @@ find_toolchain() {
 #!/usr/bin/env bash
 clang=$(printf %q "$kit/toolchain/bin/clang")
 text=$(printf %q "$1/text")
+of_text=$of_text
 WRAPPER
   cat >>"$1/toolchain/bin/clang" <<'WRAPPER'
-"$clang" "$@" || exit
+given=("$@")
 words=()
+for word; do
+  [[ $word != --target=* ]] || target=$word
+done
 while [ $# -gt 0 ]; do
   case $1 in
     -c) compiles=1 words+=(-S -fno-verbose-asm) ;;
-    -o) words+=(-o "$text") && shift ;;
+    -o) made=$2 words+=(-o "$text") && shift ;;
     *) words+=("$1") ;;
   esac
   shift
 done
-[ -z "${compiles:-}" ] || exec "$clang" "${words[@]}"
+[ -n "${compiles:-}" ] || exec "$clang" "${given[@]}"
+"$clang" "${words[@]}" || exit
+[ -n "$of_text" ] || exec "$clang" "${given[@]}"
+exec "$clang" "$target" --no-default-config -c -x assembler -o "$made" "$text"
 WRAPPER
   chmod +x "$1/toolchain/bin/clang"
 }
@@ -118,8 +127,10 @@ build() {
     lib*) (cd -- "$3" && "$kit/toolchain/bin/llvm-ar" p made) >"$5" ;;
     *) mv -- "$made" "$5" ;;
   esac
-  assemble "$2" "$3/text" "$3/again.o" || stop "the text of $crate for $2 does not assemble"
-  cmp -s -- "$3/again.o" "$5" || stop "the text of $crate for $2 makes another object than its compiler made"
+  if [ -z "$of_text" ]; then
+    assemble "$2" "$3/text" "$3/again.o" || stop "the text of $crate for $2 does not assemble"
+    cmp -s -- "$3/again.o" "$5" || stop "the text of $crate for $2 makes another object than its compiler made"
+  fi
   hide_addrsig <"$3/text" >"$4"
 }
 
