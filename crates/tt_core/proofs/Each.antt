@@ -1,10 +1,10 @@
--- Lists that are made one element after the other: which element failed, and that none did.
+-- Lists made element by element: which element failed, and that none failed.
 use Rattle.std.proofs.Common.{◌≡◌, ℕ, zero, suc, List, [], ◌∷◌, length, Some, Result, Ok, Err, inl, inr, refl, ap}
 use Rattle.std.specs.List.{slice_get}
 use Rattle.tt_core.specs.Chains.{came-through, was-err}
 use Rattle.tt_core.specs.Outcomes.{each}
 
--- an element has this fault
+-- an element with this fault
 abbrev pub FailsAt : {A B E : Type 0} → (A → Result B E) → List A → E → Type 0
 FailsAt {A = A} f xs e = (i : ℕ) × (x : A) × (slice_get xs i ≡ Some x) × (f x ≡ Err e)
 

@@ -1,4 +1,4 @@
--- What a read or a write does to known bytes that calls before it kept.
+-- The effect of a read or a write on known bytes that earlier calls have not changed.
 use Rattle.std.proofs.Common.{ℕ, List, Option, Some, None}
 use Rattle.std.specs.Io.KnownBytes.{Keeps, Appends, Consumes}
 

@@ -1,4 +1,4 @@
--- The number that the first bytes of a slice hold, high byte first, is the number at the place where the slice begins.
+-- The number in the first bytes of a slice, high byte first, is the number at the slice's offset.
 use Rattle.std.proofs.Common.{◌≡◌, Bool, ℕ, zero, suc, ◌+◌, ◌-◌, ◌≤◌, List, length, take, drop, Option, Some, None, true, false, refl, rules, arith}
 use Rattle.std.specs.Prelude.{ℤ, nat_le, option_map, if◌then◌else◌}
 use Rattle.std.proofs.lemmas.Grind.{common_steps}
@@ -25,7 +25,7 @@ told : (there : Bool) (value n : ℕ) → ◌≡◌ {A = Option ℕ} (if there t
 told true value n is = cc
 told false value n is = absurd cc
 
--- a number that is told is the one at that place
+-- a number that is given is the number at that offset
 pub number_told : (b : List ℕ) (at k n : ℕ) → number_at b at k ≡ Some n → unsigned_at b at k ≡ n
 number_told b at k n is = told (nat_le (at + k) (length b)) (unsigned_at b at k) n is
 

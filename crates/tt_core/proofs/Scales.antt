@@ -1,4 +1,4 @@
--- Scales keep the order of distances and, but for 1, their differences; and with halves away from zero they are odd.
+-- Scales preserve the order of distances, and differences up to 1; with halves away from zero they are odd.
 use Rattle.std.proofs.Common.{◌≡◌, ◌∙◌, sym, ap, subst, Bool, false, if◌then◌else◌, ℕ, zero, suc, ◌+◌, ◌*◌, ◌/◌, ◌<◌, ◌≤◌, ℤ, pos, negsuc, neg_ℤ, ◌+ℤ◌, ◌-ℤ◌, ◌*ℤ◌, ◌≤ℤ◌, int_lt, unsigned_abs, arith}
 use Rattle.std.specs.Int.{int_div_euclid}
 use Rattle.std.proofs.Math.IntN.{neg_ℤ-neg_ℤ, *ℤ_comm}
@@ -28,7 +28,7 @@ nearest_no_less m n d some h =
 not_below : (n : ℕ) → int_lt (pos n) (pos 0) ≡ false
 not_below n = grind (arith, ints)
 
--- by each rule, by the sign of the numerator
+-- each rule, by the sign of the numerator
 upward : (n : ℤ) (d : ℕ) → quotient halves.Up n (pos d) ≡ nearest_quotient n (pos d)
 upward n d =
     ap (λ (b : Bool). if b then nearest_quotient (neg_ℤ n) (neg_ℤ (pos d)) else nearest_quotient n (pos d))
@@ -86,7 +86,7 @@ quotient_odd halves.AwayFromZero (negsuc n) d some e =
 pub are_odd : ScalesAreOdd
 are_odd s v is e = rw (neg_mul v (pos s.pixels)) (quotient_odd s.halves (v *ℤ pos s.pixels) s.units is.some e)
 
--- d q is at most half of d off n
+-- the distance of d q from n is at most half of d
 record IsNear (n q : ℤ) (d : ℕ) : Type 0 where
   low : 2 * (d * up q) + 2 * down n ≤ 2 * up n + 2 * (d * down q) + d
   high : 2 * up n + 2 * (d * down q) ≤ 2 * (d * up q) + 2 * down n + d

@@ -1,4 +1,4 @@
--- A directory that is read has no defect, and neither has the place of a table that is found.
+-- A directory that is read has no defect; the place of a table that is found has none either.
 use Rattle.std.proofs.Common.{◌≡◌, ℕ, nat_lt, false, List, length, Option, Some, None, is_some, Ok, inl, inr}
 use Rattle.std.specs.Prelude.{not, ◌⊎◌}
 use Rattle.tt_core.specs.Chains.{came-through, passed-on, not-neither, not-below}
@@ -31,7 +31,7 @@ directory-same file directory was =
     let same = fits.1 in
     cc
 
--- by the record of the table, where there is one
+-- by the table's record, if there is one
 table-whole-by : (file tag table : List ℕ) (number : Option ℕ) → (named_by file number >>= or_missing tag) ≡ Ok table
     → (fault : Fault) → RecordPassesEnd file number fault
     ⊎ ((is_some number ≡ false) × (fault ≡ fault_at tag 0 why.NoTable))
@@ -49,7 +49,7 @@ pub table-whole : (file tag table : List ℕ) → needed_table file tag ≡ Ok t
 unfolding needed_table table_of
 table-whole file tag table was = λ fault defect. table-whole-by file tag table (record_of file tag) was fault defect
 
--- a table that is there and whose bytes are good has no defect
+-- a table that exists and whose bytes are good has no defect
 pub table-good : (file tag table : List ℕ) (IsBad : List ℕ → Fault → Type 0) → needed_table file tag ≡ Ok table
     → HasNo (IsBad table) → HasNo (IsDefectIn file tag IsBad)
 table-good file tag table IsBad there good =

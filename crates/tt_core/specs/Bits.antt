@@ -2,11 +2,11 @@
 use Rattle.std.specs.Prelude.{◌≡◌, refl, ℕ, ◌+◌, ◌-◌, ◌/◌, ◌%◌, Bool, true, false, ◌==◌, List, [], ◌∷◌, slice_index}
 use Rattle.std.specs.Int.{bit_at}
 
--- pixel k of a row is black; past the last byte none is
+-- whether pixel k of a row is black; there is no black pixel past the last byte
 abbrev pub bit : List ℕ → ℕ → Bool
 bit row k = bit_at (slice_index row (k / 8)) (7 - k % 8) == 1
 
--- how many bytes a row of w pixels has
+-- bytes of a row of w pixels
 abbrev pub stride : ℕ → ℕ
 stride w = (w + 7) / 8
 

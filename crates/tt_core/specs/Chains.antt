@@ -1,5 +1,5 @@
--- No part of the standard: what a chain of steps says of each step, where it came through and where it broke, and what
--- a call's answer says by what its definition gives.
+-- Not from the standard. A chain of steps: which steps succeeded, and where the chain failed. A call's result: how it
+-- follows from the definition.
 use Rattle.std.specs.Prelude.{◌≡◌, ℕ, ◌<◌, ◌==◌, nat_lt, Bool, true, false, not, if◌then◌else◌, Result, Ok, Err, OnOk, ◌⊎◌, refl}
 use Rattle.std.proofs.Common.{inl, inr, arith}
 use Rattle.std.proofs.lemmas.Bool.Decides.{nat_tests}
@@ -8,7 +8,7 @@ use Rattle.tt_core.specs.declared.font_fault.FontFault.TheVariants as fault
 use Rattle.tt_core.specs.Faults.{Fault}
 use Rattle.tt_core.specs.Outcomes.{◌>>=◌, Gives, FontGives, IfTold, font_fault}
 
--- a chain that came through: its first step did, and then the rest
+-- a chain that succeeded: its first step succeeded, and then the rest
 pub record CameThrough {A B E : Type 0} (x : Result A E) (f : A → Result B E) (y : B) : Type 0 where
   pub value : A
   pub first : x ≡ Ok value
@@ -18,25 +18,25 @@ pub came-through : {A B E : Type 0} (x : Result A E) (f : A → Result B E) (y :
 came-through (Ok v) f y was = record { value = v; first = refl; rest = was }
 came-through (Err e) f y was = absurd cc
 
--- a chain that broke later: its first step came through, and then the rest broke
+-- a chain that failed later: its first step succeeded, and then the rest failed
 pub record BrokeLater {A B E : Type 0} (x : Result A E) (f : A → Result B E) (e : E) : Type 0 where
   pub value : A
   pub first : x ≡ Ok value
   pub rest : f value ≡ Err e
 
--- where a chain broke
+-- where a chain failed
 pub was-err : {A B E : Type 0} (x : Result A E) (f : A → Result B E) (e : E) → (x >>= f) ≡ Err e → (x ≡ Err e)
     ⊎ BrokeLater x f e
 was-err (Ok v) f e was = inr (record { value = v; first = refl; rest = was })
 was-err (Err d) f e was = inl cc
 
--- a test that was passed, and what comes after it
+-- a passed test, and what follows the test
 pub passed-on : {A E : Type 0} (failed : Bool) (e : E) (x : Result A E) (y : A) → (if failed then Err e else x) ≡ Ok y
     → (failed ≡ false) × (x ≡ Ok y)
 passed-on true e x y was = absurd cc
 passed-on false e x y was = (refl, was)
 
--- a test that was passed
+-- a passed test
 pub passed : {A E : Type 0} (failed : Bool) (e : E) (x y : A)
     → ◌≡◌ {A = Result A E} (if failed then Err e else Ok x) (Ok y) → (failed ≡ false) × (x ≡ y)
 passed true e x y was = absurd cc
@@ -47,7 +47,7 @@ pub passed-else : {A E : Type 0} (holds : Bool) (e : E) (x y : A)
 passed-else true e x y was = (refl, cc)
 passed-else false e x y was = absurd cc
 
--- a test that was not passed
+-- a failed test
 pub failed : {A E : Type 0} (holds : Bool) (e : E) (x : A) (f : E)
     → ◌≡◌ {A = Result A E} (if holds then Err e else Ok x) (Err f) → (holds ≡ true) × (f ≡ e)
 failed true e x f was = (refl, cc)
@@ -58,7 +58,7 @@ pub failed-else : {A E : Type 0} (holds : Bool) (e : E) (x : A) (f : E)
 failed-else true e x f was = absurd cc
 failed-else false e x f was = (refl, cc)
 
--- a test that holds and one that does not are not the same
+-- a test cannot both hold and fail
 pub not-both : (b : Bool) → b ≡ true → b ≡ false → ⊥
 not-both true holds fails = cc
 not-both false holds fails = cc
@@ -67,26 +67,26 @@ pub not-neither : (b : Bool) → not b ≡ false → b ≡ false → ⊥
 not-neither true holds fails = cc
 not-neither false holds fails = cc
 
--- nor is a test of two numbers, and what it asks
+-- a test of two numbers cannot both fail and be true
 pub not-below : (a b : ℕ) → nat_lt a b ≡ false → a < b → ⊥
 not-below a b is below = grind (arith, nat_tests)
 
 pub not-zero : (n : ℕ) → (n == 0) ≡ false → n ≡ 0 → ⊥
 not-zero n is zero = grind (arith, nat_tests)
 
--- what holds where the definition gives a value holds where the call is Ok
+-- a statement that holds where the definition gives a value also holds where the call returns Ok
 pub on-gives : {X Y E : Type 0} (view : X → Y) (result : Result X E) (wanted : Result Y E) (Q : Type 0)
     → Gives view result wanted → ((y : Y) → wanted ≡ Ok y → Q) → OnOk result Q
 on-gives view (Ok x) wanted Q gives holds = holds (view x) gives
 on-gives view (Err e) wanted Q gives holds = tt
 
--- the same of a call that takes memory
+-- the corresponding statement for a call that allocates
 pub on-given : {X Y : Type 0} (view : X → Y) (result : Result X FontFault) (wanted : Result Y Fault) (Q : Type 0)
     → FontGives view result wanted → ((y : Y) → wanted ≡ Ok y → Q) → OnOk result Q
 on-given view (Ok x) wanted Q gives holds = holds (view x) gives
 on-given view (Err e) wanted Q gives holds = tt
 
--- what holds of a fault of the definition holds of the fault that the call tells
+-- a statement about the definition's fault also holds for the fault that the call reports
 pub if-told : {X Y : Type 0} (view : X → Y) (result : Result X FontFault) (wanted : Result Y Fault)
     (P : Fault → Type 0) → FontGives view result wanted → ((f : Fault) → wanted ≡ Err f → P f)
     → IfTold font_fault result P

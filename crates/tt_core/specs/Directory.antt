@@ -8,44 +8,44 @@ use Rattle.tt_core.specs.Numbers.{unsigned_at}
 use Rattle.tt_core.specs.Outcomes.{◌>>=◌}
 use Rattle.tt_core.specs.Search.{first_below}
 
--- the versions that are read: 1.0, and 'true'
+-- the supported versions: 1.0 and 'true'
 abbrev pub is_version : ℕ → Bool
 is_version v = (v == 0x00010000) || (v == 0x74727565)
 
 abbrev pub record_count : List ℕ → ℕ
 record_count file = unsigned_at file 4 2
 
--- where record i stands
+-- the offset of record i
 abbrev pub record_place : ℕ → ℕ
 record_place i = 12 + 16 * i
 
--- where the directory ends
+-- the offset of the directory's end
 abbrev pub directory_end : List ℕ → ℕ
 directory_end file = record_place (record_count file)
 
 abbrev pub record_tag : List ℕ → ℕ → List ℕ
 record_tag file i = slice_range file (record_place i) (record_place i + 4)
 
--- where the table of record i begins in the file
+-- the offset of record i's table in the file
 abbrev pub record_offset : List ℕ → ℕ → ℕ
 record_offset file i = unsigned_at file (record_place i + 8) 4
 
--- where it ends; the sum has no bound
+-- the end of record i's table; the sum has no bound
 abbrev pub record_end : List ℕ → ℕ → ℕ
 record_end file i = record_offset file i + unsigned_at file (record_place i + 12) 4
 
--- a file whose directory can be read is itself the directory; else its first fault
+-- the directory of a file is the file itself, or the first fault
 unfoldable pub directory_of : List ℕ → Result (List ℕ) Fault
 directory_of file =
     if nat_lt (length file) 12 then Err (file_fault (length file) why.DirShort)
     else (if not (is_version (unsigned_at file 0 4)) then Err (file_fault 0 why.BadVersion)
     else (if nat_lt (length file) (directory_end file) then Err (file_fault (length file) why.DirShort) else Ok file))
 
--- record i names the table
+-- whether record i has the tag
 abbrev pub has_tag : List ℕ → List ℕ → ℕ → Bool
 has_tag file tag i = bytes_eq (record_tag file i) tag
 
--- the first record of a tag
+-- the first record with a tag
 abbrev pub record_of : List ℕ → List ℕ → Option ℕ
 record_of file tag = first_below (record_count file) (has_tag file tag)
 
@@ -56,11 +56,11 @@ named_by file (Some i) =
     if nat_lt (length file) (record_end file i) then Err (file_fault (record_place i) why.TableRange)
     else Ok (Some (slice_range file (record_offset file i) (record_end file i)))
 
--- the table of a tag: the slice that the first record of the tag names
+-- the table with a tag: the slice that the first record with the tag names
 unfoldable pub table_of : List ℕ → List ℕ → Result (Option (List ℕ)) Fault
 table_of file tag = named_by file (record_of file tag)
 
--- a table that has to be there
+-- a table that the font must have
 abbrev pub or_missing : List ℕ → Option (List ℕ) → Result (List ℕ) Fault
 or_missing tag None = Err (fault_at tag 0 why.NoTable)
 or_missing tag (Some table) = Ok table
@@ -68,9 +68,9 @@ or_missing tag (Some table) = Ok table
 unfoldable pub needed_table : List ℕ → List ℕ → Result (List ℕ) Fault
 needed_table file tag = table_of file tag >>= or_missing tag
 
--- What is wrong where a file is refused, apart from the order in which faults are looked for.
+-- The defects of refused files, whatever the order of the tests.
 
--- a defect of the directory itself: it does not fit, or the version is another
+-- a defect of the directory itself: it does not fit, or its version is not supported
 abbrev pub IsDirectoryDefect : List ℕ → Fault → Type 0
 IsDirectoryDefect file fault =
     (((length file < 12) ⊎ (length file < directory_end file)) × (fault ≡ file_fault (length file) why.DirShort))
@@ -82,7 +82,7 @@ RecordPassesEnd file None fault = ⊥
 RecordPassesEnd file (Some i) fault = (length file < record_end file i)
     × (fault ≡ file_fault (record_place i) why.TableRange)
 
--- the first record of the tag does
+-- the first record with the tag names bytes past the end of the file
 abbrev pub PassesEnd : List ℕ → List ℕ → Fault → Type 0
 PassesEnd file tag fault = RecordPassesEnd file (record_of file tag) fault
 
@@ -91,16 +91,16 @@ abbrev pub IsTableDefect : List ℕ → List ℕ → Fault → Type 0
 IsTableDefect file tag fault = PassesEnd file tag fault ⊎ ((is_some (record_of file tag) ≡ false)
     × (fault ≡ fault_at tag 0 why.NoTable))
 
--- a table has a defect: it is missing, or passes the end of the file, or its bytes are bad
+-- a defect of a table: it is missing, it passes the end of the file, or its bytes are bad
 abbrev pub IsDefectIn : List ℕ → List ℕ → (List ℕ → Fault → Type 0) → Fault → Type 0
 IsDefectIn file tag IsBad fault = IsTableDefect file tag fault ⊎ IsOkAnd (needed_table file tag)
     (λ table. IsBad table fault)
 
--- no fault is a defect of this kind
+-- no defect of this kind exists
 abbrev pub HasNo : (Fault → Type 0) → Type 0
 HasNo IsOne = (fault : Fault) → ¬ IsOne fault
 
--- where a table is there, and its bytes are good, the table has no defect
+-- a table that exists and whose bytes are good has no defect
 pub HasNo-IsDefectIn : (file tag table : List ℕ) (IsBad : List ℕ → Fault → Type 0) → needed_table file tag ≡ Ok table
     → HasNo (IsTableDefect file tag) → HasNo (IsBad table) → HasNo (IsDefectIn file tag IsBad)
 HasNo-IsDefectIn file tag table IsBad there kept good = λ fault. λ defect. elim defect [
@@ -109,7 +109,7 @@ HasNo-IsDefectIn file tag table IsBad there kept good = λ fault. λ defect. eli
       (subst P there bad)
 ]
 
--- the same of a call's answer
+-- the corresponding statement for a call's result
 pub OnOk-HasNo-IsDefectIn : {X : Type 0} (r : Result X Fault) (file tag table : List ℕ)
     (IsBad : List ℕ → Fault → Type 0) → needed_table file tag ≡ Ok table → HasNo (IsTableDefect file tag)
     → OnOk r (HasNo (IsBad table)) → OnOk r (HasNo (IsDefectIn file tag IsBad))

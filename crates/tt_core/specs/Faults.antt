@@ -1,5 +1,5 @@
--- The refusals, with their numbers and names. Apple TrueType Reference Manual and OpenType say what a font owes; the
--- numbers and the names are this project's own (profile).
+-- The refusals, with their numbers and names. Apple TrueType Reference Manual and OpenType say what a font must fulfil.
+-- The numbers and the names are this project's own (profile).
 use Rattle.std.specs.Prelude.{ℕ, List, Bool, nat_lt, codes}
 use Rattle.std.specs.List.{list_all}
 use Rattle.tt_core.specs.declared.fault.JobFault.{JobFault}
@@ -7,13 +7,13 @@ use Rattle.tt_core.specs.declared.fault.JobFault.TheVariants as job
 use Rattle.tt_core.specs.declared.fault.Why.{Why}
 use Rattle.tt_core.specs.declared.fault.Why.TheVariants as why
 
--- a defect of a font: the table (`file` for the directory), the offset in it, and what is wrong there
+-- a defect of a font: the table (`file` for the directory), the offset in the table, and the kind of defect
 pub record Fault : Type 0 where
   pub table : List ℕ
   pub offset : ℕ
   pub why : Why
 
--- the test that the bytes of a tag pass: each is ASCII
+-- whether every byte of a tag is ASCII
 abbrev pub is_ascii : List ℕ → Bool
 is_ascii tag = list_all (λ b. nat_lt b 128) tag
 

@@ -1,4 +1,4 @@
--- The limits of this project, each said once (profile): no standard has them.
+-- The limits of this project (profile). No standard has them.
 use Rattle.std.specs.Prelude.{ℕ}
 
 -- bytes of a font file
@@ -13,7 +13,7 @@ text_limit = 4096
 abbrev pub size_limit : ℕ
 size_limit = 300
 
--- pixels round a line
+-- pixels of margin around a line
 abbrev pub margin_limit : ℕ
 margin_limit = 64
 
@@ -32,15 +32,15 @@ point_limit = 16384
 abbrev pub component_limit : ℕ
 component_limit = 32
 
--- how deep components may be nested
+-- levels of nested components
 abbrev pub level_limit : ℕ
 level_limit = 4
 
--- and where as many glyphs as possible are to be fitted
+-- levels of nested components, if as many glyphs as possible are to be fitted
 abbrev pub best_level_limit : ℕ
 best_level_limit = 8
 
--- a coordinate in magnitude, in 26.6 pixels
+-- magnitude of a coordinate, in 26.6 pixels
 abbrev pub coordinate_limit : ℕ
 coordinate_limit = 2097151
 
@@ -48,19 +48,19 @@ coordinate_limit = 2097151
 abbrev pub step_limit : ℕ
 step_limit = 1000000
 
--- work of all programs of a job, where that is bounded
+-- work of all programs of a job, if the job's work is bounded
 abbrev pub work_limit : ℕ
 work_limit = 100000000
 
--- points that the glyphs of a job are made of, with phantom points and one for each contour, where its work is bounded
+-- points of all glyphs of a job, with phantom points and one for each contour, if the job's work is bounded
 abbrev pub point_work_limit : ℕ
 point_work_limit = 4000000
 
--- crossings of a job's glyphs with the rows of its picture, where its work is bounded
+-- crossings of a job's glyphs with the rows of its picture, if the job's work is bounded
 abbrev pub crossing_limit : ℕ
 crossing_limit = 16000000
 
--- calls of functions that may be open at once
+-- open calls of functions
 abbrev pub call_limit : ℕ
 call_limit = 64
 

@@ -1,14 +1,14 @@
--- Apple TrueType Reference Manual, "The TrueType Font File" (data types): every number of a font is
--- big-endian, and a signed one is two's complement. Below it, the two roundings of the whole program.
+-- Apple TrueType Reference Manual, "The TrueType Font File" (data types). Every number of a font is big-endian, and a
+-- signed number is two's complement. This file also has the rounding of quotients.
 use Rattle.std.specs.Prelude.{◌≡◌, ℕ, zero, suc, ◌+◌, ◌*◌, ◌^◌, List, [], ◌∷◌, length, slice_index, nat_lt, nat_le, if◌then◌else◌, ℤ, pos, negsuc, ◌+ℤ◌, ◌-ℤ◌, ◌*ℤ◌, neg_ℤ, int_lt, Option, Some, None, option_map, refl}
 use Rattle.std.specs.Int.{int_div_euclid}
 
--- the number in the k bytes from a place on, the highest byte first; a byte past the end counts as 0
+-- the number in the k bytes at an offset, the highest byte first; a byte past the end counts as 0
 abbrev pub unsigned_at : List ℕ → ℕ → ℕ → ℕ
 unsigned_at bytes at zero = 0
 unsigned_at bytes at (suc k) = slice_index bytes at * 256 ^ k + unsigned_at bytes (suc at) k
 
--- the same number, where its k bytes are all there
+-- the number in the k bytes at an offset, if they all exist
 abbrev pub number_at : List ℕ → ℕ → ℕ → Option ℕ
 number_at bytes at k = if nat_le (at + k) (length bytes) then Some (unsigned_at bytes at k) else None
 
@@ -16,7 +16,7 @@ number_at bytes at k = if nat_le (at + k) (length bytes) then Some (unsigned_at 
 abbrev pub signed16 : ℕ → ℤ
 signed16 n = if nat_lt n (2 ^ 15) then pos n else pos n -ℤ pos (2 ^ 16)
 
--- the signed number in the two bytes at a place, where they are there
+-- the signed number in the two bytes at an offset, if they exist
 abbrev pub signed_at : List ℕ → ℕ → Option ℤ
 signed_at bytes at = option_map signed16 (number_at bytes at 2)
 
@@ -24,7 +24,7 @@ signed_at bytes at = option_map signed16 (number_at bytes at 2)
 abbrev pub nearest_quotient : ℤ → ℤ → ℤ
 nearest_quotient n d = int_div_euclid (pos 2 *ℤ n +ℤ d) (pos 2 *ℤ d)
 
--- the same for any d but 0: the signs of both are changed first if d is negative
+-- n / d for any d but 0, rounded likewise; if d is negative, both signs are changed first
 abbrev pub rounded_quotient : ℤ → ℤ → ℤ
 rounded_quotient n d = if int_lt d (pos 0) then nearest_quotient (neg_ℤ n) (neg_ℤ d) else nearest_quotient n d
 

@@ -1,49 +1,49 @@
--- How a call's answer is tied to a definition that answers a value or the first fault.
+-- How a call's result is tied to a definition that gives a value or the first fault.
 use Rattle.std.specs.Prelude.{◌≡◌, List, [], ◌∷◌, ◌++◌, Option, Some, None, IfSome, Result, Ok, Err}
 use Rattle.tt_core.specs.declared.font_fault.FontFault.{FontFault}
 use Rattle.tt_core.specs.declared.font_fault.FontFault.TheVariants as fault
 use Rattle.tt_core.specs.Faults.{Fault}
 
--- one step after the other: the first fault is the answer
+-- two steps in sequence: the first fault is the result
 infixl 10 ◌>>=◌
 abbrev pub ◌>>=◌ : {A B E : Type 0} → Result A E → (A → Result B E) → Result B E
 (Ok x) >>= f = f x
 (Err e) >>= f = Err e
 
--- what is made of each element, or the first fault
+-- the results of a step for every element, or the first fault
 abbrev pub each : {A B E : Type 0} → (A → Result B E) → List A → Result (List B) E
 each make [] = Ok []
 each make (x ∷ xs) = make x >>= λ y. each make xs >>= λ ys. Ok (y ∷ ys)
 
--- the same after elements that are there
+-- elements that exist already, then the results for the others, or the first fault
 abbrev pub after_each : {A B E : Type 0} → (A → Result B E) → List A → List B → Result (List B) E
 after_each make xs before = each make xs >>= λ ys. Ok (before ++ ys)
 
--- what a call answered, seen by a view, is what the definition gives
+-- a call's result, seen by a view, is the definition's
 abbrev pub Gives : {X Y E : Type 0} → (X → Y) → Result X E → Result Y E → Type 0
 Gives view (Ok x) wanted = wanted ≡ Ok (view x)
 Gives view (Err e) wanted = wanted ≡ Err e
 
--- the same of a call that takes memory: an error tells the definition's fault, or nothing where memory ran out, which
--- may come at any growth
+-- for a call that allocates: an error carries the definition's fault, or no fault if memory ran out; memory may run out
+-- at any growth
 abbrev pub GivesUnless : {X Y D E : Type 0} → (D → Option E) → (X → Y) → Result X D → Result Y E → Type 0
 GivesUnless told view (Ok x) wanted = wanted ≡ Ok (view x)
 GivesUnless told view (Err d) wanted = IfSome (told d) (λ e. wanted ≡ Err e)
 
--- this holds of the fault that an error tells
+-- P holds for the fault that an error reports
 abbrev pub IfTold : {X D E : Type 0} → (D → Option E) → Result X D → (E → Type 0) → Type 0
 IfTold told (Ok x) P = Unit {0}
 IfTold told (Err d) P = IfSome (told d) P
 
--- the fault of a font
+-- the fault of a font, if the error carries one
 abbrev pub font_fault : FontFault → Option Fault
 font_fault (fault.Font f) = Some f
 font_fault fault.Memory = None
 
--- what a call that reads a font and takes memory answered is what the definition gives, unless memory ran out
+-- for a call that reads a font and allocates: its result is the definition's, unless memory ran out
 abbrev pub FontGives : {X Y : Type 0} → (X → Y) → Result X FontFault → Result Y Fault → Type 0
 FontGives view result wanted = GivesUnless font_fault view result wanted
 
--- a value that a call went on with is what the definition gives, unless a fault stopped it or memory ran out
+-- a value that a call leaves behind is the definition's, unless the call stopped at a fault or memory ran out
 abbrev pub Leaves : {X A : Type 0} → Result X FontFault → A → Result A Fault → Type 0
 Leaves result new wanted = GivesUnless font_fault (λ x. new) result wanted

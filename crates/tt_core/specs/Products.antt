@@ -1,11 +1,12 @@
--- No part of the standard: laws of whole numbers that std does not state, on products and on the floor of a quotient.
+-- Not from the standard: lemmas about whole numbers, products and the floor of a quotient. The standard library lacks
+-- them.
 use Rattle.std.proofs.Common.{◌≡◌, ℕ, ◌+◌, ◌*◌, ◌≤◌, ap, arith, mul-le-mul_left}
 use Rattle.std.specs.Prelude.{ℤ, pos, negsuc, ◌+ℤ◌, ◌-ℤ◌, ◌*ℤ◌, neg_ℤ, ◌≤ℤ◌, ◌<ℤ◌}
 use Rattle.std.proofs.lemmas.Int.{ints, by_lt_z}
 use borrow.Author.Differences.{up, down, sum_is_lem, neg_is, product_is}
 use lib.IntN.{*ℤ_comm}
 
--- a factor of a sum, of a number with its sign changed, and of a difference
+-- a factor distributes over a sum, a changed sign and a difference
 pub mul_sum : (a b c : ℤ) → a *ℤ (b +ℤ c) ≡ a *ℤ b +ℤ a *ℤ c
 mul_sum a b c =
     let above = ap (λ (x : ℕ). up a * x) (sum_is_lem b c) in
@@ -38,7 +39,7 @@ mul_assoc_z a b c =
     let r3 = ap (λ (x : ℕ). down a * x) (product_is b c).1 in
     omega (arith, ints)
 
--- a factor that is not negative keeps the order, and a positive one can be left out
+-- a factor that is not negative preserves the order; a positive factor can be cancelled
 pub mul_mono : (d a b : ℤ) → pos 0 ≤ℤ d → a ≤ℤ b → (d *ℤ a) ≤ℤ (d *ℤ b)
 mul_mono (pos n) a b low h =
     let order : up a + down b ≤ up b + down a = omega (arith, ints) in
@@ -53,7 +54,7 @@ cancel_le d a b low h =
     (omega (arith, ints)) in
     by_lt_z b a (λ less. let above = step less in absurd (omega (arith, ints))) (λ h. h)
 
--- where d goes q times into n, and a rest below d is left: which multiples of d lie above n, and which do not
+-- n is d times q plus a rest below d: a multiple of d by more than q is above n, a multiple by at most q is not
 pub floor_above : (d q rest n c : ℤ) → pos 0 ≤ℤ rest → rest <ℤ d → d *ℤ q +ℤ rest ≡ n → q <ℤ c → n <ℤ (d *ℤ c)
 floor_above d q rest n c left high is more =
     let step : (d *ℤ (q +ℤ pos 1)) ≤ℤ (d *ℤ c) = mul_mono d (q +ℤ pos 1) c (omega (arith, ints))

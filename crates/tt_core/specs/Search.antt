@@ -1,8 +1,8 @@
--- The plain search that tables are read by: the first number that passes a test.
+-- A linear search: the first number that passes a test.
 use Rattle.std.specs.Prelude.{◌≡◌, ℕ, zero, suc, ◌+◌, ◌-◌, ◌<◌, Bool, true, false, if◌then◌else◌, Option, Some, None, refl}
 use Rattle.std.proofs.Common.{arith, add-zero, zero-add}
 
--- the least number from i on, of n numbers, that passes the test
+-- the least of the n numbers from i on that passes the test
 abbrev pub first_from : (ℕ → Bool) → ℕ → ℕ → Option ℕ
 first_from passes i zero = None
 first_from passes i (suc n) = if passes i then Some i else first_from passes (i + 1) n
@@ -11,20 +11,20 @@ first_from passes i (suc n) = if passes i then Some i else first_from passes (i 
 abbrev pub first_below : ℕ → (ℕ → Bool) → Option ℕ
 first_below n passes = first_from passes 0 n
 
--- where i does not pass, the search goes on after it
+-- if i fails the test, the search continues after i
 pub first_from_next : (passes : ℕ → Bool) (i n : ℕ) → i < n → passes i ≡ false → first_from passes i (n - i)
     ≡ first_from passes (i + 1) (n - (i + 1))
 first_from_next passes i n below fails =
     let more : n - i ≡ suc (n - (i + 1)) = omega arith in
     rw (more, fails) refl
 
--- where i passes, it is the answer
+-- if i passes the test, the search finds i
 pub first_from_here : (passes : ℕ → Bool) (i n : ℕ) → i < n → passes i ≡ true → first_from passes i (n - i) ≡ Some i
 first_from_here passes i n below holds =
     let more : n - i ≡ suc (n - (i + 1)) = omega arith in
     rw (more, holds) refl
 
--- a choice that is nothing has gone the other way, and that is nothing
+-- a choice that gives None has failed its test, and the other choice is None
 if_none : (b : Bool) (i : ℕ) (others : Option ℕ) → (if b then Some i else others) ≡ None → (b ≡ false) × (others ≡ None)
 if_none true i others nothing = cc
 if_none false i others nothing = (refl, nothing)
@@ -38,7 +38,7 @@ first_from_none passes i (suc n) (suc k) nothing below =
     rw later (first_from_none passes (i + 1) n k ((if_none (passes i) i (first_from passes (i + 1) n) nothing).1)
     (omega arith))
 
--- where nothing is found, nothing passes
+-- if nothing is found, no number passes
 pub first_below_none : (n : ℕ) (passes : ℕ → Bool) (k : ℕ) → first_below n passes ≡ None → k < n → passes k ≡ false
 first_below_none n passes k nothing below = rw zero-add at (first_from_none passes 0 n k nothing below)
 
@@ -60,7 +60,7 @@ first_from_least passes i (suc n) (suc d) within holds before =
     + j = omega arith in rw same at (before (suc j) (omega arith)) in
     rw (here, place) (first_from_least passes (i + 1) n d (omega arith) (rw place at holds) later)
 
--- the least number that passes is what is found
+-- the search finds the least number that passes
 pub first_below_least : (passes : ℕ → Bool) (n k : ℕ) → IsLeast passes n k → first_below n passes ≡ Some k
 first_below_least passes n k least =
     let holds : passes (0 + k) ≡ true = rw zero-add least.holds in
@@ -76,7 +76,7 @@ first_from_nothing passes i (suc n) fails =
     + j = omega arith in rw same at (fails (suc j) (omega arith)) in
     rw here (first_from_nothing passes (i + 1) n later)
 
--- where nothing passes, nothing is found
+-- if no number passes, nothing is found
 pub first_below_nothing : (passes : ℕ → Bool) (n : ℕ) → ((j : ℕ) → j < n → passes j ≡ false) → first_below n passes
     ≡ None
 first_below_nothing passes n fails = first_from_nothing passes 0 n (λ j below. rw zero-add (fails j below))

@@ -8,49 +8,48 @@ ghost use Rattle.tt_core.specs.Device.{RemembersFailure, TakesSome};
 use std::io::{ErrorKind, Read, Write};
 use thiserror::Error;
 
-/// How often a call that was interrupted is made again before it counts as failed.
+/// How many times an interrupted call is tried before it counts as failed.
 const TRIES: u32 = 1000;
 
-/// The device failed; nothing says how.
+/// The device failed. The cause is not reported.
 #[derive(Clone, Copy, Debug, PartialEq, Eq, Error)]
 #[error("the device failed")]
 pub struct IoFailed;
 
 /// Where a font comes from.
 pub trait Source {
-    // The bytes that reads will give from here on, where they are known.
+    // The bytes that later reads will give, if they are known.
     ghost left: { Self → Option (List ℕ) };
 
     ghost has_failed: { Self → Bool };
 
-    /// Reads some bytes to the front of `buf`, and answers how many: 0 only at the end, or where
-    /// `buf` is empty.
+    /// Reads some bytes to the front of `buf` and returns their number. The number is 0 only at the end, or if `buf`
+    /// is empty.
     fn read(&mut self, buf: &mut [u8]) -> Result<usize, IoFailed>
         ensures bound { ReadsAtMost result buf.new }
         ensures bytes { ReadConsumes (left self.old) (left self.new) result buf.new }
         ensures failure { RemembersFailure (has_failed self.old) (has_failed self.new) result };
 
-    /// Whether a call has answered IoFailed.
+    /// Whether a call has returned IoFailed.
     fn failed(&self) -> bool
         ensures { result ≡ has_failed self.now };
 }
 
 /// Where the lines or the picture go.
 pub trait Sink {
-    // The bytes that went out so far, where they are known.
+    // The bytes written to here, if they are known.
     ghost written: { Self → Option (List ℕ) };
 
     ghost has_failed: { Self → Bool };
 
-    /// Writes some bytes from the front of `buf`, and answers how many: at least one, unless `buf`
-    /// is empty.
+    /// Writes some bytes from the front of `buf` and returns their number: at least one, unless `buf` is empty.
     fn write(&mut self, buf: &[u8]) -> Result<usize, IoFailed>
         ensures bound { WritesAtMost result buf.now }
         ensures some { TakesSome result buf.now }
         ensures bytes { WriteAppends (written self.old) (written self.new) result buf.now }
         ensures failure { RemembersFailure (has_failed self.old) (has_failed self.new) result };
 
-    /// Whether a call has answered IoFailed.
+    /// Whether a call has returned IoFailed.
     fn failed(&self) -> bool
         ensures { result ≡ has_failed self.now };
 }

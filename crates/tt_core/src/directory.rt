@@ -13,7 +13,7 @@ use std::marker::Model;
 
 const FILE: [u8; 4] = *b"file";
 
-/// A font file whose directory fits. A clause sees it as the file's bytes.
+/// A font file whose directory fits. Clauses see the file's bytes.
 #[derive(Drop)]
 pub struct Dir<'a> {
     file: &'a [u8],
@@ -30,7 +30,7 @@ impl<'a> Model for Dir<'a> {
 }
 
 impl<'a> Dir<'a> {
-    /// Reads the directory's head. Errors: DirShort, BadVersion.
+    /// Opens a file by the head of its directory. Errors: DirShort, BadVersion.
     #[tactic(auto, unfolding(crate::specs::Directory::directory_of))]
     pub fn open(file: &'a [u8]) -> Result<Dir<'a>, Fault>
         requires { length file.now ≤ font_limit }
@@ -54,8 +54,8 @@ impl<'a> Dir<'a> {
         Ok(Dir { file, count })
     }
 
-    /// The table of a tag, or None where no record has the tag; the first record counts (profile).
-    /// Error: TableRange.
+    /// The table with a tag, or None if no record has the tag. The first record with the tag counts (profile). Error:
+    /// TableRange.
     #[tactic(auto, unfolding(crate::specs::Directory::table_of))]
     pub fn table(&self, tag: [u8; 4]) -> Result<Option<&'a [u8]>, Fault>
         ensures exact { Gives option_copied result (table_of self.now tag) }
@@ -71,7 +71,7 @@ impl<'a> Dir<'a> {
         self.named(self.record(tag))
     }
 
-    /// The table that the record of a number names.
+    /// The table that the record with this number names. None gives None. Error: TableRange.
     fn named(&self, number: Option<usize>) -> Result<Option<&'a [u8]>, Fault>
         requires { IfSome number (λ i. i < record_count self.now) }
         ensures exact { Gives option_copied result (named_by self.now number) }
@@ -93,7 +93,7 @@ impl<'a> Dir<'a> {
         Ok(Some(&file[offset..offset + length]))
     }
 
-    /// A table that has to be there. Errors: TableRange, NoTable.
+    /// A table that the font must have. Errors: TableRange, NoTable.
     #[tactic(auto, unfolding(crate::specs::Directory::needed_table))]
     pub fn needed(&self, tag: [u8; 4]) -> Result<&'a [u8], Fault>
         requires { IsTrue (is_ascii tag) }

@@ -6,7 +6,7 @@ ghost use Rattle.tt_core.specs.Faults.{fault_at, is_ascii, why_number, why_name,
 use std::marker::Model;
 use thiserror::Error;
 
-/// What is wrong with a font.
+/// The kind of a font's defect.
 #[derive(Clone, Copy, Debug, PartialEq, Eq)]
 pub enum Why {
     /// The file's version is neither 0x00010000 nor 'true'.
@@ -17,17 +17,17 @@ pub enum Why {
     NoTable = 3,
     /// A needed table passes the end of the file.
     TableRange = 4,
-    /// head's magic number is another.
+    /// head's magic number is wrong.
     HeadMagic = 5,
     /// unitsPerEm is outside 16 to 16384.
     EmRange = 6,
     /// indexToLocFormat is neither 0 nor 1.
     LocaFormat = 7,
-    /// maxp is not of version 1.0.
+    /// maxp's version is not 1.0.
     MaxpVersion = 8,
-    /// head, maxp, hhea or hmtx is too short, or counts nothing.
+    /// head, maxp, hhea or hmtx is too short, or one of its counts is 0.
     MetricsShort = 9,
-    /// No supported character map.
+    /// There is no supported character map.
     NoCmap = 10,
     /// cmap's header, records or subtable do not fit, or its end codes fall.
     CmapShape = 11,
@@ -49,7 +49,7 @@ pub enum Why {
     ComponentGlyph = 19,
     /// A point to be matched does not exist.
     MatchPoint = 20,
-    /// A component asks for a scaled offset.
+    /// A component requests a scaled offset.
     ScaledOffset = 21,
     /// A glyph has too many points.
     PointLimit = 22,
@@ -71,7 +71,7 @@ pub enum Why {
     JumpRange = 36,
     /// The program ends inside an instruction or a call.
     CodeShort = 37,
-    /// No such function.
+    /// The function does not exist.
     NoFunction = 38,
     /// A function is defined or ended out of place.
     DefinitionPlace = 39,
@@ -79,15 +79,15 @@ pub enum Why {
     IfOpen = 40,
     /// An FDEF has no end.
     NoEndf = 41,
-    /// No such point.
+    /// The point does not exist.
     PointRange = 42,
-    /// No such contour.
+    /// The contour does not exist.
     ContourRange = 43,
-    /// No such zone.
+    /// The zone does not exist.
     ZoneRange = 44,
-    /// No such control value.
+    /// The control value does not exist.
     CvtRange = 45,
-    /// No such storage place.
+    /// The storage place does not exist.
     StorageRange = 46,
     /// A division by zero.
     DivZero = 47,
@@ -100,7 +100,7 @@ pub enum Why {
 }
 
 impl Why {
-    /// The number that messages give.
+    /// The number in messages.
     #[tactic(auto, unfolding(crate::specs::Faults::why_number))]
     pub fn number(self) -> u8
         ensures { result ≡ why_number self }
@@ -108,7 +108,7 @@ impl Why {
         self as u8
     }
 
-    /// The name that messages give.
+    /// The name in messages.
     #[tactic(auto, unfolding(crate::specs::Faults::why_name))]
     pub fn name(self) -> &'static str
         ensures { result.now ≡ why_name self }
@@ -162,8 +162,8 @@ impl Why {
     }
 }
 
-/// A defect of a font: the table (`file` for the directory), the offset in it, and what is wrong there. The table's tag
-/// is ASCII. A clause sees it as the record of the three.
+/// A defect of a font: the table (`file` for the directory), the offset in the table, and the kind of defect. The
+/// table's tag is ASCII. Clauses see a record of the three.
 #[derive(Clone, Copy, Debug, PartialEq, Eq)]
 pub struct Fault {
     /// The table's tag.
@@ -206,7 +206,7 @@ impl Fault {
     }
 }
 
-/// What is wrong with a job: its size, its text, or the picture that they would make.
+/// A defect of a job: of its size, of its text, or of the picture that would result.
 #[derive(Clone, Copy, Debug, PartialEq, Eq, Error)]
 pub enum JobFault {
     /// The size is outside 1 to 300 pixels per em.
@@ -224,13 +224,13 @@ pub enum JobFault {
     /// The margin is above 64 pixels.
     #[error("the margin is above 64 pixels")]
     MarginRange = 64,
-    /// Its glyphs would be too much work.
+    /// The job's glyphs would be too much work.
     #[error("its glyphs would be too much work")]
     WorkLarge = 65,
 }
 
 impl JobFault {
-    /// The number that messages give.
+    /// The number in messages.
     #[tactic(auto, unfolding(crate::specs::Faults::job_number))]
     pub fn number(self) -> u8
         ensures { result ≡ job_number self }
@@ -238,7 +238,7 @@ impl JobFault {
         self as u8
     }
 
-    /// The name that messages give.
+    /// The name in messages.
     #[tactic(auto, unfolding(crate::specs::Faults::job_name))]
     pub fn name(self) -> &'static str
         ensures { result.now ≡ job_name self }

@@ -1,4 +1,4 @@
-//! What comes in the place of an answer that is made of a font.
+//! Errors of calls that read a font and allocate memory.
 
 ghost use Rattle.std.specs.Prelude.{◌≡◌};
 ghost use Rattle.tt_core.specs.declared.font_fault.FontFault.TheVariants.{Font, Memory};
@@ -6,7 +6,7 @@ ghost use Rattle.tt_core.specs.declared.font_fault.FontFault.TheVariants.{Font, 
 use crate::fault::Fault;
 use std::alloc::{AllocError, AllocFailed};
 
-/// Why nothing was made of a font.
+/// Why a call made nothing from a font.
 #[derive(Clone, Copy, Debug, PartialEq, Eq)]
 pub enum FontFault {
     /// The font has this defect.

@@ -5,7 +5,7 @@ ghost use Rattle.tt_core.specs.Scales.{away_quotient, quotient};
 
 use crate::number::rq;
 
-/// Where a half is rounded to.
+/// How halves are rounded.
 #[derive(Clone, Copy, Debug, PartialEq, Eq)]
 pub enum Halves {
     Up,

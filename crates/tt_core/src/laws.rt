@@ -1,19 +1,17 @@
-//! Laws of the definitions. Each function takes nothing and gives nothing: its clauses hold of all files, and
-//! of all scales.
+//! Lemmas about the definitions, for all files and all scales. No code runs.
 
 ghost use Rattle.tt_core.specs.Laws.{DirectoriesAreWhole, DirectoriesAreFiles, TablesAreWhole};
 ghost use Rattle.tt_core.specs.Scales.{ScalesKeepOrder, ScalesAreOdd, ScalesKeepDifferences};
 
-/// Where the definitions give a directory, or a table that has to be there, no defect of it stands.
+/// Lemma: if the definitions give a directory, or a needed table, then the directory or the table has no defect.
 pub fn tables_are_whole()
     ensures directory { DirectoriesAreWhole }
     ensures same { DirectoriesAreFiles }
     ensures table { TablesAreWhole }
 {}
 
-/// Of two distances in font units the greater is never the smaller in 26.6. Where halves go away from zero, a distance
-/// backward is as long as that forward. A difference that is scaled is at most a 64th of a pixel off the difference of
-/// what is scaled.
+/// Lemma: scaling to 26.6 preserves the order of distances, preserves differences up to a 64th of a pixel, and, with
+/// halves away from zero, is odd.
 pub fn scales_keep_order()
     ensures order { ScalesKeepOrder }
     ensures odd { ScalesAreOdd }

@@ -1,4 +1,4 @@
-//! What every reader of a TrueType font stands on: numbers, the table directory, faults and devices.
+//! The basis of every reader of a TrueType font: numbers, the table directory, faults and devices.
 #![tactic(auto)]
 
 mod device;

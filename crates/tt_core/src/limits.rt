@@ -1,6 +1,6 @@
 //! The limits of this project (profile). They bound memory and the size of numbers; no standard has them.
 
-/// Bytes of a font file: every offset fits 32 bits, and sums of offsets do.
+/// Bytes of a font file. Every offset fits 32 bits, and so do sums of offsets.
 pub const FONT_LIMIT: usize = 67_108_864;
 
 /// Characters of a text.
@@ -9,7 +9,7 @@ pub const TEXT_LIMIT: usize = 4096;
 /// Pixels per em.
 pub const SIZE_LIMIT: u32 = 300;
 
-/// Pixels round a line.
+/// Pixels of margin around a line.
 pub const MARGIN_LIMIT: u32 = 64;
 
 /// Columns of a picture.
@@ -24,31 +24,31 @@ pub const POINT_LIMIT: usize = 16_384;
 /// Component records of a glyph.
 pub const COMPONENT_LIMIT: usize = 32;
 
-/// How deep components may be nested.
+/// Levels of nested components.
 pub const LEVEL_LIMIT: u32 = 4;
 
-/// How deep components may be nested, where as many glyphs as possible are to be fitted.
+/// Levels of nested components, if as many glyphs as possible are to be fitted.
 pub const BEST_LEVEL_LIMIT: u32 = 8;
 
-/// A coordinate in magnitude, in 26.6 pixels: two of them and a pen are below 2^23, so that every product of a scan
+/// Magnitude of a coordinate, in 26.6 pixels. Two coordinates and a pen are below 2^23, so every product of a scan
 /// conversion fits 64 bits.
 pub const COORDINATE_LIMIT: i32 = 2_097_151;
 
-/// Steps of one run of a program; a step is one instruction.
+/// Steps of one run of a program. A step is one instruction.
 pub const STEP_LIMIT: u32 = 1_000_000;
 
-/// Work of all programs of a job, where that is bounded: steps, points that instructions go over, bytes that skips pass,
-/// and what is copied for each run.
+/// Work of all programs of a job, if the job's work is bounded. The work is the sum of steps, points that
+/// instructions go over, bytes that skips pass, and copies made for each run.
 pub const WORK_LIMIT: u64 = 100_000_000;
 
-/// Points that the glyphs of a job are made of, where its work is bounded: phantom points, and one for each contour, are
-/// counted with them.
+/// Points of all glyphs of a job, if the job's work is bounded. Phantom points count too, and one more for each
+/// contour.
 pub const POINT_WORK_LIMIT: u64 = 4_000_000;
 
-/// Crossings of a job's glyphs with the rows of its picture, where its work is bounded.
+/// Crossings of a job's glyphs with the rows of its picture, if the job's work is bounded.
 pub const CROSSING_LIMIT: u64 = 16_000_000;
 
-/// Calls of functions that may be open at once.
+/// Open calls of functions.
 pub const CALL_LIMIT: usize = 64;
 
 /// Entries of the interpreter's stack.

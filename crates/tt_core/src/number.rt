@@ -1,11 +1,12 @@
-//! Numbers of a font, and the two roundings. Apple TrueType Reference Manual, "The TrueType Font File", data types.
+//! Numbers of a font, and the rounding of quotients. Apple TrueType Reference Manual, "The TrueType Font File", data
+//! types.
 
 ghost use Rattle.std.specs.Prelude.{◌≡◌, ◌≢◌, ℕ, ◌+◌, ◌*◌, ◌^◌, ◌<◌, ◌≤◌, ◌<ℤ◌, pos, unsigned_abs};
 ghost use Rattle.tt_core.specs.Numbers.{number_at, signed_at, nearest_quotient, rounded_quotient};
 
 use byteorder::{BigEndian, ByteOrder};
 
-/// The u16 at a byte, or None where its bytes pass the end.
+/// The u16 at an offset, or None if its bytes pass the end.
 pub fn u16_at(b: &[u8], at: usize) -> Option<u16>
     ensures { result ≡ number_at b.now at 2 }
 {
@@ -15,7 +16,7 @@ pub fn u16_at(b: &[u8], at: usize) -> Option<u16>
     Some(BigEndian::read_u16(&b[at..]))
 }
 
-/// The i16 at a byte, or None where its bytes pass the end.
+/// The i16 at an offset, or None if its bytes pass the end.
 pub fn i16_at(b: &[u8], at: usize) -> Option<i16>
     ensures { result ≡ signed_at b.now at }
 {
@@ -25,7 +26,7 @@ pub fn i16_at(b: &[u8], at: usize) -> Option<i16>
     Some(BigEndian::read_i16(&b[at..]))
 }
 
-/// The u32 at a byte, or None where its bytes pass the end.
+/// The u32 at an offset, or None if its bytes pass the end.
 pub fn u32_at(b: &[u8], at: usize) -> Option<u32>
     ensures { result ≡ number_at b.now at 4 }
 {

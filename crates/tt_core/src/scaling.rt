@@ -7,7 +7,7 @@ ghost use Rattle.tt_core.specs.Scales.{IsScale, control_value_scale, exact_scale
 use crate::halves::{Halves, quotient};
 use crate::number::rq;
 
-/// From font units to 26.6 pixels: so many of these are as many font units as another number says.
+/// A scale from font units to 26.6 pixels: `pixels` 64ths of a pixel for every `units` font units.
 #[derive(Clone, Copy, Debug, PartialEq, Eq)]
 pub struct Scale {
     pub pixels: u32,
@@ -26,7 +26,7 @@ fn factor(ppem: u32, em: u16) -> u32
 }
 
 impl Scale {
-    /// At `ppem` pixels per em of `em` font units, halves upwards.
+    /// The exact scale at `ppem` pixels per em of `em` font units, with halves upwards.
     pub fn exact(ppem: u32, em: u16) -> Scale
         requires size { ppem ≤ size_limit }
         requires units { 16 ≤ em }
@@ -40,7 +40,7 @@ impl Scale {
         }
     }
 
-    /// A distance in font units as 26.6.
+    /// A distance in font units, converted to 26.6 pixels.
     #[inline(always)]
     pub fn scaled(self, v: i32) -> i64
         requires { IsScale self }
@@ -54,7 +54,7 @@ impl Scale {
         )
     }
 
-    /// The same by a factor of 16.16 that is rounded once, halves away from zero.
+    /// The scale by a factor in 16.16 that is rounded once, with halves away from zero.
     pub fn rounded(ppem: u32, em: u16) -> Scale
         requires size { ppem ≤ size_limit }
         requires units { 16 ≤ em }
@@ -68,7 +68,7 @@ impl Scale {
         }
     }
 
-    /// The same for control values at the start of a program: by whole 64ths of that factor.
+    /// The scale for control values at the start of a program: whole 64ths of that factor.
     pub fn of_control_values(ppem: u32, em: u16) -> Scale
         requires size { ppem ≤ size_limit }
         requires units { 16 ≤ em }
