@@ -1,4 +1,4 @@
--- Tables that are read have no defect.
+-- Tables that the definitions read have no defect.
 use Rattle.std.proofs.Common.{◌≡◌, ℕ, ◌*◌, nat_lt, false, List, length, Result, Ok, inl, inr, subst, sym}
 use Rattle.std.specs.Prelude.{not, ◌==◌, IsOkAnd}
 use Rattle.tt_core.specs.Chains.{came-through, passed-on, passed, passed-else, not-both, not-neither, not-below, not-zero}
@@ -18,7 +18,7 @@ use Rattle.tt_metrics.specs.Maxp.{maxp_tag, is_maxp_version, versioned_maxp, max
 use Rattle.tt_metrics.specs.Metrics.{metrics_of}
 use Rattle.tt_metrics.specs.Tables.{or_short, IsShort}
 
--- a table that is long enough is itself
+-- a table that is long enough is read unchanged
 long-enough : (tag : List ℕ) (least : ℕ) (table read : List ℕ) → or_short tag least table ≡ Ok read
     → (nat_lt (length table) least ≡ false) × (read ≡ table)
 long-enough tag least table read was =

@@ -18,7 +18,7 @@ head_tag = codes "head"
 abbrev pub is_magic : ℕ → Bool
 is_magic n = n == 0x5F0F3CF5
 
--- how many font units an em has: the standard's own range
+-- the range of font units in an em, from the standard
 abbrev pub smallest_em : ℕ
 smallest_em = 16
 
@@ -42,14 +42,14 @@ head_fields head =
     else (if not (is_loca_format (unsigned_at head 50 2)) then Err (fault_at head_tag 50 why.LocaFormat)
     else Ok (record { units_per_em = unsigned_at head 18 2; loca_format = loca_format_of (unsigned_at head 50 2) })))
 
--- the bytes of head, of which 54 have to be there
+-- the fields of head, which needs 54 bytes
 unfoldable pub head_in : List ℕ → Result Head Fault
 head_in head = or_short head_tag 54 head >>= head_fields
 
 unfoldable pub head_of : List ℕ → Result Head Fault
 head_of file = needed_table file head_tag >>= head_in
 
--- head is too short, or a field that is there has a value that is refused
+-- a defect of head: it is too short, or a field that exists has a refused value
 abbrev pub IsBadHead : List ℕ → Fault → Type 0
 IsBadHead head fault =
     IsShort head_tag 54 head fault

@@ -19,14 +19,14 @@ hhea_fields hhea =
     if unsigned_at hhea 34 2 == 0 then Err (fault_at hhea_tag 34 why.MetricsShort)
     else Ok (record { ascent = signed16 (unsigned_at hhea 4 2); descent = signed16 (unsigned_at hhea 6 2); long_metrics = unsigned_at hhea 34 2 })
 
--- the bytes of hhea, of which 36 have to be there
+-- the fields of hhea, which needs 36 bytes
 unfoldable pub hhea_in : List ℕ → Result Hhea Fault
 hhea_in hhea = or_short hhea_tag 36 hhea >>= hhea_fields
 
 unfoldable pub hhea_of : List ℕ → Result Hhea Fault
 hhea_of file = needed_table file hhea_tag >>= hhea_in
 
--- hhea is too short, or counts no long metrics
+-- a defect of hhea: it is too short, or counts no long metrics
 abbrev pub IsBadHhea : List ℕ → Fault → Type 0
 IsBadHhea hhea fault =
     IsShort hhea_tag 36 hhea fault

@@ -10,22 +10,22 @@ use Rattle.tt_metrics.specs.Tables.{or_short, IsShort}
 abbrev pub hmtx_tag : List ℕ
 hmtx_tag = codes "hmtx"
 
--- the pairs of advance and bearing of n glyphs have to be there
+-- the bytes of hmtx, which needs n pairs of advance and bearing
 unfoldable pub hmtx_of : List ℕ → ℕ → Result (List ℕ) Fault
 hmtx_of file n = needed_table file hmtx_tag >>= or_short hmtx_tag (4 * n)
 
--- the advance of glyph g, in font units; past the pairs it is the last pair's
+-- the advance of glyph g, in font units; past the pairs, the last pair's advance
 abbrev pub advance_in : List ℕ → ℕ → ℕ → ℕ
 advance_in hmtx n g = unsigned_at hmtx (4 * min g (n - 1)) 2
 
--- where the bearing of glyph g stands: in its pair, or in the list after the pairs
+-- the offset of the bearing of glyph g: in its pair, or in the list after the pairs
 abbrev pub bearing_place : ℕ → ℕ → ℕ
 bearing_place n g = if nat_lt g n then 4 * g + 2 else 4 * n + 2 * (g - n)
 
--- the left side bearing of glyph g, in font units; past the end of the table it is 0 (profile)
+-- the left side bearing of glyph g, in font units; past the end of the table, 0 (profile)
 abbrev pub bearing_in : List ℕ → ℕ → ℕ → ℤ
 bearing_in hmtx n g = unwrap_or (signed_at hmtx (bearing_place n g)) (pos 0)
 
--- the pairs do not fit
+-- a defect of hmtx: the pairs do not fit
 abbrev pub IsHmtxDefect : List ℕ → ℕ → Fault → Type 0
 IsHmtxDefect file n fault = IsDefectIn file hmtx_tag (IsShort hmtx_tag (4 * n)) fault

@@ -1,8 +1,8 @@
--- Laws of the definitions: what is given has no defect. OpenType, "Font Tables": head, maxp, hhea and hmtx.
+-- Lemmas about the definitions: a result has no defect. OpenType, "Font Tables": head, maxp, hhea and hmtx.
 use Rattle.std.specs.Prelude.{◌≡◌, List, ℕ, Ok}
 use Rattle.tt_core.specs.Directory.{HasNo}
 use Rattle.tt_metrics.specs.Metrics.{Metrics, metrics_of, IsMetricsDefect}
 
--- where the four tables are read, none of them has a defect
+-- if the definition gives the metrics, none of the four tables has a defect
 abbrev pub MetricsAreWhole : Type 0
 MetricsAreWhole = (file : List ℕ) (m : Metrics) → metrics_of file ≡ Ok m → HasNo (IsMetricsDefect file)

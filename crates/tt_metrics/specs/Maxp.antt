@@ -1,5 +1,5 @@
--- Apple TrueType Reference Manual, "The 'maxp' table"; OpenType, "maxp: Maximum Profile". Of the maxima only those of
--- the twilight zone and of the storage area are used (profile).
+-- Apple TrueType Reference Manual, "The 'maxp' table"; OpenType, "maxp: Maximum Profile". Only two of the maxima are
+-- used: those of the twilight zone and of the storage area (profile).
 use Rattle.std.specs.Prelude.{◌≡◌, ℕ, ◌≤◌, Bool, false, ◌==◌, if◌then◌else◌, List, length, codes, Result, Ok, Err, ◌⊎◌}
 use Rattle.tt_core.specs.Faults.{Fault}
 use Rattle.tt_core.specs.declared.fault.Why.TheVariants as why
@@ -17,7 +17,7 @@ maxp_tag = codes "maxp"
 abbrev pub is_maxp_version : ℕ → Bool
 is_maxp_version n = n == 0x00010000
 
--- the version is tested as soon as its four bytes are there
+-- the version is tested as soon as its four bytes exist
 abbrev pub versioned_maxp : List ℕ → Result (List ℕ) Fault
 versioned_maxp maxp = if is_maxp_version (unsigned_at maxp 0 4) then Ok maxp else Err
     (fault_at maxp_tag 0 why.MaxpVersion)
@@ -28,14 +28,14 @@ maxp_fields maxp =
     if unsigned_at maxp 4 2 == 0 then Err (fault_at maxp_tag 4 why.MetricsShort)
     else Ok (record { glyphs = unsigned_at maxp 4 2; twilight = unsigned_at maxp 16 2; storage = unsigned_at maxp 18 2 })
 
--- the bytes of maxp, of which 32 have to be there
+-- the fields of maxp, which needs 32 bytes
 unfoldable pub maxp_in : List ℕ → Result Maxp Fault
 maxp_in maxp = or_short maxp_tag 4 maxp >>= versioned_maxp >>= or_short maxp_tag 32 >>= maxp_fields
 
 unfoldable pub maxp_of : List ℕ → Result Maxp Fault
 maxp_of file = needed_table file maxp_tag >>= maxp_in
 
--- maxp is too short, or a field that is there has a value that is refused
+-- a defect of maxp: it is too short, or a field that exists has a refused value
 abbrev pub IsBadMaxp : List ℕ → Fault → Type 0
 IsBadMaxp maxp fault =
     IsShort maxp_tag 32 maxp fault

@@ -1,6 +1,5 @@
 -- Apple TrueType Reference Manual, "The 'head' table", "The 'maxp' table", "The 'hhea' table" and "The 'hmtx' table":
--- the
--- numbers of the four together.
+-- the numbers of the four tables together.
 use Rattle.std.specs.Prelude.{◌≡◌, ℕ, ◌*◌, ◌<◌, ◌≤◌, ℤ, List, length, [], ◌∷◌, Result, Ok, IsOkAnd, ◌⊎◌, negsuc, refl}
 use Rattle.tt_core.specs.Faults.{Fault}
 use Rattle.tt_core.specs.Outcomes.{◌>>=◌}
@@ -19,7 +18,7 @@ pub record Metrics : Type 0 where
   pub hhea : Hhea
   pub hmtx : List ℕ
 
--- the four tables in the order in which they are read; the first fault is the answer
+-- the four tables, read in this order; the first fault is the result
 unfoldable pub metrics_of : List ℕ → Result Metrics Fault
 metrics_of file = do
   head ← head_of file
@@ -48,7 +47,7 @@ storage_of m = m.maxp.storage
 abbrev pub ascent_of : Metrics → ℤ
 ascent_of m = m.hhea.ascent
 
--- font units above the base line, so mostly negative
+-- font units above the base line, so usually negative
 abbrev pub descent_of : Metrics → ℤ
 descent_of m = m.hhea.descent
 
@@ -58,7 +57,7 @@ advance_of m g = advance_in m.hmtx m.hhea.long_metrics g
 abbrev pub left_side_bearing_of : Metrics → ℕ → ℤ
 left_side_bearing_of m g = bearing_in m.hmtx m.hhea.long_metrics g
 
--- what the rest of the program counts on
+-- the ranges that the rest of the program relies on
 pub record IsInRange (m : Metrics) : Type 0 where
   pub em_low : smallest_em ≤ units_per_em_of m
   pub em_high : units_per_em_of m ≤ largest_em

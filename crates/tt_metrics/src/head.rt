@@ -10,13 +10,13 @@ use tt_core::{Dir, Fault, Why, u16_at, u32_at};
 
 const HEAD: [u8; 4] = *b"head";
 
-/// The fewest font units that an em has.
+/// The smallest unitsPerEm.
 const SMALLEST_EM: u16 = 16;
 
-/// The most font units that an em has.
+/// The largest unitsPerEm.
 const LARGEST_EM: u16 = 16_384;
 
-/// How loca writes an offset.
+/// The format of loca's offsets.
 #[derive(Clone, Copy, Debug, PartialEq, Eq)]
 pub enum LocaFormat {
     /// Half the offset, as a u16.
@@ -32,7 +32,7 @@ pub struct Head {
     pub loca_format: LocaFormat,
 }
 
-/// Errors: NoTable, TableRange, MetricsShort, HeadMagic, EmRange, LocaFormat.
+/// The fields of head. Errors: NoTable, TableRange, MetricsShort, HeadMagic, EmRange, LocaFormat.
 #[tactic(auto, unfolding(crate::specs::Head::head_of))]
 pub(crate) fn read_head(dir: &Dir) -> Result<Head, Fault>
     ensures exact { Gives (λ head. head) result (head_of dir.now) }

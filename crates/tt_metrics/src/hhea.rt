@@ -14,13 +14,13 @@ const HHEA: [u8; 4] = *b"hhea";
 pub struct Hhea {
     /// Font units above the base line.
     pub ascent: i16,
-    /// Font units above the base line, so mostly negative.
+    /// Font units above the base line, so usually negative.
     pub descent: i16,
-    /// How many pairs hmtx begins with.
+    /// The number of pairs at the start of hmtx.
     pub long_metrics: u16,
 }
 
-/// Errors: NoTable, TableRange, MetricsShort.
+/// The fields of hhea. Errors: NoTable, TableRange, MetricsShort.
 #[tactic(auto, unfolding(crate::specs::Hhea::hhea_of))]
 pub(crate) fn read_hhea(dir: &Dir) -> Result<Hhea, Fault>
     ensures exact { Gives (λ hhea. hhea) result (hhea_of dir.now) }

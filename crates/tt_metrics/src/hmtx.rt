@@ -10,7 +10,7 @@ use tt_core::{Dir, Fault, i16_at, u16_at};
 
 const HMTX: [u8; 4] = *b"hmtx";
 
-/// hmtx with at least `n` pairs. Errors: NoTable, TableRange, MetricsShort.
+/// The bytes of hmtx, with at least `n` pairs. Errors: NoTable, TableRange, MetricsShort.
 #[tactic(auto, unfolding(crate::specs::Hmtx::hmtx_of))]
 pub(crate) fn read_hmtx<'a>(dir: &Dir<'a>, n: u16) -> Result<&'a [u8], Fault>
     ensures exact { Gives (λ hmtx. hmtx.now) result (hmtx_of dir.now n) }

@@ -1,8 +1,8 @@
-//! Laws of the definitions. Each function takes nothing and gives nothing: its clauses hold of all files.
+//! Lemmas about the definitions, for all files. No code runs.
 
 ghost use Rattle.tt_metrics.specs.Laws.{MetricsAreWhole};
 
-/// Where the definition gives the metrics of a file, no defect of head, maxp, hhea and hmtx stands.
+/// Lemma: if the definition gives a file's metrics, then head, maxp, hhea and hmtx have no defect.
 pub fn metrics_are_whole()
     ensures { MetricsAreWhole }
 {}

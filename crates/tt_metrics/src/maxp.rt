@@ -19,7 +19,7 @@ pub struct Maxp {
     pub storage: u16,
 }
 
-/// Errors: NoTable, TableRange, MetricsShort, MaxpVersion.
+/// The fields of maxp. Errors: NoTable, TableRange, MetricsShort, MaxpVersion.
 #[tactic(auto, unfolding(crate::specs::Maxp::maxp_of))]
 pub(crate) fn read_maxp(dir: &Dir) -> Result<Maxp, Fault>
     ensures exact { Gives (λ maxp. maxp) result (maxp_of dir.now) }

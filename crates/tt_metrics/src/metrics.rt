@@ -13,7 +13,7 @@ use crate::maxp::{Maxp, read_maxp};
 use std::marker::Model;
 use tt_core::{Dir, Fault};
 
-/// What head, maxp, hhea and hmtx say. A clause sees it as the tables' fields.
+/// The fields of head, maxp and hhea, and the bytes of hmtx. Clauses see the tables' fields.
 #[derive(Drop)]
 pub struct Metrics<'a> {
     head: Head,
@@ -56,7 +56,7 @@ impl<'a> Metrics<'a> {
         })
     }
 
-    /// The same metrics once more. The tables' bytes are not copied.
+    /// A copy of the metrics. The tables' bytes are not copied.
     pub fn copy(&self) -> Metrics<'a>
         ensures { result ≡ self.now }
     {
@@ -77,7 +77,7 @@ impl<'a> Metrics<'a> {
         self.head.units_per_em
     }
 
-    /// How many glyphs the font has.
+    /// The number of glyphs in the font.
     pub fn glyphs(&self) -> u16
         ensures exact { result ≡ glyphs_of self.now }
         ensures some { 0 < result }
@@ -92,14 +92,14 @@ impl<'a> Metrics<'a> {
         self.hhea.ascent
     }
 
-    /// The descent: font units above the base line, so mostly negative.
+    /// The descent: font units above the base line, so usually negative.
     pub fn descent(&self) -> i16
         ensures { result ≡ descent_of self.now }
     {
         self.hhea.descent
     }
 
-    /// How loca writes an offset.
+    /// The format of loca's offsets.
     pub fn loca_format(&self) -> LocaFormat
         ensures { result ≡ loca_format_of self.now }
     {

@@ -1,4 +1,4 @@
-//! A table that has to be there with so many bytes.
+//! A table with a least size.
 
 ghost use Rattle.std.specs.Prelude.{◌≡◌, ◌≤◌, length, IsTrue, IfOk, IfErr};
 ghost use Rattle.tt_core.specs.Limits.{font_limit};
@@ -8,7 +8,7 @@ ghost use Rattle.tt_metrics.specs.Tables.{or_short, IsShort};
 
 use tt_core::{Fault, Why};
 
-/// Refuses a table of fewer bytes than `least`, at its length.
+/// Refuses a table of fewer than `least` bytes, at its length. Error: MetricsShort.
 pub(crate) fn long_enough<'a>(
     tag: [u8; 4],
     least: usize,
