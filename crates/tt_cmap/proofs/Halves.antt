@@ -1,11 +1,11 @@
--- Search by halves: what one reading of a range's end says of the ranges before it, and how many ends are read.
+-- Binary search: what one end of a range says about the ranges before it, and how many ends are read.
 use Rattle.std.proofs.Common.{◌≡◌, ℕ, zero, suc, ◌+◌, ◌-◌, ◌*◌, ◌/◌, ◌^◌, ◌<◌, ◌≤◌, nat_lt, if◌then◌else◌, Bool, true, false, Some, None, refl, arith, pow-suc, add-zero}
 use Rattle.std.proofs.lemmas.Bool.Decides.{nat_tests}
 use Rattle.tt_core.specs.Search.{IsLeast, first_below_least, first_below_none, first_below_nothing}
 use Rattle.tt_cmap.specs.Halves.{asked_within, asked}
 use Rattle.tt_cmap.specs.Ranges.{Subtable, segments, groups, range_count, range_end, falls, falling_range, reaches, range_of, ends_read, most_ends, IfSegments}
 
--- where nothing falls, each range ends at the end of the one before it or after
+-- if no end falls, each range ends at the end of the preceding range or after it
 rises-once : (s : Subtable) → falling_range s ≡ None → (i : ℕ) → i + 1 < range_count s → range_end s i
     ≤ range_end s (i + 1)
 rises-once s rises i within =
@@ -13,7 +13,7 @@ rises-once s rises i within =
     (omega (arith, within)) in
     grind (arith, nat_tests, not)
 
--- and so do all that come later
+-- so do all later ranges
 pub rises-by : (s : Subtable) → falling_range s ≡ None → (i d : ℕ) → i + d < range_count s → range_end s i
     ≤ range_end s (i + d)
 rises-by s rises i zero within = let same : i + 0 ≡ i = add-zero i in rw same (omega arith)
@@ -23,7 +23,7 @@ rises-by s rises i (suc d) within =
     let before : range_end s i ≤ range_end s (i + d) = rises-by s rises i d (omega (arith, within)) in
     omega (arith, before, rw next at more)
 
--- where a range does not reach the character, none before it does
+-- if a range does not reach the character, no earlier range does
 pub before-fails : (s : Subtable) → falling_range s ≡ None → (c m : ℕ) → m < range_count s → range_end s m < c → (j : ℕ)
     → j < m + 1 → reaches s c j ≡ false
 before-fails s rises c m within below j first =
@@ -32,7 +32,7 @@ before-fails s rises c m within below j first =
     let up : range_end s j ≤ range_end s m = rw sum at up in
     grind (arith, nat_tests, up, below)
 
--- more steps than there are numbers change nothing
+-- a larger bound of steps changes nothing
 same-asked : (passes : ℕ → Bool) (n m low left : ℕ) → left ≤ n → left ≤ m
     → asked_within n passes low left ≡ asked_within m passes low left
 unfolding asked_within
@@ -45,7 +45,7 @@ same-asked passes (suc n) (suc m) low (suc left) few many =
     let after = same-asked passes n m (low + suc left / 2 + 1) (suc left - suc left / 2 - 1) (omega (arith, few)) (omega (arith, many)) in
     rw (before, after) refl
 
--- the middle one doesn't pass: it was asked, and the half after it is left
+-- the middle number fails: it is tested, and the half after it remains
 asked-after : (passes : ℕ → Bool) (low left : ℕ) → 0 < left → passes (low + left / 2) ≡ false
     → asked passes low left ≡ 1 + asked passes (low + left / 2 + 1) (left - left / 2 - 1)
 unfolding asked_within
@@ -55,7 +55,7 @@ asked-after passes low (suc left) some fails =
     (omega arith) (omega arith) in
     rw (fails, same) refl
 
--- the middle one passes: it was asked, and the half before it is left
+-- the middle number passes: it is tested, and the half before it remains
 asked-before : (passes : ℕ → Bool) (low left : ℕ) → 0 < left → passes (low + left / 2) ≡ true
     → asked passes low left ≡ 1 + asked passes low (left / 2)
 unfolding asked_within
@@ -68,7 +68,7 @@ one-more : (b : Bool) (k : ℕ) {x y : ℕ} → x ≤ k → y ≤ k → (if b th
 one-more true k before after = omega (arith, before)
 one-more false k before after = omega (arith, after)
 
--- twice as many numbers take one question more
+-- doubling the numbers adds one test
 few-within : (passes : ℕ → Bool) (n low left k : ℕ) → left < 2 ^ k → asked_within n passes low left ≤ k
 unfolding asked_within
 few-within passes zero low left k small = omega arith
@@ -84,8 +84,8 @@ pub few-ends : (s : Subtable) (c : ℕ) → range_count s < 2 ^ most_ends s → 
 unfolding ends_read
 few-ends s c small = few-within (reaches s c) (range_count s) 0 (range_count s) (most_ends s) small
 
--- what is known where a part of the ranges, from low to high, is left: none before it reaches the character, the one
--- after it does, and as many ends are still to be read as a search by halves asks
+-- the state of a search with the ranges from low to high remaining: none before low reaches the character, the range at
+-- high does, and the remaining reads are those of a binary search
 pub record IsLeft (s : Subtable) (c count low high reads all : ℕ) : Type 0 where
   pub ordered : low ≤ high
   pub within : high ≤ count
@@ -111,12 +111,12 @@ at-most-23 : (s : Subtable) → most_ends s ≤ 23
 at-most-23 (segments m) = omega arith
 at-most-23 (groups m) = omega arith
 
--- so few ends are read that the count of readings has room for them
+-- the count of reads has room for all ends of a search
 pub has-room : (s : Subtable) (c count low high reads start : ℕ) → IsLeft s c count low high reads (start + ends_read s c)
     → ends_read s c ≤ most_ends s → start + 2 ^ 30 < 2 ^ 32 → reads + 1 < 2 ^ 32
 has-room s c count low high reads start left few room = omega (arith, left.to_read, few, at-most-23 s, room)
 
--- the middle does not reach the character: what is after it is left
+-- the middle range does not reach the character: the part after it remains
 pub goes-on : (s : Subtable) → falling_range s ≡ None → (c low high reads all : ℕ)
     → IsLeft s c (range_count s) low high reads all → low < high → range_end s (low + (high - low) / 2) < c
     → IsLeft s c (range_count s) (low + (high - low) / 2 + 1) high (reads + 1) all
@@ -137,7 +137,7 @@ pub plane-below : (s : Subtable) (c e : ℕ) → c ≤ e → IfSegments s (e ≤
 plane-below (segments m) c e below plane = omega (arith, below, plane)
 plane-below (groups m) c e below plane = tt
 
--- the middle reaches the character: what is before it is left
+-- the middle range reaches the character: the part before it remains
 pub goes-back : (s : Subtable) (c low high reads all : ℕ) → IsLeft s c (range_count s) low high reads all → low < high
     → c ≤ range_end s (low + (high - low) / 2) → IfSegments s (c ≤ 65535)
     → IsLeft s c (range_count s) low (low + (high - low) / 2) (reads + 1) all
@@ -154,7 +154,7 @@ goes-back s c low high reads all left some reached plane =
       to_read = rw rest (omega (arith, once, left.to_read));
     }
 
--- nothing is left: all ends that a search by halves asks are read
+-- nothing remains: all ends that a binary search tests are read
 pub all-read : (s : Subtable) (c count low high reads all : ℕ) → IsLeft s c count low high reads all → high ≤ low → reads ≡ all
 unfolding asked_within
 all-read s c count low high reads all left none =
@@ -162,7 +162,7 @@ all-read s c count low high reads all left none =
     let nobody : asked (reaches s c) low (high - low) ≡ 0 = rw nothing refl in
     omega (arith, left.to_read, nobody)
 
--- nothing is left, and a range stands after it: that is the first
+-- nothing remains, and a range follows: it is the first that reaches the character
 pub found : (s : Subtable) (c low high reads all : ℕ) → IsLeft s c (range_count s) low high reads all → high ≤ low
     → low < range_count s → range_of s c ≡ Some low
 found s c low high reads all left none within =
@@ -174,7 +174,7 @@ found s c low high reads all left none within =
     } in
     first_below_least (reaches s c) (range_count s) low least
 
--- and where none does, none is found
+-- nothing remains, and no range follows: no range reaches the character
 pub nothing-found : (s : Subtable) (c low high reads all : ℕ) → IsLeft s c (range_count s) low high reads all → high ≤ low
     → range_count s ≤ low → range_of s c ≡ None
 nothing-found s c low high reads all left none past =

@@ -63,7 +63,7 @@ groups-whole table at m was =
       | inr short ↦ not-below (length table) (groups_end it) lists.0 short
     ]
 
--- a subtable whose shape is good
+-- a subtable of good shape
 pub record IsShaped (f : Format) (table : List ℕ) (at : ℕ) (s : Subtable) : Type 0 where
   pub same : s ≡ read_as f table at
   pub shape : HasNo (IsBadShape f table at)
@@ -106,7 +106,7 @@ with-shaped format.Groups table at s was =
     let same = groups-same table at by_map.value by_map.first in
     record { same = is-groups by_map.value (record { table = table; at = at }) s by_map.rest same; shape = groups-whole table at by_map.value by_map.first }
 
--- in which no end falls
+-- no end falls in a subtable of good shape
 none-falls : (s t : Subtable) (found : Option ℕ) → or_falling s found ≡ Ok t → found ≡ None
 none-falls s t None was = refl
 none-falls s t (Some i) was = absurd cc

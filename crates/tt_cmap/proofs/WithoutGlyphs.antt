@@ -1,4 +1,5 @@
--- The characters without a glyph, each once: what one more character adds, and what holds of all that are listed.
+-- The distinct characters without a glyph: the effect of one more character, and statements about all listed
+-- characters.
 use Rattle.std.proofs.Common.{◌≡◌, ◌≢◌, inl, inr, refl, ◌∙◌, ℕ, ◌<◌, Bool, true, false, ◌||◌, ◌==◌, List, [], ◌∷◌, ◌++◌, arith}
 use Rattle.std.specs.List.{All, AllPairs, Contains, filter}
 use Rattle.std.proofs.lemmas.Bool.{cases_eq}
@@ -14,18 +15,18 @@ after-append : (before cs ds : List ℕ) → distinct_after before (cs ++ ds)
 after-append before [] ds = refl
 after-append before (c ∷ cs) ds = after-append (with_character before c) cs ds
 
--- one more character, by what is kept of it
+-- one more character, by whether it passes the filter
 kept : (p : ℕ → Bool) (cs : List ℕ) (c : ℕ) (one : List ℕ) → filter p (c ∷ []) ≡ one
     → distinct (filter p (cs ++ c ∷ [])) ≡ distinct_after (distinct (filter p cs)) one
 kept p cs c one is = rw (filter-append p cs (c ∷ []), is) (after-append [] (filter p cs) one)
 
--- a character that has a glyph is not listed
+-- a character with a glyph is not listed
 pub glyph_stays : (m : Cmap) (cs : List ℕ) (c : ℕ) → lacks m c ≡ false
     → lacking_of m (cs ++ c ∷ []) ≡ lacking_of m cs
 unfolding lacking_of
 glyph_stays m cs c has = kept (lacks m) cs c [] (rw has refl)
 
--- nor is one that stands there
+-- a character that is listed already is not listed again
 pub listed_stays : (m : Cmap) (cs : List ℕ) (c : ℕ) → lacks m c ≡ true → is_among c (lacking_of m cs) ≡ true
     → lacking_of m (cs ++ c ∷ []) ≡ lacking_of m cs
 unfolding lacking_of
@@ -36,7 +37,7 @@ pub first_listed : (m : Cmap) (cs : List ℕ) (c : ℕ) → lacks m c ≡ true �
 unfolding lacking_of
 first_listed m cs c has absent = kept (lacks m) cs c (c ∷ []) (rw has refl) ∙ rw absent refl
 
--- what holds of some characters holds of them each once
+-- a statement about all characters of a list holds for its distinct characters
 with-all : (P : ℕ → Type 0) (there : Bool) (before : List ℕ) (c : ℕ) → is_among c before ≡ there → All P before → P c
     → All P (with_character before c)
 with-all P true before c is all one = rw is all
@@ -87,7 +88,7 @@ found : (c : ℕ) (cs : List ℕ) → is_among c cs ≡ true → Contains cs c
 found c [] is = absurd cc
 found c (d ∷ cs) is = found_by (d == c) c d cs refl is (found c cs)
 
--- no two places of those each once hold the same character
+-- the distinct characters differ from one another
 with-differ : (there : Bool) (before : List ℕ) (c : ℕ) → is_among c before ≡ there → AllPairs (λ c d. c ≢ d) before
     → AllPairs (λ c d. c ≢ d) (with_character before c)
 with-differ true before c is differ = rw is differ
@@ -108,7 +109,7 @@ pub lacking_once : (m : Cmap) (cs : List ℕ) → AllPairs (λ c d. c ≢ d) (la
 unfolding lacking_of
 lacking_once m cs = after-differ [] (filter (lacks m) cs) none-differ
 
--- each character stands among some, each once
+-- each character of a list is among its distinct characters
 with-keeps : (there : Bool) (before : List ℕ) (c d : ℕ) → is_among c before ≡ there → Contains before d
     → Contains (with_character before c) d
 with-keeps true before c d is stands = rw is stands
@@ -154,7 +155,7 @@ lacking_every m cs c stands missing =
     All-contains (Contains (lacking_of m cs)) (filter (lacks m) cs) c (after-every [] (filter (lacks m) cs))
     (All-contains (λ d. lacks m d ≡ true → Contains (filter (lacks m) cs) d) cs c (passes (lacks m) cs) stands is)
 
--- where all have glyphs, none is listed
+-- if all characters have glyphs, none is listed
 none_passes : (m : Cmap) (cs : List ℕ) → AllHaveGlyphs m cs → filter (lacks m) cs ≡ []
 none_passes m [] have = refl
 none_passes m (c ∷ cs) have =
@@ -166,7 +167,7 @@ all_have : (m : Cmap) (cs : List ℕ) → AllHaveGlyphs m cs → lacking_of m cs
 unfolding lacking_of
 all_have m cs have = rw (none_passes m cs have) refl
 
--- and where none is listed, all have
+-- if no character is listed, all have glyphs
 one_has : (m : Cmap) (cs : List ℕ) (c : ℕ) → lacking_of m cs ≡ [] → Contains cs c → 0 < glyph_of m c
 one_has m cs c none stands = elim (cases_eq (glyph_of m c) 0) [
   | inl missing ↦

@@ -1,5 +1,5 @@
--- OpenType, "cmap: Character to Glyph Index Mapping Table": what is wrong where cmap is refused, apart from
--- the order in which faults are looked for.
+-- OpenType, "cmap: Character to Glyph Index Mapping Table": the defects of a refused cmap, whatever the order of the
+-- tests.
 use Rattle.std.specs.Prelude.{◌≡◌, ℕ, ◌+◌, ◌%◌, ◌<◌, ◌≤◌, true, List, length, Option, Some, None, ◌⊎◌}
 use Rattle.tt_core.specs.Faults.{Fault}
 use Rattle.tt_core.specs.declared.fault.Why.TheVariants as why
@@ -15,40 +15,40 @@ use Rattle.tt_cmap.specs.Subtables.{cmap_fault, record_count, record_place, chos
 abbrev pub IsBadRecords : List ℕ → Fault → Type 0
 IsBadRecords table fault = ((length table < 4) ⊎ (length table < record_place (record_count table))) × (fault ≡ cmap_fault (length table) why.CmapShape)
 
--- a subtable of format 4 does not fit, or has half a segment
+-- a defect of a format 4 subtable: it does not fit, or has half a segment
 abbrev pub IsBadFormat4 : Format4 → Fault → Type 0
 IsBadFormat4 m fault =
     ((length m.table < m.at + 14) × (fault ≡ cmap_fault m.at why.CmapShape))
     ⊎ ((m.at + 14 ≤ length m.table) × (seg_count_x2 m % 2 ≡ 1) × (fault ≡ cmap_fault (m.at + 6) why.CmapShape))
     ⊎ ((m.at + 14 ≤ length m.table) × (length m.table < lists_end m) × (fault ≡ cmap_fault m.at why.CmapShape))
 
--- a subtable of format 12 does not fit
+-- a defect of a format 12 subtable: it does not fit
 abbrev pub IsBadFormat12 : Format12 → Fault → Type 0
 IsBadFormat12 m fault =
     ((length m.table < m.at + 16) ⊎ (length m.table < groups_end m)) × (fault ≡ cmap_fault m.at why.CmapShape)
 
--- the bytes of a range's last character
+-- bytes of a range's last character
 abbrev pub range_end_size : Subtable → ℕ
 range_end_size (segments m) = 2
 range_end_size (groups m) = 4
 
--- some range ends before the one before it
+-- some range ends before the end of the preceding range
 abbrev pub IsFalling : Subtable → Fault → Type 0
 IsFalling s fault =
     (i : ℕ) × (i + 1 < range_count s) × (range_end_place s (i + 1) + range_end_size s ≤ length (table_of s)) × (falls s i ≡ true)
     × (fault ≡ cmap_fault (range_end_place s (i + 1)) why.CmapShape)
 
--- the subtable of a format at a place does not fit, or has half a segment
+-- a defect of the subtable of a format at an offset: it does not fit, or has half a segment
 abbrev pub IsBadShape : Format → List ℕ → ℕ → Fault → Type 0
 IsBadShape format.Segments table at fault = IsBadFormat4 (record { table = table; at = at }) fault
 IsBadShape format.Groups table at fault = IsBadFormat12 (record { table = table; at = at }) fault
 
--- the subtable has a bad shape, or its ends fall
+-- a defect of a subtable: a bad shape, or falling ends
 abbrev pub IsBadSubtable : List ℕ → Choice → Fault → Type 0
 IsBadSubtable table p fault =
     IsBadShape p.format table p.at fault ⊎ IsFalling (read_as p.format table p.at) fault
 
--- no subtable can be used, or the chosen one is bad
+-- no subtable is supported, or the chosen one has a defect
 abbrev pub IsBadChoice : List ℕ → Option Choice → Fault → Type 0
 IsBadChoice table None fault = fault ≡ cmap_fault 0 why.NoCmap
 IsBadChoice table (Some place) fault = IsBadSubtable table place fault

@@ -1,8 +1,9 @@
--- Search by halves: which numbers it asks, in rising order of what they answer.
+-- Binary search: the count of numbers that it tests, if the passing numbers follow the failing ones.
 use Rattle.std.specs.Prelude.{◌≡◌, ℕ, zero, suc, ◌+◌, ◌-◌, ◌/◌, nat_le, Bool, if◌then◌else◌, refl}
 
--- how many of the numbers from low on a search by halves asks, where so many are left: the middle one, and then those of
--- the half before it, where it passes, and of the half after it, where it doesn't. Its first argument is at least `left`
+-- the count of tests in a binary search of the numbers from low on; the last argument is their count. The middle number
+-- is tested first; then the half before it if it passes, or the half after it if it fails. The first argument is at
+-- least the last.
 unfoldable pub asked_within : ℕ → (ℕ → Bool) → ℕ → ℕ → ℕ
 asked_within zero passes low left = 0
 asked_within (suc n) passes low zero = 0
@@ -14,7 +15,7 @@ asked_within (suc n) passes low (suc rest) =
 abbrev pub asked : (ℕ → Bool) → ℕ → ℕ → ℕ
 asked passes low left = asked_within left passes low left
 
--- worked values: of five numbers, the third is asked first
+-- worked values: of five numbers, the third is tested first
 none_is_asked : asked (λ i. nat_le 3 i) 0 0 ≡ 0
 unfolding asked_within
 none_is_asked = refl

@@ -1,4 +1,4 @@
--- Laws of the definitions: what is given has no defect, and which texts lack no glyph. OpenType, "cmap: Character to
+-- Lemmas about the definitions: a result has no defect, and which texts lack no glyph. OpenType, "cmap: Character to
 -- Glyph Index Mapping Table".
 use Rattle.std.specs.Prelude.{◌≡◌, ◌↔◌, List, [], ℕ, Ok}
 use Rattle.tt_core.specs.Directory.{HasNo}
@@ -6,11 +6,11 @@ use Rattle.tt_cmap.specs.Defects.{IsBadCmap}
 use Rattle.tt_cmap.specs.Lacking.{AllHaveGlyphs, lacking_of}
 use Rattle.tt_cmap.specs.Lookup.{Cmap, cmap_of}
 
--- where a table gives a character map, its bytes have no defect
+-- if a table gives a character map, the table has no defect
 abbrev pub CmapsAreWhole : Type 0
 CmapsAreWhole = (table : List ℕ) (glyphs : ℕ) (cmap : Cmap) → cmap_of table glyphs ≡ Ok cmap
     → HasNo (IsBadCmap table)
 
--- no character is listed of a text whose characters all have glyphs, and of no other
+-- no character of a text is listed if and only if all its characters have glyphs
 abbrev pub FullTextsLackNothing : Type 0
 FullTextsLackNothing = (cmap : Cmap) (text : List ℕ) → (lacking_of cmap text ≡ []) ↔ AllHaveGlyphs cmap text

@@ -9,22 +9,22 @@ use Rattle.tt_cmap.specs.declared.records.Choice.{Choice}
 use Rattle.tt_cmap.specs.Ranges.{Subtable, segments, groups, subtable_at, range_count, reaches, by_range, glyph_in, reads_in}
 use Rattle.tt_cmap.specs.Subtables.{cmap_fault, records_of, choice_of, chosen_subtable}
 
--- the subtable that serves, and how many glyphs the font has
+-- the chosen subtable, and the number of glyphs in the font
 pub record Cmap : Type 0 where
   pub subtable : Subtable
   pub glyphs : ℕ
 
--- the map by a subtable, which has to fit and whose ranges have to end in rising order
+-- the map by a subtable, if the subtable fits and its ranges end in rising order
 abbrev pub by_subtable : List ℕ → ℕ → Option Choice → Result Cmap Fault
 by_subtable table glyphs None = Err (cmap_fault 0 why.NoCmap)
 by_subtable table glyphs (Some choice) =
     subtable_at table choice >>= λ subtable. Ok (record { subtable = subtable; glyphs = glyphs })
 
--- the same after the records, which have to fit first
+-- the map by a subtable, if the records fit too; the records are tested first
 abbrev pub cmap_by : List ℕ → ℕ → Option Choice → Result Cmap Fault
 cmap_by table glyphs choice = records_of table >>= λ count. by_subtable table glyphs choice
 
--- the map by the subtable that serves, or cmap's first fault
+-- the map by the chosen subtable, or cmap's first fault
 unfoldable pub cmap_of : List ℕ → ℕ → Result Cmap Fault
 cmap_of table glyphs = cmap_by table glyphs (chosen_subtable table)
 
@@ -32,11 +32,11 @@ cmap_of table glyphs = cmap_by table glyphs (chosen_subtable table)
 abbrev pub glyph_of : Cmap → ℕ → ℕ
 glyph_of m c = glyph_in m.subtable m.glyphs c
 
--- how many numbers of the subtable its lookup reads
+-- the count of the subtable's numbers that a lookup reads
 abbrev pub reads_of : Cmap → ℕ → ℕ
 reads_of m c = reads_in m.subtable c
 
--- g is what the least range that reaches the character says of it, and 0 where no range does
+-- g is the glyph by the least range that reaches the character, or 0 if no range reaches it
 pub record FollowsRanges (m : Cmap) (c g : ℕ) : Type 0 where
   pub by_least : (i : ℕ) → IsLeast (reaches m.subtable c) (range_count m.subtable) i
       → g ≡ by_range m.subtable m.glyphs c i
@@ -48,7 +48,7 @@ glyph_follows_ranges m c = record {
   past_all = λ fails. rw (first_below_nothing (reaches m.subtable c) (range_count m.subtable) fails) refl;
 }
 
--- worked values: two segments, 0041 to 0042 by a delta of -64, and the last one
+-- worked values: the segment 0041 to 0042 with a delta of -64, and the last segment
 abbrev pub two_segments : List ℕ
 two_segments =
     0 ∷ 0 ∷ 0 ∷ 1 ∷ 0 ∷ 3 ∷ 0 ∷ 1 ∷ 0 ∷ 0 ∷ 0 ∷ 12 ∷ 0 ∷ 4 ∷ 0 ∷ 32 ∷ 0 ∷ 0 ∷ 0 ∷ 4 ∷ 0 ∷ 4 ∷ 0 ∷ 1 ∷ 0 ∷ 0
@@ -78,7 +78,7 @@ by_the_last_segment = refl
 past_the_last_segment : glyph_of (by_segments 3) 65536 ≡ 0
 past_the_last_segment = refl
 
--- one group, 0001F600 to 0001F602 from glyph 1 on
+-- one group: 0001F600 to 0001F602, from glyph 1 on
 abbrev pub one_group : List ℕ
 one_group =
     0 ∷ 0 ∷ 0 ∷ 1 ∷ 0 ∷ 3 ∷ 0 ∷ 10 ∷ 0 ∷ 0 ∷ 0 ∷ 12 ∷ 0 ∷ 12 ∷ 0 ∷ 0 ∷ 0 ∷ 0 ∷ 0 ∷ 28 ∷ 0 ∷ 0 ∷ 0 ∷ 0 ∷ 0 ∷ 0 ∷ 0 ∷ 1

@@ -13,22 +13,22 @@ use crate::table::Table;
 use std::marker::Model;
 use tt_core::{Fault, Why};
 
-/// Where numGroups stands in the subtable: a uint32.
+/// The offset of numGroups, a uint32, in the subtable.
 const NUM_GROUPS: usize = 12;
 
-/// Where the groups begin.
+/// The offset of the groups in the subtable.
 const GROUPS: usize = 16;
 
-/// The bytes of a group: three uint32, of which startCharCode is the first.
+/// Bytes of a group: three uint32. The first is startCharCode.
 const GROUP: usize = 12;
 
-/// Where endCharCode stands in a group.
+/// The offset of endCharCode in a group.
 const END_CHAR_CODE: usize = 4;
 
-/// Where startGlyphID stands in a group.
+/// The offset of startGlyphID in a group.
 const START_GLYPH_ID: usize = 8;
 
-/// A subtable whose groups fit. A clause sees it as the bytes of cmap and where it begins.
+/// A subtable whose groups fit. Clauses see the bytes of cmap and the subtable's offset.
 #[derive(Drop)]
 pub(crate) struct Format12<'a> {
     table: Table<'a>,
@@ -50,7 +50,7 @@ impl<'a> Model for Format12<'a> {
 }
 
 impl<'a> Format12<'a> {
-    /// The subtable at a place. Error: CmapShape.
+    /// The subtable at an offset. Error: CmapShape.
     #[tactic(auto, unfolding(crate::specs::Format12::groups_at))]
     pub(crate) fn open(
         table: Table<'a>,
@@ -92,7 +92,7 @@ impl<'a> Format12<'a> {
         self.at + GROUPS + GROUP * i
     }
 
-    /// Where the last character of a group stands.
+    /// The offset of a group's last character.
     pub(crate) fn end_char_code_place(&self, i: usize) -> usize
         requires { i < num_groups self.now }
         ensures exact { result ≡ end_char_code_place self.now i }
@@ -111,7 +111,7 @@ impl<'a> Format12<'a> {
         self.table.long(self.end_char_code_place(i), reads)
     }
 
-    /// The glyph of a character by a group whose end is not before it.
+    /// The glyph of a character by a group that ends at the character or after it.
     pub(crate) fn glyph(&self, glyphs: u16, c: usize, i: usize, reads: &mut Reads) -> u16
         requires group { i < num_groups self.now }
         requires character { c < 2 ^ 21 }

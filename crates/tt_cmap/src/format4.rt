@@ -13,20 +13,20 @@ use crate::table::Table;
 use std::marker::Model;
 use tt_core::{Fault, Why};
 
-/// Where segCountX2 stands in the subtable: twice the number of segments. It is also how many bytes each of the lists
-/// endCode, startCode, idDelta and idRangeOffset has.
+/// The offset of segCountX2 in the subtable. segCountX2 is twice the number of segments. Each of the lists endCode,
+/// startCode, idDelta and idRangeOffset has segCountX2 bytes.
 const SEG_COUNT_X2: usize = 6;
 
-/// Where the list endCode begins.
+/// The offset of the list endCode.
 const END_CODE: usize = 14;
 
-/// What stands before and between the four lists: the 14 bytes, and reservedPad, a uint16 after endCode.
+/// Bytes outside the four lists: the first 14, and reservedPad, a uint16 after endCode.
 const HEADER: usize = 16;
 
-/// The bytes of a uint16, as each number of the subtable is.
+/// Bytes of a uint16. Every number of the subtable is a uint16.
 const WORD: usize = 2;
 
-/// A subtable whose four lists fit. A clause sees it as the bytes of cmap and where it begins.
+/// A subtable whose four lists fit. Clauses see the bytes of cmap and the subtable's offset.
 #[derive(Drop)]
 pub(crate) struct Format4<'a> {
     table: Table<'a>,
@@ -49,7 +49,7 @@ impl<'a> Model for Format4<'a> {
 }
 
 impl<'a> Format4<'a> {
-    /// The subtable at a place. Error: CmapShape.
+    /// The subtable at an offset. Error: CmapShape.
     #[tactic(auto, unfolding(crate::specs::Format4::segments_at))]
     pub(crate) fn open(table: Table<'a>, at: usize, reads: &mut Reads) -> Result<Format4<'a>, Fault>
         requires size { length table ≤ font_limit }
@@ -82,7 +82,7 @@ impl<'a> Format4<'a> {
         self.list / WORD
     }
 
-    /// Where the last character of a segment stands.
+    /// The offset of a segment's last character.
     pub(crate) fn end_code_place(&self, i: usize) -> usize
         requires { i < seg_count self.now }
         ensures exact { result ≡ end_code_place self.now i }
@@ -134,7 +134,7 @@ impl<'a> Format4<'a> {
         id_range_offsets + WORD * i
     }
 
-    /// The glyph of a character by a segment whose end is not before it.
+    /// The glyph of a character by a segment that ends at the character or after it.
     pub(crate) fn glyph(&self, glyphs: u16, c: usize, i: usize, reads: &mut Reads) -> u16
         requires segment { i < seg_count self.now }
         requires character { c < 2 ^ 21 }

@@ -1,4 +1,4 @@
-//! Glyphs that are found once. A text has few characters, and most of them many times.
+//! A cache of glyphs. A text has few distinct characters, and most occur many times.
 
 ghost use Rattle.std.specs.Prelude.{◌≡◌, ◌<◌};
 ghost use Rattle.tt_cmap.specs.Lookup.{glyph_of};
@@ -6,7 +6,7 @@ ghost use Rattle.tt_cmap.specs.Lookup.{glyph_of};
 use crate::lookup::Cmap;
 use std::marker::Model;
 
-/// How many characters are kept.
+/// Entries of the cache.
 const KEPT: usize = 128;
 
 /// A character and its glyph.
@@ -16,8 +16,7 @@ struct Known {
     glyph: u16,
 }
 
-/// A character map that keeps the glyphs of the characters asked for last, one for each remainder of their codes by
-/// 128. A clause sees it as the map.
+/// A character map with a cache of recent glyphs: one entry for each remainder of a code by 128. Clauses see the map.
 #[derive(Drop)]
 pub struct KnownGlyphs<'c, 'a> {
     cmap: &'c Cmap<'a>,
@@ -37,7 +36,7 @@ impl<'c, 'a> Model for KnownGlyphs<'c, 'a> {
 }
 
 impl<'c, 'a> KnownGlyphs<'c, 'a> {
-    /// A map that has found only the glyph of U+0000 yet.
+    /// A map whose cache has only the glyph of U+0000.
     pub fn new(cmap: &'c Cmap<'a>) -> Self
         ensures { result ≡ cmap.now }
     {
@@ -51,7 +50,7 @@ impl<'c, 'a> KnownGlyphs<'c, 'a> {
         }
     }
 
-    /// The glyph of a character: 0 where the map has none, or one that the font lacks (profile).
+    /// The glyph of a character. It is 0 if the map has no glyph, or gives one that the font lacks (profile).
     pub fn glyph(&mut self, c: char) -> u16
         ensures exact { result ≡ glyph_of self.old c }
         ensures bound { result < self.old.glyphs }

@@ -1,13 +1,13 @@
-//! Laws of the definitions. Each function takes nothing and gives nothing: its clauses hold of all tables.
+//! Lemmas about the definitions, for all tables. No code runs.
 
 ghost use Rattle.tt_cmap.specs.Laws.{CmapsAreWhole, FullTextsLackNothing};
 
-/// Where the definition gives a character map, no defect of cmap stands.
+/// Lemma: if the definition gives a character map, then cmap has no defect.
 pub fn cmaps_are_whole()
     ensures { CmapsAreWhole }
 {}
 
-/// No character is listed of a text whose characters all have glyphs, and of no other.
+/// Lemma: no character of a text is listed if and only if all its characters have glyphs.
 pub fn full_texts_lack_nothing()
     ensures { FullTextsLackNothing }
 {}

@@ -18,16 +18,16 @@ use crate::records::{CMAP, Choice, chosen, record_count};
 use std::marker::Model;
 use tt_core::{Fault, Why};
 
-/// What a lookup answers.
+/// The result of a lookup.
 #[derive(Clone, Copy)]
 pub struct Lookup {
-    /// The glyph: 0, the missing glyph, where the map has none, or one that the font lacks (profile).
+    /// The glyph. It is 0, the missing glyph, if the map has no glyph, or gives one that the font lacks (profile).
     pub glyph: u16,
-    /// How many numbers of the subtable were read for it.
+    /// The count of the subtable's numbers that the lookup read.
     pub reads: u32,
 }
 
-/// A character map. A clause sees it as the subtable that serves and the number of glyphs.
+/// A character map. Clauses see the chosen subtable and the number of glyphs.
 #[derive(Drop)]
 pub struct Cmap<'a> {
     subtable: Subtable<'a>,
@@ -47,15 +47,20 @@ impl<'a> Model for Cmap<'a> {
 }
 
 impl<'a> Cmap<'a> {
-    /// Chooses the first record of platform 3 and encoding 10 with a subtable of format 12, else the first of
-    /// platform 0 with one; else the first of platform 3 and encoding 1 with a subtable of format 4, else the first of
-    /// platform 0 with one (profile). Errors: CmapShape, NoCmap.
+    /// Opens cmap and chooses a subtable (profile). The order of choice:
+    ///
+    /// - platform 3, encoding 10, format 12;
+    /// - platform 0, format 12;
+    /// - platform 3, encoding 1, format 4;
+    /// - platform 0, format 4.
+    ///
+    /// Among records of one kind the first counts. Errors: CmapShape, NoCmap.
     #[tactic(auto, unfolding(crate::specs::Lookup::cmap_of))]
     pub fn open(table: &'a [u8], glyphs: u16) -> Result<Cmap<'a>, Fault>
         requires size { length table.now ≤ font_limit }
         requires glyphs { 0 < glyphs }
         ensures exact { Gives (λ c. c) result (cmap_of table.now glyphs) }
-        // The record that serves names the subtable.
+        // The serving record names the subtable.
         ensures first { (format : Format) (i : ℕ) → Serves format table.now i
             → Gives (λ c. c) result (cmap_by table.now glyphs (Some (choice_of format (subtable_of table.now i)))) }
         ensures absent { NoneServes table.now → Gives (λ c. c) result (cmap_by table.now glyphs None) }
@@ -68,7 +73,7 @@ impl<'a> Cmap<'a> {
         Cmap::by_subtable(table, glyphs, chosen(table, count))
     }
 
-    /// The map by the subtable that was chosen. Errors: NoCmap, CmapShape.
+    /// The map by the chosen subtable. Errors: NoCmap, CmapShape.
     fn by_subtable(table: &'a [u8], glyphs: u16, choice: Option<Choice>) -> Result<Cmap<'a>, Fault>
         requires size { length table.now ≤ font_limit }
         requires within { IfSome choice (λ p. p.at ≤ length table.now) }
@@ -87,8 +92,8 @@ impl<'a> Cmap<'a> {
         })
     }
 
-    /// The glyph of a character, and how many numbers of the subtable were read for it: ends of ranges, by halves, and
-    /// then at most 4 of the range that is found.
+    /// The glyph of a character, and the count of numbers read from the subtable. A binary search reads ends of
+    /// ranges; then at most 4 numbers of the found range are read.
     pub fn look_up(&self, c: char) -> Lookup
         ensures exact { result.glyph ≡ glyph_of self.now c }
         ensures ranges { FollowsRanges self.now c result.glyph }
@@ -106,7 +111,7 @@ impl<'a> Cmap<'a> {
         }
     }
 
-    /// The glyph of a character: 0 where the map has none, or one that the font lacks (profile).
+    /// The glyph of a character. It is 0 if the map has no glyph, or gives one that the font lacks (profile).
     pub fn glyph(&self, c: char) -> u16
         ensures exact { result ≡ glyph_of self.now c }
         ensures ranges { FollowsRanges self.now c result }

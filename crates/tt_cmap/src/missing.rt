@@ -1,4 +1,4 @@
-//! The characters of a text that a font has no glyph for.
+//! The characters of a text without a glyph in a font.
 
 ghost use Rattle.std.specs.Prelude.{◌≡◌, ◌≢◌, ℕ, chars, IfOk};
 ghost use Rattle.std.specs.List.{All, AllPairs, Contains};
@@ -9,8 +9,8 @@ use crate::known::KnownGlyphs;
 use crate::lookup::Cmap;
 use std::alloc::{AllocError, Global};
 
-/// The characters of a text that the map gives glyph 0, each once, in order of first appearance. Each such place of the
-/// text is compared with those listed before it. Error: want of memory.
+/// The distinct characters of a text with glyph 0, in order of first appearance. Each occurrence in the text is
+/// compared with the characters listed before it. Error: memory ran out.
 pub fn lacking(alloc: Global, cmap: &Cmap, text: &str) -> Result<Vec<char>, AllocError>
     ensures exact { IfOk result (λ v. v.items ≡ lacking_of cmap.now (chars text.now)) }
     ensures missing { IfOk result (λ v. All (λ c. glyph_of cmap.now c ≡ 0) v.items) }
@@ -29,7 +29,7 @@ pub fn lacking(alloc: Global, cmap: &Cmap, text: &str) -> Result<Vec<char>, Allo
     Ok(listed)
 }
 
-/// The map gives a character the missing glyph.
+/// Whether the map gives a character the missing glyph.
 fn lacks(known: &mut KnownGlyphs, c: char) -> bool
     ensures exact { result ≡ lacks known.old c }
     ensures same { known.new ≡ known.old }

@@ -13,7 +13,7 @@ use crate::records::{CMAP, Choice, Format};
 use crate::table::Table;
 use tt_core::{Fault, Why};
 
-/// A subtable that is read: its ranges are segments or groups.
+/// A subtable: its ranges are segments or groups.
 #[derive(Drop)]
 pub(crate) enum Subtable<'a> {
     Segments(Format4<'a>),
@@ -21,7 +21,7 @@ pub(crate) enum Subtable<'a> {
 }
 
 impl<'a> Subtable<'a> {
-    /// The subtable that was chosen, which has to fit. Error: CmapShape.
+    /// The chosen subtable, if it fits. Error: CmapShape.
     fn with(table: &'a [u8], choice: Choice, reads: &mut Reads) -> Result<Subtable<'a>, Fault>
         requires size { length table.now ≤ font_limit }
         requires place { choice.at ≤ length table.now }
@@ -38,7 +38,7 @@ impl<'a> Subtable<'a> {
         }
     }
 
-    /// The same, whose ranges have to end in rising order. Error: CmapShape.
+    /// The chosen subtable, if it fits and its ranges end in rising order. Error: CmapShape.
     pub(crate) fn open(
         table: &'a [u8],
         choice: Choice,
@@ -70,7 +70,7 @@ impl<'a> Subtable<'a> {
         }
     }
 
-    /// Where the last character of a range stands.
+    /// The offset of a range's last character.
     fn end_place(&self, i: usize) -> u32
         requires { i < range_count (subtable_view self.now) }
         ensures exact { result ≡ range_end_place (subtable_view self.now) i }
@@ -95,7 +95,7 @@ impl<'a> Subtable<'a> {
         }
     }
 
-    /// The first range that the next one ends before.
+    /// The first range that ends after the end of the next range.
     #[tactic(auto, using(tt_core::specs::Search::first_from_next, tt_core::specs::Search::first_from_here))]
     fn falling(&self, reads: &mut Reads) -> Option<usize>
         requires room { reads.old + 2 ^ 30 < 2 ^ 32 }
@@ -111,7 +111,7 @@ impl<'a> Subtable<'a> {
         None
     }
 
-    /// The first range that ends at the character or after it, by halves.
+    /// The first range that ends at the character or after it, by binary search.
     fn search(&self, c: usize, reads: &mut Reads) -> Option<usize>
         requires rises { falling_range (subtable_view self.now) ≡ None }
         requires room { reads.old + 2 ^ 30 < 2 ^ 32 }
@@ -135,7 +135,7 @@ impl<'a> Subtable<'a> {
         if low < count { Some(low) } else { None }
     }
 
-    /// The glyph of a character by a range whose end is not before it.
+    /// The glyph of a character by a range that ends at the character or after it.
     fn glyph_by(&self, glyphs: u16, c: usize, i: usize, reads: &mut Reads) -> u16
         requires range { i < range_count (subtable_view self.now) }
         requires character { c < 2 ^ 21 }

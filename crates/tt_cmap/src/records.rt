@@ -1,4 +1,4 @@
-//! Which subtable of cmap serves, by its encoding records. OpenType, "cmap", encoding records.
+//! The choice of cmap's subtable by its encoding records. OpenType, "cmap", encoding records.
 
 ghost use Rattle.std.specs.Prelude.{◌≡◌, ◌*◌, ◌+◌, ◌<◌, ◌≤◌, length, IsTrue, IfOk, IfErr, IfSome};
 ghost use Rattle.tt_core.specs.Limits.{font_limit};
@@ -11,7 +11,7 @@ use tt_core::{Fault, Why, u16_at, u32_at};
 
 pub(crate) const CMAP: [u8; 4] = *b"cmap";
 
-/// Whose encoding a record is for.
+/// The platform of an encoding record.
 #[derive(Clone, Copy)]
 pub(crate) enum Platform {
     /// Platform 3.
@@ -20,7 +20,7 @@ pub(crate) enum Platform {
     Unicode,
 }
 
-/// How a subtable maps characters.
+/// The format of a subtable.
 #[derive(Clone, Copy)]
 pub(crate) enum Format {
     /// Format 4, segment mapping to delta values: the Basic Multilingual Plane.
@@ -29,14 +29,14 @@ pub(crate) enum Format {
     Groups,
 }
 
-/// The subtable that serves: how it maps characters, and where in cmap it begins.
+/// The chosen subtable: its format, and its offset in cmap.
 #[derive(Clone, Copy)]
 pub(crate) struct Choice {
     pub(crate) format: Format,
     pub(crate) at: usize,
 }
 
-/// How many records there are. Error: CmapShape.
+/// The number of records. Error: CmapShape.
 #[tactic(auto, unfolding(crate::specs::Subtables::records_of))]
 pub(crate) fn record_count(table: &[u8]) -> Result<usize, Fault>
     requires { length table.now ≤ font_limit }
@@ -66,7 +66,7 @@ fn format_number(format: Format) -> u16
     }
 }
 
-/// Windows' encoding that goes with a format.
+/// The encoding of Windows for a format.
 fn windows_encoding(format: Format) -> u16
     ensures { result ≡ windows_encoding format }
 {
@@ -114,7 +114,7 @@ fn first_subtable(platform: Platform, format: Format, table: &[u8], count: usize
     None
 }
 
-/// The first subtable of a format: Windows' before Unicode's.
+/// The first subtable of a format: that of Windows before that of Unicode.
 fn first_of(format: Format, table: &[u8], count: usize) -> Option<Choice>
     requires count { count ≡ record_count table.now }
     requires fit { record_place count ≤ length table.now }
@@ -130,7 +130,7 @@ fn first_of(format: Format, table: &[u8], count: usize) -> Option<Choice>
     }
 }
 
-/// The subtable that serves, if one does: one of format 12 before one of format 4.
+/// The chosen subtable, if there is one: format 12 before format 4.
 pub(crate) fn chosen(table: &[u8], count: usize) -> Option<Choice>
     requires count { count ≡ record_count table.now }
     requires fit { record_place count ≤ length table.now }

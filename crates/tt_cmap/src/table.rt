@@ -1,5 +1,5 @@
-//! The bytes of cmap, read number by number. They don't leave this module, so that a subtable is read by calls that
-//! count alone.
+//! The bytes of cmap, read number by number. The bytes do not leave this module, so every read of a subtable is
+//! counted.
 
 ghost use Rattle.std.specs.Prelude.{◌≡◌, ◌+◌, ◌<◌, ◌≤◌, ◌^◌, length};
 ghost use Rattle.tt_core.specs.Numbers.{unsigned_at, number_at};
@@ -8,7 +8,7 @@ use crate::lookup::reads::Reads;
 use std::marker::Model;
 use tt_core::{u16_at, u32_at};
 
-/// The bytes of cmap. A clause sees them as a list.
+/// The bytes of cmap. Clauses see a list.
 #[derive(Drop)]
 pub(crate) struct Table<'a> {
     bytes: &'a [u8],
@@ -35,7 +35,7 @@ impl<'a> Table<'a> {
         self.bytes.len()
     }
 
-    /// The uint16 at a place.
+    /// The uint16 at an offset.
     pub(crate) fn word(&self, at: usize, reads: &mut Reads) -> usize
         requires fits { at + 2 ≤ length self.now }
         requires room { reads.old + 1 < 2 ^ 32 }
@@ -47,7 +47,7 @@ impl<'a> Table<'a> {
         usize::from(u16_at(self.bytes, at).unwrap())
     }
 
-    /// The uint32 at a place.
+    /// The uint32 at an offset.
     pub(crate) fn long(&self, at: usize, reads: &mut Reads) -> usize
         requires fits { at + 4 ≤ length self.now }
         requires room { reads.old + 1 < 2 ^ 32 }
@@ -59,7 +59,7 @@ impl<'a> Table<'a> {
         u32_at(self.bytes, at).unwrap() as usize
     }
 
-    /// The uint16 at a place that may be past the end. Looking there counts too.
+    /// The uint16 at an offset, or None past the end. A read past the end counts too.
     pub(crate) fn word_if_there(&self, at: usize, reads: &mut Reads) -> Option<u16>
         requires room { reads.old + 1 < 2 ^ 32 }
         ensures exact { result ≡ number_at self.now at 2 }

@@ -1,11 +1,11 @@
-//! How many numbers are read of a subtable.
+//! A count of the numbers that are read from a subtable.
 
 ghost use Rattle.std.specs.Prelude.{◌≡◌, ◌+◌, ◌<◌, ◌^◌};
 
 use std::marker::Model;
 
-/// A count of readings: `Table` raises it by one for each number that it reads, and `lookup` alone starts one. A clause
-/// sees it as the number.
+/// The number of reads. `Table` adds 1 for each number that it reads. Only `lookup` starts a count. Clauses see the
+/// number.
 #[derive(Drop)]
 pub(crate) struct Reads {
     count: u32,
@@ -20,7 +20,7 @@ impl Model for Reads {
 }
 
 impl Reads {
-    /// Nothing is read yet.
+    /// A count of 0.
     pub(super) fn none() -> Reads
         ensures exact { result ≡ 0 }
     {
