@@ -1,4 +1,4 @@
--- Where a composite glyph is refused, the defect that its fault names stands in its bytes.
+-- A composite glyph is refused for a defect that exists: the one that the fault names.
 use Rattle.std.proofs.Common.{◌≡◌, ℕ, zero, suc, ◌+◌, ◌*◌, ◌≤◌, Bool, true, false, nat_lt, if◌then◌else◌, [], ◌∷◌, Result, Ok, Err, inl, inr, ℤ, pos, refl, arith, ap, sym, ◌∙◌}
 use Rattle.std.specs.Prelude.{◌⊎◌}
 use Rattle.std.proofs.lemmas.Bool.Decides.{nat_tests}
@@ -110,7 +110,7 @@ scaled-broke : (g : GlyphBytes) (at : ℕ) (r : Record) (f : Fault) → unscaled
 unfolding unscaled
 scaled-broke g at r f was = failed (asks_scaled_offset r) _ r f was
 
--- the same of the record with these flags
+-- the record with these flags
 abbrev record_by : GlyphBytes → ℕ → ℕ → Record
 record_by g at flags =
     record_of (g.start + at) flags (written_component g.bytes at) (written_argument g.bytes flags (at + 4))

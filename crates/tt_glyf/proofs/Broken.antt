@@ -1,4 +1,4 @@
--- Where a glyph is refused, the defect that its fault names stands in its bytes.
+-- A glyph is refused for a defect that exists: the one that the fault names.
 use Rattle.std.proofs.Common.{◌≡◌, ℕ, zero, suc, ◌+◌, ◌-◌, ◌<◌, ◌≤◌, Bool, true, false, nat_lt, if◌then◌else◌, List, [], ◌∷◌, length, take, fold, Result, Ok, Err, inl, inr, ℤ, pos, ◌+ℤ◌, refl, arith, add-one, ap, zero-add, ◌∙◌}
 use Rattle.std.specs.Prelude.{◌⊎◌, slice_index}
 use Rattle.std.proofs.Math.ListN.{replicate}
@@ -50,7 +50,7 @@ end-broke g at before f was = elim (was-err (word_in g at) (rising g at before) 
       inr (word.room, grind (arith, nat_tests), p.1)
 ]
 
--- the end before the one of a number, and 0 before the first
+-- the end of the preceding contour, 0 for the first
 abbrev end_before : List ℕ → ℕ → ℕ
 end_before bytes zero = 0
 end_before bytes (suc i) = written_end bytes i
@@ -318,7 +318,7 @@ points-broke g at n f le was = elim (was-err (flags_from n g at n) _ f was) [
       ])
 ]
 
--- how many points there are, by the ends that were read
+-- the number of points, from the ends that were read
 pub count-is : (bytes : List ℕ) (contours : ℕ) (ends : Listing ℕ) → 0 < contours → EndsRead bytes 10 contours 0 ends
     → point_count ends.items ≡ written_points bytes contours
 count-is bytes contours ends some read =

@@ -1,10 +1,10 @@
--- Chains of steps that may fail, and lists that are read one by one.
+-- Chains of steps that may fail, and lists read item by item.
 use Rattle.std.proofs.Common.{◌≡◌, List, [], ◌++◌, Result, Ok, Err, refl, append_assoc}
 use Rattle.tt_core.specs.Faults.{Fault}
 use Rattle.tt_core.specs.Outcomes.{◌>>=◌}
 use Rattle.tt_glyf.specs.Bytes.{Listing, after}
 
--- the same first step, and then the same
+-- equal first steps, followed by equal steps
 pub chain-same : {A B E : Type 0} (x : Result A E) (f h : A → Result B E) → ((y : A) → f y ≡ h y)
     → (x >>= f) ≡ (x >>= h)
 chain-same (Ok y) f h same = same y
@@ -18,7 +18,7 @@ pub after-nothing : {A : Type 0} (x : Result (Listing A) Fault) → after [] x �
 after-nothing (Ok read) = refl
 after-nothing (Err f) = refl
 
--- a list that came through after others
+-- a list that was read after other items
 pub record CameAfter {A : Type 0} (before : List A) (x : Result (Listing A) Fault) (y : Listing A) : Type 0 where
   pub read : Listing A
   pub was : x ≡ Ok read

@@ -1,4 +1,4 @@
--- Each flag is the one of the run that covers its point.
+-- A flag is that of the run that covers its point.
 use Rattle.std.proofs.Common.{◌≡◌, ℕ, zero, suc, ◌+◌, ◌-◌, ◌<◌, ◌≤◌, Bool, true, false, nat_lt, if◌then◌else◌, List, [], ◌++◌, length, length-append, Ok, refl, arith, ap, ◌∙◌}
 use Rattle.std.specs.Prelude.{slice_index}
 use Rattle.std.proofs.Math.ListN.{replicate}
@@ -13,7 +13,7 @@ use Rattle.tt_glyf.specs.Meaning.{written_run, runs_end, written_flags}
 use Rattle.tt_glyf.proofs.Chains.{came-after}
 use Rattle.tt_glyf.proofs.Fields.{byte-was}
 
--- what is known of a run that was read
+-- facts about a run that was read
 pub record IsRead (g : GlyphBytes) (r is : Run) (left : ℕ) : Type 0 where
   pub same : r ≡ is
   pub within : r.copies < left
@@ -46,7 +46,7 @@ run-was g at left r some was =
     let flag = byte-was g at through.value through.first in
     rw flag.is at (run-cases g at left through.value (has through.value repeat_flag) r some flag.room through.rest)
 
--- how many points the runs cover: those of the first one, and those of the others
+-- the points that runs cover: those of the first run, and those of the others
 pub flags-length : (bytes : List ℕ) (at runs : ℕ) → length (written_flags bytes at (suc runs)) ≡ suc
     (written_run bytes at).copies + length (written_flags bytes (written_run bytes at).next runs)
 flags-length bytes at runs =
@@ -54,12 +54,12 @@ flags-length bytes at runs =
     ∙ ap (λ (n : ℕ). n + length (written_flags bytes (written_run bytes at).next runs))
     (length-replicate (suc (written_run bytes at).copies) (written_run bytes at).flag)
 
--- a run that is there, and copies no flag past the last point
+-- a run within the bytes that copies no flag past the last point
 pub record IsGoodRun (bytes : List ℕ) (at left : ℕ) : Type 0 where
   pub within : (written_run bytes at).copies < left
   pub room : (written_run bytes at).next ≤ length bytes
 
--- the runs that cover so many points
+-- the runs that cover all points
 abbrev pub AreGoodRuns : List ℕ → ℕ → ℕ → Type 0
 AreGoodRuns bytes at left =
     (k : ℕ) → length (written_flags bytes at k) < left → IsGoodRun bytes (runs_end bytes at k)

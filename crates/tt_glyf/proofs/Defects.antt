@@ -1,4 +1,4 @@
--- A glyph is refused for a defect that stands in it, and in one that is read no defect stands.
+-- A glyph is refused for a defect that exists, and a glyph that is read has no defect.
 use Rattle.std.proofs.Common.{◌≡◌, ℕ, ◌+◌, ◌<◌, ◌≤◌, Bool, true, false, ◌==◌, nat_lt, if◌then◌else◌, List, [], length, Result, Ok, Err, inl, inr, ℤ, pos, unsigned_abs, int_lt, refl, arith}
 use Rattle.std.specs.Prelude.{◌≢◌, ◌⊎◌, ◌||◌, ◌<ℤ◌}
 use Rattle.std.proofs.lemmas.Bool.Decides.{nat_tests}
@@ -136,7 +136,7 @@ glyph-broke-cases t g false f is was = elim (was-err (glyph_bytes_of t g) _ f wa
       inr (has-bytes t g later.value is are, bytes-broke t.glyphs (glyph_bytes_at t g) f (rw are.is at later.rest))
 ]
 
--- a fault names a defect that stands
+-- a fault names a defect that exists
 pub glyph-broke : (t : Glyf) (g : ℕ) (f : Fault) → glyph_data_of t g ≡ Err f → IsGlyphDefect t g f
 unfolding glyph_data_of
 glyph-broke t g f was = glyph-broke-cases t g (has_no_bytes t g) f refl was

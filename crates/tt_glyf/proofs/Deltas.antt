@@ -11,7 +11,7 @@ use Rattle.tt_glyf.specs.Meaning.{written_delta, deltas, deltas_end, AreSums}
 use Rattle.tt_glyf.proofs.Chains.{came-after}
 use Rattle.tt_glyf.proofs.Fields.{IsField, byte-was, signed-was}
 
--- a delta that was read is the one that is written there
+-- a delta that was read is the one in the bytes
 delta-cases : (g : GlyphBytes) (at : ℕ) (short same : Bool) (d : Delta) → at ≤ length g.bytes
     → (if short then (byte_in g at >>= λ byte. Ok (record { by = short_delta same byte; next = at + 1 }))
     else (if same then Ok (record { by = pos 0; next = at })
@@ -42,7 +42,7 @@ pub delta-was : (g : GlyphBytes) (a : Axis) (flag at : ℕ) (d : Delta) → at �
 unfolding delta_at
 delta-was g a flag at d le was = delta-cases g at (has flag a.short) (has flag a.same) d le was
 
--- a coordinate that was read is the one before it and the delta, and fits
+-- a coordinate that was read is the preceding one plus the delta, and fits
 pub record IsNext (g : GlyphBytes) (a : Axis) (flag : ℕ) (before c : Coordinate) : Type 0 where
   pub is : c ≡ summed before (written_delta g.bytes a flag before.next)
   pub fits : is_coordinate c.value ≡ true
@@ -58,7 +58,7 @@ coordinate-was g a flag before c le was =
     through.rest in
     rw (← p.1) (record { is = ap (summed before) d.is; fits = p.0; room = d.room })
 
--- what was read along an axis
+-- the coordinates read along an axis
 pub record AreRead (bytes : List ℕ) (a : Axis) (flags : List ℕ) (before : Coordinate) (read : Listing ℤ) : Type 0 where
   pub many : length read.items ≡ length flags
   pub next : read.next ≡ deltas_end bytes a flags before.next

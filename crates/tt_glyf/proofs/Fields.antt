@@ -1,4 +1,4 @@
--- A field that was read is the one that is written there, and one that was not passes the end of the bytes.
+-- A field that was read is the one in the bytes; a field that could not be read passes their end.
 use Rattle.std.proofs.Common.{◌≡◌, ℕ, ◌+◌, ◌<◌, ◌≤◌, nat_lt, nat_le, length, Ok, Err, ℤ, arith, sym}
 use Rattle.std.specs.Prelude.{slice_index}
 use Rattle.std.proofs.lemmas.Bool.Decides.{nat_tests}
@@ -33,7 +33,7 @@ signed-was g at n was =
     let test = p.0 in
     record { is = sym p.1; room = grind (arith, nat_tests) }
 
--- the bytes end before this place
+-- the bytes end before this offset
 pub record IsShort (g : GlyphBytes) (end : ℕ) (fault : Fault) : Type 0 where
   pub ends : length g.bytes < end
   pub is : fault ≡ short g
@@ -66,7 +66,7 @@ slice-short g at n f was =
     let test = p.0 in
     record { ends = grind (arith, nat_tests); is = p.1 }
 
--- one that ends further on does so too
+-- then they also end before any later offset
 pub short-further : (g : GlyphBytes) (end later : ℕ) (f : Fault) → end ≤ later → IsShort g end f → IsShort g later f
 short-further g end later f le s =
     let ends = s.ends in

@@ -1,4 +1,4 @@
--- What a glyph that was read is.
+-- The meaning of a glyph that was read.
 use Rattle.std.proofs.Common.{◌≡◌, ℕ, ◌+◌, ◌<◌, ◌≤◌, min, Bool, true, false, ◌==◌, nat_lt, if◌then◌else◌, List, [], length, Ok, Err, ℤ, pos, unsigned_abs, int_lt, inl, inr, refl, arith, ap, sym, ◌∙◌}
 use Rattle.std.specs.Prelude.{◌<ℤ◌}
 use Rattle.std.proofs.lemmas.Bool.Decides.{nat_tests}
@@ -23,13 +23,13 @@ use Rattle.tt_glyf.proofs.Outlines.{EndsRead, ends-were, never-falls, CountRead,
 use Rattle.tt_glyf.proofs.Parts.{ArePartsRead, records-were, IsProgramRead, IsProgramAfter, program-was}
 use Rattle.tt_glyf.proofs.Places.{IsWithin, slice-was, program-is}
 
--- the program is somewhere in the glyph's bytes
+-- the program is a part of the glyph's bytes
 abbrev pub IsProgramOf : GlyphBytes → Raw → Type 0
 IsProgramOf g empty = Unit {0}
 IsProgramOf g (simple s) = IsProgramRead g (record { code = s.code; code_at = s.code_at })
 IsProgramOf g (composite c) = IsProgramRead g (record { code = c.code; code_at = c.code_at })
 
--- what is said of a glyph, over its own bytes
+-- the statements about a glyph, in terms of its own bytes
 pub record IsRead (glyphs : ℕ) (g : GlyphBytes) (d : Raw) : Type 0 where
   pub nothing : IfEmpty d (contour_count g.bytes ≡ pos 0)
   pub few : IfSimple d (λ s. length s.points ≤ point_limit)
@@ -65,7 +65,7 @@ is-count c is = grind (arith, ints)
 is-none : (c : ℤ) → (unsigned_abs c == 0) ≡ true → c ≡ pos 0
 is-none c is = grind (arith, ints, nat_tests)
 
--- what was read of a simple glyph of so many contours
+-- the statements about a simple glyph with this number of contours
 pub record SimpleRead (g : GlyphBytes) (x_min : ℤ) (contours : ℕ) (s : SimpleGlyph) : Type 0 where
   pub x_min_is : s.x_min ≡ x_min
   pub ends : EndsRead g.bytes 10 contours 0 (record { items = s.ends; next = size_place contours })
@@ -171,7 +171,7 @@ simple-is glyphs g contours s some is read =
       program = record { place = size_place contours + 2; at = read.code_at; within = read.code };
     }
 
--- what was read of a composite glyph
+-- the statements about a composite glyph
 pub record CompositeRead (glyphs : ℕ) (g : GlyphBytes) (x_min : ℤ) (c : CompositeGlyph) : Type 0 where
   pub x_min_is : c.x_min ≡ x_min
   pub parts : ArePartsRead glyphs g 10 component_limit (record {
@@ -254,7 +254,7 @@ described-cases glyphs g contours false false d header count sign is was =
     (ap pos count ∙ is-count (contour_count g.bytes) sign) read.1 in
     rw read.2 whole
 
--- the header that is written
+-- the header in the bytes
 abbrev pub written_header : List ℕ → Header
 written_header bytes = record { contours = contour_count bytes; x_min = written_x_min bytes }
 
@@ -287,7 +287,7 @@ glyph-was glyphs g d was =
     let header = header-was g by_header.value by_header.first in
     described-was glyphs g d header.room (rw header.is at by_header.rest)
 
--- the bytes of a glyph, where loca's entries differ
+-- the bytes of a glyph, if loca's entries differ
 pub record AreBytes (t : Glyf) (g : ℕ) (bytes : List ℕ) : Type 0 where
   pub is : bytes ≡ bytes_between t g
   pub ordered : glyph_offset t g ≤ min (glyph_offset t (g + 1)) (length t.glyf)
@@ -318,7 +318,7 @@ programs-in t g bytes empty b p = tt
 programs-in t g bytes (simple s) b p = program-in t g bytes s.code s.code_at b p
 programs-in t g bytes (composite c) b p = program-in t g bytes c.code c.code_at b p
 
--- what is said of the glyph of a number
+-- the statements about the glyph with a number
 pub record IsGlyph (t : Glyf) (g : ℕ) (d : Raw) : Type 0 where
   pub nothing : IfEmpty d (HasNoOutline t g)
   pub few : IfSimple d (λ s. length s.points ≤ point_limit)

@@ -1,4 +1,4 @@
--- What the first bytes of a glyph tell is what it is, where it can be read.
+-- If a glyph can be read, the size that its first bytes declare is right.
 use Rattle.std.proofs.Common.{◌≡◌, ℕ, ◌+◌, ◌-◌, ◌<◌, ◌≤◌, Bool, true, false, if◌then◌else◌, List, [], length, Result, Ok, Err, ℤ, pos, nat_lt, nat_le, int_lt, get_or, refl, arith}
 use Rattle.std.specs.Prelude.{◌<ℤ◌}
 use Rattle.std.proofs.lemmas.Bool.Decides.{nat_tests}
@@ -17,7 +17,7 @@ use Rattle.tt_glyf.specs.Laws.{SizesAreTold}
 use Rattle.tt_glyf.specs.Told.{told_contours, told_outline, told_size, tells_composite, records_in, records_read, components_of}
 use Rattle.tt_glyf.proofs.Glyphs.{IsProgramOf, bytes-were, glyph-is, glyph-was, header-was}
 
--- a glyph's bytes, and among them its header and its program
+-- a glyph's bytes, with its header and its program
 pub record HasHeader (t : Glyf) (g : ℕ) (d : Raw) : Type 0 where
   pub bytes : glyph_bytes_of t g ≡ Ok (bytes_between t g)
   pub room : 10 ≤ length (bytes_between t g)
@@ -69,7 +69,7 @@ pub no-components : (t : Glyf) (g : ℕ) → tells_composite (glyph_bytes_of t g
 unfolding components_of
 no-components t g tells = no-records t g (glyph_data_of t g) refl tells
 
--- what a call that reads a glyph answered
+-- the result of a call that reads a glyph
 pub components-read : (t : Glyf) (g : ℕ) (raw : declared.Raw) → glyph_data_of t g ≡ Ok (raw_view raw)
     → components_of t g ≡ records_in (raw_view raw)
 unfolding components_of

@@ -1,4 +1,4 @@
--- The points read in one list, one at a time; and that they are those of the definition.
+-- The points read in one list, one at a time, are those of the definition.
 use Rattle.std.proofs.Common.{◌≡◌, ℕ, zero, suc, ◌+◌, ◌<◌, ◌≤◌, List, [], ◌∷◌, ◌++◌, length, map, drop, take, set, get_or, All, Result, Ok, Err, ℤ, refl, arith, add-one, append-nil, drop-cons, ap, ◌∙◌, sym}
 use Rattle.std.proofs.Math.ListN.{replicate}
 use Rattle.std.proofs.lemmas.List.{drop_all, drop_more, drop-set-lt, take_all, take_more_set}
@@ -36,7 +36,7 @@ pub done : (g : GlyphBytes) (a : Axis) (put : RawPoint → ℤ → RawPoint) (be
 unfolding placed_from
 done g a put before ps i last none = rw (drop_all i ps none, append-nil) refl
 
--- each point with the coordinate of its place
+-- each point with the coordinate of its index
 abbrev put_all : (RawPoint → ℤ → RawPoint) → List RawPoint → List ℤ → List RawPoint
 put_all put (p ∷ ps) (v ∷ vs) = put p v ∷ put_all put ps vs
 put_all put ps vs = []
@@ -61,7 +61,7 @@ placed-step g a put p ps (Err f) rest = refl
 placed-step g a put p ps (Ok c) rest = rw (rest c) (put-after put p ps c.value (coordinates_from g a
     (map held_flag ps) c))
 
--- the coordinates of the flags that the points hold, put in
+-- the coordinates by the points' flags, put in
 pub placed-is : (g : GlyphBytes) (a : Axis) (put : RawPoint → ℤ → RawPoint) (ps : List RawPoint) (before : Coordinate)
     → placed_from g a put ps before ≡ (coordinates_from g a (map held_flag ps) before >>= λ l. Ok
     (put_listing put ps l))
@@ -92,7 +92,7 @@ pub held-more : (ps : List RawPoint) (n flag : ℕ) → map held (map held_flag 
     → map held (map held_flag (ps ++ replicate n (held flag))) ≡ ps ++ replicate n (held flag)
 held-more ps n flag are = rw (flags-more ps n flag, held-append (map held_flag ps) n flag, are) refl
 
--- one point put in its place
+-- one point put in at its index
 pub set-turn : (g : GlyphBytes) (a : Axis) (put : RawPoint → ℤ → RawPoint) (ps : List RawPoint) (i : ℕ) (d : RawPoint)
     (last c : Coordinate) → i < length ps → coordinate_at g a (held_flag (get_or ps i d)) last ≡ Ok c
     → after (take (i + 1) (set ps i (put (get_or ps i d) c.value)))

@@ -1,4 +1,4 @@
--- A loca that is long enough is given, a shorter one is refused, and one that is given is long enough.
+-- A loca that is long enough is given, a shorter one is refused, and any that is given is long enough.
 use Rattle.std.proofs.Common.{◌≡◌, ℕ, ◌<◌, ◌≤◌, nat_lt, true, false, List, length, Ok, Err, refl, arith}
 use Rattle.std.proofs.lemmas.Bool.Decides.{nat_tests}
 use Rattle.tt_core.specs.Chains.{passed, not-below}

@@ -1,4 +1,4 @@
--- What a simple glyph that was read is.
+-- The meaning of a simple glyph that was read.
 use Rattle.std.proofs.Common.{◌≡◌, ℕ, zero, suc, ◌+◌, ◌*◌, ◌<◌, ◌≤◌, Bool, false, nat_lt, List, [], ◌∷◌, ◌++◌, length, map, Ok, ℤ, refl, arith, ap, sym, ◌∙◌}
 use Rattle.std.specs.Prelude.{slice_index}
 use Rattle.std.proofs.lemmas.Bool.Decides.{nat_tests}
@@ -80,7 +80,7 @@ ends-were g at (suc n) before read le was =
     ends-more g.bytes at n before through.value later.read read end.is end.rises
     (ends-were g (at + 2) n through.value later.read end.room later.was) later.is
 
--- what rises one by one never falls
+-- if each number is at least the preceding one, the list never falls
 rise-from : (before : ℕ) (es : List ℕ) (j : ℕ) → RiseFrom before es → j < length es → before ≤ slice_index es j
 rise-from before [] j rise below = absurd (omega arith)
 rise-from before (e ∷ es) zero rise below = rise.0
@@ -97,7 +97,7 @@ never-falls before (e ∷ es) zero (suc j) rise le below = rise-from e es j rise
 never-falls before (e ∷ es) (suc i) zero rise le below = absurd (omega arith)
 never-falls before (e ∷ es) (suc i) (suc j) rise le below = never-falls e es i j rise.1 (omega arith) (omega arith)
 
--- so many points
+-- the number of points
 pub record CountRead (ends : List ℕ) (n : ℕ) : Type 0 where
   pub is : n ≡ point_count ends
   pub few : n ≤ point_limit
@@ -110,7 +110,7 @@ count-was g ends n was =
     let test : nat_lt point_limit n ≡ false = rw (← is) p.0 in
     record { is = sym is; few = grind (arith, nat_tests) }
 
--- the points of lists of one length
+-- points from lists of equal length
 points-xs : (flags : List ℕ) (xs ys : List ℤ) → length xs ≡ length flags → length ys ≡ length flags
     → map (λ p. p.x) (points_from flags xs ys) ≡ xs
 points-xs [] [] ys lx ly = refl
@@ -144,7 +144,7 @@ points-many (f ∷ flags) [] ys lx ly = absurd (omega arith)
 points-many (f ∷ flags) (x ∷ xs) [] lx ly = absurd (omega arith)
 points-many (f ∷ flags) (x ∷ xs) (y ∷ ys) lx ly = ap suc (points-many flags xs ys (omega arith) (omega arith))
 
--- what was read of the points: their flags by runs, and along each axis their deltas and sums
+-- the points that were read: their flags by runs, and their deltas and sums along each axis
 pub record PointsRead (bytes : List ℕ) (at n : ℕ) (points : List RawPoint) : Type 0 where
   pub many : length points ≡ n
   pub runs : ℕ
@@ -156,7 +156,7 @@ pub record PointsRead (bytes : List ℕ) (at n : ℕ) (points : List RawPoint) :
       (record { items = map (λ p. p.y) points; next = points_end bytes at runs })
   pub on : map (λ p. p.on) points ≡ map (λ flag. has flag on_curve_point) (written_flags bytes at runs)
 
--- a list that was read along an axis, under another spelling
+-- a list read along an axis, with its items rewritten
 read-as : (bytes : List ℕ) (a : Axis) (flags : List ℕ) (before : Coordinate) (read : Listing ℤ) (items : List ℤ)
     → AreRead bytes a flags before read → items ≡ read.items
     → AreRead bytes a flags before (record { items = items; next = deltas_end bytes a flags before.next })
@@ -188,7 +188,7 @@ points-make bytes at n runs xs ys covers good cx cy =
 all-of : (n : ℕ) → n ≤ n
 all-of n = omega arith
 
--- the flags are those that are written
+-- the flags are those in the bytes
 points-by : (bytes : List ℕ) (at n : ℕ) (flags : Listing ℕ) (xs ys : Listing ℤ) → AreCovered bytes at n flags
     → AreRead bytes x_axis flags.items (origin flags.next) xs → AreRead bytes y_axis flags.items (origin xs.next) ys
     → PointsRead bytes at n (points_from flags.items xs.items ys.items)

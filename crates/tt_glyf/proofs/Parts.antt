@@ -1,4 +1,4 @@
--- What a composite glyph that was read is.
+-- The meaning of a composite glyph that was read.
 use Rattle.std.proofs.Common.{◌≡◌, ℕ, zero, suc, ◌+◌, ◌-◌, ◌*◌, ◌<◌, ◌≤◌, Bool, true, false, nat_lt, if◌then◌else◌, List, [], ◌∷◌, length, Ok, ℤ, pos, refl, arith, ap, sym, ◌∙◌}
 use Rattle.std.specs.Prelude.{All, slice_index, slice_range}
 use Rattle.std.proofs.lemmas.List.Elements.{All-cons}
@@ -150,7 +150,7 @@ glyph-known glyphs g at number glyph was =
     let test = p.0 in
     record { is = sym p.1; known = grind (arith, nat_tests) }
 
--- what is known of a record that was read, with these flags
+-- facts about a record that was read, with these flags
 pub record IsPartBy (glyphs : ℕ) (g : GlyphBytes) (at flags : ℕ) (r : Record) : Type 0 where
   pub is : r ≡ record_of (g.start + at) flags (written_component g.bytes at) (written_argument g.bytes flags (at + 4))
       (written_argument g.bytes flags (at + 4 + argument_size flags))
@@ -202,7 +202,7 @@ record-was glyphs g at r was =
     rw (word-was g at flags by_flags.first).is at (part-make glyphs g at flags by_number.value by_glyph.value
     by_args.value by_t.value r by_t.rest number.is known args.is t)
 
--- these are the records up to the last one, and the place after them
+-- the records up to the last one, and the offset after them
 pub record AreUpTo (g : GlyphBytes) (at : ℕ) (read : Listing Record) : Type 0 where
   pub n : ℕ
   pub goes_on : GoesOn g at n
@@ -210,7 +210,7 @@ pub record AreUpTo (g : GlyphBytes) (at : ℕ) (read : Listing Record) : Type 0 
   pub items : written_records g at (suc n) ≡ read.items
   pub next : record_place g.bytes at (suc n) ≡ read.next
 
--- a record that is let pass
+-- a record within the limit
 pub record IsGoodRecord (glyphs : ℕ) (g : GlyphBytes) (at n allowed : ℕ) : Type 0 where
   pub few : n < allowed
   pub known : written_component g.bytes at < glyphs
@@ -354,7 +354,7 @@ pub record IsProgramRead (g : GlyphBytes) (p : Program) : Type 0 where
   pub at : p.code_at ≡ g.start + place
   pub within : IsWithin g.bytes p.code place
 
--- the program that was read after the records, where one of them says so
+-- the program read after the records, if one of them announces it
 pub record IsProgramAfter (g : GlyphBytes) (next : ℕ) (follows : Bool) (p : Program) : Type 0 where
   pub read : IsProgramRead g p
   pub size : follows ≡ true → (p.code_at ≡ g.start + (next + 2)) × (length p.code ≡ unsigned_at g.bytes next 2)

@@ -7,7 +7,7 @@ use Rattle.tt_core.specs.Chains.{passed-else}
 use Rattle.tt_glyf.specs.Bytes.{GlyphBytes, slice_in}
 use Rattle.tt_glyf.specs.Meaning.{IsProgram}
 
--- the bytes of a stretch at a place of it
+-- bytes within a stretch, at an offset
 pub record IsWithin (bytes code : List ℕ) (at : ℕ) : Type 0 where
   pub room : at + length code ≤ length bytes
   pub is : code ≡ slice_range bytes at (at + length code)
@@ -42,7 +42,7 @@ range-range glyf start end at n room =
     let b : start + at + n - (start + at) ≡ n = omega arith in
     rw (a, b, inner (drop start glyf) at n (end - start) room, drop-drop) refl
 
--- within the bytes of a glyph is within glyf
+-- a part of a glyph's bytes is a part of glyf
 pub program-is : (glyf bytes code : List ℕ) (start end at : ℕ) → start ≤ end → end ≤ length glyf
     → bytes ≡ slice_range glyf start end → IsWithin bytes code at → IsProgram glyf code (start + at)
 program-is glyf bytes code start end at le fits is within =

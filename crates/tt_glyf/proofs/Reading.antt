@@ -1,4 +1,4 @@
--- What a call that reads a glyph answered, by what the definition gives.
+-- The result of a call that reads a glyph, by the definition's.
 use Rattle.std.proofs.Common.{◌≡◌, Result, Ok, Err}
 use Rattle.std.specs.Prelude.{IfOk}
 use Rattle.tt_core.specs.declared.font_fault.FontFault.{FontFault}

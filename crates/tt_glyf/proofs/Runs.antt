@@ -6,7 +6,7 @@ use Rattle.tt_glyf.specs.Bytes.{GlyphBytes, after}
 use Rattle.tt_glyf.specs.Flags.{Run, run_at, flags_from}
 use Rattle.tt_glyf.proofs.Chains.{chain-same, after-after}
 
--- more runs than points make no difference
+-- a bound of runs above the number of points changes nothing
 pub enough : (a b : ℕ) (g : GlyphBytes) (at left : ℕ) → left ≤ a → left ≤ b
     → flags_from a g at left ≡ flags_from b g at left
 unfolding flags_from
@@ -35,7 +35,7 @@ unfolding flags_from
 breaks g before at zero f some was = absurd (omega arith)
 breaks g before at (suc l) f some was = rw was refl
 
--- no point is left
+-- no points remain
 pub done : (g : GlyphBytes) (before : List ℕ) (at left : ℕ) → left ≡ 0
     → after before (flags_from left g at left) ≡ Ok (record { items = before; next = at })
 unfolding flags_from

@@ -1,4 +1,4 @@
--- In the bytes of a glyph that was read no defect stands.
+-- A glyph that was read has no defect in its bytes.
 use Rattle.std.proofs.Common.{◌≡◌, ℕ, zero, suc, ◌+◌, ◌<◌, true, false, List, [], ◌∷◌, length, inl, inr, ℤ, pos, refl, subst, arith, sym, ap, ◌∙◌}
 use Rattle.std.specs.Prelude.{◌⊎◌}
 use Rattle.std.proofs.lemmas.Bool.{true≢false}
@@ -21,20 +21,20 @@ use Rattle.tt_glyf.proofs.Glyphs.{SimpleRead, CompositeRead}
 use Rattle.tt_glyf.proofs.Outlines.{EndsRead, never-falls, PointsRead}
 use Rattle.tt_glyf.proofs.Parts.{AreUpTo, AreGoodRecords, IsProgramAfter}
 
--- what may be bad after so many runs
+-- the possible defects after a number of runs
 abbrev IsBadAfter : GlyphBytes → ℕ → ℕ → Fault → Type 0
 IsBadAfter g at runs f =
     IsCut g (points_end g.bytes at runs) f
     ⊎ ((LeavesWords (x_deltas g.bytes at runs) ⊎ LeavesWords (y_deltas g.bytes at runs))
     × (f ≡ glyph_fault g 0 why.CoordRange))
 
--- a program passes the end after so many records that go on, and one more
+-- after some records that announce another, and the last record, a program passes the end of the bytes
 abbrev IsProgramCut : GlyphBytes → ℕ → Fault → Type 0
 IsProgramCut g n f =
     (has_program (written_records g 10 (suc n)) ≡ true)
     × IsCut g (record_place g.bytes 10 (suc n) + 2 + unsigned_at g.bytes (record_place g.bytes 10 (suc n)) 2) f
 
--- as many runs cover as many points
+-- as many covered points mean as many runs
 runs-same : (bytes : List ℕ) (at k n : ℕ) → length (written_flags bytes at k) ≡ length (written_flags bytes at n)
     → k ≡ n
 runs-same bytes at zero zero same = refl
@@ -133,7 +133,7 @@ simple-whole g x_min contours s f some read bad =
           (written_points g.bytes contours) s.points f there coordinates
     ]
 
--- the last record is one
+-- there is only one last record
 last-same : (g : GlyphBytes) (at k n : ℕ) → GoesOn g at k → has
     (written_component_flags g.bytes (record_place g.bytes at k)) more_components ≡ false → GoesOn g at n
     → has (written_component_flags g.bytes (record_place g.bytes at n)) more_components ≡ false → k ≡ n

@@ -1,5 +1,5 @@
--- OpenType, "The 'glyf' table", "Composite Glyph Description": component records one after the other, up to the first
--- without the flag for more, then perhaps a program.
+-- OpenType, "The 'glyf' table", "Composite Glyph Description". Component records follow each other up to the first
+-- without the flag for more. A program may follow them.
 use Rattle.std.specs.Prelude.{ℕ, zero, suc, ◌+◌, ◌*◌, Bool, false, not, ◌&&◌, ◌||◌, nat_lt, if◌then◌else◌, ℤ, pos, ◌-ℤ◌, List, [], ◌∷◌, Result, Ok, Err}
 use Rattle.std.specs.Ordering.{int_eq}
 use Rattle.tt_core.specs.Faults.{Fault}
@@ -15,14 +15,14 @@ use Rattle.tt_glyf.specs.Format.{has, word_size, header_size, glyph_index_offset
 abbrev pub signed8 : ℕ → ℤ
 signed8 n = if nat_lt n 128 then pos n else pos n -ℤ pos 256
 
--- an argument, at a place
+-- the argument at an offset
 unfoldable pub argument_at : GlyphBytes → ℕ → ℕ → Result ℤ Fault
 argument_at g flags at =
     if has flags arg_1_and_2_are_words
     then (if has flags args_are_xy_values then signed_in g at else (word_in g at >>= λ n. Ok (pos n)))
     else (byte_in g at >>= λ n. Ok (if has flags args_are_xy_values then signed8 n else pos n))
 
--- x' = xx x + xy y and y' = yx x + yy y, in 2.14 fixed point numbers, of which one is 16384
+-- x' = xx x + xy y and y' = yx x + yy y, in 2.14 fixed-point numbers; 16384 is one
 pub record Transform : Type 0 where
   pub xx : ℤ
   pub yx : ℤ
@@ -53,7 +53,7 @@ two_by_two_at g at = do
   yy ← signed_in g (at + 3 * word_size)
   Ok (record { xx = xx; yx = yx; xy = xy; yy = yy })
 
--- the transform, at a place
+-- the transform at an offset
 unfoldable pub transform_at : GlyphBytes → ℕ → ℕ → Result Transform Fault
 transform_at g flags at =
     if has flags we_have_a_scale then (signed_in g at >>= λ s. Ok (one_scale s))
@@ -66,7 +66,7 @@ is_identity t = int_eq t.xx one && int_eq t.yx (pos 0) && int_eq t.xy (pos 0) &&
 abbrev pub transform_of : Record → Transform
 transform_of r = record { xx = r.xx; yx = r.yx; xy = r.xy; yy = r.yy }
 
--- offsets are to be transformed
+-- whether offsets are to be transformed
 abbrev pub scales_offsets : ℕ → Bool
 scales_offsets flags =
     has flags scaled_component_offset && not (has flags unscaled_component_offset) && has flags args_are_xy_values
@@ -74,7 +74,7 @@ scales_offsets flags =
 abbrev pub has_arguments_zero : Record → Bool
 has_arguments_zero r = int_eq r.arg1 (pos 0) && int_eq r.arg2 (pos 0)
 
--- the record asks for its offset to be transformed, and that would change it
+-- whether the record requests a transform of its offset, and the transform would change the offset
 abbrev pub asks_scaled_offset : Record → Bool
 asks_scaled_offset r = scales_offsets r.flags && not (is_identity (transform_of r)) && not (has_arguments_zero r)
 
@@ -82,7 +82,7 @@ asks_scaled_offset r = scales_offsets r.flags && not (is_identity (transform_of 
 unfoldable pub unscaled : GlyphBytes → ℕ → Record → Result Record Fault
 unscaled g at r = if asks_scaled_offset r then Err (glyph_fault g at why.ScaledOffset) else Ok r
 
--- a component has to be a glyph of the font
+-- a component must be a glyph of the font
 unfoldable pub known_glyph : ℕ → GlyphBytes → ℕ → ℕ → Result ℕ Fault
 known_glyph glyphs g at glyph = if nat_lt glyph glyphs then Ok glyph else Err (glyph_fault g at why.ComponentGlyph)
 
@@ -97,7 +97,7 @@ arguments_at g flags at = do
   arg2 ← argument_at g flags (at + argument_size flags)
   Ok (record { arg1 = arg1; arg2 = arg2 })
 
--- the component record at a place
+-- the component record at an offset
 unfoldable pub record_at : ℕ → GlyphBytes → ℕ → Result Record Fault
 record_at glyphs g at = do
   flags ← word_in g at
@@ -117,7 +117,7 @@ record_at glyphs g at = do
     yy = t.yy;
   })
 
--- the records from a place on, of which so many are let pass
+-- the records from an offset on, at most as many as the last argument allows
 unfoldable pub records_from : ℕ → GlyphBytes → ℕ → ℕ → Result (Listing Record) Fault
 records_from glyphs g at zero = Err (glyph_fault g at why.ComponentCount)
 records_from glyphs g at (suc allowed) = do
@@ -125,11 +125,11 @@ records_from glyphs g at (suc allowed) = do
   after (r ∷ []) (if has r.flags more_components then records_from glyphs g (at + record_size r.flags) allowed
       else Ok (record { items = []; next = at + record_size r.flags }))
 
--- the records stand after the header, and no more than these are read (profile)
+-- the records after the header, at most as many as the limit (profile)
 abbrev pub records_of : ℕ → GlyphBytes → Result (Listing Record) Fault
 records_of glyphs g = records_from glyphs g header_size component_limit
 
--- some record says that a program follows
+-- whether some record says that a program follows
 abbrev pub has_program : List Record → Bool
 has_program [] = false
 has_program (r ∷ rs) = has r.flags we_have_instructions || has_program rs
@@ -138,7 +138,7 @@ pub record Program : Type 0 where
   pub code : List ℕ
   pub code_at : ℕ
 
--- the program after the records, which is there where any of them says so (profile)
+-- the program after the records, if any record announces a program (profile)
 unfoldable pub program_of : GlyphBytes → Listing Record → Result Program Fault
 program_of g records =
     if has_program records.items
@@ -146,7 +146,7 @@ program_of g records =
     >>= λ code. Ok (record { code = code; code_at = g.start + (records.next + word_size) }))
     else Ok (record { code = []; code_at = g.start + records.next })
 
--- what a composite glyph says after its header, in a font of so many glyphs
+-- the part of a composite glyph after its header; the first argument is the font's number of glyphs
 unfoldable pub composite_of : ℕ → GlyphBytes → ℤ → Result Raw Fault
 composite_of glyphs g x_min = do
   records ← records_of glyphs g

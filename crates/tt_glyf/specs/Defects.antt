@@ -1,5 +1,5 @@
--- What can be wrong with a glyph, said of its bytes as they stand: each defect with its fault, whichever of them is met
--- first. OpenType, "The 'glyf' table"; the limits are profile.
+-- The possible defects of a glyph, in terms of its bytes: each defect with its fault, whatever the order of the tests.
+-- OpenType, "The 'glyf' table"; the limits are profile.
 use Rattle.std.specs.Prelude.{◌≡◌, ℕ, zero, suc, ◌+◌, ◌-◌, ◌<◌, ◌≤◌, true, false, ℤ, pos, unsigned_abs, ◌+ℤ◌, ◌<ℤ◌, List, [], ◌∷◌, length, fold, take, ◌⊎◌}
 use Rattle.tt_core.specs.Faults.{Fault}
 use Rattle.tt_core.specs.declared.fault.Why.TheVariants as why
@@ -17,31 +17,30 @@ use Rattle.tt_glyf.specs.Meaning.{glyph_bytes_at, contour_count, written_end, fl
 abbrev pub IsCut : GlyphBytes → ℕ → Fault → Type 0
 IsCut g end fault = (length g.bytes < end) × (fault ≡ short g)
 
--- the end of contour i + 1 lies below the one before it
+-- the end of contour i + 1 is below the end of contour i
 abbrev pub IsFallingEnd : GlyphBytes → ℕ → Fault → Type 0
 IsFallingEnd g contours fault =
     (i : ℕ) × (i + 1 < contours) × (end_place (i + 1) + word_size ≤ length g.bytes)
     × (written_end g.bytes (i + 1) < written_end g.bytes i)
     × (fault ≡ glyph_fault g (end_place (i + 1)) why.ContourOrder)
 
--- how many points there are, by the last contour's end
+-- the number of points, from the last contour's end
 abbrev pub written_points : List ℕ → ℕ → ℕ
 written_points bytes contours = written_end bytes (contours - 1) + 1
 
--- they are more than the limit
+-- the points exceed the limit
 abbrev pub IsManyPoints : GlyphBytes → ℕ → Fault → Type 0
 IsManyPoints g contours fault =
     (size_place contours ≤ length g.bytes) × (point_limit < written_points g.bytes contours)
     × (fault ≡ glyph_fault g (end_place (contours - 1)) why.PointLimit)
 
--- the run at a place, where so many points are left, passes the end of the bytes, or copies its flag past the last
--- point
+-- the run at an offset passes the end of the bytes, or copies its flag past the last of the remaining points
 abbrev pub IsBadRun : GlyphBytes → ℕ → ℕ → Fault → Type 0
 IsBadRun g at left fault =
     IsCut g (written_run g.bytes at).next fault
     ⊎ ((left ≤ (written_run g.bytes at).copies) × (fault ≡ glyph_fault g at why.FlagRun))
 
--- one of the runs that so many points need does
+-- one of the runs that the points need is bad
 abbrev pub IsFlagDefect : GlyphBytes → ℕ → ℕ → Fault → Type 0
 IsFlagDefect g at points fault =
     (k : ℕ) × (length (written_flags g.bytes at k) < points)
@@ -51,7 +50,7 @@ IsFlagDefect g at points fault =
 abbrev pub LeavesWords : List ℤ → Type 0
 LeavesWords by = (i : ℕ) × (i < length by) × (is_coordinate (fold ◌+ℤ◌ (pos 0) (take (i + 1) by)) ≡ false)
 
--- after the runs of so many points a delta passes the end of the bytes, or a coordinate leaves 16 bits
+-- after the runs of all points, a delta passes the end of the bytes, or a coordinate leaves 16 bits
 abbrev pub IsCoordinateDefect : GlyphBytes → ℕ → ℕ → Fault → Type 0
 IsCoordinateDefect g at points fault =
     (runs : ℕ) × (length (written_flags g.bytes at runs) ≡ points)
@@ -59,7 +58,7 @@ IsCoordinateDefect g at points fault =
     ⊎ ((LeavesWords (x_deltas g.bytes at runs) ⊎ LeavesWords (y_deltas g.bytes at runs))
     × (fault ≡ glyph_fault g 0 why.CoordRange)))
 
--- a defect of a simple glyph of so many contours
+-- a defect of a simple glyph with this number of contours
 abbrev pub IsSimpleDefect : GlyphBytes → ℕ → Fault → Type 0
 IsSimpleDefect g contours fault =
     IsCut g (flags_place g.bytes contours) fault
@@ -68,36 +67,37 @@ IsSimpleDefect g contours fault =
     ⊎ IsFlagDefect g (flags_place g.bytes contours) (written_points g.bytes contours) fault
     ⊎ IsCoordinateDefect g (flags_place g.bytes contours) (written_points g.bytes contours) fault
 
--- the first so many records from a place on, one after the other
+-- the first n records from an offset on
 abbrev pub written_records : GlyphBytes → ℕ → ℕ → List Record
 written_records g at zero = []
 written_records g at (suc n) = written_record g at ∷ written_records g (record_end g.bytes at) n
 
--- the place after them
+-- the offset after the first n records
 abbrev pub record_place : List ℕ → ℕ → ℕ → ℕ
 record_place bytes at zero = at
 record_place bytes at (suc n) = record_place bytes (record_end bytes at) n
 
--- each of them says that another follows
+-- each of the first n records says that another follows
 abbrev pub GoesOn : GlyphBytes → ℕ → ℕ → Type 0
 GoesOn g at zero = Unit {0}
 GoesOn g at (suc n) =
     (has (written_component_flags g.bytes at) more_components ≡ true) × GoesOn g (record_end g.bytes at) n
 
--- a record passes the end of the bytes, or names no glyph of the font, or asks for an offset that is transformed
+-- a bad record: it passes the end of the bytes, its glyph does not exist in the font, or its offset is to be
+-- transformed
 abbrev pub IsBadRecord : ℕ → GlyphBytes → ℕ → Fault → Type 0
 IsBadRecord glyphs g at fault =
     IsCut g (record_end g.bytes at) fault
     ⊎ ((glyphs ≤ written_component g.bytes at) × (fault ≡ glyph_fault g at why.ComponentGlyph))
     ⊎ ((asks_scaled_offset (written_record g at) ≡ true) × (fault ≡ glyph_fault g at why.ScaledOffset))
 
--- one of the records that are let pass is bad, or there is one more
+-- one of the allowed records is bad, or another record follows them
 abbrev pub IsRecordsDefect : ℕ → GlyphBytes → ℕ → ℕ → Fault → Type 0
 IsRecordsDefect glyphs g at allowed fault =
     ((n : ℕ) × (n < allowed) × GoesOn g at n × IsBadRecord glyphs g (record_place g.bytes at n) fault)
     ⊎ (GoesOn g at allowed × (fault ≡ glyph_fault g (record_place g.bytes at allowed) why.ComponentCount))
 
--- the records up to the last one say that a program follows, and it passes the end of the bytes
+-- some record, up to the last one, says that a program follows, and the program passes the end of the bytes
 abbrev pub IsProgramDefect : GlyphBytes → ℕ → Fault → Type 0
 IsProgramDefect g at fault =
     (n : ℕ) × GoesOn g at n × (has (written_component_flags g.bytes (record_place g.bytes at n))
@@ -109,7 +109,7 @@ IsProgramDefect g at fault =
 abbrev pub IsCompositeDefect : ℕ → GlyphBytes → Fault → Type 0
 IsCompositeDefect glyphs g fault = IsRecordsDefect glyphs g header_size component_limit fault ⊎ IsProgramDefect g header_size fault
 
--- a defect of the bytes of a glyph: there is no whole header, or what it announces is bad
+-- a defect of the bytes of a glyph: the header is cut, or the part after the header is bad
 abbrev pub IsBadGlyph : ℕ → GlyphBytes → Fault → Type 0
 IsBadGlyph glyphs g fault =
     IsCut g header_size fault

@@ -1,11 +1,12 @@
--- The format of glyph data, by the names of OpenType, "The 'glyf' table": where each field stands, what each flag is,
--- and how many bytes a component record has. Numbers are big-endian words of two bytes where nothing else is said.
+-- The format of glyph data, by the names of OpenType, "The 'glyf' table": the offset of each field, the meaning of each
+-- flag, and the size of a component record. Numbers are big-endian words of two bytes unless the table says otherwise.
 --
 --   header            numberOfContours, xMin, yMin, xMax, yMax, all signed; the last three are not used
---   simple glyph      endPtsOfContours, a word for each contour; instructionLength; instructions, so many bytes; flags,
---                     bytes; xCoordinates, then yCoordinates, a byte or a signed word each, or nothing, as the flags say
---   composite glyph   component records, one after the other, the last without MORE_COMPONENTS; where one of them has
---                     WE_HAVE_INSTRUCTIONS, numInstr and instructions, so many bytes
+--   simple glyph      endPtsOfContours, a word for each contour; instructionLength; instructions, instructionLength
+--                     bytes; flags, bytes; xCoordinates, then yCoordinates, each a byte, a signed word or nothing by
+--                     its flag
+--   composite glyph   component records, the last without MORE_COMPONENTS; if one of them has
+--                     WE_HAVE_INSTRUCTIONS: numInstr, and instructions, numInstr bytes
 --   component record  flags; glyphIndex; argument1 and argument2, bytes or words; the transform, signed words in 2.14
 use Rattle.std.specs.Prelude.{ℕ, ◌+◌, ◌*◌, Bool, ◌==◌, if◌then◌else◌, List, [], ◌∷◌, codes}
 use Rattle.std.specs.Int.RustNames.{bit_and}
@@ -14,7 +15,7 @@ use Rattle.std.specs.Int.RustNames.{bit_and}
 abbrev pub word_size : ℕ
 word_size = 2
 
--- the header, from the glyph's first byte
+-- offsets in the header, from the glyph's first byte
 abbrev pub number_of_contours_offset : ℕ
 number_of_contours_offset = 0
 
@@ -25,15 +26,15 @@ x_min_offset = 2
 abbrev pub header_size : ℕ
 header_size = 10
 
--- a simple glyph: entry i of endPtsOfContours, from the glyph's first byte
+-- a simple glyph: the offset of entry i of endPtsOfContours, from the glyph's first byte
 abbrev pub end_place : ℕ → ℕ
 end_place i = header_size + word_size * i
 
--- instructionLength, after the ends of so many contours
+-- the offset of instructionLength, after the contours' ends
 abbrev pub size_place : ℕ → ℕ
 size_place contours = end_place contours
 
--- the flags have this bit
+-- whether the flags include this bit
 abbrev pub has : ℕ → ℕ → Bool
 has flags bit = bit_and flags bit == bit
 
@@ -48,11 +49,11 @@ x_short_vector = 2
 abbrev pub y_short_vector : ℕ
 y_short_vector = 4
 
--- the next byte says for how many further points the flag stands
+-- the next byte is the number of further points with this flag
 abbrev pub repeat_flag : ℕ
 repeat_flag = 8
 
--- with a short vector its sign is plus, without one the coordinate is the same as the last
+-- with a short vector: the sign is plus; without one: the coordinate is the same as the last
 abbrev pub x_is_same_or_positive : ℕ
 x_is_same_or_positive = 16
 
@@ -66,7 +67,7 @@ point_flags =
     ∷ (codes "X_IS_SAME_OR_POSITIVE", x_is_same_or_positive)
     ∷ (codes "Y_IS_SAME_OR_POSITIVE", y_is_same_or_positive) ∷ []
 
--- a component record, from its first byte, where its flags stand
+-- offsets in a component record, from its first byte; its flags come first
 abbrev pub glyph_index_offset : ℕ
 glyph_index_offset = 2
 
@@ -77,7 +78,7 @@ arguments_offset = 4
 abbrev pub arg_1_and_2_are_words : ℕ
 arg_1_and_2_are_words = 0x1
 
--- the arguments are offsets along x and y, and so signed; else they are numbers of points
+-- the arguments are signed offsets along x and y; else they are numbers of points
 abbrev pub args_are_xy_values : ℕ
 args_are_xy_values = 0x2
 
@@ -100,7 +101,7 @@ we_have_a_two_by_two = 0x80
 abbrev pub we_have_instructions : ℕ
 we_have_instructions = 0x100
 
--- the metrics of the component are the glyph's
+-- the glyph takes the component's metrics
 abbrev pub use_my_metrics : ℕ
 use_my_metrics = 0x200
 
@@ -123,7 +124,7 @@ component_flags =
 abbrev pub argument_size : ℕ → ℕ
 argument_size flags = if has flags arg_1_and_2_are_words then word_size else 1
 
--- bytes of the transform: of the three flags the first that is set counts (profile)
+-- bytes of the transform; if several of the three flags are set, the first counts (profile)
 abbrev pub transform_size : ℕ → ℕ
 transform_size flags =
     if has flags we_have_a_scale then word_size

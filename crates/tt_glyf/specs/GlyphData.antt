@@ -1,5 +1,5 @@
--- Apple TrueType Reference Manual and OpenType, "The 'glyf' table": what the bytes of a glyph say, or their first fault
--- in the order in which they are read.
+-- Apple TrueType Reference Manual and OpenType, "The 'glyf' table": the content of a glyph's bytes, or their first
+-- fault in the order of reading.
 use Rattle.std.specs.Prelude.{◌≡◌, true, neg_ℤ, take, codes, ℕ, ◌==◌, nat_lt, int_lt, if◌then◌else◌, ℤ, pos, unsigned_abs, List, [], ◌∷◌, length, Result, Ok, Err, refl}
 use Rattle.tt_core.specs.Faults.{Fault}
 use Rattle.tt_core.specs.declared.fault.Why.TheVariants as why
@@ -19,24 +19,24 @@ pub record Header : Type 0 where
   pub contours : ℤ
   pub x_min : ℤ
 
--- numberOfContours and xMin; the whole header has to be there
+-- numberOfContours and xMin; the whole header must exist
 unfoldable pub header_of : GlyphBytes → Result Header Fault
 header_of g =
     if nat_lt (length g.bytes) header_size then Err (short g)
     else (signed_in g number_of_contours_offset >>= λ contours. signed_in g x_min_offset >>= λ x_min. Ok (record { contours = contours; x_min = x_min }))
 
--- after the header: no contours are an empty glyph, whose other bytes are not read, and any negative number is a
--- composite (profile)
+-- the part after the header; a glyph without contours is empty, and its other bytes are not read; any negative number
+-- means a composite (profile)
 unfoldable pub described : ℕ → GlyphBytes → Header → Result Raw Fault
 described glyphs g h =
     if int_lt h.contours (pos 0) then composite_of glyphs g h.x_min
     else (if unsigned_abs h.contours == 0 then Ok empty else simple_of g h.x_min (unsigned_abs h.contours))
 
--- the glyph that some bytes of glyf describe
+-- the glyph that bytes of glyf describe
 abbrev pub glyph_in : ℕ → GlyphBytes → Result Raw Fault
 glyph_in glyphs g = header_of g >>= described glyphs g
 
--- the glyph of a number
+-- the glyph with a number
 unfoldable pub glyph_data_of : Glyf → ℕ → Result Raw Fault
 glyph_data_of t g =
     if has_no_bytes t g then Ok empty
@@ -64,13 +64,13 @@ unfolding square corner header_of described simple_of ends_from end_at points_wi
     coordinates_from coordinate_at within_words delta_at byte_in word_in signed_in slice_in
 square_is_read = refl
 
--- its last byte is not there
+-- the square without its last byte
 square_cut : glyph_in 3 (stretch_at 100 (take 21 square)) ≡ Err (fault_at (codes "glyf") 121 why.GlyphShort)
 unfolding square header_of described simple_of ends_from end_at points_within points_of flags_from run_at
     coordinates_from coordinate_at within_words delta_at byte_in word_in signed_in slice_in
 square_cut = refl
 
--- a component of glyph 1, turned a quarter and moved by 127 to the right
+-- glyph 1 as a component, rotated by a quarter turn and moved right by 127
 turned : List ℕ
 turned =
     255 ∷ 255 ∷ 0 ∷ 64 ∷ 0 ∷ 0 ∷ 0 ∷ 192 ∷ 0 ∷ 128 ∷ 0 ∷ 0x82 ∷ 0 ∷ 1 ∷ 0x7F ∷ 0 ∷ 0 ∷ 0 ∷ 0x40 ∷ 0 ∷ 0xC0 ∷ 0 ∷ 0 ∷ 0

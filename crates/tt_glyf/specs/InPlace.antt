@@ -1,5 +1,5 @@
--- No part of the standard: how the points are read in one list. Each holds its flag in the place of its y until that is
--- read; all x are put in, then all y.
+-- Not from the standard: how the points are read in one list. A point's y holds the point's flag until the y is read.
+-- All x are read first, then all y.
 use Rattle.std.specs.Prelude.{◌≡◌, ℕ, ◌<◌, ℤ, pos, unsigned_abs, List, [], ◌∷◌, map, Result, Ok}
 use Rattle.tt_core.specs.Faults.{Fault}
 use Rattle.tt_core.specs.Outcomes.{◌>>=◌}
@@ -9,15 +9,15 @@ use Rattle.tt_glyf.specs.Coordinates.{Axis, Coordinate, coordinate_at, origin, x
 use Rattle.tt_glyf.specs.Flags.{flags_of}
 use Rattle.tt_glyf.specs.Format.{has, on_curve_point}
 
--- a point with this flag, none of whose coordinates is read
+-- a point with this flag and unread coordinates
 abbrev pub held : ℕ → RawPoint
 held flag = record { x = pos 0; y = pos flag; on = has flag on_curve_point }
 
--- the flag that it holds
+-- the flag that a point holds
 abbrev pub held_flag : RawPoint → ℕ
 held_flag p = unsigned_abs p.y
 
--- what it holds is a byte
+-- a point's y holds a byte
 abbrev pub HoldsFlag : RawPoint → Type 0
 HoldsFlag p = (p.y ≡ pos (held_flag p)) × (held_flag p < 256)
 
@@ -27,14 +27,15 @@ put_x p v = record p { x = v }
 abbrev pub put_y : RawPoint → ℤ → RawPoint
 put_y p v = record p { y = v }
 
--- the points of some flags
+-- points that hold the given flags
 abbrev pub all_held : Listing ℕ → Listing RawPoint
 all_held flags = record { items = map held flags.items; next = flags.next }
 
 unfoldable pub held_of : GlyphBytes → ℕ → ℕ → Result (Listing RawPoint) Fault
 held_of g at points = flags_of g at points >>= λ flags. Ok (all_held flags)
 
--- the points that hold flags, each with its coordinate along an axis put in, after the coordinate before the first
+-- points that hold flags, after their coordinates along an axis are put in; the last argument precedes the first
+-- coordinate
 unfoldable pub placed_from : GlyphBytes → Axis → (RawPoint → ℤ → RawPoint) → List RawPoint → Coordinate
     → Result (Listing RawPoint) Fault
 placed_from g a put [] before = Ok (record { items = []; next = before.next })
@@ -48,7 +49,7 @@ with_x g points at = placed_from g x_axis put_x points (origin at)
 abbrev pub with_y : GlyphBytes → List RawPoint → ℕ → Result (Listing RawPoint) Fault
 with_y g points at = placed_from g y_axis put_y points (origin at)
 
--- the same as points_of
+-- equal to points_of
 unfoldable pub placed_of : GlyphBytes → ℕ → ℕ → Result (List RawPoint) Fault
 placed_of g at points = do
   begun ← held_of g at points

@@ -14,35 +14,35 @@ use Rattle.tt_metrics.specs.Metrics.{Metrics, loca_format_of, glyphs_of}
 abbrev pub loca_tag : List ℕ
 loca_tag = codes "loca"
 
--- loca, with what head and maxp say of it
+-- loca, with its format from head and the number of glyphs from maxp
 pub record Loca : Type 0 where
   pub loca : List ℕ
   pub format : LocaFormat
   pub glyphs : ℕ
 
--- how many bytes an entry has
+-- bytes of an entry
 abbrev pub entry_size : LocaFormat → ℕ
 entry_size Short = 2
 entry_size Long = 4
 
--- where the entry of glyph g stands in loca
+-- the offset of glyph g's entry in loca
 abbrev pub entry_place : LocaFormat → ℕ → ℕ
 entry_place format g = entry_size format * g
 
--- the offset that entry g gives: a short entry is half of it
+-- the offset from entry g; a short entry has half the offset
 abbrev pub entry_at : LocaFormat → List ℕ → ℕ → ℕ
 entry_at Short loca g = 2 * unsigned_at loca (2 * g) 2
 entry_at Long loca g = unsigned_at loca (4 * g) 4
 
--- loca of a font whose metrics are known
+-- loca of a font with these metrics
 abbrev pub loca_with : List ℕ → Metrics → Loca
 loca_with loca m = record { loca = loca; format = loca_format_of m; glyphs = glyphs_of m }
 
--- how many bytes loca needs: an entry for each glyph, and one more
+-- bytes that loca needs: an entry for each glyph, and one more
 abbrev pub loca_size : LocaFormat → ℕ → ℕ
 loca_size format glyphs = entry_size format * (glyphs + 1)
 
--- loca, where it is long enough
+-- loca, if it is long enough
 unfoldable pub loca_of : List ℕ → Metrics → Result Loca Fault
 loca_of loca m =
     if nat_lt (length loca) (loca_size (loca_format_of m) (glyphs_of m))
@@ -60,26 +60,26 @@ pub record IsLoca (l : Loca) : Type 0 where
   pub limit : length l.loca ≤ font_limit
   pub some : 0 < l.glyphs
 
--- loca and glyf, with what head and maxp say of them
+-- loca and glyf, with their format from head and the number of glyphs from maxp
 pub record Glyf : Type 0 where
   pub loca : List ℕ
   pub glyf : List ℕ
   pub format : LocaFormat
   pub glyphs : ℕ
 
--- loca, and glyf beside it
+-- loca together with glyf
 abbrev pub with_glyf : Loca → List ℕ → Glyf
 with_glyf l glyf = record { loca = l.loca; glyf = glyf; format = l.format; glyphs = l.glyphs }
 
--- the two tables of a font whose metrics are known
+-- the two tables of a font with these metrics
 abbrev pub tables_with : List ℕ → List ℕ → Metrics → Glyf
 tables_with loca glyf m = with_glyf (loca_with loca m) glyf
 
--- the two tables, where loca is long enough
+-- the two tables, if loca is long enough
 abbrev pub glyph_tables_of : List ℕ → List ℕ → Metrics → Result Glyf Fault
 glyph_tables_of loca glyf m = loca_of loca m >>= λ l. Ok (with_glyf l glyf)
 
--- what reading a glyph counts on
+-- the sizes that reading a glyph relies on
 pub record AreTables (t : Glyf) : Type 0 where
   pub entries : loca_size t.format t.glyphs ≤ length t.loca
   pub loca_limit : length t.loca ≤ font_limit
@@ -90,15 +90,15 @@ pub record AreTables (t : Glyf) : Type 0 where
 abbrev pub glyph_offset : Glyf → ℕ → ℕ
 glyph_offset t g = entry_at t.format t.loca g
 
--- equal neighbours, wherever they point: the glyph has no bytes
+-- whether two neighbouring entries are equal, whatever their value; the glyph then has no bytes
 abbrev pub has_no_bytes : Glyf → ℕ → Bool
 has_no_bytes t g = glyph_offset t g == glyph_offset t (g + 1)
 
--- entry g is above the next one, or past glyf
+-- whether entry g is above the next one, or past glyf
 abbrev pub is_out_of_range : Glyf → ℕ → Bool
 is_out_of_range t g = nat_lt (glyph_offset t (g + 1)) (glyph_offset t g) || nat_lt (length t.glyf) (glyph_offset t g)
 
--- the bytes from entry g to the next entry, or to the end of glyf, whichever comes first (profile)
+-- the bytes from entry g to the next entry or the end of glyf, whichever comes first (profile)
 abbrev pub bytes_between : Glyf → ℕ → List ℕ
 bytes_between t g = slice_range t.glyf (glyph_offset t g) (min (glyph_offset t (g + 1)) (length t.glyf))
 
@@ -109,7 +109,7 @@ glyph_bytes_of t g =
     else (if is_out_of_range t g then Err (fault_at loca_tag (entry_place t.format g) why.GlyphRange)
     else Ok (bytes_between t g))
 
--- entry g and the next one differ, and entry g is above it or past glyf
+-- entries g and g + 1 differ, and entry g is above the next one or past glyf
 abbrev pub IsRangeDefect : Glyf → ℕ → Fault → Type 0
 IsRangeDefect t g fault =
     (glyph_offset t g ≢ glyph_offset t (g + 1))

@@ -1,11 +1,11 @@
--- What a glyph is read into, as the definitions see it.
+-- The result of reading a glyph, as the definitions see it.
 use Rattle.std.specs.Prelude.{ℕ, ℤ, List}
 use Rattle.tt_glyf.specs.declared.raw.Raw as declared
 use Rattle.tt_glyf.specs.declared.raw.Raw.TheVariants as raw
 use Rattle.tt_glyf.specs.declared.raw.RawPoint.{RawPoint}
 use Rattle.tt_glyf.specs.declared.raw.Record.{Record}
 
--- code is the glyph's program, and code_at its offset in glyf
+-- code is the glyph's program; code_at is the program's offset in glyf
 pub record SimpleGlyph : Type 0 where
   pub x_min : ℤ
   pub points : List RawPoint
@@ -24,7 +24,7 @@ pub data Raw : Type 0 where
   simple : SimpleGlyph → Raw
   composite : CompositeGlyph → Raw
 
--- the view of what is read
+-- the definitions' view of the code's result
 abbrev pub raw_view : declared.Raw → Raw
 raw_view raw.Empty = empty
 raw_view (raw.Simple x_min points ends code code_at) =

@@ -1,6 +1,6 @@
 -- OpenType, "The 'glyf' table", "Simple Glyph Description": the last point of each contour, the program, the flags, the
--- coordinates. Equal neighbours among the contours' ends give a contour without points, and bytes after the last
--- coordinate are ignored (profile).
+-- coordinates. Equal neighbouring ends give a contour without points, and bytes after the last coordinate are ignored
+-- (profile).
 use Rattle.std.specs.Prelude.{ℕ, zero, suc, ◌+◌, ◌-◌, nat_lt, if◌then◌else◌, ℤ, List, [], ◌∷◌, length, slice_index, Result, Ok, Err}
 use Rattle.tt_core.specs.Faults.{Fault}
 use Rattle.tt_core.specs.declared.fault.Why.TheVariants as why
@@ -13,42 +13,42 @@ use Rattle.tt_glyf.specs.Coordinates.{coordinates_of, x_axis, y_axis}
 use Rattle.tt_glyf.specs.Raw.{Raw, simple}
 use Rattle.tt_glyf.specs.Flags.{flags_of}
 
--- an end that is not below the one before it
+-- an end, if it is not below the preceding end
 abbrev pub rising : GlyphBytes → ℕ → ℕ → ℕ → Result ℕ Fault
 rising g at before e = if nat_lt e before then Err (glyph_fault g at why.ContourOrder) else Ok e
 
--- the end of a contour, at a place
+-- the end of a contour, at an offset
 unfoldable pub end_at : GlyphBytes → ℕ → ℕ → Result ℕ Fault
 end_at g at before = word_in g at >>= rising g at before
 
--- the ends of so many contours, the one before them being `before`
+-- the ends of the given number of contours; `before` is the preceding end
 unfoldable pub ends_from : GlyphBytes → ℕ → ℕ → ℕ → Result (Listing ℕ) Fault
 ends_from g at zero before = Ok (record { items = []; next = at })
 ends_from g at (suc contours) before = do
   e ← end_at g at before
   after (e ∷ []) (ends_from g (at + word_size) contours e)
 
--- the ends stand after the header
+-- the ends, which follow the header
 abbrev pub ends_of : GlyphBytes → ℕ → Result (Listing ℕ) Fault
 ends_of g contours = ends_from g header_size contours 0
 
--- how many points there are: the last contour ends with the last of them
+-- the number of points, from the last end
 abbrev pub point_count : List ℕ → ℕ
 point_count ends = slice_index ends (length ends - 1) + 1
 
--- more points are refused at the last contour's end, which stands before this place (profile)
+-- a number of points above the limit is refused, at the last contour's end, which precedes this offset (profile)
 unfoldable pub points_within : GlyphBytes → Listing ℕ → Result ℕ Fault
 points_within g ends =
     if nat_lt point_limit (point_count ends.items) then Err (glyph_fault g (ends.next - word_size) why.PointLimit)
     else Ok (point_count ends.items)
 
--- the points of these flags and coordinates
+-- points with these flags and coordinates
 abbrev pub points_from : List ℕ → List ℤ → List ℤ → List RawPoint
 points_from (flag ∷ flags) (x ∷ xs) (y ∷ ys) =
     record { x = x; y = y; on = has flag on_curve_point } ∷ points_from flags xs ys
 points_from flags xs ys = []
 
--- so many points from a place on: the flags, all x, then all y
+-- the given number of points from an offset on: the flags, all x, then all y
 unfoldable pub points_of : GlyphBytes → ℕ → ℕ → Result (List RawPoint) Fault
 points_of g at points = do
   flags ← flags_of g at points
@@ -56,7 +56,7 @@ points_of g at points = do
   ys ← coordinates_of g y_axis flags.items xs.next
   Ok (points_from flags.items xs.items ys.items)
 
--- what a glyph of so many contours says after its header
+-- the part of a simple glyph after its header
 unfoldable pub simple_of : GlyphBytes → ℤ → ℕ → Result Raw Fault
 simple_of g x_min contours = do
   ends ← ends_of g contours

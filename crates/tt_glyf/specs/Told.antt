@@ -1,6 +1,6 @@
--- OpenType, "The 'glyf' table", "Glyph Header" and "Simple Glyph Description": what the first bytes of a glyph tell of
--- how much there is to it, before it is read, and which glyphs it is made of. Nothing else of the glyph is looked at, so
--- one that is refused when it is read may tell a size too (profile).
+-- OpenType, "The 'glyf' table", "Glyph Header" and "Simple Glyph Description": the size that a glyph's first bytes
+-- declare, and the glyphs that it is made of. The size uses these bytes alone, so a glyph that is refused later may
+-- have a size too (profile).
 use Rattle.std.specs.Prelude.{◌≡◌, ℕ, ◌+◌, nat_lt, nat_le, int_lt, Bool, false, if◌then◌else◌, ℤ, pos, unsigned_abs, List, [], ◌∷◌, length, take, Result, Ok, Err, refl}
 use Rattle.tt_core.specs.Faults.{Fault}
 use Rattle.tt_glyf.specs.declared.raw.Record.{Record}
@@ -11,16 +11,16 @@ use Rattle.tt_glyf.specs.Loca.{Glyf, glyph_bytes_of}
 use Rattle.tt_glyf.specs.Meaning.{contour_count}
 use Rattle.tt_glyf.specs.Raw.{Raw, empty, simple, composite}
 
--- numberOfContours, 0 where the header is not there
+-- numberOfContours, or 0 if the header is cut
 abbrev pub told_contours : List ℕ → ℤ
 told_contours bytes = if nat_lt (length bytes) header_size then pos 0 else contour_count bytes
 
--- so many contours and the points up to the last of endPtsOfContours, which has to be there
+-- the contours, plus the points by the last of endPtsOfContours, which must exist
 abbrev pub told_outline : List ℕ → ℕ → ℕ
 told_outline bytes contours =
     if nat_le (size_place contours) (length bytes) then contours + written_points bytes contours else 0
 
--- the contours and points of a simple glyph, none of another one
+-- the declared contours and points of a simple glyph; other glyphs declare 0
 abbrev pub told_in : List ℕ → ℕ
 told_in bytes =
     if int_lt (pos 0) (told_contours bytes) then told_outline bytes (unsigned_abs (told_contours bytes)) else 0
@@ -29,11 +29,11 @@ abbrev pub told_by : Result (List ℕ) Fault → ℕ
 told_by (Ok bytes) = told_in bytes
 told_by (Err f) = 0
 
--- how many contours and points the glyph of a number says it has
+-- the declared contours and points of the glyph with a number
 unfoldable pub told_size : Glyf → ℕ → ℕ
 told_size t g = told_by (glyph_bytes_of t g)
 
--- its contours are told by a negative number
+-- whether the number of contours is negative
 abbrev pub tells_composite : Result (List ℕ) Fault → Bool
 tells_composite (Ok bytes) = int_lt (told_contours bytes) (pos 0)
 tells_composite (Err f) = false
@@ -47,11 +47,11 @@ abbrev pub records_read : Result Raw Fault → List Record
 records_read (Ok raw) = records_in raw
 records_read (Err f) = []
 
--- the component records of a glyph, none of one that is no composite or cannot be read
+-- the component records of a glyph, none if it is no composite or cannot be read
 unfoldable pub components_of : Glyf → ℕ → List Record
 components_of t g = records_read (glyph_data_of t g)
 
--- worked values: one contour of four points; its last point's number is not there; two contours of seven points; a
+-- worked values: one contour of four points; the same without its last point's number; two contours of seven points; a
 -- composite
 abbrev four_points : List ℕ
 four_points = 0 ∷ 1 ∷ 0 ∷ 64 ∷ 0 ∷ 0 ∷ 0 ∷ 192 ∷ 0 ∷ 128 ∷ 0 ∷ 3 ∷ []

@@ -1,4 +1,4 @@
--- How the definitions see the values that the code reads into.
+-- The definitions' views of the code's values.
 use Rattle.std.specs.Prelude.{ℕ, List}
 use Rattle.tt_glyf.specs.declared.component.Arguments as arguments
 use Rattle.tt_glyf.specs.declared.composite.Program as program
@@ -38,7 +38,7 @@ sum_of s = record { value = s.value; next = s.next }
 abbrev pub coordinate_of : coordinate.Coordinate → Coordinate
 coordinate_of c = record { value = c.value; next = c.next }
 
--- the points as they stand once those along an axis are put in, and the place after these
+-- points after their coordinates along an axis are put in, and the offset after these coordinates
 abbrev pub placed_listing : List RawPoint → ℕ → Listing RawPoint
 placed_listing points next = record { items = points; next = next }
 

@@ -1,4 +1,4 @@
-//! The bytes of one glyph, read by their places.
+//! The bytes of one glyph, read by offset.
 
 ghost use Rattle.std.specs.Prelude.{◌≡◌, ◌+◌, ◌<◌, ◌≤◌, length, IsTrue, IfOk, IfErr};
 ghost use Rattle.tt_core.specs.Limits.{font_limit};
@@ -10,7 +10,7 @@ use tt_core::{Fault, Why, i16_at, u16_at};
 
 const GLYF: [u8; 4] = *b"glyf";
 
-/// The bytes of one glyph, and where they begin in glyf.
+/// The bytes of one glyph, and their offset in glyf.
 #[derive(Drop)]
 pub(crate) struct GlyphBytes<'a> {
     start: usize,
@@ -44,7 +44,7 @@ impl<'a> GlyphBytes<'a> {
         self.bytes.len()
     }
 
-    /// The offset in glyf of a place, which may be the end of the bytes.
+    /// The offset in glyf of a place in the glyph. The place may be the end of the bytes.
     pub(crate) fn place(&self, at: usize) -> u32
         requires { at ≤ length self.now.bytes }
         ensures { result ≡ self.now.start + at }
@@ -61,7 +61,7 @@ impl<'a> GlyphBytes<'a> {
         Fault::new(GLYF, self.place(at), why)
     }
 
-    /// The bytes end too early.
+    /// The fault of bytes that end too early, at their end.
     #[cold]
     #[inline(never)]
     pub(crate) fn short(&self) -> Fault
@@ -70,7 +70,7 @@ impl<'a> GlyphBytes<'a> {
         self.fault(self.bytes.len(), Why::GlyphShort)
     }
 
-    /// Error: GlyphShort.
+    /// The byte at an offset. Error: GlyphShort.
     #[inline(always)]
     #[tactic(auto, unfolding(crate::specs::Bytes::byte_in))]
     pub(crate) fn byte(&self, at: usize) -> Result<u8, Fault>
@@ -85,7 +85,7 @@ impl<'a> GlyphBytes<'a> {
         }
     }
 
-    /// Error: GlyphShort.
+    /// The unsigned word at an offset. Error: GlyphShort.
     #[inline(always)]
     #[tactic(auto, unfolding(crate::specs::Bytes::word_in))]
     pub(crate) fn word(&self, at: usize) -> Result<u16, Fault>
@@ -99,7 +99,7 @@ impl<'a> GlyphBytes<'a> {
         }
     }
 
-    /// Error: GlyphShort.
+    /// The signed word at an offset. Error: GlyphShort.
     #[inline(always)]
     #[tactic(auto, unfolding(crate::specs::Bytes::signed_in))]
     pub(crate) fn signed(&self, at: usize) -> Result<i16, Fault>
@@ -113,7 +113,7 @@ impl<'a> GlyphBytes<'a> {
         }
     }
 
-    /// So many bytes from a place on. Error: GlyphShort.
+    /// The `n` bytes from an offset on. Error: GlyphShort.
     #[tactic(auto, unfolding(crate::specs::Bytes::slice_in))]
     pub(crate) fn slice(&self, at: usize, n: usize) -> Result<&'a [u8], Fault>
         ensures exact { Gives (λ b. b.now) result (slice_in self.now at n) }

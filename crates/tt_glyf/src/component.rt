@@ -14,7 +14,7 @@ use crate::format::{ARGUMENTS_OFFSET, GLYPH_INDEX_OFFSET, WORD_SIZE};
 use crate::raw::Record;
 use tt_core::{Fault, Why};
 
-/// One, as a 2.14 fixed point number.
+/// One, as a 2.14 fixed-point number.
 const ONE: i16 = 16_384;
 
 /// Bytes of an argument.
@@ -29,7 +29,7 @@ fn argument_size(flags: u16) -> usize
     }
 }
 
-/// Bytes of the transform. Of the three flags the first that is set counts (profile).
+/// Bytes of the transform. If several of the three flags are set, the first counts (profile).
 fn transform_size(flags: u16) -> usize
     ensures exact { result ≡ transform_size flags }
     ensures bound { result ≤ 8 }
@@ -65,7 +65,7 @@ fn signed_byte(byte: u8) -> i32
     }
 }
 
-/// Error: GlyphShort.
+/// An argument of a record with these flags. Error: GlyphShort.
 #[tactic(auto, unfolding(crate::specs::Composite::argument_at))]
 fn argument_at(glyph: &GlyphBytes, flags: u16, at: usize) -> Result<i32, Fault>
     ensures exact { Gives (λ a. a) result (argument_at glyph.now flags at) }
@@ -94,7 +94,7 @@ struct Arguments {
     arg2: i32,
 }
 
-/// Error: GlyphShort.
+/// The two arguments of a record with these flags. Error: GlyphShort.
 #[tactic(auto, unfolding(crate::specs::Composite::arguments_at))]
 fn arguments_at(glyph: &GlyphBytes, flags: u16, at: usize) -> Result<Arguments, Fault>
     requires { at ≤ length glyph.now.bytes }
@@ -116,7 +116,7 @@ struct Transform {
     yy: i16,
 }
 
-/// Error: GlyphShort.
+/// A transform by a scale along each axis. Error: GlyphShort.
 #[tactic(auto, unfolding(crate::specs::Composite::two_scales_at))]
 fn two_scales_at(glyph: &GlyphBytes, at: usize) -> Result<Transform, Fault>
     ensures exact { Gives transform_view result (two_scales_at glyph.now at) }
@@ -132,7 +132,7 @@ fn two_scales_at(glyph: &GlyphBytes, at: usize) -> Result<Transform, Fault>
     })
 }
 
-/// Error: GlyphShort.
+/// A transform by a matrix. Error: GlyphShort.
 #[tactic(auto, unfolding(crate::specs::Composite::two_by_two_at))]
 fn two_by_two_at(glyph: &GlyphBytes, at: usize) -> Result<Transform, Fault>
     ensures exact { Gives transform_view result (two_by_two_at glyph.now at) }
@@ -145,7 +145,7 @@ fn two_by_two_at(glyph: &GlyphBytes, at: usize) -> Result<Transform, Fault>
     Ok(Transform { xx, yx, xy, yy })
 }
 
-/// Error: GlyphShort.
+/// The transform of a record with these flags. Error: GlyphShort.
 #[tactic(auto, unfolding(crate::specs::Composite::transform_at))]
 fn transform_at(glyph: &GlyphBytes, flags: u16, at: usize) -> Result<Transform, Fault>
     requires { at ≤ length glyph.now.bytes }
@@ -196,14 +196,14 @@ fn has_arguments_zero(part: Record) -> bool
     part.arg1 == 0 && part.arg2 == 0
 }
 
-/// Whether a record asks for its offset to be transformed, and that would change it.
+/// Whether a record requests a transform of its offset, and the transform would change the offset.
 fn asks_scaled_offset(part: Record) -> bool
     ensures { result ≡ asks_scaled_offset part }
 {
     scales_offsets(part.flags) && !is_identity(part) && !has_arguments_zero(part)
 }
 
-/// Error: ScaledOffset (profile).
+/// The record, unless its offset is to be transformed. Error: ScaledOffset (profile).
 #[tactic(auto, unfolding(crate::specs::Composite::unscaled))]
 fn unscaled(glyph: &GlyphBytes, at: usize, part: Record) -> Result<Record, Fault>
     requires { at ≤ length glyph.now.bytes }
@@ -216,7 +216,7 @@ fn unscaled(glyph: &GlyphBytes, at: usize, part: Record) -> Result<Record, Fault
     Ok(part)
 }
 
-/// Error: ComponentGlyph.
+/// The glyph number, if the font has the glyph. Error: ComponentGlyph.
 #[tactic(auto, unfolding(crate::specs::Composite::known_glyph))]
 fn known_glyph(glyph: &GlyphBytes, glyphs: u16, at: usize, number: u16) -> Result<u16, Fault>
     requires { at ≤ length glyph.now.bytes }
@@ -228,7 +228,7 @@ fn known_glyph(glyph: &GlyphBytes, glyphs: u16, at: usize, number: u16) -> Resul
     Ok(number)
 }
 
-/// The component record at a place. Errors: GlyphShort, ComponentGlyph, ScaledOffset.
+/// The component record at an offset. Errors: GlyphShort, ComponentGlyph, ScaledOffset.
 #[tactic(auto, unfolding(crate::specs::Composite::record_at))]
 pub(crate) fn record_at(glyph: &GlyphBytes, glyphs: u16, at: usize) -> Result<Record, Fault>
     requires { at ≤ length glyph.now.bytes }

@@ -50,7 +50,7 @@ impl Flags for ComponentFlags {
     }
 }
 
-/// Whether a record's flags have one of the component flags.
+/// Whether a record's flags include a component flag.
 pub(crate) fn has_flag(flags: u16, flag: ComponentFlags) -> bool
     ensures { result ≡ has flags flag.0 }
 {

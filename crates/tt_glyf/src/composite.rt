@@ -17,14 +17,14 @@ use crate::raw::{Raw, Record};
 use std::alloc::Global;
 use tt_core::{COMPONENT_LIMIT, Fault, FontFault, Why};
 
-/// The records of a glyph, and the place after them.
+/// The records of a glyph, and the offset after them.
 #[derive(Drop)]
 struct RecordList {
     records: Vec<Record>,
     next: usize,
 }
 
-/// Errors: GlyphShort, ComponentCount, ComponentGlyph, ScaledOffset, Memory.
+/// The component records after the header. Errors: GlyphShort, ComponentCount, ComponentGlyph, ScaledOffset, Memory.
 fn read_records(alloc: Global, glyph: &GlyphBytes, glyphs: u16) -> Result<RecordList, FontFault>
     requires { header_size ≤ length glyph.now.bytes }
     ensures exact { FontGives records_listing result (records_of glyphs glyph.now) }
@@ -63,7 +63,7 @@ struct Program<'a> {
     code_at: u32,
 }
 
-/// The program after the records, empty where there is none. Error: GlyphShort.
+/// The program after the records, or an empty one if no record announces a program. Error: GlyphShort.
 #[tactic(auto, unfolding(crate::specs::Composite::program_of))]
 fn read_program<'a>(glyph: &GlyphBytes<'a>, list: &RecordList) -> Result<Program<'a>, Fault>
     requires { list.now.next ≤ length glyph.now.bytes }
@@ -83,8 +83,8 @@ fn read_program<'a>(glyph: &GlyphBytes<'a>, list: &RecordList) -> Result<Program
     })
 }
 
-/// What stands after the header of a composite glyph. Errors: GlyphShort, ComponentCount,
-/// ComponentGlyph, ScaledOffset, Memory.
+/// The part of a composite glyph after its header. Errors: GlyphShort, ComponentCount, ComponentGlyph, ScaledOffset,
+/// Memory.
 #[tactic(auto, unfolding(crate::specs::Composite::composite_of))]
 pub(crate) fn read_composite<'a>(
     alloc: Global,

@@ -12,7 +12,7 @@ use crate::format::WORD_SIZE;
 use crate::raw::RawPoint;
 use tt_core::{Fault, Why};
 
-/// The two flags that tell how a delta along an axis is written.
+/// The two flags that say how a delta along an axis is encoded.
 #[derive(Clone, Copy)]
 pub(crate) struct Axis {
     pub(crate) short: PointFlags,
@@ -29,7 +29,7 @@ const Y_AXIS: Axis = Axis {
     same: PointFlags::Y_IS_SAME_OR_POSITIVE,
 };
 
-/// A delta, and the place after it.
+/// A delta, and the offset after it.
 #[derive(Clone, Copy)]
 struct Delta {
     by: i32,
@@ -48,7 +48,7 @@ fn short(positive: bool, byte: u8) -> i32
     }
 }
 
-/// Error: GlyphShort.
+/// The delta of a point with this flag. Error: GlyphShort.
 #[inline(always)]
 #[tactic(auto, unfolding(crate::specs::Coordinates::delta_at))]
 fn delta_at(glyph: &GlyphBytes, axis: Axis, flag: u8, at: usize) -> Result<Delta, Fault>
@@ -75,14 +75,14 @@ fn delta_at(glyph: &GlyphBytes, axis: Axis, flag: u8, at: usize) -> Result<Delta
     })
 }
 
-/// The sum that may be the next coordinate, and the place after its delta.
+/// The candidate for the next coordinate, and the offset after its delta.
 #[derive(Clone, Copy)]
 struct Sum {
     value: i32,
     next: usize,
 }
 
-/// A coordinate, and the place after its delta.
+/// A coordinate, and the offset after its delta.
 #[derive(Clone, Copy)]
 struct Coordinate {
     value: i16,
@@ -100,7 +100,7 @@ fn summed(before: Coordinate, delta: Delta) -> Sum
     }
 }
 
-/// Error: CoordRange, at the glyph's first byte.
+/// The sum as a coordinate of 16 bits. Error: CoordRange, at the glyph's first byte.
 #[inline(always)]
 #[tactic(auto, unfolding(crate::specs::Coordinates::within_words))]
 fn within_words(glyph: &GlyphBytes, sum: Sum) -> Result<Coordinate, Fault>
@@ -116,7 +116,7 @@ fn within_words(glyph: &GlyphBytes, sum: Sum) -> Result<Coordinate, Fault>
     }
 }
 
-/// The coordinate after another. Errors: GlyphShort, CoordRange.
+/// The coordinate after the preceding one. Errors: GlyphShort, CoordRange.
 #[inline(always)]
 #[tactic(auto, unfolding(crate::specs::Coordinates::coordinate_at))]
 fn coordinate_at(
@@ -133,7 +133,7 @@ fn coordinate_at(
     within_words(glyph, summed(before, delta))
 }
 
-/// Gives each point that holds its flag its x; answers where the y deltas begin. Errors: GlyphShort, CoordRange.
+/// Sets the x of points that hold their flags. Returns the offset of the y deltas. Errors: GlyphShort, CoordRange.
 #[inline(never)]
 #[tactic(auto, using(crate::proofs::InPlace::turn, crate::proofs::InPlace::breaks, crate::proofs::InPlace::done))]
 pub(crate) fn read_x(glyph: &GlyphBytes, points: &mut [RawPoint], at: usize) -> Result<usize, Fault>
@@ -151,8 +151,8 @@ pub(crate) fn read_x(glyph: &GlyphBytes, points: &mut [RawPoint], at: usize) -> 
     Ok(last.next)
 }
 
-/// Gives each point its y, in the place of the flag that it holds; answers where the deltas end. Errors: GlyphShort,
-/// CoordRange.
+/// Sets the y of points, in place of the flags that they hold. Returns the offset after the deltas. Errors:
+/// GlyphShort, CoordRange.
 #[inline(never)]
 #[tactic(auto, using(crate::proofs::InPlace::turn, crate::proofs::InPlace::breaks, crate::proofs::InPlace::done))]
 pub(crate) fn read_y(glyph: &GlyphBytes, points: &mut [RawPoint], at: usize) -> Result<usize, Fault>

@@ -54,7 +54,7 @@ impl Flags for PointFlags {
     }
 }
 
-/// Whether a flag byte has one of the flags.
+/// Whether a flag byte includes a point flag.
 #[inline(always)]
 pub(crate) fn has_flag(flags: u8, flag: PointFlags) -> bool
     ensures { result ≡ has flags flag.0 }
@@ -62,7 +62,7 @@ pub(crate) fn has_flag(flags: u8, flag: PointFlags) -> bool
     PointFlags::from_bits_retain(flags).contains(flag)
 }
 
-/// A point that holds its flag in the place of its y until that is read.
+/// A point whose y holds its flag until the y is read.
 #[inline(always)]
 fn held(flag: u8) -> RawPoint
     ensures exact { result ≡ held flag }
@@ -84,16 +84,16 @@ pub(crate) fn held_flag(point: RawPoint) -> u8
     point.y as u8
 }
 
-/// The points, each holding its flag, and the place after the flags.
+/// The points, each with its flag, and the offset after the flags.
 #[derive(Drop)]
 pub(crate) struct FlagList {
-    /// A repeated flag stands here as often as it holds.
+    /// A repeated flag occurs here once for each of its points.
     pub(crate) points: Vec<RawPoint>,
-    /// Where the x coordinates begin in the glyph.
+    /// The offset of the x coordinates in the glyph.
     pub(crate) next: usize,
 }
 
-/// A flag byte, how many further points it stands for, and the place after it.
+/// A flag byte, the number of its further points, and the offset after it.
 #[derive(Clone, Copy)]
 struct Run {
     flag: u8,
@@ -101,7 +101,7 @@ struct Run {
     next: usize,
 }
 
-/// Errors: GlyphShort, FlagRun.
+/// The run at an offset, if `left` points remain. Errors: GlyphShort, FlagRun.
 #[inline(always)]
 #[tactic(auto, unfolding(crate::specs::Flags::run_at))]
 fn run_at(glyph: &GlyphBytes, at: usize, left: usize) -> Result<Run, Fault>
@@ -141,7 +141,7 @@ fn push_copies(points: &mut Vec<RawPoint>, point: RawPoint, n: usize)
     }
 }
 
-/// Errors: GlyphShort, FlagRun, Memory.
+/// The flags of `count` points. Errors: GlyphShort, FlagRun, Memory.
 #[inline(never)]
 pub(crate) fn read_flags(
     alloc: Global,

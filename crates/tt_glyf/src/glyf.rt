@@ -25,8 +25,7 @@ use std::marker::Model;
 use tt_core::{Fault, FontFault, Why};
 use tt_metrics::Metrics;
 
-/// The glyph data of a font. A clause sees it as the bytes of loca and glyf, loca's format and the
-/// number of glyphs.
+/// The glyph data of a font. Clauses see the bytes of loca and glyf, loca's format and the number of glyphs.
 #[derive(Drop)]
 pub struct Glyf<'a> {
     loca: Loca<'a>,
@@ -47,8 +46,8 @@ impl<'a> Model for Glyf<'a> {
 }
 
 impl<'a> Glyf<'a> {
-    /// Takes loca and glyf of the font with these metrics. Error: LocaShort. The public call for a caller that opens
-    /// both at once; tt_render opens loca before it takes glyf, by `of`.
+    /// Opens loca and glyf of the font with these metrics. Error: LocaShort. This call is for users that open both at
+    /// once; tt_render opens loca first and then calls `of`.
     pub fn open(loca: &'a [u8], glyf: &'a [u8], metrics: &Metrics) -> Result<Glyf<'a>, Fault>
         requires loca { length loca.now ≤ font_limit }
         requires glyf { length glyf.now ≤ font_limit }
@@ -62,7 +61,7 @@ impl<'a> Glyf<'a> {
         Ok(Glyf::of(loca, glyf))
     }
 
-    /// Takes a font's loca, and its glyf beside it.
+    /// A font's loca together with its glyf.
     pub fn of(loca: Loca<'a>, glyf: &'a [u8]) -> Glyf<'a>
         requires { length glyf.now ≤ font_limit }
         ensures { result ≡ with_glyf loca.entry glyf.now }
@@ -70,7 +69,7 @@ impl<'a> Glyf<'a> {
         Glyf { loca, glyf }
     }
 
-    /// The offset of a glyph in glyf, as loca gives it.
+    /// The offset of a glyph in glyf, from loca.
     pub fn start(&self, g: u16) -> u32
         requires { g < self.now.glyphs }
         ensures { result ≡ glyph_offset self.now g }
@@ -78,7 +77,7 @@ impl<'a> Glyf<'a> {
         self.loca.offset(usize::from(g))
     }
 
-    /// The bytes of a glyph, none where loca's entries are equal. Error: GlyphRange.
+    /// The bytes of a glyph, none if loca's entries are equal. Error: GlyphRange.
     #[tactic(auto, unfolding(crate::specs::Loca::glyph_bytes_of))]
     pub fn bytes(&self, g: u16) -> Result<&'a [u8], Fault>
         requires { g < self.now.glyphs }
@@ -100,7 +99,7 @@ impl<'a> Glyf<'a> {
         Ok(&self.glyf[start..next.min(self.glyf.len())])
     }
 
-    /// Whether loca's entries are equal, so that the glyph has no bytes.
+    /// Whether the glyph has no bytes, because loca's entries are equal.
     fn has_no_bytes(&self, g: u16) -> bool
         requires { g < self.now.glyphs }
         ensures exact { result ≡ has_no_bytes self.now g }
@@ -111,24 +110,24 @@ impl<'a> Glyf<'a> {
         start == next
     }
 
-    /// What a glyph is, as it stands in the file. Errors: GlyphRange, GlyphShort, ContourOrder,
-    /// FlagRun, ComponentCount, ComponentGlyph, ScaledOffset, PointLimit, CoordRange, Memory.
+    /// The data of a glyph as in the file. Errors: GlyphRange, GlyphShort, ContourOrder, FlagRun, ComponentCount,
+    /// ComponentGlyph, ScaledOffset, PointLimit, CoordRange, Memory.
     pub fn read(&self, alloc: Global, g: u16) -> Result<Raw<'a>, FontFault>
         requires { g < self.now.glyphs }
         ensures exact { FontGives raw_view result (glyph_data_of self.now g) }
-        // On Ok nothing is wrong with the glyph, and a fault tells what is.
+        // On Ok the glyph has no defect; a fault names a defect that exists.
         ensures sound { OnOk result (HasNo (IsGlyphDefect self.now g)) }
         ensures fault { IfTold font_fault result (IsGlyphDefect self.now g) }
-        // Without an outline it has no bytes or no contours.
+        // A glyph without outline has no bytes or no contours.
         ensures empty { IfOk result (λ r. IfEmpty (raw_view r) (HasNoOutline self.now g)) }
-        // A simple glyph: the words at their places, the contours' ends, and points whose flags are those of
-        // their runs and whose coordinates are the sums of all deltas up to them.
+        // A simple glyph: its words, the contours' ends, and the points. A point's flag is that of its run; its
+        // coordinates are the sums of all deltas up to the point.
         ensures words { IfOk result (λ r. IfSimple (raw_view r) (AreWords (glyph_bytes_at self.now g))) }
         ensures few { IfOk result (λ r. IfSimple (raw_view r) (λ s. length s.points ≤ point_limit)) }
         ensures ends { IfOk result (λ r. IfSimple (raw_view r) (λ s. AreEnds (length s.points) s.ends)) }
         ensures sums { IfOk result (λ r. IfSimple (raw_view r) (λ s. ArePoints (bytes_between self.now g) (flags_place (bytes_between self.now g) (length s.ends)) s.points)) }
-        // A composite glyph: the words at their places, and the records as they are written, each of a glyph
-        // of the font, with arguments in their ranges.
+        // A composite glyph: its words, and the records as written. Each record names a glyph of the font and has
+        // arguments within their ranges.
         ensures composite_words { IfOk result (λ r. IfComposite (raw_view r) (AreCompositeWords (glyph_bytes_at self.now g))) }
         ensures components { IfOk result (λ r. IfComposite (raw_view r) (λ c. AreComponents (glyph_bytes_at self.now g) header_size c.records)) }
         ensures records { IfOk result (λ r. IfComposite (raw_view r) (λ c. AreRecords self.now.glyphs c.records)) }
@@ -156,7 +155,7 @@ impl<'a> Glyf<'a> {
     }
 }
 
-/// The glyph that some bytes of glyf describe.
+/// The glyph that bytes of glyf describe.
 fn read_glyph<'a>(alloc: Global, glyph: &GlyphBytes<'a>, glyphs: u16) -> Result<Raw<'a>, FontFault>
     ensures exact { FontGives raw_view result (glyph_in glyphs glyph.now) }
     ensures arguments { IfOk result (λ r. IfComposite (raw_view r) (λ c. All HasArguments c.records)) }
@@ -165,7 +164,7 @@ fn read_glyph<'a>(alloc: Global, glyph: &GlyphBytes<'a>, glyphs: u16) -> Result<
     read_described(alloc, glyph, header, glyphs)
 }
 
-/// What stands after a header.
+/// The part of a glyph after its header.
 #[tactic(auto, unfolding(crate::specs::GlyphData::described))]
 fn read_described<'a>(
     alloc: Global,

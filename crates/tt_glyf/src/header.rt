@@ -17,7 +17,7 @@ pub(crate) struct Header {
     pub(crate) x_min: i16,
 }
 
-/// Error: GlyphShort.
+/// The header's fields in use. Error: GlyphShort.
 #[tactic(auto, unfolding(crate::specs::GlyphData::header_of))]
 pub(crate) fn read_header(glyph: &GlyphBytes) -> Result<Header, Fault>
     ensures exact { Gives header_view result (header_of glyph.now) }

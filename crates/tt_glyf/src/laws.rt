@@ -1,19 +1,19 @@
-//! Laws of the definitions. Each function takes nothing and gives nothing: its clauses hold of all tables.
+//! Lemmas about the definitions, for all tables. No code runs.
 
 ghost use Rattle.tt_glyf.specs.Laws.{LocationsAreWhole, GlyphsAreWhole, GlyphFaultsStand, SizesAreTold};
 
-/// Where the definition gives loca, no defect of loca stands.
+/// Lemma: if the definition gives loca, then loca has no defect.
 pub fn locations_are_whole()
     ensures { LocationsAreWhole }
 {}
 
-/// Where the definition gives a glyph, no defect stands in its bytes, and where it gives a fault, that one does.
+/// Lemma: if the definition gives a glyph, its bytes have no defect; if it gives a fault, that defect exists.
 pub fn glyphs_are_whole()
     ensures whole { GlyphsAreWhole }
     ensures fault { GlyphFaultsStand }
 {}
 
-/// A simple glyph that is given has as many contours and points as it tells before it is read.
+/// Lemma: a simple glyph that the definition gives has as many contours and points as its first bytes declare.
 pub fn sizes_are_told()
     ensures { SizesAreTold }
 {}

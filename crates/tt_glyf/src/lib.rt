@@ -1,4 +1,4 @@
-//! Glyph data: what loca and glyf say of each glyph.
+//! Glyph data: the contents of loca and glyf for each glyph.
 #![tactic(auto)]
 
 mod bytes;
@@ -20,5 +20,5 @@ pub use component_flags::ComponentFlags;
 pub use glyf::Glyf;
 pub use loca::Loca;
 pub use raw::{Raw, RawPoint, Record};
-/// What refuses a glyph, by the name that this crate's interface has for it.
+/// The error of a refused glyph, under the name in this crate's interface.
 pub use tt_core::FontFault as GlyfFault;

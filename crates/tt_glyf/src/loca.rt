@@ -13,8 +13,7 @@ use tt_metrics::{LocaFormat, Metrics};
 
 const LOCA: [u8; 4] = *b"loca";
 
-/// Where each glyph stands in glyf. A clause sees it as the bytes of loca, their format and the number
-/// of glyphs.
+/// The offsets of glyphs in glyf. Clauses see the bytes of loca, their format and the number of glyphs.
 #[derive(Drop)]
 pub struct Loca<'a> {
     loca: &'a [u8],
@@ -34,7 +33,7 @@ impl<'a> Model for Loca<'a> {
 }
 
 impl<'a> Loca<'a> {
-    /// Takes loca of the font with these metrics. Error: LocaShort.
+    /// Opens loca of the font with these metrics. Error: LocaShort.
     #[tactic(auto, unfolding(crate::specs::Loca::loca_of))]
     pub fn open(loca: &'a [u8], metrics: &Metrics) -> Result<Loca<'a>, Fault>
         requires { length loca.now ≤ font_limit }
@@ -62,7 +61,7 @@ impl<'a> Loca<'a> {
         self.glyphs
     }
 
-    /// The offset in glyf that entry `i` gives; a short entry is half of it.
+    /// The offset in glyf from entry `i`. A short entry has half the offset.
     pub(crate) fn offset(&self, i: usize) -> u32
         requires { i ≤ self.now.glyphs }
         ensures { result ≡ entry_at self.now.format self.now.loca i }
@@ -73,7 +72,7 @@ impl<'a> Loca<'a> {
         }
     }
 
-    /// The entry of a glyph is bad.
+    /// A fault at the entry of a glyph.
     pub(crate) fn fault(&self, g: u16, why: Why) -> Fault
         ensures { result ≡ fault_at loca_tag (entry_place self.now.format g) why }
     {

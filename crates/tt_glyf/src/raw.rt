@@ -1,11 +1,11 @@
-//! What a glyph is read into: font units, as they stand in the file.
+//! The result of reading a glyph: font units, as in the file.
 
 ghost use Rattle.std.specs.Prelude.{◌≡◌};
 ghost use Rattle.tt_glyf.specs.Format.{has};
 
 use crate::component_flags::{ComponentFlags, has_flag};
 
-/// A glyph, read.
+/// The data of a glyph.
 #[derive(Drop)]
 pub enum Raw<'a> {
     /// No outline.
@@ -23,7 +23,7 @@ pub enum Raw<'a> {
     Composite {
         x_min: i16,
         records: Vec<Record>,
-        /// The glyph's program, empty where there is none.
+        /// The glyph's program, empty if there is none.
         code: &'a [u8],
         /// The program's offset in glyf.
         code_at: u32,
@@ -35,7 +35,7 @@ pub enum Raw<'a> {
 pub struct RawPoint {
     pub x: i16,
     pub y: i16,
-    /// It is on the curve.
+    /// Whether the point is on the curve.
     pub on: bool,
 }
 
@@ -44,15 +44,15 @@ pub struct RawPoint {
 pub struct Record {
     /// The record's offset in glyf.
     pub at: u32,
-    /// As they stand in the file; `ComponentFlags` names them.
+    /// The flags as in the file; `ComponentFlags` names them.
     pub flags: u16,
-    /// The component.
+    /// The component's glyph number.
     pub glyph: u16,
-    /// An offset along x, or a point of what is assembled so far.
+    /// An offset along x, or a point of the parts assembled before.
     pub arg1: i32,
     /// An offset along y, or a point of the component.
     pub arg2: i32,
-    /// x' = xx x + xy y and y' = yx x + yy y, where one is 16384.
+    /// x' = xx x + xy y and y' = yx x + yy y. 16384 is one.
     pub xx: i16,
     pub yx: i16,
     pub xy: i16,

@@ -19,7 +19,7 @@ use crate::raw::{Raw, RawPoint};
 use std::alloc::Global;
 use tt_core::{Fault, FontFault, POINT_LIMIT, Why};
 
-/// The end of a contour, not below the one before it. Errors: GlyphShort, ContourOrder.
+/// The end of a contour, at least the preceding end. Errors: GlyphShort, ContourOrder.
 #[inline(always)]
 #[tactic(auto, unfolding(crate::specs::Simple::end_at))]
 fn end_at(glyph: &GlyphBytes, at: usize, before: u16) -> Result<u16, Fault>
@@ -33,14 +33,14 @@ fn end_at(glyph: &GlyphBytes, at: usize, before: u16) -> Result<u16, Fault>
     Ok(end)
 }
 
-/// The last point of each contour, and the place after them.
+/// The last point of each contour, and the offset after these numbers.
 #[derive(Drop)]
 struct EndList {
     ends: Vec<u16>,
     next: usize,
 }
 
-/// Errors: GlyphShort, ContourOrder, Memory.
+/// The ends of all contours. Errors: GlyphShort, ContourOrder, Memory.
 #[tactic(auto, using(crate::proofs::Contours::turn, crate::proofs::Contours::breaks, crate::proofs::Contours::done))]
 fn read_ends(alloc: Global, glyph: &GlyphBytes, contours: usize) -> Result<EndList, FontFault>
     requires header { header_size ≤ length glyph.now.bytes }
@@ -62,7 +62,7 @@ fn read_ends(alloc: Global, glyph: &GlyphBytes, contours: usize) -> Result<EndLi
     })
 }
 
-/// How many points there are. Error: PointLimit, at the last contour's end.
+/// The number of points. Error: PointLimit, at the last contour's end.
 #[tactic(auto, unfolding(crate::specs::Simple::points_within))]
 fn point_count(glyph: &GlyphBytes, list: &EndList) -> Result<usize, Fault>
     requires some { 0 < vec_len list.now.ends }
@@ -78,7 +78,7 @@ fn point_count(glyph: &GlyphBytes, list: &EndList) -> Result<usize, Fault>
     Ok(count)
 }
 
-/// So many points from a place on, read in one list.
+/// The `count` points from an offset on, read in one list. Errors: GlyphShort, FlagRun, CoordRange, Memory.
 #[tactic(auto, unfolding(crate::specs::InPlace::placed_of))]
 fn placed_points(
     alloc: Global,
@@ -97,7 +97,7 @@ fn placed_points(
     Ok(points)
 }
 
-/// So many points from a place on. Errors: GlyphShort, FlagRun, CoordRange, Memory.
+/// The `count` points from an offset on. Errors: GlyphShort, FlagRun, CoordRange, Memory.
 fn read_points(
     alloc: Global,
     glyph: &GlyphBytes,
@@ -111,8 +111,8 @@ fn read_points(
     placed_points(alloc, glyph, at, count)
 }
 
-/// What stands after the header of a glyph of some contours. Errors: GlyphShort, ContourOrder,
-/// PointLimit, FlagRun, CoordRange, Memory.
+/// The part of a simple glyph after its header. Errors: GlyphShort, ContourOrder, PointLimit, FlagRun, CoordRange,
+/// Memory.
 #[tactic(auto, unfolding(crate::specs::Simple::simple_of))]
 pub(crate) fn read_simple<'a>(
     alloc: Global,

@@ -1,4 +1,4 @@
-//! What a glyph tells of how much there is to it, before it is read. OpenType, "The 'glyf' table", "Glyph Header" and
+//! The size that a glyph declares, known before the glyph is read. OpenType, "The 'glyf' table", "Glyph Header" and
 //! "Simple Glyph Description".
 
 ghost use Rattle.std.specs.Prelude.{◌≡◌, ◌<◌, ◌≤◌, ◌^◌, All, IfOk, length, vec_len};
@@ -14,8 +14,8 @@ use std::alloc::{AllocError, Global};
 use tt_core::{FontFault, i16_at, u16_at};
 
 impl<'a> Glyf<'a> {
-    /// How many contours and points a simple glyph says it has, by numberOfContours and the last of endPtsOfContours
-    /// alone: 0 for an empty glyph and a composite, and where these bytes are not there.
+    /// The sum of contours and points that a simple glyph declares by numberOfContours and the last of
+    /// endPtsOfContours. It is 0 for an empty glyph or a composite, and if these bytes do not exist.
     #[tactic(auto, unfolding(crate::specs::Told::told_size))]
     pub fn told_size(&self, g: u16) -> u32
         requires { g < self.now.glyphs }
@@ -28,8 +28,8 @@ impl<'a> Glyf<'a> {
         }
     }
 
-    /// The component records of a composite glyph: none of another glyph, nor of one that cannot be read. Nothing of a
-    /// simple glyph is read but its header. Error: want of memory.
+    /// The component records of a composite glyph. Other glyphs, and composites that cannot be read, give none. Of a
+    /// simple glyph only the header is read. Error: memory ran out.
     pub fn components(&self, alloc: Global, g: u16) -> Result<Vec<Record>, AllocError>
         requires { g < self.now.glyphs }
         ensures exact { IfOk result (λ r. r.items ≡ components_of self.now g) }
@@ -57,7 +57,7 @@ impl<'a> Glyf<'a> {
     }
 }
 
-/// The component records of a composite glyph, none of another.
+/// The component records of a composite glyph; other glyphs give none.
 fn records_in(alloc: Global, raw: Raw) -> Vec<Record>
     ensures { result.items ≡ records_in (raw_view raw.entry) }
 {
@@ -68,7 +68,7 @@ fn records_in(alloc: Global, raw: Raw) -> Vec<Record>
     }
 }
 
-/// numberOfContours, 0 where the header is not there.
+/// numberOfContours, or 0 if the header is cut.
 fn told_contours(bytes: &[u8]) -> i16
     ensures exact { result ≡ told_contours bytes.now }
 {
@@ -78,7 +78,7 @@ fn told_contours(bytes: &[u8]) -> i16
     i16_at(bytes, NUMBER_OF_CONTOURS_OFFSET).unwrap()
 }
 
-/// The contours and points of a simple glyph.
+/// The declared sum of contours and points of a simple glyph.
 fn told_in(bytes: &[u8]) -> u32
     ensures exact { result ≡ told_in bytes.now }
     ensures bound { result < 2 ^ 17 }
