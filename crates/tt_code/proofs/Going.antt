@@ -1,4 +1,4 @@
--- A skip that has come to a place goes on as the whole skip does.
+-- A skip from an offset that it has reached gives the result of the whole skip.
 use Rattle.std.proofs.Common.{◌≡◌, ℕ, zero, suc, ◌+◌, ◌<◌, ◌≤◌, nat_le, true, false, List, length, slice_index, slice_range, Result, Ok, Err, refl, sym, ◌∙◌, arith}
 use Rattle.std.proofs.lemmas.Bool.Decides.{nat_tests}
 use Rattle.tt_code.specs.declared.decoding.Halt.{Halt}
@@ -7,7 +7,7 @@ use Rattle.tt_code.specs.Decoding.{Instr, head_length, data_length, instruction_
 use Rattle.tt_code.specs.Skips.{ends, depth_after, skip_from}
 use Rattle.tt_code.proofs.Passed.{Told}
 
--- the rest of the skip is the whole, and instructions enough are counted for it
+-- the rest of the skip gives the whole result, and its bound of instructions suffices
 pub record GoesOn (sought : Sought) (code : List ℕ) (lost : Halt) (whole : Result ℕ Halt) (place depth : ℕ)
     : Type 0 where
   pub fuel : ℕ
@@ -32,7 +32,7 @@ pub halted : {sought : Sought} {code : List ℕ} {lost : Halt} {whole : Result �
 halted {sought} {code} {lost} {whole} {place} {depth} halt inside on short =
     halted_by on.fuel sought code lost halt whole place depth inside on.enough on.same short
 
--- at an opcode that ends it
+-- at an opcode that ends the skip
 ended_by : (fuel : ℕ) (sought : Sought) (code : List ℕ) (lost : Halt) (whole : Result ℕ Halt) (place depth : ℕ)
     (i : Instr) → place < length code → length code ≤ fuel + place
     → skip_from fuel sought code lost place depth ≡ whole
@@ -70,7 +70,7 @@ pub further : {sought : Sought} {code : List ℕ} {lost : Halt} {whole : Result 
 further {sought} {code} {lost} {whole} {place} {depth} i inside on there none some =
     further_by on.fuel sought code lost whole place depth i inside on.enough on.same there none some
 
--- at an opcode that a skip passes, with so many bytes
+-- at an opcode that a skip passes, with n bytes
 pub passed : {sought : Sought} {code : List ℕ} {lost : Halt} {whole : Result ℕ Halt} {place depth : ℕ} (n : ℕ)
     → 0 < n → place + n ≤ length code → GoesOn sought code lost whole place depth → Told (slice_index code place) n
     → GoesOn sought code lost whole (place + n) depth

@@ -1,4 +1,4 @@
--- The skip that walks and counts open IFs ends at the least place where it may end.
+-- The skip that counts open IFs ends at the least place where a skip may end.
 use Rattle.std.proofs.Common.{◌≡◌, ℕ, zero, suc, ◌+◌, ◌<◌, ◌≤◌, ◌==◌, ◌&&◌, nat_le, Bool, true, false, if◌then◌else◌, List, [], ◌∷◌, length, Result, Ok, Err, refl, sym, ◌∙◌, ap, subst, inl, inr, arith}
 use Rattle.std.specs.Prelude.{slice_index}
 use Rattle.std.specs.List.{count_by}
@@ -12,7 +12,7 @@ use Rattle.tt_code.specs.declared.skips.Sought.TheVariants as sought
 use Rattle.tt_code.specs.Decoding.{Instr, head_length, data_length, taken, instruction_at}
 use Rattle.tt_code.specs.Skips.{ends, depth_after, skip_from, skip_end, is_end, ComesTo, EndsBefore, IsOpen, IsSkip}
 
--- so many IFs of those that were passed are open
+-- the number of open IFs among the passed opcodes
 abbrev Counted : Sought → ℕ → List ℕ → Type 0
 Counted sought.ElseOrEif depth passed = depth + count_by (λ op. op == 0x59) passed ≡ count_by (λ op. op == 0x58) passed
 Counted sought.Eif depth passed = depth + count_by (λ op. op == 0x59) passed ≡ count_by (λ op. op == 0x58) passed
@@ -27,7 +27,7 @@ same_end sought.ElseOrEif depth passed op h = rw (none_open depth _ _ h) refl
 same_end sought.Eif depth passed op h = rw (none_open depth _ _ h) refl
 same_end sought.Endf depth passed op h = refl
 
--- one more opcode that is no end
+-- one more opcode that is not the end
 counted_more : (depth op opened shut : ℕ) → depth + shut ≡ opened → (depth == 0 && op == 0x59) ≡ false
     → depth_after depth op + ((if op == 0x59 then 1 else 0) + shut) ≡ (if op == 0x58 then 1 else 0) + opened
 counted_more depth op opened shut h none = grind (arith, nat_tests)
@@ -35,7 +35,7 @@ counted_more depth op opened shut h none = grind (arith, nat_tests)
 no_eif : (depth op : ℕ) → ends sought.ElseOrEif depth op ≡ false → (depth == 0 && op == 0x59) ≡ false
 no_eif depth op none = grind (arith, nat_tests)
 
--- the same of the counts
+-- the corresponding statement for the counts
 counted_lists : (depth : ℕ) (passed : List ℕ) (op : ℕ)
     → depth + count_by (λ o. o == 0x59) passed ≡ count_by (λ o. o == 0x58) passed → (depth == 0 && op == 0x59) ≡ false
     → depth_after depth op + count_by (λ o. o == 0x59) (op ∷ passed) ≡ count_by (λ o. o == 0x58) (op ∷ passed)
@@ -50,7 +50,7 @@ counted sought.ElseOrEif depth passed op h none = counted_lists depth passed op 
 counted sought.Eif depth passed op h none = counted_lists depth passed op h none
 counted sought.Endf depth passed op h none = tt
 
--- an instruction has at least one byte, and lies within the program
+-- an instruction has at least one byte, and is within the program
 some_head : (op : ℕ) → 1 ≤ head_length op
 some_head op = grind (arith, nat_tests)
 
@@ -74,7 +74,7 @@ lies code at i there =
     let op = slice_index code at in
     lies_taken code at (head_length op) (data_length op (slice_index code (at + 1))) _ i (some_head op) refl there
 
--- what a skip that has come to a place answers
+-- the result of a skip from an offset that it has reached
 ended : (s : Sought) (code : List ℕ) (at : ℕ) (lost : Why) (place depth : ℕ) (passed : List ℕ) (i : Instr)
     → ComesTo s code at passed place → Counted s depth passed → instruction_at code place ≡ Ok i
     → ends s depth i.op ≡ true → EndsBefore s code at (place + i.len)
@@ -145,7 +145,7 @@ least s code at lost inside =
     let comes : ComesTo s code at [] (at + 1) = record { leads = refl; first = tt } in
     least_from (length code) s code at lost (at + 1) 0 [] (omega arith) (omega arith) comes (begun s)
 
--- the same of a call that answers the skip's end
+-- the corresponding statement for a call that gives the skip's end
 pub is_skip : (s : Sought) (code : List ℕ) (at : ℕ) (lost : Why) (r : Result ℕ Halt) → at < length code
     → Gives (λ (j : ℕ). j) r (skip_end s code at lost) → IsSkip s code at lost r
 is_skip s code at lost (Ok j) inside given =

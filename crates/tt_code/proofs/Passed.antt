@@ -1,4 +1,4 @@
--- How many bytes a skip passes at an opcode, as a table has it.
+-- The table of bytes that a skip passes at an opcode.
 use Rattle.std.proofs.Common.{◌≡◌, ℕ, zero, suc, ◌+◌, ◌<◌, ◌==◌, ◌||◌, ◌&&◌, Bool, true, false, not, List, [], ◌∷◌, length, slice_index_or, refl, sym, arith}
 use Rattle.std.proofs.lemmas.Bool.Decides.{nat_tests}
 use Rattle.tt_code.specs.declared.skips.Sought.{Sought}
@@ -25,11 +25,11 @@ passed =
     1 ∷ 1 ∷ 1 ∷ 1 ∷ 1 ∷ 1 ∷ 1 ∷ 1 ∷ 1 ∷ 1 ∷ 1 ∷ 1 ∷ 1 ∷ 1 ∷ 1 ∷ 1 ∷
     1 ∷ 1 ∷ 1 ∷ 1 ∷ 1 ∷ 1 ∷ 1 ∷ 1 ∷ 1 ∷ 1 ∷ 1 ∷ 1 ∷ 1 ∷ 1 ∷ 1 ∷ 1 ∷ []
 
--- whether a skip has to look: a count follows, or it may end, or another IF opens or closes
+-- whether a skip must look at an opcode: a count follows, the skip may end, or another IF opens or closes
 abbrev looks : ℕ → Bool
 looks op = op == 0x40 || (op == 0x41 || (op == 0x1B || (op == 0x2D || (op == 0x58 || op == 0x59))))
 
--- a table's entries, from that of an opcode on, are the bytes of its instruction, or 0
+-- an entry of the table is the size of its opcode's instruction, or 0
 abbrev agrees : ℕ → ℕ → Bool
 agrees op n = n == 0 || (not (looks op) && n == head_length op + data_length op 0)
 
@@ -58,7 +58,7 @@ entry_agrees (n ∷ ns) from (suc i) op d all within is =
     entry_agrees ns (suc from) i op d (second_of (agrees from n) (all_agree (suc from) ns) all) (omega arith)
     (omega arith)
 
--- what an entry that is not 0 says of its opcode
+-- the meaning of an entry other than 0
 pub record Told (op n : ℕ) : Type 0 where
   pub len : (count : ℕ) → head_length op + data_length op count ≡ n
   pub inside : (s : Sought) (depth : ℕ) → ends s depth op ≡ false

@@ -1,20 +1,20 @@
--- Apple TrueType Reference Manual, "Instruction Set" (pushing data onto the interpreter stack): NPUSHB, NPUSHW, PUSHB
--- and PUSHW are followed by data, every other opcode, also one without a name, is an instruction of one byte.
+-- Apple TrueType Reference Manual, "Instruction Set" (pushing data onto the interpreter stack). Data follows NPUSHB,
+-- NPUSHW, PUSHB and PUSHW. Every other opcode, even one without a name, is an instruction of one byte.
 use Rattle.std.specs.Prelude.{◌≡◌, ℕ, ◌+◌, ◌-◌, ◌*◌, ◌==◌, ◌||◌, ◌&&◌, nat_le, Bool, if◌then◌else◌, List, [], ◌∷◌, length, slice_index, slice_range, Result, Ok, Err, refl}
 use Rattle.tt_core.specs.declared.fault.Why.TheVariants as why
 use Rattle.tt_code.specs.declared.decoding.Halt.{Halt}
 
--- an opcode, the bytes that it pushes, and the bytes of the program that it takes
+-- an opcode, the bytes that it pushes, and the instruction's size in bytes
 pub record Instr : Type 0 where
   pub op : ℕ
   pub args : List ℕ
   pub len : ℕ
 
--- the bytes before the data: NPUSHB (40) and NPUSHW (41) have a count after the opcode
+-- bytes before the data; NPUSHB (40) and NPUSHW (41) have a count after the opcode
 abbrev pub head_length : ℕ → ℕ
 head_length op = if op == 0x40 || op == 0x41 then 2 else 1
 
--- the bytes of data, by that count: PUSHB (B0 to B7) has 1 to 8 bytes, PUSHW (B8 to BF) 1 to 8 words
+-- bytes of data, by that count; PUSHB (B0 to B7) has 1 to 8 bytes, PUSHW (B8 to BF) 1 to 8 words
 abbrev pub data_length : ℕ → ℕ → ℕ
 data_length op count =
     if op == 0x40 then count else (
@@ -22,15 +22,15 @@ data_length op count =
     if nat_le 0xB0 op && nat_le op 0xB7 then op - 0xAF else (
     if nat_le 0xB8 op && nat_le op 0xBF then 2 * (op - 0xB7) else 0)))
 
--- whether data follows an opcode, be it a count of 0
+-- whether data follows an opcode; a count of 0 is data too
 abbrev pub takes_data : ℕ → Bool
 takes_data op = op == 0x40 || op == 0x41 || (nat_le 0xB0 op && nat_le op 0xBF)
 
--- the program is stopped at a place because the data there passes its end
+-- the program stops at an offset because the data there passes its end
 abbrev pub short_at : ℕ → Halt
 short_at at = record { at = at; why = why.CodeShort }
 
--- an instruction with so many bytes before its data and in it, where they are all there
+-- an instruction with these numbers of bytes before the data and in the data, if all bytes exist
 abbrev pub taken : List ℕ → ℕ → ℕ → ℕ → Result Instr Halt
 taken code at head more =
     let args = slice_range code (at + head) (at + head + more) in
@@ -38,7 +38,7 @@ taken code at head more =
     then Ok (record { op = slice_index code at; args = args; len = head + more })
     else Err (short_at at)
 
--- the instruction at a byte
+-- the instruction at an offset
 abbrev pub instruction_at : List ℕ → ℕ → Result Instr Halt
 instruction_at code at =
     let op = slice_index code at in taken code at (head_length op) (data_length op (slice_index code (at + 1)))

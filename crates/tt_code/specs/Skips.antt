@@ -1,6 +1,6 @@
--- Apple TrueType Reference Manual, "Instruction Set" (IF, ELSE, EIF, FDEF, ENDF): IF (58) whose condition is false goes
--- on after its ELSE (1B) or EIF (59), an ELSE that is come to after its EIF, and FDEF after the first ENDF (2D). The
--- program is passed over instruction by instruction, and IFs in between are passed over with their EIFs.
+-- Apple TrueType Reference Manual, "Instruction Set" (IF, ELSE, EIF, FDEF, ENDF). An IF (58) with a false condition
+-- continues after its ELSE (1B) or EIF (59). An ELSE that is reached continues after its EIF, and an FDEF after the
+-- first ENDF (2D). A skip goes instruction by instruction, and passes inner IFs with their EIFs.
 use Rattle.std.specs.Prelude.{◌≡◌, ℕ, zero, suc, ◌+◌, ◌-◌, ◌<◌, ◌==◌, ◌||◌, ◌&&◌, ◌⊎◌, nat_le, Bool, true, false, if◌then◌else◌, List, [], ◌∷◌, length, count_by, Result, Ok, Err, MatchResult, refl}
 use Rattle.tt_core.specs.Outcomes.{◌>>=◌}
 use Rattle.tt_core.specs.declared.fault.Why.{Why}
@@ -10,17 +10,17 @@ use Rattle.tt_code.specs.declared.skips.Sought.{Sought}
 use Rattle.tt_code.specs.declared.skips.Sought.TheVariants as sought
 use Rattle.tt_code.specs.Decoding.{Instr, instruction_at}
 
--- whether an opcode ends a skip, so many inner IFs being open
+-- whether an opcode ends a skip while `depth` inner IFs are open
 abbrev pub ends : Sought → ℕ → ℕ → Bool
 ends sought.ElseOrEif depth op = depth == 0 && (op == 0x1B || op == 0x59)
 ends sought.Eif depth op = depth == 0 && op == 0x59
 ends sought.Endf depth op = op == 0x2D
 
--- the inner IFs that are open after an opcode
+-- the number of open inner IFs after an opcode
 abbrev pub depth_after : ℕ → ℕ → ℕ
 depth_after depth op = if op == 0x58 then depth + 1 else (if op == 0x59 then depth - 1 else depth)
 
--- where a skip that has come to a place goes on; at most so many instructions are left
+-- the end of a skip from an offset on; the first argument bounds the remaining instructions
 abbrev pub skip_from : ℕ → Sought → List ℕ → Halt → ℕ → ℕ → Result ℕ Halt
 skip_from zero sought code lost place depth = Err lost
 skip_from (suc n) sought code lost place depth =
@@ -29,7 +29,7 @@ skip_from (suc n) sought code lost place depth =
     if ends sought depth i.op then Ok (place + i.len)
     else skip_from n sought code lost (place + i.len) (depth_after depth i.op))
 
--- a skip that begins at the opcode at a place
+-- the end of a skip that begins at the opcode at an offset
 abbrev pub skip_end : Sought → List ℕ → ℕ → Why → Result ℕ Halt
 skip_end sought code at lost = skip_from (length code) sought code (record { at = at; why = lost }) (at + 1) 0
 
@@ -42,42 +42,42 @@ else_end code at = skip_end sought.Eif code at why.IfOpen
 abbrev pub definition_end : List ℕ → ℕ → Result ℕ Halt
 definition_end code at = skip_end sought.Endf code at why.NoEndf
 
--- The same without a walk: the end of a skip is the least place reached, instruction by instruction, at which a sought
--- opcode stands and all inner IFs are closed. Opcodes that were passed are listed with the latest first.
+-- The end of a skip without a walk. It is the least offset reached, instruction by instruction, with a sought opcode
+-- and all inner IFs closed. Lists of passed opcodes have the latest first.
 
--- as many EIFs as IFs were passed
+-- the passed opcodes have equal numbers of IFs and EIFs
 abbrev pub closed : List ℕ → Bool
 closed passed = count_by (λ op. op == 0x58) passed == count_by (λ op. op == 0x59) passed
 
--- whether an opcode after those that were passed is the end
+-- whether an opcode after the passed ones is the end
 abbrev pub is_end : Sought → List ℕ → ℕ → Bool
 is_end sought.ElseOrEif passed op = closed passed && (op == 0x1B || op == 0x59)
 is_end sought.Eif passed op = closed passed && op == 0x59
 is_end sought.Endf passed op = op == 0x2D
 
--- the instruction at a place has an opcode, and the next one stands at another place
+-- the instruction at an offset has this opcode, and ends at `next`
 pub record StandsAt (code : List ℕ) (place op next : ℕ) : Type 0 where
   pub instruction : Instr
   pub there : instruction_at code place ≡ Ok instruction
   pub opcode : instruction.op ≡ op
   pub after : place + instruction.len ≡ next
 
--- instructions with these opcodes lead from one place to another
+-- instructions with these opcodes lead from one offset to another
 abbrev pub Leads : List ℕ → ℕ → List ℕ → ℕ → Type 0
 Leads code from [] to = from ≡ to
 Leads code from (op ∷ before) to = (place : ℕ) × Leads code from before place × StandsAt code place op to
 
--- none of them is the end
+-- none of the opcodes is the end
 abbrev pub NoEnd : Sought → List ℕ → Type 0
 NoEnd sought [] = Unit {0}
 NoEnd sought (op ∷ before) = (is_end sought before op ≡ false) × NoEnd sought before
 
--- the skip comes to a place, and has not ended before
+-- the skip reaches an offset without ending before
 pub record ComesTo (sought : Sought) (code : List ℕ) (at : ℕ) (passed : List ℕ) (place : ℕ) : Type 0 where
   pub leads : Leads code (at + 1) passed place
   pub first : NoEnd sought passed
 
--- it ends with the instruction before a place
+-- the skip ends with the instruction before an offset
 pub record EndsBefore (sought : Sought) (code : List ℕ) (at next : ℕ) : Type 0 where
   pub passed : List ℕ
   pub place : ℕ
@@ -86,7 +86,7 @@ pub record EndsBefore (sought : Sought) (code : List ℕ) (at next : ℕ) : Type
   pub stands : StandsAt code place op next
   pub end : is_end sought passed op ≡ true
 
--- it does not end: it comes to the program's end, or to an instruction whose data passes that
+-- the skip has no end: it reaches the program's end, or an instruction whose data passes the program's end
 pub record IsOpen (sought : Sought) (code : List ℕ) (at : ℕ) (lost : Why) (halt : Halt) : Type 0 where
   pub passed : List ℕ
   pub place : ℕ

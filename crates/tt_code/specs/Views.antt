@@ -1,4 +1,4 @@
--- No part of the standard: an instruction as contracts see it, without the address of its data.
+-- Not from the standard: contracts see an instruction without the address of its data.
 use Rattle.tt_code.specs.declared.decoding.Instr as declared
 use Rattle.tt_code.specs.Decoding.{Instr}
 

@@ -1,4 +1,4 @@
-//! What stands at a byte of a program. Apple TrueType Reference Manual, "Instruction Set" (pushing data onto the
+//! Decoding an instruction of a program. Apple TrueType Reference Manual, "Instruction Set" (pushing data onto the
 //! interpreter stack).
 
 ghost use Rattle.std.specs.Prelude.{◌≡◌, ◌+◌, ◌^◌, ◌<◌, ◌≤◌, [], length, slice_index, true, false, Ok, IfOk, IfErr, IfNone, IfSome};
@@ -20,14 +20,14 @@ const PUSHW: u8 = 0xB8;
 
 const PUSHW_LAST: u8 = 0xBF;
 
-/// Why a program stops, and at which of its bytes.
+/// Why a program stops, and the offset of the byte where it stops.
 #[derive(Clone, Copy, Debug, PartialEq, Eq)]
 pub struct Halt {
     pub at: usize,
     pub why: Why,
 }
 
-/// An instruction: its opcode, the data that it pushes, as bytes, and how many bytes of the program it takes.
+/// An instruction: its opcode, the bytes of the data that it pushes, and its size in bytes.
 #[derive(Clone, Copy, Debug)]
 pub struct Instr<'a> {
     pub op: u8,
@@ -35,7 +35,7 @@ pub struct Instr<'a> {
     pub len: usize,
 }
 
-/// The count byte of NPUSHB and NPUSHW; 0 where it would lie past the end, since the instruction is short then.
+/// The count byte of NPUSHB and NPUSHW. It is 0 past the end: the instruction is short then.
 fn count(code: &[u8], at: usize) -> usize
     requires { at < length code.now }
     ensures exact { result ≡ slice_index code.now (at + 1) }
@@ -48,7 +48,7 @@ fn count(code: &[u8], at: usize) -> usize
     }
 }
 
-/// How many bytes stand before the data.
+/// Bytes before the data.
 fn head_length(op: u8) -> usize
     ensures exact { result ≡ head_length op }
     ensures low { 1 ≤ result }
@@ -60,7 +60,7 @@ fn head_length(op: u8) -> usize
     }
 }
 
-/// How many bytes of data an instruction has.
+/// Bytes of an instruction's data.
 fn data_length(op: u8, count: usize) -> usize
     requires { count < 256 }
     ensures exact { result ≡ data_length op count }
@@ -75,7 +75,7 @@ fn data_length(op: u8, count: usize) -> usize
     }
 }
 
-/// The opcode at a byte, where no data follows it.
+/// The opcode at an offset, or None if data follows it.
 #[inline(always)]
 pub fn plain_opcode(code: &[u8], at: usize) -> Option<u8>
     requires { at < length code.now }
@@ -90,7 +90,7 @@ pub fn plain_opcode(code: &[u8], at: usize) -> Option<u8>
     }
 }
 
-/// The instruction at a byte. Error: CodeShort at that byte, where its data passes the end.
+/// The instruction at an offset. Error: CodeShort at that offset, if the data passes the end.
 pub fn decode<'a>(code: &'a [u8], at: usize) -> Result<Instr<'a>, Halt>
     requires { at < length code.now }
     ensures exact { Gives instr_view result (instruction_at code.now at) }

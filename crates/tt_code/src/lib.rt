@@ -1,4 +1,4 @@
-//! The instruction stream of TrueType programs: what stands at a byte, and where a skip ends.
+//! The instruction stream of TrueType programs: decoding an instruction, and finding the end of a skip.
 #![tactic(auto)]
 
 mod decoding;

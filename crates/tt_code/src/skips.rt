@@ -1,5 +1,5 @@
-//! Where a skip ends. Apple TrueType Reference Manual, "Instruction Set" (IF, ELSE, EIF, FDEF, ENDF). A skip goes from
-//! instruction to instruction, so that data which looks like an opcode is passed over.
+//! The end of a skip. Apple TrueType Reference Manual, "Instruction Set" (IF, ELSE, EIF, FDEF, ENDF). A skip goes
+//! from instruction to instruction, so data that looks like an opcode is ignored.
 
 ghost use Rattle.std.specs.Prelude.{◌≡◌, ℕ, ◌+◌, ◌^◌, ◌<◌, ◌≤◌, false, length, IfOk, IfErr};
 ghost use Rattle.tt_core.specs.Outcomes.{Gives};
@@ -20,18 +20,18 @@ const IF: u8 = 0x58;
 
 const EIF: u8 = 0x59;
 
-/// What a skip looks for.
+/// The end that a skip looks for.
 #[derive(Clone, Copy)]
 enum Sought {
-    /// Of an IF whose condition is false: its ELSE or EIF.
+    /// For an IF with a false condition: its ELSE or EIF.
     ElseOrEif,
-    /// Of an ELSE that is come to: its EIF.
+    /// For an ELSE that is reached: its EIF.
     Eif,
-    /// Of an FDEF: the first ENDF.
+    /// For an FDEF: the first ENDF.
     Endf,
 }
 
-/// Whether an opcode ends a skip, so many inner IFs being open.
+/// Whether an opcode ends a skip while `depth` inner IFs are open.
 fn is_end(sought: Sought, depth: usize, op: u8) -> bool
     ensures { result ≡ ends sought depth op }
 {
@@ -42,7 +42,7 @@ fn is_end(sought: Sought, depth: usize, op: u8) -> bool
     }
 }
 
-/// How many inner IFs are open after an opcode.
+/// The number of open inner IFs after an opcode.
 fn depth_after(depth: usize, op: u8) -> usize
     requires { depth + 1 < 2 ^ 64 }
     ensures exact { result ≡ depth_after depth op }
@@ -55,8 +55,8 @@ fn depth_after(depth: usize, op: u8) -> usize
     }
 }
 
-/// How many bytes a skip passes at an opcode. 0 where the opcode alone does not say it, as a count follows, and where
-/// the skip may end or another IF opens or closes.
+/// Bytes that a skip passes at an opcode. An entry is 0 if a count follows the opcode, if the skip may end there, or
+/// if another IF opens or closes.
 const PASSED: [u8; 256] = [
     1, 1, 1, 1, 1, 1, 1, 1, 1, 1, 1, 1, 1, 1, 1, 1, 1, 1, 1, 1, 1, 1, 1, 1, 1, 1, 1, 0, 1, 1, 1, 1,
     1, 1, 1, 1, 1, 1, 1, 1, 1, 1, 1, 1, 1, 0, 1, 1, 1, 1, 1, 1, 1, 1, 1, 1, 1, 1, 1, 1, 1, 1, 1, 1,
@@ -69,7 +69,7 @@ const PASSED: [u8; 256] = [
     1, 1,
 ];
 
-/// The opcode's entry.
+/// The opcode's entry in the table.
 fn passed(op: u8) -> usize
     ensures few { result < 256 }
     ensures len { 0 < result → (count : ℕ) → head_length op + data_length op count ≡ result }
@@ -79,7 +79,8 @@ fn passed(op: u8) -> usize
     usize::from(PASSED[usize::from(op)])
 }
 
-/// The instruction at a byte, as `decode` tells it; sooner where no data follows, as after all at which a skip may end.
+/// The instruction at an offset, equal to that of `decode`. It is faster for opcodes without data; every end of a
+/// skip is such an opcode.
 #[inline(always)]
 fn next<'a>(code: &'a [u8], at: usize) -> Result<Instr<'a>, Halt>
     requires { at < length code.now }
@@ -99,8 +100,8 @@ fn next<'a>(code: &'a [u8], at: usize) -> Result<Instr<'a>, Halt>
     }
 }
 
-/// The place after the end of a skip that begins at `at`. Errors: CodeShort where data passes the end, `lost` at `at`
-/// where the program's end is reached.
+/// The offset after the end of a skip that begins at `at`. Errors: CodeShort if an instruction's data passes the end,
+/// `lost` at `at` if the skip reaches the program's end.
 #[inline(always)]
 fn skip(sought: Sought, code: &[u8], at: usize, lost: Why) -> Result<usize, Halt>
     requires { at < length code.now }
@@ -128,14 +129,14 @@ fn skip(sought: Sought, code: &[u8], at: usize, lost: Why) -> Result<usize, Halt
     Err(Halt { at, why: lost })
 }
 
-/// Of an IF at `at` whose condition is false: the place after its ELSE or EIF. Errors: CodeShort at an instruction
+/// For an IF at `at` with a false condition: the offset after its ELSE or EIF. Errors: CodeShort at an instruction
 /// whose data passes the end, IfOpen at `at`.
-// In line, since most IFs of a font whose condition is false skip only a few instructions.
+// Inlined, since most IFs of a font with a false condition skip only a few instructions.
 #[inline(always)]
 pub fn skip_if(code: &[u8], at: usize) -> Result<usize, Halt>
     requires { at < length code.now }
     ensures exact { Gives (λ j. j) result (if_end code.now at) }
-    // It is the least place that is reached where an ELSE or EIF stands and all inner IFs are closed.
+    // The end is the least reached place with an ELSE or EIF where all inner IFs are closed.
     ensures least { IsSkip sought.ElseOrEif code.now at Why.IfOpen result }
     ensures after { IfOk result (λ j. at < j) }
     ensures within { IfOk result (λ j. j ≤ length code.now) }
@@ -145,14 +146,14 @@ pub fn skip_if(code: &[u8], at: usize) -> Result<usize, Halt>
     skip(Sought::ElseOrEif, code, at, Why::IfOpen)
 }
 
-/// Of an ELSE at `at` that is come to: the place after its EIF. Errors: CodeShort at an instruction whose data passes
-/// the end, IfOpen at `at`.
-// Out of line, so that it takes no registers from the loop that runs a program.
+/// For an ELSE at `at` that is reached: the offset after its EIF. Errors: CodeShort at an instruction whose data
+/// passes the end, IfOpen at `at`.
+// Not inlined, so that it takes no registers from the loop that runs a program.
 #[inline(never)]
 pub fn skip_else(code: &[u8], at: usize) -> Result<usize, Halt>
     requires { at < length code.now }
     ensures exact { Gives (λ j. j) result (else_end code.now at) }
-    // It is the least place that is reached where an EIF stands and all inner IFs are closed.
+    // The end is the least reached place with an EIF where all inner IFs are closed.
     ensures least { IsSkip sought.Eif code.now at Why.IfOpen result }
     ensures after { IfOk result (λ j. at < j) }
     ensures within { IfOk result (λ j. j ≤ length code.now) }
@@ -162,12 +163,12 @@ pub fn skip_else(code: &[u8], at: usize) -> Result<usize, Halt>
     skip(Sought::Eif, code, at, Why::IfOpen)
 }
 
-/// Of an FDEF at `at`: the place after the first ENDF. Errors: CodeShort at an instruction whose data passes the end,
-/// NoEndf at `at`.
+/// For an FDEF at `at`: the offset after the first ENDF. Errors: CodeShort at an instruction whose data passes the
+/// end, NoEndf at `at`.
 pub fn skip_def(code: &[u8], at: usize) -> Result<usize, Halt>
     requires { at < length code.now }
     ensures exact { Gives (λ j. j) result (definition_end code.now at) }
-    // It is the least place that is reached where an ENDF stands.
+    // The end is the least reached place with an ENDF.
     ensures least { IsSkip sought.Endf code.now at Why.NoEndf result }
     ensures after { IfOk result (λ j. at < j) }
     ensures within { IfOk result (λ j. j ≤ length code.now) }
