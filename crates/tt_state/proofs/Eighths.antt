@@ -2,7 +2,7 @@ use Rattle.std.proofs.Common.{ℕ, ◌*◌, ◌<◌, ◌≤◌, pos, ◌+ℤ◌,
 use Rattle.std.proofs.lemmas.Int.{ints}
 use Rattle.tt_core.specs.Products.{mul_diff}
 
--- n - 4 times a number lies between -4 times and 12 times that number, for an n below 16
+-- n - 4 times a number is between -4 times and 12 times that number, for an n below 16
 pub eighths_low : (e n : ℕ) → pos 0 ≤ℤ (pos e *ℤ (pos n -ℤ pos 4) +ℤ pos (4 * e))
 eighths_low e n = let spread = mul_diff (pos e) (pos n) (pos 4) in omega (arith, ints)
 

@@ -1,4 +1,4 @@
--- Along an axis a place reaches as far as its coordinate; what a sum in 2.14 is without these 14 bits.
+-- On an axis, the distance of a place is its coordinate, and a sum in 2.14 loses its 14 bits exactly.
 use Rattle.std.proofs.Common.{◌≡◌, ◌+◌, ◌*◌, ◌≤◌, ℤ, pos, ◌+ℤ◌, ◌*ℤ◌, unsigned_abs, arith}
 use Rattle.std.proofs.lemmas.Int.{ints}
 use Rattle.tt_core.specs.Numbers.{rounded_quotient}

@@ -1,4 +1,4 @@
--- Which vector has which parts.
+-- The parts of vectors.
 use Rattle.std.proofs.Common.{◌≡◌, Bool, true, false, ◌&&◌, if◌then◌else◌, ℤ, pos, int_eq, ap, ◌∙◌, sym, refl}
 use Rattle.std.proofs.lemmas.Bool.{and_parts, false_from_ne_true}
 use Rattle.std.proofs.lemmas.Bool.Decides.{Decides-int_eq}

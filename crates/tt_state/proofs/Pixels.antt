@@ -1,11 +1,11 @@
--- By the grid of a pixel nothing is cut.
+-- With the grid of a pixel nothing is cut.
 use Rattle.std.proofs.Common.{◌≡◌, ℕ, ◌-◌, ◌*◌, ◌/◌, ◌%◌, ◌==◌, if◌then◌else◌, Bool, true, false, ℤ, pos, ◌-ℤ◌, ◌*ℤ◌, refl, arith}
 use Rattle.std.proofs.lemmas.Int.{ints}
 use Rattle.std.specs.Int.{int_div_euclid}
 use Rattle.tt_state.specs.Sround.{Super}
 use Rattle.tt_state.specs.Laws.{PixelsAreWhole}
 
--- the phase by a period of half a pixel, a pixel, two pixels
+-- the phase for a period of half a pixel, a pixel or two pixels
 half_quarters : (k : ℕ) → 8192 * k / 4 / 256 ≡ 8 * k
 half_quarters k = omega arith
 
@@ -15,7 +15,7 @@ quarters k = omega arith
 double_quarters : (k : ℕ) → 32768 * k / 4 / 256 ≡ 32 * k
 double_quarters k = omega arith
 
--- the threshold by such a period
+-- the threshold for such a period
 half_eighths : (d : ℤ) → int_div_euclid (pos 8192 *ℤ d) (pos 2048) ≡ pos 4 *ℤ d
 half_eighths d = grind (arith, ints)
 
@@ -25,7 +25,7 @@ eighths d = grind (arith, ints)
 double_eighths : (d : ℤ) → int_div_euclid (pos 32768 *ℤ d) (pos 2048) ≡ pos 16 *ℤ d
 double_eighths d = grind (arith, ints)
 
--- by what the tests of the byte answer: whether bits 7 and 6 are 0, whether they are 2, whether bits 3 to 0 are 0
+-- by the tests of the byte: whether bits 7 and 6 are 0, whether they are 2, and whether bits 3 to 0 are 0
 by_tests : (zero two none : Bool) (k : ℕ) (d : ℤ) →
     let fine : ℕ = if zero then 8192 else (if two then 32768 else 16384) in
     let whole : ℕ = if zero then 32 else (if two then 128 else 64) in

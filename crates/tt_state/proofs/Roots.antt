@@ -1,4 +1,4 @@
--- The root of a whole number, cut, is the greatest whole number whose square is not above it.
+-- The root of a whole number, cut, is the greatest whole number whose square is at most that number.
 use Rattle.std.proofs.Common.{◌≡◌, ℕ, zero, suc, ◌+◌, ◌*◌, ◌/◌, ◌%◌, ◌^◌, ◌<◌, ◌≤◌, Bool, true, false, cond, leb, inl, inr, sym, refl, arith}
 use Rattle.std.proofs.lemmas.Bool.{leb-true, leb-false, cases_lt}
 use Rattle.std.proofs.lemmas.Nat.{mul-le}
@@ -19,7 +19,7 @@ unfolding root
 root_is zero n small = record { low = omega arith; high = omega arith }
 root_is (suc k) n small = digit (root k (n / 4)) n _ (root_is k (n / 4) (omega (arith, pow-suc 4 k))) refl
 
--- a number whose square is not above n is at most one whose next square is
+-- if the square of b is at most n, and the square of a + 1 is above n, then b is at most a
 pub at_most : (a b n : ℕ) → b * b ≤ n → n < (a + 1) * (a + 1) → b ≤ a
 at_most a b n low high =
     elim (cases_lt a b) [
@@ -33,14 +33,14 @@ pub one_root : (a b n : ℕ) → a * a ≤ n → n < (a + 1) * (a + 1) → IsRoo
 one_root a b n low high is =
     omega (arith, at_most a b n is.low high, at_most b a n low is.high)
 
--- a quotient, and a bound of it times the divisor
+-- a quotient is at least a if a times the divisor is at most the number, and likewise above
 pub quotient_low : (n l a : ℕ) → 0 < l → a ≤ n / l → a * l ≤ n
 quotient_low n l a some h = grind arith
 
 pub quotient_high : (n l a : ℕ) → 0 < l → n / l < a → n < a * l
 quotient_high n l a some h = grind arith
 
--- 16384 n / l in two divisions, neither of a number above n or 16384 l
+-- 16384 n / l by two divisions, of numbers at most n or 16384 l
 pub two_divisions : (n l : ℕ) → 0 < l → n / l * 16384 + n % l * 16384 / l ≡ n * 16384 / l
 two_divisions n l some =
     let whole : n * 16384 ≡ n / l * 16384 * l + n % l * 16384 = omega (arith, div-add-mod' n l) in

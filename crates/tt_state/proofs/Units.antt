@@ -1,4 +1,4 @@
--- What the parts of a unit vector meet.
+-- The ranges of a unit vector's parts.
 use Rattle.std.proofs.Common.{◌≡◌, ℕ, zero, suc, ◌+◌, ◌*◌, ◌/◌, ◌^◌, ◌<◌, ◌≤◌, Bool, true, false, max, eqb, if◌then◌else◌, ℤ, pos, neg_ℤ, unsigned_abs, inl, inr, refl, arith}
 use Rattle.std.specs.Prelude.{int_lt}
 use Rattle.std.proofs.lemmas.Bool.{cases_lt, ne_eqb}
@@ -33,7 +33,7 @@ magnitude_is s l some within =
 pub part_is : (v : ℤ) (l : ℕ) → 0 < l → square v ≤ l → IsGreatest (unsigned_abs (part v l)) (square v) l
 part_is v l some within = rw (part_abs v l) (magnitude_is (square v) l some within)
 
--- of two such parts, whose squares are s and t: the length is not above 1, and the greater is at least half the root of 2
+-- two parts from the squares s and t: the length is at most 1, and the greater part at least half the root of 2
 short : (a b s t : ℕ) → 0 < s + t → a * a * (s + t) ≤ 2 ^ 28 * s → b * b * (s + t) ≤ 2 ^ 28 * t → a * a + b * b ≤ 2 ^ 28
 short a b s t some p q =
     let sum : (s + t) * (a * a + b * b) ≤ (s + t) * 2 ^ 28 = omega (arith, p, q) in
@@ -76,7 +76,7 @@ parts_are x y some =
       long = longer a b (square x) (square y) across.high upward.high;
     }
 
--- the vector that has no direction, and each other one
+-- the vector without a direction, and any other vector
 pub unit_nowhere : (x y : ℤ) → square x + square y ≡ 0 → vector.X ≡ vector_of (unit x y)
 unfolding unit vector_of
 unit_nowhere x y none = rw none refl

@@ -1,5 +1,5 @@
--- Apple TrueType Reference Manual, "Graphics State" (projection vector, freedom vector, dual projection vector): a
--- vector by its parts.
+-- Apple TrueType Reference Manual, "Graphics State" (projection vector, freedom vector, dual projection vector): the
+-- parts of a vector.
 use Rattle.std.specs.Prelude.{◌&&◌, if◌then◌else◌, pos}
 use Rattle.std.specs.Ordering.{int_eq}
 use Rattle.tt_state.specs.Vectors.{Pair, pair}

@@ -6,7 +6,7 @@ use Rattle.tt_state.specs.declared.graphics_state.ScanControl.{ScanControl}
 use Rattle.tt_state.specs.declared.rounding.Round.TheVariants as round
 use Rattle.tt_state.specs.declared.vector.Vector.TheVariants as vector
 
--- no dropouts are filled where no program asks for it
+-- dropouts are not filled unless a program requests it
 abbrev pub default_scan : ScanControl
 default_scan = record { on = false; scan_type = 0 }
 
@@ -35,6 +35,6 @@ default_of whole = record {
   whole = whole;
 }
 
--- those of a machine without the whole instruction set
+-- the defaults of a machine without the whole instruction set
 abbrev pub default_state : GraphicsState
 default_state = default_of false

@@ -1,4 +1,4 @@
--- No part of the standard: what a strict machine gives a tolerant one gives too, unless it is a refusal that tolerance
+-- Not from the standard: a tolerant machine gives the result of a strict one, unless that is a refusal that tolerance
 -- lifts.
 use Rattle.std.specs.Bool.{⊤}
 use Rattle.std.proofs.Common.{◌≡◌, Bool, true, false, ◌||◌, if◌then◌else◌, Result, Ok, Err, refl}
@@ -8,17 +8,17 @@ use Rattle.tt_core.specs.declared.fault.Why.TheVariants as why
 use Rattle.tt_state.specs.Tolerance.{is_missing, unless_missing}
 use Rattle.tt_state.specs.declared.tolerance.Tolerance.TheVariants as tolerance
 
--- too few values on the stack, and arguments of which the low byte counts, or none
+-- refusals about stack values: too few of them, or an argument that a tolerant machine cuts to its low byte or ignores
 abbrev pub is_of_values : Why → Bool
 is_of_values why.StackShort = true
 is_of_values why.BadArgument = true
 is_of_values _ = false
 
--- the refusals that a tolerant machine has not, or not of every instruction
+-- the refusals that a tolerant machine lacks, at all instructions or at some
 abbrev pub is_lifted : Why → Bool
 is_lifted why = is_missing why || is_of_values why
 
--- two answers, of a strict machine and of a tolerant one: the second is the first, or its refusal
+-- the results of a strict machine and of a tolerant one: they are equal, unless the first is a lifted refusal
 abbrev pub Loosens : {A : Type 0} → Result A Why → Result A Why → Type 0
 Loosens (Ok a) loose = loose ≡ Ok a
 Loosens (Err e) loose = is_lifted e ≡ false → loose ≡ Err e
@@ -27,7 +27,7 @@ pub same : {A : Type 0} (r : Result A Why) → Loosens r r
 same (Ok a) = refl
 same (Err e) = λ other. refl
 
--- one answer after another
+-- one result after another
 pub chained : {A B : Type 0} (r loose : Result A Why) (f g : A → Result B Why)
     → Loosens r loose → ((a : A) → Loosens (f a) (g a)) → Loosens (r >>= f) (loose >>= g)
 chained (Ok a) loose f g stays next = rw stays (next a)
@@ -42,7 +42,7 @@ not_missing : (missing of_values : Bool) → (missing || of_values) ≡ false �
 not_missing false of_values other = refl
 not_missing true of_values other = absurd cc
 
--- an answer beside the same one, or another where something is not there
+-- a loosened result stays so if missing items are passed over
 pub passed_over : {A : Type 0} (instead : A) (r loose : Result A Why) → Loosens r loose
     → Loosens r (unless_missing tolerance.Tolerant instead loose)
 passed_over instead (Ok a) loose stays = rw stays refl
@@ -55,7 +55,7 @@ pub strict : {A : Type 0} (instead : A) (r : Result A Why) → unless_missing to
 strict instead (Ok a) = refl
 strict instead (Err e) = refl
 
--- the refusals that a tolerant machine never has, where the values that an instruction takes are there
+-- the refusals that a tolerant machine never has if the instruction's values exist
 abbrev pub is_short : Why → Bool
 is_short why.StackShort = true
 is_short _ = false
@@ -67,7 +67,7 @@ abbrev pub IsTotal : {A : Type 0} → Result A Why → Type 0
 IsTotal (Ok a) = ⊤
 IsTotal (Err e) = is_never e ≡ false
 
--- one total answer after another
+-- one total result after another
 pub total_after : {A B : Type 0} (r : Result A Why) (f : A → Result B Why)
     → IsTotal r → ((a : A) → IsTotal (f a)) → IsTotal (r >>= f)
 total_after (Ok a) f total next = next a
@@ -77,7 +77,7 @@ not_never : (missing short : Bool) → missing ≡ false → short ≡ false →
 not_never false short there enough = enough
 not_never true short there enough = absurd cc
 
--- an answer that is not short of values, or another where something is not there
+-- a result that is no shortage of values; passing over missing items makes it total
 abbrev pub Enough : {A : Type 0} → Result A Why → Type 0
 Enough (Ok a) = ⊤
 Enough (Err e) = is_short e ≡ false

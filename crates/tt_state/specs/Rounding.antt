@@ -5,7 +5,7 @@ use Rattle.tt_state.specs.declared.rounding.Round.{Round}
 use Rattle.tt_state.specs.declared.rounding.Round.TheVariants as round
 use Rattle.tt_state.specs.Sround.{cut_to, a_pixel, half_a_diagonal, super_of, rounded_by}
 
--- a magnitude rounded
+-- a rounded magnitude
 abbrev pub rounded_magnitude : Round → ℤ → ℤ
 rounded_magnitude round.Grid m = cut_to 64 (m +ℤ pos 32)
 rounded_magnitude round.Half m = cut_to 64 m +ℤ pos 32
@@ -15,16 +15,16 @@ rounded_magnitude round.Up m = cut_to 64 (m +ℤ pos 63)
 rounded_magnitude round.Off m = m
 rounded_magnitude (round.Super s) m = rounded_by s m
 
--- a distance rounded: its magnitude is, and it keeps its sign, 0 being positive
+-- a rounded distance: the rounded magnitude with the distance's sign; 0 counts as positive
 abbrev pub rounded : Round → ℤ → ℤ
 rounded state v =
     if int_lt v (pos 0) then neg_ℤ (rounded_magnitude state (neg_ℤ v)) else rounded_magnitude state v
 
--- the state that SROUND sets by a byte
+-- the state that a byte sets with SROUND
 abbrev pub super_state : ℕ → Round
 super_state byte = round.Super (super_of a_pixel byte)
 
--- the state that S45ROUND sets by a byte
+-- the state that a byte sets with S45ROUND
 abbrev pub super_state_at_45 : ℕ → Round
 super_state_at_45 byte = round.Super (super_of half_a_diagonal byte)
 

@@ -1,5 +1,5 @@
 -- Apple TrueType Reference Manual, "Instruction Set" (SROUND, S45ROUND): one rule, by the period of a grid. Distances
--- are in 26.6 pixels, but a grid period and what is called fine in 2.14.
+-- are in 26.6 pixels; a grid period and any `fine` are in 2.14.
 use Rattle.std.specs.Prelude.{◌≡◌, ℕ, ◌+◌, ◌-◌, ◌*◌, ◌/◌, ◌%◌, ◌<◌, ◌≤◌, ◌==◌, nat_le, true, false, if◌then◌else◌, ℤ, pos, negsuc, ◌+ℤ◌, ◌-ℤ◌, ◌*ℤ◌, ◌≤ℤ◌, int_lt, refl}
 use Rattle.std.specs.Int.{int_div_euclid, int_rem_euclid}
 use Rattle.tt_state.specs.declared.sround.GridPeriod.{GridPeriod}
@@ -9,7 +9,7 @@ use Rattle.tt_state.specs.declared.sround.GridPeriod.TheVariants as grid_period
 abbrev pub a_pixel : ℕ
 a_pixel = 16384
 
--- the grid period of S45ROUND, half the root of 2: cut (profile)
+-- the grid period of S45ROUND: half the root of 2, cut (profile)
 abbrev pub half_a_diagonal : ℕ
 half_a_diagonal = 11585
 
@@ -17,13 +17,13 @@ abbrev pub length_of : GridPeriod → ℕ
 length_of grid_period.Pixel = a_pixel
 length_of grid_period.HalfDiagonal = half_a_diagonal
 
--- what SROUND and S45ROUND set
+-- a state of SROUND or S45ROUND
 pub record Super : Type 0 where
   pub period : ℕ
   pub phase : ℕ
   pub threshold : ℤ
 
--- what each such state meets
+-- the ranges of such a state
 pub record IsSuper (period phase : ℕ) (threshold : ℤ) : Type 0 where
   pub some : 22 ≤ period
   pub few : period ≤ 128
@@ -31,11 +31,11 @@ pub record IsSuper (period phase : ℕ) (threshold : ℤ) : Type 0 where
   pub low : pos 0 ≤ℤ (threshold +ℤ pos period)
   pub high : threshold ≤ℤ pos (2 * period)
 
--- the greatest multiple of k that is not above n
+-- the greatest multiple of k that is at most n
 abbrev pub cut_to : ℕ → ℤ → ℤ
 cut_to k n = n -ℤ int_rem_euclid n (pos k)
 
--- bits 7 and 6 of the byte; their fourth code counts as the second (profile)
+-- bits 7 and 6 of the byte; the fourth code counts as the second (profile)
 abbrev pub fine_period_of : ℕ → ℕ → ℕ
 fine_period_of grid byte = if byte / 64 == 0 then grid / 2 else (if byte / 64 == 2 then 2 * grid else grid)
 
@@ -46,19 +46,19 @@ period_of fine = fine / 256
 abbrev pub phase_of : ℕ → ℕ → ℕ
 phase_of fine byte = fine * (byte / 16 % 4) / 4 / 256
 
--- bits 3 to 0: 0 is one less than the period, any other n is n - 4 eighths of it, rounded down
+-- bits 3 to 0: for 0, the period less one; for any other n, n - 4 eighths of the period, rounded down
 abbrev pub threshold_of : ℕ → ℕ → ℤ
 threshold_of fine byte =
     if byte % 16 == 0 then pos (period_of fine - 1)
     else int_div_euclid (pos fine *ℤ (pos (byte % 16) -ℤ pos 4)) (pos 2048)
 
--- the state that a byte sets, by a grid period
+-- the state set by a byte, with a grid period
 abbrev pub super_of : ℕ → ℕ → Super
 super_of grid byte =
     let fine = fine_period_of grid byte in
     record { period = period_of fine; phase = phase_of fine byte; threshold = threshold_of fine byte }
 
--- a magnitude rounded: the phase where it would be below 0
+-- a rounded magnitude, or the phase if the result would be below 0
 abbrev pub rounded_by : Super → ℤ → ℤ
 rounded_by s m =
     let rounded = cut_to s.period ((m -ℤ pos s.phase) +ℤ s.threshold) +ℤ pos s.phase in

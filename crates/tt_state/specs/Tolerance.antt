@@ -1,12 +1,12 @@
--- No part of the standard: which refusals a tolerant machine passes over, and what it leaves then (profile). The
--- established interpreters go on there, and real fonts count on it.
+-- Not from the standard: the refusals that a tolerant machine passes over, and its results then (profile). Established
+-- interpreters continue there, and real fonts rely on that.
 use Rattle.std.specs.Prelude.{◌≡◌, Bool, true, false, if◌then◌else◌, ℕ, Result, Ok, Err, refl}
 use Rattle.tt_core.specs.declared.fault.Why.{Why}
 use Rattle.tt_core.specs.declared.fault.Why.TheVariants as why
 use Rattle.tt_state.specs.declared.tolerance.Tolerance.{Tolerance}
 use Rattle.tt_state.specs.declared.tolerance.Tolerance.TheVariants as tolerance
 
--- the refusals of something that is not there
+-- the refusals for missing items
 abbrev pub is_missing : Why → Bool
 is_missing why.PointRange = true
 is_missing why.ContourRange = true
@@ -23,7 +23,7 @@ abbrev pub passes_over : Tolerance → Why → Bool
 passes_over tolerance.Strict why = false
 passes_over tolerance.Tolerant why = is_missing why
 
--- an answer, or this one in the place of a refusal that is passed over
+-- a result, or `instead` for a refusal that is passed over
 abbrev pub unless_missing : {A : Type 0} → Tolerance → A → Result A Why → Result A Why
 unless_missing t instead (Ok a) = Ok a
 unless_missing t instead (Err why) = if passes_over t why then Ok instead else Err why

@@ -1,6 +1,6 @@
 -- Apple TrueType Reference Manual, "Graphics State" (projection vector, freedom vector, dual projection vector) and
--- "Instruction Set" (SPVTL, SFVTL, SDPVTL, SPVFS, SFVFS). Coordinates and distances are in 26.6 pixels; the parts of a
--- unit vector are in 2.14, in which 16384 is 1.
+-- "Instruction Set" (SPVTL, SFVTL, SDPVTL, SPVFS, SFVFS). Coordinates and distances are in 26.6 pixels. The parts of a
+-- unit vector are in 2.14: 16384 is 1.
 use Rattle.std.specs.Prelude.{◌≡◌, ℕ, zero, suc, ◌+◌, ◌*◌, ◌/◌, ◌^◌, ◌≤◌, ◌==◌, nat_lt, nat_le, max, Bool, true, false, if◌then◌else◌, ℤ, pos, negsuc, ◌+ℤ◌, ◌-ℤ◌, ◌*ℤ◌, neg_ℤ, int_lt, unsigned_abs, refl}
 use Rattle.tt_core.specs.Numbers.{rounded_quotient}
 
@@ -12,14 +12,15 @@ pub record Pair : Type 0 where
 abbrev pub pair : ℤ → ℤ → Pair
 pair x y = record { x = x; y = y }
 
--- what each unit vector meets: neither a part nor the length is above 1, and a part is at least half the root of 2
+-- the ranges of a unit vector: neither a part nor the length is above 1, and the greater part is at least half the root
+-- of 2
 pub record IsUnit (x y : ℤ) : Type 0 where
   pub across : unsigned_abs x ≤ 16384
   pub upward : unsigned_abs y ≤ 16384
   pub short : unsigned_abs x * unsigned_abs x + unsigned_abs y * unsigned_abs y ≤ 2 ^ 28
   pub long : 11585 ≤ max (unsigned_abs x) (unsigned_abs y)
 
--- the greatest whole number whose square is not above n, for an n below 4 ^ k: that of n / 4, and one more binary digit
+-- the greatest whole number whose square is at most n, for an n below 4 ^ k: that of n / 4, and one more binary digit
 unfoldable pub root : ℕ → ℕ → ℕ
 root zero n = 0
 root (suc k) n = let r = 2 * root k (n / 4) in if nat_le ((r + 1) * (r + 1)) n then r + 1 else r
@@ -27,35 +28,35 @@ root (suc k) n = let r = 2 * root k (n / 4) in if nat_le ((r + 1) * (r + 1)) n t
 abbrev pub square : ℤ → ℕ
 square v = unsigned_abs v * unsigned_abs v
 
--- what a part is in magnitude, whose square was s in a vector whose length squared was l: 16384 root s / root l, cut
--- (profile)
+-- the magnitude of a part with square s, in a vector with squared length l: 16384 root s / root l, cut (profile)
 abbrev pub magnitude : ℕ → ℕ → ℕ
 magnitude s l = root 15 (2 ^ 28 * s / l)
 
 abbrev pub part : ℤ → ℕ → ℤ
 part v l = if int_lt v (pos 0) then neg_ℤ (pos (magnitude (square v) l)) else pos (magnitude (square v) l)
 
--- the unit vector of a direction; the x axis where there is none (profile)
+-- the unit vector of a direction, or the x axis if there is no direction (profile)
 unfoldable pub unit : ℤ → ℤ → Pair
 unit x y =
     let l = square x + square y in
     if l == 0 then pair (pos 16384) (pos 0) else pair (part x l) (part y l)
 
--- the unit vector of a line from a place to another, or turned a quarter to the left; the x axis, turned or not, where
--- the places are one (profile)
+-- the unit vector of a line from one place to another, or that vector turned left by a quarter turn; if the places are
+-- equal, the x axis, turned or not (profile)
 abbrev pub line : Pair → Pair → Bool → Pair
 line from to turned =
     if turned then unit (neg_ℤ (to.y -ℤ from.y)) (to.x -ℤ from.x) else unit (to.x -ℤ from.x) (to.y -ℤ from.y)
 
--- how far a place reaches along a unit vector: the sum is rounded, once (profile)
+-- the distance of a place along a unit vector; the sum is rounded once (profile)
 unfoldable pub project : Pair → ℤ → ℤ → ℤ
 project v x y = rounded_quotient (x *ℤ v.x +ℤ y *ℤ v.y) (pos 16384)
 
--- how far along each axis a distance along a unit vector goes
+-- the distances along each axis of a distance along a unit vector
 unfoldable pub along : Pair → ℤ → Pair
 along v d = pair (rounded_quotient (d *ℤ v.x) (pos 16384)) (rounded_quotient (d *ℤ v.y) (pos 16384))
 
--- how far the freedom vector reaches along the projection vector, in 2.14; below a sixteenth it counts as 1 (profile)
+-- the length of the freedom vector along the projection vector, in 2.14; a magnitude below a sixteenth counts as 1
+-- (profile)
 abbrev pub counted : ℤ → ℤ
 counted whole = if nat_lt (unsigned_abs whole) 1024 then pos 16384 else whole
 

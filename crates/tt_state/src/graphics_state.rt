@@ -13,32 +13,32 @@ pub enum Axis {
     Y,
 }
 
-/// A set of points: zone 0 has those that programs make up, zone 1 the glyph's.
+/// A set of points: zone 0 for points that programs make, zone 1 for the glyph's points.
 #[derive(Clone, Copy, Debug, PartialEq, Eq)]
 pub enum Zone {
     Twilight,
     Glyph,
 }
 
-/// What programs ask for where a glyph's outline passes between the centers of pixels.
+/// A program's request for dropouts: places where a glyph's outline passes between the centers of pixels.
 #[derive(Clone, Copy, Debug, PartialEq, Eq)]
 pub struct ScanControl {
-    /// Whether dropouts are filled at all.
+    /// Whether dropouts are filled.
     pub on: bool,
-    /// By which rules they are filled; any number that SCANTYPE was given.
+    /// The rules for filling dropouts: any number given to SCANTYPE.
     pub scan_type: u16,
 }
 
 /// The state variables that instructions read and set. Distances are in 26.6 pixels.
 #[derive(Clone, Copy, Debug, PartialEq, Eq)]
 pub struct GraphicsState {
-    /// The projection vector: where points stand is measured along it.
+    /// The projection vector. Current positions of points are measured along it.
     pub proj: Vector,
-    /// The dual projection vector: where points stood before the program is measured along it.
+    /// The dual projection vector. Positions before the program are measured along it.
     pub dual: Vector,
-    /// The freedom vector: points move along it.
+    /// The freedom vector. Points move along it.
     pub free: Vector,
-    /// The reference points, by number; tested against their zones where they are used.
+    /// The reference points, by number. They are tested against their zones when they are used.
     pub rp0: i32,
     pub rp1: i32,
     pub rp2: i32,
@@ -46,7 +46,7 @@ pub struct GraphicsState {
     pub zp0: Zone,
     pub zp1: Zone,
     pub zp2: Zone,
-    /// How many points the next instruction that loops works on.
+    /// The number of points for the next instruction that loops.
     pub loops: u32,
     pub round: Round,
     pub min_distance: i32,
@@ -57,18 +57,18 @@ pub struct GraphicsState {
     /// The single-width cut-in.
     pub single_cut_in: i32,
     pub auto_flip: bool,
-    /// The size, in pixels per em, from which delta instructions count.
+    /// The size, in pixels per em, at which delta instructions begin.
     pub delta_base: i32,
-    /// Into how many parts a pixel is cut by a delta, as a power of 2; SDS sets 0 to 6.
+    /// The binary logarithm of the number of parts of a pixel in deltas. SDS sets 0 to 6.
     pub delta_shift: u32,
-    /// Read by no instruction: it tells how a glyph is filled.
+    /// How a glyph is filled. No instruction reads this field.
     pub scan: ScanControl,
-    /// Whether the whole instruction set is there, with vectors off the axes. No instruction sets it.
+    /// Whether the whole instruction set is supported, with vectors off the axes. No instruction sets this field.
     pub whole: bool,
 }
 
 impl GraphicsState {
-    /// The defaults, with which a font program starts.
+    /// The defaults at the start of a font program.
     pub fn new(whole: bool) -> GraphicsState
         ensures { result ≡ default_of whole }
     {

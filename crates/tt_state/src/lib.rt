@@ -1,5 +1,4 @@
-//! The state of the TrueType interpreter: the graphics state, how it rounds, unit vectors, and a point as programs see
-//! it.
+//! The state of the TrueType interpreter: graphics state, rounding, unit vectors, and points as programs see them.
 #![tactic(auto)]
 
 mod graphics_state;

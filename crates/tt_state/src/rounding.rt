@@ -6,7 +6,7 @@ ghost use Rattle.tt_state.specs.Rounding.{super_state, super_state_at_45, rounde
 
 use crate::sround::{GridPeriod, Super, cut};
 
-/// The round state: how the instructions that round do it.
+/// The round state: how instructions round.
 #[derive(Clone, Copy, Debug, PartialEq, Eq)]
 pub enum Round {
     /// RTG: to the nearest whole pixel.
@@ -26,21 +26,21 @@ pub enum Round {
 }
 
 impl Round {
-    /// The state that SROUND sets by the low byte of what it pops.
+    /// The state set by SROUND, from the low byte of the popped value.
     pub fn from_byte(byte: u8) -> Round
         ensures { result ≡ super_state byte }
     {
         Round::Super(Super::from_byte(GridPeriod::Pixel, byte))
     }
 
-    /// The state that S45ROUND sets by the low byte of what it pops.
+    /// The state set by S45ROUND, from the low byte of the popped value.
     pub fn from_byte_at_45(byte: u8) -> Round
         ensures { result ≡ super_state_at_45 byte }
     {
         Round::Super(Super::from_byte(GridPeriod::HalfDiagonal, byte))
     }
 
-    /// A magnitude rounded.
+    /// A rounded magnitude.
     fn rounded_magnitude(&self, m: i64) -> i64
         requires small { unsigned_abs m < 2 ^ 41 }
         requires sign { pos 0 ≤ℤ m }
@@ -59,7 +59,7 @@ impl Round {
         }
     }
 
-    /// A distance in 26.6 pixels rounded: its magnitude is, and it keeps its sign.
+    /// A rounded distance in 26.6 pixels: the rounded magnitude with the distance's sign.
     pub fn round(&self, v: i64) -> i64
         requires { unsigned_abs v < 2 ^ 40 }
         ensures exact { result ≡ rounded self.now v }

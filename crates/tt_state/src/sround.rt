@@ -1,11 +1,11 @@
-//! What SROUND and S45ROUND set. Apple TrueType Reference Manual, "Instruction Set" (SROUND, S45ROUND).
+//! The states of SROUND and S45ROUND. Apple TrueType Reference Manual, "Instruction Set" (SROUND, S45ROUND).
 
 ghost use Rattle.std.specs.Prelude.{◌≡◌, ◌+◌, ◌*◌, ◌^◌, ◌<◌, ◌≤◌, pos, ◌+ℤ◌, ◌-ℤ◌, ◌*ℤ◌, ◌<ℤ◌, ◌≤ℤ◌, unsigned_abs};
 ghost use Rattle.tt_state.specs.Sround.{a_pixel, half_a_diagonal, length_of, cut_to, fine_period_of, period_of, phase_of, threshold_of, super_of, rounded_by};
 
 use std::marker::Model;
 
-/// How far apart the lines of a grid stand that SROUND and S45ROUND round to.
+/// The distance between the grid lines of SROUND and S45ROUND.
 #[derive(Clone, Copy)]
 pub(crate) enum GridPeriod {
     /// SROUND's: one pixel.
@@ -15,7 +15,7 @@ pub(crate) enum GridPeriod {
 }
 
 impl GridPeriod {
-    /// In 2.14 pixels; half the root of 2 is cut (profile).
+    /// The distance in 2.14 pixels. Half the root of 2 is cut (profile).
     fn length(self) -> u32
         ensures exact { result ≡ length_of self }
         ensures low { half_a_diagonal ≤ result }
@@ -28,9 +28,9 @@ impl GridPeriod {
     }
 }
 
-/// The round state of SROUND and S45ROUND, in 26.6 pixels: the distance between the magnitudes that rounding gives,
-/// the least of them, and what is added to a magnitude before it is cut. It is made of a byte and one of two grids
-/// alone, so its period is 22 to 128.
+/// The round state of SROUND and S45ROUND, in 26.6 pixels. `period` is the distance between rounded magnitudes, and
+/// `phase` is the least of them. `threshold` is added to a magnitude before it is cut. A state comes from a byte and
+/// one of two grids, so its period is 22 to 128.
 #[derive(Clone, Copy, Debug, PartialEq, Eq)]
 pub struct Super {
     period: u32,
@@ -50,7 +50,7 @@ impl Model for Super {
     ghost inverse = { λ s. record { period = s.period; phase = s.phase; threshold = s.threshold } };
 }
 
-/// The greatest multiple of `k` that is not above `n`.
+/// The greatest multiple of `k` that is at most `n`.
 pub(crate) fn cut(n: i64, k: u32) -> i64
     requires positive { 0 < k }
     requires small { unsigned_abs n < 2 ^ 42 }
@@ -61,7 +61,7 @@ pub(crate) fn cut(n: i64, k: u32) -> i64
     n - n.rem_euclid(i64::from(k))
 }
 
-/// Bits 7 and 6 of the byte: the period in 2.14 pixels. Their fourth code, which the standard keeps back, counts as the
+/// The period in 2.14 pixels, from bits 7 and 6 of the byte. The fourth code, reserved in the standard, counts as the
 /// second (profile).
 fn fine_period_of(grid: u32, byte: u8) -> u32
     requires low { half_a_diagonal ≤ grid }
@@ -77,7 +77,7 @@ fn fine_period_of(grid: u32, byte: u8) -> u32
     }
 }
 
-/// Bits 5 and 4: quarters of the period, which is given in 2.14 pixels.
+/// The phase, from bits 5 and 4: quarters of the period `fine`, which is in 2.14 pixels.
 fn phase_of(fine: u32, byte: u8) -> u32
     requires low { 5792 ≤ fine }
     requires high { fine ≤ 32768 }
@@ -98,8 +98,8 @@ fn eighths(fine: u32, n: u8) -> i32
     fine as i32 * (i32::from(n) - 4)
 }
 
-/// Bits 3 to 0: 0 is one less than the period, any other n is n - 4 eighths of it, rounded down. The period is given in
-/// 2.14 pixels.
+/// The threshold, from bits 3 to 0: for 0 it is the period less one; for any other n it is n - 4 eighths of the
+/// period, rounded down. `fine` is the period in 2.14 pixels.
 fn threshold_of(fine: u32, byte: u8) -> i32
     requires low { 5792 ≤ fine }
     requires high { fine ≤ 32768 }
@@ -116,7 +116,7 @@ fn threshold_of(fine: u32, byte: u8) -> i32
 }
 
 impl Super {
-    /// The state that a byte sets by a grid: SROUND's and S45ROUND's, by the low byte of what they pop.
+    /// The state set by a byte on a grid. SROUND and S45ROUND use the low byte of the popped value.
     pub(crate) fn from_byte(grid: GridPeriod, byte: u8) -> Super
         ensures { result ≡ super_of (length_of grid) byte }
     {
@@ -139,7 +139,7 @@ impl Super {
         m - i64::from(self.phase) + i64::from(self.threshold)
     }
 
-    /// A magnitude rounded: the phase where it would be below 0.
+    /// A rounded magnitude, or the phase if the result would be below 0.
     pub(crate) fn rounded(&self, m: i64) -> i64
         requires small { unsigned_abs m < 2 ^ 41 }
         requires sign { pos 0 ≤ℤ m }
@@ -152,22 +152,21 @@ impl Super {
         if rounded < 0 { phase } else { rounded }
     }
 
-    /// The distance between the magnitudes that rounding gives, in 26.6 pixels. The agreed interface has this, `phase`
-    /// and `threshold`; tests alone call them.
+    /// The distance between rounded magnitudes, in 26.6 pixels. Only tests call this, `phase` and `threshold`.
     pub fn period(&self) -> u32
         ensures { result ≡ self.now.period }
     {
         self.period
     }
 
-    /// The least magnitude that rounding gives, in 26.6 pixels.
+    /// The least rounded magnitude, in 26.6 pixels.
     pub fn phase(&self) -> u32
         ensures { result ≡ self.now.phase }
     {
         self.phase
     }
 
-    /// What is added to a magnitude before it is cut, in 26.6 pixels.
+    /// The number added to a magnitude before it is cut, in 26.6 pixels.
     pub fn threshold(&self) -> i32
         ensures { result ≡ self.now.threshold }
     {

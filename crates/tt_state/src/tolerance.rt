@@ -1,21 +1,21 @@
-//! What a machine does with an instruction that asks for what is not there. No part of the standard (profile).
+//! How a machine treats an instruction that uses a missing item. Not from the standard (profile).
 
 ghost use Rattle.std.specs.Prelude.{◌≡◌};
 ghost use Rattle.tt_state.specs.Tolerance as is;
 
 use tt_core::Why;
 
-/// What becomes of an instruction that asks for a point, a contour, a zone, a control value or a place of the storage
-/// area that is not there.
+/// How a machine treats an instruction that uses a missing item: a point, a contour, a zone, a control value or a
+/// storage place that does not exist.
 #[derive(Clone, Copy, Debug, PartialEq, Eq)]
 pub enum Tolerance {
-    /// It is refused.
+    /// The instruction is refused.
     Strict,
-    /// It is passed over, as the established interpreters do.
+    /// The instruction is passed over, as established interpreters do.
     Tolerant,
 }
 
-/// Whether a refusal is one of something that is not there.
+/// Whether a refusal is for a missing item.
 fn is_missing(why: Why) -> bool
     ensures { result ≡ is.is_missing why }
 {
@@ -26,7 +26,7 @@ fn is_missing(why: Why) -> bool
 }
 
 impl Tolerance {
-    /// Whether this is the tolerant machine's.
+    /// Whether the machine is tolerant.
     #[inline(always)]
     pub fn is_tolerant(self) -> bool
         ensures { result ≡ is.is_tolerant self }
@@ -37,7 +37,7 @@ impl Tolerance {
         }
     }
 
-    /// Whether a refusal is passed over.
+    /// Whether the machine passes over a refusal.
     pub fn passes_over(self, why: Why) -> bool
         ensures { result ≡ is.passes_over self why }
     {

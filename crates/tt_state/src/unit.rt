@@ -1,4 +1,4 @@
-//! Unit vectors of any directions. Apple TrueType Reference Manual, "Instruction Set" (SPVTL, SFVTL, SDPVTL, SPVFS,
+//! Unit vectors in any direction. Apple TrueType Reference Manual, "Instruction Set" (SPVTL, SFVTL, SDPVTL, SPVFS,
 //! SFVFS).
 
 ghost use Rattle.std.specs.Prelude.{◌≡◌, ◌+◌, ◌*◌, ◌/◌, ◌^◌, ◌<◌, ◌≤◌, ◌-ℤ◌, neg_ℤ, unsigned_abs};
@@ -8,7 +8,7 @@ ghost use Rattle.tt_state.specs.Axes.{vector_of};
 
 use crate::vector::{Part, Vector, Wide, widened};
 
-/// 2^28 `s` / `l`, cut, in two divisions, so that no product passes 2^59.
+/// 2^28 `s` / `l`, cut. Two divisions keep every product below 2^59.
 fn quotient(s: u64, l: u64) -> u64
     requires some { 0 < l }
     requires within { s ≤ l }
@@ -20,7 +20,8 @@ fn quotient(s: u64, l: u64) -> u64
     n / l * 16384 + n % l * 16384 / l
 }
 
-/// What a part of a unit vector is in magnitude, in 2.14: its square was `s` in a vector whose length squared was `l`.
+/// The magnitude of a part of a unit vector, in 2.14: `s` is the part's square before scaling, and `l` the vector's
+/// squared length.
 fn magnitude(s: u64, l: u64) -> u64
     requires some { 0 < l }
     requires within { s ≤ l }
@@ -40,7 +41,7 @@ fn square(v: Wide) -> u64
     m * m
 }
 
-/// A part of a unit vector: it was `v` in a vector whose length squared was `l`.
+/// A part of a unit vector: `v` is the part before scaling, and `l` the vector's squared length.
 fn part_of(v: Wide, l: u64) -> Part
     requires small { unsigned_abs v.0 ≤ 2 * coordinate_limit }
     requires some { 0 < l }
@@ -82,7 +83,7 @@ fn negated(v: Wide) -> Wide
 }
 
 impl Vector {
-    /// The unit vector of a direction, its parts in 2.14, cut; the x axis where `x` and `y` are 0 (profile).
+    /// The unit vector of a direction, with parts in 2.14, cut. It is the x axis if `x` and `y` are 0 (profile).
     pub fn unit(x: i32, y: i32) -> Vector
         requires x { unsigned_abs x ≤ 2 * coordinate_limit }
         requires y { unsigned_abs y ≤ 2 * coordinate_limit }
@@ -91,7 +92,8 @@ impl Vector {
         unit_of(widened(x), widened(y))
     }
 
-    /// The unit vector of a line, or turned a quarter to the left; the x axis where the line has no length (profile).
+    /// The unit vector of a line, or that vector turned left by a quarter turn. It is the x axis if the line has no
+    /// length (profile).
     pub fn line(from: (i32, i32), to: (i32, i32), turned: bool) -> Vector
         requires from_x { unsigned_abs from.0 ≤ coordinate_limit }
         requires from_y { unsigned_abs from.1 ≤ coordinate_limit }

@@ -1,5 +1,5 @@
-//! Unit vectors, and how far places and distances reach along them. Apple TrueType Reference Manual, "Graphics State"
-//! (projection vector, freedom vector, dual projection vector).
+//! Unit vectors, and distances along them. Apple TrueType Reference Manual, "Graphics State" (projection vector,
+//! freedom vector, dual projection vector).
 
 ghost use Rattle.std.specs.Prelude.{◌≡◌, ◌+◌, ◌*◌, ◌^◌, ◌<◌, ◌≤◌, pos, ◌+ℤ◌, ◌*ℤ◌, unsigned_abs};
 ghost use Rattle.tt_core.specs.Limits.{coordinate_limit};
@@ -10,8 +10,8 @@ ghost use Rattle.tt_state.specs.Axes.{pair_of, vector_of};
 use std::marker::Model;
 use tt_core::rq;
 
-/// The parts of a unit vector off the axes, in 2.14. `Vector::unit` and `Vector::line` alone make one, so its length is
-/// 1 but for what is cut.
+/// The parts of a unit vector off the axes, in 2.14. Only `Vector::unit` and `Vector::line` make one, so its length
+/// is 1 but for cut bits.
 #[derive(Clone, Copy, Debug, PartialEq, Eq)]
 pub struct Slope {
     x: i16,
@@ -30,7 +30,7 @@ impl Model for Slope {
     ghost inverse = { λ p. record { x = p.x; y = p.y } };
 }
 
-/// A unit vector: the direction in which distances are measured, or in which points move.
+/// A unit vector: a direction for measuring distances or for moving points.
 #[derive(Clone, Copy, Debug, PartialEq, Eq)]
 pub enum Vector {
     X,
@@ -38,7 +38,7 @@ pub enum Vector {
     Off(Slope),
 }
 
-/// A number with room for products of it.
+/// A number with room for products.
 #[derive(Clone, Copy)]
 pub(crate) struct Wide(pub(crate) i64);
 
@@ -72,7 +72,7 @@ fn total(a: i64, b: i64) -> i64
     a + b
 }
 
-/// A product with parts of a unit vector, without the 14 bits of their fraction.
+/// A product with parts of a unit vector, rounded from 14 fractional bits to a whole number.
 fn rounded(n: i64) -> i64
     requires { unsigned_abs n ≤ 2 ^ 46 }
     ensures exact { result ≡ rounded_quotient n (pos 16384) }
@@ -96,7 +96,7 @@ impl Slope {
         Wide(i64::from(self.y))
     }
 
-    /// How far a place reaches along the vector, in 1/16384 of its unit.
+    /// The distance of a place along the vector, in 1/16384 of its unit.
     fn sum(&self, x: Wide, y: Wide) -> i64
         requires x { unsigned_abs x.0 ≤ 2 ^ 31 }
         requires y { unsigned_abs y.0 ≤ 2 ^ 31 }
@@ -108,7 +108,7 @@ impl Slope {
 }
 
 impl Vector {
-    /// The vector that has these parts.
+    /// The vector with these parts.
     pub(crate) fn of(x: Part, y: Part) -> Vector
         requires { is.IsUnit x.0 y.0 }
         ensures { result ≡ vector_of (is.pair x.0 y.0) }
@@ -146,7 +146,7 @@ impl Vector {
         }
     }
 
-    /// How far a place, or the way from a place to another, reaches along the vector, in 26.6 pixels.
+    /// The distance along the vector of a place, or of the way from one place to another, in 26.6 pixels.
     #[tactic(auto, unfolding(crate::specs::Vectors::project), using(crate::proofs::OnAxes::along_x, crate::proofs::OnAxes::along_y))]
     pub fn project(&self, x: i32, y: i32) -> i64
         requires x { unsigned_abs x ≤ 2 * coordinate_limit }
@@ -161,7 +161,7 @@ impl Vector {
         }
     }
 
-    /// How far along x and along y a distance `d` along the vector goes, in 26.6 pixels.
+    /// The distances along x and along y of a distance `d` along the vector, in 26.6 pixels.
     #[tactic(auto, unfolding(crate::specs::Vectors::along), using(crate::proofs::OnAxes::whole, crate::proofs::OnAxes::nothing))]
     pub fn along(&self, d: i64) -> (i64, i64)
         requires { unsigned_abs d ≤ 2 ^ 32 }
@@ -180,7 +180,7 @@ impl Vector {
     }
 }
 
-/// What a dot product counts as: 1 where it is below a sixteenth, so that points don't fly off (profile).
+/// A usable dot product: 1 if its magnitude is below a sixteenth, so that points do not fly off (profile).
 fn counted(whole: i64) -> i32
     requires { unsigned_abs whole ≤ 32768 }
     ensures exact { result ≡ is.counted whole }
@@ -194,7 +194,7 @@ fn counted(whole: i64) -> i32
     }
 }
 
-/// How far the freedom vector reaches along the projection vector, in 2.14.
+/// The length of the freedom vector along the projection vector, in 2.14.
 pub fn dot(projection: Vector, freedom: Vector) -> i32
     ensures exact { result ≡ is.dot (pair_of projection) (pair_of freedom) }
     ensures low { 1024 ≤ unsigned_abs result }
