@@ -1,4 +1,4 @@
--- Pens and their sums as characters come one by one.
+-- Pens and their sums, character by character.
 use Rattle.std.proofs.Common.{◌≡◌, ℕ, ◌+◌, ◌<◌, ◌≤◌, List, [], ◌∷◌, ◌++◌, All, length, take, map, sum, slice_index, refl, sym, ap, ap₂, ◌∙◌, arith}
 use Rattle.std.specs.List.{range_with_len}
 use Rattle.std.proofs.lemmas.List.{get_or-map, map_push, length_push, length-map, take-map, get_or_append_left, get_or_push, take-append-le, take_at}
@@ -6,14 +6,14 @@ use Rattle.std.proofs.lemmas.List.FromFn.{map-range_with_len_more, length-map-ra
 use Rattle.std.proofs.lemmas.Grind.{same_number_lists}
 use Rattle.std.proofs.lemmas.List.Sums.{sum_by_push, sum_by-take-le}
 
--- a glyph and its pen, where f is the advance
+-- a glyph and its pen; f gives the advance
 abbrev pub placed_at : (ℕ → ℕ) → List ℕ → ℕ → ℕ × ℕ
 placed_at f gs i = (slice_index gs i, sum (take i (map f gs)))
 
 abbrev pub placed : (ℕ → ℕ) → List ℕ → List (ℕ × ℕ)
 placed f gs = map (placed_at f gs) (range_with_len 0 (length gs))
 
--- a glyph more moves no pen before it
+-- one more glyph does not move the pens before it
 same_before : (f : ℕ → ℕ) (gs : List ℕ) (g i : ℕ) → i < length gs → placed_at f (gs ++ g ∷ []) i ≡ placed_at f gs i
 same_before f gs g i h =
     let many = length-map gs f in
@@ -42,13 +42,13 @@ pens_within f gs = λ k d h.
 pub length-placed : (f : ℕ → ℕ) (gs : List ℕ) → length (placed f gs) ≡ length gs
 length-placed f gs = length-map-range_with_len (placed_at f gs) 0 (length gs)
 
--- the first characters advance no more than all
+-- the first characters advance at most as far as all
 pub part_within : (f g : ℕ → ℕ) (part all : List ℕ) (n : ℕ) → part ≡ take n all → sum (map f (map g part)) ≤ sum (map f (map g all))
 part_within f g part all n e =
     let same : map f (map g part) ≡ take n (map f (map g all)) = rw (e, ← take-map g n all, ← take-map f n (map g all)) refl in
     rw same (sum_by-take-le (λ n. n) (map f (map g all)) n)
 
--- one character more, whose glyph is by g
+-- one more character; g gives its glyph
 pub next_pen : (f g : ℕ → ℕ) (cs : List ℕ) (c glyph pen advance : ℕ) → pen ≡ sum (map f (map g cs)) → glyph ≡ g c → advance ≡ f glyph → pen + advance ≡ sum (map f (map g (cs ++ c ∷ [])))
 next_pen f g cs c glyph pen advance before is_glyph is_advance =
     rw (before, is_advance, is_glyph, map_push g cs c, map_push f (map g cs) (g c)) (sym (sum_by_push (λ n. n) (map f (map g cs)) (f (g c))))
@@ -57,7 +57,7 @@ pub next_placed : (f g : ℕ → ℕ) (cs : List ℕ) (c glyph pen : ℕ) (befor
 next_placed f g cs c glyph pen before after is_pen is_before is_glyph pushed =
     rw (pushed, is_before, is_pen, is_glyph, map_push g cs c) (sym (placed_more f (map g cs) (g c)))
 
--- what is placed are the glyphs
+-- the glyphs of the placed list are the given ones
 pub glyphs_of_placed : (f : ℕ → ℕ) (gs : List ℕ) → map (λ p. p.0) (placed f gs) ≡ gs
 glyphs_of_placed f gs =
     let many : length (map (λ p. p.0) (placed f gs)) ≡ length gs = length-map (placed f gs) (λ p. p.0) ∙ length-placed f gs in

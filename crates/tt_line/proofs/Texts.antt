@@ -1,4 +1,4 @@
--- A text that is laid out has the glyphs of its characters.
+-- A text after layout has the glyphs of its characters.
 use Rattle.std.proofs.Common.{◌≡◌}
 use Rattle.tt_core.specs.Chains.{came-through}
 use Rattle.tt_line.specs.Laws.{PlacesGlyphs}

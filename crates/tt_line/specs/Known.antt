@@ -1,11 +1,11 @@
--- No part of the standard: what is kept of the characters of a text.
+-- Not from the standard: the cache for the characters of a text.
 use Rattle.std.specs.Prelude.{◌≡◌, ◌<◌, ◌^◌, ℕ}
 use Rattle.tt_cmap.specs.Lookup.{Cmap, glyph_of}
 use Rattle.tt_line.specs.Layout.{advance_in_pixels}
 use Rattle.tt_line.specs.declared.known.Step.{Step}
 use Rattle.tt_metrics.specs.Metrics.{Metrics, glyphs_of}
 
--- what glyphs and advances follow from
+-- the tables and the size that determine glyphs and advances
 pub record Source : Type 0 where
   pub metrics : Metrics
   pub cmap : Cmap

@@ -1,6 +1,5 @@
 -- Apple TrueType Reference Manual, "The 'hhea' table" and "The 'hmtx' table": ascent, descent and advance widths in a
--- line of text. That a line is laid out in whole pixels, and how large a picture may be, are this project's own rules
--- (profile).
+-- line of text. Layout in whole pixels and the size limits of a picture are this project's own rules (profile).
 use Rattle.std.specs.Prelude.{◌≡◌, ℕ, ◌+◌, ◌*◌, ◌<◌, ◌≤◌, ◌||◌, ◌==◌, nat_lt, if◌then◌else◌, ℤ, pos, negsuc, neg_ℤ, ◌+ℤ◌, ◌*ℤ◌, ◌<ℤ◌, ◌≤ℤ◌, int_lt, unsigned_abs, List, [], ◌∷◌, length, take, map, sum, slice_index, chars, Result, Ok, Err, ◌⊎◌, refl}
 use Rattle.std.specs.Int.{int_div_euclid}
 use Rattle.std.specs.List.{range_with_len}
@@ -18,7 +17,7 @@ use Rattle.tt_metrics.specs.Metrics.{Metrics, units_per_em_of, ascent_of, descen
 abbrev pub ceiling_quotient : ℤ → ℤ → ℤ
 ceiling_quotient n d = neg_ℤ (int_div_euclid (neg_ℤ n) d)
 
--- the advance of a glyph in pixels, at a size in pixels per em: rounded to the nearest, a half upwards
+-- the advance of a glyph in pixels, at a size in pixels per em; rounded to the nearest pixel, a half upwards
 abbrev pub advance_in_pixels : Metrics → ℕ → ℕ → ℕ
 advance_in_pixels m ppem g = unsigned_abs (rounded_quotient (pos (advance_of m g * ppem)) (pos (units_per_em_of m)))
 
@@ -34,11 +33,11 @@ depth_of m ppem = ceiling_quotient (neg_ℤ (descent_of m) *ℤ pos ppem) (pos (
 abbrev pub text_glyphs : Cmap → List ℕ → List ℕ
 text_glyphs cmap text = map (glyph_of cmap) (chars text)
 
--- the advance in pixels of each of some glyphs
+-- the advances of glyphs, in pixels
 abbrev pub advances_of : Metrics → ℕ → List ℕ → List ℕ
 advances_of m ppem glyphs = map (advance_in_pixels m ppem) glyphs
 
--- where glyph i begins, in pixels: the advances of the i glyphs before it
+-- the start of glyph i, in pixels: the sum of the advances of the i glyphs before it
 abbrev pub pen_of : Metrics → ℕ → List ℕ → ℕ → ℕ
 pen_of m ppem glyphs i = sum (take i (advances_of m ppem glyphs))
 
@@ -46,21 +45,21 @@ pen_of m ppem glyphs i = sum (take i (advances_of m ppem glyphs))
 abbrev pub placed_glyphs : Metrics → ℕ → List ℕ → List (ℕ × ℕ)
 placed_glyphs m ppem glyphs = map (λ i. (slice_index glyphs i, pen_of m ppem glyphs i)) (range_with_len 0 (length glyphs))
 
--- how large the picture of a line with its margins would be
+-- the size of the picture of a line with its margins
 abbrev pub extent_of : Metrics → ℕ → ℕ → List ℕ → Extent
 extent_of m ppem margin glyphs = record {
   width = sum (advances_of m ppem glyphs) + 2 * margin;
   height = rise_of m ppem +ℤ depth_of m ppem +ℤ pos (2 * margin);
 }
 
--- a picture without a pixel is refused, and then one that is too large
+-- a picture without a pixel is refused first, then one that is too large
 unfoldable pub within_limits : Extent → Result Extent JobFault
 within_limits e =
     if (e.width == 0) || int_lt e.height (pos 1) then Err job.EmptyPicture
     else (if nat_lt width_limit e.width || int_lt (pos height_limit) e.height then Err job.PictureLarge else Ok e)
 
--- a line laid out, in pixels: the picture's size, how far the base line lies below the upper margin, and the glyph and
--- the pen of each character
+-- a line after layout, in pixels: the picture's size, the distance of the base line below the upper margin, and each
+-- character's glyph and pen
 pub record Placement : Type 0 where
   pub width : ℕ
   pub height : ℕ
@@ -78,25 +77,25 @@ placed_in m ppem glyphs e = record {
 abbrev pub glyph_placement : Metrics → ℕ → ℕ → List ℕ → Result Placement JobFault
 glyph_placement m ppem margin glyphs = within_limits (extent_of m ppem margin glyphs) >>= λ e. Ok (placed_in m ppem glyphs e)
 
--- the layout of a text at a size in pixels per em with a margin in pixels, or why there is none
+-- the layout of a text at a size in pixels per em with a margin in pixels, or the refusal
 unfoldable pub placement : Metrics → Cmap → List ℕ → ℕ → ℕ → Result Placement JobFault
 placement m cmap text ppem margin = glyph_placement m ppem margin (text_glyphs cmap text)
 
--- no pixel
+-- a picture without a pixel
 abbrev pub IsEmpty : Extent → Type 0
 IsEmpty e = (e.width < 1) ⊎ (e.height <ℤ pos 1)
 
--- more pixels than a picture may have
+-- a picture above the limits
 abbrev pub IsLarge : Extent → Type 0
 IsLarge e = (width_limit < e.width) ⊎ (pos height_limit <ℤ e.height)
 
--- what is wrong where a picture is refused
+-- the defect of a refused picture
 abbrev pub IsRefusal : Extent → JobFault → Type 0
 IsRefusal e job.EmptyPicture = IsEmpty e
 IsRefusal e job.PictureLarge = (¬ IsEmpty e) × IsLarge e
 IsRefusal e j = ⊥
 
--- what a picture that is not refused has
+-- the ranges of an accepted picture
 pub record IsWithinLimits (e : Extent) : Type 0 where
   pub some_width : 1 ≤ e.width
   pub width : e.width ≤ width_limit

@@ -1,4 +1,4 @@
-//! How large the picture of a line is.
+//! The size of a line's picture.
 
 ghost use Rattle.std.specs.Prelude.{◌≡◌, ◌+◌, ◌*◌, ◌<◌, ◌≤◌, ◌^◌, ◌+ℤ◌, pos, unsigned_abs, IfOk, IfErr};
 ghost use Rattle.tt_core.specs.Limits.{margin_limit};
@@ -7,14 +7,14 @@ ghost use Rattle.tt_line.specs.Layout.{within_limits, IsRefusal, IsWithinLimits}
 
 use tt_core::{HEIGHT_LIMIT, JobFault, WIDTH_LIMIT};
 
-/// Width and height of a picture, in pixels, before they are known to be within the limits. The height may be negative.
+/// Width and height of a picture, in pixels, before the limits are tested. The height may be negative.
 #[derive(Clone, Copy)]
 pub(crate) struct Extent {
     pub(crate) width: u64,
     pub(crate) height: i32,
 }
 
-/// The extent of a line and of the margins round it: the advances beside each other, the rise above the depth.
+/// The extent of a line with its margins: the sum of advances, and the rise plus the depth.
 pub(crate) fn with_margins(advances: u64, rise: i32, depth: i32, margin: u32) -> Extent
     requires advances { advances < 2 ^ 40 }
     requires rise { unsigned_abs rise < 2 ^ 20 }

@@ -1,4 +1,4 @@
-//! What comes in the place of a line.
+//! The errors of laying out a line.
 
 ghost use Rattle.std.specs.Prelude.{◌≡◌};
 ghost use Rattle.tt_line.specs.declared.fault.LineFault.TheVariants.{Job, Memory};
@@ -9,7 +9,7 @@ use tt_core::JobFault;
 /// Why a line was not laid out.
 #[derive(Clone, Copy, Debug, PartialEq, Eq)]
 pub enum LineFault {
-    /// The job asks for a picture that is refused.
+    /// The job's picture is refused.
     Job(JobFault),
     /// Memory ran out.
     Memory,

@@ -1,4 +1,4 @@
-//! Glyphs and advances that are found once. A text has few characters, and most of them many times.
+//! A cache of glyphs and advances. A text has few distinct characters, and most occur many times.
 
 ghost use Rattle.std.specs.Prelude.{◌≡◌, ◌<◌, ◌≤◌, ◌^◌};
 ghost use Rattle.tt_cmap.specs.Lookup.{glyph_of};
@@ -12,7 +12,7 @@ use std::marker::Model;
 use tt_cmap::Cmap;
 use tt_metrics::Metrics;
 
-/// How many characters are kept.
+/// Entries of the cache.
 const KEPT: usize = 128;
 
 /// A glyph and its advance in pixels.
@@ -29,8 +29,8 @@ struct Known {
     step: Step,
 }
 
-/// The steps of the characters asked for last, one for each remainder of their codes by 128. In contracts it is what they
-/// follow from: the tables and the size.
+/// The steps of recent characters, one for each remainder of their codes by 128. Clauses see the source of the steps:
+/// the tables and the size.
 #[derive(Drop)]
 pub(crate) struct KnownAdvances<'t, 'a> {
     metrics: &'t Metrics<'a>,
@@ -53,7 +53,7 @@ impl<'t, 'a> Model for KnownAdvances<'t, 'a> {
         × All (λ e. IsKnown (record { metrics = k.metrics.now; cmap = k.cmap.now; ppem = k.ppem }) e.code e.step) k.known };
 }
 
-/// The step of a character, which is looked up.
+/// The step of a character, without the cache.
 #[cold]
 #[inline(never)]
 fn found(metrics: &Metrics, cmap: &Cmap, ppem: u32, c: char) -> Step
@@ -69,7 +69,7 @@ fn found(metrics: &Metrics, cmap: &Cmap, ppem: u32, c: char) -> Step
 }
 
 impl<'t, 'a> KnownAdvances<'t, 'a> {
-    /// The characters of a font at a size; only the step of U+0000 is found yet.
+    /// The characters of a font at a size. At first the cache has only the step of U+0000.
     pub(crate) fn new(metrics: &'t Metrics<'a>, cmap: &'t Cmap<'a>, ppem: u32) -> Self
         requires size { ppem ≤ size_limit }
         requires glyphs { cmap.now.glyphs ≡ glyphs_of metrics.now }

@@ -1,8 +1,8 @@
-//! Laws of the definitions. Each function takes nothing and gives nothing: its clauses hold of all texts.
+//! Lemmas about the definitions, for all texts. No code runs.
 
 ghost use Rattle.tt_line.specs.Laws.{PlacesGlyphs};
 
-/// Where the definition lays a text out, each character has its glyph, in the text's order.
+/// Lemma: if the definition lays out a text, each character has its glyph, in the text's order.
 pub fn glyphs_are_placed()
     ensures { PlacesGlyphs }
 {}

@@ -15,7 +15,7 @@ use std::alloc::{AllocError, Global};
 use tt_cmap::Cmap;
 use tt_metrics::Metrics;
 
-/// A line of text laid out.
+/// A line of text after layout.
 #[derive(Drop)]
 pub struct Line {
     /// Pixels in a row of the picture, margins included: 1 to 16,384.
@@ -24,15 +24,15 @@ pub struct Line {
     pub height: u32,
     /// Pixels from the base line up to the upper margin.
     pub rise: i32,
-    /// The glyph of each character, and the pixels from the left margin to its origin.
+    /// The glyph of each character, and the pixels from the left margin to the glyph's origin.
     pub glyphs: Vec<(u16, u32)>,
 }
 
-/// Lays out a text at `ppem` pixels per em, with margins of `margin` pixels. Each advance is rounded to the
-/// nearest pixel, and ascent and descent are rounded up. No memory is taken for a line that is refused.
+/// Lays out a text at `ppem` pixels per em, with margins of `margin` pixels. Each advance is rounded to the nearest
+/// pixel; ascent and descent are rounded up. A refused line takes no memory.
 ///
-/// Errors, the first of: Job (EmptyPicture) where the width or the height is below 1, Job (PictureLarge) where
-/// the width is above 16,384 or the height above 4,096. Memory comes where a growth was refused.
+/// The first of these errors is returned: Job (EmptyPicture) if the width or the height is below 1; Job
+/// (PictureLarge) if the width is above 16,384 or the height above 4,096; Memory if an allocation fails.
 #[tactic(auto, unfolding(crate::specs::Layout::placement))]
 pub fn lay(
     alloc: Global,
@@ -54,13 +54,13 @@ pub fn lay(
     ensures glyphs { IfOk result (λ l. map (λ p. p.0) l.glyphs.items ≡ text_glyphs cmap.now text.now) }
     ensures known { IfOk result (λ l. All (λ p. p.0 < glyphs_of metrics.now) l.glyphs.items) }
     ensures pens { IfOk result (λ l. All (λ p. p.1 ≤ l.width) l.glyphs.items) }
-    // Memory is taken only for the glyphs of a line that is not refused.
+    // Only the glyphs of an accepted line take memory.
     ensures memory { IfErr result (λ e. IfNone (job_fault e)
         (IsOk (placement metrics.now cmap.now text.now ppem margin) × (0 < length (chars text.now)))) }
     ensures fault { IfTold job_fault result (IsRefusal (extent_of metrics.now ppem margin (text_glyphs cmap.now text.now))) }
 {
     let rise = rise(metrics, ppem);
-    // The text is walked once for its width, so that no memory is taken for a line that is refused.
+    // A first walk over the text finds its width, so that a refused line takes no memory.
     let mut known = KnownAdvances::new(metrics, cmap, ppem);
     let advances = sum_of_advances(&mut known, text);
     let extent = test_limits(with_margins(advances, rise, depth(metrics, ppem), margin))?;
@@ -73,7 +73,7 @@ pub fn lay(
     })
 }
 
-/// The sum of the advances of a text's characters, in pixels. Of 4,096 characters it can pass 32 bits.
+/// The sum of the advances of a text's characters, in pixels. For 4,096 characters it can exceed 32 bits.
 fn sum_of_advances(known: &mut KnownAdvances, text: &str) -> u64
     requires text { length (chars text.now) ≤ text_limit }
     ensures exact { result ≡ sum (advances_of known.old.metrics known.old.ppem (text_glyphs known.old.cmap text.now)) }
@@ -87,7 +87,7 @@ fn sum_of_advances(known: &mut KnownAdvances, text: &str) -> u64
     sum
 }
 
-/// The glyph of each character with its pen: the pixels from the left margin to its origin.
+/// The glyph of each character with its pen: the pixels from the left margin to the glyph's origin.
 fn placed_glyphs(
     alloc: Global,
     known: &mut KnownAdvances,

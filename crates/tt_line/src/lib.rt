@@ -1,4 +1,4 @@
-//! Where the glyphs of a line of text stand, in pixels, and how large its picture is.
+//! The positions of a text line's glyphs, in pixels, and the size of its picture.
 #![tactic(auto)]
 
 mod extent;

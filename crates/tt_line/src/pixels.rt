@@ -38,7 +38,7 @@ pub(crate) fn depth(metrics: &Metrics, ppem: u32) -> i32
     rounded_up(-i32::from(metrics.descent()), ppem, metrics.units_per_em())
 }
 
-/// Font units in pixels, rounded to the nearest.
+/// Font units in pixels, rounded to the nearest pixel.
 fn nearest(units: u16, ppem: u32, em: u16) -> u32
     requires size { ppem ≤ size_limit }
     requires em { 0 < em }
