@@ -1,9 +1,9 @@
--- The digits of a number, the last one first, and how many there are.
+-- The digits of a number from last to first, and their count.
 use Rattle.std.proofs.Common.{◌≡◌, ℕ, ◌+◌, ◌/◌, ◌%◌, ◌^◌, ◌<◌, ◌≤◌, ◌∷◌, ◌++◌, List, length, decimal, arith, ap, sym, ◌∙◌, append_assoc}
 use Rattle.std.proofs.lemmas.Fmt.{decimal_digit, decimal_nonempty, decimal_step, length-decimal-le}
 use Rattle.std.proofs.lemmas.List.{length-append}
 
--- a digit that is not the last one is put before the text
+-- a digit other than the first is put before the text
 pub goes-on : (rest : ℕ) (text all : List ℕ) → 10 ≤ rest → rest < 2 ^ 16 → decimal rest ++ text ≡ all
     → decimal (rest / 10) ++ ((48 + rest % 10) ∷ text) ≡ all
 goes-on rest text all large fits whole =
@@ -11,11 +11,11 @@ goes-on rest text all large fits whole =
     let moved : decimal (rest / 10) ++ ((48 + rest % 10) ∷ text) ≡ decimal rest ++ text = rw step (simp append_assoc) in
     moved ∙ whole
 
--- and the first
+-- the first digit is put before the text
 pub ends : (rest : ℕ) (text all : List ℕ) → rest < 10 → decimal rest ++ text ≡ all → (48 + rest) ∷ text ≡ all
 ends rest text all small whole = rw (decimal_digit rest small) at whole
 
--- while digits are left, the text lacks at least one of the at most five bytes that the number has
+-- while digits remain, the text lacks at least one of the number's bytes, at most five
 pub lacks-some : (rest n : ℕ) (text first : List ℕ) → rest < 2 ^ 16 → n < 2 ^ 16
     → decimal rest ++ text ≡ decimal n ++ first → length text < length first + 5
 lacks-some rest n text first fits all-fit whole =

@@ -1,4 +1,4 @@
--- No part of the standard: laws of the rows of a picture.
+-- Not from the standard: lemmas about the rows of a picture.
 use Rattle.std.specs.Prelude.{◌≡◌, refl, ℕ, zero, suc, ◌+◌, ◌*◌, ◌/◌, ◌%◌, ◌-◌, ◌^◌, ◌<◌, ◌≤◌, Bool, true, false, ◌&&◌, ◌==◌, nat_lt, if◌then◌else◌, List, ◌∷◌, ◌++◌, map, length, take, slice_index, replicate}
 use Rattle.std.specs.List.{range_with_len}
 use Rattle.std.specs.Int.{bit_at}
@@ -92,7 +92,7 @@ row_byte w r black i inside =
     let same : byte_at w black (stride w * r + i) ≡ byte_of w black r i = rw (row, byte) refl in
     get_or-map-range_with_len (byte_at w black) (stride w * r) (stride w) i (stride w * r + i) 0 inside refl ∙ same
 
--- a row of bytes whose bits are the pixels of row r of the picture is that row
+-- a row of bytes is row r if its bits are the pixels of row r
 pub row_is : (w r : ℕ) (black : ℕ → ℕ → Bool) (row : List ℕ) → length row ≡ stride w
     → ((i : ℕ) → i < length row → slice_index row i < 256) → ((k : ℕ) → bit row k ≡ (nat_lt k w && black k r)) → row
     ≡ rows w black (stride w * r) (stride w)
@@ -105,7 +105,7 @@ row_is w r black row whole bytes bits =
     (bytes i within) (λ j small. bit_in w r black row bits i j small) in
     byte ∙ sym (row_byte w r black i inside))
 
--- the rows so far, and then row r
+-- the rows before row r, followed by row r
 pub rows_next : (w r : ℕ) (black : ℕ → ℕ → Bool) (row : List ℕ) → row ≡ rows w black (stride w * r) (stride w)
     → rows w black 0 (stride w * r) ++ row ≡ rows w black 0 (stride w * (r + 1))
 rows_next w r black row same =

@@ -1,13 +1,13 @@
-//! A short text of ASCII. It is made from its end to its start, since a division by 10 gives a number's last digit first.
+//! A short text of ASCII. It is built from its end to its start, since division by 10 gives the last digit first.
 
 ghost use Rattle.std.specs.Prelude.{◌≡◌, ◌+◌, ◌≤◌, ◌<◌, ◌++◌, [], ◌∷◌, length, decimal};
 
 use std::marker::Model;
 
-/// Bytes that a text has room for.
+/// Bytes of room for a text.
 const ROOM: usize = 24;
 
-/// A text of at most 24 bytes, those from `at` on. A clause sees it as a list.
+/// A text of at most 24 bytes: the bytes from `at` on. Clauses see a list.
 #[derive(Drop)]
 pub struct Ascii {
     bytes: [u8; ROOM],
@@ -35,7 +35,7 @@ impl Ascii {
         }
     }
 
-    /// The bytes of the text, the first first.
+    /// The bytes of the text, from first to last.
     pub fn as_bytes(&self) -> &[u8]
         ensures exact { result.now ≡ self.now }
     {

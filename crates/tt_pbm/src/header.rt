@@ -6,10 +6,10 @@ ghost use Rattle.tt_pbm.specs.P4.{p4_header_of};
 
 use crate::ascii::Ascii;
 
-/// Room for a header: two numbers of at most 5 digits, and 5 bytes round them.
+/// Room for a header: two numbers of at most 5 digits, and 5 bytes around them.
 const ROOM: usize = 16;
 
-/// The first `len` of these bytes are a picture's header.
+/// A picture's header: the first `len` of these bytes.
 #[derive(Clone, Copy, Debug)]
 pub struct Header {
     pub bytes: [u8; ROOM],

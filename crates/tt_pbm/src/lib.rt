@@ -1,4 +1,4 @@
-//! A black and white picture as Netpbm's format P4, short texts of ASCII, and writing bytes to their end.
+//! A black and white picture in Netpbm's format P4, short texts of ASCII, and writing all bytes.
 #![tactic(auto)]
 
 mod ascii;

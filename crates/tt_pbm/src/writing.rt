@@ -1,17 +1,17 @@
-//! Writing bytes to their end.
+//! Writing all bytes.
 
 ghost use Rattle.std.specs.Prelude.{◌≡◌, ◌<◌, false, is_err, length, take, OnOk, IfErr};
 ghost use Rattle.std.specs.Io.KnownBytes.{Appends};
 
 use tt_core::Sink;
 
-/// A write failed; the first `sent` bytes of the call went out, and no more.
+/// A write failed. Only the first `sent` bytes of the call were written.
 #[derive(Clone, Copy, Debug, PartialEq, Eq)]
 pub struct Cut {
     pub sent: u64,
 }
 
-/// Writes all of the bytes. Error: a Cut, where a write fails; then the sink has failed.
+/// Writes all of the bytes. Error: a Cut if a write fails; the sink has then failed.
 pub fn write_all_of<W: Sink>(out: &mut W, bytes: &[u8]) -> Result<(), Cut>
     requires { W.has_failed out.old ≡ false }
     ensures all { OnOk result (Appends (W.written out.old) (W.written out.new) bytes.now) }

@@ -2,7 +2,7 @@ use Rattle.std.proofs.Common.{◌≡◌, ◌-◌, ◌≤◌, length, take, false
 use Rattle.std.specs.Io.KnownBytes.{Appends}
 use Rattle.tt_pbm.proofs.writing.write_all_of.Given as goal
 
--- the first `sent` bytes went out
+-- the first `sent` bytes are written
 abbrev pub invariant-loop-sent : goal.invariant-loop-sent
 invariant-loop-sent g l = record {
   within : l.sent ≤ length l.bytes;
