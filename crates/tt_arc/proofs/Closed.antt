@@ -15,7 +15,7 @@ use Rattle.tt_arc.specs.Laws.{ContoursAreClosed}
 use Rattle.tt_arc.proofs.Turns.{first_eighth, last_eighth, straight, no_edge, curved}
 use Rattle.tt_arc.proofs.Walks.{edges_along, last_of, contour_whole}
 
--- edges lead from one place to another, each from where the one before it ends
+-- edges lead from one place to another, each from the end of the preceding edge
 abbrev Leads : EdgeEnd → List Edge → EdgeEnd → Type 0
 Leads s [] t = s ≡ t
 Leads s (e ∷ es) t = (s ≡ record { x = e.ax; y = e.ay }) × Leads (record { x = e.bx; y = e.by }) es t
@@ -59,7 +59,7 @@ from_start c = rw (first_eighth (along_x c), first_eighth (along_y c)) refl
 to_end : (c : Quadratic) → chord_end c 8 ≡ whole_end c.to
 to_end c = rw (last_eighth (along_x c), last_eighth (along_y c)) refl
 
--- where the edges of a point begin, after the point before it
+-- the start of a point's edges, from the preceding point
 abbrev start : Point → Point → EdgeEnd
 start before p = if p.on then edge_end_of p else whole_end (curve_end_of before p)
 
@@ -74,14 +74,14 @@ curve_end_on n p on =
     rw on (same_end (pos 64 *ℤ (pos 2 *ℤ n.x)) (pos 128 *ℤ n.x) (pos 64 *ℤ (pos 2 *ℤ n.y)) (pos 128 *ℤ n.y)
     (omega (arith, ints)) (omega (arith, ints)))
 
--- midway between two points off the curve, whichever comes first
+-- the point midway between two points off the curve does not depend on their order
 curve_end_midway : (n p : Point) → n.on ≡ false → p.on ≡ false → curve_end_of n p ≡ curve_end_of p n
 curve_end_midway n p n_off p_off =
     let x : n.x +ℤ p.x ≡ p.x +ℤ n.x = omega (arith, ints) in
     let y : n.y +ℤ p.y ≡ p.y +ℤ n.y = omega (arith, ints) in
     rw (n_off, p_off, x, y) refl
 
--- the edges of a point lead to where those of the point after it begin
+-- the edges of a point lead to the start of the next point's edges
 leads_by : (s t u v : EdgeEnd) (es fs : List Edge) → es ≡ fs → Leads s fs t → s ≡ u → t ≡ v → Leads u es v
 leads_by s t u v es fs same leads is_s is_t = rw (same, ← is_s, ← is_t) leads
 

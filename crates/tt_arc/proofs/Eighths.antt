@@ -1,4 +1,4 @@
--- The weights of the coordinates of a quadratic, and how large a coordinate is k eighths along it.
+-- The weights of a quadratic's coordinates, and a bound of a coordinate at k eighths.
 use Rattle.std.proofs.Common.{◌≡◌, ℕ, zero, suc, ◌+◌, ◌^◌, ◌<◌, ◌≤◌, pos, ◌+ℤ◌, ◌-ℤ◌, ◌*ℤ◌, unsigned_abs, SFits, w64, List, ◌∷◌, ◌++◌, [], refl, arith, add-one, append-nil}
 use Rattle.std.proofs.lemmas.Int.{ints}
 use Rattle.tt_scan.specs.declared.edge.Edge.{Edge}
@@ -8,7 +8,7 @@ use Rattle.tt_arc.specs.declared.quadratic.EdgeEnd.{EdgeEnd}
 use Rattle.tt_arc.specs.declared.quadratic.Differences.{Differences}
 use Rattle.tt_arc.specs.Chords.{CoordinatesFit, QuadraticFits, AreDifferences, EdgeEndFits, along_x, along_y, eighth, chord_end, edge_between, first_chords}
 
--- what holds of each eighth holds of all
+-- a statement about each eighth holds for all
 pub by_eighths : (P : ℕ → Type 0) → P 0 → P 1 → P 2 → P 3 → P 4 → P 5 → P 6 → P 7 → P 8 → (k : ℕ) → k ≤ 8 → P k
 by_eighths P a b c d e f g h i zero le = a
 by_eighths P a b c d e f g h i (suc zero) le = b
@@ -71,7 +71,7 @@ first_within b k s le is = let small = is.small in omega arith
 pub second_within : (b : Coordinates) (k : ℕ) (s : Differences) → CoordinatesFit b → AreDifferences b k s → unsigned_abs s.second ≤ 2 ^ 27
 second_within b k s fits is = rw is.second (second_small b fits)
 
--- the parts of the differences where a quadratic begins, as the code adds them up
+-- the parts of the differences at a quadratic's start, in the code's order of sums
 pub record PartsFit (b : Coordinates) : Type 0 where
   pub value : SFits w64 (pos 64 *ℤ b.from)
   pub four : SFits w64 (pos 4 *ℤ b.control)

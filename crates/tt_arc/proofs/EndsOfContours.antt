@@ -1,4 +1,4 @@
--- Where the contours of an outline end among its edges.
+-- The ends of an outline's contours among its edges.
 use Rattle.std.proofs.Common.{◌≡◌, ℕ, suc, ◌+◌, ◌-◌, ◌*◌, ◌<◌, ◌≤◌, Bool, ℤ, List, [], ◌∷◌, ◌++◌, length, map, drop, refl, sym, ap, ◌∙◌, arith, append_assoc, append-nil, length-append}
 use Rattle.std.specs.List.{slice_index, slice_range, flat_map, range_with_len}
 use Rattle.std.proofs.lemmas.List.{take_at, drop_at, length-take}
@@ -15,7 +15,7 @@ joined points ends dx dy =
     flat_map-map (λ es. es) (λ c. contour_edges (contour_at (map (moved dx dy) points) ends c))
     (range_with_len 0 (length ends))
 
--- where contours end that lie one after the other, the first of them behind so many edges
+-- the ends of contours in sequence, with `from` edges before the first
 abbrev pub ends_from : ℕ → List (List Edge) → List ℕ
 ends_from from [] = []
 ends_from from (es ∷ ess) = (from + length es) ∷ ends_from (from + length es) ess
@@ -29,7 +29,7 @@ none_is_left : (points : List (ℤ × ℤ × Bool)) (ends : List ℕ) (dx dy : �
     → contours_left points ends dx dy i ≡ []
 none_is_left points ends dx dy i all = let none : length ends - i ≡ 0 = omega arith in rw none refl
 
--- the end of one contour more
+-- the end of one more contour
 pub one_end_more : (points : List (ℤ × ℤ × Bool)) (ends : List ℕ) (dx dy : ℤ) (out new : List ℕ) (edges n from i to : ℕ)
     → i < length ends → from ≡ contour_start ends i → to ≡ slice_index ends i
     → n ≡ length (contour_edges (map (moved dx dy) (slice_range points from to))) → new ≡ out ++ (edges + n) ∷ []
@@ -41,7 +41,7 @@ one_end_more points ends dx dy out new edges n from i to below is_from is_to is_
     let here = rw (is_from, is_to, ← whole) at is_n in
     rw (is_new, more, ← here, append_assoc) refl
 
--- the ends of all
+-- the ends of all contours
 pub all_ended : (points : List (ℤ × ℤ × Bool)) (ends walked out whole : List ℕ) (dx dy : ℤ) (edges i : ℕ)
     → walked ≡ ends → length walked ≤ i → out ++ ends_from edges (contours_left points ends dx dy i) ≡ whole → out ≡ whole
 all_ended points ends walked out whole dx dy edges i is_walked at_end is =
@@ -53,7 +53,7 @@ pub few_more : {X : Type 0} (ps : List X) (edges n from to : ℕ) → from ≤ t
     → n ≤ 8 * length (slice_range ps from to) → edges + n ≤ 8 * to
 few_more ps edges n from to order few less = omega (arith, length-take (to - from) (drop from ps))
 
--- cut at such ends edges are those of the contours
+-- edges cut at these ends are the edges of the contours
 cut : (before : List Edge) (ess : List (List Edge))
     → contours_from (length before) (before ++ flat_map (λ es. es) ess) (ends_from (length before) ess) ≡ ess
 cut before [] = refl

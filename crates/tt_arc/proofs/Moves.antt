@@ -1,4 +1,4 @@
--- An outline that is moved has its edges moved by as much.
+-- Moving an outline moves its edges as far.
 use Rattle.std.proofs.Common.{◌≡◌, ℕ, zero, suc, ◌≤◌, Bool, true, false, if◌then◌else◌, ℤ, pos, ◌+ℤ◌, ◌*ℤ◌, List, [], ◌∷◌, length, map, refl, sym, ap, ◌∙◌, arith}
 use Rattle.std.specs.List.{slice_index, flat_map, range_with_len}
 use Rattle.std.proofs.lemmas.Int.{ints}
@@ -16,7 +16,7 @@ use Rattle.tt_arc.proofs.Contours.{slice_of_map}
 use Rattle.tt_arc.proofs.Eighths.{by_eighths}
 use Rattle.tt_arc.proofs.Walks.{edges_along, last_of, contour_whole}
 
--- d is in 26.6: twice as much in 1/128 pixel, 128 times as much in 1/8192 pixel
+-- d is in 26.6: twice d in 1/128 pixel, 128 times d in 1/8192 pixel
 abbrev point_moved : ℤ → Point → Point
 point_moved d p = record { x = p.x +ℤ d; y = p.y; on = p.on }
 
@@ -101,7 +101,7 @@ edges_moved d before p after =
     (chords_moved d (quadratic_of before p after) 8 (omega arith)) in
     one_of (moved_edge (pos 128 *ℤ d)) p.on after.on _ _ _ _ line chords
 
--- what becomes of the edges of each point becomes of those of contours and outlines: P changes points, E edges
+-- a change of each point's edges is a change of the edges of contours and outlines; P changes points, E edges
 abbrev Changes : (Point → Point) → (Edge → Edge) → Type 0
 Changes P E = (before p after : Point) → edges_of (P before) (P p) (P after) ≡ map E (edges_of before p after)
 
@@ -140,7 +140,7 @@ outline_changed P E each ps ends (c ∷ cs) =
     (sym (map-append E (contour_edges (contour_at ps ends c))
     (flat_map (λ c. contour_edges (contour_at ps ends c)) cs)))
 
--- the same contour by contour
+-- the corresponding statement for each contour
 contours_changed : (P : Point → Point) (E : Edge → Edge) → Changes P E → (ps : List Point) (ends cs : List ℕ)
     → map (λ c. contour_edges (contour_at (map P ps) ends c)) cs
     ≡ map (map E) (map (λ c. contour_edges (contour_at ps ends c)) cs)
@@ -183,7 +183,7 @@ contours_there points ends dx dy k =
     any_contours_moved points ends dx dy (pos 64 *ℤ k)
     ∙ ap (λ z. map (moved_edges z) (chord_contours points ends dx dy)) (pixels k)
 
--- An outline with x and y exchanged is moved along x where the outline is moved up.
+-- An outline with x and y exchanged moves along x if the outline moves up.
 
 abbrev exchanged : Point → Point
 exchanged p = record { x = p.y; y = p.x; on = p.on }

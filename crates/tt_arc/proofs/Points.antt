@@ -1,4 +1,4 @@
--- A place that lies on the edges of an outline lies on an edge of a single point, and the other way round.
+-- A place is on the edges of an outline if and only if it is on an edge of a single point.
 use Rattle.std.proofs.Common.{◌≡◌, ◌≢◌, ℕ, ◌<◌, Bool, true, false, ◌||◌, not, List, [], ◌∷◌, length, map, get_or, inl, inr, refl, sym, ap, ◌∙◌, arith, ℤ, pos}
 use Rattle.std.specs.List.{list_any, flat_map, range_with_len}
 use Rattle.std.proofs.lemmas.Bool.{or_cases, cases_lt}
@@ -78,7 +78,7 @@ of_some_point points ends dx dy x y at =
     as_any (chord_edges points ends dx dy) x y ∙ any_piece p of (range_with_len 0 (length ends))
     ∙ there_is (λ c. list_any p (of c)) (length ends) at.0 at.2.contour in_contour
 
--- a place lies on an outline where it lies on an edge of a single point
+-- a place is on an outline if and only if it is on an edge of a single point
 pub lies_on_outline : OnByPoints
 lies_on_outline points ends dx dy x y = (on_some_point points ends dx dy x y, of_some_point points ends dx dy x y)
 
@@ -96,7 +96,7 @@ or_right : (a b : Bool) → b ≡ true → (a || b) ≡ true
 or_right true b h = refl
 or_right false b h = h
 
--- a place is black where it does, or where the edges go round it
+-- a place is black if and only if it is on such an edge, or the edges go round it
 pub black_where : BlackByPoints
 black_where points ends dx dy x y =
     let es = chord_edges points ends dx dy in

@@ -1,4 +1,4 @@
--- The turns of closed contours cancel out at each height, so that the winding is the same from either side.
+-- The turns of closed contours cancel out at each height, so the winding is equal from either side.
 use Rattle.std.proofs.Common.{◌≡◌, ℕ, zero, suc, Bool, true, false, ◌&&◌, if◌then◌else◌, ℤ, pos, negsuc, neg_ℤ, ◌+ℤ◌, ◌-ℤ◌, ◌*ℤ◌, ◌≤ℤ◌, ◌<ℤ◌, int_lt, int_le, List, [], ◌∷◌, ◌++◌, length, map, refl, sym, ap, ◌∙◌, arith}
 use Rattle.std.specs.List.{flat_map, range_with_len}
 use Rattle.std.proofs.lemmas.Int.{ints, by_lt_z}
@@ -17,7 +17,7 @@ use Rattle.tt_arc.proofs.Walks.{edges_along, last_of, contour_whole}
 abbrev over : ℤ → ℤ → ℤ
 over y v = if int_lt y v then pos 1 else pos 0
 
--- what an edge adds from the left less what it adds from the right, by its side s
+-- the part of an edge from the left minus its part from the right, by its side s
 abbrev from_left : ℤ → ℤ → ℤ → ℤ → ℤ
 from_left s ay by y = if int_le ay y && int_lt y by && int_lt s (pos 0) then pos 1 else
     (if int_le by y && int_lt y ay && int_lt (pos 0) s then negsuc 0 else pos 0)
@@ -40,7 +40,7 @@ above s ay by y a b = grind (arith, ints)
 below : (s ay by y : ℤ) → ay ≤ℤ y → by ≤ℤ y → from_left s ay by y -ℤ from_right s ay by y ≡ over y by -ℤ over y ay
 below s ay by y a b = grind (arith, ints)
 
--- what both sides differ by, where no place on the edge can be at its height
+-- the difference of both sides, if the edge has no place at this height with side 0
 between_sides : (s ay by y : ℤ) → (ay ≤ℤ y → y <ℤ by → is_zero s ≡ false) → (by ≤ℤ y → y <ℤ ay → is_zero s ≡ false)
     → from_left s ay by y -ℤ from_right s ay by y ≡ over y by -ℤ over y ay
 between_sides s ay by y up down =
@@ -83,7 +83,7 @@ one_edge : (e : Edge) (x y : ℤ) → lies_on e x y ≡ false → turned e x y -
     ≡ over y e.by -ℤ over y e.ay
 one_edge e x y off = between_sides (side e x y) e.ay e.by y (rises_off e x y off) (falls_off e x y off)
 
--- how often edges come above y, less how often they come below it
+-- the number of edges that come above y, minus the number that come below it
 abbrev turns : ℤ → List Edge → ℤ
 turns y [] = pos 0
 turns y (e ∷ es) = (over y e.by -ℤ over y e.ay) +ℤ turns y es
@@ -116,7 +116,7 @@ first_eighth b = omega (arith, ints)
 pub last_eighth : (b : Coordinates) → eighth 8 b ≡ pos 64 *ℤ b.to
 last_eighth b = omega (arith, ints)
 
--- the height at which the edges of a point begin
+-- the height of the start of a point's edges
 abbrev height : Point → Point → ℤ
 height before p = if p.on then pos 128 *ℤ p.y else pos 64 *ℤ (curve_end_of before p).y
 
@@ -132,7 +132,7 @@ curve_end_on n p on = rw on refl
 curve_end_off : (n p : Point) → n.on ≡ false → (curve_end_of n p).y ≡ n.y +ℤ p.y
 curve_end_off n p off = rw off refl
 
--- a quadratic ends where the next point's edges begin
+-- a quadratic ends at the start of the next point's edges
 quadratic_ends : (p after : Point) (next : Bool) → p.on ≡ false → after.on ≡ next → pos 64 *ℤ (curve_end_of after p).y
     ≡ height p after
 quadratic_ends p after true off on =
@@ -218,7 +218,7 @@ round_all y f (c ∷ cs) =
     let both = turns-append y (contour_edges (f c)) (flat_map (λ c. contour_edges (f c)) cs) in
     omega (arith, ints, one, more, both)
 
--- off the edges the winding is the same from either side
+-- off the edges, the winding is equal from either side
 pub both_sides : SidesAgree
 both_sides points ends dx dy x y off =
     let ps = map (moved dx dy) points in

@@ -1,4 +1,4 @@
--- A tape on which the edges of points stand, one more point at a time.
+-- The edges of points on a tape, point by point.
 use Rattle.std.proofs.Common.{◌≡◌, ℕ, suc, ◌+◌, ◌-◌, ◌<◌, ◌≤◌, false, pos, List, [], ◌∷◌, ◌++◌, length, map, take, drop, get_or, refl, sym, ◌∙◌, arith, append_assoc, append-nil, length-drop, add-one, drop-cons}
 use Rattle.std.specs.List.{flat_map, range_with_len}
 use Rattle.std.proofs.lemmas.Bool.{lt-ltb}
@@ -16,12 +16,12 @@ pub one_chord_pushed : (out old new : List Edge) (c : Quadratic) (k : ℕ) (from
 one_chord_pushed out old new c k from to e before is_from is_to is_e after =
     rw (after, before, is_e, is_from, is_to, one_chord_more c k, append_assoc) refl
 
--- the edges of a point and those that follow it, where one more point stands before and one following them
+-- the edges of a point and of the points after it, with one more point before them and one following
 abbrev pub edges_along : Point → Point → List Point → Point → List Edge
 edges_along before p [] following = edges_of before p following
 edges_along before p (q ∷ ps) following = edges_of before p q ++ edges_along p q ps following
 
--- the last of a point and those that follow it
+-- the last of a point and the points after it
 abbrev pub last_of : Point → List Point → Point
 last_of p [] = p
 last_of p (q ∷ ps) = last_of q ps
@@ -29,7 +29,7 @@ last_of p (q ∷ ps) = last_of q ps
 abbrev nowhere : Point
 nowhere = record { x = pos 0; y = pos 0; on = false }
 
--- the points following the first, as the code walks them
+-- the points after the first, in the order of the code
 abbrev pub rest : {X : Type 0} → List X → List X
 rest ps = take (length ps - 1) (drop 1 ps)
 
@@ -49,7 +49,7 @@ one_point : (ps : List Point) (k : ℕ) (before p after : Point) → before ≡ 
     ≡ point_at ps k → after ≡ point_at ps (number_after (length ps) k) → edges_at ps k ≡ edges_of before p after
 one_point ps k before p after is_before is_p is_after = rw (is_before, is_p, is_after) refl
 
--- the points from a number on, each with its neighbours, as the code walks them
+-- the points from a number on, each with its neighbours, in the order of the code
 along_is : (all : List Point) (k : ℕ) (before p : Point) (ps : List Point) (first : Point) → before
     ≡ point_at all (number_before (length all) k) → first ≡ point_at all 0 → drop k all ≡ p ∷ ps
     → edges_along before p ps first ≡ flat_map (edges_at all) (range_with_len k (length (p ∷ ps)))
@@ -110,7 +110,7 @@ one_point_more ps out new i before p after below is_before is_p is_after is_new 
     let more : length ps - i ≡ suc (length ps - (i + 1)) = omega arith in
     rw (is_new, more, ← one_point ps i before p after is_before is_p is_after, append_assoc) refl
 
--- a point of a contour where it is moved
+-- a point of a contour after its move
 pub point_is : {X : Type 0} (f : X → Point) (xs : List X) (i : ℕ) (d : X) → i < length xs → f (get_or xs i d)
     ≡ point_at (map f xs) i
 point_is f xs i d below = sym (get_or-map f xs i d nowhere below)

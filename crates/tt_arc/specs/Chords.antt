@@ -1,7 +1,7 @@
--- Apple TrueType Reference Manual, "Digitizing Letterform Designs": a contour is closed and runs from point to point, by
--- straight lines where two points are on the curve, by quadratic curves where a point is off it; midway between two points
--- off the curve a point on it is implied. That a quadratic is cut into eight chords is profile. Points are in 26.6, the
--- ends of quadratics in 1/128 pixel, edges in 1/8192 pixel.
+-- Apple TrueType Reference Manual, "Digitizing Letterform Designs". A contour is closed and runs from point to point.
+-- Two points on the curve give a straight line, and a point off the curve gives a quadratic curve. Midway between two
+-- points off the curve there is an implied point on it. Cutting a quadratic into eight chords is profile. Points are in
+-- 26.6, ends of quadratics in 1/128 pixel, edges in 1/8192 pixel.
 use Rattle.std.specs.Prelude.{◌≡◌, ℕ, zero, suc, ◌+◌, ◌-◌, ◌*◌, ◌^◌, ◌<◌, ◌≤◌, Bool, true, false, nat_lt, if◌then◌else◌, ℤ, pos, ◌+ℤ◌, ◌-ℤ◌, ◌*ℤ◌, unsigned_abs, List, [], ◌∷◌, ◌++◌, length, map, take, get_or, refl}
 use Rattle.std.specs.List.{slice_index, slice_range, flat_map, range_with_len}
 use Rattle.tt_scan.specs.declared.edge.Edge.{Edge}
@@ -24,8 +24,8 @@ edge_end_of p = record { x = pos 128 *ℤ p.x; y = pos 128 *ℤ p.y }
 abbrev pub edge_between : EdgeEnd → EdgeEnd → Edge
 edge_between a b = record { ax = a.x; ay = a.y; bx = b.x; by = b.y }
 
--- the end that the quadratic of a point p off the curve has towards a neighbour n: n, or where n is off the curve too the
--- point midway
+-- the end of the quadratic of a point p off the curve, towards a neighbour n: n itself, or the point midway if n is off
+-- the curve too
 abbrev pub curve_end_of : Point → Point → CurveEnd
 curve_end_of n p = if n.on then record { x = pos 2 *ℤ n.x; y = pos 2 *ℤ n.y } else record { x = n.x +ℤ p.x; y = n.y +ℤ p.y }
 
@@ -33,8 +33,8 @@ curve_end_of n p = if n.on then record { x = pos 2 *ℤ n.x; y = pos 2 *ℤ n.y 
 abbrev pub quadratic_of : Point → Point → Point → Quadratic
 quadratic_of before p after = record { from = curve_end_of before p; control = p; to = curve_end_of after p }
 
--- one coordinate of a quadratic at t = k / 8, in 1/8192 pixel: 64 times (1 - t)^2 from + 2 t (1 - t) 2 control + t^2 to,
--- where the control point is in 26.6 and the ends in 1/128 pixel
+-- one coordinate of a quadratic at t = k / 8, in 1/8192 pixel: 64 times (1 - t)^2 from + 2 t (1 - t) 2 control + t^2
+-- to; the control point is in 26.6, the ends in 1/128 pixel
 abbrev pub eighth : ℕ → Coordinates → ℤ
 eighth k b = (pos ((8 - k) * (8 - k)) *ℤ b.from +ℤ pos (4 * k * (8 - k)) *ℤ b.control) +ℤ pos (k * k) *ℤ b.to
 
@@ -45,7 +45,7 @@ along_x c = record { from = c.from.x; control = c.control.x; to = c.to.x }
 abbrev pub along_y : Quadratic → Coordinates
 along_y c = record { from = c.from.y; control = c.control.y; to = c.to.y }
 
--- where chord k of a quadratic begins, and chord k - 1 ends
+-- the start of chord k of a quadratic, and the end of chord k - 1
 abbrev pub chord_end : Quadratic → ℕ → EdgeEnd
 chord_end c k = record { x = eighth k (along_x c); y = eighth k (along_y c) }
 
@@ -60,7 +60,7 @@ edges_of before p after =
     if p.on then (if after.on then edge_between (edge_end_of p) (edge_end_of after) ∷ [] else [])
     else first_chords (quadratic_of before p after) 8
 
--- a point of a contour by its number; past the last one a point at 0 stands for none
+-- a point of a contour by its number; past the last point, a point at 0
 abbrev pub point_at : List Point → ℕ → Point
 point_at ps i = get_or ps i (record { x = pos 0; y = pos 0; on = false })
 
@@ -76,11 +76,11 @@ number_after n i = if nat_lt (i + 1) n then i + 1 else 0
 abbrev pub edges_at : List Point → ℕ → List Edge
 edges_at ps i = edges_of (point_at ps (number_before (length ps) i)) (point_at ps i) (point_at ps (number_after (length ps) i))
 
--- the edges of a closed contour, point by point; a point alone has none
+-- the edges of a closed contour, point by point; a single point has none
 abbrev pub contour_edges : List Point → List Edge
 contour_edges ps = if nat_lt 1 (length ps) then flat_map (edges_at ps) (range_with_len 0 (length ps)) else []
 
--- contour c begins where the one before it ends
+-- the start of contour c: the end of the preceding contour
 abbrev pub contour_start : List ℕ → ℕ → ℕ
 contour_start ends zero = 0
 contour_start ends (suc c) = slice_index ends c
@@ -89,7 +89,7 @@ contour_start ends (suc c) = slice_index ends c
 abbrev pub contour_at : List Point → List ℕ → ℕ → List Point
 contour_at ps ends c = slice_range ps (contour_start ends c) (slice_index ends c)
 
--- the edges of all contours, one after the other
+-- the edges of all contours in sequence
 abbrev pub outline_edges : List Point → List ℕ → List Edge
 outline_edges ps ends = flat_map (λ c. contour_edges (contour_at ps ends c)) (range_with_len 0 (length ends))
 
@@ -97,45 +97,45 @@ outline_edges ps ends = flat_map (λ c. contour_edges (contour_at ps ends c)) (r
 abbrev pub chord_edges : List (ℤ × ℤ × Bool) → List ℕ → ℤ → ℤ → List Edge
 chord_edges points ends dx dy = outline_edges (map (moved dx dy) points) ends
 
--- the same contour by contour
+-- the edges of a moved outline, as a list for each contour
 abbrev pub chord_contours : List (ℤ × ℤ × Bool) → List ℕ → ℤ → ℤ → List (List Edge)
 chord_contours points ends dx dy =
     map (λ c. contour_edges (contour_at (map (moved dx dy) points) ends c)) (range_with_len 0 (length ends))
 
--- a moved point that the program takes
+-- a moved point within the program's range
 pub record PointFits (p : Point) : Type 0 where
   pub x : unsigned_abs p.x < 2 ^ 23
   pub y : unsigned_abs p.y < 2 ^ 23
 
--- a point that the program takes where it is moved by dx and dy
+-- a point within the program's range after a move by dx and dy
 abbrev pub IsNear : ℤ → ℤ → ℤ × ℤ × Bool → Type 0
 IsNear dx dy p = PointFits (moved dx dy p)
 
--- an end of a quadratic that the program takes
+-- an end of a quadratic within the program's range
 pub record CurveEndFits (j : CurveEnd) : Type 0 where
   pub x : unsigned_abs j.x + 2 ≤ 2 ^ 24
   pub y : unsigned_abs j.y + 2 ≤ 2 ^ 24
 
--- a quadratic that the program takes
+-- a quadratic within the program's range
 pub record QuadraticFits (c : Quadratic) : Type 0 where
   pub from : CurveEndFits c.from
   pub control : PointFits c.control
   pub to : CurveEndFits c.to
 
--- its coordinates along one axis
+-- the coordinates of such a quadratic along one axis
 pub record CoordinatesFit (b : Coordinates) : Type 0 where
   pub from : unsigned_abs b.from + 2 ≤ 2 ^ 24
   pub control : unsigned_abs b.control < 2 ^ 23
   pub to : unsigned_abs b.to + 2 ≤ 2 ^ 24
 
--- one coordinate of a quadratic, k eighths along it, its first difference there, and its second difference
+-- one coordinate of a quadratic at k eighths, its first difference there, and its second difference
 pub record AreDifferences (b : Coordinates) (k : ℕ) (s : Differences) : Type 0 where
   pub value : s.value ≡ eighth k b
   pub first : k < 8 → s.value +ℤ s.first ≡ eighth (k + 1) b
   pub second : s.second ≡ (pos 2 *ℤ (b.from +ℤ b.to)) -ℤ (pos 8 *ℤ b.control)
   pub small : unsigned_abs s.first ≤ 2 ^ 29 + 2 ^ 27 * k
 
--- an end of an edge that the program takes
+-- an end of an edge within the program's range
 pub record EdgeEndFits (s : EdgeEnd) : Type 0 where
   pub x : unsigned_abs s.x < 2 ^ 30
   pub y : unsigned_abs s.y < 2 ^ 30
@@ -167,13 +167,13 @@ a_contour_of_one_point_is_empty : chord_contours (point 5 5 true ∷ point 0 0 t
 unfolding edges_of point edge
 a_contour_of_one_point_is_empty = refl
 
--- the edge before the curve, then its first chord
+-- the edge before the curve, then the curve's first chord
 first_chord : take 2 (chord_edges (point 8 8 true ∷ point 0 0 true ∷ point 8 0 false ∷ []) (3 ∷ []) (pos 0) (pos 0))
     ≡ edge 1024 1024 0 0 ∷ edge 0 0 240 16 ∷ []
 unfolding edges_of first_chords point edge
 first_chord = refl
 
--- four points off the curve, and the chord of the first one that ends halfway
+-- four points off the curve, and the fourth chord of the first one, which ends halfway
 four_off : ℕ → ℕ → List (ℤ × ℤ × Bool)
 four_off a b = point a a false ∷ point b a false ∷ point b b false ∷ point a b false ∷ []
 

@@ -1,4 +1,4 @@
--- What the edges of an outline come to, told of its single points.
+-- Lemmas about the edges of an outline, in terms of its single points.
 use Rattle.std.specs.Prelude.{◌≡◌, ◌≢◌, ◌↔◌, ◌⊎◌, ℕ, ◌<◌, Bool, true, false, ◌&&◌, if◌then◌else◌, ℤ, pos, negsuc, ◌+ℤ◌, ◌*ℤ◌, int_lt, int_le, List, [], ◌∷◌, length, map, All, refl}
 use Rattle.std.specs.List.{Any, flat_map}
 use Rattle.tt_scan.specs.Contours.{IsClosed}
@@ -7,30 +7,30 @@ use Rattle.tt_scan.specs.Winding.{side, lies_on, lies_on_one, winding, is_black,
 use Rattle.tt_arc.specs.declared.point.Point.{Point}
 use Rattle.tt_arc.specs.Chords.{moved, edges_of, edges_at, contour_at, chord_edges, chord_contours}
 
--- contour c has two points or more, i is one of them, and (x, y) lies on an edge of that point
+-- contour c has two points or more, i is one of them, and (x, y) is on an edge of that point
 pub record LiesOnEdgeOf (ps : List Point) (ends : List ℕ) (x y : ℤ) (c i : ℕ) : Type 0 where
   pub contour : c < length ends
   pub two : 1 < length (contour_at ps ends c)
   pub point : i < length (contour_at ps ends c)
   pub on : Any (λ e. lies_on e x y ≡ true) (edges_at (contour_at ps ends c) i)
 
--- this holds of some point of some contour of an outline moved by dx and dy
+-- some point of some contour of a moved outline has an edge through the place
 abbrev pub LiesOnOutline : List (ℤ × ℤ × Bool) → List ℕ → ℤ → ℤ → ℤ → ℤ → Type 0
 LiesOnOutline points ends dx dy x y = (c : ℕ) × (i : ℕ) × LiesOnEdgeOf (map (moved dx dy) points) ends x y c i
 
--- a place lies on the edges of an outline where it lies on an edge of a single point
+-- a place is on the edges of an outline if and only if it is on an edge of a single point
 abbrev pub OnByPoints : Type 0
 OnByPoints = (points : List (ℤ × ℤ × Bool)) (ends : List ℕ) (dx dy x y : ℤ)
     → (lies_on_one (chord_edges points ends dx dy) x y ≡ true) ↔ LiesOnOutline points ends dx dy x y
 
--- it is black where it does, or where the edges go round it
+-- a place is black if and only if it is on such an edge, or the edges go round it
 abbrev pub BlackByPoints : Type 0
 BlackByPoints = (points : List (ℤ × ℤ × Bool)) (ends : List ℕ) (dx dy x y : ℤ)
     → (is_black (chord_edges points ends dx dy) x y ≡ true)
     ↔ (LiesOnOutline points ends dx dy x y ⊎ (winding (chord_edges points ends dx dy) x y ≢ pos 0))
 
--- what an edge adds to the winding of a place where the edges count that the place lies strictly left of: the turn at
--- its height, which on this side goes round the place the other way
+-- the part of an edge in a place's winding, by the edges strictly right of the place: the turn at the place's height,
+-- with its sign changed
 abbrev pub turned_right : Edge → ℤ → ℤ → ℤ
 turned_right e x y =
     if int_le e.ay y && int_lt y e.by && int_lt (pos 0) (side e x y) then negsuc 0
@@ -40,44 +40,44 @@ abbrev pub winding_right : List Edge → ℤ → ℤ → ℤ
 winding_right [] x y = pos 0
 winding_right (e ∷ es) x y = turned_right e x y +ℤ winding_right es x y
 
--- off the edges of an outline the winding is the same from either side
+-- off the edges of an outline, the winding is equal from either side
 abbrev pub SidesAgree : Type 0
 SidesAgree = (points : List (ℤ × ℤ × Bool)) (ends : List ℕ) (dx dy x y : ℤ)
     → lies_on_one (chord_edges points ends dx dy) x y ≡ false
     → winding (chord_edges points ends dx dy) x y ≡ winding_right (chord_edges points ends dx dy) x y
 
--- an outline that stands k pixels further to the right has its edges there
+-- moving an outline k pixels to the right moves its edges as far
 abbrev pub OutlineMoved : Type 0
 OutlineMoved = (points : List (ℤ × ℤ × Bool)) (ends : List ℕ) (dx dy k : ℤ)
     → chord_edges points ends (dx +ℤ pos 64 *ℤ k) dy ≡ moved_edges (pos 8192 *ℤ k) (chord_edges points ends dx dy)
 
--- the edges of its contours, one after the other, are those of the outline
+-- the edges of the contours, in sequence, are those of the outline
 abbrev pub ContoursJoined : Type 0
 ContoursJoined = (points : List (ℤ × ℤ × Bool)) (ends : List ℕ) (dx dy : ℤ)
     → flat_map (λ es. es) (chord_contours points ends dx dy) ≡ chord_edges points ends dx dy
 
--- each of them is closed, whatever the points
+-- each contour is closed, whatever the points
 abbrev pub ContoursAreClosed : Type 0
 ContoursAreClosed = (points : List (ℤ × ℤ × Bool)) (ends : List ℕ) (dx dy : ℤ)
     → All IsClosed (chord_contours points ends dx dy)
 
--- an outline that stands k pixels further to the right has the edges of each contour there
+-- moving an outline k pixels to the right moves the edges of each contour as far
 abbrev pub ContoursMoved : Type 0
 ContoursMoved = (points : List (ℤ × ℤ × Bool)) (ends : List ℕ) (dx dy k : ℤ)
     → chord_contours points ends (dx +ℤ pos 64 *ℤ k) dy
     ≡ map (moved_edges (pos 8192 *ℤ k)) (chord_contours points ends dx dy)
 
--- an edge that stands d higher
+-- an edge raised by d
 abbrev pub raised_edge : ℤ → Edge → Edge
 raised_edge d e = record { ax = e.ax; ay = e.ay +ℤ d; bx = e.bx; by = e.by +ℤ d }
 
--- and one that stands k pixels higher
+-- raising an outline by k pixels raises the edges of each contour as far
 abbrev pub ContoursRaised : Type 0
 ContoursRaised = (points : List (ℤ × ℤ × Bool)) (ends : List ℕ) (dx dy k : ℤ)
     → chord_contours points ends dx (dy +ℤ pos 64 *ℤ k)
     ≡ map (map (raised_edge (pos 8192 *ℤ k))) (chord_contours points ends dx dy)
 
--- worked values: inside a square, upwards on its left, and left of it
+-- worked values: inside a square whose left side goes upwards, and left of the square
 square : List Edge
 square =
     let points = (pos 0, pos 0, true) ∷ (pos 0, pos 2, true) ∷ (pos 2, pos 2, true) ∷ (pos 2, pos 0, true) ∷ [] in

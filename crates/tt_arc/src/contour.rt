@@ -21,7 +21,7 @@ fn edge_end_of(p: Point) -> EdgeEnd
     }
 }
 
-/// Adds the edges of a point, between the points before and after it, to a tape. Error: memory ran out.
+/// Adds the edges of a point to a list, between its neighbours `before` and `after`. Error: memory ran out.
 #[inline(always)]
 #[tactic(auto, unfolding(crate::specs::Chords::edges_of))]
 fn push_edges(list: &mut EdgeList, before: Point, p: Point, after: Point) -> Result<(), AllocError>
@@ -40,7 +40,7 @@ fn push_edges(list: &mut EdgeList, before: Point, p: Point, after: Point) -> Res
     Ok(())
 }
 
-/// The number of the point after point `i` of a closed contour of `n` points.
+/// The number of the point after point `i`, in a closed contour of `n` points.
 #[inline(always)]
 fn number_after(n: usize, i: usize) -> usize
     requires { i < n }
@@ -50,7 +50,7 @@ fn number_after(n: usize, i: usize) -> usize
     if i + 1 < n { i + 1 } else { 0 }
 }
 
-/// Adds the edges of a contour to a list; a contour of one point has none. Error: memory ran out.
+/// Adds the edges of a contour to a list. A contour of one point has none. Error: memory ran out.
 #[inline(never)]
 pub(crate) fn push_contour(
     list: &mut EdgeList,

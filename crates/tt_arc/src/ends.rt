@@ -1,4 +1,4 @@
-//! Where the contours of an outline end among its edges.
+//! The ends of an outline's contours among its edges.
 
 ghost use Rattle.std.specs.Prelude.{◌≡◌, ℤ, ◌*◌, ◌≤◌, length, map, IfOk};
 ghost use Rattle.tt_fit.specs.Outline.{AreEnds};
@@ -9,7 +9,8 @@ ghost use Rattle.tt_arc.specs.Chords.{moved, edges_of, contour_edges, chord_edge
 use std::alloc::{AllocError, Global};
 use tt_fit::Outline;
 
-/// How many edges a point has, by whether it and the next point of its contour are on the curve.
+/// The number of a point's edges: `on` and `next` say whether the point and the next point of its contour are on the
+/// curve.
 #[inline(always)]
 #[tactic(auto, using(crate::proofs::EdgeCounts::point_count))]
 fn edges_at_point(on: bool, next: bool) -> usize
@@ -19,7 +20,7 @@ fn edges_at_point(on: bool, next: bool) -> usize
     if on { usize::from(next) } else { 8 }
 }
 
-/// How many edges a contour has, wherever it stands; a contour of one point has none.
+/// The number of a contour's edges, wherever the contour is. A contour of one point has none.
 fn edges_of_contour(points: &[(i32, i32, bool)]) -> usize
     ensures exact { (dx dy : ℤ) → result ≡ length (contour_edges (map (moved dx dy) points.now)) }
     ensures few { result ≤ 8 * length points.now }
@@ -37,8 +38,8 @@ fn edges_of_contour(points: &[(i32, i32, bool)]) -> usize
     count + edges_at_point(on, first)
 }
 
-/// For each contour of an outline how many edges there are up to its end, among the edges that `chords` makes. They are
-/// as many wherever the outline stands. Error: memory ran out.
+/// For each contour of an outline, the number of edges up to its end, among the edges that `chords` makes. The
+/// numbers do not depend on the outline's position. Error: memory ran out.
 pub fn contour_ends(alloc: Global, outline: &Outline) -> Result<Vec<usize>, AllocError>
     requires { AreEnds (length outline.now.points.items) outline.now.ends.items }
     ensures exact { IfOk result (λ v. (dx dy : ℤ)

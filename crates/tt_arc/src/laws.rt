@@ -1,35 +1,35 @@
-//! Laws of the definitions. Each function takes nothing and gives nothing: its clauses hold of all outlines.
+//! Lemmas about the definitions, for all outlines. No code runs.
 
 ghost use Rattle.tt_arc.specs.Laws.{OnByPoints, BlackByPoints, SidesAgree, OutlineMoved, ContoursJoined, ContoursAreClosed, ContoursMoved, ContoursRaised};
 
-/// Where a place lies on an outline, and where it is black, told of the outline's single points.
+/// Lemma: a place is on an outline if and only if it is on an edge of a single point; it is black if it is there, or
+/// if the edges go round it, and only then.
 pub fn outline_points()
     ensures on { OnByPoints }
     ensures black { BlackByPoints }
 {}
 
-/// The winding round a place, counted of the edges on its left or of those on its right.
+/// Lemma: off the edges, the winding of a place is equal by the edges on its left and by those on its right.
 pub fn sides_agree()
     ensures { SidesAgree }
 {}
 
-/// The edges of an outline that is moved by whole pixels: they are those of the outline where it stood, moved by as much.
+/// Lemma: moving an outline right by whole pixels moves its edges by the same distance.
 pub fn outline_moved()
     ensures { OutlineMoved }
 {}
 
-/// The edges of an outline contour by contour: one after the other they are those of the outline.
+/// Lemma: the edges of an outline are the edges of its contours in sequence.
 pub fn contours_joined()
     ensures { ContoursJoined }
 {}
 
-/// The edges of each contour lead from one to the next, and from the last to the first.
+/// Lemma: the edges of each contour lead from one to the next, and from the last to the first.
 pub fn contours_closed()
     ensures { ContoursAreClosed }
 {}
 
-/// The contours of an outline that is moved by whole pixels: they are those of the outline where it stood, moved by as
-/// much.
+/// Lemma: moving an outline right or up by whole pixels moves the edges of each contour by the same distance.
 pub fn contours_moved()
     ensures right { ContoursMoved }
     ensures up { ContoursRaised }

@@ -12,7 +12,8 @@ use std::alloc::{AllocError, Global};
 use tt_fit::Outline;
 use tt_scan::{EdgeList, Frame, Tape};
 
-/// Adds the edges of all contours to a list. Each end is one past its contour's last point. Error: memory ran out.
+/// Adds the edges of all contours to a list. An entry of `ends` is one past its contour's last point. Error: memory
+/// ran out.
 #[tactic(auto, using(crate::proofs::Contours::none_left))]
 fn push_contours(
     list: &mut EdgeList,
@@ -33,7 +34,7 @@ fn push_contours(
     Ok(())
 }
 
-/// How many edges some points have at most: one where the point is on the curve, and else eight.
+/// A bound of the number of edges: one for each point on the curve, and eight for any other point.
 fn most_edges(points: &[(i32, i32, bool)]) -> usize
     ensures { result ≡ sum_by (λ p. if p.2 then 1 else 8) points.now }
 {
@@ -44,9 +45,9 @@ fn most_edges(points: &[(i32, i32, bool)]) -> usize
     most
 }
 
-/// The edges of an outline that is moved by `dx` and `dy`, in 26.6: the straight lines of its closed
-/// contours, and each curve as eight chords (profile). A contour of one point has none. Apple TrueType
-/// Reference Manual, "Digitizing Letterform Designs". Error: memory ran out.
+/// The edges of an outline moved by `dx` and `dy`, in 26.6: the straight lines of its closed contours, and eight
+/// chords for each curve (profile). A contour of one point has none. Apple TrueType Reference Manual, "Digitizing
+/// Letterform Designs". Error: memory ran out.
 pub fn edges(alloc: Global, outline: &Outline, dx: i64, dy: i64) -> Result<EdgeList, AllocError>
     requires ends { AreEnds (length outline.now.points.items) outline.now.ends.items }
     requires near { All (IsNear dx dy) outline.now.points.items }
@@ -54,13 +55,13 @@ pub fn edges(alloc: Global, outline: &Outline, dx: i64, dy: i64) -> Result<EdgeL
     ensures few { IfOk result (λ l. length l.edges ≤ 8 * length outline.now.points.items) }
 {
     let mut list = EdgeList::new(alloc);
-    // Memory is taken once.
+    // The list allocates once.
     list.reserve(most_edges(&outline.points))?;
     push_contours(&mut list, &outline.points, &outline.ends, Offset { dx, dy })?;
     Ok(list)
 }
 
-/// The same edges, put on the tape of a frame. Error: memory ran out.
+/// The edges of a moved outline, on the tape of a frame. Error: memory ran out.
 pub fn chords(
     alloc: Global,
     outline: &Outline,

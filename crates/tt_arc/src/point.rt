@@ -1,18 +1,18 @@
-//! The points of an outline, moved to where the glyph stands.
+//! The points of an outline, moved to the glyph's position.
 
 ghost use Rattle.std.specs.Prelude.{◌≡◌};
 ghost use Rattle.tt_arc.specs.Chords.{moved, IsNear};
 
-/// A point where the glyph stands, in 26.6.
+/// A point of a glyph at its position, in 26.6.
 #[derive(Clone, Copy)]
 pub(crate) struct Point {
     pub(crate) x: i64,
     pub(crate) y: i64,
-    /// Whether it is on the curve.
+    /// Whether the point is on the curve.
     pub(crate) on: bool,
 }
 
-/// How far a glyph stands from where its outline has it, in 26.6.
+/// The offset of a glyph from its outline's own position, in 26.6.
 #[derive(Clone, Copy)]
 pub(crate) struct Offset {
     /// Rightwards.
@@ -21,7 +21,7 @@ pub(crate) struct Offset {
     pub(crate) dy: i64,
 }
 
-/// A point of an outline, its x, y and whether it is on the curve, where the glyph stands.
+/// A point of an outline (x, y, and whether it is on the curve), moved to the glyph's position.
 #[inline(always)]
 pub(crate) fn moved(point: (i32, i32, bool), by: Offset) -> Point
     requires { IsNear by.dx by.dy point }

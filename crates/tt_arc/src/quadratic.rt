@@ -9,8 +9,8 @@
 //!    a               b
 //! ```
 //!
-//! Along an axis the nine places are values of a polynomial of degree 2, so each follows from the one before by sums alone:
-//! by its first difference, and by the second, which is the same all along (`Differences`).
+//! Along an axis the nine places are values of a polynomial of degree 2. Each follows from the preceding one by sums
+//! alone: by its first difference, and by the second difference, which is constant (`Differences`).
 
 ghost use Rattle.std.specs.Prelude.{◌≡◌, ◌^◌, ◌<◌, ◌≤◌, ◌++◌, ◌+ℤ◌, unsigned_abs, OnOk};
 ghost use Rattle.tt_scan.specs.Winding.{EdgeFits};
@@ -20,7 +20,7 @@ use crate::point::Point;
 use std::alloc::AllocError;
 use tt_scan::{Edge, EdgeList};
 
-/// Where a quadratic begins or ends, in 1/128 pixel.
+/// An end of a quadratic, in 1/128 pixel.
 #[derive(Clone, Copy)]
 pub(crate) struct CurveEnd {
     pub(crate) x: i64,
@@ -35,8 +35,8 @@ pub(crate) struct Quadratic {
     pub(crate) to: CurveEnd,
 }
 
-/// The end that the quadratic of a point off the curve has towards a neighbour: the neighbour, or where that is off the
-/// curve too the point midway.
+/// The end of the quadratic of a point off the curve, towards a neighbour. The end is the neighbour, or the point
+/// midway if the neighbour is off the curve too.
 #[inline(always)]
 fn curve_end_of(neighbour: Point, p: Point) -> CurveEnd
     requires neighbour { PointFits neighbour }
@@ -76,11 +76,11 @@ pub(crate) fn quadratic_of(before: Point, p: Point, after: Point) -> Quadratic
 /// The coordinates of a quadratic along one axis.
 #[derive(Clone, Copy)]
 struct Coordinates {
-    /// Where it begins, in 1/128 pixel.
+    /// Of its start, in 1/128 pixel.
     from: i64,
     /// Of its control point, in 26.6.
     control: i64,
-    /// Where it ends, in 1/128 pixel.
+    /// Of its end, in 1/128 pixel.
     to: i64,
 }
 
@@ -108,8 +108,8 @@ fn along_y(curve: Quadratic) -> Coordinates
     }
 }
 
-/// Where a chord ends along one axis, how far it is from there to the end of the next chord, and how much further to
-/// the end of the one after it: in 1/8192 pixel.
+/// The end of a chord along one axis, the first difference to the next chord's end, and the second difference, in
+/// 1/8192 pixel.
 #[derive(Clone, Copy)]
 struct Differences {
     value: i64,
@@ -117,14 +117,14 @@ struct Differences {
     second: i64,
 }
 
-/// The coordinate and the differences where a quadratic begins.
+/// The coordinate and the differences at the start of a quadratic.
 #[inline(always)]
 fn differences_at_start(coordinates: Coordinates) -> Differences
     requires { CoordinatesFit coordinates }
     ensures { AreDifferences coordinates 0 result }
 {
     let Coordinates { from, control, to } = coordinates;
-    // With shifts and sums alone, where the plain form has two products.
+    // Shifts and sums alone; the plain form has two products.
     let four = 4 * control;
     let bend = from + to - four;
     Differences {
@@ -134,7 +134,7 @@ fn differences_at_start(coordinates: Coordinates) -> Differences
     }
 }
 
-/// One chord on.
+/// The differences one chord further.
 #[inline(always)]
 fn next(s: Differences) -> Differences
     requires value { unsigned_abs s.value < 2 ^ 30 }
@@ -154,13 +154,13 @@ fn next(s: Differences) -> Differences
 /// An end of an edge, in 1/8192 pixel.
 #[derive(Clone, Copy)]
 pub(crate) struct EdgeEnd {
-    /// Rightwards from the left edge of the picture.
+    /// To the right of the picture's left edge.
     pub(crate) x: i64,
-    /// Upwards from the base line.
+    /// Above the base line.
     pub(crate) y: i64,
 }
 
-/// Where a chord ends.
+/// The end of a chord.
 #[inline(always)]
 fn edge_end(x: Differences, y: Differences) -> EdgeEnd
     ensures { result ≡ record { x = x.value; y = y.value } }
