@@ -135,7 +135,7 @@ pub record AreSums (from : ℤ) (values by : List ℤ) : Type 0 where
   pub many : length values ≡ length by
   pub sums : (i : ℕ) → i < length values → get_or values i (pos 0) ≡ fold ◌+ℤ◌ from (take (i + 1) by)
 
--- the points whose flags begin at an offset; a point's flag is that of its run, and its coordinates are sums of deltas;
+-- the points whose flags begin at an offset. A point's flag is that of its run, and its coordinates are sums of deltas;
 -- no run and no delta passes the end of the bytes
 pub record ArePoints (bytes : List ℕ) (at : ℕ) (points : List RawPoint) : Type 0 where
   pub runs : ℕ

@@ -101,7 +101,7 @@ struct Run {
     next: usize,
 }
 
-/// The run at an offset, if `left` points remain. Errors: GlyphShort, FlagRun.
+/// The run at an offset, for the remaining points. Errors: GlyphShort, FlagRun.
 #[inline(always)]
 #[tactic(auto, unfolding(crate::specs::Flags::run_at))]
 fn run_at(glyph: &GlyphBytes, at: usize, left: usize) -> Result<Run, Fault>
