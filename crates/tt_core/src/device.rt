@@ -16,7 +16,7 @@ const TRIES: u32 = 1000;
 #[error("the device failed")]
 pub struct IoFailed;
 
-/// Where a font comes from.
+/// The source of a font's bytes.
 pub trait Source {
     // The bytes that later reads will give, if they are known.
     ghost left: { Self → Option (List ℕ) };
@@ -35,7 +35,7 @@ pub trait Source {
         ensures { result ≡ has_failed self.now };
 }
 
-/// Where the lines or the picture go.
+/// The destination of the lines or the picture.
 pub trait Sink {
     // The bytes written to here, if they are known.
     ghost written: { Self → Option (List ℕ) };
