@@ -68,7 +68,7 @@ one-more : (b : Bool) (k : ℕ) {x y : ℕ} → x ≤ k → y ≤ k → (if b th
 one-more true k before after = omega (arith, before)
 one-more false k before after = omega (arith, after)
 
--- doubling the numbers adds one test
+-- fewer than 2^k numbers take at most k tests
 few-within : (passes : ℕ → Bool) (n low left k : ℕ) → left < 2 ^ k → asked_within n passes low left ≤ k
 unfolding asked_within
 few-within passes zero low left k small = omega arith

@@ -11,6 +11,6 @@ abbrev pub CmapsAreWhole : Type 0
 CmapsAreWhole = (table : List ℕ) (glyphs : ℕ) (cmap : Cmap) → cmap_of table glyphs ≡ Ok cmap
     → HasNo (IsBadCmap table)
 
--- no character of a text is listed if and only if all its characters have glyphs
+-- the list of a text's characters without glyphs is empty if and only if all its characters have glyphs
 abbrev pub FullTextsLackNothing : Type 0
 FullTextsLackNothing = (cmap : Cmap) (text : List ℕ) → (lacking_of cmap text ≡ []) ↔ AllHaveGlyphs cmap text

@@ -7,7 +7,7 @@ pub fn cmaps_are_whole()
     ensures { CmapsAreWhole }
 {}
 
-/// Lemma: no character of a text is listed if and only if all its characters have glyphs.
+/// Lemma: the list of a text's characters without glyphs is empty if and only if all its characters have glyphs.
 pub fn full_texts_lack_nothing()
     ensures { FullTextsLackNothing }
 {}

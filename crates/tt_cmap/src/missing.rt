@@ -9,8 +9,8 @@ use crate::known::KnownGlyphs;
 use crate::lookup::Cmap;
 use std::alloc::{AllocError, Global};
 
-/// The distinct characters of a text with glyph 0, in order of first appearance. Each occurrence in the text is
-/// compared with the characters listed before it. Error: memory ran out.
+/// The distinct characters of a text with glyph 0, in order of first appearance. Each of their occurrences is
+/// compared with the list so far. Error: memory ran out.
 pub fn lacking(alloc: Global, cmap: &Cmap, text: &str) -> Result<Vec<char>, AllocError>
     ensures exact { IfOk result (λ v. v.items ≡ lacking_of cmap.now (chars text.now)) }
     ensures missing { IfOk result (λ v. All (λ c. glyph_of cmap.now c ≡ 0) v.items) }
