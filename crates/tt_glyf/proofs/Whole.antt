@@ -28,7 +28,7 @@ IsBadAfter g at runs f =
     ⊎ ((LeavesWords (x_deltas g.bytes at runs) ⊎ LeavesWords (y_deltas g.bytes at runs))
     × (f ≡ glyph_fault g 0 why.CoordRange))
 
--- after some records that announce another, and the last record, a program passes the end of the bytes
+-- after n + 1 records, a program passes the end of the bytes
 abbrev IsProgramCut : GlyphBytes → ℕ → Fault → Type 0
 IsProgramCut g n f =
     (has_program (written_records g 10 (suc n)) ≡ true)

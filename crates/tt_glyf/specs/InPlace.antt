@@ -34,7 +34,7 @@ all_held flags = record { items = map held flags.items; next = flags.next }
 unfoldable pub held_of : GlyphBytes → ℕ → ℕ → Result (Listing RawPoint) Fault
 held_of g at points = flags_of g at points >>= λ flags. Ok (all_held flags)
 
--- points that hold flags, after their coordinates along an axis are put in; the last argument precedes the first
+-- points that hold flags, after their coordinates along an axis are put in; the last argument is the preceding
 -- coordinate
 unfoldable pub placed_from : GlyphBytes → Axis → (RawPoint → ℤ → RawPoint) → List RawPoint → Coordinate
     → Result (Listing RawPoint) Fault
