@@ -1,4 +1,4 @@
--- On an axis, the distance of a place is its coordinate, and a sum in 2.14 loses its 14 bits exactly.
+-- On an axis, the distance of a place is its coordinate. A sum in 2.14 is rounded by at most half a unit.
 use Rattle.std.proofs.Common.{◌≡◌, ◌+◌, ◌*◌, ◌≤◌, ℤ, pos, ◌+ℤ◌, ◌*ℤ◌, unsigned_abs, arith}
 use Rattle.std.proofs.lemmas.Int.{ints}
 use Rattle.tt_core.specs.Numbers.{rounded_quotient}

@@ -8,7 +8,8 @@ use Rattle.tt_core.specs.declared.fault.Why.TheVariants as why
 use Rattle.tt_state.specs.Tolerance.{is_missing, unless_missing}
 use Rattle.tt_state.specs.declared.tolerance.Tolerance.TheVariants as tolerance
 
--- refusals about stack values: too few of them, or an argument that a tolerant machine cuts to its low byte or ignores
+-- refusals about stack values: too few of them, or a bad argument; for some of these a tolerant machine uses the low
+-- byte, or nothing
 abbrev pub is_of_values : Why → Bool
 is_of_values why.StackShort = true
 is_of_values why.BadArgument = true

@@ -57,7 +57,7 @@ pub struct GraphicsState {
     /// The single-width cut-in.
     pub single_cut_in: i32,
     pub auto_flip: bool,
-    /// The size, in pixels per em, at which delta instructions begin.
+    /// The base size of delta instructions, in pixels per em.
     pub delta_base: i32,
     /// The binary logarithm of the number of parts of a pixel in deltas. SDS sets 0 to 6.
     pub delta_shift: u32,

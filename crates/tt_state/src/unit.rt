@@ -8,7 +8,7 @@ ghost use Rattle.tt_state.specs.Axes.{vector_of};
 
 use crate::vector::{Part, Vector, Wide, widened};
 
-/// 2^28 `s` / `l`, cut. Two divisions keep every product below 2^59.
+/// 2^28 `s` / `l`, cut. With two divisions no product exceeds 2^59.
 fn quotient(s: u64, l: u64) -> u64
     requires some { 0 < l }
     requires within { s ≤ l }
