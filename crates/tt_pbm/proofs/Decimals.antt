@@ -15,7 +15,7 @@ goes-on rest text all large fits whole =
 pub ends : (rest : ℕ) (text all : List ℕ) → rest < 10 → decimal rest ++ text ≡ all → (48 + rest) ∷ text ≡ all
 ends rest text all small whole = rw (decimal_digit rest small) at whole
 
--- while digits remain, the text lacks at least one of the number's bytes, at most five
+-- while digits remain, at most four of the number's digits are in the text
 pub lacks-some : (rest n : ℕ) (text first : List ℕ) → rest < 2 ^ 16 → n < 2 ^ 16
     → decimal rest ++ text ≡ decimal n ++ first → length text < length first + 5
 lacks-some rest n text first fits all-fit whole =
