@@ -24,7 +24,7 @@ point_count before p after = by_flags p.on after.on _ _ (eight_chords _)
 pub off_count : (before p after : Point) → p.on ≡ false → length (edges_of before p after) ≡ 8
 off_count before p after off = point_count before p after ∙ rw off refl
 
--- a number that fits every such point
+-- a number that is the edge count of every such point
 pub count_is : (on next : Bool) (n : ℕ)
     → ((before p after : Point) → p.on ≡ on → after.on ≡ next → n ≡ length (edges_of before p after))
     → n ≡ edge_count on next

@@ -40,7 +40,7 @@ above s ay by y a b = grind (arith, ints)
 below : (s ay by y : ℤ) → ay ≤ℤ y → by ≤ℤ y → from_left s ay by y -ℤ from_right s ay by y ≡ over y by -ℤ over y ay
 below s ay by y a b = grind (arith, ints)
 
--- the difference of both sides, if the edge has no place at this height with side 0
+-- the difference of both sides, if the place is not on the edge
 between_sides : (s ay by y : ℤ) → (ay ≤ℤ y → y <ℤ by → is_zero s ≡ false) → (by ≤ℤ y → y <ℤ ay → is_zero s ≡ false)
     → from_left s ay by y -ℤ from_right s ay by y ≡ over y by -ℤ over y ay
 between_sides s ay by y up down =
