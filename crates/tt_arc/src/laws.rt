@@ -9,7 +9,7 @@ pub fn outline_points()
     ensures black { BlackByPoints }
 {}
 
-/// Lemma: off the edges, the winding of a place is equal by the edges on its left and by those on its right.
+/// Lemma: off the edges of an outline, the winding of a place is equal from either side.
 pub fn sides_agree()
     ensures { SidesAgree }
 {}

@@ -22,7 +22,7 @@ data_length op count =
     if nat_le 0xB0 op && nat_le op 0xB7 then op - 0xAF else (
     if nat_le 0xB8 op && nat_le op 0xBF then 2 * (op - 0xB7) else 0)))
 
--- whether data follows an opcode; a count of 0 is data too
+-- whether data follows an opcode, even with a count of 0
 abbrev pub takes_data : ℕ → Bool
 takes_data op = op == 0x40 || op == 0x41 || (nat_le 0xB0 op && nat_le op 0xBF)
 

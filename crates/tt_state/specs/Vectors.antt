@@ -41,8 +41,8 @@ unit x y =
     let l = square x + square y in
     if l == 0 then pair (pos 16384) (pos 0) else pair (part x l) (part y l)
 
--- the unit vector of a line from one place to another, or that vector turned left by a quarter turn. If the places are
--- equal, it is the x axis, turned or not (profile)
+-- the unit vector of a line from one place to another, or that vector turned counterclockwise by a quarter turn. If the
+-- places are equal, it is the x axis, turned or not (profile)
 abbrev pub line : Pair → Pair → Bool → Pair
 line from to turned =
     if turned then unit (neg_ℤ (to.y -ℤ from.y)) (to.x -ℤ from.x) else unit (to.x -ℤ from.x) (to.y -ℤ from.y)

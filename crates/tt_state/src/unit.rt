@@ -92,8 +92,8 @@ impl Vector {
         unit_of(widened(x), widened(y))
     }
 
-    /// The unit vector of a line, or that vector turned left by a quarter turn. It is the x axis if the line has no
-    /// length (profile).
+    /// The unit vector of a line, or that vector turned counterclockwise by a quarter turn. It is the x axis if the
+    /// line has no length (profile).
     pub fn line(from: (i32, i32), to: (i32, i32), turned: bool) -> Vector
         requires from_x { unsigned_abs from.0 ≤ coordinate_limit }
         requires from_y { unsigned_abs from.1 ≤ coordinate_limit }
