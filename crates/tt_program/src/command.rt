@@ -8,8 +8,8 @@ use clap::{Arg, ArgAction, ArgMatches, Command, value_parser};
 use std::alloc::{AllocError, Global};
 use tt_program_decisions::{Arguments, DRAW, FITS, FULL, MISSING_WORDS, Request, request_of};
 
-/// `tt_render map FONT TEXT`, and `tt_render draw` or `tt_render measure` with `--size N [--margin N]
-/// [--fit full|none|fallback|best] [--missing draw|tell|refuse] [--grow] FONT TEXT`, or `--lines FONT`.
+/// Describes `tt_render map FONT TEXT`, and `draw` and `measure` with `--size N [--margin N]
+/// [--fit full|none|fallback|best] [--missing draw|tell|refuse] [--grow]` and `FONT TEXT` or `--lines FONT`.
 pub(crate) fn command<'a>(alloc: Global) -> Result<Command<'a>, AllocError> {
     Command::new(alloc, "tt_render")
         .bin_name("tt_render")?
@@ -23,9 +23,9 @@ pub(crate) fn command<'a>(alloc: Global) -> Result<Command<'a>, AllocError> {
 
 fn draw_command<'a>(alloc: Global) -> Result<Command<'a>, AllocError> {
     let command = Command::new(alloc, "draw")
-        .about("Writes the picture of a line of text on standard output, as binary PBM (P4)")
+        .about("Writes the picture of a line of text, as binary PBM (P4)")
         .after_help(
-            "A TEXT that begins with '-' goes behind '--': tt_render draw --size N FONT -- -text",
+            "A TEXT that begins with '-' goes after '--':\n  tt_render draw --size N FONT -- -text",
         );
     drawing(
         alloc,
@@ -36,9 +36,9 @@ fn draw_command<'a>(alloc: Global) -> Result<Command<'a>, AllocError> {
 
 fn measure_command<'a>(alloc: Global) -> Result<Command<'a>, AllocError> {
     let command = Command::new(alloc, "measure")
-        .about("Prints where the picture of a line, its ink and each character stand, in pixels")
+        .about("Prints where the baseline, the ink and each character are, in pixels")
         .after_help(
-            "A TEXT that begins with '-' goes behind '--': tt_render measure --size N FONT -- -text",
+            "A TEXT that begins with '-' goes after '--':\n  tt_render measure --size N FONT -- -text",
         );
     drawing(
         alloc,
@@ -47,7 +47,7 @@ fn measure_command<'a>(alloc: Global) -> Result<Command<'a>, AllocError> {
     )
 }
 
-/// A subcommand with what says how a line is drawn, and which.
+/// Adds the options that `draw` and `measure` share.
 fn drawing<'a>(
     alloc: Global,
     command: Command<'a>,
@@ -67,7 +67,7 @@ fn drawing<'a>(
 fn map_command<'a>(alloc: Global) -> Result<Command<'a>, AllocError> {
     Command::new(alloc, "map")
         .about("Prints each character's glyph number and advance in font units")
-        .after_help("A TEXT that begins with '-' goes behind '--': tt_render map FONT -- -text")
+        .after_help("A TEXT that begins with '-' goes after '--':\n  tt_render map FONT -- -text")
         .arg(font(alloc))?
         .arg(text(alloc).required(true))
 }
@@ -109,9 +109,13 @@ fn fit<'a>(alloc: Global) -> Arg<'a> {
         .value_name("HOW")
         .value_parser(FITS.as_slice())
         .default_value(FULL)
+        .hide_possible_values(true)
         .help(
-            "full: by the font's programs; none: scaled points only; fallback: full where that serves; \
-             best: fallback with the whole instruction set, and tolerant",
+            "How the font's own programs (hinting) are used:\n\
+             best      for any font; fills gaps in thin strokes\n\
+             fallback  as full, but a refused glyph is drawn unhinted\n\
+             none      not at all; outlines are scaled\n\
+             full      by the strict rules alone",
         )
 }
 
@@ -121,9 +125,12 @@ fn missing<'a>(alloc: Global) -> Arg<'a> {
         .value_name("HOW")
         .value_parser(MISSING_WORDS.as_slice())
         .default_value(DRAW)
+        .hide_possible_values(true)
         .help(
-            "Where the font has no glyph for a character: draw: glyph 0 in its place; tell: so, and name \
-             the character; refuse: refuse the text",
+            "What to do with a character that the font lacks:\n\
+             tell      draw glyph 0, and report the character\n\
+             refuse    refuse the text\n\
+             draw      draw glyph 0, often a box",
         )
 }
 
@@ -171,7 +178,7 @@ impl<'m, 'a> Arguments<'a> for Found<'m, 'a> {
     }
 }
 
-/// What a command line asks for.
+/// Makes a request of what clap found; None where a required argument is absent.
 pub(crate) fn request<'a>(matches: &ArgMatches<'a>) -> Option<Request<'a>> {
     let (subcommand, matches) = matches.subcommand()?;
     request_of(subcommand, &Found { matches })
