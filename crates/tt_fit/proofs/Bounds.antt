@@ -1,4 +1,4 @@
--- An outline that is given has no more points and contours than its glyph asks for.
+-- An outline has no more points and contours than its glyph's count.
 use Rattle.std.proofs.Common.{◌≡◌, ℕ, zero, suc, ◌+◌, ◌≤◌, nat_lt, Bool, true, false, if◌then◌else◌, List, [], ◌∷◌, ◌++◌, length, map, Result, Ok, ℤ, pos, refl, arith, length-append}
 use Rattle.std.specs.List.{sum_by}
 use Rattle.std.proofs.lemmas.List.{length-map, length-take}
@@ -90,7 +90,7 @@ joined-size add f adds (r ∷ rs) o all was =
     let others = joined-size add f adds rs first.value all first.rest in
     rw (sum_by-cons f r rs) (omega arith)
 
--- what stands in a glyph's own bytes
+-- the counts in a glyph's own bytes
 abbrev own-size : Raw → ℕ
 own-size empty = 0
 own-size (simple d) = length d.ends + length d.points
@@ -143,7 +143,7 @@ zeros (r ∷ rs) =
     let none = zeros rs in
     rw (sum_by-cons (λ x. 0) r rs) (omega arith)
 
--- what a record's component asks for
+-- the count of a record's component
 asked : Glyf → ℕ → Record → ℕ
 asked t zero r = 0
 asked t (suc levels) r = points_asked t levels r.glyph

@@ -1,4 +1,4 @@
--- A glyph's points where no level of components is left, and where some are.
+-- A glyph's points with no level of components, and with some.
 use Rattle.std.proofs.Common.{◌≡◌, ℕ, zero, suc, ◌+◌, ◌-◌, ◌<◌, refl, arith}
 use Rattle.tt_glyf.specs.Loca.{Glyf}
 use Rattle.tt_glyf.specs.Told.{components_of}

@@ -1,4 +1,4 @@
--- Which glyphs are unfitted, and what is made of one then.
+-- Which glyphs are unfitted, and their outlines.
 use Rattle.std.proofs.Common.{◌≡◌, ◌≢◌, ◌∙◌, sym, ap, subst, ℕ, true, false, Option, Some, None, Result, Ok, Err, OnOk, refl}
 use Rattle.tt_core.specs.Faults.{Fault}
 use Rattle.tt_core.specs.Outcomes.{◌>>=◌}
@@ -24,7 +24,7 @@ pub never-unfitted : (s : Fitter) (g : ℕ) → s.fallback ≡ never → unfitte
 unfolding unfitted_fault
 never-unfitted s g is = rw is refl
 
--- for a glyph by what its outline with programs is
+-- for a glyph by its outline with programs
 pub fitted-where-made : (s : Fitter) (g : ℕ) (o : Outline) → s.fallback ≡ where_refused → HasWork s g
     → outline_at (with_hinting s s.hinting) s.levels g ≡ Ok o → unfitted_fault s g ≡ None
 unfolding unfitted_fault
@@ -42,7 +42,7 @@ pub fitted-where-short : (s : Fitter) (g : ℕ) (f : Fault) → s.fallback ≡ w
 unfolding unfitted_fault
 fitted-where-short s g f is has fails of_table = rw (is, has.1, fails, of_table) refl
 
--- or by what its work is
+-- for a glyph by its work
 pub unfitted-where-spent : (s : Fitter) (g : ℕ) (f : Fault) → s.fallback ≡ where_refused
     → glyph_work s g s.work ≡ spent f → unfitted_fault s g ≡ Some f
 unfolding unfitted_fault
@@ -53,7 +53,7 @@ pub unfitted-everywhere : (s : Fitter) (g : ℕ) (f : Fault) → s.fallback ≡ 
 unfolding unfitted_fault
 unfitted-everywhere s g f is = rw is refl
 
--- what is made then
+-- the outline in each case
 pub made-fitted : (s : Fitter) (g : ℕ) → unfitted_fault s g ≡ None
     → fitted_outline s g ≡ outline_at (with_hinting s s.hinting) s.levels g
 unfolding fitted_outline
@@ -78,7 +78,7 @@ made-by-programs s g hinting o left rest is same at pays made =
     let has : HasWork s g = (rest, pays-too s g hinting left rest same at pays) in
     made-fitted s g (fitted-where-made s g o is has by_own) ∙ by_own
 
--- what is left of the job's work then
+-- the job's remaining work in this case
 pub left-where-enough : (s : Fitter) (g : ℕ) (left : Option ℕ) → s.fallback ≡ where_refused
     → glyph_work s g s.work ≡ enough left → (after_glyph s g).work ≡ left
 unfolding after_glyph
@@ -97,32 +97,32 @@ pub left-where-everywhere : (s : Fitter) (g : ℕ) (f : Fault) → s.fallback �
 unfolding after_glyph
 left-where-everywhere s g f is = rw is refl
 
--- and nothing else changes
+-- nothing else changes
 pub after-is : (s : Fitter) (g : ℕ) (left : Option ℕ) → left ≡ (after_glyph s g).work
     → record s { work = left } ≡ after_glyph s g
 unfolding after_glyph
 after-is s g left is = ap (λ w. record s { work = w }) is
 
--- what holds without a condition holds where a call is Ok
+-- an unconditional fact holds where a call is Ok
 pub on-ok : {X E : Type 0} (result : Result X E) (Q : Type 0) → Q → OnOk result Q
 on-ok (Ok x) Q holds = holds
 on-ok (Err e) Q holds = tt
 
--- the same where this one says which dropouts are filled
+-- the fitter with this source of dropout rules
 abbrev filled : DropoutsBy → Fitter → Fitter
 filled who s = record s { dropouts = who }
 
--- what a way of fitting makes outlines from, by what the two programs leave, and their work
+-- the fitter of a fit, by the state after the two programs, and their work
 abbrev fitter_by : Metrics → Glyf → ℕ → Fit → DropoutsBy → Worked → Result Hinting Fault → Result Fitter Fault
 fitter_by m tables ppem how who worked left =
     prepared_by how worked left >>= λ p. Ok (filled who (fitter_with m tables ppem how p.hinting p.fallback p.work))
 
--- a way that falls back keeps a fault of the two
+-- a fit that falls back keeps a fault of the two
 abbrev fitter_falling : Metrics → Glyf → ℕ → Fit → Result Hinting Fault → Option ℕ → Fitter
 fitter_falling m tables ppem how left work =
     fitter_with m tables ppem how (with_fallback left).hinting (with_fallback left).fallback work
 
--- it is so with as much work as is left
+-- the facts hold with the remaining work
 abbrev Falls : Metrics → Glyf → ℕ → Fit → DropoutsBy → Result Hinting Fault → Fitter → Type 0
 Falls m tables ppem how who left s =
     (work : Option ℕ) × (filled who (fitter_falling m tables ppem how left work) ≡ s)
@@ -138,14 +138,14 @@ falling m tables ppem fit.Best who s (enough l) (Ok hinting) rest falls has is =
 falling m tables ppem fit.Best who s (enough l) (Err f) rest falls has is = (l, cc)
 falling m tables ppem fit.Best who s (spent f) left rest falls has is = absurd cc
 
--- what they are made from by the programs alone, and a glyph's outline then
+-- the fitter by the programs alone, and a glyph's outline with it
 abbrev fitter_alone : Metrics → Glyf → ℕ → Fit → Result Hinting Fault → Result Fitter Fault
 fitter_alone m tables ppem how left = left >>= λ hinting. Ok (fitter_with m tables ppem how hinting never None)
 
 abbrev outline_alone : Metrics → Glyf → ℕ → Fit → Result Hinting Fault → ℕ → Result Outline Fault
 outline_alone m tables ppem how left g = fitter_alone m tables ppem how left >>= λ s. fitted_outline s g
 
--- a setting where no glyph is unfitted
+-- a fitter with no glyph unfitted
 alone-is : (m : Metrics) (tables : Glyf) (ppem : ℕ) (how : Fit) (hinting : Hinting) (fallback : Fallback)
     (work : Option ℕ) (g : ℕ) → fitted_outline (fitter_with m tables ppem how hinting never None) g
     ≡ outline_at (with_hinting (fitter_with m tables ppem how hinting fallback work) hinting) (levels_of how) g
@@ -276,7 +276,7 @@ pub none-is-without-programs : NoneIsWithoutPrograms
 unfolding fitter_of prepared
 none-is-without-programs m tables programs ppem = refl
 
--- work that is not bounded
+-- unbounded work
 pub unbounded-is-enough : UnboundedIsEnough
 unbounded-is-enough s g = of-outline (with_hinting s s.hinting) s.levels g
 
@@ -329,7 +329,7 @@ unbounded-stays s g is =
     let pays = enough-of s g is in
     ((s.work, pays), ap (λ w. record s { work = w }) (stays s.fallback (glyph_work s g s.work) s.work pays))
 
--- and work that is spent
+-- spent work
 pub spent-work-unfits : SpentWorkUnfits
 spent-work-unfits s g f is over =
     let some = unfitted-where-spent s g f is over in (made-unfitted s g f some, some)

@@ -1,4 +1,4 @@
--- What is left of a job's work is no more than there was.
+-- No step increases the job's remaining work.
 use Rattle.std.proofs.Common.{◌≡◌, ◌∙◌, sym, ap, ℕ, zero, suc, Bool, true, false, if◌then◌else◌, List, [], ◌∷◌, Option, Some, Result, Ok, Err, refl, arith}
 use Rattle.tt_core.specs.Faults.{Fault}
 use Rattle.tt_core.specs.Limits.{work_limit}
@@ -27,7 +27,7 @@ use Rattle.tt_fit.specs.Rules.{rules_of, dropouts_by}
 use Rattle.tt_fit.specs.Scaling.{scaled_outline}
 use Rattle.tt_fit.specs.Work.{if_ok, code_work, program_work, hinted_work, joined_work}
 
--- work leaves no more than there was
+-- work does not increase what remains
 abbrev Falls : (Option ℕ → Worked) → Type 0
 Falls worked = (left : ℕ) (after : Option ℕ) → worked (Some left) ≡ enough after → Fewer left after
 
@@ -124,7 +124,7 @@ work-falls s g left is =
     rw is
     (left-by s.fallback (glyph_work s g (Some left)) left (of-outline (with_hinting s s.hinting) s.levels g left))
 
--- and before the first
+-- before the first glyph
 abbrev begun : Metrics → Glyf → ℕ → DropoutsBy → Hinting → Fallback → Option ℕ → Fitter
 begun m tables ppem who hinting fallback work =
     record (fitter_with m tables ppem fit.Best hinting fallback work) { dropouts = who }

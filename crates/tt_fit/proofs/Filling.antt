@@ -1,4 +1,4 @@
--- By which rules the dropouts of a glyph are filled.
+-- The rules for filling a glyph's dropouts.
 use Rattle.std.proofs.Common.{◌≡◌, ◌≢◌, ◌∙◌, sym, ap, ℕ, suc, ◌==◌, Bool, true, false, ◌&&◌, if◌then◌else◌, List, [], ◌∷◌, length, Option, Some, None, Result, Ok, refl, arith}
 use Rattle.std.proofs.lemmas.Bool.Decides.{nat_tests}
 use Rattle.tt_core.specs.Chains.{came-through}
@@ -18,7 +18,7 @@ use Rattle.tt_fit.specs.Laws.{OthersFillNone, RulesStay, UnfittedByTypeOne, AreE
 use Rattle.tt_fit.specs.Preparation.{ProgramTables, prepared, fitter_of}
 use Rattle.tt_fit.specs.Rules.{dropouts_by}
 
--- who says it
+-- the source of the rules
 said : (t s : Fitter) → ◌≡◌ {A = Result Fitter Fault} (Ok t) (Ok s) → s.dropouts ≡ t.dropouts
 said t s is = let same : t ≡ s = cc in ap (λ (x : Fitter). x.dropouts) (sym same)
 
@@ -49,7 +49,7 @@ where_some [] [] some = absurd (some refl refl)
 where_some [] (b ∷ bs) some = rw (not_zero (length bs)) refl
 where_some (b ∷ bs) prep some = rw (not_zero (length bs)) refl
 
--- the rules then
+-- the rules by that source
 pub others-fill-none : OthersFillNone
 others-fill-none m tables programs ppem how s unfitted o other is =
     rw (says m tables programs ppem how s is ∙ nobody how programs.fpgm programs.prep other) refl
@@ -89,7 +89,7 @@ fitted-by-scan m tables programs ppem s o scan c =
     let some = where_some programs.fpgm programs.prep (λ f p. c.some (record { fpgm = f; prep = p })) in
     rw (says m tables programs ppem fit.Best s c.made ∙ some, c.hinting, c.on, c.left) refl
 
--- the scan control by which none are filled
+-- the scan controls that fill none
 pub off-fills-none : OffFillsNone
 off-fills-none m tables programs ppem s o scan left is =
     rw (fitted-by-scan m tables programs ppem s o scan left, is) refl

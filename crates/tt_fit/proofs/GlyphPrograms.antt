@@ -1,4 +1,4 @@
--- A glyph's program is refused for a defect that stands, and only then.
+-- A glyph's program is refused exactly for its defects.
 use Rattle.std.proofs.Common.{◌≡◌, ℕ, Bool, true, false, if◌then◌else◌, Result, Ok, Err, inl, inr, refl, subst, sym}
 use Rattle.std.specs.Prelude.{IsOkAnd, ◌⊎◌}
 use Rattle.tt_core.specs.Chains.{came-through, was-err, passed-else, failed-else}

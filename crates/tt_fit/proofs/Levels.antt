@@ -19,7 +19,7 @@ pub one_record_more : (add : Record → Outline → Result Outline Fault) (rs : 
     → joined add (drop (i + 1) rs) next ≡ joined add (drop i rs) o
 one_record_more add rs i d o next below gives = rw (add-one, drop-cons rs i d below, gives) refl
 
--- where a level is left, a record adds its component's outline
+-- with a level remaining, a record adds its component's outline
 pub one_level : (s : Fitter) (levels : ℕ) (r : Record) (o : Outline) → 0 < levels → added s levels r o
     ≡ (outline_at s (levels - 1) r.glyph >>= λ component. placed (size_of s) r component o)
 unfolding added
@@ -53,7 +53,7 @@ pub one_record_paid : (add : Record → Outline → Result Outline Fault) (work 
 one_record_paid add work rs i d o next left rest below gives pays =
     rw (add-one, drop-cons rs i d below, pays, gives) refl
 
--- of one that is refused
+-- the work of a refused record
 pub one_record_refused : (add : Record → Outline → Result Outline Fault) (work : Record → Option ℕ → Worked)
     (rs : List Record) (i : ℕ) (d : Record) (o : Outline) (left new : Option ℕ) (refusal : Unmade) → i < length rs
     → IfSome (unmade_fault refusal) (λ f. add (get_or rs i d) o ≡ Err f)
@@ -65,7 +65,7 @@ one_record_refused add work rs i d o left new unmade.Memory below fails pays = t
 one_record_refused add work rs i d o left new (unmade.Spent f) below fails pays =
     rw (drop-cons rs i d below, pays) refl
 
--- that of a record where a level is left
+-- the work of a record with a level remaining
 pub one_level_work : (s : Fitter) (levels : ℕ) (r : Record) (left : Option ℕ) → 0 < levels
     → added_work s levels r left ≡ outline_work s (levels - 1) r.glyph left
 unfolding added_work

@@ -1,4 +1,4 @@
--- Lists that are made one element after the other, and the ends of contours.
+-- Lists made element by element, and the ends of contours.
 use Rattle.std.proofs.Common.{◌≡◌, ℤ, Bool, List, [], ◌∷◌, ◌++◌, All, Result, refl, arith}
 use Rattle.std.proofs.lemmas.List.Elements.{All-push}
 use Rattle.tt_core.specs.Faults.{Fault}

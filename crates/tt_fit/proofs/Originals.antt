@@ -1,4 +1,4 @@
--- What the originals of a simple glyph's program are measured in.
+-- The unit of a simple glyph program's originals.
 use Rattle.std.proofs.Common.{◌≡◌, ◌≢◌, ◌∙◌, sym, ap, subst, ℕ, ◌*◌, ℤ, pos, Bool, true, List, [], ◌∷◌, map, All, Result, Ok, refl, arith}
 use Rattle.std.specs.Prelude.{◌&&◌}
 use Rattle.std.proofs.lemmas.List.Elements.{All-nil, All-cons, All-append}
@@ -25,7 +25,7 @@ use Rattle.tt_fit.specs.Scaling.{settled, is_coordinate, are_positions, scaled_p
 use Rattle.tt_fit.specs.Size.{FontSize, size_by}
 use Rattle.tt_fit.specs.Units.{in_units, units_by, with_units}
 
--- a point that is within the limit is where it was
+-- settling does not move a point within the limit
 settled-same : (at : ℕ) (p q : ℤ × ℤ × Bool) → settled at p ≡ Ok q → p ≡ q
 unfolding settled
 settled-same at p q was = let test = passed-else (is_coordinate p.0 && is_coordinate p.1) _ p q was in test.1
@@ -50,7 +50,7 @@ points-scaled z at (d ∷ ds) ps was =
     let placed = settled-same at (scaled_position z d) first.value first.first in
     one-scaled z d first.value ds rest.value ps placed same (points-scaled z at ds rest.value rest.first)
 
--- the outline that a glyph is begun with has its phantom points
+-- a glyph's first outline has its phantom points
 phantom-begun : (at : ℕ) (p : PhantomPoints) (o : Outline) → blank at p ≡ Ok o → p ≡ o.phantom
 unfolding blank
 phantom-begun at p o was =
@@ -113,7 +113,7 @@ originals-are-scaled s g d o grid rounded was =
     (ap (λ how. (size_by how s.ppem em).scale) rounded)
     (subst (λ phantom. ArePlaced z d.points phantom o) (sym from) are)
 
--- with every way but one
+-- with every fit but Best
 in-pixels : (how : Fit) → how ≢ fit.Best → (rules_of how).scaling ≡ scaling.Exact
 in-pixels fit.Full other = refl
 in-pixels fit.None other = refl

@@ -1,4 +1,4 @@
--- What is made is an outline: blank ones, scaled ones and joined ones.
+-- Blank, scaled and joined outlines are outlines.
 use Rattle.std.proofs.Common.{◌≡◌, ℕ, ◌+◌, ◌≤◌, ℤ, pos, Bool, List, [], ◌++◌, length, map, Option, None, All, refl, arith}
 use Rattle.std.proofs.lemmas.List.Elements.{All-nil}
 use Rattle.tt_core.specs.Limits.{point_limit}

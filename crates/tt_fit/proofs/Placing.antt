@@ -1,4 +1,4 @@
--- A coordinate, a matched point or a number of points is refused for a defect that stands, and only then.
+-- A coordinate, a matched point or a number of points is refused exactly for its defects.
 use Rattle.std.proofs.Common.{◌≡◌, ℕ, ◌+◌, nat_lt, Bool, true, false, if◌then◌else◌, List, ◌++◌, length, Option, Some, None, Result, Ok, Err, inl, inr, ℤ, pos, negsuc, refl, subst, sym, arith, length-append}
 use Rattle.std.specs.Prelude.{◌&&◌, ◌⊎◌, IsOkAnd}
 use Rattle.std.specs.List.{slice_get}

@@ -1,4 +1,4 @@
--- Points that are scaled where none can leave the limit.
+-- Scaled points that cannot exceed the limit.
 use Rattle.std.proofs.Common.{◌≡◌, ℕ, ◌*◌, ◌<◌, ◌≤◌, suc, Bool, true, false, ℤ, pos, negsuc, unsigned_abs, List, [], ◌∷◌, map, All, Ok, refl, arith}
 use Rattle.std.specs.Prelude.{int_lt}
 use Rattle.std.proofs.lemmas.Bool.Decides.{nat_tests}
@@ -14,7 +14,7 @@ use Rattle.tt_fit.specs.Outline.{IsPoint}
 use Rattle.tt_fit.specs.Scaling.{is_coordinate, scaled_by_scale, scaled_point, settled}
 use Rattle.tt_fit.specs.Size.{FontSize}
 
--- a quotient is no larger than a whole number of which the divisors are no fewer than the number divided
+-- n / u is at most `most` where n is at most u times `most`
 pub quotient-within : (h : Halves) (n : ℤ) (u most : ℕ) → 0 < u → unsigned_abs n ≤ u * most
     → unsigned_abs (quotient h n (pos u)) ≤ most
 quotient-within halves.Up n u most some within =

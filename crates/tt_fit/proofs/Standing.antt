@@ -1,4 +1,4 @@
--- An outline is refused for a defect that stands, and one that is given has none.
+-- A refused outline has a defect, and an outline has none.
 use Rattle.std.proofs.Common.{◌≡◌, ℕ, zero, suc, List, [], ◌∷◌, take, Some, Result, Ok, Err, inl, inr, ℤ, pos, refl, subst, sym}
 use Rattle.std.specs.Prelude.{IsOkAnd}
 use Rattle.std.specs.List.{slice_get}
@@ -20,7 +20,7 @@ use Rattle.tt_fit.specs.Scaling.{phantom_points, scaled_outline}
 use Rattle.tt_fit.proofs.GlyphPrograms.{hinted-broke, hinted-whole}
 use Rattle.tt_fit.proofs.Placing.{blank-broke, blank-whole, scaled-broke, scaled-whole, placing-broke, placing-whole}
 
--- what a record adds is refused for a defect of the record, and only then
+-- a record is refused exactly for its defects
 abbrev Tells : (Record → Outline → Result Outline Fault) → (Record → Result Outline Fault → Fault → Type 0) → Type 0
 Tells add IsOne = (r : Record) (o : Outline) (f : Fault) → add r o ≡ Err f → IsOne r (Ok o) f
 
@@ -162,7 +162,7 @@ making-whole s add IsOne spares g (composite d) o f was bad =
           by_records.rest program
     ]
 
--- a glyph, by what its records add
+-- a glyph, by how its records extend it
 outline-broke : (s : Fitter) (add : Record → Outline → Result Outline Fault)
     (IsOne : Record → Result Outline Fault → Fault → Type 0) → Tells add IsOne → (g : ℕ) (f : Fault)
     → outline_by s add g ≡ Err f → IsDefectBy s add IsOne g f

@@ -1,4 +1,4 @@
--- Work that is not bounded is always enough.
+-- Unbounded work is always enough.
 use Rattle.std.proofs.Common.{◌≡◌, ℕ, zero, suc, Bool, true, false, if◌then◌else◌, List, [], ◌∷◌, Option, None, Result, Ok, Err, ◌⊎◌, inl, inr, ap, refl}
 use Rattle.tt_core.specs.Faults.{Fault}
 use Rattle.tt_exec.proofs.WorkPaid.{unbounded}
@@ -101,7 +101,7 @@ within : (left : Result Hinting Fault) → with_fallback left ≡ within_work (e
 within (Ok hinting) = refl
 within (Err f) = refl
 
--- what Fallback prepares is the same as if its work were counted
+-- Fallback prepares the same result whether work is counted or not
 pub prepared-falling : (m : Metrics) (programs : ProgramTables) (ppem : ℕ) (how : Fit)
     → (how ≡ fit.Fallback) ⊎ (how ≡ fit.Best)
     → prepared m programs ppem how ≡ Ok (within_work (work_at m programs ppem how) (left_at m programs ppem how))
@@ -119,7 +119,7 @@ prepared-falling m programs ppem fit.None is = elim is [
   | inr best ↦ absurd cc
 ]
 
--- so that no call is refused for want of it
+-- no call is refused for exceeded work
 pub never-spent : (refusal : Unmade) (new : Option ℕ) (worked : Worked) → worked ≡ enough None
     → RefusalLeaves refusal new worked → IsUnbounded refusal
 never-spent (unmade.Font f) new worked free leaves = tt

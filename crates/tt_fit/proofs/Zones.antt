@@ -1,4 +1,4 @@
--- The zones of a glyph, and the outline that its points make.
+-- The zones of a glyph, and the outline made of its points.
 use Rattle.std.proofs.Common.{◌≡◌, ap, ℕ, ℤ, zero, suc, ◌+◌, ◌<◌, ◌≤◌, List, [], ◌∷◌, ◌++◌, length, take, get_or, set, All, Option, Some, None, IfSome, refl, arith, add-one, append_assoc, length-append}
 use Rattle.std.specs.Prelude.{slice_index}
 use Rattle.std.proofs.lemmas.List.{length-map}
@@ -14,7 +14,7 @@ use Rattle.tt_fit.specs.Parts.{originals_by}
 use Rattle.tt_fit.specs.Units.{Units, in_units, with_units}
 use Rattle.tt_fit.specs.Outline.{Outline, PhantomPoints, IsOutline}
 
--- ends that never fall, from a number that none of them is below
+-- ends that never fall, from a number below all of them
 contours-rise : (first n : ℕ) (ends : List ℕ)
     → ((i j : ℕ) → i ≤ j → j < length ends → slice_index ends i ≤ slice_index ends j)
     → ((i : ℕ) → i < length ends → first ≤ slice_index ends i) → ((i : ℕ) → slice_index ends i ≤ n) → first ≤ n

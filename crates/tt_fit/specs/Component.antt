@@ -1,5 +1,5 @@
--- OpenType, "The 'glyf' table", "Composite Glyph Description": a component is transformed, and moved by an offset or by
--- what matches two points.
+-- OpenType, "The 'glyf' table", "Composite Glyph Description": a component is transformed, then moved by an offset or
+-- by matching two points.
 use Rattle.std.specs.Prelude.{◌≡◌, ℕ, Bool, true, if◌then◌else◌, ℤ, pos, negsuc, neg_ℤ, ◌+ℤ◌, ◌-ℤ◌, ◌*ℤ◌, List, Option, Some, None, Result, Ok, Err, refl}
 use Rattle.std.specs.List.{slice_get}
 use Rattle.tt_core.specs.Faults.{Fault}
@@ -12,7 +12,7 @@ use Rattle.tt_fit.specs.Scaling.{to_grid, glyf_fault, settled}
 use Rattle.tt_fit.specs.declared.rules.Scaling.TheVariants as scaling
 use Rattle.tt_fit.specs.Size.{FontSize, scale, size_by}
 
--- a point's position under a component's transform, whose numbers are 2.14
+-- a point's position under a component's transform, in 2.14
 abbrev pub transformed : Record → ℤ × ℤ × Bool → ℤ × ℤ
 transformed r p = (rounded_quotient (r.xx *ℤ p.0 +ℤ r.xy *ℤ p.1) one, rounded_quotient (r.yx *ℤ p.0 +ℤ r.yy *ℤ p.1) one)
 
@@ -23,22 +23,22 @@ offset_along z r v = if has r.flags round_xy_to_grid then to_grid (scale z v) el
 abbrev pub offset_of : FontSize → Record → ℤ × ℤ
 offset_of z r = (offset_along z r r.arg1, offset_along z r r.arg2)
 
--- the point of a number, if there is one
+-- the point with this number, if there is one
 abbrev pub point_of : List (ℤ × ℤ × Bool) → ℤ → Option (ℤ × ℤ × Bool)
 point_of ps (pos n) = slice_get ps n
 point_of ps (negsuc n) = None
 
--- what takes a component's point, transformed, onto another point
+-- the shift from a component's point, transformed, to another point
 abbrev pub onto : Record → ℤ × ℤ × Bool → ℤ × ℤ × Bool → ℤ × ℤ
 onto r p q = (q.0 -ℤ (transformed r p).0, q.1 -ℤ (transformed r p).1)
 
--- what takes the component's point onto the point that is assembled so far; both have to exist
+-- the shift from the component's point to a point assembled so far; both must exist
 abbrev pub matched_by : Record → Option (ℤ × ℤ × Bool) → Option (ℤ × ℤ × Bool) → Result (ℤ × ℤ) Fault
 matched_by r (Some p) (Some q) = Ok (onto r p q)
 matched_by r (Some p) None = Err (glyf_fault r.at why.MatchPoint)
 matched_by r None q = Err (glyf_fault r.at why.MatchPoint)
 
--- how far a component is moved: its points, then those that are assembled so far
+-- a component's shift, by its own points and the points assembled so far
 unfoldable pub shift_of : FontSize → Record → List (ℤ × ℤ × Bool) → List (ℤ × ℤ × Bool) → Result (ℤ × ℤ) Fault
 shift_of z r component points =
     if has r.flags args_are_xy_values then Ok (offset_of z r)

@@ -1,5 +1,6 @@
--- How many points a glyph is made of, its components as often as they are used: by this its work is known before it is
--- made (profile). What a simple glyph has, it tells itself: OpenType, "The 'glyf' table", "Simple Glyph Description".
+-- The number of a glyph's points, with each component counted as often as it is used. The count bounds the work before
+-- the glyph is made (profile). A simple glyph states its own count: OpenType, "The 'glyf' table", "Simple Glyph
+-- Description".
 use Rattle.std.specs.Prelude.{◌≡◌, ℕ, zero, suc, ◌+◌, ◌-◌, ◌≤◌, nat_le, if◌then◌else◌, List, [], ◌∷◌, length, Option, Some, None, Ok, refl}
 use Rattle.std.specs.List.{sum_by}
 use Rattle.tt_glyf.specs.declared.raw.Record.{Record}
@@ -12,29 +13,29 @@ use Rattle.tt_metrics.specs.declared.head.LocaFormat.TheVariants.{Short}
 use Rattle.tt_fit.specs.Fitting.{Fitter, fitted_outline}
 use Rattle.tt_fit.specs.Outline.{Outline}
 
--- the phantom points, which each glyph has, and each component
+-- the phantom points of each glyph and each component
 abbrev pub phantom_count : ℕ
 phantom_count = 4
 
--- a glyph without its components: its phantom points, and the contours and points that it says it has
+-- a glyph without its components: its phantom points, and the contours and points stated in its bytes
 abbrev pub own_points : Glyf → ℕ → ℕ
 own_points t g = phantom_count + told_size t g
 
--- what a glyph asks for where so many levels of components are left: its own points, and what each of its components
--- asks for with a level less; where no level is left, its own alone
+-- the count of a glyph with this many levels of components: its own points and its components' counts with one level
+-- fewer; with no level, its own points alone
 unfoldable pub points_asked : Glyf → ℕ → ℕ → ℕ
 points_asked t zero g = own_points t g
 points_asked t (suc levels) g = own_points t g + sum_by (λ r. points_asked t levels r.glyph) (components_of t g)
 
--- what some components ask for
+-- the counts of some components
 abbrev pub points_of_all : Glyf → ℕ → List Record → ℕ
 points_of_all t levels records = sum_by (λ r. points_asked t levels r.glyph) records
 
--- a count, where it is no more than this
+-- a count, if within the limit
 abbrev pub counted : ℕ → ℕ → Option ℕ
 counted most n = if nat_le n most then Some n else None
 
--- and what it leaves
+-- what remains of the limit after the count
 abbrev pub left_of : ℕ → ℕ → Option ℕ
 left_of most n = if nat_le n most then Some (most - n) else None
 
@@ -42,7 +43,7 @@ left_of most n = if nat_le n most then Some (most - n) else None
 abbrev pub outline_size : Outline → ℕ
 outline_size o = length o.points + length o.ends
 
--- an outline that is given has no more of them than its glyph asks for
+-- an outline has at most as many points and contours as its glyph's count
 abbrev pub OutlinesAreCounted : Type 0
 OutlinesAreCounted = (s : Fitter) (g : ℕ) (o : Outline) → fitted_outline s g ≡ Ok o
     → outline_size o + phantom_count ≤ points_asked s.tables s.levels g

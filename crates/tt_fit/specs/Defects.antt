@@ -1,5 +1,5 @@
--- What can be wrong with the outline of a glyph at a size, apart from the order in which it is looked for: each defect
--- with its fault. OpenType, "The 'glyf' table", "Composite Glyph Description"; the limits are profile.
+-- The possible defects of a glyph's outline at a size, each with its fault, whatever the order of the tests. OpenType,
+-- "The 'glyf' table", "Composite Glyph Description"; the limits are profile.
 use Rattle.std.specs.Prelude.{◌≡◌, ℕ, zero, suc, ◌+◌, ◌<◌, Bool, true, false, ℤ, pos, unsigned_abs, ◌<ℤ◌, ◌≤ℤ◌, List, length, take, Some, Result, Err, IsOkAnd, ◌⊎◌}
 use Rattle.std.specs.List.{slice_get}
 use Rattle.tt_core.specs.Faults.{Fault}
@@ -27,23 +27,23 @@ use Rattle.tt_fit.specs.Size.{FontSize, scale}
 abbrev pub PassesLimit : ℤ → Type 0
 PassesLimit v = coordinate_limit < unsigned_abs v
 
--- the x or the y of a place is
+-- the x or the y of a place is past the limit
 abbrev pub LeavesLimit : ℤ → ℤ → Type 0
 LeavesLimit x y = PassesLimit x ⊎ PassesLimit y
 
--- a phantom point lies past the limit; the fault is told at this offset in glyf
+-- a phantom point lies past the limit; the fault is reported at this offset in glyf
 abbrev pub IsPhantomDefect : ℕ → PhantomPoints → Fault → Type 0
 IsPhantomDefect at p fault =
     (LeavesLimit p.left.0 p.left.1 ⊎ LeavesLimit p.right.0 p.right.1 ⊎ LeavesLimit p.ascent.0 p.ascent.1
     ⊎ LeavesLimit p.descent.0 p.descent.1)
     × (fault ≡ coordinate_fault at)
 
--- one of a glyph does, told at the glyph's first byte
+-- a phantom point of a glyph lies past the limit; the fault is reported at the glyph's first byte
 abbrev pub IsStartDefect : Fitter → ℤ → ℕ → Fault → Type 0
 IsStartDefect s x_min g fault =
     IsPhantomDefect (glyph_offset s.tables g) (phantom_points (size_of s) s.metrics x_min g) fault
 
--- a scaled point does
+-- a scaled point lies past the limit
 abbrev pub IsScaledDefect : FontSize → ℕ → List RawPoint → Fault → Type 0
 IsScaledDefect z at points fault =
     (i : ℕ) × (p : RawPoint) × (slice_get points i ≡ Some p) × LeavesLimit (scale z p.x) (scale z p.y)
@@ -53,7 +53,7 @@ IsScaledDefect z at points fault =
 abbrev pub LacksPoint : List (ℤ × ℤ × Bool) → ℤ → Type 0
 LacksPoint points number = (number <ℤ pos 0) ⊎ (pos (length points) ≤ℤ number)
 
--- a record matches two points, and one of them isn't there: the component's, or that of what is assembled so far
+-- a record matches two points, and the component's or the assembled one is missing
 abbrev pub IsMatchDefect : Record → List (ℤ × ℤ × Bool) → List (ℤ × ℤ × Bool) → Fault → Type 0
 IsMatchDefect r component points fault =
     (has r.flags args_are_xy_values ≡ false) × (LacksPoint component r.arg2 ⊎ LacksPoint points r.arg1)
@@ -77,24 +77,24 @@ IsPlacingDefect z r component o fault =
     ⊎ IsLandingDefect z r component.points o.points fault
     ⊎ IsCountDefect r component.points o.points fault
 
--- what is assembled before record i
+-- the outline assembled before record i
 abbrev pub assembled_before : (Record → Outline → Result Outline Fault) → Result Outline Fault → List Record → ℕ
     → Result Outline Fault
 assembled_before add begun records i = begun >>= joined add (take i records)
 
--- one of the records is bad, by what is bad of a record where so much is assembled before it
+-- one of the records is bad, by a test of a record and the outline assembled before it
 abbrev pub IsRecordsDefect : (Record → Outline → Result Outline Fault) → (Record → Result Outline Fault → Fault → Type 0)
     → Result Outline Fault → List Record → Fault → Type 0
 IsRecordsDefect add IsOne begun records fault =
     (i : ℕ) × (r : Record) × (slice_get records i ≡ Some r) × IsOne r (assembled_before add begun records i) fault
 
--- the end of an advance, the ascent or the descent leaves the limit when it goes to the grid
+-- the end of an advance, the ascent or the descent exceeds the limit on the grid
 abbrev pub IsGridDefect : ℕ → PhantomPoints → Fault → Type 0
 IsGridDefect at p fault =
     (PassesLimit p.left.0 ⊎ PassesLimit p.right.0 ⊎ PassesLimit p.ascent.1 ⊎ PassesLimit p.descent.1)
     × (fault ≡ coordinate_fault at)
 
--- a glyph's program is run, and a phantom point leaves the limit on the grid, or the program has a fault
+-- a glyph's program is run, and a phantom point exceeds the limit on the grid, or the program has a fault
 abbrev pub IsProgramDefect : Parts → GlyphProgram → Outline → Fault → Type 0
 IsProgramDefect parts p o fault = (is_run parts p ≡ true) × (IsGridDefect p.glyph_at (on_grid o.phantom) fault
     ⊎ IsOkAnd (on_grid_at p.glyph_at o.phantom) (λ grid.
@@ -104,7 +104,7 @@ abbrev pub IsHintingDefect : Hinting → GlyphProgram → Outline → Fault → 
 IsHintingDefect off p o fault = ⊥
 IsHintingDefect (ready parts) p o fault = IsProgramDefect parts p o fault
 
--- a glyph that can be read has no outline: a phantom point, a point or a record is bad, or its program
+-- a readable glyph has no outline: a phantom point, a point or a record is bad, or its program is
 abbrev pub IsMakingDefect : Fitter → (Record → Outline → Result Outline Fault)
     → (Record → Result Outline Fault → Fault → Type 0) → ℕ → Raw → Fault → Type 0
 IsMakingDefect s add IsOne g empty fault = IsStartDefect s (pos 0) g fault
@@ -123,8 +123,8 @@ abbrev pub IsDefectBy : Fitter → (Record → Outline → Result Outline Fault)
 IsDefectBy s add IsOne g fault =
     IsGlyphDefect s.tables g fault ⊎ IsOkAnd (glyph_data_of s.tables g) (λ d. IsMakingDefect s add IsOne g d fault)
 
--- a record is bad where so many levels of components are left: there is none for its component, or the component is
--- bad, or it cannot be placed
+-- a record is bad with this many levels of components: no level remains for its component, or the component is bad, or
+-- cannot be placed
 unfoldable pub IsBadComponent : Fitter → ℕ → Record → Result Outline Fault → Fault → Type 0
 IsBadComponent s zero r before fault = fault ≡ glyf_fault r.at why.ComponentDepth
 IsBadComponent s (suc levels) r before fault =
@@ -132,10 +132,10 @@ IsBadComponent s (suc levels) r before fault =
     ⊎ IsOkAnd before (λ o. IsOkAnd (outline_at s levels r.glyph) (λ component.
     IsPlacingDefect (size_of s) r component o fault))
 
--- a defect of a glyph, or of a component that is reached from it
+-- a defect of a glyph, or of a component reached from it
 abbrev pub IsDefectAt : Fitter → ℕ → ℕ → Fault → Type 0
 IsDefectAt s levels g fault = IsDefectBy s (added s levels) (IsBadComponent s levels) g fault
 
--- one of a character's glyph, as it is made: of an unfitted one, a defect that stands without programs
+-- a defect of a character's glyph as it is made; an unfitted glyph has only defects that exist without programs
 unfoldable pub IsOutlineDefect : Fitter → ℕ → Fault → Type 0
 IsOutlineDefect s g fault = IsDefectAt (glyph_fitter s g) s.levels g fault

@@ -1,5 +1,5 @@
--- Apple TrueType Reference Manual, "Instruction set" (SCANCTRL, SCANTYPE): by which rules the dropouts of a character's
--- glyph are filled. With Best alone any are; a glyph that is drawn without its programs has scan type 1 (profile).
+-- Apple TrueType Reference Manual, "Instruction set" (SCANCTRL, SCANTYPE): the rules for filling the dropouts of a
+-- character's glyph. Only Best fills dropouts; an unfitted glyph has scan type 1 (profile).
 use Rattle.std.specs.Prelude.{◌≡◌, ℕ, ◌==◌, true, false, if◌then◌else◌, codes, Option, Some, None, refl}
 use Rattle.tt_core.specs.Faults.{Fault, fault_at}
 use Rattle.tt_core.specs.declared.fault.Why.TheVariants as why
@@ -12,11 +12,11 @@ use Rattle.tt_fit.specs.Fitting.{Fitter}
 use Rattle.tt_fit.specs.Hinting.{Hinting, off, ready}
 use Rattle.tt_fit.specs.Outline.{Outline}
 
--- those of scan type 1
+-- the rules of scan type 1
 abbrev pub default_rules : DropoutRules
 default_rules = record { stubs = false; smart = false }
 
--- the types 0 and 4 fill stubs, 4 and 5 the nearer pixel; by another no dropouts are filled
+-- types 0 and 4 fill stubs, 4 and 5 the nearer pixel; other types fill no dropouts
 abbrev pub type_rules : ℕ → Option DropoutRules
 type_rules n =
     if n == 0 then Some (record { stubs = true; smart = false }) else
@@ -27,7 +27,7 @@ type_rules n =
 abbrev pub scan_rules : ScanControl → Option DropoutRules
 scan_rules scan = if scan.on then type_rules scan.scan_type else None
 
--- what the last program that was run for a glyph left, or what the programs of glyphs begin with
+-- the scan control of the last program run for a glyph, or the one with which glyph programs begin
 abbrev pub scan_left : Option ScanControl → ScanControl → ScanControl
 scan_left (Some left) begun = left
 scan_left None begun = begun
@@ -37,7 +37,7 @@ program_rules off scan = Some default_rules
 program_rules (ready parts) scan =
     if parts.skip_glyphs then Some default_rules else scan_rules (scan_left scan parts.state.scan)
 
--- by who says it, by the fault for which the glyph is unfitted, and by what its programs left
+-- by the source of the rules, the fault that makes the glyph unfitted, and its last scan control
 abbrev pub rules_by : DropoutsBy → Hinting → Option Fault → Option ScanControl → Option DropoutRules
 rules_by by.Nobody hinting unfitted scan = None
 rules_by by.Default hinting unfitted scan = Some default_rules
@@ -60,7 +60,7 @@ type_five = refl
 no_type_two : scan_rules (record { on = true; scan_type = 2 }) ≡ None
 no_type_two = refl
 
--- whatever a program left
+-- whatever the scan control
 unfitted_by_type_one : rules_by by.Programs off (Some (fault_at (codes "glyf") 14 why.StepLimit))
     (Some (record { on = true; scan_type = 4 })) ≡ Some default_rules
 unfitted_by_type_one = refl

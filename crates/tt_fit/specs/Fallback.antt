@@ -1,5 +1,5 @@
--- No part of the standard: which glyphs are unfitted, that is made with their scaled points, since a program of the
--- font is refused (profile).
+-- No part of the standard: which glyphs are unfitted, with their points only scaled, because a program of the font is
+-- refused (profile).
 use Rattle.std.specs.Prelude.{◌≡◌, Bool, true, false, ◌&&◌, nat_le, if◌then◌else◌, codes, Option, Some, None, Result, Ok, Err, refl}
 use Rattle.tt_core.specs.declared.fault.Why.TheVariants as why
 use Rattle.tt_core.specs.Faults.{Fault, fault_at, why_number}
@@ -7,18 +7,18 @@ use Rattle.tt_exec.specs.Work.{Worked, enough, spent}
 use Rattle.tt_fit.specs.Outline.{Outline}
 use Rattle.tt_fit.specs.Hinting.{Hinting, off}
 
--- a fault of a program; the numbers below are those of the font's tables
+-- a fault of a program; smaller numbers are faults of the font's tables
 unfoldable pub is_program_fault : Fault → Bool
 is_program_fault fault = nat_le 30 (why_number fault.why) && nat_le (why_number fault.why) 50
 
--- no glyph is unfitted; or each whose own or whose component's program is refused; or, by a fault of the font program
--- or the control value program, every glyph
+-- no glyph is unfitted; or each whose own or whose component's program is refused; or every glyph, for a fault of the
+-- font program or the control value program
 pub data Fallback : Type 0 where
   never : Fallback
   where_refused : Fallback
   everywhere : Fault → Fallback
 
--- the fault for which a glyph is unfitted, by the work of its programs and by what its outline with them is
+-- the fault that makes a glyph unfitted, by the work of its programs and by its outline with them
 abbrev pub unfitted_by : Fallback → Worked → Result Outline Fault → Option Fault
 unfitted_by never worked by_programs = None
 unfitted_by where_refused (spent fault) by_programs = Some fault
@@ -26,7 +26,7 @@ unfitted_by where_refused (enough left) (Ok o) = None
 unfitted_by where_refused (enough left) (Err fault) = if is_program_fault fault then Some fault else None
 unfitted_by (everywhere fault) worked by_programs = Some fault
 
--- what a glyph is made with, where it is unfitted for this fault, or for none
+-- the hinting of a glyph that is unfitted for this fault, or for none
 abbrev pub hinting_for : Option Fault → Hinting → Hinting
 hinting_for None hinting = hinting
 hinting_for (Some fault) hinting = off
@@ -59,7 +59,7 @@ short_is_no_reason : unfitted_by where_refused (enough None) (Err short) ≡ Non
 unfolding is_program_fault why_number
 short_is_no_reason = refl
 
--- one whose programs are more work than is left of a job's, whatever they would have made
+-- a glyph whose programs exceed the job's remaining work, whatever their outline
 abbrev over : Fault
 over = fault_at (codes "glyf") 14 why.StepLimit
 

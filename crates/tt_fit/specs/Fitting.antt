@@ -1,5 +1,5 @@
--- OpenType, "The 'glyf' table": the outline of a glyph at a size, its components made first, one record after the
--- other.
+-- OpenType, "The 'glyf' table": the outline of a glyph at a size, with its components made first, in the order of their
+-- records.
 use Rattle.std.specs.Prelude.{◌≡◌, ℕ, zero, suc, ◌≤◌, true, ℤ, pos, neg_ℤ, ◌+ℤ◌, codes, List, [], ◌∷◌, Option, None, Result, Ok, Err, refl}
 use Rattle.tt_core.specs.Faults.{Fault}
 use Rattle.tt_core.specs.declared.fault.Why.TheVariants as why
@@ -34,10 +34,9 @@ use Rattle.tt_fit.specs.declared.rules.Scaling.{Scaling}
 use Rattle.tt_fit.specs.declared.rules.Scaling.TheVariants as scaling
 use Rattle.tt_fit.specs.Work.{if_ok, hinted_work, joined_work, left_in}
 
--- what outlines are made from: the glyph data and the metrics of a font, the pixels per em, how distances are
--- scaled, what its programs leave,
--- which glyphs are unfitted, how deep components may be nested, and what is left of the job's work, None where it is not
--- bounded, and who says which dropouts are filled
+-- the inputs of outlines: a font's glyph data and metrics, the pixels per em, the scaling, the state after its
+-- programs, and which glyphs are unfitted. Then the depth limit of components, the job's remaining work (None if
+-- unbounded), and the source of the dropout rules
 pub record Fitter : Type 0 where
   pub tables : Glyf
   pub metrics : Metrics
@@ -49,8 +48,7 @@ pub record Fitter : Type 0 where
   pub work : Option ℕ
   pub dropouts : DropoutsBy
 
--- the glyph data is that of the metrics, the size is one that is supported, and what the programs leave is what they
--- can leave
+-- the glyph data belongs to the metrics, the size is supported, and the hinting is one that programs can give
 pub record IsFitter (s : Fitter) : Type 0 where
   pub format : s.tables.format ≡ loca_format_of s.metrics
   pub glyphs : s.tables.glyphs ≡ glyphs_of s.metrics
@@ -58,8 +56,7 @@ pub record IsFitter (s : Fitter) : Type 0 where
   pub high : s.ppem ≤ size_limit
   pub hinting : IsHinting s.hinting
 
--- the same with this in place of what the programs leave, no glyph unfitted, no bound of work and no dropouts: what
--- an outline is made from
+-- this fitter with other hinting, no glyph unfitted, unbounded work and no dropouts
 abbrev pub with_hinting : Fitter → Hinting → Fitter
 with_hinting s hinting = record s { hinting = hinting; fallback = never; work = None; dropouts = by.Nobody }
 
@@ -70,7 +67,7 @@ size_of s = size_by s.scaling s.ppem (units_per_em_of s.metrics)
 abbrev pub start : Fitter → ℤ → ℕ → Result Outline Fault
 start s x_min g = blank (glyph_offset s.tables g) (phantom_points (size_of s) s.metrics x_min g)
 
--- each record in order, by what a record adds to the outline so far
+-- each record in order, by how a record extends the outline so far
 abbrev pub joined : (Record → Outline → Result Outline Fault) → List Record → Outline → Result Outline Fault
 joined add [] o = Ok o
 joined add (r ∷ rs) o = add r o >>= joined add rs
@@ -79,7 +76,7 @@ abbrev pub glyph_program : Fitter → ℕ → List ℕ → ℕ → Option Units 
 glyph_program s g code code_at units =
     record { code = code; code_at = code_at; glyph_at = glyph_offset s.tables g; units = units }
 
--- that of a simple glyph, whose originals may be measured in font units, and that of a composite one
+-- the program of a simple glyph, whose originals may be measured in font units, and the program of a composite one
 abbrev pub simple_program : Fitter → ℕ → SimpleGlyph → GlyphProgram
 simple_program s g d =
     glyph_program s g d.code d.code_at (units_by s.scaling d.points (phantom_units s.metrics d.x_min g))
@@ -92,7 +89,7 @@ abbrev pub simple_outline : Fitter → ℕ → List RawPoint → List ℕ → Gl
 simple_outline s g points ends program o = scaled_outline (size_of s) (glyph_offset s.tables g) points ends o >>=
     hinted s.hinting program
 
--- the outline of a glyph, by what a record adds to the outline so far
+-- the outline of a glyph, by how a record extends the outline so far
 abbrev pub made : Fitter → (Record → Outline → Result Outline Fault) → ℕ → Raw → Result Outline Fault
 made s add g empty = start s (pos 0) g
 made s add g (simple d) = start s d.x_min g >>= simple_outline s g d.points d.ends (simple_program s g d)
@@ -102,12 +99,12 @@ made s add g (composite d) = start s d.x_min g >>= joined add d.records >>= hint
 abbrev pub outline_by : Fitter → (Record → Outline → Result Outline Fault) → ℕ → Result Outline Fault
 outline_by s add g = glyph_data_of s.tables g >>= made s add g
 
--- what a record adds where so many levels of components are left: its component's own outline, placed
+-- the outline after one record with this many levels of components: its component's own outline is placed
 unfoldable pub added : Fitter → ℕ → Record → Outline → Result Outline Fault
 added s zero r o = Err (glyf_fault r.at why.ComponentDepth)
 added s (suc levels) r o = outline_by s (added s levels) r.glyph >>= λ component. placed (size_of s) r component o
 
--- the outline of a glyph, where so many levels of components are left
+-- the outline of a glyph, with this many levels of components
 abbrev pub outline_at : Fitter → ℕ → ℕ → Result Outline Fault
 outline_at s levels g = outline_by s (added s levels) g
 
@@ -121,7 +118,7 @@ abbrev pub composite_work : Fitter → (Record → Outline → Result Outline Fa
 composite_work s add work records program o left =
     then_work (joined_work add work records o left) (if_ok (joined add records o) (hinted_work s.hinting program))
 
--- of the programs of a glyph, by what a record adds to the outline so far, and its work
+-- the work of a glyph's programs, by how a record extends the outline so far, and by the record's work
 abbrev pub made_work : Fitter → (Record → Outline → Result Outline Fault) → (Record → Option ℕ → Worked) → ℕ → Raw
     → Option ℕ → Worked
 made_work s add work g empty = enough
@@ -134,35 +131,35 @@ abbrev pub work_by : Fitter → (Record → Outline → Result Outline Fault) �
     → Worked
 work_by s add work g = if_ok (glyph_data_of s.tables g) (made_work s add work g)
 
--- of a record, where so many levels of components are left: that of its component
+-- the work of a record with this many levels of components: its component's work
 unfoldable pub added_work : Fitter → ℕ → Record → Option ℕ → Worked
 added_work s zero r left = enough left
 added_work s (suc levels) r left = work_by s (added s levels) (added_work s levels) r.glyph left
 
--- of a glyph, where so many levels of components are left
+-- the work of a glyph, with this many levels of components
 abbrev pub outline_work : Fitter → ℕ → ℕ → Option ℕ → Worked
 outline_work s levels g = work_by s (added s levels) (added_work s levels) g
 
--- of a character's glyph
+-- the work of a character's glyph
 abbrev pub glyph_work : Fitter → ℕ → Option ℕ → Worked
 glyph_work s g = outline_work (with_hinting s s.hinting) s.levels g
 
--- the fault for which a character's glyph is made with its scaled points, its components too
+-- the fault that makes a character's glyph and its components unfitted
 unfoldable pub unfitted_fault : Fitter → ℕ → Option Fault
 unfitted_fault s g =
     unfitted_by s.fallback (glyph_work s g s.work) (outline_at (with_hinting s s.hinting) s.levels g)
 
--- what is left of the job's work after a glyph: where a refused program is the answer, or none is run, all
+-- the job's remaining work after a glyph; unchanged where a refused program is the answer, or none is run
 abbrev pub left_after : Fallback → Worked → Option ℕ → Option ℕ
 left_after never worked left = left
 left_after where_refused worked left = left_in worked
 left_after (everywhere fault) worked left = left
 
--- what the glyphs after a character's glyph are made from
+-- the fitter for the glyphs after a character's glyph
 unfoldable pub after_glyph : Fitter → ℕ → Fitter
 after_glyph s g = record s { work = left_after s.fallback (glyph_work s g s.work) s.work }
 
--- what a character's glyph is made from
+-- the fitter that makes a character's glyph
 abbrev pub glyph_fitter : Fitter → ℕ → Fitter
 glyph_fitter s g = with_hinting s (hinting_for (unfitted_fault s g) s.hinting)
 

@@ -1,5 +1,5 @@
 -- Apple TrueType Reference Manual, "Instructing TrueType Glyphs" (zones, phantom points): the points that a glyph's
--- program works on, and the outline that they make.
+-- program works on, and the outline made of them.
 use Rattle.std.specs.Prelude.{◌≡◌, ℕ, Bool, ◌&&◌, true, false, if◌then◌else◌, ℤ, pos, negsuc, List, [], ◌∷◌, ◌++◌, length, map, take, drop, Option, Some, None, Result, Ok, Err, refl}
 use Rattle.tt_core.specs.Faults.{Fault}
 use Rattle.tt_exec.specs.MachineState.{Code}
@@ -11,7 +11,7 @@ use Rattle.tt_fit.specs.Outline.{PhantomPoints, phantom_of, Outline}
 use Rattle.tt_fit.specs.Scaling.{to_grid, is_coordinate, coordinate_fault}
 use Rattle.tt_fit.specs.Units.{Units, in_units, phantom_places, places_of, with_units}
 
--- a glyph's program, its offset in glyf, and the glyph's first byte there; in what its originals are measured
+-- a glyph's program, its offset in glyf, the offset of the glyph's first byte, and the unit of its originals
 pub record GlyphProgram : Type 0 where
   pub code : List ℕ
   pub code_at : ℕ
@@ -21,7 +21,7 @@ pub record GlyphProgram : Type 0 where
 abbrev pub program_in_glyf : GlyphProgram → Code
 program_in_glyf p = record { table = glyf_tag; base = p.code_at; bytes = p.code }
 
--- the ends of the advance go to the grid along x, the ascent and the descent along y
+-- the ends of the advance rounded to the grid along x, the ascent and the descent along y
 abbrev pub on_grid : PhantomPoints → PhantomPoints
 on_grid p = record {
   left = (to_grid p.left.0, p.left.1);
@@ -30,16 +30,16 @@ on_grid p = record {
   descent = (p.descent.0, to_grid p.descent.1);
 }
 
--- what was rounded is within the limit of a coordinate
+-- the rounded coordinates are within the limit
 abbrev pub are_on_grid : PhantomPoints → Bool
 are_on_grid p =
     is_coordinate p.left.0 && is_coordinate p.right.0 && is_coordinate p.ascent.1 && is_coordinate p.descent.1
 
--- those of a glyph that begins at this offset in glyf
+-- the phantom points on the grid, of a glyph that begins at this offset in glyf
 unfoldable pub on_grid_at : ℕ → PhantomPoints → Result PhantomPoints Fault
 on_grid_at at p = if are_on_grid (on_grid p) then Ok (on_grid p) else Err (coordinate_fault at)
 
--- a point that nothing has touched: where it was, and where it is
+-- a point not yet touched: its old place, and its place now
 abbrev pub untouched : ℤ × ℤ → ℤ × ℤ → Bool → Point
 untouched org now on = record {
   units_x = pos 0;
@@ -56,7 +56,7 @@ untouched org now on = record {
 abbrev pub outline_point : ℤ × ℤ × Bool → Point
 outline_point p = untouched (p.0, p.1) (p.0, p.1) p.2
 
--- the phantom points in font units, as they were, and as they are
+-- the phantom points in font units, before, and now
 abbrev pub phantom_zone : PhantomPoints → PhantomPoints → PhantomPoints → List Point
 phantom_zone units was now =
     with_units units.left (untouched was.left now.left true)
@@ -69,7 +69,7 @@ abbrev pub glyph_zone : Option Units → Outline → PhantomPoints → List Poin
 glyph_zone units o grid = in_units (places_of units) (map outline_point o.points)
     ++ phantom_zone (phantom_places units) o.phantom grid
 
--- each contour from the end of the one before it, the first from this number
+-- each contour begins at the end of the one before it, the first at this number
 abbrev pub contours_from : ℕ → List ℕ → List (ℕ × ℕ)
 contours_from first [] = []
 contours_from first (end ∷ ends) = (first, end) ∷ contours_from end ends
@@ -80,8 +80,7 @@ place_of p = (p.x, p.y)
 abbrev pub seen : Point → ℤ × ℤ × Bool
 seen p = (p.x, p.y, p.on)
 
--- the outline whose points stand in the glyph zone, the phantom points after them, with the scan control
--- left beside
+-- the outline with the points of the glyph zone, phantom points last, and this scan control
 abbrev pub left_outline : Outline → List Point → ScanControl → Outline
 left_outline o zone scan = record {
   points = map seen (take (length o.points) zone);

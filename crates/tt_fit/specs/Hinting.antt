@@ -1,6 +1,6 @@
--- Apple TrueType Reference Manual, "Instructing TrueType Glyphs": where a font's programs come into an outline. A
--- glyph's program works on a copy of what the control value program left; a glyph whose program isn't run keeps its
--- scaled points (profile).
+-- Apple TrueType Reference Manual, "Instructing TrueType Glyphs": how a font's programs change an outline. A glyph's
+-- program works on a copy of the state after the control value program. A glyph whose program is not run has its scaled
+-- points unchanged (profile).
 use Rattle.std.specs.Prelude.{⊤, Bool, ◌&&◌, ◌==◌, not, if◌then◌else◌, length, Result, Ok}
 use Rattle.tt_core.specs.Faults.{Fault}
 use Rattle.tt_core.specs.Outcomes.{◌>>=◌}
@@ -12,36 +12,36 @@ use Rattle.tt_fit.specs.GlyphZone.{GlyphProgram, program_in_glyf, on_grid_at, le
 use Rattle.tt_fit.specs.Parts.{AreParts, parts_with}
 use Rattle.tt_fit.specs.Outline.{Outline}
 
--- what the font program and the control value program leave to the programs of glyphs: nothing where no program is
--- run, else the parts that a machine is made of
+-- what the font program and the control value program give to glyph programs: nothing where no program is run, else the
+-- parts of a machine
 pub data Hinting : Type 0 where
   off : Hinting
   ready : Parts → Hinting
 
--- what holds of all that they can leave
+-- holds of every result of the two programs
 abbrev pub IsHinting : Hinting → Type 0
 IsHinting off = ⊤
 IsHinting (ready parts) = AreParts parts
 
--- what a program leaves of the parts of a machine, or its fault
+-- a machine's parts after a program, or its fault
 abbrev pub run_on : Code → MachineState → Result Parts Fault
 run_on program m = run_outcome (run_from program m) >>= λ left. Ok (parts_in left)
 
--- what a program leaves of a machine's parts, or its fault
+-- a machine's parts after a program that begins with these parts, or its fault
 unfoldable pub run_of : Code → Parts → Result Parts Fault
 run_of program parts = run_outcome (run_from program (fresh parts)) >>= λ left. Ok (parts_in left)
 
--- a program of at least one byte is run, unless the control value program switched the programs of glyphs off
+-- a program of at least one byte is run, unless the control value program switched glyph programs off
 abbrev pub is_run : Parts → GlyphProgram → Bool
 is_run parts p = not (parts.skip_glyphs) && not (length p.code == 0)
 
--- the phantom points go to the grid, and the program runs; what it leaves of the points is the outline
+-- the phantom points are rounded to the grid, and the program runs; its points are the outline
 unfoldable pub by_program : Parts → GlyphProgram → Outline → Result Outline Fault
 by_program parts p o = on_grid_at p.glyph_at o.phantom >>= λ grid.
     run_of (program_in_glyf p) (parts_with parts p.units o grid) >>= λ left.
     Ok (left_outline o left.zones.glyph left.state.scan)
 
--- the outline that a glyph's program leaves: of scaled points, or of the joined components
+-- the outline after a glyph's program, from scaled points or joined components
 abbrev pub hinted : Hinting → GlyphProgram → Outline → Result Outline Fault
 hinted off p o = Ok o
 hinted (ready parts) p o = if is_run parts p then by_program parts p o else Ok o

@@ -1,5 +1,5 @@
--- OpenType, "The 'glyf' table", "Composite Glyph Description": a component that was transformed and moved is joined with
--- what is assembled so far.
+-- OpenType, "The 'glyf' table", "Composite Glyph Description": a transformed and moved component is joined with what is
+-- assembled so far.
 use Rattle.std.specs.Prelude.{◌≡◌, ℕ, ◌+◌, Bool, true, false, nat_lt, if◌then◌else◌, ℤ, pos, neg_ℤ, List, [], ◌∷◌, ◌++◌, length, map, Option, Some, None, Result, Ok, Err, refl}
 use Rattle.tt_core.specs.Faults.{Fault}
 use Rattle.tt_core.specs.declared.fault.Why.TheVariants as why
@@ -24,16 +24,16 @@ within_point_limit at points = if nat_lt point_limit (length points) then Err
 abbrev pub phantom_with : Record → Outline → Outline → PhantomPoints
 phantom_with r component o = if has r.flags use_my_metrics then component.phantom else o.phantom
 
--- what the last program left: a component's, where one was run, else one of those before
+-- the scan control of the last program: the component's, where one was run, else the earlier one
 abbrev pub scan_after : Option ScanControl → Option ScanControl → Option ScanControl
 scan_after (Some left) so_far = Some left
 scan_after None so_far = so_far
 
--- so many points before them, the contours end so much later
+-- the ends of contours, with this many points before them
 abbrev pub ends_after : ℕ → List ℕ → List ℕ
 ends_after points ends = map (λ e. points + e) ends
 
--- a component moved by so much, added to what is assembled before it
+-- a component moved by a shift, added to what is assembled before it
 unfoldable pub appended : Record → ℤ × ℤ → Outline → Outline → Result Outline Fault
 appended r by component o = do
   landed ← each (placed_point r by) component.points
@@ -63,7 +63,7 @@ phantom_after advance =
 shape_of : List (ℤ × ℤ × Bool) → ℤ → Outline
 shape_of points advance = record { points = points; ends = length points ∷ []; phantom = phantom_after advance; scan = None }
 
--- point 1 lands where point 0 of what is assembled so far is
+-- point 1 lands on point 0 of what is assembled so far
 a_matched_component : placed its_size (turned 0x200) (shape_of two_points (pos 5))
     (shape_of ((pos 1000, pos 2000, true) ∷ []) (pos 9))
     ≡ Ok (record { points = (pos 1000, pos 2000, true) ∷ (pos 1005, pos 1901, true) ∷ (pos 1000, pos 2000, false) ∷ []; ends = 1 ∷ 3 ∷ []; phantom = phantom_after (pos 5); scan = None })

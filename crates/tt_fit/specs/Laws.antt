@@ -1,6 +1,5 @@
--- Laws of the definitions: an outline that is given has no defect, and a fault is one; with a way of fitting that falls
--- back what is made is what its programs make by themselves, or what is made without programs; by which rules dropouts
--- are filled.
+-- Laws of the definitions. An outline has no defect, and a fault names one. A fit that falls back gives the outline of
+-- its programs alone, or the one without programs. The last laws give the dropout rules.
 use Rattle.std.specs.Prelude.{◌≡◌, ◌≢◌, ℕ, ◌≤◌, true, false, List, [], All, Option, Some, None, Result, Ok, Err, refl}
 use Rattle.tt_core.specs.Directory.{HasNo}
 use Rattle.tt_core.specs.Faults.{Fault}
@@ -31,20 +30,20 @@ use Rattle.tt_fit.specs.Scaling.{scaled_outline}
 use Rattle.tt_fit.specs.declared.rules.Scaling.TheVariants as scaling
 use Rattle.tt_fit.specs.Work.{IsEnough}
 
--- where a glyph's outline is given, no defect stands in the glyph or in a component of it
+-- a glyph with an outline has no defect, nor do its components
 abbrev pub OutlinesAreWhole : Type 0
 OutlinesAreWhole = (s : Fitter) (g : ℕ) (o : Outline) → fitted_outline s g ≡ Ok o → HasNo (IsOutlineDefect s g)
 
--- where a fault is given in its place, that defect stands
+-- a fault in place of an outline names a defect of the glyph or its components
 abbrev pub OutlineFaultsStand : Type 0
 OutlineFaultsStand = (s : Fitter) (g : ℕ) (fault : Fault) → fitted_outline s g ≡ Err fault → IsOutlineDefect s g fault
 
--- what outlines are made from by the programs alone, by the rules of a way of fitting: the first fault is the answer
+-- the fitter by the programs alone, by the rules of a fit: the first fault is the answer
 abbrev pub fitter_by_programs : Metrics → Glyf → ProgramTables → ℕ → Fit → Result Fitter Fault
 fitter_by_programs m tables programs ppem how =
     left_at m programs ppem how >>= λ hinting. Ok (fitter_with m tables ppem how hinting never None)
 
--- and without programs
+-- the fitter without programs
 abbrev pub fitter_without_programs : Metrics → Glyf → ℕ → Fit → Fitter
 fitter_without_programs m tables ppem how = fitter_with m tables ppem how off never None
 
@@ -53,19 +52,19 @@ abbrev pub outline_by_programs : Metrics → Glyf → ProgramTables → ℕ → 
 outline_by_programs m tables programs ppem how g =
     fitter_by_programs m tables programs ppem how >>= λ s. fitted_outline s g
 
--- and without them
+-- the outline of this glyph without programs
 abbrev pub outline_without_programs : Metrics → Glyf → ℕ → Fit → ℕ → Result Outline Fault
 outline_without_programs m tables ppem how g = fitted_outline (fitter_without_programs m tables ppem how) g
 
--- what is left of the job's work is as much as the programs of a glyph are
+-- the job's remaining work covers the programs of a glyph
 abbrev pub HasWork : Fitter → ℕ → Type 0
 HasWork s g = IsEnough (glyph_work s g s.work)
 
--- and at the beginning it is as much as the font's two programs are
+-- the job's budget covers the font's two programs
 abbrev pub ProgramsHaveWork : Metrics → ProgramTables → ℕ → Fit → Type 0
 ProgramsHaveWork m programs ppem how = IsEnough (work_at m programs ppem how)
 
--- with a way that falls back a glyph that has an outline by the programs has this one
+-- with a fit that falls back, a glyph that has an outline by the programs has this one
 abbrev pub FallbackFits : Type 0
 FallbackFits = (m : Metrics) (tables : Glyf) (programs : ProgramTables) (ppem : ℕ) (how : Fit) (s : Fitter) (g : ℕ)
     (o : Outline) → falls_back how ≡ true → fitter_of m tables programs ppem how ≡ Ok s
@@ -73,7 +72,7 @@ FallbackFits = (m : Metrics) (tables : Glyf) (programs : ProgramTables) (ppem : 
     → outline_by_programs m tables programs ppem how g ≡ Ok o
     → (fitted_outline s g ≡ Ok o) × (unfitted_fault s g ≡ None)
 
--- one that has a program's fault by them is made as without them, and the fault is known
+-- after a program's fault the glyph is made as without programs, and the fault is recorded
 abbrev pub FallbackScales : Type 0
 FallbackScales = (m : Metrics) (tables : Glyf) (programs : ProgramTables) (ppem : ℕ) (how : Fit) (s : Fitter) (g : ℕ)
     (fault : Fault) → falls_back how ≡ true → fitter_of m tables programs ppem how ≡ Ok s
@@ -81,7 +80,7 @@ FallbackScales = (m : Metrics) (tables : Glyf) (programs : ProgramTables) (ppem 
     → outline_by_programs m tables programs ppem how g ≡ Err fault → is_program_fault fault ≡ true
     → (fitted_outline s g ≡ outline_without_programs m tables ppem how g) × (unfitted_fault s g ≡ Some fault)
 
--- and one that has another fault has it still
+-- any other fault is unchanged
 abbrev pub FallbackRefuses : Type 0
 FallbackRefuses = (m : Metrics) (tables : Glyf) (programs : ProgramTables) (ppem : ℕ) (how : Fit)
     (alone s : Fitter) (g : ℕ) (fault : Fault) → falls_back how ≡ true → fitter_of m tables programs ppem how ≡ Ok s
@@ -90,61 +89,61 @@ FallbackRefuses = (m : Metrics) (tables : Glyf) (programs : ProgramTables) (ppem
     → is_program_fault fault ≡ false
     → (fitted_outline s g ≡ Err fault) × (unfitted_fault s g ≡ None)
 
--- a fault of the font program or the control value program is one of every glyph
+-- a fault of the font program or the control value program makes every glyph unfitted
 abbrev pub FallbackUnfitsAll : Type 0
 FallbackUnfitsAll = (m : Metrics) (tables : Glyf) (programs : ProgramTables) (ppem : ℕ) (how : Fit) (s : Fitter)
     (g : ℕ) (fault : Fault) → falls_back how ≡ true → fitter_of m tables programs ppem how ≡ Ok s
     → ProgramsHaveWork m programs ppem how → fitter_by_programs m tables programs ppem how ≡ Err fault
     → (fitted_outline s g ≡ outline_without_programs m tables ppem how g) × (unfitted_fault s g ≡ Some fault)
 
--- with another way of fitting no glyph is unfitted
+-- with another fit no glyph is unfitted
 abbrev pub OthersNeverFallBack : Type 0
 OthersNeverFallBack = (m : Metrics) (tables : Glyf) (programs : ProgramTables) (ppem : ℕ) (how : Fit)
     (s : Fitter) (g : ℕ) → falls_back how ≡ false → fitter_of m tables programs ppem how ≡ Ok s
     → unfitted_fault s g ≡ None
 
--- what Fallback's programs make by themselves is what Full makes
+-- the programs of Fallback alone give what Full gives
 abbrev pub FullIsByPrograms : Type 0
 FullIsByPrograms = (m : Metrics) (tables : Glyf) (programs : ProgramTables) (ppem : ℕ)
     → fitter_of m tables programs ppem fit.Full ≡ fitter_by_programs m tables programs ppem fit.Fallback
 
--- and what it makes without them is what None makes
+-- Fallback without programs gives what None gives
 abbrev pub NoneIsWithoutPrograms : Type 0
 NoneIsWithoutPrograms = (m : Metrics) (tables : Glyf) (programs : ProgramTables) (ppem : ℕ)
     → fitter_of m tables programs ppem fit.None ≡ Ok (fitter_without_programs m tables ppem fit.Fallback)
 
--- Work. Where it is not bounded it is always enough, so that it refuses no glyph.
+-- Work. Unbounded work is always enough, and refuses no glyph.
 abbrev pub UnboundedIsEnough : Type 0
 UnboundedIsEnough = (s : Fitter) (g : ℕ) → glyph_work s g None ≡ enough None
 
--- with every way but Best it is not bounded, nor is that of the font's two programs
+-- with every fit but Best a glyph's work is unbounded, and so is that of the font's two programs
 abbrev pub OthersAreUnbounded : Type 0
 OthersAreUnbounded = (m : Metrics) (tables : Glyf) (programs : ProgramTables) (ppem : ℕ) (how : Fit) (s : Fitter)
     → how ≢ fit.Best → fitter_of m tables programs ppem how ≡ Ok s
     → (s.work ≡ None) × ProgramsHaveWork m programs ppem how
 
--- and a glyph leaves what the glyphs after are made from as it was
+-- with unbounded work the fitter after a glyph is unchanged
 abbrev pub UnboundedStays : Type 0
 UnboundedStays = (s : Fitter) (g : ℕ) → s.work ≡ None → HasWork s g × (after_glyph s g ≡ s)
 
--- a glyph whose programs are more work than is left is made without them, and has that fault
+-- a glyph whose programs exceed the remaining work is made without them, and has that fault
 abbrev pub SpentWorkUnfits : Type 0
 SpentWorkUnfits = (s : Fitter) (g : ℕ) (fault : Fault) → s.fallback ≡ where_refused
     → glyph_work s g s.work ≡ spent fault
     → (fitted_outline s g ≡ outline_at (with_hinting s off) s.levels g) × (unfitted_fault s g ≡ Some fault)
 
--- and every glyph where the font's two programs are more than a job's work
+-- every glyph has it where the font's two programs exceed the job's work
 abbrev pub SpentProgramsUnfitAll : Type 0
 SpentProgramsUnfitAll = (m : Metrics) (tables : Glyf) (programs : ProgramTables) (ppem : ℕ) (how : Fit) (s : Fitter)
     (g : ℕ) (fault : Fault) → falls_back how ≡ true → fitter_of m tables programs ppem how ≡ Ok s
     → work_at m programs ppem how ≡ spent fault
     → (fitted_outline s g ≡ outline_without_programs m tables ppem how g) × (unfitted_fault s g ≡ Some fault)
 
--- at most so much is left
+-- at most this much work remains
 abbrev pub Fewer : ℕ → Option ℕ → Type 0
 Fewer left after = (rest : ℕ) × (after ≡ Some rest) × (rest ≤ left)
 
--- with Best a job begins with no more than its limit, and a glyph leaves no more than there was before
+-- with Best a job begins with at most its limit, and no glyph increases the remaining work
 abbrev pub BestIsBounded : Type 0
 BestIsBounded = (m : Metrics) (tables : Glyf) (programs : ProgramTables) (ppem : ℕ) (s : Fitter)
     → fitter_of m tables programs ppem fit.Best ≡ Ok s → Fewer work_limit s.work
@@ -152,7 +151,7 @@ BestIsBounded = (m : Metrics) (tables : Glyf) (programs : ProgramTables) (ppem :
 abbrev pub WorkFalls : Type 0
 WorkFalls = (s : Fitter) (g left : ℕ) → s.work ≡ Some left → Fewer left (after_glyph s g).work
 
--- Originals. Where a simple glyph's program measures them in font units, they are the places there, scaled
+-- Originals. Those that a simple glyph's program measures in font units are its places there, scaled
 abbrev pub IsScaledBy : Scale → Point → Type 0
 IsScaledBy scale p = (p.org_x ≡ scaled_by scale p.units_x) × (p.org_y ≡ scaled_by scale p.units_y)
 
@@ -162,24 +161,24 @@ OriginalsAreScaled = (s : Fitter) (g : ℕ) (d : SimpleGlyph) (o : Outline) (gri
     → (start s d.x_min g >>= scaled_outline (size_of s) (glyph_offset s.tables g) d.points d.ends) ≡ Ok o
     → All (IsScaledBy (size_of s).scale) (glyph_zone (simple_program s g d).units o grid)
 
--- With every way but Best no program measures in font units, and halves go upwards
+-- With every fit but Best no program measures in font units, and halves round upwards
 abbrev pub OthersMeasureInPixels : Type 0
 OthersMeasureInPixels = (m : Metrics) (tables : Glyf) (programs : ProgramTables) (ppem : ℕ) (how : Fit) (s : Fitter)
     (g : ℕ) (d : SimpleGlyph) → how ≢ fit.Best → fitter_of m tables programs ppem how ≡ Ok s
     → ((simple_program s g d).units ≡ None) × ((size_of s).scale.halves ≡ halves.Up)
 
--- Dropouts. With every way but Best none are filled
+-- Dropouts. With every fit but Best none are filled
 abbrev pub OthersFillNone : Type 0
 OthersFillNone = (m : Metrics) (tables : Glyf) (programs : ProgramTables) (ppem : ℕ) (how : Fit) (s : Fitter)
     (unfitted : Option Fault) (o : Outline) → how ≢ fit.Best → fitter_of m tables programs ppem how ≡ Ok s
     → dropouts_of s unfitted o ≡ None
 
--- and with each a glyph changes nothing of the rules for the glyphs after it
+-- with every fit a glyph leaves the rules for later glyphs unchanged
 abbrev pub RulesStay : Type 0
 RulesStay = (s : Fitter) (g : ℕ) (unfitted : Option Fault) (o : Outline)
     → dropouts_of (after_glyph s g) unfitted o ≡ dropouts_of s unfitted o
 
--- with Best the rules of a glyph that is unfitted are those of scan type 1
+-- with Best an unfitted glyph has the rules of scan type 1
 abbrev pub UnfittedByTypeOne : Type 0
 UnfittedByTypeOne = (m : Metrics) (tables : Glyf) (programs : ProgramTables) (ppem : ℕ) (s : Fitter) (fault : Fault)
     (o : Outline) → fitter_of m tables programs ppem fit.Best ≡ Ok s
@@ -190,20 +189,20 @@ pub record AreEmpty (programs : ProgramTables) : Type 0 where
   pub fpgm : programs.fpgm ≡ []
   pub prep : programs.prep ≡ []
 
--- with them the rules of every glyph are those of scan type 1
+-- with them every glyph has the rules of scan type 1
 abbrev pub EmptyByTypeOne : Type 0
 EmptyByTypeOne = (m : Metrics) (tables : Glyf) (programs : ProgramTables) (ppem : ℕ) (s : Fitter)
     (unfitted : Option Fault) (o : Outline) → AreEmpty programs → fitter_of m tables programs ppem fit.Best ≡ Ok s
     → dropouts_of s unfitted o ≡ Some default_rules
 
--- and where the control value program switched the programs of glyphs off
+-- so it has where the control value program switched glyph programs off
 abbrev pub SkippedByTypeOne : Type 0
 SkippedByTypeOne = (m : Metrics) (tables : Glyf) (programs : ProgramTables) (ppem : ℕ) (s : Fitter) (parts : Parts)
     (unfitted : Option Fault) (o : Outline) → fitter_of m tables programs ppem fit.Best ≡ Ok s
     → s.hinting ≡ ready parts → parts.skip_glyphs ≡ true → dropouts_of s unfitted o ≡ Some default_rules
 
--- with Best, where a font has one of the two and the programs of glyphs are not switched off: the scan control that is
--- left for an outline, by the last program that was run for it or else by the control value program
+-- with Best, a font with one of the two programs, and glyph programs switched on: an outline's scan control, by the
+-- last program run for it, or else by the control value program
 pub record LeftScan (m : Metrics) (tables : Glyf) (programs : ProgramTables) (ppem : ℕ) (s : Fitter) (o : Outline)
     (scan : ScanControl) : Type 0 where
   pub made : fitter_of m tables programs ppem fit.Best ≡ Ok s
@@ -213,17 +212,17 @@ pub record LeftScan (m : Metrics) (tables : Glyf) (programs : ProgramTables) (pp
   pub on : parts.skip_glyphs ≡ false
   pub left : scan_left o.scan parts.state.scan ≡ scan
 
--- then the rules of a glyph that is fitted are those of the scan control
+-- then a fitted glyph has the rules of the scan control
 abbrev pub FittedByScan : Type 0
 FittedByScan = (m : Metrics) (tables : Glyf) (programs : ProgramTables) (ppem : ℕ) (s : Fitter) (o : Outline)
     (scan : ScanControl) → LeftScan m tables programs ppem s o scan → dropouts_of s None o ≡ scan_rules scan
 
--- where it is off, its dropouts are not filled
+-- where the scan control is off, its dropouts are not filled
 abbrev pub OffFillsNone : Type 0
 OffFillsNone = (m : Metrics) (tables : Glyf) (programs : ProgramTables) (ppem : ℕ) (s : Fitter) (o : Outline)
     (scan : ScanControl) → LeftScan m tables programs ppem s o scan → scan.on ≡ false → dropouts_of s None o ≡ None
 
--- nor by a scan type other than 0, 1, 4 and 5
+-- scan types other than 0, 1, 4 and 5 fill none either
 abbrev pub OtherTypesFillNone : Type 0
 OtherTypesFillNone = (m : Metrics) (tables : Glyf) (programs : ProgramTables) (ppem : ℕ) (s : Fitter) (o : Outline)
     (scan : ScanControl) → LeftScan m tables programs ppem s o scan

@@ -1,5 +1,5 @@
--- Apple TrueType Reference Manual, "Instructing TrueType Glyphs": what a machine is made of when the font program, the
--- control value program or a glyph's program begins.
+-- Apple TrueType Reference Manual, "Instructing TrueType Glyphs": the parts of a machine at the start of the font
+-- program, the control value program or a glyph's program.
 use Rattle.std.specs.Prelude.{◌≡◌, ℕ, ◌*◌, ◌/◌, ◌≤◌, Bool, true, false, if◌then◌else◌, ℤ, pos, negsuc, List, [], ◌∷◌, length, map, replicate, Option, Some, None, refl}
 use Rattle.std.specs.List.{range_with_len}
 use Rattle.tt_core.specs.Limits.{size_limit}
@@ -21,7 +21,7 @@ use Rattle.tt_fit.specs.declared.rules.Scaling.TheVariants as scaling
 use Rattle.tt_fit.specs.Size.{FontSize, size_by}
 use Rattle.tt_fit.specs.Units.{Units}
 
--- what a machine can be made of
+-- the facts of every machine's parts
 pub record AreParts (parts : Parts) : Type 0 where
   pub size : parts.ppem ≤ size_limit
   pub scale : IsScale parts.scale
@@ -38,7 +38,7 @@ control_values z cvt = map (control_value z cvt) (range_with_len 0 (length cvt /
 abbrev pub origin : Point
 origin = untouched (pos 0, pos 0) (pos 0, pos 0) true
 
--- the zones of a program that has no glyph: so many twilight points
+-- the zones of a program without a glyph, with this many twilight points
 abbrev pub without_glyph : Halves → ℕ → ZoneLists
 without_glyph halves twilight = record {
   twilight = replicate twilight origin;
@@ -47,7 +47,7 @@ without_glyph halves twilight = record {
   originals = in_pixels halves;
 }
 
--- what the font program and the control value program begin with; both have no glyph
+-- the parts at the start of the font program and the control value program; both have no glyph
 abbrev pub begun_parts : Metrics → List ℕ → ℕ → Rules → Parts
 begun_parts m cvt ppem rules = record {
   scale = (size_by rules.scaling ppem (units_per_em_of m)).scale;
@@ -63,7 +63,7 @@ begun_parts m cvt ppem rules = record {
   default_state = false;
 }
 
--- the vectors, the reference points, the zone pointers and the loop as they are by default
+-- the vectors, the reference points, the zone pointers and the loop set to their defaults
 abbrev pub pointers_set_back : GraphicsState → GraphicsState
 pointers_set_back g = record g {
   proj = default_state.proj;
@@ -78,16 +78,16 @@ pointers_set_back g = record g {
   loops = default_state.loops;
 }
 
--- the graphics state in which the programs of glyphs begin; the control value program can ask for the defaults. The
--- instruction set is no variable of it.
+-- the graphics state at the start of glyph programs; the control value program can request the defaults. The
+-- instruction set is not one of its variables.
 abbrev pub glyph_state : Bool → GraphicsState → GraphicsState
 glyph_state by_default g = if by_default then default_of g.whole else pointers_set_back g
 
--- what the control value program leaves to the glyphs
+-- the parts that the control value program gives to the glyphs
 abbrev pub left_to_glyphs : Parts → Parts
 left_to_glyphs parts = record parts { state = glyph_state parts.default_state parts.state }
 
--- in what a glyph's originals are measured: in font units, by the scale of its size, or in 26.6
+-- the unit of a glyph's originals: font units, by the scale of its size, or 26.6
 abbrev pub originals_by : Scale → Option Units → Originals
 originals_by s None = in_pixels s.halves
 originals_by s (Some u) = record { units = Some s; halves = s.halves }
@@ -100,7 +100,7 @@ zones_of twilight s units o grid = record {
   originals = originals_by s units;
 }
 
--- what a machine is made of when a glyph's program begins
+-- the parts of a machine at the start of a glyph's program
 abbrev pub parts_with : Parts → Option Units → Outline → PhantomPoints → Parts
 parts_with parts units o grid = record parts { zones = zones_of parts.zones.twilight parts.scale units o grid }
 

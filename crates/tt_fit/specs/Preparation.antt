@@ -1,6 +1,7 @@
--- Apple TrueType Reference Manual, "Instructing TrueType Glyphs": what the font program and the control value program
--- leave before the first glyph. Without programs they are not looked at. That a control value program begins with
--- nothing of the font program but its definitions, and what is kept of it, is this project's own choice (profile).
+-- Apple TrueType Reference Manual, "Instructing TrueType Glyphs": the state after the font program and the control
+-- value program, before the first glyph. Without programs they are ignored. The control value program sees only the
+-- definitions of the font program. This, and which of its own results the glyphs see, is this project's choice
+-- (profile).
 use Rattle.std.specs.Prelude.{ℕ, List, codes, Option, Some, None, Result, Ok, Err}
 use Rattle.tt_core.specs.Faults.{Fault}
 use Rattle.tt_core.specs.Outcomes.{◌>>=◌}
@@ -35,23 +36,23 @@ font_program fpgm = record { table = codes "fpgm"; base = 0; bytes = fpgm }
 abbrev pub control_value_program : List ℕ → Code
 control_value_program prep = record { table = codes "prep"; base = 0; bytes = prep }
 
--- what the control value program begins with: of the font program only its definitions are kept
+-- the parts at the start of the control value program: only the definitions come from the font program
 abbrev pub with_definitions : Parts → Parts → Parts
 with_definitions parts font = record parts { functions = font.functions; instructions = font.instructions }
 
--- what the two programs leave at a size, or their first fault
+-- the state after the two programs at a size, or their first fault
 unfoldable pub left_by_programs : Parts → ProgramTables → Result Hinting Fault
 left_by_programs parts programs = run_of (font_program programs.fpgm) parts >>= λ font.
     run_of (control_value_program programs.prep) (with_definitions parts font) >>= λ left. Ok
     (ready (left_to_glyphs left))
 
--- and their work
+-- the work of the two programs
 unfoldable pub programs_work : Parts → ProgramTables → Option ℕ → Worked
 programs_work parts programs left = then_work (code_work (font_program programs.fpgm) parts left)
     (if_ok (run_of (font_program programs.fpgm) parts)
     (λ font. code_work (control_value_program programs.prep) (with_definitions parts font)))
 
--- what the programs of glyphs begin with, which glyphs are unfitted, and what is left of the job's work
+-- the state for glyph programs, which glyphs are unfitted, and the job's remaining work
 pub record Preparation : Type 0 where
   pub hinting : Hinting
   pub fallback : Fallback
@@ -61,12 +62,12 @@ pub record Preparation : Type 0 where
 abbrev pub without_fallback : Hinting → Preparation
 without_fallback hinting = record { hinting = hinting; fallback = never; work = None }
 
--- by a fault of one of the two programs every glyph is unfitted
+-- a fault of one of the two programs makes every glyph unfitted
 abbrev pub with_fallback : Result Hinting Fault → Preparation
 with_fallback (Ok hinting) = record { hinting = hinting; fallback = where_refused; work = None }
 with_fallback (Err fault) = record { hinting = off; fallback = everywhere fault; work = None }
 
--- and, where their work is bounded, for want of it too
+-- where work is bounded, exceeding it makes every glyph unfitted too
 abbrev pub within_work : Worked → Result Hinting Fault → Preparation
 within_work (enough left) by_programs = record (with_fallback by_programs) { work = left }
 within_work (spent fault) by_programs = record { hinting = off; fallback = everywhere fault; work = Some 0 }
@@ -77,7 +78,7 @@ prepared_by fit.Full worked by_programs = by_programs >>= λ hinting. Ok (withou
 prepared_by fit.Fallback worked by_programs = Ok (with_fallback by_programs)
 prepared_by fit.Best worked by_programs = Ok (within_work worked by_programs)
 
--- what the two programs leave at a size by the rules of a way of fitting
+-- the state after the two programs at a size by the rules of a fit
 abbrev pub left_at : Metrics → ProgramTables → ℕ → Fit → Result Hinting Fault
 left_at m programs ppem fit = left_by_programs (begun_parts m programs.cvt ppem (rules_of fit)) programs
 
@@ -87,7 +88,7 @@ work_at m programs ppem fit = programs_work (begun_parts m programs.cvt ppem (ru
 unfoldable pub prepared : Metrics → ProgramTables → ℕ → Fit → Result Preparation Fault
 prepared m programs ppem fit = prepared_by fit (work_at m programs ppem fit) (left_at m programs ppem fit)
 
--- what outlines are made from, by what the two programs leave, where no dropouts are filled
+-- the fitter, by the state after the two programs, where no dropouts are filled
 abbrev pub fitter_with : Metrics → Glyf → ℕ → Fit → Hinting → Fallback → Option ℕ → Fitter
 fitter_with m tables ppem fit hinting fallback work = record {
   tables = tables;
@@ -101,7 +102,7 @@ fitter_with m tables ppem fit hinting fallback work = record {
   dropouts = by.Nobody;
 }
 
--- what the outlines of a font at a size are made from
+-- the fitter of a font at a size
 unfoldable pub fitter_of : Metrics → Glyf → ProgramTables → ℕ → Fit → Result Fitter Fault
 fitter_of m tables programs ppem fit = do
   p ← prepared m programs ppem fit

@@ -1,6 +1,6 @@
--- Worked values: a font whose programs are refused, at 16 pixels, by each way of fitting. Glyph 1 is the square
--- (64,0), (64,128), (192,128), (192,0) with a program of SPVTL, which is not supported, glyph 2 has glyph 1 as its one
--- component, and glyph 3 ends too early.
+-- Worked values: a font whose programs are refused, at 16 pixels, by each fit. Glyph 1 is the square (64,0), (64,128),
+-- (192,128), (192,0) with a program of SPVTL, which is not supported. Glyph 2 has glyph 1 as its one component, and
+-- glyph 3 ends too early.
 use Rattle.std.specs.Prelude.{◌≡◌, true, pos, neg_ℤ, codes, [], ◌∷◌, Some, None, Ok, Err, refl}
 use Rattle.tt_core.specs.Faults.{Fault, fault_at, why_number}
 use Rattle.tt_core.specs.declared.fault.Why.TheVariants as why
@@ -121,13 +121,13 @@ by_it_every_glyph_is_unfitted : prepared its_metrics its_programs 16 fit.Fallbac
 unfolding prepared left_by_programs run_of run_outcome run_within
 by_it_every_glyph_is_unfitted = refl
 
--- with best by an opcode that nothing defines, whose step is work
+-- with best: an opcode that nothing defines, whose step counts as work
 with_best_every_glyph_is_unfitted : prepared its_metrics (record its_programs { fpgm = 0xA0 ∷ [] }) 16 fit.Best ≡ Ok
     (record { hinting = off; fallback = everywhere (fault_at (codes "fpgm") 0 why.BadOpcode); work = Some 99999999 })
 unfolding prepared left_by_programs run_of run_outcome run_within programs_work run_work work_within
 with_best_every_glyph_is_unfitted = refl
 
--- by such a fault a glyph that has no program is unfitted as well
+-- this fault makes a glyph without a program unfitted too
 empty_is_unfitted : unfitted_fault (its_setting (everywhere font_fault)) 0 ≡ Some font_fault
 unfolding unfitted_fault
 empty_is_unfitted = refl

@@ -1,4 +1,4 @@
--- No part of the standard: by which rules each way of fitting makes outlines (profile).
+-- No part of the standard: the rules of each fit (profile).
 use Rattle.std.specs.Prelude.{◌≡◌, ℕ, ◌==◌, Bool, true, false, ◌&&◌, if◌then◌else◌, List, length, Option, Some, None, refl}
 use Rattle.tt_core.specs.Limits.{level_limit, best_level_limit, work_limit}
 use Rattle.tt_state.specs.declared.tolerance.Tolerance.TheVariants as tolerance
@@ -9,15 +9,15 @@ use Rattle.tt_fit.specs.declared.programs.Fit.TheVariants as fit
 use Rattle.tt_fit.specs.declared.rules.Rules.{Rules}
 use Rattle.tt_fit.specs.declared.rules.Scaling.TheVariants as scaling
 
--- the ways in which a glyph is unfitted where a program is refused
+-- the fits that make a glyph unfitted where a program is refused
 abbrev pub falls_back : Fit → Bool
 falls_back fit.Full = false
 falls_back fit.None = false
 falls_back fit.Fallback = true
 falls_back fit.Best = true
 
--- by which rules programs are run and distances scaled: those of the profile; or by the whole instruction set, with
--- tolerance, and by a factor that is rounded first
+-- the rules for running programs and scaling: those of the profile; or the whole instruction set, tolerance, and a
+-- factor that is rounded first
 abbrev pub of_profile : Rules
 of_profile = record { whole = false; tolerance = tolerance.Strict; scaling = scaling.Exact }
 
@@ -34,15 +34,15 @@ levels_of fit.None = level_limit
 levels_of fit.Fallback = level_limit
 levels_of fit.Best = best_level_limit
 
--- how much work the programs of a job may be, None where it is not bounded
+-- the budget of work for a job's programs, None where it is unbounded
 abbrev pub work_of : Fit → Option ℕ
 work_of fit.Full = None
 work_of fit.None = None
 work_of fit.Fallback = None
 work_of fit.Best = Some work_limit
 
--- who says which dropouts are filled: with Best the font's programs, by the font program and the control value program;
--- where both are empty the rules are those of scan type 1 (profile)
+-- the source of the dropout rules: with Best the font's programs; scan type 1 where the font program and the control
+-- value program are both empty (profile)
 abbrev pub dropouts_by : Fit → List ℕ → List ℕ → DropoutsBy
 dropouts_by fit.Full fpgm prep = by.Nobody
 dropouts_by fit.None fpgm prep = by.Nobody

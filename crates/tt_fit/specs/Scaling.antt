@@ -22,7 +22,7 @@ use Rattle.tt_fit.specs.Size.{FontSize, scale, size_by}
 abbrev pub to_grid : ℤ → ℤ
 to_grid v = rounded round.Grid v
 
--- the same as IsCoordinate, as a test
+-- IsCoordinate as a test
 abbrev pub is_coordinate : ℤ → Bool
 is_coordinate v = nat_le (unsigned_abs v) coordinate_limit
 
@@ -30,7 +30,7 @@ is_coordinate v = nat_le (unsigned_abs v) coordinate_limit
 abbrev pub glyf_fault : ℕ → Why → Fault
 glyf_fault at why = fault_at glyf_tag at why
 
--- a coordinate leaves the limit
+-- a coordinate past the limit
 abbrev pub coordinate_fault : ℕ → Fault
 coordinate_fault at = glyf_fault at why.CoordRange
 
@@ -38,7 +38,7 @@ coordinate_fault at = glyf_fault at why.CoordRange
 unfoldable pub settled : ℕ → ℤ × ℤ × Bool → Result (ℤ × ℤ × Bool) Fault
 settled at p = if is_coordinate p.0 && is_coordinate p.1 then Ok p else Err (coordinate_fault at)
 
--- the same as scaled_position, by its scale alone
+-- scaled_position, by the scale alone
 abbrev pub scaled_by_scale : Scale → RawPoint → ℤ × ℤ × Bool
 scaled_by_scale s p = (scaled_by s p.x, scaled_by s p.y, p.on)
 
@@ -58,7 +58,7 @@ phantom_units m x_min g = record {
   descent = (pos 0, descent_of m);
 }
 
--- each number is scaled as one
+-- each coordinate is scaled once, after its sum
 abbrev pub scaled_phantom : FontSize → PhantomPoints → PhantomPoints
 scaled_phantom z p = record {
   left = (scale z p.left.0, pos 0);

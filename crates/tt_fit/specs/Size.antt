@@ -5,14 +5,14 @@ use Rattle.tt_core.specs.declared.scaling.Scale.{Scale}
 use Rattle.tt_fit.specs.declared.rules.Scaling.{Scaling}
 use Rattle.tt_fit.specs.declared.rules.Scaling.TheVariants as scaling
 
--- pixels per em, and the scales from font units to pixels: of all distances, and of control values when a program
--- begins
+-- pixels per em, and the scales from font units to pixels: one for distances, one for control values at the start of a
+-- program
 pub record FontSize : Type 0 where
   pub ppem : ℕ
   pub scale : Scale
   pub control_values : Scale
 
--- at so many pixels per em of so many font units
+-- the size by the pixels per em and the font units per em
 abbrev pub size_by : Scaling → ℕ → ℕ → FontSize
 size_by scaling.Exact ppem em =
     record { ppem = ppem; scale = exact_scale ppem em; control_values = exact_scale ppem em }

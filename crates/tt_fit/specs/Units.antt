@@ -1,5 +1,5 @@
--- Apple TrueType Reference Manual, "Instructing TrueType Glyphs" (zones, phantom points): where the points of a simple
--- glyph stand in font units. That its program measures originals in these is profile.
+-- Apple TrueType Reference Manual, "Instructing TrueType Glyphs" (zones, phantom points): the places of a simple
+-- glyph's points in font units. Measuring a program's originals in them is profile.
 use Rattle.std.specs.Prelude.{◌≡◌, ◌≤◌, ◌^◌, unsigned_abs, refl, true, false, ℤ, pos, List, [], ◌∷◌, Option, Some, None}
 use Rattle.tt_glyf.specs.declared.raw.RawPoint.{RawPoint}
 use Rattle.tt_state.specs.declared.point.Point.{Point}
@@ -12,7 +12,7 @@ pub record Units : Type 0 where
   pub points : List RawPoint
   pub phantom : PhantomPoints
 
--- as far as a phantom point can be, which is a difference of two coordinates and an advance away
+-- the bound of a phantom point: a difference of two coordinates, plus an advance
 abbrev pub IsNear : ℤ × ℤ → Type 0
 IsNear p = (unsigned_abs p.0 ≤ 2 ^ 17) × (unsigned_abs p.1 ≤ 2 ^ 17)
 

@@ -1,4 +1,4 @@
--- How the definitions see the values that the code works with.
+-- The definitions' views of the code's values.
 use Rattle.std.specs.Prelude.{Bool, ℤ, pos, option_map}
 use Rattle.tt_exec.specs.Parts.{parts_of}
 use Rattle.tt_fit.specs.declared.position.Position as position

@@ -1,5 +1,5 @@
--- No part of the standard: how much work the programs of a glyph are, where the work of a job is bounded (profile). Each
--- definition stands beside the one of the same outline, and what is left after a program is what the next one has.
+-- No part of the standard: the work of a glyph's programs, where the work of a job is bounded (profile). Each
+-- definition follows the one of the same outline. A program has the work that remains after the one before it.
 use Rattle.std.specs.Prelude.{◌≡◌, ℕ, if◌then◌else◌, List, [], ◌∷◌, Option, Some, None, Result, Ok, Err}
 use Rattle.tt_core.specs.Faults.{Fault}
 use Rattle.tt_core.specs.Outcomes.{GivesUnless}
@@ -20,7 +20,7 @@ use Rattle.tt_fit.specs.Hinting.{Hinting, off, ready, is_run}
 use Rattle.tt_fit.specs.Outline.{Outline}
 use Rattle.tt_fit.specs.Parts.{parts_with}
 
--- the work that a value asks for, where it was made; after a fault there is none
+-- the work of a value, where it was made; after a fault there is none
 abbrev pub if_ok : {X : Type 0} → Result X Fault → (X → Option ℕ → Worked) → Option ℕ → Worked
 if_ok (Ok x) more left = more x left
 if_ok (Err fault) more left = enough left
@@ -29,7 +29,7 @@ if_ok (Err fault) more left = enough left
 abbrev pub code_work : Code → Parts → Option ℕ → Worked
 code_work program parts left = run_work (run_from program (fresh parts)) left
 
--- of a glyph's program
+-- the work of a glyph's program
 unfoldable pub program_work : Parts → GlyphProgram → Outline → Option ℕ → Worked
 program_work parts p o left = if_ok (on_grid_at p.glyph_at o.phantom)
     (λ grid. code_work (program_in_glyf p) (parts_with parts p.units o grid)) left
@@ -38,56 +38,56 @@ abbrev pub hinted_work : Hinting → GlyphProgram → Outline → Option ℕ →
 hinted_work off p o left = enough left
 hinted_work (ready parts) p o left = if is_run parts p then program_work parts p o left else enough left
 
--- of each record in order, by what a record adds to the outline so far, and its work
+-- the work of each record in order, by how a record extends the outline so far, and by its work
 abbrev pub joined_work : (Record → Outline → Result Outline Fault) → (Record → Option ℕ → Worked) → List Record → Outline
     → Option ℕ → Worked
 joined_work add work [] o left = enough left
 joined_work add work (r ∷ rs) o left = then_work (work r left) (if_ok (add r o) (joined_work add work rs))
 
--- that there is as much as is wanted
+-- the work is enough
 abbrev pub IsEnough : Worked → Type 0
 IsEnough worked = (left : Option ℕ) × (worked ≡ enough left)
 
--- what is left of a job's work: where it was not enough, nothing for the glyphs after
+-- the job's remaining work: none for later glyphs where it was not enough
 abbrev pub left_in : Worked → Option ℕ
 left_in (enough left) = left
 left_in (spent fault) = Some 0
 
--- a refusal of a call whose work is not looked at
+-- a refusal of a call whose work is not counted
 abbrev pub unmade_of : FontFault → Unmade
 unmade_of (font.Font fault) = unmade.Font fault
 unmade_of font.Memory = unmade.Memory
 
--- how a machine tells a refusal
+-- the refusal as a machine reports it
 abbrev pub work_fault : Unmade → WorkFault
 work_fault (unmade.Font fault) = work.Run (exec.Font fault)
 work_fault unmade.Memory = work.Run exec.Memory
 work_fault (unmade.Spent fault) = work.Spent fault
 
--- it is not for want of work
+-- the refusal is not for exceeded work
 abbrev pub IsUnbounded : Unmade → Type 0
 IsUnbounded (unmade.Font fault) = Unit {0}
 IsUnbounded unmade.Memory = Unit {0}
 IsUnbounded (unmade.Spent fault) = ⊥
 
--- the defect that a refusal tells: none where memory or work is wanting
+-- the defect in a refusal: none where memory ran out or work was exceeded
 abbrev pub unmade_fault : Unmade → Option Fault
 unmade_fault (unmade.Font fault) = Some fault
 unmade_fault unmade.Memory = None
 unmade_fault (unmade.Spent fault) = None
 
--- what a call answered is what the definition gives, unless memory ran out or its work is more than there is
+-- a call gives what the definition gives, unless memory ran out or its work is exceeded
 abbrev pub Makes : {X Y : Type 0} → (X → Y) → Result X Unmade → Result Y Fault → Type 0
 Makes view result wanted = GivesUnless unmade_fault view result wanted
 
--- what a refusal leaves of a job's work: what the work leaves; or that this was not enough. Where memory ran out nothing
--- is said.
+-- the job's remaining work after a refusal: by the work; or the work was exceeded. Nothing is claimed where memory ran
+-- out.
 abbrev pub RefusalLeaves : Unmade → Option ℕ → Worked → Type 0
 RefusalLeaves (unmade.Font fault) new worked = worked ≡ enough new
 RefusalLeaves unmade.Memory new worked = Unit {0}
 RefusalLeaves (unmade.Spent fault) new worked = worked ≡ spent fault
 
--- what a call leaves of it
+-- the job's remaining work after a call
 abbrev pub WorkGives : {X : Type 0} → Result X Unmade → Option ℕ → Worked → Type 0
 WorkGives (Ok x) new worked = worked ≡ enough new
 WorkGives (Err refusal) new worked = RefusalLeaves refusal new worked

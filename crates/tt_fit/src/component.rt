@@ -1,4 +1,4 @@
-//! Where a component's points come to be. OpenType, "The 'glyf' table", "Composite Glyph Description".
+//! The places of a component's points. OpenType, "The 'glyf' table", "Composite Glyph Description".
 
 ghost use Rattle.std.specs.Prelude.{◌≡◌, ◌<◌, ◌≤◌, ◌^◌, ◌+ℤ◌, ◌*ℤ◌, unsigned_abs, IsTrue, IfOk, IfErr};
 ghost use Rattle.tt_core.specs.Numbers.{rounded_quotient};
@@ -16,10 +16,10 @@ use tt_core::{Fault, Why, rq};
 use tt_glyf::{ComponentFlags, Record};
 use tt_state::Round;
 
-/// One, in a transform.
+/// The number one in 2.14.
 const ONE: i64 = 16384;
 
-/// A row of a transform: what it takes of x and of y.
+/// One row of a transform: the factors of x and of y.
 #[derive(Clone, Copy)]
 struct Row {
     x: i16,
@@ -58,7 +58,7 @@ fn transformed(part: Record, point: (i32, i32, bool)) -> Position
     }
 }
 
-/// An argument as an offset.
+/// An argument of a component as an offset.
 fn offset_along(size: FontSize, part: Record, v: i32) -> i64
     requires { unsigned_abs v ≤ 2 ^ 15 }
     ensures exact { result ≡ offset_along (size_view size) part v }
@@ -92,7 +92,7 @@ fn point_of(points: &[(i32, i32, bool)], number: i32) -> Option<(i32, i32, bool)
     }
 }
 
-/// What takes a component's point onto another.
+/// The shift that takes a component's point onto another point.
 fn onto(part: Record, point: (i32, i32, bool), target: (i32, i32, bool)) -> Shift
     ensures { shift_view result ≡ onto part point target }
 {
@@ -103,7 +103,7 @@ fn onto(part: Record, point: (i32, i32, bool), target: (i32, i32, bool)) -> Shif
     }
 }
 
-/// How far a component is moved, where these points are assembled so far. Error: MatchPoint.
+/// How far a component is moved, given the points assembled so far. Error: MatchPoint.
 #[tactic(auto, unfolding(crate::specs::Component::shift_of))]
 pub(crate) fn shift_of(
     size: FontSize,

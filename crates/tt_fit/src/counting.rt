@@ -1,4 +1,4 @@
-//! How many points a glyph is made of, which is known before it is made (profile).
+//! Counts the points of a glyph before the glyph is made (profile).
 
 ghost use Rattle.std.specs.Prelude.{◌≡◌, ◌<◌, All, IfOk};
 ghost use Rattle.tt_fit.specs.Counting.{points_asked, points_of_all, counted, left_of};
@@ -9,8 +9,8 @@ use tt_glyf::{Glyf, Record};
 /// The ends of a glyph's advance, its ascent and its descent.
 const PHANTOM_COUNT: u64 = 4;
 
-/// The points that a glyph is made of, where so many levels of components are left, or None where they are more than
-/// `most`: no more than these are counted. Error: want of memory.
+/// What remains of `most` after the points of a glyph with this many levels of components; None where they exceed
+/// `most`. At most `most` points are counted. Error: out of memory.
 pub(crate) fn points_of(
     alloc: Global,
     glyf: &Glyf,
@@ -27,7 +27,7 @@ pub(crate) fn points_of(
     }
 }
 
-/// What a glyph leaves of so many points, or None where it has more.
+/// What remains of `most` after one glyph's points; None where it has more.
 #[cycle(counting)]
 #[tactic(auto, using(crate::proofs::Counts::own_alone, crate::proofs::Counts::with_components))]
 fn left_after(
@@ -51,7 +51,7 @@ fn left_after(
     left_after_all(alloc, glyf, levels - 1, components.as_slice(), most - own)
 }
 
-/// What some components leave.
+/// What remains of `most` after the points of some components; None where they have more.
 #[cycle(counting)]
 fn left_after_all(
     alloc: Global,

@@ -1,4 +1,4 @@
-//! By which rules the dropouts of a glyph are filled.
+//! The rules for filling a glyph's dropouts.
 
 ghost use Rattle.std.specs.Prelude.{◌≡◌};
 ghost use Rattle.tt_fit.specs.Dropouts.{type_rules, scan_rules, program_rules, rules_by};
@@ -9,35 +9,35 @@ use crate::hinting::Hinting;
 use crate::outline::Outline;
 use tt_state::ScanControl;
 
-/// Which dropouts are filled, and where.
+/// Which dropouts are filled, and with which pixel.
 #[derive(Clone, Copy, Debug, PartialEq, Eq)]
 pub struct DropoutRules {
-    /// Whether those of stubs are filled too.
+    /// Whether dropouts at stubs are filled too.
     pub stubs: bool,
-    /// Whether the pixel that is nearer is filled.
+    /// Whether the nearer pixel is filled.
     pub smart: bool,
 }
 
-/// Who says which dropouts are filled.
+/// The source of a glyph's dropout rules.
 #[derive(Clone, Copy)]
 pub(crate) enum DropoutsBy {
-    /// None are.
+    /// No dropouts are filled.
     Nobody,
-    /// The rules of scan type 1, since the font has no programs.
+    /// Scan type 1, because the font has no programs.
     Default,
-    /// What the programs left.
+    /// The scan control of the font's programs.
     Programs,
 }
 
 impl DropoutRules {
-    /// Those of scan type 1.
+    /// The rules of scan type 1.
     pub(crate) const DEFAULT: DropoutRules = DropoutRules {
         stubs: false,
         smart: false,
     };
 }
 
-/// The rules of a scan type; None of one by which no dropouts are filled.
+/// The rules of a scan type; None where this type fills no dropouts.
 fn type_rules(scan_type: u16) -> Option<DropoutRules>
     ensures { result ≡ type_rules scan_type }
 {
@@ -72,8 +72,8 @@ fn scan_rules(scan: ScanControl) -> Option<DropoutRules>
     }
 }
 
-/// The rules of what the last program of a glyph left, or, where none was run, of what the programs of glyphs begin
-/// with.
+/// The rules by the scan control of the glyph's last program, or, where none was run, by that of the control value
+/// program. Scan type 1 where no glyph program may run.
 fn program_rules(hinting: &Hinting, scan: Option<ScanControl>) -> Option<DropoutRules>
     ensures { result ≡ program_rules (hinting_view hinting.now) scan }
 {
@@ -91,7 +91,7 @@ fn program_rules(hinting: &Hinting, scan: Option<ScanControl>) -> Option<Dropout
     }
 }
 
-/// The rules for an outline, by who says them.
+/// The rules for an outline, by their source.
 pub(crate) fn rules_by(by: DropoutsBy, hinting: &Hinting, outline: &Outline) -> Option<DropoutRules>
     ensures { result ≡ rules_by by (hinting_view hinting.now) outline.now.unfitted outline.now.scan }
 {

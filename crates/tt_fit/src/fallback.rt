@@ -1,22 +1,22 @@
-//! Which glyphs are unfitted: made with their scaled points, since a program of the font is refused.
+//! Which glyphs are unfitted: their points are only scaled, because a program of the font is refused.
 
 ghost use Rattle.std.specs.Prelude.{◌≡◌};
 ghost use Rattle.tt_fit.specs.Fallback.{is_program_fault};
 
 use tt_core::Fault;
 
-/// Which glyphs are unfitted, that is have their points scaled only.
+/// Which glyphs are unfitted, with their points only scaled.
 #[derive(Clone, Copy)]
 pub(crate) enum Fallback {
     /// None: a fault of a program is the answer.
     Never,
-    /// Each whose own or whose component's program is refused.
+    /// Each glyph whose own program or whose component's program is refused.
     WhereRefused,
-    /// Every one, by this fault of the font program or the control value program.
+    /// Every glyph, for this fault of the font program or the control value program.
     Everywhere(Fault),
 }
 
-/// Whether it is a program that is at fault, and not a table of the font.
+/// Whether a program is at fault, and not a table of the font.
 #[tactic(auto, unfolding(crate::specs::Fallback::is_program_fault))]
 pub(crate) fn is_program_fault(fault: Fault) -> bool
     ensures { result ≡ is_program_fault fault }

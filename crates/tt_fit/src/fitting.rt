@@ -42,9 +42,9 @@ use tt_exec::Work;
 use tt_glyf::{Glyf, Raw, RawPoint, Record};
 use tt_metrics::Metrics;
 
-/// Makes the outlines of a font at a size. A clause sees it as the glyph data, the metrics, the size,
-/// what the font's programs left, which glyphs are unfitted, how deep components may be nested, what is left of the
-/// job's work, and who says which dropouts are filled.
+/// Makes the outlines of a font at a size. Clauses see the glyph data, the metrics, the size, and what the font's
+/// programs gave. They also see which glyphs are unfitted, the depth limit of components, the job's remaining work, and
+/// the source of the dropout rules.
 #[derive(Drop)]
 pub struct Fitter<'a> {
     alloc: Global,
@@ -53,7 +53,7 @@ pub struct Fitter<'a> {
     ppem: u32,
     scaling: Scaling,
     hinting: Hinting<'a>,
-    /// Used again for the program of each glyph; none before the first. No clause sees it.
+    /// Reused for the program of each glyph; None before the first. Not visible to clauses.
     machine: GlyphMachine<'a>,
     fallback: Fallback,
     levels: u32,
@@ -74,10 +74,9 @@ impl<'a> Model for Fitter<'a> {
 }
 
 impl<'a> Fitter<'a> {
-    /// Takes the metrics and the glyph data of a font, and its programs. With `Fit::Full` the font program and the
-    /// control value program are run at this size, in pixels per em; with `Fit::None` they are not looked at. Errors:
-    /// those of the two programs, Memory. With `Fit::Fallback` and `Fit::Best` by a fault of the two every glyph is
-    /// unfitted.
+    /// Takes a font's metrics, glyph data and programs. `Fit::Full` runs the font program and the control value program
+    /// at this size, in pixels per em. `Fit::None` ignores them. Errors: those of the two programs, Memory. With
+    /// `Fit::Fallback` and `Fit::Best` a fault of the two programs makes every glyph unfitted.
     #[tactic(auto, unfolding(crate::specs::Preparation::fitter_of))]
     pub fn new(
         alloc: Global,
@@ -121,9 +120,9 @@ impl<'a> Fitter<'a> {
         })
     }
 
-    /// How many points a glyph is made of, counted before it is made: its components as often as they are used, and with
-    /// each glyph its contours and its phantom points. None where they are more than `most`; no more than these are
-    /// counted. Error: want of memory.
+    /// How many points a glyph has, counted before it is made. A component counts each time it is used, and each glyph
+    /// counts its contours and phantom points too. None where there are more than `most`; at most `most` are counted.
+    /// Error: out of memory.
     pub fn points(&self, g: u16, most: u64) -> Result<Option<u64>, AllocError>
         requires { g < self.now.tables.glyphs }
         ensures exact { IfOk result (λ n. n ≡ counted most (points_asked self.now.tables self.now.levels g)) }
@@ -133,13 +132,13 @@ impl<'a> Fitter<'a> {
 
     /// The outline of a glyph, in 26.6 pixels. Errors: those of reading a glyph, CoordRange, ComponentDepth,
     /// MatchPoint, PointLimit, those of the programs of the glyph and its components, Memory. With `Fit::Fallback` and
-    /// `Fit::Best` a program's fault is told with the outline, which then is made with its scaled points, components
-    /// included; with `Fit::Best` so is StepLimit where the programs are more work than is left of the job's.
+    /// `Fit::Best` a program's fault is reported with the outline, whose points, also those of components, are then
+    /// only scaled. `Fit::Best` does this for StepLimit too, where the programs exceed the job's remaining work.
     pub fn fitted(&self, g: u16) -> Result<Outline, FontFault>
         requires { g < self.now.tables.glyphs }
         ensures exact { FontGives outline_of result (fitted_outline self.now g) }
         ensures unfitted { IfOk result (λ o. o.unfitted ≡ unfitted_fault self.now g) }
-        // On Ok nothing is wrong with the glyph or with a component of it, and a fault tells what is.
+        // Ok means that the glyph and its components have no defect; a fault names a defect they have.
         ensures sound { OnOk result (HasNo (IsOutlineDefect self.now g)) }
         ensures fault { IfTold font_fault result (IsOutlineDefect self.now g) }
         ensures few { IfOk result (λ o. length o.points.items ≤ point_limit) }
@@ -152,12 +151,12 @@ impl<'a> Fitter<'a> {
         self.made_by_fallback(g, &mut None, &mut work)
     }
 
-    /// The same, and what the programs were of the job's work is not left for the glyphs after, where it is bounded.
+    /// As `fitted`, and charges the work of the programs to the job, where work is bounded.
     pub fn fit(&mut self, g: u16) -> Result<Outline, FontFault>
         requires { g < self.old.tables.glyphs }
         ensures exact { FontGives outline_of result (fitted_outline self.old g) }
         ensures unfitted { IfOk result (λ o. o.unfitted ≡ unfitted_fault self.old g) }
-        // On Ok nothing is wrong with the glyph or with a component of it, and a fault tells what is.
+        // Ok means that the glyph and its components have no defect; a fault names a defect they have.
         ensures sound { OnOk result (HasNo (IsOutlineDefect self.old g)) }
         ensures fault { IfTold font_fault result (IsOutlineDefect self.old g) }
         ensures few { IfOk result (λ o. length o.points.items ≤ point_limit) }
@@ -176,15 +175,14 @@ impl<'a> Fitter<'a> {
         Ok(outline)
     }
 
-    /// By which rules the dropouts of a glyph's outline are filled; None where none are.
+    /// The rules for filling the dropouts of a glyph's outline; None where none are filled.
     pub fn dropouts(&self, outline: &Outline) -> Option<DropoutRules>
         ensures { result ≡ dropouts_of self.now outline.now.unfitted (outline_of outline.now) }
     {
         rules_by(self.dropouts, &self.hinting, outline)
     }
 
-    /// The outline of a glyph, with the fault of a program for which it is made without, by what is left of the job's
-    /// work.
+    /// The outline of a glyph within the job's remaining work, with the fault of a program that makes it unfitted.
     #[tactic(auto, unfolding(crate::specs::Fitting::fitted_outline, crate::specs::Fitting::unfitted_fault))]
     fn made_by_fallback(
         &self,
@@ -206,7 +204,8 @@ impl<'a> Fitter<'a> {
         }
     }
 
-    /// The outline of a glyph with its program, or, where one is refused or more work than is left, without.
+    /// The outline of a glyph with its program. Where a program is refused or exceeds the work, the outline without
+    /// programs.
     #[tactic(auto, unfolding(crate::specs::Fitting::fitted_outline, crate::specs::Fitting::unfitted_fault))]
     fn made_or_unfitted(
         &self,
@@ -228,7 +227,7 @@ impl<'a> Fitter<'a> {
         }
     }
 
-    /// The outline of a glyph that is not made with its program, or its fault.
+    /// After a program failed: the outline without programs, or the fault.
     fn unmade(
         &self,
         g: u16,
@@ -255,7 +254,7 @@ impl<'a> Fitter<'a> {
         }
     }
 
-    /// The outline of a glyph that has this fault with its program.
+    /// After this fault: the outline without programs if a program is at fault, else the fault.
     #[tactic(auto, unfolding(crate::specs::Fitting::fitted_outline, crate::specs::Fitting::unfitted_fault))]
     fn refused(
         &self,
@@ -277,7 +276,7 @@ impl<'a> Fitter<'a> {
         self.made(machine, &Hinting::Off, g, Some(fault))
     }
 
-    /// The outline of a glyph whose programs are more work than is left, with this fault.
+    /// The outline without programs, since they exceed the remaining work, with this fault.
     #[tactic(auto, unfolding(crate::specs::Fitting::fitted_outline, crate::specs::Fitting::unfitted_fault))]
     fn spent(
         &self,
@@ -295,7 +294,7 @@ impl<'a> Fitter<'a> {
         self.made(machine, &Hinting::Off, g, Some(over))
     }
 
-    /// The outline of a glyph by what the programs leave, with the fault for which it is unfitted. Work is not bounded.
+    /// The outline of a glyph by `hinting`, marked with the fault that makes it unfitted. Work is not bounded.
     fn made(
         &self,
         machine: &mut GlyphMachine<'a>,
@@ -316,7 +315,7 @@ impl<'a> Fitter<'a> {
         }
     }
 
-    /// The same by what is left of the job's work.
+    /// As `made`, within the job's remaining work.
     fn made_within(
         &self,
         machine: &mut GlyphMachine<'a>,
@@ -388,7 +387,7 @@ impl<'a> Fitter<'a> {
         }
     }
 
-    /// The outline of a simple glyph, begun without points. Errors: CoordRange, those of its program, Memory, Spent.
+    /// The outline of a simple glyph, from one without points. Errors: CoordRange, those of its program, Memory, Spent.
     fn simple(
         &self,
         machine: &mut GlyphMachine<'a>,
@@ -414,7 +413,7 @@ impl<'a> Fitter<'a> {
         hinted(self.alloc, machine, hinting, program, scaled, work)
     }
 
-    /// The outline of a glyph, where so many levels of components are left.
+    /// The outline of a glyph, with this many levels of components allowed below it.
     #[cycle(fitting)]
     fn outline(
         &self,
@@ -471,7 +470,7 @@ impl<'a> Fitter<'a> {
         }
     }
 
-    /// Each record in order, added to the outline so far.
+    /// Adds each record in order to the outline so far.
     #[cycle(fitting)]
     fn joined(
         &self,
@@ -497,7 +496,7 @@ impl<'a> Fitter<'a> {
         Ok(so_far)
     }
 
-    /// One record: its component's own outline is made, placed, and dropped.
+    /// Adds one record: makes its component's outline, places it, and drops it.
     #[cycle(fitting)]
     #[tactic(auto, using(crate::proofs::Levels::one_level, crate::proofs::Levels::one_level_work), unfolding(crate::specs::Fitting::added, crate::specs::Fitting::added_work))]
     fn added(

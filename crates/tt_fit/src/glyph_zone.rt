@@ -18,7 +18,7 @@ use std::alloc::{AllocError, Global};
 use tt_core::Fault;
 use tt_state::{Point, Round, ScanControl};
 
-/// A coordinate on the grid. Error: CoordRange, at this offset in glyf.
+/// A coordinate rounded to the grid. Error: CoordRange, at this offset in glyf.
 fn to_grid(at: u32, v: i32) -> Result<i32, Fault>
     requires { IsCoordinate v }
     ensures ok { IfOk result (λ w. (w ≡ to_grid v) × (is_coordinate (to_grid v) ≡ true)) }
@@ -28,7 +28,7 @@ fn to_grid(at: u32, v: i32) -> Result<i32, Fault>
     coordinate(at, Round::Grid.round(i64::from(v)))
 }
 
-/// A position whose x has gone to the grid. Error: CoordRange.
+/// A position with x rounded to the grid. Error: CoordRange.
 fn along_x(at: u32, p: (i32, i32)) -> Result<(i32, i32), Fault>
     requires { IsPosition p }
     ensures ok { IfOk result (λ q. (q ≡ (to_grid p.0, p.1)) × (is_coordinate (to_grid p.0) ≡ true)) }
@@ -38,7 +38,7 @@ fn along_x(at: u32, p: (i32, i32)) -> Result<(i32, i32), Fault>
     Ok((to_grid(at, p.0)?, p.1))
 }
 
-/// A position whose y has gone to the grid. Error: CoordRange.
+/// A position with y rounded to the grid. Error: CoordRange.
 fn along_y(at: u32, p: (i32, i32)) -> Result<(i32, i32), Fault>
     requires { IsPosition p }
     ensures ok { IfOk result (λ q. (q ≡ (p.0, to_grid p.1)) × (is_coordinate (to_grid p.1) ≡ true)) }
@@ -48,7 +48,7 @@ fn along_y(at: u32, p: (i32, i32)) -> Result<(i32, i32), Fault>
     Ok((p.0, to_grid(at, p.1)?))
 }
 
-/// The phantom points on the grid, the ends of the advance along x, the ascent and the descent along y. Error:
+/// The phantom points on the grid: the ends of the advance along x, the ascent and the descent along y. Error:
 /// CoordRange, at this offset in glyf.
 #[tactic(auto, unfolding(crate::specs::GlyphZone::on_grid_at))]
 pub(crate) fn on_grid(at: u32, phantom: &[(i32, i32); 4]) -> Result<[(i32, i32); 4], Fault>
@@ -63,7 +63,7 @@ pub(crate) fn on_grid(at: u32, phantom: &[(i32, i32); 4]) -> Result<[(i32, i32);
     Ok([left, right, ascent, descent])
 }
 
-/// A point that nothing has touched.
+/// A point not yet touched.
 pub(crate) fn untouched(org: (i32, i32), now: (i32, i32), on: bool) -> Point
     ensures { result ≡ untouched org now on }
 {
@@ -88,7 +88,7 @@ fn outline_point(point: (i32, i32, bool)) -> Point
     untouched((point.0, point.1), (point.0, point.1), point.2)
 }
 
-/// The points of an outline, with room for the phantom points, in the memory that is there.
+/// The points of an outline, with room for the phantom points, in the given memory.
 fn outline_points(room: Vec<Point>, points: &[(i32, i32, bool)]) -> Result<Vec<Point>, AllocError>
     requires { All IsPoint points.now }
     ensures exact { IfOk result (λ v. v.items ≡ map outline_point points.now) }
@@ -103,7 +103,7 @@ fn outline_points(room: Vec<Point>, points: &[(i32, i32, bool)]) -> Result<Vec<P
     Ok(zone)
 }
 
-/// A phantom point after the points of a zone: in font units, where it was, and where it is.
+/// Appends a phantom point to a zone: in font units, its old place, and its place now.
 #[tactic(auto, using(crate::proofs::Zones::one_more))]
 fn push_phantom(
     zone: &mut Vec<Point>,
@@ -122,8 +122,7 @@ fn push_phantom(
     Ok(())
 }
 
-/// The points of an outline, and after them its phantom points, which have gone to the grid, in the memory that is
-/// there.
+/// The points of an outline, followed by its phantom points on the grid, in the given memory.
 pub(crate) fn glyph_zone(
     room: Vec<Point>,
     units: Option<Units>,
@@ -146,7 +145,7 @@ pub(crate) fn glyph_zone(
     Ok(zone)
 }
 
-/// Each contour's first point and the number one past its last, in the memory that is there.
+/// Each contour's first point and the number one past its last, in the given memory.
 pub(crate) fn contours(room: Vec<(u32, u32)>, ends: &[u32]) -> Result<Vec<(u32, u32)>, AllocError>
     ensures { IfOk result (λ v. v.items ≡ contours_from 0 ends.now) }
 {
@@ -177,7 +176,7 @@ fn place_of(point: Point) -> (i32, i32)
     (point.x, point.y)
 }
 
-/// Where a program left the points of an outline, in the memory that is there.
+/// The places of an outline's points after a program, in the given memory.
 fn seen_points(
     room: Vec<(i32, i32, bool)>,
     zone: &[Point],
@@ -195,7 +194,7 @@ fn seen_points(
     Ok(points)
 }
 
-/// Where it left the phantom points.
+/// The places of the phantom points after a program.
 fn seen_phantom(zone: &[Point]) -> [(i32, i32); 4]
     requires count { length zone.now ≡ 4 }
     requires zone { All IsZonePoint zone.now }
@@ -210,7 +209,7 @@ fn seen_phantom(zone: &[Point]) -> [(i32, i32); 4]
     ]
 }
 
-/// The outline whose points stand in the glyph zone, its phantom points after them, with the scan control left beside.
+/// The outline with the points of the glyph zone, phantom points last, and the program's scan control.
 pub(crate) fn left_outline(
     outline: Outline,
     zone: &[Point],

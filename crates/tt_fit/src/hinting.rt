@@ -1,4 +1,4 @@
-//! What a glyph's program makes of its outline. Apple TrueType Reference Manual, "Instructing TrueType Glyphs".
+//! Runs a glyph's program over its outline. Apple TrueType Reference Manual, "Instructing TrueType Glyphs".
 
 ghost use Rattle.std.specs.Prelude.{◌≡◌, ◌≢◌, false, option_map, IfOk, OnOk};
 ghost use Rattle.tt_exec.specs.declared.fault.ExecFault.TheVariants as exec;
@@ -25,19 +25,19 @@ use std::alloc::{AllocError, Global};
 use tt_core::FontFault;
 use tt_exec::{Code, ExecFault, Machine, Parts, Work, WorkFault};
 
-/// The machine that runs the programs of all glyphs, one after the other; none before the first.
+/// The machine that runs the programs of all glyphs in turn; None before the first.
 pub(crate) type GlyphMachine<'a> = Option<Box<Machine<'a>>>;
 
-/// What the font program and the control value program left to the programs of glyphs.
+/// What the font program and the control value program give to glyph programs.
 #[derive(Drop)]
 pub(crate) enum Hinting<'a> {
     /// No program is run.
     Off,
-    /// What a machine is made of when a glyph's program begins.
+    /// The parts of a machine for a glyph's program.
     Ready(Parts<'a>),
 }
 
-/// A refusal of a machine that has not failed before.
+/// Converts a refusal of a machine that has not failed before.
 fn font_fault(fault: ExecFault) -> FontFault
     requires { fault ≢ exec.Failed }
     ensures { fault ≡ exec_fault result }
@@ -49,7 +49,7 @@ fn font_fault(fault: ExecFault) -> FontFault
     }
 }
 
-/// The same where the work of a run may be bounded.
+/// Converts a refusal of a run whose work may be bounded, out of work included.
 fn unmade(fault: WorkFault) -> Unmade
     requires { fault ≢ machine.Run exec.Failed }
     ensures { fault ≡ work_fault result }
@@ -74,7 +74,7 @@ fn run_on<'a>(machine: &mut Machine<'a>, code: Code<'a>, work: &mut Work) -> Res
     }
 }
 
-/// What a program leaves of a machine's parts. Errors: those of the program, Memory, Spent.
+/// A machine's parts after a program. Errors: those of the program, Memory, Spent.
 #[tactic(auto, unfolding(crate::specs::Hinting::run_of))]
 pub(crate) fn run<'a>(
     alloc: Global,
@@ -113,7 +113,7 @@ fn first_machine<'a>(alloc: Global, parts: &Parts<'a>) -> Result<Box<Machine<'a>
     Ok(Box::new(alloc, Machine::new(alloc, parts.copy()?)?)?)
 }
 
-/// Puts a glyph into a machine, which then is as one that is made of the parts with the glyph in them.
+/// Puts a glyph into a machine, which then equals a new machine made of the parts with this glyph.
 fn put_glyph<'a>(
     alloc: Global,
     machine: &mut Machine<'a>,
@@ -132,7 +132,7 @@ fn put_glyph<'a>(
     machine.begin_again(parts, zones)
 }
 
-/// The outline that a glyph's program leaves, by a machine into which the glyph is put first. Errors: CoordRange of a
+/// The outline after a glyph's program, run on a machine into which the glyph is put first. Errors: CoordRange of a
 /// phantom point, those of the program, Memory, Spent.
 #[tactic(auto, unfolding(crate::specs::Hinting::by_program, crate::specs::Work::program_work))]
 fn by_machine<'a>(
@@ -155,8 +155,8 @@ fn by_machine<'a>(
     Ok(left_outline(outline, machine.glyph_points(), machine.scan())?)
 }
 
-/// The outline that a glyph's program leaves. The machine is used again for each glyph; there is none before the first.
-/// Errors: CoordRange of a phantom point, those of the program, Memory, Spent.
+/// The outline after a glyph's program. The machine is reused for each glyph; it is None before the first. Errors:
+/// CoordRange of a phantom point, those of the program, Memory, Spent.
 fn by_program<'a>(
     alloc: Global,
     machine: &mut GlyphMachine<'a>,
@@ -182,7 +182,7 @@ fn by_program<'a>(
     }
 }
 
-/// The outline that a glyph's program leaves, of scaled points or of joined components.
+/// The outline after a glyph's program, from scaled points or joined components.
 pub(crate) fn hinted<'a>(
     alloc: Global,
     machine: &mut GlyphMachine<'a>,

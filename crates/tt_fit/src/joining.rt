@@ -1,4 +1,4 @@
-//! A component joined with what is assembled so far. OpenType, "The 'glyf' table", "Composite Glyph Description".
+//! Joins a component with the points assembled so far. OpenType, "The 'glyf' table", "Composite Glyph Description".
 
 ghost use Rattle.std.specs.Prelude.{◌≡◌, ◌+◌, ◌<◌, ◌≤◌, ◌++◌, length, All, IsTrue, IfOk, OnOk};
 ghost use Rattle.tt_core.specs.Limits.{point_limit};
@@ -19,7 +19,7 @@ use tt_core::{FontFault, POINT_LIMIT, Why};
 use tt_glyf::{ComponentFlags, Record};
 use tt_state::ScanControl;
 
-/// Errors: CoordRange, Memory.
+/// Appends each point of a component in its place. Errors: CoordRange, Memory.
 #[tactic(auto, using(crate::proofs::Lists::points))]
 fn push_placed(
     points: &mut Vec<(i32, i32, bool)>,
@@ -39,7 +39,7 @@ fn push_placed(
     Ok(())
 }
 
-/// The ends of a component's contours, where so many points stand before them.
+/// Appends the ends of a component's contours, with `points` points before them.
 fn push_ends(ends: &mut Vec<u32>, points: u32, component: &[u32]) -> Result<(), AllocError>
     requires points { points ≤ point_limit }
     requires component { All (λ e. e ≤ point_limit) component.now }
@@ -51,7 +51,7 @@ fn push_ends(ends: &mut Vec<u32>, points: u32, component: &[u32]) -> Result<(), 
     Ok(())
 }
 
-/// What the last program left, a component's or one before it.
+/// The scan control of the last program that was run, a component's or an earlier one's.
 fn scan_after(component: Option<ScanControl>, so_far: Option<ScanControl>) -> Option<ScanControl>
     ensures { result ≡ scan_after component so_far }
 {
@@ -61,7 +61,7 @@ fn scan_after(component: Option<ScanControl>, so_far: Option<ScanControl>) -> Op
     }
 }
 
-/// A component moved by so much, added to what is assembled before it. Errors: CoordRange, PointLimit, Memory.
+/// Appends a component, moved by a shift. Errors: CoordRange, PointLimit, Memory.
 #[tactic(auto, unfolding(crate::specs::Joining::appended, crate::specs::Joining::within_point_limit))]
 fn appended(
     part: Record,
@@ -101,7 +101,7 @@ fn appended(
     })
 }
 
-/// A component placed and added to what is assembled so far. Errors: MatchPoint, CoordRange, PointLimit, Memory.
+/// Places a component and appends it. Errors: MatchPoint, CoordRange, PointLimit, Memory.
 #[tactic(auto, unfolding(crate::specs::Joining::placed))]
 pub(crate) fn placed(
     size: FontSize,

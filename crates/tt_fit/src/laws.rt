@@ -1,23 +1,22 @@
-//! Laws of the definitions. Each function takes nothing and gives nothing: its clauses hold of all glyphs.
+//! Laws of the definitions. Each function is a lemma: its clauses hold of all glyphs, and no code runs.
 
 ghost use Rattle.tt_fit.specs.Laws.{OutlinesAreWhole, OutlineFaultsStand, FallbackFits, FallbackScales, FallbackRefuses, FallbackUnfitsAll, OthersNeverFallBack, FullIsByPrograms, NoneIsWithoutPrograms, UnboundedIsEnough, OthersAreUnbounded, UnboundedStays, SpentWorkUnfits, SpentProgramsUnfitAll, BestIsBounded, WorkFalls, OriginalsAreScaled, OthersMeasureInPixels, OthersFillNone, RulesStay, UnfittedByTypeOne, EmptyByTypeOne, SkippedByTypeOne, FittedByScan, OffFillsNone, OtherTypesFillNone};
 ghost use Rattle.tt_fit.specs.Counting.{OutlinesAreCounted};
 
-/// Where the definition gives an outline, no defect stands in the glyph or in a component of it, and where it gives a
-/// fault, that one does.
+/// Lemma: an outline means that the glyph and its components have no defect, and a fault names a defect they have.
 pub fn outlines_are_whole()
     ensures whole { OutlinesAreWhole }
     ensures fault { OutlineFaultsStand }
 {}
 
-/// An outline that is given has no more points and contours than its glyph asks for by `Fitter::points`.
+/// Lemma: an outline has at most as many points and contours as `Fitter::points` counts.
 pub fn outlines_are_counted()
     ensures { OutlinesAreCounted }
 {}
 
-/// What `Fit::Fallback` and `Fit::Best` make of a font at a size, where work is enough: the outline by the programs
-/// alone; where their fault is a program's, the answer without programs; any other fault still. With `Fit::Fallback`
-/// these two answers are those of `Fit::Full` and `Fit::None`.
+/// Lemma: with enough work, `Fit::Fallback` and `Fit::Best` give the outline by the programs alone; after a program's
+/// fault, the answer without programs; any other fault unchanged. With `Fit::Fallback` these two answers are those of
+/// `Fit::Full` and `Fit::None`.
 pub fn glyphs_fall_back()
     ensures fitted { FallbackFits }
     ensures scaled { FallbackScales }
@@ -28,9 +27,8 @@ pub fn glyphs_fall_back()
     ensures none { NoneIsWithoutPrograms }
 {}
 
-/// With every way of fitting but `Fit::Best` work is not bounded, and then it refuses no glyph. With `Fit::Best` a
-/// glyph whose programs are more work than is left is made without them, and so is every one where those of the font
-/// are.
+/// Lemma: with every fit but `Fit::Best` work is unbounded and refuses no glyph. With `Fit::Best` a glyph whose
+/// programs exceed the remaining work is made without them. If the font's programs exceed the work, every glyph is.
 pub fn work_unfits()
     ensures enough { UnboundedIsEnough }
     ensures others { OthersAreUnbounded }
@@ -39,31 +37,30 @@ pub fn work_unfits()
     ensures programs { SpentProgramsUnfitAll }
 {}
 
-/// With `Fit::Best` the programs of a font leave no more than the limit of a job's work, and those of a glyph leave no
-/// more than there was before.
+/// Lemma: with `Fit::Best` the font's programs leave at most the job's limit of work, and no glyph increases the
+/// remaining work.
 pub fn work_falls()
     ensures begun { BestIsBounded }
     ensures falls { WorkFalls }
 {}
 
-/// With `Fit::Best` the originals that a simple glyph's program measures are the places of its points in font units,
-/// scaled; with every other way of fitting no program measures in font units, and halves go upwards.
+/// Lemma: with `Fit::Best` a simple glyph's program measures originals that are its points in font units, scaled. With
+/// every other fit no program measures in font units, and halves round upwards.
 pub fn originals_are_scaled()
     ensures scaled { OriginalsAreScaled }
     ensures others { OthersMeasureInPixels }
 {}
 
-/// With every way of fitting but `Fit::Best` no dropouts are filled, whatever a glyph's programs left; and no glyph
-/// changes the rules for those after it.
+/// Lemma: with every fit but `Fit::Best` no dropouts are filled, whatever the programs set; and no glyph changes the
+/// rules for later glyphs.
 pub fn others_fill_none()
     ensures none { OthersFillNone }
     ensures stay { RulesStay }
 {}
 
-/// With `Fit::Best` the rules are those of scan type 1 for a glyph that is not fitted, and for every glyph where the
-/// font program and the control value program are both empty or the programs of glyphs are switched off. Else they are
-/// those of the scan control that the last program left; where it is off, or its type is none of 0, 1, 4 and 5, no
-/// dropouts are filled.
+/// Lemma: with `Fit::Best` scan type 1 rules an unfitted glyph, and every glyph where the two font programs are empty
+/// or glyph programs are switched off. Else the last program's scan control gives the rules. Where it is off, or its
+/// type is none of 0, 1, 4 and 5, no dropouts are filled.
 pub fn best_fills_by_scan()
     ensures unfitted { UnfittedByTypeOne }
     ensures empty { EmptyByTypeOne }

@@ -1,4 +1,4 @@
-//! Outlines of glyphs at a size: points are scaled, components joined, and the font's programs run over them.
+//! Outlines of glyphs at a size: scales points, joins components, and runs the font's programs.
 #![tactic(auto)]
 
 mod component;
@@ -26,5 +26,5 @@ pub use dropouts::DropoutRules;
 pub use fitting::Fitter;
 pub use outline::Outline;
 pub use programs::{Fit, Programs};
-/// What refuses an outline, by the name that this crate's interface has for it.
+/// The refusals of an outline, by this crate's name for them.
 pub use tt_core::FontFault as FitFault;

@@ -12,8 +12,8 @@ pub struct Outline {
     pub ends: Vec<u32>,
     /// The left and right ends of the advance, the ascent and the descent.
     pub phantom: [(i32, i32); 4],
-    /// With `Fit::Fallback`, the fault of a program for which the points are scaled only.
+    /// With `Fit::Fallback` and `Fit::Best`, the fault of a program that makes it unfitted.
     pub unfitted: Option<Fault>,
-    /// What the last of the programs run for it left, its components' too; None where none was run.
+    /// The scan control after the last program run for the glyph or its components; None where none was run.
     pub scan: Option<ScanControl>,
 }

@@ -1,4 +1,4 @@
-//! What a machine is made of when a program begins: the font program, the control value program, or a glyph's. Apple
+//! The parts of a machine at the start of the font program, the control value program or a glyph's program. Apple
 //! TrueType Reference Manual, "Instructing TrueType Glyphs".
 
 ghost use Rattle.std.specs.Prelude.{◌≡◌, ◌+◌, ◌*◌, ◌≤◌, length, option_map, IfOk};
@@ -45,7 +45,7 @@ fn control_values(alloc: Global, size: FontSize, cvt: &[u8]) -> Result<Vec<i32>,
     Ok(values)
 }
 
-/// The zones of a program that has no glyph: so many twilight points, all at the origin.
+/// The zones of a program without a glyph: `twilight` twilight points, all at the origin.
 fn without_glyph(alloc: Global, halves: Halves, twilight: u16) -> Result<Zones, AllocError>
     ensures exact { IfOk result (λ z. zones_view z ≡ without_glyph halves twilight) }
     ensures valid { IfOk result (λ z. IsZones (zones_view z)) }
@@ -58,7 +58,7 @@ fn without_glyph(alloc: Global, halves: Halves, twilight: u16) -> Result<Zones, 
     })
 }
 
-/// What the font program and the control value program begin with.
+/// The parts at the start of the font program and of the control value program.
 pub(crate) fn begun_parts<'a>(
     alloc: Global,
     metrics: &Metrics,
@@ -85,7 +85,7 @@ pub(crate) fn begun_parts<'a>(
     })
 }
 
-/// The vectors, the reference points, the zone pointers and the loop as they are by default.
+/// Sets the vectors, the reference points, the zone pointers and the loop to their defaults.
 fn pointers_set_back(state: &GraphicsState) -> GraphicsState
     ensures { result ≡ pointers_set_back state.now }
 {
@@ -105,7 +105,7 @@ fn pointers_set_back(state: &GraphicsState) -> GraphicsState
     }
 }
 
-/// The graphics state in which the programs of glyphs begin: the defaults, where the control value program asked for them.
+/// The graphics state at the start of glyph programs: the defaults, if the control value program requested them.
 fn glyph_state(by_default: bool, state: &GraphicsState) -> GraphicsState
     ensures { result ≡ glyph_state by_default state.now }
 {
@@ -115,7 +115,7 @@ fn glyph_state(by_default: bool, state: &GraphicsState) -> GraphicsState
     pointers_set_back(state)
 }
 
-/// What the control value program leaves to the glyphs.
+/// The parts that the control value program gives to the glyphs.
 pub(crate) fn left_to_glyphs<'a>(left: Parts<'a>) -> Parts<'a>
     requires { AreParts (parts_of left) }
     ensures exact { parts_of result ≡ left_to_glyphs (parts_of left.entry) }
@@ -125,7 +125,7 @@ pub(crate) fn left_to_glyphs<'a>(left: Parts<'a>) -> Parts<'a>
     Parts { state, ..left }
 }
 
-/// In what a glyph's originals are measured.
+/// The unit of a glyph's originals.
 fn originals_by(scale: Scale, units: Option<Units>) -> Originals
     ensures { result ≡ originals_by scale (option_map units_view units.entry) }
 {
@@ -138,7 +138,7 @@ fn originals_by(scale: Scale, units: Option<Units>) -> Originals
     }
 }
 
-/// Points in the memory that is there.
+/// A copy of some points, in the given memory.
 fn copied(mut room: Vec<Point>, points: &[Point]) -> Result<Vec<Point>, AllocError>
     ensures { IfOk result (λ v. v.items ≡ points.now) }
 {
@@ -147,8 +147,8 @@ fn copied(mut room: Vec<Point>, points: &[Point]) -> Result<Vec<Point>, AllocErr
     Ok(room)
 }
 
-/// A glyph's zones: the twilight points that the control value program left, and the outline's points and contours. The
-/// memory is that of other zones, of which nothing else is kept.
+/// A glyph's zones: the twilight points after the control value program, and the outline's points and contours. They
+/// reuse the memory of other zones, whose contents are dropped.
 pub(crate) fn glyph_zones(
     room: Zones,
     parts: &Parts,

@@ -20,7 +20,7 @@ pub(crate) fn places_of<'a>(units: Option<Units<'a>>) -> &'a [RawPoint]
     }
 }
 
-/// Those of its phantom points; the origin where originals are measured in 26.6.
+/// The places of its phantom points; the origin where originals are measured in 26.6.
 pub(crate) fn phantom_places(units: Option<Units>) -> PhantomUnits
     ensures { phantom_units_view result ≡ phantom_places (option_map units_view units.entry) }
 {
@@ -49,7 +49,7 @@ pub(crate) fn with_units(place: (i32, i32), point: Point) -> Point
     }
 }
 
-/// Each point with its place in font units.
+/// Gives each point its place in font units.
 pub(crate) fn put_units(zone: &mut Vec<Point>, places: &[RawPoint])
     requires { All IsZonePoint zone.old.items }
     ensures exact { zone.new.items ≡ in_units places.now zone.old.items }

@@ -1,5 +1,5 @@
-//! Where a point of a component is, and how far it is moved, in 26.6 pixels, before the sum is known to be within the
-//! limit of a coordinate.
+//! A component point's position and a component's shift, in 26.6 pixels. Their sum is not yet tested against the limit
+//! of a coordinate.
 
 ghost use Rattle.std.specs.Prelude.{◌<◌, ◌≤◌, ◌^◌, unsigned_abs};
 
@@ -12,7 +12,7 @@ pub(crate) struct Position {
     ghost y_fits: { unsigned_abs y ≤ 2 ^ 47 },
 }
 
-/// How far a component is moved, in 26.6 pixels.
+/// A component's shift, in 26.6 pixels.
 #[derive(Clone, Copy)]
 pub(crate) struct Shift {
     pub(crate) x: i64,

@@ -1,4 +1,4 @@
-//! What the font program and the control value program leave to the glyphs. Apple TrueType Reference Manual,
+//! Runs the font program and the control value program before the first glyph. Apple TrueType Reference Manual,
 //! "Instructing TrueType Glyphs".
 
 ghost use Rattle.std.specs.Prelude.{◌≡◌, ◌+◌, ◌*◌, ◌≤◌, [], length, replicate, Ok, IfOk, IsTrue};
@@ -30,7 +30,7 @@ use tt_core::{Fault, FontFault};
 use tt_exec::{Code, Work};
 use tt_metrics::Metrics;
 
-/// What the programs of glyphs begin with, which glyphs are unfitted, and what is left of the job's work.
+/// The state for glyph programs, which glyphs are unfitted, and the job's remaining work.
 #[derive(Drop)]
 pub(crate) struct Preparation<'a> {
     pub(crate) hinting: Hinting<'a>,
@@ -38,7 +38,7 @@ pub(crate) struct Preparation<'a> {
     pub(crate) work: Work,
 }
 
-/// The program of a table that holds nothing else.
+/// A table that is one program as a whole.
 fn whole_table<'a>(table: [u8; 4], bytes: &'a [u8]) -> Code<'a>
     requires ascii { IsTrue (is_ascii table) }
     requires fits { length bytes.now ≤ font_limit }
@@ -51,7 +51,7 @@ fn whole_table<'a>(table: [u8; 4], bytes: &'a [u8]) -> Code<'a>
     }
 }
 
-/// What both programs leave. Errors: theirs, Memory, Spent.
+/// The state after both programs. Errors: theirs, Memory, Spent.
 #[tactic(auto, unfolding(crate::specs::Preparation::left_by_programs, crate::specs::Preparation::programs_work))]
 fn left_by_programs<'a>(
     alloc: Global,
@@ -79,7 +79,7 @@ fn left_by_programs<'a>(
     Ok(Hinting::Ready(left_to_glyphs(left)))
 }
 
-/// The same, where their work is not bounded. Errors: theirs, Memory.
+/// As `left_by_programs`, with unbounded work. Errors: theirs, Memory.
 fn left_unbounded<'a>(
     alloc: Global,
     metrics: &Metrics,
@@ -113,7 +113,7 @@ fn without_fallback<'a>(hinting: Hinting<'a>) -> Preparation<'a>
     }
 }
 
-/// Every glyph is unfitted by this fault.
+/// Every glyph is unfitted, for this fault.
 fn all_unfitted<'a>(fault: Fault, work: Work) -> Preparation<'a>
     ensures exact { preparation_view result ≡ record { hinting = off; fallback = everywhere fault; work = work.left } }
     ensures valid { IsHinting (hinting_view result.hinting) }
@@ -125,7 +125,7 @@ fn all_unfitted<'a>(fault: Fault, work: Work) -> Preparation<'a>
     }
 }
 
-/// What both programs leave, or the first one's fault, by which every glyph is unfitted. Error: Memory.
+/// The state after both programs. After a fault of either, every glyph is unfitted. Error: Memory.
 fn with_fallback<'a>(
     alloc: Global,
     metrics: &Metrics,
@@ -154,7 +154,7 @@ fn with_fallback<'a>(
     }
 }
 
-/// What the programs leave to the glyphs at a size. Errors: those of the programs, but for `Fit::Fallback` and
+/// The preparation for the glyphs at a size. Errors: those of the programs, except with `Fit::Fallback` and
 /// `Fit::Best`; Memory.
 #[tactic(auto, unfolding(crate::specs::Preparation::prepared))]
 pub(crate) fn prepared<'a>(

@@ -9,12 +9,11 @@ use crate::units::Units;
 pub enum Fit {
     /// By the font's programs.
     Full,
-    /// Not at all: no program is run, and points are scaled only.
+    /// No program is run, and points are only scaled.
     None,
-    /// By the font's programs; a glyph for which one of them is refused, not at all.
+    /// By the font's programs; points are only scaled where a program is refused.
     Fallback,
-    /// As with `Fallback`, but programs have the whole instruction set and go on where something is not there, and
-    /// components may be nested deeper.
+    /// As `Fallback`, with the whole instruction set, tolerance of missing things, and deeper nesting of components.
     Best,
 }
 
@@ -33,11 +32,11 @@ pub struct Programs<'a> {
 #[derive(Clone, Copy)]
 pub(crate) struct GlyphProgram<'a, 'u> {
     pub(crate) code: &'a [u8],
-    /// Its offset in glyf.
+    /// The offset of the program in glyf.
     pub(crate) code_at: u32,
     /// The offset of the glyph's first byte in glyf.
     pub(crate) glyph_at: u32,
-    /// In what its originals are measured; None for 26.6.
+    /// The font units in which originals are measured; None for 26.6.
     pub(crate) units: Option<Units<'u>>,
     pub(crate) ghost fits: { code_at + length code.now < 2 ^ 32 },
 }

@@ -1,4 +1,4 @@
-//! By which rules each way of fitting makes outlines.
+//! The rules of each fit.
 
 ghost use Rattle.std.specs.Prelude.{◌≡◌};
 ghost use Rattle.tt_fit.specs.Rules.{rules_of, levels_of, work_of, dropouts_by};
@@ -17,12 +17,12 @@ pub(crate) enum Scaling {
     Rounded,
 }
 
-/// By which rules programs are run.
+/// The rules for running programs and scaling.
 #[derive(Clone, Copy)]
 pub(crate) struct Rules {
-    /// Whether they have the whole instruction set.
+    /// Whether programs have the whole instruction set.
     pub(crate) whole: bool,
-    /// What becomes of an instruction that asks for what is not there.
+    /// What happens when an instruction refers to something missing.
     pub(crate) tolerance: Tolerance,
     pub(crate) scaling: Scaling,
 }
@@ -54,7 +54,7 @@ pub(crate) fn levels_of(fit: Fit) -> u32
     }
 }
 
-/// How much work the programs of a job may be.
+/// The job's budget of work for programs.
 pub(crate) fn work_of(fit: Fit) -> Work
     ensures { result.left ≡ work_of fit }
 {
@@ -64,7 +64,7 @@ pub(crate) fn work_of(fit: Fit) -> Work
     }
 }
 
-/// Who says which dropouts are filled.
+/// The source of the dropout rules.
 pub(crate) fn dropouts_by(fit: Fit, programs: Programs) -> DropoutsBy
     ensures { result ≡ dropouts_by fit programs.entry.fpgm.now programs.entry.prep.now }
 {

@@ -1,5 +1,5 @@
-//! From font units to 26.6 pixels, and the phantom points. Apple TrueType Reference Manual, "Digitizing Letterform
-//! Designs" and "Instructing TrueType Glyphs".
+//! Scales font units to 26.6 pixels, and makes the phantom points. Apple TrueType Reference Manual, "Digitizing
+//! Letterform Designs" and "Instructing TrueType Glyphs".
 
 ghost use Rattle.std.specs.Prelude.{◌≡◌, ◌+◌, ◌<◌, ◌≤◌, false, true, length, map, All, IsTrue, IfOk, IfErr};
 ghost use Rattle.tt_core.specs.Limits.{point_limit};
@@ -40,7 +40,7 @@ pub(crate) fn coordinate(at: u32, v: i64) -> Result<i32, Fault>
     Ok(v as i32)
 }
 
-/// Where a point comes to be, in 26.6 pixels, before it is known to be within the limit.
+/// A point's new place in 26.6 pixels, not yet tested against the limit.
 #[derive(Clone, Copy)]
 pub(crate) struct Landing {
     pub(crate) x: i64,
@@ -48,7 +48,7 @@ pub(crate) struct Landing {
     pub(crate) on: bool,
 }
 
-/// Error: CoordRange, at this offset in glyf.
+/// Tests a place against the limit. Error: CoordRange, at this offset in glyf.
 #[tactic(auto, unfolding(crate::specs::Scaling::settled))]
 pub(crate) fn settled(at: u32, landing: Landing) -> Result<(i32, i32, bool), Fault>
     ensures exact { Gives (λ p. p) result (settled at (landing_view landing)) }
@@ -69,7 +69,7 @@ fn scaled_position(size: FontSize, point: RawPoint) -> Landing
     }
 }
 
-/// Error: CoordRange.
+/// Scales one point. Error: CoordRange.
 fn scaled_point(size: FontSize, at: u32, point: RawPoint) -> Result<(i32, i32, bool), Fault>
     ensures exact { Gives (λ p. p) result (scaled_point (size_view size) at point) }
     ensures within { IfOk result IsPoint }
@@ -77,7 +77,7 @@ fn scaled_point(size: FontSize, at: u32, point: RawPoint) -> Result<(i32, i32, b
     settled(at, scaled_position(size, point))
 }
 
-/// Where no coordinate leaves the limit.
+/// Scales points by a shift, where no coordinate can exceed the limit.
 #[inline(never)]
 fn shifted_points(
     alloc: Global,
@@ -94,7 +94,7 @@ fn shifted_points(
     Ok(scaled)
 }
 
-/// Errors: CoordRange, Memory.
+/// Scales points and tests each. Errors: CoordRange, Memory.
 #[inline(never)]
 #[tactic(auto, using(crate::proofs::Lists::points, crate::proofs::Lists::from_nothing))]
 fn tested_points(
@@ -114,7 +114,7 @@ fn tested_points(
     Ok(scaled)
 }
 
-/// Errors: CoordRange, Memory.
+/// Scales points, by a shift where possible. Errors: CoordRange, Memory.
 fn scaled_points(
     alloc: Global,
     size: FontSize,
@@ -131,7 +131,7 @@ fn scaled_points(
     }
 }
 
-/// The places one past the last point of each contour.
+/// For each contour the number one past its last point.
 fn contour_ends(alloc: Global, last_points: &[u16]) -> Result<Vec<u32>, AllocError>
     ensures { IfOk result (λ v. v.items ≡ map (λ e. e + 1) last_points.now) }
 {

@@ -1,4 +1,4 @@
-//! The size that outlines are made for.
+//! The size of outlines.
 
 ghost use Rattle.std.specs.Prelude.{◌≡◌, ◌<◌, ◌≤◌, ◌*◌, ◌*ℤ◌, ◌^◌, pos, unsigned_abs, IfSome};
 ghost use Rattle.tt_core.specs.Limits.{coordinate_limit, size_limit};
@@ -10,13 +10,13 @@ use crate::rules::Scaling;
 use tt_core::{COORDINATE_LIMIT, Halves, Scale};
 use tt_metrics::Metrics;
 
-/// Pixels per em, and from font units to 26.6 pixels.
+/// Pixels per em, and the scales from font units to 26.6 pixels.
 #[derive(Clone, Copy)]
 pub(crate) struct FontSize {
     pub(crate) ppem: u32,
-    /// Of points, phantom points and offsets, and of distances in programs.
+    /// The scale of points, phantom points and offsets, and of distances in programs.
     pub(crate) scale: Scale,
-    /// Of control values when a program begins.
+    /// The scale of control values at the start of a program.
     pub(crate) control_values: Scale,
     pub(crate) ghost limit: { ppem ≤ size_limit },
     pub(crate) ghost valid: { IsScale scale },
@@ -28,7 +28,7 @@ impl FontSize {
     ghost use Rattle.tt_fit.specs.Size.{size_by};
     ghost use Rattle.tt_fit.specs.Views.{size_view};
 
-    /// The size at which a font is asked for.
+    /// A font's size, by its units per em and the pixels per em.
     pub(crate) fn of(metrics: &Metrics, ppem: u32, scaling: Scaling) -> FontSize
         requires { ppem ≤ size_limit }
         ensures { size_view result ≡ size_by scaling ppem (units_per_em_of metrics.now) }
@@ -57,8 +57,8 @@ impl FontSize {
         self.scale.scaled(v)
     }
 
-    /// The same by a shift; None where font units are no power of two, or where a coordinate of 16 bits could leave the
-    /// limit.
+    /// The scale as a shift. None where the font units are no power of two, or where a coordinate of 16 bits could
+    /// exceed the limit.
     pub(crate) fn shift(self) -> Option<Shift>
         ensures { IfSome result (λ s. s.scale ≡ self.scale) }
     {
@@ -75,7 +75,7 @@ impl FontSize {
     }
 }
 
-/// A scale of so many font units as a power of two, by which no coordinate of 16 bits leaves the limit.
+/// A scale whose font units are a power of two, by which no coordinate of 16 bits exceeds the limit.
 #[derive(Clone, Copy)]
 pub(crate) struct Shift {
     scale: Scale,
@@ -86,7 +86,7 @@ pub(crate) struct Shift {
     pub(crate) ghost within: { 32768 * scale.pixels ≤ scale.units * coordinate_limit },
 }
 
-/// `v` pixels.
+/// `v` times `pixels`.
 #[inline(always)]
 fn product(v: i16, pixels: u32) -> i64
     requires { pixels < 2 ^ 27 }
@@ -97,7 +97,7 @@ fn product(v: i16, pixels: u32) -> i64
 }
 
 impl Shift {
-    /// `n` by the font units, rounded to the nearest whole number, a half upwards.
+    /// `n` divided by the font units, rounded to the nearest whole number, a half upwards.
     #[inline(always)]
     fn nearest(self, n: i64) -> i64
         requires { unsigned_abs n < 2 ^ 46 }
@@ -107,7 +107,7 @@ impl Shift {
         (2 * n + i64::from(self.scale.units)) >> self.by
     }
 
-    /// The same as by the scale. Of either sign, so that halves go away from zero.
+    /// The quotient of `scale`. The number is made positive first where halves round away from zero.
     #[inline(always)]
     fn quotient(self, n: i64) -> i64
         requires { unsigned_abs n < 2 ^ 46 }

@@ -1,5 +1,5 @@
-//! Where the points of a simple glyph stand in font units. Apple TrueType Reference Manual, "Instructing TrueType
-//! Glyphs" (zones, phantom points).
+//! The places of a simple glyph's points in font units. Apple TrueType Reference Manual, "Instructing TrueType Glyphs"
+//! (zones, phantom points).
 
 ghost use Rattle.std.specs.Prelude.{◌^◌, ◌≤◌, unsigned_abs};
 
@@ -16,7 +16,7 @@ pub(crate) struct PhantomUnits {
     pub(crate) ghost right_is_near: { unsigned_abs right ≤ 2 ^ 17 },
 }
 
-/// The places of a glyph's points as the table has them, and of its phantom points.
+/// A glyph's points as the table has them, and its phantom points.
 #[derive(Clone, Copy)]
 pub(crate) struct Units<'a> {
     pub(crate) points: &'a [RawPoint],

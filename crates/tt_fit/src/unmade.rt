@@ -14,7 +14,7 @@ pub(crate) enum Unmade {
     Font(Fault),
     /// Memory ran out.
     Memory,
-    /// Less work is left than is wanted at an instruction: StepLimit there.
+    /// An instruction needs more work than remains: StepLimit at this instruction.
     Spent(Fault),
 }
 
