@@ -1,4 +1,4 @@
--- A text is measured where it has a picture, and refused for the same.
+-- A text is measured exactly where it has a picture, and refused for the same reason.
 use Rattle.std.proofs.Common.{◌≡◌, ◌∙◌, refl, Result, Ok, Err, sym}
 use Rattle.tt_core.specs.Outcomes.{◌>>=◌}
 use Rattle.tt_line.specs.Layout.{Placement}

@@ -1,4 +1,4 @@
--- Pictures whose pixels are alike have the same rows.
+-- Pictures with the same pixels have the same rows.
 use Rattle.std.proofs.Common.{◌≡◌, ℕ, zero, suc, ◌+◌, ◌*◌, ◌/◌, ◌%◌, ◌<◌, ◌≤◌, ◌^◌, Bool, true, false, ◌&&◌, ◌||◌, nat_lt, List, ◌++◌, map, refl, ap, ap₂, ◌∙◌, arith}
 use Rattle.std.proofs.lemmas.Bool.Decides.{nat_tests}
 use Rattle.std.proofs.Math.Nat.{div-lt_iff_lt-mul, mul_comm}
@@ -16,7 +16,7 @@ use Rattle.tt_strike.specs.Pixels.{Shape, is_black_pixel, is_filled_by}
 abbrev pub AreAlike : ℕ → ℕ → (ℕ → ℕ → Bool) → (ℕ → ℕ → Bool) → Type 0
 AreAlike w h a b = (c r : ℕ) → c < w → r < h → a c r ≡ b c r
 
--- a byte below so many rows stands in one of them
+-- a byte of the first h rows is in one of them
 row_below : (k h i : ℕ) → i < k * h → i / k < h
 row_below zero h i below = absurd (omega (arith, below))
 row_below (suc k) h i below = (div-lt_iff_lt-mul {k = suc k} {x = i} {y = h} (omega arith)).1 (rw (mul_comm h (suc k)) below)
@@ -48,7 +48,7 @@ pub rows_alike : (w h : ℕ) (a b : ℕ → ℕ → Bool) → AreAlike w h a b �
 rows_alike w h a b same =
     map_alike (byte_at w a) (byte_at w b) (stride w * h) 0 (stride w * h) (byte_alike w h a b same) (omega arith)
 
--- glyphs that blacken what some do, and the dropouts of these, have the picture of those
+-- glyphs and dropouts that blacken the same pixels as some shapes have the same picture
 pub same_picture : {keeps : Bool} (f : Frame) (gs : List Glyph) (ds : List Dropout) (shapes : List Shape) (header : List ℕ)
     → header ≡ p4_header_of f.width f.height → f.width < 2 ^ 62 → Stand keeps f gs shapes
     → AreAlike f.width f.height (is_among ds) (is_filled_by f (stamps_in gs))

@@ -46,13 +46,13 @@ unmapped P [] all = All-nil _
 unmapped P (g ∷ gs) all = All-cons (λ (g : ℕ × ℕ). P g.0) g gs (All-head P g.0 (map (λ g. g.0) gs) all)
     (unmapped P gs (All-tail P g.0 (map (λ g. g.0) gs) all))
 
--- so is that of each character
+-- the glyph of each character is among them
 pub all_among : (line : List (ℕ × ℕ)) (numbers : List ℕ) → numbers ≡ distinct (map (λ g. g.0) line)
     → All (λ g. is_among g.0 numbers ≡ true) line
 all_among line numbers is = rw is
     (unmapped (λ n. is_among n (distinct (map (λ g. g.0) line)) ≡ true) line (all_after [] (map (λ g. g.0) line)))
 
--- what holds of each glyph of a line holds of each of another with the same glyphs
+-- a fact of each glyph of a line holds for another line with the same glyphs
 pub of_same_glyphs : (P : ℕ → Type 0) (line other : List (ℕ × ℕ)) → map (λ g. g.0) other ≡ map (λ g. g.0) line
     → All (λ (g : ℕ × ℕ). P g.0) line → All (λ (g : ℕ × ℕ). P g.0) other
 of_same_glyphs P line other same all = unmapped P other (rw same (All-map P (λ (g : ℕ × ℕ). g.0) line all))

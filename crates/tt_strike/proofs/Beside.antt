@@ -1,4 +1,4 @@
--- Which pixels are black where the margin is greater, beside other glyphs, and where no dropouts are filled.
+-- The black pixels with a greater margin, beside other glyphs, and without filled dropouts.
 use Rattle.std.proofs.Common.{◌≡◌, refl, ℕ, ◌+◌, Bool, true, false, ◌||◌, ℤ, pos, ◌+ℤ◌, ◌-ℤ◌, ◌*ℤ◌, List, [], ◌∷◌, ◌++◌, None, arith}
 use Rattle.std.proofs.lemmas.Int.{ints}
 use Rattle.std.proofs.lemmas.List.Elements.{All-head, All-tail}
@@ -9,7 +9,7 @@ use Rattle.tt_strike.specs.Laws.{MarginMoves, GlyphsByThemselves, AreUnfilled, U
 use Rattle.tt_strike.specs.Pixels.{Shape, is_filled, some_black, some_filled}
 use Rattle.tt_strike.proofs.Blackened.{or_false, or_or}
 
--- a column and a row of a picture with a greater margin stand where they stood
+-- a greater margin does not move a column and a row of the outline
 same_x : (margin m c : ℕ) → column_x (margin + m) (pos (c + m)) ≡ column_x margin (pos c)
 same_x margin m c = omega (arith, ints)
 

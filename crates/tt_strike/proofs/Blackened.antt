@@ -1,4 +1,4 @@
--- What a row shows with the glyphs so far, and one glyph more.
+-- A row with the glyphs so far, and with one glyph more.
 use Rattle.std.proofs.Common.{◌≡◌, ℕ, zero, suc, ◌+◌, ◌<◌, Bool, true, false, ◌&&◌, ◌||◌, List, [], ◌∷◌, length, take, get_or, refl, arith}
 use Rattle.tt_scan.specs.declared.edge.Frame.{Frame}
 use Rattle.tt_strike.specs.Pixels.{Stamp, is_black_from, is_black_by}
@@ -28,7 +28,7 @@ joined true inside some one = refl
 joined false true some one = refl
 joined false false some one = refl
 
--- what was in a row with the first i glyphs, and glyph i
+-- a row with the first i glyphs, and with glyph i
 pub one_glyph_more : (f : Frame) (gs : List Stamp) (i : ℕ) (d : Stamp) (c r : ℕ) (old inside : Bool) → i < length gs
     → ((old || (inside && is_black_by f (take i gs) c r))
     || (inside && is_black_from f (get_or gs i d).drawn (get_or gs i d).pens c r))
@@ -37,7 +37,7 @@ one_glyph_more f gs i d c r old inside below = rw (by_one_more f gs i d c r belo
     (joined old inside (is_black_by f (take i gs) c r)
     (is_black_from f (get_or gs i d).drawn (get_or gs i d).pens c r))
 
--- what the glyphs blacken of a row, and then the dropouts
+-- a row with the glyphs, and then with the dropouts
 pub both_shown : (inside some one first then : Bool) → first ≡ (inside && some) → then ≡ (first || (inside && one))
     → then ≡ (inside && (some || one))
 both_shown true some one first then is next = rw (next, is) refl

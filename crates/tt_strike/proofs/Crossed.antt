@@ -14,7 +14,7 @@ use Rattle.tt_strike.specs.Glyphs.{Glyph, glyph_crossings, pen_crossings, crossi
 use Rattle.tt_strike.specs.Pixels.{Shape}
 use Rattle.tt_strike.specs.Work.{crossings_in, filling_crossings}
 
--- edges that are moved along the rows cross them as often
+-- edges moved along the rows cross as many rows
 met_moved : (d : ℤ) (es : List Edge) (y : ℤ) → rows_met (moved_edges d es) y ≡ rows_met es y
 met_moved d [] y = refl
 met_moved d (e ∷ es) y = rw (met_moved d es y) refl
@@ -32,7 +32,7 @@ pub crossings_moved : (f : Frame) (d : ℤ) (es : List Edge) → crossings_of f 
 crossings_moved f d es = same_sum (λ row. rows_met (moved_edges d es) (row_y f (pos row)))
     (λ row. rows_met es (row_y f (pos row))) (range_with_len 0 f.height) (λ row. met_moved d es (row_y f (pos row)))
 
--- and as many lines, where they move by whole pixels
+-- they cross as many lines, when moved by whole pixels
 one_moved : (k : ℤ) (e : Edge) → lines_crossed (turned_round (moved_edge (pos 8192 *ℤ k) e)) ≡ lines_crossed (turned_round e)
 one_moved k e = rw (line_from_moved e.ax k, line_from_moved e.bx k, apart_moved (line_from e.bx) (line_from e.ax) k) refl
 
@@ -45,13 +45,13 @@ pub filling_moved : (filled : Option Rules) (k : ℤ) (es : List Edge)
 filling_moved None k es = refl
 filling_moved (Some rules) k es = ap (λ n. 4 * n) (crossed_moved k es)
 
--- a glyph that stands nowhere crosses none
+-- a glyph without a pen crosses no row
 pub crosses_nowhere : (gs : List Glyph) (g : Glyph) → g.pens ≡ [] → crossings_standing (gs ++ g ∷ [])
     ≡ crossings_standing gs
 crosses_nowhere [] g none = rw none (omega arith)
 crosses_nowhere (h ∷ hs) g none = rw (crosses_nowhere hs g none) refl
 
--- glyph i stands at one more pen
+-- glyph i with one pen more
 pub crosses_at : (gs : List Glyph) (i : ℕ) (g : Glyph) (pen : ℕ) → i < length gs → g ≡ get_or gs i g
     → crossings_standing (set gs i (record g { pens = g.pens ++ pen ∷ [] }))
     ≡ crossings_standing gs + pen_crossings g
@@ -70,7 +70,7 @@ pub crossings_more : (f : Frame) (shapes : List Shape) (s : Shape) → crossings
 crossings_more f [] s = omega arith
 crossings_more f (h ∷ hs) s = let rest = crossings_more f hs s in omega (arith, rest)
 
--- a sum that stops at the greatest number, and one glyph more
+-- a saturated sum, and one glyph more
 stops_at : (all own rest most whole : ℕ) → min (all + (own + rest)) most ≡ min whole most
     → min (min (all + min own most) most + rest) most ≡ min whole most
 stops_at all own rest most whole is = omega (arith, is)
@@ -89,13 +89,13 @@ none_left [] (suc i) over = refl
 none_left (g ∷ gs) zero over = absurd (omega (arith, over))
 none_left (g ∷ gs) (suc i) over = none_left gs i (omega (arith, over))
 
--- where none is left, that is the sum
+-- after the last glyph the sum is complete
 pub all_crossed : (gs : List Glyph) (i all most whole : ℕ) → length gs ≤ i → all ≤ most
     → min (all + crossings_standing (drop i gs)) most ≡ min whole most → all ≡ min whole most
 all_crossed gs i all most whole over small is =
     let so_far : min (all + 0) most ≡ min whole most = rw (none_left gs i over) at is in omega (arith, so_far)
 
--- sums that are no less
+-- sums that are no smaller
 
 enough_at : (all own most_own rest most whole : ℕ) → min own most ≤ most_own → min whole most ≤ min (all + (own + rest)) most
     → min whole most ≤ min (min (all + most_own) most + rest) most

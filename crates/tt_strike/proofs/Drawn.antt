@@ -1,4 +1,4 @@
--- Glyphs that are drawn one after the other: where one fails, that glyph's fault is the answer.
+-- Glyphs drawn in order: the fault of the first that fails is the answer.
 use Rattle.std.proofs.Common.{◌≡◌, ℕ, zero, suc, ◌<◌, List, [], ◌∷◌, length, map, get_or, slice_index, Some, Ok, Err, inl, inr, refl, arith}
 use Rattle.std.specs.List.{slice_get}
 use Rattle.std.proofs.lemmas.List.{length-map}
@@ -16,7 +16,7 @@ use Rattle.tt_strike.specs.Defects.{IsGlyphDefect}
 use Rattle.tt_strike.specs.Picture.{glyph_shape}
 use Rattle.tt_strike.specs.Pixels.{Shape}
 
--- a glyph that cannot be had has no outline, and one that was had has one
+-- a glyph that fails has no outline, and one that is made has one
 glyph-failed : (maker : ℕ → Fitter) (g : ℕ × ℕ) (e : Fault) → glyph_shape maker g ≡ Err e → fitted_outline (maker g.0) g.0 ≡ Err e
 glyph-failed maker g e fails = elim (was-err (fitted_outline (maker g.0) g.0) _ e fails) [
   | inl here ↦ here

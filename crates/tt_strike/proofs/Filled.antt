@@ -1,4 +1,4 @@
--- The dropouts of glyphs, one glyph more, and which glyphs they can be asked of.
+-- The dropouts of glyphs, one glyph more, and the glyphs with findable dropouts.
 use Rattle.std.proofs.Common.{◌≡◌, refl, ℕ, zero, suc, ◌+◌, ◌^◌, ◌<◌, ◌≤◌, pos, ◌-ℤ◌, Bool, false, ◌||◌, List, [], ◌∷◌, length, take, get_or, Option, None, Some, arith}
 use Rattle.std.specs.Prelude.{All, IfSome}
 use Rattle.tt_arc.proofs.Closed.{all_closed}
@@ -14,13 +14,13 @@ use Rattle.tt_strike.specs.Picture.{contours_of, origin_of}
 use Rattle.tt_strike.specs.Pixels.{Stamp, is_filled_by, is_filled_from}
 use Rattle.tt_strike.proofs.Blackened.{or_false, or_or}
 
--- by rules that there are
+-- with rules
 pub filled_from : (f : Frame) (rules : Rules) (contours : List (List Edge)) (pens : List ℕ) (c r : ℕ)
     → is_dropout_from f rules contours pens c r ≡ is_filled_from f (Some rules) contours pens c r
 filled_from f rules contours [] c r = refl
 filled_from f rules contours (pen ∷ pens) c r = rw (filled_from f rules contours pens c r) refl
 
--- without any
+-- without rules
 pub none_filled : (f : Frame) (contours : List (List Edge)) (pens : List ℕ) (c r : ℕ) → is_filled_from f None contours pens c r ≡ false
 none_filled f contours [] c r = refl
 none_filled f contours (pen ∷ pens) c r = none_filled f contours pens c r
@@ -36,13 +36,13 @@ filled_more f (g ∷ gs) (suc i) d c r below =
     rw (next, more) (or_or (is_filled_from f g.filled g.contours g.pens c r) (is_filled_by f (take i gs) c r)
     (is_filled_from f (get_or gs i d).filled (get_or gs i d).contours (get_or gs i d).pens c r))
 
--- a drawn glyph can be filled: its contours are those of its outline, which are closed
+-- a drawn glyph can be filled: its contours are those of its outline, and closed
 closed_as : (filled : Option Rules) (contours outlined : List (List Edge)) → All IsClosed outlined
     → IfSome filled (λ rules. contours ≡ outlined) → IfSome filled (λ rules. All IsClosed contours)
 closed_as None contours outlined closed are = are
 closed_as (Some rules) contours outlined closed are = rw are closed
 
--- pens within the width, of a glyph whose pens are not moved
+-- pens within the width, of a glyph with 0 added to its pens
 of_tape : (filled : Option Rules) (f : Frame) (body : Body) (left : ℕ) (pens : List ℕ) → IfSome filled (λ rules. IsTape body)
     → left ≡ left_of f body → All (λ pen. pen ≤ width_limit + left) pens
     → IfSome filled (λ rules. All (λ pen. pen ≤ width_limit) pens)

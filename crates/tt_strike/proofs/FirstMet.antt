@@ -1,4 +1,4 @@
--- Which glyphs of a line were met.
+-- The glyphs met so far in a line.
 use Rattle.std.proofs.Common.{◌≡◌, ◌∙◌, sym, refl, ℕ, ◌+◌, ◌<◌, suc, Bool, true, false, ◌||◌, ◌==◌, List, [], ◌∷◌, ◌++◌, length, map, drop, get_or, set, slice_index_or, inl, inr, arith, add-one, drop-cons, get_or-set_same, get_or-set_other}
 use Rattle.std.proofs.lemmas.Bool.{cases_eq}
 use Rattle.std.proofs.lemmas.Bool.Decides.{nat_tests}
@@ -16,12 +16,12 @@ or_three : (a b c : Bool) → (a || (b || c)) ≡ ((a || b) || c)
 or_three true b c = refl
 or_three false b c = refl
 
--- one more number stands among some, and no other
+-- with one number more, no other is among them
 among_more : (n g : ℕ) (gs : List ℕ) → is_among n (gs ++ g ∷ []) ≡ (is_among n gs || (g == n))
 among_more n g [] = or_false (g == n)
 among_more n g (h ∷ gs) = rw (among_more n g gs) (or_three (h == n) (is_among n gs) (g == n))
 
--- and is marked
+-- the number is marked
 pub marked_more : (met : List Bool) (numbers : List ℕ) (g n : ℕ) → g < length met
     → slice_index_or met n false ≡ is_among n numbers
     → slice_index_or (set met g true) n false ≡ is_among n (numbers ++ g ∷ [])
@@ -45,7 +45,7 @@ first : (before gs all : List ℕ) (g : ℕ) → is_among g before ≡ false →
 first before gs all g absent is =
     let step : distinct_after before (g ∷ gs) ≡ distinct_after (before ++ g ∷ []) gs = rw absent refl in sym step ∙ is
 
--- the next place of a line has a glyph that was met, or it is one more
+-- the next place of a line has a glyph already met, or the glyph is one more
 pub met_again : (numbers all : List ℕ) (line : List (ℕ × ℕ)) (i : ℕ) → i < length line
     → is_among (get_or line i (0, 0)).0 numbers ≡ true
     → distinct_after numbers (map (λ g. g.0) (drop i line)) ≡ all

@@ -1,4 +1,4 @@
--- A line made larger and measured: what stops it, and what its measure is.
+-- An enlarged line measured: its refusals, and its measure.
 use Rattle.std.proofs.Common.{◌≡◌, refl, Ok, Err}
 use Rattle.std.specs.Prelude.{IfSome}
 use Rattle.tt_core.specs.declared.fault.JobFault.{JobFault}

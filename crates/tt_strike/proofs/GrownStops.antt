@@ -1,4 +1,4 @@
--- A line made larger: what stops it, and what its picture and its report are.
+-- An enlarged line: its refusals, its picture and its report.
 use Rattle.std.proofs.Common.{◌≡◌, ◌∙◌, refl, ap, sym, ℕ, List, map, Result, Ok, Err}
 use Rattle.std.specs.Prelude.{IfSome}
 use Rattle.tt_core.specs.Outcomes.{◌>>=◌}

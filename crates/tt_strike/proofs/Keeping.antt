@@ -1,4 +1,4 @@
--- Which glyphs are kept.
+-- The glyphs that a line has already.
 use Rattle.std.proofs.Common.{◌≡◌, ◌≢◌, ℕ, zero, suc, ◌<◌, Bool, true, false, ◌||◌, ◌==◌, List, [], ◌∷◌, length, slice_index, All, refl, arith}
 use Rattle.std.proofs.lemmas.Bool.Decides.{nat_tests}
 use Rattle.tt_strike.specs.Distinct.{is_among}
@@ -7,14 +7,14 @@ or_true : (b : Bool) → (b || true) ≡ true
 or_true true = refl
 or_true false = refl
 
--- a number that one of them has is among them
+-- the number of one of them is among them
 pub is_there : (ns : List ℕ) (i g : ℕ) → i < length ns → slice_index ns i ≡ g → is_among g ns ≡ true
 is_there [] i g below same = absurd (omega arith)
 is_there (n ∷ ns) zero g below same =
     let test : (n == g) ≡ true = grind (arith, nat_tests) in rw test refl
 is_there (n ∷ ns) (suc i) g below same = rw (is_there ns i g (omega arith) same) (or_true (n == g))
 
--- a number that none of them has is not
+-- a number that none of them has is not among them
 pub is_not_there : (ns : List ℕ) (g : ℕ) → All (λ n. n ≢ g) ns → is_among g ns ≡ false
 is_not_there [] g none = refl
 is_not_there (n ∷ ns) g none =

@@ -1,4 +1,4 @@
--- Glyphs that are kept from line to line are what is made anew.
+-- Cached glyphs equal those made anew.
 use Rattle.std.proofs.Common.{◌≡◌, ◌∙◌, ℕ, Bool, true, false, ◌&&◌, not, nat_eq, List, Option, None, Some, Result, Ok, refl, sym}
 use Rattle.std.specs.Prelude.{IfSome}
 use Rattle.std.proofs.lemmas.List.Elements.{All-weaker}
@@ -23,12 +23,12 @@ use Rattle.tt_strike_kept.specs.Glyph.{KeptGlyph}
 abbrev pub IsAsMade : Fitter → ℕ × KeptGlyph → Type 0
 IsAsMade s e = IsKept s e.0 e.1
 
--- one that is found
+-- a glyph found in the cache
 pub one_found : (s : Fitter) (n : ℕ) (g : KeptGlyph) (es : List (ℕ × KeptGlyph)) → AreKeptFor s es
     → lookup (nat_eq n) es ≡ Some g → IsKept s n g
 one_found s n g es all found = all_found (IsAsMade s) n es g all found
 
--- and one that was made, no dropouts of which are filled
+-- a made glyph with no filled dropouts
 pub one_made : (s : Fitter) (n : ℕ) (o : Outline) (es : List Edge) (unfitted : Option Fault) (filled : Option Rules)
     → fitted_outline s n ≡ Ok o → es ≡ edges_at 0 o → unfitted ≡ unfitted_fault s n → filled ≡ filled_by s n o
     → filled ≡ None → s.work ≡ None → (k : Raster) → IsRasterOf es k
@@ -42,31 +42,31 @@ one_made s n o es unfitted filled made edges fault by none unbounded k cut = rec
   unbounded = unbounded;
 }
 
--- all are as made by what other glyphs leave
+-- cached glyphs equal those made by the fitter after other glyphs
 pub kept_after : UnboundedStays → (s : Fitter) (gs : List ℕ) (es : List (ℕ × KeptGlyph)) → AreKeptFor s es
     → AreKeptFor (fitter_after s gs) es
 kept_after stays s gs es all =
     All-weaker (IsAsMade s) (IsAsMade (fitter_after s gs)) (λ e kept. rw (unchanged stays s gs kept.unbounded) kept)
     es all
 
--- and those that are kept then are as made by what was before them
+-- cached glyphs after a line equal those made by the fitter before it
 pub kept_before : UnboundedStays → (s : Fitter) (gs : List ℕ) (before after : List (ℕ × KeptGlyph)) (keeps : Bool)
     → (keeps ≡ true → s.work ≡ None) → (keeps ≡ false → after ≡ before) → AreKeptFor s before
     → AreKeptFor (fitter_after s gs) after → AreKeptFor s after
 kept_before stays s gs before after true unbounded same old new = rw (unchanged stays s gs (unbounded refl)) at new
 kept_before stays s gs before after false unbounded same old new = rw (same refl) old
 
--- what other glyphs leave is unbounded where it was
+-- an unbounded fitter is unbounded after other glyphs
 pub unbounded_after : UnboundedStays → (s : Fitter) (gs : List ℕ) → s.work ≡ None → (fitter_after s gs).work ≡ None
 unbounded_after stays s gs none = rw (unchanged stays s gs none) none
 
--- a glyph whose dropouts are filled is a tape
+-- a glyph with filled dropouts is a tape
 pub tape_where : (filled : Option Rules) (body : Body) (plain : Bool) → IfSome filled (λ rules. plain ≡ false)
     → (plain ≡ false → IsTape body) → IfSome filled (λ rules. IsTape body)
 tape_where None body plain off is = tt
 tape_where (Some rules) body plain off is = is off
 
--- which has the edges of its outline
+-- the tape has the edges of its outline
 pub of_edges : (filled : Option Rules) (body : Body) (es : List Edge) (P : List Edge → Type 0)
     → IfSome filled (λ rules. IsTape body) → IsBodyOf es body → IfSome filled (λ rules. P es)
     → IfSome filled (λ rules. P (edges_of body))
@@ -74,7 +74,7 @@ of_edges None body es P is has holds = tt
 of_edges (Some rules) (tape t) es P is has holds = rw has holds
 of_edges (Some rules) (raster k) es P is has holds = absurd is
 
--- where glyphs are kept the work is not bounded
+-- where glyphs are cached the work is not bounded
 both : (a b : Bool) → (a && not b) ≡ true → b ≡ false
 both true true is = absurd cc
 both true false is = refl
@@ -84,19 +84,19 @@ pub unbounded_where : (how : Fit) (some keeps : Bool) → keeps ≡ (some && not
     → is_bounded how ≡ false
 unbounded_where how some keeps is true_is = both some (is_bounded how) (sym is ∙ true_is)
 
--- and then any number of crossings passes
+-- unbounded work allows any number of crossings
 pub work_alike : (keeps : Bool) (how : Fit) (limit these those : ℕ) → (keeps ≡ true → is_bounded how ≡ false)
     → (keeps ≡ false → these ≡ those) → work_tested how limit these ≡ work_tested how limit those
 unfolding work_tested
 work_alike true how limit these those unbounded same = rw (unbounded refl) refl
 work_alike false how limit these those unbounded same = rw (same refl) refl
 
--- what is kept for one setting of a font is kept for what the font has
+-- glyphs cached for one fitter of a font are cached for the fitter of the definition
 pub kept_for : (made : Result Fitter Fault) (t : Fitter) (es : List (ℕ × KeptGlyph)) → made ≡ Ok t → AreKeptFor t es
     → (s : Fitter) → made ≡ Ok s → AreKeptFor s es
 kept_for made t es this all s that = let same : t ≡ s = cc in rw (← same) all
 
--- glyphs are not kept where the work is bounded
+-- glyphs are not cached where the work is bounded
 pub none_where : (how : Fit) (some keeps : Bool) → keeps ≡ (some && not (is_bounded how)) → is_bounded how ≡ true
     → keeps ≡ false
 none_where how true keeps is bounded = rw bounded at is

@@ -1,4 +1,4 @@
--- A picture that has columns and rows more on each side has the pixels of the picture without them.
+-- A picture with added columns and rows has the pixels of the smaller one.
 use Rattle.std.proofs.Common.{◌≡◌, ◌∙◌, refl, ap, sym, ℕ, ◌+◌, ◌||◌, List, [], ◌∷◌, map, Option, ℤ, pos, ◌+ℤ◌, ◌-ℤ◌, Result, Ok, arith}
 use Rattle.std.proofs.lemmas.Int.{ints}
 use Rattle.tt_core.specs.Chains.{came-through}
@@ -16,7 +16,7 @@ use Rattle.tt_strike.specs.Picture.{contours_of, edges_at, frame_of, glyph_shape
 use Rattle.tt_strike.specs.Pixels.{Shape, is_filled, some_black, some_filled}
 use Rattle.tt_strike.proofs.Standings.{filled_from_pen, from_pen}
 
--- one glyph, in a frame with so many rows more above
+-- one glyph, in a frame with m more rows above
 one_black : (m : ℕ) (o : Outline) (pen left c : ℕ) (y : ℤ)
     → is_black (edges_at (pen + left) o) (column_x m (pos (c + left))) y ≡ is_black (edges_at pen o) (column_x m (pos c)) y
 one_black m o pen left c y =
@@ -35,7 +35,7 @@ one_filled filled f g o pen left top c r margin rise =
     sym (filled_from_pen filled g o (pen + left) (c + left) (r + top))
     ∙ rw (column, line) (filled_from_pen filled f o pen c r)
 
--- the shapes of a line, one by one: what the first glyph makes, and what the others do
+-- the shapes of a line, one by one: the first glyph's, and those of the others
 record First (maker : ℕ → Fitter) (g : ℕ × ℕ) (gs : List (ℕ × ℕ)) (shapes : List Shape) : Type 0 where
   pub outline : Outline
   pub rest : List Shape

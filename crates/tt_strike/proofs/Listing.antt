@@ -1,4 +1,4 @@
--- The glyphs that are not fitted, each once: what a search of the kept glyphs lists, and that none is listed twice.
+-- The unfitted glyphs, each once: the list found by searching a line's glyphs has no glyph twice.
 use Rattle.std.proofs.Common.{◌≡◌, ◌≢◌, ℕ, ◌+◌, ◌<◌, Bool, true, false, not, ◌&&◌, ◌||◌, ◌==◌, List, [], ◌∷◌, ◌++◌, length, map, drop, get_or, Option, Some, None, Result, Ok, refl, ap, ◌∙◌, arith, append_assoc, add-one, drop-cons}
 use Rattle.std.proofs.lemmas.Bool.Decides.{nat_tests}
 use Rattle.std.proofs.lemmas.List.Elements.{All-head, All-tail}
@@ -22,7 +22,7 @@ use Rattle.tt_strike.specs.Distinct.{is_among, with_glyph, distinct, distinct_af
 use Rattle.tt_strike.specs.Glyphs.{Glyph, IsDrawn, AreDrawn, numbers_of}
 use Rattle.tt_strike.specs.Report.{listed, unfitted_among, unfitted_standing, line_report, report_by, report_of, all_differ, ListsOnce}
 
--- glyphs as they are drawn are those of the definition
+-- drawn glyphs are those of the definition
 pub standing_listed : {keeps : Bool} (maker : ℕ → Fitter) (f : Frame) (gs : List Glyph) → AreDrawn keeps maker f gs
     → unfitted_standing gs ≡ unfitted_among maker (numbers_of gs)
 standing_listed maker f [] drawn = refl
@@ -43,7 +43,7 @@ is_not : (a : Bool) → not a ≡ true → a ≡ false
 is_not true is = absurd cc
 is_not false is = refl
 
--- a number after some is among them and it
+-- a number after some is among them and itself
 among_pushed : (h g : ℕ) (gs : List ℕ) → is_among h gs ≡ false → (g == h) ≡ false → is_among h (gs ++ g ∷ []) ≡ false
 among_pushed h g [] not_there other = rw other refl
 among_pushed h g (k ∷ gs) not_there other =
@@ -71,7 +71,7 @@ distinct_differ before [] differ = differ
 distinct_differ before (g ∷ gs) differ =
     distinct_differ (with_glyph before g) gs (with_by (is_among g before) before g refl differ)
 
--- what is not among some glyphs is not listed of them
+-- a glyph not among some is not in their list
 among_listed : (g : ℕ) (gs : List ℕ) (fault : Option Fault) (h : ℕ) (others : List Unfitted)
     → (h == g) ≡ false → is_among g (map (λ u. u.glyph) others) ≡ false
     → is_among g (map (λ u. u.glyph) (listed h fault others)) ≡ false
@@ -101,7 +101,7 @@ among_once maker (g ∷ gs) differ =
 pub lists_once : (maker : ℕ → Fitter) (gs : List ℕ) → ListsOnce (unfitted_among maker (distinct gs))
 lists_once maker gs = among_once maker (distinct gs) (distinct_differ [] gs refl)
 
--- the glyphs from one on are that one and those after it
+-- the glyphs from place i on are glyph i and those after it
 from_one : (gs : List Glyph) (i : ℕ) (g : Glyph) → i < length gs → g ≡ get_or gs i g → drop i gs
     ≡ g ∷ drop (i + 1) gs
 from_one gs i g below is =
@@ -120,20 +120,20 @@ pub none_more : (gs : List Glyph) (i : ℕ) (g : Glyph) (before : List Unfitted)
     → before ++ unfitted_standing (drop (i + 1) gs) ≡ before ++ unfitted_standing (drop i gs)
 none_more gs i g before below is stands = rw (from_one gs i g below is, stands) refl
 
--- what is listed of the glyphs that are kept of a line is what the definition lists of the line
+-- the list of a line's glyphs is that of the definition
 pub of_line : {keeps : Bool} (maker : ℕ → Fitter) (f : Frame) (gs : List Glyph) (line : List (ℕ × ℕ)) (entries : List Unfitted)
     → AreDrawn keeps maker f gs → numbers_of gs ≡ distinct (map (λ g. g.0) line) → entries ≡ unfitted_standing gs
     → entries ≡ unfitted_among maker (distinct (map (λ g. g.0) line))
 of_line maker f gs line entries drawn numbers is =
     is ∙ standing_listed maker f gs drawn ∙ ap (unfitted_among maker) numbers
 
--- where no glyph has a fault for which it is not fitted, none is listed
+-- with no fault that makes a glyph unfitted, none is listed
 none_listed : (maker : ℕ → Fitter) (gs : List ℕ) → ((g : ℕ) → unfitted_fault (maker g) g ≡ None)
     → unfitted_among maker gs ≡ []
 none_listed maker [] none = refl
 none_listed maker (g ∷ gs) none = rw (none g, none_listed maker gs none) refl
 
--- where no glyph changes what is left, all are made from the same
+-- where no glyph changes the fitter, all have the same
 stays_by : (here : Bool) (s : Fitter) (h : ℕ) (hs : List ℕ) (g : ℕ) → (h == g) ≡ here → after_glyph s h ≡ s
     → fitter_for s hs g ≡ s → fitter_for s (h ∷ hs) g ≡ s
 stays_by true s h hs g is stays rest = rw is refl
@@ -143,14 +143,14 @@ stays_for : (s : Fitter) (hs : List ℕ) (g : ℕ) → ((h : ℕ) → after_glyp
 stays_for s [] g stays = refl
 stays_for s (h ∷ hs) g stays = stays_by (h == g) s h hs g refl (stays h) (stays_for s hs g stays)
 
--- the work of a way of fitting that doesn't fall back is not bounded
+-- a fit that does not fall back has unbounded work
 not_best : (how : Fit) → falls_back how ≡ false → how ≢ fit.Best
 not_best fit.Full other = λ e. absurd cc
 not_best fit.None other = λ e. absurd cc
 not_best fit.Fallback other = absurd cc
 not_best fit.Best other = absurd cc
 
--- what tt_fit says of these
+-- the laws of tt_fit used here
 pub record FitLaws : Type 0 where
   pub never : OthersNeverFallBack
   pub others : OthersAreUnbounded

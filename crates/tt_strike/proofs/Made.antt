@@ -1,4 +1,4 @@
--- What the glyphs of a line have that are made and not refused: the picture, the report and the measure of the line.
+-- The picture, the report and the measure of a line whose glyphs are made and not refused.
 use Rattle.std.proofs.Common.{◌≡◌, refl, ℕ, Bool, false, List, [], ◌∷◌, map, Option, None, Some, Ok}
 use Rattle.std.specs.Prelude.{All, IfSome}
 use Rattle.std.proofs.lemmas.List.Elements.{All-head, All-tail}
@@ -30,7 +30,7 @@ pub measured_as_made : {keeps : Bool} (face : Face) (a : Job) (l : Placement) (g
 unfolding measured_line
 measured_as_made face a l gs made = rw (made.opened, made.few, made.fitted, made.seldom) refl
 
--- what is listed of them is the report of the line, and lists each once
+-- their list is the report of the line, and lists each once
 pub reported_as_made : {keeps : Bool} (face : Face) (a : Job) (l : Placement) (gs : List Glyph)
     (entries : List Unfitted) → AreMade keeps face a l gs → entries ≡ unfitted_standing gs
     → (line_report face a l ≡ Ok entries) × ListsOnce entries
@@ -41,7 +41,7 @@ reported_as_made face a l gs entries made listed =
     let those = of_line maker (frame_of l a.margin) gs l.glyphs entries made.drawn made.numbers listed in
     (rw (made.opened, made.few, made.fitted, made.seldom, those) refl, rw those (lists_once maker numbers))
 
--- the ink of a tape is that of what it was made from
+-- the ink of a tape is that of its edges
 same_ink : (these filled : Option Rules) (es fs : List Edge) (cs ds : List (List Edge)) → these ≡ filled → es ≡ fs
     → IfSome these (λ rules. cs ≡ ds) → ink_by es cs these ≡ ink_by fs ds filled
 same_ink None filled es fs cs ds is edges contours = rw (← is, edges) refl

@@ -1,4 +1,4 @@
--- What a glyph's spans cover from its pens is what its edges blacken from them.
+-- A glyph's spans cover at its pens exactly what its edges blacken there.
 use Rattle.std.proofs.Common.{◌≡◌, ℕ, ◌^◌, ◌<◌, ◌≤◌, Bool, true, false, ◌&&◌, ◌||◌, nat_lt, List, [], ◌∷◌, length, ℤ, pos, ◌-ℤ◌, ◌<ℤ◌, if◌then◌else◌, refl, arith}
 use Rattle.std.proofs.lemmas.Bool.Decides.{nat_tests}
 use Rattle.std.proofs.lemmas.Int.{ints}
@@ -51,7 +51,7 @@ pub met_few : (es : List Edge) (y : ℤ) → rows_met es y ≤ length es
 met_few [] y = omega arith
 met_few (e ∷ es) y = omega (arith, one_or_none (is_between e.ay e.by y), met_few es y)
 
--- what a raster shows from some pens
+-- the black columns of a raster at some pens
 pub shown_from : (f : Frame) (k : Raster) (pens : List ℕ) (c r : ℕ) → shows_from k pens (pos c) (line_at f r)
     ≡ is_black_from f (pixels.raster k) pens c r
 shown_from f k [] c r = refl

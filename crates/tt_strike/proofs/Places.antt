@@ -12,7 +12,7 @@ behind : {B E : Type 0} (r : Result (List B) E) (before : List B) (y : B) → (r
 behind (Ok ys) before y = ap Ok (append_assoc before (y ∷ []) ys)
 behind (Err e) before y = refl
 
--- what place i makes stands after the others
+-- the result of place i comes after the others
 pub one_more_made : {A B E : Type 0} (f : A → Result B E) (xs : List A) (i : ℕ) (d : A) (before : List B) (y : B)
     → i < length xs → f (get_or xs i d) ≡ Ok y → after_each f (drop (i + 1) xs) (before ++ y ∷ []) ≡ after_each f
     (drop i xs) before

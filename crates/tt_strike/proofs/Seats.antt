@@ -1,4 +1,4 @@
--- The table that finds a kept glyph by its number.
+-- The table that finds a line's glyph by its number.
 use Rattle.std.proofs.Common.{◌≡◌, ◌≢◌, refl, ◌∙◌, ℕ, ◌+◌, ◌-◌, ◌<◌, ◌≤◌, List, [], ◌∷◌, ◌++◌, length, set, slice_index, All, inl, inr, arith, get_or-set_same, get_or-set_other, length-append}
 use Rattle.std.proofs.lemmas.Bool.{cases_eq, cases_lt}
 use Rattle.std.proofs.lemmas.List.{get_or_append_left, get_or_at}
@@ -46,7 +46,7 @@ there_more table numbers n i known absent places below = elim (cases_lt i (lengt
       rw (number, value) (omega arith)
 ]
 
--- one more glyph is kept
+-- one glyph more
 pub places_more : (table numbers : List ℕ) (n : ℕ) → n < length table → All (λ m. m ≢ n) numbers → ArePlaces table numbers
     → ArePlaces (set table n (length numbers + 1)) (numbers ++ n ∷ [])
 places_more table numbers n known absent places = record {

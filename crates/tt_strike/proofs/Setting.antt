@@ -1,4 +1,4 @@
--- What makes outlines is left as it was by every way of fitting but Best.
+-- Every fit but Best leaves the fitter unchanged.
 use Rattle.std.proofs.Common.{◌≡◌, ◌≢◌, ℕ, Bool, true, false, List, [], ◌∷◌, None, Ok, refl}
 use Rattle.tt_fit.specs.Fitting.{Fitter}
 use Rattle.tt_fit.specs.Laws.{OthersAreUnbounded, UnboundedStays}

@@ -1,4 +1,4 @@
--- What glyphs blacken at their pens, one glyph or one pen more at a time.
+-- The pixels that glyphs blacken at their pens, one glyph or one pen more at a time.
 use Rattle.std.proofs.Common.{◌≡◌, map, ℕ, ◌+◌, ◌*◌, ◌^◌, ◌+ℤ◌, ◌*ℤ◌, ◌<ℤ◌, Ok, ap, zero, suc, ◌<◌, Bool, true, false, ◌||◌, List, [], ◌∷◌, ◌++◌, length, get_or, set, ℤ, pos, ◌-ℤ◌, refl, sym, ◌∙◌, arith}
 use Rattle.std.specs.Prelude.{◌≤◌, All, IfSome, IsOkAnd, Option, Some, None}
 use Rattle.std.proofs.lemmas.Int.{ints}
@@ -43,7 +43,7 @@ or_swap false true true = refl
 or_swap false true false = refl
 or_swap false false c = sym (or_false c)
 
--- a glyph that stands nowhere blackens nothing
+-- a glyph without a pen blackens nothing
 pub stands_nowhere : (f : Frame) (gs : List Glyph) (g : Glyph) (c r : ℕ) → g.pens ≡ []
     → is_black_by f (stamps_in (gs ++ g ∷ [])) c r ≡ is_black_by f (stamps_in gs) c r
 stands_nowhere f [] g c r none = rw none refl
@@ -56,7 +56,7 @@ one_pen_more f drawn (p ∷ ps) pen c r =
     rw (one_pen_more f drawn ps pen c r)
     (or_or (is_drawn f drawn (pos c -ℤ pos p) r) (is_black_from f drawn ps c r) (is_drawn f drawn (pos c -ℤ pos pen) r))
 
--- the same of dropouts
+-- it has no dropouts
 pub fills_nowhere : (f : Frame) (gs : List Glyph) (g : Glyph) (c r : ℕ) → g.pens ≡ []
     → is_filled_by f (stamps_in (gs ++ g ∷ [])) c r ≡ is_filled_by f (stamps_in gs) c r
 fills_nowhere f [] g c r none = rw none refl
@@ -86,7 +86,7 @@ fills_at f (h ∷ hs) (suc i) g pen c r below is =
     (or_or (is_filled_from f h.filled (contours_at (edges_of h.body) h.ends) h.pens c r) (is_filled_by f (stamps_in hs) c r)
     (is_filled g.filled (contours_at (edges_of g.body) g.ends) (column_at f pen c) (line_at f r)))
 
--- glyph i stands at one more pen
+-- glyph i with one pen more
 pub stands_at : (f : Frame) (gs : List Glyph) (i : ℕ) (g : Glyph) (pen c r : ℕ) → i < length gs → g ≡ get_or gs
     i g
     → is_black_by f (stamps_in (set gs i (record g { pens = g.pens ++ pen ∷ [] }))) c r
@@ -133,7 +133,7 @@ at_pen o pen =
     ap (λ x. chord_edges o.points o.ends x (pos 0)) start
     ∙ outline_at o.points o.ends (pos (64 * 0) -ℤ origin_of o) (pos 0) (pos pen)
 
--- what it blackens from a pen it blackens so far to the left from pen 0
+-- at a pen it blackens what it blackens at pen 0, moved right by the pen
 pub from_pen : (m : ℕ) (o : Outline) (pen : ℕ) (c y : ℤ) → is_black (edges_at pen o) (column_x m c) y
     ≡ is_black (edges_at 0 o) (column_x m (c -ℤ pos pen)) y
 from_pen m o pen c y =
@@ -142,17 +142,17 @@ from_pen m o pen c y =
     let moved = rw back at (black_in_columns (pos pen) (edges_at 0 o) m (c -ℤ pos pen) y) in
     rw edges moved
 
--- and it crosses the rows as often
+-- it crosses the rows as often
 crosses_from : (f : Frame) (o : Outline) (pen : ℕ) → crossings_of f (edges_at pen o) ≡ crossings_of f (edges_at 0 o)
 crosses_from f o pen = rw (at_pen o pen) (crossings_moved f (pos 8192 *ℤ pos pen) (edges_at 0 o))
 
--- where dropouts are filled, contours that are alike have the same
+-- where dropouts are filled, equal contours have equal dropouts
 same_filled : (filled : Option Rules) (these those : List (List Edge)) (c j : ℤ) → IfSome filled (λ rules. these ≡ those)
     → is_filled filled these c j ≡ is_filled filled those c j
 same_filled None these those c j same = refl
 same_filled (Some rules) these those c j same = rw same refl
 
--- moved by a pen they have them so far to the right
+-- moved by a pen, dropouts move by it to the right
 edges_moved : (k : ℤ) (es : List Edge) → moved_edges (pos 8192 *ℤ k) es ≡ map (moved k (pos 0)) es
 edges_moved k [] = refl
 edges_moved k (e ∷ es) = let still : (y : ℤ) → y +ℤ pos 8192 *ℤ pos 0 ≡ y = λ y. omega (arith, ints) in rw (edges_moved k es, still e.ay, still e.by) refl
@@ -179,7 +179,7 @@ filled_from_pen (Some rules) f o pen c r =
     sym (dropouts_move rules (contours_of 0 o) (pos pen) (pos 0) (column_at f pen c) (line_at f r))
     ∙ rw (contours_at_pen o pen, column) (ap (is_dropout rules (outline_moved (pos pen) (pos 0) (contours_of 0 o)) (column_at f pen c +ℤ pos pen)) (sym line))
 
--- what the body of a glyph blackens from a pen
+-- the pixels that a glyph's body blackens at a pen
 black_at : (f : Frame) (o : Outline) (body : Body) (pen c r : ℕ) → pen ≤ width_limit → c < 2 ^ 62 → IsBodyOf (edges_at 0 o) body
     → is_drawn f (drawn_of body) (pos c -ℤ pos (pen + left_of f body)) r
     ≡ is_black (edges_at pen o) (column_x f.margin (pos c)) (row_y f (pos r))
@@ -215,7 +215,7 @@ fills_by f o (tape t) these filled ends pen c r is of_tape contours =
 fills_by f o (raster k) None filled ends pen c r is of_tape contours = rw (← is) refl
 fills_by f o (raster k) (Some rules) filled ends pen c r is of_tape contours = absurd of_tape
 
--- a drawn glyph stands at one more pen
+-- a drawn glyph with one pen more
 pub adds_at : (keeps : Bool) (maker : ℕ → Fitter) (f : Frame) (before gs : List Glyph) (i : ℕ) (g : Glyph) (placed : ℕ × ℕ)
     → placed.1 ≤ width_limit → ((c r : ℕ) → is_black_by f (stamps_in gs) c r ≡ is_black_by f (stamps_in before) c r)
     → ((c r : ℕ) → is_filled_by f (stamps_in gs) c r ≡ is_filled_by f (stamps_in before) c r)
@@ -239,7 +239,7 @@ adds_at keeps maker f before gs i g placed near same same_dropouts as_often belo
           ∙ rw (as_often, works_as f o g.body g.filled rules placed.1 (drawn.tape none) filled drawn.fits drawn.body) refl;
     })
 
--- and is the glyph that it was
+-- it is the same glyph
 pub numbers_stood : (gs : List Glyph) (i : ℕ) (g : Glyph) (ps : List ℕ) → g ≡ get_or gs i g
     → numbers_of (set gs i (record g { pens = ps })) ≡ numbers_of gs
 numbers_stood gs i g ps is = map-set_same (λ (t : Glyph). t.number) gs i (record g { pens = ps }) g
@@ -289,7 +289,7 @@ pub left_is : (glyphs : ℕ) (table : List ℕ) (gs : List Glyph) (i : ℕ) (g :
     → g ≡ get_or gs i g → g.left ≤ margin_limit
 left_is glyphs table gs i g kept below is = rw (← is) at (kept.lefts i g below)
 
--- what a place adds, at whatever pen that was asked for
+-- the pixels added by a place, at any pen equal to this one
 pub made_at : {pen : ℕ} (keeps : Bool) (maker : ℕ → Fitter) (f : Frame) (before after : List Glyph) (g : ℕ × ℕ)
     → IsOkAnd (glyph_shape maker (g.0, pen)) (Adds keeps f before after) → g ≡ (g.0, pen)
     → (new : Shape) × (glyph_shape maker g ≡ Ok new) × Adds keeps f before after new
@@ -297,7 +297,7 @@ made_at {pen} keeps maker f before after g black is =
     let same : g.1 ≡ pen = ap (λ (g : ℕ × ℕ). g.1) is in
     rw same (ok_and (glyph_shape maker (g.0, pen)) (Adds keeps f before after) black)
 
--- a glyph that has its pens within the width has them there with one pen more, too
+-- a glyph whose pens lie within the width, with one pen more within it
 pub within_stood : (gs : List Glyph) (i : ℕ) (g : Glyph) (pen : ℕ) → i < length gs → g ≡ get_or gs i g → pen ≤ width_limit
     → AreWithin gs → AreWithin (set gs i (record g { pens = g.pens ++ (pen + g.left) ∷ [] }))
 within_stood gs i g pen below is low within =

@@ -1,4 +1,4 @@
--- What stopped a step of a drawing stops the picture.
+-- A step of a drawing that stops also stops the picture.
 use Rattle.std.proofs.Common.{◌≡◌, ◌∙◌, ◌<◌, nat_lt, Bool, true, false, ◌&&◌, if◌then◌else◌, List, map, Result, Ok, Err, inl, inr, refl, arith}
 use Rattle.std.proofs.lemmas.Bool.Decides.{nat_tests}
 use Rattle.std.specs.Prelude.{IfSome}
@@ -35,7 +35,7 @@ pub laying_stops : (a : Job) (face : Face) (e : LineFault) → tested a ≡ Ok t
 laying_stops a face (line.Job j) passes fails = rw (passes, fails) refl
 laying_stops a face line.Memory passes fails = tt
 
--- a line that is too much work is refused by its font
+-- a font refuses a line that is too much work
 pub work_refuses : {V : Type 0} (r : Result V DrawFault) (a : Job) (face : Face) (l : Placement)
     → placement face.metrics face.cmap a.text a.ppem a.margin ≡ Ok l
     → IfTold draw_job_fault r (λ j. (j ≡ job_of.WorkLarge) × IsTooMuchWork face a l)
@@ -45,7 +45,7 @@ work_refuses (Err (draw.Font f)) a face l laid refused = tt
 work_refuses (Err (draw.Job j)) a face l laid refused = rw (refused.0, laid) refused.1
 work_refuses (Err draw.Memory) a face l laid refused = tt
 
--- what stopped the making of the setting, or of a glyph, stops the line
+-- a stop in opening the fitter, or in making a glyph, stops the line
 pub setting_stops : (face : Face) (a : Job) (l : Placement) (e : FontFault)
     → FontGives {X = Fitter} (λ f. f) (Err e) (setting_in face a)
     → IfSome (refusal (draw_fault_of_font e)) (λ r. shapes_made face a l ≡ Err r)
@@ -63,7 +63,7 @@ pub font_tells : (P : Fault → Type 0) (e : FontFault) → IfSome (font_fault e
 font_tells P (font.Font f) stands = stands
 font_tells P font.Memory stands = tt
 
--- and so do crossings past the limit
+-- crossings past the limit stop it
 pub crossings_stop : (face : Face) (a : Job) (l : Placement) (s : Fitter) (glyphs : List Shape) (j : JobFault)
     → setting_in face a ≡ Ok s → as_job (points_tested s a l) ≡ Ok tt → shapes_in s l ≡ Ok glyphs
     → crossings_tested a l glyphs ≡ Err j → shapes_made face a l ≡ Err (job j)
@@ -85,7 +85,7 @@ crossings_tell face a l s glyphs j there made refused =
     let past : crossing_limit < crossings_in (frame_of l a.margin) glyphs = let is = parts.2 in grind (arith, nat_tests) in
     (parts.0, (parts.1, inr (rw (there, made) past)))
 
--- a job that is refused is refused by no font
+-- a refused job is not refused by its font
 refused_job : (r : Result (Unit {0}) JobFault) (j : JobFault) → as_job r ≡ Err (job j) → r ≡ Err j
 refused_job (Ok u) j was = absurd cc
 refused_job (Err i) j was = cc
@@ -147,13 +147,13 @@ pub drawing_refuses_no_job : (P : JobFault → Type 0) (e : FontFault) → IfSom
 drawing_refuses_no_job P (font.Font f) = tt
 drawing_refuses_no_job P font.Memory = tt
 
--- and what stopped the glyphs of a line stops its picture and its measure
+-- a stop in a line's glyphs stops its picture and its measure
 stops_after : {A B C E : Type 0} (x : Result A E) (f : A → Result B E) (g : A → B → Result C E) (e : E)
     → (x >>= f) ≡ Err e → (x >>= λ s. f s >>= λ b. g s b) ≡ Err e
 stops_after (Ok s) f g e stopped = rw stopped refl
 stops_after (Err d) f g e stopped = let same : d ≡ e = cc in rw same refl
 
--- an error that tells why one thing is not there tells why another is not, which hangs on it
+-- an error that explains one missing result explains another that depends on it
 pub stops : {A B : Type 0} (e : DrawFault) (x : Result A Refused) (y : Result B Refused)
     → ((r : Refused) → x ≡ Err r → y ≡ Err r) → IfSome (refusal e) (λ r. x ≡ Err r) → IfSome (refusal e) (λ r. y ≡ Err r)
 stops (draw.Font f) x y more stopped = more _ stopped
@@ -179,7 +179,7 @@ after_test : {A B : Type 0} (t : Result (Unit {0}) JobFault) (r : Result A Refus
 after_test (Ok u) r f = refl
 after_test (Err e) r f = refl
 
--- a text that is laid out has its picture, and what stopped that stops the picture
+-- a laid-out text has its picture, and a stop in laying out stops the picture
 pub line_as_laid : (face : Face) (a : Job) → line_outcome face a ≡ (laid_out face a >>= λ l. drawn face a l)
 unfolding line_outcome pictured_by
 line_as_laid face a = after_test (tested a) (as_job (placement face.metrics face.cmap a.text a.ppem a.margin)) (drawn face a)
@@ -198,7 +198,7 @@ pub grown_stops : (face : Face) (a : Job) (e : DrawFault) → IfSome (refusal e)
 unfolding grown_outcome grown_placement
 grown_stops face a e stopped = stops e (laid_out face a) (grown_outcome face a) (λ r fails. rw fails refl) stopped
 
--- laying out tells no defect
+-- laying out reports no defect
 pub no_defect_told : (P : Fault → Type 0) (e : DrawFault) → IfSome (draw_font_fault e) (λ f. ⊥) → IfSome (draw_font_fault e) P
 no_defect_told P (draw.Font f) never = absurd never
 no_defect_told P (draw.Job j) never = tt

@@ -1,4 +1,4 @@
--- The defects that the steps of a drawing tell, joined.
+-- The defects reported by the steps of a drawing, joined.
 use Rattle.std.proofs.Common.{◌≡◌, ℕ, List, map, Result, Ok, Err, inl, inr, subst}
 use Rattle.std.specs.Prelude.{IsOkAnd, IfSome, OnOk}
 use Rattle.tt_core.specs.Chains.{came-through, was-err}
@@ -31,7 +31,7 @@ no_glyph_table_defect (Ok x) directory m loca glyf = λ fault defect. elim defec
   | inr of_glyf ↦ glyf fault of_glyf
 ]
 
--- what was told of a setting, where the way to fit is the one that is asked for
+-- a report about a fitter, with the fit of the job
 pub failed_by : {fit : Fit} (m : Metrics) (tables : Glyf) (programs : ProgramTables) (ppem : ℕ) (asked : Fit)
     (e : FontFault) → FontGives {X = Fitter} (λ f. f) (Err e) (fitter_of m tables programs ppem fit) → fit ≡ asked
     → FontGives {X = Fitter} (λ f. f) (Err e) (fitter_of m tables programs ppem asked)
@@ -45,7 +45,7 @@ pub made_by : {fit : Fit} (m : Metrics) (tables : Glyf) (programs : ProgramTable
 made_by m tables programs ppem asked s made same =
     let P : Fit → Type 0 = λ fit. fitter_of m tables programs ppem fit ≡ Ok s in subst P same made
 
--- what is made from what the programs leave has their fault
+-- a fitter without a result has the fault of its programs
 preparation-fault : (m : Metrics) (tables : Glyf) (programs : ProgramTables) (ppem : ℕ) (how : Fit) (f : Fault)
     → fitter_of m tables programs ppem how ≡ Err f → prepared m programs ppem how ≡ Err f
 unfolding fitter_of
@@ -54,7 +54,7 @@ preparation-fault m tables programs ppem how f fails = elim (was-err (prepared m
   | inr later ↦ let never = later.rest in absurd (cc)
 ]
 
--- a fault of preparing the programs is one of what outlines are made from
+-- a fault of preparing the programs is a defect of the fitter
 pub preparing_tells : (face : Face) (a : Job) (tables : Glyf) (programs : ProgramTables)
     → programs_in face.directory a.fit ≡ Ok programs → (e : FontFault) → FontGives {X = Fitter} (λ f. f) (Err e)
     (fitter_of face.metrics tables programs a.ppem a.fit) → IfSome (font_fault e) (IsSettingDefect face a)
@@ -62,7 +62,7 @@ preparing_tells face a tables programs there (fault.Font f) fails =
     inr (inr (rw there (preparation-fault face.metrics tables programs a.ppem a.fit f fails)))
 preparing_tells face a tables programs there fault.Memory fails = tt
 
--- what is made from what the programs leave is made without a fault of theirs
+-- a fitter with a result has programs without a fault
 prepared-without-fault : (m : Metrics) (tables : Glyf) (programs : ProgramTables) (ppem : ℕ) (how : Fit)
     (s : Fitter) (f : Fault) → fitter_of m tables programs ppem how ≡ Ok s → prepared m programs ppem how ≡ Err f → ⊥
 unfolding fitter_of
@@ -105,13 +105,13 @@ no_line_defect face a s gs shapes there good made = λ fault defect. elim defect
       no_defect_of_line (line_fitter s (map (λ g. g.0) gs)) gs shapes made fault (subst P there glyph)
 ]
 
--- what stopped the making of the setting is a defect of the line
+-- a stop in opening the fitter is a defect of the line
 pub setting_tells : (face : Face) (a : Job) (gs : List ℕ) (e : FontFault) → IfSome (font_fault e)
     (IsSettingDefect face a) → IfSome (font_fault e) (IsLineDefect face a gs)
 setting_tells face a gs (fault.Font f) stands = inl stands
 setting_tells face a gs fault.Memory stands = tt
 
--- what is told of the line is told of the font
+-- a defect of the line is one of the font
 pub no_run_defect : (a : Job) (file : List ℕ) (face : Face) (gs : List ℕ) → face_of file ≡ Ok face
     → HasNo (IsFaceDefect file) → gs ≡ text_glyphs face.cmap a.text → HasNo (IsLineDefect face a gs)
     → HasNo (IsRunDefect a file)

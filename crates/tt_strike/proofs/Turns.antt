@@ -1,4 +1,4 @@
--- The glyphs of a line are made one after the other, each from what those before it left.
+-- The glyphs of a line are made in order, each with the fitter after those before it.
 use Rattle.std.proofs.Common.{◌≡◌, ◌∙◌, ◌<◌, ℕ, Bool, true, false, ◌||◌, ◌==◌, List, [], ◌∷◌, ◌++◌, length, drop, get_or, Result, Ok, Err, refl, sym, append_assoc, append-nil, drop-cons, arith}
 use Rattle.std.specs.Prelude.{IfSome, Option}
 use Rattle.std.proofs.lemmas.Bool.Decides.{nat_tests}
@@ -13,12 +13,12 @@ use Rattle.tt_strike.specs.Distinct.{is_among, with_glyph, distinct_after, fitte
 use Rattle.tt_strike.specs.Picture.{glyph_shape}
 use Rattle.tt_strike.specs.Pixels.{Shape}
 
--- a glyph leaves the glyph data
+-- a glyph does not change the glyph data
 pub same_tables : (s : Fitter) (g : ℕ) → (after_glyph s g).tables ≡ s.tables
 unfolding after_glyph
 same_tables s g = refl
 
--- and who says by which rules dropouts are filled
+-- nor the source of the dropout rules
 pub same_dropouts : (s : Fitter) (g : ℕ) (unfitted : Option Fault) (o : Outline)
     → dropouts_of (after_glyph s g) unfitted o ≡ dropouts_of s unfitted o
 unfolding after_glyph
@@ -45,7 +45,7 @@ begins_with before [] = ([], sym (append-nil before))
 begins_with before (g ∷ gs) = begins_by (is_among g before) before g gs refl (begins_with before gs)
     (begins_with (before ++ g ∷ []) gs)
 
--- the first one after some is made from what these left
+-- the first one after some is made with the fitter after these
 after_those : (s : Fitter) (before rest : List ℕ) (g : ℕ) → is_among g before ≡ false
     → fitter_for s (before ++ g ∷ rest) g ≡ fitter_after s before
 after_those s [] rest g absent = let same : (g == g) ≡ true = grind (arith, nat_tests) in rw same refl
@@ -53,7 +53,7 @@ after_those s (h ∷ hs) rest g absent =
     let parts = neither (h == g) (is_among g hs) absent in
     rw parts.0 (after_those (after_glyph s h) hs rest g parts.1)
 
--- so the next glyph of a line, where it is not made yet, is made from what is left now
+-- the next glyph of a line, if not made yet, is made with the present fitter
 pub next_is : (s now : Fitter) (before all : List ℕ) (g : ℕ) (gs : List ℕ) → distinct_after before (g ∷ gs) ≡ all
     → now ≡ fitter_after s before → IsNext (fitter_for s all) now before g
 next_is s now before all g gs are left absent =
@@ -71,7 +71,7 @@ left_by : (there : Bool) (s : Fitter) (before : List ℕ) (g : ℕ) → is_among
 left_by true s before g is = rw is refl
 left_by false s before g is = rw is (sym (pushed s before g))
 
--- what is left after one more place of a line
+-- the fitter after one more place of a line
 pub one_more_left : (s now next : Fitter) (before : List ℕ) (g : ℕ) → now ≡ fitter_after s before
     → next ≡ fitter_past now before g → next ≡ fitter_after s (with_glyph before g)
 one_more_left s now next before g left is = is ∙ rw left (left_by (is_among g before) s before g refl)
@@ -83,7 +83,7 @@ pub of_next : (e : FontFault) (now : Fitter) (before : List ℕ) (g : ℕ) → i
 of_next (font.Font f) now before g absent fails = (absent, fails)
 of_next font.Memory now before g absent fails = tt
 
--- is that of the line
+-- it is that of the line
 pub stuck_at : (e : FontFault) (maker : ℕ → Fitter) (now : Fitter) (before : List ℕ) (line : List (ℕ × ℕ)) (i : ℕ)
     (shapes : List Shape) → i < length line → IsNext maker now before (get_or line i (0, 0)).0
     → after_each (glyph_shape maker) (drop i line) shapes ≡ each (glyph_shape maker) line
@@ -97,7 +97,7 @@ stuck_at (font.Font f) maker now before line i shapes below next so_far fails =
     sym so_far ∙ rw (drop-cons line i (0, 0) below, stuck) refl
 stuck_at font.Memory maker now before line i shapes below next so_far fails = tt
 
--- what is made after nothing is what is made
+-- a result appended to nothing is the result
 pub none_before : {B E : Type 0} (r : Result (List B) E) → (r >>= λ ys. Ok ([] ++ ys)) ≡ r
 none_before (Ok ys) = refl
 none_before (Err e) = refl

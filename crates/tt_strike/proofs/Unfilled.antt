@@ -1,4 +1,4 @@
--- With every way of fitting but Best no dropouts of a line's glyphs are filled, and its picture is by edges alone.
+-- With every fit but Best no dropouts of a line's glyphs are filled, and its picture is by edges alone.
 use Rattle.std.proofs.Common.{◌≡◌, ◌≢◌, ◌∙◌, refl, sym, ap, subst, ℕ, ◌==◌, Bool, true, false, List, [], ◌∷◌, ◌++◌, map, pos, Option, None, Result, Ok}
 use Rattle.std.proofs.lemmas.List.Elements.{All-nil, All-cons}
 use Rattle.tt_core.specs.Chains.{came-through}
@@ -24,7 +24,7 @@ use Rattle.tt_strike.proofs.Alike.{rows_alike}
 use Rattle.tt_strike.proofs.Beside.{unfilled_are_edges}
 use Rattle.tt_strike.proofs.Whole.{of-font, of-job}
 
--- what tt_fit says of them
+-- the laws of tt_fit used here
 pub record FillLaws : Type 0 where
   pub none : fit_laws.OthersFillNone
   pub stay : fit_laws.RulesStay
@@ -78,7 +78,7 @@ others_fill_none laws face a line s glyphs other is fitted =
     all_unfilled (fitter_for s numbers) line.glyphs glyphs
     (λ g unfitted o. kept_for laws s numbers g unfitted o ∙ none unfitted o other by_programs.rest) fitted
 
--- the picture then
+-- the picture of unfilled glyphs
 same_by_edges : (f : Frame) (glyphs : List Shape) → AreUnfilled glyphs → picture f glyphs ≡ edges_picture f glyphs
 same_by_edges f glyphs none = ap (λ bytes. p4_header_of f.width f.height ++ bytes)
     (rows_alike f.width f.height (is_black_pixel f glyphs)

@@ -1,4 +1,4 @@
--- A font from which there is something to be written has no defect.
+-- A font that gives bytes to write has no defect.
 use Rattle.std.proofs.Common.{◌≡◌, ℕ, nat_lt, List, length, map, Option, Some, None, Result, Ok, Err, inl, inr, subst, sym}
 use Rattle.tt_cmap.specs.Defects.{IsBadCmap}
 use Rattle.tt_cmap.specs.Laws.{CmapsAreWhole}
@@ -28,7 +28,7 @@ use Rattle.tt_strike.specs.Refusals.{as_font, as_job}
 use Rattle.tt_strike.specs.Picture.{setting, setting_in, points_tested, shapes_in, line_shapes, drawn, pictured, pictured_by}
 use Rattle.tt_strike.proofs.Telling.{no_setting_defect, no_line_defect, no_run_defect}
 
--- what the layers below say of what they give
+-- the laws of the crates below about their results
 pub record FontLaws : Type 0 where
   pub directories : DirectoriesAreWhole
   pub files : DirectoriesAreFiles
@@ -118,7 +118,7 @@ setting-whole laws face a s was =
     (glyph-tables-whole laws face.directory face.metrics by_tables.value by_tables.first)
     (programs-whole face.directory a.fit by_programs.value by_programs.first) by_programs.first by_programs.rest
 
--- what was given of a font or of a job was not refused
+-- a result of a font or of a job was not refused
 pub of-font : {X : Type 0} (r : Result X Fault) (x : X) → as_font r ≡ Ok x → r ≡ Ok x
 of-font (Ok y) x was = cc
 of-font (Err f) x was = absurd cc

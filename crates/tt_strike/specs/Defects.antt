@@ -24,17 +24,17 @@ use Rattle.tt_strike.specs.Refusals.{needs_font}
 use Rattle.tt_strike.specs.Picture.{setting_in, shapes_in, frame_of}
 use Rattle.tt_strike.specs.Work.{crossings_in, is_bounded, points_in}
 
--- a defect of the directory, or of a table that every text is looked up in
+-- a defect of the directory, or of a table needed for every text
 abbrev pub IsFaceDefect : List ℕ → Fault → Type 0
 IsFaceDefect file fault = IsDirectoryDefect file fault ⊎ IsMetricsDefect file fault
     ⊎ IsDefectIn file cmap_tag IsBadCmap fault
 
--- a defect of loca, or of where glyf stands
+-- a defect of loca, or of glyf's place in the file
 abbrev pub IsGlyphTableDefect : List ℕ → Metrics → Fault → Type 0
 IsGlyphTableDefect directory m fault = IsDefectIn directory loca_tag (λ loca. IsLocaDefect loca m) fault
     ⊎ IsTableDefect directory glyf_tag fault
 
--- a defect of one of some glyphs, or of a component that is reached from it, by what each is made from
+-- a defect of one of some glyphs, or of a component reached from it, by the fitter of each
 abbrev pub IsGlyphDefect : (ℕ → Fitter) → List ℕ → Fault → Type 0
 IsGlyphDefect maker glyphs fault = (i : ℕ) × (i < length glyphs)
     × IsOutlineDefect (maker (slice_index glyphs i)) (slice_index glyphs i) fault
@@ -44,35 +44,35 @@ abbrev pub HasProgramPastEnd : List ℕ → Fault → Type 0
 HasProgramPastEnd directory fault = PassesEnd directory cvt_tag fault ⊎ PassesEnd directory fpgm_tag fault
     ⊎ PassesEnd directory prep_tag fault
 
--- a defect of where the programs stand; without fitting none is looked at
+-- a defect of the programs' places; with None they are not read
 abbrev pub IsProgramTableDefect : List ℕ → Fit → Fault → Type 0
 IsProgramTableDefect directory fit.None fault = ⊥
 IsProgramTableDefect directory fit.Full fault = HasProgramPastEnd directory fault
 IsProgramTableDefect directory fit.Fallback fault = HasProgramPastEnd directory fault
 IsProgramTableDefect directory fit.Best fault = HasProgramPastEnd directory fault
 
--- what the font program and the control value program leave at the size is this fault; with fallback and best it is
--- kept, and no defect
+-- this fault of the font program or the control value program at the size; with fallback and best it is recorded, and
+-- no defect
 abbrev pub IsPreparationDefect : Face → Job → Fault → Type 0
 IsPreparationDefect face a fault = IsOkAnd (programs_in face.directory a.fit)
     (λ programs. prepared face.metrics programs a.ppem a.fit ≡ Err fault)
 
--- a defect of what outlines are made from
+-- a defect of the fitter's tables and programs
 abbrev pub IsSettingDefect : Face → Job → Fault → Type 0
 IsSettingDefect face a fault = IsGlyphTableDefect face.directory face.metrics fault
     ⊎ IsProgramTableDefect face.directory a.fit fault ⊎ IsPreparationDefect face a fault
 
--- a defect of what some glyphs are drawn from
+-- a defect that stops some glyphs from being drawn
 abbrev pub IsLineDefect : Face → Job → List ℕ → Fault → Type 0
 IsLineDefect face a glyphs fault = IsSettingDefect face a fault ⊎ IsOkAnd (setting_in face a)
     (λ s. IsGlyphDefect (line_fitter s glyphs) glyphs fault)
 
--- a defect of what every text is looked up in, or of what the glyphs of this one are drawn from
+-- a defect of the tables needed for every text, or of this text's glyphs
 abbrev pub IsRunDefect : Job → List ℕ → Fault → Type 0
 IsRunDefect a file fault = IsFaceDefect file fault ⊎ IsOkAnd (face_of file)
     (λ face. IsLineDefect face a (text_glyphs face.cmap a.text) fault)
 
--- Ok means that there is no defect, and a fault that an error tells is one
+-- Ok means that there is no defect, and an error's fault is one
 abbrev pub TellsDefects : {V E : Type 0} → (E → Option Fault) → (Fault → Type 0) → Result V E → Type 0
 TellsDefects told IsOne (Ok v) = HasNo IsOne
 TellsDefects told IsOne (Err e) = IfSome (told e) IsOne
@@ -89,32 +89,32 @@ draw_job_fault (draw.Font f) = None
 draw_job_fault (draw.Job j) = Some j
 draw_job_fault draw.Memory = None
 
--- the fact for which the extent of a picture is refused
+-- the fact that refuses the extent of a picture
 abbrev pub IsExtentRefusal : Face → Job → JobFault → Type 0
 IsExtentRefusal face a j = IsRefusal (extent_of face.metrics a.ppem a.margin (text_glyphs face.cmap a.text)) j
 
--- the glyphs of a line that is laid out are made of too many points
+-- the glyphs of a line that is laid out have too many points
 abbrev pub HasTooManyPoints : Face → Job → Placement → Type 0
 HasTooManyPoints face a line = IsOkAnd (setting_in face a)
     (λ s. point_work_limit < points_in s (map (λ g. g.0) line.glyphs))
 
--- or cross the rows of its picture too often
+-- they cross the rows of its picture too often
 abbrev pub CrossesTooOften : Face → Job → Placement → Type 0
 CrossesTooOften face a line = IsOkAnd (setting_in face a)
     (λ s. IsOkAnd (shapes_in s line) (λ glyphs. crossing_limit < crossings_in (frame_of line a.margin) glyphs))
 
--- the work of the job is bounded, and its line is more
+-- the job's work is bounded, and its line exceeds it
 abbrev pub IsTooMuchWork : Face → Job → Placement → Type 0
 IsTooMuchWork face a line =
     (is_bounded a.fit ≡ true) × (HasTooManyPoints face a line ⊎ CrossesTooOften face a line)
 
--- the fact for which a job is refused by a font: the extent of its picture, or the work of its glyphs
+-- the fact by the font that refuses a job: the extent of its picture, or the work of its glyphs
 abbrev pub IsFontRefusal : Face → Job → JobFault → Type 0
 IsFontRefusal face a fault.WorkLarge = IsOkAnd (placement face.metrics face.cmap a.text a.ppem a.margin)
     (IsTooMuchWork face a)
 IsFontRefusal face a j = IsExtentRefusal face a j
 
--- the fact for which a line is refused, alone or by its font
+-- the fact that refuses a line, with its font or without
 abbrev pub IsRefusedLine : Bool → Face → Job → JobFault → Type 0
 IsRefusedLine true face a j = IsFontRefusal face a j
 IsRefusedLine false face a j = IsTestRefusal a j

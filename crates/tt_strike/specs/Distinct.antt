@@ -1,9 +1,9 @@
--- No part of the standard: the distinct glyphs of a line, in order of first appearance, and what each is made from: what
--- those before it left (profile).
+-- No part of the standard: the distinct glyphs of a line, in order of first appearance, each with the fitter that the
+-- glyphs before it leave (profile).
 use Rattle.std.specs.Prelude.{◌≡◌, refl, ℕ, Bool, false, ◌||◌, ◌==◌, if◌then◌else◌, List, [], ◌∷◌, ◌++◌}
 use Rattle.tt_fit.specs.Fitting.{Fitter, after_glyph}
 
--- a glyph stands among some
+-- a glyph is among some
 abbrev pub is_among : ℕ → List ℕ → Bool
 is_among g [] = false
 is_among g (h ∷ hs) = (h == g) || is_among g hs
@@ -20,25 +20,25 @@ distinct_after before (g ∷ gs) = distinct_after (with_glyph before g) gs
 abbrev pub distinct : List ℕ → List ℕ
 distinct gs = distinct_after [] gs
 
--- what is left where some glyphs were made, one after the other
+-- the fitter after some glyphs were made, one after the other
 abbrev pub fitter_after : Fitter → List ℕ → Fitter
 fitter_after s [] = s
 fitter_after s (g ∷ gs) = fitter_after (after_glyph s g) gs
 
--- what is left after a glyph, unless it is one of those that are made already
+-- the fitter after a glyph, unless it was made already
 abbrev pub fitter_past : Fitter → List ℕ → ℕ → Fitter
 fitter_past s before g = if is_among g before then s else after_glyph s g
 
--- what one of some glyphs is made from, which are made in this order
+-- the fitter for one of some glyphs, which are made in this order
 abbrev pub fitter_for : Fitter → List ℕ → ℕ → Fitter
 fitter_for s [] g = s
 fitter_for s (h ∷ hs) g = if h == g then s else fitter_for (after_glyph s h) hs g
 
--- what each glyph of a line is made from
+-- the fitter for each glyph of a line
 abbrev pub line_fitter : Fitter → List ℕ → ℕ → Fitter
 line_fitter s gs g = fitter_for s (distinct gs) g
 
--- where the glyph is not made yet, it is made from this
+-- a glyph not made yet is made with this fitter
 abbrev pub IsNext : (ℕ → Fitter) → Fitter → List ℕ → ℕ → Type 0
 IsNext maker s before g = is_among g before ≡ false → maker g ≡ s
 

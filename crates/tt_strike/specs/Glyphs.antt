@@ -1,5 +1,4 @@
--- No part of the standard: the distinct glyphs of a line, each with its edges where its pen is 0 and the pens at which
--- it stands.
+-- No part of the standard: the distinct glyphs of a line, each with its edges at pen 0, and with its pens.
 use Rattle.std.specs.Prelude.{◌≡◌, ℕ, ◌<◌, ◌≤◌, ◌-◌, ◌+◌, ◌*◌, ◌^◌, Bool, false, ◌||◌, List, [], ◌∷◌, length, map, slice_index, pos, All, IfSome, Option, Ok, ⊤}
 use Rattle.tt_core.specs.Bits.{stride}
 use Rattle.tt_core.specs.Faults.{Fault}
@@ -23,7 +22,7 @@ use Rattle.tt_strike.specs.Pixels as pixels
 use Rattle.tt_strike.specs.Pixels.{Drawn, Shape, Stamp, TapeFits, is_black_by, is_filled, is_filled_by, some_black, some_filled}
 use Rattle.tt_strike.specs.Work.{crossings_in, filling_crossings}
 
--- what a glyph blackens rows with: a tape of its edges, or the black columns of its lines
+-- the part of a glyph that blackens rows: a tape of its edges, or the black columns of its lines
 pub data Body : Type 0 where
   tape : Tape → Body
   raster : Raster → Body
@@ -40,13 +39,13 @@ abbrev pub IsTape : Body → Type 0
 IsTape (tape t) = ⊤
 IsTape (raster k) = ⊥
 
--- how far the pens of a glyph are moved, so that they count from where its body has its columns
+-- added to every pen: 0 for a tape, the margin for a raster
 abbrev pub left_of : Frame → Body → ℕ
 left_of f (tape t) = 0
 left_of f (raster k) = f.margin
 
--- a glyph by its number in the font, with what it blackens rows with, by which rules its dropouts are filled, where its
--- contours end among the edges if they are, how far its pens are moved, these, and the fault for which it is not fitted
+-- a glyph by its number in the font: its body, its dropout rules, and the ends of its contours among the edges if
+-- dropouts are filled. Then the number added to its pens, the pens, and the fault that makes it unfitted
 pub record Glyph : Type 0 where
   pub number : ℕ
   pub body : Body
@@ -56,7 +55,7 @@ pub record Glyph : Type 0 where
   pub pens : List ℕ
   pub unfitted : Option Fault
 
--- what it blackens a picture with
+-- the stamp that a glyph blackens a picture with
 abbrev pub stamp_of : Glyph → Stamp
 stamp_of g = record {
   drawn = drawn_of g.body;
@@ -82,8 +81,8 @@ abbrev pub BodyFits : Frame → ℕ → Body → Type 0
 BodyFits f asked (tape t) = TapeFits f asked t
 BodyFits f asked (raster k) = ⊤
 
--- a glyph has the body of its outline, dropouts as its contours have them, and the fault for which it is not fitted; it
--- is a tape where glyphs are not kept from line to line
+-- a glyph has the body of its outline, dropouts by its contours, and the fault that makes it unfitted; without a cache
+-- it is a tape
 pub record IsDrawn (keeps : Bool) (s : Fitter) (f : Frame) (g : Glyph) : Type 0 where
   pub shape : Outline
   pub unfitted : g.unfitted ≡ unfitted_fault s g.number
@@ -101,8 +100,8 @@ pub record IsDrawn (keeps : Bool) (s : Fitter) (f : Frame) (g : Glyph) : Type 0 
 abbrev pub AreWithin : List Glyph → Type 0
 AreWithin gs = All (λ g. All (λ pen. pen ≤ width_limit + g.left) g.pens) gs
 
--- the dropouts of a glyph can be asked for: it is a tape, its contours end among the edges and are closed, and its pens
--- lie within the width of a picture
+-- a glyph's dropouts can be found: it is a tape, its contours end among the edges and are closed, and its pens lie
+-- within the width of a picture
 pub record CanBeFilled (g : Glyph) : Type 0 where
   pub few : length (edges_of g.body) ≤ 2 ^ 17
   pub tape : IfSome g.filled (λ rules. IsTape g.body)
@@ -110,7 +109,7 @@ pub record CanBeFilled (g : Glyph) : Type 0 where
   pub closed : IfSome g.filled (λ rules. All IsClosed (contours_at (edges_of g.body) g.ends))
   pub pens : IfSome g.filled (λ rules. All (λ pen. pen ≤ width_limit) g.pens)
 
--- the box of what a tape of a glyph blackens where its pen is 0
+-- the box of a glyph's black pixels at pen 0
 abbrev pub ink_standing : Glyph → Option GlyphInk
 ink_standing g = ink_by (edges_of g.body) (contours_at (edges_of g.body) g.ends) g.filled
 
@@ -118,7 +117,7 @@ ink_standing g = ink_by (edges_of g.body) (contours_at (edges_of g.body) g.ends)
 abbrev pub shows_by : Frame → List Stamp → List Dropout → ℕ → ℕ → Bool
 shows_by f stamps ds c r = is_black_by f stamps c r || is_among ds c r
 
--- the rows of a picture of some glyphs and dropouts, one after the other: so many bytes of them, from a byte on
+-- bytes of the rows of a picture of some glyphs and dropouts: from a byte on, this many
 abbrev pub rows_by : Frame → List Glyph → List Dropout → ℕ → ℕ → List ℕ
 rows_by f gs ds from len = rows f.width (shows_by f (stamps_in gs) ds) from len
 
@@ -128,8 +127,8 @@ row_of f gs ds r = rows_by f gs ds (stride f.width * r) (stride f.width)
 abbrev pub all_rows : Frame → List Glyph → List Dropout → List ℕ
 all_rows f gs ds = rows_by f gs ds 0 (stride f.width * f.height)
 
--- how often a glyph crosses the rows of the picture, and the lines that are asked for its dropouts, at a pen and at all;
--- a raster is cut already
+-- how often a glyph crosses the rows of the picture, and the lines searched for its dropouts, at one pen and at all; a
+-- raster is cut already
 abbrev pub body_crossings : Body → Option Rules → ℕ
 body_crossings (tape t) filled = crossings_of t.frame t.edges + filling_crossings filled t.edges
 body_crossings (raster k) filled = 0
@@ -140,20 +139,19 @@ pen_crossings g = body_crossings g.body g.filled
 abbrev pub glyph_crossings : Glyph → ℕ
 glyph_crossings g = pen_crossings g * length g.pens
 
--- and some glyphs
+-- the crossings of some glyphs
 abbrev pub crossings_standing : List Glyph → ℕ
 crossings_standing [] = 0
 crossings_standing (g ∷ gs) = glyph_crossings g + crossings_standing gs
 
--- some glyphs at their pens blacken the pixels that these do, have the same dropouts, and, where none is kept, cross as
--- many lines
+-- two lists of glyphs give the same picture and dropouts, and without a cache cost the same crossings
 pub record Stand (keeps : Bool) (f : Frame) (gs : List Glyph) (shapes : List Shape) : Type 0 where
   pub black : (c r : ℕ) → c < 2 ^ 62 → is_black_by f (stamps_in gs) c r
       ≡ some_black shapes (column_x f.margin (pos c)) (row_y f (pos r))
   pub dropouts : (c r : ℕ) → is_filled_by f (stamps_in gs) c r ≡ some_filled f shapes c r
   pub crossings : keeps ≡ false → crossings_standing gs ≡ crossings_in f shapes
 
--- some do what those before them did and one more does
+-- a list of glyphs adds one shape to the list before it
 pub record Adds (keeps : Bool) (f : Frame) (before after : List Glyph) (s : Shape) : Type 0 where
   pub black : (c r : ℕ) → c < 2 ^ 62 → is_black_by f (stamps_in after) c r
       ≡ (is_black_by f (stamps_in before) c r || is_black s.edges (column_x f.margin (pos c)) (row_y f (pos r)))
@@ -162,24 +160,22 @@ pub record Adds (keeps : Bool) (f : Frame) (before after : List Glyph) (s : Shap
   pub crossings : keeps ≡ false → crossings_standing after
       ≡ crossings_standing before + (crossings_of f s.edges + filling_crossings s.filled s.edges)
 
--- for each glyph of the font one more than its place among some numbers, or 0 where it has none
+-- for each glyph of the font 0, or one more than its place among some numbers
 pub record ArePlaces (table numbers : List ℕ) : Type 0 where
   pub within : (n : ℕ) → slice_index table n ≤ length numbers
   pub found : (n : ℕ) → 0 < slice_index table n → slice_index numbers (slice_index table n - 1) ≡ n
   pub there : (i : ℕ) → i < length numbers → slice_index table (slice_index numbers i) ≡ i + 1
 
--- a glyph of which so many crossings were asked for at most, on a tape of the frame, with no more edges than a sweep
--- has memory for
+-- a glyph with at most `asked` crossings, on a tape of the frame, with no more edges than a sweep has memory for
 pub record GlyphFits (f : Frame) (asked most : ℕ) (g : Glyph) : Type 0 where
   pub body : BodyFits f asked g.body
   pub room : length (edges_of g.body) ≤ most
 
--- each glyph is drawn as it is made
+-- each glyph is drawn by its fitter
 abbrev pub AreDrawn : Bool → (ℕ → Fitter) → Frame → List Glyph → Type 0
 AreDrawn keeps maker f gs = All (λ g. IsDrawn keeps (maker g.number) f g) gs
 
--- what is kept of a line, in a font of so many glyphs: the places of its glyphs, and these, whose pens are moved by no
--- more than a margin
+-- a line's glyphs and the table of their places, in a font of this many glyphs; at most a margin is added to their pens
 pub record AreKept (glyphs : ℕ) (table : List ℕ) (gs : List Glyph) : Type 0 where
   pub room : length table ≡ glyphs
   pub places : ArePlaces table (numbers_of gs)

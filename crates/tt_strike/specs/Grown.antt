@@ -1,4 +1,4 @@
--- No part of the standard: the picture of a line that is made larger on each side, so that no ink is cut (profile).
+-- No part of the standard: a line's picture enlarged on each side so that no ink is cut (profile).
 use Rattle.std.specs.Prelude.{◌≡◌, refl, ℕ, suc, ◌+◌, ◌-◌, nat_lt, ◌||◌, if◌then◌else◌, ℤ, pos, negsuc, ◌+ℤ◌, List, [], ◌∷◌, map, Option, Some, None, Result, Ok, Err}
 use Rattle.tt_core.specs.declared.fault.JobFault.{JobFault}
 use Rattle.tt_core.specs.declared.fault.JobFault.TheVariants as fault
@@ -13,7 +13,7 @@ use Rattle.tt_strike.specs.Tables.{Face}
 use Rattle.tt_strike.specs.declared.growing.Sides.{Sides}
 use Rattle.tt_strike.specs.declared.ink_box.InkBox.{InkBox}
 
--- how many columns or rows a place lies before the first, and past the last of so many
+-- how many columns or rows a place lies before the first, and past the last of this many
 abbrev pub before : ℤ → ℕ
 before (pos n) = 0
 before (negsuc n) = suc n
@@ -22,7 +22,7 @@ abbrev pub past : ℕ → ℤ → ℕ
 past count (pos n) = (n + 1) - count
 past count (negsuc n) = 0
 
--- the least columns and rows that a picture of this size lacks on each side for a box
+-- the fewest columns and rows that a picture of this size lacks on each side to hold a box
 abbrev pub lacking : ℕ → ℕ → InkBox → Sides
 lacking width height b = record {
   left = before b.left;
@@ -31,7 +31,7 @@ lacking width height b = record {
   bottom = past height b.bottom;
 }
 
--- a line with so many columns and rows more on each side
+-- a line with these columns and rows added on each side
 abbrev pub with_sides : Placement → Sides → Placement
 with_sides line s = record {
   width = line.width + s.left + s.right;
@@ -54,15 +54,15 @@ grown line (Some b) = not_large (with_sides line (lacking line.width line.height
 unfoldable pub grown_line : Face → Job → Placement → Result Placement Refused
 grown_line face a line = measured_line face a line >>= λ m. as_job (grown line m.ink)
 
--- that of a text by a font's tables, or the first refusal
+-- the enlarged line of a text by a font's tables, or the first refusal
 unfoldable pub grown_placement : Face → Job → Result Placement Refused
 grown_placement face a = laid_out face a >>= λ line. grown_line face a line
 
--- and its picture
+-- its picture
 unfoldable pub grown_outcome : Face → Job → Result (List ℕ) Refused
 grown_outcome face a = grown_placement face a >>= λ line. drawn face a line
 
--- and the measure of that picture
+-- the measure of its picture
 unfoldable pub grown_measured : Face → Job → Result Measure Refused
 grown_measured face a = grown_placement face a >>= λ line. measured_line face a line
 

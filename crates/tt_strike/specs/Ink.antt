@@ -1,5 +1,5 @@
--- No part of the standard: where the ink of a line stands in its picture. It is the least box of the pixels that are
--- black, those outside the picture too.
+-- No part of the standard: the ink of a line in its picture, as the least box of the black pixels, those outside the
+-- picture too.
 use Rattle.std.specs.Prelude.{◌≡◌, refl, ℕ, ◌+◌, ℤ, pos, negsuc, ◌+ℤ◌, ◌-ℤ◌, List, [], ◌∷◌, Option, Some, None, Result, Ok, Err}
 use Rattle.std.specs.Int.{int_max, int_min}
 use Rattle.tt_core.specs.Faults.{Fault}
@@ -19,11 +19,11 @@ abbrev pub filled_ink : Option Rules → List (List Edge) → List Edge → Opti
 filled_ink None contours es = None
 filled_ink (Some rules) contours es = dropouts_ink rules contours es
 
--- the box of all that a glyph blackens
+-- the box of all black pixels of a glyph
 abbrev pub ink_by : List Edge → List (List Edge) → Option Rules → Option GlyphInk
 ink_by es contours filled = ink.joined (edges_ink es) (filled_ink filled contours es)
 
--- the same where its pen is 0, by what it is made from; a glyph without an outline has none
+-- the box at pen 0, by its fitter; a glyph without an outline has none
 abbrev pub outline_ink : Fitter → ℕ → Result Outline Fault → Option GlyphInk
 outline_ink s g (Ok o) = ink_by (edges_at 0 o) (contours_of 0 o) (filled_by s g o)
 outline_ink s g (Err fault) = None
@@ -31,14 +31,14 @@ outline_ink s g (Err fault) = None
 unfoldable pub glyph_ink : Fitter → ℕ → Option GlyphInk
 glyph_ink s g = outline_ink s g (fitted_outline s g)
 
--- the column and the row of a picture that column c and line j from a pen are
+-- the column and the row of a picture for column c and line j from a pen
 abbrev pub column_of : Frame → ℕ → ℤ → ℤ
 column_of f pen c = c +ℤ pos (pen + f.margin)
 
 abbrev pub row_of : Frame → ℤ → ℤ
 row_of f j = ((f.rise +ℤ pos f.margin) -ℤ pos 1) -ℤ j
 
--- where the ink of a glyph at a pen stands in a picture
+-- the box of a glyph's ink at a pen in a picture
 abbrev pub box_at : Frame → ℕ → GlyphInk → InkBox
 box_at f pen b = record {
   left = column_of f pen b.left;
@@ -65,12 +65,12 @@ joined None b = b
 joined (Some a) None = Some a
 joined (Some a) (Some b) = Some (joined_boxes a b)
 
--- and the boxes that there are of some, one after the other
+-- the least box of those that exist among some
 abbrev pub all_joined : Option InkBox → List (Option InkBox) → Option InkBox
 all_joined so_far [] = so_far
 all_joined so_far (b ∷ bs) = all_joined (joined so_far b) bs
 
--- worked values: a picture of five rows, whose base line stands under the third, with a margin of one pixel
+-- worked values: a picture of five rows, whose base line is under the third, with a margin of one pixel
 five_rows : Frame
 five_rows = record { width = 9; height = 5; margin = 1; rise = pos 2 }
 

@@ -1,4 +1,4 @@
--- No part of the standard: what is asked of a call, and the tests that a job passes before the font is read (profile).
+-- No part of the standard: the job of a call, and the tests of a job before the font is read (profile).
 use Rattle.std.specs.Prelude.{◌≡◌, refl, ℕ, ◌<◌, ◌≤◌, ◌||◌, nat_lt, if◌then◌else◌, List, length, chars, codes, Result, Ok, Err, ◌⊎◌}
 use Rattle.tt_core.specs.declared.fault.JobFault.{JobFault}
 use Rattle.tt_core.specs.declared.fault.JobFault.TheVariants as fault
@@ -29,7 +29,7 @@ size_tested ppem = if nat_lt ppem 1 || nat_lt size_limit ppem then Err fault.Siz
 unfoldable pub margin_tested : ℕ → Result (Unit {0}) JobFault
 margin_tested margin = if nat_lt margin_limit margin then Err fault.MarginRange else Ok tt
 
--- the limits of a job, in the order in which they are tested
+-- the limits of a job, in the order of their tests
 unfoldable pub tested : Job → Result (Unit {0}) JobFault
 tested a = size_tested a.ppem >>= λ u. margin_tested a.margin >>= λ u. text_tested a.text
 
@@ -40,11 +40,11 @@ pub record IsJob (a : Job) : Type 0 where
   pub margin : a.margin ≤ margin_limit
   pub text : length (chars a.text) ≤ text_limit
 
--- the fact for which a size is refused
+-- the fact that refuses a size
 abbrev pub IsSizeRefusal : ℕ → JobFault → Type 0
 IsSizeRefusal ppem j = (j ≡ fault.SizeRange) × ((ppem < 1) ⊎ (size_limit < ppem))
 
--- the fact for which a job is refused before the font is read
+-- the fact that refuses a job before the font is read
 abbrev pub IsTestRefusal : Job → JobFault → Type 0
 IsTestRefusal a fault.SizeRange = (a.ppem < 1) ⊎ (size_limit < a.ppem)
 IsTestRefusal a fault.MarginRange = margin_limit < a.margin

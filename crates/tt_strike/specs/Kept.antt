@@ -1,4 +1,4 @@
--- No part of the standard: glyphs that are kept from line to line.
+-- No part of the standard: glyphs cached from line to line.
 use Rattle.std.specs.Prelude.{◌≡◌, ℕ, List, All, None, Ok}
 use Rattle.tt_fit.specs.Fitting.{Fitter, fitted_outline, unfitted_fault}
 use Rattle.tt_fit.specs.Outline.{Outline}
@@ -6,8 +6,8 @@ use Rattle.tt_scan_rows.specs.Raster.{IsRasterOf}
 use Rattle.tt_strike.specs.Picture.{edges_at, filled_by}
 use Rattle.tt_strike_kept.specs.Glyph.{KeptGlyph}
 
--- a glyph of this number is kept as it is made: its raster is that of its outline, no dropouts of it are filled, and its
--- work is not bounded
+-- the cached glyph of this number equals the one made anew: its raster is that of its outline, none of its dropouts are
+-- filled, and its work is not bounded
 pub record IsKept (s : Fitter) (number : ℕ) (g : KeptGlyph) : Type 0 where
   pub shape : Outline
   pub outline : fitted_outline s number ≡ Ok shape
@@ -16,6 +16,6 @@ pub record IsKept (s : Fitter) (number : ℕ) (g : KeptGlyph) : Type 0 where
   pub filled : filled_by s number shape ≡ None
   pub unbounded : s.work ≡ None
 
--- and all that are kept
+-- all cached glyphs do
 abbrev pub AreKeptFor : Fitter → List (ℕ × KeptGlyph) → Type 0
 AreKeptFor s entries = All (λ e. IsKept s e.0 e.1) entries

@@ -1,6 +1,5 @@
--- Laws of the definitions: where there is a picture, the font has no defect; only fallback and best leave a
--- glyph that is not fitted; which pixels are black with another margin, beside other glyphs, and where no dropouts are
--- filled.
+-- Laws of the definitions. A font with a picture has no defect, and only fallback and best make a glyph unfitted. The
+-- others say which pixels are black with another margin, beside other glyphs, and without filled dropouts.
 use Rattle.std.specs.Prelude.{◌≡◌, ◌≢◌, refl, ℕ, ◌+◌, ◌||◌, true, false, pos, All, List, [], ◌∷◌, ◌++◌, ◌↔◌, codes, Option, Some, None, Ok, Err}
 use Rattle.std.specs.Fmt.{digits}
 use Rattle.tt_core.specs.Directory.{HasNo}
@@ -26,29 +25,30 @@ use Rattle.tt_strike.specs.Pixels.{Shape, some_black, is_black_pixel}
 use Rattle.tt_strike.specs.Report.{report_of}
 use Rattle.tt_strike.specs.Tables.{Face, face_of}
 
--- where a file has the tables of a font, no defect stands in them
+-- a file with the tables of a font has no defect in them
 abbrev pub FacesAreWhole : Type 0
 FacesAreWhole = (file : List ℕ) (face : Face) → face_of file ≡ Ok face → HasNo (IsFaceDefect file)
 
--- where a job has a picture by a font file, no defect of the job stands in it
+-- a font file that gives a job's picture has no defect for the job
 abbrev pub DrawnFontsAreWhole : Type 0
 DrawnFontsAreWhole = (a : Job) (file bytes : List ℕ) → pictured a file ≡ Ok bytes → HasNo (IsRunDefect a file)
 
--- where glyphs are fitted in a way that doesn't fall back, none is listed as not fitted
+-- with a fit that does not fall back, no glyph is listed as unfitted
 abbrev pub OthersListNothing : Type 0
 OthersListNothing = (a : Job) (file : List ℕ) (entries : List Unfitted) → report_of a file ≡ Ok entries
     → falls_back a.fit ≡ false → entries ≡ []
 
--- a margin that is greater by m moves each pixel by as much, and changes nothing else
+-- a margin greater by m moves each pixel by m, and changes nothing else
 abbrev pub MarginMoves : Type 0
 MarginMoves = (f g : Frame) (m : ℕ) (glyphs : List Shape) (c r : ℕ) → g.margin ≡ f.margin + m → g.rise ≡ f.rise
     → is_black_pixel g glyphs (c + m) (r + m) ≡ is_black_pixel f glyphs c r
 
--- a text is measured where it has a picture, and refused for the same
+-- a text is measured exactly where it has a picture, and refused for the same reason
 abbrev pub MeasuredAsDrawn : Type 0
 MeasuredAsDrawn = (face : Face) (a : Job) (r : Refused) → line_outcome face a ≡ Err r ↔ measured face a ≡ Err r
 
--- a line with so many columns and rows more on each side has its pixels so far to the right and down, and no others there
+-- a line with added columns and rows has its pixels moved right and down by those on the left and the top, and no
+-- others there
 abbrev pub SidesMove : Type 0
 SidesMove = (maker : ℕ → Fitter) (line : Placement) (s : Sides) (margin : ℕ) (glyphs larger : List Shape) (c r : ℕ)
     → each (glyph_shape maker) line.glyphs ≡ Ok glyphs
@@ -56,7 +56,7 @@ SidesMove = (maker : ℕ → Fitter) (line : Placement) (s : Sides) (margin : �
     → is_black_pixel (frame_of (with_sides line s) margin) larger (c + s.left) (r + s.top)
     ≡ is_black_pixel (frame_of line margin) glyphs c r
 
--- what is black of some glyphs and others is what is black of either
+-- the black pixels of two lists of glyphs together are those of either
 abbrev pub GlyphsByThemselves : Type 0
 GlyphsByThemselves = (f : Frame) (glyphs others : List Shape) (c r : ℕ)
     → is_black_pixel f (glyphs ++ others) c r ≡ (is_black_pixel f glyphs c r || is_black_pixel f others c r)
@@ -65,21 +65,21 @@ GlyphsByThemselves = (f : Frame) (glyphs others : List Shape) (c r : ℕ)
 abbrev pub AreUnfilled : List Shape → Type 0
 AreUnfilled glyphs = All (λ s. s.filled ≡ None) glyphs
 
--- such are black where their edges blacken, and nowhere else
+-- unfilled glyphs are black exactly where their edges blacken
 abbrev pub UnfilledAreEdges : Type 0
 UnfilledAreEdges = (f : Frame) (glyphs : List Shape) (c r : ℕ) → AreUnfilled glyphs
     → is_black_pixel f glyphs c r ≡ some_black glyphs (column_x f.margin (pos c)) (row_y f (pos r))
 
--- with every way of fitting but Best the glyphs of a line are such
+-- with every fit but Best the glyphs of a line are unfilled
 abbrev pub OthersFillNone : Type 0
 OthersFillNone = (face : Face) (a : Job) (line : Placement) (s : Fitter) (glyphs : List Shape) → a.fit ≢ fit.Best
     → setting_in face a ≡ Ok s → shapes_in s line ≡ Ok glyphs → AreUnfilled glyphs
 
--- the file of a picture in which some glyphs are drawn as if there were no dropout control
+-- the file of a picture in which some glyphs are drawn without dropout control
 abbrev pub edges_picture : Frame → List Shape → List ℕ
 edges_picture f glyphs = p4 f.width f.height (λ c r. some_black glyphs (column_x f.margin (pos c)) (row_y f (pos r)))
 
--- that is the picture of a job by a font file, of the glyphs that its definition has
+-- these bytes are that file for a job, a font file and the glyphs of the definition
 pub record IsByEdges (a : Job) (file bytes : List ℕ) : Type 0 where
   pub face : Face
   pub line : Placement

@@ -1,4 +1,4 @@
--- No part of the standard: the glyphs of a line that is laid out, made and tested before they are drawn or measured.
+-- No part of the standard: the glyphs of a laid-out line, made and tested before they are drawn or measured.
 use Rattle.std.specs.Prelude.{◌≡◌, Bool, List, map, Result, Ok}
 use Rattle.tt_core.specs.Outcomes.{◌>>=◌}
 use Rattle.tt_fit.specs.Fitting.{Fitter}
@@ -15,7 +15,7 @@ use Rattle.tt_strike.specs.Tables.{Face}
 abbrev pub shapes_made : Face → Job → Placement → Result (List Shape) Refused
 shapes_made face a line = as_font (setting_in face a) >>= λ s. line_shapes s a line
 
--- they are made and not refused: what from and as which, and that these are kept, each once and at its pens
+-- the line's glyphs are made without a refusal: the fitter, the shapes, and these glyphs, each once and at its pens
 pub record AreMade (keeps : Bool) (face : Face) (a : Job) (line : Placement) (gs : List Glyph) : Type 0 where
   pub setting : Fitter
   pub shapes : List Shape

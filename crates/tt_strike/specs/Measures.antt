@@ -1,5 +1,5 @@
--- No part of the standard: a line measured. Where its picture has the base line, and where each character and its ink
--- stand. Columns and rows are those of the picture.
+-- No part of the standard: the measure of a line: its base line, its characters and their ink, in columns and rows of
+-- the picture.
 use Rattle.std.specs.Prelude.{ℕ, ◌+◌, ℤ, pos, ◌+ℤ◌, List, map, Option, None, Result, Ok}
 use Rattle.tt_core.specs.Outcomes.{◌>>=◌}
 use Rattle.tt_fit.specs.Fitting.{Fitter}
@@ -17,7 +17,7 @@ use Rattle.tt_strike.specs.declared.ink_box.InkBox.{InkBox}
 use Rattle.tt_strike.specs.declared.measuring.CharacterMeasure.{CharacterMeasure}
 use Rattle.tt_strike.specs.declared.measuring.Measure as declared
 
--- the picture's size, how many of its rows lie above the base line, the box of all ink, and the characters in their order
+-- the picture's size, the number of its rows above the base line, the box of all ink, and the characters in their order
 pub record Measure : Type 0 where
   pub width : ℕ
   pub height : ℕ
@@ -34,7 +34,7 @@ measure_view m = record {
   characters = m.characters.items;
 }
 
--- a glyph at its pen, by the ink that each glyph has where its pen is 0
+-- a glyph at its pen, by the ink of each glyph at pen 0
 abbrev pub character_at : Metrics → ℕ → Frame → (ℕ → Option GlyphInk) → ℕ × ℕ → CharacterMeasure
 character_at m ppem f inked g = record {
   glyph = g.0;
@@ -47,7 +47,7 @@ character_at m ppem f inked g = record {
 abbrev pub ink_of : List CharacterMeasure → Option InkBox
 ink_of characters = all_joined None (map (λ c. c.ink) characters)
 
--- a line that is laid out, by the same
+-- the measure of a laid-out line, by the ink of each glyph
 abbrev pub measure_by : Metrics → ℕ → ℕ → (ℕ → Option GlyphInk) → Placement → Measure
 measure_by m ppem margin inked line =
     let f = frame_of line margin in
@@ -60,11 +60,11 @@ measure_by m ppem margin inked line =
       characters = characters;
     }
 
--- the ink of each glyph of a line, by what it is made from
+-- the ink of each glyph of a line, by its fitter
 abbrev pub line_ink : Fitter → Placement → ℕ → Option GlyphInk
 line_ink s line g = glyph_ink (line_fitter s (map (λ g. g.0) line.glyphs) g) g
 
--- the measure of a line that is laid out; it is refused where its picture is
+-- the measure of a laid-out line; it is refused exactly where its picture is
 unfoldable pub measured_line : Face → Job → Placement → Result Measure Refused
 measured_line face a line =
     as_font (setting_in face a) >>= λ s.

@@ -24,7 +24,7 @@ use Rattle.tt_strike.specs.Pixels.{Shape, is_black_pixel}
 use Rattle.tt_strike.specs.Tables.{Face, face_of, glyphs_in, programs_in}
 use Rattle.tt_strike.specs.Work.{crossings_in, points_in, work_tested}
 
--- what outlines are made from: the glyph data, and what the font's programs leave at the size
+-- the fitter: the glyph data, and the state after the font's programs at the size
 unfoldable pub setting : Face → ℕ → Fit → Result Fitter Fault
 setting face ppem how = do
   tables ← glyphs_in face.directory face.metrics
@@ -34,7 +34,7 @@ setting face ppem how = do
 abbrev pub setting_in : Face → Job → Result Fitter Fault
 setting_in face a = setting face a.ppem a.fit
 
--- the x of the first phantom point, which is to stand at the pen
+-- the x of the first phantom point, which is placed at the pen
 abbrev pub origin_of : Outline → ℤ
 origin_of o = o.phantom.left.0
 
@@ -42,27 +42,27 @@ origin_of o = o.phantom.left.0
 abbrev pub edges_at : ℕ → Outline → List Edge
 edges_at pen o = chord_edges o.points o.ends (pos (64 * pen) -ℤ origin_of o) (pos 0)
 
--- the same contour by contour
+-- the edges contour by contour
 abbrev pub contours_of : ℕ → Outline → List (List Edge)
 contours_of pen o = chord_contours o.points o.ends (pos (64 * pen) -ℤ origin_of o) (pos 0)
 
--- the rules by which dropouts are filled, as the scan converter takes them
+-- the dropout rules in the scan converter's type
 abbrev pub rules_for : Option DropoutRules → Option Rules
 rules_for None = None
 rules_for (Some rules) = Some (record { stubs = rules.stubs; smart = rules.smart })
 
--- those of a character's glyph
+-- the dropout rules of a character's glyph
 abbrev pub filled_by : Fitter → ℕ → Outline → Option Rules
 filled_by s g o = rules_for (dropouts_of s (unfitted_fault s g) o)
 
--- a glyph at its pen, by what each glyph is made from
+-- a glyph at its pen, by its fitter
 abbrev pub shape_at : Fitter → ℕ × ℕ → Outline → Shape
 shape_at s g o = record { edges = edges_at g.1 o; contours = contours_of g.1 o; filled = filled_by s g.0 o }
 
 abbrev pub glyph_shape : (ℕ → Fitter) → ℕ × ℕ → Result Shape Fault
 glyph_shape maker g = fitted_outline (maker g.0) g.0 >>= λ o. Ok (shape_at (maker g.0) g o)
 
--- where the picture of a line stands
+-- the frame of a line's picture
 abbrev pub frame_of : Placement → ℕ → Frame
 frame_of line margin = record { width = line.width; height = line.height; margin = margin; rise = line.rise }
 
@@ -70,15 +70,15 @@ frame_of line margin = record { width = line.width; height = line.height; margin
 abbrev pub picture : Frame → List Shape → List ℕ
 picture f glyphs = p4 f.width f.height (is_black_pixel f glyphs)
 
--- the glyphs of a line that is laid out, made one after the other
+-- the glyphs of a laid-out line, made in order
 abbrev pub shapes_in : Fitter → Placement → Result (List Shape) Fault
 shapes_in s line = each (glyph_shape (line_fitter s (map (λ g. g.0) line.glyphs))) line.glyphs
 
--- that the glyphs of a line are made of not too many points for the job
+-- a line's glyphs have few enough points for the job
 abbrev pub points_tested : Fitter → Job → Placement → Result (Unit {0}) JobFault
 points_tested s a line = work_tested a.fit point_work_limit (points_in s (map (λ g. g.0) line.glyphs))
 
--- that their edges cross the rows of its picture not too often for the job
+-- their edges cross the rows of its picture seldom enough for the job
 abbrev pub crossings_tested : Job → Placement → List Shape → Result (Unit {0}) JobFault
 crossings_tested a line glyphs = work_tested a.fit crossing_limit (crossings_in (frame_of line a.margin) glyphs)
 
@@ -90,7 +90,7 @@ line_shapes s a line =
     as_job (crossings_tested a line glyphs) >>= λ u.
     Ok glyphs
 
--- the picture of a line that is laid out
+-- the picture of a laid-out line
 unfoldable pub drawn : Face → Job → Placement → Result (List ℕ) Refused
 drawn face a line =
     as_font (setting_in face a) >>= λ s.
@@ -107,10 +107,10 @@ pictured_by face a =
     as_job (placement face.metrics face.cmap a.text a.ppem a.margin) >>= λ line.
     drawn face a line
 
--- the same of a job that is tested first
+-- the picture of a job, which is tested first
 unfoldable pub line_outcome : Face → Job → Result (List ℕ) Refused
 line_outcome face a = as_job (tested a) >>= λ u. pictured_by face a
 
--- and by a font file
+-- the picture of a job by a font file
 unfoldable pub pictured : Job → List ℕ → Result (List ℕ) Refused
 pictured a file = as_font (face_of file) >>= λ face. pictured_by face a

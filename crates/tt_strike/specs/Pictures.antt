@@ -1,4 +1,4 @@
--- A picture whose rows are made one after the other. Netpbm, "PBM", format P4, has the bytes of a row.
+-- A picture whose rows are made one after the other. Netpbm, "PBM", format P4, defines the bytes of a row.
 use Rattle.std.specs.Prelude.{◌≡◌, refl, ℕ, ◌*◌, ◌≤◌, List, [], ◌∷◌, ◌++◌, length, take, drop, pos}
 use Rattle.tt_core.specs.Bits.{stride}
 use Rattle.tt_core.specs.Limits.{height_limit}
@@ -7,7 +7,7 @@ use Rattle.tt_scan.specs.declared.edge.Frame.{Frame}
 use Rattle.tt_scan.specs.Winding.{FrameFits}
 use Rattle.tt_strike.specs.declared.report.Unfitted.{Unfitted}
 
--- where it stands, the bytes of its rows, how many rows were made, and the glyphs that are not fitted
+-- the frame, the bytes of its rows, how many rows were made, and the unfitted glyphs
 pub record Picture : Type 0 where
   pub frame : Frame
   pub rows : List ℕ
@@ -22,7 +22,7 @@ row_at p r = take (stride p.frame.width) (drop (stride p.frame.width * r) p.rows
 abbrev pub picture_bytes : Picture → List ℕ
 picture_bytes p = p4_header_of p.frame.width p.frame.height ++ p.rows
 
--- a picture within the limits, of which no row was made yet
+-- a picture within the limits, with no row made yet
 pub record IsReady (p : Picture) : Type 0 where
   pub frame : FrameFits p.frame
   pub height : p.frame.height ≤ height_limit

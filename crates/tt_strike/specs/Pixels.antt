@@ -1,6 +1,6 @@
--- Which pixels of a line are black. OpenType, "TrueType Fundamentals", the scan converter's rules 1 and 2, for each
--- glyph by itself: what one glyph winds round another does not count against. And the dropouts of each glyph, by its own
--- rules, where they are filled.
+-- The black pixels of a line: OpenType, "TrueType Fundamentals", the scan converter's rules 1 and 2, for each glyph by
+-- itself. One glyph's winding does not count for another. The dropouts of each glyph, by its own rules, are added where
+-- they are filled.
 use Rattle.std.specs.Prelude.{◌≡◌, ℕ, ◌≤◌, ◌^◌, Bool, false, ◌||◌, ℤ, pos, ◌-ℤ◌, List, [], ◌∷◌, length, Option, Some, None}
 use Rattle.tt_scan.specs.declared.edge.Edge.{Edge}
 use Rattle.tt_scan.specs.declared.edge.Frame.{Frame}
@@ -11,7 +11,7 @@ use Rattle.tt_scan_dropouts.specs.Pictures.{column_at, line_at}
 use Rattle.tt_scan_dropouts.specs.declared.mark.Rules.{Rules}
 use Rattle.tt_scan_rows.specs.Raster.{Raster, shows}
 
--- a glyph at its pen: its edges, the same contour by contour, and by which rules its dropouts are filled, if they are
+-- a glyph at its pen: its edges, also contour by contour, and its dropout rules, if dropouts are filled
 pub record Shape : Type 0 where
   pub edges : List Edge
   pub contours : List (List Edge)
@@ -22,7 +22,7 @@ abbrev pub some_black : List Shape → ℤ → ℤ → Bool
 some_black [] x y = false
 some_black (s ∷ ss) x y = is_black s.edges x y || some_black ss x y
 
--- contours have this pixel for a dropout, by the rules that there are
+-- contours have this pixel as a dropout, by these rules
 abbrev pub is_filled : Option Rules → List (List Edge) → ℤ → ℤ → Bool
 is_filled None contours c j = false
 is_filled (Some rules) contours c j = is_dropout rules contours c j
@@ -32,31 +32,30 @@ abbrev pub some_filled : Frame → List Shape → ℕ → ℕ → Bool
 some_filled f [] c r = false
 some_filled f (s ∷ ss) c r = is_filled s.filled s.contours (column_at f 0 c) (line_at f r) || some_filled f ss c r
 
--- the centre of column c in row r is black, or a dropout stands there
+-- the centre of column c in row r is black, or the pixel is a dropout
 abbrev pub is_black_pixel : Frame → List Shape → ℕ → ℕ → Bool
 is_black_pixel f glyphs c r =
     some_black glyphs (column_x f.margin (pos c)) (row_y f (pos r)) || some_filled f glyphs c r
 
--- what one glyph is drawn by: its edges where its pen is 0, or the black columns of its lines
+-- the data that draws a glyph: its edges at pen 0, or the black columns of its lines
 pub data Drawn : Type 0 where
   edges : List Edge → Drawn
   raster : Raster → Drawn
 
--- they blacken column c of row r, the column counted from the glyph's pen: that of edges stands at the margin, that of
--- a raster at the left end
+-- they blacken column c of row r, with the column counted from the glyph's pen. Edges include the margin, a raster
+-- begins at the left end
 abbrev pub is_drawn : Frame → Drawn → ℤ → ℕ → Bool
 is_drawn f (edges es) c r = is_black es (column_x f.margin c) (row_y f (pos r))
 is_drawn f (raster k) c r = shows k c (line_at f r)
 
--- what a glyph is drawn by, by which rules its dropouts are filled, its contours where they are, and the pens at which it
--- stands
+-- a glyph's drawing data, its dropout rules, its contours where dropouts are filled, and its pens
 pub record Stamp : Type 0 where
   pub drawn : Drawn
   pub filled : Option Rules
   pub contours : List (List Edge)
   pub pens : List ℕ
 
--- what was made for pen 0 blackens column c of row r from some pen: it blackens the column so far to its left
+-- data made for pen 0 blackens column c of row r from some pen: column c minus the pen is black for pen 0
 abbrev pub is_black_from : Frame → Drawn → List ℕ → ℕ → ℕ → Bool
 is_black_from f drawn [] c r = false
 is_black_from f drawn (pen ∷ pens) c r = is_drawn f drawn (pos c -ℤ pos pen) r || is_black_from f drawn pens c r
@@ -66,7 +65,7 @@ abbrev pub is_black_by : Frame → List Stamp → ℕ → ℕ → Bool
 is_black_by f [] c r = false
 is_black_by f (g ∷ gs) c r = is_black_from f g.drawn g.pens c r || is_black_by f gs c r
 
--- the same of its dropouts
+-- some pen of a glyph has it as a dropout
 abbrev pub is_filled_from : Frame → Option Rules → List (List Edge) → List ℕ → ℕ → ℕ → Bool
 is_filled_from f filled contours [] c r = false
 is_filled_from f filled contours (pen ∷ pens) c r =
@@ -82,6 +81,6 @@ pub record TapeFits (f : Frame) (asked : ℕ) (t : Tape) : Type 0 where
   pub edges : length t.edges ≤ 2 ^ 17
   pub crosses : t.crosses ≤ asked
 
--- crossings that one row of a glyph asks for at most: each of 2 ^ 17 edges once
+-- the most crossings in one row of a glyph: each of 2 ^ 17 edges once
 abbrev pub row_crossings : ℕ
 row_crossings = 2 ^ 17

@@ -6,7 +6,7 @@ use Rattle.tt_core.specs.Faults.{Fault}
 use Rattle.tt_strike.specs.declared.fault.DrawFault.{DrawFault}
 use Rattle.tt_strike.specs.declared.fault.DrawFault.TheVariants as draw
 
--- why nothing is written though both devices serve
+-- why nothing is written though both devices work
 pub data Refused : Type 0 where
   font : Fault → Refused
   job : JobFault → Refused
@@ -20,14 +20,14 @@ abbrev pub as_job : {X : Type 0} → Result X JobFault → Result X Refused
 as_job (Ok x) = Ok x
 as_job (Err fault) = Err (job fault)
 
--- a job is tested before the font is read, but for the extent of its picture and the work of its glyphs
+-- a job is tested before the font is read, except the extent of its picture and the work of its glyphs
 abbrev pub needs_font : JobFault → Bool
 needs_font fault.EmptyPicture = true
 needs_font fault.PictureLarge = true
 needs_font fault.WorkLarge = true
 needs_font j = false
 
--- what stops the making of a picture: nothing is told where memory ran out
+-- the refusal that stops the making of a picture; none where memory ran out
 abbrev pub refusal : DrawFault → Option Refused
 refusal (draw.Font f) = Some (font f)
 refusal (draw.Job j) = Some (job j)

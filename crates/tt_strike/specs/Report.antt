@@ -1,5 +1,5 @@
--- No part of the standard: which glyphs of a text are drawn with their scaled points, and for which fault of a program
--- (profile).
+-- No part of the standard: the unfitted glyphs of a text, whose points are only scaled, each with the fault of a
+-- program (profile).
 use Rattle.std.specs.Prelude.{◌≡◌, refl, ℕ, Bool, true, false, not, ◌&&◌, List, [], ◌∷◌, map, codes, Option, Some, None, Result, Ok}
 use Rattle.tt_core.specs.declared.fault.Why.TheVariants as why
 use Rattle.tt_core.specs.Faults.{Fault, fault_at}
@@ -14,39 +14,39 @@ use Rattle.tt_strike.specs.Glyphs.{Glyph}
 use Rattle.tt_strike.specs.Refusals.{Refused, as_font, as_job}
 use Rattle.tt_strike.specs.Picture.{setting_in, line_shapes}
 
--- a glyph before those after it, where a fault is why it is not fitted
+-- puts a glyph before those after it, if a fault makes it unfitted
 abbrev pub listed : ℕ → Option Fault → List Unfitted → List Unfitted
 listed g None others = others
 listed g (Some fault) others = record { glyph = g; fault = fault } ∷ others
 
--- those of some glyphs that are not fitted, in their order, by what each is made from
+-- the unfitted ones of some glyphs, in their order, by the fitter of each
 abbrev pub unfitted_among : (ℕ → Fitter) → List ℕ → List Unfitted
 unfitted_among maker [] = []
 unfitted_among maker (g ∷ gs) = listed g (unfitted_fault (maker g) g) (unfitted_among maker gs)
 
--- those of a line that is drawn, each once, in order of first appearance
+-- the unfitted glyphs of a drawn line, each once, in order of first appearance
 unfoldable pub line_report : Face → Job → Placement → Result (List Unfitted) Refused
 line_report face a line =
     as_font (setting_in face a) >>= λ s.
     line_shapes s a line >>= λ glyphs.
     Ok (unfitted_among (line_fitter s (map (λ g. g.0) line.glyphs)) (distinct (map (λ g. g.0) line.glyphs)))
 
--- those of a text by a font's tables, or the first refusal
+-- the unfitted glyphs of a text by a font's tables, or the first refusal
 unfoldable pub report_by : Face → Job → Result (List Unfitted) Refused
 report_by face a =
     as_job (placement face.metrics face.cmap a.text a.ppem a.margin) >>= λ line.
     line_report face a line
 
--- and by a font file
+-- the unfitted glyphs of a text by a font file
 unfoldable pub report_of : Job → List ℕ → Result (List Unfitted) Refused
 report_of a file = as_font (face_of file) >>= λ face. report_by face a
 
--- the same of glyphs that are kept
+-- the unfitted ones of a line's glyphs
 abbrev pub unfitted_standing : List Glyph → List Unfitted
 unfitted_standing [] = []
 unfitted_standing (g ∷ gs) = listed g.number g.unfitted (unfitted_standing gs)
 
--- no number stands twice
+-- no number appears twice
 abbrev pub all_differ : List ℕ → Bool
 all_differ [] = true
 all_differ (g ∷ gs) = not (is_among g gs) && all_differ gs

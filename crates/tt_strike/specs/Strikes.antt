@@ -1,5 +1,4 @@
--- No part of the standard: a font at a size, with a way of fitting, how many bytes of its glyphs may be kept from line
--- to line, and the jobs that its lines are.
+-- No part of the standard: a font at a size, with a fit, its cache's limit in bytes, and the jobs of its lines.
 use Rattle.std.specs.Prelude.{ℕ, List}
 use Rattle.tt_fit.specs.declared.programs.Fit.{Fit}
 use Rattle.tt_strike.specs.Job.{Job}

@@ -1,7 +1,7 @@
--- The tables of a font, in the order in which they are looked at (profile): those that every text is looked up in, the
--- glyphs' data, and the programs. Apple TrueType Reference Manual, "The Font Directory", "The 'cvt ' table", "The 'fpgm'
--- table", "The 'prep' table"; OpenType, "cmap", "loca", "glyf". A font may lack each of the last three; without fitting
--- none of these is looked at.
+-- The tables of a font, in the order of reading (profile): those needed for every text, the glyphs' data, and the
+-- programs. Apple TrueType Reference Manual, "The Font Directory", "The 'cvt ' table", "The 'fpgm' table", "The 'prep'
+-- table"; OpenType, "cmap", "loca", "glyf". A font may lack each of the last three; without fitting none of these is
+-- read.
 use Rattle.std.specs.Prelude.{◌≡◌, refl, ℕ, List, [], ◌∷◌, take, codes, Option, Some, None, Result, Ok, Err}
 use Rattle.tt_cmap.specs.Lookup.{Cmap, cmap_of}
 use Rattle.tt_core.specs.declared.fault.Why.TheVariants as why
@@ -25,7 +25,7 @@ pub record Face : Type 0 where
 abbrev pub cmap_tag : List ℕ
 cmap_tag = codes "cmap"
 
--- these tables of a file, or the file's first fault in the order in which they are read
+-- these tables of a file, or the file's first fault in the order of reading
 unfoldable pub face_of : List ℕ → Result Face Fault
 face_of file = do
   directory ← directory_of file
@@ -34,7 +34,7 @@ face_of file = do
   cmap ← cmap_of table (glyphs_of metrics)
   Ok (record { directory = directory; metrics = metrics; cmap = cmap })
 
--- loca and glyf; a loca that is too short comes before a glyf that is not there
+-- loca and glyf; a short loca is reported before a missing glyf
 unfoldable pub glyphs_in : List ℕ → Metrics → Result Glyf Fault
 glyphs_in directory m = do
   loca ← needed_table directory loca_tag
@@ -71,7 +71,7 @@ all_programs_in directory = do
   prep ← optional_table directory prep_tag
   Ok (record { cvt = cvt; fpgm = fpgm; prep = prep })
 
--- the programs that outlines are fitted by
+-- the programs that fit outlines
 unfoldable pub programs_in : List ℕ → Fit → Result ProgramTables Fault
 programs_in directory fit.None = Ok no_programs
 programs_in directory fit.Full = all_programs_in directory

@@ -1,4 +1,4 @@
--- How the definitions see the values that the code works with.
+-- The definitions' views of the code's values.
 use Rattle.tt_core.specs.declared.font_fault.FontFault.{FontFault}
 use Rattle.tt_core.specs.declared.font_fault.FontFault.TheVariants as font
 use Rattle.tt_line.specs.declared.fault.LineFault.{LineFault}
@@ -9,7 +9,7 @@ use Rattle.tt_strike.specs.declared.glyph.Body.TheVariants as body
 use Rattle.tt_strike.specs.Glyphs as glyphs
 use Rattle.tt_strike.specs.declared.fault.DrawFault.TheVariants as draw
 
--- what stopped a part of a drawing stops it
+-- a font fault that stopped a part of a drawing stops the drawing
 abbrev pub draw_fault_of_font : FontFault → DrawFault
 draw_fault_of_font (font.Font f) = draw.Font f
 draw_fault_of_font font.Memory = draw.Memory

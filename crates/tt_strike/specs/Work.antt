@@ -1,4 +1,4 @@
--- No part of the standard: how much work a job may be (profile). It is bounded with best alone.
+-- No part of the standard: the limits of a job's work (profile). It is bounded only with best.
 use Rattle.std.specs.Prelude.{◌≡◌, refl, ℕ, ◌+◌, ◌*◌, ◌&&◌, nat_lt, Bool, true, false, if◌then◌else◌, List, [], ◌∷◌, Option, Some, None, Result, Ok, Err}
 use Rattle.std.specs.List.{sum_by}
 use Rattle.tt_core.specs.declared.fault.JobFault.{JobFault}
@@ -16,27 +16,27 @@ use Rattle.tt_scan_dropouts.specs.Dropouts.{crossed}
 use Rattle.tt_scan_dropouts.specs.declared.mark.Rules.{Rules}
 use Rattle.tt_strike.specs.Pixels.{Shape}
 
--- the ways of fitting with which the work of a job is bounded
+-- the fits that bound the work of a job
 abbrev pub is_bounded : Fit → Bool
 is_bounded fit.Full = false
 is_bounded fit.None = false
 is_bounded fit.Fallback = false
 is_bounded fit.Best = true
 
--- so much work, by the limit that there is for it
+-- tests an amount of work against its limit
 unfoldable pub work_tested : Fit → ℕ → ℕ → Result (Unit {0}) JobFault
 work_tested how limit work = if is_bounded how && nat_lt limit work then Err fault.WorkLarge else Ok tt
 
--- how many points the glyphs of a line are made of, each glyph once
+-- the points of a line's glyphs, each glyph once
 abbrev pub points_in : Fitter → List ℕ → ℕ
 points_in s gs = sum_by (points_asked s.tables s.levels) (distinct gs)
 
--- where dropouts are filled, each line of rows and of columns that the edges of a glyph cross counts as four crossings
+-- where dropouts are filled, each crossing of a line of rows or columns with the edges of a glyph counts four times
 abbrev pub filling_crossings : Option Rules → List Edge → ℕ
 filling_crossings None edges = 0
 filling_crossings (Some rules) edges = 4 * crossed edges
 
--- how often the edges of some glyphs cross the rows of a picture, and the lines that are asked for dropouts
+-- how often the edges of some glyphs cross the rows of a picture, and the lines searched for dropouts
 abbrev pub crossings_in : Frame → List Shape → ℕ
 crossings_in f [] = 0
 crossings_in f (s ∷ ss) =

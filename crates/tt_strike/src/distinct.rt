@@ -1,11 +1,11 @@
-//! Which glyphs a line has.
+//! The distinct glyphs of a line.
 
 ghost use Rattle.std.specs.Prelude.{◌≡◌, ◌<◌, map, All, IfOk};
 ghost use Rattle.tt_strike.specs.Distinct.{distinct};
 
 use std::alloc::{AllocError, Global};
 
-/// The distinct glyphs of a line, in order of first appearance. Error: want of memory.
+/// The distinct glyphs of a line, in order of first appearance. Error: out of memory.
 pub(crate) fn distinct(
     alloc: Global,
     glyphs: u16,

@@ -1,4 +1,4 @@
-//! A line that is laid out, drawn.
+//! Draws a line that is laid out.
 
 ghost use Rattle.std.specs.Prelude.{◌≡◌, ◌<◌, ◌≤◌, ◌^◌, ◌&&◌, not, nat_lt, true, length, map, unsigned_abs, All, Ok, IfOk};
 ghost use Rattle.tt_core.specs.declared.fault.JobFault.TheVariants.{WorkLarge};
@@ -30,7 +30,7 @@ use tt_fit::Fit;
 use tt_line::Line;
 use tt_strike_kept::KeptGlyphs;
 
-/// Whether glyphs are kept from line to line: not where a line uses up some of the work of what makes them.
+/// Whether glyphs are cached from line to line. They are not where each line uses up work of the fitter.
 fn keeps_glyphs(kept: &KeptGlyphs, fit: Fit) -> bool
     ensures { result ≡ (nat_lt 0 kept.now.most && not (is_bounded fit)) }
 {

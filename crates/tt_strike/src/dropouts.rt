@@ -15,7 +15,7 @@ use tt_fit::DropoutRules;
 use tt_scan::Frame;
 use tt_scan_dropouts::{Dropout, Rules, push_dropouts, sort_by_rows};
 
-/// The rules by which dropouts are filled, as the scan converter takes them.
+/// The dropout rules in the scan converter's type.
 pub(crate) fn rules_for(rules: Option<DropoutRules>) -> Option<Rules>
     ensures { result ≡ rules_for rules }
 {
@@ -28,7 +28,7 @@ pub(crate) fn rules_for(rules: Option<DropoutRules>) -> Option<Rules>
     }
 }
 
-/// Adds the dropouts of a glyph at its pens, as far as the picture has them. Error: Memory.
+/// Adds a glyph's dropouts at its pens that lie in the picture. Error: Memory.
 fn push_glyph(
     alloc: Global,
     found: &mut Vec<Dropout>,
@@ -52,7 +52,7 @@ fn push_glyph(
     }
 }
 
-/// The dropouts of some glyphs at their pens that a picture has, in order of their rows. Error: Memory.
+/// The dropouts of some glyphs at their pens that lie in the picture, in order of their rows. Error: Memory.
 pub(crate) fn line_dropouts(
     alloc: Global,
     frame: Frame,

@@ -9,12 +9,13 @@ use thiserror::Error;
 use tt_core::{Fault, FontFault, JobFault};
 use tt_line::LineFault;
 
-/// Why a picture was not made. Devices have no part in it.
+/// Why a picture was not made. No reader or writer is involved.
 #[derive(Clone, Copy)]
 pub enum DrawFault {
     /// The font has this defect.
     Font(Fault),
-    /// The picture of the job would have no pixel, or too many, or its glyphs would be too much work.
+    /// The job is out of its limits, its picture would have no or too many pixels, or its glyphs would be too much
+    /// work.
     Job(JobFault),
     /// Memory was refused.
     Memory,

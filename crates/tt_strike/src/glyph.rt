@@ -1,4 +1,4 @@
-//! A glyph of a line: made once, however often it stands in the line. How it is painted: painting.rt.
+//! A glyph of a line, made once however often it appears. For painting see painting.rt.
 
 ghost use Rattle.std.specs.Prelude.{◌≡◌, ◌+◌, ◌*◌, ◌<◌, ◌≤◌, ◌-◌, ◌^◌, min, true, false, ◌++◌, [], ◌∷◌, length, nat_eq, IfOk, IfSome, IfNone, OnOk, Some, None, Err};
 ghost use Rattle.std.specs.Map.{lookup};
@@ -27,17 +27,17 @@ use tt_scan_dropouts::{Rules, crossings, most_crossings};
 use tt_scan_rows::{Cut, Raster};
 use tt_strike_kept::{KeptGlyph, KeptGlyphs};
 
-/// What a glyph blackens rows with.
+/// The part of a glyph that blackens rows.
 #[derive(Drop)]
 pub(crate) enum Body {
-    /// Its edges where its pen is 0.
+    /// Its edges at pen 0.
     Tape(Tape),
     /// The black columns of its lines.
     Raster(Rc<Raster>),
 }
 
 impl Body {
-    /// How far the pens of a glyph are moved, so that they count from where its body has its columns.
+    /// Added to every pen: 0 for a tape, the margin for a raster.
     fn left(&self, frame: Frame) -> u32
         ensures exact { result ≡ left_of frame (body_view self.now) }
         ensures limit { frame.margin ≤ margin_limit → result ≤ margin_limit }
@@ -49,20 +49,20 @@ impl Body {
     }
 }
 
-/// A glyph by its number in the font, with what it blackens rows with.
+/// A glyph by its number in the font, with its body.
 #[derive(Drop)]
 pub(crate) struct Glyph {
     number: u16,
     pub(crate) body: Body,
-    /// By which rules its dropouts are filled.
+    /// The rules for filling its dropouts.
     pub(crate) filled: Option<Rules>,
-    /// How many edges there are up to the end of each contour; none where no dropouts are filled.
+    /// The number of edges up to the end of each contour; empty where no dropouts are filled.
     pub(crate) ends: Vec<usize>,
-    /// How many columns of the picture lie left of pen 0 where the body has none for them.
+    /// Added to every pen: 0 for a tape, the margin for a raster.
     left: u32,
-    /// Where it stands in the line, in pixels from the left end.
+    /// Its pens in the line, in pixels from the left end, with `left` added.
     pub(crate) pens: Vec<u32>,
-    /// The fault for which its outline is not fitted.
+    /// The fault that makes it unfitted.
     unfitted: Option<Fault>,
 }
 
@@ -76,8 +76,8 @@ impl Model for Glyph {
 }
 
 impl Glyph {
-    /// A glyph without a pen, with room for so many; one that is kept from line to line is not made anew. The fitter is
-    /// left to the glyphs after. Errors: those of its outline, Memory.
+    /// A glyph without a pen, with room for `room` pens, from the cache if it is there. The fitter then serves later
+    /// glyphs. Errors: those of its outline, Memory.
     pub(crate) fn of(
         alloc: Global,
         fitter: &mut Fitter,
@@ -110,8 +110,8 @@ impl Glyph {
         }
     }
 
-    /// A glyph without a pen, made from its outline, with room for so many; the fitter is left to the glyphs after.
-    /// Where glyphs are kept from line to line it is, if it is small enough. Errors: those of its outline, Memory.
+    /// Makes a glyph without a pen from its outline, with room for `room` pens. The fitter then serves later glyphs. A
+    /// small enough glyph is cached, where glyphs are cached at all. Errors: those of its outline, Memory.
     fn new(
         alloc: Global,
         fitter: &mut Fitter,
@@ -135,7 +135,7 @@ impl Glyph {
         ensures most { kept.new.most ≡ kept.old.most }
         ensures fault { IfTold font_fault result (λ f. fitted_outline fitter.old number ≡ Err f) }
     {
-        // The outline is given up once the edges stand.
+        // The outline is dropped at the end, once its edges are made.
         let outline = fitter.fit(number)?;
         let filled = rules_for(fitter.dropouts(&outline));
         let list = edges_of(alloc, &outline)?;
@@ -155,7 +155,7 @@ impl Glyph {
         })
     }
 
-    /// A glyph that is kept, without a pen, with room for so many. Error: Memory.
+    /// A cached glyph, without a pen, with room for `room` pens. Error: Memory.
     fn kept(
         alloc: Global,
         number: u16,
@@ -180,7 +180,7 @@ impl Glyph {
         })
     }
 
-    /// What there is to report of the glyph, if its outline is not fitted.
+    /// The report of the glyph, if its outline is not fitted.
     pub(crate) fn unfitted(&self) -> Option<Unfitted>
         ensures none { IfNone result (self.now.unfitted ≡ None) }
         ensures some { IfSome result (λ u. (self.now.unfitted ≡ Some u.fault) × (u.glyph ≡ self.now.number)) }
@@ -194,7 +194,7 @@ impl Glyph {
         }
     }
 
-    /// Adds a pen at which the glyph stands, in pixels from the left end of the line. Error: Memory.
+    /// Adds a pen of the glyph, in pixels from the left end of the line. Error: Memory.
     pub(crate) fn stand(&mut self, pen: u32) -> Result<(), AllocError>
         requires pen { pen ≤ width_limit }
         requires left { self.old.left ≤ margin_limit }
@@ -203,8 +203,8 @@ impl Glyph {
         Ok(self.pens.push(pen + self.left)?)
     }
 
-    /// How often it crosses the rows of the picture, and the lines that are asked for its dropouts, at a pen. A line of
-    /// these counts as four crossings.
+    /// How often the glyph at one pen crosses the rows of the picture, and the lines that are searched for its
+    /// dropouts. A crossing of such a line counts four times.
     fn pen_crossings(&self) -> u64
         requires few { length (edges_of self.now.body) ≤ 2 ^ 17 }
         ensures { result ≡ pen_crossings self.now }
@@ -219,7 +219,7 @@ impl Glyph {
         }
     }
 
-    /// The same at all its pens; the greatest number stands for more.
+    /// Its crossings at all its pens, at most the greatest number.
     pub(crate) fn crossings(&self) -> u64
         requires few { length (edges_of self.now.body) ≤ 2 ^ 17 }
         ensures { result ≡ min (glyph_crossings self.now) (2 ^ 64 - 1) }
@@ -227,7 +227,7 @@ impl Glyph {
         self.pen_crossings().saturating_mul(self.pens.len() as u64)
     }
 
-    /// No fewer than `pen_crossings`, with less work: no line is counted that is asked for dropouts.
+    /// At least `pen_crossings`, with less work: counts no lines that are searched for dropouts.
     fn most_pen_crossings(&self) -> u64
         requires few { length (edges_of self.now.body) ≤ 2 ^ 17 }
         ensures { pen_crossings self.now ≤ result }
@@ -242,7 +242,7 @@ impl Glyph {
         }
     }
 
-    /// No fewer than `crossings`, with less work.
+    /// At least `crossings`, with less work.
     pub(crate) fn most_crossings(&self) -> u64
         requires few { length (edges_of self.now.body) ≤ 2 ^ 17 }
         ensures { min (glyph_crossings self.now) (2 ^ 64 - 1) ≤ result }
@@ -251,7 +251,7 @@ impl Glyph {
             .saturating_mul(self.pens.len() as u64)
     }
 
-    /// How many edges it has.
+    /// The number of its edges.
     pub(crate) fn edges(&self) -> usize
         ensures { result ≡ length (edges_of self.now.body) }
     {
@@ -262,7 +262,7 @@ impl Glyph {
     }
 }
 
-/// The glyph that is kept under a number, where glyphs are kept at all.
+/// The cached glyph with this number, where glyphs are cached at all.
 fn found(kept: &KeptGlyphs, number: u16, keeps: bool) -> Option<KeptGlyph>
     ensures keeps { IfSome result (λ _. keeps ≡ true) }
     ensures found { IfSome result (λ g. lookup (nat_eq number) kept.now.entries ≡ Some g) }
@@ -270,7 +270,7 @@ fn found(kept: &KeptGlyphs, number: u16, keeps: bool) -> Option<KeptGlyph>
     if keeps { kept.find(number) } else { None }
 }
 
-/// Whether a glyph is to be kept: not one whose dropouts are filled, since these are asked of its edges.
+/// Whether a glyph may be cached. A glyph with filled dropouts may not, since its dropouts are found by its edges.
 fn can_be_kept(keeps: bool, filled: Option<Rules>) -> bool
     ensures kept { result ≡ true → (keeps ≡ true) × (filled ≡ None) }
     ensures off { keeps ≡ false → result ≡ false }
@@ -282,7 +282,7 @@ fn can_be_kept(keeps: bool, filled: Option<Rules>) -> bool
     }
 }
 
-/// The edges of an outline whose first phantom point stands at the left end of the line.
+/// The edges of an outline whose first phantom point is at the left end of the line.
 fn edges_of(alloc: Global, outline: &Outline) -> Result<EdgeList, AllocError>
     requires outline { IsOutline (outline_of outline.now) }
     ensures exact { IfOk result (λ l. l.edges ≡ edges_at 0 (outline_of outline.now)) }
@@ -292,7 +292,7 @@ fn edges_of(alloc: Global, outline: &Outline) -> Result<EdgeList, AllocError>
     edges(alloc, outline, -i64::from(origin), 0)
 }
 
-/// A tape of edges, of which each row is cut when it is made.
+/// A tape of edges. Each row is cut when it is made.
 fn tape_of(alloc: Global, list: EdgeList, frame: Frame) -> Result<Body, AllocError>
     requires frame { FrameFits frame }
     requires few { length list.edges ≤ 2 ^ 17 }
@@ -301,8 +301,8 @@ fn tape_of(alloc: Global, list: EdgeList, frame: Frame) -> Result<Body, AllocErr
     Ok(Body::Tape(Tape::of(alloc, frame, list)?))
 }
 
-/// The raster of a glyph, which is kept for the lines after; where there are too many of its lines, or too many black
-/// columns in them, a tape of its edges.
+/// The raster of a glyph, which is cached for later lines. A tape of its edges, where it has too many lines or too many
+/// black columns.
 fn raster_of(
     alloc: Global,
     list: EdgeList,
@@ -333,7 +333,7 @@ fn raster_of(
     }
 }
 
-/// What a glyph of these edges blackens rows with: a raster that is kept, or a tape. Error: Memory.
+/// The body of a glyph with these edges: a cached raster, or a tape. Error: Memory.
 fn body_of(
     alloc: Global,
     list: EdgeList,
@@ -358,7 +358,7 @@ fn body_of(
     }
 }
 
-/// How many edges of an outline there are up to the end of each contour, if its dropouts are filled. Error: Memory.
+/// The number of an outline's edges up to the end of each contour, if its dropouts are filled. Error: Memory.
 fn ends_of(
     alloc: Global,
     outline: &Outline,

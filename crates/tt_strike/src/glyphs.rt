@@ -22,15 +22,15 @@ use tt_strike_kept::KeptGlyphs;
 /// Distinct glyphs, in order of first appearance.
 #[derive(Drop)]
 pub(crate) struct Glyphs {
-    /// For each glyph of the font one more than its place among those kept, or 0.
+    /// For each glyph of the font 0, or one more than its place in `kept`.
     places: Vec<u16>,
     pub(crate) kept: Vec<Glyph>,
-    /// For so many pens each glyph has room at first.
+    /// How many pens each glyph has room for at first.
     room: usize,
 }
 
 impl Glyphs {
-    /// No glyphs of a font that has so many, for a line of so many characters.
+    /// No glyphs, of a font with `glyphs` glyphs, for a line of `count` characters.
     fn new(alloc: Global, glyphs: u16, count: usize) -> Result<Glyphs, AllocError>
         ensures room { IfOk result (λ g. length g.places.items ≡ glyphs) }
         ensures places { IfOk result (λ g. ArePlaces g.places.items (numbers_of g.kept.items)) }
@@ -43,7 +43,7 @@ impl Glyphs {
         })
     }
 
-    /// Where a glyph is kept; None where it is not.
+    /// The place of a glyph in `kept`; None where it is not there.
     pub(crate) fn find(&self, number: u16) -> Option<usize>
         requires known { number < length self.now.places.items }
         requires places { ArePlaces self.now.places.items (numbers_of self.now.kept.items) }
@@ -56,7 +56,7 @@ impl Glyphs {
         }
     }
 
-    /// Keeps a glyph after the others.
+    /// Adds a glyph after the others.
     fn add(&mut self, glyph: Glyph, number: u16) -> Result<(), AllocError>
         requires number { glyph.number ≡ number }
         requires known { number < length self.old.places.items }
@@ -72,8 +72,8 @@ impl Glyphs {
         Ok(())
     }
 
-    /// Where a glyph is kept; where it is not, it is made, without a pen, from what those before it left. Errors: those
-    /// of its outline, Memory.
+    /// The place of a glyph in the line's `kept`. If it is missing it is made, without a pen, by the fitter after the
+    /// glyphs before it. Errors: those of its outline, Memory.
     fn keep(
         &mut self,
         alloc: Global,
@@ -113,7 +113,7 @@ impl Glyphs {
         Ok(self.kept.len() - 1)
     }
 
-    /// Adds a pen of a glyph, which is made where it is not kept yet. Errors: those of its outline, Memory.
+    /// Adds a pen of a glyph, which is made first if it is missing. Errors: those of its outline, Memory.
     fn place(
         &mut self,
         alloc: Global,
@@ -150,8 +150,7 @@ impl Glyphs {
     }
 }
 
-/// The glyphs of a line, each once, and each at its pens. Errors: those of their outlines in the order of the line,
-/// Memory.
+/// The glyphs of a line, each once with all its pens. Errors: those of their outlines in the order of the line, Memory.
 pub(crate) fn line_glyphs(
     alloc: Global,
     fitter: &mut Fitter,

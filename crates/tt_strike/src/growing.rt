@@ -1,4 +1,4 @@
-//! A line whose picture is made larger, so that no ink is cut.
+//! Enlarges a line's picture so that no ink is cut.
 
 ghost use Rattle.std.specs.Prelude.{◌≡◌, ◌+◌, ◌<◌, ◌≤◌, ◌^◌, map, unsigned_abs, All, IfOk, IfErr};
 ghost use Rattle.tt_core.specs.declared.fault.JobFault.TheVariants.{PictureLarge};
@@ -11,7 +11,7 @@ use crate::ink_box::InkBox;
 use tt_core::{HEIGHT_LIMIT, JobFault, WIDTH_LIMIT};
 use tt_line::Line;
 
-/// How many columns and rows more a picture is to have on each side.
+/// How many columns and rows are added on each side of a picture.
 #[derive(Clone, Copy)]
 pub(crate) struct Sides {
     pub(crate) left: u64,
@@ -27,7 +27,7 @@ fn before(at: i64) -> u64
     if at < 0 { at.unsigned_abs() } else { 0 }
 }
 
-/// How far a place lies past the last of so many.
+/// How far a place lies past the last of `count` places.
 fn past(count: u32, at: i64) -> u64
     requires { 1 ≤ count }
     ensures { result ≡ past count at }
@@ -38,7 +38,7 @@ fn past(count: u32, at: i64) -> u64
     (at - i64::from(count)).unsigned_abs() + 1
 }
 
-/// The least columns and rows that a picture of this size lacks on each side for a box.
+/// The fewest columns and rows that a picture of this size lacks on each side to hold a box.
 fn lacking(width: u32, height: u32, ink: InkBox) -> Sides
     requires width { 1 ≤ width }
     requires height { 1 ≤ height }
@@ -52,7 +52,7 @@ fn lacking(width: u32, height: u32, ink: InkBox) -> Sides
     }
 }
 
-/// So many columns or rows with others on both sides. Error: PictureLarge, where they are more than a limit.
+/// `count` columns or rows with others on both sides. Error: PictureLarge, past the limit.
 fn longer(count: u32, first: u64, last: u64, limit: u32) -> Result<u32, JobFault>
     ensures exact { IfOk result (λ n. n ≡ count + first + last) }
     ensures within { IfOk result (λ n. n ≤ limit) }
@@ -75,7 +75,7 @@ fn move_pens(glyphs: &mut [(u16, u32)], right: u32)
     }
 }
 
-/// A line in whose picture this ink is not cut: with as many columns and rows more as that takes. Error: PictureLarge.
+/// A line with the fewest added columns and rows such that this ink is not cut. Error: PictureLarge.
 #[tactic(auto, unfolding(crate::specs::Grown::not_large))]
 pub(crate) fn grown(line: Line, ink: Option<InkBox>) -> Result<Line, JobFault>
     requires width { (1 ≤ line.width) × (line.width ≤ width_limit) }

@@ -8,8 +8,8 @@ ghost use Rattle.tt_scan_ink.specs.Least.{IsNear};
 use tt_scan::Frame;
 use tt_scan_ink::GlyphInk;
 
-/// The least box that holds some black pixels: columns and rows of a picture, counted from 0, all four included. Below 0
-/// or past the picture's last where ink is cut.
+/// The least box of some black pixels: columns and rows of a picture, counted from 0, all four included. A value is
+/// below 0 or past the picture's last where ink is cut.
 #[derive(Clone, Copy, Debug, PartialEq, Eq)]
 pub struct InkBox {
     pub left: i64,
@@ -18,7 +18,7 @@ pub struct InkBox {
     pub bottom: i64,
 }
 
-/// The column of a picture that lies so far right of a pen.
+/// The column of a picture at this distance right of a pen.
 fn column_of(frame: Frame, pen: u32, column: i64) -> i64
     requires margin { frame.margin ≤ margin_limit }
     requires pen { pen ≤ width_limit }
@@ -28,7 +28,7 @@ fn column_of(frame: Frame, pen: u32, column: i64) -> i64
     column + i64::from(pen + frame.margin)
 }
 
-/// The row of a picture that a line counted from the base line is.
+/// The row of a picture for a line counted from the base line.
 fn row_of(frame: Frame, line: i64) -> i64
     requires margin { frame.margin ≤ margin_limit }
     requires near { unsigned_abs line < 2 ^ 18 }
@@ -37,7 +37,7 @@ fn row_of(frame: Frame, line: i64) -> i64
     i64::from(frame.rise) + i64::from(frame.margin) - 1 - line
 }
 
-/// Where the ink of a glyph at a pen stands in a picture, if it has any.
+/// The box of a glyph's ink at a pen in a picture, if it has any.
 pub(crate) fn ink_at(frame: Frame, pen: u32, ink: Option<GlyphInk>) -> Option<InkBox>
     requires margin { frame.margin ≤ margin_limit }
     requires pen { pen ≤ width_limit }
@@ -55,7 +55,7 @@ pub(crate) fn ink_at(frame: Frame, pen: u32, ink: Option<GlyphInk>) -> Option<In
     }
 }
 
-/// The least box that holds two.
+/// The least box that holds two boxes.
 fn joined_boxes(a: InkBox, b: InkBox) -> InkBox
     ensures { result ≡ joined_boxes a b }
 {
@@ -67,7 +67,7 @@ fn joined_boxes(a: InkBox, b: InkBox) -> InkBox
     }
 }
 
-/// The least box that holds two; the other where one of them is none.
+/// The least box that holds two boxes; the other one where one is None.
 pub(crate) fn joined(a: Option<InkBox>, b: Option<InkBox>) -> Option<InkBox>
     ensures { result ≡ joined a b }
 {

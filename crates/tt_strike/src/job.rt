@@ -1,4 +1,4 @@
-//! What is asked of `run`, and what a job and a text are tested for before the font is read.
+//! The job of `run`, and the tests of a job and a text before the font is read.
 
 ghost use Rattle.std.specs.Prelude.{◌≡◌, ◌<◌, ◌≤◌, false, nat_lt, length, chars, IfErr, OnOk};
 ghost use Rattle.tt_core.specs.declared.fault.JobFault.TheVariants.{MarginRange, TextLong};
@@ -21,7 +21,7 @@ pub struct Job<'a> {
     pub fit: Fit,
 }
 
-/// Error: SizeRange.
+/// Tests a size. Error: SizeRange.
 #[tactic(auto, unfolding(crate::specs::Job::size_tested))]
 pub(crate) fn test_size(ppem: u32) -> Result<(), JobFault>
     ensures exact { Gives (λ u. u) result (size_tested ppem) }
@@ -34,7 +34,7 @@ pub(crate) fn test_size(ppem: u32) -> Result<(), JobFault>
     Ok(())
 }
 
-/// Error: MarginRange.
+/// Tests a margin. Error: MarginRange.
 #[tactic(auto, unfolding(crate::specs::Job::margin_tested))]
 fn test_margin(margin: u32) -> Result<(), JobFault>
     ensures exact { Gives (λ u. u) result (margin_tested margin) }
@@ -60,7 +60,7 @@ pub fn test_job(job: &Job) -> Result<(), JobFault>
     test_text(job.text)
 }
 
-/// Error: TextLong.
+/// Tests a text. Error: TextLong.
 #[tactic(auto, unfolding(crate::specs::Job::text_tested))]
 pub fn test_text(text: &str) -> Result<(), JobFault>
     ensures exact { Gives (λ u. u) result (text_tested text.now) }
@@ -74,10 +74,10 @@ pub fn test_text(text: &str) -> Result<(), JobFault>
     Ok(())
 }
 
-/// Whether a text has more characters than are taken.
+/// Whether a text has more characters than the limit.
 fn is_long(text: &str) -> bool
     ensures { result ≡ nat_lt text_limit (length (chars text.now)) }
 {
-    // A character has a byte and more.
+    // A character has at least one byte, so a short text need not be counted.
     text.len() > TEXT_LIMIT && text.chars().count() > TEXT_LIMIT
 }

@@ -1,9 +1,8 @@
-//! Laws of the definitions. Each function takes nothing and gives nothing: its clauses hold of all jobs, files and
-//! glyphs.
+//! Laws of the definitions. Each function is a lemma: its clauses hold of all jobs, files and glyphs, and no code runs.
 
 ghost use Rattle.tt_strike.specs.Laws.{DrawnFontsAreWhole, FacesAreWhole, OthersListNothing, MarginMoves, MeasuredAsDrawn, GlyphsByThemselves, UnfilledAreEdges, OthersFillNone, OthersDrawByEdges, SidesMove};
 
-/// Where the definitions have the tables of a font, or a picture by it, the font has no defect for it.
+/// Lemma: a font whose tables are found, or whose picture is defined, has no defect for it.
 pub fn fonts_are_whole()
     ensures tables { FacesAreWhole }
     ensures picture { DrawnFontsAreWhole }
@@ -15,8 +14,7 @@ pub fn fonts_are_whole()
     tt_line::laws::glyphs_are_placed();
 }
 
-/// Where the definition of what there is to report gives a list, it is empty unless the job's fit is `Fit::Fallback`
-/// or `Fit::Best`.
+/// Lemma: a defined report is empty unless the job's fit is `Fit::Fallback` or `Fit::Best`.
 pub fn others_list_nothing()
     ensures { OthersListNothing }
 {
@@ -24,29 +22,29 @@ pub fn others_list_nothing()
     tt_fit::laws::work_unfits();
 }
 
-/// A greater margin moves each pixel by as much, and changes nothing else.
+/// Lemma: a margin greater by m moves each pixel by m, and changes nothing else.
 pub fn margins_move()
     ensures { MarginMoves }
 {}
 
-/// A text is measured where it has a picture, and refused for the same.
+/// Lemma: a text is measured exactly where it has a picture, and refused for the same reason.
 pub fn measured_as_drawn()
     ensures { MeasuredAsDrawn }
 {}
 
-/// The picture of a line that is made larger on each side has the pixels of the picture without that so far to the right
-/// and down.
+/// Lemma: a picture with added columns and rows has the pixels of the smaller one, moved right and down by those on the
+/// left and the top.
 pub fn sides_move()
     ensures { SidesMove }
 {}
 
-/// What is black of a glyph, a dropout too, does not depend on the glyphs beside it.
+/// Lemma: the black pixels of a glyph, dropouts included, do not depend on its neighbours.
 pub fn glyphs_by_themselves()
     ensures { GlyphsByThemselves }
 {}
 
-/// Where no dropouts of some glyphs are filled, these are black where their edges blacken, and nowhere else. So are all
-/// glyphs of a line with every way of fitting but `Fit::Best`: their picture is as if there were no dropout control.
+/// Lemma: glyphs without filled dropouts are black exactly where their edges blacken. With every fit but `Fit::Best`
+/// all glyphs of a line are of this kind, and the picture is as without dropout control.
 pub fn others_fill_none()
     ensures pixels { UnfilledAreEdges }
     ensures glyphs { OthersFillNone }

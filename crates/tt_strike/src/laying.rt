@@ -1,4 +1,4 @@
-//! A text laid out, once its job is tested.
+//! Lays a text out, once its job is tested.
 
 ghost use Rattle.std.specs.Prelude.{◌≡◌, ◌<◌, ◌≤◌, length, map, unsigned_abs, All, Ok, IfOk, OnOk};
 ghost use Rattle.tt_core.specs.Limits.{height_limit, text_limit, width_limit};
@@ -18,7 +18,7 @@ use std::alloc::Global;
 use tt_line::{Line, lay};
 
 /// Tests a job, and lays its text out. Errors, the first of: SizeRange, MarginRange, TextLong; EmptyPicture,
-/// PictureLarge. Memory comes where a growth was refused.
+/// PictureLarge. Memory may come at any allocation.
 pub(crate) fn lay_out(alloc: Global, face: &Face, job: &Job) -> Result<Line, DrawFault>
     ensures exact { GivesUnless refusal placement_of result (laid_out face.now (job_view job.now)) }
     ensures asked { OnOk result (IsJob (job_view job.now)) }

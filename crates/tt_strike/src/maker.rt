@@ -1,4 +1,4 @@
-//! What makes the outlines of a font at a size, found when the first line is drawn.
+//! The fitter of a font at a size, opened when the first line is drawn.
 
 ghost use Rattle.std.specs.Prelude.{◌≡◌, true, false, IfOk};
 ghost use Rattle.tt_core.specs.Outcomes.{FontGives, font_fault};
@@ -17,18 +17,18 @@ use std::mem;
 use tt_core::{Fault, FontFault};
 use tt_fit::{Fit, Fitter};
 
-/// What makes the outlines of a font at a size.
+/// The state of a strike's fitter.
 #[derive(Drop)]
 pub(crate) enum Maker<'a> {
-    /// Not looked for yet, or given up.
+    /// Not opened yet, or dropped.
     Unmade,
     Ready(Fitter<'a>),
-    /// There is none, for this defect.
+    /// There is no fitter, for this defect.
     Refused(Fault),
 }
 
-/// What makes the outlines of a job. Errors, the first of: those of loca and glyf; TableRange of the control values and
-/// the two programs; those of running the two. Memory comes where a growth was refused.
+/// The fitter of a job. Errors, the first of: those of loca and glyf; TableRange of the control values and the two
+/// programs; those of running the two. Memory may come at any allocation.
 #[tactic(auto, unfolding(crate::specs::Picture::setting))]
 fn open_fitter<'a>(alloc: Global, face: &Face<'a>, job: &Job) -> Result<Fitter<'a>, FontFault>
     requires { IsJob (job_view job.now) }
@@ -43,15 +43,15 @@ fn open_fitter<'a>(alloc: Global, face: &Face<'a>, job: &Job) -> Result<Fitter<'
 }
 
 impl<'a> Maker<'a> {
-    /// Keeps the defect for which there is nothing that makes outlines.
+    /// Records the defect for which there is no fitter.
     fn refuse(&mut self, fault: Fault)
         ensures { self.new ≡ Refused fault }
     {
         *self = Maker::Refused(fault);
     }
 
-    /// What makes the outlines of a job, taken out; it is looked for where it is not there. Errors: as `open_fitter`.
-    /// The defect of a font is kept.
+    /// Takes the fitter of a job out, and opens it first if it is missing. Errors: as `open_fitter`. A defect of the
+    /// font is recorded.
     pub(crate) fn take(
         &mut self,
         alloc: Global,
@@ -81,7 +81,7 @@ impl<'a> Maker<'a> {
         }
     }
 
-    /// Keeps what makes outlines for the lines after, unless a line uses up some of its work.
+    /// Puts the fitter back for later lines, unless a line uses up some of its work.
     pub(crate) fn give_back(&mut self, fitter: Fitter<'a>, fit: Fit)
         ensures kept { is_bounded fit ≡ false → self.new ≡ Ready fitter.entry }
         ensures same { is_bounded fit ≡ true → self.new ≡ self.old }

@@ -1,4 +1,4 @@
-//! A line that is laid out, measured.
+//! Measures a line that is laid out.
 
 ghost use Rattle.std.specs.Prelude.{◌≡◌, ℕ, ◌<◌, ◌≤◌, ◌^◌, true, length, map, unsigned_abs, All, IfOk, IfSome, Ok, Option};
 ghost use Rattle.tt_core.specs.declared.fault.JobFault.TheVariants.{WorkLarge};
@@ -39,36 +39,36 @@ use tt_scan::Frame;
 use tt_scan_ink::{GlyphInk, dropouts_ink, edges_ink};
 use tt_strike_kept::KeptGlyphs;
 
-/// Where a character of a line stands in its picture.
+/// The place of a character in its line's picture.
 #[derive(Clone, Copy, Debug, PartialEq, Eq)]
 pub struct CharacterMeasure {
     pub glyph: u16,
-    /// The column of the picture at which the glyph's origin stands, the margin included.
+    /// The picture's column at the glyph's origin, margin included.
     pub pen: i64,
-    /// How many columns further the next character's origin stands.
+    /// The columns from here to the next character's origin.
     pub advance: u32,
-    /// The box of what the glyph blackens, if it blackens anything.
+    /// The box of the glyph's black pixels, if there are any.
     pub ink: Option<InkBox>,
 }
 
-/// A line measured, in pixels.
+/// The measure of a line, in pixels.
 #[derive(Drop)]
 pub struct Measure {
     /// Columns of the picture: 1 to 16,384.
     pub width: u32,
     /// Rows of the picture: 1 to 4,096.
     pub height: u32,
-    /// How many rows lie above the base line. Below 0, or more than the picture has, where that stands outside.
+    /// The number of rows above the base line. Below 0, or more than the picture has, where the base line is outside.
     pub baseline: i64,
-    /// The box of all that the line blackens, if it blackens anything.
+    /// The box of the line's black pixels, if there are any.
     pub ink: Option<InkBox>,
     /// In the order of the text.
     pub characters: Vec<CharacterMeasure>,
-    /// What else there is to know of the line.
+    /// The line's report.
     pub report: Report,
 }
 
-/// The box of what a glyph blackens where its pen is 0. Error: Memory.
+/// The box of a glyph's black pixels at pen 0. Error: Memory.
 fn glyph_ink(alloc: Global, glyph: &Glyph) -> Result<Option<GlyphInk>, AllocError>
     requires tape { IsTape glyph.now.body }
     requires glyph { CanBeFilled glyph.now }
@@ -86,7 +86,7 @@ fn glyph_ink(alloc: Global, glyph: &Glyph) -> Result<Option<GlyphInk>, AllocErro
     Ok(tt_scan_ink::joined(edges, filled))
 }
 
-/// The same of each of some glyphs. Error: Memory.
+/// The boxes of some glyphs. Error: Memory.
 fn glyph_inks(alloc: Global, glyphs: &[Glyph]) -> Result<Vec<Option<GlyphInk>>, AllocError>
     requires tapes { All (λ g. IsTape g.body) glyphs.now }
     requires glyphs { All CanBeFilled glyphs.now }
@@ -100,7 +100,7 @@ fn glyph_inks(alloc: Global, glyphs: &[Glyph]) -> Result<Vec<Option<GlyphInk>>, 
     Ok(inks)
 }
 
-/// A character of a line, whose glyph is one of some that have these inks.
+/// The measure of a character, whose glyph is one of those with these inks.
 fn character(
     metrics: &Metrics,
     ppem: u32,
@@ -134,7 +134,7 @@ fn character(
     }
 }
 
-/// The characters of a line, whose glyphs have these inks. Error: Memory.
+/// The measures of a line's characters, whose glyphs have these inks. Error: Memory.
 fn characters(
     alloc: Global,
     metrics: &Metrics,
@@ -174,7 +174,7 @@ fn ink_of(characters: &[CharacterMeasure]) -> Option<InkBox>
     all
 }
 
-/// The measure of a line that is laid out. Errors: as `tested_glyphs`. No glyph is kept for the lines after.
+/// The measure of a line that is laid out. Errors: as `tested_glyphs`. No glyph is cached.
 #[tactic(auto, unfolding(crate::specs::Measures::measured_line, crate::specs::Report::line_report))]
 pub(crate) fn measure_line<'a>(
     alloc: Global,

@@ -1,4 +1,4 @@
-//! A glyph painted: the pixels of one row that it blackens, at each of its pens.
+//! Paints a glyph: blackens its pixels of one row, at each of its pens.
 
 ghost use Rattle.std.specs.Prelude.{◌≡◌, ℕ, ℤ, ◌+◌, ◌*◌, ◌<◌, ◌≤◌, ◌&&◌, ◌||◌, false, nat_lt, pos, length};
 ghost use Rattle.tt_core.specs.Bits.{bit};
@@ -11,14 +11,14 @@ ghost use Rattle.tt_strike.specs.Pixels.{TapeFits, edges, is_black_from, row_cro
 use crate::glyph::{Body, Glyph};
 use tt_scan::{Frame, Sweep, Tape};
 
-/// Which line row `r` of a picture is, counted upwards from the base line.
+/// The line of row `r` of a picture, counted upwards from the base line.
 fn line_of(frame: Frame, r: u32) -> i64
     ensures { result ≡ line_at frame r }
 {
     i64::from(frame.rise) + i64::from(frame.margin) - 1 - i64::from(r)
 }
 
-/// Whether some edge of a tape may meet a row of the picture; without one it blackens nothing there.
+/// Whether an edge of a tape may meet a row of the picture. Without one the tape blackens nothing there.
 fn meets(tape: &Tape, r: u32) -> bool
     requires { r < tape.now.frame.height }
     ensures { result ≡ false → (c : ℤ) → is_black tape.now.edges (column_x tape.now.frame.margin c) (row_y tape.now.frame (pos r)) ≡ false }
@@ -28,7 +28,7 @@ fn meets(tape: &Tape, r: u32) -> bool
     first <= row && row < past
 }
 
-/// Blackens the pixels of a row of the picture that the edges of a tape cover from some pens; all others stay as they are.
+/// Blackens the pixels of a row that the edges of a tape cover at some pens; all others are unchanged.
 fn add_tape(tape: &mut Tape, sweep: &mut Sweep, pens: &[u32], frame: Frame, r: u32, row: &mut [u8])
     requires tape { TapeFits frame (r * row_crossings) tape.old }
     requires room { length tape.old.edges ≤ sweep.old.room }
@@ -49,7 +49,7 @@ fn add_tape(tape: &mut Tape, sweep: &mut Sweep, pens: &[u32], frame: Frame, r: u
 }
 
 impl Glyph {
-    /// Blackens the pixels of a row of the picture that the glyph covers at its pens; all others stay as they are.
+    /// Blackens the pixels of a row that the glyph covers at its pens; all others are unchanged.
     pub(crate) fn add_to_row(&mut self, sweep: &mut Sweep, frame: Frame, r: u32, row: &mut [u8])
         requires glyph { GlyphFits frame (r * row_crossings) sweep.old.room self.old }
         requires height { frame.height ≤ height_limit }

@@ -1,4 +1,4 @@
-//! The picture of a line, whose rows are made one after the other.
+//! The picture of a line, whose rows are made in order.
 
 ghost use Rattle.std.specs.Prelude.{◌≡◌, ◌+ℤ◌, ◌+◌, ◌<◌, ◌≤◌, pos, length, All, IfOk};
 ghost use Rattle.tt_core.specs.Bits.{stride};
@@ -17,8 +17,8 @@ use std::marker::Model;
 use tt_scan::{Frame, Sweep};
 use tt_scan_dropouts::Dropout;
 
-/// The picture of a line: its size, where its base line stands, its rows, which are made one after the other, and what
-/// there is to report of it. All the memory is taken that its rows need.
+/// The picture of a line: its size, its base line, its rows, which are made in order, and its report. It already has
+/// all the memory that its rows need.
 #[derive(Drop)]
 pub struct Picture {
     frame: Frame,
@@ -50,7 +50,7 @@ impl Model for Picture {
 }
 
 impl Picture {
-    /// The picture of some glyphs and dropouts, of which no row is made yet. Error: want of memory.
+    /// The picture of some glyphs and dropouts, with no row made yet. Error: out of memory.
     pub(crate) fn new(
         alloc: Global,
         frame: Frame,
@@ -94,14 +94,14 @@ impl Picture {
         self.frame.height
     }
 
-    /// How many rows lie above the base line. Below 0, or more than the picture has, where that stands outside.
+    /// The number of rows above the base line. Below 0, or more than the picture has, where the base line is outside.
     pub fn baseline(&self) -> i64
         ensures { result ≡ self.now.frame.rise +ℤ pos self.now.frame.margin }
     {
         i64::from(self.frame.rise) + i64::from(self.frame.margin)
     }
 
-    /// How many bytes a row has: a bit for each pixel, and up to seven bits more.
+    /// The bytes of a row: a bit for each pixel, and up to seven bits more.
     pub fn row_bytes(&self) -> usize
         ensures { result ≡ stride self.now.frame.width }
     {
@@ -115,7 +115,7 @@ impl Picture {
         &self.report.unfitted
     }
 
-    /// What there is to know of the picture beside its pixels.
+    /// The picture's report.
     pub fn into_report(self) -> Report
         ensures { result.unfitted.items ≡ self.unfitted }
     {
@@ -123,8 +123,8 @@ impl Picture {
         report
     }
 
-    /// Makes the next row, the highest first, in the place of what was there: the leftmost pixel in the highest bit of
-    /// the first byte, 1 for black, 0 in the bits after the last pixel. It takes no memory.
+    /// Makes the next row, the highest first, and overwrites `row`. The leftmost pixel is the highest bit of the first
+    /// byte; 1 is black; the bits after the last pixel are 0. It takes no memory.
     pub fn next_row(&mut self, row: &mut [u8])
         requires within { self.old.made < self.old.frame.height }
         requires len { length row.old ≡ stride self.old.frame.width }

@@ -1,4 +1,4 @@
-//! The glyphs of a line that are drawn with their scaled points.
+//! The unfitted glyphs of a line, whose points are only scaled.
 
 ghost use Rattle.std.specs.Prelude.{◌≡◌, IfOk};
 ghost use Rattle.tt_strike.specs.Report.{unfitted_standing};
@@ -7,18 +7,18 @@ use crate::glyph::Glyph;
 use std::alloc::{AllocError, Global};
 use tt_core::Fault;
 
-/// A glyph that is drawn with its scaled points, and the fault of a program for which it is not fitted.
+/// A glyph whose points are only scaled, and the fault of a program that makes it unfitted.
 #[derive(Clone, Copy)]
 pub struct Unfitted {
     pub glyph: u16,
     pub fault: Fault,
 }
 
-/// What there is to know of a picture beside its pixels.
+/// The facts of a picture besides its pixels.
 #[derive(Drop)]
 pub struct Report {
-    /// With `Fit::Fallback` and `Fit::Best` the distinct glyphs of the text that are not fitted, in order of first
-    /// appearance. With any other way of fitting there are none.
+    /// With `Fit::Fallback` and `Fit::Best` the distinct unfitted glyphs of the text, in order of first appearance.
+    /// Empty with any other fit.
     pub unfitted: Vec<Unfitted>,
 }
 

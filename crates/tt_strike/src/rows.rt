@@ -1,4 +1,4 @@
-//! The rows of a picture, made one at a time.
+//! Makes the rows of a picture, one at a time.
 
 ghost use Rattle.std.specs.Prelude.{◌≡◌, ℕ, ◌+◌, ◌*◌, ◌<◌, ◌≤◌, ◌||◌, ◌&&◌, nat_lt, length, replicate, All};
 ghost use Rattle.tt_core.specs.Bits.{bit, stride};
@@ -11,7 +11,7 @@ use crate::glyph::Glyph;
 use tt_scan::{Frame, Sweep};
 use tt_scan_dropouts::{Dropout, blacken_dropouts};
 
-/// The greatest number of edges that some glyph has.
+/// The greatest number of edges of any of the glyphs.
 pub(crate) fn most_edges(glyphs: &[Glyph]) -> usize
     ensures { All (λ g. length (edges_of g.body) ≤ result) glyphs.now }
 {
@@ -22,7 +22,7 @@ pub(crate) fn most_edges(glyphs: &[Glyph]) -> usize
     most
 }
 
-/// Makes row `r` of a picture in the place of what was there. It takes no memory.
+/// Makes row `r` of a picture, and overwrites `row`. It takes no memory.
 pub(crate) fn make_row(
     glyphs: &mut [Glyph],
     sweep: &mut Sweep,
@@ -53,7 +53,7 @@ fn whiten(row: &mut [u8])
     row.fill(0);
 }
 
-/// Blackens the pixels of a row that some glyph covers; all others stay as they are.
+/// Blackens the pixels of a row that some glyph covers; all others are unchanged.
 fn add_glyphs(glyphs: &mut [Glyph], sweep: &mut Sweep, frame: Frame, r: u32, row: &mut [u8])
     requires glyphs { All (GlyphFits frame (r * row_crossings) sweep.old.room) glyphs.old }
     requires height { frame.height ≤ height_limit }

@@ -1,4 +1,4 @@
-//! A font at a size: many lines are drawn with what its programs left once.
+//! A font at a size, which draws many lines and runs its programs once.
 
 ghost use Rattle.std.specs.Prelude.{◌≡◌, ◌≤◌, true, Ok, IfOk, IsOkAnd};
 ghost use Rattle.tt_core.specs.Outcomes.{GivesUnless, IfTold};
@@ -28,10 +28,10 @@ use std::marker::Model;
 use tt_fit::Fit;
 use tt_strike_kept::KeptGlyphs;
 
-/// A font at a size, with a way of fitting: lines are drawn one after the other, and the font's programs are run once,
-/// when the first line is drawn; with `Fit::Best` for each line anew, since a line uses up some of its work. Glyphs are
-/// kept for the lines after. A clause sees the font's tables, the size, the way of fitting and how many bytes of glyphs
-/// may be kept, which stay as they are, whatever a line answers.
+/// A font at a size with a fit, which draws lines one after the other. The font's programs run once, when the first
+/// line is drawn. With `Fit::Best` they run anew for each line, since a line uses up some of their work. Glyphs are
+/// cached for later lines. Clauses see the font's tables, the size, the fit and the cache's limit in bytes; no line
+/// changes them.
 #[derive(Drop)]
 pub struct Strike<'f, 'a> {
     alloc: Global,
@@ -63,8 +63,8 @@ impl<'f, 'a> Model for Strike<'f, 'a> {
 }
 
 impl<'f, 'a> Strike<'f, 'a> {
-    /// A font at a size in pixels per em, 1 to 300, that keeps at most `most` bytes of glyphs from line to line; 0 keeps
-    /// none. Nothing is looked at yet but the tables that the face has. Errors: SizeRange, Memory.
+    /// A font at a size in pixels per em, 1 to 300, with a glyph cache of at most `most` bytes; 0 for no cache. Only
+    /// the face's tables are read so far. Errors: SizeRange, Memory.
     pub fn new(
         alloc: Global,
         face: &'f Face<'a>,
@@ -88,10 +88,10 @@ impl<'f, 'a> Strike<'f, 'a> {
         })
     }
 
-    /// The picture of a text of at most 4,096 characters, with a margin of 0 to 64 pixels: what `run` would write of
-    /// this font for this job. Errors, the first of: MarginRange, TextLong; EmptyPicture, PictureLarge; those of loca
-    /// and glyf; those of the programs; WorkLarge of the points; those of the glyphs in the order of the text; WorkLarge
-    /// of the crossings. Memory comes where a growth was refused. A line that is refused leaves the strike as it was.
+    /// The picture of a text of at most 4,096 characters, with a margin of 0 to 64 pixels: the picture that `run` would
+    /// write for this font and job. Errors, the first of: MarginRange, TextLong; EmptyPicture, PictureLarge; those of
+    /// loca and glyf; those of the programs; WorkLarge of the points; those of the glyphs in the order of the text;
+    /// WorkLarge of the crossings. Memory may come at any allocation. A refused line leaves the strike unchanged.
     #[tactic(auto, unfolding(crate::specs::Picture::line_outcome, crate::specs::Picture::pictured_by, crate::specs::Report::report_by))]
     pub fn line(&mut self, text: &str, margin: u32) -> Result<Picture, DrawFault>
         ensures exact { GivesUnless refusal picture_bytes result (line_outcome self.old.face (job_of self.old text.now margin)) }
@@ -120,8 +120,8 @@ impl<'f, 'a> Strike<'f, 'a> {
         )
     }
 
-    /// Where the picture of a text has its base line and its ink, and where each character stands in it, without the
-    /// picture. Errors as those of `line`. No glyph is kept for the lines after, and the strike is left as it was.
+    /// The base line, the ink and the characters' places of a text's picture, without the picture. Errors as those of
+    /// `line`. No glyph is cached, and the strike is unchanged.
     #[tactic(auto, unfolding(crate::specs::Measures::measured, crate::specs::Report::report_by))]
     pub fn measure(&mut self, text: &str, margin: u32) -> Result<Measure, DrawFault>
         ensures exact { GivesUnless refusal measure_view result (measured self.old.face (job_of self.old text.now margin)) }
@@ -148,9 +148,9 @@ impl<'f, 'a> Strike<'f, 'a> {
         )
     }
 
-    /// The picture of a text that has so many columns and rows more on each side that no ink is cut; where none is, that
-    /// of `line`. Errors: those of `line`, and PictureLarge and WorkLarge of the larger picture. A line that is refused
-    /// leaves the strike as it was.
+    /// The picture of a text with the fewest added columns and rows such that no ink is cut; equal to that of `line`
+    /// where none is. Errors: those of `line`, and PictureLarge and WorkLarge of the larger picture. A refused line
+    /// leaves the strike unchanged.
     #[tactic(auto, unfolding(crate::specs::Grown::grown_outcome, crate::specs::Grown::grown_placement, crate::specs::Grown::grown_line))]
     pub fn grown_line(&mut self, text: &str, margin: u32) -> Result<Picture, DrawFault>
         ensures exact { GivesUnless refusal picture_bytes result (grown_outcome self.old.face (job_of self.old text.now margin)) }
@@ -187,8 +187,8 @@ impl<'f, 'a> Strike<'f, 'a> {
         )
     }
 
-    /// The same as `measure` tells, of the picture that `grown_line` makes. Errors: those of `measure`, and PictureLarge
-    /// and WorkLarge of the larger picture. No glyph is kept for the lines after, and the strike is left as it was.
+    /// The measure of the picture that `grown_line` makes. Errors: those of `measure`, and PictureLarge and WorkLarge
+    /// of the larger picture. No glyph is cached, and the strike is unchanged.
     #[tactic(auto, unfolding(crate::specs::Grown::grown_measured, crate::specs::Grown::grown_placement, crate::specs::Grown::grown_line))]
     pub fn grown_measure(&mut self, text: &str, margin: u32) -> Result<Measure, DrawFault>
         ensures exact { GivesUnless refusal measure_view result (grown_measured self.old.face (job_of self.old text.now margin)) }
@@ -223,8 +223,8 @@ impl<'f, 'a> Strike<'f, 'a> {
         )
     }
 
-    /// How many bytes the glyphs take that are kept from line to line: for each those of its black columns, and 128.
-    /// With `Fit::None`, `Fit::Full` and `Fit::Fallback` those stay that were made last; with `Fit::Best` none is kept.
+    /// The bytes of the cached glyphs: for each those of its black columns, and 128. With `Fit::None`, `Fit::Full` and
+    /// `Fit::Fallback` the newest glyphs are cached; with `Fit::Best` none.
     pub fn kept_bytes(&self) -> usize
         ensures most { result ≤ self.now.most }
         ensures best { is_bounded self.now.fit ≡ true → result ≡ 0 }

@@ -1,4 +1,4 @@
-//! The tables of a font: those that every text is looked up in, the glyphs' data, and the programs.
+//! The tables of a font: those needed for every text, the glyphs' data, and the programs.
 
 ghost use Rattle.std.specs.Prelude.{◌≡◌, ◌≤◌, length, IsTrue, IfOk, IfErr, OnOk};
 ghost use Rattle.tt_core.specs.Directory.{HasNo, PassesEnd};
@@ -16,7 +16,7 @@ use tt_fit::{Fit, Programs};
 use tt_glyf::{Glyf, Loca};
 use tt_metrics::Metrics;
 
-/// The directory, the metrics and the character map of a font, whose bytes they borrow.
+/// The directory, the metrics and the character map of a font. They borrow the font's bytes.
 #[derive(Drop)]
 pub struct Face<'a> {
     dir: Dir<'a>,
@@ -37,8 +37,8 @@ impl<'a> Model for Face<'a> {
 }
 
 impl<'a> Face<'a> {
-    /// Takes the tables of a font file of at most 67,108,864 bytes. The glyphs' data and the programs are looked at when
-    /// a line is drawn. Errors: those of the directory, of head, maxp, hhea and hmtx, and of cmap.
+    /// Opens the tables of a font file of at most 67,108,864 bytes. The glyphs' data and the programs are read when a
+    /// line is drawn. Errors: those of the directory, of head, maxp, hhea and hmtx, and of cmap.
     #[tactic(auto, unfolding(crate::specs::Tables::face_of))]
     pub fn open(file: &'a [u8]) -> Result<Face<'a>, Fault>
         requires { length file.now ≤ font_limit }
@@ -53,14 +53,14 @@ impl<'a> Face<'a> {
         Ok(Face { dir, metrics, cmap })
     }
 
-    /// What a font says of the em, of its glyphs and of their advances.
+    /// The units per em, the glyph count and the advances.
     pub fn metrics(&self) -> &Metrics<'a>
         ensures { result.now ≡ self.now.metrics }
     {
         &self.metrics
     }
 
-    /// Which glyph a character has.
+    /// The map from characters to glyphs.
     pub fn cmap(&self) -> &Cmap<'a>
         ensures exact { result.now ≡ self.now.cmap }
         ensures glyphs { result.now.glyphs ≡ glyphs_of self.now.metrics }
@@ -78,7 +78,7 @@ pub(crate) fn open_glyf<'a>(face: &Face<'a>) -> Result<Glyf<'a>, Fault>
     ensures sound { OnOk result (HasNo (IsGlyphTableDefect face.now.directory face.now.metrics)) }
     ensures fault { IfErr result (IsGlyphTableDefect face.now.directory face.now.metrics) }
 {
-    // A loca that is too short comes before a glyf that is not there.
+    // A short loca is reported before a missing glyf.
     let loca = Loca::open(face.dir.needed(*b"loca")?, &face.metrics)?;
     Ok(Glyf::of(loca, face.dir.needed(*b"glyf")?))
 }
@@ -112,7 +112,7 @@ fn all_programs<'a>(dir: &Dir<'a>) -> Result<Programs<'a>, Fault>
     Ok(Programs { cvt, fpgm, prep })
 }
 
-/// The programs that outlines are fitted by; without fitting none is looked at. Error: TableRange.
+/// The programs that fit outlines; with `Fit::None` none is read. Error: TableRange.
 #[tactic(auto, unfolding(crate::specs::Tables::programs_in))]
 pub(crate) fn open_programs<'a>(face: &Face<'a>, fit: Fit) -> Result<Programs<'a>, Fault>
     ensures exact { Gives program_tables result (programs_in face.now.directory fit) }

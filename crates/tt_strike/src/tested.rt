@@ -1,4 +1,4 @@
-//! The glyphs of a line that is laid out, made and tested before they are drawn or measured.
+//! Makes and tests the glyphs of a laid-out line, before they are drawn or measured.
 
 ghost use Rattle.std.specs.Prelude.{◌≡◌, ◌<◌, ◌≤◌, ◌^◌, true, false, length, map, unsigned_abs, All, Ok, Err, IfOk};
 ghost use Rattle.tt_core.specs.declared.fault.JobFault.TheVariants.{WorkLarge};
@@ -29,7 +29,7 @@ use tt_line::Line;
 use tt_scan::Frame;
 use tt_strike_kept::KeptGlyphs;
 
-/// Where the picture of a line that is laid out stands.
+/// The frame of the picture of a laid-out line.
 pub(crate) fn frame_of(line: &Line, margin: u32) -> Frame
     requires width { (1 ≤ line.now.width) × (line.now.width ≤ width_limit) }
     requires height { (1 ≤ line.now.height) × (line.now.height ≤ height_limit) }
@@ -46,8 +46,8 @@ pub(crate) fn frame_of(line: &Line, margin: u32) -> Frame
     }
 }
 
-/// The glyphs of a line that is laid out. Errors: those of loca and glyf, of the programs; WorkLarge of its points; those
-/// of the glyphs in the order of the line; WorkLarge of its crossings; Memory.
+/// The glyphs of a laid-out line. Errors: those of loca and glyf, of the programs; WorkLarge of its points; those of
+/// the glyphs in the order of the line; WorkLarge of its crossings; Memory.
 pub(crate) fn tested_glyphs<'a>(
     alloc: Global,
     face: &Face<'a>,

@@ -26,8 +26,8 @@ pub(crate) fn is_bounded(fit: Fit) -> bool
     }
 }
 
-/// Errors: WorkLarge, where the work of a job is bounded and the glyphs of its line, each once, are made of too many
-/// points; Memory.
+/// Tests the points of a line's distinct glyphs. Errors: WorkLarge, where work is bounded and they are too many;
+/// Memory.
 #[tactic(auto, unfolding(crate::specs::Work::work_tested))]
 pub(crate) fn test_points(
     alloc: Global,
@@ -50,7 +50,7 @@ pub(crate) fn test_points(
     }
 }
 
-/// What some glyphs leave of so many points, or None where they are made of more. Error: want of memory.
+/// What remains of `most` after the points of some glyphs; None where they have more. Error: out of memory.
 fn points_left(fitter: &Fitter, glyphs: &[u16], most: u64) -> Result<Option<u64>, AllocError>
     requires { All (λ g. g < fitter.now.tables.glyphs) glyphs.now }
     ensures { IfOk result (λ left. left ≡ left_of most (sum_by (points_asked fitter.now.tables fitter.now.levels) glyphs.now)) }
@@ -65,8 +65,8 @@ fn points_left(fitter: &Fitter, glyphs: &[u16], most: u64) -> Result<Option<u64>
     Ok(Some(left))
 }
 
-/// Error: WorkLarge, where the work of a job is bounded and its glyphs at their pens cross the rows of the picture too
-/// often.
+/// Tests how often a job's glyphs at their pens cross the rows of the picture. Error: WorkLarge, where work is bounded
+/// and they cross too often.
 #[tactic(auto, unfolding(crate::specs::Work::work_tested))]
 pub(crate) fn test_crossings(fit: Fit, glyphs: &[Glyph]) -> Result<(), JobFault>
     requires tapes { All (λ g. length (edges_of g.body) ≤ 2 ^ 17) glyphs.now }
@@ -78,7 +78,7 @@ pub(crate) fn test_crossings(fit: Fit, glyphs: &[Glyph]) -> Result<(), JobFault>
     Ok(())
 }
 
-/// How often some glyphs cross the rows of the picture, each at its pens; the greatest number stands for more.
+/// How often some glyphs at their pens cross the rows of the picture, at most the greatest number.
 fn crossings(glyphs: &[Glyph]) -> u64
     requires tapes { All (λ g. length (edges_of g.body) ≤ 2 ^ 17) glyphs.now }
     ensures { result ≡ min (crossings_standing glyphs.now) (2 ^ 64 - 1) }
@@ -90,7 +90,7 @@ fn crossings(glyphs: &[Glyph]) -> u64
     all
 }
 
-/// No fewer than that, with less work.
+/// At least `crossings`, with less work.
 fn most_crossings(glyphs: &[Glyph]) -> u64
     requires tapes { All (λ g. length (edges_of g.body) ≤ 2 ^ 17) glyphs.now }
     ensures { min (crossings_standing glyphs.now) (2 ^ 64 - 1) ≤ result }
@@ -102,8 +102,8 @@ fn most_crossings(glyphs: &[Glyph]) -> u64
     all
 }
 
-/// Whether some glyphs cross the rows of the picture more often than the limit. They are counted only where that is not
-/// plain without it.
+/// Whether some glyphs cross the rows of the picture more often than the limit. They are counted only where the cheap
+/// upper bound exceeds it.
 fn cross_too_often(glyphs: &[Glyph]) -> bool
     requires tapes { All (λ g. length (edges_of g.body) ≤ 2 ^ 17) glyphs.now }
     ensures { result ≡ nat_lt crossing_limit (crossings_standing glyphs.now) }

@@ -2,7 +2,7 @@ use Rattle.std.proofs.Common.{◌≡◌, ◌<◌, ℕ, false, drop, get_or, leng
 use Rattle.tt_strike.specs.Distinct.{distinct, distinct_after, is_among}
 use Rattle.tt_strike.proofs.distinct.distinct.Given as goal
 
--- the glyphs that are marked are those that stand among the numbers, and with the rest of the line these are all
+-- the marked glyphs are those among the numbers, and with the rest of the line these are all
 abbrev pub invariant-loop-placed : goal.invariant-loop-placed
 invariant-loop-placed l = record {
   room : length l.met.items ≡ l.glyphs;

@@ -4,7 +4,7 @@ use Rattle.tt_strike.specs.Glyphs.{stamps_in}
 use Rattle.tt_strike.specs.Pixels.{is_filled_by}
 use Rattle.tt_strike.proofs.dropouts.line_dropouts.Given as goal
 
--- those of the glyphs so far
+-- the dropouts of the glyphs so far
 abbrev pub invariant-loop-glyph : goal.invariant-loop-glyph
 invariant-loop-glyph l = record {
   added : (c r : ℕ) → c < l.frame.width → r < l.frame.height

@@ -7,7 +7,7 @@ use Rattle.tt_strike.specs.Picture.{glyph_shape}
 use Rattle.tt_strike.specs.Pixels.{Shape}
 use Rattle.tt_strike.proofs.glyphs.line_glyphs.Given as goal
 
--- the glyphs as kept blacken what those of the places so far do, and the fitter is what they left
+-- the glyphs blacken what those of the places so far do, and the fitter is the one after them
 abbrev pub invariant-loop-placed : goal.invariant-loop-placed
 invariant-loop-placed l = record {
   kept : AreKeptFor l.fn.fitter l.kept.entries;

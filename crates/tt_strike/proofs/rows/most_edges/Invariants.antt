@@ -3,7 +3,7 @@ use Rattle.std.specs.List.{AllWithin}
 use Rattle.tt_strike.specs.Glyphs.{edges_of}
 use Rattle.tt_strike.proofs.rows.most_edges.Given as goal
 
--- none of those so far has more
+-- none of the glyphs so far has more
 abbrev pub invariant-loop-i : goal.invariant-loop-i
 invariant-loop-i l = record {
   end : l.i-end ≡ length l.fn.glyphs;

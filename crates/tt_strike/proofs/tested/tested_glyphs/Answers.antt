@@ -171,7 +171,7 @@ line_glyphs-requires-clause-keeps c = λ on. c.in_ok-fitter.ensures.setting.unbo
 pub line_glyphs-requires-clause-kept : goal.line_glyphs-requires-clause-kept
 line_glyphs-requires-clause-kept c = c.requires.kept c.in_ok-fitter.fitter c.in_ok-fitter.ensures.exact
 
--- what is kept then is kept for what the font has
+-- the cache then fits the fitter of the definition
 kept_then : (c : After-line_glyphs) (s : Fitter) → setting_in c.args.face.now (job_view c.args.job.now) ≡ Ok s
     → AreKeptFor s c.line_glyphs.new.kept.entries
 kept_then c = kept_for (setting_in c.args.face.now (job_view c.args.job.now)) c.in_ok-fitter.fitter

@@ -2,7 +2,7 @@ use Rattle.std.proofs.Common.{◌≡◌, ◌+◌, ◌-◌, ◌^◌, ◌≤◌, m
 use Rattle.tt_strike.specs.Glyphs.{crossings_standing}
 use Rattle.tt_strike.proofs.work.crossings.Given as goal
 
--- the crossings so far, and those of the glyphs that are left, are all
+-- the crossings so far, and those of the remaining glyphs, are all
 abbrev pub invariant-loop-glyph : goal.invariant-loop-glyph
 invariant-loop-glyph l = record {
   sum : min (l.all + crossings_standing (drop l.glyph-index l.glyphs)) (2 ^ 64 - 1)

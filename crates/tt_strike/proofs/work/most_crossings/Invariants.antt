@@ -2,7 +2,7 @@ use Rattle.std.proofs.Common.{◌+◌, ◌-◌, ◌^◌, ◌≤◌, min, drop}
 use Rattle.tt_strike.specs.Glyphs.{crossings_standing}
 use Rattle.tt_strike.proofs.work.most_crossings.Given as goal
 
--- the crossings so far, and those of the glyphs that are left, are enough
+-- the crossings so far, and those of the remaining glyphs, are enough
 abbrev pub invariant-loop-glyph : goal.invariant-loop-glyph
 invariant-loop-glyph l = record {
   enough : min (crossings_standing l.glyphs) (2 ^ 64 - 1)

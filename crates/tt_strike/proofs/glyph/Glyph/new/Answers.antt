@@ -11,7 +11,7 @@ use Rattle.tt_strike.proofs.Turns.{same_dropouts}
 use Rattle.tt_strike.proofs.glyph.Glyph.new.Goals.{After-can_be_kept-plain}
 use Rattle.tt_strike.proofs.glyph.Glyph.new.Goals as goal
 
--- by which rules its dropouts are filled
+-- its dropout rules
 its_rules : (c : After-can_be_kept-plain)
     → c.rules_for-filled.result ≡ filled_by c.args.fitter.now c.args.number (outline_of c.in_ok-outline.outline)
 its_rules c =
@@ -53,7 +53,7 @@ returns-clause-valid c =
       fits = body.body.1;
     }
 
--- a glyph that is kept is as it is made of its outline
+-- a cached glyph equals the one made of its outline
 as_made : (c : After-can_be_kept-plain) → c.can_be_kept-plain.result ≡ true → (k : Raster)
     → IsRasterOf c.in_ok-list.list.edges k
     → IsKept c.args.fitter.now c.args.number (record { raster = k; unfitted = c.in_ok-outline.outline.unfitted })

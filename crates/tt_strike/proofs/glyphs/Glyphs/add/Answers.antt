@@ -4,7 +4,7 @@ use Rattle.tt_strike.proofs.Seats.{places_more}
 use Rattle.tt_strike.specs.Glyphs.{numbers_of}
 use Rattle.tt_strike.proofs.glyphs.Glyphs.add.Goals as goal
 
--- src/glyphs.rt:55:5
+-- the table with one glyph more
 pub returns-clause-places : goal.returns-clause-places
 returns-clause-places c =
     let more = places_more c.args.self.now.places.items (numbers_of c.args.self.now.kept.items) c.args.number c.requires.known c.requires.absent c.requires.places in
