@@ -1,4 +1,4 @@
--- What a caller's proof cites of the words in `specs/Kept.antt`: what holds of each glyph holds of those that stay.
+-- Lemmas for callers about `specs/Kept.antt`: a fact of each glyph holds of those that fit.
 use Rattle.std.proofs.Common.{◌≡◌, refl, ℕ, ◌-◌, ◌<◌, ◌≤◌, nat_eq, nat_le, Bool, true, false, cond, List, [], ◌∷◌, Some, ◌⊎◌, inl, inr, subst, sym, eqb-true, leb-false, leb-true}
 use Rattle.std.specs.List.{All}
 use Rattle.std.specs.Map.{lookup, remove_entry}
@@ -41,7 +41,7 @@ module _ (P : ℕ × KeptGlyph → Type 0) where
         | false ↦ λ is. rw (larger (leb-false (bytes_of g) old.most is)) all
       ]) refl
 
-  -- what `find` answers
+  -- the glyph of `find`
   pub all_found : (number : ℕ) (es : List (ℕ × KeptGlyph)) (g : KeptGlyph) → All P es
       → lookup (nat_eq number) es ≡ Some g → P (number, g)
   all_found number es g all found =

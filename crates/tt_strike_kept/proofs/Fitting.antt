@@ -1,4 +1,4 @@
--- The bytes of kept glyphs, and which of them fit.
+-- The bytes of cached glyphs, and those that fit the limit.
 use Rattle.std.proofs.Common.{◌≡◌, ◌∙◌, refl, ap, ℕ, zero, suc, ◌+◌, ◌-◌, ◌*◌, ◌^◌, ◌<◌, ◌≤◌, nat_eq, nat_le, Bool, true, false, cond, if◌then◌else◌, List, [], ◌∷◌, length, take, slice_get, option_map, Option, Some, None, Result, Ok, Err, OnOk, is_ok, eqb-true, le-leb, leb-false, leb-true, arith}
 use Rattle.std.specs.Cmp.{nat_eq_equiv}
 use Rattle.std.specs.List.{IsDistinct}
@@ -16,12 +16,12 @@ use Rattle.lru.specs.LruCache.{LruCache, last_entry, put_entries}
 pub bytes_more : (e : ℕ × KeptGlyph) (es : List (ℕ × KeptGlyph)) → bytes_in (e ∷ es) ≡ bytes_of e.1 + bytes_in es
 bytes_more e es = sum_by-cons bytes_of e.1 (values_of es)
 
--- each glyph takes its place at least
+-- each glyph takes at least the bytes of its place
 pub places_within : (es : List (ℕ × KeptGlyph)) → 128 * length es ≤ bytes_in es
 places_within [] = omega arith
 places_within (e ∷ es) = omega (arith, bytes_more e es, places_within es)
 
--- the oldest given up
+-- the oldest dropped
 
 bytes_without : (n : ℕ) (es : List (ℕ × KeptGlyph)) (e : ℕ × KeptGlyph) → length es ≡ suc n → slice_get es n ≡ Some e
     → bytes_in (take n es) + bytes_of e.1 ≡ bytes_in es
@@ -47,7 +47,7 @@ none_without_last (e ∷ es) none =
     let some = slice_get-get_or (e ∷ es) (length (e ∷ es) - 1) e (omega arith) in
     absurd cc
 
--- the glyph of a number given up
+-- the glyph of a number dropped
 
 pub bytes_without_found : (test : ℕ → Bool) (es : List (ℕ × KeptGlyph)) (g : KeptGlyph) → lookup test es ≡ Some g
     → bytes_in (remove_entry test es) + bytes_of g ≡ bytes_in es
@@ -95,7 +95,7 @@ put_first c number g most none within fits cap =
     take_all (c.cap - 1) c.entries (omega (arith, places_within c.entries)) in
     rw (absent, all) refl
 
--- what fits
+-- the glyphs that fit
 
 pub kept_is : (k : Kept) (es : List (ℕ × KeptGlyph)) (most : ℕ) → k.entries ≡ es → k.most ≡ most
     → k ≡ record { entries = es; most = most }
@@ -122,7 +122,7 @@ fitting_without (suc n) room (e ∷ es) count more =
       | false ↦ λ is. refl
     ]) refl
 
--- where the glyphs do not fit, the oldest is none of those that stay
+-- where the glyphs do not fit, the oldest is not among those that do
 pub fitting_without_oldest : (room : ℕ) (es : List (ℕ × KeptGlyph)) → room < bytes_in es
     → fitting room (take (length es - 1) es) ≡ fitting room es
 fitting_without_oldest room [] more = refl
@@ -130,7 +130,7 @@ fitting_without_oldest room (e ∷ es) more =
     let count : length (e ∷ es) ≡ suc (length (e ∷ es) - 1) = omega arith in
     fitting_without (length (e ∷ es) - 1) room (e ∷ es) count more
 
--- where they fit, all stay
+-- where they fit, all remain
 pub fitting_all : (room : ℕ) (es : List (ℕ × KeptGlyph)) → bytes_in es ≤ room → fitting room es ≡ es
 fitting_all room [] within = refl
 fitting_all room (e ∷ es) within =

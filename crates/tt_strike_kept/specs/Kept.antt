@@ -1,24 +1,24 @@
--- No part of the standard: the glyphs that a font at a size keeps from line to line, as many as a bound allows.
+-- No part of the standard: the glyphs that a font at a size caches from line to line, within a limit.
 use Rattle.std.specs.Prelude.{◌≡◌, refl, ℕ, ◌+◌, ◌-◌, ◌*◌, if◌then◌else◌, nat_le, pos, List, [], ◌∷◌, length, None}
 use Rattle.std.specs.List.{sum_by}
 use Rattle.std.specs.Map.{values_of}
 use Rattle.tt_scan_rows.specs.Rows.{spans_in}
 use Rattle.tt_strike_kept.specs.Glyph.{KeptGlyph}
 
--- glyphs with their numbers, the newest first, and how many bytes they may take
+-- glyphs with their numbers, the newest first, and their limit in bytes
 pub record Kept : Type 0 where
   pub entries : List (ℕ × KeptGlyph)
   pub most : ℕ
 
--- how many bytes a glyph takes: 16 each span and 8 each row of its raster, and 128 for its place
+-- the bytes of a glyph: 16 each span and 8 each row of its raster, and 128 for its place
 abbrev pub bytes_of : KeptGlyph → ℕ
 bytes_of g = 16 * spans_in g.raster.rows + 8 * length g.raster.rows + 128
 
--- how many all glyphs of a list take
+-- the bytes of all glyphs of a list
 abbrev pub bytes_in : List (ℕ × KeptGlyph) → ℕ
 bytes_in es = sum_by bytes_of (values_of es)
 
--- the longest front of a list whose glyphs take at most so many bytes
+-- the longest front of a list whose glyphs take at most this many bytes
 abbrev pub fitting : ℕ → List (ℕ × KeptGlyph) → List (ℕ × KeptGlyph)
 fitting room [] = []
 fitting room (e ∷ es) = if nat_le (bytes_of e.1) room then e ∷ fitting (room - bytes_of e.1) es else []

@@ -1,9 +1,9 @@
--- Laws of the definitions. No part of the standard: which glyphs stay under a bound.
+-- Laws of the definitions. No part of the standard: which cached glyphs fit a limit.
 use Rattle.std.specs.Prelude.{◌≡◌, ℕ, ◌≤◌, List, length, take}
 use Rattle.tt_strike_kept.specs.Glyph.{KeptGlyph}
 use Rattle.tt_strike_kept.specs.Kept.{bytes_in, fitting}
 
--- the glyphs that stay are so many from the front
+-- the glyphs that fit are a front of the list
 abbrev pub FittingIsPart : Type 0
 FittingIsPart = (room : ℕ) (es : List (ℕ × KeptGlyph)) → (k : ℕ) × (fitting room es ≡ take k es)
 

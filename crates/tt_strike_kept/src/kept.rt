@@ -1,4 +1,4 @@
-//! Glyphs that are kept by their numbers, as many as a bound in bytes allows.
+//! A cache of glyphs by their numbers, with a limit in bytes.
 
 ghost use Rattle.std.specs.Prelude.{◌≡◌, ◌+◌, ◌-◌, ◌∷◌, ◌<◌, ◌≤◌, ◌⊎◌, [], length, nat_eq, take, IfOk, IfSome};
 ghost use Rattle.std.specs.Map.{lookup, remove_entry};
@@ -9,14 +9,14 @@ use lru::LruCache;
 use std::alloc::{AllocError, Global};
 use std::marker::Model;
 
-/// Glyphs by their numbers, at most so many bytes of them; the oldest are given up first. In contracts they are the
-/// list of the glyphs with their numbers, the newest first.
+/// Glyphs by their numbers, within a limit in bytes; the oldest are dropped first. Contracts see the list of the glyphs
+/// with their numbers, the newest first.
 #[derive(Drop)]
 pub struct KeptGlyphs {
     glyphs: LruCache<u16, KeptGlyph>,
-    /// How many bytes all of them take.
+    /// The bytes of all glyphs.
     bytes: usize,
-    /// How many they may take.
+    /// The limit of `bytes`.
     most: usize,
 }
 
@@ -32,7 +32,7 @@ impl Model for KeptGlyphs {
 }
 
 impl KeptGlyphs {
-    /// No glyph yet, and room for `most` bytes of them. Error: memory ran out.
+    /// An empty cache of at most `most` bytes. Error: memory ran out.
     pub fn new(alloc: Global, most: usize) -> Result<KeptGlyphs, AllocError>
         ensures { IfOk result (λ kept. kept ≡ record { entries = []; most = most }) }
     {
@@ -43,17 +43,17 @@ impl KeptGlyphs {
         })
     }
 
-    /// The glyph of a number, whose raster has one more owner then; the order stays. None where no glyph is kept under
-    /// the number, and where its raster has too many owners to be counted.
+    /// The glyph with this number, whose raster then has one more owner; the order is unchanged. None where the cache
+    /// lacks the number, and where the raster has too many owners to be counted.
     pub fn find(&self, number: u16) -> Option<KeptGlyph>
         ensures { IfSome result (λ g. lookup (nat_eq number) self.now.entries ≡ Some g) }
     {
         self.glyphs.peek(&number)?.clone().ok()
     }
 
-    /// Keeps a glyph as the newest, in the place of one that has its number, and gives up the oldest so that all take
-    /// at most as many bytes as they may. A glyph that takes more alone is not kept, and nothing is given up for it.
-    /// Where memory runs out it is not kept either, and what was given up for it does not come back.
+    /// Adds a glyph as the newest, in place of one with its number, and drops the oldest until all fit the limit. A
+    /// glyph that exceeds the limit alone is not added, and nothing is dropped for it. Where memory runs out it is not
+    /// added either, but the dropped glyphs are gone.
     pub fn keep(&mut self, number: u16, glyph: KeptGlyph)
         ensures most { self.new.most ≡ self.old.most }
         ensures larger { self.old.most < bytes_of glyph → self.new ≡ self.old }
@@ -69,7 +69,7 @@ impl KeptGlyphs {
         self.put_newest(number, glyph, room);
     }
 
-    /// Puts a glyph first beside which there is so much room, unless memory runs out.
+    /// Puts a glyph first, with `room` bytes beside it, unless memory runs out.
     fn put_newest(&mut self, number: u16, glyph: KeptGlyph, room: usize)
         requires none { lookup (nat_eq number) self.old.entries ≡ None }
         requires room { room + bytes_of glyph ≡ self.old.most }
@@ -83,19 +83,19 @@ impl KeptGlyphs {
         }
     }
 
-    /// Gives up the glyph of a number, if there is one.
+    /// Drops the glyph with this number, if there is one.
     fn give_up(&mut self, number: u16)
         ensures entries { self.new ≡ record self.old { entries = remove_entry (nat_eq number) self.old.entries } }
         ensures none { lookup (nat_eq number) self.new.entries ≡ None }
     {
-        // A cache tells with its length that no two of its keys are equal.
+        // The length of a cache gives the fact that no two of its keys are equal.
         let _count = self.glyphs.len();
         if let Some(glyph) = self.glyphs.pop(&number) {
             self.bytes = glyph.taken_off(self.bytes);
         }
     }
 
-    /// Gives up the oldest glyph, if there is one.
+    /// Drops the oldest glyph, if there is one.
     fn give_up_oldest(&mut self)
         ensures { self.new ≡ record self.old { entries = take (length self.old.entries - 1) self.old.entries } }
     {
@@ -104,7 +104,7 @@ impl KeptGlyphs {
         }
     }
 
-    /// Gives up the oldest glyphs, as few as leave no more than `room` bytes.
+    /// Drops the fewest oldest glyphs such that at most `room` bytes remain.
     fn make_room(&mut self, room: usize)
         ensures { self.new ≡ record self.old { entries = fitting room self.old.entries } }
     {
@@ -113,7 +113,7 @@ impl KeptGlyphs {
         }
     }
 
-    /// How many bytes all glyphs take: for each those of its raster, and 128.
+    /// The bytes of all glyphs: for each those of its raster, and 128.
     pub fn bytes(&self) -> usize
         ensures exact { result ≡ bytes_in self.now.entries }
         ensures most { result ≤ self.now.most }
@@ -121,14 +121,14 @@ impl KeptGlyphs {
         self.bytes
     }
 
-    /// How many bytes all glyphs may take.
+    /// The limit in bytes.
     pub fn most(&self) -> usize
         ensures { result ≡ self.now.most }
     {
         self.most
     }
 
-    /// Gives up all glyphs.
+    /// Drops all glyphs.
     pub fn clear(&mut self)
         ensures { self.new ≡ record self.old { entries = [] } }
     {

@@ -1,13 +1,13 @@
-//! Laws of the definitions. Each function takes nothing and gives nothing: its clauses hold of all lists of glyphs.
+//! Laws of the definitions. Each function is a lemma: its clauses hold of all lists of glyphs, and no code runs.
 
 ghost use Rattle.tt_strike_kept.specs.Laws.{FittingIsLongest, FittingIsPart};
 
-/// The glyphs that stay are the newest of a list: no other comes in, and their order stays.
+/// Lemma: the glyphs that fit are the newest of the list, in unchanged order.
 pub fn newest_stay()
     ensures { FittingIsPart }
 {}
 
-/// They take at most as many bytes as they may, and any more of the newest would take more.
+/// Lemma: the glyphs that fit are within the limit, and any more of the newest would exceed it.
 pub fn most_stay()
     ensures { FittingIsLongest }
 {}

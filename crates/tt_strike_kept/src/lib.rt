@@ -1,4 +1,4 @@
-//! The glyphs that a font at a size keeps from line to line: at most so many bytes of them, the oldest given up first.
+//! The cache of a font at a size: glyphs within a limit in bytes, the oldest dropped first.
 #![tactic(auto)]
 
 mod glyph;
