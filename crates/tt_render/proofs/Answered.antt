@@ -1,4 +1,4 @@
--- What the clauses of a call say where a step of it failed.
+-- The clauses of a call whose step failed.
 use Rattle.std.proofs.Common.{◌≡◌, ◌<◌, ℕ, Bool, true, List, length, Option, Some, None, IfSome, Result, Ok, Err, refl}
 use Rattle.std.specs.Prelude.{IsOkAnd}
 use Rattle.std.specs.Io.KnownBytes.{Consumes, IsAtEnd}
@@ -42,7 +42,7 @@ reading_large run.FontLarge before after read fails = fails.0
 reading_large (run.Write sent) before after read fails = tt
 reading_large run.Memory before after read fails = tt
 
--- and names no defect
+-- reading a font names no defect
 pub reading_defects : (V : Type 0) (e : RunFault) (before after : Option (List ℕ)) (read : Bool) (IsOne : List ℕ → Fault → Type 0)
     → ReadFails e before after read → TellsDefectsOf {V = V} before IsOne (Err e)
 reading_defects V e None after read IsOne fails = tt
@@ -53,7 +53,7 @@ reading_defects V run.FontLarge (Some file) after read IsOne fails = tt
 reading_defects V (run.Write sent) (Some file) after read IsOne fails = absurd fails
 reading_defects V run.Memory (Some file) after read IsOne fails = tt
 
--- what the font refuses is known once the font is
+-- a refusal by the font is known once the font is
 late_refusal : (face : Face) (a : Job) (j : JobFault) → IsFontRefusal face a j → needs_font j ≡ true
 late_refusal face a fault.SizeRange stands = absurd stands
 late_refusal face a fault.TextLong stands = absurd stands
@@ -67,7 +67,7 @@ late : (r : Result Face Fault) (a : Job) (j : JobFault) → IsOkAnd r (λ face. 
 late (Ok face) a j stands = late_refusal face a j stands
 late (Err f) a j stands = absurd stands
 
--- a picture was not made of what was read
+-- no picture was made of the bytes read
 pub drawing_fails : (w : Wanted) (made : List ℕ → Result (List ℕ) Refused) → IsOfFont w made → (a : Job) (d : DrawFault)
     (before after out : Option (List ℕ)) (file : List ℕ) (read write : Bool) → IsRead before after file read write
     → IfSome (refusal d) (λ e. made file ≡ Err e) → IfSome (draw_job_fault d)
@@ -105,7 +105,7 @@ drawing_defects V (draw.Job j) before after file IsOne taken end stands = tells_
 drawing_defects V draw.Memory before after file IsOne taken end stands = tells_of_known IsOne before after file
     (Err run.Memory) taken end tt
 
--- lines were not made of what was read
+-- no lines were made of the bytes read
 pub lines_fail : (w : Wanted) (of : List ℕ → Result (List ℕ) Fault) → IsOfFont w (λ file. as_font (of file))
     → (d : FontFault) (before after out : Option (List ℕ)) (file : List ℕ) (read write : Bool)
     → IsRead before after file read write → IfSome (font_fault d) (λ f. of file ≡ Err f)

@@ -1,4 +1,4 @@
--- What the steps of a call promise, joined.
+-- The promises of a call's steps, joined.
 use Rattle.std.proofs.Common.{◌≡◌, ℕ, ◌<◌, ◌≤◌, Bool, true, false, nat_lt, List, length, Option, Some, None, IfSome, Result, Ok, Err, refl, ◌∙◌, arith, subst}
 use Rattle.std.proofs.lemmas.Bool.Decides.{nat_tests}
 use Rattle.std.specs.Io.KnownBytes.{Consumes, IsAtEnd, Keeps}
@@ -17,7 +17,7 @@ use Rattle.tt_render.specs.Run.{run_outcome}
 use Rattle.tt_render.specs.Reading.{ReadFails}
 use Rattle.tt_render.proofs.Known.{consumes_all}
 
--- what is wanted of a font is what is made of it, if it is not too large, and the job's own tests passed
+-- the definition for a font is its result, if the font is not too large and the job passed its own tests
 pub record IsOfFont (w : Wanted) (made : List ℕ → Result (List ℕ) Refused) : Type 0 where
   pub tested : w.tested ≡ Ok tt
   pub same : (file : List ℕ) → w.bytes file ≡ of_font made file
@@ -71,7 +71,7 @@ pub job_fails : (w : Wanted) (j : JobFault) (left out : Option (List ℕ)) (read
 job_fails w j left out read write refused whatever first reader_serves writer_serves = rw first
     ((refused, whatever), (keeps_same left, reader_serves), (keeps_same out, writer_serves))
 
--- what was read to the end is all that the outcome depends on
+-- the outcome depends only on the bytes read to the end
 pub outcome_known : (w : Wanted) (made : List ℕ → Result (List ℕ) Refused) → IsOfFont w made
     → (before after : Option (List ℕ)) (file : List ℕ) → Consumes before after file → IsAtEnd after
     → length file ≤ font_limit → IfSome before (λ all. w.bytes all ≡ made file)
@@ -93,7 +93,7 @@ reading_fails w made of_made (run.Write sent) before after out read write fails 
 reading_fails w made of_made run.Memory before after out read write fails serves =
     (of_made.tested, fails, (keeps_same out, serves))
 
--- what the reader had, read to its end, and nothing written
+-- the reader's bytes were read to the end, and nothing was written
 pub record IsRead (before after : Option (List ℕ)) (file : List ℕ) (read write : Bool) : Type 0 where
   pub taken : Consumes before after file
   pub end : IsAtEnd after
@@ -101,7 +101,7 @@ pub record IsRead (before after : Option (List ℕ)) (file : List ℕ) (read wri
   pub reader_serves : read ≡ false
   pub writer_serves : write ≡ false
 
--- what stops the making of the bytes stops the call
+-- a stop in making the bytes stops the call
 pub font_fails : (w : Wanted) (made : List ℕ → Result (List ℕ) Refused) → IsOfFont w made
     → (f : Fault) (before after out : Option (List ℕ)) (file : List ℕ) (read write : Bool)
     → IsRead before after file read write → made file ≡ Err (font f) → CallFails (run.Font f)
@@ -123,7 +123,7 @@ pub memory_fails : (w : Wanted) (made : List ℕ → Result (List ℕ) Refused) 
 memory_fails w made of_made before after out file read write r =
     (of_made.tested, ((file, r.taken), r.reader_serves), (keeps_same out, r.writer_serves))
 
--- what holds of the bytes that were made holds of those that are to be written
+-- a fact of the bytes made is one of the bytes to write
 pub with_bytes : (w : Wanted) (made : List ℕ → Result (List ℕ) Refused) → IsOfFont w made → (Q : List ℕ → Type 0)
     (before after : Option (List ℕ)) (file bytes : List ℕ) → Consumes before after file → IsAtEnd after
     → length file ≤ font_limit → made file ≡ Ok bytes → Q bytes → IfSome before (WithBytes w.bytes Q)
@@ -131,7 +131,7 @@ with_bytes w made of_made Q before after file bytes taken end small is_made hold
     if_some_more before (λ all. w.bytes all ≡ made file) (WithBytes w.bytes Q) (λ all h. (bytes, h ∙ is_made, holds))
     (outcome_known w made of_made before after file taken end small)
 
--- what is told of the defects of the bytes that were read is told of the reader's
+-- a claim about the defects of the bytes read is one about the reader's
 pub tells_of_known : {V : Type 0} (IsOne : List ℕ → Fault → Type 0) (before after : Option (List ℕ)) (file : List ℕ)
     (result : Result V RunFault) → Consumes before after file → IsAtEnd after → CallTellsDefects (IsOne file) result
     → TellsDefectsOf before IsOne result
@@ -140,7 +140,7 @@ tells_of_known {V} IsOne (Some xs) after file result taken end tells =
     let same = consumes_all xs after file taken end in
     let P : List ℕ → Type 0 = λ all. CallTellsDefects (IsOne all) result in subst P same tells
 
--- what is known of the bytes that were read to the end is known of the reader's
+-- a fact of the bytes read to the end is one of the reader's
 pub known_of : (before after : Option (List ℕ)) (file : List ℕ) (P : List ℕ → Type 0) → Consumes before after file
     → IsAtEnd after → P file → IfSome before P
 known_of None after file P taken end holds = tt

@@ -1,4 +1,4 @@
--- What a line answers, and what is drawn of lines one after the other.
+-- The answer of a line, and the drawing of lines in order.
 use Rattle.std.proofs.Common.{◌≡◌, ℕ, ◌+◌, ◌<◌, ◌≤◌, Bool, true, false, nat_lt, List, [], ◌∷◌, ◌++◌, length, take, Option, Some, None, IfSome, Result, Ok, Err, ap, sym, subst, refl, ◌∙◌, arith, append_assoc, append-nil, length-append}
 use Rattle.std.specs.Prelude.{IsUtf8}
 use Rattle.std.proofs.lemmas.Bool.Decides.{nat_tests}
@@ -48,19 +48,19 @@ line_of_text a s line text short is_text =
     let yes = is_utf8-from_IsUtf8 line is_text.1 in
     rw (is, yes, is_text.0) refl
 
--- a text whose first line is too long begins with a line that is refused
+-- a text whose first line is too long begins with a refused line
 pub long_is_refused : (a : Setting) (s : Strike) (before : Option (List ℕ)) → IfSome before BeginsLong
     → IfSome before (BeginsRefused (draws_by a s) (refused (job fault.TextLong)))
 long_is_refused a s None long = tt
 long_is_refused a s (Some text) long = (long.0, long.1, long.2, long_line a s long.0 long.3)
 
--- what is drawn of lines, all of which are drawn, and then of others
+-- lines that are all drawn, and then others
 record AreJoined (first rest all : LinesDrawn) : Type 0 where
   stop : all.stop ≡ rest.stop
   bytes : all.bytes ≡ first.bytes ++ rest.bytes
   told : all.told ≡ first.told ++ rest.told
 
--- a line and those after it, where those before a rest are drawn
+-- a line and those after it, followed by the rest
 after_drawn : (n : ℕ) (r : Result TextAnswer TextRefusal) (first rest all : LinesDrawn)
     → (drawn_with n r first).stop ≡ None → (first.stop ≡ None → AreJoined first rest all)
     → AreJoined (drawn_with n r first) rest (drawn_with n r all)
@@ -85,13 +85,13 @@ drawn_append n draw (line ∷ lines) rest none =
     rw same (after_drawn n (draw line) (drawn_from (n + 1) draw lines) (drawn_from (n + 1 + length lines) draw rest)
     (drawn_from (n + 1) draw (lines ++ rest)) none (λ all. drawn_append (n + 1) draw lines rest all))
 
--- lines, none of which is refused, went out with their reports
+-- lines without a refusal were written with their reports
 pub record AreSent (draw : Draws) (out_before out_after : Option (List ℕ)) (e : Errors) (lines : List (List ℕ)) : Type 0 where
   pub stop : (drawn_from 1 draw lines).stop ≡ None
   pub bytes : Appends out_before out_after (drawn_from 1 draw lines).bytes
   pub told : Prints e (drawn_from 1 draw lines).told
 
--- the lines of a text so far, where it is known: so many went out, and these are left
+-- the lines of a text so far, where it is known: this many were written, and these remain
 abbrev pub SoFar : Draws → Option (List ℕ) → Option (List ℕ) → Option (List ℕ) → Option (List ℕ) → Errors → ℕ → Type 0
 SoFar draw None left out_before out_after e number = Unit {0}
 SoFar draw (Some text) None out_before out_after e number = ⊥
@@ -108,7 +108,7 @@ none_so_far draw (Some text) (Some rest) out error failed kept serves =
     record { stop = refl; bytes = appends_nothing out; told = nothing_printed error failed serves } in
     ([], ap lines_of (sym kept), refl, sent)
 
--- a line after others that went out
+-- a line after others that were written
 sent_too : (draw : Draws) (a b c x y z : Option (List ℕ)) (failed now : Bool) (first : List (List ℕ)) (line : List ℕ)
     (answer : TextAnswer) → AreSent draw a b (record { before = x; after = y; failed = failed }) first
     → draw line ≡ Ok answer → Appends b c answer.bytes
@@ -155,7 +155,7 @@ one_more draw (Some text) (Some rest) (Some left) a b c x y z failed now number 
       sent_too draw a b c x y z failed now first line answer so_far.3 is out behind,
     )
 
--- no line is left
+-- no line remains
 pub all_drawn : (draw : Draws) (left : Option (List ℕ)) (t : Traffic) (e : Errors) (number : ℕ)
     → SoFar draw t.left_before left t.out_before t.out_after e number → IfSome left (λ rest. lines_of rest ≡ [])
     → IfSome t.left_before (SendsDrawn draw t e None)
@@ -193,7 +193,7 @@ next_refused draw (Some text) (Some rest) t e number why so_far begins =
     rw (joined.told, told) (append-nil (drawn_from 1 draw first).told) in
     (rw parts (joined.stop ∙ stop), rw (parts, out) sent.bytes, rw (parts, reports) sent.told)
 
--- the pictures of the lines so far went out, and then more
+-- the output of the lines so far was written, and then more
 first_sent : (draw : Draws) (text left b : Option (List ℕ)) (t : Traffic) (e : Errors) (number : ℕ) (more : List ℕ)
     (P : List (List ℕ) → Type 0) → SoFar draw text left t.out_before b e number → Appends b t.out_after more
     → IfSome left (λ rest. P (lines_of rest)) → IfSome text (SendsFirstLines draw t e number more P)
@@ -206,7 +206,7 @@ first_sent draw (Some text) (Some rest) b t e number more P so_far out holds =
     let all = appends_more t.out_before b t.out_after bytes more (bytes ++ more) sent.bytes out refl in
     (first, lines_of rest, so_far.1, so_far.2, (sent.stop, all, sent.told), holds)
 
--- so many whole pictures went out
+-- the output of this many lines was written
 pub many_sent : (draw : Draws) (left : Option (List ℕ)) (t : Traffic) (e : Errors) (number many : ℕ) → number ≡ many
     → SoFar draw t.left_before left t.out_before t.out_after e number
     → IfSome t.left_before (SendsFirstLines draw t e many [] (λ rest. Unit {0}))
@@ -218,7 +218,7 @@ many_sent draw left t e number many is so_far = rw (← is)
     always None = tt
     always (Some rest) = tt
 
--- some whole pictures went out
+-- the output of some lines was written
 pub some_sent : (draw : Draws) (left : Option (List ℕ)) (t : Traffic) (e : Errors) (number : ℕ)
     → SoFar draw t.left_before left t.out_before t.out_after e number → IfSome t.left_before (SendsSome draw t e)
 some_sent draw left t e number so_far = some t.left_before (many_sent draw left t e number number refl so_far)
@@ -228,7 +228,7 @@ some_sent draw left t e number so_far = some t.left_before (many_sent draw left 
     some None sends = tt
     some (Some text) sends = (number, sends)
 
--- and then a front of the next
+-- then a front of the next line's output was written
 pub cut_sent : (draw : Draws) (left after b : Option (List ℕ)) (t : Traffic) (e : Errors) (number sent : ℕ)
     (line : List ℕ) (answer : TextAnswer) → SoFar draw t.left_before left t.out_before b e number
     → LosesLine left after line → draw line ≡ Ok answer → sent < length answer.bytes
@@ -255,7 +255,7 @@ cut_sent draw left after b t e number sent line answer so_far loses is few out =
     cut (Some rest) None loses so_far = absurd loses
     cut (Some rest) (Some left) loses so_far = rw loses (answer, is, few, refl)
 
--- what stopped a line stops the call
+-- a stop in a line stops the call
 stops : (draw : Draws) (fault : TextStop) (left after : Option (List ℕ)) (t : Traffic) (e : Errors) (number : ℕ)
     → SoFar draw t.left_before left t.out_before t.out_after e number → DrawsLine draw (Err fault) left after
     → FailsByStop t.read_failed (Err fault) → t.write_failed ≡ false
@@ -275,13 +275,13 @@ stopped draw other fault left after t e number same so_far outcome reads writes 
     stops draw fault left after t e number so_far
     (subst (λ (d : Draws). DrawsLine d (Err fault) left after) same outcome) reads writes
 
--- the reader is at its end where nothing is left of its text
+-- the reader is at its end where nothing of its text remains
 pub reader_at_end : (held : List ℕ) (left : Option (List ℕ)) → IsAtEnd (prepend_known held left) → IsAtEnd left
 reader_at_end held None end = tt
 reader_at_end [] (Some xs) end = end
 reader_at_end (y ∷ ys) (Some xs) end = absurd cc
 
--- a reader that holds nothing has the whole text left
+-- a reader that holds nothing has the whole text before it
 pub whole_text : (held : List ℕ) (left : Option (List ℕ)) → held ≡ [] → Keeps left (prepend_known held left)
 whole_text held None none = tt
 whole_text held (Some xs) none = rw none refl

@@ -1,4 +1,4 @@
--- What a strike of a font tells of a line, told of the font's file.
+-- The claims of a font's strike about a line, as claims about the font's file.
 use Rattle.std.proofs.Common.{◌≡◌, List, ℕ, Result, Ok, Err, inl, inr, refl, arith}
 use Rattle.std.specs.Prelude.{IfSome, IsOkAnd}
 use Rattle.tt_core.specs.declared.fault.JobFault.{JobFault}
@@ -49,7 +49,7 @@ refusal_tells a file face (draw.Font f) valid there stands = tt
 refusal_tells a file face (draw.Job j) valid there stands = rw there (by_font a face j valid stands)
 refusal_tells a file face draw.Memory valid there stands = tt
 
--- a size out of range is what a job is refused for first
+-- a size out of range is the first refusal of a job
 first_refused : (t : Result (Unit {0}) JobFault) (f : Unit {0} → Result (Unit {0}) JobFault) (r : Refused)
     → as_job t ≡ Err r → as_job (t >>= f) ≡ Err r
 first_refused (Ok u) f r refused = absurd cc
@@ -71,7 +71,7 @@ size_refuses a face (draw.Font f) stands = tt
 size_refuses a face (draw.Job j) stands = rw stands.0 stands.1
 size_refuses a face draw.Memory stands = tt
 
--- and no defect of a font
+-- a refused size names no defect of a font
 pub size_tells : (P : Fault → Type 0) (e : DrawFault) → IfSome (draw_font_fault e) (λ _. ⊥) → IfSome (draw_font_fault e) P
 size_tells P (draw.Font f) none = absurd none
 size_tells P (draw.Job j) none = tt

@@ -1,4 +1,4 @@
--- Where a call stops before it reads a line, and the font that lines are drawn by.
+-- A call that stops before it reads a line, and the font that lines are drawn by.
 use Rattle.std.proofs.Common.{◌≡◌, ℕ, ◌≤◌, Bool, false, nat_lt, List, length, Option, Result, Ok, Err, IfSome, refl, arith}
 use Rattle.std.proofs.lemmas.Bool.Decides.{nat_tests}
 use Rattle.tt_core.specs.declared.fault.JobFault.{JobFault}
@@ -19,7 +19,7 @@ use Rattle.tt_render.specs.Settings.{setting_tested, strike_by, strike_of}
 use Rattle.tt_render.specs.Views.{texts_fault_of_draw, texts_fault_of_run}
 use Rattle.tt_render.proofs.Printed.{keeps_itself}
 
--- devices that were not asked
+-- unused devices
 pub idle : (left out error : Option (List ℕ)) (read write failed : Bool) → read ≡ false → write ≡ false
     → failed ≡ false → IsIdle
     (record { left_before = left; left_after = left; read_failed = read; out_before = out; out_after = out; write_failed = write })
@@ -56,13 +56,13 @@ font_refused a file f small there =
     let fits : nat_lt font_limit (length file) ≡ false = grind (arith, nat_tests) in
     rw (fits, there) refl
 
--- a size that passed its test is not what a strike is refused for
+-- a strike is not refused for a size that passed its test
 pub size_passes : (r : Result (Unit {0}) JobFault) (rest : Unit {0} → Result (Unit {0}) JobFault) (why : Refused)
     → (r >>= rest) ≡ Ok tt → as_job r ≡ Err why → ⊥
 size_passes (Ok u) rest why passes refused = absurd cc
 size_passes (Err j) rest why passes refused = absurd cc
 
--- so it is memory that the strike was refused for
+-- so the strike was refused for lack of memory
 pub strike_stops : {S : Type 0} (a : Setting) (opened : List ℕ → Result S Refused) (fault : DrawFault) (f : FontReader)
     (file : List ℕ) → setting_tested a ≡ Ok tt → FontIsRead f file
     → IfSome (refusal fault) (λ why. as_job (size_tested a.ppem) ≡ Err why)

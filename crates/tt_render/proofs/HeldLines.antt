@@ -1,4 +1,4 @@
--- What a reader of lines holds, and the lines of a text whose front is known.
+-- The bytes held by a reader of lines, and the lines of a text whose front is known.
 use Rattle.std.proofs.Common.{◌≡◌, ◌≢◌, ℕ, ◌+◌, ◌-◌, ◌<◌, ◌≤◌, Bool, true, false, cond, eqb, List, [], ◌∷◌, ◌++◌, length, take, drop, All, Option, Some, None, ap, sym, refl, ◌∙◌, arith, append_assoc, append-nil, length-append, length-drop, get_or, get_or-drop, drop-cons, drop-drop, take-append-drop, subst, add-one, IfSome, length-take-le, ne_eqb}
 use Rattle.std.proofs.Math.Seq.{take-add}
 use Rattle.std.proofs.lemmas.List.{drop-append-le, drop-take}
@@ -32,7 +32,7 @@ held_more from until n old new low high front =
     ∙ drop-append-le from (take until new) (take n (drop until new)) (omega (arith, long))
     ∙ ap (λ xs. drop from xs ++ take n (drop until new)) front
 
--- bytes with no line feed stand at the front of the first line
+-- bytes without a line feed are the front of the first line
 pub lines_without_feed : (front xs ys : List ℕ) → All (λ x. x ≢ 10) xs
     → lines_after front (xs ++ ys) ≡ lines_after (front ++ xs) ys
 lines_without_feed front [] ys none = ap (λ l. lines_after l ys) (sym (append-nil front))
@@ -48,12 +48,12 @@ pub first_of_lines : (line rest : List ℕ) → All (λ x. x ≢ 10) line
 unfolding lines_of
 first_of_lines line rest none = lines_without_feed [] line (10 ∷ rest) none
 
--- a text with no line feed is a line, unless it is empty
+-- a text without a line feed is a line, unless it is empty
 pub only_of_lines : (line : List ℕ) → All (λ x. x ≢ 10) line → lines_of line ≡ last_lines line
 unfolding lines_of
 only_of_lines line none = ap (lines_after []) (sym (append-nil line)) ∙ lines_without_feed [] line [] none
 
--- what stands behind a front of what is held
+-- the bytes behind a front of the held bytes
 pub part_held : (from until known : ℕ) (bytes : List ℕ) → from + known ≤ until
     → drop known (drop from (take until bytes)) ≡ take (until - (from + known)) (drop (from + known) bytes)
 part_held from until known bytes within =
@@ -61,14 +61,14 @@ part_held from until known bytes within =
     drop-drop known from (take until bytes) ∙ ap (λ k. drop (from + known) (take k bytes)) whole
     ∙ drop-take (from + known) (until - (from + known)) bytes
 
--- no line feed stands in either part
+-- neither part has a line feed
 pub none_in_both : (known : ℕ) (bytes : List ℕ) → All (λ x. x ≢ 10) (take known bytes)
     → All (λ x. x ≢ 10) (drop known bytes) → All (λ x. x ≢ 10) bytes
 none_in_both known bytes front back =
     subst (All (λ x. x ≢ 10)) (take-append-drop known bytes)
     (All-append (λ x. x ≢ 10) (take known bytes) (drop known bytes) front back)
 
--- the first line feed stands in the second part
+-- the first line feed is in the second part
 pub first_feed_behind : (known at : ℕ) (bytes : List ℕ) → known ≤ length bytes → All (λ x. x ≢ 10) (take known bytes)
     → IsFirstFeed (drop known bytes) at → IsFirstFeed bytes (known + at)
 first_feed_behind known at bytes within front first = record {
@@ -86,7 +86,7 @@ split_at_feed bytes at first =
     sym (take-append-drop at bytes)
     ∙ ap (λ xs. take at bytes ++ xs) (here ∙ ap (λ x. x ∷ drop (at + 1) bytes) first.feed)
 
--- a line given out to its line feed
+-- a line given out up to its line feed
 pub loses_line : (before left : Option (List ℕ)) (held rest line : List ℕ) (at : ℕ)
     → Keeps before (prepend_known held left) → IsFirstFeed held at → rest ≡ drop (at + 1) held → line ≡ before_feed (take at held)
     → LosesLine before (prepend_known rest left) line
@@ -99,7 +99,7 @@ loses_line (Some text) (Some more) held rest line at kept first behind is =
     ap lines_of (sym kept ∙ cut) ∙ first_of_lines (take at held) (drop (at + 1) held ++ more) first.before in
     rw (is, behind) parts
 
--- what is held and then what is left stays the text, where bytes go from the one to the other
+-- the text is unchanged where bytes move from the source to the held bytes
 pub keeps_more : (before left after : Option (List ℕ)) (held new : List ℕ) (n : ℕ)
     → Keeps before (prepend_known held left) → GetsMore held new left after n → Keeps before (prepend_known new after)
 keeps_more None left after held new n kept more = tt
@@ -116,7 +116,7 @@ few_before_feed line = at (ends_with_byte 13 line)
     at true = omega (arith, length-take-le (length line - 1) line (omega arith))
     at false = omega arith
 
--- a text of which so much has no line feed begins with a line that is too long
+-- a text with this many bytes before any line feed begins with a line that is too long
 abbrev LongAfter : List (List ℕ) → Type 0
 LongAfter all = (line : List ℕ) × (lines : List (List ℕ)) × (all ≡ line ∷ lines) × (line_limit < length line)
 
@@ -141,7 +141,7 @@ begins_long (Some text) (Some more) held kept none long =
     let first : LongAfter (lines_after held more) = long_after more held long in
     (first.0, first.1, all ∙ first.2, first.3)
 
--- nothing is left
+-- nothing remains
 pub no_more_lines : (before after : Option (List ℕ)) (held : List ℕ) → Keeps before (prepend_known held after)
     → length held ≡ 0 → IsAtEnd after → IfSome before (λ text. lines_of text ≡ []) × IsAtEnd (prepend_known held after)
 unfolding lines_of
@@ -152,7 +152,7 @@ no_more_lines (Some text) None held kept none end = absurd kept
 no_more_lines (Some text) (Some xs) [] kept none end = (ap lines_of (sym kept ∙ end), end)
 no_more_lines (Some text) (Some xs) (y ∷ ys) kept none end = absurd (omega (arith, none))
 
--- what is held at the end is the last line
+-- the bytes held at the end are the last line
 pub loses_rest : (before after : Option (List ℕ)) (held rest line : List ℕ) → Keeps before (prepend_known held after)
     → All (λ x. x ≢ 10) held → 0 < length held → IsAtEnd after → rest ≡ [] → line ≡ held
     → LosesLine before (prepend_known rest after) line
@@ -165,7 +165,7 @@ loses_rest (Some text) (Some xs) (y ∷ ys) rest line kept none some end behind 
     let all : lines_of text ≡ (y ∷ ys) ∷ [] = ap lines_of (sym kept ∙ whole) ∙ only_of_lines (y ∷ ys) none in
     rw (is, behind, end) all
 
--- a read that gave nothing changed nothing
+-- a read of no bytes changed nothing
 pub holds_the_same : (left after : Option (List ℕ)) (held new : List ℕ) (n : ℕ) → GetsMore held new left after n → n ≡ 0
     → new ≡ held
 holds_the_same left after held new n more none = none_more more.0 (omega (arith, more.1, none)) more.2

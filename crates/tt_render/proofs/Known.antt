@@ -1,4 +1,4 @@
--- What a reader has left, over several calls.
+-- A reader's remaining bytes, over several calls.
 use Rattle.std.proofs.Common.{◌≡◌, ℕ, ◌+◌, ◌<◌, List, ◌++◌, length, take, drop, Option, Some, None, IfSome, Result, Ok, Err, drop_at, sym, ap, subst, ◌∙◌, arith, append_assoc, length-append}
 use Rattle.std.proofs.Math.Seq.{take-add}
 use Rattle.std.proofs.lemmas.List.{take-append-le}
@@ -15,20 +15,20 @@ consumes_more (Some xs) (Some ys) None front piece first next = absurd next
 consumes_more (Some xs) (Some ys) (Some zs) front piece first next = rw (first, next)
     (sym (append_assoc front piece zs))
 
--- what was consumed is no longer than what was there
+-- the bytes read are no more than those of the reader
 pub consumes_larger : (a b : Option (List ℕ)) (bytes : List ℕ) (limit : ℕ) → Consumes a b bytes → limit < length bytes
     → IfSome a (λ file. limit < length file)
 consumes_larger None b bytes limit taken large = tt
 consumes_larger (Some xs) None bytes limit taken large = absurd taken
 consumes_larger (Some xs) (Some ys) bytes limit taken large = rw taken (simp length-append (omega arith))
 
--- what was consumed up to the end is all
+-- the bytes read up to the end are all
 pub consumes_all : (xs : List ℕ) (b : Option (List ℕ)) (bytes : List ℕ) → Consumes (Some xs) b bytes → IsAtEnd b → bytes
     ≡ xs
 consumes_all xs None bytes taken end = absurd taken
 consumes_all xs (Some ys) bytes taken end = grind (arith, common_steps)
 
--- what was read behind a filled front makes it longer
+-- bytes read behind a filled front make it longer
 pub consumes_filled : (a b c : Option (List ℕ)) (old new : List ℕ) (filled n : ℕ) → take filled new ≡ take filled old
     → Consumes a b (take filled old) → Consumes b c (take n (drop filled new)) → Consumes a c (take (filled + n) new)
 consumes_filled a b c old new filled n front first next =
@@ -36,7 +36,7 @@ consumes_filled a b c old new filled n front first next =
     take-add filled n new ∙ ap (λ xs. xs ++ take n (drop filled new)) front in
     subst (Consumes a c) (sym both) (consumes_more a b c (take filled old) (take n (drop filled new)) first next)
 
--- what was read into a part of a buffer stands behind the front
+-- bytes read into a part of a buffer are behind the front
 pub consumes_in_place : {E : Type 0} (a b : Option (List ℕ)) (r : Result ℕ E) (front part rest : List ℕ) (filled : ℕ)
     → length front ≡ filled → ReadsAtMost r part → ReadConsumes a b r part
     → IfOk r (λ n. Consumes a b (take n (drop filled (front ++ (part ++ rest)))))

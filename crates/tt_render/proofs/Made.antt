@@ -1,4 +1,4 @@
--- What is written was made of a file that is not too large.
+-- The written bytes were made of a file that is not too large.
 use Rattle.std.proofs.Common.{◌≡◌, ℕ, nat_lt, List, length, Result, Ok, Err}
 use Rattle.tt_core.specs.declared.fault.JobFault.{JobFault}
 use Rattle.tt_core.specs.Chains.{came-through, passed-on}
@@ -16,7 +16,7 @@ use Rattle.tt_render.specs.MapLines.{lines_of, map_outcome}
 use Rattle.tt_render.specs.Outcome.{outcome_of}
 use Rattle.tt_render.specs.Run.{run_outcome}
 
--- what was given of a font was not refused
+-- a result of a font was not refused
 of-font : {X : Type 0} (r : Result X Fault) (x : X) → as_font r ≡ Ok x → r ≡ Ok x
 of-font (Ok y) x was = cc
 of-font (Err f) x was = absurd cc

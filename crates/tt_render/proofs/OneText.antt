@@ -34,13 +34,13 @@ use Rattle.tt_strike.specs.Refusals.{Refused, as_job, refusal}
 use Rattle.tt_strike.specs.Strikes.{Strike}
 use Rattle.tt_strike.specs.Tables.{Face, face_of}
 
--- what a text answers does not depend on how many bytes of glyphs may be kept
+-- the answer of a text does not depend on the cache's limit
 pub most_aside : (s : Strike) (most : ℕ) (wanted : Product) (asked : Missing) (margin : ℕ) (text : List ℕ)
     → text_answer s wanted asked margin text ≡ text_answer (record s { most = most }) wanted asked margin text
 unfolding text_answer product_of
 most_aside s most wanted asked margin text = refl
 
--- a strike of a size that was tested is made, unless memory runs out
+-- a strike of a tested size is made, unless memory runs out
 pub strike_stops : (answer : Strike → Result TextAnswer TextRefusal) (opened : Result Strike Refused) (a : Job)
     (d : DrawFault) → tested a ≡ Ok tt → IfSome (refusal d) (λ r. as_job (size_tested a.ppem) ≡ Err r)
     → ReadiesText answer opened (Err (texts_fault_of_draw d))
@@ -51,7 +51,7 @@ strike_stops answer opened a (draw.Job j) good refused =
     absurd (size_passes (size_tested a.ppem) _ _ good refused)
 strike_stops answer opened a draw.Memory good refused = tt
 
--- what stops the text stops the call
+-- a stop in the text stops the call
 pub text_stops : (answer : Strike → Result TextAnswer TextRefusal) (opened : Result Strike Refused) (s : Strike)
     (why : TextStop) → opened ≡ Ok s → IfSome (told why) (λ e. answer s ≡ Err e)
     → IsNoRead {V = ReadyText} (Err why) → ReadiesText answer opened (Err (texts_fault_of None why))
@@ -59,7 +59,7 @@ text_stops answer opened s (stop.Refused f) is refused serves = (s, is, refused)
 text_stops answer opened s stop.Read is refused serves = absurd serves
 text_stops answer opened s stop.Memory is refused serves = tt
 
--- a text that is not ready to go out stops the call
+-- a text that is not ready stops the call
 pub text_fails : (a : Setting) (text file : List ℕ) (e : TextsFault) (t : Traffic) (errors : Errors)
     → tested (job_by a text) ≡ Ok tt → FontIsRead (reader_in t) file
     → ReadiesText (text_by a text) (strike_of a file) (Err e) → IsSilent t errors
@@ -77,7 +77,7 @@ text_fails a text file texts.Many t errors good read why silent = absurd why
 text_fails a text file texts.Memory t errors good read why silent =
     inl ((good, ((file, read.0), read.2)), silent)
 
--- a writer and a device that were not asked
+-- an unused writer and device
 pub silent : (left rest out error : Option (List ℕ)) (read write failed : Bool) → write ≡ false → failed ≡ false
     → IsSilent
     (record { left_before = left; left_after = rest; read_failed = read; out_before = out; out_after = out; write_failed = write })
@@ -85,7 +85,7 @@ pub silent : (left rest out error : Option (List ℕ)) (read write failed : Bool
 silent left rest out error read write failed serves prints =
     ((keeps_itself out, serves), (keeps_itself error, prints))
 
--- the picture of a text went out, and its report
+-- the output of a text was written, and its report printed
 pub text_written : (a : Setting) (text file : List ℕ) (s : Strike) (answer : TextAnswer) (t : Traffic) (e : Errors)
     → tested (job_by a text) ≡ Ok tt → FontIsRead (reader_in t) file → strike_of a file ≡ Ok s
     → text_by a text s ≡ Ok answer → SendsAll t answer.bytes → WriterServes t → Prints e (told_of None answer)
@@ -93,7 +93,7 @@ pub text_written : (a : Setting) (text file : List ℕ) (s : Strike) (answer : T
 text_written a text file s answer t e good read opened made sent serves printed =
     inr (good, file, read, s, opened, (answer, made, sent, serves, printed))
 
--- a front of it did, and no report
+-- a front of it was written, and no report
 pub text_cut : (a : Setting) (text file : List ℕ) (s : Strike) (answer : TextAnswer) (sent : ℕ) (t : Traffic)
     (e : Errors) → tested (job_by a text) ≡ Ok tt → FontIsRead (reader_in t) file → strike_of a file ≡ Ok s
     → text_by a text s ≡ Ok answer → SendsFirst sent t answer.bytes → WriterFails t → PrintsNothing e
@@ -101,7 +101,7 @@ pub text_cut : (a : Setting) (text file : List ℕ) (s : Strike) (answer : TextA
 text_cut a text file s answer sent t e good read opened made first fails silent =
     inr (good, file, read, s, opened, (answer, made, first, fails, silent))
 
--- a strike that is not made tells no defect
+-- a failure to make a strike names no defect
 pub strike_tells : (IsOne : Fault → Type 0) (d : DrawFault) → IfSome (draw_font_fault d) (λ _. ⊥)
     → TextTellsDefects {V = ReadyText} IsOne (Err (texts_fault_of_draw d))
 strike_tells IsOne (draw.Font f) none = absurd none
@@ -119,7 +119,7 @@ text_tells a file face (stop.Refused (fault.Missing c)) there stands = tt
 text_tells a file face stop.Read there stands = tt
 text_tells a file face stop.Memory there stands = tt
 
--- a job that is refused at once tells no defect
+-- a job that is refused at once names no defect
 pub job_tells : (before : Option (List ℕ)) (IsOne : List ℕ → Fault → Type 0) (j : JobFault)
     → TextTellsDefectsOf {V = Unit {0}} before IsOne (Err (texts.Job j))
 job_tells None IsOne j = tt

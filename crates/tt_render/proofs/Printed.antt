@@ -1,4 +1,4 @@
--- What is printed text after text, on a device that may fail.
+-- Printing text after text, on a device that may fail.
 use Rattle.std.proofs.Common.{◌≡◌, ℕ, ◌+◌, ◌<◌, ◌≤◌, Bool, true, false, List, [], ◌++◌, length, take, Option, Some, None, ◌∙◌, sym, refl, arith, append-nil, length-append}
 use Rattle.std.proofs.lemmas.List.{take-append-le}
 use Rattle.std.specs.Io.KnownBytes.{Appends, Keeps}
@@ -19,7 +19,7 @@ appends_then_keeps (Some xs) None c bytes out kept = absurd out
 appends_then_keeps (Some xs) (Some ys) None bytes out kept = absurd kept
 appends_then_keeps (Some xs) (Some ys) (Some zs) bytes out kept = kept ∙ out
 
--- what is printed behind a text that is out, or of which a part is
+-- printing behind a text that was printed, or a part of it
 pub printed_behind : (failed now : Bool) (a b c : Option (List ℕ)) (first second : List ℕ)
     → PrintsUnless failed a b first
     → PrintsBehind failed (record { before = b; after = c; failed = now }) second
@@ -39,6 +39,6 @@ printed_behind true now a b c first second out more =
       rw (take-append-le out.0 first second within) (appends_then_keeps a b c (take out.0 first) out.2 more.0),
     )
 
--- nothing is printed of no text
+-- nothing is printed for an empty text
 pub nothing_printed : (a : Option (List ℕ)) (failed : Bool) → failed ≡ false → PrintsUnless failed a a []
 nothing_printed a failed serves = rw serves (appends_nothing a)

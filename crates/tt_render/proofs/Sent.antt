@@ -1,4 +1,4 @@
--- What went out, where lists of bytes are written one after the other.
+-- Lists of bytes written one after the other.
 use Rattle.std.proofs.Common.{◌≡◌, ℕ, ◌+◌, ◌*◌, ◌^◌, ◌<◌, ◌≤◌, zero, suc, List, [], ◌∷◌, ◌++◌, length, take, drop, Option, Some, None, ap, append_assoc, append-nil, refl, sym, arith}
 use Rattle.std.proofs.Math.Seq.{take-append-add}
 use Rattle.std.proofs.lemmas.List.{length-take-le, take-append-drop}
@@ -7,7 +7,7 @@ use Rattle.std.specs.Io.KnownBytes.{Appends}
 use Rattle.tt_core.specs.Bits.{stride}
 use Rattle.tt_core.specs.Limits.{width_limit, height_limit}
 
--- all of the first, and then so many of the second
+-- all of the first, and then n bytes of the second
 pub appends_both : (a b c : Option (List ℕ)) (first second : List ℕ) (sent : ℕ) → Appends a b first
     → Appends b c (take sent second) → Appends a c (take (length first + sent) (first ++ second))
 appends_both None b c first second sent one two = tt
@@ -37,7 +37,7 @@ row_ends w h r below =
     in
     omega (arith, least)
 
--- the first bytes, and then so many of those after them
+-- the first bytes, and then n of those after them
 pub next_part : (m n : ℕ) (bytes : List ℕ) → m ≤ length bytes → take m bytes ++ take n (drop m bytes) ≡ take (m + n) bytes
 next_part m n bytes within =
     let many : length (take m bytes) ≡ m = length-take-le m bytes within in

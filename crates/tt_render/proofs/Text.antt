@@ -1,4 +1,4 @@
--- The hexadecimal digits of a code point, the last one first, and as they are formatted.
+-- The hexadecimal digits of a code point, from the last one, and as they are formatted.
 use Rattle.std.proofs.Common.{◌≡◌, ℕ, suc, ◌-◌, ◌^◌, ◌==◌, ◌/◌, ◌%◌, ◌<◌, ◌≤◌, ◌⊎◌, inl, inr, true, false, List, [], ◌∷◌, refl, ◌∙◌, arith}
 use Rattle.std.specs.Fmt.{char_count, digits, digits_onto, digit_glyph, format_spec, padded_integral}
 use Rattle.std.proofs.lemmas.Bool.{cases_lt}
@@ -10,7 +10,7 @@ begins : (c : ℕ) → digits 16 true c ≡ digits_onto 64 16 true c []
 unfolding digits
 begins c = refl
 
--- digits that are left before those that stand: the last one of them
+-- the last of the remaining digits, before those made already
 last : (k c d : ℕ) (acc : List ℕ) → c < 16 → c ≡ d → digits_onto (suc k) 16 true c acc ≡ digit_glyph true d ∷ acc
 last k c d acc small is =
     let own : c % 16 ≡ d = omega (arith, small, is) in
@@ -114,7 +114,7 @@ six_are c large small = rw (exactly_six c large small) refl
 minus_none : (n : ℕ) → n - 0 ≡ n
 minus_none n = omega arith
 
--- what `{:04X}` writes of digits
+-- `{:04X}` of some digits
 pub padded_to_four : (ds : List ℕ) → padded_integral (format_spec 32 0 4 4 (2 ^ 64 - 1)) false [] ds ≡ at_least_four ds
 unfolding padded_integral char_count
 padded_to_four ds = simp (append-nil, minus_none)

@@ -1,4 +1,4 @@
--- What a call tells of the defects of a font, and why it refuses a job.
+-- What a call claims about the defects of a font, and why it refuses a job.
 use Rattle.std.specs.Prelude.{List, ℕ, Option, Some, None, Result, Ok, Err, IsOkAnd, IfSome, Bool, true, false, ⊤}
 use Rattle.tt_core.specs.Directory.{HasNo}
 use Rattle.tt_core.specs.Faults.{Fault}
@@ -10,19 +10,19 @@ use Rattle.tt_strike.specs.Tables.{face_of}
 use Rattle.tt_render.specs.declared.fault.RunFault.{RunFault}
 use Rattle.tt_render.specs.declared.fault.RunFault.TheVariants as run
 
--- a call that wrote, all or a part, found no defect, and a font fault that it names stands
+-- a call that wrote anything found no defect, and a font fault in its error is a defect
 abbrev pub CallTellsDefects : {V : Type 0} → (Fault → Type 0) → Result V RunFault → Type 0
 CallTellsDefects IsOne (Ok v) = HasNo IsOne
 CallTellsDefects IsOne (Err (run.Font f)) = IsOne f
 CallTellsDefects IsOne (Err (run.Write sent)) = HasNo IsOne
 CallTellsDefects IsOne (Err e) = ⊤
 
--- the same of the bytes of a reader, where they are known
+-- these claims for the bytes of a reader, where they are known
 abbrev pub TellsDefectsOf : {V : Type 0} → Option (List ℕ) → (List ℕ → Fault → Type 0) → Result V RunFault → Type 0
 TellsDefectsOf None IsOne result = ⊤
 TellsDefectsOf (Some file) IsOne result = CallTellsDefects (IsOne file) result
 
--- the fact for which a job is refused, alone or by a font file: the font comes second
+-- the fact that refuses a job, alone or by a font file: the font comes second
 abbrev pub IsRefusedBy : Bool → Job → Option (List ℕ) → JobFault → Type 0
 IsRefusedBy true a left j = IfSome left (λ file. IsOkAnd (face_of file) (λ face. IsFontRefusal face a j))
 IsRefusedBy false a left j = IsTestRefusal a j

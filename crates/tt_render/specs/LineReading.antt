@@ -1,4 +1,4 @@
--- What reading the lines of a text promises.
+-- The promises of reading the lines of a text.
 use Rattle.std.specs.Prelude.{◌≡◌, ◌≢◌, ℕ, ◌-◌, ◌<◌, ◌≤◌, Bool, true, false, List, [], ◌∷◌, ◌++◌, length, take, drop, slice_index, vec_len, All, Option, Some, None, IfSome, Result, Ok, Err, ⊤}
 use Rattle.std.specs.Io.KnownBytes.{Consumes, IsAtEnd, Keeps, prepend_known}
 use Rattle.tt_render.specs.declared.lines.ReadFault.{ReadFault}
@@ -11,7 +11,7 @@ use Rattle.tt_render.specs.Lines.{line_limit, lines_of}
 abbrev pub line_room : ℕ
 line_room = 81922
 
--- what was read and not yet given out
+-- the bytes read and not yet given out
 abbrev pub held : LineReader → List ℕ
 held r = drop r.from (take r.until r.buf.items)
 
@@ -30,12 +30,12 @@ pub record IsFirstFeed (bytes : List ℕ) (at : ℕ) : Type 0 where
   pub feed : slice_index bytes at ≡ 10
   pub before : All (λ x. x ≢ 10) (take at bytes)
 
--- a reader holds n bytes more, which its source gave
+-- a reader holds n bytes more, taken from its source
 abbrev pub GetsMore : List ℕ → List ℕ → Option (List ℕ) → Option (List ℕ) → ℕ → Type 0
 GetsMore before after left_before left_after n =
     (bytes : List ℕ) × (length bytes ≡ n) × (after ≡ before ++ bytes) × Consumes left_before left_after bytes
 
--- the text that is left, where it is known: what a reader holds, and then what its source has left
+-- the remaining text, where it is known: the held bytes, and then those of the source
 abbrev pub text_left : LineReader → Option (List ℕ) → Option (List ℕ)
 text_left r left = prepend_known (held r) left
 
@@ -53,14 +53,14 @@ BeginsLong text = (line : List ℕ) × (rest : List (List ℕ)) × (lines_of tex
 abbrev pub IsPlace : LineReader → LinePlace → Type 0
 IsPlace r place = (place.from ≤ place.until) × (place.until ≤ vec_len r.buf)
 
--- what reading a line did to the text that is left
+-- the remaining text after reading a line
 abbrev pub ReadsLine : LineReader → Result (Option LinePlace) ReadFault → Option (List ℕ) → Option (List ℕ) → Type 0
 ReadsLine r (Ok (Some place)) before after = IsPlace r place × LosesLine before after (line_at r place)
 ReadsLine r (Ok None) before after = IfSome before (λ text. lines_of text ≡ []) × IsAtEnd after
 ReadsLine r (Err fault.Long) before after = IfSome before BeginsLong × Keeps before after
 ReadsLine r (Err fault.Read) before after = Keeps before after
 
--- the source failed where a line could not be read, and only there
+-- the source failed exactly where a line could not be read
 abbrev pub FailsByRead : Bool → Result (Option LinePlace) ReadFault → Type 0
 FailsByRead failed (Ok place) = failed ≡ false
 FailsByRead failed (Err fault.Long) = failed ≡ false

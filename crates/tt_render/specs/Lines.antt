@@ -1,4 +1,4 @@
--- No part of the standard: the lines of a text, and what is drawn of them one after the other (profile).
+-- No part of the standard: the lines of a text, and their drawing in order (profile).
 use Rattle.std.specs.Prelude.{◌≡◌, refl, ℕ, ◌+◌, ◌==◌, nat_lt, if◌then◌else◌, List, [], ◌∷◌, ◌++◌, length, codes, Option, Some, None, Result, Ok, Err}
 use Rattle.std.specs.Io.BufRead.{strip_last}
 use Rattle.std.specs.Fmt.{digits}
@@ -19,11 +19,11 @@ line_limit = 16384
 abbrev pub lines_limit : ℕ
 lines_limit = 4294967295
 
--- what is left of a line before its line feed: a carriage return there is no part of the line
+-- a line without the carriage return before its line feed
 abbrev pub before_feed : List ℕ → List ℕ
 before_feed line = strip_last 13 line
 
--- what comes after the last line feed is a line too, unless it is empty
+-- the rest after the last line feed is a line too, unless it is empty
 abbrev pub last_lines : List ℕ → List (List ℕ)
 last_lines [] = []
 last_lines (x ∷ xs) = (x ∷ xs) ∷ []
@@ -38,25 +38,25 @@ lines_after front (x ∷ xs) =
 unfoldable pub lines_of : List ℕ → List (List ℕ)
 lines_of text = lines_after [] text
 
--- what a line answers: its length is tested first, and then whether it is a text
+-- the answer of a line: its length is tested first, and then its UTF-8
 abbrev pub line_answer : (List ℕ → Result TextAnswer TextRefusal) → List ℕ → Result TextAnswer TextRefusal
 line_answer answer line =
     if nat_lt line_limit (length line) then Err (refused (job fault.TextLong))
     else if is_utf8 line then answer line
     else Err not_utf8
 
--- the same of a line that is drawn by a strike, with a margin
+-- the answer of a line that is drawn by a strike, with a margin
 unfoldable pub line_drawn : Strike → Product → Missing → ℕ → List ℕ → Result TextAnswer TextRefusal
 line_drawn s wanted missing margin line = line_answer (text_answer s wanted missing margin) line
 
--- what is drawn of lines: the bytes of the pictures up to the first line that is refused, what is told of these lines,
--- and the number of that line and why it is refused
+-- the drawing of lines: the output up to the first refused line, the reports of these lines, and that line's number
+-- with its refusal
 pub record LinesDrawn : Type 0 where
   pub bytes : List ℕ
   pub told : List ℕ
   pub stop : Option (ℕ × TextRefusal)
 
--- a line was answered so, and what is drawn of those after it
+-- a line's answer, followed by the drawing of the later lines
 abbrev pub drawn_with : ℕ → Result TextAnswer TextRefusal → LinesDrawn → LinesDrawn
 drawn_with number (Ok a) after = record {
   bytes = a.bytes ++ after.bytes;
@@ -65,12 +65,12 @@ drawn_with number (Ok a) after = record {
 }
 drawn_with number (Err why) after = record { bytes = []; told = []; stop = Some (number, why) }
 
--- the first of these lines has this number
+-- the drawing of lines, the first with this number
 abbrev pub drawn_from : ℕ → (List ℕ → Result TextAnswer TextRefusal) → List (List ℕ) → LinesDrawn
 drawn_from number draw [] = record { bytes = []; told = []; stop = None }
 drawn_from number draw (line ∷ lines) = drawn_with number (draw line) (drawn_from (number + 1) draw lines)
 
--- what is drawn of a text's lines, which are counted from 1
+-- the drawing of a text's lines, counted from 1
 abbrev pub text_drawn : (List ℕ → Result TextAnswer TextRefusal) → List ℕ → LinesDrawn
 text_drawn draw text = drawn_from 1 draw (lines_of text)
 
@@ -91,7 +91,7 @@ a_return_before_the_feed : lines_of (codes "a\r\n\r\r\nb\rc\r") ≡ codes "a" �
 unfolding lines_of
 a_return_before_the_feed = refl
 
--- of these lines the first two are drawn: a letter A is told, and two letters are refused
+-- of these lines the first two are drawn: a letter A is reported, and two letters are refused
 as_many_as_are_drawn : drawn_from 1 (λ line. if nat_lt 1 (length line) then Err not_utf8
     else Ok (record { bytes = line; unfitted = []; lacking = line }))
     (codes "A" ∷ (codes "B" ∷ (codes "CD" ∷ (codes "E" ∷ []))))

@@ -1,4 +1,4 @@
--- What drawing the lines of a text promises of its answer and of the devices.
+-- The promises of drawing the lines of a text: the answer and the devices.
 use Rattle.std.specs.Prelude.{◌≡◌, ◌⊎◌, ℕ, ◌+◌, ◌<◌, Bool, true, false, List, [], ◌∷◌, ◌++◌, length, take, Option, Some, None, IfSome, Result, Ok, Err, string_bytes, ⊤}
 use Rattle.std.specs.Io.KnownBytes.{Appends, IsAtEnd}
 use Rattle.tt_core.specs.declared.fault.JobFault.{JobFault}
@@ -27,7 +27,7 @@ use Rattle.tt_strike.specs.Pictures.{IsReady, picture_bytes}
 use Rattle.tt_strike.specs.Refusals.{Refused, font, job}
 use Rattle.tt_strike.specs.Strikes.{Strike}
 
--- what a line answers, or why it is refused
+-- the answer of a line, or its refusal
 abbrev pub Draws : Type 0
 Draws = List ℕ → Result TextAnswer TextRefusal
 
@@ -37,7 +37,7 @@ refusal_of (fault.Job j) = refused (job j)
 refusal_of fault.NotUtf8 = not_utf8
 refusal_of (fault.Missing c) = missing c
 
--- what stops a text: nothing is told where it could not be read, or memory ran out
+-- the refusal of a text; none where it could not be read, or memory ran out
 abbrev pub told : TextStop → Option TextRefusal
 told (stop.Refused f) = Some (refusal_of f)
 told stop.Read = None
@@ -53,7 +53,7 @@ abbrev pub IsNoRead : {V : Type 0} → Result V TextStop → Type 0
 IsNoRead (Err stop.Read) = ⊥
 IsNoRead r = ⊤
 
--- what is ready to go out: its bytes, and the glyphs that are not fitted
+-- the bytes of an output, and its unfitted glyphs
 abbrev pub bytes_in : Output → List ℕ
 bytes_in (output.Picture drawn) = picture_bytes drawn.picture
 bytes_in (output.Text text report) = string_bytes text
@@ -62,13 +62,13 @@ abbrev pub unfitted_in : Output → List Unfitted
 unfitted_in (output.Picture drawn) = drawn.picture.unfitted
 unfitted_in (output.Text text report) = report.unfitted.items
 
--- a picture of which no row was made yet, with memory for one
+-- a picture with no row made yet, and memory for one
 abbrev pub CanGoOut : Output → Type 0
 CanGoOut (output.Picture drawn) =
     IsReady drawn.picture × (length drawn.row.items ≡ stride drawn.picture.frame.width)
 CanGoOut (output.Text text report) = ⊤
 
--- the answer that is ready to go out
+-- the answer that is ready to be written
 abbrev pub answer_view : ReadyText → TextAnswer
 answer_view r = record {
   bytes = bytes_in r.output;
@@ -76,11 +76,11 @@ answer_view r = record {
   lacking = r.lacking.items;
 }
 
--- the report of what is ready is this text's, of this number where it is a line
+-- the report is this text's; the number is that of a line
 abbrev pub TellsOf : Option ℕ → ReadyText → Type 0
 TellsOf number r = string_bytes r.report ≡ report_text_of number (unfitted_in r.output) r.lacking.items
 
--- this holds of what is ready
+-- a fact of the ready text
 abbrev pub IfReady : Result (Option ReadyText) TextStop → (ReadyText → Type 0) → Type 0
 IfReady (Ok (Some d)) P = P d
 IfReady r P = ⊤
@@ -90,7 +90,7 @@ abbrev pub BeginsRefused : Draws → TextRefusal → List ℕ → Type 0
 BeginsRefused draw why text =
     (line : List ℕ) × (rest : List (List ℕ)) × (lines_of text ≡ line ∷ rest) × (draw line ≡ Err why)
 
--- what drawing the next line did to the text that is left
+-- the remaining text after drawing the next line
 abbrev pub DrawsLine : Draws → Result (Option ReadyText) TextStop → Option (List ℕ) → Option (List ℕ) → Type 0
 DrawsLine draw (Ok (Some d)) before after =
     (line : List ℕ) × LosesLine before after line × (draw line ≡ Ok (answer_view d))
@@ -98,34 +98,35 @@ DrawsLine draw (Ok None) before after = IfSome before (λ text. lines_of text �
 DrawsLine draw (Err (stop.Refused f)) before after = IfSome before (BeginsRefused draw (refusal_of f))
 DrawsLine draw (Err e) before after = ⊤
 
--- the reader failed where it stopped the line, and only there
+-- the reader failed exactly where it stopped the line
 abbrev pub FailsByStop : Bool → Result (Option ReadyText) TextStop → Type 0
 FailsByStop failed (Err stop.Read) = failed ≡ true
 FailsByStop failed r = failed ≡ false
 
--- none of these lines, from line 1, is refused; their pictures went out, and then these bytes; their reports were printed
+-- none of these lines, from line 1, is refused; their output was written, and then these bytes; their reports were
+-- printed
 abbrev pub SendsLines : Draws → Option (List ℕ) → Option (List ℕ) → Errors → List (List ℕ) → List ℕ → Type 0
 SendsLines draw out_before out_after e lines more =
     ((drawn_from 1 draw lines).stop ≡ None) × Appends out_before out_after ((drawn_from 1 draw lines).bytes ++ more)
     × Prints e (drawn_from 1 draw lines).told
 
--- the first lines of a text, so many, were sent, and then these bytes; this holds of the lines after them
+-- the output of this many first lines of a text was written, and then these bytes; a fact of the lines after them
 abbrev pub SendsFirstLines : Draws → Traffic → Errors → ℕ → List ℕ → (List (List ℕ) → Type 0) → List ℕ → Type 0
 SendsFirstLines draw t e number more P text =
     (first : List (List ℕ)) × (rest : List (List ℕ)) × (lines_of text ≡ first ++ rest) × (length first ≡ number)
     × SendsLines draw t.out_before t.out_after e first more × P rest
 
--- the first of these lines has a picture, of which a front was sent
+-- the first of these lines has an output, and a front of it was written
 abbrev pub IsCutAfter : Draws → ℕ → List ℕ → List (List ℕ) → Type 0
 IsCutAfter draw sent part [] = ⊥
 IsCutAfter draw sent part (line ∷ rest) =
     (a : TextAnswer) × (draw line ≡ Ok a) × (sent < length a.bytes) × (part ≡ take sent a.bytes)
 
--- some whole pictures went out, and their reports
+-- the output and the reports of some lines were written
 abbrev pub SendsSome : Draws → Traffic → Errors → List ℕ → Type 0
 SendsSome draw t e text = (number : ℕ) × SendsFirstLines draw t e number [] (λ rest. ⊤) text
 
--- all that is drawn of the lines went out, with the reports, and they are refused so
+-- the drawing of the lines was written, with the reports, and stopped by this refusal, if any
 abbrev pub SendsDrawn : Draws → Traffic → Errors → Option (ℕ × TextRefusal) → List ℕ → Type 0
 SendsDrawn draw t e why text =
     ((text_drawn draw text).stop ≡ why) × SendsAll t (text_drawn draw text).bytes × Prints e (text_drawn draw text).told
@@ -133,7 +134,7 @@ SendsDrawn draw t e why text =
 abbrev pub ReaderServes : Traffic → Type 0
 ReaderServes t = t.read_failed ≡ false
 
--- a call that draws lines by a font that stands failed so
+-- a call that draws lines by an opened font failed with this fault
 abbrev pub LinesFail : Draws → TextsFault → Traffic → Errors → Type 0
 LinesFail draw (texts.Text (Some number) f) t e =
     IfSome t.left_before (SendsDrawn draw t e (Some (number, refusal_of f))) × ReaderServes t × WriterServes t
@@ -148,12 +149,12 @@ LinesFail draw texts.Many t e =
 LinesFail draw texts.Memory t e = IfSome t.left_before (SendsSome draw t e) × ReaderServes t × WriterServes t
 LinesFail draw e t errors = ⊥
 
--- such a call drew all lines, or failed so
+-- the call drew all lines, or failed with its fault
 abbrev pub LinesGive : {V : Type 0} → Draws → Result V TextsFault → Traffic → Errors → Type 0
 LinesGive draw (Ok v) t e = IfSome t.left_before (SendsDrawn draw t e None) × ReadsToEnd t × WriterServes t
 LinesGive draw (Err fault) t e = LinesFail draw fault t e
 
--- a call stopped by these tests, alone or with the reader of its font, or by the font's tables; or memory ran out by then
+-- a call stopped by these tests, by the reader of its font, or by the font's tables; or memory ran out by then
 abbrev pub StopsAtFont : {V S : Type 0} → Result (Unit {0}) JobFault → (List ℕ → Result S Refused) → Result V TextsFault
     → FontReader → Type 0
 StopsAtFont tests opened (Err (texts.Job j)) f = (tests ≡ Err j) × FontIsUnread f
@@ -165,7 +166,7 @@ StopsAtFont tests opened (Err (texts.Font fault)) f =
 StopsAtFont tests opened (Err texts.Memory) f = (tests ≡ Ok tt) × FontIsBegun f
 StopsAtFont tests opened r f = ⊥
 
--- the tests passed, the font was read to its end, and this holds of what was made of it
+-- the tests passed, the font was read to its end, and a fact of its opened form
 abbrev pub OpensFont : {S : Type 0} → Result (Unit {0}) JobFault → (List ℕ → Result S Refused) → FontReader
     → (S → Type 0) → Type 0
 OpensFont {S} tests opened f P =

@@ -1,4 +1,4 @@
--- What `map` writes: for each character its code point, its glyph and the glyph's advance in font units.
+-- The lines of `map`: for each character its code point, its glyph and the glyph's advance in font units.
 use Rattle.std.specs.Prelude.{ℕ, ◌-◌, List, ◌++◌, length, replicate, flat_map, true, chars, codes, decimal, Result, Ok, ◌≡◌, refl}
 use Rattle.std.specs.Fmt.{digits}
 use Rattle.tt_core.specs.Faults.{Fault}
@@ -10,7 +10,7 @@ use Rattle.tt_strike.specs.Tables.{face_of}
 use Rattle.tt_strike.specs.Refusals.{Refused, as_font}
 use Rattle.tt_render.specs.Outcome.{Wanted, outcome_of}
 
--- digits after as many zeros as make them four
+-- digits, with zeros in front to make at least four
 abbrev pub at_least_four : List ℕ → List ℕ
 at_least_four ds = replicate (4 - length ds) 48 ++ ds
 
@@ -30,11 +30,11 @@ map_line m lookup c = line_text c (glyph_of lookup c) (advance_of m (glyph_of lo
 abbrev pub map_lines : Metrics → Cmap → List ℕ → List ℕ
 map_lines m lookup text = flat_map (map_line m lookup) (chars text)
 
--- the lines by the tables of a file, or the file's first fault in the order in which they are read
+-- the lines by the tables of a file, or the file's first fault in the order of reading
 unfoldable pub lines_of : List ℕ → List ℕ → Result (List ℕ) Fault
 lines_of file text = face_of file >>= λ face. Ok (map_lines face.metrics face.cmap text)
 
--- what is to be written for a text and a font file, or why nothing is: the text is tested first, then the file's size
+-- the bytes for a text and a font file, or the refusal: the text is tested first, then the file's size
 unfoldable pub map_outcome : List ℕ → List ℕ → Result (List ℕ) Refused
 map_outcome text file = outcome_of (text_tested text) (λ font. as_font (lines_of font text)) file
 

@@ -33,7 +33,7 @@ character_text c m =
     codes "U+" ++ (code_point c ++ (codes " " ++ (decimal m.glyph ++ (codes " " ++ (signed_decimal m.pen
     ++ (codes " " ++ (decimal m.advance ++ (codes " " ++ (box_words m.ink ++ codes "\n")))))))))
 
--- the lines of characters, each beside its measure
+-- the lines of characters, each with its measure
 abbrev pub character_lines : List (ℕ × CharacterMeasure) → List ℕ
 character_lines measured = flat_map (λ p. character_text p.0 p.1) measured
 

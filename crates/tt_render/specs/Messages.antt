@@ -1,5 +1,5 @@
--- What the program says of a fault: its exit status, and its line on standard error; of a glyph that is not fitted; and
--- of a character that has no glyph.
+-- The program's messages: the exit status and the line on standard error of a fault; the lines of an unfitted glyph and
+-- of a character without a glyph.
 use Rattle.std.specs.Prelude.{ℕ, List, ◌++◌, codes, decimal, ◌≡◌, refl}
 use Rattle.std.specs.Fmt.{digits}
 use Rattle.tt_core.specs.declared.fault.JobFault.{JobFault}

@@ -1,4 +1,4 @@
--- What reading a font to its end promises.
+-- The promises of reading a font to its end.
 use Rattle.std.specs.Prelude.{◌≡◌, ℕ, ◌<◌, ◌≤◌, Bool, true, false, List, length, Option, Result, Ok, Err, IfSome}
 use Rattle.std.specs.Io.KnownBytes.{Consumes, IsAtEnd, Keeps}
 use Rattle.tt_core.specs.Limits.{font_limit}
@@ -13,26 +13,27 @@ ReadFails run.FontLarge before after failed = IfSome before (λ file. font_limit
 ReadFails run.Memory before after failed = Advances before after × (failed ≡ false)
 ReadFails e before after failed = ⊥
 
--- all that the reader had was read, or reading failed so
+-- all the reader's bytes were read, or reading failed with this fault
 abbrev pub ReadsAll : {V : Type 0} → (V → List ℕ) → Result V RunFault → Option (List ℕ) → Option (List ℕ) → Bool
     → Type 0
 ReadsAll view (Ok v) before after failed =
     Consumes before after (view v) × IsAtEnd after × (length (view v) ≤ font_limit) × (failed ≡ false)
 ReadsAll view (Err e) before after failed = ReadFails e before after failed
 
--- the reader of a font beside other devices, before a call and after it: the bytes that it will still give, None where no
--- contract knows them, and whether it has failed
+-- the reader of a font beside other devices, before a call and after it: its remaining bytes, None where no contract
+-- knows them, and whether it has failed
 pub record FontReader : Type 0 where
   pub before : Option (List ℕ)
   pub after : Option (List ℕ)
   pub failed : Bool
 
--- what the reader says of itself
+-- the reader by its own contract
 abbrev pub font_reader_of : {R : Type 0} → (R → Option (List ℕ)) → (R → Bool) → R → R → FontReader
 font_reader_of left has_failed before after =
     record { before = left before; after = left after; failed = has_failed after }
 
--- the reader was not asked; it gave some bytes, perhaps none; it failed after some bytes; it gave these, which were all
+-- the reader was not used; it gave some bytes, perhaps none; it failed after some bytes; it gave these, and they were
+-- all
 abbrev pub FontIsUnread : FontReader → Type 0
 FontIsUnread f = Keeps f.before f.after × (f.failed ≡ false)
 

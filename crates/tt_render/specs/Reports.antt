@@ -1,4 +1,4 @@
--- No part of the standard: what is told of a text that was drawn, on standard error.
+-- No part of the standard: the report of a drawn text, on standard error.
 use Rattle.std.specs.Prelude.{◌≡◌, refl, ℕ, List, [], ◌∷◌, ◌++◌, flat_map, codes, decimal, Option, Some, None}
 use Rattle.std.specs.Fmt.{digits}
 use Rattle.tt_core.specs.declared.fault.Why.TheVariants as why
@@ -23,12 +23,12 @@ unfitted_told number u =
 abbrev pub lacking_told : Option ℕ → ℕ → List ℕ
 lacking_told number c = head_of number ++ (codes "U+" ++ (code_point c ++ codes " has no glyph\n"))
 
--- the report of a text: its glyphs that are not fitted, and then its characters that have no glyph
+-- the report of a text: its unfitted glyphs, and then its characters without a glyph
 unfoldable pub report_text_of : Option ℕ → List Unfitted → List ℕ → List ℕ
 report_text_of number unfitted lacking =
     flat_map (unfitted_told number) unfitted ++ flat_map (lacking_told number) lacking
 
--- what is told of an answer
+-- the report of an answer
 abbrev pub told_of : Option ℕ → TextAnswer → List ℕ
 told_of number a = report_text_of number a.unfitted a.lacking
 

@@ -1,11 +1,11 @@
--- No part of the standard: what `run` is to write for a job and a font file.
+-- No part of the standard: the bytes of `run` for a job and a font file.
 use Rattle.std.specs.Prelude.{ℕ, List, Result}
 use Rattle.tt_strike.specs.Job.{Job, tested}
 use Rattle.tt_strike.specs.Picture.{pictured}
 use Rattle.tt_strike.specs.Refusals.{Refused}
 use Rattle.tt_render.specs.Outcome.{Wanted, outcome_of}
 
--- what is to be written for a job and a font file, or why nothing is: the job is tested first, then the file's size
+-- the bytes for a job and a font file, or the refusal: the job is tested first, then the file's size
 unfoldable pub run_outcome : Job → List ℕ → Result (List ℕ) Refused
 run_outcome a file = outcome_of (tested a) (pictured a) file
 

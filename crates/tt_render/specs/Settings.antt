@@ -1,4 +1,4 @@
--- No part of the standard: the tests of a setting before the font is read, and what texts are drawn by (profile).
+-- No part of the standard: the tests of a setting before the font is read, and its strike (profile).
 use Rattle.std.specs.Prelude.{◌≡◌, refl, ℕ, List, Result, Ok, Err}
 use Rattle.tt_core.specs.declared.fault.JobFault.{JobFault}
 use Rattle.tt_core.specs.declared.fault.JobFault.TheVariants as fault
@@ -13,15 +13,15 @@ use Rattle.tt_render.specs.declared.setting.Product.TheVariants as product
 use Rattle.tt_render.specs.declared.setting.Setting.{Setting}
 use Rattle.tt_render.specs.Outcome.{of_font}
 
--- the limits of a setting, in the order in which they are tested
+-- the limits of a setting, in the order of their tests
 unfoldable pub setting_tested : Setting → Result (Unit {0}) JobFault
 setting_tested a = size_tested a.ppem >>= λ u. margin_tested a.margin
 
--- what texts are drawn by, of a font's tables
+-- the strike of a setting, by a font's tables
 abbrev pub strike_by : Setting → Face → Strike
 strike_by a face = record { face = face; ppem = a.ppem; fit = a.fit; most = a.most }
 
--- the same of a font's file, if it is not too large, or the first fault of the tables that every text is looked up in
+-- the strike by a font's file, if it is not too large, or the first fault of the tables needed for every text
 unfoldable pub strike_of : Setting → List ℕ → Result Strike Refused
 strike_of a file = of_font (λ font. as_font (face_of font) >>= λ face. Ok (strike_by a face)) file
 

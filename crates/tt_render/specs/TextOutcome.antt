@@ -1,4 +1,4 @@
--- What drawing one text promises of its answer and of the devices.
+-- The promises of drawing one text: the answer and the devices.
 use Rattle.std.specs.Prelude.{◌≡◌, ◌⊎◌, List, ℕ, Option, Some, None, IfSome, Result, Ok, Err, ⊤}
 use Rattle.tt_core.specs.Directory.{HasNo}
 use Rattle.tt_core.specs.Faults.{Fault}
@@ -28,7 +28,7 @@ job_by a text = record { text = text; ppem = a.ppem; margin = a.margin; fit = a.
 abbrev pub text_by : Setting → List ℕ → Strike → Result TextAnswer TextRefusal
 text_by a text s = text_answer s a.product a.missing a.margin text
 
--- what is ready to go out for one text by what was opened of a font, or why nothing is
+-- one text's output by an opened font, or the refusal
 abbrev pub ReadiesText : (Strike → Result TextAnswer TextRefusal) → Result Strike Refused → Result ReadyText TextsFault
     → Type 0
 ReadiesText answer opened (Ok r) = (s : Strike) × (opened ≡ Ok s) × (answer s ≡ Ok (answer_view r))
@@ -46,14 +46,14 @@ reader_in t = record { before = t.left_before; after = t.left_after; failed = t.
 abbrev pub IsSilent : Traffic → Errors → Type 0
 IsSilent t e = WritesNothing t × PrintsNothing e
 
--- a call that draws one text, which has this answer, by a font that stands failed so
+-- a call that draws one text with this answer by an opened font failed with this fault
 abbrev pub TextFails : Result TextAnswer TextRefusal → TextsFault → Traffic → Errors → Type 0
 TextFails answer (texts.Text None f) t e = (answer ≡ Err (refusal_of f)) × IsSilent t e
 TextFails answer (texts.Write None sent) t e =
     (a : TextAnswer) × (answer ≡ Ok a) × SendsFirst sent t a.bytes × WriterFails t × PrintsNothing e
 TextFails answer why t e = ⊥
 
--- such a call wrote the text's picture and printed its report, or failed so
+-- the call wrote the text's output and printed its report, or failed with its fault
 abbrev pub TextGives : {V : Type 0} → Result TextAnswer TextRefusal → Result V TextsFault → Traffic → Errors → Type 0
 TextGives answer (Ok v) t e =
     (a : TextAnswer) × (answer ≡ Ok a) × SendsAll t a.bytes × WriterServes t × Prints e (told_of None a)
@@ -70,7 +70,7 @@ abbrev pub stop_font_fault : TextStop → Option Fault
 stop_font_fault (stop.Refused (fault.Font f)) = Some f
 stop_font_fault why = None
 
--- a call that wrote, all or a part, found no defect, and a font fault that it names stands
+-- a call that wrote anything found no defect, and a font fault in its error is a defect
 abbrev pub TextTellsDefects : {V : Type 0} → (Fault → Type 0) → Result V TextsFault → Type 0
 TextTellsDefects IsOne (Ok v) = HasNo IsOne
 TextTellsDefects IsOne (Err (texts.Font f)) = IsOne f
@@ -78,7 +78,7 @@ TextTellsDefects IsOne (Err (texts.Text number (fault.Font f))) = IsOne f
 TextTellsDefects IsOne (Err (texts.Write number sent)) = HasNo IsOne
 TextTellsDefects IsOne (Err why) = ⊤
 
--- the same of the bytes of a reader, where they are known
+-- these claims for the bytes of a reader, where they are known
 abbrev pub TextTellsDefectsOf : {V : Type 0} → Option (List ℕ) → (List ℕ → Fault → Type 0) → Result V TextsFault
     → Type 0
 TextTellsDefectsOf {V} left IsOne result = IfSome left (λ file. TextTellsDefects {V = V} (IsOne file) result)

@@ -1,4 +1,4 @@
--- No part of the standard: what a text answers, by a font at a size (profile).
+-- No part of the standard: the answer of a text, by a font at a size (profile).
 use Rattle.std.specs.Prelude.{◌≡◌, refl, ℕ, List, [], ◌∷◌, chars, codes, Result, Ok, Err}
 use Rattle.tt_cmap.specs.Lacking.{lacking_of}
 use Rattle.tt_cmap.specs.Lookup.{Cmap, by_segments}
@@ -16,7 +16,7 @@ use Rattle.tt_render.specs.declared.setting.Product.{Product}
 use Rattle.tt_render.specs.declared.setting.Product.TheVariants as product
 use Rattle.tt_render.specs.MeasureText.{measure_text}
 
--- why a text is not drawn: it is refused; it is no text; the font has no glyph for this character
+-- why a text is not drawn: it is refused; it is not UTF-8; the font has no glyph for this character
 pub data TextRefusal : Type 0 where
   refused : Refused → TextRefusal
   not_utf8 : TextRefusal
@@ -26,30 +26,29 @@ abbrev pub as_text : {X : Type 0} → Result X Refused → Result X TextRefusal
 as_text (Ok x) = Ok x
 as_text (Err why) = Err (refused why)
 
--- what a text answers: the bytes that go out for it; and what is told of it, the glyphs that are not fitted and the
--- characters that have no glyph
+-- the answer of a text: the bytes of its output, its unfitted glyphs, and its reported characters without a glyph
 pub record TextAnswer : Type 0 where
   pub bytes : List ℕ
   pub unfitted : List Unfitted
   pub lacking : List ℕ
 
--- no character is missing, or the first that is refuses the text
+-- no character is missing, or the first missing one refuses the text
 abbrev pub none_missing : List ℕ → Result (List ℕ) TextRefusal
 none_missing [] = Ok []
 none_missing (c ∷ cs) = Err (missing c)
 
--- which of the characters that have no glyph are told
+-- the reported ones of the characters without a glyph
 abbrev pub missing_among : Missing → List ℕ → Result (List ℕ) TextRefusal
 missing_among how.Draw cs = Ok []
 missing_among how.Tell cs = Ok cs
 missing_among how.Refuse cs = none_missing cs
 
--- the same of a text
+-- the reported ones of a text
 unfoldable pub missing_tested : Cmap → Missing → List ℕ → Result (List ℕ) TextRefusal
 missing_tested m asked text = missing_among asked (lacking_of m (chars text))
 
--- the answer of a text by its parts, or the first refusal: what goes out for it, its glyphs that are not fitted, and its
--- characters that have no glyph
+-- the answer of a text by its parts, or the first refusal: its output, its unfitted glyphs, and its characters without
+-- a glyph
 abbrev pub answer_of : Result (List ℕ) Refused → Result (List Unfitted) Refused → Result (List ℕ) TextRefusal
     → Result TextAnswer TextRefusal
 answer_of product report lacking =
@@ -58,7 +57,7 @@ answer_of product report lacking =
     lacking >>= λ cs.
     Ok (record { bytes = bytes; unfitted = unfitted; lacking = cs })
 
--- what goes out for a text that is drawn by a strike, with a margin
+-- the output of a text that is drawn by a strike, with a margin
 unfoldable pub product_of : Strike → Product → ℕ → List ℕ → Result (List ℕ) Refused
 product_of s product.Picture margin text = line_outcome s.face (job_of s text margin)
 product_of s product.Grown margin text = grown_outcome s.face (job_of s text margin)
@@ -67,7 +66,7 @@ product_of s product.Measure margin text =
 product_of s product.GrownMeasure margin text =
     grown_measured s.face (job_of s text margin) >>= λ m. Ok (measure_text s.face.metrics (chars text) m)
 
--- the answer of such a text
+-- the answer of this text
 unfoldable pub text_answer : Strike → Product → Missing → ℕ → List ℕ → Result TextAnswer TextRefusal
 text_answer s wanted asked margin text =
     answer_of (product_of s wanted margin text) (report_by s.face (job_of s text margin))

@@ -1,4 +1,4 @@
--- What the program says of texts that are not all drawn: its exit status, and its line on standard error.
+-- The program's messages about texts that are not all drawn: the exit status, and the line on standard error.
 use Rattle.std.specs.Prelude.{◌≡◌, refl, ℕ, List, ◌++◌, codes, decimal, Option, Some, None}
 use Rattle.std.specs.Fmt.{digits}
 use Rattle.tt_core.specs.declared.fault.JobFault.TheVariants as job

@@ -1,4 +1,4 @@
--- How the definitions see the values that the code works with.
+-- The definitions' views of the code's values.
 use Rattle.std.specs.Prelude.{None}
 use Rattle.tt_core.specs.declared.font_fault.FontFault.{FontFault}
 use Rattle.tt_core.specs.declared.font_fault.FontFault.TheVariants as font
@@ -12,7 +12,7 @@ use Rattle.tt_render.specs.declared.texts_fault.TextsFault.TheVariants as texts
 use Rattle.tt_render.specs.declared.fault.RunFault.{RunFault}
 use Rattle.tt_render.specs.declared.fault.RunFault.TheVariants as run
 
--- what stopped a part of a call stops the call
+-- a font fault that stopped a part of a call stops the call
 abbrev pub run_fault_of_font : FontFault → RunFault
 run_fault_of_font (font.Font f) = run.Font f
 run_fault_of_font font.Memory = run.Memory
@@ -22,19 +22,19 @@ run_fault_of_draw (draw.Font f) = run.Font f
 run_fault_of_draw (draw.Job j) = run.Job j
 run_fault_of_draw draw.Memory = run.Memory
 
--- what stopped the making of a picture stops its text
+-- a fault of making a picture stops its text
 abbrev pub text_stop_of_draw : DrawFault → TextStop
 text_stop_of_draw (draw.Font f) = stop.Refused (text.Font f)
 text_stop_of_draw (draw.Job j) = stop.Refused (text.Job j)
 text_stop_of_draw draw.Memory = stop.Memory
 
--- what stopped the making of a strike stops the call
+-- a fault of making a strike stops the call
 abbrev pub texts_fault_of_draw : DrawFault → TextsFault
 texts_fault_of_draw (draw.Font f) = texts.Font f
 texts_fault_of_draw (draw.Job j) = texts.Job j
 texts_fault_of_draw draw.Memory = texts.Memory
 
--- what stopped the reading of a font stops the call
+-- a fault of reading a font stops the call
 abbrev pub texts_fault_of_run : RunFault → TextsFault
 texts_fault_of_run (run.Font f) = texts.Font f
 texts_fault_of_run (run.Job j) = texts.Job j

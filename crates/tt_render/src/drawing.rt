@@ -36,10 +36,9 @@ fn draw_by(alloc: Global, face: &Face, job: &Job) -> Result<Picture, DrawFault>
     strike.line(job.text, job.margin)
 }
 
-/// The picture of a job by a font file, and memory for a row of it. Errors, the first of: those of the tables that every
-/// text is looked up in; EmptyPicture, PictureLarge; those of loca and glyf; those of the programs; WorkLarge of its
-/// points; those of the glyphs in the order of the text; WorkLarge of its crossings. Memory comes where a growth was
-/// refused.
+/// The picture of a job by a font file, and memory for one of its rows. Errors, the first of: those of the tables
+/// needed for every text; EmptyPicture, PictureLarge; those of loca and glyf; those of the programs; WorkLarge of its
+/// points; those of the glyphs in the order of the text; WorkLarge of its crossings. Memory may come at any allocation.
 #[tactic(auto, unfolding(tt_strike::specs::Picture::pictured, tt_strike::specs::Report::report_of))]
 pub(crate) fn draw(alloc: Global, file: &[u8], job: &Job) -> Result<Drawn, DrawFault>
     requires size { length file.now ≤ font_limit }

@@ -1,4 +1,4 @@
-//! Why a call ends without its work done.
+//! Why a call fails.
 
 ghost use Rattle.std.specs.Prelude.{◌≡◌};
 ghost use Rattle.tt_render.specs.declared.fault.RunFault.TheVariants.{Job, Memory, Write};
@@ -10,13 +10,13 @@ use tt_core::{Fault, FontFault, JobFault};
 use tt_pbm::Cut;
 use tt_strike::DrawFault;
 
-/// Why `run` or `map` ends without its work done.
+/// Why `run` or `map` fails.
 #[derive(Clone, Copy, Debug, PartialEq, Eq, Error)]
 pub enum RunFault {
     /// The font has this defect; nothing was written.
     #[error("the font is refused")]
     Font(Fault),
-    /// The job cannot be done; nothing was written.
+    /// The job is refused; nothing was written.
     #[error("{0}")]
     Job(JobFault),
     /// The font could not be read to its end; nothing was written.

@@ -1,9 +1,9 @@
-//! Laws of the definitions. Each function takes nothing and gives nothing: its clauses hold of all jobs and files.
+//! Laws of the definitions. Each function is a lemma: its clauses hold of all jobs and files, and no code runs.
 
 ghost use Rattle.tt_render.specs.Laws.{WrittenFontsAreWhole, MappedFontsAreWhole, OthersWriteByEdges};
 
-/// Where the definition of what `run` or `map` is to write gives bytes, the font has no defect for it. So there is
-/// none whenever a call wrote, all or a part.
+/// Lemma: where the definition of `run` or `map` gives bytes, the font has no defect for the call. So a call that wrote
+/// anything found none.
 pub fn fonts_are_whole()
     ensures run { WrittenFontsAreWhole }
     ensures map { MappedFontsAreWhole }
@@ -11,7 +11,7 @@ pub fn fonts_are_whole()
     tt_strike::laws::fonts_are_whole();
 }
 
-/// With every way of fitting but `Fit::Best` `run` writes a picture as if there were no dropout control.
+/// Lemma: with every fit but `Fit::Best` `run` writes a picture as without dropout control.
 pub fn others_fill_none()
     ensures { OthersWriteByEdges }
 {

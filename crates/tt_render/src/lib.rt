@@ -1,4 +1,4 @@
-//! A font and a text, from a reader to a writer.
+//! Draws a text by a font, from a reader to a writer.
 #![tactic(auto)]
 
 mod drawing;

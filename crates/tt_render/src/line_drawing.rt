@@ -1,4 +1,4 @@
-//! The lines of a text drawn one after the other, from a reader to a writer.
+//! Draws the lines of a text in order, from a reader to a writer.
 
 ghost use Rattle.std.specs.Prelude.{◌≡◌, false, length, Some, IfOk};
 ghost use Rattle.tt_core.specs.Outcomes.{GivesUnless};
@@ -20,8 +20,8 @@ use std::str;
 use tt_core::{JobFault, Sink, Source};
 use tt_strike::{Face, Strike};
 
-/// The answer of the line of this number. Errors, the first of: TextLong, of more than 16,384 bytes; NotUtf8; those of
-/// a text.
+/// The answer of the line with this number. Errors, the first of: TextLong, of more than 16,384 bytes; NotUtf8; those
+/// of a text.
 #[tactic(auto, unfolding(crate::specs::Lines::line_drawn))]
 fn draw_line(
     alloc: Global,
@@ -47,7 +47,7 @@ fn draw_line(
     answer_text(alloc, strike, face, setting, Some(number), text)
 }
 
-/// The answer of the next line, which has this number, where there is one. Errors: those of a line; Read.
+/// The answer of the next line, which has this number, if there is one. Errors: those of a line; Read.
 fn next_text<R: Source>(
     alloc: Global,
     reader: &mut LineReader,
@@ -80,7 +80,7 @@ fn next_text<R: Source>(
     Ok(Some(ready))
 }
 
-/// Draws the lines of a text by a font, as `draw_lines` says, with a strike of that font.
+/// Draws the lines of a text with a strike, as `draw_lines` does.
 fn draw_lines_by<R: Source, W: Sink, E: Sink>(
     alloc: Global,
     strike: &mut Strike,
@@ -116,17 +116,16 @@ fn draw_lines_by<R: Source, W: Sink, E: Sink>(
     Err(TextsFault::Many)
 }
 
-/// Draws the lines of a text one after the other by a font, and writes what is asked for of each, as `draw_text` would
-/// write it, as soon as it is made. A line ends before its line feed, and before a carriage return there; what comes
-/// after the last line feed is a line too, unless it is empty. Nothing of a line that is refused goes out, and the
-/// lines after it are not looked at. When that of a line is out, its report is printed on `error`: a line for each of
-/// its glyphs that is not fitted though its fitting was asked for, and then, where that is asked for, one for each
-/// character that has no glyph. Where `error` fails, the lines are drawn nevertheless.
+/// Draws the lines of a text in order, and writes the product of each, as `draw_text` would write it, as soon as it is
+/// made. A line ends before its line feed, and before a carriage return there. The rest after the last line feed is a
+/// line too, unless it is empty. Nothing of a refused line is written, and later lines are not drawn. After a line's
+/// product its report is printed on `error`: a line for each glyph that could not be fitted. With `Missing::Tell` a
+/// line for each character without a glyph follows. A failure of `error` does not stop the drawing.
 ///
 /// Errors, the first of: Job (SizeRange, MarginRange), before the font is read; FontRead, FontLarge; Font, of the
-/// tables that every text is looked up in; then, line by line: Read; Text, with the line's number, from 1: TextLong, of
-/// more than 16,384 bytes; NotUtf8; those of `Strike::line`, `Strike::grown_line` or `Strike::measure`; Missing; and
-/// Write. Many comes after 4,294,967,295 lines. Memory comes where a growth was refused.
+/// tables needed for every text; then, line by line: Read; Text, with the line's number, from 1: TextLong, of more than
+/// 16,384 bytes; NotUtf8; those of `Strike::line`, `Strike::grown_line`, `Strike::measure` or `Strike::grown_measure`;
+/// Missing; and Write. Many comes after 4,294,967,295 lines. Memory may come at any allocation.
 #[tactic(auto, unfolding(crate::specs::Settings::strike_of))]
 pub fn draw_lines<F: Source, R: Source, W: Sink, E: Sink>(
     alloc: Global,
@@ -140,8 +139,8 @@ pub fn draw_lines<F: Source, R: Source, W: Sink, E: Sink>(
     requires lines { R.has_failed lines.old ≡ false }
     requires out { W.has_failed out.old ≡ false }
     requires error { E.has_failed error.old ≡ false }
-    // Either the call stopped before it read a line, and did nothing else; or the font was read to its end and opened,
-    // and what was read of the lines, written and printed is what the definition says of the lines by that font.
+    // Either the call stopped before it read a line, and did nothing else. Or the font was read to its end and opened,
+    // and the reading, writing and printing are as defined for the lines by that font.
     ensures outcome { FontLinesGive setting.now result (font_reader_of F.left F.has_failed font.old font.new) (traffic_of R.left R.has_failed W.written W.has_failed lines.old lines.new out.old out.new) (errors_of E.written E.has_failed error.old error.new) }
 {
     test_setting(setting)?;

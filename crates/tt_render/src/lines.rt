@@ -1,4 +1,4 @@
-//! The lines of a text, read one after the other.
+//! Reads the lines of a text in order.
 
 ghost use Rattle.std.specs.Prelude.{◌≡◌, ◌≢◌, ℕ, ◌+◌, ◌-◌, ◌<◌, ◌≤◌, [], false, length, take, drop, vec_len, All, IfOk, OnErr, MatchOption};
 ghost use Rattle.tt_core.specs.Device.{RemembersFailure};
@@ -14,10 +14,10 @@ use tt_core::{IoFailed, Source};
 /// The longest line, in bytes.
 pub(crate) const LINE_LIMIT: usize = 16_384;
 
-/// How many bytes a reader has room for: a line with its end, and what one read brings.
+/// The bytes of a reader's buffer: a line with its end, and one read.
 const LINE_ROOM: usize = LINE_LIMIT + 2 + 65_536;
 
-/// What is read of a text and not yet given out as lines: the bytes of `buf` from `from` to `until`.
+/// The bytes read of a text and not yet given out as lines: those of `buf` from `from` to `until`.
 #[derive(Drop)]
 pub(crate) struct LineReader {
     buf: Vec<u8>,
@@ -25,7 +25,7 @@ pub(crate) struct LineReader {
     until: usize,
 }
 
-/// Where a line stands in the buffer of its reader.
+/// The place of a line in its reader's buffer.
 #[derive(Clone, Copy)]
 pub(crate) struct LinePlace {
     from: usize,
@@ -49,7 +49,7 @@ impl From<IoFailed> for ReadFault {
     }
 }
 
-/// Where the first line feed of some bytes is.
+/// The place of the first line feed.
 fn first_feed(bytes: &[u8]) -> Option<usize>
     ensures { MatchOption result (All (λ x. x ≢ 10) bytes.now) (IsFirstFeed bytes.now) }
 {
@@ -61,7 +61,7 @@ fn first_feed(bytes: &[u8]) -> Option<usize>
     None
 }
 
-/// How long a line is without the carriage return before its line feed.
+/// The length of a line without the carriage return before its line feed.
 fn len_before_feed(line: &[u8]) -> usize
     ensures within { result ≤ length line.now }
     ensures exact { take result line.now ≡ before_feed line.now }
@@ -85,7 +85,7 @@ impl LineReader {
         })
     }
 
-    /// Moves what is held to the front of the buffer.
+    /// Moves the held bytes to the front of the buffer.
     fn move_to_front(&mut self)
         requires valid { IsReader self.old }
         ensures valid { IsReader self.new }
@@ -97,7 +97,7 @@ impl LineReader {
         self.from = 0;
     }
 
-    /// Holds some more bytes, and answers how many: 0 only at the end.
+    /// Reads more bytes into the buffer, and returns how many: 0 only at the end.
     fn read_more<R: Source>(&mut self, source: &mut R) -> Result<usize, IoFailed>
         requires valid { IsReader self.old }
         requires room { length (held self.old) < line_room }
@@ -115,7 +115,7 @@ impl LineReader {
         Ok(n)
     }
 
-    /// Gives out a line of so many bytes before its line feed.
+    /// Gives out a line of `len` bytes before its line feed.
     fn give_line(&mut self, len: usize) -> LinePlace
         requires valid { IsReader self.old }
         requires within { len < length (held self.old) }
@@ -135,7 +135,7 @@ impl LineReader {
         }
     }
 
-    /// Gives out all that is held, as a line with no line feed.
+    /// Gives out all held bytes as a line without a line feed.
     fn give_rest(&mut self) -> LinePlace
         requires valid { IsReader self.old }
         ensures valid { IsReader self.new }
@@ -152,7 +152,7 @@ impl LineReader {
         }
     }
 
-    /// Where the first line feed of what is held is, if not among so many bytes at the front.
+    /// The first line feed among the held bytes, behind the first `known`, which have none.
     fn feed_behind(&self, known: usize) -> Option<usize>
         requires valid { IsReader self.now }
         requires within { known ≤ length (held self.now) }
@@ -163,7 +163,7 @@ impl LineReader {
         Some(known + at)
     }
 
-    /// The next line, where there is one. A line that is refused stays what is read next. Errors: Long, Read.
+    /// The next line, if there is one. A refused line is read again by the next call. Errors: Long, Read.
     pub(crate) fn read_line<R: Source>(
         &mut self,
         source: &mut R,
@@ -192,7 +192,7 @@ impl LineReader {
         }
     }
 
-    /// The bytes of a line that was given out last.
+    /// The bytes of the line given out last.
     pub(crate) fn line(&self, place: LinePlace) -> &[u8]
         requires place { place.from ≤ place.until }
         requires within { place.until ≤ vec_len self.now.buf }

@@ -1,4 +1,4 @@
-//! Each character's glyph and advance, from a reader to the lines of a writer.
+//! Writes each character's glyph and advance as lines, by a font from a reader.
 
 ghost use Rattle.std.specs.Fmt.{digit_glyph};
 ghost use Rattle.std.specs.Prelude.{◌≡◌, ◌+◌, ◌^◌, ◌<◌, ◌≤◌, ◌∷◌, ◌++◌, true, false, length, chars, IfOk, IfSome};
@@ -20,12 +20,11 @@ use tt_metrics::Metrics;
 use tt_pbm::{Ascii, write_all_of};
 use tt_strike::{Face, test_text};
 
-/// Writes a line `U+NNNN glyph advance` for each character of the text: the code point in capital
-/// hexadecimal, the glyph's number and its advance in font units. Nothing is written before all lines
-/// are made.
+/// Writes a line `U+NNNN glyph advance` for each character of the text: the code point in capital hexadecimal, the
+/// glyph's number and its advance in font units. Nothing is written before all lines are made.
 ///
-/// Errors, the first of: Job (TextLong), before the font is read; Read, FontLarge; Font, in the order in
-/// which the bytes are read; Write. Memory comes where a growth was refused.
+/// Errors, the first of: Job (TextLong), before the font is read; Read, FontLarge; Font, in the order in which the
+/// bytes are read; Write. Memory may come at any allocation.
 pub fn map<R: Source, W: Sink>(
     alloc: Global,
     font: &mut R,

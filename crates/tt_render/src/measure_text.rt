@@ -8,10 +8,10 @@ use std::alloc::{AllocError, Global};
 use tt_metrics::Metrics;
 use tt_strike::{CharacterMeasure, InkBox, Measure};
 
-/// The measure of a text, line by line: `font`, units per em, ascent and descent in font units, the number of glyphs;
-/// `picture`, its width and height, `baseline`, the rows above it, `ink`, the box of all ink; and for each character
-/// `U+NNNN`, its glyph, the column of its origin, its advance in columns, the box of its ink. A box is its leftmost
-/// column, highest row, rightmost column and lowest row, or `none`.
+/// The measure of a text, line by line. First `font`: units per em, ascent and descent in font units, the number of
+/// glyphs. Then `picture`: its width and height; `baseline`, the rows above it; `ink`, the box of all ink. Then for
+/// each character `U+NNNN`: its glyph, the column of its origin, its advance in columns, the box of its ink. A box is
+/// its leftmost column, highest row, rightmost column and lowest row, or `none`.
 #[tactic(auto, unfolding(crate::specs::MeasureText::measure_text))]
 pub(crate) fn measure_text(
     alloc: Global,

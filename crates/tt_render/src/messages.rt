@@ -1,4 +1,4 @@
-//! What the program says of a fault, of a glyph that is not fitted, and of a character that has no glyph.
+//! The program's messages about a fault, an unfitted glyph, and a character without a glyph.
 
 ghost use Rattle.std.specs.Prelude.{◌≡◌, string_bytes, IfOk};
 ghost use Rattle.tt_render.specs.Messages.{status_of, line_of, font_line, job_line, missing_line_of, unfitted_line_of};
@@ -50,7 +50,7 @@ pub(crate) fn font_line(alloc: Global, fault: Fault) -> Result<String, AllocErro
     format!(in alloc; "tt_render: {table}+{offset}: {number} {name}")
 }
 
-/// The line of a job that is refused.
+/// The line of a refused job.
 pub(crate) fn job_line(alloc: Global, job: JobFault) -> Result<String, AllocError>
     ensures { IfOk result (λ text. string_bytes text ≡ job_line job) }
 {
@@ -59,7 +59,7 @@ pub(crate) fn job_line(alloc: Global, job: JobFault) -> Result<String, AllocErro
     format!(in alloc; "tt_render: {number} {name}")
 }
 
-/// The program's line on standard error for a glyph that is not fitted, without the line feed.
+/// The program's line on standard error for an unfitted glyph, without the line feed.
 pub fn unfitted_line(alloc: Global, unfitted: &Unfitted) -> Result<String, AllocError>
     ensures { IfOk result (λ text. string_bytes text ≡ unfitted_line_of unfitted.now) }
 {
@@ -72,8 +72,8 @@ pub fn unfitted_line(alloc: Global, unfitted: &Unfitted) -> Result<String, Alloc
     format!(in alloc; "tt_render: glyph {glyph} unfitted: {table}+{offset}: {number} {name}")
 }
 
-/// The program's line on standard error for a character that the font has no glyph for, without the line feed. Its code
-/// point stands in capital hexadecimal with at least four digits.
+/// The program's line on standard error for a character without a glyph, without the line feed. Its code point is in
+/// capital hexadecimal with at least four digits.
 pub fn missing_line(alloc: Global, c: char) -> Result<String, AllocError>
     ensures { IfOk result (λ text. string_bytes text ≡ missing_line_of c) }
 {

@@ -1,11 +1,11 @@
-//! What is told on standard error.
+//! Prints on standard error.
 
 ghost use Rattle.tt_render.specs.Printing.{PrintsBehind, errors_of};
 
 use tt_core::Sink;
 use tt_pbm::write_all_of;
 
-/// Prints a text, unless the device has failed. Where it fails now, no other place is left to tell it.
+/// Prints a text, unless the device has failed. A new failure is not reported, for lack of another device.
 pub(crate) fn print_text<E: Sink>(error: &mut E, text: &str)
     ensures { PrintsBehind (E.has_failed error.old) (errors_of E.written E.has_failed error.old error.new) text.now }
 {

@@ -1,4 +1,4 @@
-//! What goes out for a text.
+//! The product of a text: its output.
 
 ghost use Rattle.std.specs.Prelude.{◌≡◌, chars, Ok, IfOk};
 ghost use Rattle.tt_core.specs.Outcomes.{GivesUnless, IfTold};
@@ -20,17 +20,17 @@ use crate::texts_fault::TextStop;
 use std::alloc::{AllocError, Global};
 use tt_strike::{Face, Measure, Picture, Report, Strike, Unfitted};
 
-/// What is ready to go out for a text.
+/// A text's output, ready to be written.
 #[derive(Drop)]
 pub(crate) enum Output {
-    /// A picture with memory for a row of it.
+    /// A picture with memory for one of its rows.
     Picture(Drawn),
-    /// Lines of text, and what there is to know beside them.
+    /// Lines of text, and the report.
     Text(String, Report),
 }
 
 impl Output {
-    /// The glyphs that are not fitted.
+    /// The unfitted glyphs.
     pub(crate) fn unfitted(&self) -> &[Unfitted]
         ensures { result.now ≡ unfitted_in self.now }
     {
@@ -41,7 +41,7 @@ impl Output {
     }
 }
 
-/// A picture, ready to go out.
+/// A picture, ready to be written.
 fn picture_output(alloc: Global, picture: Picture) -> Result<Output, AllocError>
     requires { IsReady picture }
     ensures exact { IfOk result (λ o. bytes_in o ≡ picture_bytes picture) }
@@ -52,7 +52,7 @@ fn picture_output(alloc: Global, picture: Picture) -> Result<Output, AllocError>
     Ok(Output::Picture(Drawn { picture, row }))
 }
 
-/// The measure of a text, ready to go out.
+/// The measure of a text, ready to be written.
 fn measure_output(
     alloc: Global,
     face: &Face,
@@ -68,8 +68,8 @@ fn measure_output(
     Ok(Output::Text(lines, report))
 }
 
-/// What goes out for a text by a strike of a font. Errors: those of `Strike::line`, `Strike::grown_line`,
-/// `Strike::measure` or `Strike::grown_measure`.
+/// A text's output by a strike. Errors: those of `Strike::line`, `Strike::grown_line`, `Strike::measure` or
+/// `Strike::grown_measure`.
 #[tactic(auto, unfolding(crate::specs::Texts::product_of))]
 pub(crate) fn make_output(
     alloc: Global,

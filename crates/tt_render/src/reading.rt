@@ -1,4 +1,4 @@
-//! Reading a font to its end.
+//! Reads a font to its end.
 
 ghost use Rattle.std.specs.Prelude.{◌≡◌, ◌+◌, ◌<◌, ◌≤◌, false, length, take, drop, vec_len, IfOk, OnOk, OnErr};
 ghost use Rattle.std.specs.Io.KnownBytes.{Consumes, IsAtEnd, Keeps};
@@ -10,11 +10,11 @@ use crate::fault::RunFault;
 use std::alloc::{AllocError, Global};
 use tt_core::{FONT_LIMIT, IoFailed, Source};
 
-/// How much is asked for at a time, in bytes.
+/// The bytes of one read.
 const PIECE: usize = 131_072;
 
-/// Makes the vector longer than its filled front, by zeros, so that the next read finds room in it. The memory doubles,
-/// up to the byte that passes the limit: so the last growth begins at half of it. Error: Memory.
+/// Extends the vector with zeros past its filled front, so that the next read finds room. The memory doubles, up to one
+/// byte more than the limit, so the last growth begins at half of it. Error: Memory.
 fn make_room(file: &mut Vec<u8>, filled: usize) -> Result<(), AllocError>
     requires within { filled ≤ vec_len file.old }
     requires known { filled ≤ font_limit }
@@ -51,7 +51,7 @@ pub(crate) fn read_behind<R: Source>(
     font.read(&mut buf[filled..])
 }
 
-/// All that the reader has, at most FONT_LIMIT bytes. Errors: Read, FontLarge, Memory.
+/// All bytes of the reader, at most FONT_LIMIT. Errors: Read, FontLarge, Memory.
 pub(crate) fn read_font<R: Source>(alloc: Global, font: &mut R) -> Result<Vec<u8>, RunFault>
     requires { R.has_failed font.old ≡ false }
     ensures { ReadsAll (λ v. v.items) result (R.left font.old) (R.left font.new) (R.has_failed font.new) }

@@ -1,4 +1,4 @@
-//! A line of text drawn, from a reader to a writer.
+//! Draws a line of text, from a reader to a writer.
 
 ghost use Rattle.std.specs.Prelude.{◌≡◌, ◌<◌, false, length, Ok, IfOk, IfSome};
 ghost use Rattle.tt_core.specs.Limits.{font_limit};
@@ -17,16 +17,15 @@ use std::alloc::Global;
 use tt_core::{Sink, Source};
 use tt_strike::{Job, Report, test_job};
 
-/// Draws a line of text and writes its picture as binary PBM (P4): a pixel is black where its centre lies
-/// on, or inside, the chord outline of some glyph of the line, in which each curve is eight chords; with `Fit::Best` also
-/// where a dropout of the glyph stands, by the scan type that the font's programs ask for. Nothing
-/// is written before the edges of all glyphs stand, and from then on no memory is taken. The report stands by then: it
-/// tells which glyphs are not fitted though their fitting was asked for.
+/// Draws a line of text and writes its picture as binary PBM (P4). A pixel is black where its centre lies on, or
+/// inside, the chord outline of some glyph of the line; each curve is eight chords. With `Fit::Best` a glyph's
+/// dropouts, by the scan type of the font's programs, are black too. Nothing is written before the edges of all glyphs
+/// are made; from then on no memory is taken. The report lists the glyphs that could not be fitted.
 ///
-/// Errors, the first of: Job (SizeRange, MarginRange, TextLong), before the font is read; Read, FontLarge;
-/// Font and Job (EmptyPicture, PictureLarge), in the order in which the bytes are read, the picture's size
-/// being known once cmap is; Job (WorkLarge), with `Fit::Best` alone, where the glyphs cross the rows of the picture, and
-/// the lines that are asked for dropouts, too often; Write. Memory comes where a growth was refused.
+/// Errors, the first of: Job (SizeRange, MarginRange, TextLong), before the font is read; Read, FontLarge; Font and Job
+/// (EmptyPicture, PictureLarge), in reading order, with the picture's size known after cmap; Job (WorkLarge); Write.
+/// WorkLarge comes with `Fit::Best` alone: for too many points, before the glyphs are made, or for too many crossings
+/// of rows and of lines searched for dropouts. Memory may come at any allocation.
 pub fn run<R: Source, W: Sink>(
     alloc: Global,
     font: &mut R,
@@ -36,8 +35,8 @@ pub fn run<R: Source, W: Sink>(
     requires font { R.has_failed font.old ≡ false }
     requires out { W.has_failed out.old ≡ false }
     ensures outcome { CallGives result (traffic_of R.left R.has_failed W.written W.has_failed font.old font.new out.old out.new) (run_wanted (job_view job.now)) }
-    // With fallback and best each glyph of the text that is not fitted is listed once, in order of first appearance,
-    // with its fault; with the other ways of fitting none is.
+    // With fallback and best each unfitted glyph of the text is listed once, in order of first appearance, with its
+    // fault; with the other fits none is.
     ensures report { IfOk result (λ r. IfSome (R.left font.old) (λ file. report_of (job_view job.now) file ≡ Ok r.unfitted.items)) }
     ensures once { IfOk result (λ r. ListsOnce r.unfitted.items) }
     ensures defects { TellsDefectsOf (R.left font.old) (IsRunDefect (job_view job.now)) result }

@@ -7,27 +7,27 @@ use tt_core::JobFault;
 use tt_fit::Fit;
 use tt_strike::{Job, test_job};
 
-/// What is done where the font has no glyph for a character of a text.
+/// What happens to a character without a glyph.
 #[derive(Clone, Copy, Debug, PartialEq, Eq)]
 pub enum Missing {
-    /// Its glyph 0, mostly a box, is drawn, and nothing is told.
+    /// Glyph 0, mostly a box, is drawn, and nothing is reported.
     Draw,
-    /// The same, and each such character is told once.
+    /// Glyph 0 is drawn, and each such character is reported once.
     Tell,
     /// The text is refused for the first such character.
     Refuse,
 }
 
-/// What goes out for a text.
+/// The output for a text.
 #[derive(Clone, Copy, Debug, PartialEq, Eq)]
 pub enum Product {
     /// Its picture.
     Picture,
-    /// Its picture, which is made so much larger on each side, by the least whole columns and rows, that no ink is cut.
+    /// Its picture with the fewest columns and rows added on each side such that no ink is cut.
     Grown,
-    /// Where its picture, the picture's ink and each character stand, as lines of text.
+    /// The places of its picture's base line, ink and characters, as lines of text.
     Measure,
-    /// The same of the picture that `Grown` makes.
+    /// These lines for the picture that `Grown` makes.
     GrownMeasure,
 }
 
@@ -41,7 +41,7 @@ pub struct Setting {
     pub fit: Fit,
     pub missing: Missing,
     pub product: Product,
-    /// How many bytes of glyphs are kept from line to line, at most.
+    /// The most bytes of glyphs cached from line to line.
     pub most: usize,
 }
 
@@ -49,7 +49,7 @@ pub struct Setting {
 pub(crate) fn test_setting(setting: &Setting) -> Result<(), JobFault>
     ensures { Gives (λ u. u) result (setting_tested setting.now) }
 {
-    // A text of no characters is never too long.
+    // The tests of a job are reused: an empty text is never too long.
     test_job(&Job {
         text: "",
         ppem: setting.ppem,

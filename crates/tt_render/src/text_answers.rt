@@ -1,4 +1,4 @@
-//! What a text answers: what goes out for it, and what is told of it.
+//! The answer of a text: its output and its report.
 
 ghost use Rattle.std.specs.Prelude.{◌≡◌, IfOk};
 ghost use Rattle.tt_core.specs.Outcomes.{GivesUnless, IfTold};
@@ -17,8 +17,7 @@ use std::alloc::Global;
 use tt_cmap::{Cmap, lacking};
 use tt_strike::{Face, Strike};
 
-/// The answer of a text, ready to go out; the characters that are told as without a glyph; and its report as it is
-/// printed.
+/// The output of a text, ready to be written; the reported characters without a glyph; and the report as it is printed.
 #[derive(Drop)]
 pub(crate) struct ReadyText {
     pub(crate) output: Output,
@@ -26,7 +25,7 @@ pub(crate) struct ReadyText {
     pub(crate) report: String,
 }
 
-/// Which of the characters of a text that have no glyph are told. Error: Missing, the first, where none may be.
+/// The characters of a text without a glyph that are reported. Error: Missing, the first, where they are refused.
 #[tactic(auto, unfolding(crate::specs::Texts::missing_tested))]
 fn missing_of(
     alloc: Global,
@@ -51,8 +50,7 @@ fn missing_of(
     }
 }
 
-/// The answer of a text by a strike of a font, of this number where it is a line. Errors, the first of: those of
-/// `make_output`; Missing.
+/// The answer of a text by a strike; `number` is that of a line. Errors, the first of: those of `make_output`; Missing.
 #[tactic(auto, unfolding(crate::specs::Texts::text_answer))]
 pub(crate) fn answer_text(
     alloc: Global,

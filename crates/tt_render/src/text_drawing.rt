@@ -1,4 +1,4 @@
-//! One text drawn, from a reader to a writer.
+//! Draws one text, from a reader to a writer.
 
 ghost use Rattle.std.specs.Prelude.{◌≡◌, ◌≤◌, false, length, Ok, None, IfOk};
 ghost use Rattle.tt_core.specs.Limits.{font_limit};
@@ -20,8 +20,8 @@ use std::alloc::Global;
 use tt_core::{Sink, Source};
 use tt_strike::{Face, Job, Strike, test_job};
 
-/// The answer of the one text by a font file. Errors, the first of: Font, of the tables that every text is looked up
-/// in; Text. Memory comes where a growth was refused.
+/// The answer of the one text by a font file. Errors, the first of: Font, of the tables needed for every text; Text.
+/// Memory may come at any allocation.
 fn ready_text(
     alloc: Global,
     file: &[u8],
@@ -36,7 +36,7 @@ fn ready_text(
     ensures report { IfOk result (TellsOf None) }
 {
     let face = Face::open(file)?;
-    // There is no other line to keep glyphs for.
+    // There is no other line, so no glyph is cached.
     let mut strike = Strike::new(alloc, &face, setting.ppem, setting.fit, 0)?;
     match answer_text(alloc, &mut strike, &face, setting, None, text) {
         Ok(ready) => Ok(ready),
@@ -44,16 +44,15 @@ fn ready_text(
     }
 }
 
-/// Draws one text by a font, and writes what is asked for: its picture, as `run` would write it; the same so much
-/// larger that no ink is cut; or where the picture, its ink and each character stand. When that is out, its report is
-/// printed on `error`: a line for each of its glyphs that is not fitted though its fitting was asked for, and then,
-/// where that is asked for, one for each character that has no glyph. Where `error` fails, the call answers as if it
-/// had not.
+/// Draws one text by a font, and writes its product: the picture, as `run` would write it; the picture enlarged so that
+/// no ink is cut; or the measure of either. Then its report is printed on `error`: a line for each glyph that could not
+/// be fitted. With `Missing::Tell` a line for each character without a glyph follows. A failure of `error` does not
+/// change the answer.
 ///
 /// Errors, the first of: Job (SizeRange, MarginRange, and TextLong, of more than 4,096 characters), before the font is
-/// read; FontRead, FontLarge; Font, of the tables that every text is looked up in; Text, with no number: those of
-/// `Strike::line`, `Strike::grown_line` or `Strike::measure`; Missing; and Write, with no number. Memory comes where a
-/// growth was refused, and then nothing was written.
+/// read; FontRead, FontLarge; Font, of the tables needed for every text; Text, with no number: those of `Strike::line`,
+/// `Strike::grown_line`, `Strike::measure` or `Strike::grown_measure`; Missing; and Write, with no number. Memory may
+/// come at any allocation, and then nothing was written.
 pub fn draw_text<R: Source, W: Sink, E: Sink>(
     alloc: Global,
     font: &mut R,
@@ -65,8 +64,8 @@ pub fn draw_text<R: Source, W: Sink, E: Sink>(
     requires font { R.has_failed font.old ≡ false }
     requires out { W.has_failed out.old ≡ false }
     requires error { E.has_failed error.old ≡ false }
-    // Either the call stopped before the text was drawn, and did nothing else; or the font was read to its end and
-    // opened, and what was written and printed is what the definition says of the text by that font.
+    // Either the call stopped before the text was drawn, and did nothing else. Or the font was read to its end and
+    // opened, and the writing and printing are as defined for the text by that font.
     ensures outcome { FontTextGives setting.now text.now result (traffic_of R.left R.has_failed W.written W.has_failed font.old font.new out.old out.new) (errors_of E.written E.has_failed error.old error.new) }
     ensures defects { TextTellsDefectsOf (R.left font.old) (IsRunDefect (job_by setting.now text.now)) result }
 {

@@ -29,13 +29,13 @@ pub enum TextFault {
     Missing(char),
 }
 
-/// Why `draw_text` or `draw_lines` ends without its work done. What was asked for of the lines before is written.
+/// Why `draw_text` or `draw_lines` fails. The output of the earlier lines is written.
 #[derive(Clone, Copy, Debug, PartialEq, Eq, Error)]
 pub enum TextsFault {
     /// The font has this defect; no text was read, nothing was written.
     #[error("the font is refused")]
     Font(Fault),
-    /// The size or the margin cannot be, or the one text is too long; nothing was read or written.
+    /// The size or the margin is out of range, or the one text is too long; nothing was read or written.
     #[error("{0}")]
     Job(JobFault),
     /// The font could not be read to its end; nothing was written.
@@ -44,7 +44,7 @@ pub enum TextsFault {
     /// The font has more than 67,108,864 bytes; nothing was written.
     #[error("the font is too large")]
     FontLarge,
-    /// The line of this number, from 1, is refused, or with None the one text; nothing of it was written.
+    /// The line with this number, from 1, is refused, or with None the one text; nothing of it was written.
     #[error("{fault}")]
     Text {
         number: Option<u32>,
@@ -53,7 +53,7 @@ pub enum TextsFault {
     /// The lines could not be read to their end.
     #[error("cannot read the lines")]
     Read,
-    /// Writing failed after `sent` bytes of what goes out for the line of this number, or with None for the one text.
+    /// Writing failed after `sent` bytes of the output of the line with this number, or with None of the one text.
     #[error("cannot write after {sent} bytes")]
     Write {
         number: Option<u32>,
@@ -67,7 +67,7 @@ pub enum TextsFault {
     Memory,
 }
 
-/// What stops a text.
+/// The reason that a text is stopped.
 #[derive(Clone, Copy)]
 pub(crate) enum TextStop {
     Refused(TextFault),
@@ -77,7 +77,7 @@ pub(crate) enum TextStop {
     Memory,
 }
 
-/// What stopped the text, of this number where it is a line, stops the call.
+/// Converts the stop of a text into the fault of its call; `number` is that of a line.
 pub(crate) fn texts_fault(number: Option<u32>, stop: TextStop) -> TextsFault
     ensures { result ≡ texts_fault_of number stop }
 {

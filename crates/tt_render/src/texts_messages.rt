@@ -1,4 +1,4 @@
-//! What the program says of texts that are drawn: of what stops a call, and of a picture that went out.
+//! The program's messages about texts: why a call failed, and the report of a drawn text.
 
 ghost use Rattle.std.specs.Prelude.{◌≡◌, ◌++◌, flat_map, length, string_bytes, IfOk, IsOk, OnOk};
 ghost use Rattle.tt_render.specs.Reports.{head_of, lacking_told, report_text_of, unfitted_told};
@@ -9,7 +9,7 @@ use crate::texts_fault::{TextFault, TextsFault};
 use std::alloc::{AllocError, Global};
 use tt_strike::Unfitted;
 
-/// The program's exit status where `draw_text` or `draw_lines` ends so.
+/// The program's exit status after this fault of `draw_text` or `draw_lines`.
 pub fn texts_status(fault: &TextsFault) -> u8
     ensures { result ≡ texts_status_of fault.now }
 {
@@ -32,7 +32,7 @@ fn text_status(fault: &TextFault) -> u8
     }
 }
 
-/// The program's line on standard error where `draw_text` or `draw_lines` ends so, without the line feed.
+/// The program's line on standard error after this fault of `draw_text` or `draw_lines`, without the line feed.
 pub fn texts_line(alloc: Global, fault: &TextsFault) -> Result<String, AllocError>
     ensures { IfOk result (λ text. string_bytes text ≡ texts_line_of fault.now) }
 {
@@ -85,7 +85,7 @@ fn cut_line(alloc: Global, number: Option<u32>, sent: u64) -> Result<String, All
     format!(in alloc; "{head}cannot write after {sent} bytes")
 }
 
-/// How a line begins that speaks of the one text, or of the line of this number.
+/// The start of a message about the one text, or about the line with this number.
 fn head(alloc: Global, number: Option<u32>) -> Result<String, AllocError>
     ensures { IfOk result (λ text. string_bytes text ≡ head_of number) }
 {
@@ -95,9 +95,8 @@ fn head(alloc: Global, number: Option<u32>) -> Result<String, AllocError>
     }
 }
 
-/// The report of a text that was drawn, of this number where it is a line: a line, with its line feed, for each glyph
-/// that is not fitted, and then one for each character that has no glyph. It takes no memory where there is nothing to
-/// tell.
+/// The report of a drawn text; `number` is that of a line. A line, with its line feed, for each unfitted glyph, and
+/// then one for each character without a glyph. An empty report takes no memory.
 #[tactic(auto, unfolding(crate::specs::Reports::report_text_of))]
 pub(crate) fn report_text(
     alloc: Global,
@@ -114,7 +113,7 @@ pub(crate) fn report_text(
     Ok(text)
 }
 
-/// Puts a line for each glyph that is not fitted after a text.
+/// Appends a line for each unfitted glyph.
 fn push_unfitted(
     alloc: Global,
     text: &mut String,
@@ -130,7 +129,7 @@ fn push_unfitted(
     Ok(())
 }
 
-/// Puts a line for each character that has no glyph after a text.
+/// Appends a line for each character without a glyph.
 fn push_lacking(
     alloc: Global,
     text: &mut String,

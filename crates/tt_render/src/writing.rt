@@ -1,4 +1,4 @@
-//! A picture written: its header, and then row after row, each made when those before it are out.
+//! Writes a picture: its header, and then each row, which is made once the rows before it are written.
 
 ghost use Rattle.std.specs.Prelude.{◌≡◌, ◌+◌, ◌*◌, ◌^◌, ◌<◌, ◌≤◌, false, is_err, length, take, IfErr, OnOk};
 ghost use Rattle.std.specs.Io.KnownBytes.{Appends};
@@ -74,7 +74,7 @@ fn write_row<W: Sink>(out: &mut W, picture: &mut Picture, row: &mut [u8]) -> Res
     write_all_of(out, row)
 }
 
-/// Writes what goes out for a text: a picture as `write_picture` does, lines of text by one call. It takes no memory.
+/// Writes the output of a text: a picture as `write_picture` does, lines of text by one call. It takes no memory.
 pub(crate) fn write_output<W: Sink>(out: &mut W, output: &mut Output) -> Result<(), Cut>
     requires out { W.has_failed out.old ≡ false }
     requires ready { CanGoOut output.old }

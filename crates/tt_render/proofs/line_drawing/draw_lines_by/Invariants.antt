@@ -5,7 +5,7 @@ use Rattle.tt_render.specs.Printing.{errors_of}
 use Rattle.tt_render.proofs.DrawnLines.{SoFar}
 use Rattle.tt_render.proofs.line_drawing.draw_lines_by.Given as goal
 
--- the lines before went out with their reports, and the text that is left has the others
+-- the earlier lines were written with their reports, and the remaining text has the others
 abbrev pub invariant-loop-before : goal.invariant-loop-before
 invariant-loop-before g l = record {
   valid : IsReader l.reader;

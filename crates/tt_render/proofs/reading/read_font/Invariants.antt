@@ -3,7 +3,7 @@ use Rattle.std.specs.Io.KnownBytes.{Consumes}
 use Rattle.tt_core.specs.Limits.{font_limit}
 use Rattle.tt_render.proofs.reading.read_font.Given as goal
 
--- what was read so far is what the reader lost
+-- the bytes read so far are those taken from the reader
 abbrev pub invariant-pieces : goal.invariant-pieces
 invariant-pieces g l = record {
   within : l.filled ≤ vec_len l.file;

@@ -6,7 +6,7 @@ use Rattle.tt_strike.specs.Job.{Job, margin_tested, size_tested, tested, text_te
 use Rattle.tt_render.specs.Settings.{setting_tested}
 use Rattle.tt_render.proofs.setting.test_setting.Goals as goal
 
--- a test that passes adds nothing behind others
+-- a passing test adds nothing behind others
 passes_behind : (r : Result (Unit {0}) JobFault) → (r >>= λ u. Ok tt) ≡ r
 passes_behind (Ok u) = refl
 passes_behind (Err j) = refl

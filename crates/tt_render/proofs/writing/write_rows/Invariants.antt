@@ -3,7 +3,7 @@ use Rattle.std.specs.Io.KnownBytes.{Appends}
 use Rattle.tt_core.specs.Bits.{stride}
 use Rattle.tt_render.proofs.writing.write_rows.Given as goal
 
--- the rows so far went out, and no more
+-- the rows so far were written, and no more
 abbrev pub invariant-loop-r : goal.invariant-loop-r
 invariant-loop-r g l = record {
   end : l._r-end ≡ l.fn.picture.frame.height;

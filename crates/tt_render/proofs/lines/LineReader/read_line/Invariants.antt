@@ -3,7 +3,7 @@ use Rattle.std.specs.Io.KnownBytes.{Keeps}
 use Rattle.tt_render.specs.LineReading.{IsReader, held, line_room, text_left}
 use Rattle.tt_render.proofs.lines.LineReader.read_line.Given as goal
 
--- of what is held the first bytes are no line feeds, and the text that is left is what it was
+-- the first held bytes are no line feeds, and the remaining text is unchanged
 abbrev pub invariant-pieces : goal.invariant-pieces
 invariant-pieces g l = record {
   valid : IsReader l.self;
