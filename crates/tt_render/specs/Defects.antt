@@ -10,7 +10,7 @@ use Rattle.tt_strike.specs.Tables.{face_of}
 use Rattle.tt_render.specs.declared.fault.RunFault.{RunFault}
 use Rattle.tt_render.specs.declared.fault.RunFault.TheVariants as run
 
--- a call that wrote anything found no defect, and a font fault in its error is a defect
+-- a call that ends with Ok or Write found no defect, and a font fault in its error is one
 abbrev pub CallTellsDefects : {V : Type 0} → (Fault → Type 0) → Result V RunFault → Type 0
 CallTellsDefects IsOne (Ok v) = HasNo IsOne
 CallTellsDefects IsOne (Err (run.Font f)) = IsOne f

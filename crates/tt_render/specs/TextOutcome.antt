@@ -70,7 +70,7 @@ abbrev pub stop_font_fault : TextStop → Option Fault
 stop_font_fault (stop.Refused (fault.Font f)) = Some f
 stop_font_fault why = None
 
--- a call that wrote anything found no defect, and a font fault in its error is a defect
+-- a call that ends with Ok or Write found no defect, and a font fault in its error is one
 abbrev pub TextTellsDefects : {V : Type 0} → (Fault → Type 0) → Result V TextsFault → Type 0
 TextTellsDefects IsOne (Ok v) = HasNo IsOne
 TextTellsDefects IsOne (Err (texts.Font f)) = IsOne f

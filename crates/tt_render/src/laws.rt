@@ -2,8 +2,8 @@
 
 ghost use Rattle.tt_render.specs.Laws.{WrittenFontsAreWhole, MappedFontsAreWhole, OthersWriteByEdges};
 
-/// Lemma: where the definition of `run` or `map` gives bytes, the font has no defect for the call. So a call that wrote
-/// anything found none.
+/// Lemma: where the definition of `run` or `map` gives bytes, the font has no defect for the call. So a call that ends
+/// with Ok or Write found none.
 pub fn fonts_are_whole()
     ensures run { WrittenFontsAreWhole }
     ensures map { MappedFontsAreWhole }

@@ -83,7 +83,7 @@ pub of_next : (e : FontFault) (now : Fitter) (before : List ℕ) (g : ℕ) → i
 of_next (font.Font f) now before g absent fails = (absent, fails)
 of_next font.Memory now before g absent fails = tt
 
--- it is that of the line
+-- the fault is that of the line
 pub stuck_at : (e : FontFault) (maker : ℕ → Fitter) (now : Fitter) (before : List ℕ) (line : List (ℕ × ℕ)) (i : ℕ)
     (shapes : List Shape) → i < length line → IsNext maker now before (get_or line i (0, 0)).0
     → after_each (glyph_shape maker) (drop i line) shapes ≡ each (glyph_shape maker) line

@@ -44,7 +44,7 @@ abbrev pub HasProgramPastEnd : List ℕ → Fault → Type 0
 HasProgramPastEnd directory fault = PassesEnd directory cvt_tag fault ⊎ PassesEnd directory fpgm_tag fault
     ⊎ PassesEnd directory prep_tag fault
 
--- a defect of the programs' places; with None they are not read
+-- a defect of the programs' places; without fitting they are not read
 abbrev pub IsProgramTableDefect : List ℕ → Fit → Fault → Type 0
 IsProgramTableDefect directory fit.None fault = ⊥
 IsProgramTableDefect directory fit.Full fault = HasProgramPastEnd directory fault
