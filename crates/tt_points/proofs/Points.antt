@@ -1,4 +1,4 @@
--- A point by its number, once one was put in the place of a point.
+-- A point by its number, after a point was replaced.
 use Rattle.std.proofs.Common.{◌≡◌, ◌≢◌, ℕ, zero, suc, ℤ, pos, negsuc, int_lt, unsigned_abs, slice_get, slice_set, false, List, [], ◌∷◌, ok_or, Ok, ap, refl, rules, ◌∙◌, sym}
 use Rattle.std.specs.Ordering.{int_eq}
 use Rattle.std.proofs.lemmas.Bool.Decides.{Decides-int_eq, not_from_Decides}
@@ -19,7 +19,7 @@ beside (p ∷ ps) zero (suc j) q other = refl
 beside (p ∷ ps) (suc i) zero q other = refl
 beside (p ∷ ps) (suc i) (suc j) q other = beside ps i j q (λ same. other (ap suc same))
 
--- no number from 0 on is refused for its sign
+-- no number of 0 or more is refused for its sign
 signless : (n : ℕ) → int_lt (pos n) (pos 0) ≡ false
 signless n = search rules
 

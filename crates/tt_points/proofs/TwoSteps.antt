@@ -1,4 +1,4 @@
--- An instruction on two points that is computed whole before it writes gives what it gives in two steps.
+-- An instruction on two points that computes all before it writes gives the same as in two steps.
 use Rattle.std.proofs.Common.{◌≡◌, ℤ, neg_ℤ, unsigned_abs, slice_set, Bool, true, false, if◌then◌else◌, List, Result, Ok, Err, ap, refl, rules, ◌∙◌, sym}
 use Rattle.std.specs.Ordering.{int_eq}
 use Rattle.std.proofs.lemmas.Bool.Decides.{Decides-int_eq}
@@ -29,7 +29,7 @@ pub put_there : (b : Zone) (p : ℤ) (z : ZoneLists) (a q : Point) → point_in 
 put_there zone.Twilight p z a q is = point_at-put p z.twilight a q is
 put_there zone.Glyph p z a q is = point_at-put p z.glyph a q is
 
--- of one zone: the same point, or another
+-- in one zone: the same point, or another
 in_one : (test : Bool) (n p : ℤ) (ps : List Point) (r a q : Point) → int_eq n p ≡ test → point_at n ps ≡ Ok r
     → point_at p ps ≡ Ok a → point_at n (slice_set ps (unsigned_abs p) q) ≡ Ok (if test then q else r)
 in_one true n p ps r a q is there was =
@@ -51,7 +51,7 @@ same_of true n p ps r q is there was =
     search (rules, one)
 same_of false n p ps r q is there was = refl
 
--- what becomes itself is seen as it was
+-- a point that becomes itself is unchanged
 seen_same : (o b : Zone) (n p : ℤ) (z : ZoneLists) (r q : Point) → point_in o n z ≡ Ok r → point_in b p z ≡ Ok q
     → seen o n r b p q ≡ r
 seen_same zone.Twilight zone.Twilight n p z r q there was = same_of (int_eq n p) n p z.twilight r q refl there was
@@ -64,7 +64,7 @@ put_twice : (b : Zone) (p : ℤ) (z : ZoneLists) (a q : Point)
 put_twice zone.Twilight p z a q = ap (λ ps. record z { twilight = ps }) (set-set z.twilight (unsigned_abs p) a q)
 put_twice zone.Glyph p z a q = ap (λ ps. record z { glyph = ps }) (set-set z.glyph (unsigned_abs p) a q)
 
--- zones before a graphics state, of them or of one point in its place
+-- zones beside a graphics state, all of them or with one point replaced
 abbrev before : GraphicsState → Result ZoneLists Why → Result (ZoneLists × GraphicsState) Why
 before g given = given >>= λ z. Ok (z, g)
 
@@ -81,7 +81,7 @@ put_again : (b : Zone) (p : ℤ) (z : ZoneLists) (a : Point) (g : GraphicsState)
 put_again b p z a g (Ok e) = ap (λ w. Ok (w, g)) (put_twice b p z a e)
 put_again b p z a g (Err why) = refl
 
--- a point is put in its place, and then a change of it, which looks at another point
+-- a point is replaced, and then changed by a function of another point
 abbrev two_steps : Zone → Zone → ℤ → ℤ → (Point → Point → Result Point Why) → GraphicsState → Result ZoneLists Why
     → Result (ZoneLists × GraphicsState) Why
 two_steps b o p n f g given = given >>= λ y.
@@ -125,7 +125,7 @@ mirp_once k p c z g q r m was there way =
     (λ a b. kept m (mirp_distance k g (original_distance m b a) (single_width g c)) a b) (referred k.set_rp0 p g) was
     there)
 
--- ALIGNPTS moves two points, each by its number
+-- ALIGNPTS moves two points by their numbers
 second : (b o : Zone) (p n : ℤ) (z : ZoneLists) (q r : Point) (m : Motion) (d : ℤ) (given : Result Point Why)
     → point_in b p z ≡ Ok q → point_in o n z ≡ Ok r
     → ((given >>= λ a. Ok (with_point b p a z)) >>= λ y. move_by o n m d y)
@@ -146,7 +146,7 @@ alignpts_once p1 p2 z g a b m was there way =
     rw (was, there, way)
     (second g.zp1 g.zp0 p1 p2 z a b m (neg_ℤ d) (moved m d a) was there)
 
--- a number that has a point has one after another point was put in its place
+-- a number with a point has one after another point was replaced
 pub still_there : (o b : Zone) (n p : ℤ) (q : Point) (z : ZoneLists) → HasPoint o n z
     → HasPoint o n (with_point b p q z)
 still_there zone.Twilight zone.Twilight n p q z has =

@@ -1,5 +1,5 @@
--- Apple TrueType Reference Manual, "Instruction Set" (MIAP, MIRP): points moved along the projection vector by a value
--- of the control value table, which is given. Coordinates are in 26.6 pixels.
+-- Apple TrueType Reference Manual, "Instruction Set" (MIAP, MIRP): points moved along the projection vector by a
+-- control value, which is a parameter here. Coordinates are in 26.6 pixels.
 use Rattle.std.specs.Prelude.{◌≡◌, ℤ, pos, negsuc, ◌-ℤ◌, Bool, true, false, ◌&&◌, if◌then◌else◌, [], ◌∷◌, Result, Ok, refl}
 use Rattle.tt_core.specs.Outcomes.{◌>>=◌}
 use Rattle.tt_core.specs.declared.fault.Why.{Why}
@@ -22,20 +22,20 @@ use Rattle.tt_points.specs.Moving.{kept, referred, zero_and, zero_and_touched}
 use Rattle.tt_points.specs.Twilight.{made, placed, origin}
 use Rattle.tt_points.specs.declared.twilight.Along.TheVariants as by
 
--- a control value cut in by where a point stands, and rounded
+-- the control value after the cut-in by a point's coordinate, rounded
 abbrev pub rounded_in : GraphicsState → ℤ → ℤ → ℤ
 rounded_in g at c = rounded g.round (cut_in g at c)
 
--- how far a point that stands at a coordinate is from a control value, which is cut in and rounded, or not
+-- the distance from a point's coordinate to a control value, with or without cut-in and rounding
 unfoldable pub miap_distance : Bool → GraphicsState → ℤ → ℤ → ℤ
 miap_distance round g at c = if round then rounded_in g at c -ℤ at else c -ℤ at
 
--- a twilight point is placed at the control value first
+-- a twilight point placed at the control value
 unfoldable pub placed_at : Zone → Motion → ℤ → Point → Result Point Why
 placed_at zone.Twilight m c q = placed by.Freedom m c origin q
 placed_at zone.Glyph m c q = Ok q
 
--- moved to the control value
+-- a point moved to the control value
 unfoldable pub set_at : Bool → GraphicsState → Motion → ℤ → Point → Result Point Why
 set_at round g m c q = moved m (miap_distance round g (cur m q) c) q
 
@@ -49,25 +49,25 @@ is_same zone.Glyph zone.Glyph = true
 is_same zone.Twilight zone.Glyph = false
 is_same zone.Glyph zone.Twilight = false
 
--- a rounding MIRP cuts in, where both points are of one zone
+-- the control value after MIRP's cut-in, which applies when MIRP rounds and both points are in one zone
 abbrev pub cut_in_by : Keeping → GraphicsState → ℤ → ℤ → ℤ
 cut_in_by k g d c = if k.round && is_same g.zp0 g.zp1 then cut_in g d c else c
 
--- a control value turned and cut in by an original distance
+-- a control value after auto flip and cut-in, both by the original distance
 abbrev pub chosen : Keeping → GraphicsState → ℤ → ℤ → ℤ
 chosen k g d c = cut_in_by k g d (flipped g d c)
 
--- the distance that is kept for an original distance d and a control value c, after the single width
+-- the distance that MIRP sets, for the original distance d and the control value c after the single width
 unfoldable pub mirp_distance : Keeping → GraphicsState → ℤ → ℤ → ℤ
 mirp_distance k g d c = spaced_by k g d (rounded_by k g (chosen k g d c))
 
--- point p of zone pointer 1 moved to the distance c from reference point 0, as these rules have it
+-- point p of zone pointer 1, moved by these rules to the distance c from reference point 0
 unfoldable pub chosen_from : Keeping → Motion → ℤ → ℤ → ZoneLists → GraphicsState → Result ZoneLists Why
 chosen_from k m p c z g = point_in g.zp1 p z >>= λ q. point_in g.zp0 g.rp0 z >>= λ r.
     kept m (mirp_distance k g (original_distance m r q) c) q r >>= λ n. Ok (with_point g.zp1 p n z)
 
--- a twilight point is placed first, so that it stands at that distance along the freedom vector from where reference
--- point 0 originally was
+-- a twilight point is placed first: at that distance along the freedom vector from reference point 0's original
+-- place
 unfoldable pub mirp : Keeping → ℤ → ℤ → ZoneLists → GraphicsState → Result (ZoneLists × GraphicsState) Why
 mirp k p c z g = point_in g.zp1 p z >>= λ q. point_in g.zp0 g.rp0 z >>= λ r. direction g >>= λ m.
     made g.zp1 by.Freedom m p (single_width g c) r z >>= λ y. chosen_from k m p (single_width g c) y g >>= λ w.
@@ -85,7 +85,7 @@ a_twilight_point_rounded : miap true (pos 0) (pos 100) (zero_and (pos 0)) in_twi
 unfolding miap set_at miap_distance placed_at placed direction project along
 a_twilight_point_rounded = refl
 
--- a point at 100, by a control value of 200
+-- a point at 100, with a control value of 200
 cut_in_to_the_original : mirp (keeping false false true) (pos 1) (pos 200) (zero_and (pos 100)) default_state
     ≡ Ok (zero_and_touched (pos 100) (pos 128), record default_state { rp2 = pos 1 })
 unfolding mirp made chosen_from mirp_distance kept single_width direction project along
@@ -109,7 +109,7 @@ a_twilight_point_at_a_distance : mirp (keeping false false false) (pos 0) (pos 1
 unfolding mirp made placed chosen_from mirp_distance kept single_width direction project along
 a_twilight_point_at_a_distance = refl
 
--- along a line that rises by 2 in 1, by a control value of 100
+-- along a line that rises by 2 in 1, with a control value of 100
 a_value_along_it : miap true (pos 4) (pos 100) before (slanted rising)
     ≡ Ok (with_fourth (fourth_at (pos 61) (pos 112) true true), record (slanted rising) { rp0 = pos 4; rp1 = pos 4 })
 unfolding miap set_at miap_distance placed_at direction project
@@ -128,7 +128,7 @@ a_twilight_point_along_it : miap false (pos 1) (pos 100) before (record (slanted
 unfolding miap set_at miap_distance placed_at placed direction project along
 a_twilight_point_along_it = refl
 
--- placed along the freedom vector, and moved to where the projection vector measures 100
+-- placed along the freedom vector, then moved to the coordinate 100 along the projection vector
 a_twilight_point_moved_on : miap false (pos 1) (pos 100) before (record (slanted vector.X) { zp0 = zone.Twilight })
     ≡ Ok (
       with_twilight (touched_at (pos 100) (pos 0) (pos 223) (pos 0) true false),

@@ -1,5 +1,5 @@
--- Apple TrueType Reference Manual, "Graphics State" (round state, minimum distance, single width, auto flip, control
--- value cut-in): what becomes of a distance that an instruction keeps. Distances are in 26.6 pixels.
+-- Apple TrueType Reference Manual, "Graphics State" (round state, minimum distance, single width, auto flip,
+-- control value cut-in): rules that change a distance before a point is moved to it. Distances are in 26.6 pixels.
 use Rattle.std.specs.Prelude.{◌≡◌, ℤ, pos, negsuc, ◌-ℤ◌, neg_ℤ, int_lt, unsigned_abs, Bool, ◌&&◌, ◌||◌, if◌then◌else◌, refl}
 use Rattle.std.specs.Int.{int_max, int_min}
 use Rattle.tt_state.specs.declared.graphics_state.GraphicsState.{GraphicsState}
@@ -10,44 +10,44 @@ use Rattle.tt_points.specs.declared.distances.Keeping.{Keeping}
 abbrev pub magnitude : ℤ → ℤ
 magnitude d = pos (unsigned_abs d)
 
--- a magnitude with the sign of a distance, 0 being positive
+-- a magnitude with the sign of a distance; 0 counts as positive
 abbrev pub signed : ℤ → ℤ → ℤ
 signed d m = if int_lt d (pos 0) then neg_ℤ m else m
 
--- how far two numbers lie from one another
+-- the magnitude of the difference
 abbrev pub apart : ℤ → ℤ → ℤ
 apart a b = magnitude (a -ℤ b)
 
--- a distance that is near the single width becomes it
+-- the single width, with the distance's sign, for a distance within the single width cut-in
 unfoldable pub single_width : GraphicsState → ℤ → ℤ
 single_width g d =
     if int_lt (apart (magnitude d) (magnitude g.single_width)) g.single_cut_in then signed d (magnitude g.single_width)
     else d
 
--- the distance e made at least the minimum, on the side where the distance d is
+-- the distance e, at least the minimum distance from 0 on the side of d
 abbrev pub at_least_minimum : GraphicsState → ℤ → ℤ → ℤ
 at_least_minimum g d e = if int_lt d (pos 0) then int_min e (neg_ℤ g.min_distance) else int_max e g.min_distance
 
--- a distance rounded, and made at least the minimum, if that is asked for
+-- a distance rounded, and one that is at least the minimum, if the options say so
 abbrev pub rounded_by : Keeping → GraphicsState → ℤ → ℤ
 rounded_by k g e = if k.round then rounded g.round e else e
 
 abbrev pub spaced_by : Keeping → GraphicsState → ℤ → ℤ → ℤ
 spaced_by k g d e = if k.minimum_distance then at_least_minimum g d e else e
 
--- two distances of different signs
+-- whether two distances have opposite signs
 abbrev pub is_opposite : ℤ → ℤ → Bool
 is_opposite d c = (int_lt d (pos 0) && int_lt (pos 0) c) || (int_lt (pos 0) d && int_lt c (pos 0))
 
--- auto flip: a control value gets the sign of the distance that was measured
+-- auto flip: a control value with the sign of the measured distance
 abbrev pub flipped : GraphicsState → ℤ → ℤ → ℤ
 flipped g d c = if g.auto_flip && is_opposite d c then neg_ℤ c else c
 
--- the control value, or what was measured where that is further away than the cut-in
+-- the control value, or the measured distance if they differ by more than the cut-in
 abbrev pub cut_in : GraphicsState → ℤ → ℤ → ℤ
 cut_in g d c = if int_lt g.cut_in (apart c d) then d else c
 
--- what MDRP and MIRP do beside the move
+-- the options of MDRP and MIRP
 abbrev pub keeping : Bool → Bool → Bool → Keeping
 keeping set_rp0 minimum_distance round =
     record { set_rp0 = set_rp0; minimum_distance = minimum_distance; round = round }

@@ -1,4 +1,5 @@
--- No part of the standard: no instruction on a single point, or on lines, is short of values, as it is given them.
+-- No part of the standard: no instruction on a single point, or on lines, fails with too few values, since its
+-- values are parameters.
 use Rattle.std.proofs.Common.{ℤ, ◌-ℤ◌, neg_ℤ, Bool, true, Result, Ok, Err, refl}
 use Rattle.tt_core.specs.Outcomes.{◌>>=◌}
 use Rattle.tt_core.specs.declared.fault.Why.{Why}
@@ -34,7 +35,7 @@ use Rattle.tt_points.specs.Lines as lines
 use Rattle.tt_points.specs.Measuring as measuring
 use Rattle.tt_points.specs.Moving as moving
 
--- moved, and put further without a touch
+-- moves, with and without a touch
 direction_enough : (g : GraphicsState) → Enough (direction g)
 direction_enough g = enough_of (direction g) (direction_total g)
 
@@ -49,7 +50,7 @@ put_enough : (free : Vector) (by : Pair) (p : Point) → Enough (put_further fre
 put_enough free by p =
     enough_of (put_further free by p) (made_of (put_further free by p) (marked free true) (pushed_total free by p))
 
--- by a distance from another point
+-- a move to a distance from another point
 kept_enough : (m : Motion) (d : ℤ) (q r : Point) → Enough (kept m d q r)
 unfolding kept
 kept_enough m d q r = moved_enough m (d -ℤ current_distance m r q) q

@@ -1,5 +1,5 @@
--- Apple TrueType Reference Manual, "Instruction Set" (SPVTL, SFVTL, SDPVTL, ISECT, ALIGNPTS): vectors set by the line
--- through two points, where two lines meet, and points aligned. Coordinates are in 26.6 pixels.
+-- Apple TrueType Reference Manual, "Instruction Set" (SPVTL, SFVTL, SDPVTL, ISECT, ALIGNPTS): vectors along the
+-- line through two points, the meeting point of two lines, and aligned points. Coordinates are in 26.6 pixels.
 use Rattle.std.specs.Prelude.{◌≡◌, ℤ, pos, negsuc, neg_ℤ, int_div, Bool, true, false, Result, Ok, Err, refl}
 use Rattle.tt_core.specs.Outcomes.{◌>>=◌}
 use Rattle.tt_core.specs.declared.fault.Why.{Why}
@@ -27,7 +27,7 @@ use Rattle.tt_points.specs.declared.lines.Ends.{Ends}
 abbrev pub two_points : ℤ → ℤ → ZoneLists → GraphicsState → Result (Point × Point) Why
 two_points p1 p2 z g = point_in g.zp2 p1 z >>= λ a. point_in g.zp1 p2 z >>= λ b. Ok (a, b)
 
--- the vector along the line from a point to another, as they stand, or as they stood before the program
+-- the vector along the line from a point to another, by current and by original places
 abbrev pub current_line : Bool → Point → Point → Vector
 current_line turned a b = vector_of (line (pair a.x a.y) (pair b.x b.y) turned)
 
@@ -39,7 +39,7 @@ unfoldable pub spvtl : Bool → ℤ → ℤ → ZoneLists → GraphicsState → 
 spvtl turned p1 p2 z g = two_points p1 p2 z g >>= λ t.
     Ok (record g { proj = current_line turned (t.0) (t.1); dual = current_line turned (t.0) (t.1) })
 
--- the freedom vector along it
+-- the freedom vector along the line
 unfoldable pub sfvtl : Bool → ℤ → ℤ → ZoneLists → GraphicsState → Result GraphicsState Why
 sfvtl turned p1 p2 z g = two_points p1 p2 z g >>= λ t. Ok (record g { free = current_line turned (t.0) (t.1) })
 
@@ -48,7 +48,7 @@ unfoldable pub sdpvtl : Bool → ℤ → ℤ → ZoneLists → GraphicsState →
 sdpvtl turned p1 p2 z g = two_points p1 p2 z g >>= λ t.
     Ok (record g { proj = current_line turned (t.0) (t.1); dual = original_line turned (t.0) (t.1) })
 
--- where a point stands, and the line through two points of a zone
+-- a point's current place, and the line through two points of a zone
 abbrev pub place_of : Point → Place
 place_of q = record { x = q.x; y = q.y }
 
@@ -56,11 +56,11 @@ abbrev pub line_through : Zone → Ends → ZoneLists → Result Line Why
 line_through zone ends z = point_in zone ends.to z >>= λ to. point_in zone ends.from z >>= λ from.
     Ok (record { from = place_of from; to = place_of to })
 
--- a point put to a place, and touched along both axes
+-- a point moved to a place, and touched along both axes
 abbrev pub put_to : Place → Point → Point
 put_to place q = record q { x = place.x; y = place.y; touched_x = true; touched_y = true }
 
--- put where line a, through points of zone pointer 1, meets line b, through points of zone pointer 0
+-- a point moved to where line a, of zone pointer 1, meets line b, of zone pointer 0
 unfoldable pub isect : ℤ → Ends → Ends → ZoneLists → GraphicsState → Result ZoneLists Why
 isect p a b z g = line_through g.zp0 b z >>= λ other. line_through g.zp1 a z >>= λ one. point_in g.zp2 p z >>= λ q.
     met one.from one.to other.from other.to >>= λ place. Ok (with_point g.zp2 p (put_to place q) z)
@@ -73,13 +73,13 @@ half d = int_div d (pos 2)
 unfoldable pub move_by : Zone → ℤ → Motion → ℤ → ZoneLists → Result ZoneLists Why
 move_by zone p m d z = point_in zone p z >>= λ q. moved m d q >>= λ r. Ok (with_point zone p r z)
 
--- point p1 moved by half its distance to point p2, and p2 by as much the other way
+-- point p1 moved by half its distance to point p2, and p2 by the opposite distance
 unfoldable pub alignpts : ℤ → ℤ → ZoneLists → GraphicsState → Result ZoneLists Why
 alignpts p1 p2 z g = point_in g.zp1 p1 z >>= λ a. point_in g.zp0 p2 z >>= λ b. direction g >>= λ m.
     move_by g.zp1 p1 m (half (current_distance m a b)) z >>= λ y.
     move_by g.zp0 p2 m (neg_ℤ (half (current_distance m a b))) y
 
--- worked values: points 0 and 1 lie on a line that rises by 2 in 1
+-- worked values: points 0 and 1 are on a line that rises by 2 in 1
 abbrev all : GraphicsState
 all = default_of true
 

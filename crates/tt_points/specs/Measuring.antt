@@ -1,5 +1,5 @@
--- Apple TrueType Reference Manual, "Instruction Set" (GC, SCFS, MD, UTP): coordinates read and set, and a touch undone.
--- Coordinates are in 26.6 pixels.
+-- Apple TrueType Reference Manual, "Instruction Set" (GC, SCFS, MD, UTP): coordinates read and set, distances
+-- measured, and a touch removed. Coordinates are in 26.6 pixels.
 use Rattle.std.specs.Prelude.{◌≡◌, ℤ, pos, ◌-ℤ◌, true, false, [], ◌∷◌, Option, None, Result, Ok, Err, refl}
 use Rattle.tt_core.specs.Outcomes.{◌>>=◌}
 use Rattle.tt_core.specs.declared.fault.Why.{Why}
@@ -23,7 +23,7 @@ use Rattle.tt_points.specs.Moving.{in_units, by_12}
 use Rattle.tt_points.specs.Slanted.{rising, slanted, dual_upward, fourth_at, with_fourth, before}
 use Rattle.tt_points.specs.Twilight.{settled_in, origin}
 
--- where a point stands along the projection vector, or stood along the dual one
+-- a point's current place along the projection vector, or its original place along the dual one
 abbrev pub coordinate : Position → Motion → Point → ℤ
 coordinate position.Current m q = cur m q
 coordinate position.Original m q = org m q
@@ -31,8 +31,8 @@ coordinate position.Original m q = org m q
 unfoldable pub gc : Position → ℤ → ZoneLists → GraphicsState → Result ℤ Why
 gc of p z g = point_in g.zp2 p z >>= λ q. Ok (coordinate of (vectors_of g) q)
 
--- how far a point stands from another along the projection vector, or stood along the dual one, by originals that may
--- have a scale
+-- the distance between two points: of current places along the projection vector, or of original places along the
+-- dual one, where the scale of the original places, if any, applies
 abbrev pub distance : Position → Option Scale → Motion → Point → Point → ℤ
 distance position.Current s m a b = current_distance m a b
 distance position.Original s m a b = distance_by s m a b
@@ -47,7 +47,7 @@ unfoldable pub scfs : ℤ → ℤ → ZoneLists → GraphicsState → Result Zon
 scfs p v z g = point_in g.zp2 p z >>= λ q. direction g >>= λ m. moved m (v -ℤ cur m q) q >>= λ n.
     Ok (with_point g.zp2 p (settled_in g.zp2 n) z)
 
--- along the freedom vector
+-- untouched along the freedom vector
 unfoldable pub utp : ℤ → ZoneLists → GraphicsState → Result ZoneLists Why
 utp p z g = point_in g.zp0 p z >>= λ q. Ok (with_point g.zp0 p (marked g.free false q) z)
 

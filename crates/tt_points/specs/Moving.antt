@@ -33,7 +33,7 @@ kept m d q r = moved m (d -ℤ current_distance m r q) q
 abbrev pub referred : Bool → ℤ → GraphicsState → GraphicsState
 referred rp0 p g = record g { rp0 = if rp0 then p else g.rp0; rp1 = g.rp0; rp2 = p }
 
--- touched where it is, or rounded
+-- to the rounded coordinate, or by 0
 unfoldable pub mdap_distance : Bool → GraphicsState → ℤ → ℤ
 mdap_distance round g at = if round then rounded g.round at -ℤ at else pos 0
 
@@ -47,12 +47,12 @@ unfoldable pub kept_from : Motion → ℤ → ℤ → ZoneLists → GraphicsStat
 kept_from m p d z g = point_in g.zp1 p z >>= λ q. point_in g.zp0 g.rp0 z >>= λ r. kept m d q r >>= λ n.
     Ok (with_point g.zp1 p n z)
 
--- a twilight point is placed first, so that it stands at that distance from where reference point 0 originally was
+-- a twilight point is placed first, at that distance from the original place of reference point 0
 unfoldable pub msirp : Bool → ℤ → ℤ → ZoneLists → GraphicsState → Result (ZoneLists × GraphicsState) Why
 msirp set_rp0 p d z g = point_in g.zp1 p z >>= λ q. point_in g.zp0 g.rp0 z >>= λ r. direction g >>= λ m.
     made g.zp1 along.Projection m p d r z >>= λ y. kept_from m p d y g >>= λ w. Ok (w, referred set_rp0 p g)
 
--- what is kept of an original distance, after the single width, and of the distance before it
+-- the distance that MDRP sets, from an original distance after the single width, and from one before it
 abbrev pub mdrp_kept : Keeping → GraphicsState → ℤ → ℤ
 mdrp_kept k g d = spaced_by k g d (rounded_by k g d)
 
@@ -65,7 +65,7 @@ mdrp k p z g = point_in g.zp1 p z >>= λ q. point_in g.zp0 g.rp0 z >>= λ r. dir
     kept m (mdrp_distance k g (distance_by (scale_between g.zp0 g.zp1 z) m r q)) q r >>= λ n.
     Ok (with_point g.zp1 p n z, referred k.set_rp0 p g)
 
--- worked values: two points, one at 0 and one at a coordinate along x, where they originally were
+-- worked values: two points at their original places, one at 0 and one at a coordinate along x
 abbrev at_x : ℤ → Point
 at_x x = record origin { org_x = x; x = x }
 
@@ -91,7 +91,8 @@ minus_ten_to_a_pixel : mdrp (keeping false true true) (pos 1) (zero_and (negsuc 
 unfolding mdrp mdrp_distance kept single_width direction project
 minus_ten_to_a_pixel = refl
 
--- two points that stood 127 font units apart, which are 95 at 12 of 1024, and the first one in the twilight zone too
+-- two points 127 font units apart before the program, which are 95 at 12 of 1024; the first one is a twilight
+-- point too
 abbrev first_in_units : Point
 first_in_units = record (at_x (pos 2)) { units_x = pos 3 }
 
@@ -116,7 +117,7 @@ kept_in_pixels : mdrp (keeping false false false) (pos 1) (in_units None (pos 98
 unfolding mdrp mdrp_distance kept single_width direction project
 kept_in_pixels = refl
 
--- from a twilight point in 26.6
+-- from a twilight point, measured in 26.6
 kept_from_twilight : mdrp (keeping false false false) (pos 1) (in_units by_12 (pos 98) false)
     (record default_state { zp0 = zone.Twilight })
     ≡ Ok (in_units by_12 (pos 98) true, record default_state { zp0 = zone.Twilight; rp2 = pos 1 })
@@ -174,7 +175,7 @@ set_apart_along_it : msirp false (pos 4) (pos 100) before (slanted rising)
 unfolding msirp made kept_from kept direction project
 set_apart_along_it = refl
 
--- a twilight point whose distance is 64 as the projection vector measures it
+-- a twilight point at 64 along the projection vector
 a_twilight_point_set_apart : msirp false (pos 1) (pos 64) before (record (slanted vector.X) { zp1 = zone.Twilight })
     ≡ Ok (
       with_twilight (touched_at (pos 143) (pos 0) (pos 143) (pos 0) true false),

@@ -1,5 +1,5 @@
--- No part of the standard: a point as it stands once another was changed, which may be the same one, so that an
--- instruction on both can be computed whole before it writes. Coordinates are in 26.6 pixels.
+-- No part of the standard: a point after a change to another, which may be the same point. With this an
+-- instruction on both computes all before it writes. Coordinates are in 26.6 pixels.
 use Rattle.std.specs.Prelude.{ℤ, Bool, ◌&&◌, if◌then◌else◌, Result, Ok}
 use Rattle.std.specs.Ordering.{int_eq}
 use Rattle.tt_core.specs.Outcomes.{◌>>=◌}
@@ -21,16 +21,16 @@ use Rattle.tt_points.specs.Twilight.{placed}
 abbrev pub is_one : Zone → ℤ → Zone → ℤ → Bool
 is_one a n b p = is_same a b && int_eq n p
 
--- the point number n of zone a, which was r, once the point number p of zone b has become q
+-- point number n of zone a, after point number p of zone b has become q; r is the point before
 abbrev pub seen : Zone → ℤ → Point → Zone → ℤ → Point → Point
 seen a n r b p q = if is_one a n b p then q else r
 
--- a point that is there, placed if it is a twilight point
+-- a twilight point as placed gives it; a glyph point is unchanged
 unfoldable pub placed_in : Zone → Along → Motion → ℤ → Point → Point → Result Point Why
 placed_in zone.Twilight by m d r q = placed by m d r q
 placed_in zone.Glyph by m d r q = Ok q
 
--- what MSIRP and MIRP make of point q, number p of zone pointer 1, with reference point 0 at r
+-- the result of MSIRP and of MIRP for point q, number p of zone pointer 1, with reference point 0 at r
 unfoldable pub placed_and_kept : GraphicsState → ℤ → Motion → ℤ → Point → Point → Result Point Why
 placed_and_kept g p m d q r = placed_in g.zp1 along.Projection m d r q >>= λ n.
     kept m d n (seen g.zp0 g.rp0 r g.zp1 p n)

@@ -1,4 +1,4 @@
--- No part of the standard: no instruction on single points, or on lines through them, makes a point or drops one.
+-- No part of the standard: no instruction on single points, or on lines through them, adds or removes a point.
 use Rattle.std.proofs.Common.{ℤ, neg_ℤ, Bool, false, ◌-ℤ◌, Result, Ok, Err}
 use Rattle.tt_core.specs.Outcomes.{◌>>=◌}
 use Rattle.tt_core.specs.declared.fault.Why.{Why}
@@ -28,17 +28,17 @@ use Rattle.tt_points.specs.Lines as lines
 use Rattle.tt_points.specs.Measuring as measuring
 use Rattle.tt_points.specs.Moving as moving
 
--- one point in the place of another, and a graphics state
+-- a point replaced, beside a new graphics state
 put_before : (g : GraphicsState) (zone : Zone) (n : ℤ) (z : ZoneLists) (r : Result Point Why)
     → KeepsShapeBefore z (r >>= λ q. Ok (with_point zone n q z, g))
 put_before g zone n z (Ok q) = put_one zone n q z
 put_before g zone n z (Err why) = tt
 
--- the shape before the instruction
+-- zones with the shape before the instruction
 abbrev Before : ZoneLists → ZoneLists × GraphicsState → Type 0
 Before z t = SameShape z t.0
 
--- two changes, and then a graphics state
+-- two changes, followed by a graphics state
 twice : (g : GraphicsState) (z : ZoneLists) (r : Result ZoneLists Why) (f : ZoneLists → Result ZoneLists Why)
     → KeepsShape z r → ((y : ZoneLists) → KeepsShape y (f y))
     → KeepsShapeBefore z (r >>= λ y. f y >>= λ w. Ok (w, g))

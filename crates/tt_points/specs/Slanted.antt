@@ -10,26 +10,26 @@ use Rattle.tt_state.specs.Vectors.{pair}
 use Rattle.tt_points_zones.specs.Zones.{ZoneLists, in_pixels}
 use Rattle.tt_points.specs.Twilight.{origin}
 
--- along a line that rises by 2 in 1, and at right angles to it
+-- vectors along a line that rises by 2 in 1, and at right angles to it
 abbrev pub rising : Vector
 rising = vector.Off (pair (pos 7327) (pos 14654))
 
 abbrev pub across : Vector
 across = vector.Off (pair (negsuc 14653) (pos 7327))
 
--- both projection vectors along that line, and a freedom vector
+-- both projection vectors along that line, and a given freedom vector
 abbrev pub slanted : Vector → GraphicsState
 slanted free = record (default_of true) { proj = rising; dual = rising; free = free }
 
--- the projection vector along the line from point 0 to point 5 as they stand, the dual one as they stood
+-- the projection vector along the line from point 0 to point 5 by current places, the dual one by original places
 abbrev pub dual_upward : GraphicsState
 dual_upward = record (default_of true) { proj = vector.Off (pair (pos 1256) (pos 16335)); dual = vector.Y }
 
--- a point that stands where it stood
+-- a point at its original place
 abbrev pub still : ℤ → ℤ → Point
 still x y = record origin { org_x = x; org_y = y; x = x; y = y }
 
--- a point by where it stood and where it stands, and along which axes it is touched
+-- a point with its original and current place, and the axes along which it is touched
 abbrev pub touched_at : ℤ → ℤ → ℤ → ℤ → Bool → Bool → Point
 touched_at org_x org_y x y touched_x touched_y = record origin
     { org_x = org_x; org_y = org_y; x = x; y = y; touched_x = touched_x; touched_y = touched_y }
@@ -40,11 +40,12 @@ third = still (pos 428) (pos 192)
 abbrev pub fourth : Point
 fourth = still (pos 50) (pos 90)
 
--- point 4 moved to a place, and touched along x and along y
+-- point 4 at another place, with its touches along x and along y
 abbrev pub fourth_at : ℤ → ℤ → Bool → Bool → Point
 fourth_at x y touched_x touched_y = touched_at (pos 50) (pos 90) x y touched_x touched_y
 
--- six points of the glyph, of which 3 and 4 are given and 5 has moved, and two twilight points, of which 1 is given
+-- six points of the glyph, where points 3 and 4 are parameters and 5 has moved, and two twilight points, where 1
+-- is a parameter
 abbrev pub points : Point → Point → Point → ZoneLists
 points p3 p4 twilight = record {
   twilight = origin ∷ twilight ∷ [];
@@ -54,7 +55,7 @@ points p3 p4 twilight = record {
   originals = in_pixels halves.Up;
 }
 
--- these with another point 4, and with another twilight point 1
+-- the same points with another point 4, and with another twilight point 1
 abbrev pub with_fourth : Point → ZoneLists
 with_fourth p = points third p origin
 

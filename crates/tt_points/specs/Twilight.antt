@@ -1,5 +1,5 @@
--- Apple TrueType Reference Manual, "Instructing TrueType Glyphs" (zones): the points of the twilight zone have no place
--- of their own until an instruction makes one. Which places they get is this project's own choice (profile). Coordinates
+-- Apple TrueType Reference Manual, "Instructing TrueType Glyphs" (zones): twilight points have no place of their
+-- own until an instruction gives them one. The choice of these places is this project's own (profile). Coordinates
 -- are in 26.6 pixels.
 use Rattle.std.specs.Prelude.{ℤ, pos, true, false, Result, Ok}
 use Rattle.tt_core.specs.Outcomes.{◌>>=◌}
@@ -14,7 +14,7 @@ use Rattle.tt_points_zones.specs.declared.motion.Motion.{Motion}
 use Rattle.tt_points.specs.declared.twilight.Along.{Along}
 use Rattle.tt_points.specs.declared.twilight.Along.TheVariants as along
 
--- the place where a point stands becomes its original one
+-- a point whose original place is its current place
 abbrev pub settled : Point → Point
 settled p = record p { org_x = p.x; org_y = p.y }
 
@@ -22,17 +22,17 @@ abbrev pub settled_in : Zone → Point → Point
 settled_in zone.Twilight p = settled p
 settled_in zone.Glyph p = p
 
--- a point put further along the freedom vector, by a distance that the projection vector measures, or by one along the
--- freedom vector itself
+-- a point moved further along the freedom vector: by a distance along the projection vector, or along the freedom
+-- vector itself
 abbrev pub further : Along → Motion → ℤ → Point → Result Point Why
 further along.Projection m d p = shifted m d p
 further along.Freedom m d p = shifted_along m.free d p
 
--- a point put where another originally stood, and further by a distance; that is its original place
+-- a point at a distance from another's original place, which is its own original place too
 unfoldable pub placed : Along → Motion → ℤ → Point → Point → Result Point Why
 placed by m d r p = further by m d (record p { x = r.org_x; y = r.org_y }) >>= λ q. Ok (settled q)
 
--- where both coordinates are 0
+-- the point with both coordinates 0
 abbrev pub origin : Point
 origin = record {
   units_x = pos 0;
@@ -46,7 +46,7 @@ origin = record {
   on = true;
 }
 
--- a twilight point by its number, placed so; glyph points stay
+-- twilight point number p, placed by this rule; glyph points are unchanged
 unfoldable pub made : Zone → Along → Motion → ℤ → ℤ → Point → ZoneLists → Result ZoneLists Why
 made zone.Twilight by m p d r z =
     point_in zone.Twilight p z >>= λ q. placed by m d r q >>= λ n. Ok (with_point zone.Twilight p n z)

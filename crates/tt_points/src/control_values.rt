@@ -1,5 +1,5 @@
-//! Points moved along the projection vector by a value of the control value table. Apple TrueType Reference Manual,
-//! "Instruction Set". Coordinates are in 26.6 pixels.
+//! Instructions that move a point along the projection vector by a control value. Apple TrueType Reference Manual,
+//! "Instruction Set" (MIAP, MIRP). Coordinates are in 26.6 pixels.
 
 ghost use Rattle.std.specs.Prelude.{◌≡◌, ◌-ℤ◌, ◌<◌, ◌^◌, unsigned_abs, IfOk, IfErr};
 ghost use Rattle.tt_core.specs.Outcomes.{Gives};
@@ -17,7 +17,7 @@ use tt_core::Why;
 use tt_points_zones::{Distance, Motion, Zones, may_move};
 use tt_state::{GraphicsState, Point, Zone};
 
-/// Where both coordinates are 0.
+/// The point with both coordinates 0.
 const ORIGIN: Point = Point {
     units_x: 0,
     units_y: 0,
@@ -30,7 +30,7 @@ const ORIGIN: Point = Point {
     on: true,
 };
 
-/// A control value as a rounding MIAP has it: cut in by where the point stands, and rounded.
+/// The control value after the cut-in by the coordinate `at`, rounded.
 fn cut_in_and_rounded(state: &GraphicsState, at: Distance, c: Distance) -> i64
     requires at { unsigned_abs at.0 < 2 ^ 22 }
     requires c { unsigned_abs c.0 < 2 ^ 32 }
@@ -40,7 +40,7 @@ fn cut_in_and_rounded(state: &GraphicsState, at: Distance, c: Distance) -> i64
     state.round.round(cut_in(state, at.0, c.0))
 }
 
-/// How far MIAP moves a point that stands at a coordinate.
+/// MIAP's move of a point with the coordinate `at`.
 #[tactic(auto, unfolding(crate::specs::ControlValues::miap_distance))]
 fn miap_distance(round: bool, state: &GraphicsState, at: Distance, c: Distance) -> i64
     requires at { unsigned_abs at.0 < 2 ^ 22 }
@@ -55,7 +55,7 @@ fn miap_distance(round: bool, state: &GraphicsState, at: Distance, c: Distance) 
     }
 }
 
-/// A twilight point is placed at the control value first. Error: ValueRange.
+/// A twilight point placed at the control value. A glyph point is unchanged. Error: ValueRange.
 #[tactic(auto, unfolding(crate::specs::ControlValues::placed_at))]
 fn placed_at(zone: Zone, q: Point, m: &Motion, c: Distance) -> Result<Point, Why>
     requires q { IsPoint q }
@@ -69,7 +69,7 @@ fn placed_at(zone: Zone, q: Point, m: &Motion, c: Distance) -> Result<Point, Why
     }
 }
 
-/// Where a point stands along the projection vector, as a distance.
+/// A point's coordinate along the projection vector, as a distance.
 fn standing(q: Point, m: &Motion) -> Distance
     requires { IsPoint q }
     ensures exact { result.0 ≡ motion.cur m.now q }
@@ -78,7 +78,7 @@ fn standing(q: Point, m: &Motion) -> Distance
     Distance(i64::from(m.cur(q)))
 }
 
-/// A point moved by MIAP's rule. Error: ValueRange.
+/// A point moved as MIAP moves it. Error: ValueRange.
 #[tactic(auto, unfolding(crate::specs::ControlValues::set_at))]
 fn set_at(
     round: bool,
@@ -95,10 +95,10 @@ fn set_at(
     m.moved(q, miap_distance(round, state, standing(q, m), c))
 }
 
-/// MIAP[r]: p, n -> point p of zone pointer 0 is moved to `c`, the control value of that number. In the twilight zone it
-/// is placed there first (profile). With `round` the point's coordinate is kept where the control value is further from
-/// it than the cut-in, and rounded. The point becomes reference points 0 and 1. Errors: PointRange, Perpendicular,
-/// ValueRange.
+/// MIAP[r], 0x3E and 0x3F: p, n -> moves point p of zone pointer 0 to `c`, the control value with number n. A
+/// twilight point is placed there first (profile). With `round`, the point's own coordinate replaces a control
+/// value further away than the cut-in, and the result is rounded. Reference points 0 and 1 become p. Errors:
+/// PointRange, Perpendicular, ValueRange.
 #[tactic(auto, unfolding(crate::specs::ControlValues::miap))]
 pub fn miap(
     zones: &mut Zones,
@@ -124,7 +124,7 @@ pub fn miap(
     Ok(())
 }
 
-/// A rounding MIRP cuts in, where both points are of one zone.
+/// The control value after MIRP's cut-in, which applies when MIRP rounds and both points are in one zone.
 fn cut_in_by(keeping: Keeping, state: &GraphicsState, d: Distance, c: i64) -> i64
     requires d { unsigned_abs d.0 < 2 ^ 23 }
     requires c { unsigned_abs c < 2 ^ 32 }
@@ -138,7 +138,7 @@ fn cut_in_by(keeping: Keeping, state: &GraphicsState, d: Distance, c: i64) -> i6
     }
 }
 
-/// A control value turned and cut in by an original distance.
+/// A control value after auto flip and cut-in, both by the original distance.
 fn chosen(keeping: Keeping, state: &GraphicsState, d: Distance, c: Distance) -> i64
     requires d { unsigned_abs d.0 < 2 ^ 23 }
     requires c { unsigned_abs c.0 < 2 ^ 32 }
@@ -148,7 +148,7 @@ fn chosen(keeping: Keeping, state: &GraphicsState, d: Distance, c: Distance) -> 
     cut_in_by(keeping, state, d, flipped(state, d.0, c.0))
 }
 
-/// The distance that MIRP keeps for an original distance `d` and a control value `c`, after the single width.
+/// The distance that MIRP sets, for the original distance `d` and the control value `c` after the single width.
 #[tactic(auto, unfolding(crate::specs::ControlValues::mirp_distance))]
 fn mirp_distance(keeping: Keeping, state: &GraphicsState, d: Distance, c: Distance) -> Distance
     requires d { unsigned_abs d.0 < 2 ^ 23 }
@@ -164,7 +164,8 @@ fn mirp_distance(keeping: Keeping, state: &GraphicsState, d: Distance, c: Distan
     ))
 }
 
-/// A point moved by MIRP's rule from `r`, `c` being the control value after the single width. Error: ValueRange.
+/// A point moved by MIRP to its distance from `r`. `c` is the control value after the single width. Error:
+/// ValueRange.
 #[tactic(auto, unfolding(crate::specs::Pairs::chosen_between))]
 fn chosen_between(
     keeping: Keeping,
@@ -184,7 +185,7 @@ fn chosen_between(
     kept(q, m, d, r)
 }
 
-/// What MIRP makes of `q`, the point `p` of zone pointer 1, with reference point 0 at `r`. Error: ValueRange.
+/// The result of MIRP for `q`, the point `p` of zone pointer 1, with reference point 0 at `r`. Error: ValueRange.
 #[tactic(auto, unfolding(crate::specs::Pairs::placed_and_chosen))]
 fn placed_and_chosen(
     keeping: Keeping,
@@ -212,10 +213,11 @@ fn single_width_of(state: &GraphicsState, c: i32) -> Distance
     Distance(single_width(state, i64::from(c)))
 }
 
-/// MIRP[abcde]: p, n -> point p of zone pointer 1 is moved to the distance `c`, the control value of that number, from
-/// reference point 0, of zone pointer 0, as `keeping` has it; a twilight point is placed there first (profile). Where it
-/// rounds, the original distance is kept if the control value differs by more than the cut-in, in one zone. Reference
-/// point 1 becomes reference point 0, and p reference point 2. Errors: PointRange, Perpendicular, ValueRange.
+/// MIRP[abcde], 0xE0 to 0xFF: p, n -> moves point p of zone pointer 1 to a distance from reference point 0, in zone
+/// pointer 0. The distance is `c`, the control value with number n, changed as `keeping` says. A twilight point is
+/// placed there first (profile). With rounding, and within one zone, the original distance replaces a control value
+/// that differs by more than the cut-in. Reference point 1 becomes reference point 0, and reference point 2 becomes
+/// p. Errors: PointRange, Perpendicular, ValueRange.
 #[tactic(auto, unfolding(crate::specs::ControlValues::mirp))]
 pub fn mirp(
     zones: &mut Zones,

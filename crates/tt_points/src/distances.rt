@@ -1,5 +1,5 @@
-//! What becomes of a distance that an instruction keeps. Apple TrueType Reference Manual, "Graphics State" (round
-//! state, minimum distance, single width, auto flip, control value cut-in). Distances are in 26.6 pixels.
+//! Rules that change a distance before a point is moved to it. Apple TrueType Reference Manual, "Graphics State"
+//! (round state, minimum distance, single width, auto flip, control value cut-in). Distances are in 26.6 pixels.
 
 ghost use Rattle.std.specs.Prelude.{◌≡◌, ◌<◌, ◌≤◌, ◌^◌, pos, ◌≤ℤ◌, unsigned_abs};
 ghost use Rattle.tt_points.specs.Distances as is;
@@ -7,7 +7,7 @@ ghost use Rattle.tt_points.specs.Distances as is;
 use tt_points_zones::Distance;
 use tt_state::GraphicsState;
 
-/// A distance as the stack or the control value table has it.
+/// A distance from the stack or from the control value table.
 pub(crate) fn given(d: i32) -> Distance
     ensures exact { result.0 ≡ d }
     ensures bound { unsigned_abs result.0 < 2 ^ 32 }
@@ -15,13 +15,12 @@ pub(crate) fn given(d: i32) -> Distance
     Distance(i64::from(d))
 }
 
-/// What MDRP and MIRP do with the distance that they keep, and with the point. The type of the distance, which an
-/// opcode's two lowest bits tell, changes nothing (profile).
+/// The options of MDRP and MIRP. The distance type, in the opcode's two lowest bits, has no effect (profile).
 #[derive(Clone, Copy)]
 pub struct Keeping {
     /// The point becomes reference point 0.
     pub set_rp0: bool,
-    /// The distance is made at least the minimum distance.
+    /// The distance becomes at least the minimum distance.
     pub minimum_distance: bool,
     /// The distance is rounded. MIRP applies the control value cut-in too.
     pub round: bool,
@@ -35,7 +34,7 @@ fn magnitude(d: i64) -> i64
     d.abs()
 }
 
-/// A magnitude with the sign of a distance, 0 being positive.
+/// The magnitude `m` with the sign of `d`. 0 counts as positive.
 fn signed(d: i64, m: i64) -> i64
     requires { unsigned_abs m < 2 ^ 33 }
     ensures exact { result ≡ is.signed d m }
@@ -44,7 +43,7 @@ fn signed(d: i64, m: i64) -> i64
     if d < 0 { -m } else { m }
 }
 
-/// How far two numbers lie from one another.
+/// The magnitude of the difference between two numbers.
 fn apart(a: i64, b: i64) -> i64
     requires a { unsigned_abs a < 2 ^ 32 }
     requires b { unsigned_abs b < 2 ^ 32 }
@@ -53,7 +52,7 @@ fn apart(a: i64, b: i64) -> i64
     magnitude(a - b)
 }
 
-/// A distance that is near the single width becomes it.
+/// The single width with the sign of `d`, where `d` is within the single width cut-in of it; otherwise `d`.
 #[tactic(auto, unfolding(crate::specs::Distances::single_width))]
 pub(crate) fn single_width(state: &GraphicsState, d: i64) -> i64
     requires { unsigned_abs d < 2 ^ 32 }
@@ -68,7 +67,7 @@ pub(crate) fn single_width(state: &GraphicsState, d: i64) -> i64
     }
 }
 
-/// The distance `e` made at least the minimum, on the side where the distance `d` is.
+/// The distance `e`, at least the minimum distance from 0 on the side of `d`.
 fn at_least_minimum(state: &GraphicsState, d: i64, e: i64) -> i64
     requires { unsigned_abs e < 2 ^ 33 }
     ensures exact { result ≡ is.at_least_minimum state.now d e }
@@ -78,7 +77,7 @@ fn at_least_minimum(state: &GraphicsState, d: i64, e: i64) -> i64
     if d < 0 { e.min(-min) } else { e.max(min) }
 }
 
-/// A distance rounded, if that is asked for.
+/// The distance, rounded if `keeping` says so.
 pub(crate) fn rounded_by(keeping: Keeping, state: &GraphicsState, e: i64) -> i64
     requires { unsigned_abs e < 2 ^ 32 }
     ensures exact { result ≡ is.rounded_by keeping state.now e }
@@ -91,7 +90,7 @@ pub(crate) fn rounded_by(keeping: Keeping, state: &GraphicsState, e: i64) -> i64
     }
 }
 
-/// A distance made at least the minimum, if that is asked for.
+/// The distance, at least the minimum distance if `keeping` says so.
 pub(crate) fn spaced_by(keeping: Keeping, state: &GraphicsState, d: i64, e: i64) -> i64
     requires { unsigned_abs e < 2 ^ 33 }
     ensures exact { result ≡ is.spaced_by keeping state.now d e }
@@ -104,14 +103,14 @@ pub(crate) fn spaced_by(keeping: Keeping, state: &GraphicsState, d: i64, e: i64)
     }
 }
 
-/// Two distances of different signs.
+/// Whether the two distances have opposite signs.
 fn is_opposite(d: i64, c: i64) -> bool
     ensures { result ≡ is.is_opposite d c }
 {
     (d < 0 && c > 0) || (d > 0 && c < 0)
 }
 
-/// Auto flip: a control value gets the sign of the distance that was measured.
+/// Auto flip: the control value `c` with the sign of the measured distance `d`.
 pub(crate) fn flipped(state: &GraphicsState, d: i64, c: i64) -> i64
     requires { unsigned_abs c < 2 ^ 32 }
     ensures exact { result ≡ is.flipped state.now d c }
@@ -124,7 +123,7 @@ pub(crate) fn flipped(state: &GraphicsState, d: i64, c: i64) -> i64
     }
 }
 
-/// The control value, or what was measured where that is further away than the cut-in.
+/// The control value `c`, or the measured distance `d` if they differ by more than the cut-in.
 pub(crate) fn cut_in(state: &GraphicsState, d: i64, c: i64) -> i64
     requires d { unsigned_abs d < 2 ^ 32 }
     requires c { unsigned_abs c < 2 ^ 32 }

@@ -1,5 +1,5 @@
-//! What the instructions on single points leave as it is, what they give with the whole instruction set, and what they
-//! are never refused for.
+//! Laws of the instructions on single points: what they leave unchanged, the whole instruction set, and too few
+//! values.
 
 ghost use Rattle.tt_state.specs.declared.graphics_state.GraphicsState.{GraphicsState};
 ghost use Rattle.tt_points_zones.specs.Zones.{ZoneLists};
@@ -7,17 +7,17 @@ ghost use Rattle.tt_points.specs.Enough.{SinglesEnough};
 ghost use Rattle.tt_points.specs.Shapes.{ShapeIsKept};
 ghost use Rattle.tt_points.specs.WithAll.{SinglesStay};
 
-/// Takes nothing and gives nothing: no instruction makes a point or drops one.
+/// Lemma: no instruction on single points adds or removes a point.
 pub fn shape_is_kept()
     ensures { (z : ZoneLists) (g : GraphicsState) → ShapeIsKept z g }
 {}
 
-/// What an instruction gives without the whole instruction set it gives with it too.
+/// Lemma: an instruction that succeeds without the whole instruction set gives the same result with it.
 pub fn singles_stay()
     ensures { (z : ZoneLists) (g : GraphicsState) → SinglesStay z g }
 {}
 
-/// None of them is ever refused for too few values.
+/// Lemma: no instruction on single points is refused for too few values.
 pub fn singles_enough()
     ensures { (z : ZoneLists) (g : GraphicsState) → SinglesEnough z g }
 {}

@@ -1,7 +1,8 @@
-//! The instructions on one point, and on lines through points. Those that keep a distance, set a coordinate or measure
-//! share the rules of distances and of the twilight zone, which no instruction on several points knows. The zones stand in
-//! the crate tt_points_zones below; the instructions on several points in tt_points_loops, and the interpolation of
-//! untouched points in tt_points_iup, beside this one, so that none waits for the proof of another.
+//! Instructions on one point, and on lines through points. Those that set a distance or a coordinate share the
+//! rules of distances and of the twilight zone. Instructions on several points don't use these rules.
+//!
+//! The zones are in tt_points_zones, below this crate. Beside this crate are tt_points_loops, with the instructions
+//! on several points, and tt_points_iup, with IUP. Their proofs don't wait for each other.
 #![tactic(auto)]
 
 pub mod control_values;

@@ -1,5 +1,5 @@
-//! Lines through points: vectors set by them, where two meet, and points aligned. Apple TrueType Reference Manual,
-//! "Instruction Set" (SPVTL, SFVTL, SDPVTL, ISECT, ALIGNPTS). Coordinates are in 26.6 pixels.
+//! Lines through points: vectors along them, their meeting point, and aligned points. Apple TrueType Reference
+//! Manual, "Instruction Set" (SPVTL, SFVTL, SDPVTL, ISECT, ALIGNPTS). Coordinates are in 26.6 pixels.
 
 ghost use Rattle.std.specs.Prelude.{◌≡◌, ◌<◌, ◌≤◌, ◌*◌, ◌^◌, neg_ℤ, unsigned_abs, IfOk, IfErr};
 ghost use Rattle.tt_core.specs.Limits.{coordinate_limit};
@@ -14,7 +14,7 @@ use tt_core::Why;
 use tt_points_zones::{Distance, Line, Motion, Place, Zones, may_move, met};
 use tt_state::{GraphicsState, Point, Vector, Zone};
 
-/// The numbers of two points, through which a line goes.
+/// The numbers of the two points that a line goes through.
 #[derive(Clone, Copy)]
 pub struct Ends {
     pub from: i32,
@@ -33,7 +33,7 @@ fn two_points(zones: &Zones, state: &GraphicsState, p1: i32, p2: i32) -> Result<
     Ok((a, b))
 }
 
-/// The unit vector of the line from where a point stands to where another does, or turned a quarter to the left.
+/// The unit vector of the line from `a` to `b`, by their current places. With `turned`, a quarter turn to the left.
 fn current_line(turned: bool, a: Point, b: Point) -> Vector
     requires a { IsPoint a }
     requires b { IsPoint b }
@@ -42,7 +42,7 @@ fn current_line(turned: bool, a: Point, b: Point) -> Vector
     Vector::line((a.x, a.y), (b.x, b.y), turned)
 }
 
-/// The same of where they stood before the program.
+/// The unit vector of the line from `a` to `b`, by their original places.
 fn original_line(turned: bool, a: Point, b: Point) -> Vector
     requires a { IsPoint a }
     requires b { IsPoint b }
@@ -51,8 +51,9 @@ fn original_line(turned: bool, a: Point, b: Point) -> Vector
     Vector::line((a.org_x, a.org_y), (b.org_x, b.org_y), turned)
 }
 
-/// SPVTL[a], 0x06 and 0x07: p2, p1 -> the projection and the dual projection vector lie along the line from point p1 of
-/// zone pointer 2 to point p2 of zone pointer 1, `turned` a quarter to the left. Error: PointRange.
+/// SPVTL[a], 0x06 and 0x07: p2, p1 -> sets the projection and the dual projection vector along the line from point
+/// p1 of zone pointer 2 to point p2 of zone pointer 1. With `turned`, they are turned a quarter to the left. Error:
+/// PointRange.
 #[tactic(auto, unfolding(crate::specs::Lines::spvtl))]
 pub fn spvtl(
     zones: &Zones,
@@ -71,8 +72,8 @@ pub fn spvtl(
     Ok(())
 }
 
-/// SFVTL[a], 0x08 and 0x09: p2, p1 -> the freedom vector lies along that line, `turned` a quarter to the left. Error:
-/// PointRange.
+/// SFVTL[a], 0x08 and 0x09: p2, p1 -> sets the freedom vector along SPVTL's line. With `turned`, the vector is
+/// turned a quarter to the left. Error: PointRange.
 #[tactic(auto, unfolding(crate::specs::Lines::sfvtl))]
 pub fn sfvtl(
     zones: &Zones,
@@ -90,9 +91,9 @@ pub fn sfvtl(
     Ok(())
 }
 
-/// SDPVTL[a], 0x86 and 0x87: p2, p1 -> the projection vector lies along that line, and the dual projection vector along
-/// the line on which these points stood before the program, both `turned` a quarter to the left. Where one of the lines
-/// has no length, its vector alone becomes the x axis (profile). Error: PointRange.
+/// SDPVTL[a], 0x86 and 0x87: p2, p1 -> sets the projection vector along SPVTL's line. The dual projection vector
+/// goes along the line between the original places of these points. With `turned`, both are turned a quarter to the
+/// left. Where one of the lines has no length, its vector alone becomes the x axis (profile). Error: PointRange.
 #[tactic(auto, unfolding(crate::specs::Lines::sdpvtl))]
 pub fn sdpvtl(
     zones: &Zones,
@@ -111,7 +112,7 @@ pub fn sdpvtl(
     Ok(())
 }
 
-/// Where a point stands.
+/// A point's current place.
 fn place_of(q: Point) -> Place
     requires { IsPoint q }
     ensures exact { result ≡ is.place_of q }
@@ -120,7 +121,7 @@ fn place_of(q: Point) -> Place
     Place { x: q.x, y: q.y }
 }
 
-/// The line through two points of a zone, as they stand. Error: PointRange, of the second point first.
+/// The line through the current places of two points of a zone. Error: PointRange, of the second point first.
 fn line_through(zones: &Zones, zone: Zone, ends: Ends) -> Result<Line, Why>
     requires { IsZones (zones_view zones.now) }
     ensures exact { Gives (λ l. l) result (is.line_through zone ends (zones_view zones.now)) }
@@ -134,7 +135,7 @@ fn line_through(zones: &Zones, zone: Zone, ends: Ends) -> Result<Line, Why>
     })
 }
 
-/// A point put to a place, and touched along both axes.
+/// A point moved to a place, and touched along both axes.
 fn put_to(q: Point, place: Place) -> Point
     requires q { IsPoint q }
     requires place { IsPlace place }
@@ -150,10 +151,10 @@ fn put_to(q: Point, place: Place) -> Point
     }
 }
 
-/// ISECT[], 0x0F: p, a0, a1, b0, b1 -> point p of zone pointer 2 is put where line a meets line b, and is touched along
-/// both axes, whatever the freedom vector is. Line a goes through points a0 and a1 of zone pointer 1, line b through
-/// points b0 and b1 of zone pointer 0. Where the lines are parallel, or nearly so (profile), the point is put into the
-/// middle of these four. Errors: PointRange of b1, b0, a1, a0, p; ValueRange.
+/// ISECT[], 0x0F: p, a0, a1, b0, b1 -> moves point p of zone pointer 2 to where line a meets line b. The point is
+/// touched along both axes, whatever the freedom vector. Line a goes through points a0 and a1 of zone pointer 1,
+/// line b through points b0 and b1 of zone pointer 0. For lines that are nearly parallel (profile), the point goes
+/// to the middle of these four. Errors: PointRange of b1, b0, a1, a0, p; ValueRange.
 #[tactic(auto, unfolding(crate::specs::Lines::isect))]
 pub fn isect(zones: &mut Zones, state: &GraphicsState, p: i32, a: Ends, b: Ends) -> Result<(), Why>
     requires { IsZones (zones_view zones.old) }
@@ -185,8 +186,8 @@ fn opposite(d: Distance) -> Distance
     Distance(-d.0)
 }
 
-/// ALIGNPTS[], 0x27: p2, p1 -> point p1 of zone pointer 1 and point p2 of zone pointer 0 are moved to the middle
-/// between them, as the projection vector measures it: each by half the distance, cut toward 0 (profile). Errors:
+/// ALIGNPTS[], 0x27: p2, p1 -> moves point p1 of zone pointer 1 and point p2 of zone pointer 0 to the middle
+/// between them, along the projection vector. Each moves by half the distance, cut toward 0 (profile). Errors:
 /// PointRange of p1, of p2; Perpendicular, ValueRange.
 #[tactic(auto, unfolding(crate::specs::Lines::alignpts))]
 pub fn alignpts(zones: &mut Zones, state: &GraphicsState, p1: i32, p2: i32) -> Result<(), Why>

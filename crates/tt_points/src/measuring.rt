@@ -1,5 +1,5 @@
-//! Coordinates read and set, and a touch undone. Apple TrueType Reference Manual, "Instruction Set". Coordinates are in
-//! 26.6 pixels.
+//! Coordinates read and set, distances measured, and a touch removed. Apple TrueType Reference Manual, "Instruction
+//! Set" (GC, SCFS, MD, UTP). Coordinates are in 26.6 pixels.
 
 ghost use Rattle.std.specs.Prelude.{◌≡◌, ◌-ℤ◌, ◌<◌, ◌≤◌, ◌*◌, ◌^◌, unsigned_abs, IfErr};
 ghost use Rattle.tt_core.specs.Limits.{coordinate_limit};
@@ -13,16 +13,16 @@ use tt_core::Why;
 use tt_points_zones::{Distance, Motion, Zones, may_move};
 use tt_state::{GraphicsState, Point};
 
-/// Which place of a point is measured.
+/// The place of a point that GC or MD measures.
 #[derive(Clone, Copy)]
 pub enum Position {
-    /// Where it stands now.
+    /// The current place, along the projection vector.
     Current,
-    /// Where it stood before the program.
+    /// The place before the program, along the dual projection vector.
     Original,
 }
 
-/// GC[a]: p -> the coordinate of point p of zone pointer 2. Error: PointRange.
+/// GC[a], 0x46 and 0x47: p -> c, the coordinate of point p of zone pointer 2. Error: PointRange.
 #[tactic(auto, unfolding(crate::specs::Measuring::gc))]
 pub fn gc(zones: &Zones, state: &GraphicsState, of: Position, p: i32) -> Result<i32, Why>
     requires { IsZones (zones_view zones.now) }
@@ -36,7 +36,7 @@ pub fn gc(zones: &Zones, state: &GraphicsState, of: Position, p: i32) -> Result<
     }
 }
 
-/// A distance as the stack holds it.
+/// A distance as a value for the stack.
 fn stack_value(d: Distance) -> i32
     requires { unsigned_abs d.0 < 2 ^ 31 }
     ensures { result ≡ d.0 }
@@ -44,7 +44,8 @@ fn stack_value(d: Distance) -> i32
     d.0 as i32
 }
 
-/// MD[a]: p2, p1 -> the distance from point p1 of zone pointer 1 to point p2 of zone pointer 0. Error: PointRange.
+/// MD[a], 0x49 and 0x4A: p2, p1 -> d, the distance from point p1 of zone pointer 1 to point p2 of zone pointer 0.
+/// Error: PointRange.
 #[tactic(auto, unfolding(crate::specs::Measuring::md))]
 pub fn md(
     zones: &Zones,
@@ -68,7 +69,7 @@ pub fn md(
     }
 }
 
-/// How far a point is from a coordinate.
+/// The distance from a point's coordinate to `v`.
 fn short_of(v: i32, q: Point, m: &Motion) -> i64
     requires { IsPoint q }
     ensures exact { result ≡ v -ℤ motion.cur m.now q }
@@ -77,8 +78,8 @@ fn short_of(v: i32, q: Point, m: &Motion) -> i64
     i64::from(v) - i64::from(m.cur(q))
 }
 
-/// SCFS[], 0x48: p, v -> point p of zone pointer 2 moved to the coordinate v. In the twilight zone it is as if it had
-/// always been there (profile). Errors: PointRange, Perpendicular, ValueRange.
+/// SCFS[], 0x48: p, v -> moves point p of zone pointer 2 to the coordinate v. For a twilight point the new place is
+/// the original place too (profile). Errors: PointRange, Perpendicular, ValueRange.
 #[tactic(auto, unfolding(crate::specs::Measuring::scfs))]
 pub fn scfs(zones: &mut Zones, state: &GraphicsState, p: i32, v: i32) -> Result<(), Why>
     requires { IsZones (zones_view zones.old) }
@@ -94,7 +95,7 @@ pub fn scfs(zones: &mut Zones, state: &GraphicsState, p: i32, v: i32) -> Result<
     Ok(())
 }
 
-/// UTP[], 0x29: p -> point p of zone pointer 0 is untouched along the freedom vector. Error: PointRange.
+/// UTP[], 0x29: p -> makes point p of zone pointer 0 untouched along the freedom vector. Error: PointRange.
 #[tactic(auto, unfolding(crate::specs::Measuring::utp))]
 pub fn utp(zones: &mut Zones, state: &GraphicsState, p: i32) -> Result<(), Why>
     requires { IsZones (zones_view zones.old) }

@@ -1,5 +1,5 @@
-//! Points moved along the projection vector, without a control value. Apple TrueType Reference Manual, "Instruction
-//! Set". Coordinates are in 26.6 pixels.
+//! Instructions that move a point along the projection vector without a control value. Apple TrueType Reference
+//! Manual, "Instruction Set" (MDAP, MSIRP, MDRP). Coordinates are in 26.6 pixels.
 
 ghost use Rattle.std.specs.Prelude.{◌≡◌, ◌-ℤ◌, ◌<◌, ◌≤◌, ◌^◌, unsigned_abs, IfOk, IfErr};
 ghost use Rattle.tt_core.specs.Outcomes.{Gives};
@@ -16,7 +16,7 @@ use tt_core::Why;
 use tt_points_zones::{Distance, Motion, Zones, may_move};
 use tt_state::{GraphicsState, Point};
 
-/// How much the distance of a point from another is short of `d`.
+/// The difference between `d` and the current distance from `r` to `q`.
 fn short_of(d: Distance, q: Point, r: Point, m: &Motion) -> i64
     requires q { IsPoint q }
     requires r { IsPoint r }
@@ -27,7 +27,7 @@ fn short_of(d: Distance, q: Point, r: Point, m: &Motion) -> i64
     d.0 - m.current_distance(r, q).0
 }
 
-/// A point moved so that its distance from another is `d`. Error: ValueRange.
+/// The point `q`, moved so that its distance from `r` is `d`. Error: ValueRange.
 #[tactic(auto, unfolding(crate::specs::Moving::kept))]
 pub(crate) fn kept(q: Point, m: &Motion, d: Distance, r: Point) -> Result<Point, Why>
     requires q { IsPoint q }
@@ -39,7 +39,7 @@ pub(crate) fn kept(q: Point, m: &Motion, d: Distance, r: Point) -> Result<Point,
     m.moved(q, short_of(d, q, r, m))
 }
 
-/// The reference points after a move that kept a distance.
+/// Sets the reference points after MSIRP, MDRP or MIRP: 1 to the old 0, 2 to p, and with `rp0` also 0 to p.
 pub fn refer(state: &mut GraphicsState, rp0: bool, p: i32)
     ensures { state.new ≡ is.referred rp0 p state.old }
 {
@@ -50,7 +50,7 @@ pub fn refer(state: &mut GraphicsState, rp0: bool, p: i32)
     }
 }
 
-/// How far a coordinate is from where it is rounded to.
+/// The difference between a coordinate and its rounded value.
 fn to_rounded(state: &GraphicsState, at: Distance) -> i64
     requires { unsigned_abs at.0 < 2 ^ 22 }
     ensures exact { result ≡ rounded state.now.round at.0 -ℤ at.0 }
@@ -59,7 +59,7 @@ fn to_rounded(state: &GraphicsState, at: Distance) -> i64
     state.round.round(at.0) - at.0
 }
 
-/// How far a point is moved that is touched where it is, or rounded.
+/// MDAP's move of a point: to its rounded coordinate with `round`, otherwise 0.
 #[tactic(auto, unfolding(crate::specs::Moving::mdap_distance))]
 fn mdap_distance(round: bool, state: &GraphicsState, q: Point, m: &Motion) -> i64
     requires { IsPoint q }
@@ -73,8 +73,8 @@ fn mdap_distance(round: bool, state: &GraphicsState, q: Point, m: &Motion) -> i6
     }
 }
 
-/// MDAP[r]: p -> point p of zone pointer 0 is touched where it is, rounded. It becomes reference points 0
-/// and 1. Errors: PointRange, Perpendicular, ValueRange.
+/// MDAP[r], 0x2E and 0x2F: p -> touches point p of zone pointer 0. With `round`, the point first moves to its
+/// rounded coordinate. Reference points 0 and 1 become p. Errors: PointRange, Perpendicular, ValueRange.
 #[tactic(auto, unfolding(crate::specs::Moving::mdap))]
 pub fn mdap(zones: &mut Zones, state: &mut GraphicsState, round: bool, p: i32) -> Result<(), Why>
     requires zones { IsZones (zones_view zones.old) }
@@ -93,7 +93,7 @@ pub fn mdap(zones: &mut Zones, state: &mut GraphicsState, round: bool, p: i32) -
     Ok(())
 }
 
-/// What MSIRP makes of `q`, the point `p` of zone pointer 1, with reference point 0 at `r`. Error: ValueRange.
+/// The result of MSIRP for `q`, the point `p` of zone pointer 1, with reference point 0 at `r`. Error: ValueRange.
 #[tactic(auto, unfolding(crate::specs::Pairs::placed_and_kept))]
 fn placed_and_kept(
     state: &GraphicsState,
@@ -113,9 +113,10 @@ fn placed_and_kept(
     kept(q, m, d, seen(state, state.rp0, r, p, q))
 }
 
-/// MSIRP[a]: p, d -> point p of zone pointer 1 is moved to the distance d from reference point 0, of
-/// zone pointer 0; a twilight point is placed there first (profile). Reference point 1 becomes reference point 0, and p
-/// reference point 2, with `set_rp0` also reference point 0. Errors: PointRange, Perpendicular, ValueRange.
+/// MSIRP[a], 0x3A and 0x3B: p, d -> moves point p of zone pointer 1 to the distance d from reference point 0, in
+/// zone pointer 0. A twilight point is placed there first (profile). Reference point 1 becomes reference point 0,
+/// and reference point 2 becomes p. With `set_rp0`, reference point 0 becomes p too. Errors: PointRange,
+/// Perpendicular, ValueRange.
 #[tactic(auto, unfolding(crate::specs::Moving::msirp))]
 pub fn msirp(
     zones: &mut Zones,
@@ -140,7 +141,7 @@ pub fn msirp(
     Ok(())
 }
 
-/// What MDRP keeps of an original distance, after the single width.
+/// The distance that MDRP sets, for an original distance after the single width.
 fn mdrp_kept(keeping: Keeping, state: &GraphicsState, d: i64) -> i64
     requires { unsigned_abs d < 2 ^ 32 }
     ensures exact { result ≡ is.mdrp_kept keeping state.now d }
@@ -149,7 +150,7 @@ fn mdrp_kept(keeping: Keeping, state: &GraphicsState, d: i64) -> i64
     spaced_by(keeping, state, d, rounded_by(keeping, state, d))
 }
 
-/// What MDRP keeps of an original distance.
+/// The distance that MDRP sets, for an original distance.
 #[tactic(auto, unfolding(crate::specs::Moving::mdrp_distance))]
 fn mdrp_distance(keeping: Keeping, state: &GraphicsState, d: Distance) -> Distance
     requires { unsigned_abs d.0 < 2 ^ 30 }
@@ -159,9 +160,9 @@ fn mdrp_distance(keeping: Keeping, state: &GraphicsState, d: Distance) -> Distan
     Distance(mdrp_kept(keeping, state, single_width(state, d.0)))
 }
 
-/// MDRP[abcde]: p -> point p of zone pointer 1 is moved to its original distance from reference point 0, of zone
-/// pointer 0, as `keeping` has it. Reference point 1 becomes reference point 0, and p reference point 2. Errors:
-/// PointRange, Perpendicular, ValueRange.
+/// MDRP[abcde], 0xC0 to 0xDF: p -> moves point p of zone pointer 1 to its original distance from reference point 0,
+/// in zone pointer 0. `keeping` says how the distance changes first. Reference point 1 becomes reference point 0,
+/// and reference point 2 becomes p. Errors: PointRange, Perpendicular, ValueRange.
 #[tactic(auto, unfolding(crate::specs::Moving::mdrp))]
 pub fn mdrp(
     zones: &mut Zones,

@@ -1,4 +1,4 @@
-//! Instructions on two points, which may be one.
+//! Instructions on two points that may be the same point.
 
 ghost use Rattle.std.specs.Prelude.{◌≡◌};
 ghost use Rattle.tt_points_zones.specs.Zones.{IsPoint};
@@ -13,7 +13,8 @@ fn is_one(state: &GraphicsState, n: i32, p: i32) -> bool
     state.zp0 == state.zp1 && n == p
 }
 
-/// The point number `n` of zone pointer 0, which was `r`, once the point number `p` of zone pointer 1 has become `q`.
+/// Point number `n` of zone pointer 0, after point number `p` of zone pointer 1 has become `q`. `r` is the point
+/// before.
 pub(crate) fn seen(state: &GraphicsState, n: i32, r: Point, p: i32, q: Point) -> Point
     requires r { IsPoint r }
     requires q { IsPoint q }

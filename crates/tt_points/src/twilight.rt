@@ -10,16 +10,16 @@ use tt_core::Why;
 use tt_points_zones::{Distance, Motion};
 use tt_state::{Point, Zone};
 
-/// The vector along which the distance is that a twilight point is placed at.
+/// The vector that measures how far away a twilight point is placed.
 #[derive(Clone, Copy)]
 pub(crate) enum Along {
-    /// The point is so far away as the projection vector measures it.
+    /// The projection vector measures the distance.
     Projection,
-    /// The point is so far away along the freedom vector itself.
+    /// The distance goes along the freedom vector itself.
     Freedom,
 }
 
-/// The place where a point stands becomes its original one.
+/// A point whose original place is its current place.
 fn settled(p: Point) -> Point
     requires { IsPoint p }
     ensures exact { result ≡ is.settled p }
@@ -32,7 +32,7 @@ fn settled(p: Point) -> Point
     }
 }
 
-/// The same of a twilight point; a glyph's point stays.
+/// A twilight point whose original place is its current place. A glyph point is unchanged.
 pub(crate) fn settled_in(zone: Zone, p: Point) -> Point
     requires { IsPoint p }
     ensures exact { result ≡ is.settled_in zone p }
@@ -44,7 +44,7 @@ pub(crate) fn settled_in(zone: Zone, p: Point) -> Point
     }
 }
 
-/// A point that stands where another originally stood.
+/// The point `p` at the original place of `r`.
 fn at_original(p: Point, r: Point) -> Point
     requires p { IsPoint p }
     requires r { IsPoint r }
@@ -58,7 +58,7 @@ fn at_original(p: Point, r: Point) -> Point
     }
 }
 
-/// A point put further by `d` along a vector. Error: ValueRange.
+/// A point moved by the distance `d` along a vector, without a touch. Error: ValueRange.
 fn further(p: Point, m: &Motion, along: Along, d: Distance) -> Result<Point, Why>
     requires p { IsPoint p }
     requires small { unsigned_abs d.0 < 2 ^ 32 }
@@ -71,7 +71,8 @@ fn further(p: Point, m: &Motion, along: Along, d: Distance) -> Result<Point, Why
     }
 }
 
-/// A point put where another originally stood, and further by `d`; that is its original place. Error: ValueRange.
+/// The point `p` at the distance `d` from the original place of `r`. That is also its original place. Error:
+/// ValueRange.
 #[tactic(auto, unfolding(crate::specs::Twilight::placed))]
 pub(crate) fn placed(
     p: Point,
@@ -89,7 +90,7 @@ pub(crate) fn placed(
     Ok(settled(further(at_original(p, r), m, along, d)?))
 }
 
-/// The same of a point that is a twilight point; a glyph's point stays. Error: ValueRange.
+/// A twilight point as `placed` gives it. A glyph point is unchanged. Error: ValueRange.
 #[tactic(auto, unfolding(crate::specs::Pairs::placed_in))]
 pub(crate) fn placed_in(
     zone: Zone,

@@ -7,7 +7,7 @@ use Rattle.tt_state.specs.declared.graphics_state.Zone.TheVariants as zone
 use Rattle.tt_points.specs.ControlValues.{is_same}
 use Rattle.tt_points.proofs.control_values.cut_in_by.Goals as goal
 
--- what the code's == means
+-- the meaning of the code's ==
 one_zone : (a b : Zone) → true ≡ sameb the_type a b → is_same a b ≡ true
 one_zone zone.Twilight zone.Twilight same = refl
 one_zone zone.Glyph zone.Glyph same = refl
