@@ -1,4 +1,4 @@
--- Contours fit any points of the same number.
+-- Contours fit any points of the same count.
 use Rattle.std.proofs.Common.{◌≡◌, ℕ, List, length, All, IfSome, subst, sym}
 use Rattle.tt_core.specs.Scales.{IsScale}
 use Rattle.tt_state.specs.declared.point.Point.{Point}

@@ -17,7 +17,7 @@ use Rattle.tt_points_zones.specs.Motions as motions
 use Rattle.tt_points_zones.specs.Laws as laws
 use Rattle.tt_points_zones.specs.Laws.{OnAxis, AlongBoth}
 
--- a coordinate that is tested before what is made of it, or with it
+-- a coordinate tested before its use, alone or with more
 through : {A B : Type 0} (b : Bool) (v : A) (f : A → Result B Why)
     → ((if b then Ok v else Err why.ValueRange) >>= f) ≡ (if b then f v else Err why.ValueRange)
 through true v f = refl

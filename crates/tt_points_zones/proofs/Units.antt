@@ -1,4 +1,4 @@
--- Along an axis a distance of originals is that of their coordinates on it.
+-- Along an axis a distance of original places is that of their coordinates on it.
 use Rattle.std.proofs.Common.{◌≡◌, ◌∙◌, ap, sym, ◌≤◌, inl, inr, ℤ, neg_ℤ, ◌-ℤ◌, unsigned_abs, arith}
 use Rattle.std.proofs.lemmas.Int.{ints}
 use Rattle.tt_core.specs.Scales.{IsScale, scaled_by, ScalesAreOdd, ScalesKeepDifferences}
@@ -36,7 +36,7 @@ pub turn_round : ScalesAreOdd → ((x y d : ℤ) → OnX x y d) → ((x y d : �
 turn_round odd on_x on_y s m p q is away axis =
     ap (scaled_by s) (units_turn on_x on_y m p q axis) ∙ odd s (units_distance m p q) is away
 
--- what is measured along one coordinate
+-- a measure of one coordinate
 near_on : ScalesKeepDifferences → (s : Scale) (from to org_from org_to in_units in_pixels : ℤ) → IsScale s
     → org_from ≡ scaled_by s from → org_to ≡ scaled_by s to → in_units ≡ to -ℤ from → in_pixels ≡ org_to -ℤ org_from
     → unsigned_abs (scaled_by s in_units -ℤ in_pixels) ≤ 1

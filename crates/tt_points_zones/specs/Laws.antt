@@ -1,4 +1,4 @@
--- Laws of the definitions, each said once: along an axis points are measured and moved by their coordinates.
+-- Laws of the definitions: along an axis points are measured and moved by their coordinates.
 use Rattle.std.specs.Prelude.{◌≡◌, ℤ, ◌-ℤ◌, Bool, false, Result, Ok, Err}
 use Rattle.tt_core.specs.Outcomes.{◌>>=◌}
 use Rattle.tt_core.specs.declared.fault.Why.{Why}
@@ -33,7 +33,7 @@ pub record OnAxis (a : Axis) (p q : Point) (d : ℤ) (touched : Bool) : Type 0 w
   pub shifted_along : motions.shifted_along (along a) d p ≡ coordinate.shifted a d p
   pub moved_along : motions.moved_along (along a) d p ≡ coordinate.moved a d p
 
--- the projection vector along one axis and the freedom vector along another: the axis along which points move
+-- the projection vector along one axis and the freedom vector along another: the axis of a move, if it is allowed
 abbrev pub along_both : Axis → Axis → Result Axis Why
 along_both axis.X axis.X = Ok axis.X
 along_both axis.Y axis.Y = Ok axis.Y

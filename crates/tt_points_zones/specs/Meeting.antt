@@ -1,5 +1,5 @@
--- Apple TrueType Reference Manual, "Instruction Set" (ISECT): where two lines meet, each through two places and endless
--- on both sides. Coordinates are in 26.6 pixels.
+-- Apple TrueType Reference Manual, "Instruction Set" (ISECT): the meeting point of two lines, each through two
+-- places and endless on both sides. Coordinates are in 26.6 pixels.
 use Rattle.std.specs.Prelude.{◌≡◌, ◌≤◌, ◌*◌, ℤ, pos, negsuc, ◌+ℤ◌, ◌-ℤ◌, ◌*ℤ◌, int_div, unsigned_abs, nat_le, Bool, if◌then◌else◌, Result, Ok, Err, refl}
 use Rattle.tt_core.specs.Limits.{coordinate_limit}
 use Rattle.tt_core.specs.Numbers.{rounded_quotient}
@@ -21,14 +21,14 @@ pub record IsLine (l : Line) : Type 0 where
   pub from : IsPlace l.from
   pub to : IsPlace l.to
 
--- how the code's ways, and its places before they are limited, are seen
+-- the views of the code's ways, and of its places before the limit is tested
 abbrev pub way_view : Way → Place
 way_view w = record { x = w.x.0; y = w.y.0 }
 
 abbrev pub far_view : FarPlace → Place
 far_view p = record { x = p.x; y = p.y }
 
--- the way from a place to another, told by the place where it leads from (0, 0)
+-- the way between two places, as the place that it reaches from (0, 0)
 abbrev pub way_between : Place → Place → Place
 way_between from to = record { x = to.x -ℤ from.x; y = to.y -ℤ from.y }
 
@@ -39,17 +39,17 @@ cross a b = a.x *ℤ b.y -ℤ a.y *ℤ b.x
 unfoldable pub dot : Place → Place → ℤ
 dot a b = a.x *ℤ b.x +ℤ a.y *ℤ b.y
 
--- the tangent of the angle between two ways is at most 1 / 19, so that this is about 3 degrees or less, or one of them
--- has length 0 (profile: the manual says parallel)
+-- the tangent of the angle is at most 1 / 19, about 3 degrees, or one of the ways has length 0 (profile: the
+-- manual says parallel)
 unfoldable pub are_parallel : Place → Place → Bool
 are_parallel a b = nat_le (19 * unsigned_abs (cross a b)) (unsigned_abs (dot a b))
 
--- the fraction n / d of a way, from a place on
+-- the place at the fraction n / d of a way
 abbrev pub gone : Place → Place → ℤ → ℤ → Place
 gone from way n d = record
     { x = from.x +ℤ rounded_quotient (n *ℤ way.x) d; y = from.y +ℤ rounded_quotient (n *ℤ way.y) d }
 
--- where lines that are not parallel meet: from a0 on, a part of the way to a1
+-- the meeting point of lines that are not parallel, at a fraction of the way from a0 to a1
 unfoldable pub crossing : Place → Place → Place → Place → Place
 crossing a0 a1 b0 b1 =
     let a = way_between a0 a1 in
@@ -63,12 +63,13 @@ quarter a b c d = int_div (a +ℤ b +ℤ c +ℤ d) (pos 4)
 unfoldable pub middle : Place → Place → Place → Place → Place
 middle a b c d = record { x = quarter a.x b.x c.x d.x; y = quarter a.y b.y c.y d.y }
 
--- where the line through a0 and a1 meets the line through b0 and b1; for parallel lines the middle of the four places
+-- the meeting point of the lines through a0 and a1, and through b0 and b1; for parallel lines the middle of the
+-- four places
 unfoldable pub meeting : Place → Place → Place → Place → Place
 meeting a0 a1 b0 b1 =
     if are_parallel (way_between a0 a1) (way_between b0 b1) then middle a0 a1 b0 b1 else crossing a0 a1 b0 b1
 
--- a coordinate, and a place, that have to be within the limit (profile)
+-- a coordinate, and a place, within the limit (profile)
 abbrev pub limited : ℤ → Result ℤ Why
 limited v = if is_coordinate v then Ok v else Err why.ValueRange
 

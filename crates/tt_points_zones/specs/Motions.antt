@@ -23,56 +23,55 @@ vectors_of g = record { proj = g.proj; dual = g.dual; free = g.free }
 abbrev pub is_same : Vector → Vector → Bool
 is_same v w = int_eq (pair_of v).x (pair_of w).x && int_eq (pair_of v).y (pair_of w).y
 
--- Without the whole instruction set points move along the projection vector alone: another freedom vector is refused
--- (profile).
+-- Without the whole instruction set, a freedom vector that is not the projection vector is refused (profile).
 unfoldable pub direction : GraphicsState → Result Motion Why
 direction g = if g.whole || is_same g.proj g.free then Ok (vectors_of g) else Err why.Perpendicular
 
--- where a point stands, measured along the projection vector, and where it stood before the program, along the dual one
+-- a point's current coordinate along the projection vector, and its original one along the dual one
 abbrev pub cur : Motion → Point → ℤ
 cur m p = project (pair_of m.proj) p.x p.y
 
 abbrev pub org : Motion → Point → ℤ
 org m p = project (pair_of m.dual) p.org_x p.org_y
 
--- how far a point stands from another, and stood: the way between them is measured
+-- the current and the original distance between two points
 abbrev pub current_distance : Motion → Point → Point → ℤ
 current_distance m from to = project (pair_of m.proj) (to.x -ℤ from.x) (to.y -ℤ from.y)
 
 abbrev pub original_distance : Motion → Point → Point → ℤ
 original_distance m from to = project (pair_of m.dual) (to.org_x -ℤ from.org_x) (to.org_y -ℤ from.org_y)
 
--- how far a point stands from where it stood: the projection vector measures both
+-- the distance of a point from its original place; the projection vector measures both
 abbrev pub offset : Motion → Point → ℤ
 offset m p = project (pair_of m.proj) (p.x -ℤ p.org_x) (p.y -ℤ p.org_y)
 
--- a coordinate further by a distance, where the freedom vector has a part along its axis
+-- a coordinate moved by a distance, where the freedom vector has a part along its axis
 abbrev pub pushed_to : ℤ → ℤ → ℤ → Result ℤ Why
 pushed_to part by at =
     if int_eq part (pos 0) then Ok at
     else (if is_coordinate (at +ℤ by) then Ok (at +ℤ by) else Err why.ValueRange)
 
--- a point put further by distances along x and y, which leaves it as touched as it was
+-- a point moved by distances along x and y; its touches are unchanged
 abbrev pub put_further : Vector → Pair → Point → Result Point Why
 put_further free by p =
     pushed_to (pair_of free).x by.x p.x >>= λ x.
     pushed_to (pair_of free).y by.y p.y >>= λ y.
     Ok (record p { x = x; y = y })
 
--- a point touched, or untouched, along each axis along which the freedom vector has a part
+-- a point touched, or untouched, on each axis where the freedom vector has a part
 abbrev pub marked : Vector → Bool → Point → Point
 marked free touched p = record p {
   touched_x = if int_eq (pair_of free).x (pos 0) then p.touched_x else touched;
   touched_y = if int_eq (pair_of free).y (pos 0) then p.touched_y else touched;
 }
 
--- how far along x and y a point goes along the freedom vector, so that along the projection vector it goes so far
+-- the move along x and y, for a move by d along the projection vector
 abbrev pub steps : Motion → ℤ → Pair
 steps m d =
     let whole = dot (pair_of m.proj) (pair_of m.free) in
     pair (rounded_quotient (d *ℤ (pair_of m.free).x) whole) (rounded_quotient (d *ℤ (pair_of m.free).y) whole)
 
--- a point moved by a distance, perhaps 0, and left as touched as it was
+-- a point moved by a distance, perhaps 0; its touches are unchanged
 abbrev pub shifted : Motion → ℤ → Point → Result Point Why
 shifted m d p = put_further m.free (steps m d) p
 
@@ -84,8 +83,8 @@ pushed free by p = put_further free by p >>= λ q. Ok (marked free true q)
 abbrev pub moved : Motion → ℤ → Point → Result Point Why
 moved m d p = pushed m.free (steps m d) p
 
--- a point put further by a distance along the freedom vector, however far that is along the projection vector; and
--- moved so
+-- a point moved by a distance along the freedom vector itself, whatever the projection vector; without and with
+-- touches
 abbrev pub shifted_along : Vector → ℤ → Point → Result Point Why
 shifted_along free d p = put_further free (along (pair_of free) d) p
 

@@ -1,6 +1,6 @@
--- Apple TrueType Reference Manual, "Instructing TrueType Glyphs" (zones) and "Graphics State" (dual projection vector):
--- where points originally stood. That a glyph zone may be in font units, and that distances there are measured in these
--- and scaled afterwards, is profile.
+-- Apple TrueType Reference Manual, "Instructing TrueType Glyphs" (zones) and "Graphics State" (dual projection
+-- vector): the original places of points. A glyph zone in font units, and distances measured in these and then
+-- scaled, are profile.
 use Rattle.std.specs.Prelude.{◌≡◌, refl, ◌⊎◌, ◌≤◌, false, true, Bool, ℤ, pos, neg_ℤ, ◌-ℤ◌, unsigned_abs, Option, Some, None}
 use Rattle.tt_core.specs.Scales.{IsScale, rounded_scale, scaled_by}
 use Rattle.tt_core.specs.declared.halves.Halves.TheVariants as halves
@@ -19,36 +19,37 @@ abbrev pub is_glyph : Zone → Bool
 is_glyph zone.Twilight = false
 is_glyph zone.Glyph = true
 
--- the scale of two points' originals: where both stand in the glyph zone, and that is in font units
+-- the scale of the distance between two original places: the one in font units, where both zones are the glyph
+-- zone
 abbrev pub scale_between : Zone → Zone → ZoneLists → Option Scale
 scale_between zone.Glyph zone.Glyph z = z.originals.units
 scale_between zone.Glyph zone.Twilight z = None
 scale_between zone.Twilight other z = None
 
--- how far a point stood from another in font units: the way between them is measured
+-- the original distance between two points in font units
 abbrev pub units_distance : Motion → Point → Point → ℤ
 units_distance m from to = project (pair_of m.dual) (to.units_x -ℤ from.units_x) (to.units_y -ℤ from.units_y)
 
--- how far a point stood from another before the program: measured in font units and then scaled, or in 26.6
+-- the original distance between two points: measured in font units and then scaled, or in 26.6
 abbrev pub distance_by : Option Scale → Motion → Point → Point → ℤ
 distance_by None m from to = original_distance m from to
 distance_by (Some s) m from to = scaled_by s (units_distance m from to)
 
--- originals are measured along an axis
+-- the dual projection vector is along an axis
 abbrev pub DualOnAxis : Motion → Type 0
 DualOnAxis m = (m.dual ≡ vector.X) ⊎ (m.dual ≡ vector.Y)
 
--- a point stood where its font units are scaled to
+-- a point whose original place is its scaled font units
 pub record StoodAtUnits (s : Scale) (p : Point) : Type 0 where
   pub x : p.org_x ≡ scaled_by s p.units_x
   pub y : p.org_y ≡ scaled_by s p.units_y
 
--- where halves go away from zero, the way back is the way there with its sign changed
+-- with halves away from zero, a distance changes only its sign with its direction
 abbrev pub DistancesTurnRound : Type 0
 DistancesTurnRound = (s : Scale) (m : Motion) (p q : Point) → IsScale s → s.halves ≡ halves.AwayFromZero
     → DualOnAxis m → distance_by (Some s) m q p ≡ neg_ℤ (distance_by (Some s) m p q)
 
--- a distance measured in font units is at most 1 off that in 26.6
+-- a distance measured in font units differs by at most 1 from the one in 26.6
 abbrev pub DistancesAreNear : Type 0
 DistancesAreNear = (s : Scale) (m : Motion) (p q : Point) → IsScale s → DualOnAxis m → StoodAtUnits s p
     → StoodAtUnits s q → unsigned_abs (distance_by (Some s) m p q -ℤ distance_by None m p q) ≤ 1

@@ -1,5 +1,6 @@
 -- Apple TrueType Reference Manual, "Instructing TrueType Glyphs" (zones, touched points) and "Graphics State"
--- (vectors): a point by its number in a zone, its coordinates along an axis, and how it is moved. Coordinates are in 26.6 pixels.
+-- (vectors): a point by its number in a zone, its coordinates on an axis, and its moves. Coordinates are in 26.6
+-- pixels.
 use Rattle.std.specs.Prelude.{◌≡◌, ◌<◌, nat_le, ℤ, pos, negsuc, ◌+ℤ◌, ◌≤ℤ◌, int_lt, unsigned_abs, slice_get, Bool, true, false, if◌then◌else◌, List, [], ◌∷◌, length, slice_set, is_ok, Result, Ok, Err, refl}
 use Rattle.std.specs.Option.{ok_or}
 use Rattle.tt_core.specs.Limits.{coordinate_limit}
@@ -13,7 +14,7 @@ use Rattle.tt_state.specs.declared.graphics_state.Zone.TheVariants as zone
 use Rattle.tt_state.specs.declared.point.Point.{Point}
 use Rattle.tt_points_zones.specs.Zones.{ZoneLists}
 
--- where a point stands along an axis, and where it stood before the program
+-- a point's current coordinate on an axis, and its original one
 abbrev pub cur : Axis → Point → ℤ
 cur axis.X p = p.x
 cur axis.Y p = p.y
@@ -26,7 +27,7 @@ abbrev pub is_touched : Axis → Point → Bool
 is_touched axis.X p = p.touched_x
 is_touched axis.Y p = p.touched_y
 
--- a point put to a coordinate, and touched
+-- a point at another coordinate
 abbrev pub put : Axis → ℤ → Point → Point
 put axis.X v p = record p { x = v }
 put axis.Y v p = record p { y = v }
@@ -40,7 +41,7 @@ marked axis.Y touched p = record p { touched_y = touched }
 abbrev pub is_coordinate : ℤ → Bool
 is_coordinate v = nat_le (unsigned_abs v) coordinate_limit
 
--- a point put further by a distance, which leaves it as touched as it was
+-- a point moved by a distance; its touches are unchanged
 abbrev pub shifted : Axis → ℤ → Point → Result Point Why
 shifted axis d p =
     if is_coordinate (cur axis p +ℤ d) then Ok (put axis (cur axis p +ℤ d) p) else Err why.ValueRange
@@ -49,7 +50,7 @@ shifted axis d p =
 abbrev pub moved : Axis → ℤ → Point → Result Point Why
 moved axis d p = shifted axis d p >>= λ q. Ok (marked axis true q)
 
--- the point with a number, phantom points among them
+-- the point with a number, which may be a phantom point
 abbrev pub point_at : ℤ → List Point → Result Point Why
 point_at n ps = if int_lt n (pos 0) then Err why.PointRange else ok_or (slice_get ps (unsigned_abs n)) why.PointRange
 
@@ -63,12 +64,12 @@ point_in zone n z = point_at n (points_in zone z)
 abbrev pub has_point : Zone → ℤ → ZoneLists → Bool
 has_point zone n z = is_ok (point_in zone n z)
 
--- the zones with another point in the place of one that is there
+-- the zones with a point replaced
 abbrev pub with_point : Zone → ℤ → Point → ZoneLists → ZoneLists
 with_point zone.Twilight n p z = record z { twilight = slice_set z.twilight (unsigned_abs n) p }
 with_point zone.Glyph n p z = record z { glyph = slice_set z.glyph (unsigned_abs n) p }
 
--- a number that a zone has a point for
+-- a number with a point in a zone
 pub record HasPoint (zone : Zone) (n : ℤ) (z : ZoneLists) : Type 0 where
   pub sign : pos 0 ≤ℤ n
   pub within : unsigned_abs n < length (points_in zone z)

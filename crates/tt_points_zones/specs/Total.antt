@@ -1,5 +1,5 @@
--- No part of the standard: finding a point, moving one and asking for the vectors are never short of values; and what is
--- done to a point that is there is not refused for something that is not there.
+-- No part of the standard: finding a point, moving it and reading the vectors never fail with too few values. A
+-- move of a point that exists is not refused for a missing thing.
 use Rattle.std.proofs.Common.{◌≡◌, ℤ, pos, int_lt, unsigned_abs, slice_get, ◌+ℤ◌, Bool, true, false, ◌||◌, if◌then◌else◌, Option, Some, None, Result, Ok, Err, refl}
 use Rattle.std.specs.Option.{ok_or}
 use Rattle.std.specs.Ordering.{int_eq}
@@ -18,7 +18,7 @@ use Rattle.tt_points_zones.specs.Points.{is_coordinate, point_in, points_in}
 use Rattle.tt_points_zones.specs.Zones.{ZoneLists}
 use Rattle.tt_points_zones.specs.declared.motion.Motion.{Motion}
 
--- one of two answers
+-- one of two results
 pub either : {A : Type 0} (b : Bool) (r other : Result A Why) → IsTotal r → IsTotal other
     → IsTotal (if b then r else other)
 either true r other total also = total
@@ -29,7 +29,7 @@ pub enough_of_either : {A : Type 0} (b : Bool) (r other : Result A Why) → Enou
 enough_of_either true r other enough also = enough
 enough_of_either false r other enough also = also
 
--- a total answer is not short of values
+-- a total result is not short of values
 not_short : (missing short : Bool) → (missing || short) ≡ false → short ≡ false
 not_short false short never = never
 not_short true short never = absurd cc
@@ -38,7 +38,7 @@ pub enough_of : {A : Type 0} (r : Result A Why) → IsTotal r → Enough r
 enough_of (Ok a) total = record {}
 enough_of (Err e) total = not_short (is_missing e) (is_short e) total
 
--- a point is found, or is not there
+-- a point is found, or missing
 pub found : {A : Type 0} (o : Option A) (e : Why) → is_short e ≡ false → Enough (ok_or o e)
 found (Some a) e enough = record {}
 found None e enough = enough
@@ -49,7 +49,7 @@ point_enough zone n z =
     (ok_or (slice_get (points_in zone z) (unsigned_abs n)) why.PointRange) refl
     (found (slice_get (points_in zone z) (unsigned_abs n)) why.PointRange refl)
 
--- and is moved, unless past the limit
+-- a point is moved, unless past the limit
 put_total : (part by at : ℤ) → IsTotal (pushed_to part by at)
 put_total part by at =
     either (int_eq part (pos 0)) (Ok at)

@@ -1,5 +1,5 @@
--- No part of the standard: what is given without the whole instruction set is given with it too, unless it is a refusal
--- of what the profile has not.
+-- No part of the standard: a result without the whole instruction set is the result with it too, unless it is a
+-- refusal by the profile.
 use Rattle.std.proofs.Common.{◌≡◌, Bool, true, false, ◌||◌, if◌then◌else◌, Result, Ok, Err, refl}
 use Rattle.tt_core.specs.Outcomes.{◌>>=◌}
 use Rattle.tt_core.specs.declared.fault.Why.{Why}
@@ -15,18 +15,19 @@ use Rattle.tt_points_zones.specs.declared.motion.Motion.{Motion}
 abbrev pub with_all : GraphicsState → GraphicsState
 with_all g = record g { whole = true }
 
--- the refusals that come without the whole instruction set alone
+-- the refusals that need the whole instruction set to be absent
 abbrev pub is_of_profile : Why → Bool
 is_of_profile why.OffProfile = true
 is_of_profile why.Perpendicular = true
 is_of_profile _ = false
 
--- two answers, without the whole instruction set and with it: the second is the first, changed so, or its refusal
+-- two results, without the whole instruction set and with it: the second is the first after a change, or the same
+-- refusal
 abbrev pub Stays : {A : Type 0} → (A → A) → Result A Why → Result A Why → Type 0
 Stays all (Ok a) with = with ≡ Ok (all a)
 Stays all (Err e) with = is_of_profile e ≡ false → with ≡ Err e
 
--- an answer that has nothing of a graphics state
+-- a result without a graphics state
 abbrev pub StaysSame : {A : Type 0} → Result A Why → Result A Why → Type 0
 StaysSame r with = Stays (λ a. a) r with
 
@@ -34,19 +35,19 @@ pub same : {A : Type 0} (r : Result A Why) → StaysSame r r
 same (Ok a) = refl
 same (Err e) = λ other. refl
 
--- one answer after another
+-- one step after another
 pub chained : {A B : Type 0} (all : A → A) (more : B → B) (r with : Result A Why) (f g : A → Result B Why)
     → Stays all r with → ((a : A) → Stays more (f a) (g (all a))) → Stays more (r >>= f) (with >>= g)
 chained all more (Ok a) with f g stays next = rw stays (next a)
 chained all more (Err e) with f g stays next = λ other. rw (stays other) refl
 
--- an answer after one that has nothing of a graphics state
+-- a step after one whose result has no graphics state
 pub after : {A B : Type 0} (more : B → B) (r : Result A Why) (f g : A → Result B Why)
     → ((a : A) → Stays more (f a) (g a)) → Stays more (r >>= f) (r >>= g)
 after more (Ok a) f g next = next a
 after more (Err e) f g next = λ other. refl
 
--- an answer, or another where something is not there
+-- a result, or another where something is missing
 of_profile : (e : Why) → is_missing e ≡ true → is_of_profile e ≡ false
 of_profile why.PointRange missing = refl
 of_profile why.ContourRange missing = refl
@@ -87,7 +88,7 @@ beside t = (t.0, with_all t.1)
 abbrev pub StaysBeside : {A : Type 0} → Result (A × GraphicsState) Why → Result (A × GraphicsState) Why → Type 0
 StaysBeside r with = Stays beside r with
 
--- what is done by the vectors
+-- a step that uses the vectors
 pub by_vectors : {A : Type 0} (g : GraphicsState) (f : Motion → Result A Why)
     → StaysSame (direction g >>= f) (direction (with_all g) >>= f)
 by_vectors g f = chained (λ m. m) (λ a. a) (direction g) (direction (with_all g)) f f (directed g) (λ m. same (f m))

@@ -22,11 +22,11 @@ zones_view z = record {
   originals = z.originals;
 }
 
--- the originals of a glyph zone that is in 26.6
+-- the original places of a glyph zone in 26.6
 abbrev pub in_pixels : Halves → Originals
 in_pixels halves = record { units = None; halves = halves }
 
--- a point whose coordinates are within the limit; in font units it may be a phantom point
+-- a point with coordinates within the limit; in font units it may be a phantom point
 pub record IsPoint (p : Point) : Type 0 where
   pub units_x : unsigned_abs p.units_x ≤ 2 ^ 17
   pub units_y : unsigned_abs p.units_y ≤ 2 ^ 17
@@ -35,7 +35,7 @@ pub record IsPoint (p : Point) : Type 0 where
   pub x : unsigned_abs p.x ≤ coordinate_limit
   pub y : unsigned_abs p.y ≤ coordinate_limit
 
--- ranges of points, each from the end of the one before it, the first from a number; perhaps empty
+-- ranges of points, perhaps empty: the first begins at a number, each next one at the end of the one before it
 abbrev pub AreContours : ℕ → List (ℕ × ℕ) → ℕ → Type 0
 AreContours from [] points = from ≤ points
 AreContours from (contour ∷ contours) points =
@@ -47,14 +47,14 @@ pub record IsZones (z : ZoneLists) : Type 0 where
   pub contours : AreContours 0 z.contours (length z.glyph)
   pub scale : IfSome z.originals.units IsScale
 
--- zones with as many points as others, and with the same contours
+-- zones with the same counts of points and the same contours
 pub record SameShape (old new : ZoneLists) : Type 0 where
   pub twilight : length new.twilight ≡ length old.twilight
   pub glyph : length new.glyph ≡ length old.glyph
   pub contours : new.contours ≡ old.contours
   pub originals : new.originals ≡ old.originals
 
--- what gives zones, alone or before something else, keeps their shape
+-- a result with zones, alone or beside something else, of the same shape
 abbrev pub KeepsShape : {E : Type 0} → ZoneLists → Result ZoneLists E → Type 0
 KeepsShape z given = IfOk given (SameShape z)
 

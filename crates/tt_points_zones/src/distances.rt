@@ -7,7 +7,7 @@ ghost use Rattle.tt_core.specs.Limits.{coordinate_limit};
 #[derive(Clone, Copy)]
 pub struct Distance(pub i64);
 
-/// How far a coordinate lies from another.
+/// The distance from a coordinate to another.
 pub fn distance_between(from: i32, to: i32) -> Distance
     requires from { unsigned_abs from ≤ coordinate_limit }
     requires to { unsigned_abs to ≤ coordinate_limit }

@@ -1,4 +1,4 @@
-//! The zones of the TrueType interpreter: points by their numbers, and how one is moved.
+//! The zones of the TrueType interpreter: points by their numbers, and how a point is measured and moved.
 #![tactic(auto)]
 
 mod distances;

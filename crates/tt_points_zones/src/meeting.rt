@@ -1,4 +1,5 @@
-//! Where two lines meet. Apple TrueType Reference Manual, "Instruction Set" (ISECT). Coordinates are in 26.6 pixels.
+//! The meeting point of two lines. Apple TrueType Reference Manual, "Instruction Set" (ISECT). Coordinates are in
+//! 26.6 pixels.
 
 ghost use Rattle.std.specs.Prelude.{◌≡◌, ◌≢◌, ◌<◌, ◌≤◌, ◌^◌, pos, ◌+ℤ◌, ◌*ℤ◌, ◌<ℤ◌, unsigned_abs, IfOk};
 ghost use Rattle.std.specs.Bool.{OnFalse};
@@ -26,7 +27,7 @@ pub struct Line {
     pub to: Place,
 }
 
-/// A place that may lie past the limit of coordinates.
+/// A place that may be past the limit of coordinates.
 #[derive(Clone, Copy)]
 struct FarPlace {
     x: i128,
@@ -60,8 +61,8 @@ fn dot(a: Way, b: Way) -> i64
     product(a.x, b.x) + product(a.y, b.y)
 }
 
-/// Whether two ways are parallel, or nearly so: the tangent of the angle between them is at most 1 / 19 (profile). A
-/// way of length 0 is parallel to all.
+/// Whether two ways are parallel, or nearly so: the tangent of their angle is at most 1 / 19 (profile). A way of
+/// length 0 is parallel to every way.
 #[tactic(auto, unfolding(crate::specs::Meeting::are_parallel))]
 fn are_parallel(a: Way, b: Way) -> bool
     ensures exact { result ≡ is.are_parallel (way_view a) (way_view b) }
@@ -70,7 +71,7 @@ fn are_parallel(a: Way, b: Way) -> bool
     19 * cross(a, b).unsigned_abs() <= dot(a, b).unsigned_abs()
 }
 
-/// `n * d`, past 64 bits.
+/// `n * d`, which may exceed 64 bits.
 fn long_product(n: i64, d: Distance) -> i128
     requires n { unsigned_abs n < 2 ^ 47 }
     requires d { unsigned_abs d.0 < 2 ^ 22 }
@@ -90,7 +91,7 @@ fn long_nearest(n: i128, d: i128) -> i128
     (2 * n + d).div_euclid(2 * d)
 }
 
-/// `n / d` rounded to the nearest whole number, a half upwards, past 64 bits.
+/// `n / d` rounded to the nearest whole number, a half upwards. It may exceed 64 bits.
 fn long_rq(n: i128, d: i128) -> i128
     requires numerator { unsigned_abs n < 2 ^ 69 }
     requires denominator { unsigned_abs d < 2 ^ 47 }
@@ -105,7 +106,7 @@ fn long_rq(n: i128, d: i128) -> i128
     }
 }
 
-/// How far a part of a way leads along an axis.
+/// A fraction of a way's length along an axis.
 fn part_of(way: Distance, part: Fraction) -> i128
     requires { unsigned_abs way.0 < 2 ^ 22 }
     ensures exact { result ≡ rounded_quotient (part.n *ℤ way.0) part.d }
@@ -114,7 +115,7 @@ fn part_of(way: Distance, part: Fraction) -> i128
     long_rq(long_product(part.n, way), i128::from(part.d))
 }
 
-/// A coordinate further by `by`.
+/// `from + by`.
 fn further(from: i32, by: i128) -> i128
     requires { unsigned_abs by < 2 ^ 69 }
     ensures { result ≡ from +ℤ by }
@@ -122,7 +123,7 @@ fn further(from: i32, by: i128) -> i128
     i128::from(from) + by
 }
 
-/// A part of a way, from a place on.
+/// The place at a fraction of a way from `from`.
 fn gone(from: Place, way: Way, part: Fraction) -> FarPlace
     ensures { far_view result ≡ is.gone from (way_view way) part.n part.d }
 {
@@ -156,7 +157,7 @@ fn middle(a: Line, b: Line) -> FarPlace
     }
 }
 
-/// Where two lines meet, be it past the limit of coordinates.
+/// The meeting point of two lines, which may be past the limit of coordinates.
 #[tactic(auto, unfolding(crate::specs::Meeting::meeting, crate::specs::Meeting::crossing))]
 fn far_meeting(a: Line, b: Line) -> FarPlace
     requires a { IsLine a }
@@ -187,8 +188,8 @@ fn limited(v: i128) -> Result<i32, Why>
     Ok(v as i32)
 }
 
-/// Where two lines meet, or the middle of their four places where they are parallel or nearly so. Error: ValueRange
-/// past the limit of coordinates.
+/// The meeting point of two lines, or the middle of their four places where they are nearly parallel. Error:
+/// ValueRange past the limit of coordinates.
 #[tactic(auto, unfolding(crate::specs::Meeting::met))]
 pub fn met(a: Line, b: Line) -> Result<Place, Why>
     requires a { IsLine a }

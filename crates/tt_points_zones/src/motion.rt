@@ -20,15 +20,15 @@ use tt_state::{GraphicsState, Point, Vector, dot, laws};
 /// The vectors by which an instruction measures and moves points.
 #[derive(Clone, Copy)]
 pub struct Motion {
-    /// The projection vector: where points stand is measured along it.
+    /// The projection vector, for current places.
     pub proj: Vector,
-    /// The dual projection vector: where points stood before the program is measured along it.
+    /// The dual projection vector, for original places.
     pub dual: Vector,
     /// The freedom vector: points move along it.
     pub free: Vector,
 }
 
-/// How far a coordinate lies from another.
+/// The distance from a coordinate to another.
 fn way(from: i32, to: i32) -> i32
     requires from { unsigned_abs from ≤ coordinate_limit }
     requires to { unsigned_abs to ≤ coordinate_limit }
@@ -38,8 +38,8 @@ fn way(from: i32, to: i32) -> i32
     to - from
 }
 
-/// A coordinate further by `by`, where the freedom vector has this part along its axis. Error: ValueRange past the limit
-/// of coordinates.
+/// The coordinate `at + by`, or `at` itself where the freedom vector has no part along its axis. Error: ValueRange
+/// past the limit of coordinates.
 fn pushed_to(part: i32, by: i64, at: i32) -> Result<i32, Why>
     requires at { unsigned_abs at ≤ coordinate_limit }
     requires small { unsigned_abs by < 2 ^ 62 }
@@ -66,7 +66,8 @@ fn scaled(d: i64, part: i64) -> i64
     d * part
 }
 
-/// How far a point goes along an axis, along which the freedom vector has this part.
+/// The move along an axis, for a move `d` along the projection vector. `part` is the freedom vector's part along
+/// the axis, and `whole` the product of both vectors.
 fn step(d: i64, part: i32, whole: i32) -> i64
     requires d { unsigned_abs d < 2 ^ 47 }
     requires part { unsigned_abs part ≤ 16384 }
@@ -83,8 +84,8 @@ fn is_same(v: &Vector, w: &Vector) -> bool
     v.x() == w.x() && v.y() == w.y()
 }
 
-/// Whether points may be moved by the vectors, `Motion::of`. Without the whole instruction set they move along the
-/// projection vector alone. Error: Perpendicular where the freedom vector is another then (profile).
+/// Whether the vectors of `Motion::of` may move points. Without the whole instruction set, the freedom vector has
+/// to be the projection vector. Error: Perpendicular (profile).
 #[tactic(auto, unfolding(crate::specs::Motions::direction))]
 pub fn may_move(state: &GraphicsState) -> Result<(), Why>
     ensures { Gives (λ u. is.vectors_of state.now) result (is.direction state.now) }
@@ -108,7 +109,7 @@ impl Motion {
         }
     }
 
-    /// Where a point stands.
+    /// A point's current coordinate, along the projection vector.
     pub fn cur(&self, p: Point) -> i32
         requires { IsPoint p }
         ensures exact { result ≡ is.cur self.now p }
@@ -117,7 +118,7 @@ impl Motion {
         self.proj.project(p.x, p.y) as i32
     }
 
-    /// Where a point stood before the program.
+    /// A point's original coordinate, along the dual projection vector.
     pub fn org(&self, p: Point) -> i32
         requires { IsPoint p }
         ensures exact { result ≡ is.org self.now p }
@@ -126,7 +127,7 @@ impl Motion {
         self.dual.project(p.org_x, p.org_y) as i32
     }
 
-    /// How far a point stands from another.
+    /// The current distance between two points, along the projection vector.
     pub fn current_distance(&self, from: Point, to: Point) -> Distance
         requires from { IsPoint from }
         requires to { IsPoint to }
@@ -136,7 +137,7 @@ impl Motion {
         Distance(self.proj.project(way(from.x, to.x), way(from.y, to.y)))
     }
 
-    /// How far a point stood from another before the program.
+    /// The original distance between two points, along the dual projection vector.
     pub fn original_distance(&self, from: Point, to: Point) -> Distance
         requires from { IsPoint from }
         requires to { IsPoint to }
@@ -149,7 +150,7 @@ impl Motion {
         )
     }
 
-    /// How far a point stood from another before the program, in font units.
+    /// The original distance between two points in font units.
     pub fn units_distance(&self, from: Point, to: Point) -> i32
         requires from { IsPoint from }
         requires to { IsPoint to }
@@ -161,8 +162,7 @@ impl Motion {
         self.dual.project(x, y) as i32
     }
 
-    /// How far a point stood from another before the program, where the originals have a scale: measured in font units,
-    /// and then scaled.
+    /// The original distance between two points. With a scale, it is measured in font units and then scaled.
     pub fn distance_by(&self, scale: Option<Scale>, from: Point, to: Point) -> Distance
         requires scale { IfSome scale IsScale }
         requires from { IsPoint from }
@@ -176,7 +176,7 @@ impl Motion {
         }
     }
 
-    /// How far a point stands from where it stood: along the projection vector both times.
+    /// The distance of a point from its original place. The projection vector measures both places.
     pub fn offset(&self, p: Point) -> i64
         requires { IsPoint p }
         ensures exact { result ≡ is.offset self.now p }
@@ -185,8 +185,8 @@ impl Motion {
         self.proj.project(way(p.org_x, p.x), way(p.org_y, p.y))
     }
 
-    /// The point put further by `by` along x and y, where the freedom vector has a part along these, and left as touched
-    /// as it was. Error: ValueRange past the limit of coordinates.
+    /// The point moved by `by` along x and y, on axes where the freedom vector has a part. Its touches are unchanged.
+    /// Error: ValueRange past the limit of coordinates.
     fn put_further(&self, p: Point, by: (i64, i64)) -> Result<Point, Why>
         requires point { IsPoint p }
         requires x { unsigned_abs by.0 < 2 ^ 62 }
@@ -201,7 +201,7 @@ impl Motion {
         })
     }
 
-    /// The point touched along each axis along which the freedom vector has a part, or untouched.
+    /// The point touched, or untouched, on each axis where the freedom vector has a part.
     pub fn marked(&self, p: Point, touched: bool) -> Point
         requires { IsPoint p }
         ensures exact { result ≡ is.marked self.now.free touched p }
@@ -215,7 +215,7 @@ impl Motion {
         }
     }
 
-    /// How far along x and y a point goes that goes by `d` along the projection vector.
+    /// The move along x and y, for a move `d` along the projection vector.
     fn steps(&self, d: i64) -> (i64, i64)
         requires { unsigned_abs d < 2 ^ 47 }
         ensures exact { pair result.0 result.1 ≡ is.steps self.now d }
@@ -233,7 +233,7 @@ impl Motion {
         }
     }
 
-    /// The point moved along the freedom vector by `d` along the projection vector, and left as touched as it was.
+    /// The point moved along the freedom vector, by `d` along the projection vector. Its touches are unchanged.
     /// Error: ValueRange past the limit of coordinates.
     pub fn shifted(&self, p: Point, d: i64) -> Result<Point, Why>
         requires point { IsPoint p }
@@ -244,8 +244,8 @@ impl Motion {
         self.put_further(p, self.steps(d))
     }
 
-    /// The point put further along the freedom vector by `d`, however far that is along the projection vector, and left
-    /// as touched as it was. Error: ValueRange past the limit of coordinates.
+    /// The point moved by `d` along the freedom vector itself, whatever the projection vector. Its touches are
+    /// unchanged. Error: ValueRange past the limit of coordinates.
     pub fn shifted_along(&self, p: Point, d: i64) -> Result<Point, Why>
         requires point { IsPoint p }
         requires small { unsigned_abs d ≤ 2 ^ 32 }
@@ -255,7 +255,7 @@ impl Motion {
         self.put_further(p, self.free.along(d))
     }
 
-    /// The point moved by `by` along x and y, where the freedom vector has a part along these, and touched there. Error:
+    /// The point moved by `by` along x and y, and touched, on axes where the freedom vector has a part. Error:
     /// ValueRange past the limit of coordinates.
     fn pushed(&self, p: Point, by: (i64, i64)) -> Result<Point, Why>
         requires point { IsPoint p }
@@ -267,8 +267,8 @@ impl Motion {
         Ok(self.marked(self.put_further(p, by)?, true))
     }
 
-    /// The point moved along the freedom vector by `d` along the projection vector, and touched. Error: ValueRange past
-    /// the limit of coordinates.
+    /// The point moved along the freedom vector, by `d` along the projection vector, and touched. Error: ValueRange
+    /// past the limit of coordinates.
     pub fn moved(&self, p: Point, d: i64) -> Result<Point, Why>
         requires point { IsPoint p }
         requires small { unsigned_abs d < 2 ^ 47 }
@@ -277,8 +277,8 @@ impl Motion {
     {
         self.pushed(p, self.steps(d))
     }
-    /// The point moved along the freedom vector by `d`, however far that is along the projection vector, and touched.
-    /// Error: ValueRange past the limit of coordinates.
+    /// The point moved by `d` along the freedom vector itself, whatever the projection vector, and touched. Error:
+    /// ValueRange past the limit of coordinates.
     pub fn moved_along(&self, p: Point, d: i64) -> Result<Point, Why>
         requires point { IsPoint p }
         requires small { unsigned_abs d ≤ 2 ^ 32 }

@@ -1,5 +1,5 @@
-//! A point along an axis. Apple TrueType Reference Manual, "Instructing TrueType Glyphs" (touched points) and "Graphics
-//! State" (vectors). Coordinates are in 26.6 pixels.
+//! A point's coordinates along an axis. Apple TrueType Reference Manual, "Instructing TrueType Glyphs" (touched
+//! points) and "Graphics State" (vectors). Coordinates are in 26.6 pixels.
 
 ghost use Rattle.std.specs.Prelude.{◌≡◌, ◌≤◌, unsigned_abs};
 ghost use Rattle.tt_core.specs.Limits.{coordinate_limit};
@@ -9,7 +9,7 @@ ghost use Rattle.tt_points_zones.specs.Zones.{IsPoint};
 use tt_core::COORDINATE_LIMIT;
 use tt_state::{Axis, Point};
 
-/// Where a point stands along an axis.
+/// A point's current coordinate on an axis.
 pub fn cur(p: Point, axis: Axis) -> i32
     requires { IsPoint p }
     ensures exact { result ≡ is.cur axis p }
@@ -21,7 +21,7 @@ pub fn cur(p: Point, axis: Axis) -> i32
     }
 }
 
-/// Where a point stood along an axis before the program.
+/// A point's coordinate on an axis before the program.
 pub fn org(p: Point, axis: Axis) -> i32
     requires { IsPoint p }
     ensures exact { result ≡ is.org axis p }
@@ -50,7 +50,7 @@ pub fn is_coordinate(v: i64) -> bool
     -limit <= v && v <= limit
 }
 
-/// The point put to a coordinate, as touched as it was.
+/// The point at another coordinate on an axis. Its touches are unchanged.
 pub fn put(p: Point, axis: Axis, v: i64) -> Point
     requires point { IsPoint p }
     requires limit { unsigned_abs v ≤ coordinate_limit }

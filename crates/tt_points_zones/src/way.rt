@@ -13,7 +13,7 @@ pub(crate) struct Way {
     ghost few_y: { unsigned_abs y.0 < 2 ^ 22 },
 }
 
-/// A part of a way: `n / d` of it.
+/// The fraction `n / d` of a way.
 #[derive(Clone, Copy)]
 pub(crate) struct Fraction {
     pub(crate) n: i64,

@@ -6,7 +6,7 @@ ghost use Rattle.tt_points_zones.specs.ZoneNumbers as is;
 use tt_core::Why;
 use tt_state::Zone;
 
-/// 0 is the twilight zone, and 1 the glyph zone. Error: ZoneRange.
+/// The zone with number `n`: 0 is the twilight zone, 1 the glyph zone. Error: ZoneRange.
 pub fn zone_of(n: i32) -> Result<Zone, Why>
     ensures { Gives (λ zone. zone) result (is.zone_of n) }
 {

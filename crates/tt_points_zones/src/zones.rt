@@ -13,17 +13,17 @@ use std::alloc::AllocError;
 use tt_core::{Halves, Scale, Why};
 use tt_state::{Point, Zone};
 
-/// How the originals of glyph points are measured.
+/// The measure of the glyph points' original places.
 #[derive(Clone, Copy, Debug, PartialEq, Eq)]
 pub struct Originals {
-    /// By which scale, where the glyph zone is in font units; None where it is in 26.6.
+    /// The scale, for a glyph zone in font units. None for one in 26.6.
     pub units: Option<Scale>,
-    /// Where halves are rounded to when points are interpolated.
+    /// The rounding of halves in interpolation.
     pub halves: Halves,
 }
 
 impl Originals {
-    /// In 26.6, as the originals of the twilight zone always are.
+    /// In 26.6, as always in the twilight zone.
     pub fn in_pixels(halves: Halves) -> Originals
         ensures { result ≡ in_pixels halves }
     {
@@ -34,8 +34,9 @@ impl Originals {
     }
 }
 
-/// Both zones. A contour is a range of glyph points, the first and one past the last; the first contour begins at 0 and
-/// each other where the one before it ends. The glyph points after the last contour are its phantom points.
+/// Both zones. A contour is a range of glyph points: the first, and one past the last. The first contour begins at
+/// 0, and each next one at the end of the one before it. The glyph points after the last contour are its phantom
+/// points.
 #[derive(Debug, Drop)]
 pub struct Zones {
     pub twilight: Vec<Point>,
@@ -45,7 +46,7 @@ pub struct Zones {
 }
 
 impl Zones {
-    /// The same points and contours in memory of their own.
+    /// A copy in memory of its own.
     pub fn copy(&self) -> Result<Zones, AllocError>
         ensures { IfOk result (λ z. zones_view z ≡ zones_view self.now) }
     {
@@ -68,7 +69,7 @@ impl Zones {
         }
     }
 
-    /// The point with a number in a zone. Error: PointRange.
+    /// The point with number `n` in a zone. Error: PointRange.
     pub fn point(&self, zone: Zone, n: i32) -> Result<Point, Why>
         requires { IsZones (zones_view self.now) }
         ensures exact { Gives (λ p. p) result (point_in zone n (zones_view self.now)) }
@@ -78,7 +79,7 @@ impl Zones {
         point_at(self.points(zone), n)
     }
 
-    /// Whether there is a point with a number in a zone.
+    /// Whether a zone has a point with number `n`.
     pub fn has(&self, zone: Zone, n: i32) -> bool
         requires { IsZones (zones_view self.now) }
         ensures { result ≡ is.has_point zone n (zones_view self.now) }
@@ -86,7 +87,8 @@ impl Zones {
         self.point(zone, n).is_ok()
     }
 
-    /// The scale of two points' originals: where both stand in the glyph zone, and that is in font units.
+    /// The scale of the distance between two original places: the one in font units, where both zones are the glyph
+    /// zone. None in 26.6.
     pub fn scale_between(&self, from: Zone, to: Zone) -> Option<Scale>
         requires { IsZones (zones_view self.now) }
         ensures exact { result ≡ scale_between from to (zones_view self.now) }
@@ -98,7 +100,7 @@ impl Zones {
         }
     }
 
-    /// Puts another point in the place of one.
+    /// Replaces the point with number `n` in a zone by `p`.
     pub fn set(&mut self, zone: Zone, n: i32, p: Point)
         requires zones { IsZones (zones_view self.old) }
         requires there { HasPoint zone n (zones_view self.old) }
@@ -113,7 +115,7 @@ impl Zones {
     }
 }
 
-/// The point with a number. Error: PointRange.
+/// The point with number `n`. Error: PointRange.
 fn point_at(points: &[Point], n: i32) -> Result<Point, Why>
     requires { All IsPoint points.now }
     ensures exact { Gives (λ p. p) result (is.point_at n points.now) }
