@@ -1,4 +1,4 @@
--- Contours are ranges of the points that there are.
+-- Contours are ranges of existing points.
 use Rattle.std.proofs.Common.{◌≡◌, ℕ, zero, suc, ◌<◌, ◌≤◌, List, [], ◌∷◌, length, get_or, slice_get, Some, arith}
 use Rattle.tt_points_zones.specs.Zones.{AreContours}
 

@@ -1,4 +1,4 @@
--- Contours fit other points of the same number.
+-- Contours fit other points of the same count.
 use Rattle.std.proofs.Common.{◌≡◌, List, length, All, subst, sym}
 use Rattle.tt_state.specs.declared.point.Point.{Point}
 use Rattle.tt_points_zones.specs.Zones.{AreContours, IsPoint, IsZones, ZoneLists}

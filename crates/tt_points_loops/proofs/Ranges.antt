@@ -29,7 +29,7 @@ in_turn (Err e) f g = refl
 abbrev Move : Type 0
 Move = ℕ → Point → Result Point Why
 
--- a point that is passed by, and one that is not
+-- a point outside the range, and one within
 passed_by : (move : Move) (low past at : ℕ) (p : Point) (ps : List Point) → (nat_le low at && nat_lt at past) ≡ false
     → each_from_to low past move at (p ∷ ps) ≡ (each_from_to low past move (suc at) ps >>= λ qs. Ok (p ∷ qs))
 passed_by move low past at p ps not = rw not refl
@@ -39,7 +39,7 @@ chosen : (move : Move) (low past at : ℕ) (p : Point) (ps : List Point) → (na
     ≡ (move at p >>= λ q. each_from_to low past move (suc at) ps >>= λ qs. Ok (q ∷ qs))
 chosen move low past at p ps is = rw is refl
 
--- behind its first point, a range is the same as without it
+-- past its first point, a range is the same as without that point
 behind : (move : Move) (low past at : ℕ) (ps : List Point) → low < at
     → each_from_to low past move at ps ≡ each_from_to (suc low) past move at ps
 behind move low past at [] below = refl
@@ -55,7 +55,7 @@ none_left move low past at [] empty = refl
 none_left move low past at (p ∷ ps) empty =
     passed_by move low past at p ps (in_none low past at empty) ∙ rw (none_left move low past (suc at) ps empty) refl
 
--- the first point of a range, and then the others
+-- the first point of a range, followed by the others
 first_of : (move : Move) (low past at k : ℕ) (ps : List Point) (d : Point) → low ≡ at + k → low < past → k < length ps
     → each_from_to low past move at ps
     ≡ (move low (get_or ps k d) >>= λ q. each_from_to (suc low) past move at (set ps k q))
@@ -80,7 +80,7 @@ first_of move low past at (suc k) (p ∷ ps) d is some there =
     (λ qs. Ok (p ∷ qs))
     ∙ same_after (move low (get_or ps k d)) _ _ next
 
--- what is left to do, where the step came through
+-- the remaining steps after one that succeeds
 pub further : (move : Move) (i past : ℕ) (ps : List Point) (d q : Point) (whole : Result (List Point) Why) → i < past
     → i < length ps → each_from_to i past move 0 ps ≡ whole → move i (get_or ps i d) ≡ Ok q
     → each_from_to (i + 1) past move 0 (set ps i q) ≡ whole
@@ -89,7 +89,7 @@ further move i past ps d q whole some there so_far came =
     let all = first_of move i past 0 i ps d (omega arith) some there in
     rw one (sym (all ∙ rw came refl) ∙ so_far)
 
--- the same, where it was refused
+-- the remaining steps after one that is refused
 pub refused : (move : Move) (i past : ℕ) (ps : List Point) (d : Point) (e : Why) (whole : Result (List Point) Why)
     → i < past → i < length ps → each_from_to i past move 0 ps ≡ whole → move i (get_or ps i d) ≡ Err e → whole ≡ Err e
 refused move i past ps d e whole some there so_far came =

@@ -21,7 +21,7 @@ use Rattle.tt_points_loops.specs.declared.deltas.DeltaRange.TheVariants as range
 use Rattle.tt_points_loops.specs.Series.{one_by_one, passing_over}
 use Rattle.tt_points_loops.specs.Slanted.{rising, slanted, at_first, moved_on}
 
--- how far above the delta base the sizes of a range begin
+-- the distance of a range's first size from the delta base
 abbrev pub sizes_passed : DeltaRange → ℤ
 sizes_passed ranges.First = pos 0
 sizes_passed ranges.Second = pos 16
@@ -36,26 +36,26 @@ abbrev pub steps_of : ℕ → ℤ
 steps_of argument =
     if nat_lt (argument % 16) 8 then pos (argument % 16) -ℤ pos 8 else pos (argument % 16) -ℤ pos 7
 
--- one step; SDS refuses a shift past 6
+-- one step; SDS refuses a delta shift above 6
 abbrev pub step_of : GraphicsState → ℤ
 step_of g = pos (2 ^ (6 - g.delta_shift))
 
--- An argument as a byte. Past one it has no meaning (profile), and a tolerant machine takes its low byte.
+-- An argument as a byte. Another argument has no meaning (profile); a tolerant machine takes its low byte.
 abbrev pub byte_of : Tolerance → ℤ → Result ℕ Why
 byte_of tolerance.Strict argument =
     if int_lt argument (pos 0) || int_lt (pos 255) argument then Err why.BadArgument else Ok (unsigned_abs argument)
 byte_of tolerance.Tolerant argument = Ok (unsigned_abs (int_rem_euclid argument (pos 256)))
 
--- the exception that a byte is at a size, None at others
+-- the move that a byte requests at its size, None at others
 abbrev pub exception_at : DeltaRange → ℕ → ℕ → GraphicsState → Option ℤ
 exception_at range byte ppem g =
     if int_eq (size_of range byte g) (pos ppem) then Some (steps_of byte *ℤ step_of g) else None
 
--- the exception that an argument is at a size
+-- the move that an argument requests at a size
 abbrev pub delta_of : Tolerance → DeltaRange → ℤ → ℕ → GraphicsState → Result (Option ℤ) Why
 delta_of t range argument ppem g = byte_of t argument >>= λ byte. Ok (exception_at range byte ppem g)
 
--- a point of zp0 moved by an exception, if there is one
+-- a point of zp0 after this move, if there is one
 abbrev pub move_by : Option ℤ → GraphicsState → ℤ → ZoneLists → Result ZoneLists Why
 move_by None g n z = Ok z
 move_by (Some d) g n z =
@@ -64,7 +64,7 @@ move_by (Some d) g n z =
 abbrev pub except : Tolerance → DeltaRange → ℕ → GraphicsState → ℤ × ℤ → ZoneLists → Result ZoneLists Why
 except t range ppem g pair z = delta_of t range pair.0 ppem g >>= λ d. move_by d g pair.1 z
 
--- arguments and numbers of points, as they stand on the stack
+-- pairs of an argument and a point's number, in their order on the stack
 abbrev pub pairs_of : List ℤ → List (ℤ × ℤ)
 pairs_of (argument ∷ n ∷ rest) = (argument, n) ∷ pairs_of rest
 pairs_of _ = []

@@ -1,5 +1,5 @@
--- Apple TrueType Reference Manual, "Instruction set": managing outlines (FLIPPT, FLIPRGON, FLIPRGOFF). They work on the
--- glyph's points, wherever the zone pointers point (profile).
+-- Apple TrueType Reference Manual, "Instruction set": managing outlines (FLIPPT, FLIPRGON, FLIPRGOFF). They use
+-- the glyph zone, whatever the zone pointers (profile).
 use Rattle.std.specs.Prelude.{◌≡◌, ◌+◌, ℤ, pos, negsuc, unsigned_abs, Bool, true, false, not, List, [], ◌∷◌, Result, Ok, Err, refl}
 use Rattle.tt_core.specs.Outcomes.{◌>>=◌}
 use Rattle.tt_core.specs.declared.fault.Why.{Why}
@@ -21,14 +21,14 @@ flipped p = record p { on = not p.on }
 abbrev pub flip : ℤ → ZoneLists → Result ZoneLists Why
 flip n z = point_in zone.Glyph n z >>= λ p. Ok (with_point zone.Glyph n (flipped p) z)
 
--- FLIPPT: points on the curve are off it, and the other way
+-- FLIPPT: points on the curve go off it, and points off it on
 abbrev pub flippt : Tolerance → List ℤ → ZoneLists → GraphicsState → Result (ZoneLists × GraphicsState) Why
 flippt t points z g = looped t flip points z g
 
 abbrev pub put_on : Bool → Point → Point
 put_on on p = record p { on = on }
 
--- the points of a range, on the curve or off it; both its ends are points, in whatever order
+-- the points of a range put on the curve or off it; both ends have to exist, in either order
 abbrev pub flip_range : Bool → ℤ → ℤ → ZoneLists → Result ZoneLists Why
 flip_range on low high z =
     point_in zone.Glyph high z >>= λ last. point_in zone.Glyph low z >>= λ first.

@@ -1,5 +1,5 @@
--- No part of the standard: what an instruction on several points gives where the machine is strict it gives where it is
--- tolerant too, unless it is a refusal that tolerance lifts.
+-- No part of the standard: for an instruction on several points, a tolerant machine gives the result of a strict
+-- one, unless that is a refusal that tolerance lifts.
 use Rattle.std.proofs.Common.{◌≡◌, ℕ, ◌%◌, ◌≤◌, nat_lt, ℤ, pos, negsuc, Bool, true, false, ◌||◌, if◌then◌else◌, List, [], ◌∷◌, reverse, Result, Ok, Err, ap, refl, arith}
 use Rattle.std.proofs.lemmas.Bool.Decides.{nat_tests}
 use Rattle.tt_core.specs.declared.fault.Why.{Why}
@@ -22,12 +22,12 @@ use Rattle.tt_points_loops.specs.Flipping as flipping
 use Rattle.tt_points_loops.specs.Moving as moving
 use Rattle.tt_points_loops.specs.Shifting as shifting
 
--- an answer beside the same one, or another where something is not there
+-- a result beside the same one, or another where something is missing
 pub passed : {A : Type 0} (instead : A) (r loose : Result A Why) → Loosens r loose
     → Loosens (unless_missing tolerance.Strict instead r) (unless_missing tolerance.Tolerant instead loose)
 passed instead r loose loosens = rw (strict instead r) (passed_over instead r loose loosens)
 
--- one after the other, and looped
+-- steps one after another, and loops
 series : {N S : Type 0} (step loose : N → S → Result S Why) → ((n : N) (s : S) → Loosens (step n s) (loose n s))
     → (ns : List N) (s : S) → Loosens (one_by_one step ns s) (one_by_one loose ns s)
 series step loose loosens [] s = refl

@@ -26,7 +26,7 @@ use Rattle.tt_points_zones.specs.declared.motion.Motion.{Motion}
 use Rattle.tt_points_loops.specs.Series.{looped}
 use Rattle.tt_points_loops.specs.Slanted.{rising, slanted, dual_upward, still, risen, at_first, moved_on}
 
--- ALIGNRP: points of zp1 are moved to where rp0, in zp0, stands
+-- ALIGNRP: moves points of zp1 to the current place of rp0, in zp0
 abbrev pub aligned : GraphicsState → Point → Point → Result Point Why
 aligned g r p = direction g >>= λ m. moved m (current_distance m p r) p
 
@@ -37,16 +37,17 @@ align g n z =
 abbrev pub alignrp : Tolerance → List ℤ → ZoneLists → GraphicsState → Result (ZoneLists × GraphicsState) Why
 alignrp t points z g = looped t (align g) points z g
 
--- a distance in the proportion in which a range was stretched, and what it is where the range was 0
+-- a distance stretched as the range was; a given distance, where the range was 0
 abbrev pub stretched : Halves → ℤ → ℤ → ℤ → ℤ → ℤ
 stretched halves o range now alone = if int_eq range (pos 0) then alone else quotient halves (o *ℤ now) range
 
--- how far a point stood from another, not scaled: in font units where the originals have a scale, or in 26.6
+-- the original distance between two points, before scaling: in font units where the originals have a scale,
+-- otherwise in 26.6
 abbrev pub unscaled : Option Scale → Motion → Point → Point → ℤ
 unscaled None m a p = original_distance m a p
 unscaled (Some s) m a p = units_distance m a p
 
--- how far from the first of two others a point stands that keeps its place between them
+-- the distance from a at which p has its original share of the way from a to b
 abbrev pub interpolated : Halves → Option Scale → Motion → Point → Point → Point → ℤ
 interpolated halves s m a b p =
     stretched halves (unscaled s m a p) (unscaled s m a b) (current_distance m a b) (distance_by s m a p)
@@ -55,16 +56,16 @@ abbrev pub kept_between : Halves → Option Scale → GraphicsState → Point �
 kept_between halves s g a b p =
     direction g >>= λ m. moved m (interpolated halves s m a b p -ℤ current_distance m a p) p
 
--- the scale of the originals, where no zone pointer is that of the twilight zone
+-- the scale of the originals, if no zone pointer is that of the twilight zone
 abbrev pub scale_among : GraphicsState → ZoneLists → Option Scale
 scale_among g z = if is_glyph g.zp2 then scale_between g.zp0 g.zp1 z else None
 
--- The second of the points between which others keep their places. Where it is not there, a tolerant machine takes the
--- first one in its place (profile): the range was 0 then, and each point gets its original distance from the first.
+-- The second end of the range. A tolerant machine takes the first end in place of a missing point (profile). The
+-- range was 0 then, and each point gets its original distance from the first end.
 abbrev pub other_end : Tolerance → GraphicsState → ZoneLists → Point → Result Point Why
 other_end t g z a = unless_missing t a (point_in g.zp1 g.rp2 z)
 
--- IP: points of zp2 are moved to where they keep their places between rp1, in zp0, and rp2, in zp1
+-- IP: moves points of zp2 to their original shares of the way from rp1, in zp0, to rp2, in zp1
 abbrev pub in_between : Tolerance → GraphicsState → ZoneLists → Point → Result Point Why
 in_between t g z p = point_in g.zp0 g.rp1 z >>= λ a. other_end t g z a >>= λ b.
     kept_between z.originals.halves (scale_among g z) g a b p
@@ -75,7 +76,7 @@ interpolate t g n z = point_in g.zp2 n z >>= λ p. in_between t g z p >>= λ q. 
 abbrev pub ip : Tolerance → List ℤ → ZoneLists → GraphicsState → Result (ZoneLists × GraphicsState) Why
 ip t points z g = looped t (interpolate t g) points z g
 
--- SHPIX: points of zp2 are moved by an amount along the freedom vector, whatever the projection vector is (profile)
+-- SHPIX: moves points of zp2 by an amount along the freedom vector, whatever the projection vector (profile)
 abbrev pub push : ℤ → GraphicsState → ℤ → ZoneLists → Result ZoneLists Why
 push amount g n z = point_in g.zp2 n z >>= λ p. moved_along g.free amount p >>= λ q. Ok (with_point g.zp2 n q z)
 
@@ -181,14 +182,14 @@ aligned_along_y : alignrp tolerance.Strict (pos 1 ∷ []) (glyph (still (pos 100
 unfolding direction project
 aligned_along_y = refl
 
--- with the whole instruction set crossed vectors are no refusal
+-- with the whole instruction set crossed vectors are not refused
 crossed_with_the_whole_set : alignrp tolerance.Strict (pos 9 ∷ pos 1 ∷ [])
     (glyph (still (pos 100) (pos 200) ∷ at_first ∷ [])) (record (default_of true) { free = vector.Y; loops = 2 })
     ≡ Err why.PointRange
 unfolding direction project
 crossed_with_the_whole_set = refl
 
--- the originals are measured along the dual vector
+-- original places are measured along the dual vector
 originals_along_y : ip tolerance.Strict (pos 2 ∷ []) (glyph (still (pos 0) (pos 0) ∷ risen ∷ at_first ∷ []))
     (record dual_upward { rp2 = pos 1 })
     ≡ Ok (
@@ -204,7 +205,7 @@ a_pixel_along_a_line : shpix tolerance.Strict (pos 0 ∷ []) (pos 64) (glyph (at
 unfolding along
 a_pixel_along_a_line = refl
 
--- worked values in font units: a point that keeps its place between two others, at 13 of 1024
+-- worked values in font units: a point between two others, at 13 of 1024
 abbrev in_units : ℤ → ℤ → ℤ → Point
 in_units units org x = record (point org x) { units_x = units }
 

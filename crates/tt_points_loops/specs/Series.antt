@@ -8,25 +8,25 @@ use Rattle.tt_state.specs.declared.point.Point.{Point}
 use Rattle.tt_state.specs.declared.tolerance.Tolerance.{Tolerance}
 use Rattle.tt_points_zones.specs.Zones.{ZoneLists}
 
--- what is done with each of some items in turn: an earlier one is done where a later one is refused
+-- a step for each of some items in turn; a refusal of a later one keeps the earlier ones
 abbrev pub one_by_one : {N S : Type 0} → (N → S → Result S Why) → List N → S → Result S Why
 one_by_one step [] s = Ok s
 one_by_one step (n ∷ ns) s = step n s >>= λ t. one_by_one step ns t
 
--- what is done with one of them, which a tolerant machine passes over where something is not there (profile)
+-- a step that a tolerant machine passes over where something is missing (profile)
 abbrev pub passing_over : {N S : Type 0} → Tolerance → (N → S → Result S Why) → N → S → Result S Why
 passing_over t step n s = unless_missing t s (step n s)
 
--- the loop variable, set back by each instruction that obeys it
+-- the loop variable, reset by each instruction that uses it
 abbrev pub set_back : GraphicsState → GraphicsState
 set_back g = record g { loops = 1 }
 
--- what is done with each point that is popped; the last of the list is popped first
+-- a step for each popped point; the last of the list is popped first
 abbrev pub looped : Tolerance → (ℤ → ZoneLists → Result ZoneLists Why) → List ℤ → ZoneLists → GraphicsState
     → Result (ZoneLists × GraphicsState) Why
 looped t step points z g = one_by_one (passing_over t step) (reverse points) z >>= λ w. Ok (w, set_back g)
 
--- what is done with each point whose number is at least one and below another; the first of the list has this number
+-- a step for each point with a number from low to before past; the list begins at number i
 abbrev pub each_from_to : ℕ → ℕ → (ℕ → Point → Result Point Why) → ℕ → List Point → Result (List Point) Why
 each_from_to low past move i [] = Ok []
 each_from_to low past move i (p ∷ ps) =

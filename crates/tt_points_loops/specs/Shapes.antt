@@ -1,4 +1,4 @@
--- No part of the standard: no instruction on several points makes a point or drops one.
+-- No part of the standard: no instruction on several points adds or removes a point.
 use Rattle.std.proofs.Common.{◌≡◌, ℕ, suc, ◌+◌, nat_le, nat_lt, ℤ, unsigned_abs, Bool, true, false, ◌&&◌, if◌then◌else◌, List, [], ◌∷◌, length, reverse, Option, Some, None, Result, Ok, Err, IfOk, ap, refl}
 use Rattle.tt_core.specs.declared.fault.Why.{Why}
 use Rattle.tt_state.specs.Tolerance.{passes_over, unless_missing}
@@ -33,7 +33,7 @@ put_all : (zone : Zone) (ps : List Point) (z : ZoneLists) → length ps ≡ leng
 put_all zone.Twilight ps z many = record { twilight = many; glyph = refl; contours = refl; originals = refl }
 put_all zone.Glyph ps z many = record { twilight = refl; glyph = many; contours = refl; originals = refl }
 
--- nothing is done in the place of a refusal that is passed over
+-- the zones unchanged, in place of a refusal that is passed over
 instead : (b : Bool) (why : Why) (z : ZoneLists) → KeepsShape z (if b then Ok z else Err why)
 instead true why z = same z
 instead false why z = tt

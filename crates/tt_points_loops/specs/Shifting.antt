@@ -38,7 +38,8 @@ reference_number by.Rp2 g = g.rp2
 abbrev pub reference : ReferencePoint → GraphicsState → ZoneLists → Result Point Why
 reference which g z = point_in (reference_zone which g) (reference_number which g) z
 
--- a point moved as far as a reference point stands from where it stood, or only put there, as touched as it was
+-- a point moved by the distance of a reference point from its original place: touched, or with its touches
+-- unchanged
 abbrev pub moved_as : Motion → Point → Point → Result Point Why
 moved_as m r p = moved m (offset m r) p
 
@@ -48,7 +49,7 @@ shifted_as m r p = shifted m (offset m r) p
 abbrev pub follow : Bool → GraphicsState → Point → Point → Result Point Why
 follow touch g r p = direction g >>= λ m. if touch then moved_as m r p else shifted_as m r p
 
--- SHP: points of zp2 are moved as far as the reference point stood from its place before the first of them was moved
+-- SHP: moves points of zp2 by the distance of the reference point from its original place, before the first move
 abbrev pub shift : GraphicsState → Result Point Why → ℤ → ZoneLists → Result ZoneLists Why
 shift g before n z =
     point_in g.zp2 n z >>= λ p. before >>= λ r. follow true g r p >>= λ q. Ok (with_point g.zp2 n q z)
@@ -57,7 +58,7 @@ abbrev pub shp : Tolerance → ReferencePoint → List ℤ → ZoneLists → Gra
     → Result (ZoneLists × GraphicsState) Why
 shp t which points z g = looped t (shift g (reference which g z)) points z g
 
--- the number of the reference point, where it is a point of this zone
+-- the number of the reference point, if it is in this zone
 abbrev pub number_in : Zone → Zone → ℤ → Option ℕ
 number_in zone.Twilight zone.Twilight n = Some (unsigned_abs n)
 number_in zone.Glyph zone.Glyph n = Some (unsigned_abs n)
@@ -68,7 +69,7 @@ abbrev pub is_but : Option ℕ → ℕ → Bool
 is_but None i = false
 is_but (Some n) i = n == i
 
--- a point that follows the reference point, unless it is that point
+-- a point after it follows the reference point, which itself is unchanged
 abbrev pub follow_but : Option ℕ → Bool → GraphicsState → Point → ℕ → Point → Result Point Why
 follow_but but touch g r i p = if is_but but i then Ok p else follow touch g r p
 
@@ -76,12 +77,12 @@ abbrev pub with_points : Zone → List Point → ZoneLists → ZoneLists
 with_points zone.Twilight ps z = record z { twilight = ps }
 with_points zone.Glyph ps z = record z { glyph = ps }
 
--- what is done with each point of a range of a zone
+-- a step for each point of a range of a zone
 abbrev pub follow_in : Zone → ℕ → ℕ → (ℕ → Point → Result Point Why) → ZoneLists → Result ZoneLists Why
 follow_in zone first past move z =
     each_from_to first past move 0 (points_in zone z) >>= λ ps. Ok (with_points zone ps z)
 
--- the points of a range of a zone, but the reference point
+-- the points of a range of a zone after they follow the reference point, which is unchanged
 abbrev pub shift_range : Bool → ReferencePoint → Zone → ℕ × ℕ → ZoneLists → GraphicsState → Result ZoneLists Why
 shift_range touch which zone range z g =
     reference which g z >>= λ r.
@@ -101,7 +102,7 @@ contour_in zone.Glyph c z = contour_at c z.contours
 abbrev pub shc : ReferencePoint → ℤ → ZoneLists → GraphicsState → Result ZoneLists Why
 shc which c z g = contour_in g.zp2 c z >>= λ range. shift_range true which g.zp2 range z g
 
--- where the last contour ends; the points behind it are phantom points
+-- the end of the last contour, where phantom points begin
 abbrev pub end_of : Option (ℕ × ℕ) → ℕ
 end_of None = 0
 end_of (Some contour) = contour.1
@@ -113,7 +114,7 @@ abbrev pub outline_in : Zone → ZoneLists → ℕ × ℕ
 outline_in zone.Twilight z = (0, length z.twilight)
 outline_in zone.Glyph z = (0, contours_end z.contours)
 
--- SHZ: the points of a zone but phantom points, none of them touched by it
+-- SHZ: the points of a zone without its phantom points; it touches none
 unfoldable pub shz : ReferencePoint → ℤ → ZoneLists → GraphicsState → Result ZoneLists Why
 shz which e z g = zone_of e >>= λ zone. shift_range false which zone (outline_in zone z) z g
 
@@ -137,7 +138,7 @@ moved_to org x = record (point org x) { touched_x = true }
 abbrev glyph : List Point → ZoneLists
 glyph ps = record { twilight = []; glyph = ps; contours = (0, 2) ∷ []; originals = in_pixels halves.Up }
 
--- rp2 itself is among the points: it is moved, and the next point by no more than before
+-- rp2 itself is among the points: it moves, but the next point goes no further
 taken_once : shp tolerance.Strict by.Rp2 (pos 1 ∷ pos 0 ∷ [])
     (glyph (point (pos 5) (pos 7) ∷ point (pos 1) (pos 2) ∷ [])) default_state
     ≡ Ok (glyph (moved_to (pos 5) (pos 9) ∷ moved_to (pos 1) (pos 4) ∷ []), default_state)
@@ -179,7 +180,7 @@ nothing_to_move : shc by.Rp2 (pos 0) (glyph (point (pos 5) (pos 7) ∷ []))
     ≡ Ok (glyph (point (pos 5) (pos 7) ∷ []))
 nothing_to_move = refl
 
--- worked values, along a line that rises by 2 in 1: the reference point stood at (0, 100) and stands at (10, 130)
+-- worked values, along a line that rises by 2 in 1: the reference point moved from (0, 100) to (10, 130)
 abbrev along_a_line : GraphicsState
 along_a_line = record (slanted rising) { rp2 = pos 1 }
 

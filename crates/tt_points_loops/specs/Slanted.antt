@@ -7,11 +7,11 @@ use Rattle.tt_state.specs.declared.point.Point.{Point}
 use Rattle.tt_state.specs.declared.vector.Vector.{Vector}
 use Rattle.tt_state.specs.declared.vector.Vector.TheVariants as vector
 
--- along a line that rises by 2 in 1
+-- a vector along a line that rises by 2 in 1
 abbrev pub rising : Vector
 rising = vector.Off (pair (pos 7327) (pos 14654))
 
--- both projection vectors along that line, and a freedom vector
+-- both projection vectors along that line, and a given freedom vector
 abbrev pub slanted : Vector → GraphicsState
 slanted free = record (default_of true) { proj = rising; dual = rising; free = free }
 
@@ -21,7 +21,7 @@ dual_upward =
     let steep = vector.Off (pair (pos 1256) (pos 16335)) in
     record (default_of true) { proj = steep; dual = vector.Y; free = steep }
 
--- a point that stands where it stood
+-- a point at its original place
 abbrev pub still : ℤ → ℤ → Point
 still x y = record {
   units_x = pos 0;
@@ -35,11 +35,11 @@ still x y = record {
   on = true;
 }
 
--- a point that stood at (0, 100) and stands at (10, 130)
+-- a point moved from (0, 100) to (10, 130)
 abbrev pub risen : Point
 risen = record (still (pos 0) (pos 100)) { x = pos 10; y = pos 130 }
 
--- a point that stands where it stood, and the same point moved to a place, and touched along x and along y
+-- a point at its original place, and the same point moved, with its touches along x and along y
 abbrev pub at_first : Point
 at_first = still (pos 50) (pos 90)
 

@@ -1,5 +1,5 @@
--- No part of the standard: refusals that the instructions on several points do not have. Where the machine is tolerant,
--- they are never refused for something that is not there. None of them is ever short of values.
+-- No part of the standard: refusals that cannot come from instructions on several points. A tolerant machine never
+-- refuses them for a missing thing. They never fail with too few values.
 use Rattle.std.proofs.Common.{◌≡◌, ℕ, suc, ◌+◌, nat_le, nat_lt, ℤ, pos, int_lt, unsigned_abs, slice_get, ◌-ℤ◌, Bool, true, false, ◌&&◌, ◌||◌, if◌then◌else◌, List, [], ◌∷◌, length, reverse, Option, Some, None, Result, Ok, Err, refl}
 use Rattle.std.specs.Option.{ok_or}
 use Rattle.std.specs.Ordering.{int_eq}
@@ -35,7 +35,7 @@ use Rattle.tt_points_loops.specs.Flipping as flipping
 use Rattle.tt_points_loops.specs.Moving as moving
 use Rattle.tt_points_loops.specs.Shifting as shifting
 
--- nor is it refused for something that is not there
+-- nor is it refused for a missing thing
 not_missing : (missing short : Bool) → (missing || short) ≡ false → missing ≡ false
 not_missing false short never = refl
 not_missing true short never = absurd cc
@@ -72,7 +72,7 @@ pub followed_total : (first past : ℕ) (but : Option ℕ) (touch : Bool) (g : G
 followed_total first past but touch g r ps =
     each_total first past (follow_but but touch g r) (follow_but_total but touch g r) 0 ps
 
--- one after the other, and looped
+-- steps one after another, and loops
 series : {N S : Type 0} (step : N → S → Result S Why) → ((n : N) (s : S) → IsTotal (step n s)) → (ns : List N) (s : S)
     → IsTotal (one_by_one step ns s)
 series step total [] s = record {}
@@ -90,7 +90,7 @@ loop step enough points z g =
     total_after (one_by_one (passing_over tolerance.Tolerant step) (reverse points) z) (λ w. Ok (w, set_back g))
     (passing step enough (reverse points) z) (λ w. record {})
 
--- one point in the place of another
+-- a point replaced
 pub put_enough : (zone : Zone) (n : ℤ) (z : ZoneLists) (r : Result Point Why) → Enough r
     → Enough (r >>= λ q. Ok (with_point zone n q z))
 put_enough zone n z r enough = enough_after r (λ q. Ok (with_point zone n q z)) enough (λ q. record {})

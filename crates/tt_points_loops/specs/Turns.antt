@@ -1,4 +1,4 @@
--- No part of the standard: laws of pairs of a list, and of items taken in turn, the last of a list first.
+-- No part of the standard: laws of pairs of a list, and of items in turn, from the last of a list.
 use Rattle.std.proofs.Common.{◌≡◌, ℕ, zero, suc, ◌+◌, ◌*◌, ◌/◌, ◌<◌, ℤ, pos, List, [], ◌∷◌, length, take, get_or, reverse, Result, Ok, Err, ◌∙◌, sym, refl, arith}
 use Rattle.std.proofs.lemmas.List.{reverse-append, take_more}
 use Rattle.tt_core.specs.Outcomes.{◌>>=◌}
@@ -6,14 +6,14 @@ use Rattle.tt_core.specs.declared.fault.Why.{Why}
 use Rattle.tt_points_loops.specs.Deltas.{pairs_of}
 use Rattle.tt_points_loops.specs.Series.{one_by_one}
 
--- what is left to do, with the last of what is left taken first
+-- the remaining items, from the last one
 taken : {N S : Type 0} (step : N → S → Result S Why) (xs : List N) (i : ℕ) (d : N) (z : S)
     → i < length xs → one_by_one step (reverse (take (i + 1) xs)) z
     ≡ (step (get_or xs i d) z >>= λ w. one_by_one step (reverse (take i xs)) w)
 taken step xs i d z within =
     rw (take_more xs i d within, reverse-append (take i xs) (get_or xs i d ∷ [])) refl
 
--- the same, where the step came through
+-- the remaining items after a step that succeeds
 pub went_on : {N S : Type 0} (step : N → S → Result S Why) (xs : List N) (left i : ℕ) (d : N)
     (z w : S) (whole : Result S Why) → left ≡ i + 1 → i < length xs
     → one_by_one step (reverse (take left xs)) z ≡ whole → step (get_or xs i d) z ≡ Ok w
@@ -23,7 +23,7 @@ went_on step xs left i d z w whole next within so_far came =
     taken step xs i d z within ∙ rw came refl in
     sym one ∙ rw next at so_far
 
--- the same, where it was refused
+-- the remaining items after a step that is refused
 pub broke_off : {N S : Type 0} (step : N → S → Result S Why) (xs : List N) (left i : ℕ) (d : N)
     (z : S) (e : Why) (whole : Result S Why) → left ≡ i + 1 → i < length xs
     → one_by_one step (reverse (take left xs)) z ≡ whole → step (get_or xs i d) z ≡ Err e → whole ≡ Err e
@@ -31,7 +31,7 @@ broke_off step xs left i d z e whole next within so_far came =
     let one : one_by_one step (reverse (take (i + 1) xs)) z ≡ Err e = taken step xs i d z within ∙ rw came refl in
     sym (rw next at so_far) ∙ one
 
--- how many pairs there are, and which
+-- the count of pairs, and pair i
 pub pairs_count : (xs : List ℤ) → length (pairs_of xs) ≡ length xs / 2
 pairs_count [] = refl
 pairs_count (a ∷ []) = refl

@@ -1,5 +1,5 @@
--- No part of the standard: what an instruction on several points gives without the whole instruction set it gives with
--- it too.
+-- No part of the standard: an instruction on several points that succeeds without the whole instruction set gives
+-- the same result with it.
 use Rattle.std.proofs.Common.{ℕ, suc, nat_le, nat_lt, ℤ, ◌-ℤ◌, Bool, true, false, ◌&&◌, if◌then◌else◌, List, [], ◌∷◌, reverse, Option, Some, None, Result, Ok, refl}
 use Rattle.tt_core.specs.Outcomes.{◌>>=◌}
 use Rattle.tt_core.specs.declared.fault.Why.{Why}
@@ -25,14 +25,14 @@ use Rattle.tt_points_loops.specs.Flipping as flipping
 use Rattle.tt_points_loops.specs.Moving as moving
 use Rattle.tt_points_loops.specs.Shifting as shifting
 
--- one point in the place of another
+-- a point replaced
 put : (zone : Zone) (n : ℤ) (z : ZoneLists) (r with : Result Point Why) → StaysSame r with
     → StaysSame (r >>= λ q. Ok (with_point zone n q z)) (with >>= λ q. Ok (with_point zone n q z))
 put zone n z r with stays =
     chained (λ q. q) (λ w. w) r with (λ q. Ok (with_point zone n q z)) (λ q. Ok (with_point zone n q z)) stays
     (λ q. refl)
 
--- one after the other, and looped
+-- steps one after another, and loops
 series : {N S : Type 0} (step all : N → S → Result S Why) → ((n : N) (s : S) → StaysSame (step n s) (all n s))
     → (ns : List N) (s : S) → StaysSame (one_by_one step ns s) (one_by_one all ns s)
 series step all stays [] s = refl

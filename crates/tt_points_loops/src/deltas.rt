@@ -1,4 +1,4 @@
-//! Exceptions at single sizes: DELTAP1 to DELTAP3, and what they share with DELTAC1 to DELTAC3. Apple TrueType
+//! Exceptions at single sizes: DELTAP1 to DELTAP3, with rules that DELTAC1 to DELTAC3 share. Apple TrueType
 //! Reference Manual, "Instruction set": managing exceptions. Distances are in 26.6 pixels, sizes in pixels per em.
 
 ghost use Rattle.std.specs.Prelude.{◌≡◌, Some, get_or, ◌*◌, ◌+◌, ◌<◌, ◌≤◌, pos, ◌*ℤ◌, ◌≤ℤ◌, unsigned_abs};
@@ -12,7 +12,7 @@ use tt_core::Why;
 use tt_points_zones::{Motion, Zones, may_move};
 use tt_state::{GraphicsState, Tolerance};
 
-/// Which 16 sizes above the delta base an instruction is for: DELTAP1 and DELTAC1 have the first ones.
+/// The 16 sizes of an instruction, counted from the delta base. DELTAP1 and DELTAC1 have the first ones.
 #[derive(Clone, Copy)]
 pub enum DeltaRange {
     First,
@@ -20,7 +20,7 @@ pub enum DeltaRange {
     Third,
 }
 
-/// How far above the delta base the sizes of a range begin, in pixels per em.
+/// The distance of a range's first size from the delta base, in pixels per em.
 fn sizes_passed(range: DeltaRange) -> i64
     ensures exact { result ≡ is.sizes_passed range }
     ensures low { pos 0 ≤ℤ result }
@@ -76,7 +76,7 @@ fn product(steps: i32, step: i32) -> i32
     steps * step
 }
 
-/// The exception of a byte at its size.
+/// The move that a byte requests at its size.
 fn exception(argument: u8, state: &GraphicsState) -> i32
     ensures exact { result ≡ is.steps_of argument *ℤ is.step_of state.now }
     ensures bound { unsigned_abs result ≤ 512 }
@@ -84,7 +84,8 @@ fn exception(argument: u8, state: &GraphicsState) -> i32
     product(steps_of(argument), step_of(state))
 }
 
-/// An argument as a byte: its low byte, where the machine is tolerant. Error: BadArgument where it is no byte.
+/// An argument as a byte. A tolerant machine takes the low byte. Error: BadArgument, for an argument that is no
+/// byte.
 fn byte_of(tolerance: Tolerance, argument: i32) -> Result<u8, Why>
     ensures { Gives (λ b. b) result (is.byte_of tolerance argument) }
 {
@@ -94,8 +95,8 @@ fn byte_of(tolerance: Tolerance, argument: i32) -> Result<u8, Why>
     }
 }
 
-/// What a DELTAP and a DELTAC instruction make of an argument: a distance in 26.6 pixels of 1 to 8 steps to either
-/// side; None where the argument is for another size than `ppem`. Error: BadArgument where it is no byte, unless the
+/// The move that an argument of DELTAP or DELTAC requests at `ppem`: 1 to 8 steps to either side, in 26.6 pixels.
+/// None where the argument is for another size. Error: BadArgument, for an argument that is no byte, unless the
 /// machine is tolerant.
 pub fn delta_of(
     tolerance: Tolerance,
@@ -114,7 +115,7 @@ pub fn delta_of(
     Ok(Some(exception(argument, state)))
 }
 
-/// A point of zp0 is moved by an exception.
+/// Moves a point of zp0 by `d`. Errors: PointRange, Perpendicular, ValueRange.
 fn move_by(zones: &mut Zones, state: &GraphicsState, d: i32, n: i32) -> Result<(), Why>
     requires zones { IsZones (zones_view zones.old) }
     ensures exact { Gives (λ u. zones_view zones.new) result (is.move_by (Some d) state.now n (zones_view zones.old)) }
@@ -129,7 +130,7 @@ fn move_by(zones: &mut Zones, state: &GraphicsState, d: i32, n: i32) -> Result<(
     Ok(())
 }
 
-/// Pair `i` of arguments and points.
+/// Applies pair `i` of an argument and a point. Errors: BadArgument, PointRange, Perpendicular, ValueRange.
 fn except(
     zones: &mut Zones,
     state: &GraphicsState,
@@ -153,7 +154,7 @@ fn except(
     }
 }
 
-/// The same, passed over by a tolerant machine where the point is not there.
+/// Applies a pair as `except` does. A tolerant machine passes over a missing point.
 fn except_or_pass(
     zones: &mut Zones,
     state: &GraphicsState,
@@ -176,9 +177,9 @@ fn except_or_pass(
     }
 }
 
-/// DELTAP1[], DELTAP2[] and DELTAP3[]: pairs of an argument and a point of zp0 -> each point is moved by the exception
-/// that its argument is at `ppem` pixels per em, if it is one. The last pair comes first. A tolerant machine passes
-/// over each point that is not there. Errors: BadArgument, PointRange, Perpendicular, ValueRange.
+/// DELTAP1[], DELTAP2[] and DELTAP3[], 0x5D, 0x71 and 0x72: pairs of an argument and a point of zp0 -> moves each
+/// point as its argument requests at `ppem` pixels per em. The last pair comes first. A tolerant machine passes
+/// over each missing point. Errors: BadArgument, PointRange, Perpendicular, ValueRange.
 pub fn deltap(
     zones: &mut Zones,
     state: &GraphicsState,

@@ -1,5 +1,5 @@
 //! Points on the curve and off it: FLIPPT, FLIPRGON, FLIPRGOFF. Apple TrueType Reference Manual, "Instruction set":
-//! managing outlines. They work on the glyph's points, wherever the zone pointers point (profile).
+//! managing outlines. They use the glyph zone, whatever the zone pointers (profile).
 
 ghost use Rattle.std.specs.Prelude.{◌≡◌, ◌≤◌, Ok, All, IfErr, length, reverse};
 ghost use Rattle.tt_core.specs.Outcomes.{Gives};
@@ -11,7 +11,7 @@ use tt_core::Why;
 use tt_points_zones::Zones;
 use tt_state::{GraphicsState, Point, Tolerance, Zone};
 
-/// One point on the curve is off it, or the other way.
+/// Flips a point of the glyph: on the curve, or off it. Error: PointRange.
 fn flip(zones: &mut Zones, n: i32) -> Result<(), Why>
     requires { IsZones (zones_view zones.old) }
     ensures exact { Gives (λ u. zones_view zones.new) result (is.flip n (zones_view zones.old)) }
@@ -23,7 +23,7 @@ fn flip(zones: &mut Zones, n: i32) -> Result<(), Why>
     Ok(())
 }
 
-/// The same, passed over by a tolerant machine where the point is not there.
+/// Flips a point of the glyph. A tolerant machine passes over a missing point. Error: PointRange.
 fn flip_or_pass(zones: &mut Zones, tolerance: Tolerance, n: i32) -> Result<(), Why>
     requires { IsZones (zones_view zones.old) }
     ensures exact { Gives (λ u. zones_view zones.new) result (passing_over tolerance is.flip n (zones_view zones.old)) }
@@ -47,8 +47,8 @@ fn flip_all(zones: &mut Zones, tolerance: Tolerance, numbers: &[i32]) -> Result<
     Ok(())
 }
 
-/// FLIPPT[]: loop points -> each is off the curve where it was on it, and the other way. A tolerant machine passes over
-/// each that is not there. Error: PointRange.
+/// FLIPPT[], 0x80: loop points -> flips each point: on the curve, or off it. A tolerant machine passes over each
+/// missing point. Error: PointRange.
 pub fn flippt(
     zones: &mut Zones,
     state: &mut GraphicsState,
@@ -85,7 +85,8 @@ fn put_all_on(points: &mut [Point], low: usize, past: usize, on: bool)
     }
 }
 
-/// Both ends are points, in whatever order. Error: PointRange.
+/// Puts the points from `low` to `high` on the curve or off it. Both ends have to exist, in either order. Error:
+/// PointRange.
 fn flip_range(zones: &mut Zones, low: i32, high: i32, on: bool) -> Result<(), Why>
     requires { IsZones (zones_view zones.old) }
     ensures exact { Gives (λ u. zones_view zones.new) result (is.flip_range on low high (zones_view zones.old)) }
@@ -98,7 +99,7 @@ fn flip_range(zones: &mut Zones, low: i32, high: i32, on: bool) -> Result<(), Wh
     Ok(())
 }
 
-/// FLIPRGON[]: low, high -> the points of the range are on the curve. Error: PointRange.
+/// FLIPRGON[], 0x81: low, high -> puts the points of the range on the curve. Error: PointRange.
 pub fn fliprgon(zones: &mut Zones, low: i32, high: i32) -> Result<(), Why>
     requires { IsZones (zones_view zones.old) }
     ensures exact { Gives (λ u. zones_view zones.new) result (is.fliprgon low high (zones_view zones.old)) }
@@ -108,7 +109,7 @@ pub fn fliprgon(zones: &mut Zones, low: i32, high: i32) -> Result<(), Why>
     flip_range(zones, low, high, true)
 }
 
-/// FLIPRGOFF[]: low, high -> the points of the range are off the curve. Error: PointRange.
+/// FLIPRGOFF[], 0x82: low, high -> puts the points of the range off the curve. Error: PointRange.
 pub fn fliprgoff(zones: &mut Zones, low: i32, high: i32) -> Result<(), Why>
     requires { IsZones (zones_view zones.old) }
     ensures exact { Gives (λ u. zones_view zones.new) result (is.fliprgoff low high (zones_view zones.old)) }

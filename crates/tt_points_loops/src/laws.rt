@@ -1,5 +1,5 @@
-//! What the instructions on several points leave as it is, what they give with the whole instruction set, and what
-//! where the machine is tolerant.
+//! Laws of the instructions on several points: what they leave unchanged, the whole instruction set, and the
+//! tolerant machine.
 
 ghost use Rattle.tt_state.specs.declared.graphics_state.GraphicsState.{GraphicsState};
 ghost use Rattle.tt_points_zones.specs.Zones.{ZoneLists};
@@ -8,22 +8,22 @@ ghost use Rattle.tt_points_loops.specs.Shapes.{ShapeIsKept};
 ghost use Rattle.tt_points_loops.specs.Total.{SeveralTotal};
 ghost use Rattle.tt_points_loops.specs.WithAll.{SeveralStay};
 
-/// Takes nothing and gives nothing: no instruction makes a point or drops one.
+/// Lemma: no instruction on several points adds or removes a point.
 pub fn shape_is_kept()
     ensures { (z : ZoneLists) (g : GraphicsState) → ShapeIsKept z g }
 {}
 
-/// What an instruction gives without the whole instruction set it gives with it too.
+/// Lemma: an instruction that succeeds without the whole instruction set gives the same result with it.
 pub fn several_stay()
     ensures { (z : ZoneLists) (g : GraphicsState) → SeveralStay z g }
 {}
 
-/// What a strict machine gives a tolerant one gives too, unless it is a refusal that tolerance lifts.
+/// Lemma: a tolerant machine gives the result of a strict one, unless that is a refusal that tolerance lifts.
 pub fn several_loosened()
     ensures { (z : ZoneLists) (g : GraphicsState) → SeveralLoosened z g }
 {}
 
-/// A tolerant machine refuses none of them for something that is not there, nor for values that are not.
+/// Lemma: a tolerant machine refuses no instruction on several points for a missing thing or for too few values.
 pub fn several_total()
     ensures { (z : ZoneLists) (g : GraphicsState) → SeveralTotal z g }
 {}

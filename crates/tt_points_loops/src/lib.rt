@@ -1,4 +1,4 @@
-//! The instructions that work on several points: aligned, interpolated, shifted, flipped, and moved at single sizes.
+//! Instructions that work on several points: they align, interpolate, shift, flip, or move them at single sizes.
 #![tactic(auto)]
 
 pub mod deltas;

@@ -13,7 +13,7 @@ use tt_core::{Scale, Why, quotient};
 use tt_points_zones::{Distance, Motion, Originals, Zones, may_move, product};
 use tt_state::{GraphicsState, Point, Tolerance, Zone};
 
-/// A distance that a point is moved by. Error: ValueRange.
+/// The point moved by a distance along the projection vector. Error: ValueRange.
 fn moved_by(p: Point, m: &Motion, by: Distance) -> Result<Point, Why>
     requires point { IsPoint p }
     requires small { unsigned_abs by.0 < 2 ^ 47 }
@@ -23,7 +23,7 @@ fn moved_by(p: Point, m: &Motion, by: Distance) -> Result<Point, Why>
     m.moved(p, by.0)
 }
 
-/// The point moved to where another stands. Error: ValueRange.
+/// The point `p` moved to the current place of `r`, along the projection vector. Error: ValueRange.
 fn moved_to(p: Point, r: Point, m: &Motion) -> Result<Point, Why>
     requires p { IsPoint p }
     requires r { IsPoint r }
@@ -33,7 +33,8 @@ fn moved_to(p: Point, r: Point, m: &Motion) -> Result<Point, Why>
     moved_by(p, m, m.current_distance(p, r))
 }
 
-/// The same by the vectors of the graphics state. Errors: Perpendicular, ValueRange.
+/// The point `p` moved to the current place of `r`, by the vectors of the graphics state. Errors: Perpendicular,
+/// ValueRange.
 fn aligned(p: Point, r: Point, state: &GraphicsState) -> Result<Point, Why>
     requires p { IsPoint p }
     requires r { IsPoint r }
@@ -45,7 +46,7 @@ fn aligned(p: Point, r: Point, state: &GraphicsState) -> Result<Point, Why>
     moved_to(p, r, &motion)
 }
 
-/// A point of zp1 is moved to rp0.
+/// Moves a point of zp1 to rp0. Errors: PointRange, Perpendicular, ValueRange.
 fn align(zones: &mut Zones, state: &GraphicsState, n: i32) -> Result<(), Why>
     requires { IsZones (zones_view zones.old) }
     ensures exact { Gives (λ u. zones_view zones.new) result (is.align state.now n (zones_view zones.old)) }
@@ -59,7 +60,7 @@ fn align(zones: &mut Zones, state: &GraphicsState, n: i32) -> Result<(), Why>
     Ok(())
 }
 
-/// The same, passed over by a tolerant machine where something is not there.
+/// Moves a point of zp1 to rp0. A tolerant machine passes over the point where either is missing.
 fn align_or_pass(
     zones: &mut Zones,
     state: &GraphicsState,
@@ -94,8 +95,8 @@ fn align_all(
     Ok(())
 }
 
-/// ALIGNRP[]: loop points of zp1 -> each is moved to where rp0, in zp0, stands. A tolerant machine passes over each for
-/// which something is not there. Errors: PointRange, Perpendicular, ValueRange.
+/// ALIGNRP[], 0x3C: loop points of zp1 -> moves each point to the current place of rp0, in zp0. A tolerant machine
+/// passes over each point that is missing or has no rp0. Errors: PointRange, Perpendicular, ValueRange.
 pub fn alignrp(
     zones: &mut Zones,
     state: &mut GraphicsState,
@@ -112,7 +113,7 @@ pub fn alignrp(
     Ok(())
 }
 
-/// How far a point stood from another: in font units where the originals have a scale, or in 26.6.
+/// The original distance between two points: in font units where the originals have a scale, otherwise in 26.6.
 fn unscaled(scale: Option<Scale>, m: &Motion, from: Point, to: Point) -> Distance
     requires from { IsPoint from }
     requires to { IsPoint to }
@@ -134,7 +135,7 @@ fn difference(a: Distance, b: Distance) -> Distance
     Distance(a.0 - b.0)
 }
 
-/// How far from the first of two others a point stands that keeps its place between them.
+/// The distance from `a` at which `p` has its original share of the way from `a` to `b`.
 fn interpolated(by: Originals, p: Point, a: Point, b: Point, m: &Motion) -> Distance
     requires scale { IfSome by.units IsScale }
     requires p { IsPoint p }
@@ -152,7 +153,7 @@ fn interpolated(by: Originals, p: Point, a: Point, b: Point, m: &Motion) -> Dist
     Distance(quotient(by.halves, product(o, now), range.0))
 }
 
-/// The point moved to where it keeps its place between two others.
+/// The point moved to its original share of the way from `a` to `b`. Error: ValueRange.
 fn moved_between(by: Originals, p: Point, a: Point, b: Point, m: &Motion) -> Result<Point, Why>
     requires scale { IfSome by.units IsScale }
     requires p { IsPoint p }
@@ -169,7 +170,8 @@ fn moved_between(by: Originals, p: Point, a: Point, b: Point, m: &Motion) -> Res
     )
 }
 
-/// The same by the vectors of the graphics state. Errors: Perpendicular, ValueRange.
+/// The point moved to its original share of the way, by the vectors of the graphics state. Errors: Perpendicular,
+/// ValueRange.
 fn kept_between(
     by: Originals,
     p: Point,
@@ -189,8 +191,8 @@ fn kept_between(
     moved_between(by, p, a, b, &motion)
 }
 
-/// The second of the points between which others keep their places; a tolerant machine takes the first one, `a`, where
-/// it is not there. Error: PointRange.
+/// The second end of IP's range, rp2 in zp1. A tolerant machine takes the first end, `a`, in place of a missing
+/// point. Error: PointRange.
 fn other_end(
     zones: &Zones,
     state: &GraphicsState,
@@ -208,7 +210,8 @@ fn other_end(
     }
 }
 
-/// How originals are measured among the points of three zones: in 26.6 where one of these is the twilight zone.
+/// The measure of the original places among the points of three zones: in 26.6 if one of these is the twilight
+/// zone.
 fn originals_among(zones: &Zones, state: &GraphicsState) -> Originals
     requires { IsZones (zones_view zones.now) }
     ensures scale { result.units ≡ is.scale_among state.now (zones_view zones.now) }
@@ -225,7 +228,7 @@ fn originals_among(zones: &Zones, state: &GraphicsState) -> Originals
     }
 }
 
-/// The point moved to where it keeps its place between rp1 and rp2. Errors: PointRange, Perpendicular, ValueRange.
+/// The point moved to its original share of the way from rp1 to rp2. Errors: PointRange, Perpendicular, ValueRange.
 fn in_between(
     zones: &Zones,
     state: &GraphicsState,
@@ -242,7 +245,8 @@ fn in_between(
     kept_between(originals_among(zones, state), p, a, b, state)
 }
 
-/// A point of zp2 keeps its place between rp1 and rp2.
+/// Moves a point of zp2 to its original share of the way from rp1 to rp2. Errors: PointRange, Perpendicular,
+/// ValueRange.
 fn interpolate(
     zones: &mut Zones,
     state: &GraphicsState,
@@ -261,7 +265,7 @@ fn interpolate(
     Ok(())
 }
 
-/// The same, passed over by a tolerant machine where something is not there.
+/// Moves a point as `interpolate` does. A tolerant machine passes over the point where something is missing.
 fn interpolate_or_pass(
     zones: &mut Zones,
     state: &GraphicsState,
@@ -297,9 +301,9 @@ fn interpolate_all(
     Ok(())
 }
 
-/// IP[]: loop points of zp2 -> each is moved to where it keeps its place between rp1, in zp0, and rp2, in zp1. A
-/// tolerant machine takes rp1 for an rp2 that is not there, and passes over each point for which something else is not.
-/// Errors: PointRange, Perpendicular, ValueRange.
+/// IP[], 0x39: loop points of zp2 -> moves each point to its original share of the way from rp1, in zp0, to rp2, in
+/// zp1. A tolerant machine uses rp1 in place of a missing rp2, and passes over each point that is missing or has no
+/// rp1. Errors: PointRange, Perpendicular, ValueRange.
 pub fn ip(
     zones: &mut Zones,
     state: &mut GraphicsState,
@@ -316,7 +320,7 @@ pub fn ip(
     Ok(())
 }
 
-/// The point moved along the freedom vector.
+/// The point moved along the freedom vector. Error: ValueRange.
 fn pushed(p: Point, by: Distance, state: &GraphicsState) -> Result<Point, Why>
     requires point { IsPoint p }
     requires small { unsigned_abs by.0 ≤ 2 ^ 32 }
@@ -326,7 +330,7 @@ fn pushed(p: Point, by: Distance, state: &GraphicsState) -> Result<Point, Why>
     Motion::of(state).moved_along(p, by.0)
 }
 
-/// A point of zp2 is moved along the freedom vector.
+/// Moves a point of zp2 along the freedom vector. Errors: PointRange, ValueRange.
 fn push(zones: &mut Zones, state: &GraphicsState, by: Distance, n: i32) -> Result<(), Why>
     requires zones { IsZones (zones_view zones.old) }
     requires small { unsigned_abs by.0 ≤ 2 ^ 32 }
@@ -340,7 +344,7 @@ fn push(zones: &mut Zones, state: &GraphicsState, by: Distance, n: i32) -> Resul
     Ok(())
 }
 
-/// The same, passed over by a tolerant machine where something is not there.
+/// Moves a point as `push` does. A tolerant machine passes over a missing point.
 fn push_or_pass(
     zones: &mut Zones,
     state: &GraphicsState,
@@ -379,8 +383,8 @@ fn push_all(
     Ok(())
 }
 
-/// SHPIX[]: loop points of zp2, amount -> each is moved by the amount along the freedom vector. A tolerant machine
-/// passes over each that is not there. Errors: PointRange, ValueRange.
+/// SHPIX[], 0x38: loop points of zp2, amount -> moves each point by the amount along the freedom vector. A tolerant
+/// machine passes over each missing point. Errors: PointRange, ValueRange.
 pub fn shpix(
     zones: &mut Zones,
     state: &mut GraphicsState,

@@ -14,7 +14,7 @@ use tt_core::Why;
 use tt_points_zones::{Motion, Zones, may_move, zone_of};
 use tt_state::{GraphicsState, Point, Tolerance, Zone};
 
-/// Which reference point others follow.
+/// The reference point that others follow.
 #[derive(Clone, Copy)]
 pub enum ReferencePoint {
     /// Reference point 1, in zone pointer 0.
@@ -43,7 +43,7 @@ pub fn reference_number(state: &GraphicsState, which: ReferencePoint) -> i32
     }
 }
 
-/// The reference point. Error: PointRange.
+/// The reference point itself. Error: PointRange.
 fn reference(zones: &Zones, state: &GraphicsState, which: ReferencePoint) -> Result<Point, Why>
     requires { IsZones (zones_view zones.now) }
     ensures exact { Gives (λ p. p) result (is.reference which state.now (zones_view zones.now)) }
@@ -53,7 +53,7 @@ fn reference(zones: &Zones, state: &GraphicsState, which: ReferencePoint) -> Res
     zones.point(reference_zone(state, which), reference_number(state, which))
 }
 
-/// The point moved as far as a reference point stands from where it stood.
+/// The point moved by the distance of `r` from its original place, and touched. Error: ValueRange.
 fn moved_as(p: Point, r: Point, m: &Motion) -> Result<Point, Why>
     requires p { IsPoint p }
     requires r { IsPoint r }
@@ -63,7 +63,7 @@ fn moved_as(p: Point, r: Point, m: &Motion) -> Result<Point, Why>
     m.moved(p, m.offset(r))
 }
 
-/// The same, as touched as it was.
+/// The point moved by the distance of `r` from its original place. Its touches are unchanged. Error: ValueRange.
 fn shifted_as(p: Point, r: Point, m: &Motion) -> Result<Point, Why>
     requires p { IsPoint p }
     requires r { IsPoint r }
@@ -73,7 +73,8 @@ fn shifted_as(p: Point, r: Point, m: &Motion) -> Result<Point, Why>
     m.shifted(p, m.offset(r))
 }
 
-/// The point that follows a reference point, touched by it or not. Errors: Perpendicular, ValueRange.
+/// The point moved as its reference point was. `touch` says whether it is touched. Errors: Perpendicular,
+/// ValueRange.
 fn follow(p: Point, r: Point, touch: bool, state: &GraphicsState) -> Result<Point, Why>
     requires p { IsPoint p }
     requires r { IsPoint r }
@@ -89,7 +90,7 @@ fn follow(p: Point, r: Point, touch: bool, state: &GraphicsState) -> Result<Poin
     }
 }
 
-/// A point of zp2 follows a reference point as that stood before the first of them was moved.
+/// Moves a point of zp2 as its reference point was. `before` is that point before the first move.
 fn shift(
     zones: &mut Zones,
     state: &GraphicsState,
@@ -108,7 +109,7 @@ fn shift(
     Ok(())
 }
 
-/// The same, passed over by a tolerant machine where something is not there.
+/// Moves a point as `shift` does. A tolerant machine passes over the point where something is missing.
 fn shift_or_pass(
     zones: &mut Zones,
     state: &GraphicsState,
@@ -147,8 +148,9 @@ fn shift_all(
     Ok(())
 }
 
-/// SHP[a]: loop points of zp2 -> each is moved as far as the reference point stands from its original. A tolerant
-/// machine passes over each for which something is not there. Errors: PointRange, Perpendicular, ValueRange.
+/// SHP[a], 0x32 and 0x33: loop points of zp2 -> moves each point by the distance of the reference point from its
+/// original place. A tolerant machine passes over each point that is missing or has no reference point. Errors:
+/// PointRange, Perpendicular, ValueRange.
 pub fn shp(
     zones: &mut Zones,
     state: &mut GraphicsState,
@@ -167,7 +169,7 @@ pub fn shp(
     Ok(())
 }
 
-/// The number of a point of one zone, where that is the other zone.
+/// The number `n` of a point of the zone `of`, if that zone is `zone`.
 fn number_in(zone: Zone, of: Zone, n: i32) -> Option<usize>
     requires { pos 0 ≤ℤ n }
     ensures { result ≡ is.number_in zone of n }
@@ -178,16 +180,17 @@ fn number_in(zone: Zone, of: Zone, n: i32) -> Option<usize>
     }
 }
 
-/// Points follow a reference point, which is perhaps one of their zone.
+/// A reference point, and how others follow it.
 #[derive(Clone, Copy)]
 struct Leader {
     reference: Point,
-    /// The reference point's number, where it is one of the zone.
+    /// The number of the reference point, if it is in their zone. It doesn't follow itself.
     but: Option<usize>,
     touch: bool,
 }
 
-/// Point `i`, unless it is the reference point. Errors: Perpendicular, ValueRange.
+/// Point `i` after it follows the reference point. That point itself is unchanged. Errors: Perpendicular,
+/// ValueRange.
 fn follow_but(p: Point, i: usize, by: Leader, state: &GraphicsState) -> Result<Point, Why>
     requires p { IsPoint p }
     requires reference { IsPoint by.reference }
@@ -200,7 +203,7 @@ fn follow_but(p: Point, i: usize, by: Leader, state: &GraphicsState) -> Result<P
     follow(p, by.reference, by.touch, state)
 }
 
-/// The points of a range, but the reference point. Errors: Perpendicular, ValueRange.
+/// Moves the points of a range, except the reference point. Errors: Perpendicular, ValueRange.
 fn follow_all(
     points: &mut [Point],
     first: usize,
@@ -231,7 +234,8 @@ struct Range {
     past: usize,
 }
 
-/// The points of a range, but the reference point. Errors: PointRange, Perpendicular, ValueRange.
+/// Moves the points of a range of a zone, except the reference point. Errors: PointRange, Perpendicular,
+/// ValueRange.
 fn shift_range(
     zones: &mut Zones,
     state: &GraphicsState,
@@ -263,7 +267,7 @@ fn shift_range(
     }
 }
 
-/// A contour of the glyph. Error: ContourRange.
+/// The range of points of a contour of the glyph. Error: ContourRange.
 fn contour_at(contours: &[(u32, u32)], c: i32) -> Result<(usize, usize), Why>
     ensures exact { Gives (λ r. r) result (is.contour_at c contours.now) }
     ensures past { (n : ℕ) → AreContours 0 contours.now n → IfOk result (λ r. r.1 ≤ n) }
@@ -275,7 +279,7 @@ fn contour_at(contours: &[(u32, u32)], c: i32) -> Result<(usize, usize), Why>
     Ok((first as usize, past as usize))
 }
 
-/// A contour of a zone. The twilight zone is contour 0 (profile). Error: ContourRange.
+/// The range of points of a contour of a zone. The twilight zone is contour 0 (profile). Error: ContourRange.
 fn contour_in(zones: &Zones, zone: Zone, c: i32) -> Result<Range, Why>
     requires { IsZones (zones_view zones.now) }
     ensures exact { Gives (λ r. (r.first, r.past)) result (is.contour_in zone c (zones_view zones.now)) }
@@ -296,8 +300,9 @@ fn contour_in(zones: &Zones, zone: Zone, c: i32) -> Result<Range, Why>
     }
 }
 
-/// SHC[a]: contour of zp2 -> its points are moved as far as the reference point stands from its original,
-/// all but the reference point. Errors: ContourRange, PointRange, Perpendicular, ValueRange.
+/// SHC[a], 0x34 and 0x35: contour of zp2 -> moves its points by the distance of the reference point from its
+/// original place. The reference point itself is unchanged. Errors: ContourRange, PointRange, Perpendicular,
+/// ValueRange.
 pub fn shc(
     zones: &mut Zones,
     state: &GraphicsState,
@@ -313,7 +318,7 @@ pub fn shc(
     shift_range(zones, state, which, range, true)
 }
 
-/// Where the last contour ends; the points behind it are phantom points.
+/// The end of the last contour, where phantom points begin.
 fn contours_end(contours: &[(u32, u32)]) -> usize
     ensures exact { result ≡ is.contours_end contours.now }
     ensures past { (n : ℕ) → AreContours 0 contours.now n → result ≤ n }
@@ -324,7 +329,7 @@ fn contours_end(contours: &[(u32, u32)]) -> usize
     }
 }
 
-/// The points of a zone but phantom points.
+/// The points of a zone without its phantom points.
 fn outline_in(zones: &Zones, zone: Zone) -> Range
     requires { IsZones (zones_view zones.now) }
     ensures exact { (result.first, result.past) ≡ is.outline_in zone (zones_view zones.now) }
@@ -342,8 +347,9 @@ fn outline_in(zones: &Zones, zone: Zone) -> Range
     }
 }
 
-/// SHZ[a]: zone -> its points but phantom points go as far as the reference point stands from its original, all but the
-/// reference point. None is touched by it. Errors: ZoneRange, PointRange, Perpendicular, ValueRange.
+/// SHZ[a], 0x36 and 0x37: zone -> moves its points by the distance of the reference point from its original place,
+/// and touches none. Phantom points and the reference point are unchanged. Errors: ZoneRange, PointRange,
+/// Perpendicular, ValueRange.
 #[tactic(auto, unfolding(crate::specs::Shifting::shz))]
 pub fn shz(
     zones: &mut Zones,

@@ -4,7 +4,7 @@ use Rattle.tt_points_loops.specs.Series.{one_by_one, passing_over}
 use Rattle.tt_points_zones.specs.Zones.{IsZones, zones_view}
 use Rattle.tt_points_loops.proofs.flipping.flip_all.Given as goal
 
--- what is left to do, done to what there is, is the whole
+-- the remaining steps, applied to the present state, give the whole result
 abbrev pub invariant-loop-i : goal.invariant-loop-i
 invariant-loop-i l = record {
   same : one_by_one (passing_over l.tolerance flip) (reverse (take l.i l.numbers)) (zones_view l.zones)

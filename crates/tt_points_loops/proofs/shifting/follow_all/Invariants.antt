@@ -4,7 +4,7 @@ use Rattle.tt_points_loops.specs.Shifting.{follow_but}
 use Rattle.tt_points_zones.specs.Zones.{IsPoint}
 use Rattle.tt_points_loops.proofs.shifting.follow_all.Given as goal
 
--- what is left to do, done to what there is, is the whole
+-- the remaining steps, applied to the present state, give the whole result
 abbrev pub invariant-loop-i : goal.invariant-loop-i
 invariant-loop-i l = record {
   same : each_from_to l.i l.past (follow_but l.by.but l.by.touch l.state l.by.reference) 0 l.points
