@@ -28,7 +28,7 @@ each_from along front (p ∷ ps) (suc i) d inside =
     let rest = each_from along (front ++ p ∷ []) ps i d (omega arith) in
     rw next (rw (append_assoc front (p ∷ []) (take i ps)) at rest)
 
--- the others of a contour from the one behind a point on
+-- the others of a contour, from the one after a point
 abbrev others : List Point → ℕ → List Point
 others ps i = drop (i + 1) ps ++ take i ps
 
@@ -64,7 +64,7 @@ many_others ps i inside =
           arith),
     )
 
--- the first touched one of a list, and the last one
+-- the first and the last touched point of a list
 first_at : (axis : Axis) (qs : List Point) (k : ℕ) (d : Point) → k < length qs → is_touched axis (get_or qs k d) ≡ true
     → ((j : ℕ) → j < k → is_touched axis (get_or qs j d) ≡ false) → first_touched axis qs ≡ Some (get_or qs k d)
 first_at axis [] k d inside here none = absurd (omega arith)

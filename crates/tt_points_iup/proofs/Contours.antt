@@ -1,4 +1,4 @@
--- A contour, point by point, is what a sweep makes of it.
+-- A contour, point by point, is the result of a sweep.
 use Rattle.std.proofs.Common.{◌≡◌, ◌∙◌, Bool, true, false, if◌then◌else◌, List, [], ◌∷◌, ◌++◌, Option, Some, None, ap, sym, refl, append_assoc}
 use Rattle.std.specs.Option.{option_or, unwrap_or}
 use Rattle.std.proofs.lemmas.List.{append-nil}
@@ -10,13 +10,13 @@ use Rattle.tt_points_iup.specs.Sweeps.{swept}
 use Rattle.tt_points_iup.specs.declared.place.Along.{Along}
 use Rattle.tt_points_iup.proofs.Touches.{first_of_two, last_of_two, none_touched}
 
--- the first of two, where their first the other way round is known
+-- the first of two, where their first in the other order is known
 other_way : (x y : Option Point) (first : Point) → option_or y x ≡ Some first → option_or x y ≡ Some (unwrap_or x first)
 other_way (Some b) y first h = refl
 other_way None (Some b) first h = h
 other_way None None first h = absurd cc
 
--- what a sweep carries to the points that are left
+-- the points that a sweep takes to the remaining ones
 record Carried (along : Along) (before first : Point) (front back : List Point) : Type 0 where
   last : last_touched along.axis None (back ++ front) ≡ Some before
   first_one : first_touched along.axis (front ++ back) ≡ Some first
@@ -95,7 +95,7 @@ pub untouched_stays : (along : Along) (ps : List Point) → first_touched along.
 unfolding contour
 untouched_stays along ps none = none_from along [] ps none
 
--- where no last one is found there is no first one
+-- where no last one is found, no first one is
 found_by : (axis : Axis) (t : Bool) (x a : Point) (xs : List Point)
     → ((b : Point) → last_touched axis (Some b) xs ≡ None → ⊥)
     → last_touched axis (if t then Some x else Some a) xs ≡ None → ⊥

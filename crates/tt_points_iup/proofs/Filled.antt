@@ -1,4 +1,4 @@
--- Points interpolated one after the other in their places.
+-- Points interpolated in place, one after another.
 use Rattle.std.proofs.Common.{◌≡◌, ◌∙◌, ℕ, ◌+◌, ◌<◌, ◌≤◌, pos, false, List, length, map, take, drop, get_or, set, Ok, Err, All, length-drop, sym, refl, arith}
 use Rattle.std.proofs.lemmas.Grind.{drop_more_same}
 use Rattle.std.proofs.lemmas.List.{take_more_set, take-set-le, drop_more, drop-set-lt, drop-set-add, map_more, get_or-drop, get_or-take, length-take-le}
@@ -10,11 +10,11 @@ use Rattle.tt_points_zones.specs.Zones.{IsPoint}
 use Rattle.tt_points_iup.specs.Interpolation.{limited, limited_point}
 use Rattle.tt_points_iup.proofs.Limits.{limited_ok, one_outside}
 
--- what is read past the end of a list of points
+-- a read past the end of a list of points
 abbrev pub blank : Point
 blank = record { units_x = pos 0; units_y = pos 0; org_x = pos 0; org_y = pos 0; x = pos 0; y = pos 0; touched_x = false; touched_y = false; on = false }
 
--- lists that are the same from a place on have the same element there
+-- lists that agree from a place on have the same element there
 pub same_point : (now old : List Point) (i : ℕ) (d : Point) → i < length now → i < length old → drop i now ≡ drop i old
     → get_or now i d ≡ get_or old i d
 same_point now old i d here there same =
@@ -32,7 +32,7 @@ pub rest_more : (now old : List Point) (i : ℕ) (q : Point) → drop i now ≡ 
     → drop (i + 1) (set now i q) ≡ drop (i + 1) old
 rest_more now old i q rest = drop-set-lt (i + 1) now i q (omega arith) ∙ drop_more_same now old i rest
 
--- so many points from a place on are made, and the others stay
+-- a count of points from a place on is interpolated, and the others are unchanged
 pub record Filled (f : Point → Point) (now old : List Point) (start k : ℕ) : Type 0 where
   pub front : take start now ≡ take start old
   pub so_far : take k (drop start now) ≡ map f (take k (drop start old))
@@ -41,7 +41,7 @@ pub record Filled (f : Point → Point) (now old : List Point) (start k : ℕ) :
 left_from : (xs : List Point) (start k : ℕ) → start + k < length xs → k < length (drop start xs)
 left_from xs start k inside = omega (arith, length-drop start xs)
 
--- the next point is as it was
+-- the next point is unchanged
 pub next_point : (f : Point → Point) (now old : List Point) (start k : ℕ) → start + k < length now
     → start + k < length old → Filled f now old start k
     → get_or now (start + k) blank ≡ get_or (drop start old) k blank
@@ -65,7 +65,7 @@ filled_at f now old start k q here there filled is =
       rest = rw set_at (rest_more (drop start now) (drop start old) k q filled.rest);
     }
 
--- a point outside the limit is one of those that were to be made
+-- a point outside the limit is one of those to interpolate
 pub next_outside : (axis : Axis) (f : Point → Point) (now old : List Point) (start k len : ℕ) (fault : Why) → k < len
     → start + len ≤ length now → length now ≡ length old → Filled f now old start k
     → limited_point axis (f (get_or now (start + k) blank)) ≡ Err fault

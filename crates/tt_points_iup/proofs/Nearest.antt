@@ -1,4 +1,4 @@
--- Where a point of a contour is touched, an untouched one has touched neighbours on both sides.
+-- If a point of a contour is touched, an untouched one has touched neighbours on both sides.
 use Rattle.std.proofs.Common.{◌≡◌, ◌∙◌, ℕ, zero, suc, ◌+◌, ◌-◌, ◌<◌, ◌≤◌, nat_lt, Bool, true, false, if◌then◌else◌, List, length, get_or, ap, sym, refl, arith}
 use Rattle.std.proofs.lemmas.Bool.Decides.{nat_tests}
 use Rattle.tt_state.specs.declared.graphics_state.Axis.{Axis}
@@ -6,7 +6,7 @@ use Rattle.tt_state.specs.declared.point.Point.{Point}
 use Rattle.tt_points_zones.specs.Points.{is_touched}
 use Rattle.tt_points_iup.specs.Neighbours.{round_from, HasNeighbours}
 
--- the least number from 1 on that passes a test, and the greatest one below n
+-- the least number from 1 that passes a test, and the greatest one below n
 record Least (t : ℕ → Bool) (k : ℕ) : Type 0 where
   at : ℕ
   low : 0 < at
@@ -68,7 +68,7 @@ greatest_by t n (suc hi) k false is low high inside found none =
     greatest_by t n hi k (t hi) refl low (not_last t hi k (nat_lt k (suc hi)) refl is found high) (omega arith) found
     (λ j above below. one_less t hi n j (nat_lt (suc hi) j) refl none is above below)
 
--- how far round the contour one point stands after another
+-- the number of places round the contour from one point to another
 abbrev distance : ℕ → ℕ → ℕ → Bool → ℕ
 distance n i j b = if b then j - i else (n + j) - i
 

@@ -1,4 +1,4 @@
--- Contours one behind the other, each in the place of its points.
+-- Contours one after another, each in the place of its points.
 use Rattle.std.proofs.Common.{◌≡◌, ◌∙◌, ℕ, ◌+◌, ◌-◌, ◌<◌, ◌≤◌, List, [], ◌∷◌, ◌++◌, length, take, drop, get_or, All, Err, sym, arith, append_assoc}
 use Rattle.std.proofs.lemmas.List.{drop_more, drop_all, drop-drop, take-append-drop}
 use Rattle.std.proofs.lemmas.Slice.{take-put_mid, drop-put_mid}
@@ -34,7 +34,7 @@ pub next_range : (start : ℕ) (ranges : List (ℕ × ℕ)) (i n : ℕ) → i < 
 next_range start ranges i n there h =
     next_of start (get_or ranges i (0, 0)) (drop (i + 1) ranges) n (rw (drop_more ranges i (0, 0) there) at h)
 
--- what holds behind one contour more
+-- the facts after one more contour
 pub record Made (along : Along) (whole now old : List Point) (at : ℕ) (ranges : List (ℕ × ℕ)) : Type 0 where
   pub so_far : take at now ++ is.contours along at ranges old ≡ whole
   pub rest : drop at now ≡ drop at old
@@ -68,7 +68,7 @@ after_contour along whole now old part start range ranges next long made is_part
       rest = left ∙ later now old start (range.1) order made.rest;
     }
 
--- what holds behind the last one
+-- the facts after the last contour
 pub whole_made : (along : Along) (whole now old : List Point) (start i : ℕ) (ranges : List (ℕ × ℕ)) → length ranges ≤ i
     → start ≤ length old → Made along whole now old start (drop i ranges) → now ≡ whole
 whole_made along whole now old start i ranges past inside made =

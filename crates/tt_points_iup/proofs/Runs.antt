@@ -1,4 +1,4 @@
--- What is swept up to the next touched point, and to the end where there is none.
+-- A sweep up to the next touched point, or to the end without one.
 use Rattle.std.proofs.Common.{◌≡◌, ℕ, suc, ◌+◌, ◌<◌, true, List, [], ◌∷◌, ◌++◌, length, map, take, drop, get_or, Some, None, Ok, Err, ap, sym, refl, arith, append_assoc}
 use Rattle.std.proofs.lemmas.List.{append-nil, take_all, drop_all, drop_more, take-append-drop, length-map, length-take}
 use Rattle.tt_core.specs.declared.fault.Why.{Why}
@@ -29,7 +29,7 @@ run_to along before first (u ∷ us) t vs none here =
     rw (first_after along.axis us (t ∷ vs) parts.rest, here) refl in
     rw (parts.head, next, run_to along before first us t vs parts.rest here) refl
 
--- a list at one of its points
+-- a list split at one of its points
 at_point : (ps : List Point) (n : ℕ) (d : Point) → n < length ps → take n ps ++ get_or ps n d ∷ drop (n + 1) ps ≡ ps
 at_point ps n d inside = rw (← drop_more ps n d inside) (take-append-drop n ps)
 
@@ -76,7 +76,7 @@ run_ends_outside along before first old n fault long none bad =
     let untouched : first_touched along.axis old ≡ None = rw whole at none in
     rw (run_last along before first old untouched) bad
 
--- what is swept up to a touched point
+-- a sweep up to a touched point
 to_point : (along : Along) (before first : Point) (old : List Point) (n : ℕ) (d : Point) → n < length old
     → first_touched along.axis (take n old) ≡ None → is_touched along.axis (get_or old n d) ≡ true
     → swept along before first old ≡ map (interpolated along before (get_or old n d)) (take n old)
@@ -117,7 +117,7 @@ run_goes_outside along before first old n d fault inside none here bad =
     (map (interpolated along before (get_or old n d)) (take n old))
     (get_or old n d ∷ swept along (get_or old n d) first (drop (n + 1) old)) fault bad)
 
--- a run up to a touched point, by what it leaves of the points
+-- a run up to a touched point, by the remaining points
 pub run_reaches : (along : Along) (before first after : Point) (old new : List Point) (n : ℕ) (d : Point)
     → n < length old → first_touched along.axis (take n old) ≡ None → is_touched along.axis (get_or old n d) ≡ true
     → after ≡ get_or old n d → limited along.axis (map (interpolated along before after) (take n old)) ≡ Ok (take n new)
@@ -135,7 +135,7 @@ pub run_reaches_outside : (along : Along) (before first after : Point) (old : Li
 run_reaches_outside along before first after old n d fault inside none here is bad =
     run_goes_outside along before first old n d fault inside none here (rw is at bad)
 
--- a run to the end, by what it leaves of the points
+-- a run to the end, by the remaining points
 pub run_finishes : (along : Along) (before first : Point) (old new : List Point) (n : ℕ) → 0 < length old
     → n ≡ length old → length new ≡ length old → first_touched along.axis (take n old) ≡ None
     → limited along.axis (map (interpolated along before first) (take n old)) ≡ Ok (take n new) → IsPoint before

@@ -6,17 +6,17 @@ use Rattle.tt_state.specs.declared.point.Point.{Point}
 use Rattle.tt_points_iup.specs.Sweeps.{swept, IsRun}
 use Rattle.tt_points_iup.specs.declared.place.Along.{Along}
 
--- points of which the front stays
+-- points with an unchanged front
 pub front_kept : (now new : List Point) (start : ℕ) → take start new ≡ take start now
     → take start now ++ drop start new ≡ new
 front_kept now new start front = rw (← front) (take-append-drop start new)
 
--- a list in two parts, the first of a length
+-- a list in two parts, the first with a given length
 parts_at : (n k : ℕ) (xs ys : List Point) → n ≡ length xs
     → (take (n + k) (xs ++ ys) ≡ xs ++ take k ys) × (drop (n + k) (xs ++ ys) ≡ drop k ys)
 parts_at n k xs ys e = (rw e (take-append-add xs ys k), rw e (drop-append-add xs ys k))
 
--- what holds after one run more
+-- the facts after one more run
 pub record Further (along : Along) (first : Point) (whole now old : List Point) (at : ℕ) (before : Point) : Type 0 where
   pub so_far : take at now ++ swept along before first (drop at old) ≡ whole
   pub rest : drop at now ≡ drop at old

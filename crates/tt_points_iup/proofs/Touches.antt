@@ -24,7 +24,7 @@ pub last_of_two : (axis : Axis) (found : Option Point) (xs ys : List Point)
 last_of_two axis found [] ys = refl
 last_of_two axis found (x ∷ xs) ys = last_of_two axis (if is_touched axis x then Some x else found) xs ys
 
--- none in a list: none at its head, and none after it
+-- no touched point in a list: none at its head, and none after it
 pub record NoneTouched (axis : Axis) (x : Point) (xs : List Point) : Type 0 where
   pub head : is_touched axis x ≡ false
   pub rest : first_touched axis xs ≡ None
@@ -38,19 +38,19 @@ pub none_touched : (axis : Axis) (x : Point) (xs : List Point) → first_touched
     → NoneTouched axis x xs
 none_touched axis x xs none = none_by axis x xs (is_touched axis x) refl none
 
--- a list without a touched point, and what is after it
+-- a list without a touched point, followed by others
 pub first_after : (axis : Axis) (xs ys : List Point) → first_touched axis xs ≡ None
     → first_touched axis (xs ++ ys) ≡ first_touched axis ys
 first_after axis xs ys none = rw (first_of_two axis xs ys, none) refl
 
--- one point more without a touch
+-- one more untouched point
 pub none_more : (axis : Axis) (ps : List Point) (i : ℕ) (d : Point) → i < length ps
     → first_touched axis (take i ps) ≡ None
     → is_touched axis (get_or ps i d) ≡ false → first_touched axis (take (i + 1) ps) ≡ None
 none_more axis ps i d within none here =
     rw (take_more ps i d within, first_after axis (take i ps) (get_or ps i d ∷ []) none, here) refl
 
--- from a point on: the point is touched, or the first and the last one are among the others
+-- from a point on: it is touched, or the first and the last touched ones are among the others
 pub first_here : (axis : Axis) (ps : List Point) (i : ℕ) (d : Point) → i < length ps
     → is_touched axis (get_or ps i d) ≡ true → first_touched axis (drop i ps) ≡ Some (get_or ps i d)
 first_here axis ps i d inside here = rw (drop_more ps i d inside, here) refl

@@ -1,4 +1,4 @@
--- A glyph, by what its contours give.
+-- A glyph, from its contours.
 use Rattle.std.proofs.Common.{◌≡◌, List, Result, Ok, ap}
 use Rattle.tt_core.specs.Outcomes.{◌>>=◌}
 use Rattle.tt_core.specs.declared.fault.Why.{Why}

@@ -1,6 +1,6 @@
 -- Apple TrueType Reference Manual, "Instruction set" (IUP[a]) and "Instructing TrueType Glyphs" (touched points):
--- points that no instruction touched follow the touched points next to them. Coordinates are in 26.6 pixels. That a
--- glyph zone may be in font units, and that order and proportion are told by these then, is profile.
+-- untouched points move with the nearest touched points. Coordinates are in 26.6 pixels. In a glyph zone in font
+-- units, these decide order and proportion (profile).
 use Rattle.std.specs.Prelude.{◌≡◌, ℕ, ℤ, pos, negsuc, ◌+ℤ◌, ◌-ℤ◌, ◌*ℤ◌, int_le, int_lt, Bool, true, false, if◌then◌else◌, List, [], ◌∷◌, ◌++◌, drop, slice_range, Option, Some, None, Result, Ok, Err, refl}
 use Rattle.std.specs.List.{list_all}
 use Rattle.std.specs.Ordering.{int_eq}
@@ -19,8 +19,8 @@ use Rattle.tt_points_zones.specs.Zones.{ZoneLists, in_pixels}
 use Rattle.tt_points_zones.specs.declared.zones.Originals.{Originals}
 use Rattle.tt_points_iup.specs.declared.place.Along.{Along}
 
--- Where a point stood along an axis before the program, and where it stands; and from where its order among others is
--- told, and its share of the way between two.
+-- A point's original and current coordinate on an axis. from decides its order among others, and its share of the
+-- way between two.
 pub record Position : Type 0 where
   pub from : ℤ
   pub org : ℤ
@@ -30,7 +30,7 @@ abbrev pub units : Axis → Point → ℤ
 units axis.X p = p.units_x
 units axis.Y p = p.units_y
 
--- in font units where the zone is in them, else in 26.6
+-- in font units for a zone in these, otherwise in 26.6
 abbrev pub measured : Option Scale → Axis → Point → ℤ
 measured None axis p = org axis p
 measured (Some s) axis p = units axis p
@@ -42,12 +42,12 @@ position_at along p = record {
   cur = cur along.axis p;
 }
 
--- a way over a range in 16.16; where the range is 0 it is nothing: no point is between then
+-- the quotient of a way and a range in 16.16; 0 for a range of 0, where no point is between
 abbrev pub factor : Halves → ℤ → ℤ → ℤ
 factor halves way range = if int_eq range (pos 0) then pos 0 else quotient halves (pos 65536 *ℤ way) range
 
--- As much of a way as a part is of a range: the part is multiplied and divided by these. In font units the way over the
--- range is rounded first.
+-- The share of a way that a part has of a range: the part times the multiplier, divided by the divisor. In font
+-- units the quotient of way and range is rounded first.
 abbrev pub multiplier : Option Scale → Halves → ℤ → ℤ → ℤ
 multiplier None halves way range = way
 multiplier (Some s) halves way range = factor halves way range
@@ -60,22 +60,22 @@ abbrev pub share : Originals → ℤ → ℤ → ℤ → ℤ
 share by part way range =
     quotient by.halves (part *ℤ multiplier by.units by.halves way range) (divisor by.units range)
 
--- as far from one position to another as it was from the one's original to the other's
+-- the current coordinate with the original share of the way from the lower to the upper position
 abbrev pub in_proportion : Originals → Position → Position → Position → ℤ
 in_proportion by p lo hi = lo.cur +ℤ share by (p.from -ℤ lo.from) (hi.cur -ℤ lo.cur) (hi.from -ℤ lo.from)
 
--- a position, moved as the lower one where its original is not above that one's, as the upper one where it is not below
--- it, and else in proportion; also in font units this is told in 26.6
+-- a position: moved as the lower one if its original is not above that one's, as the upper one if it is not below
+-- that one's, otherwise in proportion; the test is in 26.6, for a zone in font units too
 abbrev pub following : Originals → Position → Position → Position → ℤ
 following by p lo hi =
     if int_le p.org lo.org then p.org +ℤ (lo.cur -ℤ lo.org)
     else (if int_le hi.org p.org then p.org +ℤ (hi.cur -ℤ hi.org) else in_proportion by p lo hi)
 
--- the position with the lower original is the lower one, in font units where the zone is in them
+-- the lower position is the one with the lower original, in font units for a zone in these
 abbrev pub between : Originals → Position → Position → Position → ℤ
 between by p a b = if int_lt b.from a.from then following by p b a else following by p a b
 
--- a point put between two positions; it stays untouched
+-- a point between two positions; it is still untouched
 abbrev pub placed_between : Along → Position → Position → Point → Point
 placed_between along lo hi p = put along.axis (following along.originals (position_at along p) lo hi) p
 
@@ -88,24 +88,24 @@ abbrev pub first_touched : Axis → List Point → Option Point
 first_touched axis [] = None
 first_touched axis (p ∷ ps) = if is_touched axis p then Some p else first_touched axis ps
 
--- the last touched one, or what was found before
+-- the last touched point, or the one found before
 abbrev pub last_touched : Axis → Option Point → List Point → Option Point
 last_touched axis found [] = found
 last_touched axis found (p ∷ ps) = last_touched axis (if is_touched axis p then Some p else found) ps
 
--- Without a touched point in its contour a point stays where it is.
+-- Without a touched point in its contour a point is unchanged.
 abbrev pub interpolated_by : Along → Option Point → Option Point → Point → Point
 interpolated_by along (Some a) (Some b) p = interpolated along a b p
 interpolated_by along (Some a) None p = p
 interpolated_by along None b p = p
 
--- a point, and the others of its contour from the one after it round to the one before it
+-- a point, with the others of its contour from the next one round to the one before
 abbrev pub interpolated_among : Along → List Point → Point → Point
 interpolated_among along others p =
     if is_touched along.axis p then p
     else interpolated_by along (last_touched along.axis None others) (first_touched along.axis others) p
 
--- the points of a contour after those of its front, each among the others as they were
+-- the points of a contour after its front, each interpolated among the others at their old places
 abbrev pub contour_from : Along → List Point → List Point → List Point
 contour_from along front [] = []
 contour_from along front (p ∷ back) =
@@ -114,7 +114,7 @@ contour_from along front (p ∷ back) =
 unfoldable pub contour : Along → List Point → List Point
 contour along ps = contour_from along [] ps
 
--- each contour by itself; the points after the last, the phantom points, stay
+-- each contour by itself; the phantom points, after the last contour, are unchanged
 abbrev pub contours : Along → ℕ → List (ℕ × ℕ) → List Point → List Point
 contours along at [] ps = drop at ps
 contours along at (c ∷ cs) ps = contour along (slice_range ps c.0 c.1) ++ contours along c.1 cs ps
@@ -129,7 +129,7 @@ limited_point axis p = if within axis p then Ok p else Err why.ValueRange
 abbrev pub limited : Axis → List Point → Result (List Point) Why
 limited axis ps = if list_all (within axis) ps then Ok ps else Err why.ValueRange
 
--- IUP[a], 0x30 along y and 0x31 along x, always in the glyph zone
+-- IUP[a], 0x30 along y and 0x31 along x, in the glyph zone
 abbrev pub along_in : Axis → ZoneLists → Along
 along_in axis z = record { axis = axis; originals = z.originals }
 
@@ -219,7 +219,7 @@ no_range = refl
 abbrev from_units : ℤ → Point → Point
 from_units units p = record p { units_x = units }
 
--- 73 of 200 units over a way of 192 are 70, where their originals, 59 of 163, would have been 69
+-- 73 of 200 units over a way of 192 are 70; by their originals, 59 of 163, they would be 69
 units_in_proportion : contour (in_units (rounded_scale 13 1024))
     (at (pos 0) (pos 0) true ∷ from_units (pos 73) (untouched (pos 59))
     ∷ from_units (pos 200) (at (pos 163) (pos 192) true) ∷ [])
@@ -228,7 +228,7 @@ units_in_proportion : contour (in_units (rounded_scale 13 1024))
 unfolding contour interpolated
 units_in_proportion = refl
 
--- of two originals that are the same the one with fewer units is the lower one, also where it comes later
+-- of two equal originals the one with fewer units is the lower one, even if it comes later
 order_by_units : contour (in_units (rounded_scale 9 2048))
     (from_units (pos 101) (at (pos 28) (pos 92) true) ∷ from_units (pos 71) (untouched (pos 20))
     ∷ from_units (pos 100) (at (pos 28) (pos 28) true) ∷ [])

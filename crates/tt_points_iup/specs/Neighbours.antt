@@ -5,11 +5,11 @@ use Rattle.tt_state.specs.declared.graphics_state.Axis.{Axis}
 use Rattle.tt_state.specs.declared.point.Point.{Point}
 use Rattle.tt_points_zones.specs.Points.{is_touched}
 
--- the number of the point that is k points further round a contour of n points
+-- the number of the point k places further round a contour of n points
 abbrev pub round_from : ℕ → ℕ → ℕ → ℕ
 round_from n i k = if nat_lt (i + k) n then i + k else (i + k) - n
 
--- so many points further round there is a touched one
+-- the point k places further round is touched
 pub record IsTouchedAt (axis : Axis) (ps : List Point) (d : Point) (i k : ℕ) : Type 0 where
   pub other : 0 < k
   pub once : k < length ps
@@ -25,7 +25,7 @@ pub record IsLastTouched (axis : Axis) (ps : List Point) (d : Point) (i k : ℕ)
   pub there : IsTouchedAt axis ps d i k
   pub nearest : (j : ℕ) → k < j → j < length ps → is_touched axis (get_or ps (round_from (length ps) i j) d) ≡ false
 
--- a touched point before a point, and one after it; perhaps the same
+-- the nearest touched points before and after a point; perhaps one point
 pub record HasNeighbours (axis : Axis) (ps : List Point) (d : Point) (i : ℕ) : Type 0 where
   pub before : ℕ
   pub last : IsLastTouched axis ps d i before

@@ -1,4 +1,4 @@
--- Positions whose coordinates are within the limit, and what the code's types stand for.
+-- Positions with coordinates within the limit, and the meaning of the code's types.
 use Rattle.std.specs.Prelude.{◌≡◌, ◌<◌, ◌≤◌, ◌^◌, ℤ, ◌-ℤ◌, unsigned_abs, Option, Some, None}
 use Rattle.tt_core.specs.Limits.{coordinate_limit}
 use Rattle.tt_state.specs.declared.point.Point.{Point}
@@ -17,7 +17,7 @@ pub record IsPosition (by : Originals) (p : is.Position) : Type 0 where
 abbrev pub position_of : Position → is.Position
 position_of p = record { from = p.from; org = p.org; cur = p.cur }
 
--- two positions, and what a part of the range between their originals is multiplied and divided by
+-- two positions, with the multiplier and the divisor for a share of the way between them
 pub record AreNeighbours (along : Along) (lo hi : is.Position) (multiplier divisor : ℤ) : Type 0 where
   pub low : IsPosition along.originals lo
   pub high : IsPosition along.originals hi
@@ -26,7 +26,7 @@ pub record AreNeighbours (along : Along) (lo hi : is.Position) (multiplier divis
   pub divided : divisor ≡ is.divisor along.originals.units (hi.from -ℤ lo.from)
   pub few : unsigned_abs multiplier < 2 ^ 38
 
--- a point that was found, its touches among it
+-- a found point, with its touches
 abbrev pub point_of : Option PlainPoint → Option Point
 point_of None = None
 point_of (Some p) = Some p.point

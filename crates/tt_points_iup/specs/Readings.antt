@@ -1,6 +1,5 @@
--- No part of the standard: how often the points of a glyph are asked whether they are touched. A contour is read up to
--- its first touched point; where there is one, it is read twice more, for the last touched one and for the points
--- between.
+-- No part of the standard: the count of touches read for a glyph. A contour is read up to its first touched point.
+-- If there is one, the contour is read twice more: for the last touched point, and for the points between.
 use Rattle.std.specs.Prelude.{◌≡◌, ℕ, pos, ◌+◌, ◌*◌, Bool, true, false, if◌then◌else◌, List, [], ◌∷◌, length, slice_range, Option, Some, None, refl}
 use Rattle.tt_state.specs.declared.graphics_state.Axis.{Axis}
 use Rattle.tt_state.specs.declared.graphics_state.Axis.TheVariants as axis
@@ -8,12 +7,12 @@ use Rattle.tt_state.specs.declared.point.Point.{Point}
 use Rattle.tt_points_zones.specs.Points.{is_touched}
 use Rattle.tt_points_iup.specs.Interpolation.{first_touched}
 
--- up to the first touched point; all where none is
+-- reads up to the first touched point, or of all
 abbrev pub up_to_first : Axis → List Point → ℕ
 up_to_first axis [] = 0
 up_to_first axis (p ∷ ps) = if is_touched axis p then 1 else 1 + up_to_first axis ps
 
--- behind the first touched point, of a contour of n points
+-- reads after the first touched point, in a contour of n points
 abbrev pub behind_first : Option Point → ℕ → ℕ
 behind_first None n = 0
 behind_first (Some p) n = 2 * n
@@ -25,7 +24,7 @@ abbrev pub of_contours : Axis → List (ℕ × ℕ) → List Point → ℕ
 of_contours axis [] ps = 0
 of_contours axis (c ∷ cs) ps = of_contour axis (slice_range ps c.0 c.1) + of_contours axis cs ps
 
--- worked values: of three points the second is touched, and then none
+-- worked values: three points of which the second is touched, and three untouched points
 abbrev a_point : Bool → Point
 a_point touched =
     record { units_x = pos 0; units_y = pos 0; org_x = pos 0; org_y = pos 0; x = pos 0; y = pos 0; touched_x = touched; touched_y = false; on = true }
@@ -36,6 +35,6 @@ second_touched = refl
 none_touched : of_contour axis.X (a_point false ∷ a_point false ∷ a_point false ∷ []) ≡ 3
 none_touched = refl
 
--- a second contour of one touched point: the first has five readings, the second three
+-- a second contour of one touched point: five reads for the first, three for the second
 two_contours : of_contours axis.X ((0, 2) ∷ (2, 3) ∷ []) (a_point true ∷ a_point false ∷ a_point true ∷ []) ≡ 5 + 3
 two_contours = refl

@@ -1,4 +1,4 @@
-//! Once round a contour, from each touched point to the next one.
+//! One pass round a contour, from each touched point to the next one.
 
 ghost use Rattle.std.specs.Prelude.{◌≡◌, ◌+◌, ◌*◌, ◌^◌, ◌<◌, ◌≤◌, length, map, take, drop, Err, All, IfOk, IfErr};
 ghost use Rattle.tt_core.specs.Outcomes.{Gives};
@@ -12,15 +12,14 @@ use crate::place::{Neighbours, interpolated};
 use crate::search::{first_touched, last_touched, untouched};
 use tt_core::Why;
 
-/// Points in a row: how many, and the last touched one among them or before them.
+/// A run of points: its length, and the last touched point in it or before it.
 #[derive(Clone, Copy)]
 struct Run {
     len: usize,
     last: PlainPoint,
 }
 
-/// Puts `len` untouched points, from the one numbered `start`, between the touched ones before and after them. Error:
-/// ValueRange.
+/// Interpolates the `len` untouched points from number `start` on, between `before` and `after`. Error: ValueRange.
 fn fill(
     contour: &mut Contour<'_>,
     start: usize,
@@ -55,8 +54,8 @@ fn fill(
     Ok(())
 }
 
-/// Goes on from the point numbered `start` to the next touched point, or to the end where there is none. `before` is the
-/// touched point before the points, `first` the first one of the contour. Error: ValueRange.
+/// Goes from point `start` past the next touched point, or to the end. `before` is the touched point before
+/// `start`, `first` the first touched point of the contour. Error: ValueRange.
 fn next_run(
     contour: &mut Contour<'_>,
     start: usize,
@@ -90,7 +89,7 @@ fn next_run(
     Ok(Run { len: len + 1, last })
 }
 
-/// Goes from the first point of a contour to its end: `last` and `first` are its last and its first touched point.
+/// Goes from the first point of a contour to its end. `last` and `first` are its last and its first touched point.
 /// Error: ValueRange.
 fn sweep(contour: &mut Contour<'_>, last: PlainPoint, first: PlainPoint) -> Result<(), Why>
     requires points { All IsPoint contour.old.points.now }

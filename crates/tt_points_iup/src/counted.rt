@@ -1,5 +1,5 @@
-//! The points of a contour along an axis, as their interpolation sees them. `Contour::is_touched` alone tells whether a
-//! point is touched, and counts itself: no point with its touches, nor a slice of such points, leaves this module.
+//! The points of a contour along an axis, for their interpolation. Only `Contour::is_touched` reads a touch, and it
+//! counts the read. No point with its touches leaves this module, nor a slice of such points.
 
 ghost use Rattle.std.specs.Prelude.{◌≡◌, ◌+◌, ◌*◌, ◌^◌, ◌<◌, ◌≤◌, length, get_or, slice_set, None, All, IfOk, unsigned_abs};
 ghost use Rattle.tt_core.specs.Limits.{coordinate_limit};
@@ -17,7 +17,7 @@ use tt_core::Why;
 use tt_points_zones::{cur, is_touched, org, put};
 use tt_state::{Axis, Point};
 
-/// The points of a contour along an axis, and how often it was asked whether one is touched.
+/// The points of a contour along an axis, and the count of touches read.
 #[derive(Drop)]
 pub(crate) struct Contour<'a> {
     points: &'a mut [Point],
@@ -25,13 +25,13 @@ pub(crate) struct Contour<'a> {
     reads: u64,
 }
 
-/// A point whose touches can't be asked.
+/// A point whose touches can't be read.
 #[derive(Clone, Copy)]
 pub(crate) struct PlainPoint {
     point: Point,
 }
 
-/// Where a point stood along an axis in font units.
+/// A point's original coordinate on an axis in font units.
 fn units(p: Point, axis: Axis) -> i32
     requires { IsPoint p }
     ensures exact { result ≡ is.units axis p }
@@ -43,7 +43,7 @@ fn units(p: Point, axis: Axis) -> i32
     }
 }
 
-/// The same in font units where the zone is in them, else in 26.6.
+/// A point's original coordinate: in font units for a zone in these, otherwise in 26.6.
 fn measured(p: Point, along: Along) -> i32
     requires { IsPoint p }
     ensures exact { result ≡ is.measured along.originals.units along.axis p }
@@ -57,7 +57,7 @@ fn measured(p: Point, along: Along) -> i32
 }
 
 impl PlainPoint {
-    /// Where the point stood and where it stands.
+    /// The point's original and current coordinate.
     pub(crate) fn position(self, along: Along) -> Position
         requires { IsPoint self.point }
         ensures exact { position_of result ≡ is.position_at along self.point }
@@ -91,14 +91,14 @@ impl<'a> Contour<'a> {
         self.along
     }
 
-    /// How many points there are.
+    /// The count of points.
     pub(crate) fn len(&self) -> usize
         ensures { result ≡ length self.now.points.now }
     {
         self.points.len()
     }
 
-    /// Whether the point with a number is touched along the axis: one more is asked.
+    /// Whether point `i` is touched along the axis. Counts one read.
     pub(crate) fn is_touched(&mut self, i: usize) -> bool
         requires there { i < length self.old.points.now }
         requires room { self.old.reads + 1 < 2 ^ 64 }
@@ -112,7 +112,7 @@ impl<'a> Contour<'a> {
         is_touched(self.points[i], self.along.axis)
     }
 
-    /// The point with a number, without its touches.
+    /// Point `i`, without its touches.
     pub(crate) fn at(&self, i: usize) -> PlainPoint
         requires { i < length self.now.points.now }
         ensures { (d : IsAPoint) → result.point ≡ get_or self.now.points.now i d }
@@ -122,7 +122,7 @@ impl<'a> Contour<'a> {
         }
     }
 
-    /// The point with a number put to a coordinate, as touched as it was.
+    /// Moves point `i` to a coordinate. Its touches are unchanged.
     pub(crate) fn put(&mut self, i: usize, to: Coordinate)
         requires there { i < length self.old.points.now }
         requires points { All IsPoint self.old.points.now }
@@ -138,7 +138,7 @@ impl<'a> Contour<'a> {
     }
 }
 
-/// Interpolates the points of one contour, and answers how often it was asked whether one is touched. Error: ValueRange.
+/// Interpolates the points of one contour. Gives the count of touches read. Error: ValueRange.
 fn one_contour(points: &mut [Point], along: Along) -> Result<u64, Why>
     requires points { All IsPoint points.old }
     requires room { 3 * length points.old < 2 ^ 64 }
@@ -152,8 +152,7 @@ fn one_contour(points: &mut [Point], along: Along) -> Result<u64, Why>
     Ok(contour.reads)
 }
 
-/// Interpolates the points of each contour by itself, and answers how often it was asked whether a point is touched.
-/// Error: ValueRange.
+/// Interpolates the points of each contour by itself. Gives the count of touches read. Error: ValueRange.
 pub(crate) fn each_contour(
     points: &mut [Point],
     contours: &[(u32, u32)],

@@ -1,5 +1,4 @@
-//! IUP: points that no instruction touched follow the touched points next to them. Apple TrueType Reference Manual,
-//! "Instruction set".
+//! IUP: untouched points move with the nearest touched points. Apple TrueType Reference Manual, "Instruction set".
 #![tactic(auto)]
 
 mod contour;

@@ -1,4 +1,4 @@
-//! Where a point goes that stood between two others, along one axis. Coordinates are in 26.6 pixels.
+//! The new place of an untouched point between two touched ones, along one axis. Coordinates are in 26.6 pixels.
 
 ghost use Rattle.std.specs.Prelude.{◌≡◌, ◌<◌, ◌≤◌, ◌^◌, ◌+ℤ◌, ◌-ℤ◌, ◌*ℤ◌, ◌<ℤ◌, unsigned_abs, IfOk};
 ghost use Rattle.tt_core.specs.Limits.{coordinate_limit};
@@ -14,24 +14,24 @@ use tt_core::{Halves, Why, quotient};
 use tt_points_zones::{Distance, Originals, distance_between, is_coordinate};
 use tt_state::Axis;
 
-/// An axis, and how the originals of points are measured along it.
+/// An axis, and the measure of original places along it.
 #[derive(Clone, Copy)]
 pub(crate) struct Along {
     pub(crate) axis: Axis,
     pub(crate) originals: Originals,
 }
 
-/// Where a point stood along an axis before the program, and where it stands.
+/// A point's original and current coordinate on an axis.
 #[derive(Clone, Copy)]
 pub(crate) struct Position {
-    /// By which order and proportion are told: in font units where the zone is in them, else `org`.
+    /// Decides order and proportion: font units for a zone in these, otherwise `org`.
     pub(crate) from: i32,
     pub(crate) org: i32,
     pub(crate) cur: i32,
 }
 
-/// Two touched points, first the one with the lower original, and what a part of the range between their originals is
-/// multiplied and divided by to be as much of the way between them.
+/// Two touched points, the one with the lower original first. A part of the range between their originals, times
+/// `multiplier` and divided by `divisor`, is the same share of the way between their current places.
 #[derive(Clone, Copy)]
 pub(crate) struct Neighbours {
     along: Along,
@@ -42,11 +42,11 @@ pub(crate) struct Neighbours {
     ghost are: { AreNeighbours along (position_of lo) (position_of hi) multiplier divisor },
 }
 
-/// Along an axis, in 26.6 pixels.
+/// A coordinate on an axis, in 26.6 pixels.
 #[derive(Clone, Copy)]
 pub(crate) struct Coordinate(pub(crate) i64);
 
-/// A way over a range in 16.16.
+/// The quotient of a way and a range in 16.16.
 fn factor(halves: Halves, way: Distance, range: Distance) -> i64
     requires way { unsigned_abs way.0 < 2 ^ 22 }
     requires range { unsigned_abs range.0 < 2 ^ 22 }
@@ -99,7 +99,7 @@ fn ordered(along: Along, lo: Position, hi: Position) -> Neighbours
 }
 
 impl Neighbours {
-    /// The touched points before and after others.
+    /// The touched points before and after a run of untouched ones.
     #[tactic(auto, unfolding(crate::specs::Interpolation::interpolated))]
     pub(crate) fn of(along: Along, before: PlainPoint, after: PlainPoint) -> Neighbours
         requires before { IsPoint before.point }
@@ -125,7 +125,7 @@ fn added(a: i32, b: i64) -> i64
     i64::from(a) + b
 }
 
-/// `u`, moved as far as a position.
+/// `u`, moved by the move of a touched point.
 fn moved_as(u: i32, position: Position) -> i64
     requires org { unsigned_abs position.org ≤ coordinate_limit }
     requires cur { unsigned_abs position.cur ≤ coordinate_limit }
@@ -170,7 +170,7 @@ fn following(p: Position, between: Neighbours) -> Coordinate
     }
 }
 
-/// A coordinate to which a point is put. Error: ValueRange past the limit of coordinates.
+/// The coordinate, if it is within the limit. Error: ValueRange.
 fn limited(p: PlainPoint, axis: Axis, to: Coordinate) -> Result<Coordinate, Why>
     requires { IsPoint p.point }
     ensures exact { Gives (λ v. put_to axis v.0 p.point) result (is.limited_point axis (put_to axis to.0 p.point)) }
@@ -183,7 +183,7 @@ fn limited(p: PlainPoint, axis: Axis, to: Coordinate) -> Result<Coordinate, Why>
     }
 }
 
-/// Where an untouched point between touched ones goes. Error: ValueRange.
+/// The new coordinate of an untouched point between touched ones. Error: ValueRange.
 pub(crate) fn interpolated(p: PlainPoint, between: Neighbours) -> Result<Coordinate, Why>
     requires { IsPoint p.point }
     ensures exact { Gives (λ v. put_to between.along.axis v.0 p.point) result (is.limited_point between.along.axis

@@ -1,4 +1,4 @@
-//! Which points of a contour are touched.
+//! The touched points of a contour.
 
 ghost use Rattle.std.specs.Prelude.{◌≡◌, ◌+◌, ◌^◌, ◌<◌, ◌≤◌, length, get_or, take, drop, true, None, All, IfSome};
 ghost use Rattle.tt_state.specs.declared.point.Point.{Point as IsAPoint};
@@ -48,7 +48,7 @@ pub(crate) fn last_touched(contour: &mut Contour<'_>) -> Option<PlainPoint>
     last
 }
 
-/// How many points there are from the one with this number up to the next touched one, or to the end.
+/// The count of untouched points from number `start` on, up to the next touched point or the end.
 pub(crate) fn untouched(contour: &mut Contour<'_>, start: usize) -> usize
     requires start { start ≤ length contour.old.points.now }
     requires room { contour.old.reads + length contour.old.points.now < 2 ^ 64 + start }

@@ -4,7 +4,7 @@ use Rattle.tt_points_iup.specs.Interpolation as is
 use Rattle.tt_points_iup.proofs.Filled.{Filled}
 use Rattle.tt_points_iup.proofs.contour.fill.Given as goal
 
--- the points so far are interpolated, the others as they were
+-- the points so far are interpolated, the others unchanged
 abbrev pub invariant-loop-k : goal.invariant-loop-k
 invariant-loop-k l = record {
   filled : Filled (is.interpolated l.fn.contour.along l.fn.before.point l.fn.after.point) l.contour.points.now

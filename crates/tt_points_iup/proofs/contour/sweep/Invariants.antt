@@ -3,7 +3,7 @@ use Rattle.tt_points_zones.specs.Zones.{IsPoint}
 use Rattle.tt_points_iup.specs.Sweeps.{swept}
 use Rattle.tt_points_iup.proofs.contour.sweep.Given as goal
 
--- the points so far, and what is swept after them, are what is swept in all
+-- the points so far, followed by a sweep of the rest, are a sweep of all
 abbrev pub invariant-loop-start : goal.invariant-loop-start
 invariant-loop-start l = record {
   place : l.start ≤ length l.fn.contour.points.now;

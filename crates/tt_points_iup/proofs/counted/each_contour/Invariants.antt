@@ -4,7 +4,7 @@ use Rattle.tt_points_iup.specs.Interpolation as is
 use Rattle.tt_points_iup.specs.Readings.{of_contours}
 use Rattle.tt_points_iup.proofs.counted.each_contour.Given as goal
 
--- the contours so far, and what is made of the others, are what is made of all
+-- the contours so far, followed by the result for the others, are the result for all
 abbrev pub invariant-loop-range : goal.invariant-loop-range
 invariant-loop-range l = record {
   place : AreContours l.start (drop l.range-index l.contours) (length l.fn.points);

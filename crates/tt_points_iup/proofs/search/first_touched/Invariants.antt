@@ -3,7 +3,7 @@ use Rattle.tt_points_iup.specs.Interpolation as is
 use Rattle.tt_points_iup.specs.Readings.{up_to_first}
 use Rattle.tt_points_iup.proofs.search.first_touched.Given as goal
 
--- the first of those that are left is the first of all, and of each of the others it was asked
+-- the first touched point of the remaining ones is the first of all, and each of the others was read once
 abbrev pub invariant-loop-i : goal.invariant-loop-i
 invariant-loop-i l = record {
   same : is.first_touched l.fn.contour.along.axis (drop l.i l.fn.contour.points.now)

@@ -4,7 +4,7 @@ use Rattle.tt_points_iup.specs.Interpolation as is
 use Rattle.tt_points_iup.specs.Positions.{point_of}
 use Rattle.tt_points_iup.proofs.search.last_touched.Given as goal
 
--- the last of those that are left, after what was found, is the last of all
+-- the last touched point of the remaining ones, or the one found before, is the last of all
 abbrev pub invariant-loop-i : goal.invariant-loop-i
 invariant-loop-i l = record {
   same : is.last_touched l.fn.contour.along.axis (point_of l.last) (drop l.i l.fn.contour.points.now)
