@@ -1,4 +1,4 @@
--- What a run computes is what it leads to.
+-- The computed outcome of a run is the one that its steps lead to.
 use Rattle.std.proofs.Common.{◌≡◌, ℕ, zero, suc, ◌+◌, ◌-◌, ◌≤◌, inl, inr, Bool, true, false, Ok, Err, IfSome, sym, ◌∙◌, ap, refl, arith}
 use Rattle.tt_core.specs.Faults.{Fault}
 use Rattle.tt_core.specs.Limits.{step_limit}
@@ -13,7 +13,7 @@ use Rattle.tt_exec.specs.Runs.{Leads, Ends, Halts, run_within, run_outcome}
 use Rattle.tt_exec.specs.Step.{step, is_ended}
 use Rattle.tt_exec.proofs.Steps.{Stops, end_has_none}
 
--- with one step more there is the step, and then the rest
+-- one more step: the step, followed by the rest
 stepped : (k : ℕ) (s t : MachineState) → is_ended s ≡ false → step s ≡ Ok t → run_within (suc k) s ≡ run_within k t
 unfolding run_within
 stepped k s t open_at made = rw (open_at, made) refl
@@ -37,11 +37,11 @@ goes_on : (b : Bool) (s t : MachineState) → is_ended s ≡ b → step s ≡ Ok
 goes_on true s t ended made = absurd (end_has_none s ended (t, made))
 goes_on false s t ended made = ended
 
--- one number of steps for another
+-- an equal count of steps
 within_same : (n m : ℕ) (s : MachineState) → n ≡ m → run_within n s ≡ run_within m s
 within_same n m s same = rw same refl
 
--- steps that were made leave the rest
+-- the rest of a run, after its first steps
 left : (n k : ℕ) (s t : MachineState) → Leads n s t → run_within (k + n) s ≡ run_within k t
 left zero k s t same = within_same (k + zero) k s (omega arith) ∙ ap (run_within k) same
 left (suc n) k s t (m, to_m, made) =
@@ -78,7 +78,7 @@ halted n s t f open_at leads (inr over) =
 pub fault_is : (s : MachineState) (f : Fault) → Halts s f → run_outcome s ≡ Err f
 fault_is s f h = halted h.n s h.t f h.goes_on h.leads h.why
 
--- the same of a run from a state that is told otherwise
+-- the outcome of a run from an equal state
 pub end_told : (s m : MachineState) (n : ℕ) (t : MachineState) → m ≡ s → Ends m n t → run_outcome s ≡ Ok t
 end_told s m n t same e = ap run_outcome (sym same) ∙ end_is m n t e
 

@@ -1,4 +1,4 @@
--- The work of a step by its opcode, as a table has it.
+-- The work of a step by its opcode, as in the table.
 use Rattle.std.proofs.Common.{◌≡◌, ◌≢◌, ℕ, zero, suc, ◌+◌, ◌<◌, ◌==◌, ◌||◌, ◌&&◌, Bool, true, false, if◌then◌else◌, not, List, [], ◌∷◌, length, slice_index_or, refl, sym, ◌∙◌, arith}
 use Rattle.std.proofs.lemmas.Bool.Decides.{nat_tests}
 use Rattle.tt_exec.specs.MachineState.{MachineState}
@@ -23,7 +23,7 @@ costs =
     5 ∷ 5 ∷ 5 ∷ 5 ∷ 5 ∷ 5 ∷ 5 ∷ 5 ∷ 5 ∷ 5 ∷ 5 ∷ 5 ∷ 5 ∷ 5 ∷ 5 ∷ 5 ∷
     5 ∷ 5 ∷ 5 ∷ 5 ∷ 5 ∷ 5 ∷ 5 ∷ 5 ∷ 5 ∷ 5 ∷ 5 ∷ 5 ∷ 5 ∷ 5 ∷ 5 ∷ 5 ∷ []
 
--- whether an opcode's work is more than it says itself
+-- whether an opcode's work depends on more than the opcode
 abbrev skips : ℕ → Bool
 skips op = op == 0x58 || (op == 0x1B || (op == 0x2C || op == 0x89))
 
@@ -36,7 +36,7 @@ varies op = is_looped op || (is_counted op || (is_of_glyph op || varies_by_data 
 abbrev said : ℕ → ℕ
 said op = if moves_one op then 5 else (if op == 0x27 then 9 else (if is_of_lines op then 33 else 1))
 
--- a table's entries, from that of an opcode on, are the work that is said, or 0
+-- a table's entries, from an opcode on, are the defined work, or 0
 abbrev agrees : ℕ → ℕ → Bool
 agrees op cost = cost == 0 || (not (varies op) && cost == said op)
 

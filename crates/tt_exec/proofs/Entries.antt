@@ -12,7 +12,7 @@ pub as_number : (n : ℤ) (m : ℕ) → FitsUnsignedBits 16 n → m ≡ unsigned
 as_number (pos k) m fits is = rw is refl
 as_number (negsuc k) m fits is = absurd fits
 
--- the function of a number
+-- the function with a number
 pub number_at : (n : ℤ) (m : ℕ) (places : List ℕ) (bodies : List Body) → n ≡ pos m → m < 65536
     → body_at m places bodies ≡ function_at n (listed places bodies)
 number_at n m places bodies is few =

@@ -1,4 +1,4 @@
--- A tolerant machine lacks nothing: no run of it halts for too few values, nor for something that is not there.
+-- A tolerant machine lacks nothing: no run of it halts for too few values, or for a missing thing.
 use Rattle.std.specs.Bool.{⊤}
 use Rattle.std.proofs.Common.{◌≡◌, ℕ, zero, suc, ◌+◌, ◌*◌, ◌==◌, ◌≤◌, nat_le, nat_lt, ℤ, pos, ◌+ℤ◌, int_le, int_lt, unsigned_abs, Bool, true, false, ◌&&◌, if◌then◌else◌, List, [], ◌∷◌, length, Option, Some, None, Result, Ok, Err, subst, sym, refl, arith}
 use Rattle.tt_core.specs.Faults.{Fault}
@@ -56,7 +56,7 @@ pub record Families : Type 0 where
   pub queries : QueriesAreTotal
   pub points : PointsAreTotal
 
--- one of two answers
+-- one of two results
 either : (b : Bool) (x y : Result MachineState Fault) → LacksNothing x → LacksNothing y
     → LacksNothing (if b then x else y)
 either true x y one other = one

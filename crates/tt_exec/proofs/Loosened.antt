@@ -1,4 +1,4 @@
--- A run on a strict machine is the same run on a tolerant one, but for the refusals that tolerance lifts.
+-- A run on a strict machine is the same run on a tolerant one, except for the refusals that tolerance lifts.
 use Rattle.std.proofs.Common.{◌≡◌, ℕ, zero, suc, ◌+◌, ◌==◌, ◌<◌, ◌≤◌, nat_le, nat_lt, ℤ, pos, ◌+ℤ◌, int_le, int_lt, unsigned_abs, Bool, true, false, ◌&&◌, if◌then◌else◌, List, [], ◌∷◌, length, Option, Some, None, Result, Ok, Err, subst, sym, refl, arith}
 use Rattle.std.proofs.lemmas.Bool.Decides.{nat_tests}
 use Rattle.std.specs.Ordering.{int_eq}
@@ -81,13 +81,13 @@ abbrev OperationLoosens : Operation → ℕ → MachineState → Type 0
 OperationLoosens o at m =
     RunLoosens (operate o at (strict_in m)) (operate o at (filled_with (padded (takes o) m.stack) m))
 
--- one of two answers
+-- one of two results
 either : (b : Bool) (x y x' y' : Result MachineState Fault) → RunLoosens x x' → RunLoosens y y'
     → RunLoosens (if b then x else y) (if b then x' else y')
 either true x y x' y' one other = one
 either false x y x' y' one other = other
 
--- the same state is left
+-- the same state
 left : (m : MachineState) → RunLoosens (Ok (strict_in m)) (Ok (tolerant_in m))
 left m = (refl, refl)
 
@@ -101,7 +101,7 @@ short : (m : MachineState) (at : ℕ) (loose : Result MachineState Fault)
     → RunLoosens (Err (fault_in m.frame at why.StackShort)) loose
 short m at loose = λ other. absurd cc
 
--- an instruction with the stack filled: what it answers with enough values, and too few of them refused
+-- an instruction with the stack filled: its result with enough values, or the refusal of too few
 filling-by : EnoughStays → (n : ℕ) (s : List ℤ) (b : Bool) (m : MachineState) (at : ℕ) (r : Result MachineState Fault)
     (f : List ℤ → Result MachineState Fault) → nat_lt (length s) n ≡ b
     → (length s < n → r ≡ Err (fault_in m.frame at why.StackShort)) → RunLoosens r (f s) → RunLoosens r (f (padded n s))
@@ -278,7 +278,7 @@ loopcall_loosens stays (n ∷ count ∷ s) at m =
 loopcall_loosens stays (n ∷ []) at m = short m at _
 loopcall_loosens stays [] at m = short m at _
 
--- an instruction that takes no values: nothing is filled
+-- an instruction without values: nothing is filled
 unfilled : EnoughStays → (m : MachineState) (r : Result MachineState Fault)
     (f : MachineState → Result MachineState Fault) → RunLoosens r (f (tolerant_in m))
     → RunLoosens r (f (filled_with (padded 0 m.stack) m))

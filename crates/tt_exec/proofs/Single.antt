@@ -11,14 +11,14 @@ use Rattle.tt_exec.specs.Step.{step, is_ended}
 use Rattle.tt_exec.proofs.Computed.{end_is, fault_is}
 use Rattle.tt_exec.proofs.Steps.{HasStep, Stops, end_has_none, one_more}
 
--- the same number of steps leads to the same state
+-- equal counts of steps lead to the same state
 same_state : (n : ℕ) (s t u : MachineState) → Leads n s t → Leads n s u → t ≡ u
 same_state zero s t u p q = sym p ∙ q
 same_state (suc n) s t u (m, to_m, made) (m', to_m', made') =
     let same = same_state n s m m' to_m to_m' in
     cc
 
--- what a longer run passes has a step
+-- a state within a longer run has a step
 passed : (p n k : ℕ) (s t u : MachineState) → p ≡ suc (n + k) → Leads n s t → Leads p s u → HasStep t
 passed zero n k s t u e here far = absurd (omega arith)
 passed (suc q) n zero s t u e here (m, to_m, made) =
@@ -44,7 +44,7 @@ same_fault n t f g (inl a) (inr b) = let few = a.few in let all = b.all in absur
 same_fault n t f g (inr a) (inl b) = let few = b.few in let all = a.all in absurd (omega arith)
 same_fault n t f g (inr a) (inr b) = a.told ∙ sym b.told
 
--- one number of steps is that of the other run, less or more
+-- the count of steps of one run is equal to the other's, less or more
 abbrev Order : ℕ → ℕ → Type 0
 Order n m = (n ≡ m) ⊎ ((n < m) ⊎ (m < n))
 
@@ -79,7 +79,7 @@ never_both s n t fault e h (inr (inr more)) =
 abbrev Outcome : MachineState → Type 0
 Outcome s = ((n : ℕ) × (t : MachineState) × Ends s n t) ⊎ ((fault : Fault) × Halts s fault)
 
--- a state that is come to, where no step is left, or one
+-- a reached state, at the limit of steps or below it
 last : (b : Bool) (n : ℕ) (s t : MachineState) → is_ended t ≡ b → n ≡ step_limit → Leads n s t → Outcome s
 last true n s t ended all leads = inl (n, t, record { few = omega arith; leads = leads; ended = ended })
 last false n s t ended all leads = inr (

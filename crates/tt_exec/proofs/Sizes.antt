@@ -1,4 +1,4 @@
--- No instruction makes or drops a point, a place of the storage area or a control value.
+-- No instruction adds or removes a point, a storage place or a control value.
 use Rattle.std.proofs.Common.{◌≡◌, ◌∙◌, ℕ, zero, suc, ◌+◌, ◌==◌, nat_le, nat_lt, ℤ, pos, ◌+ℤ◌, int_le, int_lt, unsigned_abs, Bool, true, false, ◌&&◌, if◌then◌else◌, List, [], ◌∷◌, length, Option, Some, None, Result, Ok, Err, IfOk, subst, refl}
 use Rattle.std.specs.Ordering.{int_eq}
 use Rattle.tt_core.specs.declared.scaling.Scale.{Scale}
@@ -53,7 +53,7 @@ OnPlaces = (o : StoredValues) (scale : Scale) (t : Tolerance) (s storage cvt : L
     → IfOk (values_accessed o scale t s storage cvt)
     (λ t. (length t.1 ≡ length storage) × (length t.2 ≡ length cvt))
 
--- what a step keeps
+-- the sizes that a step leaves unchanged
 abbrev Kept : MachineState → MachineState → Type 0
 Kept old new =
     SameShape old.zones new.zones
@@ -81,7 +81,7 @@ joined a b c (first, s, v) (second, s', v') = (
   v' ∙ v,
 )
 
--- what holds of both of two
+-- a property of both of two
 either : {A : Type 0} (P : A → Type 0) (b : Bool) (x y : A) → P x → P y → P (if b then x else y)
 either P true x y one other = one
 either P false x y one other = other

@@ -1,4 +1,4 @@
--- Functions by their places: what a number has, and what one more or another in a place makes of the list.
+-- Functions by their places: the body of a number, and the list after a body is added or replaced.
 use Rattle.std.proofs.Common.{◌≡◌, ◌≢◌, ◌∙◌, ap, sym, ℕ, zero, suc, ◌+◌, ◌<◌, ◌≤◌, List, [], ◌∷◌, ◌++◌, length, set, get_or, replicate, All, refl, arith, add-one}
 use Rattle.std.proofs.lemmas.Bool.Decides.{nat_tests}
 use Rattle.std.proofs.lemmas.Option.{slice_get-map}
@@ -22,7 +22,7 @@ equal n = grind (arith, nat_tests)
 greater : (n m : ℕ) → m < n → nat_cmp n m ≡ Greater
 greater n m lt = grind (arith, nat_tests)
 
--- a number below all others goes before them, and none of them has it
+-- a number below all others goes before them, and none of them is that number
 put-first : (n k : ℕ) (b : Body) (ss : List (Option Body)) → n < k
     → insert_entry nat_cmp (listed_from k ss) n b ≡ (n, b) ∷ listed_from k ss
 put-first n k b [] lt = refl
@@ -34,7 +34,7 @@ none-below n k [] lt = refl
 none-below n k (None ∷ ss) lt = none-below n (suc k) ss (omega arith)
 none-below n k (Some c ∷ ss) lt = rw (less n k lt) (none-below n (suc k) ss (omega arith))
 
--- the list with a number's body is the list with it inserted
+-- the list with a number's body is the list with that inserted
 pub put-slot : (n k i : ℕ) (b : Body) (ss : List (Option Body)) → i < length ss → n ≡ k + i
     → listed_from k (set ss i (Some b)) ≡ insert_entry nat_cmp (listed_from k ss) n b
 put-slot n k i b [] lt is = absurd (omega arith)
@@ -81,7 +81,7 @@ found-listed n places bodies =
     found-slot n 0 n (slots places bodies) (omega arith)
     ∙ ap joined (slice_get-map (body_of_place bodies) places n) ∙ joined-if bodies (slice_get places n)
 
--- how many have a body
+-- the count of numbers with a body
 pub one-more : (k i : ℕ) (b : Body) (ss : List (Option Body)) → i < length ss → slice_get ss i ≡ Some None
     → length (listed_from k (set ss i (Some b))) ≡ length (listed_from k ss) + 1
 one-more k i b [] lt is = absurd (omega arith)
@@ -172,7 +172,7 @@ put-slots (p ∷ ps) bs b (suc i) q lt within is apart =
     (λ k below ne. apart (suc k) (omega (arith, below)) (λ same. ne (omega (arith, same)))) in
     rw (other-place bs b q p head, rest) refl
 
--- no more have a body than there are numbers
+-- at most all numbers have a body
 pub few-listed : (k : ℕ) (ss : List (Option Body)) → length (listed_from k ss) ≤ length ss
 few-listed k [] = omega arith
 few-listed k (None ∷ ss) = omega (arith, few-listed (suc k) ss)

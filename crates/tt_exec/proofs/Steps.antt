@@ -1,4 +1,4 @@
--- Steps that lead on, and where there is none.
+-- Steps that lead on, and states without a step.
 use Rattle.std.proofs.Common.{◌≡◌, ℕ, ◌+◌, add-one, ◌⊎◌, true, nat_le, length, Ok, arith}
 use Rattle.std.proofs.lemmas.Bool.Decides.{nat_tests}
 use Rattle.tt_core.specs.Faults.{Fault}
@@ -19,6 +19,6 @@ at_end t ended = grind (arith, nat_tests)
 pub end_has_none : (t : MachineState) → is_ended t ≡ true → HasStep t → ⊥
 end_has_none t ended (v, made) = let past = at_end t ended in let none = rw past at made in cc
 
--- why a run halts after so many steps
+-- the reason why a run halts after n steps
 abbrev pub Stops : ℕ → MachineState → Fault → Type 0
 Stops n t fault = IsStuck n t fault ⊎ IsOver n t fault

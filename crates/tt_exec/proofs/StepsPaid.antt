@@ -20,7 +20,7 @@ use Rattle.tt_exec.specs.Worked.{Paid, StopWorkIs, OutcomeWithin, own_fault, wor
 use Rattle.tt_exec.proofs.Computed.{fault_told}
 use Rattle.tt_exec.proofs.WorkPaid.{StepPays, at_end, none_left, step_made, step_refused, step_spent, run_begun, charged_enough}
 
--- nothing was paid yet
+-- no payment yet
 pub paid_none : (left : Option ℕ) → Paid 0 left left
 paid_none None = refl
 paid_none (Some left) = (left, refl, omega arith)
@@ -47,7 +47,7 @@ paid_copies told cost n (Some left) mid new pays paid =
     let (rest, is, few) = rw same at paid in
     (rest, is, omega arith)
 
--- after steps that were paid for, the work of the run is that of the rest
+-- after steps that were paid for, the rest of the run's work
 abbrev pub Comes : MachineState → Option ℕ → ℕ → MachineState → Option ℕ → Type 0
 Comes s first n m left = work_within step_limit s first ≡ work_within (step_limit - n) m left
 
@@ -99,7 +99,7 @@ comes_to_refusal (outcome.SkipRefused why) s m t at first left rest n few open_a
     rw is (comes_to_fault s m first left rest n _ few open_at comes pays given)
 comes_to_refusal outcome.NoMemory s m t at first left rest n few open_at comes pays given not_done told is = rw is tt
 
--- a step that is refused halts the run
+-- a refused step halts the run
 halts_at : (s m : MachineState) (n : ℕ) (fault : Fault) → n < step_limit → is_ended m ≡ false → Leads n s m
     → step m ≡ Err fault → Halts s fault
 halts_at s m n fault few open_at leads refused = record {
@@ -120,7 +120,7 @@ halts_by (outcome.SkipRefused why) s m t at n few open_at leads given not_done t
     rw is (halts_at s m n _ few open_at leads given)
 halts_by outcome.NoMemory s m t at n few open_at leads given not_done told is = rw is tt
 
--- what is said of the steps' work is said of the run's, when what was copied for it is paid
+-- a fact about the steps' work is one about the run's, once its copies are paid for
 pub work_of_rest : (m : MachineState) (left rest : Option ℕ) (r : Result ℕ Stop) (new : Option ℕ)
     → charged (over_at m) (copied m) left ≡ enough rest → StopWorkIs (work_within step_limit m) rest r new
     → StopWorkIs (run_work m) left r new
@@ -129,7 +129,7 @@ work_of_rest m left rest (Err (stop.Run (font.Font fault))) new pays is = run_be
 work_of_rest m left rest (Err (stop.Run font.Memory)) new pays is = tt
 work_of_rest m left rest (Err (stop.Spent fault)) new pays is = (run_begun m left rest pays ∙ is.0, is.1)
 
--- what a run within a machine stops with is what a run computes, told from a state that is named otherwise
+-- the stop of a run within a machine is its computed outcome, from an equal state
 pub stop_told : (s m : MachineState) (why : Stop) (r : WorkFault) (new : Machine) → m ≡ s → r ≡ work_fault why
     → IfSome (own_fault why) (Halts m) → OutcomeWithin (run_outcome s) (Err r) new
 stop_told s m (stop.Run fault) r new same told h = rw told (fault_told s m fault (exec_fault fault) new same refl h)

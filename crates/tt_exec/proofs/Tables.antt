@@ -15,7 +15,7 @@ use Rattle.tt_exec.specs.FunctionTable.{AreFunctions, IsGrown, body_at, body_of_
 use Rattle.tt_exec.specs.Views.{body_of}
 use Rattle.tt_exec.proofs.Slots.{as-many, few-listed, grown, new-slots, one-more, put-slot, put-slots}
 
--- none is defined
+-- no functions
 pub no-functions : AreFunctions [] []
 no-functions = record {
   few = omega arith;
@@ -159,7 +159,7 @@ put-new ps bs b n are lt is =
       rw put (put-slot n 0 n b (slots ps bs) some (omega arith)),
     )
 
--- the same of what the code holds
+-- the code's table, in place of the lists
 there : (ps : List ℕ) (n v : ℕ) → n < length ps → v ≡ get_or ps n v → get_or ps n 0 ≡ v
 there ps n v lt is = get_or_from_slice_get ps n v 0 (slice_get_read ps (length ps) n v refl lt is)
 

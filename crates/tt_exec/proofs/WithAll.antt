@@ -1,4 +1,4 @@
--- A run without the whole instruction set is the same run with it, but for the refusals of the profile.
+-- A run without the whole instruction set is the same run with it, except for the refusals of the profile.
 use Rattle.std.proofs.Common.{◌≡◌, ℕ, zero, suc, ◌+◌, ◌==◌, nat_le, nat_lt, ℤ, pos, ◌+ℤ◌, int_le, int_lt, unsigned_abs, Bool, true, false, ◌&&◌, if◌then◌else◌, List, [], ◌∷◌, length, Option, Some, None, Result, Ok, Err, refl}
 use Rattle.std.specs.Ordering.{int_eq}
 use Rattle.tt_core.specs.Faults.{Fault}
@@ -50,7 +50,7 @@ pub record Families : Type 0 where
   pub settings : SettingsStay
   pub points : PointsStay
 
--- one of two answers
+-- one of two results
 either : (b : Bool) (x y x' y' : Result MachineState Fault) → RunStays x x' → RunStays y y'
     → RunStays (if b then x else y) (if b then x' else y')
 either true x y x' y' one other = one

@@ -8,7 +8,7 @@ use Rattle.tt_exec.specs.MachineState.{MachineState}
 use Rattle.tt_exec.specs.Step.{step, is_ended}
 use Rattle.tt_exec.specs.Work.{Worked, enough, spent, then_work, charged, step_cost, copied, over_at, work_after, work_within, run_work}
 
--- the program's end wants no work
+-- the program's end needs no work
 pub at_end : (n : ℕ) (m : MachineState) (left : Option ℕ) → is_ended m ≡ true → work_within n m left ≡ enough left
 unfolding work_within
 at_end zero m left ended = refl
@@ -18,7 +18,7 @@ pub none_left : (m : MachineState) (left : Option ℕ) → work_within zero m le
 unfolding work_within
 none_left m left = refl
 
--- the work of a step, and then the rest
+-- the work of a step, followed by the rest
 goes_on : (n : ℕ) (m : MachineState) (left : Option ℕ) → is_ended m ≡ false
     → work_within (suc n) m left
     ≡ then_work (charged (over_at m) (step_cost m) left) (work_after (work_within n) (step m))
@@ -53,7 +53,7 @@ pub run_spent : (m : MachineState) (left : Option ℕ) (fault : Fault)
     → charged (over_at m) (copied m) left ≡ spent fault → run_work m left ≡ spent fault
 run_spent m left fault pays = begins m left ∙ rw pays refl
 
--- work without a bound
+-- work without a limit
 
 unbounded_after : (n : ℕ) (r : Result MachineState Fault)
     → ((m : MachineState) → work_within n m None ≡ enough None) → work_after (work_within n) r None ≡ enough None
@@ -72,7 +72,7 @@ unbounded_within (suc n) m = unbounded_from (is_ended m) n m refl (λ t. unbound
 pub unbounded : (m : MachineState) → run_work m None ≡ enough None
 unbounded m = begins m None ∙ unbounded_within step_limit m
 
--- what comes of two works, by what came of the first
+-- two works in turn, by the result of the first
 
 pub then_spent : (first : Worked) (more : Option ℕ → Worked) (fault : Fault) → then_work first more ≡ spent fault
     → (first ≡ spent fault) ⊎ ((rest : Option ℕ) × (first ≡ enough rest) × (more rest ≡ spent fault))
@@ -104,7 +104,7 @@ pub charged_enough : (told : Fault) (cost left : ℕ) (after : Option ℕ) → c
     → (rest : ℕ) × (after ≡ Some rest) × (rest + cost ≡ left)
 charged_enough told cost left after e = enough_by (nat_le cost left) cost left told after refl e
 
--- a run that is refused for its work halts with StepLimit
+-- a run that exceeds its work halts with StepLimit
 
 abbrev Limited : Fault → Type 0
 Limited fault = fault.why ≡ why.StepLimit
@@ -146,7 +146,7 @@ spent_limited m left fault e =
     (then_spent (charged (over_at m) (copied m) left) (work_within step_limit m) fault (sym (begins m left) ∙ e))
     (limited_within step_limit m)
 
--- a run leaves no more work than there was
+-- a run never increases the remaining work
 
 abbrev Fewer : ℕ → Option ℕ → Type 0
 Fewer left after = (rest : ℕ) × (after ≡ Some rest) × (rest ≤ left)

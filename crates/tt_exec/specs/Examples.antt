@@ -1,4 +1,4 @@
--- Worked programs: the stack that so many steps leave, the top first, or the fault. Apple TrueType Reference Manual,
+-- Worked programs: the stack after a count of steps, the top first, or the fault. Apple TrueType Reference Manual,
 -- "Instruction set".
 use Rattle.std.specs.Prelude.{◌≡◌, ℕ, zero, suc, ℤ, pos, negsuc, false, List, [], ◌∷◌, codes, Some, Result, Ok, Err, refl}
 use Rattle.tt_core.specs.Scales.{exact_scale}
@@ -17,7 +17,7 @@ use Rattle.tt_exec.specs.Runs.{run_within}
 use Rattle.tt_exec.specs.Step.{step}
 use Rattle.tt_exec.specs.Work.{enough, spent, work_within, run_work}
 
--- the state that so many steps lead to
+-- the state after a count of steps
 abbrev after : ℕ → MachineState → Result MachineState Fault
 after zero m = Ok m
 after (suc n) m = step m >>= λ t. after n t
@@ -37,7 +37,7 @@ its_parts = record {
   default_state = false;
 }
 
--- steps of a font program, and then steps of a control value program
+-- steps of a font program, followed by steps of a control value program
 abbrev stack_after : ℕ → List ℕ → ℕ → List ℕ → Result (List ℤ) Fault
 stack_after n font m control =
     after n (run_from (record { table = codes "fpgm"; base = 0; bytes = font }) (fresh its_parts)) >>= λ s.
@@ -53,7 +53,7 @@ else_part : stack_after 0 [] 4 (0xB0 ∷ 0 ∷ 0x58 ∷ 0x1B ∷ 0xB0 ∷ 5 ∷ 
 unfolding its_parts pushed
 else_part = refl
 
--- PUSHB 2; JMPR: the length is 3, so one place further is none of the program's
+-- PUSHB 2; JMPR: the program has 3 bytes, and place 4 is outside it
 past_the_end : stack_after 0 [] 2 (0xB0 ∷ 2 ∷ 0x1C ∷ []) ≡ Err (fault_at (codes "prep") 42 why.JumpRange)
 unfolding its_parts pushed
 past_the_end = refl
@@ -64,18 +64,18 @@ called_three_times : stack_after 2 (0xB0 ∷ 7 ∷ 0x2C ∷ 0xB0 ∷ 1 ∷ 0x60 
 unfolding its_parts pushed
 called_three_times = refl
 
--- a fault in a function is told in the font program that defined it
+-- a fault in a function names the font program that defined it
 in_its_own_table : stack_after 2 (0xB0 ∷ 0 ∷ 0x2C ∷ 0x06 ∷ 0x2D ∷ []) 3 (0xB0 ∷ 0 ∷ 0x2B ∷ [])
     ≡ Err (fault_at (codes "fpgm") 3 why.OffProfile)
 unfolding its_parts pushed
 in_its_own_table = refl
 
--- a count of 0 calls nothing, but the function has to be there
+-- a count of 0 calls nothing, but the function has to exist
 never_called : stack_after 0 [] 2 (0xB1 ∷ 0 ∷ 7 ∷ 0x2A ∷ []) ≡ Err (fault_at (codes "prep") 43 why.NoFunction)
 unfolding its_parts pushed
 never_called = refl
 
--- the stack at a program's end, where so many steps are left
+-- the stack at a program's end, with a limit of steps
 abbrev stack_within : ℕ → List ℕ → Result (List ℤ) Fault
 stack_within n bytes =
     run_within n (run_from (record { table = codes "prep"; base = 40; bytes = bytes }) (fresh its_parts)) >>= λ t.
@@ -90,7 +90,7 @@ one_step_of_two : stack_within 1 (0xB1 ∷ 2 ∷ 3 ∷ 0x61 ∷ []) ≡ Err (fau
 unfolding its_parts pushed run_within
 one_step_of_two = refl
 
--- a control value program where it begins
+-- a control value program at its beginning
 abbrev begun_with : List ℕ → MachineState
 begun_with bytes = run_from (record { table = codes "prep"; base = 40; bytes = bytes }) (fresh its_parts)
 
@@ -104,12 +104,12 @@ two_of_three_paid : work_within 3 (begun_with (0xB1 ∷ 2 ∷ 3 ∷ 0x61 ∷ 0x2
 unfolding its_parts pushed work_within
 two_of_three_paid = refl
 
--- PUSHB 0; IF; ELSE; PUSHB 5; EIF: four steps, and the ELSE that IF passes
+-- PUSHB 0; IF; ELSE; PUSHB 5; EIF: four steps, and the ELSE that IF skips
 skip_paid : work_within 4 (begun_with (0xB0 ∷ 0 ∷ 0x58 ∷ 0x1B ∷ 0xB0 ∷ 5 ∷ 0x59 ∷ [])) (Some 7) ≡ enough (Some 2)
 unfolding its_parts pushed work_within
 skip_paid = refl
 
--- PUSHB 9; POP; JMPR, which is refused: its step is paid
+-- PUSHB 9; POP; JMPR, which is refused: its step is paid for
 refusal_paid : work_within 3 (begun_with (0xB0 ∷ 9 ∷ 0x21 ∷ 0x1C ∷ [])) (Some 7) ≡ enough (Some 4)
 unfolding its_parts pushed work_within
 refusal_paid = refl

@@ -1,4 +1,4 @@
--- Apple TrueType Reference Manual, "Instruction set" (INSTCTRL). The top of the stack stands first.
+-- Apple TrueType Reference Manual, "Instruction set" (INSTCTRL). The top of the stack comes first.
 use Rattle.std.specs.Prelude.{ℕ, ℤ, pos, Bool, if◌then◌else◌, List, ◌∷◌, Result, Ok, Err}
 use Rattle.std.specs.Ordering.{int_eq}
 use Rattle.tt_core.specs.Faults.{Fault}
@@ -8,7 +8,7 @@ use Rattle.tt_exec.specs.declared.machine_state.Kind.{Kind}
 use Rattle.tt_exec.specs.declared.machine_state.Kind.TheVariants as kind
 use Rattle.tt_exec.specs.MachineState.{MachineState, fault_in}
 
--- the control value program alone sets flags: 1, glyph programs are not run; 2, they start from the defaults. Other
+-- only the control value program sets flags: 1, glyph programs are not run; 2, they start from the defaults; other
 -- selectors do nothing (profile)
 abbrev pub flagged : Kind → ℤ → Bool → MachineState → MachineState
 flagged kind.ControlValue selector on m =

@@ -1,5 +1,5 @@
--- Apple TrueType Reference Manual, "Instruction set": managing the flow of control. A state's place is behind the
--- instruction, which stands at a place of its own. The top of the stack stands first.
+-- Apple TrueType Reference Manual, "Instruction set": managing the flow of control. A state's place is after the
+-- instruction, which has a place of its own. The top of the stack comes first.
 use Rattle.std.specs.Prelude.{◌≡◌, ℕ, ℤ, pos, ◌+ℤ◌, int_le, unsigned_abs, ◌&&◌, if◌then◌else◌, List, [], ◌∷◌, length, Result, Ok, Err}
 use Rattle.tt_core.specs.Faults.{Fault}
 use Rattle.tt_core.specs.declared.fault.Why.{Why}
@@ -13,7 +13,7 @@ use Rattle.tt_exec.specs.MachineState.{MachineState, fault_in}
 abbrev pub goes_to : ℕ → MachineState → MachineState
 goes_to place m = record m { frame = record m.frame { place = place } }
 
--- where a skip ends, or its refusal
+-- the end of a skip, or its refusal
 abbrev pub skipped : MachineState → Result ℕ Halt → Result MachineState Fault
 skipped m (Ok place) = Ok (goes_to place m)
 skipped m (Err halt) = Err (fault_in m.frame halt.at halt.why)
@@ -26,14 +26,14 @@ jumped at offset m =
     then Ok (goes_to (unsigned_abs target) m)
     else Err (fault_in m.frame at why.JumpRange)
 
--- IF goes on behind it where the condition is not 0, else behind its ELSE or EIF
+-- IF continues after itself if the condition is not 0, otherwise after its ELSE or EIF
 abbrev pub if_from : List ℤ → ℕ → MachineState → Result MachineState Fault
 if_from (condition ∷ s) at m =
     if is_true condition then Ok (record m { stack = s })
     else skipped (record m { stack = s }) (if_end m.frame.code.bytes at)
 if_from [] at m = Err (fault_in m.frame at why.StackShort)
 
--- ELSE that is come to ends the part before it
+-- a reached ELSE ends the part before it
 abbrev pub else_from : ℕ → MachineState → Result MachineState Fault
 else_from at m = skipped m (else_end m.frame.code.bytes at)
 
@@ -51,7 +51,7 @@ jrof (condition ∷ offset ∷ s) at m =
     if is_true condition then Ok (record m { stack = s }) else jumped at offset (record m { stack = s })
 jrof _ at m = Err (fault_in m.frame at why.StackShort)
 
--- the top entry that a call took from a state, or that there is none
+-- the top entry that a call took from a state, or the refusal of an empty stack
 abbrev pub TakesTop : MachineState → Result ℤ Why → MachineState → Type 0
 TakesTop old (Ok x) new = old ≡ record new { stack = x ∷ new.stack }
 TakesTop old (Err e) new = (old.stack ≡ []) × (e ≡ why.StackShort) × (new.frame ≡ old.frame)

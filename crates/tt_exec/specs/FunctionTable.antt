@@ -1,13 +1,13 @@
--- No part of the standard: how functions are kept by their numbers.
+-- No part of the standard: the code's table of functions by number.
 use Rattle.std.specs.Prelude.{◌≡◌, ℕ, zero, suc, ◌<◌, ◌≤◌, List, [], ◌∷◌, ◌++◌, length, replicate, map, All, slice_get, slice_index_or, Option, Some, None}
 use Rattle.tt_exec.specs.MachineState.{Body}
 
--- the body at a place, which is told as one more than it is; none at 0
+-- the body at a place, by 1 + the place; 0 means no body
 abbrev pub body_of_place : List Body → ℕ → Option Body
 body_of_place bodies zero = None
 body_of_place bodies (suc place) = slice_get bodies place
 
--- the body that a number may have, by its place
+-- the body that a number may have
 abbrev pub body_if : List Body → Option ℕ → Option Body
 body_if bodies None = None
 body_if bodies (Some place) = body_of_place bodies place
@@ -15,24 +15,25 @@ body_if bodies (Some place) = body_of_place bodies place
 abbrev pub body_at : ℕ → List ℕ → List Body → Option Body
 body_at n places bodies = body_if bodies (slice_get places n)
 
--- a number before those after it, if it has a body
+-- a number before later ones, if it has a body
 abbrev pub entry_before : ℕ → Option Body → List (ℕ × Body) → List (ℕ × Body)
 entry_before n None entries = entries
 entry_before n (Some body) entries = (n, body) ∷ entries
 
--- the numbers from one on that have bodies, with them
+-- the numbers from n on with bodies, in order
 abbrev pub listed_from : ℕ → List (Option Body) → List (ℕ × Body)
 listed_from n [] = []
 listed_from n (slot ∷ slots) = entry_before n slot (listed_from (suc n) slots)
 
--- what each number has
+-- the body of each number, if any
 abbrev pub slots : List ℕ → List Body → List (Option Body)
 slots places bodies = map (body_of_place bodies) places
 
 abbrev pub listed : List ℕ → List Body → List (ℕ × Body)
 listed places bodies = listed_from 0 (slots places bodies)
 
--- A place is one of a body, or 0, and no two numbers have one place but 0. There are as many bodies as functions.
+-- A place is that of a body, or 0, and two numbers share no place except 0. The counts of bodies and of functions
+-- are equal.
 pub record AreFunctions (places : List ℕ) (bodies : List Body) : Type 0 where
   pub few : length places ≤ 65536
   pub within : All (λ place. place ≤ length bodies) places
@@ -40,6 +41,6 @@ pub record AreFunctions (places : List ℕ) (bodies : List Body) : Type 0 where
       → slice_index_or places n 0 ≡ 0
   pub many : length (listed places bodies) ≡ length bodies
 
--- places with room for more numbers, which have no body
+-- places with room for more numbers, without bodies
 abbrev pub IsGrown : List ℕ → List ℕ → Type 0
 IsGrown old new = (more : ℕ) × (new ≡ old ++ replicate more 0)

@@ -1,5 +1,5 @@
--- Apple TrueType Reference Manual, "Instruction set": defining and using functions. A state's place is behind the
--- instruction, which stands at a place of its own. The top of the stack stands first.
+-- Apple TrueType Reference Manual, "Instruction set": defining and using functions. A state's place is after the
+-- instruction, which has a place of its own. The top of the stack comes first.
 use Rattle.std.specs.Prelude.{ℕ, ◌+◌, ◌-◌, ◌==◌, ◌||◌, ◌&&◌, nat_le, nat_lt, ℤ, pos, int_lt, unsigned_abs, Bool, true, false, if◌then◌else◌, List, [], ◌∷◌, length, Option, Some, None, Result, Ok, Err}
 use Rattle.tt_core.specs.Faults.{Fault}
 use Rattle.tt_core.specs.declared.fault.Why.TheVariants as why
@@ -14,25 +14,24 @@ use Rattle.tt_exec.specs.Flow.{goes_to}
 use Rattle.tt_exec.specs.MachineState.{Body, Frame, MachineState, fault_in}
 use Rattle.tt_exec.specs.Numbered.{is_number, is_opcode, function_at, with_function}
 
--- functions and instructions are defined by the font program and by the control value program, outside calls (profile)
+-- only the font program and the control value program define functions and instructions, outside calls (profile)
 abbrev pub may_define : Kind → List Frame → Bool
 may_define kind.Font [] = true
 may_define kind.ControlValue [] = true
 may_define _ _ = false
 
--- the opcodes without a name. A program may define an instruction for one of these alone: the manual lets IDEF define
--- undefined opcodes.
+-- the opcodes without a name. A program may define only these: the manual lets IDEF define undefined opcodes.
 abbrev pub has_no_name : ℕ → Bool
 has_no_name opcode =
     opcode == 0x28 || opcode == 0x7B || opcode == 0x83 || opcode == 0x84 || (nat_le 0x8F opcode && nat_le opcode 0xAF)
 
--- what a definition adds to a state; one of an opcode with a name adds nothing
+-- a state with a definition; one of an opcode with a name adds nothing
 abbrev pub with_definition : Definition → Body → MachineState → MachineState
 with_definition (definition.Function n) f m = record m { functions = with_function n f m.functions }
 with_definition (definition.Instruction opcode) f m =
     if has_no_name opcode then record m { instructions = with_function opcode f m.instructions } else m
 
--- a definition whose skip ends so
+-- a definition, from the end of its skip
 abbrev pub defined : ℕ → Definition → MachineState → Result ℕ Halt → Result MachineState Fault
 defined at d m (Ok place) =
     Ok (goes_to place (with_definition d (record { code = m.frame.code; start = at + 1 }) m))
@@ -62,14 +61,14 @@ abbrev pub idef : ℕ → MachineState → Result MachineState Fault
 idef at m =
     if may_define m.kind m.callers then idef_from m.stack at m else Err (fault_in m.frame at why.DefinitionPlace)
 
--- ENDF begins the next round of a LOOPCALL, or goes on behind the call
+-- ENDF begins the next round of a LOOPCALL, or continues after the call
 abbrev pub endf : List Frame → ℕ → MachineState → Result MachineState Fault
 endf [] at m = Err (fault_in m.frame at why.DefinitionPlace)
 endf (caller ∷ callers) at m =
     if m.frame.left == 0 then Ok (record m { frame = caller; callers = callers })
     else Ok (record m { frame = record m.frame { place = m.frame.start; left = m.frame.left - 1 } })
 
--- a function is called, and again so often; it goes on in the program where it was defined
+-- a function called, with a count of repeats; it runs in the program that defines it
 abbrev pub called : ℕ → ℕ → MachineState → Option Body → Result MachineState Fault
 called at again m (Some f) =
     if nat_lt (length m.callers) call_limit then Ok (record m {
@@ -82,7 +81,7 @@ abbrev pub call : List ℤ → ℕ → MachineState → Result MachineState Faul
 call (n ∷ s) at m = called at 0 (record m { stack = s }) (function_at n m.functions)
 call [] at m = Err (fault_in m.frame at why.StackShort)
 
--- an opcode without a name: the instruction that a program defined for it is called, once
+-- an opcode without a name: one call of the instruction that a program defined for it
 abbrev pub instruction_called : ℕ → MachineState → Option Body → Result MachineState Fault
 instruction_called at m (Some f) = called at 0 m (Some f)
 instruction_called at m None = Err (fault_in m.frame at why.BadOpcode)

@@ -1,4 +1,5 @@
--- Apple TrueType Reference Manual, "Instructing TrueType Glyphs" and "Graphics State": what the interpreter holds.
+-- Apple TrueType Reference Manual, "Instructing TrueType Glyphs" and "Graphics State": the state of the
+-- interpreter.
 use Rattle.std.specs.Prelude.{ℕ, ◌+◌, ℤ, Bool, List}
 use Rattle.tt_core.specs.declared.scaling.Scale.{Scale}
 use Rattle.tt_core.specs.Faults.{Fault, fault_at}
@@ -14,21 +15,21 @@ pub record Code : Type 0 where
   pub base : ℕ
   pub bytes : List ℕ
 
--- a function: the program that defines it, and where it starts there
+-- a function: the program that defines it, and its place there
 pub record Body : Type 0 where
   pub code : Code
   pub start : ℕ
 
--- an open call, or the program that is run: the place of its next instruction, where it began, and how often it is to
--- begin again
+-- an open call, or the running program: the place of its next instruction, the place where it began, and the count
+-- of repeats to come
 pub record Frame : Type 0 where
   pub code : Code
   pub place : ℕ
   pub start : ℕ
   pub left : ℕ
 
--- The stack has its top first, the callers the innermost first. Functions are listed by their
--- numbers, and instructions that programs define by their opcodes.
+-- The stack has its top first, the callers have the innermost first. Functions are listed by number, defined
+-- instructions by opcode.
 pub record MachineState : Type 0 where
   pub stack : List ℤ
   pub frame : Frame
@@ -46,11 +47,11 @@ pub record MachineState : Type 0 where
   pub scale : Scale
   pub kind : Kind
 
--- a fault at a place: it names the table of the program that holds the instruction, and the offset there
+-- a fault at a place, named by the table of the program with the instruction, and the offset there
 abbrev pub fault_in : Frame → ℕ → Why → Fault
 fault_in frame at why = fault_at frame.code.table (frame.code.base + at) why
 
--- what a machine holds, and whether a run of it failed
+-- a machine's state, and whether a run of it failed
 pub record Machine : Type 0 where
   pub state : MachineState
   pub failed : Bool

@@ -1,4 +1,4 @@
--- Apple TrueType Reference Manual, "Instructing TrueType Glyphs": the runs of a machine, one after the other.
+-- Apple TrueType Reference Manual, "Instructing TrueType Glyphs": the runs of a machine, one after another.
 use Rattle.std.specs.Prelude.{◌≡◌, ℕ, Option, Some, None, true, false, if◌then◌else◌, List, [], codes, Result, Ok, Err}
 use Rattle.std.specs.Str.{bytes_eq}
 use Rattle.tt_core.specs.Faults.{Fault}
@@ -16,7 +16,7 @@ use Rattle.tt_exec.specs.Runs.{Ends, Halts}
 abbrev pub start_of : Code → Frame
 start_of p = record { code = p; place = 0; start = 0; left = 0 }
 
--- no program has been run yet
+-- before the first run
 abbrev pub no_code : Code
 no_code = record { table = codes "none"; base = 0; bytes = [] }
 
@@ -39,11 +39,11 @@ fresh p = record {
   kind = kind.Glyph;
 }
 
--- a machine of these parts, new or begun again
+-- a machine with these parts, new or begun again
 abbrev pub begun_again : Parts → Machine
 begun_again p = record { state = fresh p; failed = false }
 
--- the parts of a machine, without what belongs to a run
+-- the parts of a machine, without the state of a run
 abbrev pub parts_in : MachineState → Parts
 parts_in m = record {
   scale = m.scale;
@@ -59,13 +59,13 @@ parts_in m = record {
   default_state = m.default_state;
 }
 
--- which program stands in a table
+-- the kind of program in a table
 abbrev pub kind_of : List ℕ → Kind
 kind_of table =
     if bytes_eq table (codes "fpgm") then kind.Font else (
     if bytes_eq table (codes "prep") then kind.ControlValue else kind.Glyph)
 
--- a run begins at the program's first byte, with an empty stack and no open call; all else is as it was
+-- a run begins at the program's first byte, with an empty stack and no open call; all else is unchanged
 abbrev pub begun : Kind → Code → MachineState → MachineState
 begun k p m = record m { stack = []; frame = start_of p; callers = []; kind = k }
 
@@ -76,15 +76,15 @@ abbrev pub exec_fault : FontFault → ExecFault
 exec_fault (font.Font f) = exec.Font f
 exec_fault font.Memory = exec.Memory
 
--- A run ends after so many steps, halts with a fault, or has no memory; after either of the last two the machine has
--- failed, and each further run answers that and changes nothing.
+-- A run ends after a count of steps, halts with a fault, or has no memory. After the last two the machine has
+-- failed: further runs report that and change nothing.
 abbrev pub RunGives : Code → Machine → Result ℕ ExecFault → Machine → Type 0
 RunGives p old (Ok n) new = (old.failed ≡ false) × (new.failed ≡ false) × Ends (run_from p old.state) n new.state
 RunGives p old (Err (exec.Font f)) new = (old.failed ≡ false) × (new.failed ≡ true) × Halts (run_from p old.state) f
 RunGives p old (Err exec.Memory) new = (old.failed ≡ false) × (new.failed ≡ true)
 RunGives p old (Err exec.Failed) new = (old.failed ≡ true) × (new ≡ old)
 
--- the same by what a run computes: at its end the state that it gives, and else the fault, unless memory ran out or the
+-- the result from the function that computes a run: its last state or its fault, unless memory ran out or the
 -- machine had failed
 abbrev pub OutcomeIs : Result MachineState Fault → Result ℕ ExecFault → Machine → Type 0
 OutcomeIs outcome (Ok n) new = outcome ≡ Ok new.state
@@ -97,8 +97,8 @@ abbrev pub GivesParts : Machine → Option Parts → Type 0
 GivesParts m (Some p) = (m.failed ≡ false) × (p ≡ parts_in m.state)
 GivesParts m None = m.failed ≡ true
 
--- a law: where a new machine and one that is begun again are of the same parts, a run of any program begins in the same
--- state on both, which is all that its outcome and its work go by
+-- a law: for the same parts, a run of any program begins in the same state on a new machine and on one begun
+-- again; its outcome and its work depend on that state alone
 abbrev pub RunsBeginAgain : Type 0
 RunsBeginAgain = (parts : Parts) (new again : Machine) → new ≡ begun_again parts → again ≡ begun_again parts
     → (code : Code) → run_from code again.state ≡ run_from code new.state

@@ -5,7 +5,7 @@ use Rattle.std.specs.Map.{lookup}
 use Rattle.std.specs.Ordering.{nat_cmp}
 use Rattle.tt_exec.specs.MachineState.{Body}
 
--- a number that a function may have
+-- a number that a function can have
 abbrev pub is_number : ℤ → Bool
 is_number n = int_le (pos 0) n && int_le n (pos 65535)
 
@@ -13,10 +13,10 @@ is_number n = int_le (pos 0) n && int_le n (pos 65535)
 abbrev pub is_opcode : ℤ → Bool
 is_opcode n = int_le (pos 0) n && int_le n (pos 255)
 
--- the function of a number
+-- the function with a number
 abbrev pub function_at : ℤ → List (ℕ × Body) → Option Body
 function_at n functions = if is_number n then lookup (is_at (nat_cmp (unsigned_abs n))) functions else None
 
--- the functions with one more, which takes the place of an earlier one
+-- the functions with one more, which replaces an earlier one
 abbrev pub with_function : ℕ → Body → List (ℕ × Body) → List (ℕ × Body)
 with_function n f functions = insert_entry nat_cmp functions n f

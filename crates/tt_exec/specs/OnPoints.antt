@@ -1,5 +1,5 @@
--- Apple TrueType Reference Manual, "Instruction set": the instructions on points, and those that change control values
--- by exceptions. What each does stands in the crates tt_exec_points and tt_points.
+-- Apple TrueType Reference Manual, "Instruction set": the instructions on points, and those that change control
+-- values by exceptions. Their definitions are in tt_exec_points and tt_points.
 use Rattle.std.specs.Prelude.{ℕ, ℤ, List, Result, Ok, Err}
 use Rattle.tt_core.specs.Faults.{Fault}
 use Rattle.tt_core.specs.declared.fault.Why.{Why}
@@ -9,8 +9,7 @@ use Rattle.tt_exec_points.specs.declared.instruction.PointInstruction.{PointInst
 use Rattle.tt_exec_points.specs.Instruction as is
 use Rattle.tt_exec.specs.MachineState.{MachineState, fault_in}
 
--- what an instruction leaves of the stack, the zones, the graphics state and the control values, or its refusal at its
--- place
+-- the stack, zones, graphics state and control values after an instruction, or its refusal at its place
 abbrev pub left_by : ℕ → MachineState → Result (List ℤ × ZoneLists × GraphicsState × List ℤ) Why → Result MachineState Fault
 left_by at m (Ok t) = Ok (record m { stack = t.0; zones = t.1; graphics = t.2; cvt = t.3 })
 left_by at m (Err why) = Err (fault_in m.frame at why)

@@ -1,6 +1,5 @@
--- Apple TrueType Reference Manual, "Instruction set": the instruction of each opcode. Vectors off the axes, crossings of
--- lines and definitions of instructions are beyond the profile: the machine has them where the whole instruction set is
--- there.
+-- Apple TrueType Reference Manual, "Instruction set": the instruction of each opcode. Vectors off the axes,
+-- crossings of lines and definitions of instructions are beyond the profile: they need the whole instruction set.
 use Rattle.std.specs.Prelude.{◌≡◌, ℕ, zero, suc, ◌/◌, ◌%◌, ◌==◌, nat_lt, Bool, true, false, if◌then◌else◌, List, [], ◌∷◌, refl}
 use Rattle.tt_state.specs.declared.graphics_state.Axis.TheVariants as axis
 use Rattle.tt_state.specs.declared.rounding.Round.TheVariants as round
@@ -21,7 +20,7 @@ use Rattle.tt_exec_points.specs.declared.instruction.PointInstruction.TheVariant
 use Rattle.tt_exec.specs.Operation.{Operation}
 use Rattle.tt_exec.specs.Operation as op
 
--- the instruction that a table has for an opcode, or else another
+-- the instruction of an opcode in a table, or another
 abbrev pub found : Operation → ℕ → List (ℕ × Operation) → Operation
 found other opcode [] = other
 found other opcode (e ∷ es) = if opcode == e.0 then e.1 else found other opcode es
@@ -42,7 +41,7 @@ opcodes_beyond =
     (0x89, op.beyond op.idef) ∷
     []
 
--- an opcode that is in no table of the profile
+-- an opcode in no table of the profile
 abbrev pub apart : ℕ → Operation
 apart opcode = found (op.unnamed opcode) opcode opcodes_beyond
 
@@ -200,16 +199,16 @@ opcodes_80 =
     (0x8E, op.instctrl) ∷
     []
 
--- an opcode that has the bit of this value
+-- whether an opcode has the bit with this value
 abbrev pub has_bit : ℕ → ℕ → Bool
 has_bit opcode bit = opcode / bit % 2 == 1
 
--- what the bits of an MDRP or MIRP opcode say
+-- the options in the bits of an MDRP or MIRP opcode
 abbrev pub keeping_of : ℕ → Keeping
 keeping_of opcode =
     record { set_rp0 = has_bit opcode 16; minimum_distance = has_bit opcode 8; round = has_bit opcode 4 }
 
--- MDRP from 0xC0, MIRP from 0xE0. The opcodes that push data are in none of these tables.
+-- MDRP from 0xC0, MIRP from 0xE0. No table has the opcodes that push data.
 abbrev pub operation_of : ℕ → Operation
 operation_of opcode =
     if nat_lt opcode 0x20 then named opcode opcodes_00 else (
@@ -220,12 +219,12 @@ operation_of opcode =
     if nat_lt opcode 0xE0 then op.on_points (on.Mdrp (keeping_of opcode))
     else op.on_points (on.Mirp (keeping_of opcode)))))))
 
--- worked values: so many opcodes from one on
+-- worked values: n opcodes from one on
 abbrev from : ℕ → ℕ → List ℕ
 from opcode zero = []
 from opcode (suc n) = opcode ∷ from (suc opcode) n
 
--- those of them that push no data and whose instruction passes a test
+-- those without data whose instruction passes a test
 abbrev those : (Operation → Bool) → List ℕ → List ℕ
 those test [] = []
 those test (opcode ∷ opcodes) =
@@ -240,11 +239,11 @@ abbrev is_beyond : Operation → Bool
 is_beyond (op.beyond o) = true
 is_beyond _ = false
 
--- every opcode that has no instruction: an opcode that is left out of the table shows here
+-- every opcode without an instruction: one missing in a table would be listed here
 no_instruction : those is_unnamed (from 0 256) ≡ 0x28 ∷ 0x7B ∷ 0x83 ∷ 0x84 ∷ from 0x8F 33
 no_instruction = refl
 
--- SPVTL, SFVTL, ISECT, ALIGNPTS, DEBUG, S45ROUND, SDPVTL and IDEF: every opcode that is beyond the profile
+-- SPVTL, SFVTL, ISECT, ALIGNPTS, DEBUG, S45ROUND, SDPVTL and IDEF: every opcode beyond the profile
 beyond_the_profile : those is_beyond (from 0 256)
     ≡ 0x06 ∷ 0x07 ∷ 0x08 ∷ 0x09 ∷ 0x0F ∷ 0x27 ∷ 0x4F ∷ 0x77 ∷ 0x86 ∷ 0x87 ∷ 0x89 ∷ []
 beyond_the_profile = refl
@@ -274,7 +273,7 @@ sdpvtl_turned = refl
 idef : operation_of 0x89 ≡ op.beyond op.idef
 idef = refl
 
--- on the stack and on what a program sets
+-- on the stack and on settings
 svtca_x : operation_of 0x01 ≡ op.access_vectors (vectors.Svtca axis.X)
 svtca_x = refl
 
@@ -336,7 +335,7 @@ gc_original = refl
 scfs : operation_of 0x48 ≡ op.on_points on.Scfs
 scfs = refl
 
--- 0x49 measures where points stand now, and 0x4A where they originally stood, as rasterizers have it (profile)
+-- 0x49 measures current places, and 0x4A original ones, as rasterizers do (profile)
 md_current : operation_of 0x49 ≡ op.on_points (on.Md position.Current)
 md_current = refl
 

@@ -1,5 +1,5 @@
--- No part of the standard: an instruction, by the family whose file defines it. Each family's variants are in the
--- manual's names.
+-- No part of the standard: an instruction, by the family that defines it. Each family's variants have the manual's
+-- names.
 use Rattle.std.specs.Prelude.{ℕ}
 use Rattle.tt_exec_stack.specs.declared.instruction.Arithmetic.{Arithmetic}
 use Rattle.tt_exec_stack.specs.declared.instruction.Logic.{Logic}
@@ -34,10 +34,10 @@ pub data Operation : Type 0 where
   idef : Operation
   -- an instruction that is refused without the whole instruction set (profile)
   beyond : Operation → Operation
-  -- an opcode that has no name: a program may define it
+  -- an opcode without a name: a program may define it
   unnamed : ℕ → Operation
 
--- how many values an instruction takes at once, before the points or pairs that it goes through one by one
+-- the count of values that an instruction takes at once, before points or pairs in turn
 abbrev pub takes : Operation → ℕ
 takes (access_vectors o) = vectors.takes o
 takes (set_state o) = settings.takes o

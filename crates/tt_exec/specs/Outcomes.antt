@@ -1,4 +1,4 @@
--- No part of the standard: a run from any state ends or halts, and has but one outcome, which is the computed one.
+-- No part of the standard: a run from any state ends or halts, with a single outcome, which is the computed one.
 use Rattle.std.specs.Prelude.{◌≡◌, ℕ, ◌⊎◌, Ok, Err}
 use Rattle.tt_core.specs.Faults.{Fault}
 use Rattle.tt_exec.specs.MachineState.{MachineState}

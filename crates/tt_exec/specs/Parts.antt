@@ -1,4 +1,4 @@
--- No part of the standard: what a machine is made of and keeps between runs, as contracts see it.
+-- No part of the standard: the parts of a machine, which exist between runs, as contracts see them.
 use Rattle.std.specs.Prelude.{ℕ, ℤ, Bool, List}
 use Rattle.tt_core.specs.declared.scaling.Scale.{Scale}
 use Rattle.tt_state.specs.declared.graphics_state.GraphicsState.{GraphicsState}

@@ -1,4 +1,4 @@
--- Apple TrueType Reference Manual, "Instructing TrueType Glyphs": a run goes step by step until the program ends, or
+-- Apple TrueType Reference Manual, "Instructing TrueType Glyphs": a run takes steps until the program ends, or
 -- stops at a fault.
 use Rattle.std.specs.Prelude.{◌≡◌, ℕ, zero, suc, ◌<◌, ◌≤◌, ◌⊎◌, true, false, if◌then◌else◌, Result, Ok, Err}
 use Rattle.tt_core.specs.Faults.{Fault}
@@ -8,7 +8,7 @@ use Rattle.tt_core.specs.declared.fault.Why.TheVariants as why
 use Rattle.tt_exec.specs.MachineState.{MachineState, fault_in}
 use Rattle.tt_exec.specs.Step.{step, is_ended}
 
--- so many steps lead from one state to another
+-- n steps lead from one state to another
 abbrev pub Leads : ℕ → MachineState → MachineState → Type 0
 Leads zero s t = s ≡ t
 Leads (suc n) s t = (m : MachineState) × Leads n s m × (step m ≡ Ok t)
@@ -24,7 +24,7 @@ pub record IsStuck (n : ℕ) (t : MachineState) (fault : Fault) : Type 0 where
   pub few : n < step_limit
   pub refused : step t ≡ Err fault
 
--- one more step would be too many
+-- one more step would exceed the limit
 pub record IsOver (n : ℕ) (t : MachineState) (fault : Fault) : Type 0 where
   pub all : n ≡ step_limit
   pub told : fault ≡ fault_in t.frame t.frame.place why.StepLimit
@@ -37,7 +37,7 @@ pub record Halts (s : MachineState) (fault : Fault) : Type 0 where
   pub goes_on : is_ended t ≡ false
   pub why : IsStuck n t fault ⊎ IsOver n t fault
 
--- the state at the program's end, or the fault that the run halts with, where so many steps are left
+-- the state at the program's end, or the run's fault, with a limit of steps
 unfoldable pub run_within : ℕ → MachineState → Result MachineState Fault
 run_within zero s = if is_ended s then Ok s else Err (fault_in s.frame s.frame.place why.StepLimit)
 run_within (suc n) s = if is_ended s then Ok s else (step s >>= λ t. run_within n t)

@@ -1,9 +1,9 @@
--- No part of the standard: no instruction makes or drops a point, a place of the storage area or a control value.
+-- No part of the standard: no instruction adds or removes a point, a storage place or a control value.
 use Rattle.std.specs.Prelude.{◌≡◌, length}
 use Rattle.tt_points_zones.specs.Zones.{ZoneLists, AreContours}
 use Rattle.tt_exec.specs.MachineState.{MachineState}
 
--- the contours are those of the glyph's points
+-- the contours are ranges of the glyph's points
 abbrev pub HasContours : ZoneLists → Type 0
 HasContours z = AreContours 0 z.contours (length z.glyph)
 

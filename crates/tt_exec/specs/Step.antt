@@ -1,5 +1,5 @@
--- Apple TrueType Reference Manual, "Instruction set": one step, the instruction at the state's place. Each family's
--- definitions stand in a file of their own; this one has them work on a whole state.
+-- Apple TrueType Reference Manual, "Instruction set": one step, the instruction at the state's place. Each family
+-- has a file of definitions; here they change a whole state.
 use Rattle.std.specs.Prelude.{ℕ, ◌+◌, nat_le, ℤ, pos, Bool, false, ◌==◌, ◌||◌, ◌&&◌, List, length, if◌then◌else◌, Result, Ok, Err}
 use Rattle.tt_core.specs.Faults.{Fault}
 use Rattle.tt_core.specs.declared.fault.Why.{Why}
@@ -27,8 +27,8 @@ use Rattle.tt_exec.specs.Opcodes.{operation_of}
 use Rattle.tt_exec.specs.Operation.{Operation, takes}
 use Rattle.tt_exec.specs.Operation as op
 
--- what an instruction leaves of the stack; of the stack and the graphics state; of the stack, the storage and the
--- control values; or its refusal at its place
+-- a state with a new stack; with a new stack and graphics state; with a new stack, storage and control values; or
+-- the refusal at the instruction's place
 abbrev pub on_stack : ℕ → MachineState → Result (List ℤ) Why → Result MachineState Fault
 on_stack at m (Ok s) = Ok (record m { stack = s })
 on_stack at m (Err why) = Err (fault_in m.frame at why)
@@ -45,12 +45,12 @@ on_places at m (Err why) = Err (fault_in m.frame at why)
 abbrev pub pushes_words : ℕ → Bool
 pushes_words opcode = opcode == 0x41 || (nat_le 0xB8 opcode && nat_le opcode 0xBF)
 
--- an opcode's data pushed
+-- the data of an opcode pushed
 abbrev pub push : ℕ → List ℕ → ℕ → MachineState → Result MachineState Fault
 push opcode args at m =
     on_stack at m (if pushes_words opcode then pushed_words args m.stack else pushed_bytes args m.stack)
 
--- an operation that stands at a place; the state's place is behind it
+-- an operation at a place; the state's place is after it
 abbrev pub operate : Operation → ℕ → MachineState → Result MachineState Fault
 operate (op.access_vectors o) at m = on_graphics at m (vectors_accessed o m.stack m.graphics)
 operate (op.set_state o) at m = on_graphics at m (state_set o m.ppem m.scale m.tolerance m.stack m.graphics)
@@ -76,11 +76,11 @@ operate op.idef at m = idef at m
 operate (op.beyond o) at m = if m.graphics.whole then operate o at m else Err (fault_in m.frame at why.OffProfile)
 operate (op.unnamed opcode) at m = instruction_called at m (function_at (pos opcode) m.instructions)
 
--- the values that an instruction takes: where a tolerant machine finds fewer, all of them count as 0 (profile)
+-- the values that an instruction takes: if a tolerant machine has fewer, all of them are 0 (profile)
 abbrev pub filled : Operation → MachineState → MachineState
 filled o m = if is_tolerant m.tolerance then record m { stack = padded (takes o) m.stack } else m
 
--- what stands at the state's place is done, or data there passes the end
+-- the instruction at the state's place executed, or its data pass the program's end
 abbrev pub done : MachineState → Result Instr Halt → Result MachineState Fault
 done m (Ok i) =
     let next = goes_to (m.frame.place + i.len) m in
@@ -94,7 +94,7 @@ step m =
     if nat_le (length m.frame.code.bytes) m.frame.place then Err (fault_in m.frame m.frame.place why.CodeShort)
     else done m (instruction_at m.frame.code.bytes m.frame.place)
 
--- a program ends at its end, where no call is open
+-- a program ends at its end, without an open call
 abbrev pub no_call : MachineState → Bool
 no_call m = length m.callers == 0
 

@@ -1,8 +1,7 @@
--- No part of the standard: how much work a run is, where the work of a job is bounded (profile). A step is one, and the
--- points or stack entries that its instruction goes over and the bytes that its skip passes are one each; so is, when a
--- run begins, each control value, storage place, twilight point and definition that was copied for it. What takes longer
--- weighs more: a point that is moved by itself or named on the stack is four, a vector or a place that is found from
--- lines is 32.
+-- No part of the standard: the work of a run, if a job's work has a limit (profile). A step is 1. Each point or
+-- stack entry that its instruction covers is 1, and so is each byte skipped. At the beginning of a run, each
+-- control value, storage place, twilight point and definition copied for it is 1. Slower things weigh more: a
+-- point moved by itself or named on the stack is 4, a vector or a place found from lines is 32.
 use Rattle.std.specs.Prelude.{ℕ, zero, suc, ◌+◌, ◌-◌, ◌*◌, ◌==◌, ◌||◌, ◌&&◌, min, nat_le, ℤ, pos, unsigned_abs, Bool, if◌then◌else◌, List, [], ◌∷◌, length, slice_index, Option, Some, None, Result, Ok, Err}
 use Rattle.tt_core.specs.Faults.{Fault}
 use Rattle.tt_core.specs.Limits.{step_limit}
@@ -13,44 +12,43 @@ use Rattle.tt_exec_stack.specs.Logic.{is_true}
 use Rattle.tt_exec.specs.MachineState.{MachineState, fault_in}
 use Rattle.tt_exec.specs.Step.{step, is_ended}
 
--- what comes of counting work: what is left of it, None where it is not bounded; or the fault of the instruction for
--- which it is not enough
+-- the remaining work, None without a limit; or the fault of the instruction that needs more
 pub data Worked : Type 0 where
   enough : Option ℕ → Worked
   spent : Fault → Worked
 
--- more work, by what is left
+-- more work, from the remaining work
 abbrev pub then_work : Worked → (Option ℕ → Worked) → Worked
 then_work (enough left) more = more left
 then_work (spent fault) more = spent fault
 
--- so much work, or this fault where less is left
+-- the remaining work after a cost, or this fault if there is not enough
 abbrev pub charged : Fault → ℕ → Option ℕ → Worked
 charged fault cost None = enough None
 charged fault cost (Some left) = if nat_le cost left then enough (Some (left - cost)) else spent fault
 
--- the top of the stack; 0 where there is none
+-- the top of the stack; 0 for an empty stack
 abbrev pub top_of : List ℤ → ℤ
 top_of [] = pos 0
 top_of (v ∷ s) = v
 
--- so many of the entries that are on the stack
+-- the count n, or the count of stack entries if that is less
 abbrev pub of_stack : ℕ → MachineState → ℕ
 of_stack n m = min n (length m.stack)
 
--- SHP, SHPIX, IP, ALIGNRP and FLIPPT go over as many points, named on the stack, as the loop variable says
+-- SHP, SHPIX, IP, ALIGNRP and FLIPPT cover points named on the stack; the loop variable is their count
 abbrev pub is_looped : ℕ → Bool
 is_looped op = op == 0x32 || op == 0x33 || op == 0x38 || op == 0x39 || op == 0x3C || op == 0x80
 
--- DELTAP and DELTAC go over as many pairs, and MINDEX over as many entries, as the top of the stack says
+-- DELTAP and DELTAC cover pairs, and MINDEX covers entries; the top of the stack is their count
 abbrev pub is_counted : ℕ → Bool
 is_counted op = op == 0x5D || (nat_le 0x71 op && nat_le op 0x75) || op == 0x26
 
--- IUP, FLIPRGON and FLIPRGOFF go over points of the glyph
+-- IUP, FLIPRGON and FLIPRGOFF cover points of the glyph
 abbrev pub is_of_glyph : ℕ → Bool
 is_of_glyph op = op == 0x30 || op == 0x31 || op == 0x81 || op == 0x82
 
--- SHC and SHZ go over points of either zone
+-- SHC and SHZ cover points of either zone
 abbrev pub is_of_zone : ℕ → Bool
 is_of_zone op = nat_le 0x34 op && nat_le op 0x37
 
@@ -58,15 +56,16 @@ is_of_zone op = nat_le 0x34 op && nat_le op 0x37
 abbrev pub moves_one : ℕ → Bool
 moves_one op = op == 0x2E || op == 0x2F || op == 0x3A || op == 0x3B || op == 0x3E || op == 0x3F || op == 0x48 || nat_le 0xC0 op
 
--- SPVTL, SFVTL, SPVFS, SFVFS, ISECT and SDPVTL find a vector, or where lines meet
+-- SPVTL, SFVTL, SPVFS, SFVFS, ISECT and SDPVTL find a vector, or the meeting point of lines
 abbrev pub is_of_lines : ℕ → Bool
 is_of_lines op = (nat_le 0x06 op && nat_le op 0x0B) || op == 0x0F || op == 0x86 || op == 0x87
 
--- NPUSHB and NPUSHW push as many entries as the byte after them says
+-- NPUSHB and NPUSHW push entries; the byte after them is the count
 abbrev pub is_push_of_many : ℕ → Bool
 is_push_of_many op = op == 0x40 || op == 0x41
 
--- what an instruction weighs besides, whatever the loop variable and the stack are; ALIGNPTS moves two points
+-- the extra work of an instruction, which doesn't depend on the loop variable or the stack; ALIGNPTS moves two
+-- points
 abbrev pub weight : ℕ → MachineState → ℕ
 weight op m =
     if moves_one op then 4 else (
@@ -74,8 +73,8 @@ weight op m =
     if is_of_lines op then 32 else (
     if is_push_of_many op then slice_index m.frame.code.bytes (m.frame.place + 1) else 0)))
 
--- the points or stack entries that an instruction goes over, by their weight; those of a contour, a zone or a range are
--- counted as all that there are
+-- the work for the points or stack entries that an instruction covers; for a contour, a zone or a range all points
+-- count
 abbrev pub gone_over : ℕ → MachineState → ℕ
 gone_over op m =
     if is_looped op then 4 * of_stack m.graphics.loops m else (
@@ -83,7 +82,7 @@ gone_over op m =
     if is_of_glyph op then length m.zones.glyph else (
     if is_of_zone op then length m.zones.twilight + length m.zones.glyph else weight op m)))
 
--- the bytes after an opcode that a skip from it passes, up to the program's end where it finds none
+-- the bytes skipped after an opcode, up to the program's end for a skip without an end
 abbrev pub passed_by : MachineState → Result ℕ Halt → ℕ
 passed_by m (Ok place) = place - (m.frame.place + 1)
 passed_by m (Err halt) = length m.frame.code.bytes - (m.frame.place + 1)
@@ -102,26 +101,26 @@ cost_by op m = 1 + (gone_over op m + passed op m)
 abbrev pub step_cost : MachineState → ℕ
 step_cost m = cost_by (slice_index m.frame.code.bytes m.frame.place) m
 
--- what was copied for a run
+-- the things copied for a run
 abbrev pub copied : MachineState → ℕ
 copied m = length m.cvt + (length m.storage + (length m.zones.twilight + (length m.functions + length m.instructions)))
 
--- a run that would pass its work halts where it stands
+-- a run that would exceed its work halts at its present place
 abbrev pub over_at : MachineState → Fault
 over_at m = fault_in m.frame m.frame.place why.StepLimit
 
--- the work of what comes after a step; one that is refused is the last
+-- the work after a step; a refused step is the last
 abbrev pub work_after : (MachineState → Option ℕ → Worked) → Result MachineState Fault → Option ℕ → Worked
 work_after more (Ok t) left = more t left
 work_after more (Err fault) left = enough left
 
--- the work of a run in which so many steps may be made; a step that is refused is work too
+-- the work of a run with a limit of steps; a refused step is work too
 unfoldable pub work_within : ℕ → MachineState → Option ℕ → Worked
 work_within zero m left = enough left
 work_within (suc n) m left =
     if is_ended m then enough left
     else then_work (charged (over_at m) (step_cost m) left) (work_after (work_within n) (step m))
 
--- the work of a run that begins at this state
+-- the work of a run from this state
 unfoldable pub run_work : MachineState → Option ℕ → Worked
 run_work m left = then_work (charged (over_at m) (copied m) left) (work_within step_limit m)

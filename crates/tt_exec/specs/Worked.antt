@@ -1,4 +1,4 @@
--- No part of the standard: how a run whose work may be bounded is tied to what it computes, and to its work.
+-- No part of the standard: a run with a limit of work, compared with its computed outcome and its work.
 use Rattle.std.specs.Prelude.{◌≡◌, ℕ, ◌+◌, ◌<◌, ◌≤◌, Bool, true, false, Option, Some, None, Result, Ok, Err}
 use Rattle.tt_core.specs.Faults.{Fault}
 use Rattle.tt_core.specs.Outcomes.{font_fault}
@@ -13,22 +13,22 @@ use Rattle.tt_exec.specs.MachineState.{Code, MachineState, Machine}
 use Rattle.tt_exec.specs.Machines.{exec_fault, OutcomeIs, RunGives}
 use Rattle.tt_exec.specs.Work.{Worked, enough, spent, run_work}
 
--- A run that its work does not refuse gives what a run gives whose work is not bounded; after one that it refuses the
--- machine has failed.
+-- A run within its work has the result of a run without a limit. After a run that exceeds it the machine has
+-- failed.
 abbrev pub RunsWithin : Code → Machine → Result ℕ WorkFault → Machine → Type 0
 RunsWithin p old (Ok n) new = RunGives p old (Ok n) new
 RunsWithin p old (Err (work.Run fault)) new = RunGives p old (Err fault) new
 RunsWithin p old (Err (work.Spent fault)) new = (old.failed ≡ false) × (new.failed ≡ true)
 
--- the same by what a run computes
+-- the result from the function that computes a run
 abbrev pub OutcomeWithin : Result MachineState Fault → Result ℕ WorkFault → Machine → Type 0
 OutcomeWithin outcome (Ok n) new = OutcomeIs outcome (Ok n) new
 OutcomeWithin outcome (Err (work.Run fault)) new = OutcomeIs outcome (Err fault) new
 OutcomeWithin outcome (Err (work.Spent fault)) new = Unit {0}
 
--- What is left of a job's work after a run: what the run's work leaves, whether it ends or halts with a fault of its
--- own; nothing after one that its work refuses, with the fault that its work tells. A machine that has failed leaves
--- all, and of a run that has no memory nothing is said.
+-- A job's remaining work after a run. A run that ends, or halts with a fault of its own, has used its own work.
+-- After one that exceeds its work nothing remains. A failed machine uses nothing. For a run without memory nothing
+-- is promised.
 abbrev pub WorkIs : (Option ℕ → Worked) → Option ℕ → Result ℕ WorkFault → Option ℕ → Type 0
 WorkIs worked old (Ok n) new = worked old ≡ enough new
 WorkIs worked old (Err (work.Run (exec.Font fault))) new = worked old ≡ enough new
@@ -36,24 +36,24 @@ WorkIs worked old (Err (work.Run exec.Memory)) new = Unit {0}
 WorkIs worked old (Err (work.Run exec.Failed)) new = new ≡ old
 WorkIs worked old (Err (work.Spent fault)) new = (worked old ≡ spent fault) × (new ≡ Some 0)
 
--- what was paid: what is left then, or that it was not enough, and nothing is left
+-- a payment: the remaining work; or there was not enough, and nothing remains
 abbrev pub Pays : Fault → Worked → Bool → Option ℕ → Type 0
 Pays fault worked true new = worked ≡ enough new
 Pays fault worked false new = (worked ≡ spent fault) × (new ≡ Some 0)
 
--- so much less, if that is there
+-- the work less a cost, if there is enough
 abbrev pub Less : ℕ → ℕ → Option ℕ → Type 0
 Less cost left (Some rest) = cost + rest ≡ left
 Less cost left None = left < cost
 
--- the same as WorkIs of what comes of a run within a machine
+-- a job's remaining work as in WorkIs, after a run within a machine
 abbrev pub StopWorkIs : (Option ℕ → Worked) → Option ℕ → Result ℕ Stop → Option ℕ → Type 0
 StopWorkIs worked old (Ok n) new = worked old ≡ enough new
 StopWorkIs worked old (Err (stop.Run (font.Font fault))) new = worked old ≡ enough new
 StopWorkIs worked old (Err (stop.Run font.Memory)) new = Unit {0}
 StopWorkIs worked old (Err (stop.Spent fault)) new = (worked old ≡ spent fault) × (new ≡ Some 0)
 
--- the fault that a run halts with, where its work does not refuse it
+-- the fault of a run that halts within its work
 abbrev pub own_fault : Stop → Option Fault
 own_fault (stop.Run fault) = font_fault fault
 own_fault (stop.Spent fault) = None
@@ -62,7 +62,7 @@ abbrev pub work_fault : Stop → WorkFault
 work_fault (stop.Run fault) = work.Run (exec_fault fault)
 work_fault (stop.Spent fault) = work.Spent fault
 
--- so many steps were paid with what is not left any more
+-- n steps used at least n of the work
 abbrev pub Paid : ℕ → Option ℕ → Option ℕ → Type 0
 Paid n None new = new ≡ None
 Paid n (Some left) new = (rest : ℕ) × (new ≡ Some rest) × (n + rest ≤ left)
@@ -76,7 +76,7 @@ abbrev pub SpentWork : Type 0
 SpentWork = (m : MachineState) (left : Option ℕ) (fault : Fault) → run_work m left ≡ spent fault
     → fault.why ≡ why.StepLimit
 
--- what is left is no more than there was
+-- the remaining work never increases
 abbrev pub WorkFalls : Type 0
 WorkFalls = (m : MachineState) (left : ℕ) (after : Option ℕ) → run_work m (Some left) ≡ enough after
     → (rest : ℕ) × (after ≡ Some rest) × (rest ≤ left)

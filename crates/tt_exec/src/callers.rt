@@ -1,4 +1,4 @@
-//! The calls that are open. Apple TrueType Reference Manual, "Instruction set" (defining and using functions).
+//! Open calls. Apple TrueType Reference Manual, "Instruction set" (defining and using functions).
 
 ghost use Rattle.std.specs.Prelude.{◌≡◌, ◌<◌, ◌≤◌, ◌==◌, [], ◌∷◌, length, MatchOption};
 ghost use Rattle.tt_core.specs.Limits.{call_limit};
@@ -10,8 +10,8 @@ use std::alloc::Global;
 use std::marker::Model;
 use tt_core::CALL_LIMIT;
 
-/// What waits for the innermost call, with room for as many as there may be. A clause sees it as a list, the innermost
-/// first.
+/// The frames that wait for the innermost call, with room for the limit of calls. A clause sees them as a list, the
+/// innermost first.
 #[derive(Drop)]
 pub(crate) struct Callers<'a> {
     frames: SmallVec<Frame<'a>, CALL_LIMIT>,
@@ -31,7 +31,7 @@ impl<'a> Model for Callers<'a> {
 }
 
 impl<'a> Callers<'a> {
-    /// None is open.
+    /// No open call.
     pub(crate) fn new(alloc: Global) -> Callers<'a>
         ensures { result ≡ [] }
     {
@@ -46,7 +46,7 @@ impl<'a> Callers<'a> {
         self.frames.clear();
     }
 
-    /// How many there are.
+    /// The count of waiting frames.
     pub(crate) fn len(&self) -> usize
         ensures exact { result ≡ length self.now }
         ensures limit { result ≤ call_limit }
@@ -54,14 +54,14 @@ impl<'a> Callers<'a> {
         self.frames.len()
     }
 
-    /// Takes the innermost.
+    /// Takes the innermost frame.
     pub(crate) fn pop(&mut self) -> Option<Frame<'a>>
         ensures { MatchOption result (self.old ≡ []) (λ f. self.old ≡ frame_of f ∷ self.new) }
     {
         self.frames.pop()
     }
 
-    /// One more waits; there is room for it.
+    /// Adds a frame, for which there is room.
     pub(crate) fn push(&mut self, frame: Frame<'a>)
         requires { length self.old < call_limit }
         ensures { self.new ≡ frame_of frame.entry ∷ self.old }

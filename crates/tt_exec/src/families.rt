@@ -1,6 +1,6 @@
-//! The families of instructions that work on the stack and on what a program sets, and move no point: what each does
-//! stands in the crates tt_exec_stack and tt_exec_state. An instruction stands at `at`. Apple TrueType Reference Manual,
-//! "Instruction set".
+//! The instructions that use the stack and the program's settings, and move no point. Their code is in
+//! tt_exec_stack and tt_exec_state. `at` is the instruction's place. Apple TrueType Reference Manual, "Instruction
+//! set".
 
 ghost use Rattle.std.specs.Prelude.{◌≡◌, ◌≤◌, length, false};
 ghost use Rattle.tt_exec.specs.Operation as operation;
@@ -17,7 +17,7 @@ use tt_exec_state::{
     Query, Setting, StoredValues, Vectors, access_values, access_vectors, answer, set_state,
 };
 
-/// What comes of an instruction that did so.
+/// The outcome of an instruction, from its result.
 macro_rules! outcome {
     ($done:expr) => {
         match $done {
@@ -28,7 +28,7 @@ macro_rules! outcome {
 }
 
 impl MachineState<'_> {
-    /// NPUSHB[], NPUSHW[], PUSHB[n] and PUSHW[n].
+    /// NPUSHB[], 0x40; NPUSHW[], 0x41; PUSHB[n], 0xB0 to 0xB7; PUSHW[n], 0xB8 to 0xBF: -> pushes the opcode's data.
     #[inline(always)]
     pub(crate) fn push(&mut self, op: u8, args: &[u8], at: usize) -> Outcome
         requires { at ≤ length self.old.frame.code.bytes.now }

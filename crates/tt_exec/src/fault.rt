@@ -1,11 +1,11 @@
-//! Why a run gives nothing.
+//! Reasons why a run has no result.
 
 use tt_core::{Fault, FontFault};
 
-/// Why a run gives nothing.
+/// The reason why a run has no result.
 #[derive(Clone, Copy, Debug, PartialEq, Eq)]
 pub enum ExecFault {
-    /// The program has this defect. Its table and offset are those of the program that holds the instruction.
+    /// The program has this defect, named by table and offset of the program with the instruction.
     Font(Fault),
     /// Memory ran out.
     Memory,

@@ -1,5 +1,5 @@
-//! Managing the flow of control. Apple TrueType Reference Manual, "Instruction set". An instruction stands at `at`, and
-//! the frame's place is behind it.
+//! Managing the flow of control. Apple TrueType Reference Manual, "Instruction set". `at` is the instruction's
+//! place; the frame's place is after it.
 
 ghost use Rattle.std.specs.Prelude.{◌≡◌, ◌<◌, length, false};
 ghost use Rattle.tt_exec.specs.Flow as flow;
@@ -21,7 +21,7 @@ impl MachineState<'_> {
         self.stack.pop()
     }
 
-    /// IF[], 0x58: e -> nothing; goes on behind its ELSE or EIF where e is 0.
+    /// IF[], 0x58: e -> continues after its ELSE or EIF if e is 0. Errors: StackShort, and those of the skip.
     pub(crate) fn if_from(&mut self, at: usize) -> Outcome
         requires { at < length self.old.frame.code.bytes.now }
         ensures exact { ComesTo (flow.if_from self.old.stack at (state_of self.old)) at (state_of self.new) result }
@@ -45,7 +45,7 @@ impl MachineState<'_> {
         }
     }
 
-    /// ELSE[], 0x1B: come to behind the part of a true IF, goes on behind the EIF.
+    /// ELSE[], 0x1B: -> continues after its EIF. Reached at the end of a true IF's part. Errors: those of the skip.
     pub(crate) fn else_from(&mut self, at: usize) -> Outcome
         requires { at < length self.old.frame.code.bytes.now }
         ensures exact { ComesTo (flow.else_from at (state_of self.old)) at (state_of self.new) result }
@@ -63,7 +63,7 @@ impl MachineState<'_> {
         }
     }
 
-    /// Error: JumpRange.
+    /// Continues at `at + offset`. Error: JumpRange.
     fn jump(&mut self, at: usize, offset: i32) -> Outcome
         requires { at < length self.old.frame.code.bytes.now }
         ensures exact { ComesTo (flow.jumped at offset (state_of self.old)) at (state_of self.new) result }
@@ -77,7 +77,7 @@ impl MachineState<'_> {
         Outcome::Done
     }
 
-    /// JMPR[], 0x1C: offset -> nothing; goes on at this opcode's place and the offset.
+    /// JMPR[], 0x1C: offset -> continues at this opcode's place plus the offset. Errors: StackShort, JumpRange.
     pub(crate) fn jmpr(&mut self, at: usize) -> Outcome
         requires { at < length self.old.frame.code.bytes.now }
         ensures exact { ComesTo (flow.jmpr self.old.stack at (state_of self.old)) at (state_of self.new) result }
@@ -89,7 +89,7 @@ impl MachineState<'_> {
         self.jump(at, offset)
     }
 
-    /// JROT[], 0x78: offset, e -> nothing; jumps where e is not 0.
+    /// JROT[], 0x78: offset, e -> jumps if e is not 0. Errors: StackShort, JumpRange.
     pub(crate) fn jrot(&mut self, at: usize) -> Outcome
         requires { at < length self.old.frame.code.bytes.now }
         ensures exact { ComesTo (flow.jrot self.old.stack at (state_of self.old)) at (state_of self.new) result }
@@ -108,7 +108,7 @@ impl MachineState<'_> {
         }
     }
 
-    /// JROF[], 0x79: offset, e -> nothing; jumps where e is 0.
+    /// JROF[], 0x79: offset, e -> jumps if e is 0. Errors: StackShort, JumpRange.
     pub(crate) fn jrof(&mut self, at: usize) -> Outcome
         requires { at < length self.old.frame.code.bytes.now }
         ensures exact { ComesTo (flow.jrof self.old.stack at (state_of self.old)) at (state_of self.new) result }
@@ -142,7 +142,7 @@ impl MachineState<'_> {
         }
     }
 
-    /// INSTCTRL[], 0x8E: value, selector -> nothing; the control value program sets a flag.
+    /// INSTCTRL[], 0x8E: value, selector -> sets a flag, in the control value program alone. Error: StackShort.
     pub(crate) fn instctrl(&mut self, at: usize) -> Outcome
         requires { at < length self.old.frame.code.bytes.now }
         ensures exact { ComesTo (flags.instctrl self.old.stack at (state_of self.old)) at (state_of self.new) result }

@@ -14,9 +14,9 @@ use std::marker::Model;
 /// Functions by number. A clause sees them as a list, the least number first.
 #[derive(Drop)]
 pub struct Functions<'a> {
-    /// For each number one more than the place of its body, 0 where there is none.
+    /// For each number 1 + the place of its body, or 0 without one.
     places: Vec<u32>,
-    /// In the order in which their numbers were first defined.
+    /// In the order of the first definitions of their numbers.
     bodies: Vec<Body<'a>>,
 }
 
@@ -33,7 +33,7 @@ impl<'a> Model for Functions<'a> {
     ghost invariant = { λ f. AreFunctions f.places.items (map body_of f.bodies.items) };
 }
 
-/// The body of a number, whose place is told as one more than it is.
+/// The body of number `n`. Its entry in `places` is 1 + its place.
 fn body_at<'a>(places: &[u32], bodies: &[Body<'a>], n: usize) -> Option<Body<'a>>
     requires { All (λ p. p ≤ length bodies.now) places.now }
     ensures { option_map body_of result ≡ body_at n places.now (map body_of bodies.now) }
@@ -48,7 +48,7 @@ fn body_at<'a>(places: &[u32], bodies: &[Body<'a>], n: usize) -> Option<Body<'a>
     Some(bodies[place - 1])
 }
 
-/// Has a place for a number, 0 if there was none.
+/// Makes room for number `n`, without a body.
 fn make_room(places: &mut Vec<u32>, n: usize) -> Result<(), AllocError>
     requires number { n < 65536 }
     requires few { length places.old.items ≤ 65536 }
@@ -62,7 +62,7 @@ fn make_room(places: &mut Vec<u32>, n: usize) -> Result<(), AllocError>
     Ok(())
 }
 
-/// Gives a number a body, in the place of its earlier one, or behind all others.
+/// Gives number `n` a body: in place of its earlier one, or after all others.
 fn put<'a>(
     places: &mut Vec<u32>,
     bodies: &mut Vec<Body<'a>>,
@@ -85,7 +85,7 @@ fn put<'a>(
 }
 
 impl<'a> Functions<'a> {
-    /// None is defined.
+    /// No functions.
     pub fn new(alloc: Global) -> Functions<'a>
         ensures { result ≡ [] }
     {
@@ -95,7 +95,7 @@ impl<'a> Functions<'a> {
         }
     }
 
-    /// How many there are.
+    /// The count of functions.
     pub(crate) fn len(&self) -> usize
         ensures exact { result ≡ length self.now }
         ensures few { result < 2 ^ 63 }
@@ -103,7 +103,7 @@ impl<'a> Functions<'a> {
         self.bodies.as_slice().len()
     }
 
-    /// From here on no number has a function.
+    /// No number from here on has a function.
     pub fn end(&self) -> usize
         ensures few { result ≤ 65536 }
         ensures none { (n : ℕ) → result ≤ n → n < 65536 → function_at (pos n) self.now ≡ None }
@@ -111,7 +111,7 @@ impl<'a> Functions<'a> {
         self.places.len()
     }
 
-    /// The function of a number.
+    /// The function with number `n`.
     #[inline]
     pub fn get(&self, n: i32) -> Option<Body<'a>>
         ensures { option_map body_of result ≡ function_at n self.now }
@@ -122,7 +122,7 @@ impl<'a> Functions<'a> {
         body_at(&self.places, &self.bodies, usize::from(n))
     }
 
-    /// Gives a number a function, in the place of an earlier one.
+    /// Gives number `n` a function, in place of an earlier one. Error: no memory.
     pub(crate) fn set(&mut self, n: u16, body: Body<'a>) -> Result<(), AllocError>
         ensures { OnOk result (self.new ≡ with_function n (body_of body.entry) self.old) }
     {
@@ -131,7 +131,7 @@ impl<'a> Functions<'a> {
         put(&mut self.places, &mut self.bodies, n, body)
     }
 
-    /// The same as others, in memory of their own.
+    /// A copy in memory of its own.
     pub fn copy(&self) -> Result<Functions<'a>, AllocError>
         ensures { IfOk result (λ f. f ≡ self.now) }
     {
@@ -141,7 +141,7 @@ impl<'a> Functions<'a> {
         })
     }
 
-    /// Takes what others are, in the memory that is there; it is none where more is wanted and refused.
+    /// Becomes a copy of others, in the existing memory. Without enough memory it becomes empty.
     pub(crate) fn copy_from(&mut self, others: &Functions<'a>) -> Result<(), AllocError>
         ensures { OnOk result (self.new ≡ others.now) }
     {

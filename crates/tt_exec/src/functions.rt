@@ -1,5 +1,5 @@
-//! Defining and using functions. Apple TrueType Reference Manual, "Instruction set". An instruction stands at `at`, and
-//! the frame's place is behind it.
+//! Defining and using functions. Apple TrueType Reference Manual, "Instruction set". `at` is the instruction's
+//! place; the frame's place is after it.
 
 ghost use Rattle.std.specs.Prelude.{◌≡◌, ◌+◌, ◌<◌, ◌≤◌, ◌^◌, pos, length, OnOk, false};
 ghost use Rattle.tt_exec.specs.Functions as is;
@@ -16,7 +16,7 @@ use std::alloc::AllocError;
 use tt_code::skip_def;
 use tt_core::{CALL_LIMIT, Why};
 
-/// Whether an opcode has no name, so that a program may define it.
+/// Whether an opcode has no name. A program may define such an opcode.
 fn has_no_name(op: u8) -> bool
     ensures { result ≡ is.has_no_name op }
 {
@@ -37,7 +37,7 @@ impl<'a> MachineState<'a> {
         }
     }
 
-    /// Keeps a definition; one of an opcode that has a name is passed over. Error: Memory.
+    /// Adds a definition. One of an opcode with a name is ignored. Error: Memory.
     fn keep(&mut self, definition: Definition, body: Body<'a>) -> Result<(), AllocError>
         ensures { OnOk result (state_of self.new ≡ is.with_definition definition (body_of body.entry) (state_of self.old)) }
     {
@@ -50,7 +50,7 @@ impl<'a> MachineState<'a> {
         }
     }
 
-    /// Defines what starts after the FDEF or IDEF at `at`. Errors: CodeShort, NoEndf; Memory.
+    /// Defines the code after the FDEF or IDEF at `at`. Errors: CodeShort, NoEndf; Memory.
     fn define(&mut self, at: usize, definition: Definition) -> Outcome
         requires { at < length self.old.frame.code.bytes.now }
         ensures { ComesTo (is.define at definition (state_of self.old)) at (state_of self.new) result }
@@ -75,9 +75,9 @@ impl<'a> MachineState<'a> {
         }
     }
 
-    /// FDEF[], 0x2C: n -> nothing; function n starts behind it, and the program goes on behind its ENDF. Errors:
-    /// DefinitionPlace outside fpgm and prep and in calls; StackShort; BadArgument of a number that is not 0 to 65535;
-    /// CodeShort, NoEndf; Memory.
+    /// FDEF[], 0x2C: n -> defines function n as the code after this opcode, and continues after its ENDF. Errors:
+    /// DefinitionPlace outside fpgm and prep and in calls; StackShort; BadArgument of a number that is not 0 to
+    /// 65535; CodeShort, NoEndf; Memory.
     pub(crate) fn fdef(&mut self, at: usize) -> Outcome
         requires { at < length self.old.frame.code.bytes.now }
         ensures { ComesTo (is.fdef at (state_of self.old)) at (state_of self.new) result }
@@ -94,9 +94,9 @@ impl<'a> MachineState<'a> {
         }
     }
 
-    /// IDEF[], 0x89: opcode -> nothing; the instruction of an opcode without a name starts after it, and the program goes
-    /// on after its ENDF. Errors: DefinitionPlace outside fpgm and prep and in calls; StackShort; BadArgument of a number
-    /// that is not 0 to 255; CodeShort, NoEndf; Memory.
+    /// IDEF[], 0x89: opcode -> defines an opcode without a name as the code after this one, and continues after its
+    /// ENDF. Errors: DefinitionPlace outside fpgm and prep and in calls; StackShort; BadArgument of a number that is
+    /// not 0 to 255; CodeShort, NoEndf; Memory.
     pub(crate) fn idef(&mut self, at: usize) -> Outcome
         requires { at < length self.old.frame.code.bytes.now }
         ensures { ComesTo (is.idef at (state_of self.old)) at (state_of self.new) result }
@@ -113,7 +113,7 @@ impl<'a> MachineState<'a> {
         }
     }
 
-    /// ENDF[], 0x2D: ends a call, or begins the next round of a LOOPCALL. Error: DefinitionPlace outside calls.
+    /// ENDF[], 0x2D: -> ends a call, or begins the next round of a LOOPCALL. Error: DefinitionPlace outside calls.
     pub(crate) fn endf(&mut self, at: usize) -> Outcome
         requires { at < length self.old.frame.code.bytes.now }
         ensures exact { ComesTo (is.endf self.old.callers at (state_of self.old)) at (state_of self.new) result }
@@ -131,7 +131,7 @@ impl<'a> MachineState<'a> {
         Outcome::Done
     }
 
-    /// Calls a function, and again so often. Error: CallDepth.
+    /// Calls a function, and repeats it `again` times. Error: CallDepth.
     fn enter(&mut self, at: usize, body: Body<'a>, again: u32) -> Outcome
         requires { at < length self.old.frame.code.bytes.now }
         ensures exact { let f = body_of body.entry in
@@ -151,7 +151,7 @@ impl<'a> MachineState<'a> {
         Outcome::Done
     }
 
-    /// CALL[], 0x2B: n -> nothing; goes on in function n, whose ENDF comes back. Errors: NoFunction, CallDepth.
+    /// CALL[], 0x2B: n -> calls function n. Its ENDF returns here. Errors: StackShort, NoFunction, CallDepth.
     pub(crate) fn call(&mut self, at: usize) -> Outcome
         requires { at < length self.old.frame.code.bytes.now }
         ensures exact { ComesTo (is.call self.old.stack at (state_of self.old)) at (state_of self.new) result }
@@ -166,8 +166,8 @@ impl<'a> MachineState<'a> {
         }
     }
 
-    /// LOOPCALL[], 0x2A: count, n -> nothing; calls function n so often, perhaps never. Errors: NoFunction whatever the
-    /// count is, CallDepth.
+    /// LOOPCALL[], 0x2A: count, n -> calls function n `count` times. A count below 1 calls nothing. Errors:
+    /// StackShort; NoFunction, whatever the count; CallDepth.
     pub(crate) fn loopcall(&mut self, at: usize) -> Outcome
         requires { at < length self.old.frame.code.bytes.now }
         ensures exact { ComesTo (is.loopcall self.old.stack at (state_of self.old)) at (state_of self.new) result }
@@ -188,8 +188,8 @@ impl<'a> MachineState<'a> {
         self.enter(at, body, (count - 1) as u32)
     }
 
-    /// An opcode that has no name: calls the instruction that a program defined for it. Errors: BadOpcode where none did,
-    /// CallDepth.
+    /// Calls the instruction that a program defined for an opcode without a name. Errors: BadOpcode without a
+    /// definition, CallDepth.
     pub(crate) fn call_instruction(&mut self, op: u8, at: usize) -> Outcome
         requires { at < length self.old.frame.code.bytes.now }
         ensures exact { let given = is.instruction_called at (state_of self.old) (function_at (pos op) self.old.instructions) in

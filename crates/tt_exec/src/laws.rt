@@ -11,12 +11,13 @@ ghost use Rattle.tt_exec.specs.Sizes.{HasContours, SameSizes};
 ghost use Rattle.tt_exec.specs.WithAll.{RunsStay};
 ghost use Rattle.tt_exec.specs.Worked.{SpentWork, UnboundedWork, WorkFalls};
 
-/// A run from any state either ends, after one number of steps and at one state, or halts with one fault, never both.
+/// Lemma: a run from any state either ends, after one count of steps and at one state, or halts with one fault,
+/// never both.
 pub fn one_outcome()
     ensures { (state : MachineState) → HasOneOutcome state }
 {}
 
-/// A run makes and drops no point, no place of the storage area and no control value, and the contours stay.
+/// Lemma: a run adds or removes no point, storage place or control value, and leaves the contours unchanged.
 pub fn sizes_are_kept()
     ensures shape { (old new : MachineState) (n : ℕ) → HasContours old.zones → Ends old n new
         → SameShape old.zones new.zones }
@@ -26,8 +27,8 @@ pub fn sizes_are_kept()
     tt_exec_state::laws::sizes_are_kept();
 }
 
-/// A run that ends without the whole instruction set ends with it too, and leaves the same; and one that halts halts with
-/// the same fault, unless that is OffProfile or Perpendicular.
+/// Lemma: the whole instruction set changes nothing for a run that ends without it, and no fault except OffProfile
+/// and Perpendicular.
 pub fn runs_stay()
     ensures { RunsStay }
 {
@@ -35,8 +36,8 @@ pub fn runs_stay()
     tt_exec_points::laws::points_stay();
 }
 
-/// A run that ends on a strict machine ends on a tolerant one too, and leaves the same; and one that halts halts with
-/// the same fault, unless that is a refusal that tolerance lifts.
+/// Lemma: tolerance changes nothing for a run that ends on a strict machine, and no fault except those that it
+/// lifts.
 pub fn runs_loosen()
     ensures { RunsLoosen }
 {
@@ -49,7 +50,7 @@ pub fn runs_loosen()
     tt_exec_points::laws::few_values_are_refused();
 }
 
-/// A run on a tolerant machine never halts with StackShort, PointRange, ContourRange, ZoneRange, CvtRange or
+/// Lemma: a run on a tolerant machine never halts with StackShort, PointRange, ContourRange, ZoneRange, CvtRange or
 /// StorageRange.
 pub fn tolerant_runs_lack_nothing()
     ensures { TolerantRunsLackNothing }
@@ -60,22 +61,22 @@ pub fn tolerant_runs_lack_nothing()
     tt_exec_points::laws::points_total();
 }
 
-/// A run on a machine that is begun again is the run on a new one.
+/// Lemma: a run on a machine that is begun again is the run on a new machine.
 pub fn runs_begin_again()
     ensures { RunsBeginAgain }
 {}
 
-/// A run whose work is not bounded is never refused for it.
+/// Lemma: a run without a work budget is never refused for its work.
 pub fn unbounded_work()
     ensures { UnboundedWork }
 {}
 
-/// A run that its work refuses halts with StepLimit.
+/// Lemma: a run that exceeds its work budget halts with StepLimit.
 pub fn spent_work()
     ensures { SpentWork }
 {}
 
-/// A run whose work is bounded leaves no more than there was.
+/// Lemma: a run never increases its work budget.
 pub fn work_falls()
     ensures { WorkFalls }
 {}

@@ -31,7 +31,7 @@ use tt_exec_state::Size;
 use tt_points::Zones;
 use tt_state::{Point, ScanControl};
 
-/// A machine, which runs programs one after the other. A clause sees what it holds, and whether a run failed.
+/// A machine runs programs one after another. A clause sees its state, and whether a run failed.
 #[derive(Drop)]
 pub struct Machine<'a> {
     state: MachineState<'a>,
@@ -48,7 +48,7 @@ impl<'a> Model for Machine<'a> {
     ghost view = { λ m. record { state = state_of m.state; failed = m.failed } };
 }
 
-/// Which program stands in a table.
+/// The kind of program in a table.
 fn kind_of(table: [u8; 4]) -> Kind
     ensures { result ≡ kind_of table }
 {
@@ -62,7 +62,7 @@ fn kind_of(table: [u8; 4]) -> Kind
 }
 
 impl<'a> Machine<'a> {
-    /// A machine of these parts. It takes memory for the whole stack.
+    /// A machine with these parts. It allocates the whole stack. Error: no memory.
     #[inline(never)]
     pub fn new(alloc: Global, parts: Parts<'a>) -> Result<Machine<'a>, AllocError>
         requires size { parts.ppem ≤ size_limit }
@@ -92,7 +92,7 @@ impl<'a> Machine<'a> {
         })
     }
 
-    /// Takes the zones out, whose memory those of the next glyph may have; the machine has none.
+    /// Takes the zones out, so that the next glyph's zones can have their memory. The machine then has none.
     pub fn take_zones(&mut self, alloc: Global) -> Zones
         ensures exact { zones_view result ≡ self.old.state.zones }
         ensures valid { IsZones (zones_view result) }
@@ -101,9 +101,8 @@ impl<'a> Machine<'a> {
         replace(&mut self.state.points, Points::none(alloc)).into_zones()
     }
 
-    /// Becomes what a new machine is that is made of these parts, with other zones in them, whatever runs left of this
-    /// one. All that it holds is copied into the memory that is there. Where more is wanted and refused, it has failed
-    /// until it is begun again.
+    /// Becomes a new machine of these parts, with other zones, whatever earlier runs did. All is copied into the
+    /// existing memory. Without enough memory the machine has failed until it is begun again.
     pub fn begin_again(&mut self, parts: &Parts<'a>, zones: Zones) -> Result<(), AllocError>
         requires size { parts.now.ppem ≤ size_limit }
         requires scale { IsScale parts.now.scale }
@@ -116,14 +115,14 @@ impl<'a> Machine<'a> {
         begun
     }
 
-    /// Runs a program from its first byte, with an empty stack and everything else as it is, and tells the steps that
-    /// were made. Where functions may be defined and flags set goes by the program's table. Errors: Font with a defect
-    /// of the program, Memory; from then on Failed.
+    /// Runs a program from its first byte, with an empty stack and all else unchanged. Gives the count of steps. The
+    /// program's table decides whether it may define functions and set flags. Errors: Font with a defect of the
+    /// program, Memory; from then on Failed.
     pub fn run(&mut self, code: Code<'a>) -> Result<u32, ExecFault>
         ensures exact { RunGives (code_of code.entry) self.old result self.new }
-        // The same by the function that computes a run.
+        // The result, by the function that computes a run.
         ensures outcome { OutcomeIs (run_outcome (run_from (code_of code.entry) self.old.state)) result self.new }
-        // No point, place of the storage area or control value is made or dropped, and the contours stay.
+        // A run adds or removes no point, storage place or control value, and leaves the contours unchanged.
         ensures shape { IfOk result (λ n. SameShape self.old.state.zones self.new.state.zones) }
         ensures sizes { IfOk result (λ n. SameSizes self.old.state self.new.state) }
     {
@@ -135,15 +134,15 @@ impl<'a> Machine<'a> {
         }
     }
 
-    /// The same with what is left of a job's work, which pays for what is copied for a run, for each step, for the points
-    /// and stack entries that its instruction goes over, and for the bytes that a skip passes. Errors: Run with that of
-    /// a run whose work is not bounded; Spent, with StepLimit at the instruction for which less is left than it wants,
-    /// and then nothing is left and the machine has failed.
+    /// Runs a program as `run` does, within a job's remaining work. The work pays for copies made for the run, for
+    /// each step, for the points and stack entries that it covers, and for bytes skipped. Errors: Run, as without a
+    /// limit; Spent, with StepLimit at the instruction that needs more than remains. After Spent no work remains, and
+    /// the machine has failed.
     pub fn run_within(&mut self, code: Code<'a>, work: &mut Work) -> Result<u32, WorkFault>
         ensures exact { RunsWithin (code_of code.entry) self.old result self.new }
         ensures outcome { OutcomeWithin (run_outcome (run_from (code_of code.entry) self.old.state)) result self.new }
         ensures work { WorkIs (run_work (run_from (code_of code.entry) self.old.state)) work.old.left result work.new.left }
-        // No more was done than was paid.
+        // Each step used at least 1 of the work.
         ensures paid { IfOk result (λ n. Paid n work.old.left work.new.left) }
         ensures shape { IfOk result (λ n. SameShape self.old.state.zones self.new.state.zones) }
         ensures sizes { IfOk result (λ n. SameSizes self.old.state self.new.state) }
@@ -163,7 +162,7 @@ impl<'a> Machine<'a> {
         }
     }
 
-    /// The stack, the top last. After a defect nothing is promised of it.
+    /// The stack, the top last. Unspecified after a defect.
     pub fn stack(&self) -> &[i32]
         ensures exact { reverse result.now ≡ self.now.state.stack }
         ensures limit { length result.now ≤ stack_limit }
@@ -179,14 +178,14 @@ impl<'a> Machine<'a> {
         self.state.points.glyph()
     }
 
-    /// What SCANCTRL and SCANTYPE left.
+    /// The setting of SCANCTRL and SCANTYPE.
     pub fn scan(&self) -> ScanControl
         ensures { result ≡ self.now.state.graphics.scan }
     {
         self.state.graphics.scan
     }
 
-    /// What the machine is made of, as its runs left it; None after Font or Memory.
+    /// The machine's parts after its runs; None after Font or Memory.
     pub fn into_parts(self) -> Option<Parts<'a>>
         ensures exact { GivesParts self.entry (option_map parts_of result) }
         ensures size { IfSome result (λ p. p.ppem ≤ size_limit) }

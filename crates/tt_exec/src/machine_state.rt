@@ -1,4 +1,4 @@
-//! What a machine holds while a program runs. Apple TrueType Reference Manual, "Instructing TrueType Glyphs".
+//! The state of a machine during a run. Apple TrueType Reference Manual, "Instructing TrueType Glyphs".
 
 ghost use Rattle.std.specs.Prelude.{◌≡◌, ◌<◌, ◌≤◌, length, OnOk};
 ghost use Rattle.tt_core.specs.Limits.{size_limit};
@@ -22,12 +22,12 @@ use tt_exec_state::Size;
 use tt_points::Zones;
 use tt_state::{GraphicsState, Tolerance};
 
-/// Which program is run: it says where functions may be defined and flags set.
+/// The kind of the running program. It decides whether functions may be defined and flags set.
 #[derive(Clone, Copy)]
 pub(crate) enum Kind {
-    /// Of the table fpgm.
+    /// The program in the table fpgm.
     Font,
-    /// Of the table prep.
+    /// The program in the table prep.
     ControlValue,
     Glyph,
 }
@@ -35,9 +35,9 @@ pub(crate) enum Kind {
 #[derive(Drop)]
 pub(crate) struct MachineState<'a> {
     pub(crate) stack: Stack,
-    /// The innermost open call, or the program that is run.
+    /// The innermost open call, or the running program.
     pub(crate) frame: Frame<'a>,
-    /// What waits for it.
+    /// The frames that wait for it.
     pub(crate) callers: Callers<'a>,
     pub(crate) functions: Functions<'a>,
     /// By opcode.
@@ -53,7 +53,7 @@ pub(crate) struct MachineState<'a> {
     pub(crate) kind: Kind,
 }
 
-/// Takes what other values are, in the memory that is there.
+/// Copies values into existing memory.
 fn copy_in(values: &mut Vec<i32>, others: &[i32]) -> Result<(), AllocError>
     ensures { OnOk result (values.new.items ≡ others.now) }
 {
@@ -62,7 +62,7 @@ fn copy_in(values: &mut Vec<i32>, others: &[i32]) -> Result<(), AllocError>
 }
 
 impl<'a> MachineState<'a> {
-    /// Becomes what a new machine is that is made of these parts and zones, in the memory that is there.
+    /// Becomes the state of a new machine of these parts and zones, in the existing memory.
     pub(crate) fn begin_again(&mut self, parts: &Parts<'a>, zones: Zones) -> Result<(), AllocError>
         requires size { parts.now.ppem ≤ size_limit }
         requires scale { IsScale parts.now.scale }
@@ -93,7 +93,7 @@ impl<'a> MachineState<'a> {
         self.kind = kind;
     }
 
-    /// What is kept between runs.
+    /// The parts that exist between runs.
     pub(crate) fn into_parts(self) -> Parts<'a>
         ensures exact { parts_of result ≡ parts_in (state_of self.entry) }
         ensures size { result.ppem ≤ size_limit }
@@ -115,7 +115,7 @@ impl<'a> MachineState<'a> {
         }
     }
 
-    /// A fault at a place of the program that holds the instruction.
+    /// A fault at a place of the program with the instruction.
     #[inline(always)]
     pub(crate) fn fault(&self, at: usize, why: Why) -> Fault
         requires { at ≤ length self.now.frame.code.bytes.now }

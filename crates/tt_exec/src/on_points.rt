@@ -1,6 +1,6 @@
-//! The instructions on points, and those that change control values by exceptions: what each does stands in the crate
-//! tt_exec_points. An instruction stands at `at`, and the frame's place is after it. Apple TrueType Reference Manual,
-//! "Instruction set".
+//! The instructions on points, and those that change control values by exceptions. Their code is in tt_exec_points.
+//! `at` is the instruction's place; the frame's place is after it. Apple TrueType Reference Manual, "Instruction
+//! set".
 
 ghost use Rattle.std.specs.Prelude.{◌≡◌, ◌<◌, length, false};
 ghost use Rattle.tt_exec.specs.OnPoints as is;

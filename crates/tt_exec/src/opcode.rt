@@ -1,5 +1,5 @@
-//! The instruction of each opcode, done. Apple TrueType Reference Manual, "Instruction set". An instruction stands at
-//! `at`, and the frame's place is behind it.
+//! Executes the instruction of each opcode. Apple TrueType Reference Manual, "Instruction set". `at` is the
+//! instruction's place; the frame's place is after it.
 
 ghost use Rattle.std.specs.Prelude.{◌≡◌, ◌<◌, length, false};
 ghost use Rattle.tt_exec.specs.Opcodes as table;
@@ -20,7 +20,7 @@ use tt_points_loops::deltas::DeltaRange;
 use tt_points_loops::shifting::ReferencePoint;
 use tt_state::{Axis, Round};
 
-/// An opcode that has the bit of this value.
+/// Whether an opcode has the bit with this value.
 #[inline(always)]
 fn has_bit(op: u8, bit: u8) -> bool
     requires { 0 < bit }
@@ -29,7 +29,7 @@ fn has_bit(op: u8, bit: u8) -> bool
     op / bit % 2 == 1
 }
 
-/// What the bits of an MDRP or MIRP opcode say.
+/// The options in the bits of an MDRP or MIRP opcode.
 #[inline(always)]
 fn keeping(op: u8) -> Keeping
     ensures { result ≡ table.keeping_of op }
@@ -42,7 +42,8 @@ fn keeping(op: u8) -> Keeping
 }
 
 impl MachineState<'_> {
-    /// SPVTL[], SFVTL[], SDPVTL[], ISECT[] and ALIGNPTS[]. Error: OffProfile without the whole instruction set.
+    /// SPVTL[], SFVTL[], SDPVTL[], ISECT[] and ALIGNPTS[], 0x06 to 0x09, 0x0F, 0x27, 0x86 and 0x87. Error: OffProfile
+    /// without the whole instruction set.
     fn on_lines(&mut self, op: PointInstruction, at: usize) -> Outcome
         requires { at < length self.old.frame.code.bytes.now }
         ensures exact { let given = is.operate (operation.beyond (operation.on_points op)) at (state_of self.old) in
@@ -55,7 +56,7 @@ impl MachineState<'_> {
         Outcome::Refused(Why::OffProfile)
     }
 
-    /// S45ROUND[] and DEBUG[]. Error: OffProfile without the whole instruction set.
+    /// S45ROUND[] and DEBUG[], 0x77 and 0x4F. Error: OffProfile without the whole instruction set.
     fn set_beyond(&mut self, op: Setting, at: usize) -> Outcome
         requires { at < length self.old.frame.code.bytes.now }
         ensures exact { let given = is.operate (operation.beyond (operation.set_state op)) at (state_of self.old) in
@@ -68,7 +69,7 @@ impl MachineState<'_> {
         self.set_state(op, at)
     }
 
-    /// IDEF[]. Error: OffProfile without the whole instruction set.
+    /// IDEF[], 0x89. Error: OffProfile without the whole instruction set.
     fn define_instruction(&mut self, at: usize) -> Outcome
         requires { at < length self.old.frame.code.bytes.now }
         ensures { let given = is.operate (operation.beyond operation.idef) at (state_of self.old) in
@@ -80,9 +81,9 @@ impl MachineState<'_> {
         self.idef(at)
     }
 
-    /// SPVTL[], SFVTL[], SDPVTL[], ISECT[], ALIGNPTS[], S45ROUND[], DEBUG[] and IDEF[], and an opcode without a name.
-    /// Seldom done, so that the others are one function. Errors: OffProfile of those that have a name, without the whole
-    /// instruction set; those of the instruction.
+    /// SPVTL[], SFVTL[], SDPVTL[], ISECT[], ALIGNPTS[], S45ROUND[], DEBUG[], IDEF[], and opcodes without a name.
+    /// Apart from the others, since rare, so that these are one function. Errors: OffProfile of those with a name,
+    /// without the whole instruction set; those of the instruction.
     #[cold]
     #[tactic(auto, unfolding(crate::specs::Opcodes::apart))]
     fn operate_apart(&mut self, op: u8, at: usize) -> Outcome
@@ -105,7 +106,7 @@ impl MachineState<'_> {
         }
     }
 
-    /// 0x00 to 0x1F.
+    /// Opcodes 0x00 to 0x1F.
     #[inline(always)]
     fn operate_00(&mut self, op: u8, at: usize) -> Outcome
         requires { at < length self.old.frame.code.bytes.now }
@@ -144,7 +145,7 @@ impl MachineState<'_> {
         }
     }
 
-    /// 0x20 to 0x3F.
+    /// Opcodes 0x20 to 0x3F.
     #[inline(always)]
     fn operate_20(&mut self, op: u8, at: usize) -> Outcome
         requires { at < length self.old.frame.code.bytes.now }
@@ -186,7 +187,7 @@ impl MachineState<'_> {
         }
     }
 
-    /// 0x40 to 0x5F.
+    /// Opcodes 0x40 to 0x5F.
     #[inline(always)]
     fn operate_40(&mut self, op: u8, at: usize) -> Outcome
         requires { at < length self.old.frame.code.bytes.now }
@@ -227,7 +228,7 @@ impl MachineState<'_> {
         }
     }
 
-    /// 0x60 to 0x7F.
+    /// Opcodes 0x60 to 0x7F.
     #[inline(always)]
     fn operate_60(&mut self, op: u8, at: usize) -> Outcome
         requires { at < length self.old.frame.code.bytes.now }
@@ -269,7 +270,7 @@ impl MachineState<'_> {
         }
     }
 
-    /// 0x80 to 0xBF.
+    /// Opcodes 0x80 to 0xBF.
     #[inline(always)]
     fn operate_80(&mut self, op: u8, at: usize) -> Outcome
         requires { at < length self.old.frame.code.bytes.now }
@@ -291,7 +292,7 @@ impl MachineState<'_> {
         }
     }
 
-    /// Does the instruction of an opcode that has no data.
+    /// Executes the instruction of an opcode without data.
     #[inline(always)]
     pub(crate) fn operate(&mut self, op: u8, at: usize) -> Outcome
         requires { at < length self.old.frame.code.bytes.now }

@@ -1,14 +1,14 @@
-//! What comes of an instruction.
+//! The outcome of an instruction.
 
 use tt_core::Why;
 
-/// What comes of an instruction: two bytes, so that it stands in registers. A fault is made of it when a run halts.
+/// The outcome of an instruction, in two bytes, so that it fits in registers. A run that halts makes a fault of it.
 #[derive(Clone, Copy)]
 pub(crate) enum Outcome {
     Done,
-    /// It is refused.
+    /// The instruction is refused.
     Refused(Why),
-    /// What it skips is refused, where the frame's place is then.
+    /// Its skip is refused, at the frame's place.
     SkipRefused(Why),
     /// Memory ran out.
     NoMemory,

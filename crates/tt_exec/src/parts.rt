@@ -1,4 +1,4 @@
-//! What a machine is made of, and keeps between runs.
+//! The parts of a machine, which exist between runs.
 
 ghost use Rattle.std.specs.Prelude.{◌≡◌, IfOk};
 ghost use Rattle.tt_exec.specs.Parts.{parts_of};
@@ -9,7 +9,7 @@ use tt_core::Scale;
 use tt_points::Zones;
 use tt_state::{GraphicsState, Tolerance};
 
-/// What a machine is made of, and what a run leaves. Distances are in 26.6 pixels.
+/// The parts of a machine, before and after runs. Distances are in 26.6 pixels.
 #[derive(Drop)]
 pub struct Parts<'a> {
     /// From font units to 26.6 pixels.
@@ -22,19 +22,19 @@ pub struct Parts<'a> {
     pub storage: Vec<i32>,
     pub zones: Zones,
     pub functions: Functions<'a>,
-    /// The instructions that IDEF defined, by opcode.
+    /// The instructions defined by IDEF, by opcode.
     pub instructions: Functions<'a>,
     pub state: GraphicsState,
-    /// What becomes of an instruction that asks for what is not there. No program sets it.
+    /// Whether a missing thing is refused or passed over. No program sets it.
     pub tolerance: Tolerance,
-    /// The control value program said that glyph programs are not to be run.
+    /// Whether the control value program forbids glyph programs.
     pub skip_glyphs: bool,
-    /// The control value program said that glyph programs are to start from the default graphics state.
+    /// Whether the control value program wants the default graphics state for glyph programs.
     pub default_state: bool,
 }
 
 impl<'a> Parts<'a> {
-    /// The same in memory of its own; the programs are not copied.
+    /// A copy in memory of its own. Programs are not copied.
     pub fn copy(&self) -> Result<Parts<'a>, AllocError>
         ensures { IfOk result (λ p. parts_of p ≡ parts_of self.now) }
     {

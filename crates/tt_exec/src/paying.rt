@@ -1,4 +1,4 @@
-//! What the work of a run is, where it is bounded (profile): that of each step, and what was copied for the run.
+//! The work of a run, if it has a limit (profile): for each step, and for copies made before the run.
 
 ghost use Rattle.std.specs.Prelude.{◌≡◌, ◌≢◌, ◌+◌, ◌^◌, ◌<◌, ◌≤◌, length, IfOk};
 ghost use Rattle.tt_exec.specs.MachineState as machine;
@@ -10,7 +10,7 @@ use crate::machine_state::MachineState;
 use crate::work::Work;
 use tt_code::{Halt, skip_def, skip_else, skip_if};
 
-/// The work of a step by its opcode; 0 where the opcode alone does not say it.
+/// The work of a step by its opcode; 0 if the opcode alone doesn't decide it.
 const COSTS: [u8; 256] = [
     1, 1, 1, 1, 1, 1, 33, 33, 33, 33, 33, 33, 1, 1, 1, 33, 1, 1, 1, 1, 1, 1, 1, 1, 1, 1, 1, 0, 1,
     1, 1, 1, 1, 1, 1, 1, 1, 1, 0, 9, 1, 1, 1, 1, 0, 1, 5, 5, 0, 0, 0, 0, 0, 0, 0, 0, 0, 0, 5, 5, 0,
@@ -23,7 +23,7 @@ const COSTS: [u8; 256] = [
     5, 5, 5, 5,
 ];
 
-/// The work of a step, where its opcode alone says it, as most do; 0 where it does not.
+/// The work of a step if its opcode alone decides it, as most do; 0 otherwise.
 #[inline(always)]
 fn fixed_cost(op: u8) -> u64
     ensures { result ≢ 0 → (m : machine.MachineState) → is.cost_by op m ≡ result }
@@ -32,14 +32,14 @@ fn fixed_cost(op: u8) -> u64
 }
 
 impl MachineState<'_> {
-    /// The top of the stack; 0 where there is none.
+    /// The top of the stack; 0 for an empty stack.
     fn top_of_stack(&self) -> i32
         ensures { result ≡ is.top_of self.now.stack }
     {
         self.stack.items().last().copied().unwrap_or(0)
     }
 
-    /// So many of the entries that are on the stack.
+    /// The count `n`, or the count of stack entries if that is less.
     fn of_stack(&self, n: u32) -> u64
         ensures exact { result ≡ is.of_stack n (state_of self.now) }
         ensures few { result < 2 ^ 32 }
@@ -47,7 +47,7 @@ impl MachineState<'_> {
         (n as u64).min(self.stack.len() as u64)
     }
 
-    /// What the instruction of an opcode weighs besides, whatever the loop variable and the stack are.
+    /// The extra work of an opcode, which doesn't depend on the loop variable or the stack.
     fn weight(&self, op: u8) -> u64
         requires { self.now.frame.place < length self.now.frame.code.bytes.now }
         ensures exact { result ≡ is.weight op (state_of self.now) }
@@ -65,7 +65,7 @@ impl MachineState<'_> {
         }
     }
 
-    /// The points or stack entries that the instruction of an opcode goes over, by their weight.
+    /// The work for the points or stack entries that an opcode covers.
     fn gone_over(&self, op: u8) -> u64
         requires { self.now.frame.place < length self.now.frame.code.bytes.now }
         ensures exact { result ≡ is.gone_over op (state_of self.now) }
@@ -80,7 +80,7 @@ impl MachineState<'_> {
         }
     }
 
-    /// The bytes after the opcode at the frame's place that a skip passes.
+    /// The count of bytes skipped after the opcode at the frame's place.
     fn passed_by(&self, end: Result<usize, Halt>) -> u64
         requires stands { self.now.frame.place < length self.now.frame.code.bytes.now }
         requires after { IfOk end (λ j. self.now.frame.place < j) }
@@ -96,7 +96,7 @@ impl MachineState<'_> {
         (to - after) as u64
     }
 
-    /// The bytes that the instruction of an opcode at the frame's place skips.
+    /// The count of bytes that the opcode at the frame's place skips.
     fn passed(&self, op: u8) -> u64
         requires { self.now.frame.place < length self.now.frame.code.bytes.now }
         ensures exact { result ≡ is.passed op (state_of self.now) }
@@ -112,7 +112,7 @@ impl MachineState<'_> {
         }
     }
 
-    /// The work of a step whose instruction has this opcode.
+    /// The work of a step with this opcode.
     #[inline(never)]
     fn cost_by(&self, op: u8) -> u64
         requires { self.now.frame.place < length self.now.frame.code.bytes.now }
@@ -124,7 +124,7 @@ impl MachineState<'_> {
         }
     }
 
-    /// The work of the step at the frame's place. The program's end inside a call counts as one.
+    /// The work of the step at the frame's place. The program's end inside a call is 1.
     #[inline(always)]
     fn step_cost(&self) -> u64
         ensures { result ≡ is.step_cost (state_of self.now) }
@@ -142,8 +142,8 @@ impl MachineState<'_> {
         cost
     }
 
-    /// Pays for the step at the frame's place; false where less is left than it wants, and nothing is left then. A run
-    /// whose work is not bounded pays no more than one test for it.
+    /// Pays for the step at the frame's place. False if the remaining work is less than its cost; then no work
+    /// remains. A run without a limit pays one test for it.
     #[inline(always)]
     pub(crate) fn pay_step(&self, work: &mut Work) -> bool
         ensures { let m = state_of self.now in
@@ -161,7 +161,7 @@ impl MachineState<'_> {
         true
     }
 
-    /// What is left of work when all was paid that was copied for a run; None where it is not enough.
+    /// The work that remains after paying for the copies of a run; None if there is not enough.
     fn after_copies(&self, left: u64) -> Option<u64>
         ensures { Less (is.copied (state_of self.now)) left result }
     {
@@ -172,7 +172,7 @@ impl MachineState<'_> {
         left.checked_sub(self.instructions.len() as u64)
     }
 
-    /// Pays for what was copied for a run; false where less is left, and nothing is left then.
+    /// Pays for the copies made for a run. False if there is not enough work; then no work remains.
     pub(crate) fn pay_copies(&self, work: &mut Work) -> bool
         ensures { let m = state_of self.now in
             Pays (is.over_at m) (is.charged (is.over_at m) (is.copied m) work.old.left) result work.new.left }

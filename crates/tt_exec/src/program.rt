@@ -14,8 +14,7 @@ pub struct Code<'a> {
     pub ghost fits: { base + length bytes.now < 2 ^ 32 },
 }
 
-/// A function, or an instruction of a program's own: the program that defines it, and the place there after its FDEF or
-/// IDEF.
+/// A function, or an instruction that a program defines: its program, and the place there after its FDEF or IDEF.
 #[derive(Clone, Copy)]
 pub struct Body<'a> {
     pub code: Code<'a>,
@@ -23,17 +22,17 @@ pub struct Body<'a> {
     pub ghost within: { start ≤ length code.bytes.now },
 }
 
-/// What a definition defines.
+/// The subject of a definition.
 #[derive(Clone, Copy)]
 pub(crate) enum Definition {
-    /// FDEF: the function of this number.
+    /// FDEF: the function with this number.
     Function(u16),
-    /// IDEF: the instruction of this opcode.
+    /// IDEF: the instruction with this opcode.
     Instruction(u8),
 }
 
-/// Where a program or a call stands: its program, the place of the next instruction, where it began, and how often it
-/// is to begin again.
+/// A running program or call: its program, the place of the next instruction, the place where it began, and the
+/// count of repeats to come.
 #[derive(Clone, Copy)]
 pub(crate) struct Frame<'a> {
     pub(crate) code: Code<'a>,
@@ -60,7 +59,7 @@ impl<'a> Frame<'a> {
         }
     }
 
-    /// No program has been run yet.
+    /// The frame before the first run.
     pub(crate) fn idle() -> Frame<'a>
         ensures { frame_of result ≡ start_of no_code }
     {

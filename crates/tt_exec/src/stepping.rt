@@ -19,7 +19,7 @@ use tt_code::{decode, plain_opcode};
 use tt_core::{Fault, FontFault, STEP_LIMIT, Why};
 
 impl MachineState<'_> {
-    /// Why a run halts, where an instruction at a place is not done.
+    /// The fault of a run that halts, from the outcome of the instruction at `at`.
     #[cold]
     fn halted(&self, at: usize, outcome: Outcome) -> FontFault
         requires { IsRefusal at (frame_of self.now.frame) outcome }
@@ -40,7 +40,7 @@ impl MachineState<'_> {
         self.fault(self.frame.place, Why::StepLimit)
     }
 
-    /// Has the values on the stack that an instruction takes, for a tolerant machine.
+    /// On a tolerant machine, provides the stack values that an instruction takes.
     #[inline(always)]
     fn fill_stack(&mut self, op: u8)
         ensures exact { state_of self.new ≡ is.filled (operation_of op) (state_of self.old) }
@@ -51,7 +51,7 @@ impl MachineState<'_> {
         }
     }
 
-    /// Does the instruction at the frame's place. Errors: CodeShort where its data passes the program's end or the
+    /// Executes the instruction at the frame's place. Errors: CodeShort if its data passes the program's end or the
     /// place is that end; those of the instruction.
     #[inline(always)]
     fn step(&mut self) -> Outcome
@@ -83,8 +83,8 @@ impl MachineState<'_> {
         self.frame.place == self.frame.code.bytes.len() && self.callers.len() == 0
     }
 
-    /// Runs on to the program's end, and tells the steps, each of which is paid for. Errors: StepLimit; those of a step;
-    /// Spent where a step wants more work than is left.
+    /// Runs to the program's end, and pays for each step. Gives the count of steps. Errors: StepLimit; those of a
+    /// step; Spent for a step that needs more work than remains.
     #[inline(never)]
     fn go(&mut self, work: &mut Work) -> Result<u32, Stop>
         ensures ends { IfOk result (λ n. Ends (state_of self.old) n (state_of self.new)) }
@@ -111,7 +111,7 @@ impl MachineState<'_> {
         }
     }
 
-    /// Runs on from the beginning of a run, for which what was copied is paid first.
+    /// Runs from the beginning of a run. Pays for its copies first.
     pub(crate) fn run(&mut self, work: &mut Work) -> Result<u32, Stop>
         ensures ends { IfOk result (λ n. Ends (state_of self.old) n (state_of self.new)) }
         ensures halts { IfErr result (λ stop. IfSome (own_fault stop) (Halts (state_of self.old))) }

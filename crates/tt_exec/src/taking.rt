@@ -1,11 +1,11 @@
-//! How many values each opcode takes from the stack at once, before the points or pairs that it goes through one by one.
-//! Apple TrueType Reference Manual, "Instruction set".
+//! The count of values that each opcode takes from the stack at once, before points or pairs in turn. Apple
+//! TrueType Reference Manual, "Instruction set".
 
 ghost use Rattle.std.specs.Prelude.{◌≡◌, ◌≤◌};
 ghost use Rattle.tt_exec.specs.Opcodes as table;
 ghost use Rattle.tt_exec.specs.Operation as operation;
 
-/// Of an opcode that is beyond the profile, or has no name.
+/// Opcodes beyond the profile, and those without a name.
 fn taken_apart(op: u8) -> usize
     ensures exact { result ≡ operation.takes (table.apart op) }
     ensures few { result ≤ 5 }
@@ -21,7 +21,7 @@ fn taken_apart(op: u8) -> usize
     }
 }
 
-/// 0x00 to 0x1F.
+/// Opcodes 0x00 to 0x1F.
 fn taken_by_00(op: u8) -> usize
     ensures exact { result ≡ operation.takes (table.named op table.opcodes_00) }
     ensures few { result ≤ 5 }
@@ -37,7 +37,7 @@ fn taken_by_00(op: u8) -> usize
     }
 }
 
-/// 0x20 to 0x3F.
+/// Opcodes 0x20 to 0x3F.
 fn taken_by_20(op: u8) -> usize
     ensures exact { result ≡ operation.takes (table.named op table.opcodes_20) }
     ensures few { result ≤ 5 }
@@ -55,7 +55,7 @@ fn taken_by_20(op: u8) -> usize
     }
 }
 
-/// 0x40 to 0x5F.
+/// Opcodes 0x40 to 0x5F.
 fn taken_by_40(op: u8) -> usize
     ensures exact { result ≡ operation.takes (table.named op table.opcodes_40) }
     ensures few { result ≤ 5 }
@@ -73,7 +73,7 @@ fn taken_by_40(op: u8) -> usize
     }
 }
 
-/// 0x60 to 0x7F.
+/// Opcodes 0x60 to 0x7F.
 fn taken_by_60(op: u8) -> usize
     ensures exact { result ≡ operation.takes (table.named op table.opcodes_60) }
     ensures few { result ≤ 5 }
@@ -90,7 +90,7 @@ fn taken_by_60(op: u8) -> usize
     }
 }
 
-/// 0x80 to 0xBF.
+/// Opcodes 0x80 to 0xBF.
 fn taken_by_80(op: u8) -> usize
     ensures exact { result ≡ operation.takes (table.named op table.opcodes_80) }
     ensures few { result ≤ 5 }
@@ -107,7 +107,7 @@ fn taken_by_80(op: u8) -> usize
     }
 }
 
-/// How many values the instruction of an opcode takes at once.
+/// The count of values that an opcode takes at once.
 pub(crate) fn taken_by(op: u8) -> usize
     ensures exact { result ≡ operation.takes (table.operation_of op) }
     ensures few { result ≤ 5 }

@@ -1,11 +1,11 @@
-//! The work of a job, where it is bounded (profile).
+//! The work of a job, if it has a limit (profile).
 
 ghost use Rattle.std.specs.Prelude.{◌≡◌};
 
 use crate::fault::ExecFault;
 use tt_core::{Fault, FontFault};
 
-/// What is left of a job's work; None where it is not bounded.
+/// The remaining work of a job; None without a limit.
 #[derive(Clone, Copy, Debug, PartialEq, Eq)]
 pub struct Work {
     pub left: Option<u64>,
@@ -25,16 +25,16 @@ impl Work {
     }
 }
 
-/// Why a run whose work may be bounded gives nothing.
+/// The reason why a run with a limit of work has no result.
 #[derive(Clone, Copy, Debug, PartialEq, Eq)]
 pub enum WorkFault {
-    /// As a run gives nothing whose work is not bounded.
+    /// A fault that a run has without a limit too.
     Run(ExecFault),
-    /// Less work is left than is wanted at this instruction: StepLimit there.
+    /// An instruction needs more work than remains: StepLimit there.
     Spent(Fault),
 }
 
-/// Why a run stops within a machine.
+/// The reason why a run stops within a machine.
 #[derive(Clone, Copy)]
 pub(crate) enum Stop {
     Run(FontFault),

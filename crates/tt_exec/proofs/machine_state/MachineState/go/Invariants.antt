@@ -6,7 +6,7 @@ use Rattle.tt_exec.specs.Work.{work_within}
 use Rattle.tt_exec.specs.Worked.{Paid}
 use Rattle.tt_exec.proofs.machine_state.MachineState.go.Given as goal
 
--- the steps that were made lead here, and were paid for
+-- the steps so far lead here, and were paid for
 abbrev pub invariant-steps : goal.invariant-steps
 invariant-steps l = record {
   few : l.n ≤ step_limit;
