@@ -1,4 +1,4 @@
--- What a strict machine gives for an instruction on points a tolerant one gives too, unless it is a refusal that
+-- For an instruction on points, a tolerant machine gives the result of a strict one, unless that is a refusal that
 -- tolerance lifts.
 use Rattle.std.proofs.Common.{◌≡◌, ℕ, zero, suc, nat_lt, ℤ, pos, negsuc, int_lt, unsigned_abs, slice_get, Bool, true, false, ◌||◌, not, is_ok, if◌then◌else◌, List, [], ◌∷◌, length, take, drop, reverse, Option, Some, None, Result, Ok, Err, ap, refl, arith}
 use Rattle.std.proofs.lemmas.List.{length-reverse}
@@ -46,7 +46,7 @@ use Rattle.tt_exec_points.specs.declared.instruction.PointInstruction.TheVariant
 abbrev Many : Type 0
 Many = (z : ZoneLists) (g : GraphicsState) → SeveralLoosened z g
 
--- an answer, or another where something is not there
+-- a result, or another where something is missing
 unless : {A : Type 0} (instead : A) (r : Result A Why)
     → Loosens (unless_missing tolerance.Strict instead r) (unless_missing tolerance.Tolerant instead r)
 unless instead r = passed instead r r (same r)
@@ -74,7 +74,7 @@ miap round cvt (n ∷ p ∷ s) z g = unless _ (after s (is.miap_by round p (cont
 miap round cvt (n ∷ []) z g = λ other. refl
 miap round cvt [] z g = λ other. refl
 
--- to a strict machine there is no control value -1
+-- a strict machine has no control value -1
 value : (n : ℤ) (cvt : List ℤ) → Loosens (mirp_value tolerance.Strict n cvt) (mirp_value tolerance.Tolerant n cvt)
 value (pos n) cvt = same (control_value (pos n) cvt)
 value (negsuc n) cvt = λ other. absurd cc
@@ -152,7 +152,7 @@ alignpts (p1 ∷ p2 ∷ s) z g = unless (s, z, g) (after_move s g (lines.alignpt
 alignpts (p1 ∷ []) z g = λ other. refl
 alignpts [] z g = λ other. refl
 
--- a reference point that is not there, after a point that is there or not
+-- a missing reference point, after a point that exists or not
 none_found : (b : Bool) (o : Option Point)
     → is_ok {E = Why} (if b then Err why.PointRange else ok_or o why.PointRange) ≡ false
     → (if b then Err why.PointRange else ok_or o why.PointRange) ≡ Err why.PointRange
@@ -176,7 +176,7 @@ refused_after : (zone : Zone) (n : ℤ) (z : ZoneLists) (f : Point → Result Zo
 refused_after zone n z f refused =
     point_first (int_lt n (pos 0)) (slice_get (points_in zone z) (unsigned_abs n)) f refused
 
--- without it a strict machine refuses the first point
+-- without the reference point a strict machine refuses the first point
 without : (step : ℤ → ZoneLists → Result ZoneLists Why) (z : ZoneLists) (g : GraphicsState)
     → ((n : ℤ) → step n z ≡ Err why.PointRange) → (ns rest s : List ℤ) → (ns ≡ [] → rest ≡ s)
     → Loosens (after rest (one_by_one (passing_over tolerance.Strict step) ns z >>= λ w. Ok (w, set_back g)))
@@ -198,7 +198,7 @@ refused_first : (step : ℤ → ZoneLists → Result ZoneLists Why) (s : List �
 refused_first step s z g refused points rest whole =
     without step z g refused (reverse points) rest s (λ none. whole (none_reversed points none))
 
--- the points are all there, or a strict machine is short of them
+-- all points exist, or a strict machine has too few
 abbrev pub unless_short : Bool → List ℤ → List ℤ → Result (List ℤ × List ℤ) Why
 unless_short short entries rest = (if short then Err why.StackShort else Ok entries) >>= λ points. Ok (points, rest)
 
@@ -295,7 +295,7 @@ shz : (which : ReferencePoint) (s : List ℤ) (z : ZoneLists) (g : GraphicsState
 shz which (e ∷ s) z g = unless (s, z, g) (after_move s g (shifting.shz which e z g))
 shz which [] z g = λ other. refl
 
--- pairs: a strict machine is short of some, or all are there
+-- pairs: a strict machine has too few, or all exist
 in_pairs : (n : ℕ) (s : List ℤ) (short : Bool) → nat_lt (length s) n ≡ short
     → Loosens (taken_in_pairs tolerance.Strict n s) (taken_in_pairs tolerance.Tolerant n s)
 in_pairs n s true is = rw is (λ other. absurd cc)
@@ -328,7 +328,7 @@ values range ppem s g cvt =
     (passing (change_pair tolerance.Strict range ppem g) (change_pair tolerance.Tolerant range ppem g)
     (changed range ppem g) (popped (c.0)) cvt) (λ v. refl))
 
--- what is left of everything
+-- the whole result
 valued : (cvt : List ℤ) (r loose : Left) → Loosens r loose → Loosens (with_values cvt r) (with_values cvt loose)
 valued cvt r loose loosens = chained r loose _ _ loosens (λ t. refl)
 

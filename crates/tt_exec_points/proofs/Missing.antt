@@ -1,4 +1,4 @@
--- What is passed over is not there.
+-- A thing that is passed over is missing.
 use Rattle.std.proofs.Common.{◌≡◌, true}
 use Rattle.tt_core.specs.declared.fault.Why.{Why}
 use Rattle.tt_state.specs.Tolerance.{is_missing, passes_over}

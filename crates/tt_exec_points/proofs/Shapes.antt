@@ -1,4 +1,4 @@
--- No instruction makes or drops a point or a control value.
+-- No instruction adds or removes a point or a control value.
 use Rattle.std.proofs.Common.{◌≡◌, ◌∙◌, ℕ, ℤ, pos, ◌+ℤ◌, Bool, true, false, ◌&&◌, if◌then◌else◌, List, [], ◌∷◌, length, get_or, Option, Some, None, Result, Ok, Err, IfOk, refl, length-set}
 use Rattle.tt_core.specs.declared.fault.Why.{Why}
 use Rattle.tt_core.specs.declared.fault.Why.TheVariants as why
@@ -45,14 +45,14 @@ HasContours z = AreContours 0 z.contours (length z.glyph)
 abbrev Interpolated : Type 0
 Interpolated = (axis : Axis) (z : ZoneLists) → HasContours z → KeepsShape z (iup axis z)
 
--- the shape of what is left
+-- the shape of the zones afterwards
 abbrev Shaped : ZoneLists → List ℤ × ZoneLists × GraphicsState → Type 0
 Shaped z t = SameShape z t.1
 
 abbrev Keeps : ZoneLists → Left → Type 0
 Keeps z left = IfOk left (Shaped z)
 
--- what holds of an answer and of what is given in its place
+-- a property of a result and of the one in its place
 either : {A : Type 0} (P : A → Type 0) (b : Bool) (instead : A) (r : Result A Why) → P instead → IfOk r P
     → IfOk (if b then Ok instead else r) P
 either P true instead r first holds = first
@@ -214,7 +214,7 @@ deltap k t range ppem s z g =
     whatever (Shaped z) (counted t s) _
     (λ c. changed c.1 g z (deltas.deltap t range ppem c.0 z g) ((k z g).deltap t range ppem c.0))
 
--- as many control values
+-- the count of control values is unchanged
 abbrev AsMany : List ℤ → List ℤ → Type 0
 AsMany cvt new = length new ≡ length cvt
 
@@ -249,7 +249,7 @@ deltac_kept t range ppem s g cvt =
     through (AsMany cvt) (λ u. AsMany cvt u.1) (changes t range ppem g (popped c.0) cvt) (λ v. Ok (c.1, v))
     (changes_kept t range ppem g (popped c.0) cvt) (λ v many. many))
 
--- what is left of everything
+-- the whole result
 valued : (z : ZoneLists) (cvt : List ℤ) (left : Left) → Keeps z left → IfOk (with_values cvt left) (SameSizes z cvt)
 valued z cvt (Ok t) kept = record { zones = kept; control_values = refl }
 valued z cvt (Err why) kept = tt

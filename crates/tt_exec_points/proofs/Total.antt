@@ -1,5 +1,5 @@
--- With as many values as it takes, no instruction on points of a tolerant machine is short of values, nor refused for
--- something that is not there.
+-- With the values that it takes, no instruction on points of a tolerant machine fails with too few values or for a
+-- missing thing.
 use Rattle.std.proofs.Common.{◌≡◌, ℕ, ◌≤◌, ◌/◌, ◌*◌, nat_le, nat_lt, ℤ, pos, negsuc, int_lt, unsigned_abs, get_or, ◌+ℤ◌, Bool, true, false, ◌||◌, not, if◌then◌else◌, List, [], ◌∷◌, length, take, drop, reverse, Option, Some, None, Result, Ok, Err, refl, arith}
 use Rattle.std.proofs.lemmas.Bool.Decides.{nat_tests}
 use Rattle.std.specs.List.{list_all}
@@ -48,7 +48,7 @@ Single = (z : ZoneLists) (g : GraphicsState) → SinglesEnough z g
 abbrev Many : Type 0
 Many = (z : ZoneLists) (g : GraphicsState) → SeveralTotal z g
 
--- what is done, or something in the place of it
+-- a result, or another in its place
 changed : (instead : List ℤ × ZoneLists × GraphicsState) (s : List ℤ) (r : Result (ZoneLists × GraphicsState) Why)
     → Enough r → IsTotal (unless_missing tolerance.Tolerant instead (after s r))
 changed instead s r enough = total_passed_over instead (after s r) (enough_after r _ enough (λ t. record {}))
@@ -172,7 +172,7 @@ alignpts k (p1 ∷ p2 ∷ s) z g enough = moved s z g (lines.alignpts p1 p2 z g)
 alignpts k (p1 ∷ []) z g enough = absurd (omega arith)
 alignpts k [] z g enough = absurd (omega arith)
 
--- on several points: nothing is done, or all of them are there
+-- on several points: nothing is done, or all exist
 of_all : (short referred : Bool) (entries rest s : List ℤ) (z : ZoneLists) (g : GraphicsState)
     (change : List ℤ → Result (ZoneLists × GraphicsState) Why) → ((points : List ℤ) → IsTotal (change points))
     → IsTotal (if not referred || short then Ok (nothing_looped s z g)
@@ -233,7 +233,7 @@ shz : Many → (which : ReferencePoint) (s : List ℤ) (z : ZoneLists) (g : Grap
 shz k which (e ∷ s) z g enough = moved s z g (shifting.shz which e z g) ((k z g).shz which e)
 shz k which [] z g enough = absurd (omega arith)
 
--- as many whole pairs as are there
+-- the whole pairs that exist
 whole : (many : ℕ) → nat_lt many (many / 2 * 2) ≡ false
 whole many = grind (arith, nat_tests)
 
@@ -295,7 +295,7 @@ interpolated axis s z g =
     (either (list_all (within axis) ps) (Ok ps) (Err why.ValueRange) (record {}) refl) (λ qs. record {}))
     (λ w. record {})
 
--- what is left of everything
+-- the whole result
 valued : (cvt : List ℤ) (left : Left) → IsTotal left → IsTotal (with_values cvt left)
 valued cvt left total = total_after left _ total (λ t. record {})
 

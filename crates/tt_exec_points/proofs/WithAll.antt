@@ -1,4 +1,4 @@
--- What an instruction on points gives without the whole instruction set it gives with it too.
+-- An instruction on points that succeeds without the whole instruction set gives the same result with it.
 use Rattle.std.proofs.Common.{◌≡◌, ℕ, ℤ, pos, Bool, true, false, ◌&&◌, if◌then◌else◌, List, [], ◌∷◌, Result, Ok, refl}
 use Rattle.tt_core.specs.declared.fault.Why.{Why}
 use Rattle.tt_state.specs.Tolerance.{is_tolerant, unless_missing}
@@ -189,7 +189,7 @@ ip k t s z g =
     loop t (has_point g.zp0 g.rp1 z) s z g (λ points. moving.ip t points z g)
     (λ points. moving.ip t points z (with_all g)) ((k z g).ip t)
 
--- the whole instruction set has no part in which point is referred to
+-- the reference point does not depend on the whole instruction set
 referred : (which : ReferencePoint) (z : ZoneLists) (g : GraphicsState)
     → is.has_reference which z (with_all g) ≡ is.has_reference which z g
 unfolding has_reference
@@ -246,7 +246,7 @@ deltap k t range ppem s z g =
     given.after third (counted t s) _ _
     (λ c. moved c.1 g (deltas.deltap t range ppem c.0 z g) _ ((k z g).deltap t range ppem c.0))
 
--- what is left of everything
+-- the whole result
 valued : (cvt : List ℤ) (r with : Left) → StaysThird r with → Stays beside (with_values cvt r) (with_values cvt with)
 valued cvt r with stays = chained third beside r with _ _ stays (λ u. refl)
 

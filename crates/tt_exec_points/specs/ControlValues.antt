@@ -21,7 +21,7 @@ use Rattle.tt_exec_points.specs.Popping.{counted}
 abbrev pub value_of : ℤ → Result ℤ Why
 value_of v = if is_value v then Ok v else Err why.ValueRange
 
--- a control value changed by an exception, if there is one
+-- a control value with an exception added, if there is one
 abbrev pub change_by : Option ℤ → ℤ → List ℤ → Result (List ℤ) Why
 change_by None n cvt = Ok cvt
 change_by (Some d) n cvt = place n (length cvt) why.CvtRange >>= λ i.
@@ -31,15 +31,15 @@ change_by (Some d) n cvt = place n (length cvt) why.CvtRange >>= λ i.
 abbrev pub change_pair : Tolerance → DeltaRange → ℕ → GraphicsState → ℤ × ℤ → List ℤ → Result (List ℤ) Why
 change_pair t range ppem g pair cvt = delta_of t range pair.0 ppem g >>= λ d. change_by d pair.1 cvt
 
--- one whose control value is not there is passed over by a tolerant machine
+-- a tolerant machine passes over a pair whose control value is missing
 abbrev pub change : Tolerance → DeltaRange → ℕ → GraphicsState → ℤ × ℤ → List ℤ → Result (List ℤ) Why
 change t range ppem g pair cvt = unless_missing t cvt (change_pair t range ppem g pair cvt)
 
--- each pair in turn: an earlier one is done where a later one is refused
+-- each pair in turn; a refusal of a later one keeps the earlier ones
 abbrev pub changes : Tolerance → DeltaRange → ℕ → GraphicsState → List (ℤ × ℤ) → List ℤ → Result (List ℤ) Why
 changes t range ppem g pairs cvt = one_by_one (change t range ppem g) pairs cvt
 
--- pairs as they stand on the stack, in the order in which they are popped
+-- the pairs on the stack, in the order of their pops
 abbrev pub popped : List ℤ → List (ℤ × ℤ)
 popped entries = reverse (pairs_of entries)
 

@@ -1,6 +1,6 @@
 -- Apple TrueType Reference Manual, "Instruction set": the instructions that move or measure points, and those that
--- change control values by exceptions, with the stack, which has its top first. What each does to its points stands in
--- the crates tt_points, tt_points_loops and tt_points_iup, by the same names.
+-- change control values by exceptions, with the stack, which has its top first. Their effects on points are in
+-- tt_points, tt_points_loops and tt_points_iup, by the same names.
 use Rattle.std.specs.Prelude.{◌≡◌, ℕ, ℤ, pos, negsuc, Bool, true, false, ◌&&◌, if◌then◌else◌, List, [], ◌∷◌, length, get_or, Result, Ok, Err, refl}
 use Rattle.std.specs.Ordering.{int_eq}
 use Rattle.tt_core.specs.Outcomes.{◌>>=◌}
@@ -45,7 +45,7 @@ abbrev pub mdap : Tolerance → Bool → List ℤ → ZoneLists → GraphicsStat
 mdap t round (p ∷ s) z g = unless_missing t (s, z, g) (after s (single_moving.mdap round p z g))
 mdap t round [] z g = Err why.StackShort
 
--- passed over, it sets the reference points all the same
+-- when passed over, it still sets the reference points
 abbrev pub mdrp : Tolerance → Keeping → List ℤ → ZoneLists → GraphicsState → Left
 mdrp t keeping (p ∷ s) z g =
     unless_missing t (s, z, referred keeping.set_rp0 p g) (after s (single_moving.mdrp keeping p z g))
@@ -55,11 +55,11 @@ abbrev pub msirp : Tolerance → Bool → List ℤ → ZoneLists → GraphicsSta
 msirp t set_rp0 (d ∷ p ∷ s) z g = unless_missing t (s, z, g) (after s (single_moving.msirp set_rp0 p d z g))
 msirp t set_rp0 _ z g = Err why.StackShort
 
--- the control value with a number
+-- the control value with number n
 abbrev pub control_value : ℤ → List ℤ → Result ℤ Why
 control_value n cvt = place n (length cvt) why.CvtRange >>= λ i. Ok (get_or cvt i (pos 0))
 
--- a control value, if it is there, and what is done by it
+-- a control value, if it exists, and the instruction with it
 abbrev pub miap_by : Bool → ℤ → Result ℤ Why → ZoneLists → GraphicsState → Result (ZoneLists × GraphicsState) Why
 miap_by round p given z g = given >>= λ c. by_value.miap round p c z g
 
@@ -70,17 +70,17 @@ mirp_by keeping p given z g = given >>= λ c. by_value.mirp keeping p c z g
 abbrev pub referred_to : ℤ → GraphicsState → GraphicsState
 referred_to p g = record g { rp0 = p; rp1 = p }
 
--- passed over, it sets the reference points all the same
+-- when passed over, it still sets the reference points
 abbrev pub miap : Tolerance → Bool → List ℤ → List ℤ → ZoneLists → GraphicsState → Left
 miap t round cvt (n ∷ p ∷ s) z g =
     unless_missing t (s, z, referred_to p g) (after s (miap_by round p (control_value n cvt) z g))
 miap t round cvt _ z g = Err why.StackShort
 
--- to a tolerant machine's MIRP the control value -1 is 0
+-- for MIRP of a tolerant machine, control value -1 is 0
 abbrev pub mirp_value : Tolerance → ℤ → List ℤ → Result ℤ Why
 mirp_value t n cvt = if is_tolerant t && int_eq n (negsuc 0) then Ok (pos 0) else control_value n cvt
 
--- passed over, it sets the reference points all the same
+-- when passed over, it still sets the reference points
 abbrev pub mirp : Tolerance → Keeping → List ℤ → List ℤ → ZoneLists → GraphicsState → Left
 mirp t keeping cvt (n ∷ p ∷ s) z g =
     unless_missing t (s, z, referred keeping.set_rp0 p g) (after s (mirp_by keeping p (mirp_value t n cvt) z g))
@@ -94,7 +94,7 @@ abbrev pub utp : Tolerance → List ℤ → ZoneLists → GraphicsState → Left
 utp t (p ∷ s) z g = unless_missing t (s, z, g) (after_move s g (measuring.utp p z g))
 utp t [] z g = Err why.StackShort
 
--- where a point is not there, 0 is measured
+-- a missing point measures 0
 abbrev pub gc : Tolerance → Position → List ℤ → ZoneLists → GraphicsState → Result (List ℤ) Why
 gc t of (p ∷ s) z g = unless_missing t (pos 0) (measuring.gc of p z g) >>= λ c. pushed c s
 gc t of [] z g = Err why.StackShort
@@ -109,7 +109,7 @@ alignrp t s z g = looped t (has_point g.zp0 g.rp0 z) s z g (λ points. moving.al
 abbrev pub ip : Tolerance → List ℤ → ZoneLists → GraphicsState → Left
 ip t s z g = looped t (has_point g.zp0 g.rp1 z) s z g (λ points. moving.ip t points z g)
 
--- whether the reference point is there that others follow
+-- whether the reference point that others follow exists
 unfoldable pub has_reference : ReferencePoint → ZoneLists → GraphicsState → Bool
 has_reference which z g = has_point (shifting.reference_zone which g) (shifting.reference_number which g) z
 
@@ -174,7 +174,7 @@ alignpts t _ z g = Err why.StackShort
 abbrev pub LeftOfAll : Type 0
 LeftOfAll = Result (List ℤ × ZoneLists × GraphicsState × List ℤ) Why
 
--- after an instruction that leaves the control values as they are, and one that works on the stack alone
+-- after an instruction that leaves the control values unchanged, and one that changes the stack alone
 abbrev pub with_values : List ℤ → Left → LeftOfAll
 with_values cvt left = left >>= λ t. Ok (t.0, t.1, t.2, cvt)
 
@@ -209,7 +209,7 @@ on_points t (instruction.Sdpvtl turned) ppem s z g cvt = with_values cvt (sdpvtl
 on_points t instruction.Isect ppem s z g cvt = with_values cvt (isect t s z g)
 on_points t instruction.Alignpts ppem s z g cvt = with_values cvt (alignpts t s z g)
 
--- how many values an instruction takes at once, before points and pairs of which the program says how many
+-- the count of values that an instruction takes at once, before points and pairs whose count the program decides
 abbrev pub takes : PointInstruction → ℕ
 takes instruction.Utp = 1
 takes (instruction.Mdap round) = 1
@@ -238,7 +238,7 @@ takes (instruction.Sdpvtl turned) = 2
 takes instruction.Isect = 5
 takes instruction.Alignpts = 2
 
--- worked values: what a tolerant machine does with two points, one at 0 and one at 40 along x, where these have no more
+-- worked values: a tolerant machine with exactly two points, one at 0 and one at 40 along x
 abbrev two : ZoneLists
 two = zero_and (pos 40)
 

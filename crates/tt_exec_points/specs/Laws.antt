@@ -1,5 +1,4 @@
--- Laws of the instructions on points, each said once (profile): what a tolerant machine does beside a strict one, and
--- what few values come to.
+-- Laws of the instructions on points (profile): the tolerant machine beside a strict one, and too few values.
 use Rattle.std.specs.Prelude.{◌≡◌, ℕ, ◌<◌, ◌≤◌, ℤ, List, length, Err}
 use Rattle.tt_core.specs.declared.fault.Why.TheVariants as why
 use Rattle.tt_state.specs.Loosening.{Loosens, IsTotal}
@@ -10,17 +9,17 @@ use Rattle.tt_points_zones.specs.Zones.{ZoneLists}
 use Rattle.tt_exec_points.specs.Instruction.{on_points, takes}
 use Rattle.tt_exec_points.specs.declared.instruction.PointInstruction.{PointInstruction}
 
--- a tolerant machine answers what a strict one does, or in the place of a refusal that tolerance lifts
+-- a tolerant machine has the result of a strict one, or another in place of a refusal that tolerance lifts
 abbrev pub PointsAreLoosened : Type 0
 PointsAreLoosened = (o : PointInstruction) (ppem : ℕ) (s : List ℤ) (z : ZoneLists) (g : GraphicsState) (cvt : List ℤ)
     → Loosens (on_points tolerance.Strict o ppem s z g cvt) (on_points tolerance.Tolerant o ppem s z g cvt)
 
--- where the values are there that an instruction takes, it is short of none, and what is not there is passed over
+-- with the values that it takes, an instruction does not fail with too few, and a missing thing is passed over
 abbrev pub PointsAreTotal : Type 0
 PointsAreTotal = (o : PointInstruction) (ppem : ℕ) (s : List ℤ) (z : ZoneLists) (g : GraphicsState) (cvt : List ℤ)
     → takes o ≤ length s → IsTotal (on_points tolerance.Tolerant o ppem s z g cvt)
 
--- where fewer are there it is refused
+-- with fewer values it is refused
 abbrev pub PointsAreShort : Type 0
 PointsAreShort = (o : PointInstruction) (ppem : ℕ) (t : Tolerance) (s : List ℤ) (z : ZoneLists) (g : GraphicsState)
     (cvt : List ℤ) → length s < takes o → on_points t o ppem s z g cvt ≡ Err why.StackShort

@@ -1,5 +1,5 @@
--- Apple TrueType Reference Manual, "Instructing TrueType Glyphs": what an instruction on points takes from the stack
--- and what it leaves. The stack has its top first.
+-- Apple TrueType Reference Manual, "Instructing TrueType Glyphs": the stack before and after an instruction on
+-- points. The stack has its top first.
 use Rattle.std.specs.Prelude.{◌≡◌, ℕ, ◌*◌, ◌/◌, nat_lt, Bool, ◌&&◌, ◌||◌, not, length, ℤ, pos, negsuc, int_lt, unsigned_abs, if◌then◌else◌, List, [], ◌∷◌, drop, Result, Ok, Err, refl}
 use Rattle.tt_core.specs.Outcomes.{◌>>=◌}
 use Rattle.tt_core.specs.declared.fault.Why.{Why}
@@ -23,40 +23,40 @@ after s given = given >>= λ t. Ok (s, t.0, t.1)
 abbrev pub after_move : List ℤ → GraphicsState → Result ZoneLists Why → Left
 after_move s g given = given >>= λ z. Ok (s, z, g)
 
--- so many entries, the top last, and what is left
+-- n entries, the top last, and the stack below them
 abbrev pub taken : ℕ → List ℤ → Result (List ℤ × List ℤ) Why
 taken n s = top n s >>= λ entries. Ok (entries, drop n s)
 
--- the loop variable set back, and all else as it is
+-- the loop variable reset, and all else unchanged
 abbrev pub nothing_looped : List ℤ → ZoneLists → GraphicsState → List ℤ × ZoneLists × GraphicsState
 nothing_looped s z g = (s, z, set_back g)
 
--- the reference point is not there, or fewer points than the loop variable says
+-- the reference point is missing, or the stack has fewer points than the loop variable
 abbrev pub too_little : Bool → List ℤ → GraphicsState → Bool
 too_little referred s g = not referred || nat_lt (length s) g.loops
 
--- what an instruction does with the points that it loops over, where its reference point is there, or is not: a
--- tolerant machine takes no point where there is too little (profile)
+-- an instruction applied to points from the stack, with or without its reference point; a tolerant machine takes
+-- no point if something is missing (profile)
 abbrev pub looped : Tolerance → Bool → List ℤ → ZoneLists → GraphicsState
     → (List ℤ → Result (ZoneLists × GraphicsState) Why) → Left
 looped t referred s z g change =
     if is_tolerant t && too_little referred s g then Ok (nothing_looped s z g)
     else taken g.loops s >>= λ points. after points.1 (change points.0)
 
--- how many entries as many pairs are as the top entry says, and the stack below that
+-- the count of entries for the count of pairs on top, and the stack below that
 abbrev pub pairs_counted : List ℤ → Result (ℕ × List ℤ) Why
 pairs_counted (n ∷ s) = if int_lt n (pos 0) then Err why.BadArgument else Ok (2 * unsigned_abs n, s)
 pairs_counted [] = Err why.StackShort
 
--- how many of so many entries are taken in pairs: where a tolerant machine finds fewer, those of whole pairs (profile)
+-- the count of entries to take in pairs; if a tolerant machine has fewer, those of whole pairs (profile)
 abbrev pub pairs_there : Tolerance → ℕ → List ℤ → ℕ
 pairs_there t many s = if is_tolerant t && nat_lt (length s) many then length s / 2 * 2 else many
 
--- so many entries as pairs, and what is left below all of them
+-- these entries, and the stack below all of them
 abbrev pub taken_in_pairs : Tolerance → ℕ → List ℤ → Result (List ℤ × List ℤ) Why
 taken_in_pairs t many s = top (pairs_there t many s) s >>= λ entries. Ok (entries, drop many s)
 
--- these pairs, and what is left
+-- the counted pairs, and the stack below them
 abbrev pub counted : Tolerance → List ℤ → Result (List ℤ × List ℤ) Why
 counted t s = pairs_counted s >>= λ c. taken_in_pairs t c.0 c.1
 

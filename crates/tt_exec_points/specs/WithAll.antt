@@ -1,4 +1,5 @@
--- No part of the standard: what an instruction on points gives without the whole instruction set it gives with it too.
+-- No part of the standard: an instruction on points that succeeds without the whole instruction set gives the same
+-- result with it.
 use Rattle.std.specs.Prelude.{ℕ, ℤ, List}
 use Rattle.tt_state.specs.declared.graphics_state.GraphicsState.{GraphicsState}
 use Rattle.tt_state.specs.declared.tolerance.Tolerance.{Tolerance}

@@ -1,4 +1,4 @@
--- No part of the standard: the zones of a machine from which they were taken.
+-- No part of the standard: a machine's zones after they were taken out.
 use Rattle.std.specs.Prelude.{[]}
 use Rattle.tt_core.specs.declared.halves.Halves.TheVariants as halves
 use Rattle.tt_points_zones.specs.Zones.{ZoneLists, in_pixels}

@@ -17,7 +17,7 @@ fn sum(a: i32, b: i32) -> Result<i32, Why>
     i32::try_from(i64::from(a) + i64::from(b)).map_err(|_| Why::ValueRange)
 }
 
-/// A control value changed by an exception, if there is one. Errors: CvtRange, ValueRange.
+/// Adds `d`, if there is one, to control value `n`. Errors: CvtRange, ValueRange.
 fn change_by(d: Option<i32>, n: i32, cvt: &mut [i32]) -> Result<(), Why>
     ensures exact { Gives (λ u. cvt.new) result (is.change_by d n cvt.old) }
     ensures kept { IfErr result (λ why. cvt.new ≡ cvt.old) }
@@ -32,7 +32,7 @@ fn change_by(d: Option<i32>, n: i32, cvt: &mut [i32]) -> Result<(), Why>
     Ok(())
 }
 
-/// The control value of pair `i` of arguments and numbers changed. Errors: BadArgument, CvtRange, ValueRange.
+/// Changes the control value of pair `i` as its argument requests. Errors: BadArgument, CvtRange, ValueRange.
 fn change_pair(
     tolerance: Tolerance,
     range: DeltaRange,
@@ -51,7 +51,7 @@ fn change_pair(
     change_by(d, pairs[2 * i + 1], cvt)
 }
 
-/// The same, unless the control value is not there for a tolerant machine.
+/// Changes a control value as `change_pair` does. A tolerant machine passes over a missing one.
 fn change(
     tolerance: Tolerance,
     range: DeltaRange,
@@ -71,7 +71,7 @@ fn change(
     }
 }
 
-/// Every pair, the last first.
+/// Changes the control value of every pair, the last pair first.
 fn change_all(
     tolerance: Tolerance,
     range: DeltaRange,
@@ -88,7 +88,7 @@ fn change_all(
     Ok(())
 }
 
-/// DELTAC1[] to DELTAC3[]: n pairs of an argument and a control value's number, n -> .
+/// DELTAC1[] to DELTAC3[], 0x73 to 0x75: n pairs of an argument and a control value's number, n -> nothing.
 pub(crate) fn deltac(
     tolerance: Tolerance,
     range: DeltaRange,

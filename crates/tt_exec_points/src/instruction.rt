@@ -1,8 +1,8 @@
-//! The instructions on points, and those that change control values by exceptions, with the interpreter's stack. What
-//! each does to its points stands in the crates tt_points, tt_points_loops and
-//! tt_points_iup, by the same name. A tolerant machine takes the
-//! values of an instruction that asks for what is not there, and does nothing else; but MIAP, MDRP and MIRP set the
-//! reference points all the same, and GC and MD measure 0 (profile). Apple TrueType Reference Manual, "Instruction set".
+//! The instructions on points, and those that change control values by exceptions, with the interpreter's stack.
+//! Their effects on points are in tt_points, tt_points_loops and tt_points_iup, by the same names. If something is
+//! missing, a tolerant machine pops the values of an instruction and does nothing else. But MIAP, MDRP and MIRP
+//! then still set the reference points, and GC and MD measure 0 (profile). Apple TrueType Reference Manual,
+//! "Instruction set".
 
 ghost use Rattle.std.specs.Prelude.{◌≡◌, ◌≤◌, length, unsigned_abs, IfErr, IfOk};
 ghost use Rattle.tt_core.specs.Outcomes.{Gives};
@@ -58,7 +58,7 @@ pub enum PointInstruction {
     Alignpts,
 }
 
-/// What is done, unless something that it asks for is not there for a tolerant machine: then this is.
+/// The result, or `$instead` if a tolerant machine passes over its refusal.
 macro_rules! unless_missing {
     ($tolerance:expr, $done:expr, $instead:expr) => {
         match $done {
@@ -68,8 +68,8 @@ macro_rules! unless_missing {
     };
 }
 
-/// Does what works on the points whose numbers stand on the stack, as many as the loop variable says. A tolerant
-/// machine takes none of them where the reference point is not there, or there are fewer. Error: StackShort.
+/// Applies a change to the points whose numbers are on the stack. The loop variable is their count. A tolerant
+/// machine takes no point if the reference point or one of them is missing from zone or stack. Error: StackShort.
 macro_rules! looped {
     ($tolerance:ident, $referred:expr, $stack:ident, $graphics:ident, $numbers:ident => $change:expr) => {{
         if $tolerance.is_tolerant() && does_nothing($referred, $stack, $graphics) {
@@ -84,14 +84,14 @@ macro_rules! looped {
     }};
 }
 
-/// Whether no point is looped over: the reference point is not there, or fewer points than the loop variable says.
+/// Whether no point is taken: the reference point is missing, or the stack has fewer points than the loop variable.
 fn does_nothing(referred: bool, stack: &Stack, graphics: &GraphicsState) -> bool
     ensures { result ≡ popping.too_little referred stack.now graphics.now }
 {
     !referred || stack.len() < graphics.loops as usize
 }
 
-/// The control value with a number. Error: CvtRange.
+/// The control value with number `n`. Error: CvtRange.
 fn control_value(n: i32, cvt: &[i32]) -> Result<i32, Why>
     ensures { Gives (λ c. c) result (is.control_value n cvt.now) }
 {
@@ -101,7 +101,7 @@ fn control_value(n: i32, cvt: &[i32]) -> Result<i32, Why>
     Ok(cvt[n as usize])
 }
 
-/// The control value with a number, for MIRP. Error: CvtRange.
+/// The control value with number `n`, for MIRP: 0 for -1 on a tolerant machine. Error: CvtRange.
 fn mirp_value(tolerance: Tolerance, n: i32, cvt: &[i32]) -> Result<i32, Why>
     ensures { Gives (λ c. c) result (is.mirp_value tolerance n cvt.now) }
 {
@@ -111,7 +111,7 @@ fn mirp_value(tolerance: Tolerance, n: i32, cvt: &[i32]) -> Result<i32, Why>
     control_value(n, cvt)
 }
 
-/// How many entries the top one counts in pairs. Errors: StackShort, BadArgument below 0.
+/// Pops a count of pairs, and gives their count of entries. Errors: StackShort, BadArgument below 0.
 pub(crate) fn pairs_counted(stack: &mut Stack) -> Result<usize, Why>
     ensures { Gives (λ n. (n, stack.new)) result (popping.pairs_counted stack.old) }
 {
@@ -122,7 +122,7 @@ pub(crate) fn pairs_counted(stack: &mut Stack) -> Result<usize, Why>
     Ok(2 * n as usize)
 }
 
-/// How many of so many entries there are in whole pairs: all of them, but for a tolerant machine.
+/// The count of entries to take in pairs: `many`, or on a tolerant machine those of the whole pairs that exist.
 pub(crate) fn pairs_there(tolerance: Tolerance, many: usize, stack: &Stack) -> usize
     ensures { result ≡ popping.pairs_there tolerance many stack.now }
 {
@@ -132,7 +132,7 @@ pub(crate) fn pairs_there(tolerance: Tolerance, many: usize, stack: &Stack) -> u
     many
 }
 
-/// The reference points after MIAP.
+/// Sets the reference points after MIAP.
 fn refer_to(graphics: &mut GraphicsState, p: i32)
     ensures { graphics.new ≡ is.referred_to p graphics.old }
 {
@@ -141,7 +141,7 @@ fn refer_to(graphics: &mut GraphicsState, p: i32)
 }
 
 impl Points {
-    /// MDAP[r]: p -> . Errors: PointRange, Perpendicular, ValueRange.
+    /// MDAP[r], 0x2E and 0x2F: p -> nothing. Errors: PointRange, Perpendicular, ValueRange.
     pub(crate) fn mdap(
         &mut self,
         tolerance: Tolerance,
@@ -156,7 +156,7 @@ impl Points {
         unless_missing!(tolerance, mdap(&mut self.zones, graphics, round, p), ())
     }
 
-    /// MDRP[abcde]: p -> . Errors: PointRange, Perpendicular, ValueRange.
+    /// MDRP[abcde], 0xC0 to 0xDF: p -> nothing. Errors: PointRange, Perpendicular, ValueRange.
     pub(crate) fn mdrp(
         &mut self,
         tolerance: Tolerance,
@@ -172,7 +172,7 @@ impl Points {
         unless_missing!(tolerance, done, refer(graphics, keeping.set_rp0, p))
     }
 
-    /// MSIRP[a]: p, d -> . Errors: PointRange, Perpendicular, ValueRange.
+    /// MSIRP[a], 0x3A and 0x3B: p, d -> nothing. Errors: PointRange, Perpendicular, ValueRange.
     pub(crate) fn msirp(
         &mut self,
         tolerance: Tolerance,
@@ -192,7 +192,7 @@ impl Points {
         )
     }
 
-    /// MIAP by a control value, if it is there. Errors: why it is not; PointRange, Perpendicular, ValueRange.
+    /// MIAP with a control value, if it exists. Errors: that of `c`; PointRange, Perpendicular, ValueRange.
     fn miap_by(
         &mut self,
         round: bool,
@@ -206,7 +206,7 @@ impl Points {
         miap(&mut self.zones, graphics, round, p, c?)
     }
 
-    /// MIAP[r]: p, n -> . Errors: CvtRange, PointRange, Perpendicular, ValueRange.
+    /// MIAP[r], 0x3E and 0x3F: p, n -> nothing. Errors: CvtRange, PointRange, Perpendicular, ValueRange.
     pub(crate) fn miap(
         &mut self,
         tolerance: Tolerance,
@@ -224,7 +224,7 @@ impl Points {
         unless_missing!(tolerance, done, refer_to(graphics, p))
     }
 
-    /// MIRP by a control value, if it is there. Errors: why it is not; PointRange, Perpendicular, ValueRange.
+    /// MIRP with a control value, if it exists. Errors: that of `c`; PointRange, Perpendicular, ValueRange.
     fn mirp_by(
         &mut self,
         keeping: Keeping,
@@ -238,7 +238,7 @@ impl Points {
         mirp(&mut self.zones, graphics, keeping, p, c?)
     }
 
-    /// MIRP[abcde]: p, n -> . Errors: CvtRange, PointRange, Perpendicular, ValueRange.
+    /// MIRP[abcde], 0xE0 to 0xFF: p, n -> nothing. Errors: CvtRange, PointRange, Perpendicular, ValueRange.
     pub(crate) fn mirp(
         &mut self,
         tolerance: Tolerance,
@@ -256,7 +256,7 @@ impl Points {
         unless_missing!(tolerance, done, refer(graphics, keeping.set_rp0, p))
     }
 
-    /// SCFS[]: p, v -> . Errors: PointRange, Perpendicular, ValueRange.
+    /// SCFS[], 0x48: p, v -> nothing. Errors: PointRange, Perpendicular, ValueRange.
     pub(crate) fn scfs(
         &mut self,
         tolerance: Tolerance,
@@ -271,7 +271,7 @@ impl Points {
         unless_missing!(tolerance, scfs(&mut self.zones, graphics, p, v), ())
     }
 
-    /// UTP[]: p -> . Error: PointRange.
+    /// UTP[], 0x29: p -> nothing. Error: PointRange.
     pub(crate) fn utp(
         &mut self,
         tolerance: Tolerance,
@@ -285,7 +285,7 @@ impl Points {
         unless_missing!(tolerance, utp(&mut self.zones, graphics, p), ())
     }
 
-    /// GC[a]: p -> c. Error: PointRange.
+    /// GC[a], 0x46 and 0x47: p -> c. Error: PointRange.
     pub(crate) fn gc(
         &self,
         tolerance: Tolerance,
@@ -300,7 +300,7 @@ impl Points {
         stack.push(i64::from(measured?))
     }
 
-    /// MD[a]: p2, p1 -> d. Error: PointRange.
+    /// MD[a], 0x49 and 0x4A: p2, p1 -> d. Error: PointRange.
     pub(crate) fn md(
         &self,
         tolerance: Tolerance,
@@ -316,7 +316,7 @@ impl Points {
         stack.push(i64::from(measured?))
     }
 
-    /// ALIGNRP[]: as many points as the loop says -> .
+    /// ALIGNRP[], 0x3C: loop points -> nothing.
     pub(crate) fn alignrp(
         &mut self,
         tolerance: Tolerance,
@@ -330,7 +330,7 @@ impl Points {
             alignrp(&mut self.zones, graphics, tolerance, numbers))
     }
 
-    /// IP[]: as many points as the loop says -> .
+    /// IP[], 0x39: loop points -> nothing.
     pub(crate) fn ip(
         &mut self,
         tolerance: Tolerance,
@@ -344,7 +344,7 @@ impl Points {
             ip(&mut self.zones, graphics, tolerance, numbers))
     }
 
-    /// Whether the reference point is there that others follow.
+    /// Whether the reference point that others follow exists.
     #[tactic(auto, unfolding(crate::specs::Instruction::has_reference))]
     fn has_reference(&self, which: ReferencePoint, graphics: &GraphicsState) -> bool
         ensures { result ≡ is.has_reference which self.now graphics.now }
@@ -355,7 +355,7 @@ impl Points {
         )
     }
 
-    /// SHP[a]: as many points as the loop says -> .
+    /// SHP[a], 0x32 and 0x33: loop points -> nothing.
     pub(crate) fn shp(
         &mut self,
         tolerance: Tolerance,
@@ -370,7 +370,7 @@ impl Points {
             shp(&mut self.zones, graphics, tolerance, which, numbers))
     }
 
-    /// SHPIX[]: as many points as the loop says, amount -> .
+    /// SHPIX[], 0x38: loop points, amount -> nothing.
     pub(crate) fn shpix(
         &mut self,
         tolerance: Tolerance,
@@ -385,7 +385,7 @@ impl Points {
             shpix(&mut self.zones, graphics, tolerance, numbers, amount))
     }
 
-    /// FLIPPT[]: as many points as the loop says -> .
+    /// FLIPPT[], 0x80: loop points -> nothing.
     pub(crate) fn flippt(
         &mut self,
         tolerance: Tolerance,
@@ -398,7 +398,7 @@ impl Points {
         looped!(tolerance, true, stack, graphics, numbers => flippt(&mut self.zones, graphics, tolerance, numbers))
     }
 
-    /// FLIPRGON[]: low, high -> . Error: PointRange.
+    /// FLIPRGON[], 0x81: low, high -> nothing. Error: PointRange.
     pub(crate) fn fliprgon(
         &mut self,
         tolerance: Tolerance,
@@ -413,7 +413,7 @@ impl Points {
         unless_missing!(tolerance, fliprgon(&mut self.zones, low, high), ())
     }
 
-    /// FLIPRGOFF[]: low, high -> . Error: PointRange.
+    /// FLIPRGOFF[], 0x82: low, high -> nothing. Error: PointRange.
     pub(crate) fn fliprgoff(
         &mut self,
         tolerance: Tolerance,
@@ -428,7 +428,7 @@ impl Points {
         unless_missing!(tolerance, fliprgoff(&mut self.zones, low, high), ())
     }
 
-    /// SHC[a]: contour -> . Errors: ContourRange, PointRange, Perpendicular, ValueRange.
+    /// SHC[a], 0x34 and 0x35: contour -> nothing. Errors: ContourRange, PointRange, Perpendicular, ValueRange.
     pub(crate) fn shc(
         &mut self,
         tolerance: Tolerance,
@@ -447,7 +447,7 @@ impl Points {
         )
     }
 
-    /// SHZ[a]: zone -> . Errors: ZoneRange, PointRange, Perpendicular, ValueRange.
+    /// SHZ[a], 0x36 and 0x37: zone -> nothing. Errors: ZoneRange, PointRange, Perpendicular, ValueRange.
     pub(crate) fn shz(
         &mut self,
         tolerance: Tolerance,
@@ -462,7 +462,7 @@ impl Points {
         unless_missing!(tolerance, shz(&mut self.zones, graphics, which, zone), ())
     }
 
-    /// DELTAP1[] to DELTAP3[]: n pairs of an argument and a point, n -> .
+    /// DELTAP1[], DELTAP2[] and DELTAP3[], 0x5D, 0x71 and 0x72: n pairs of an argument and a point, n -> nothing.
     pub(crate) fn deltap(
         &mut self,
         tolerance: Tolerance,
@@ -482,7 +482,7 @@ impl Points {
         Ok(())
     }
 
-    /// SPVTL[a]: p2, p1 -> . Error: PointRange.
+    /// SPVTL[a], 0x06 and 0x07: p2, p1 -> nothing. Error: PointRange.
     pub(crate) fn spvtl(
         &self,
         tolerance: Tolerance,
@@ -498,7 +498,7 @@ impl Points {
         unless_missing!(tolerance, spvtl(&self.zones, graphics, turned, p1, p2), ())
     }
 
-    /// SFVTL[a]: p2, p1 -> . Error: PointRange.
+    /// SFVTL[a], 0x08 and 0x09: p2, p1 -> nothing. Error: PointRange.
     pub(crate) fn sfvtl(
         &self,
         tolerance: Tolerance,
@@ -514,7 +514,7 @@ impl Points {
         unless_missing!(tolerance, sfvtl(&self.zones, graphics, turned, p1, p2), ())
     }
 
-    /// SDPVTL[a]: p2, p1 -> . Error: PointRange.
+    /// SDPVTL[a], 0x86 and 0x87: p2, p1 -> nothing. Error: PointRange.
     pub(crate) fn sdpvtl(
         &self,
         tolerance: Tolerance,
@@ -530,7 +530,7 @@ impl Points {
         unless_missing!(tolerance, sdpvtl(&self.zones, graphics, turned, p1, p2), ())
     }
 
-    /// ISECT[]: p, a0, a1, b0, b1 -> . Errors: PointRange, ValueRange.
+    /// ISECT[], 0x0F: p, a0, a1, b0, b1 -> nothing. Errors: PointRange, ValueRange.
     pub(crate) fn isect(
         &mut self,
         tolerance: Tolerance,
@@ -549,7 +549,7 @@ impl Points {
         unless_missing!(tolerance, isect(&mut self.zones, graphics, p, a, b), ())
     }
 
-    /// ALIGNPTS[]: p2, p1 -> . Errors: PointRange, Perpendicular, ValueRange.
+    /// ALIGNPTS[], 0x27: p2, p1 -> nothing. Errors: PointRange, Perpendicular, ValueRange.
     pub(crate) fn alignpts(
         &mut self,
         tolerance: Tolerance,
@@ -564,7 +564,7 @@ impl Points {
         unless_missing!(tolerance, alignpts(&mut self.zones, graphics, p1, p2), ())
     }
 
-    /// IUP[a]. Error: ValueRange.
+    /// IUP[a], 0x30 along y and 0x31 along x. Error: ValueRange.
     pub(crate) fn iup(&mut self, axis: Axis) -> Result<(), Why>
         ensures { Gives (λ u. self.new) result (interpolation.iup axis self.old) }
     {
@@ -572,8 +572,8 @@ impl Points {
     }
 }
 
-/// Does an instruction. Errors: StackShort; those of the instruction, of which a tolerant machine has none of something
-/// that is not there.
+/// Executes an instruction. Errors: StackShort; those of the instruction. A tolerant machine has none for a missing
+/// thing.
 pub fn on_points(
     tolerance: Tolerance,
     op: PointInstruction,

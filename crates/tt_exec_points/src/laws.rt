@@ -1,5 +1,5 @@
-//! What the instructions on points leave as it is, what they give with the whole instruction set, and what a tolerant
-//! machine does beside a strict one.
+//! Laws of the instructions on points: what they leave unchanged, the whole instruction set, and the tolerant
+//! machine.
 
 ghost use Rattle.std.specs.Prelude.{ℕ, ℤ, List, length, IfOk};
 ghost use Rattle.tt_state.specs.declared.graphics_state.GraphicsState.{GraphicsState};
@@ -11,8 +11,8 @@ ghost use Rattle.tt_exec_points.specs.Laws.{PointsAreLoosened, PointsAreTotal, P
 ghost use Rattle.tt_exec_points.specs.Shapes.{SameSizes};
 ghost use Rattle.tt_exec_points.specs.WithAll.{PointsStay};
 
-/// Takes nothing and gives nothing: no instruction makes or drops a point or a control value, where the contours are
-/// those of the glyph's points.
+/// Lemma: no instruction adds or removes a point or a control value, if the contours are ranges of the glyph's
+/// points.
 pub fn sizes_are_kept()
     ensures { (t : Tolerance) (op : PointInstruction) (ppem : ℕ) (s : List ℤ) (z : ZoneLists) (g : GraphicsState)
         (cvt : List ℤ) → AreContours 0 z.contours (length z.glyph)
@@ -23,7 +23,7 @@ pub fn sizes_are_kept()
     tt_points_iup::laws::shape_is_kept();
 }
 
-/// What an instruction on points gives without the whole instruction set it gives with it too.
+/// Lemma: an instruction that succeeds without the whole instruction set gives the same result with it.
 pub fn points_stay()
     ensures { PointsStay }
 {
@@ -31,15 +31,15 @@ pub fn points_stay()
     tt_points_loops::laws::several_stay();
 }
 
-/// What a strict machine gives a tolerant one gives too, and each refusal that tolerance does not lift.
+/// Lemma: a tolerant machine gives the result of a strict one, unless that is a refusal that tolerance lifts.
 pub fn points_loosened()
     ensures { PointsAreLoosened }
 {
     tt_points_loops::laws::several_loosened();
 }
 
-/// With as many values as it takes, no instruction of a tolerant machine is short of values, nor of anything that is
-/// not there.
+/// Lemma: with the values that it takes, no instruction of a tolerant machine fails with too few values or for a
+/// missing thing.
 pub fn points_total()
     ensures { PointsAreTotal }
 {
@@ -47,7 +47,7 @@ pub fn points_total()
     tt_points_loops::laws::several_total();
 }
 
-/// With fewer values than it takes, an instruction is refused.
+/// Lemma: with fewer values than it takes, an instruction is refused.
 pub fn few_values_are_refused()
     ensures { PointsAreShort }
 {}

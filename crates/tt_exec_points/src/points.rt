@@ -11,7 +11,7 @@ use tt_points::Zones;
 use tt_points_zones::Originals;
 use tt_state::Point;
 
-/// Zones as instructions leave them. A clause sees them as their lists.
+/// The zones, after each instruction. A clause sees them as their lists.
 #[derive(Drop)]
 pub struct Points {
     pub(crate) zones: Zones,
@@ -49,7 +49,7 @@ impl Points {
         Points { zones }
     }
 
-    /// Does nothing: its clause tells what holds of all points that a machine has.
+    /// Does nothing: its clause gives a property of all points of a machine.
     #[inline(always)]
     pub fn are_valid(&self)
         ensures { IsZones self.now }
@@ -57,7 +57,7 @@ impl Points {
         let _ = &self.zones;
     }
 
-    /// How many points the twilight zone has.
+    /// The count of points in the twilight zone.
     pub fn twilight_count(&self) -> usize
         ensures exact { result ≡ length self.now.twilight }
         ensures few { result < 2 ^ 62 }
@@ -65,7 +65,7 @@ impl Points {
         self.zones.twilight.as_slice().len()
     }
 
-    /// How many points the glyph has.
+    /// The count of points in the glyph zone.
     pub fn glyph_count(&self) -> usize
         ensures exact { result ≡ length self.now.glyph }
         ensures few { result < 2 ^ 62 }

@@ -4,7 +4,7 @@ use Rattle.tt_points_loops.specs.Series.{one_by_one}
 use Rattle.tt_exec_points.specs.ControlValues.{change}
 use Rattle.tt_exec_points.proofs.control_values.change_all.Given as goal
 
--- what is left to do, done to what there is, is the whole
+-- the remaining changes, applied to the present values, give the whole result
 abbrev pub invariant-loop-i : goal.invariant-loop-i
 invariant-loop-i l =
     one_by_one (change l.tolerance l.range l.ppem l.state) (reverse (take l.i (pairs_of l.pairs))) l.cvt

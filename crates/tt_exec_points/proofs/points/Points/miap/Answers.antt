@@ -4,7 +4,7 @@ use Rattle.tt_core.specs.Outcomes.{Gives}
 use Rattle.tt_core.specs.declared.fault.Why.{Why}
 use Rattle.tt_exec_points.proofs.points.Points.miap.Goals as goal
 
--- an answer that is what the definition gives, without a view
+-- a result that is the definition's, without a view
 as_given : (r w : Result ℤ Why) → Gives (λ x. x) r w → w ≡ r
 as_given (Ok x) w is = is
 as_given (Err e) w is = is
