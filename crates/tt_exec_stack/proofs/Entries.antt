@@ -1,10 +1,10 @@
--- Entries of a list, seen from its other end.
+-- Entries of a list, counted from its other end.
 use Rattle.std.proofs.Common.{◌≡◌, ℕ, suc, ◌+◌, ◌-◌, ◌<◌, ◌≤◌, ℤ, pos, List, [], ◌∷◌, ◌++◌, length, take, drop, get_or, reverse, ap, ◌∙◌, append_assoc, drop-cons, length-drop, arith}
 use Rattle.std.specs.List.{remove}
 use Rattle.std.proofs.lemmas.List.{reverse-append, length-reverse, take-append-drop}
 use Rattle.std.proofs.Math.Seq.{take-append_seam, drop-append-add}
 
--- an entry between two parts, seen from the other end
+-- an entry between two parts, counted from the other end
 turned : (front rest : List ℤ) (x : ℤ) → reverse (front ++ x ∷ rest) ≡ reverse rest ++ (x ∷ reverse front)
 turned front rest x =
     let one : reverse (x ∷ rest) ≡ reverse rest ++ x ∷ [] = reverse-append (x ∷ []) rest in

@@ -1,4 +1,4 @@
--- What a tolerant machine does with the stack, beside a strict one.
+-- The stack of a tolerant machine, beside that of a strict one.
 use Rattle.std.proofs.Common.{◌≡◌, ℕ, ◌<◌, ◌≤◌, Bool, true, false, if◌then◌else◌, ℤ, pos, int_eq, int_lt, unsigned_abs, slice_get, ◌-◌, List, [], ◌∷◌, ◌++◌, length, take, drop, nat_lt, Option, Some, None, Result, Ok, Err, refl, arith}
 use Rattle.std.specs.Option.{ok_or}
 use Rattle.std.proofs.lemmas.Bool.Decides.{nat_tests}
@@ -19,7 +19,7 @@ use Rattle.tt_exec_stack.specs.declared.instruction.Logic.TheVariants as decidin
 use Rattle.tt_exec_stack.specs.declared.instruction.Managing.TheVariants as op
 use Rattle.tt_exec_stack.proofs.Takes.{of_one, of_two, short_of_one, short_of_two, either, pushed_total}
 
--- what is made of an entry, which tolerance lets be missing
+-- a function of an entry, which may be missing on a tolerant machine
 found : {A : Type 0} (instead : A) (low : Bool) (entry : Option ℤ) (f : ℤ → A)
     → let r = (if low then Err why.BadArgument else ok_or entry why.StackShort) >>= λ e. Ok (f e) in
     Loosens (unless_refused tolerance.Strict instead r) (unless_refused tolerance.Tolerant instead r)

@@ -1,11 +1,11 @@
--- The top of a stack, in the list that has its top last.
+-- The top of a stack, in the list with its top last.
 use Rattle.std.proofs.Common.{◌≡◌, ℕ, ◌-◌, ◌≤◌, ℤ, false, nat_lt, List, ◌++◌, length, take, drop, reverse, ap, ◌∙◌, sym, subst, length-drop, Ok, refl, arith}
 use Rattle.std.proofs.lemmas.Bool.Decides.{nat_tests}
 use Rattle.std.proofs.lemmas.List.{reverse-append, reverse-reverse, length-reverse, take-append-drop, take_all}
 use Rattle.std.proofs.Math.Seq.{take-append_seam, drop-append_seam}
 use Rattle.tt_exec_stack.specs.Stack.{top}
 
--- both parts, seen from the other end
+-- both parts, counted from the other end
 parts : (xs : List ℤ) (m : ℕ) → reverse xs ≡ reverse (drop m xs) ++ reverse (take m xs)
 parts xs m = ap reverse (sym (take-append-drop m xs)) ∙ reverse-append (take m xs) (drop m xs)
 

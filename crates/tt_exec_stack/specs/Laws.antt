@@ -1,5 +1,4 @@
--- Laws of the instructions on the stack, each said once (profile): what a tolerant machine does beside a strict one, and
--- what few values come to.
+-- Laws of the instructions on the stack (profile): the tolerant machine beside a strict one, and too few values.
 use Rattle.std.specs.Prelude.{◌≡◌, ℕ, ◌<◌, ◌≤◌, ℤ, List, length, Err}
 use Rattle.tt_core.specs.declared.fault.Why.TheVariants as why
 use Rattle.tt_state.specs.Loosening.{Loosens, IsTotal}
@@ -14,12 +13,12 @@ use Rattle.tt_exec_stack.specs.declared.instruction.Arithmetic.{Arithmetic}
 use Rattle.tt_exec_stack.specs.declared.instruction.Logic.{Logic}
 use Rattle.tt_exec_stack.specs.declared.instruction.Managing.{Managing}
 
--- a tolerant machine answers what a strict one does, or in the place of a refusal that tolerance lifts
+-- a tolerant machine has the result of a strict one, or another in place of a refusal that tolerance lifts
 abbrev pub ManagingIsLoosened : Type 0
 ManagingIsLoosened = (o : Managing) (s : List ℤ)
     → Loosens (managing.managed o tolerance.Strict s) (managing.managed o tolerance.Tolerant s)
 
--- where the values are there that an instruction takes, it is short of none, and finds all that it asks for
+-- with the values that it takes, an instruction does not fail with too few, or for a missing entry
 abbrev pub ManagingIsTotal : Type 0
 ManagingIsTotal = (o : Managing) (s : List ℤ) → managing.takes o ≤ length s
     → IsTotal (managing.managed o tolerance.Tolerant s)
@@ -32,7 +31,7 @@ abbrev pub LogicIsTotal : Type 0
 LogicIsTotal = (o : Logic) (state : Round) (s : List ℤ) → logic.takes o ≤ length s
     → IsTotal (logic.evaluated o state s)
 
--- where fewer are there it is refused
+-- with fewer values it is refused
 abbrev pub ManagingIsShort : Type 0
 ManagingIsShort = (o : Managing) (t : Tolerance) (s : List ℤ) → length s < managing.takes o
     → managing.managed o t s ≡ Err why.StackShort
@@ -45,7 +44,7 @@ abbrev pub LogicIsShort : Type 0
 LogicIsShort = (o : Logic) (state : Round) (s : List ℤ) → length s < logic.takes o
     → logic.evaluated o state s ≡ Err why.StackShort
 
--- padded, a stack has as many values as are asked for, and one that has them is as it was
+-- a padded stack has the requested count of values, and one that has them is unchanged
 abbrev pub PaddedIsEnough : Type 0
 PaddedIsEnough = (n : ℕ) (s : List ℤ) → n ≤ length (padded n s)
 

@@ -1,5 +1,5 @@
--- Apple TrueType Reference Manual, "Instruction set": logical functions. 1 is pushed for true and 0 for false; of a
--- popped value, 0 is false and any other is true. The top of the stack stands first.
+-- Apple TrueType Reference Manual, "Instruction set": logical functions. They push 1 for true and 0 for false; of
+-- a popped value, 0 is false and any other is true. The top of the stack comes first.
 use Rattle.std.specs.Prelude.{◌≡◌, ℕ, ℤ, pos, neg_ℤ, int_lt, int_le, Bool, true, false, not, ◌&&◌, ◌||◌, List, [], ◌∷◌, Result, Ok, Err, refl}
 use Rattle.std.specs.Int.{int_div_euclid, int_rem_euclid}
 use Rattle.std.specs.Ordering.{int_eq}
@@ -43,7 +43,7 @@ abbrev pub neq : List ℤ → Result (List ℤ) Why
 neq (b ∷ a ∷ s) = pushed (truth (not (int_eq a b))) s
 neq _ = Err why.StackShort
 
--- a distance in 26.6 that lies in an odd pixel
+-- a distance in 26.6 within an odd pixel
 abbrev pub is_odd : ℤ → Bool
 is_odd v = int_eq (int_rem_euclid (int_div_euclid v (pos 64)) (pos 2)) (pos 1)
 
@@ -80,7 +80,7 @@ evaluated op.And round s = and s
 evaluated op.Or round s = or s
 evaluated op.Not round s = negated s
 
--- how many values an instruction takes
+-- the count of values that an instruction takes
 abbrev pub takes : Logic → ℕ
 takes op.Lt = 2
 takes op.Lteq = 2

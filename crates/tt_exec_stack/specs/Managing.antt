@@ -1,4 +1,4 @@
--- Apple TrueType Reference Manual, "Instruction set": managing the stack. The top of the stack stands first.
+-- Apple TrueType Reference Manual, "Instruction set": managing the stack. The top of the stack comes first.
 use Rattle.std.specs.Prelude.{◌≡◌, ℕ, ◌-◌, ℤ, pos, unsigned_abs, if◌then◌else◌, List, [], ◌∷◌, ◌++◌, length, take, drop, Result, Ok, Err, refl}
 use Rattle.tt_core.specs.Outcomes.{◌>>=◌}
 use Rattle.tt_core.specs.declared.fault.Why.{Why}
@@ -28,17 +28,17 @@ swap _ = Err why.StackShort
 abbrev pub depth : List ℤ → Result (List ℤ) Why
 depth s = pushed (pos (length s)) s
 
--- an answer, or what a tolerant machine goes on with in the place of a refusal (profile)
+-- a result, or a tolerant machine's replacement for a refusal (profile)
 abbrev pub unless_refused : {A : Type 0} → Tolerance → A → Result A Why → Result A Why
 unless_refused t instead (Ok a) = Ok a
 unless_refused t instead (Err e) = if is_tolerant t then Ok instead else Err e
 
--- a tolerant machine takes an entry that is not there as 0 (profile)
+-- for a tolerant machine a missing entry is 0 (profile)
 abbrev pub cindex : Tolerance → List ℤ → Result (List ℤ) Why
 cindex t (k ∷ s) = unless_refused t (pos 0) (kth k s) >>= λ e. pushed e s
 cindex t [] = Err why.StackShort
 
--- a tolerant machine moves no entry where there is none such (profile)
+-- a tolerant machine moves no missing entry (profile)
 abbrev pub mindex : Tolerance → List ℤ → Result (List ℤ) Why
 mindex t (k ∷ s) =
     unless_refused t s (kth k s >>= λ e. Ok (e ∷ (take (unsigned_abs k - 1) s ++ drop (unsigned_abs k) s)))
@@ -58,7 +58,7 @@ managed op.Cindex t s = cindex t s
 managed op.Mindex t s = mindex t s
 managed op.Roll t s = roll s
 
--- how many values an instruction takes at once
+-- the count of values that an instruction takes at once
 abbrev pub takes : Managing → ℕ
 takes op.Dup = 1
 takes op.Pop = 1

@@ -1,12 +1,12 @@
--- Apple TrueType Reference Manual, "Instruction set": pushing data onto the interpreter stack. The top of the stack
--- stands first.
+-- Apple TrueType Reference Manual, "Instruction set": pushing data onto the interpreter stack. The top of the
+-- stack comes first.
 use Rattle.std.specs.Prelude.{◌≡◌, ℕ, ◌+◌, ◌*◌, ℤ, pos, neg_ℤ, List, [], ◌∷◌, Result, Ok, refl}
 use Rattle.tt_core.specs.Numbers.{signed16}
 use Rattle.tt_core.specs.Outcomes.{◌>>=◌}
 use Rattle.tt_core.specs.declared.fault.Why.{Why}
 use Rattle.tt_exec_stack.specs.Stack.{pushed}
 
--- NPUSHB and PUSHB: each byte as it is
+-- NPUSHB and PUSHB: each byte, without a sign
 abbrev pub pushed_bytes : List ℕ → List ℤ → Result (List ℤ) Why
 pushed_bytes [] s = Ok s
 pushed_bytes (byte ∷ bytes) s = pushed (pos byte) s >>= λ t. pushed_bytes bytes t

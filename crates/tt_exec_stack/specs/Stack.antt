@@ -10,32 +10,32 @@ use Rattle.tt_core.specs.declared.fault.Why.TheVariants as why
 abbrev pub is_value : ℤ → Bool
 is_value v = int_le (negsuc (2 ^ 31 - 1)) v && int_le v (pos (2 ^ 31 - 1))
 
--- a number put on top
+-- a number pushed
 unfoldable pub pushed : ℤ → List ℤ → Result (List ℤ) Why
 pushed v s =
     if is_value v then (if nat_lt (length s) stack_limit then Ok (v ∷ s) else Err why.StackFull)
     else Err why.ValueRange
 
--- the k-th entry from the top; the top is the first
+-- the k-th entry, counted from 1 at the top
 abbrev pub kth : ℤ → List ℤ → Result ℤ Why
 kth k s = if int_lt k (pos 1) then Err why.BadArgument else ok_or (slice_get s (unsigned_abs k - 1)) why.StackShort
 
--- so many entries from the top, the top last
+-- n entries from the top, the top last
 abbrev pub top : ℕ → List ℤ → Result (List ℤ) Why
 top n s = if nat_lt (length s) n then Err why.StackShort else Ok (reverse (take n s))
 
--- what stands where an instruction takes so many values. Too few values count as 0, and those that are there are lost
+-- The stack for an instruction that takes n values. Too few values count as 0, and the existing ones are lost
 -- (profile).
 abbrev pub padded : ℕ → List ℤ → List ℤ
 padded n s = if nat_lt (length s) n then replicate n (pos 0) else s
 
--- the top entry that a call took, or that there is none
+-- the top entry that a call took, or the refusal of an empty stack
 abbrev pub Pops : List ℤ → Result ℤ Why → List ℤ → Type 0
 Pops old (Ok x) new = old ≡ x ∷ new
 Pops old (Err e) new = (old ≡ []) × (e ≡ why.StackShort)
 
--- what a call left, or why it has no answer, is what the definition gives. After a refusal nothing is said of what is
--- left, here and in Pops but for an empty stack: a run ends at its first refusal, and the machine answers no other.
+-- the result of a call, or its refusal, is the definition's. After a refusal nothing is said of the stack, here
+-- and in Pops except for an empty stack: a run ends at its first refusal.
 abbrev pub Does : {S E : Type 0} → Result S E → S → Result (Unit {0}) E → Type 0
 Does given new (Ok _) = given ≡ Ok new
 Does given new (Err e) = given ≡ Err e

@@ -9,7 +9,7 @@ use crate::stack::Stack;
 use tt_core::Why;
 use tt_state::Round;
 
-/// ADD[], 0x60: a, b -> a + b.
+/// ADD[], 0x60: a, b -> a + b. Errors: StackShort, ValueRange.
 #[inline(always)]
 fn add(stack: &mut Stack) -> Result<(), Why>
     ensures { Does (is.add stack.old) stack.new result }
@@ -19,7 +19,7 @@ fn add(stack: &mut Stack) -> Result<(), Why>
     stack.push(i64::from(a) + i64::from(b))
 }
 
-/// SUB[], 0x61: a, b -> a - b.
+/// SUB[], 0x61: a, b -> a - b. Errors: StackShort, ValueRange.
 #[inline(always)]
 fn sub(stack: &mut Stack) -> Result<(), Why>
     ensures { Does (is.sub stack.old) stack.new result }
@@ -37,7 +37,7 @@ fn quotient(a: i32, b: i32) -> i64
     i64::from(a) * 64 / i64::from(b)
 }
 
-/// DIV[], 0x62: a, b -> a / b, cut toward zero.
+/// DIV[], 0x62: a, b -> a / b, cut toward zero. Errors: StackShort, DivZero, ValueRange.
 fn div(stack: &mut Stack) -> Result<(), Why>
     ensures { Does (is.div stack.old) stack.new result }
 {
@@ -49,7 +49,7 @@ fn div(stack: &mut Stack) -> Result<(), Why>
     stack.push(quotient(a, b))
 }
 
-/// `a * b`, told as a product of whole numbers.
+/// `a * b` as whole numbers.
 fn whole_product(a: i32, b: i32) -> i64
     ensures exact { result ≡ is.whole_product a b }
     ensures bound { unsigned_abs result ≤ 2 ^ 62 }
@@ -73,7 +73,7 @@ fn product(a: i32, b: i32) -> i64
     nearest_64th(whole_product(a, b))
 }
 
-/// MUL[], 0x63: a, b -> a * b, to the nearest 64th, a half away from zero.
+/// MUL[], 0x63: a, b -> a * b, to the nearest 64th, a half away from zero. Errors: StackShort, ValueRange.
 fn mul(stack: &mut Stack) -> Result<(), Why>
     ensures { Does (is.mul stack.old) stack.new result }
 {
@@ -104,7 +104,7 @@ fn neg(stack: &mut Stack) -> Result<(), Why>
     stack.push(negative(n))
 }
 
-/// FLOOR[], 0x66: n -> the greatest whole pixel not above it.
+/// FLOOR[], 0x66: n -> the greatest whole pixel not above n.
 fn floor(stack: &mut Stack) -> Result<(), Why>
     ensures { Does (is.floor stack.old) stack.new result }
 {
@@ -112,7 +112,7 @@ fn floor(stack: &mut Stack) -> Result<(), Why>
     stack.push(i64::from(n).div_euclid(64) * 64)
 }
 
-/// The least whole pixel not below.
+/// The least whole pixel not below n.
 fn pixel_above(n: i32) -> i64
     ensures { result ≡ is.pixel_above n }
 {
@@ -120,7 +120,7 @@ fn pixel_above(n: i32) -> i64
     -(turned.div_euclid(64) * 64)
 }
 
-/// CEILING[], 0x67: n -> the least whole pixel not below it.
+/// CEILING[], 0x67: n -> the least whole pixel not below n.
 fn ceiling(stack: &mut Stack) -> Result<(), Why>
     ensures { Does (is.ceiling stack.old) stack.new result }
 {
@@ -144,7 +144,7 @@ fn nround(stack: &mut Stack) -> Result<(), Why>
     stack.push(i64::from(n))
 }
 
-/// MAX[], 0x8B: a, b -> the greater of them.
+/// MAX[], 0x8B: a, b -> the greater of the two.
 fn max(stack: &mut Stack) -> Result<(), Why>
     ensures { Does (is.max stack.old) stack.new result }
 {
@@ -153,7 +153,7 @@ fn max(stack: &mut Stack) -> Result<(), Why>
     stack.push(i64::from(a.max(b)))
 }
 
-/// MIN[], 0x8C: a, b -> the less of them.
+/// MIN[], 0x8C: a, b -> the lesser of the two.
 fn min(stack: &mut Stack) -> Result<(), Why>
     ensures { Does (is.min stack.old) stack.new result }
 {
@@ -162,7 +162,7 @@ fn min(stack: &mut Stack) -> Result<(), Why>
     stack.push(i64::from(a.min(b)))
 }
 
-/// Errors: StackShort; DivZero; ValueRange outside 32 bits.
+/// Executes an arithmetic instruction. Errors: StackShort; DivZero; ValueRange outside 32 bits.
 #[inline(always)]
 pub fn compute(op: Arithmetic, round_state: Round, stack: &mut Stack) -> Result<(), Why>
     ensures { Does (is.computed op round_state stack.old) stack.new result }

@@ -1,4 +1,4 @@
-//! The instructions on the stack alone, by what they do. Apple TrueType Reference Manual, "Instruction set".
+//! The instructions on the stack alone, by family. Apple TrueType Reference Manual, "Instruction set".
 
 /// The instructions that compute.
 #[derive(Clone, Copy)]
@@ -17,7 +17,7 @@ pub enum Arithmetic {
     Min,
 }
 
-/// The instructions whose answer is 1 for true or 0 for false.
+/// The instructions with the result 1 for true or 0 for false.
 #[derive(Clone, Copy)]
 pub enum Logic {
     Lt,

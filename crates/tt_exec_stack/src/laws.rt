@@ -1,28 +1,27 @@
-//! Laws of the definitions: what a tolerant machine does with the stack beside a strict one, and what too few values
-//! come to. Each function takes nothing and gives nothing.
+//! Laws of the stack: the tolerant machine beside a strict one, and too few values. No code runs.
 
 ghost use Rattle.tt_exec_stack.specs.Laws.{ManagingIsLoosened, ManagingIsTotal, ArithmeticIsTotal, LogicIsTotal, ManagingIsShort, ArithmeticIsShort, LogicIsShort, PaddedIsEnough, EnoughStays};
 
-/// What a strict machine answers a tolerant one answers too, and each refusal that tolerance does not lift.
+/// Lemma: a tolerant machine gives the result of a strict one, unless that is a refusal that tolerance lifts.
 pub fn managing_is_loosened()
     ensures { ManagingIsLoosened }
 {}
 
-/// With as many values as it takes, no instruction of a tolerant machine is short of values.
+/// Lemma: with the values that it takes, no instruction of a tolerant machine fails with too few values.
 pub fn answers_are_total()
     ensures managing { ManagingIsTotal }
     ensures arithmetic { ArithmeticIsTotal }
     ensures logic { LogicIsTotal }
 {}
 
-/// With fewer values than it takes, an instruction is refused.
+/// Lemma: with fewer values than it takes, an instruction is refused.
 pub fn few_values_are_refused()
     ensures managing { ManagingIsShort }
     ensures arithmetic { ArithmeticIsShort }
     ensures logic { LogicIsShort }
 {}
 
-/// Padding leaves as many values as are asked for, and a stack that has them.
+/// Lemma: a padded stack has the requested count of values, and a stack that has them is unchanged.
 pub fn padding_is_enough()
     ensures enough { PaddedIsEnough }
     ensures stays { EnoughStays }

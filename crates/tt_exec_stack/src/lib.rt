@@ -1,4 +1,4 @@
-//! The interpreter's stack, and the instructions that work on it alone: pushing, managing the stack, arithmetic and
+//! The interpreter's stack, and the instructions that change it alone: pushing, managing the stack, arithmetic and
 //! logic. Apple TrueType Reference Manual, "Instruction set".
 #![tactic(auto)]
 

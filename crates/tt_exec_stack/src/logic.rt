@@ -69,7 +69,7 @@ fn neq(stack: &mut Stack) -> Result<(), Why>
     stack.push(truth(a != b))
 }
 
-/// Whether a distance in 26.6 lies in an odd pixel.
+/// Whether a distance in 26.6 is within an odd pixel.
 fn is_odd(v: i64) -> bool
     ensures { result ≡ is.is_odd v }
 {
@@ -94,7 +94,7 @@ fn even(round: Round, stack: &mut Stack) -> Result<(), Why>
     stack.push(truth(!is_odd(rounded)))
 }
 
-/// AND[], 0x5A: a, b -> both are not 0.
+/// AND[], 0x5A: a, b -> neither is 0.
 fn and(stack: &mut Stack) -> Result<(), Why>
     ensures { Does (is.and stack.old) stack.new result }
 {
@@ -103,7 +103,7 @@ fn and(stack: &mut Stack) -> Result<(), Why>
     stack.push(truth(a != 0 && b != 0))
 }
 
-/// OR[], 0x5B: a, b -> one of them is not 0.
+/// OR[], 0x5B: a, b -> at least one is not 0.
 fn or(stack: &mut Stack) -> Result<(), Why>
     ensures { Does (is.or stack.old) stack.new result }
 {
@@ -120,7 +120,7 @@ fn not(stack: &mut Stack) -> Result<(), Why>
     stack.push(truth(e == 0))
 }
 
-/// Error: StackShort.
+/// Executes a logical instruction. Error: StackShort.
 #[inline(always)]
 pub fn evaluate(op: Logic, round: Round, stack: &mut Stack) -> Result<(), Why>
     ensures { Does (is.evaluated op round stack.old) stack.new result }

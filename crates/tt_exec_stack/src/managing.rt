@@ -44,7 +44,7 @@ fn swap(stack: &mut Stack) -> Result<(), Why>
     Ok(())
 }
 
-/// DEPTH[], 0x24: -> how many entries there were.
+/// DEPTH[], 0x24: -> the count of entries before it.
 fn depth(stack: &mut Stack) -> Result<(), Why>
     ensures { Does (is.depth stack.old) stack.new result }
 {
@@ -52,7 +52,7 @@ fn depth(stack: &mut Stack) -> Result<(), Why>
     stack.push(depth as i64)
 }
 
-/// CINDEX[], 0x25: k -> a copy of the k-th entry. A tolerant machine takes 0 where it is not there (profile).
+/// CINDEX[], 0x25: k -> a copy of the k-th entry, or 0 for a missing one on a tolerant machine (profile).
 fn cindex(tolerance: Tolerance, stack: &mut Stack) -> Result<(), Why>
     ensures { Does (is.cindex tolerance stack.old) stack.new result }
 {
@@ -65,8 +65,8 @@ fn cindex(tolerance: Tolerance, stack: &mut Stack) -> Result<(), Why>
     stack.push(i64::from(e))
 }
 
-/// MINDEX[], 0x26: k -> the k-th entry, which is no longer where it was. A tolerant machine takes k alone where that
-/// entry is not there (profile).
+/// MINDEX[], 0x26: k -> the k-th entry, moved to the top. For a missing entry a tolerant machine pops k alone
+/// (profile).
 fn mindex(tolerance: Tolerance, stack: &mut Stack) -> Result<(), Why>
     ensures { Does (is.mindex tolerance stack.old) stack.new result }
 {
@@ -94,8 +94,9 @@ fn roll(stack: &mut Stack) -> Result<(), Why>
     Ok(())
 }
 
-/// Errors: StackShort; StackFull; of CINDEX and MINDEX also BadArgument. A tolerant machine's CINDEX and MINDEX have
-/// StackShort of an empty stack alone, and no BadArgument.
+/// Executes an instruction that manages the stack. Errors: StackShort; StackFull; of CINDEX and MINDEX also
+/// BadArgument. On a tolerant machine, CINDEX and MINDEX have StackShort for an empty stack alone, and no
+/// BadArgument.
 #[inline(always)]
 pub fn manage(op: Managing, tolerance: Tolerance, stack: &mut Stack) -> Result<(), Why>
     ensures { Does (is.managed op tolerance stack.old) stack.new result }

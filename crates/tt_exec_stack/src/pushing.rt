@@ -19,7 +19,7 @@ pub fn push_bytes(bytes: &[u8], stack: &mut Stack) -> Result<(), Why>
     Ok(())
 }
 
-/// A word that is signed.
+/// Pushes a signed word. Error: StackFull.
 fn push_word(high: u8, low: u8, stack: &mut Stack) -> Result<(), Why>
     ensures { Does (pushed (signed16 (high * 256 + low)) stack.old) stack.new result }
 {

@@ -10,7 +10,7 @@ use std::alloc::{AllocError, Global};
 use std::marker::Model;
 use tt_core::{STACK_LIMIT, Why};
 
-/// Numbers of 32 bits, and memory for as many as there may be. A clause sees it as a list, the top first.
+/// Numbers of 32 bits, with memory for the limit of the stack. A clause sees them as a list, the top first.
 #[derive(Drop)]
 pub struct Stack {
     items: Vec<i32>,
@@ -53,8 +53,8 @@ impl Stack {
         self.items.clear();
     }
 
-    /// What an instruction finds that takes `n` values: where fewer are there they are lost, and there are `n` zeros
-    /// (profile).
+    /// Provides the `n` values that an instruction takes. If there are fewer, they are lost, and `n` zeros replace
+    /// them (profile).
     #[inline(always)]
     pub fn pad(&mut self, n: usize)
         requires { n ≤ stack_limit }
@@ -66,7 +66,7 @@ impl Stack {
         }
     }
 
-    /// So many zeros, and nothing else.
+    /// Replaces all entries by `n` zeros.
     #[cold]
     fn put_zeros(&mut self, n: usize)
         requires { n ≤ stack_limit }
@@ -78,7 +78,7 @@ impl Stack {
         }
     }
 
-    /// How many entries there are.
+    /// The count of entries.
     #[inline(always)]
     pub fn len(&self) -> usize
         ensures exact { result ≡ length self.now }
@@ -96,7 +96,7 @@ impl Stack {
         self.items.pop().ok_or(Why::StackShort)
     }
 
-    /// Puts a number on top. Errors: ValueRange outside 32 bits, StackFull.
+    /// Pushes a number. Errors: ValueRange outside 32 bits, StackFull.
     #[inline(always)]
     #[tactic(auto, unfolding(crate::specs::Stack::pushed))]
     pub fn push(&mut self, value: i64) -> Result<(), Why>
@@ -112,7 +112,7 @@ impl Stack {
         Ok(())
     }
 
-    /// The k-th entry from the top; the top is the first. Errors: BadArgument where k is below 1, StackShort.
+    /// The k-th entry, counted from 1 at the top. Errors: BadArgument for k below 1, StackShort.
     pub(crate) fn kth(&self, k: i32) -> Result<i32, Why>
         ensures exact { Gives (λ e. e) result (kth k self.now) }
     {
@@ -126,7 +126,7 @@ impl Stack {
         Ok(self.items[self.items.len() - k])
     }
 
-    /// Takes the k-th entry from the top; it is there.
+    /// Removes the k-th entry from the top, which has to exist.
     pub(crate) fn remove(&mut self, k: usize) -> i32
         requires low { 0 < k }
         requires high { k ≤ length self.old }
@@ -136,7 +136,7 @@ impl Stack {
         self.items.remove(at)
     }
 
-    /// Puts a number on top; there is room for it.
+    /// Pushes a number, for which there is room.
     #[inline(always)]
     pub(crate) fn put(&mut self, value: i32)
         requires { length self.old < stack_limit }
@@ -145,7 +145,7 @@ impl Stack {
         self.items.push_reserved(value);
     }
 
-    /// The top entries, the top last. Error: StackShort where there are fewer.
+    /// The `n` top entries, the top last. Error: StackShort if there are fewer.
     pub fn top(&self, n: usize) -> Result<&[i32], Why>
         ensures { Gives (λ xs. xs.now) result (top n self.now) }
     {
@@ -155,7 +155,7 @@ impl Stack {
         Ok(&self.items[from..])
     }
 
-    /// Takes so many entries from the top; they are there.
+    /// Removes the `n` top entries, which have to exist.
     pub fn discard(&mut self, n: usize)
         requires { n ≤ length self.old }
         ensures { self.new ≡ drop n self.old }

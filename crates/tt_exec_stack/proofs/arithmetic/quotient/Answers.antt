@@ -4,7 +4,7 @@ use Rattle.std.proofs.Math.Nat.{div-le_self}
 use Rattle.std.proofs.lemmas.Int.{ints, to_z-of_z}
 use Rattle.tt_exec_stack.proofs.arithmetic.quotient.Goals as goal
 
--- a quotient is no further from 0 than what is divided
+-- a quotient is at most as far from 0 as its dividend
 quotient_fits : (a b : ℤ) → unsigned_abs a < 2 ^ 38 → SFits w64 (int_div a b)
 quotient_fits (pos a) (pos b) few = omega (arith, ints, div-le_self a b)
 quotient_fits (pos a) (negsuc b) few = omega (arith, ints, div-le_self a (suc b))

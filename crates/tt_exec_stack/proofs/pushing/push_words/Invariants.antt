@@ -2,7 +2,7 @@ use Rattle.std.proofs.Common.{◌≡◌, ◌≤◌, ◌-◌, drop, length}
 use Rattle.tt_exec_stack.specs.Pushing.{pushed_words}
 use Rattle.tt_exec_stack.proofs.pushing.push_words.Given as goal
 
--- what is left, put on what stands, is the whole put on what stood
+-- the remaining words on the present stack are all words on the first stack
 abbrev pub invariant-loop-at : goal.invariant-loop-at
 invariant-loop-at l = record {
   reached : l.at ≤ length l.bytes;

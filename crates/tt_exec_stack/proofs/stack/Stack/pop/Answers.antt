@@ -5,7 +5,7 @@ use Rattle.tt_core.specs.declared.fault.Why.TheVariants as why
 use Rattle.tt_exec_stack.specs.Stack.{Pops}
 use Rattle.tt_exec_stack.proofs.stack.Stack.pop.Goals as goal
 
--- the last of a list is the top of what it is as a stack
+-- the last element of a list is the top of its stack
 last_is_top : (old left : List ℤ) (n m : ℕ) (P : ℤ → Type 0) (o : Option ℤ) → n ≡ length old
     → old ≡ left ++ option_to_list o → MatchOption o ((n ≡ 0) × (m ≡ 0)) P
     → Pops (reverse old) (ok_or o why.StackShort) (reverse left)
