@@ -1,4 +1,4 @@
--- What a call left, told beside what it left alone.
+-- The result of a call, beside values that it leaves unchanged.
 use Rattle.std.proofs.Common.{Result, Ok, Err, refl}
 use Rattle.tt_core.specs.Outcomes.{◌>>=◌}
 use Rattle.tt_exec_stack.specs.Stack.{Does}

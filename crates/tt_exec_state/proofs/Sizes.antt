@@ -1,4 +1,4 @@
--- No instruction makes or drops a place of the storage area or a control value.
+-- No instruction adds or removes a storage place or a control value.
 use Rattle.std.proofs.Common.{◌≡◌, ℤ, Bool, true, false, if◌then◌else◌, List, [], ◌∷◌, length, Result, Ok, Err, IfOk, refl, length-set}
 use Rattle.tt_core.specs.declared.scaling.Scale.{Scale}
 use Rattle.tt_core.specs.Outcomes.{◌>>=◌}
@@ -11,7 +11,7 @@ use Rattle.tt_exec_state.specs.Size.{in_pixels}
 use Rattle.tt_exec_state.specs.declared.instruction.StoredValues.{StoredValues}
 use Rattle.tt_exec_state.specs.declared.instruction.StoredValues.TheVariants as op
 
--- what holds whatever comes first holds after it
+-- a property of the second step, whatever the first gives
 after : {A B : Type 0} (P : B → Type 0) (r : Result A Why) (f : A → Result B Why) → ((x : A) → IfOk (f x) P)
     → IfOk (r >>= f) P
 after P (Ok x) f every = every x
@@ -22,17 +22,17 @@ chosen : {A : Type 0} (P : A → Type 0) (over : Bool) (instead : A) (e : Why) �
 chosen P true instead e first = first
 chosen P false instead e first = tt
 
--- what holds of an answer and of what is given in its place
+-- a property of a result and of the one in its place
 unless : {A : Type 0} (P : A → Type 0) (t : Tolerance) (instead : A) (r : Result A Why) → P instead → IfOk r P
     → IfOk (unless_missing t instead r) P
 unless P t instead (Ok a) first holds = holds
 unless P t instead (Err e) first holds = chosen P (passes_over t e) instead e first
 
--- what is left of the stack, and a list that is as long as it was
+-- a stack, and a list of unchanged length
 abbrev AsLong : List ℤ → List ℤ × List ℤ → Type 0
 AsLong xs r = length r.1 ≡ length xs
 
--- a list with another value at a place is as long
+-- a list has the same length with another value at a place
 set_kept : (t : Tolerance) (n value : ℤ) (values : List ℤ) (why : Why)
     → IfOk (value_set t n value values why) (λ r. length r ≡ length values)
 set_kept t n value values why =

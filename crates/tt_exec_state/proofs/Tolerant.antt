@@ -1,4 +1,4 @@
--- What a tolerant machine does beside a strict one, and what few values come to.
+-- The tolerant machine beside a strict one, and too few values.
 use Rattle.std.proofs.Common.{◌≡◌, ℕ, Bool, true, false, ◌&&◌, ◌||◌, nat_le, if◌then◌else◌, ℤ, pos, int_eq, int_lt, unsigned_abs, get_or, slice_set, List, [], ◌∷◌, length, Result, Ok, Err, refl, arith}
 use Rattle.std.specs.Int.{int_rem_euclid}
 use Rattle.tt_core.specs.declared.scaling.Scale.{Scale}
@@ -30,13 +30,13 @@ use Rattle.tt_exec_state.specs.declared.instruction.Setting.TheVariants as setti
 use Rattle.tt_exec_state.specs.declared.instruction.StoredValues.TheVariants as value
 use Rattle.tt_exec_state.specs.declared.instruction.Vectors.TheVariants as op
 
--- an answer, or another where something is not there, in both machines
+-- a result, or another where something is missing, in both machines
 unless : {A : Type 0} (instead : A) (r : Result A Why)
     → Loosens (unless_missing tolerance.Strict instead r) (unless_missing tolerance.Tolerant instead r)
 unless instead (Ok a) = refl
 unless instead (Err e) = passed_over instead (Err e) (Err e) (same (Err e))
 
--- something made of an answer
+-- a function of a result
 made : {A B : Type 0} (f : A → B) (r loose : Result A Why) → Loosens r loose
     → Loosens (r >>= λ a. Ok (f a)) (loose >>= λ a. Ok (f a))
 made f r loose stays = chained r loose _ _ stays (λ a. refl)
@@ -143,7 +143,7 @@ values_loosened value.Rcvt scale s storage cvt =
     made (λ (r : List ℤ). (r, storage, cvt)) (values.rcvt tolerance.Strict s cvt) (values.rcvt tolerance.Tolerant s cvt)
     (rcvt_loosened s cvt)
 
--- a zone is short of nothing, and what is not there is passed over
+-- zones never fail with too few values, and a missing zone is passed over
 zone_tests : (a b : Bool) → Enough (if a then Ok zone.Twilight else (if b then Ok zone.Glyph else Err why.ZoneRange))
 zone_tests true b = record {}
 zone_tests false true = record {}
@@ -199,7 +199,7 @@ place_enough : (n : ℤ) (many : ℕ) (why : Why) → is_short why ≡ false →
 place_enough n many why enough =
     place_tests (int_lt n (pos 0) || nat_le many (unsigned_abs n)) (unsigned_abs n) why enough
 
--- what is not there is read as 0
+-- a missing value is read as 0
 read_total : (n : ℤ) (xs : List ℤ) (why : Why) (s : List ℤ) → is_short why ≡ false
     → IsTotal (value_at tolerance.Tolerant n xs why >>= λ v. pushed v s)
 read_total n xs why s enough =
@@ -207,7 +207,7 @@ read_total n xs why s enough =
     enough_after (place n (length xs) why) _ (place_enough n (length xs) why enough) (λ i. record {}) in
     total_after (value_at tolerance.Tolerant n xs why) _ (total_passed_over (pos 0) _ found) (λ v. pushed_total v s)
 
--- and not written
+-- a missing place is not written
 set_total : (n v : ℤ) (xs : List ℤ) (why : Why) (s : List ℤ) → is_short why ≡ false
     → IsTotal {A = List ℤ × List ℤ} (value_set tolerance.Tolerant n v xs why >>= λ ys. Ok (s, ys))
 set_total n v xs why s enough =
@@ -248,7 +248,7 @@ values_total value.Rcvt scale s storage cvt enough =
     (of_one (λ s. values.rcvt tolerance.Tolerant s cvt) (λ n s. read_total n cvt why.CvtRange s refl) s enough)
     (λ r. record {})
 
--- a vector is short of nothing
+-- vectors never fail with too few values
 given_total : (x y : ℤ) (whole : Bool) → IsTotal (vector_given x y whole)
 given_total x y true = record {}
 given_total x y false =

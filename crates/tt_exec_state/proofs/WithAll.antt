@@ -1,4 +1,4 @@
--- What is given without the whole instruction set is given with it too; without it vectors stay on the axes.
+-- A result without the whole instruction set is the result with it; without it vectors stay on the axes.
 use Rattle.std.proofs.Common.{◌≡◌, ℤ, pos, Bool, true, false, ◌&&◌, ◌||◌, if◌then◌else◌, int_eq, int_lt, List, [], ◌∷◌, Result, Ok, Err, IfOk, refl}
 use Rattle.std.proofs.lemmas.Bool.{and_parts}
 use Rattle.std.proofs.lemmas.Bool.Decides.{Decides-int_eq}
@@ -73,13 +73,13 @@ vectors_stay op.Gpv s g = after beside (vector_pushed g.proj s) _ _ (λ t. refl)
 vectors_stay op.Gfv s g = after beside (vector_pushed g.free s) _ _ (λ t. refl)
 vectors_stay op.Sfvtpv s g = refl
 
--- one of two answers
+-- one of two results
 tested : {A : Type 0} (all : A → A) (b : Bool) (a : A) (e : Why)
     → Stays all (if b then Err e else Ok a) (if b then Err e else Ok (all a))
 tested all true a e = λ other. refl
 tested all false a e = refl
 
--- what is not there is no refusal of the profile
+-- a missing thing is no refusal of the profile
 not_of_profile : (e : Why) → is_missing e ≡ true → is_of_profile e ≡ false
 not_of_profile why.OffProfile missing = absurd cc
 not_of_profile why.Perpendicular missing = absurd cc
@@ -89,7 +89,7 @@ over_is_missing : (t : Tolerance) (e : Why) → passes_over t e ≡ true → is_
 over_is_missing tolerance.Strict e over = absurd cc
 over_is_missing tolerance.Tolerant e over = over
 
--- what is given in the place of a refusal is given with the whole instruction set too
+-- the replacement for a refusal is the same with the whole instruction set
 replaced : {A : Type 0} (all : A → A) (t : Tolerance) (instead : A) (e : Why) (over : Bool) → passes_over t e ≡ over
     → (with : Result A Why) → (is_of_profile e ≡ false → with ≡ Err e)
     → Stays all (if over then Ok instead else Err e) (unless_missing t (all instead) with)

@@ -1,5 +1,5 @@
--- Laws of the instructions that set or read what a program works with, each said once (profile): what a tolerant machine
--- does beside a strict one, and what few values come to.
+-- Laws of the instructions that set or read a program's settings and values (profile): the tolerant machine beside
+-- a strict one, and too few values.
 use Rattle.std.specs.Prelude.{◌≡◌, ℕ, ◌<◌, ◌≤◌, ℤ, List, length, Err}
 use Rattle.tt_core.specs.declared.scaling.Scale.{Scale}
 use Rattle.tt_core.specs.declared.fault.Why.TheVariants as why
@@ -16,7 +16,7 @@ use Rattle.tt_exec_state.specs.declared.instruction.Setting.{Setting}
 use Rattle.tt_exec_state.specs.declared.instruction.StoredValues.{StoredValues}
 use Rattle.tt_exec_state.specs.declared.instruction.Vectors.{Vectors}
 
--- a tolerant machine answers what a strict one does, or in the place of a refusal that tolerance lifts
+-- a tolerant machine has the result of a strict one, or another in place of a refusal that tolerance lifts
 abbrev pub SettingIsLoosened : Type 0
 SettingIsLoosened = (o : Setting) (ppem : ℕ) (scale : Scale) (s : List ℤ) (g : GraphicsState)
     → Loosens (settings.state_set o ppem scale tolerance.Strict s g) (settings.state_set o ppem scale tolerance.Tolerant s g)
@@ -26,7 +26,7 @@ ValuesAreLoosened = (o : StoredValues) (scale : Scale) (s storage cvt : List ℤ
     → Loosens (values.values_accessed o scale tolerance.Strict s storage cvt)
     (values.values_accessed o scale tolerance.Tolerant s storage cvt)
 
--- where the values are there that an instruction takes, it is short of none, and what is not there is passed over
+-- with the values that it takes, an instruction does not fail with too few, and a missing thing is passed over
 abbrev pub SettingIsTotal : Type 0
 SettingIsTotal = (o : Setting) (ppem : ℕ) (scale : Scale) (s : List ℤ) (g : GraphicsState) → settings.takes o ≤ length s
     → IsTotal (settings.state_set o ppem scale tolerance.Tolerant s g)
@@ -43,7 +43,7 @@ abbrev pub QueriesAreTotal : Type 0
 QueriesAreTotal = (o : Query) (ppem : ℕ) (s : List ℤ) → queries.takes o ≤ length s
     → IsTotal (queries.answered o ppem s)
 
--- where fewer are there it is refused
+-- with fewer values it is refused
 abbrev pub SettingIsShort : Type 0
 SettingIsShort = (o : Setting) (ppem : ℕ) (scale : Scale) (t : Tolerance) (s : List ℤ) (g : GraphicsState)
     → length s < settings.takes o → settings.state_set o ppem scale t s g ≡ Err why.StackShort

@@ -1,5 +1,5 @@
 -- Apple TrueType Reference Manual, "Instruction set": reading data, the size and the engine. The top of the stack
--- stands first.
+-- comes first.
 use Rattle.std.specs.Prelude.{◌≡◌, ℕ, ℤ, pos, neg_ℤ, if◌then◌else◌, List, [], ◌∷◌, Result, Ok, Err, refl}
 use Rattle.std.specs.Int.{int_rem_euclid}
 use Rattle.std.specs.Ordering.{int_eq}
@@ -16,7 +16,7 @@ mppem ppem s = pushed (pos ppem) s
 abbrev pub mps : ℕ → List ℤ → Result (List ℤ) Why
 mps ppem s = pushed (pos ppem) s
 
--- version 35 where bit 0 of the selector is set (profile)
+-- version 35 if bit 0 of the selector is set (profile)
 abbrev pub getinfo : List ℤ → Result (List ℤ) Why
 getinfo (selector ∷ s) =
     if int_eq (int_rem_euclid selector (pos 2)) (pos 1) then pushed (pos 35) s else pushed (pos 0) s
@@ -27,7 +27,7 @@ answered op.Mppem ppem s = mppem ppem s
 answered op.Mps ppem s = mps ppem s
 answered op.Getinfo ppem s = getinfo s
 
--- how many values an instruction takes
+-- the count of values that an instruction takes
 abbrev pub takes : Query → ℕ
 takes op.Mppem = 0
 takes op.Mps = 0

@@ -1,4 +1,5 @@
--- Apple TrueType Reference Manual, "Instruction set": managing the graphics state. The top of the stack stands first.
+-- Apple TrueType Reference Manual, "Instruction set": managing the graphics state. The top of the stack comes
+-- first.
 use Rattle.std.specs.Prelude.{◌≡◌, ℕ, ℤ, pos, negsuc, int_lt, unsigned_abs, ◌==◌, nat_le, Bool, true, false, ◌&&◌, ◌||◌, not, if◌then◌else◌, List, [], ◌∷◌, Result, Ok, Err, refl}
 use Rattle.std.specs.Int.{int_rem_euclid}
 use Rattle.tt_core.specs.declared.scaling.Scale.{Scale}
@@ -17,7 +18,7 @@ use Rattle.tt_exec_state.specs.declared.instruction.Setting.{Setting}
 use Rattle.tt_exec_state.specs.declared.instruction.Setting.TheVariants as op
 use Rattle.tt_exec_state.specs.Size.{in_pixels}
 
--- what a setting leaves, or its refusal
+-- the state after a setting, or its refusal
 abbrev pub Set : Type 0
 Set = Result (List ℤ × GraphicsState) Why
 
@@ -33,7 +34,7 @@ abbrev pub srp2 : List ℤ → GraphicsState → Set
 srp2 (p ∷ s) g = Ok (s, record g { rp2 = p })
 srp2 [] g = Err why.StackShort
 
--- SZP0, SZP1, SZP2 and SZPS: a tolerant machine leaves the zone pointers where there is no such zone (profile)
+-- SZP0, SZP1, SZP2 and SZPS: for a missing zone a tolerant machine leaves the zone pointers unchanged (profile)
 abbrev pub szp0 : Tolerance → List ℤ → GraphicsState → Set
 szp0 t (n ∷ s) g = unless_missing t (s, g) (zone_of n >>= λ z. Ok (s, record g { zp0 = z }))
 szp0 t [] g = Err why.StackShort
@@ -95,9 +96,9 @@ sds (n ∷ s) g =
     Ok (s, record g { delta_shift = unsigned_abs n })
 sds [] g = Err why.StackShort
 
--- whether scan control is on after SCANCTRL of a number, at so many pixels per em, where it was or wasn't before. The low
--- byte is a size, and 255 every size: up to it bit 8 switches on, beyond it bit 11 switches off. The bits for rotated and
--- stretched glyphs say nothing (profile).
+-- whether scan control is on after SCANCTRL of a number, by the pixels per em and whether it was on before. The
+-- low byte is a size, and 255 every size: up to it bit 8 switches on, above it bit 11 switches off. The bits for
+-- rotated and stretched glyphs have no effect (profile).
 abbrev pub control_by : ℕ → ℤ → ℕ → Bool → Bool
 control_by size v ppem before =
     if size == 255 then true else
@@ -112,7 +113,7 @@ abbrev pub scanctrl : ℕ → List ℤ → GraphicsState → Set
 scanctrl ppem (v ∷ s) g = Ok (s, record g { scan = record g.scan { on = control_after v ppem g.scan.on } })
 scanctrl ppem [] g = Err why.StackShort
 
--- the scan type after SCANTYPE of a number: its low 16 bits, and a negative number changes nothing
+-- the scan type after SCANTYPE of a number: its low 16 bits; a negative number changes nothing
 abbrev pub type_after : ℤ → ℕ → ℕ
 type_after v before = if int_lt v (pos 0) then before else unsigned_abs (int_rem_euclid v (pos 65536))
 
@@ -148,7 +149,7 @@ state_set op.Scanctrl ppem scale t s g = scanctrl ppem s g
 state_set op.Scantype ppem scale t s g = scantype s g
 state_set op.Ignored ppem scale t s g = ignored s >>= λ t. Ok (t, g)
 
--- how many values an instruction takes
+-- the count of values that an instruction takes
 abbrev pub takes : Setting → ℕ
 takes op.Srp0 = 1
 takes op.Srp1 = 1

@@ -1,5 +1,5 @@
--- Apple TrueType Reference Manual, "Instruction set": managing the storage area and the control value table. The top of
--- the stack stands first.
+-- Apple TrueType Reference Manual, "Instruction set": managing the storage area and the control value table. The
+-- top of the stack comes first.
 use Rattle.std.specs.Prelude.{◌≡◌, ℕ, ℤ, pos, int_lt, unsigned_abs, ◌||◌, nat_le, if◌then◌else◌, List, [], ◌∷◌, length, get_or, slice_set, Result, Ok, Err, refl}
 use Rattle.tt_core.specs.Scales.{exact_scale}
 use Rattle.tt_core.specs.declared.scaling.Scale.{Scale}
@@ -18,12 +18,12 @@ use Rattle.tt_exec_stack.specs.Stack.{pushed}
 abbrev pub place : ℤ → ℕ → Why → Result ℕ Why
 place n many why = if int_lt n (pos 0) || nat_le many (unsigned_abs n) then Err why else Ok (unsigned_abs n)
 
--- what stands at a place; a tolerant machine reads 0 where there is no such place (profile)
+-- the value at a place; a tolerant machine reads 0 for a missing place (profile)
 abbrev pub value_at : Tolerance → ℤ → List ℤ → Why → Result ℤ Why
 value_at t n values why =
     unless_missing t (pos 0) (place n (length values) why >>= λ i. Ok (get_or values i (pos 0)))
 
--- another value at a place; a tolerant machine writes nothing where there is no such place (profile)
+-- another value at a place; a tolerant machine ignores a missing place (profile)
 abbrev pub value_set : Tolerance → ℤ → ℤ → List ℤ → Why → Result (List ℤ) Why
 value_set t n value values why =
     unless_missing t values (place n (length values) why >>= λ i. Ok (slice_set values i value))
@@ -40,7 +40,7 @@ abbrev pub wcvtp : Tolerance → List ℤ → List ℤ → Result (List ℤ × L
 wcvtp t (value ∷ n ∷ s) cvt = value_set t n value cvt why.CvtRange >>= λ values. Ok (s, values)
 wcvtp t _ cvt = Err why.StackShort
 
--- a tolerant machine passes a place over before it scales (profile)
+-- a tolerant machine passes over a missing place before it scales (profile)
 abbrev pub wcvtf : Scale → Tolerance → List ℤ → List ℤ → Result (List ℤ × List ℤ) Why
 wcvtf scale t (units ∷ n ∷ s) cvt =
     unless_missing t (s, cvt) (place n (length cvt) why.CvtRange >>= λ i. in_pixels scale units >>= λ v.
@@ -60,7 +60,7 @@ values_accessed op.Wcvtp scale t s storage cvt = wcvtp t s cvt >>= λ r. Ok (r.0
 values_accessed op.Wcvtf scale t s storage cvt = wcvtf scale t s cvt >>= λ r. Ok (r.0, storage, r.1)
 values_accessed op.Rcvt scale t s storage cvt = rcvt t s cvt >>= λ r. Ok (r, storage, cvt)
 
--- how many values an instruction takes
+-- the count of values that an instruction takes
 abbrev pub takes : StoredValues → ℕ
 takes op.Ws = 2
 takes op.Rs = 1
@@ -85,7 +85,7 @@ no_place_two_is_zero = refl
 nothing_stored : ws tolerance.Tolerant (pos 7 ∷ pos 2 ∷ []) (pos 4 ∷ pos 4 ∷ []) ≡ Ok ([], pos 4 ∷ pos 4 ∷ [])
 nothing_stored = refl
 
--- the control values 10, 20 and 30, which are numbered 0, 1 and 2
+-- the control values 10, 20 and 30, with the numbers 0, 1 and 2
 no_control_value_three : rcvt tolerance.Strict (pos 3 ∷ []) (pos 10 ∷ pos 20 ∷ pos 30 ∷ []) ≡ Err why.CvtRange
 no_control_value_three = refl
 
@@ -101,7 +101,7 @@ the_control_values_left : wcvtp tolerance.Tolerant (pos 80 ∷ pos 3 ∷ []) (po
     ≡ Ok ([], pos 10 ∷ pos 20 ∷ pos 30 ∷ [])
 the_control_values_left = refl
 
--- too many units to scale, for a place that is not there
+-- too many units to scale, for a missing place
 passed_over_before_scaling : wcvtf (exact_scale 300 16) tolerance.Tolerant (pos 1789570 ∷ pos 3 ∷ []) (pos 10 ∷ [])
     ≡ Ok ([], pos 10 ∷ [])
 passed_over_before_scaling = refl

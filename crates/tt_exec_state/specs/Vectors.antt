@@ -1,5 +1,5 @@
--- Apple TrueType Reference Manual, "Instruction set": managing the graphics state, the vectors. The top of the stack
--- stands first.
+-- Apple TrueType Reference Manual, "Instruction set": managing the graphics state, the vectors. The top of the
+-- stack comes first.
 use Rattle.std.specs.Prelude.{◌≡◌, ℕ, ◌+◌, ℤ, pos, negsuc, unsigned_abs, Bool, true, false, ◌&&◌, if◌then◌else◌, List, [], ◌∷◌, Result, Ok, Err, refl}
 use Rattle.std.specs.Int.{int_rem_euclid}
 use Rattle.std.specs.Ordering.{int_eq}
@@ -23,16 +23,16 @@ abbrev pub along : Axis → Vector
 along axis.X = vector.X
 along axis.Y = vector.Y
 
--- the projection vector and the dual one with it
+-- the projection vector and the dual one set
 abbrev pub projects_along : Vector → GraphicsState → GraphicsState
 projects_along v g = record g { proj = v; dual = v }
 
--- of a number on the stack the low 16 bits, in two's complement (profile)
+-- the low 16 bits of a stack value, in two's complement (profile)
 unfoldable pub part : ℤ → ℤ
 part n = signed16 (unsigned_abs (int_rem_euclid n (pos 65536)))
 
--- the unit vector in the direction of a pair (profile: the manual leaves a pair that is no unit vector to the font);
--- without the whole instruction set the pair of an axis, in 2.14, alone (profile)
+-- the unit vector in the direction of a pair (profile: the manual leaves a pair that is no unit vector to the
+-- font); without the whole instruction set only the pair of an axis, in 2.14, is allowed (profile)
 abbrev pub vector_given : ℤ → ℤ → Bool → Result Vector Why
 vector_given x y true = Ok (vector_of (unit (part x) (part y)))
 vector_given x y false =
@@ -79,7 +79,7 @@ vectors_accessed op.Gpv s g = gpv s g
 vectors_accessed op.Gfv s g = gfv s g
 vectors_accessed op.Sfvtpv s g = Ok (s, sfvtpv g)
 
--- how many values an instruction takes
+-- the count of values that an instruction takes
 abbrev pub takes : Vectors → ℕ
 takes (op.Svtca axis) = 0
 takes (op.Spvtca axis) = 0

@@ -1,5 +1,5 @@
--- Laws of what sets the graphics state, each said once: what is given without the whole instruction set is given with it
--- too, and without it vectors stay on the axes.
+-- Laws of the instructions that set the graphics state: a result without the whole instruction set is the result
+-- with it, and without it vectors stay on the axes.
 use Rattle.std.specs.Prelude.{◌≡◌, ℕ, ℤ, false, List, IfOk}
 use Rattle.tt_core.specs.declared.scaling.Scale.{Scale}
 use Rattle.tt_state.specs.declared.graphics_state.GraphicsState.{GraphicsState}
@@ -29,7 +29,7 @@ IsAxis vector.X = Unit {0}
 IsAxis vector.Y = Unit {0}
 IsAxis (vector.Off s) = ⊥
 
--- vectors on the axes, the dual projection vector with the projection vector
+-- vectors on the axes, and a dual projection vector that is the projection vector
 pub record AreOnAxes (g : GraphicsState) : Type 0 where
   pub whole : g.whole ≡ false
   pub projection : IsAxis g.proj

@@ -1,5 +1,5 @@
-//! The instructions that set or read what a program works with, by what they set or read. Apple TrueType Reference
-//! Manual, "Instruction set".
+//! The instructions that set or read a program's settings and values, by family. Apple TrueType Reference Manual,
+//! "Instruction set".
 
 use tt_state::{Axis, Round};
 
@@ -39,7 +39,7 @@ pub enum StoredValues {
     Rcvt,
 }
 
-/// The instructions that ask for the size or the engine.
+/// The instructions that read the size or the engine.
 #[derive(Clone, Copy)]
 pub enum Query {
     Mppem,
@@ -47,7 +47,7 @@ pub enum Query {
     Getinfo,
 }
 
-/// The instructions that set or tell the projection and the freedom vector.
+/// The instructions that set or read the projection and the freedom vector.
 #[derive(Clone, Copy)]
 pub enum Vectors {
     Svtca(Axis),

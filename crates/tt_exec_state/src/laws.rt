@@ -1,5 +1,5 @@
-//! What the instructions of this crate leave as it is, what they give with the whole instruction set, and what a
-//! tolerant machine does beside a strict one.
+//! Laws of this crate's instructions: what they leave unchanged, the whole instruction set, and the tolerant
+//! machine.
 
 ghost use Rattle.std.specs.Prelude.{◌≡◌, ℕ, ℤ, List, length, IfOk};
 ghost use Rattle.tt_core.specs.declared.scaling.Scale.{Scale};
@@ -9,33 +9,33 @@ ghost use Rattle.tt_exec_state.specs.StoredValues.{values_accessed};
 ghost use Rattle.tt_exec_state.specs.WithAll.{VectorsStay, SettingsStay, AxesAreKept};
 ghost use Rattle.tt_exec_state.specs.declared.instruction.StoredValues.{StoredValues};
 
-/// Takes nothing and gives nothing: no instruction makes or drops a place of the storage area or a control value.
+/// Lemma: no instruction adds or removes a storage place or a control value.
 pub fn sizes_are_kept()
     ensures { (o : StoredValues) (scale : Scale) (t : Tolerance) (s storage cvt : List ℤ)
         → IfOk (values_accessed o scale t s storage cvt)
         (λ r. (length r.1 ≡ length storage) × (length r.2 ≡ length cvt)) }
 {}
 
-/// What sets the graphics state without the whole instruction set does the same with it.
+/// Lemma: an instruction that sets the graphics state without the whole instruction set does the same with it.
 pub fn settings_stay()
     ensures vectors { VectorsStay }
     ensures settings { SettingsStay }
 {}
 
-/// Without the whole instruction set vectors on the axes stay on the axes, and the dual projection vector with the
+/// Lemma: without the whole instruction set, vectors stay on the axes, and the dual projection vector stays the
 /// projection vector.
 pub fn axes_are_kept()
     ensures { AxesAreKept }
 {}
 
-/// What a strict machine answers a tolerant one answers too, and each refusal that tolerance does not lift.
+/// Lemma: a tolerant machine gives the result of a strict one, unless that is a refusal that tolerance lifts.
 pub fn answers_are_loosened()
     ensures settings { SettingIsLoosened }
     ensures values { ValuesAreLoosened }
 {}
 
-/// With as many values as it takes, no instruction of a tolerant machine is short of values, or refused for something
-/// that is not there.
+/// Lemma: with the values that it takes, no instruction of a tolerant machine fails with too few values or for a
+/// missing thing.
 pub fn answers_are_total()
     ensures settings { SettingIsTotal }
     ensures values { ValuesAreTotal }
@@ -43,7 +43,7 @@ pub fn answers_are_total()
     ensures queries { QueriesAreTotal }
 {}
 
-/// With fewer values than it takes, an instruction is refused.
+/// Lemma: with fewer values than it takes, an instruction is refused.
 pub fn few_values_are_refused()
     ensures settings { SettingIsShort }
     ensures values { ValuesAreShort }

@@ -16,14 +16,14 @@ fn mppem(size: Size, stack: &mut Stack) -> Result<(), Why>
     stack.push(i64::from(size.ppem))
 }
 
-/// MPS[], 0x4C: -> the point size, which is told as pixels per em (profile).
+/// MPS[], 0x4C: -> pixels per em in place of the point size (profile).
 fn mps(size: Size, stack: &mut Stack) -> Result<(), Why>
     ensures { Does (is.mps size.ppem stack.old) stack.new result }
 {
     stack.push(i64::from(size.ppem))
 }
 
-/// GETINFO[], 0x88: selector -> version 35 where bit 0 asks for it, else 0 (profile).
+/// GETINFO[], 0x88: selector -> version 35 if bit 0 is set, otherwise 0 (profile).
 fn getinfo(stack: &mut Stack) -> Result<(), Why>
     ensures { Does (is.getinfo stack.old) stack.new result }
 {
@@ -35,7 +35,7 @@ fn getinfo(stack: &mut Stack) -> Result<(), Why>
     }
 }
 
-/// Errors: StackShort; StackFull.
+/// Executes an instruction that reads the size or the engine. Errors: StackShort; StackFull.
 #[inline(always)]
 pub fn answer(op: Query, size: Size, stack: &mut Stack) -> Result<(), Why>
     ensures { Does (is.answered op size.ppem stack.old) stack.new result }

@@ -12,7 +12,7 @@ use tt_exec_stack::Stack;
 use tt_points_zones::zone_of;
 use tt_state::{GraphicsState, Round, Tolerance};
 
-/// SRP0[], 0x10: p -> reference point 0, which is tested where it is used.
+/// SRP0[], 0x10: p -> nothing; sets reference point 0, which is tested at its use (profile).
 fn srp0(stack: &mut Stack, graphics: &mut GraphicsState) -> Result<(), Why>
     ensures { Does (is.srp0 stack.old graphics.old) (stack.new, graphics.new) result }
 {
@@ -20,7 +20,7 @@ fn srp0(stack: &mut Stack, graphics: &mut GraphicsState) -> Result<(), Why>
     Ok(())
 }
 
-/// SRP1[], 0x11: p -> reference point 1.
+/// SRP1[], 0x11: p -> nothing; sets reference point 1.
 fn srp1(stack: &mut Stack, graphics: &mut GraphicsState) -> Result<(), Why>
     ensures { Does (is.srp1 stack.old graphics.old) (stack.new, graphics.new) result }
 {
@@ -28,7 +28,7 @@ fn srp1(stack: &mut Stack, graphics: &mut GraphicsState) -> Result<(), Why>
     Ok(())
 }
 
-/// SRP2[], 0x12: p -> reference point 2.
+/// SRP2[], 0x12: p -> nothing; sets reference point 2.
 fn srp2(stack: &mut Stack, graphics: &mut GraphicsState) -> Result<(), Why>
     ensures { Does (is.srp2 stack.old graphics.old) (stack.new, graphics.new) result }
 {
@@ -36,7 +36,7 @@ fn srp2(stack: &mut Stack, graphics: &mut GraphicsState) -> Result<(), Why>
     Ok(())
 }
 
-/// SZP0[], 0x13: n -> zone pointer 0. Error: ZoneRange.
+/// SZP0[], 0x13: n -> nothing; sets zone pointer 0. Error: ZoneRange.
 fn szp0(tolerance: Tolerance, stack: &mut Stack, graphics: &mut GraphicsState) -> Result<(), Why>
     ensures { Does (is.szp0 tolerance stack.old graphics.old) (stack.new, graphics.new) result }
 {
@@ -48,7 +48,7 @@ fn szp0(tolerance: Tolerance, stack: &mut Stack, graphics: &mut GraphicsState) -
     Ok(())
 }
 
-/// SZP1[], 0x14: n -> zone pointer 1. Error: ZoneRange.
+/// SZP1[], 0x14: n -> nothing; sets zone pointer 1. Error: ZoneRange.
 fn szp1(tolerance: Tolerance, stack: &mut Stack, graphics: &mut GraphicsState) -> Result<(), Why>
     ensures { Does (is.szp1 tolerance stack.old graphics.old) (stack.new, graphics.new) result }
 {
@@ -60,7 +60,7 @@ fn szp1(tolerance: Tolerance, stack: &mut Stack, graphics: &mut GraphicsState) -
     Ok(())
 }
 
-/// SZP2[], 0x15: n -> zone pointer 2. Error: ZoneRange.
+/// SZP2[], 0x15: n -> nothing; sets zone pointer 2. Error: ZoneRange.
 fn szp2(tolerance: Tolerance, stack: &mut Stack, graphics: &mut GraphicsState) -> Result<(), Why>
     ensures { Does (is.szp2 tolerance stack.old graphics.old) (stack.new, graphics.new) result }
 {
@@ -72,7 +72,7 @@ fn szp2(tolerance: Tolerance, stack: &mut Stack, graphics: &mut GraphicsState) -
     Ok(())
 }
 
-/// SZPS[], 0x16: n -> all three zone pointers. Error: ZoneRange.
+/// SZPS[], 0x16: n -> nothing; sets all three zone pointers. Error: ZoneRange.
 fn szps(tolerance: Tolerance, stack: &mut Stack, graphics: &mut GraphicsState) -> Result<(), Why>
     ensures { Does (is.szps tolerance stack.old graphics.old) (stack.new, graphics.new) result }
 {
@@ -88,7 +88,7 @@ fn szps(tolerance: Tolerance, stack: &mut Stack, graphics: &mut GraphicsState) -
     Ok(())
 }
 
-/// SLOOP[], 0x17: n -> the loop variable. Error: BadArgument where it is negative.
+/// SLOOP[], 0x17: n -> nothing; sets the loop variable. Error: BadArgument if n is negative.
 fn sloop(stack: &mut Stack, graphics: &mut GraphicsState) -> Result<(), Why>
     ensures { Does (is.sloop stack.old graphics.old) (stack.new, graphics.new) result }
 {
@@ -100,14 +100,14 @@ fn sloop(stack: &mut Stack, graphics: &mut GraphicsState) -> Result<(), Why>
     Ok(())
 }
 
-/// RTG[], 0x18; RTHG[], 0x19; RTDG[], 0x3D; ROFF[], 0x7A; RUTG[], 0x7C; RDTG[], 0x7D: the round state.
+/// RTG[], 0x18; RTHG[], 0x19; RTDG[], 0x3D; ROFF[], 0x7A; RUTG[], 0x7C; RDTG[], 0x7D: set the round state.
 fn round_to(round: Round, graphics: &mut GraphicsState)
     ensures { graphics.new ≡ is.round_to round graphics.old }
 {
     graphics.round = round;
 }
 
-/// SROUND[], 0x76: n -> the round state, by the low byte of n.
+/// SROUND[], 0x76: n -> nothing; sets the round state from the low byte of n.
 fn sround(stack: &mut Stack, graphics: &mut GraphicsState) -> Result<(), Why>
     ensures { Does (is.sround stack.old graphics.old) (stack.new, graphics.new) result }
 {
@@ -116,7 +116,7 @@ fn sround(stack: &mut Stack, graphics: &mut GraphicsState) -> Result<(), Why>
     Ok(())
 }
 
-/// S45ROUND[], 0x77: n -> the round state, by the low byte of n and a grid of half a diagonal.
+/// S45ROUND[], 0x77: n -> nothing; sets the round state from the low byte of n, with a grid of half a diagonal.
 fn s45round(stack: &mut Stack, graphics: &mut GraphicsState) -> Result<(), Why>
     ensures { Does (is.s45round stack.old graphics.old) (stack.new, graphics.new) result }
 {
@@ -125,7 +125,7 @@ fn s45round(stack: &mut Stack, graphics: &mut GraphicsState) -> Result<(), Why>
     Ok(())
 }
 
-/// SMD[], 0x1A: d -> the minimum distance.
+/// SMD[], 0x1A: d -> nothing; sets the minimum distance.
 fn smd(stack: &mut Stack, graphics: &mut GraphicsState) -> Result<(), Why>
     ensures { Does (is.smd stack.old graphics.old) (stack.new, graphics.new) result }
 {
@@ -133,7 +133,7 @@ fn smd(stack: &mut Stack, graphics: &mut GraphicsState) -> Result<(), Why>
     Ok(())
 }
 
-/// SCVTCI[], 0x1D: n -> the control-value cut-in.
+/// SCVTCI[], 0x1D: n -> nothing; sets the control-value cut-in.
 fn scvtci(stack: &mut Stack, graphics: &mut GraphicsState) -> Result<(), Why>
     ensures { Does (is.scvtci stack.old graphics.old) (stack.new, graphics.new) result }
 {
@@ -141,7 +141,7 @@ fn scvtci(stack: &mut Stack, graphics: &mut GraphicsState) -> Result<(), Why>
     Ok(())
 }
 
-/// SSWCI[], 0x1E: n -> the single-width cut-in.
+/// SSWCI[], 0x1E: n -> nothing; sets the single-width cut-in.
 fn sswci(stack: &mut Stack, graphics: &mut GraphicsState) -> Result<(), Why>
     ensures { Does (is.sswci stack.old graphics.old) (stack.new, graphics.new) result }
 {
@@ -149,7 +149,7 @@ fn sswci(stack: &mut Stack, graphics: &mut GraphicsState) -> Result<(), Why>
     Ok(())
 }
 
-/// SSW[], 0x1F: n -> the single-width value, n font units scaled. Error: ValueRange.
+/// SSW[], 0x1F: n -> nothing; sets the single-width value to n font units, scaled. Error: ValueRange.
 fn ssw(size: Size, stack: &mut Stack, graphics: &mut GraphicsState) -> Result<(), Why>
     ensures { Does (is.ssw size.scale stack.old graphics.old) (stack.new, graphics.new) result }
 {
@@ -158,14 +158,14 @@ fn ssw(size: Size, stack: &mut Stack, graphics: &mut GraphicsState) -> Result<()
     Ok(())
 }
 
-/// FLIPON[], 0x4D, and FLIPOFF[], 0x4E: auto flip.
+/// FLIPON[], 0x4D, and FLIPOFF[], 0x4E: set auto flip.
 fn flip(on: bool, graphics: &mut GraphicsState)
     ensures { graphics.new ≡ is.flip on graphics.old }
 {
     graphics.auto_flip = on;
 }
 
-/// SDB[], 0x5E: n -> the delta base.
+/// SDB[], 0x5E: n -> nothing; sets the delta base.
 fn sdb(stack: &mut Stack, graphics: &mut GraphicsState) -> Result<(), Why>
     ensures { Does (is.sdb stack.old graphics.old) (stack.new, graphics.new) result }
 {
@@ -173,7 +173,7 @@ fn sdb(stack: &mut Stack, graphics: &mut GraphicsState) -> Result<(), Why>
     Ok(())
 }
 
-/// SDS[], 0x5F: n -> the delta shift. Error: BadArgument where it is not 0 to 6.
+/// SDS[], 0x5F: n -> nothing; sets the delta shift. Error: BadArgument if n is not 0 to 6.
 fn sds(stack: &mut Stack, graphics: &mut GraphicsState) -> Result<(), Why>
     ensures { Does (is.sds stack.old graphics.old) (stack.new, graphics.new) result }
 {
@@ -185,8 +185,8 @@ fn sds(stack: &mut Stack, graphics: &mut GraphicsState) -> Result<(), Why>
     Ok(())
 }
 
-/// Whether scan control is on after SCANCTRL of v. The low byte of v is a size, up to which bit 8 switches it on and
-/// beyond which bit 11 switches it off.
+/// Whether scan control is on after SCANCTRL of v. The low byte of v is a size: up to it bit 8 switches on, above
+/// it bit 11 switches off. A size of 255 is always on, one of 0 always off.
 fn control_after(v: i32, ppem: u32, before: bool) -> bool
     ensures { result ≡ is.control_after v ppem before }
 {
@@ -204,7 +204,7 @@ fn control_after(v: i32, ppem: u32, before: bool) -> bool
     }
 }
 
-/// SCANCTRL[], 0x85: v -> scan control.
+/// SCANCTRL[], 0x85: v -> nothing; sets scan control.
 fn scanctrl(size: Size, stack: &mut Stack, graphics: &mut GraphicsState) -> Result<(), Why>
     ensures { Does (is.scanctrl size.ppem stack.old graphics.old) (stack.new, graphics.new) result }
 {
@@ -213,7 +213,7 @@ fn scanctrl(size: Size, stack: &mut Stack, graphics: &mut GraphicsState) -> Resu
     Ok(())
 }
 
-/// The scan type after SCANTYPE of v, which a negative number leaves.
+/// The scan type after SCANTYPE of v. A negative v changes nothing.
 fn type_after(v: i32, before: u16) -> u16
     ensures { result ≡ is.type_after v before }
 {
@@ -223,7 +223,7 @@ fn type_after(v: i32, before: u16) -> u16
     v.rem_euclid(65536) as u16
 }
 
-/// SCANTYPE[], 0x8D: v -> the scan type.
+/// SCANTYPE[], 0x8D: v -> nothing; sets the scan type.
 fn scantype(stack: &mut Stack, graphics: &mut GraphicsState) -> Result<(), Why>
     ensures { Does (is.scantype stack.old graphics.old) (stack.new, graphics.new) result }
 {
@@ -240,7 +240,8 @@ fn ignored(stack: &mut Stack) -> Result<(), Why>
     Ok(())
 }
 
-/// Errors: StackShort; BadArgument of SLOOP and SDS; ZoneRange of a strict machine; ValueRange of SSW.
+/// Executes an instruction that sets a variable of the graphics state. Errors: StackShort; BadArgument of SLOOP and
+/// SDS; ZoneRange of a strict machine; ValueRange of SSW.
 #[inline(always)]
 pub fn set_state(
     op: Setting,

@@ -1,4 +1,4 @@
-//! The size that a machine runs at.
+//! The size of a machine's runs.
 
 ghost use Rattle.std.specs.Prelude.{◌≡◌, ◌<◌, ◌≤◌, ◌^◌, ◌*◌, IfOk, unsigned_abs};
 ghost use Rattle.tt_core.specs.Limits.{size_limit};
@@ -8,7 +8,7 @@ ghost use Rattle.tt_exec_state.specs.Size.{in_pixels};
 
 use tt_core::{Scale, Why};
 
-/// Pixels per em, and from font units to 26.6 pixels.
+/// Pixels per em, and the scale from font units to 26.6 pixels.
 #[derive(Clone, Copy)]
 pub struct Size {
     pub ppem: u32,

@@ -11,7 +11,7 @@ use tt_core::Why;
 use tt_exec_stack::Stack;
 use tt_state::Tolerance;
 
-/// `n` as an index below `len`. Error: `why`, where it is none.
+/// `n` as an index below `len`. Error: `why`, for any other number.
 fn place(n: i32, len: usize, why: Why) -> Result<usize, Why>
     ensures exact { Gives (λ i. i) result (is.place n len why) }
     ensures within { IfOk result (λ i. i < len) }
@@ -22,8 +22,7 @@ fn place(n: i32, len: usize, why: Why) -> Result<usize, Why>
     Ok(n as usize)
 }
 
-/// What stands at a place of `values`; 0 where there is no such place, and that is passed over. Error: `why`, where it
-/// is not passed over.
+/// The value at place `n`. A tolerant machine reads 0 for a missing place. Error: `why`.
 #[inline(always)]
 fn value_at(tolerance: Tolerance, n: i32, values: &[i32], why: Why) -> Result<i32, Why>
     ensures { Gives (λ v. v) result (is.value_at tolerance n values.now why) }
@@ -35,8 +34,7 @@ fn value_at(tolerance: Tolerance, n: i32, values: &[i32], why: Why) -> Result<i3
     }
 }
 
-/// Puts a value at a place of `values`; nothing where there is no such place, and that is passed over. Error: `why`,
-/// where it is not passed over.
+/// Sets the value at place `n`. A tolerant machine ignores a missing place. Error: `why`.
 #[inline(always)]
 fn set_value(
     tolerance: Tolerance,
@@ -55,7 +53,7 @@ fn set_value(
     Ok(())
 }
 
-/// WS[], 0x42: place, value -> the value in storage. Error: StorageRange.
+/// WS[], 0x42: place, value -> nothing; writes the value to storage. Error: StorageRange.
 fn ws(tolerance: Tolerance, stack: &mut Stack, storage: &mut [i32]) -> Result<(), Why>
     ensures { Does (is.ws tolerance stack.old storage.old) (stack.new, storage.new) result }
 {
@@ -73,7 +71,7 @@ fn rs(tolerance: Tolerance, stack: &mut Stack, storage: &[i32]) -> Result<(), Wh
     stack.push(i64::from(value))
 }
 
-/// WCVTP[], 0x44: place, value -> the control value, in 26.6. Error: CvtRange.
+/// WCVTP[], 0x44: place, value -> nothing; sets the control value, in 26.6. Error: CvtRange.
 fn wcvtp(tolerance: Tolerance, stack: &mut Stack, cvt: &mut [i32]) -> Result<(), Why>
     ensures { Does (is.wcvtp tolerance stack.old cvt.old) (stack.new, cvt.new) result }
 {
@@ -82,7 +80,8 @@ fn wcvtp(tolerance: Tolerance, stack: &mut Stack, cvt: &mut [i32]) -> Result<(),
     set_value(tolerance, n, value, cvt, Why::CvtRange)
 }
 
-/// WCVTF[], 0x70: place, value -> the control value, font units scaled. Errors: CvtRange, ValueRange.
+/// WCVTF[], 0x70: place, value -> nothing; sets the control value to value in font units, scaled. Errors: CvtRange,
+/// ValueRange.
 fn wcvtf(size: Size, tolerance: Tolerance, stack: &mut Stack, cvt: &mut [i32]) -> Result<(), Why>
     ensures { Does (is.wcvtf size.scale tolerance stack.old cvt.old) (stack.new, cvt.new) result }
 {
@@ -105,7 +104,8 @@ fn rcvt(tolerance: Tolerance, stack: &mut Stack, cvt: &[i32]) -> Result<(), Why>
     stack.push(i64::from(value))
 }
 
-/// Errors: StackShort; CvtRange and StorageRange of a strict machine; ValueRange of WCVTF.
+/// Executes an instruction on stored values. Errors: StackShort; CvtRange and StorageRange of a strict machine;
+/// ValueRange of WCVTF.
 #[inline(always)]
 pub fn access_values(
     op: StoredValues,

@@ -1,5 +1,5 @@
 //! Managing the graphics state: the vectors. Apple TrueType Reference Manual, "Instruction set". Without the whole
-//! instruction set vectors lie along the axes alone (profile).
+//! instruction set, vectors are along the axes alone (profile).
 
 ghost use Rattle.std.specs.Prelude.{◌≡◌, ◌<◌, ◌≤◌, unsigned_abs};
 ghost use Rattle.tt_core.specs.Outcomes.{Gives};
@@ -22,7 +22,7 @@ fn along(axis: Axis) -> Vector
     }
 }
 
-/// The projection vector, by which the dual one goes.
+/// Sets the projection vector and the dual one.
 fn project_along(vector: Vector, graphics: &mut GraphicsState)
     ensures { graphics.new ≡ is.projects_along vector graphics.old }
 {
@@ -30,7 +30,7 @@ fn project_along(vector: Vector, graphics: &mut GraphicsState)
     graphics.dual = graphics.proj;
 }
 
-/// SVTCA[a], 0x00 and 0x01: all vectors along y, x.
+/// SVTCA[a], 0x00 and 0x01: -> sets all vectors along y, x.
 fn svtca(axis: Axis, graphics: &mut GraphicsState)
     ensures { graphics.new ≡ is.svtca axis graphics.old }
 {
@@ -38,21 +38,21 @@ fn svtca(axis: Axis, graphics: &mut GraphicsState)
     graphics.free = along(axis);
 }
 
-/// SPVTCA[a], 0x02 and 0x03: the projection vectors along y, x.
+/// SPVTCA[a], 0x02 and 0x03: -> sets the projection vectors along y, x.
 fn spvtca(axis: Axis, graphics: &mut GraphicsState)
     ensures { graphics.new ≡ is.spvtca axis graphics.old }
 {
     project_along(along(axis), graphics);
 }
 
-/// SFVTCA[a], 0x04 and 0x05: the freedom vector along y, x.
+/// SFVTCA[a], 0x04 and 0x05: -> sets the freedom vector along y, x.
 fn sfvtca(axis: Axis, graphics: &mut GraphicsState)
     ensures { graphics.new ≡ is.sfvtca axis graphics.old }
 {
     graphics.free = along(axis);
 }
 
-/// A part as the stack has it: the low 16 bits, in two's complement (profile).
+/// The low 16 bits of a stack value, in two's complement (profile).
 #[tactic(auto, unfolding(crate::specs::Vectors::part))]
 fn part(n: i32) -> i32
     ensures exact { result ≡ is.part n }
@@ -62,8 +62,8 @@ fn part(n: i32) -> i32
     if low < 32768 { low } else { low - 65536 }
 }
 
-/// The unit vector in the direction of a pair; without the whole instruction set the pair of an axis, in 2.14, alone.
-/// Error: OffProfile of another pair then.
+/// The unit vector in the direction of a pair. Without the whole instruction set, only the pair of an axis, in
+/// 2.14, is allowed. Error: OffProfile, for another pair then.
 fn vector_given(x: i32, y: i32, whole: bool) -> Result<Vector, Why>
     ensures exact { Gives (λ v. v) result (is.vector_given x y whole) }
 {
@@ -79,7 +79,7 @@ fn vector_given(x: i32, y: i32, whole: bool) -> Result<Vector, Why>
     Err(Why::OffProfile)
 }
 
-/// SPVFS[], 0x0A: x, y -> the projection vectors.
+/// SPVFS[], 0x0A: x, y -> nothing; sets the projection vectors. Errors: StackShort, OffProfile.
 fn spvfs(stack: &mut Stack, graphics: &mut GraphicsState) -> Result<(), Why>
     ensures { Does (is.spvfs stack.old graphics.old) (stack.new, graphics.new) result }
 {
@@ -90,7 +90,7 @@ fn spvfs(stack: &mut Stack, graphics: &mut GraphicsState) -> Result<(), Why>
     Ok(())
 }
 
-/// SFVFS[], 0x0B: x, y -> the freedom vector.
+/// SFVFS[], 0x0B: x, y -> nothing; sets the freedom vector. Errors: StackShort, OffProfile.
 fn sfvfs(stack: &mut Stack, graphics: &mut GraphicsState) -> Result<(), Why>
     ensures { Does (is.sfvfs stack.old graphics.old) (stack.new, graphics.new) result }
 {
@@ -100,7 +100,7 @@ fn sfvfs(stack: &mut Stack, graphics: &mut GraphicsState) -> Result<(), Why>
     Ok(())
 }
 
-/// A vector: -> x, y in 2.14.
+/// Pushes a vector: -> x, y in 2.14. Error: StackFull.
 fn push_vector(vector: &Vector, stack: &mut Stack) -> Result<(), Why>
     ensures { Does (is.vector_pushed vector.now stack.old) stack.new result }
 {
@@ -122,14 +122,15 @@ fn gfv(stack: &mut Stack, graphics: &GraphicsState) -> Result<(), Why>
     push_vector(&graphics.free, stack)
 }
 
-/// SFVTPV[], 0x0E: the freedom vector becomes the projection vector.
+/// SFVTPV[], 0x0E: -> sets the freedom vector to the projection vector.
 fn sfvtpv(graphics: &mut GraphicsState)
     ensures { graphics.new ≡ is.sfvtpv graphics.old }
 {
     graphics.free = graphics.proj;
 }
 
-/// Errors: StackShort; OffProfile of a vector off the axes without the whole instruction set; StackFull.
+/// Executes an instruction that sets or reads vectors. Errors: StackShort; OffProfile of a vector off the axes
+/// without the whole instruction set; StackFull.
 #[inline(always)]
 pub fn access_vectors(
     op: Vectors,
