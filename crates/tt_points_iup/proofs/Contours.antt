@@ -16,7 +16,7 @@ other_way (Some b) y first h = refl
 other_way None (Some b) first h = h
 other_way None None first h = absurd cc
 
--- the points that a sweep takes to the remaining ones
+-- the touched points that a sweep carries to the remaining ones
 record Carried (along : Along) (before first : Point) (front back : List Point) : Type 0 where
   last : last_touched along.axis None (back ++ front) ≡ Some before
   first_one : first_touched along.axis (front ++ back) ≡ Some first
