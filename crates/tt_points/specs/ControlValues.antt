@@ -66,8 +66,7 @@ unfoldable pub chosen_from : Keeping → Motion → ℤ → ℤ → ZoneLists �
 chosen_from k m p c z g = point_in g.zp1 p z >>= λ q. point_in g.zp0 g.rp0 z >>= λ r.
     kept m (mirp_distance k g (original_distance m r q) c) q r >>= λ n. Ok (with_point g.zp1 p n z)
 
--- a twilight point is placed first: at that distance along the freedom vector from reference point 0's original
--- place
+-- a twilight point is placed first: at that distance along the freedom vector from reference point 0's original place
 unfoldable pub mirp : Keeping → ℤ → ℤ → ZoneLists → GraphicsState → Result (ZoneLists × GraphicsState) Why
 mirp k p c z g = point_in g.zp1 p z >>= λ q. point_in g.zp0 g.rp0 z >>= λ r. direction g >>= λ m.
     made g.zp1 by.Freedom m p (single_width g c) r z >>= λ y. chosen_from k m p (single_width g c) y g >>= λ w.

@@ -1,5 +1,5 @@
--- Apple TrueType Reference Manual, "Graphics State" (round state, minimum distance, single width, auto flip,
--- control value cut-in): rules that change a distance before a point is moved to it. Distances are in 26.6 pixels.
+-- Apple TrueType Reference Manual, "Graphics State" (round state, minimum distance, single width, auto flip, control
+-- value cut-in): rules that change a distance before a point is moved to it. Distances are in 26.6 pixels.
 use Rattle.std.specs.Prelude.{◌≡◌, ℤ, pos, negsuc, ◌-ℤ◌, neg_ℤ, int_lt, unsigned_abs, Bool, ◌&&◌, ◌||◌, if◌then◌else◌, refl}
 use Rattle.std.specs.Int.{int_max, int_min}
 use Rattle.tt_state.specs.declared.graphics_state.GraphicsState.{GraphicsState}

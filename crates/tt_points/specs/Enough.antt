@@ -1,5 +1,5 @@
--- No part of the standard: no instruction on a single point, or on lines, fails with too few values, since its
--- values are parameters.
+-- No part of the standard: no instruction on a single point, or on lines, fails with too few values, since its values
+-- are parameters.
 use Rattle.std.proofs.Common.{ℤ, ◌-ℤ◌, neg_ℤ, Bool, true, Result, Ok, Err, refl}
 use Rattle.tt_core.specs.Outcomes.{◌>>=◌}
 use Rattle.tt_core.specs.declared.fault.Why.{Why}

@@ -1,5 +1,5 @@
--- Apple TrueType Reference Manual, "Instruction Set" (SPVTL, SFVTL, SDPVTL, ISECT, ALIGNPTS): vectors along the
--- line through two points, the meeting point of two lines, and aligned points. Coordinates are in 26.6 pixels.
+-- Apple TrueType Reference Manual, "Instruction Set" (SPVTL, SFVTL, SDPVTL, ISECT, ALIGNPTS): vectors along the line
+-- through two points, the meeting point of two lines, and aligned points. Coordinates are in 26.6 pixels.
 use Rattle.std.specs.Prelude.{◌≡◌, ℤ, pos, negsuc, neg_ℤ, int_div, Bool, true, false, Result, Ok, Err, refl}
 use Rattle.tt_core.specs.Outcomes.{◌>>=◌}
 use Rattle.tt_core.specs.declared.fault.Why.{Why}

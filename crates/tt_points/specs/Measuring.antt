@@ -1,5 +1,5 @@
--- Apple TrueType Reference Manual, "Instruction Set" (GC, SCFS, MD, UTP): coordinates read and set, distances
--- measured, and a touch removed. Coordinates are in 26.6 pixels.
+-- Apple TrueType Reference Manual, "Instruction Set" (GC, SCFS, MD, UTP): coordinates read and set, distances measured,
+-- and a touch removed. Coordinates are in 26.6 pixels.
 use Rattle.std.specs.Prelude.{◌≡◌, ℤ, pos, ◌-ℤ◌, true, false, [], ◌∷◌, Option, None, Result, Ok, Err, refl}
 use Rattle.tt_core.specs.Outcomes.{◌>>=◌}
 use Rattle.tt_core.specs.declared.fault.Why.{Why}
@@ -31,8 +31,8 @@ coordinate position.Original m q = org m q
 unfoldable pub gc : Position → ℤ → ZoneLists → GraphicsState → Result ℤ Why
 gc of p z g = point_in g.zp2 p z >>= λ q. Ok (coordinate of (vectors_of g) q)
 
--- the distance between two points: of current places along the projection vector, or of original places along the
--- dual one, where the scale of the original places, if any, applies
+-- the distance between two points: current, along the projection vector; or original, along the dual one, by the scale
+-- of the original places, if there is one
 abbrev pub distance : Position → Option Scale → Motion → Point → Point → ℤ
 distance position.Current s m a b = current_distance m a b
 distance position.Original s m a b = distance_by s m a b

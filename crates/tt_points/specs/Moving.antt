@@ -29,7 +29,7 @@ use Rattle.tt_points.specs.declared.twilight.Along.TheVariants as along
 unfoldable pub kept : Motion → ℤ → Point → Point → Result Point Why
 kept m d q r = moved m (d -ℤ current_distance m r q) q
 
--- the reference points after a move that kept a distance
+-- the reference points after MSIRP, MDRP or MIRP
 abbrev pub referred : Bool → ℤ → GraphicsState → GraphicsState
 referred rp0 p g = record g { rp0 = if rp0 then p else g.rp0; rp1 = g.rp0; rp2 = p }
 
@@ -91,8 +91,7 @@ minus_ten_to_a_pixel : mdrp (keeping false true true) (pos 1) (zero_and (negsuc 
 unfolding mdrp mdrp_distance kept single_width direction project
 minus_ten_to_a_pixel = refl
 
--- two points 127 font units apart before the program, which are 95 at 12 of 1024; the first one is a twilight
--- point too
+-- two points 127 font units apart before the program, which are 95 at 12 of 1024; the first one is a twilight point too
 abbrev first_in_units : Point
 first_in_units = record (at_x (pos 2)) { units_x = pos 3 }
 

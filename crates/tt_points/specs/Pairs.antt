@@ -1,5 +1,5 @@
--- No part of the standard: a point after a change to another, which may be the same point. With this an
--- instruction on both computes all before it writes. Coordinates are in 26.6 pixels.
+-- No part of the standard: a point after a change to another, which may be the same point. With this an instruction on
+-- both computes all before it writes. Coordinates are in 26.6 pixels.
 use Rattle.std.specs.Prelude.{ℤ, Bool, ◌&&◌, if◌then◌else◌, Result, Ok}
 use Rattle.std.specs.Ordering.{int_eq}
 use Rattle.tt_core.specs.Outcomes.{◌>>=◌}

@@ -44,8 +44,7 @@ fourth = still (pos 50) (pos 90)
 abbrev pub fourth_at : ℤ → ℤ → Bool → Bool → Point
 fourth_at x y touched_x touched_y = touched_at (pos 50) (pos 90) x y touched_x touched_y
 
--- six points of the glyph, where points 3 and 4 are parameters and 5 has moved, and two twilight points, where 1
--- is a parameter
+-- six points of the glyph: points 3 and 4 are parameters, and 5 has moved; two twilight points: 1 is a parameter
 abbrev pub points : Point → Point → Point → ZoneLists
 points p3 p4 twilight = record {
   twilight = origin ∷ twilight ∷ [];

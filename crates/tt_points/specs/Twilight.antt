@@ -1,6 +1,6 @@
--- Apple TrueType Reference Manual, "Instructing TrueType Glyphs" (zones): twilight points have no place of their
--- own until an instruction gives them one. The choice of these places is this project's own (profile). Coordinates
--- are in 26.6 pixels.
+-- Apple TrueType Reference Manual, "Instructing TrueType Glyphs" (zones): twilight points have no place of their own
+-- until an instruction gives them one. The choice of these places is this project's own (profile). Coordinates are in
+-- 26.6 pixels.
 use Rattle.std.specs.Prelude.{ℤ, pos, true, false, Result, Ok}
 use Rattle.tt_core.specs.Outcomes.{◌>>=◌}
 use Rattle.tt_core.specs.declared.fault.Why.{Why}

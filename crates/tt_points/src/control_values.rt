@@ -95,10 +95,10 @@ fn set_at(
     m.moved(q, miap_distance(round, state, standing(q, m), c))
 }
 
-/// MIAP[r], 0x3E and 0x3F: p, n -> moves point p of zone pointer 0 to `c`, the control value with number n. A
-/// twilight point is placed there first (profile). With `round`, the point's own coordinate replaces a control
-/// value further away than the cut-in, and the result is rounded. Reference points 0 and 1 become p. Errors:
-/// PointRange, Perpendicular, ValueRange.
+/// MIAP[r], 0x3E and 0x3F: p, n -> moves point p of zone pointer 0 to `c`, the control value with number n. A twilight
+/// point is placed there first (profile). With `round`, the point's own coordinate replaces a control value further
+/// away than the cut-in, and the result is rounded. Reference points 0 and 1 become p. Errors: PointRange,
+/// Perpendicular, ValueRange.
 #[tactic(auto, unfolding(crate::specs::ControlValues::miap))]
 pub fn miap(
     zones: &mut Zones,
@@ -164,8 +164,7 @@ fn mirp_distance(keeping: Keeping, state: &GraphicsState, d: Distance, c: Distan
     ))
 }
 
-/// A point moved by MIRP to its distance from `r`. `c` is the control value after the single width. Error:
-/// ValueRange.
+/// A point moved by MIRP to its distance from `r`. `c` is the control value after the single width. Error: ValueRange.
 #[tactic(auto, unfolding(crate::specs::Pairs::chosen_between))]
 fn chosen_between(
     keeping: Keeping,
@@ -216,8 +215,8 @@ fn single_width_of(state: &GraphicsState, c: i32) -> Distance
 /// MIRP[abcde], 0xE0 to 0xFF: p, n -> moves point p of zone pointer 1 to a distance from reference point 0, in zone
 /// pointer 0. The distance is `c`, the control value with number n, changed as `keeping` says. A twilight point is
 /// placed there first (profile). With rounding, and within one zone, the original distance replaces a control value
-/// that differs by more than the cut-in. Reference point 1 becomes reference point 0, and reference point 2 becomes
-/// p. Errors: PointRange, Perpendicular, ValueRange.
+/// that differs by more than the cut-in. Reference point 1 becomes reference point 0, and reference point 2 becomes p.
+/// Errors: PointRange, Perpendicular, ValueRange.
 #[tactic(auto, unfolding(crate::specs::ControlValues::mirp))]
 pub fn mirp(
     zones: &mut Zones,

@@ -1,5 +1,5 @@
-//! Rules that change a distance before a point is moved to it. Apple TrueType Reference Manual, "Graphics State"
-//! (round state, minimum distance, single width, auto flip, control value cut-in). Distances are in 26.6 pixels.
+//! Rules that change a distance before a point is moved to it. Apple TrueType Reference Manual, "Graphics State" (round
+//! state, minimum distance, single width, auto flip, control value cut-in). Distances are in 26.6 pixels.
 
 ghost use Rattle.std.specs.Prelude.{◌≡◌, ◌<◌, ◌≤◌, ◌^◌, pos, ◌≤ℤ◌, unsigned_abs};
 ghost use Rattle.tt_points.specs.Distances as is;

@@ -1,5 +1,4 @@
-//! Laws of the instructions on single points: what they leave unchanged, the whole instruction set, and too few
-//! values.
+//! Laws of the instructions on single points: what they leave unchanged, the whole instruction set, and too few values.
 
 ghost use Rattle.tt_state.specs.declared.graphics_state.GraphicsState.{GraphicsState};
 ghost use Rattle.tt_points_zones.specs.Zones.{ZoneLists};
@@ -12,7 +11,7 @@ pub fn shape_is_kept()
     ensures { (z : ZoneLists) (g : GraphicsState) → ShapeIsKept z g }
 {}
 
-/// Lemma: an instruction that succeeds without the whole instruction set gives the same result with it.
+/// Lemma: the whole instruction set changes no result, except for the refusals OffProfile and Perpendicular.
 pub fn singles_stay()
     ensures { (z : ZoneLists) (g : GraphicsState) → SinglesStay z g }
 {}

@@ -1,8 +1,8 @@
-//! Instructions on one point, and on lines through points. Those that set a distance or a coordinate share the
-//! rules of distances and of the twilight zone. Instructions on several points don't use these rules.
+//! Instructions on one point, and on lines through points. Those that set a distance or a coordinate share the rules of
+//! distances and of the twilight zone. Instructions on several points don't use these rules.
 //!
-//! The zones are in tt_points_zones, below this crate. Beside this crate are tt_points_loops, with the instructions
-//! on several points, and tt_points_iup, with IUP. Their proofs don't wait for each other.
+//! The zones are in tt_points_zones, below this crate. Beside this crate are tt_points_loops, with the instructions on
+//! several points, and tt_points_iup, with IUP. Their proofs don't wait for each other.
 #![tactic(auto)]
 
 pub mod control_values;

@@ -1,5 +1,5 @@
-//! Lines through points: vectors along them, their meeting point, and aligned points. Apple TrueType Reference
-//! Manual, "Instruction Set" (SPVTL, SFVTL, SDPVTL, ISECT, ALIGNPTS). Coordinates are in 26.6 pixels.
+//! Lines through points: vectors along them, their meeting point, and aligned points. Apple TrueType Reference Manual,
+//! "Instruction Set" (SPVTL, SFVTL, SDPVTL, ISECT, ALIGNPTS). Coordinates are in 26.6 pixels.
 
 ghost use Rattle.std.specs.Prelude.{◌≡◌, ◌<◌, ◌≤◌, ◌*◌, ◌^◌, neg_ℤ, unsigned_abs, IfOk, IfErr};
 ghost use Rattle.tt_core.specs.Limits.{coordinate_limit};
@@ -51,8 +51,8 @@ fn original_line(turned: bool, a: Point, b: Point) -> Vector
     Vector::line((a.org_x, a.org_y), (b.org_x, b.org_y), turned)
 }
 
-/// SPVTL[a], 0x06 and 0x07: p2, p1 -> sets the projection and the dual projection vector along the line from point
-/// p1 of zone pointer 2 to point p2 of zone pointer 1. With `turned`, they are turned a quarter to the left. Error:
+/// SPVTL[a], 0x06 and 0x07: p2, p1 -> sets the projection and the dual projection vector along a line: from point p1 of
+/// zone pointer 2 to point p2 of zone pointer 1. With `turned`, they are turned a quarter to the left. Error:
 /// PointRange.
 #[tactic(auto, unfolding(crate::specs::Lines::spvtl))]
 pub fn spvtl(
@@ -72,8 +72,8 @@ pub fn spvtl(
     Ok(())
 }
 
-/// SFVTL[a], 0x08 and 0x09: p2, p1 -> sets the freedom vector along SPVTL's line. With `turned`, the vector is
-/// turned a quarter to the left. Error: PointRange.
+/// SFVTL[a], 0x08 and 0x09: p2, p1 -> sets the freedom vector along SPVTL's line. With `turned`, the vector is turned a
+/// quarter to the left. Error: PointRange.
 #[tactic(auto, unfolding(crate::specs::Lines::sfvtl))]
 pub fn sfvtl(
     zones: &Zones,
@@ -91,9 +91,9 @@ pub fn sfvtl(
     Ok(())
 }
 
-/// SDPVTL[a], 0x86 and 0x87: p2, p1 -> sets the projection vector along SPVTL's line. The dual projection vector
-/// goes along the line between the original places of these points. With `turned`, both are turned a quarter to the
-/// left. Where one of the lines has no length, its vector alone becomes the x axis (profile). Error: PointRange.
+/// SDPVTL[a], 0x86 and 0x87: p2, p1 -> sets the projection vector along SPVTL's line. The dual projection vector goes
+/// along the line between the original places of these points. With `turned`, both are turned a quarter to the left.
+/// Where one of the lines has no length, its vector alone becomes the x axis (profile). Error: PointRange.
 #[tactic(auto, unfolding(crate::specs::Lines::sdpvtl))]
 pub fn sdpvtl(
     zones: &Zones,
@@ -152,9 +152,9 @@ fn put_to(q: Point, place: Place) -> Point
 }
 
 /// ISECT[], 0x0F: p, a0, a1, b0, b1 -> moves point p of zone pointer 2 to where line a meets line b. The point is
-/// touched along both axes, whatever the freedom vector. Line a goes through points a0 and a1 of zone pointer 1,
-/// line b through points b0 and b1 of zone pointer 0. For lines that are nearly parallel (profile), the point goes
-/// to the middle of these four. Errors: PointRange of b1, b0, a1, a0, p; ValueRange.
+/// touched along both axes, whatever the freedom vector. Line a goes through points a0 and a1 of zone pointer 1, line b
+/// through b0 and b1 of zone pointer 0. For parallel or nearly parallel lines (profile), the point goes to the middle
+/// of these four. Errors: PointRange of b1, b0, a1, a0, p; ValueRange.
 #[tactic(auto, unfolding(crate::specs::Lines::isect))]
 pub fn isect(zones: &mut Zones, state: &GraphicsState, p: i32, a: Ends, b: Ends) -> Result<(), Why>
     requires { IsZones (zones_view zones.old) }
@@ -186,9 +186,9 @@ fn opposite(d: Distance) -> Distance
     Distance(-d.0)
 }
 
-/// ALIGNPTS[], 0x27: p2, p1 -> moves point p1 of zone pointer 1 and point p2 of zone pointer 0 to the middle
-/// between them, along the projection vector. Each moves by half the distance, cut toward 0 (profile). Errors:
-/// PointRange of p1, of p2; Perpendicular, ValueRange.
+/// ALIGNPTS[], 0x27: p2, p1 -> moves point p1 of zone pointer 1 and point p2 of zone pointer 0 to the middle between
+/// them, along the projection vector. Each moves by half the distance, cut toward 0 (profile). Errors: PointRange of
+/// p1, of p2; Perpendicular, ValueRange.
 #[tactic(auto, unfolding(crate::specs::Lines::alignpts))]
 pub fn alignpts(zones: &mut Zones, state: &GraphicsState, p1: i32, p2: i32) -> Result<(), Why>
     requires { IsZones (zones_view zones.old) }

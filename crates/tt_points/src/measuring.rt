@@ -78,8 +78,8 @@ fn short_of(v: i32, q: Point, m: &Motion) -> i64
     i64::from(v) - i64::from(m.cur(q))
 }
 
-/// SCFS[], 0x48: p, v -> moves point p of zone pointer 2 to the coordinate v. For a twilight point the new place is
-/// the original place too (profile). Errors: PointRange, Perpendicular, ValueRange.
+/// SCFS[], 0x48: p, v -> moves point p of zone pointer 2 to the coordinate v. For a twilight point the new place is the
+/// original place too (profile). Errors: PointRange, Perpendicular, ValueRange.
 #[tactic(auto, unfolding(crate::specs::Measuring::scfs))]
 pub fn scfs(zones: &mut Zones, state: &GraphicsState, p: i32, v: i32) -> Result<(), Why>
     requires { IsZones (zones_view zones.old) }

@@ -1,5 +1,5 @@
-//! Instructions that move a point along the projection vector without a control value. Apple TrueType Reference
-//! Manual, "Instruction Set" (MDAP, MSIRP, MDRP). Coordinates are in 26.6 pixels.
+//! Instructions that move a point along the projection vector without a control value. Apple TrueType Reference Manual,
+//! "Instruction Set" (MDAP, MSIRP, MDRP). Coordinates are in 26.6 pixels.
 
 ghost use Rattle.std.specs.Prelude.{◌≡◌, ◌-ℤ◌, ◌<◌, ◌≤◌, ◌^◌, unsigned_abs, IfOk, IfErr};
 ghost use Rattle.tt_core.specs.Outcomes.{Gives};
@@ -73,8 +73,8 @@ fn mdap_distance(round: bool, state: &GraphicsState, q: Point, m: &Motion) -> i6
     }
 }
 
-/// MDAP[r], 0x2E and 0x2F: p -> touches point p of zone pointer 0. With `round`, the point first moves to its
-/// rounded coordinate. Reference points 0 and 1 become p. Errors: PointRange, Perpendicular, ValueRange.
+/// MDAP[r], 0x2E and 0x2F: p -> touches point p of zone pointer 0. With `round`, the point first moves to its rounded
+/// coordinate. Reference points 0 and 1 become p. Errors: PointRange, Perpendicular, ValueRange.
 #[tactic(auto, unfolding(crate::specs::Moving::mdap))]
 pub fn mdap(zones: &mut Zones, state: &mut GraphicsState, round: bool, p: i32) -> Result<(), Why>
     requires zones { IsZones (zones_view zones.old) }
@@ -113,10 +113,10 @@ fn placed_and_kept(
     kept(q, m, d, seen(state, state.rp0, r, p, q))
 }
 
-/// MSIRP[a], 0x3A and 0x3B: p, d -> moves point p of zone pointer 1 to the distance d from reference point 0, in
-/// zone pointer 0. A twilight point is placed there first (profile). Reference point 1 becomes reference point 0,
-/// and reference point 2 becomes p. With `set_rp0`, reference point 0 becomes p too. Errors: PointRange,
-/// Perpendicular, ValueRange.
+/// MSIRP[a], 0x3A and 0x3B: p, d -> moves point p of zone pointer 1 to the distance d from reference point 0, in zone
+/// pointer 0. A twilight point is placed there first (profile). Reference point 1 becomes reference point 0, and
+/// reference point 2 becomes p. With `set_rp0`, reference point 0 becomes p too. Errors: PointRange, Perpendicular,
+/// ValueRange.
 #[tactic(auto, unfolding(crate::specs::Moving::msirp))]
 pub fn msirp(
     zones: &mut Zones,
@@ -160,9 +160,9 @@ fn mdrp_distance(keeping: Keeping, state: &GraphicsState, d: Distance) -> Distan
     Distance(mdrp_kept(keeping, state, single_width(state, d.0)))
 }
 
-/// MDRP[abcde], 0xC0 to 0xDF: p -> moves point p of zone pointer 1 to its original distance from reference point 0,
-/// in zone pointer 0. `keeping` says how the distance changes first. Reference point 1 becomes reference point 0,
-/// and reference point 2 becomes p. Errors: PointRange, Perpendicular, ValueRange.
+/// MDRP[abcde], 0xC0 to 0xDF: p -> moves point p of zone pointer 1 to its original distance from reference point 0, in
+/// zone pointer 0. `keeping` says how the distance changes first. Reference point 1 becomes reference point 0, and
+/// reference point 2 becomes p. Errors: PointRange, Perpendicular, ValueRange.
 #[tactic(auto, unfolding(crate::specs::Moving::mdrp))]
 pub fn mdrp(
     zones: &mut Zones,
