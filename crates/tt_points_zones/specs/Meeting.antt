@@ -1,5 +1,5 @@
--- Apple TrueType Reference Manual, "Instruction Set" (ISECT): the meeting point of two lines, each through two
--- places and endless on both sides. Coordinates are in 26.6 pixels.
+-- Apple TrueType Reference Manual, "Instruction Set" (ISECT): the meeting point of two lines, each through two places
+-- and endless on both sides. Coordinates are in 26.6 pixels.
 use Rattle.std.specs.Prelude.{◌≡◌, ◌≤◌, ◌*◌, ℤ, pos, negsuc, ◌+ℤ◌, ◌-ℤ◌, ◌*ℤ◌, int_div, unsigned_abs, nat_le, Bool, if◌then◌else◌, Result, Ok, Err, refl}
 use Rattle.tt_core.specs.Limits.{coordinate_limit}
 use Rattle.tt_core.specs.Numbers.{rounded_quotient}
@@ -39,8 +39,8 @@ cross a b = a.x *ℤ b.y -ℤ a.y *ℤ b.x
 unfoldable pub dot : Place → Place → ℤ
 dot a b = a.x *ℤ b.x +ℤ a.y *ℤ b.y
 
--- the tangent of the angle is at most 1 / 19, about 3 degrees, or one of the ways has length 0 (profile: the
--- manual says parallel)
+-- the tangent of the angle is at most 1 / 19, about 3 degrees, or one of the ways has length 0 (profile: the manual
+-- says parallel)
 unfoldable pub are_parallel : Place → Place → Bool
 are_parallel a b = nat_le (19 * unsigned_abs (cross a b)) (unsigned_abs (dot a b))
 
@@ -63,8 +63,8 @@ quarter a b c d = int_div (a +ℤ b +ℤ c +ℤ d) (pos 4)
 unfoldable pub middle : Place → Place → Place → Place → Place
 middle a b c d = record { x = quarter a.x b.x c.x d.x; y = quarter a.y b.y c.y d.y }
 
--- the meeting point of the lines through a0 and a1, and through b0 and b1; for parallel lines the middle of the
--- four places
+-- the meeting point of the lines through a0 and a1, and through b0 and b1; for parallel lines the middle of the four
+-- places
 unfoldable pub meeting : Place → Place → Place → Place → Place
 meeting a0 a1 b0 b1 =
     if are_parallel (way_between a0 a1) (way_between b0 b1) then middle a0 a1 b0 b1 else crossing a0 a1 b0 b1

@@ -83,8 +83,7 @@ pushed free by p = put_further free by p >>= λ q. Ok (marked free true q)
 abbrev pub moved : Motion → ℤ → Point → Result Point Why
 moved m d p = pushed m.free (steps m d) p
 
--- a point moved by a distance along the freedom vector itself, whatever the projection vector; without and with
--- touches
+-- a point moved by a distance along the freedom vector itself, whatever the projection vector; without and with touches
 abbrev pub shifted_along : Vector → ℤ → Point → Result Point Why
 shifted_along free d p = put_further free (along (pair_of free) d) p
 

@@ -1,6 +1,6 @@
--- Apple TrueType Reference Manual, "Instructing TrueType Glyphs" (zones) and "Graphics State" (dual projection
--- vector): the original places of points. A glyph zone in font units, and distances measured in these and then
--- scaled, are profile.
+-- Apple TrueType Reference Manual, "Instructing TrueType Glyphs" (zones) and "Graphics State" (dual projection vector):
+-- the original places of points. A glyph zone in font units, and distances measured in these and then scaled, are
+-- profile.
 use Rattle.std.specs.Prelude.{◌≡◌, refl, ◌⊎◌, ◌≤◌, false, true, Bool, ℤ, pos, neg_ℤ, ◌-ℤ◌, unsigned_abs, Option, Some, None}
 use Rattle.tt_core.specs.Scales.{IsScale, rounded_scale, scaled_by}
 use Rattle.tt_core.specs.declared.halves.Halves.TheVariants as halves
@@ -19,8 +19,7 @@ abbrev pub is_glyph : Zone → Bool
 is_glyph zone.Twilight = false
 is_glyph zone.Glyph = true
 
--- the scale of the distance between two original places: the one in font units, where both zones are the glyph
--- zone
+-- the scale of the distance between two original places: the one in font units, where both zones are the glyph zone
 abbrev pub scale_between : Zone → Zone → ZoneLists → Option Scale
 scale_between zone.Glyph zone.Glyph z = z.originals.units
 scale_between zone.Glyph zone.Twilight z = None

@@ -1,5 +1,4 @@
--- No part of the standard: zones have the same shape after a point is replaced, and after one step follows
--- another.
+-- No part of the standard: zones have the same shape after a point is replaced, and after one step follows another.
 use Rattle.std.proofs.Common.{◌∙◌, ℤ, unsigned_abs, Result, Ok, Err, IfOk, refl, length-set}
 use Rattle.tt_core.specs.Outcomes.{◌>>=◌}
 use Rattle.tt_core.specs.declared.fault.Why.{Why}

@@ -1,5 +1,5 @@
--- No part of the standard: finding a point, moving it and reading the vectors never fail with too few values. A
--- move of a point that exists is not refused for a missing thing.
+-- No part of the standard: finding a point, moving it and reading the vectors never fail with too few values. A move of
+-- a point that exists is not refused for a missing thing.
 use Rattle.std.proofs.Common.{◌≡◌, ℤ, pos, int_lt, unsigned_abs, slice_get, ◌+ℤ◌, Bool, true, false, ◌||◌, if◌then◌else◌, Option, Some, None, Result, Ok, Err, refl}
 use Rattle.std.specs.Option.{ok_or}
 use Rattle.std.specs.Ordering.{int_eq}

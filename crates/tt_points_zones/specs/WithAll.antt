@@ -1,5 +1,5 @@
--- No part of the standard: a result without the whole instruction set is the result with it too, unless it is a
--- refusal by the profile.
+-- No part of the standard: a result without the whole instruction set is the result with it too, unless it is a refusal
+-- by the profile.
 use Rattle.std.proofs.Common.{◌≡◌, Bool, true, false, ◌||◌, if◌then◌else◌, Result, Ok, Err, refl}
 use Rattle.tt_core.specs.Outcomes.{◌>>=◌}
 use Rattle.tt_core.specs.declared.fault.Why.{Why}
@@ -15,14 +15,14 @@ use Rattle.tt_points_zones.specs.declared.motion.Motion.{Motion}
 abbrev pub with_all : GraphicsState → GraphicsState
 with_all g = record g { whole = true }
 
--- the refusals that need the whole instruction set to be absent
+-- the refusals that come only without the whole instruction set
 abbrev pub is_of_profile : Why → Bool
 is_of_profile why.OffProfile = true
 is_of_profile why.Perpendicular = true
 is_of_profile _ = false
 
 -- two results, without the whole instruction set and with it: the second is the first after a change, or the same
--- refusal
+-- refusal, unless that is one of the profile
 abbrev pub Stays : {A : Type 0} → (A → A) → Result A Why → Result A Why → Type 0
 Stays all (Ok a) with = with ≡ Ok (all a)
 Stays all (Err e) with = is_of_profile e ≡ false → with ≡ Err e

@@ -1,5 +1,5 @@
-//! The meeting point of two lines. Apple TrueType Reference Manual, "Instruction Set" (ISECT). Coordinates are in
-//! 26.6 pixels.
+//! The meeting point of two lines. Apple TrueType Reference Manual, "Instruction Set" (ISECT). Coordinates are in 26.6
+//! pixels.
 
 ghost use Rattle.std.specs.Prelude.{◌≡◌, ◌≢◌, ◌<◌, ◌≤◌, ◌^◌, pos, ◌+ℤ◌, ◌*ℤ◌, ◌<ℤ◌, unsigned_abs, IfOk};
 ghost use Rattle.std.specs.Bool.{OnFalse};
@@ -61,8 +61,8 @@ fn dot(a: Way, b: Way) -> i64
     product(a.x, b.x) + product(a.y, b.y)
 }
 
-/// Whether two ways are parallel, or nearly so: the tangent of their angle is at most 1 / 19 (profile). A way of
-/// length 0 is parallel to every way.
+/// Whether two ways are parallel, or nearly so: the tangent of their angle is at most 1 / 19 (profile). A way of length
+/// 0 is parallel to every way.
 #[tactic(auto, unfolding(crate::specs::Meeting::are_parallel))]
 fn are_parallel(a: Way, b: Way) -> bool
     ensures exact { result ≡ is.are_parallel (way_view a) (way_view b) }
@@ -188,7 +188,7 @@ fn limited(v: i128) -> Result<i32, Why>
     Ok(v as i32)
 }
 
-/// The meeting point of two lines, or the middle of their four places where they are nearly parallel. Error:
+/// The meeting point of two lines, or the middle of their four places for lines that are parallel or nearly so. Error:
 /// ValueRange past the limit of coordinates.
 #[tactic(auto, unfolding(crate::specs::Meeting::met))]
 pub fn met(a: Line, b: Line) -> Result<Place, Why>

@@ -17,7 +17,7 @@ use crate::points::is_coordinate;
 use tt_core::{Scale, Why, rq};
 use tt_state::{GraphicsState, Point, Vector, dot, laws};
 
-/// The vectors by which an instruction measures and moves points.
+/// The vectors for measuring and moving points.
 #[derive(Clone, Copy)]
 pub struct Motion {
     /// The projection vector, for current places.
@@ -38,8 +38,8 @@ fn way(from: i32, to: i32) -> i32
     to - from
 }
 
-/// The coordinate `at + by`, or `at` itself where the freedom vector has no part along its axis. Error: ValueRange
-/// past the limit of coordinates.
+/// The coordinate `at + by`, or `at` itself where the freedom vector has no part along its axis. Error: ValueRange past
+/// the limit of coordinates.
 fn pushed_to(part: i32, by: i64, at: i32) -> Result<i32, Why>
     requires at { unsigned_abs at ≤ coordinate_limit }
     requires small { unsigned_abs by < 2 ^ 62 }
@@ -66,8 +66,8 @@ fn scaled(d: i64, part: i64) -> i64
     d * part
 }
 
-/// The move along an axis, for a move `d` along the projection vector. `part` is the freedom vector's part along
-/// the axis, and `whole` the product of both vectors.
+/// The move along an axis, for a move `d` along the projection vector. `part` is the freedom vector's part along the
+/// axis, and `whole` the dot product of both vectors.
 fn step(d: i64, part: i32, whole: i32) -> i64
     requires d { unsigned_abs d < 2 ^ 47 }
     requires part { unsigned_abs part ≤ 16384 }
@@ -84,8 +84,8 @@ fn is_same(v: &Vector, w: &Vector) -> bool
     v.x() == w.x() && v.y() == w.y()
 }
 
-/// Whether the vectors of `Motion::of` may move points. Without the whole instruction set, the freedom vector has
-/// to be the projection vector. Error: Perpendicular (profile).
+/// Whether the vectors of `Motion::of` may move points. Without the whole instruction set, the freedom vector has to be
+/// the projection vector. Error: Perpendicular (profile).
 #[tactic(auto, unfolding(crate::specs::Motions::direction))]
 pub fn may_move(state: &GraphicsState) -> Result<(), Why>
     ensures { Gives (λ u. is.vectors_of state.now) result (is.direction state.now) }
@@ -233,8 +233,8 @@ impl Motion {
         }
     }
 
-    /// The point moved along the freedom vector, by `d` along the projection vector. Its touches are unchanged.
-    /// Error: ValueRange past the limit of coordinates.
+    /// The point moved along the freedom vector, by `d` along the projection vector. Its touches are unchanged. Error:
+    /// ValueRange past the limit of coordinates.
     pub fn shifted(&self, p: Point, d: i64) -> Result<Point, Why>
         requires point { IsPoint p }
         requires small { unsigned_abs d < 2 ^ 47 }

@@ -1,5 +1,5 @@
-//! A point's coordinates along an axis. Apple TrueType Reference Manual, "Instructing TrueType Glyphs" (touched
-//! points) and "Graphics State" (vectors). Coordinates are in 26.6 pixels.
+//! A point's coordinates along an axis. Apple TrueType Reference Manual, "Instructing TrueType Glyphs" (touched points)
+//! and "Graphics State" (vectors). Coordinates are in 26.6 pixels.
 
 ghost use Rattle.std.specs.Prelude.{◌≡◌, ◌≤◌, unsigned_abs};
 ghost use Rattle.tt_core.specs.Limits.{coordinate_limit};

@@ -34,9 +34,8 @@ impl Originals {
     }
 }
 
-/// Both zones. A contour is a range of glyph points: the first, and one past the last. The first contour begins at
-/// 0, and each next one at the end of the one before it. The glyph points after the last contour are its phantom
-/// points.
+/// Both zones. A contour is a range of glyph points: the first, and one past the last. The first contour begins at 0,
+/// and each next one at the end of the one before it. The glyph points after the last contour are its phantom points.
 #[derive(Debug, Drop)]
 pub struct Zones {
     pub twilight: Vec<Point>,
