@@ -1,5 +1,5 @@
--- Apple TrueType Reference Manual, "Instruction set": managing outlines (FLIPPT, FLIPRGON, FLIPRGOFF). They use
--- the glyph zone, whatever the zone pointers (profile).
+-- Apple TrueType Reference Manual, "Instruction set": managing outlines (FLIPPT, FLIPRGON, FLIPRGOFF). They use the
+-- glyph zone, whatever the zone pointers (profile).
 use Rattle.std.specs.Prelude.{◌≡◌, ◌+◌, ℤ, pos, negsuc, unsigned_abs, Bool, true, false, not, List, [], ◌∷◌, Result, Ok, Err, refl}
 use Rattle.tt_core.specs.Outcomes.{◌>>=◌}
 use Rattle.tt_core.specs.declared.fault.Why.{Why}
@@ -21,7 +21,7 @@ flipped p = record p { on = not p.on }
 abbrev pub flip : ℤ → ZoneLists → Result ZoneLists Why
 flip n z = point_in zone.Glyph n z >>= λ p. Ok (with_point zone.Glyph n (flipped p) z)
 
--- FLIPPT: points on the curve go off it, and points off it on
+-- FLIPPT: points flipped between on and off the curve
 abbrev pub flippt : Tolerance → List ℤ → ZoneLists → GraphicsState → Result (ZoneLists × GraphicsState) Why
 flippt t points z g = looped t flip points z g
 

@@ -26,7 +26,7 @@ use Rattle.tt_points_zones.specs.declared.motion.Motion.{Motion}
 use Rattle.tt_points_loops.specs.Series.{looped}
 use Rattle.tt_points_loops.specs.Slanted.{rising, slanted, dual_upward, still, risen, at_first, moved_on}
 
--- ALIGNRP: moves points of zp1 to the current place of rp0, in zp0
+-- ALIGNRP: moves points of zp1 to the current coordinate of rp0, in zp0
 abbrev pub aligned : GraphicsState → Point → Point → Result Point Why
 aligned g r p = direction g >>= λ m. moved m (current_distance m p r) p
 
@@ -41,13 +41,13 @@ alignrp t points z g = looped t (align g) points z g
 abbrev pub stretched : Halves → ℤ → ℤ → ℤ → ℤ → ℤ
 stretched halves o range now alone = if int_eq range (pos 0) then alone else quotient halves (o *ℤ now) range
 
--- the original distance between two points, before scaling: in font units where the originals have a scale,
--- otherwise in 26.6
+-- the original distance between two points, before scaling: in font units where the originals have a scale, otherwise
+-- in 26.6
 abbrev pub unscaled : Option Scale → Motion → Point → Point → ℤ
 unscaled None m a p = original_distance m a p
 unscaled (Some s) m a p = units_distance m a p
 
--- the distance from a at which p has its original share of the way from a to b
+-- the distance from a that gives p its original share of the way from a to b
 abbrev pub interpolated : Halves → Option Scale → Motion → Point → Point → Point → ℤ
 interpolated halves s m a b p =
     stretched halves (unscaled s m a p) (unscaled s m a b) (current_distance m a b) (distance_by s m a p)
@@ -60,8 +60,8 @@ kept_between halves s g a b p =
 abbrev pub scale_among : GraphicsState → ZoneLists → Option Scale
 scale_among g z = if is_glyph g.zp2 then scale_between g.zp0 g.zp1 z else None
 
--- The second end of the range. A tolerant machine takes the first end in place of a missing point (profile). The
--- range was 0 then, and each point gets its original distance from the first end.
+-- The second end of the range. A tolerant machine takes the first end in place of a missing point (profile). The range
+-- was 0 then, and each point gets its original distance from the first end.
 abbrev pub other_end : Tolerance → GraphicsState → ZoneLists → Point → Result Point Why
 other_end t g z a = unless_missing t a (point_in g.zp1 g.rp2 z)
 

@@ -8,7 +8,7 @@ use Rattle.tt_state.specs.declared.point.Point.{Point}
 use Rattle.tt_state.specs.declared.tolerance.Tolerance.{Tolerance}
 use Rattle.tt_points_zones.specs.Zones.{ZoneLists}
 
--- a step for each of some items in turn; a refusal of a later one keeps the earlier ones
+-- a step for each of some items in turn; the earlier steps are done before a later one is refused
 abbrev pub one_by_one : {N S : Type 0} → (N → S → Result S Why) → List N → S → Result S Why
 one_by_one step [] s = Ok s
 one_by_one step (n ∷ ns) s = step n s >>= λ t. one_by_one step ns t

@@ -1,5 +1,5 @@
--- No part of the standard: an instruction on several points that succeeds without the whole instruction set gives
--- the same result with it.
+-- No part of the standard: the whole instruction set changes no result of an instruction on several points, except for
+-- the refusals of the profile.
 use Rattle.std.proofs.Common.{ℕ, suc, nat_le, nat_lt, ℤ, ◌-ℤ◌, Bool, true, false, ◌&&◌, if◌then◌else◌, List, [], ◌∷◌, reverse, Option, Some, None, Result, Ok, refl}
 use Rattle.tt_core.specs.Outcomes.{◌>>=◌}
 use Rattle.tt_core.specs.declared.fault.Why.{Why}

@@ -1,5 +1,5 @@
-//! Exceptions at single sizes: DELTAP1 to DELTAP3, with rules that DELTAC1 to DELTAC3 share. Apple TrueType
-//! Reference Manual, "Instruction set": managing exceptions. Distances are in 26.6 pixels, sizes in pixels per em.
+//! Exceptions at single sizes: DELTAP1 to DELTAP3, with rules that DELTAC1 to DELTAC3 share. Apple TrueType Reference
+//! Manual, "Instruction set": managing exceptions. Distances are in 26.6 pixels, sizes in pixels per em.
 
 ghost use Rattle.std.specs.Prelude.{◌≡◌, Some, get_or, ◌*◌, ◌+◌, ◌<◌, ◌≤◌, pos, ◌*ℤ◌, ◌≤ℤ◌, unsigned_abs};
 ghost use Rattle.std.specs.Prelude.{IfErr, IfOk, IfSome, length};
@@ -84,8 +84,7 @@ fn exception(argument: u8, state: &GraphicsState) -> i32
     product(steps_of(argument), step_of(state))
 }
 
-/// An argument as a byte. A tolerant machine takes the low byte. Error: BadArgument, for an argument that is no
-/// byte.
+/// An argument as a byte. A tolerant machine takes the low byte. Error: BadArgument, for an argument that is no byte.
 fn byte_of(tolerance: Tolerance, argument: i32) -> Result<u8, Why>
     ensures { Gives (λ b. b) result (is.byte_of tolerance argument) }
 {
@@ -95,9 +94,9 @@ fn byte_of(tolerance: Tolerance, argument: i32) -> Result<u8, Why>
     }
 }
 
-/// The move that an argument of DELTAP or DELTAC requests at `ppem`: 1 to 8 steps to either side, in 26.6 pixels.
-/// None where the argument is for another size. Error: BadArgument, for an argument that is no byte, unless the
-/// machine is tolerant.
+/// The move that an argument of DELTAP or DELTAC requests at `ppem`: 1 to 8 steps to either side, in 26.6 pixels. None
+/// where the argument is for another size. Error: BadArgument, for an argument that is no byte, unless the machine is
+/// tolerant.
 pub fn delta_of(
     tolerance: Tolerance,
     range: DeltaRange,
@@ -177,9 +176,9 @@ fn except_or_pass(
     }
 }
 
-/// DELTAP1[], DELTAP2[] and DELTAP3[], 0x5D, 0x71 and 0x72: pairs of an argument and a point of zp0 -> moves each
-/// point as its argument requests at `ppem` pixels per em. The last pair comes first. A tolerant machine passes
-/// over each missing point. Errors: BadArgument, PointRange, Perpendicular, ValueRange.
+/// DELTAP1[], DELTAP2[] and DELTAP3[], 0x5D, 0x71 and 0x72: pairs of an argument and a point of zp0 -> moves each point
+/// as its argument requests at `ppem` pixels per em. The last pair comes first. A tolerant machine passes over each
+/// missing point. Errors: BadArgument, PointRange, Perpendicular, ValueRange.
 pub fn deltap(
     zones: &mut Zones,
     state: &GraphicsState,

@@ -11,7 +11,7 @@ use tt_core::Why;
 use tt_points_zones::Zones;
 use tt_state::{GraphicsState, Point, Tolerance, Zone};
 
-/// Flips a point of the glyph: on the curve, or off it. Error: PointRange.
+/// Flips a point of the glyph between on and off the curve. Error: PointRange.
 fn flip(zones: &mut Zones, n: i32) -> Result<(), Why>
     requires { IsZones (zones_view zones.old) }
     ensures exact { Gives (λ u. zones_view zones.new) result (is.flip n (zones_view zones.old)) }
@@ -23,7 +23,7 @@ fn flip(zones: &mut Zones, n: i32) -> Result<(), Why>
     Ok(())
 }
 
-/// Flips a point of the glyph. A tolerant machine passes over a missing point. Error: PointRange.
+/// Flips a point as `flip` does. A tolerant machine passes over a missing point. Error: PointRange.
 fn flip_or_pass(zones: &mut Zones, tolerance: Tolerance, n: i32) -> Result<(), Why>
     requires { IsZones (zones_view zones.old) }
     ensures exact { Gives (λ u. zones_view zones.new) result (passing_over tolerance is.flip n (zones_view zones.old)) }
@@ -47,7 +47,7 @@ fn flip_all(zones: &mut Zones, tolerance: Tolerance, numbers: &[i32]) -> Result<
     Ok(())
 }
 
-/// FLIPPT[], 0x80: loop points -> flips each point: on the curve, or off it. A tolerant machine passes over each
+/// FLIPPT[], 0x80: loop points -> flips each point between on and off the curve. A tolerant machine passes over each
 /// missing point. Error: PointRange.
 pub fn flippt(
     zones: &mut Zones,

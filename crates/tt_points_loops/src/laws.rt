@@ -1,5 +1,5 @@
-//! Laws of the instructions on several points: what they leave unchanged, the whole instruction set, and the
-//! tolerant machine.
+//! Laws of the instructions on several points: what they leave unchanged, the whole instruction set, and the tolerant
+//! machine.
 
 ghost use Rattle.tt_state.specs.declared.graphics_state.GraphicsState.{GraphicsState};
 ghost use Rattle.tt_points_zones.specs.Zones.{ZoneLists};
@@ -13,7 +13,7 @@ pub fn shape_is_kept()
     ensures { (z : ZoneLists) (g : GraphicsState) → ShapeIsKept z g }
 {}
 
-/// Lemma: an instruction that succeeds without the whole instruction set gives the same result with it.
+/// Lemma: the whole instruction set changes no result, except for the refusals OffProfile and Perpendicular.
 pub fn several_stay()
     ensures { (z : ZoneLists) (g : GraphicsState) → SeveralStay z g }
 {}

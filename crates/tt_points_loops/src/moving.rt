@@ -23,7 +23,7 @@ fn moved_by(p: Point, m: &Motion, by: Distance) -> Result<Point, Why>
     m.moved(p, by.0)
 }
 
-/// The point `p` moved to the current place of `r`, along the projection vector. Error: ValueRange.
+/// The point `p` moved to the current coordinate of `r` along the projection vector. Error: ValueRange.
 fn moved_to(p: Point, r: Point, m: &Motion) -> Result<Point, Why>
     requires p { IsPoint p }
     requires r { IsPoint r }
@@ -33,7 +33,7 @@ fn moved_to(p: Point, r: Point, m: &Motion) -> Result<Point, Why>
     moved_by(p, m, m.current_distance(p, r))
 }
 
-/// The point `p` moved to the current place of `r`, by the vectors of the graphics state. Errors: Perpendicular,
+/// The point `p` moved to the current coordinate of `r`, by the vectors of the graphics state. Errors: Perpendicular,
 /// ValueRange.
 fn aligned(p: Point, r: Point, state: &GraphicsState) -> Result<Point, Why>
     requires p { IsPoint p }
@@ -46,7 +46,7 @@ fn aligned(p: Point, r: Point, state: &GraphicsState) -> Result<Point, Why>
     moved_to(p, r, &motion)
 }
 
-/// Moves a point of zp1 to rp0. Errors: PointRange, Perpendicular, ValueRange.
+/// Moves a point of zp1 to the current coordinate of rp0. Errors: PointRange, Perpendicular, ValueRange.
 fn align(zones: &mut Zones, state: &GraphicsState, n: i32) -> Result<(), Why>
     requires { IsZones (zones_view zones.old) }
     ensures exact { Gives (λ u. zones_view zones.new) result (is.align state.now n (zones_view zones.old)) }
@@ -60,7 +60,7 @@ fn align(zones: &mut Zones, state: &GraphicsState, n: i32) -> Result<(), Why>
     Ok(())
 }
 
-/// Moves a point of zp1 to rp0. A tolerant machine passes over the point where either is missing.
+/// Moves a point as `align` does. A tolerant machine passes over the point where something is missing.
 fn align_or_pass(
     zones: &mut Zones,
     state: &GraphicsState,
@@ -95,7 +95,7 @@ fn align_all(
     Ok(())
 }
 
-/// ALIGNRP[], 0x3C: loop points of zp1 -> moves each point to the current place of rp0, in zp0. A tolerant machine
+/// ALIGNRP[], 0x3C: loop points of zp1 -> moves each point to the current coordinate of rp0, in zp0. A tolerant machine
 /// passes over each point that is missing or has no rp0. Errors: PointRange, Perpendicular, ValueRange.
 pub fn alignrp(
     zones: &mut Zones,
@@ -135,7 +135,7 @@ fn difference(a: Distance, b: Distance) -> Distance
     Distance(a.0 - b.0)
 }
 
-/// The distance from `a` at which `p` has its original share of the way from `a` to `b`.
+/// The distance from `a` that gives `p` its original share of the way from `a` to `b`.
 fn interpolated(by: Originals, p: Point, a: Point, b: Point, m: &Motion) -> Distance
     requires scale { IfSome by.units IsScale }
     requires p { IsPoint p }
@@ -191,8 +191,8 @@ fn kept_between(
     moved_between(by, p, a, b, &motion)
 }
 
-/// The second end of IP's range, rp2 in zp1. A tolerant machine takes the first end, `a`, in place of a missing
-/// point. Error: PointRange.
+/// The second end of IP's range, rp2 in zp1. A tolerant machine takes the first end, `a`, in place of a missing point.
+/// Error: PointRange.
 fn other_end(
     zones: &Zones,
     state: &GraphicsState,
@@ -210,8 +210,7 @@ fn other_end(
     }
 }
 
-/// The measure of the original places among the points of three zones: in 26.6 if one of these is the twilight
-/// zone.
+/// The measure of the original places among the points of three zones: in 26.6 if one of these is the twilight zone.
 fn originals_among(zones: &Zones, state: &GraphicsState) -> Originals
     requires { IsZones (zones_view zones.now) }
     ensures scale { result.units ≡ is.scale_among state.now (zones_view zones.now) }
@@ -302,8 +301,8 @@ fn interpolate_all(
 }
 
 /// IP[], 0x39: loop points of zp2 -> moves each point to its original share of the way from rp1, in zp0, to rp2, in
-/// zp1. A tolerant machine uses rp1 in place of a missing rp2, and passes over each point that is missing or has no
-/// rp1. Errors: PointRange, Perpendicular, ValueRange.
+/// zp1. A tolerant machine uses rp1 in place of a missing rp2. It passes over each point that is missing or has no rp1.
+/// Errors: PointRange, Perpendicular, ValueRange.
 pub fn ip(
     zones: &mut Zones,
     state: &mut GraphicsState,

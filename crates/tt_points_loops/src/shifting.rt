@@ -73,8 +73,7 @@ fn shifted_as(p: Point, r: Point, m: &Motion) -> Result<Point, Why>
     m.shifted(p, m.offset(r))
 }
 
-/// The point moved as its reference point was. `touch` says whether it is touched. Errors: Perpendicular,
-/// ValueRange.
+/// The point moved as its reference point was. `touch` says whether it is touched. Errors: Perpendicular, ValueRange.
 fn follow(p: Point, r: Point, touch: bool, state: &GraphicsState) -> Result<Point, Why>
     requires p { IsPoint p }
     requires r { IsPoint r }
@@ -189,8 +188,7 @@ struct Leader {
     touch: bool,
 }
 
-/// Point `i` after it follows the reference point. That point itself is unchanged. Errors: Perpendicular,
-/// ValueRange.
+/// Point `i` after it follows the reference point. That point itself is unchanged. Errors: Perpendicular, ValueRange.
 fn follow_but(p: Point, i: usize, by: Leader, state: &GraphicsState) -> Result<Point, Why>
     requires p { IsPoint p }
     requires reference { IsPoint by.reference }
@@ -234,8 +232,7 @@ struct Range {
     past: usize,
 }
 
-/// Moves the points of a range of a zone, except the reference point. Errors: PointRange, Perpendicular,
-/// ValueRange.
+/// Moves the points of a range of a zone, except the reference point. Errors: PointRange, Perpendicular, ValueRange.
 fn shift_range(
     zones: &mut Zones,
     state: &GraphicsState,
@@ -300,9 +297,8 @@ fn contour_in(zones: &Zones, zone: Zone, c: i32) -> Result<Range, Why>
     }
 }
 
-/// SHC[a], 0x34 and 0x35: contour of zp2 -> moves its points by the distance of the reference point from its
-/// original place. The reference point itself is unchanged. Errors: ContourRange, PointRange, Perpendicular,
-/// ValueRange.
+/// SHC[a], 0x34 and 0x35: contour of zp2 -> moves its points by the distance of the reference point from its original
+/// place. The reference point itself is unchanged. Errors: ContourRange, PointRange, Perpendicular, ValueRange.
 pub fn shc(
     zones: &mut Zones,
     state: &GraphicsState,
@@ -347,9 +343,9 @@ fn outline_in(zones: &Zones, zone: Zone) -> Range
     }
 }
 
-/// SHZ[a], 0x36 and 0x37: zone -> moves its points by the distance of the reference point from its original place,
-/// and touches none. Phantom points and the reference point are unchanged. Errors: ZoneRange, PointRange,
-/// Perpendicular, ValueRange.
+/// SHZ[a], 0x36 and 0x37: zone -> moves its points by the distance of the reference point from its original place, and
+/// touches none. Phantom points and the reference point are unchanged. Errors: ZoneRange, PointRange, Perpendicular,
+/// ValueRange.
 #[tactic(auto, unfolding(crate::specs::Shifting::shz))]
 pub fn shz(
     zones: &mut Zones,
