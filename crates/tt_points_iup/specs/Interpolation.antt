@@ -1,6 +1,6 @@
 -- Apple TrueType Reference Manual, "Instruction set" (IUP[a]) and "Instructing TrueType Glyphs" (touched points):
--- untouched points move with the nearest touched points. Coordinates are in 26.6 pixels. In a glyph zone in font
--- units, these decide order and proportion (profile).
+-- untouched points move with the nearest touched points. Coordinates are in 26.6 pixels. In a glyph zone in font units,
+-- these decide order and proportion (profile).
 use Rattle.std.specs.Prelude.{◌≡◌, ℕ, ℤ, pos, negsuc, ◌+ℤ◌, ◌-ℤ◌, ◌*ℤ◌, int_le, int_lt, Bool, true, false, if◌then◌else◌, List, [], ◌∷◌, ◌++◌, drop, slice_range, Option, Some, None, Result, Ok, Err, refl}
 use Rattle.std.specs.List.{list_all}
 use Rattle.std.specs.Ordering.{int_eq}
@@ -19,8 +19,8 @@ use Rattle.tt_points_zones.specs.Zones.{ZoneLists, in_pixels}
 use Rattle.tt_points_zones.specs.declared.zones.Originals.{Originals}
 use Rattle.tt_points_iup.specs.declared.place.Along.{Along}
 
--- A point's original and current coordinate on an axis. from decides its order among others, and its share of the
--- way between two.
+-- A point's original and current coordinate on an axis. `from` decides its order among others, and its share of the way
+-- between two.
 pub record Position : Type 0 where
   pub from : ℤ
   pub org : ℤ
@@ -46,8 +46,8 @@ position_at along p = record {
 abbrev pub factor : Halves → ℤ → ℤ → ℤ
 factor halves way range = if int_eq range (pos 0) then pos 0 else quotient halves (pos 65536 *ℤ way) range
 
--- The share of a way that a part has of a range: the part times the multiplier, divided by the divisor. In font
--- units the quotient of way and range is rounded first.
+-- The share of a way that a part has of a range: the part times the multiplier, divided by the divisor. In font units
+-- the quotient of way and range is rounded first.
 abbrev pub multiplier : Option Scale → Halves → ℤ → ℤ → ℤ
 multiplier None halves way range = way
 multiplier (Some s) halves way range = factor halves way range
@@ -64,8 +64,8 @@ share by part way range =
 abbrev pub in_proportion : Originals → Position → Position → Position → ℤ
 in_proportion by p lo hi = lo.cur +ℤ share by (p.from -ℤ lo.from) (hi.cur -ℤ lo.cur) (hi.from -ℤ lo.from)
 
--- a position: moved as the lower one if its original is not above that one's, as the upper one if it is not below
--- that one's, otherwise in proportion; the test is in 26.6, for a zone in font units too
+-- a position: moved as the lower one if its original is not above that one's; as the upper one if it is not below that
+-- one's; otherwise in proportion. The test is in 26.6, for a zone in font units too.
 abbrev pub following : Originals → Position → Position → Position → ℤ
 following by p lo hi =
     if int_le p.org lo.org then p.org +ℤ (lo.cur -ℤ lo.org)

@@ -1,5 +1,5 @@
--- No part of the standard: the count of touches read for a glyph. A contour is read up to its first touched point.
--- If there is one, the contour is read twice more: for the last touched point, and for the points between.
+-- No part of the standard: the count of touches read for a glyph. A contour is read up to its first touched point. If
+-- there is one, the contour is read twice more: for the last touched point, and for the points between.
 use Rattle.std.specs.Prelude.{◌≡◌, ℕ, pos, ◌+◌, ◌*◌, Bool, true, false, if◌then◌else◌, List, [], ◌∷◌, length, slice_range, Option, Some, None, refl}
 use Rattle.tt_state.specs.declared.graphics_state.Axis.{Axis}
 use Rattle.tt_state.specs.declared.graphics_state.Axis.TheVariants as axis
@@ -24,7 +24,7 @@ abbrev pub of_contours : Axis → List (ℕ × ℕ) → List Point → ℕ
 of_contours axis [] ps = 0
 of_contours axis (c ∷ cs) ps = of_contour axis (slice_range ps c.0 c.1) + of_contours axis cs ps
 
--- worked values: three points of which the second is touched, and three untouched points
+-- worked values: three points, the second touched; three untouched points
 abbrev a_point : Bool → Point
 a_point touched =
     record { units_x = pos 0; units_y = pos 0; org_x = pos 0; org_y = pos 0; x = pos 0; y = pos 0; touched_x = touched; touched_y = false; on = true }

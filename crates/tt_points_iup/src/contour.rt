@@ -54,8 +54,8 @@ fn fill(
     Ok(())
 }
 
-/// Goes from point `start` past the next touched point, or to the end. `before` is the touched point before
-/// `start`, `first` the first touched point of the contour. Error: ValueRange.
+/// Goes from point `start` past the next touched point, or to the end. `before` is the touched point before `start`,
+/// `first` the first touched point of the contour. Error: ValueRange.
 fn next_run(
     contour: &mut Contour<'_>,
     start: usize,

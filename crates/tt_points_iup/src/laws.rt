@@ -19,8 +19,8 @@ pub fn point_by_point()
     ensures there { (along : Along) (ps : List Point) (d : Point) (i j : ℕ) → i < length ps → j < length ps
         → is_touched along.axis (get_or ps i d) ≡ false → is_touched along.axis (get_or ps j d) ≡ true
         → HasNeighbours along.axis ps d i }
-    // An untouched point is interpolated between the nearest touched ones before and after it, round the contour, at
-    // their places before the interpolation.
+    // An untouched point is interpolated between the nearest touched ones before and after it, round the contour. Their
+    // places are those before the interpolation.
     ensures between { (along : Along) (ps : List Point) (d : Point) (i before after : ℕ) → i < length ps
         → is_touched along.axis (get_or ps i d) ≡ false
         → IsLastTouched along.axis ps d i before → IsNextTouched along.axis ps d i after

@@ -24,14 +24,14 @@ pub(crate) struct Along {
 /// A point's original and current coordinate on an axis.
 #[derive(Clone, Copy)]
 pub(crate) struct Position {
-    /// Decides order and proportion: font units for a zone in these, otherwise `org`.
+    /// The coordinate that decides order and proportion: font units for a zone in these, otherwise `org`.
     pub(crate) from: i32,
     pub(crate) org: i32,
     pub(crate) cur: i32,
 }
 
 /// Two touched points, the one with the lower original first. A part of the range between their originals, times
-/// `multiplier` and divided by `divisor`, is the same share of the way between their current places.
+/// `multiplier` and divided by `divisor`, is its share of the way between their current places.
 #[derive(Clone, Copy)]
 pub(crate) struct Neighbours {
     along: Along,
