@@ -53,7 +53,7 @@ pub run_spent : (m : MachineState) (left : Option ℕ) (fault : Fault)
     → charged (over_at m) (copied m) left ≡ spent fault → run_work m left ≡ spent fault
 run_spent m left fault pays = begins m left ∙ rw pays refl
 
--- work without a limit
+-- work without a budget
 
 unbounded_after : (n : ℕ) (r : Result MachineState Fault)
     → ((m : MachineState) → work_within n m None ≡ enough None) → work_after (work_within n) r None ≡ enough None
@@ -104,7 +104,7 @@ pub charged_enough : (told : Fault) (cost left : ℕ) (after : Option ℕ) → c
     → (rest : ℕ) × (after ≡ Some rest) × (rest + cost ≡ left)
 charged_enough told cost left after e = enough_by (nat_le cost left) cost left told after refl e
 
--- a run that exceeds its work halts with StepLimit
+-- a run that exceeds its budget halts with StepLimit
 
 abbrev Limited : Fault → Type 0
 Limited fault = fault.why ≡ why.StepLimit

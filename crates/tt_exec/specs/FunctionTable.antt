@@ -32,8 +32,8 @@ slots places bodies = map (body_of_place bodies) places
 abbrev pub listed : List ℕ → List Body → List (ℕ × Body)
 listed places bodies = listed_from 0 (slots places bodies)
 
--- A place is that of a body, or 0, and two numbers share no place except 0. The counts of bodies and of functions
--- are equal.
+-- A place is that of a body, or 0, and two numbers share no place except 0. The counts of bodies and of functions are
+-- equal.
 pub record AreFunctions (places : List ℕ) (bodies : List Body) : Type 0 where
   pub few : length places ≤ 65536
   pub within : All (λ place. place ≤ length bodies) places

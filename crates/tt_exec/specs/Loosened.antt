@@ -1,5 +1,5 @@
--- No part of the standard: tolerance and runs. A run that ends on a strict machine ends in the same way on a
--- tolerant one. One that halts has the same fault, unless that is a refusal that tolerance lifts.
+-- No part of the standard: tolerance and runs. A run that ends on a strict machine ends in the same way on a tolerant
+-- one. One that halts has the same fault, unless that is a refusal that tolerance lifts.
 use Rattle.std.specs.Prelude.{◌≡◌, false, Result, Ok, Err}
 use Rattle.tt_core.specs.Faults.{Fault}
 use Rattle.tt_state.specs.Loosening.{is_lifted, is_never}
@@ -21,8 +21,8 @@ RunLoosens (Err fault) loose = is_lifted fault.why ≡ false → loose ≡ Err f
 abbrev pub RunsLoosen : Type 0
 RunsLoosen = (s : MachineState) → RunLoosens (run_outcome (strict_in s)) (run_outcome (tolerant_in s))
 
--- the outcome of a run on a tolerant machine: it never halts for too few values or for a missing thing, and is
--- still tolerant
+-- the outcome of a run on a tolerant machine: it never halts for too few values or for a missing thing, and is still
+-- tolerant
 abbrev pub LacksNothing : Result MachineState Fault → Type 0
 LacksNothing (Ok t) = t ≡ tolerant_in t
 LacksNothing (Err fault) = is_never fault.why ≡ false

@@ -1,5 +1,4 @@
--- Apple TrueType Reference Manual, "Instructing TrueType Glyphs" and "Graphics State": the state of the
--- interpreter.
+-- Apple TrueType Reference Manual, "Instructing TrueType Glyphs" and "Graphics State": the state of the interpreter.
 use Rattle.std.specs.Prelude.{ℕ, ◌+◌, ℤ, Bool, List}
 use Rattle.tt_core.specs.declared.scaling.Scale.{Scale}
 use Rattle.tt_core.specs.Faults.{Fault, fault_at}
@@ -20,8 +19,8 @@ pub record Body : Type 0 where
   pub code : Code
   pub start : ℕ
 
--- an open call, or the running program: the place of its next instruction, the place where it began, and the count
--- of repeats to come
+-- an open call, or the running program: the place of its next instruction, the place where it began, and the count of
+-- repeats to come
 pub record Frame : Type 0 where
   pub code : Code
   pub place : ℕ

@@ -76,16 +76,16 @@ abbrev pub exec_fault : FontFault → ExecFault
 exec_fault (font.Font f) = exec.Font f
 exec_fault font.Memory = exec.Memory
 
--- A run ends after a count of steps, halts with a fault, or has no memory. After the last two the machine has
--- failed: further runs report that and change nothing.
+-- A run ends after a count of steps, halts with a fault, or has no memory. After the last two the machine has failed:
+-- further runs report that and change nothing.
 abbrev pub RunGives : Code → Machine → Result ℕ ExecFault → Machine → Type 0
 RunGives p old (Ok n) new = (old.failed ≡ false) × (new.failed ≡ false) × Ends (run_from p old.state) n new.state
 RunGives p old (Err (exec.Font f)) new = (old.failed ≡ false) × (new.failed ≡ true) × Halts (run_from p old.state) f
 RunGives p old (Err exec.Memory) new = (old.failed ≡ false) × (new.failed ≡ true)
 RunGives p old (Err exec.Failed) new = (old.failed ≡ true) × (new ≡ old)
 
--- the result from the function that computes a run: its last state or its fault, unless memory ran out or the
--- machine had failed
+-- the result from the function that computes a run: its last state or its fault, unless memory ran out or the machine
+-- had failed
 abbrev pub OutcomeIs : Result MachineState Fault → Result ℕ ExecFault → Machine → Type 0
 OutcomeIs outcome (Ok n) new = outcome ≡ Ok new.state
 OutcomeIs outcome (Err (exec.Font f)) new = outcome ≡ Err f
@@ -97,8 +97,8 @@ abbrev pub GivesParts : Machine → Option Parts → Type 0
 GivesParts m (Some p) = (m.failed ≡ false) × (p ≡ parts_in m.state)
 GivesParts m None = m.failed ≡ true
 
--- a law: for the same parts, a run of any program begins in the same state on a new machine and on one begun
--- again; its outcome and its work depend on that state alone
+-- a law: for the same parts, a run of any program begins in the same state on a new machine and on one begun again. Its
+-- outcome and its work depend on that state alone.
 abbrev pub RunsBeginAgain : Type 0
 RunsBeginAgain = (parts : Parts) (new again : Machine) → new ≡ begun_again parts → again ≡ begun_again parts
     → (code : Code) → run_from code again.state ≡ run_from code new.state

@@ -1,5 +1,5 @@
--- Apple TrueType Reference Manual, "Instruction set": the instructions on points, and those that change control
--- values by exceptions. Their definitions are in tt_exec_points and tt_points.
+-- Apple TrueType Reference Manual, "Instruction set": the instructions on points, and those that change control values
+-- by exceptions. Their definitions are in tt_exec_points.
 use Rattle.std.specs.Prelude.{ℕ, ℤ, List, Result, Ok, Err}
 use Rattle.tt_core.specs.Faults.{Fault}
 use Rattle.tt_core.specs.declared.fault.Why.{Why}

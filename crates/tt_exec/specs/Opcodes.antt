@@ -1,5 +1,5 @@
--- Apple TrueType Reference Manual, "Instruction set": the instruction of each opcode. Vectors off the axes,
--- crossings of lines and definitions of instructions are beyond the profile: they need the whole instruction set.
+-- Apple TrueType Reference Manual, "Instruction set": the instruction of each opcode. Vectors off the axes, crossings
+-- of lines and definitions of instructions are beyond the profile: they need the whole instruction set.
 use Rattle.std.specs.Prelude.{◌≡◌, ℕ, zero, suc, ◌/◌, ◌%◌, ◌==◌, nat_lt, Bool, true, false, if◌then◌else◌, List, [], ◌∷◌, refl}
 use Rattle.tt_state.specs.declared.graphics_state.Axis.TheVariants as axis
 use Rattle.tt_state.specs.declared.rounding.Round.TheVariants as round

@@ -1,4 +1,4 @@
--- No part of the standard: the outcome of an instruction's code, and the definition's state or fault. A refusal is
+-- No part of the standard: links the outcome of an instruction's code to the definition's state or fault. A refusal is
 -- without table and offset, which come from the frame afterwards.
 use Rattle.std.specs.Prelude.{◌≡◌, ◌≤◌, ℕ, Bool, true, false, length, Result, Ok, Err}
 use Rattle.tt_core.specs.Faults.{Fault}

@@ -1,5 +1,5 @@
--- Apple TrueType Reference Manual, "Instruction set": one step, the instruction at the state's place. Each family
--- has a file of definitions; here they change a whole state.
+-- Apple TrueType Reference Manual, "Instruction set": one step, the instruction at the state's place. Each family has a
+-- file of definitions; here they change a whole state.
 use Rattle.std.specs.Prelude.{ℕ, ◌+◌, nat_le, ℤ, pos, Bool, false, ◌==◌, ◌||◌, ◌&&◌, List, length, if◌then◌else◌, Result, Ok, Err}
 use Rattle.tt_core.specs.Faults.{Fault}
 use Rattle.tt_core.specs.declared.fault.Why.{Why}
@@ -27,8 +27,8 @@ use Rattle.tt_exec.specs.Opcodes.{operation_of}
 use Rattle.tt_exec.specs.Operation.{Operation, takes}
 use Rattle.tt_exec.specs.Operation as op
 
--- a state with a new stack; with a new stack and graphics state; with a new stack, storage and control values; or
--- the refusal at the instruction's place
+-- a state with a new stack; with a new stack and graphics state; with a new stack, storage and control values; or the
+-- refusal at the instruction's place
 abbrev pub on_stack : ℕ → MachineState → Result (List ℤ) Why → Result MachineState Fault
 on_stack at m (Ok s) = Ok (record m { stack = s })
 on_stack at m (Err why) = Err (fault_in m.frame at why)

@@ -1,5 +1,5 @@
--- No part of the standard: the whole instruction set and runs. A run that ends without it ends in the same way
--- with it. One that halts has the same fault, unless that is a refusal of the profile.
+-- No part of the standard: the whole instruction set and runs. A run that ends without it ends in the same way with it.
+-- One that halts has the same fault, unless that is a refusal of the profile.
 use Rattle.std.specs.Prelude.{◌≡◌, false, Result, Ok, Err}
 use Rattle.tt_core.specs.Faults.{Fault}
 use Rattle.tt_points_zones.specs.WithAll.{with_all, is_of_profile}

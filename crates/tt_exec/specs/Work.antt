@@ -1,7 +1,7 @@
--- No part of the standard: the work of a run, if a job's work has a limit (profile). A step is 1. Each point or
--- stack entry that its instruction covers is 1, and so is each byte skipped. At the beginning of a run, each
--- control value, storage place, twilight point and definition copied for it is 1. Slower things weigh more: a
--- point moved by itself or named on the stack is 4, a vector or a place found from lines is 32.
+-- No part of the standard: the work of a run, if its job has a budget (profile). A step is 1. Each point or stack entry
+-- that its instruction covers is 1, and so is each byte skipped. At the beginning of a run, each control value, storage
+-- place, twilight point and definition copied for it is 1. Slower things weigh more: a point moved by itself or named
+-- on the stack is 4, a vector or a place found from lines is 32.
 use Rattle.std.specs.Prelude.{ℕ, zero, suc, ◌+◌, ◌-◌, ◌*◌, ◌==◌, ◌||◌, ◌&&◌, min, nat_le, ℤ, pos, unsigned_abs, Bool, if◌then◌else◌, List, [], ◌∷◌, length, slice_index, Option, Some, None, Result, Ok, Err}
 use Rattle.tt_core.specs.Faults.{Fault}
 use Rattle.tt_core.specs.Limits.{step_limit}
@@ -12,7 +12,7 @@ use Rattle.tt_exec_stack.specs.Logic.{is_true}
 use Rattle.tt_exec.specs.MachineState.{MachineState, fault_in}
 use Rattle.tt_exec.specs.Step.{step, is_ended}
 
--- the remaining work, None without a limit; or the fault of the instruction that needs more
+-- the remaining work, None without a budget; or the fault of the instruction that needs more
 pub data Worked : Type 0 where
   enough : Option ℕ → Worked
   spent : Fault → Worked
@@ -64,8 +64,7 @@ is_of_lines op = (nat_le 0x06 op && nat_le op 0x0B) || op == 0x0F || op == 0x86 
 abbrev pub is_push_of_many : ℕ → Bool
 is_push_of_many op = op == 0x40 || op == 0x41
 
--- the extra work of an instruction, which doesn't depend on the loop variable or the stack; ALIGNPTS moves two
--- points
+-- the extra work of an instruction, which doesn't depend on the loop variable or the stack; ALIGNPTS moves two points
 abbrev pub weight : ℕ → MachineState → ℕ
 weight op m =
     if moves_one op then 4 else (
@@ -105,7 +104,7 @@ step_cost m = cost_by (slice_index m.frame.code.bytes m.frame.place) m
 abbrev pub copied : MachineState → ℕ
 copied m = length m.cvt + (length m.storage + (length m.zones.twilight + (length m.functions + length m.instructions)))
 
--- a run that would exceed its work halts at its present place
+-- a run that would exceed its budget halts at its present place
 abbrev pub over_at : MachineState → Fault
 over_at m = fault_in m.frame m.frame.place why.StepLimit
 

@@ -1,4 +1,4 @@
--- No part of the standard: a run with a limit of work, compared with its computed outcome and its work.
+-- No part of the standard: a run within a budget, compared with its computed outcome and its work.
 use Rattle.std.specs.Prelude.{◌≡◌, ℕ, ◌+◌, ◌<◌, ◌≤◌, Bool, true, false, Option, Some, None, Result, Ok, Err}
 use Rattle.tt_core.specs.Faults.{Fault}
 use Rattle.tt_core.specs.Outcomes.{font_fault}
@@ -13,8 +13,7 @@ use Rattle.tt_exec.specs.MachineState.{Code, MachineState, Machine}
 use Rattle.tt_exec.specs.Machines.{exec_fault, OutcomeIs, RunGives}
 use Rattle.tt_exec.specs.Work.{Worked, enough, spent, run_work}
 
--- A run within its work has the result of a run without a limit. After a run that exceeds it the machine has
--- failed.
+-- A run within its budget has the result of a run without one. After a run that exceeds it the machine has failed.
 abbrev pub RunsWithin : Code → Machine → Result ℕ WorkFault → Machine → Type 0
 RunsWithin p old (Ok n) new = RunGives p old (Ok n) new
 RunsWithin p old (Err (work.Run fault)) new = RunGives p old (Err fault) new
@@ -26,9 +25,9 @@ OutcomeWithin outcome (Ok n) new = OutcomeIs outcome (Ok n) new
 OutcomeWithin outcome (Err (work.Run fault)) new = OutcomeIs outcome (Err fault) new
 OutcomeWithin outcome (Err (work.Spent fault)) new = Unit {0}
 
--- A job's remaining work after a run. A run that ends, or halts with a fault of its own, has used its own work.
--- After one that exceeds its work nothing remains. A failed machine uses nothing. For a run without memory nothing
--- is promised.
+-- A job's remaining work after a run. A run that ends, or halts with a fault of its own, has used its own work. After
+-- one that exceeds its budget nothing remains. A failed machine uses nothing. For a run without memory nothing is
+-- promised.
 abbrev pub WorkIs : (Option ℕ → Worked) → Option ℕ → Result ℕ WorkFault → Option ℕ → Type 0
 WorkIs worked old (Ok n) new = worked old ≡ enough new
 WorkIs worked old (Err (work.Run (exec.Font fault))) new = worked old ≡ enough new
@@ -53,7 +52,7 @@ StopWorkIs worked old (Err (stop.Run (font.Font fault))) new = worked old ≡ en
 StopWorkIs worked old (Err (stop.Run font.Memory)) new = Unit {0}
 StopWorkIs worked old (Err (stop.Spent fault)) new = (worked old ≡ spent fault) × (new ≡ Some 0)
 
--- the fault of a run that halts within its work
+-- the fault of a run that halts within its budget
 abbrev pub own_fault : Stop → Option Fault
 own_fault (stop.Run fault) = font_fault fault
 own_fault (stop.Spent fault) = None

@@ -61,7 +61,7 @@ impl<'a> Callers<'a> {
         self.frames.pop()
     }
 
-    /// Adds a frame, for which there is room.
+    /// Adds a frame. There has to be room.
     pub(crate) fn push(&mut self, frame: Frame<'a>)
         requires { length self.old < call_limit }
         ensures { self.new ≡ frame_of frame.entry ∷ self.old }

@@ -1,6 +1,5 @@
-//! The instructions that use the stack and the program's settings, and move no point. Their code is in
-//! tt_exec_stack and tt_exec_state. `at` is the instruction's place. Apple TrueType Reference Manual, "Instruction
-//! set".
+//! The instructions that use the stack and the program's settings, and move no point. Their code is in tt_exec_stack
+//! and tt_exec_state. `at` is the instruction's place. Apple TrueType Reference Manual, "Instruction set".
 
 ghost use Rattle.std.specs.Prelude.{◌≡◌, ◌≤◌, length, false};
 ghost use Rattle.tt_exec.specs.Operation as operation;

@@ -1,5 +1,5 @@
-//! Managing the flow of control. Apple TrueType Reference Manual, "Instruction set". `at` is the instruction's
-//! place; the frame's place is after it.
+//! Managing the flow of control. Apple TrueType Reference Manual, "Instruction set". `at` is the instruction's place;
+//! the frame's place is after it.
 
 ghost use Rattle.std.specs.Prelude.{◌≡◌, ◌<◌, length, false};
 ghost use Rattle.tt_exec.specs.Flow as flow;

@@ -33,7 +33,7 @@ impl<'a> Model for Functions<'a> {
     ghost invariant = { λ f. AreFunctions f.places.items (map body_of f.bodies.items) };
 }
 
-/// The body of number `n`. Its entry in `places` is 1 + its place.
+/// The body of number `n`. `places` has 1 + the place of the body.
 fn body_at<'a>(places: &[u32], bodies: &[Body<'a>], n: usize) -> Option<Body<'a>>
     requires { All (λ p. p ≤ length bodies.now) places.now }
     ensures { option_map body_of result ≡ body_at n places.now (map body_of bodies.now) }
@@ -141,7 +141,7 @@ impl<'a> Functions<'a> {
         })
     }
 
-    /// Becomes a copy of others, in the existing memory. Without enough memory it becomes empty.
+    /// Becomes a copy of others, reusing its memory. If more memory is refused, it becomes empty.
     pub(crate) fn copy_from(&mut self, others: &Functions<'a>) -> Result<(), AllocError>
         ensures { OnOk result (self.new ≡ others.now) }
     {

@@ -1,5 +1,5 @@
-//! Defining and using functions. Apple TrueType Reference Manual, "Instruction set". `at` is the instruction's
-//! place; the frame's place is after it.
+//! Defining and using functions. Apple TrueType Reference Manual, "Instruction set". `at` is the instruction's place;
+//! the frame's place is after it.
 
 ghost use Rattle.std.specs.Prelude.{◌≡◌, ◌+◌, ◌<◌, ◌≤◌, ◌^◌, pos, length, OnOk, false};
 ghost use Rattle.tt_exec.specs.Functions as is;
@@ -76,8 +76,8 @@ impl<'a> MachineState<'a> {
     }
 
     /// FDEF[], 0x2C: n -> defines function n as the code after this opcode, and continues after its ENDF. Errors:
-    /// DefinitionPlace outside fpgm and prep and in calls; StackShort; BadArgument of a number that is not 0 to
-    /// 65535; CodeShort, NoEndf; Memory.
+    /// DefinitionPlace outside fpgm and prep and in calls; StackShort; BadArgument of a number that is not 0 to 65535;
+    /// CodeShort, NoEndf; Memory.
     pub(crate) fn fdef(&mut self, at: usize) -> Outcome
         requires { at < length self.old.frame.code.bytes.now }
         ensures { ComesTo (is.fdef at (state_of self.old)) at (state_of self.new) result }
@@ -166,8 +166,8 @@ impl<'a> MachineState<'a> {
         }
     }
 
-    /// LOOPCALL[], 0x2A: count, n -> calls function n `count` times. A count below 1 calls nothing. Errors:
-    /// StackShort; NoFunction, whatever the count; CallDepth.
+    /// LOOPCALL[], 0x2A: count, n -> calls function n `count` times. A count below 1 calls nothing. Errors: StackShort;
+    /// NoFunction, whatever the count; CallDepth.
     pub(crate) fn loopcall(&mut self, at: usize) -> Outcome
         requires { at < length self.old.frame.code.bytes.now }
         ensures exact { ComesTo (is.loopcall self.old.stack at (state_of self.old)) at (state_of self.new) result }

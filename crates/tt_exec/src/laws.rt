@@ -11,8 +11,7 @@ ghost use Rattle.tt_exec.specs.Sizes.{HasContours, SameSizes};
 ghost use Rattle.tt_exec.specs.WithAll.{RunsStay};
 ghost use Rattle.tt_exec.specs.Worked.{SpentWork, UnboundedWork, WorkFalls};
 
-/// Lemma: a run from any state either ends, after one count of steps and at one state, or halts with one fault,
-/// never both.
+/// Lemma: a run from any state either ends, after one count of steps in one state, or halts with one fault, never both.
 pub fn one_outcome()
     ensures { (state : MachineState) → HasOneOutcome state }
 {}
@@ -27,8 +26,8 @@ pub fn sizes_are_kept()
     tt_exec_state::laws::sizes_are_kept();
 }
 
-/// Lemma: the whole instruction set changes nothing for a run that ends without it, and no fault except OffProfile
-/// and Perpendicular.
+/// Lemma: the whole instruction set changes nothing for a run that ends without it, and no fault except OffProfile and
+/// Perpendicular.
 pub fn runs_stay()
     ensures { RunsStay }
 {
@@ -36,8 +35,7 @@ pub fn runs_stay()
     tt_exec_points::laws::points_stay();
 }
 
-/// Lemma: tolerance changes nothing for a run that ends on a strict machine, and no fault except those that it
-/// lifts.
+/// Lemma: tolerance changes nothing for a run that ends on a strict machine, and no fault except those that it lifts.
 pub fn runs_loosen()
     ensures { RunsLoosen }
 {
@@ -66,17 +64,17 @@ pub fn runs_begin_again()
     ensures { RunsBeginAgain }
 {}
 
-/// Lemma: a run without a work budget is never refused for its work.
+/// Lemma: a run without a budget is never refused for its work.
 pub fn unbounded_work()
     ensures { UnboundedWork }
 {}
 
-/// Lemma: a run that exceeds its work budget halts with StepLimit.
+/// Lemma: a run that exceeds its budget halts with StepLimit.
 pub fn spent_work()
     ensures { SpentWork }
 {}
 
-/// Lemma: a run never increases its work budget.
+/// Lemma: a run never increases the remaining work.
 pub fn work_falls()
     ensures { WorkFalls }
 {}

@@ -101,8 +101,8 @@ impl<'a> Machine<'a> {
         replace(&mut self.state.points, Points::none(alloc)).into_zones()
     }
 
-    /// Becomes a new machine of these parts, with other zones, whatever earlier runs did. All is copied into the
-    /// existing memory. Without enough memory the machine has failed until it is begun again.
+    /// Becomes a new machine of these parts, with other zones, whatever earlier runs did. All is copied, reusing the
+    /// machine's memory. If more memory is refused, the machine has failed until it is begun again.
     pub fn begin_again(&mut self, parts: &Parts<'a>, zones: Zones) -> Result<(), AllocError>
         requires size { parts.now.ppem ≤ size_limit }
         requires scale { IsScale parts.now.scale }
@@ -134,10 +134,10 @@ impl<'a> Machine<'a> {
         }
     }
 
-    /// Runs a program as `run` does, within a job's remaining work. The work pays for copies made for the run, for
-    /// each step, for the points and stack entries that it covers, and for bytes skipped. Errors: Run, as without a
-    /// limit; Spent, with StepLimit at the instruction that needs more than remains. After Spent no work remains, and
-    /// the machine has failed.
+    /// Runs a program as `run` does, within a job's remaining work. The work pays for copies made for the run. It pays
+    /// for each step, with the points and stack entries that the step covers and the bytes that it skips. Errors: Run,
+    /// as without a budget; Spent, with StepLimit at the instruction that needs more than remains. After Spent no work
+    /// remains, and the machine has failed.
     pub fn run_within(&mut self, code: Code<'a>, work: &mut Work) -> Result<u32, WorkFault>
         ensures exact { RunsWithin (code_of code.entry) self.old result self.new }
         ensures outcome { OutcomeWithin (run_outcome (run_from (code_of code.entry) self.old.state)) result self.new }
@@ -185,7 +185,7 @@ impl<'a> Machine<'a> {
         self.state.graphics.scan
     }
 
-    /// The machine's parts after its runs; None after Font or Memory.
+    /// The machine's parts after its runs; None after a run that failed.
     pub fn into_parts(self) -> Option<Parts<'a>>
         ensures exact { GivesParts self.entry (option_map parts_of result) }
         ensures size { IfSome result (λ p. p.ppem ≤ size_limit) }

@@ -53,7 +53,7 @@ pub(crate) struct MachineState<'a> {
     pub(crate) kind: Kind,
 }
 
-/// Copies values into existing memory.
+/// Copies values, reusing memory.
 fn copy_in(values: &mut Vec<i32>, others: &[i32]) -> Result<(), AllocError>
     ensures { OnOk result (values.new.items ≡ others.now) }
 {
@@ -62,7 +62,7 @@ fn copy_in(values: &mut Vec<i32>, others: &[i32]) -> Result<(), AllocError>
 }
 
 impl<'a> MachineState<'a> {
-    /// Becomes the state of a new machine of these parts and zones, in the existing memory.
+    /// Becomes the state of a new machine of these parts and zones, reusing its memory.
     pub(crate) fn begin_again(&mut self, parts: &Parts<'a>, zones: Zones) -> Result<(), AllocError>
         requires size { parts.now.ppem ≤ size_limit }
         requires scale { IsScale parts.now.scale }

@@ -1,6 +1,5 @@
 //! The instructions on points, and those that change control values by exceptions. Their code is in tt_exec_points.
-//! `at` is the instruction's place; the frame's place is after it. Apple TrueType Reference Manual, "Instruction
-//! set".
+//! `at` is the instruction's place; the frame's place is after it. Apple TrueType Reference Manual, "Instruction set".
 
 ghost use Rattle.std.specs.Prelude.{◌≡◌, ◌<◌, length, false};
 ghost use Rattle.tt_exec.specs.OnPoints as is;

@@ -81,9 +81,9 @@ impl MachineState<'_> {
         self.idef(at)
     }
 
-    /// SPVTL[], SFVTL[], SDPVTL[], ISECT[], ALIGNPTS[], S45ROUND[], DEBUG[], IDEF[], and opcodes without a name.
-    /// Apart from the others, since rare, so that these are one function. Errors: OffProfile of those with a name,
-    /// without the whole instruction set; those of the instruction.
+    /// SPVTL[], SFVTL[], SDPVTL[], ISECT[], ALIGNPTS[], S45ROUND[], DEBUG[], IDEF[], and opcodes without a name. These
+    /// are rare: with them apart, the others are one function. Errors: OffProfile of those with a name, without the
+    /// whole instruction set; those of the instruction.
     #[cold]
     #[tactic(auto, unfolding(crate::specs::Opcodes::apart))]
     fn operate_apart(&mut self, op: u8, at: usize) -> Outcome

@@ -1,4 +1,4 @@
-//! The work of a run, if it has a limit (profile): for each step, and for copies made before the run.
+//! The work of a run, if its job has a budget (profile): for each step, and for copies made before the run.
 
 ghost use Rattle.std.specs.Prelude.{◌≡◌, ◌≢◌, ◌+◌, ◌^◌, ◌<◌, ◌≤◌, length, IfOk};
 ghost use Rattle.tt_exec.specs.MachineState as machine;
@@ -142,8 +142,8 @@ impl MachineState<'_> {
         cost
     }
 
-    /// Pays for the step at the frame's place. False if the remaining work is less than its cost; then no work
-    /// remains. A run without a limit pays one test for it.
+    /// Pays for the step at the frame's place. False if the remaining work is less than its cost; then no work remains.
+    /// A run without a budget spends one test on it.
     #[inline(always)]
     pub(crate) fn pay_step(&self, work: &mut Work) -> bool
         ensures { let m = state_of self.now in

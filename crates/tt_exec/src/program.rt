@@ -31,8 +31,8 @@ pub(crate) enum Definition {
     Instruction(u8),
 }
 
-/// A running program or call: its program, the place of the next instruction, the place where it began, and the
-/// count of repeats to come.
+/// A running program or call: its program, the place of the next instruction, the place where it began, and the count
+/// of repeats to come.
 #[derive(Clone, Copy)]
 pub(crate) struct Frame<'a> {
     pub(crate) code: Code<'a>,

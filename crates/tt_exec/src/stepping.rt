@@ -83,8 +83,8 @@ impl MachineState<'_> {
         self.frame.place == self.frame.code.bytes.len() && self.callers.len() == 0
     }
 
-    /// Runs to the program's end, and pays for each step. Gives the count of steps. Errors: StepLimit; those of a
-    /// step; Spent for a step that needs more work than remains.
+    /// Runs to the program's end, and pays for each step. Gives the count of steps. Errors: StepLimit; those of a step;
+    /// Spent for a step that needs more work than remains.
     #[inline(never)]
     fn go(&mut self, work: &mut Work) -> Result<u32, Stop>
         ensures ends { IfOk result (λ n. Ends (state_of self.old) n (state_of self.new)) }

@@ -1,5 +1,5 @@
-//! The count of values that each opcode takes from the stack at once, before points or pairs in turn. Apple
-//! TrueType Reference Manual, "Instruction set".
+//! The count of values that each opcode takes from the stack at once, before points or pairs in turn. Apple TrueType
+//! Reference Manual, "Instruction set".
 
 ghost use Rattle.std.specs.Prelude.{◌≡◌, ◌≤◌};
 ghost use Rattle.tt_exec.specs.Opcodes as table;

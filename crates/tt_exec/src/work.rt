@@ -1,11 +1,11 @@
-//! The work of a job, if it has a limit (profile).
+//! The work budget of a job (profile).
 
 ghost use Rattle.std.specs.Prelude.{◌≡◌};
 
 use crate::fault::ExecFault;
 use tt_core::{Fault, FontFault};
 
-/// The remaining work of a job; None without a limit.
+/// The remaining work of a job; None without a budget.
 #[derive(Clone, Copy, Debug, PartialEq, Eq)]
 pub struct Work {
     pub left: Option<u64>,
@@ -25,10 +25,10 @@ impl Work {
     }
 }
 
-/// The reason why a run with a limit of work has no result.
+/// The reason why a run within a budget has no result.
 #[derive(Clone, Copy, Debug, PartialEq, Eq)]
 pub enum WorkFault {
-    /// A fault that a run has without a limit too.
+    /// A fault that the run has without a budget too.
     Run(ExecFault),
     /// An instruction needs more work than remains: StepLimit there.
     Spent(Fault),
