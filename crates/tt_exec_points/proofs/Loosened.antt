@@ -1,4 +1,4 @@
--- For an instruction on points, a tolerant machine gives the result of a strict one, unless that is a refusal that
+-- A tolerant machine gives the result of a strict one for an instruction on points, unless that is a refusal that
 -- tolerance lifts.
 use Rattle.std.proofs.Common.{◌≡◌, ℕ, zero, suc, nat_lt, ℤ, pos, negsuc, int_lt, unsigned_abs, slice_get, Bool, true, false, ◌||◌, not, is_ok, if◌then◌else◌, List, [], ◌∷◌, length, take, drop, reverse, Option, Some, None, Result, Ok, Err, ap, refl, arith}
 use Rattle.std.proofs.lemmas.List.{length-reverse}

@@ -1,4 +1,4 @@
--- An instruction on points that succeeds without the whole instruction set gives the same result with it.
+-- The whole instruction set changes no result of an instruction on points, except for the refusals of the profile.
 use Rattle.std.proofs.Common.{◌≡◌, ℕ, ℤ, pos, Bool, true, false, ◌&&◌, if◌then◌else◌, List, [], ◌∷◌, Result, Ok, refl}
 use Rattle.tt_core.specs.declared.fault.Why.{Why}
 use Rattle.tt_state.specs.Tolerance.{is_tolerant, unless_missing}

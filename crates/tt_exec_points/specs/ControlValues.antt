@@ -35,7 +35,7 @@ change_pair t range ppem g pair cvt = delta_of t range pair.0 ppem g >>= λ d. c
 abbrev pub change : Tolerance → DeltaRange → ℕ → GraphicsState → ℤ × ℤ → List ℤ → Result (List ℤ) Why
 change t range ppem g pair cvt = unless_missing t cvt (change_pair t range ppem g pair cvt)
 
--- each pair in turn; a refusal of a later one keeps the earlier ones
+-- each pair in turn; the earlier ones are done before a later one is refused
 abbrev pub changes : Tolerance → DeltaRange → ℕ → GraphicsState → List (ℤ × ℤ) → List ℤ → Result (List ℤ) Why
 changes t range ppem g pairs cvt = one_by_one (change t range ppem g) pairs cvt
 

@@ -1,6 +1,6 @@
 -- Apple TrueType Reference Manual, "Instruction set": the instructions that move or measure points, and those that
--- change control values by exceptions, with the stack, which has its top first. Their effects on points are in
--- tt_points, tt_points_loops and tt_points_iup, by the same names.
+-- change control values by exceptions. The stack has its top first. The effects on points are in tt_points,
+-- tt_points_loops and tt_points_iup, by the same names.
 use Rattle.std.specs.Prelude.{◌≡◌, ℕ, ℤ, pos, negsuc, Bool, true, false, ◌&&◌, if◌then◌else◌, List, [], ◌∷◌, length, get_or, Result, Ok, Err, refl}
 use Rattle.std.specs.Ordering.{int_eq}
 use Rattle.tt_core.specs.Outcomes.{◌>>=◌}

@@ -1,5 +1,5 @@
--- Apple TrueType Reference Manual, "Instructing TrueType Glyphs": the stack before and after an instruction on
--- points. The stack has its top first.
+-- Apple TrueType Reference Manual, "Instructing TrueType Glyphs": the stack before and after an instruction on points.
+-- The stack has its top first.
 use Rattle.std.specs.Prelude.{◌≡◌, ℕ, ◌*◌, ◌/◌, nat_lt, Bool, ◌&&◌, ◌||◌, not, length, ℤ, pos, negsuc, int_lt, unsigned_abs, if◌then◌else◌, List, [], ◌∷◌, drop, Result, Ok, Err, refl}
 use Rattle.tt_core.specs.Outcomes.{◌>>=◌}
 use Rattle.tt_core.specs.declared.fault.Why.{Why}
@@ -35,8 +35,8 @@ nothing_looped s z g = (s, z, set_back g)
 abbrev pub too_little : Bool → List ℤ → GraphicsState → Bool
 too_little referred s g = not referred || nat_lt (length s) g.loops
 
--- an instruction applied to points from the stack, with or without its reference point; a tolerant machine takes
--- no point if something is missing (profile)
+-- an instruction applied to points from the stack, with or without its reference point; a tolerant machine takes no
+-- point if something is missing (profile)
 abbrev pub looped : Tolerance → Bool → List ℤ → ZoneLists → GraphicsState
     → (List ℤ → Result (ZoneLists × GraphicsState) Why) → Left
 looped t referred s z g change =

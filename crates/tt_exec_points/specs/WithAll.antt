@@ -1,5 +1,5 @@
--- No part of the standard: an instruction on points that succeeds without the whole instruction set gives the same
--- result with it.
+-- No part of the standard: the whole instruction set changes no result of an instruction on points, except for the
+-- refusals of the profile.
 use Rattle.std.specs.Prelude.{ℕ, ℤ, List}
 use Rattle.tt_state.specs.declared.graphics_state.GraphicsState.{GraphicsState}
 use Rattle.tt_state.specs.declared.tolerance.Tolerance.{Tolerance}

@@ -88,7 +88,8 @@ fn change_all(
     Ok(())
 }
 
-/// DELTAC1[] to DELTAC3[], 0x73 to 0x75: n pairs of an argument and a control value's number, n -> nothing.
+/// DELTAC1[] to DELTAC3[], 0x73 to 0x75: n pairs of an argument and a control value's number, n -> nothing. Errors:
+/// BadArgument, CvtRange, ValueRange.
 pub(crate) fn deltac(
     tolerance: Tolerance,
     range: DeltaRange,

@@ -1,8 +1,7 @@
-//! The instructions on points, and those that change control values by exceptions, with the interpreter's stack.
-//! Their effects on points are in tt_points, tt_points_loops and tt_points_iup, by the same names. If something is
-//! missing, a tolerant machine pops the values of an instruction and does nothing else. But MIAP, MDRP and MIRP
-//! then still set the reference points, and GC and MD measure 0 (profile). Apple TrueType Reference Manual,
-//! "Instruction set".
+//! The instructions on points, and those that change control values by exceptions, with the interpreter's stack. Their
+//! effects on points are in tt_points, tt_points_loops and tt_points_iup, by the same names. If something is missing, a
+//! tolerant machine pops the values of an instruction and does nothing else. But MIAP, MDRP and MIRP then still set the
+//! reference points, and GC and MD measure 0 (profile). Apple TrueType Reference Manual, "Instruction set".
 
 ghost use Rattle.std.specs.Prelude.{◌≡◌, ◌≤◌, length, unsigned_abs, IfErr, IfOk};
 ghost use Rattle.tt_core.specs.Outcomes.{Gives};
@@ -68,8 +67,8 @@ macro_rules! unless_missing {
     };
 }
 
-/// Applies a change to the points whose numbers are on the stack. The loop variable is their count. A tolerant
-/// machine takes no point if the reference point or one of them is missing from zone or stack. Error: StackShort.
+/// Applies a change to the points whose numbers are on the stack. The loop variable is their count. A tolerant machine
+/// takes no point if the reference point is missing or the stack has fewer. Error: StackShort.
 macro_rules! looped {
     ($tolerance:ident, $referred:expr, $stack:ident, $graphics:ident, $numbers:ident => $change:expr) => {{
         if $tolerance.is_tolerant() && does_nothing($referred, $stack, $graphics) {
@@ -316,7 +315,7 @@ impl Points {
         stack.push(i64::from(measured?))
     }
 
-    /// ALIGNRP[], 0x3C: loop points -> nothing.
+    /// ALIGNRP[], 0x3C: loop points -> nothing. Errors: PointRange, Perpendicular, ValueRange.
     pub(crate) fn alignrp(
         &mut self,
         tolerance: Tolerance,
@@ -330,7 +329,7 @@ impl Points {
             alignrp(&mut self.zones, graphics, tolerance, numbers))
     }
 
-    /// IP[], 0x39: loop points -> nothing.
+    /// IP[], 0x39: loop points -> nothing. Errors: PointRange, Perpendicular, ValueRange.
     pub(crate) fn ip(
         &mut self,
         tolerance: Tolerance,
@@ -355,7 +354,7 @@ impl Points {
         )
     }
 
-    /// SHP[a], 0x32 and 0x33: loop points -> nothing.
+    /// SHP[a], 0x32 and 0x33: loop points -> nothing. Errors: PointRange, Perpendicular, ValueRange.
     pub(crate) fn shp(
         &mut self,
         tolerance: Tolerance,
@@ -370,7 +369,7 @@ impl Points {
             shp(&mut self.zones, graphics, tolerance, which, numbers))
     }
 
-    /// SHPIX[], 0x38: loop points, amount -> nothing.
+    /// SHPIX[], 0x38: loop points, amount -> nothing. Errors: PointRange, ValueRange.
     pub(crate) fn shpix(
         &mut self,
         tolerance: Tolerance,
@@ -385,7 +384,7 @@ impl Points {
             shpix(&mut self.zones, graphics, tolerance, numbers, amount))
     }
 
-    /// FLIPPT[], 0x80: loop points -> nothing.
+    /// FLIPPT[], 0x80: loop points -> nothing. Error: PointRange.
     pub(crate) fn flippt(
         &mut self,
         tolerance: Tolerance,
@@ -463,6 +462,7 @@ impl Points {
     }
 
     /// DELTAP1[], DELTAP2[] and DELTAP3[], 0x5D, 0x71 and 0x72: n pairs of an argument and a point, n -> nothing.
+    /// Errors: BadArgument, PointRange, Perpendicular, ValueRange.
     pub(crate) fn deltap(
         &mut self,
         tolerance: Tolerance,

@@ -1,5 +1,4 @@
-//! Laws of the instructions on points: what they leave unchanged, the whole instruction set, and the tolerant
-//! machine.
+//! Laws of the instructions on points: what they leave unchanged, the whole instruction set, and the tolerant machine.
 
 ghost use Rattle.std.specs.Prelude.{ℕ, ℤ, List, length, IfOk};
 ghost use Rattle.tt_state.specs.declared.graphics_state.GraphicsState.{GraphicsState};
@@ -11,8 +10,7 @@ ghost use Rattle.tt_exec_points.specs.Laws.{PointsAreLoosened, PointsAreTotal, P
 ghost use Rattle.tt_exec_points.specs.Shapes.{SameSizes};
 ghost use Rattle.tt_exec_points.specs.WithAll.{PointsStay};
 
-/// Lemma: no instruction adds or removes a point or a control value, if the contours are ranges of the glyph's
-/// points.
+/// Lemma: no instruction adds or removes a point or a control value, if the contours are ranges of the glyph's points.
 pub fn sizes_are_kept()
     ensures { (t : Tolerance) (op : PointInstruction) (ppem : ℕ) (s : List ℤ) (z : ZoneLists) (g : GraphicsState)
         (cvt : List ℤ) → AreContours 0 z.contours (length z.glyph)
@@ -23,7 +21,7 @@ pub fn sizes_are_kept()
     tt_points_iup::laws::shape_is_kept();
 }
 
-/// Lemma: an instruction that succeeds without the whole instruction set gives the same result with it.
+/// Lemma: the whole instruction set changes no result, except for the refusals OffProfile and Perpendicular.
 pub fn points_stay()
     ensures { PointsStay }
 {
