@@ -1,5 +1,5 @@
--- Apple TrueType Reference Manual, "Instruction set": arithmetic and mathematical functions. Numbers are in 26.6,
--- so 64 is one pixel. The top of the stack comes first.
+-- Apple TrueType Reference Manual, "Instruction set": arithmetic and mathematical functions. Numbers are in 26.6, so 64
+-- is one pixel. The top of the stack comes first.
 use Rattle.std.specs.Prelude.{◌≡◌, ℕ, ◌+◌, ◌/◌, suc, ℤ, pos, negsuc, neg_ℤ, ◌+ℤ◌, ◌-ℤ◌, ◌*ℤ◌, int_div, unsigned_abs, if◌then◌else◌, List, [], ◌∷◌, Result, Ok, Err, refl}
 use Rattle.std.specs.Int.{int_div_euclid, int_max, int_min}
 use Rattle.std.specs.Ordering.{int_eq}

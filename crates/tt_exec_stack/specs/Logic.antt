@@ -1,5 +1,5 @@
--- Apple TrueType Reference Manual, "Instruction set": logical functions. They push 1 for true and 0 for false; of
--- a popped value, 0 is false and any other is true. The top of the stack comes first.
+-- Apple TrueType Reference Manual, "Instruction set": logical functions. They push 1 for true and 0 for false; of a
+-- popped value, 0 is false and any other is true. The top of the stack comes first.
 use Rattle.std.specs.Prelude.{◌≡◌, ℕ, ℤ, pos, neg_ℤ, int_lt, int_le, Bool, true, false, not, ◌&&◌, ◌||◌, List, [], ◌∷◌, Result, Ok, Err, refl}
 use Rattle.std.specs.Int.{int_div_euclid, int_rem_euclid}
 use Rattle.std.specs.Ordering.{int_eq}

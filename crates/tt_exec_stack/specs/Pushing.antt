@@ -1,5 +1,5 @@
--- Apple TrueType Reference Manual, "Instruction set": pushing data onto the interpreter stack. The top of the
--- stack comes first.
+-- Apple TrueType Reference Manual, "Instruction set": pushing data onto the interpreter stack. The top of the stack
+-- comes first.
 use Rattle.std.specs.Prelude.{◌≡◌, ℕ, ◌+◌, ◌*◌, ℤ, pos, neg_ℤ, List, [], ◌∷◌, Result, Ok, refl}
 use Rattle.tt_core.specs.Numbers.{signed16}
 use Rattle.tt_core.specs.Outcomes.{◌>>=◌}

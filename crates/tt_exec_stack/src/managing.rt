@@ -95,8 +95,7 @@ fn roll(stack: &mut Stack) -> Result<(), Why>
 }
 
 /// Executes an instruction that manages the stack. Errors: StackShort; StackFull; of CINDEX and MINDEX also
-/// BadArgument. On a tolerant machine, CINDEX and MINDEX have StackShort for an empty stack alone, and no
-/// BadArgument.
+/// BadArgument. On a tolerant machine, CINDEX and MINDEX have StackShort for an empty stack alone, and no BadArgument.
 #[inline(always)]
 pub fn manage(op: Managing, tolerance: Tolerance, stack: &mut Stack) -> Result<(), Why>
     ensures { Does (is.managed op tolerance stack.old) stack.new result }

@@ -53,8 +53,8 @@ impl Stack {
         self.items.clear();
     }
 
-    /// Provides the `n` values that an instruction takes. If there are fewer, they are lost, and `n` zeros replace
-    /// them (profile).
+    /// Provides the `n` values that an instruction takes. If there are fewer, they are lost, and `n` zeros replace them
+    /// (profile).
     #[inline(always)]
     pub fn pad(&mut self, n: usize)
         requires { n ≤ stack_limit }
@@ -136,7 +136,7 @@ impl Stack {
         self.items.remove(at)
     }
 
-    /// Pushes a number, for which there is room.
+    /// Pushes a number. There has to be room.
     #[inline(always)]
     pub(crate) fn put(&mut self, value: i32)
         requires { length self.old < stack_limit }
