@@ -1,5 +1,5 @@
--- Laws of the instructions that set or read a program's settings and values (profile): the tolerant machine beside
--- a strict one, and too few values.
+-- Laws of the instructions that set or read a program's settings and values (profile): the tolerant machine beside a
+-- strict one, and too few values.
 use Rattle.std.specs.Prelude.{◌≡◌, ℕ, ◌<◌, ◌≤◌, ℤ, List, length, Err}
 use Rattle.tt_core.specs.declared.scaling.Scale.{Scale}
 use Rattle.tt_core.specs.declared.fault.Why.TheVariants as why

@@ -1,5 +1,5 @@
--- Apple TrueType Reference Manual, "Instruction set": reading data, the size and the engine. The top of the stack
--- comes first.
+-- Apple TrueType Reference Manual, "Instruction set": reading data, the size and the engine. The top of the stack comes
+-- first.
 use Rattle.std.specs.Prelude.{◌≡◌, ℕ, ℤ, pos, neg_ℤ, if◌then◌else◌, List, [], ◌∷◌, Result, Ok, Err, refl}
 use Rattle.std.specs.Int.{int_rem_euclid}
 use Rattle.std.specs.Ordering.{int_eq}

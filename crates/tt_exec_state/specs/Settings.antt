@@ -1,5 +1,4 @@
--- Apple TrueType Reference Manual, "Instruction set": managing the graphics state. The top of the stack comes
--- first.
+-- Apple TrueType Reference Manual, "Instruction set": managing the graphics state. The top of the stack comes first.
 use Rattle.std.specs.Prelude.{◌≡◌, ℕ, ℤ, pos, negsuc, int_lt, unsigned_abs, ◌==◌, nat_le, Bool, true, false, ◌&&◌, ◌||◌, not, if◌then◌else◌, List, [], ◌∷◌, Result, Ok, Err, refl}
 use Rattle.std.specs.Int.{int_rem_euclid}
 use Rattle.tt_core.specs.declared.scaling.Scale.{Scale}
@@ -96,9 +95,9 @@ sds (n ∷ s) g =
     Ok (s, record g { delta_shift = unsigned_abs n })
 sds [] g = Err why.StackShort
 
--- whether scan control is on after SCANCTRL of a number, by the pixels per em and whether it was on before. The
--- low byte is a size, and 255 every size: up to it bit 8 switches on, above it bit 11 switches off. The bits for
--- rotated and stretched glyphs have no effect (profile).
+-- whether scan control is on after SCANCTRL of a number, by the pixels per em and whether it was on before. The low
+-- byte is a size, and 255 every size: up to it bit 8 switches on, above it bit 11 switches off. The bits for rotated
+-- and stretched glyphs have no effect (profile).
 abbrev pub control_by : ℕ → ℤ → ℕ → Bool → Bool
 control_by size v ppem before =
     if size == 255 then true else

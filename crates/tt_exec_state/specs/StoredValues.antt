@@ -1,5 +1,5 @@
--- Apple TrueType Reference Manual, "Instruction set": managing the storage area and the control value table. The
--- top of the stack comes first.
+-- Apple TrueType Reference Manual, "Instruction set": managing the storage area and the control value table. The top of
+-- the stack comes first.
 use Rattle.std.specs.Prelude.{◌≡◌, ℕ, ℤ, pos, int_lt, unsigned_abs, ◌||◌, nat_le, if◌then◌else◌, List, [], ◌∷◌, length, get_or, slice_set, Result, Ok, Err, refl}
 use Rattle.tt_core.specs.Scales.{exact_scale}
 use Rattle.tt_core.specs.declared.scaling.Scale.{Scale}

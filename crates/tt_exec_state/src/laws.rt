@@ -1,5 +1,4 @@
-//! Laws of this crate's instructions: what they leave unchanged, the whole instruction set, and the tolerant
-//! machine.
+//! Laws of this crate's instructions: what they leave unchanged, the whole instruction set, and the tolerant machine.
 
 ghost use Rattle.std.specs.Prelude.{◌≡◌, ℕ, ℤ, List, length, IfOk};
 ghost use Rattle.tt_core.specs.declared.scaling.Scale.{Scale};

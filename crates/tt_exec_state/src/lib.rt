@@ -1,6 +1,6 @@
-//! The instructions that set or read a program's settings and values, and move no point. These are the graphics
-//! state with its vectors, the storage area, the control values, the size and the engine's version. Apple TrueType
-//! Reference Manual, "Instruction set".
+//! The instructions that set or read a program's settings and values, and move no point. These are the graphics state
+//! with its vectors, the storage area, the control values, the size and the engine's version. Apple TrueType Reference
+//! Manual, "Instruction set".
 #![tactic(auto)]
 
 mod instruction;

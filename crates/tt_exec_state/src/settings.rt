@@ -185,8 +185,8 @@ fn sds(stack: &mut Stack, graphics: &mut GraphicsState) -> Result<(), Why>
     Ok(())
 }
 
-/// Whether scan control is on after SCANCTRL of v. The low byte of v is a size: up to it bit 8 switches on, above
-/// it bit 11 switches off. A size of 255 is always on, one of 0 always off.
+/// Whether scan control is on after SCANCTRL of v. The low byte of v is a size: up to it bit 8 switches on, above it
+/// bit 11 switches off. A size of 255 is always on, one of 0 always off.
 fn control_after(v: i32, ppem: u32, before: bool) -> bool
     ensures { result ≡ is.control_after v ppem before }
 {

@@ -80,7 +80,7 @@ fn wcvtp(tolerance: Tolerance, stack: &mut Stack, cvt: &mut [i32]) -> Result<(),
     set_value(tolerance, n, value, cvt, Why::CvtRange)
 }
 
-/// WCVTF[], 0x70: place, value -> nothing; sets the control value to value in font units, scaled. Errors: CvtRange,
+/// WCVTF[], 0x70: place, value -> nothing; sets the control value to `value` font units, scaled. Errors: CvtRange,
 /// ValueRange.
 fn wcvtf(size: Size, tolerance: Tolerance, stack: &mut Stack, cvt: &mut [i32]) -> Result<(), Why>
     ensures { Does (is.wcvtf size.scale tolerance stack.old cvt.old) (stack.new, cvt.new) result }

@@ -62,8 +62,8 @@ fn part(n: i32) -> i32
     if low < 32768 { low } else { low - 65536 }
 }
 
-/// The unit vector in the direction of a pair. Without the whole instruction set, only the pair of an axis, in
-/// 2.14, is allowed. Error: OffProfile, for another pair then.
+/// The unit vector in the direction of a pair. Without the whole instruction set, only the pair of an axis, in 2.14, is
+/// allowed. Error: OffProfile, for another pair then.
 fn vector_given(x: i32, y: i32, whole: bool) -> Result<Vector, Why>
     ensures exact { Gives (λ v. v) result (is.vector_given x y whole) }
 {
@@ -129,8 +129,8 @@ fn sfvtpv(graphics: &mut GraphicsState)
     graphics.free = graphics.proj;
 }
 
-/// Executes an instruction that sets or reads vectors. Errors: StackShort; OffProfile of a vector off the axes
-/// without the whole instruction set; StackFull.
+/// Executes an instruction that sets or reads vectors. Errors: StackShort; OffProfile of a vector off the axes without
+/// the whole instruction set; StackFull.
 #[inline(always)]
 pub fn access_vectors(
     op: Vectors,
