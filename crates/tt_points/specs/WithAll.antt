@@ -1,5 +1,5 @@
--- No part of the standard: the whole instruction set changes no result of an instruction on a single point, or on
--- lines, except for the refusals of the profile.
+-- No part of the standard: the whole instruction set changes no result of an instruction on one point or on lines,
+-- except for the refusals of the profile.
 use Rattle.std.proofs.Common.{ℤ, Bool, refl}
 use Rattle.tt_state.specs.declared.graphics_state.GraphicsState.{GraphicsState}
 use Rattle.tt_points_zones.specs.WithAll.{beside, StaysBeside, by_vectors}
