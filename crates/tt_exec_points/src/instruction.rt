@@ -564,7 +564,7 @@ impl Points {
         unless_missing!(tolerance, alignpts(&mut self.zones, graphics, p1, p2), ())
     }
 
-    /// IUP[a], 0x30 along y and 0x31 along x. Error: ValueRange.
+    /// IUP[a], 0x30 along y and 0x31 along x: -> nothing. Error: ValueRange.
     pub(crate) fn iup(&mut self, axis: Axis) -> Result<(), Why>
         ensures { Gives (λ u. self.new) result (interpolation.iup axis self.old) }
     {
