@@ -100,7 +100,7 @@ fn sloop(stack: &mut Stack, graphics: &mut GraphicsState) -> Result<(), Why>
     Ok(())
 }
 
-/// RTG[], 0x18; RTHG[], 0x19; RTDG[], 0x3D; ROFF[], 0x7A; RUTG[], 0x7C; RDTG[], 0x7D: set the round state.
+/// RTG[], 0x18; RTHG[], 0x19; RTDG[], 0x3D; ROFF[], 0x7A; RUTG[], 0x7C; RDTG[], 0x7D: -> sets the round state.
 fn round_to(round: Round, graphics: &mut GraphicsState)
     ensures { graphics.new ≡ is.round_to round graphics.old }
 {
@@ -158,7 +158,7 @@ fn ssw(size: Size, stack: &mut Stack, graphics: &mut GraphicsState) -> Result<()
     Ok(())
 }
 
-/// FLIPON[], 0x4D, and FLIPOFF[], 0x4E: set auto flip.
+/// FLIPON[], 0x4D, and FLIPOFF[], 0x4E: -> sets auto flip.
 fn flip(on: bool, graphics: &mut GraphicsState)
     ensures { graphics.new ≡ is.flip on graphics.old }
 {
