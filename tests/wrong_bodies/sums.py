@@ -10,7 +10,7 @@ import os
 import shutil
 import subprocess
 
-from texts import bare_lines, without_bodies
+from texts import RT_WORD, bare_lines, bare_text, without_bodies
 
 HEAD = """\
 # The verdicts of tests/wrong_bodies/run: of each crate a sum of what they rest on, how many edits are refused, and how
@@ -72,9 +72,9 @@ def forget():
 
 
 def edit_lines(path):
-    """Returns the lines of an edit that are read; the others are comments."""
+    """Returns the lines of an edit that are read, without comments: an edit may put code where a comment is."""
     lines = path.read_text(encoding="utf-8").split("\n")
-    return [line for line in lines if line.startswith(("file: ", "old: ", "new:"))]
+    return [bare_text(line, RT_WORD) for line in lines if line.startswith(("file: ", "old: ", "new:"))]
 
 
 def sum_of(root, name, toolchain):
