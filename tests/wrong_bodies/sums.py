@@ -74,7 +74,7 @@ def forget():
 def edit_lines(path):
     """Returns the lines of an edit that are read, without comments: an edit may put code where a comment is."""
     lines = path.read_text(encoding="utf-8").split("\n")
-    return [bare_text(line, RT_WORD) for line in lines if line.startswith(("file: ", "old: ", "new:"))]
+    return [bare_text(line, RT_WORD).rstrip() for line in lines if line.startswith(("file: ", "old: ", "new:"))]
 
 
 def sum_of(root, name, toolchain):
