@@ -3,18 +3,18 @@ use Rattle.std.specs.Prelude.{◌≡◌, refl, true, false, ℤ, pos, negsuc, �
 use Rattle.tt_scan.specs.Marks.{covers}
 use Rattle.tt_scan.specs.declared.mark.Span.{Span}
 
--- spans cover columns a and b, and none left of a or right of b
+-- spans cover columns a and b, and no column left of a or right of b
 pub record Reach (ss : List Span) (a b : ℤ) : Type 0 where
   pub first : covers ss a ≡ true
   pub last : covers ss b ≡ true
   pub within : (c : ℤ) → covers ss c ≡ true → (a ≤ℤ c) × (c ≤ℤ b)
 
--- how far spans reach; None where they cover no column
+-- the least and the greatest column that spans cover; None where they cover no column
 abbrev pub AreBounds : List Span → Option (ℤ × ℤ) → Type 0
 AreBounds ss None = (c : ℤ) → covers ss c ≡ false
 AreBounds ss (Some t) = Reach ss t.0 t.1
 
--- worked values: the second span covers nothing, so that these reach from -2 to 7
+-- worked values: the second span covers nothing, and the spans reach from -2 to 7
 span : ℤ → ℤ → Span
 span first last = record { first = first; last = last }
 

@@ -3,7 +3,7 @@ use Rattle.std.specs.Prelude.{◌≡◌, ℕ, ◌≤◌, List, [], ◌∷◌}
 use Rattle.std.specs.List.{slice_range}
 use Rattle.tt_scan.specs.declared.edge.Edge.{Edge}
 
--- the contours of an outline, each of which ends before the edge of a number
+-- the contours of an outline: each ends before the edge of a number in the list
 abbrev pub contours_from : ℕ → List Edge → List ℕ → List (List Edge)
 contours_from from es [] = []
 contours_from from es (end ∷ ends) = slice_range es from end ∷ contours_from end es ends
@@ -11,7 +11,8 @@ contours_from from es (end ∷ ends) = slice_range es from end ∷ contours_from
 abbrev pub contours_at : List Edge → List ℕ → List (List Edge)
 contours_at es ends = contours_from 0 es ends
 
--- such numbers, of so many edges: none is less than the one before it, and the last is the count
+-- the ends of contours among a number of edges: each is no less than the end before it, and the last is the number of
+-- edges
 abbrev pub AreEndsFrom : ℕ → ℕ → List ℕ → Type 0
 AreEndsFrom from count [] = from ≡ count
 AreEndsFrom from count (end ∷ ends) = (from ≤ end) × AreEndsFrom end count ends
@@ -23,7 +24,7 @@ AreEnds count ends = AreEndsFrom 0 count ends
 abbrev pub Meets : Edge → Edge → Type 0
 Meets e f = (e.bx ≡ f.ax) × (e.by ≡ f.ay)
 
--- the edges after one begin each where the one before it ends, and the last ends where a first one begins
+-- a chain of edges: each begins where the edge before it ends, and the last ends where a first edge begins
 abbrev pub GoesRound : Edge → List Edge → Edge → Type 0
 GoesRound e [] first = Meets e first
 GoesRound e (f ∷ es) first = Meets e f × GoesRound f es first

@@ -1,4 +1,4 @@
--- No part of the standard: the edges of a tape, how many crossings of them were asked for, and for how many edges there
+-- No part of the standard: the edges of a tape, the count of their crossings, and the number of edges for which there
 -- is memory.
 use Rattle.std.specs.Prelude.{ℕ, List}
 use Rattle.tt_scan.specs.declared.edge.Edge.{Edge}

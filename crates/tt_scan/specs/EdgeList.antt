@@ -1,5 +1,5 @@
--- No part of the standard: the edges of one glyph while they are made, for how many there is memory, and what is
--- found of their rows.
+-- No part of the standard: the edges of one glyph while they are made, the number for which there is memory, and their
+-- rows.
 use Rattle.std.specs.Prelude.{◌≡◌, refl, ℕ, Bool, false, ◌&&◌, ℤ, pos, negsuc, int_lt, ◌<ℤ◌, ◌-ℤ◌, ◌*ℤ◌, List, [], ◌∷◌, Option, Some, None}
 use Rattle.std.specs.Int.{int_max, int_min}
 use Rattle.tt_scan.specs.declared.edge.Edge.{Edge}
@@ -17,18 +17,18 @@ pub record EdgeList : Type 0 where
 abbrev pub is_in : Gap → ℤ → Bool
 is_in g y = int_lt g.low y && int_lt y g.high
 
--- no centre line of a row lies in a gap, and if anything does, a height does
+-- the gap of a height: no centre line of a row lies in it, and unless it is empty the height does
 pub record IsGapAt (y : ℤ) (g : Gap) : Type 0 where
   pub none : (k : ℤ) → is_in g (pos 8192 *ℤ k -ℤ pos 4096) ≡ false
   pub low : g.low <ℤ g.high → g.low <ℤ y
   pub high : g.low <ℤ g.high → y <ℤ g.high
 
--- of some edges all rows are known, and they stand in a table
+-- all rows of some edges are known, and a table has their entries
 pub record AreEntered (es : List Edge) (f : Frame) (r : ℤ × ℤ) (ms : List Entry) : Type 0 where
   pub rows : AreAllRows es f r
   pub table : IsTableOf es f ms
 
--- the least and the greatest height of the ends of an edge and of others
+-- the least and the greatest height of the ends of an edge and of further edges
 abbrev pub heights_with : Edge → Option (ℤ × ℤ) → ℤ × ℤ
 heights_with e None = (int_min e.ay e.by, int_max e.ay e.by)
 heights_with e (Some t) = (int_min (int_min e.ay e.by) t.0, int_max (int_max e.ay e.by) t.1)

@@ -1,5 +1,5 @@
--- No part of the standard: the edge table of a scan converter. Its entries are the edges that meet some row of the frame,
--- and of these some are walked from row to row.
+-- No part of the standard: the edge table of a scan converter. Its entries are the edges that meet some row of the
+-- frame, and some of these are walked from row to row.
 use Rattle.std.specs.Prelude.{◌≡◌, ◌≢◌, ℕ, ◌<◌, ◌≤◌, Bool, true, false, ℤ, pos, int_lt, ◌<ℤ◌, ◌≤ℤ◌, ◌+ℤ◌, ◌-ℤ◌, unsigned_abs, if◌then◌else◌, List, map, length, get_or, take, sum_by, vec_capacity, All}
 use Rattle.tt_scan.specs.declared.edge.Edge.{Edge}
 use Rattle.tt_scan.specs.declared.edge.Frame.{Frame}
@@ -18,35 +18,35 @@ use Rattle.tt_scan.specs.Winding.{column_x, row_y, is_between, lies_on_one, wind
 abbrev pub meets_row : ℤ → Entry → Bool
 meets_row r m = has_row (m.first, m.past) r
 
--- how many rows an entry has
+-- the number of rows of an entry
 abbrev pub rows_in : Entry → ℕ
 rows_in m = unsigned_abs (m.past -ℤ m.first)
 
--- the edge of an entry, of those of a tape
+-- the edge of an entry, among the edges of a tape
 abbrev pub edge_of : List Edge → Entry → Edge
 edge_of es m = edge_at es m.edge
 
 abbrev pub edges_of : List Edge → List Entry → List Edge
 edges_of es ms = map (λ m. edge_of es m) ms
 
--- the edges that begin below a row stand in order of their first rows
+-- the edges that begin below a row are in order of their first rows
 abbrev pub IsInOrder : List Entry → ℤ → Type 0
 IsInOrder ms row = (i j : ℕ) (d : Entry) → i ≤ j → j < length ms → row <ℤ (get_or ms i d).first
     → (get_or ms i d).first ≤ℤ (get_or ms j d).first
 
--- the first `n` entries stand in order of their first rows
+-- the first `n` entries are in order of their first rows
 abbrev pub IsOrderedTo : List Entry → ℕ → Type 0
 IsOrderedTo ms n = (i j : ℕ) (d : Entry) → i ≤ j → j < n → (get_or ms i d).first ≤ℤ (get_or ms j d).first
 
--- the first `n` stand so, but entry `k` may belong before its place
+-- the first `n` entries are in order, but entry `k` may belong before its place
 abbrev pub IsOrderedBut : List Entry → ℕ → ℕ → Type 0
 IsOrderedBut ms n k = (i j : ℕ) (d : Entry) → i ≤ j → j < n → j ≢ k → (get_or ms i d).first ≤ℤ (get_or ms j d).first
 
--- an edge has rows below its first
+-- 1 where an edge has rows below its first, else 0
 abbrev pub is_long : Entry → ℕ
 is_long m = if int_lt (m.first +ℤ pos 1) m.past then 1 else 0
 
--- what is counted of the entries that go on below a row
+-- an entry's summand where the edge continues below a row, else 0
 abbrev pub if_on : ℤ → (Entry → ℕ) → Entry → ℕ
 if_on row g m = if int_lt (row +ℤ pos 1) m.past then g m else 0
 
@@ -58,7 +58,7 @@ pub record IsWalkAt (es : List Edge) (f : Frame) (row : ℤ) (w : Walk) : Type 0
   pub past : row <ℤ w.entry.past
   pub walk : IsWalk (edge_of es w.entry) f.margin (row_y f row) w
 
--- the edges of the first `begun` entries that go on below a row: each is walked once, whatever is counted of them
+-- the edges of the first `begun` entries that continue below a row: each is walked once, whatever is summed over them
 pub record AreWalked (es : List Edge) (f : Frame) (row : ℤ) (ms : List Entry) (begun : ℕ) (ws : List Walk) : Type 0 where
   pub within : begun ≤ length ms
   pub first : All (λ m. m.first ≤ℤ row) (take begun ms)
@@ -66,7 +66,7 @@ pub record AreWalked (es : List Edge) (f : Frame) (row : ℤ) (ms : List Entry) 
   pub walks : All (IsWalkAt es f row) ws
   pub on : All (λ w. (row +ℤ pos 1) <ℤ w.entry.past) ws
 
--- what the edges of some entries leave of a row
+-- the marks and spans of some entries' edges at the height of a row
 pub record AreLeft (es : List Edge) (margin : ℕ) (y : ℤ) (ms : List Entry) (left : List Mark) (spans : List Span) : Type 0 where
   pub black : (c : ℤ) → covers spans c ≡ lies_on_one (edges_of es ms) (column_x margin c) y
   pub turn : (c : ℤ) → turns left c ≡ winding (edges_of es ms) (column_x margin c) y
@@ -77,14 +77,14 @@ pub record AreLeft (es : List Edge) (margin : ℕ) (y : ℤ) (ms : List Entry) (
 abbrev pub IsUnmet : Frame → Edge → Type 0
 IsUnmet f e = (row : ℤ) → pos 0 ≤ℤ row → row <ℤ pos f.height → is_between e.ay e.by (row_y f row) ≡ false
 
--- the entries are those of the edges that meet some row, each with its rows: whatever is counted of those edges alone
--- comes to the same over all
+-- the entries of the edges that meet some row, each with its rows: whatever is summed over those edges alone has the
+-- same sum over all edges
 pub record IsTableOf (es : List Edge) (f : Frame) (ms : List Entry) : Type 0 where
   pub numbers : All (λ m. m.edge < length es) ms
   pub rows : All (λ m. AreRows (edge_of es m) f (m.first, m.past)) ms
   pub sums : (g : Edge → ℕ) → ((e : Edge) → IsUnmet f e → g e ≡ 0) → sum_by (λ m. g (edge_of es m)) ms ≡ sum_by g es
 
--- there is memory for the walks of all edges of more rows than one
+-- there is memory for the walks of all edges of more than one row
 pub record HasRoom (t : EdgeTable) : Type 0 where
   pub long : t.long ≡ sum_by is_long t.entries.items
   pub room : t.long ≤ vec_capacity t.walks

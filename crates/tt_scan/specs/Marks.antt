@@ -1,10 +1,10 @@
--- No part of the standard: the marks that the edges of a row leave, and the black columns between them.
+-- No part of the standard: the marks of a row's edges, and the black columns between them.
 use Rattle.std.specs.Prelude.{◌≡◌, refl, ℕ, Bool, true, false, ◌&&◌, ◌||◌, not, int_le, int_lt, if◌then◌else◌, ℤ, pos, negsuc, ◌+ℤ◌, ◌-ℤ◌, ◌≤ℤ◌, List, [], ◌∷◌}
 use Rattle.tt_scan.specs.Winding.{is_zero}
 use Rattle.tt_scan.specs.declared.mark.Mark.{Mark}
 use Rattle.tt_scan.specs.declared.mark.Span.{Span}
 
--- the black columns of a row, and for the marks of how many edges a sweep has memory
+-- the black columns of a row, and the number of edges for whose marks a sweep has memory
 pub record Swept : Type 0 where
   pub spans : List Span
   pub room : ℕ
@@ -14,21 +14,21 @@ abbrev pub covers : List Span → ℤ → Bool
 covers [] c = false
 covers (s ∷ ss) c = (int_le s.first c && int_le c s.last) || covers ss c
 
--- from one of some pens they cover column k
+-- spans cover column k from one of some pens
 abbrev pub covers_from : List Span → List ℕ → ℕ → Bool
 covers_from ss [] k = false
 covers_from ss (pen ∷ pens) k = covers ss (pos k -ℤ pos pen) || covers_from ss pens k
 
--- how an edge turns that left a mark
+-- the turn of the edge that made a mark
 abbrev pub turn_of : Mark → ℤ
 turn_of m = if int_le (pos 0) m.sign then pos 1 else negsuc 0
 
--- what marks add to the winding of a column: the turns of those that stand at it or left of it
+-- the sum of the turns of the marks at a column or left of it
 abbrev pub turns : List Mark → ℤ → ℤ
 turns [] c = pos 0
 turns (m ∷ ms) c = (if int_le m.first c then turn_of m else pos 0) +ℤ turns ms c
 
--- marks in order of their columns, from a column on, and from the first on
+-- marks in order of their columns: from a column on, and from the first mark on
 abbrev pub IsRisingFrom : ℤ → List Mark → Type 0
 IsRisingFrom from [] = Unit {0}
 IsRisingFrom from (m ∷ ms) = (from ≤ℤ m.first) × IsRisingFrom m.first ms
@@ -37,8 +37,8 @@ abbrev pub IsRising : List Mark → Type 0
 IsRising [] = Unit {0}
 IsRising (m ∷ ms) = IsRisingFrom m.first ms
 
--- from a column on, where the sum of the marks passed so far is given: each mark ends a stretch, which is black where
--- the sum isn't 0
+-- a column is black, by the marks that remain from a column on and the sum of the turns before them; each mark ends a
+-- stretch, which is black where the sum isn't 0
 abbrev pub stretches : ℤ → ℤ → List Mark → ℤ → Bool
 stretches from sum [] c = int_le from c && not (is_zero sum)
 stretches from sum (m ∷ ms) c =

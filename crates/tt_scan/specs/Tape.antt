@@ -1,4 +1,4 @@
--- No part of the standard: the edges of one glyph, where its picture stands, and how many crossings were asked for.
+-- No part of the standard: the edges of one glyph, the frame of its picture, and the count of crossings.
 use Rattle.std.specs.Prelude.{ℕ, ℤ, pos, List, get_or}
 use Rattle.tt_scan.specs.declared.edge.Edge.{Edge}
 use Rattle.tt_scan.specs.declared.edge.Frame.{Frame}
@@ -9,7 +9,7 @@ pub record Tape : Type 0 where
   pub edges : List Edge
   pub crosses : ℕ
 
--- edge i; past the last one an edge at 0 stands for none
+-- edge i; past the last edge, an edge at 0
 abbrev pub edge_at : List Edge → ℕ → Edge
 edge_at edges i = get_or edges i (record { ax = pos 0; ay = pos 0; bx = pos 0; by = pos 0 })
 

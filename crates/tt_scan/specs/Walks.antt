@@ -1,4 +1,4 @@
--- No part of the standard: where an edge that rises stands at the centre line of a row, as a column and a rest, and what
+-- No part of the standard: the place of a rising edge at the centre line of a row, as a column and a rest, and what
 -- both lose from row to row.
 use Rattle.std.specs.Prelude.{◌≡◌, ℕ, ◌^◌, ◌<◌, ◌≤◌, ℤ, pos, negsuc, unsigned_abs, ◌+ℤ◌, ◌-ℤ◌, ◌*ℤ◌, ◌≤ℤ◌, ◌<ℤ◌}
 use Rattle.tt_scan.specs.declared.edge.Edge.{Edge}
@@ -6,11 +6,11 @@ use Rattle.tt_scan.specs.declared.quotient.Quotient.{Quotient}
 use Rattle.tt_scan.specs.declared.walk.Walk.{Walk}
 use Rattle.tt_scan.specs.Winding.{column_x}
 
--- a height of 8192 for each 1/8192 pixel of an edge's rise
+-- 8192 times the rise of an edge
 abbrev pub divisor_of : Edge → ℤ
 divisor_of e = pos 8192 *ℤ (e.by -ℤ e.ay)
 
--- how far the edge stands right of the centres of column 0 at a height, as so many parts of the divisor
+-- how far the edge is right of the centres of column 0 at a height, times its rise
 abbrev pub number_at : Edge → ℕ → ℤ → ℤ
 number_at e margin y = (e.bx -ℤ e.ax) *ℤ (y -ℤ e.ay) +ℤ (e.by -ℤ e.ay) *ℤ (e.ax -ℤ column_x margin (pos 0))
 
@@ -26,18 +26,18 @@ pub record IsStep (e : Edge) (q : Quotient) : Type 0 where
   pub low : pos 0 ≤ℤ q.rest
   pub high : q.rest <ℤ divisor_of e
 
--- the same edge from b to a
+-- the edge from b to a
 abbrev pub turned_round : Edge → Edge
 turned_round e = record { ax = e.bx; ay = e.by; bx = e.ax; by = e.ay }
 
--- the quotients that a walk holds: their rests are so many times 8192, and a part that stays
+-- the quotients in a walk: a rest is a multiple of 8192 and a constant part
 abbrev pub at_of : Walk → Quotient
 at_of w = record { whole = w.column; rest = pos 8192 *ℤ w.rest +ℤ w.part }
 
 abbrev pub step_of : Walk → Quotient
 step_of w = record { whole = w.step; rest = pos 8192 *ℤ w.step_rest }
 
--- an edge that rises, followed to a height, and how it turns in the rows below
+-- a rising edge followed to a height, and its turn in the rows below
 pub record IsWalkUp (e : Edge) (margin : ℕ) (y way : ℤ) (w : Walk) : Type 0 where
   pub at : StandsAt e margin y (at_of w)
   pub step : IsStep e (step_of w)
@@ -46,12 +46,12 @@ pub record IsWalkUp (e : Edge) (margin : ℕ) (y way : ℤ) (w : Walk) : Type 0 
   pub part_high : w.part <ℤ pos 8192
   pub turn : w.turn ≡ way
 
--- an edge followed to a height: by itself where it rises, and from its other end where it falls
+-- an edge followed to a height: from its own start where it rises, and from its other end where it falls
 pub record IsWalk (e : Edge) (margin : ℕ) (y : ℤ) (w : Walk) : Type 0 where
   pub rises : e.ay <ℤ e.by → IsWalkUp e margin y (pos 1) w
   pub falls : e.by <ℤ e.ay → IsWalkUp (turned_round e) margin y (negsuc 0) w
 
--- numbers that a row down takes
+-- numbers small enough for a row down
 pub record WalkFits (w : Walk) : Type 0 where
   pub column : unsigned_abs w.column < 2 ^ 20
   pub rest : pos 0 ≤ℤ w.rest

@@ -1,14 +1,13 @@
 -- OpenType, "TrueType Fundamentals", the scan converter's rules 1 and 2; Apple TrueType Reference Manual, "Digitizing
--- Letterform Designs": a point is inside where its winding number is not 0. All numbers here are in 1/8192 pixel, but for
--- the numbers of columns and rows.
+-- Letterform Designs": a point is inside where its winding number is not 0. All numbers here are in 1/8192 pixel,
+-- except the numbers of columns and rows.
 use Rattle.std.specs.Prelude.{◌≡◌, ℕ, ◌+◌, ◌^◌, ◌<◌, ◌≤◌, Bool, true, false, ◌&&◌, ◌||◌, not, if◌then◌else◌, ℤ, pos, negsuc, ◌+ℤ◌, ◌-ℤ◌, ◌*ℤ◌, int_lt, int_le, unsigned_abs, List, [], ◌∷◌, map, refl}
 use Rattle.std.specs.List.{Any, sum_by, range_with_len}
 use Rattle.tt_core.specs.Limits.{width_limit, height_limit, margin_limit}
 use Rattle.tt_scan.specs.declared.edge.Edge.{Edge}
 use Rattle.tt_scan.specs.declared.edge.Frame.{Frame}
 
--- an edge and a frame that the program takes: at most the rows of a picture, and two more on each side, which dropout
--- control asks for
+-- limits on an edge and a frame: at most the rows of a picture, and two more on each side, which dropout control needs
 pub record EdgeFits (e : Edge) : Type 0 where
   pub ax : unsigned_abs e.ax < 2 ^ 30
   pub ay : unsigned_abs e.ay < 2 ^ 30
@@ -23,15 +22,15 @@ pub record FrameFits (f : Frame) : Type 0 where
   pub margin : f.margin ≤ margin_limit
   pub rise : unsigned_abs f.rise < 2 ^ 20
 
--- where the centres of a column stand
+-- the place of the centres of a column
 abbrev pub column_x : ℕ → ℤ → ℤ
 column_x margin column = pos 8192 *ℤ (column -ℤ pos margin) +ℤ pos 4096
 
--- where the centres of a row stand
+-- the height of the centres of a row
 abbrev pub row_y : Frame → ℤ → ℤ
 row_y f row = pos 8192 *ℤ ((f.rise +ℤ pos f.margin) -ℤ row) -ℤ pos 4096
 
--- on which side of the line through an edge a point lies, seen from a to b: below 0 on the right, above 0 on the left
+-- the side of an edge's line on which a point lies, seen from a to b: below 0 on the right, above 0 on the left
 abbrev pub side : Edge → ℤ → ℤ → ℤ
 side e x y = (e.bx -ℤ e.ax) *ℤ (y -ℤ e.ay) -ℤ (e.by -ℤ e.ay) *ℤ (x -ℤ e.ax)
 
@@ -46,19 +45,21 @@ is_between a b z = (int_le a z && int_le z b) || (int_le b z && int_le z a)
 abbrev pub lies_on : Edge → ℤ → ℤ → Bool
 lies_on e x y = is_zero (side e x y) && is_between e.ax e.bx x && is_between e.ay e.by y
 
--- how an edge turns at a height: +1 where it rises through it, -1 where it falls; its lower end counts, its upper does not
+-- the turn of an edge at a height: +1 where it rises through it, -1 where it falls; the lower end counts, the upper
+-- does not
 abbrev pub edge_turn : Edge → ℤ → ℤ
 edge_turn e y =
     if int_le e.ay y && int_lt y e.by then pos 1
     else (if int_le e.by y && int_lt y e.ay then negsuc 0 else pos 0)
 
--- what an edge adds to the winding of a point: its turn at the point's height, where the point lies strictly right of it
+-- what an edge adds to the winding of a point: its turn at the point's height, where the point lies strictly right of
+-- it
 abbrev pub turned : Edge → ℤ → ℤ → ℤ
 turned e x y =
     if int_le e.ay y && int_lt y e.by && int_lt (side e x y) (pos 0) then pos 1
     else (if int_le e.by y && int_lt y e.ay && int_lt (pos 0) (side e x y) then negsuc 0 else pos 0)
 
--- how often the edges go round a point
+-- the number of times that the edges go round a point
 abbrev pub winding : List Edge → ℤ → ℤ → ℤ
 winding [] x y = pos 0
 winding (e ∷ es) x y = turned e x y +ℤ winding es x y
@@ -75,12 +76,12 @@ is_black es x y = lies_on_one es x y || not (is_zero (winding es x y))
 abbrev pub LiesOnSome : List Edge → ℤ → ℤ → Type 0
 LiesOnSome es x y = Any (λ e. lies_on e x y ≡ true) es
 
--- how many edges have a row's centre line in their closed range of heights, their ends included
+-- the number of edges with a row's centre line in their closed range of heights
 abbrev pub rows_met : List Edge → ℤ → ℕ
 rows_met [] y = 0
 rows_met (e ∷ es) y = (if is_between e.ay e.by y then 1 else 0) + rows_met es y
 
--- the crossings that all rows of a picture ask for: in each row every edge that meets it
+-- the crossings that all rows of a picture need: in each row one of every edge that meets it
 abbrev pub crossings_of : Frame → List Edge → ℕ
 crossings_of f es = sum_by (λ row. rows_met es (row_y f (pos row))) (range_with_len 0 f.height)
 
@@ -131,11 +132,11 @@ above_it_meets_none : rows_met square (pos 4) ≡ 0
 unfolding square edge
 above_it_meets_none = refl
 
--- a picture of three rows, whose centre lines stand at 12288, 4096 and -4096
+-- a picture of three rows, whose centre lines are at 12288, 4096 and -4096
 three_rows : Frame
 three_rows = record { width = 2; height = 3; margin = 0; rise = pos 2 }
 
--- the first two rows meet the upright edge, and none the level one, between them
+-- the first two rows meet the upright edge, and no row meets the level one, which is between them
 between_rows_none_is_asked : crossings_of three_rows (edge (pos 0) (pos 0) (pos 0) (pos 16384) ∷ edge (pos 0) (pos 8192) (pos 9) (pos 8192) ∷ []) ≡ 2
 unfolding three_rows edge
 between_rows_none_is_asked = refl

@@ -6,7 +6,7 @@ ghost use Rattle.tt_scan.specs.declared.mark.Span.{Span};
 
 use crate::mark::Span;
 
-/// How far some spans and one more reach, which may cover no column.
+/// The least and the greatest column of some spans and one more, which may be empty; None where all are empty.
 #[inline(always)]
 fn with_span(bounds: Option<(i64, i64)>, span: Span) -> Option<(i64, i64)>
     ensures { (ss : List Span) → AreBounds ss bounds → AreBounds (ss ++ span ∷ []) result }
@@ -20,7 +20,7 @@ fn with_span(bounds: Option<(i64, i64)>, span: Span) -> Option<(i64, i64)>
     }
 }
 
-/// The least and the greatest of the columns that spans cover, both included; None where they cover none.
+/// The least and the greatest column that spans cover, both included; None where they cover no column.
 pub fn bounds_of(spans: &[Span]) -> Option<(i64, i64)>
     ensures { AreBounds spans.now result }
 {

@@ -1,7 +1,6 @@
-//! The edges of a tape, and how many crossings were asked for. What an edge does at a height is told to this crate by
-//! `cross`, `cross_met`, `start` and `cross_below` alone, and each call of these is counted. Its rows are told by
-//! `rows_of`, which says nothing of columns. The edges themselves are lent to dropout control alone, which stands above
-//! this crate.
+//! The edges of a tape, and the count of their crossings. In this crate only `cross`, `cross_met`, `start` and
+//! `cross_below` give an edge's columns at a height, and each call counts. `rows_of` gives an edge's rows and no
+//! columns. Only dropout control, which is above this crate, borrows the edges themselves.
 
 ghost use Rattle.std.specs.Prelude.{◌≡◌, true, ◌+◌, ◌^◌, ◌≢◌, ◌+ℤ◌, pos, ◌<◌, ◌≤◌, length, [], ◌∷◌, ◌++◌, unsigned_abs, IfOk, OnOk};
 ghost use Rattle.tt_core.specs.Limits.{margin_limit};
@@ -19,7 +18,7 @@ use crate::walk::Walk;
 use std::alloc::{AllocError, Global};
 use std::marker::Model;
 
-/// Edges, each of which is crossed by a counted call alone.
+/// Edges that only counted calls cross.
 #[derive(Drop)]
 pub(crate) struct CountedEdges {
     edges: Vec<Edge>,
@@ -36,7 +35,7 @@ impl Model for CountedEdges {
 }
 
 impl CountedEdges {
-    /// No edges, and no crossing yet. It takes no memory yet.
+    /// No edges, and a count of 0. It takes no memory yet.
     pub(crate) fn new(alloc: Global) -> CountedEdges
         ensures edges { result.edges ≡ [] }
         ensures crosses { result.crosses ≡ 0 }
@@ -47,7 +46,7 @@ impl CountedEdges {
         }
     }
 
-    /// Takes memory for so many more edges. The edges stay as they are, whatever the result.
+    /// Takes memory for `more` further edges. The edges are unchanged, whatever the result.
     pub(crate) fn reserve(&mut self, more: usize) -> Result<(), AllocError>
         ensures edges { self.new.edges ≡ self.old.edges }
         ensures crosses { self.new.crosses ≡ self.old.crosses }
@@ -65,7 +64,7 @@ impl CountedEdges {
         self.edges.push_reserved(edge);
     }
 
-    /// The same edges, of which no crossing was asked for yet. Error: memory ran out.
+    /// A copy of the edges, with a count of 0. Error: memory ran out.
     pub(crate) fn copied(&self) -> Result<CountedEdges, AllocError>
         ensures edges { IfOk result (λ e. e.edges ≡ self.now.edges) }
         ensures crosses { IfOk result (λ e. e.crosses ≡ 0) }
@@ -74,7 +73,7 @@ impl CountedEdges {
         Ok(CountedEdges { edges, crosses: 0 })
     }
 
-    /// The same edges for another tape, of which no crossing was asked for yet: the count belongs to the tape that asked.
+    /// These edges for another tape, with a count of 0: the count belongs to the tape.
     pub(crate) fn anew(self) -> CountedEdges
         ensures edges { result.edges ≡ self.edges }
         ensures crosses { result.crosses ≡ 0 }
@@ -108,15 +107,15 @@ impl CountedEdges {
         self.edges[i]
     }
 
-    /// How many crossings were asked for.
+    /// The count of crossings.
     pub(crate) fn crosses(&self) -> u64
         ensures { result ≡ self.now.crosses }
     {
         self.crosses
     }
 
-    /// The first of a frame's rows whose centre line meets edge `i`, its ends included, and one past the last; two equal
-    /// numbers where none does.
+    /// The first of a frame's rows whose centre line meets edge `i`, its ends included, and one past the last; two
+    /// equal numbers where no row does.
     pub(crate) fn rows_of(&self, i: usize, frame: Frame) -> (i32, i32)
         requires within { i < length self.now.edges }
         requires edge { EdgeFits (edge_at self.now.edges i) }
@@ -126,7 +125,7 @@ impl CountedEdges {
         row_range(self.edges[i], frame)
     }
 
-    /// What edge `i` does at a height.
+    /// Crosses edge `i` at a height.
     pub(crate) fn cross(&mut self, i: usize, margin: u32, y: i64) -> Cross
         requires within { i < length self.old.edges }
         requires edge { EdgeFits (edge_at self.old.edges i) }
@@ -140,7 +139,7 @@ impl CountedEdges {
         crossing(self.edges[i], margin, y)
     }
 
-    /// What edge `i` does at a height that it reaches.
+    /// Crosses edge `i` at a height that it reaches.
     #[inline(always)]
     pub(crate) fn cross_met(&mut self, i: usize, margin: u32, y: i64) -> Cross
         requires within { i < length self.old.edges }
@@ -157,7 +156,7 @@ impl CountedEdges {
         crossing_met(self.edges[i], margin, y)
     }
 
-    /// An edge that is to be walked from a height down, and what it does there.
+    /// Starts the walk of an edge at a height that it reaches, and crosses it there.
     #[inline(always)]
     pub(crate) fn start(&mut self, entry: Entry, margin: u32, y: i64) -> (Walk, Cross)
         requires within { entry.edge < length self.old.edges }
@@ -178,7 +177,7 @@ impl CountedEdges {
         Walk::new(edge, entry, margin, y)
     }
 
-    /// What an edge does at a height a row below the one to which it was walked.
+    /// Takes a walk one row down, and crosses its edge there.
     #[inline(always)]
     pub(crate) fn cross_below(&mut self, walk: &mut Walk, margin: u32, y: i64) -> Cross
         requires within { walk.old.entry.edge < length self.old.edges }

@@ -1,4 +1,4 @@
-//! What an edge does at the centre line of a row: here an edge that rises from a to b.
+//! How an edge crosses the centre line of a row: here an edge that rises from a to b.
 //!
 //! ```text
 //! column   0   1   2   3   4
@@ -12,9 +12,9 @@
 //! row 3    .   . a .   .   .    touch None    turn 1  first 2
 //! ```
 //!
-//! `turn` and `first` serve rule 1, a centre inside is black: from column `first` on the centres lie strictly right of
-//! the edge, and it adds `turn` to the winding number there. The lower end counts, the upper does not, so that a joint of
-//! two edges counts once. `touch` serves rule 2, a centre on the contour is black: both ends count.
+//! `turn` and `first` serve rule 1: a centre inside is black. From column `first` on the centres lie strictly right of
+//! the edge, and it adds `turn` to the winding number there. The lower end counts and the upper does not, so that a
+//! joint of two edges counts once. `touch` serves rule 2: a centre on the contour is black. Both ends count.
 
 ghost use Rattle.std.specs.Prelude.{◌≡◌, true, ℕ, ℤ, ◌+◌, ◌^◌, ◌<◌, ◌≤◌, ◌&&◌, pos, int_lt, ◌-ℤ◌, ◌<ℤ◌, ◌≤ℤ◌, unsigned_abs, IfSome};
 ghost use Rattle.tt_core.specs.Limits.{margin_limit};
@@ -29,7 +29,7 @@ use crate::quotient::{PIXEL, Quotient, divided, pixels_between, product};
 /// From a border of a pixel to its centre, in 1/8192 pixel.
 const HALF: i64 = PIXEL / 2;
 
-/// Where the centres of a row stand, in 1/8192 pixel.
+/// The height of the centres of a row, in 1/8192 pixel.
 pub(crate) fn row_height(frame: Frame, row: i64) -> i64
     requires frame { FrameFits frame }
     requires low { pos 0 ≤ℤ row }
@@ -40,7 +40,7 @@ pub(crate) fn row_height(frame: Frame, row: i64) -> i64
     PIXEL * (i64::from(frame.rise) + i64::from(frame.margin) - row) - HALF
 }
 
-/// How far a place stands right of the centres of column 0. Both are in 1/8192 pixel.
+/// How far a place is right of the centres of column 0. Both are in 1/8192 pixel.
 #[inline(always)]
 fn from_centre(x: i32, margin: u32) -> i64
     requires place { unsigned_abs x < 2 ^ 30 }
@@ -51,8 +51,8 @@ fn from_centre(x: i32, margin: u32) -> i64
     i64::from(x) + (PIXEL * i64::from(margin) - HALF)
 }
 
-/// The last column whose centre is not right of a rising edge, at a height between its ends; no rest is left where the
-/// edge stands on that centre.
+/// The last column whose centre is not right of a rising edge, at a height between its ends. The rest is 0 where that
+/// centre lies on the edge.
 #[inline(always)]
 pub(crate) fn standing(edge: Edge, margin: u32, y: i64) -> Quotient
     requires edge { EdgeFits edge }
@@ -71,7 +71,7 @@ pub(crate) fn standing(edge: Edge, margin: u32, y: i64) -> Quotient
     divided(sum, PIXEL * rise)
 }
 
-/// That column as the columns which the edge touches.
+/// The column that an edge touches, by its quotient at that height; None where the rest is not 0.
 #[inline(always)]
 pub(crate) fn touched(at: Quotient) -> Option<(i64, i64)>
     ensures exact { (c : ℤ) → spans result c ≡ (is_zero at.rest && is_zero (at.whole -ℤ c)) }
@@ -84,7 +84,7 @@ pub(crate) fn touched(at: Quotient) -> Option<(i64, i64)>
     }
 }
 
-/// What an edge does at a height that it does not reach.
+/// The crossing at a height that an edge does not reach.
 #[inline(always)]
 fn apart() -> Cross
     ensures touch { result.touch ≡ None }
@@ -98,7 +98,7 @@ fn apart() -> Cross
     }
 }
 
-/// What an edge with a below b does at a height from a to b, where it stands at that height.
+/// The crossing of an edge with a below b, at a height from a to b, by the edge's quotient at that height.
 #[inline(always)]
 pub(crate) fn risen(edge: Edge, y: i64, at: Quotient) -> Cross
     requires edge { EdgeFits edge }
@@ -126,7 +126,7 @@ pub(crate) fn risen(edge: Edge, y: i64, at: Quotient) -> Cross
     }
 }
 
-/// What an edge with a below b does at a height from a to b.
+/// The crossing of an edge with a below b, at a height from a to b.
 #[inline(always)]
 fn rising(edge: Edge, margin: u32, y: i64) -> Cross
     requires edge { EdgeFits edge }
@@ -141,7 +141,7 @@ fn rising(edge: Edge, margin: u32, y: i64) -> Cross
     risen(edge, y, standing(edge, margin, y))
 }
 
-/// What an edge does, told of the same edge from b to a.
+/// The crossing of the edge from b to a, by that of the edge from a to b.
 #[inline(always)]
 pub(crate) fn turned_back(up: Cross) -> Cross
     requires { unsigned_abs up.turn ≤ 1 }
@@ -156,7 +156,8 @@ pub(crate) fn turned_back(up: Cross) -> Cross
     }
 }
 
-/// What an edge with a above b does at a height from b to a: what it does from b to a, but it turns the other way.
+/// The crossing of an edge with a above b, at a height from b to a: that of the edge from b to a, with the turn
+/// reversed.
 #[inline(always)]
 fn falling(edge: Edge, margin: u32, y: i64) -> Cross
     requires edge { EdgeFits edge }
@@ -177,7 +178,7 @@ fn falling(edge: Edge, margin: u32, y: i64) -> Cross
     turned_back(rising(reversed, margin, y))
 }
 
-/// What an edge with a and b at one height does there; they may be one point.
+/// The crossing of an edge with a and b at this height; a and b may be one point.
 #[inline(always)]
 fn flat(edge: Edge, margin: u32, y: i64) -> Cross
     requires edge { EdgeFits edge }
@@ -197,7 +198,7 @@ fn flat(edge: Edge, margin: u32, y: i64) -> Cross
     }
 }
 
-/// What an edge does at a height that it reaches.
+/// The crossing of an edge at a height that it reaches.
 #[inline(always)]
 pub(crate) fn crossing_met(edge: Edge, margin: u32, y: i64) -> Cross
     requires edge { EdgeFits edge }
@@ -232,7 +233,7 @@ fn reaches(edge: Edge, y: i64) -> bool
     is_between(i64::from(edge.ay), i64::from(edge.by), y)
 }
 
-/// What an edge does at a height.
+/// The crossing of an edge at a height.
 pub(crate) fn crossing(edge: Edge, margin: u32, y: i64) -> Cross
     requires edge { EdgeFits edge }
     requires margin { margin ≤ margin_limit }

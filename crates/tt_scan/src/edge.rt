@@ -1,4 +1,4 @@
-//! An edge, the frame of a picture, and what an edge does at the height of a row.
+//! An edge, the frame of a picture, and the crossing of an edge with a row's centre line.
 
 ghost use Rattle.std.specs.Prelude.{◌≡◌, ◌^◌, ◌≤◌, ◌-ℤ◌, unsigned_abs};
 
@@ -12,7 +12,7 @@ pub struct Edge {
 }
 
 impl Edge {
-    /// How far it goes to the right, in 1/8192 pixel.
+    /// How far the edge goes to the right, in 1/8192 pixel.
     #[inline(always)]
     pub fn run(self) -> i64
         ensures exact { result ≡ self.bx -ℤ self.ax }
@@ -21,7 +21,7 @@ impl Edge {
         i64::from(self.bx) - i64::from(self.ax)
     }
 
-    /// How far it rises, in 1/8192 pixel.
+    /// How far the edge rises, in 1/8192 pixel.
     #[inline(always)]
     pub fn rise(self) -> i64
         ensures exact { result ≡ self.by -ℤ self.ay }
@@ -31,8 +31,8 @@ impl Edge {
     }
 }
 
-/// A picture of `width` times `height` pixels, with `margin` pixels round the line; the base line runs
-/// `rise` pixels below the margin's lower border at the top.
+/// A picture of `width` times `height` pixels, with `margin` pixels round the line. The base line runs `rise` pixels
+/// below the margin's lower border at the top.
 #[derive(Clone, Copy, Debug, PartialEq, Eq)]
 pub struct Frame {
     pub width: u32,
@@ -41,7 +41,7 @@ pub struct Frame {
     pub rise: i32,
 }
 
-/// What an edge does at the height of a row's centres. Columns may be negative.
+/// An edge at the height of a row's centres. Columns may be negative.
 #[derive(Clone, Copy, Debug, PartialEq, Eq)]
 pub struct Cross {
     /// The first and the last column whose centre lies on the edge.

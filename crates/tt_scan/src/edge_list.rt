@@ -1,4 +1,4 @@
-//! The edges of one glyph while they are made, before their rows are known: `Tape::of` finds these for all at once.
+//! The edges of one glyph while they are made. Their rows are not known yet: `Tape::of` finds the rows of all at once.
 
 ghost use Rattle.std.specs.Prelude.{◌≡◌, ℤ, false, ◌+◌, ◌^◌, ◌<◌, ◌≤◌, ◌≤ℤ◌, unsigned_abs, length, [], ◌∷◌, ◌++◌, All, IfSome, OnOk};
 ghost use Rattle.tt_scan.specs.Crossing.{spans};
@@ -51,7 +51,7 @@ impl EdgeList {
         }
     }
 
-    /// Takes memory for so many more edges. The edges stay as they are, whatever the result.
+    /// Takes memory for `more` further edges. The edges are unchanged, whatever the result.
     #[inline(always)]
     pub fn reserve(&mut self, more: usize) -> Result<(), AllocError>
         ensures edges { self.new.edges ≡ self.old.edges }
@@ -70,8 +70,8 @@ impl EdgeList {
         self.edges.push_reserved(edge);
     }
 
-    /// The least and the greatest height of the ends of all edges, in 1/8192 pixel; None where there are no edges. At
-    /// heights outside nothing is black.
+    /// The least and the greatest height of the ends of all edges, in 1/8192 pixel; None where there are no edges.
+    /// Nothing is black below the least or above the greatest.
     pub fn heights(&self) -> Option<(i32, i32)>
         ensures exact { result ≡ heights_of self.now.edges }
         ensures blank { (x y : ℤ) → spans result y ≡ false → is_black self.now.edges x y ≡ false }
@@ -87,7 +87,7 @@ impl EdgeList {
         heights
     }
 
-    /// The list of some edges, of which no crossing was asked for on any tape yet.
+    /// The list of some edges, whose count of crossings is 0.
     pub(crate) fn of(edges: CountedEdges) -> EdgeList
         requires fit { All EdgeFits edges.edges }
         requires crosses { edges.crosses ≡ 0 }
@@ -96,7 +96,7 @@ impl EdgeList {
         EdgeList { edges }
     }
 
-    /// The edges, of which no crossing was asked for yet.
+    /// The edges, with a count of crossings of 0.
     #[inline(always)]
     pub(crate) fn into_edges(self) -> CountedEdges
         ensures edges { result.edges ≡ self.edges }

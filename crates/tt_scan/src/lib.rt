@@ -4,17 +4,17 @@
 //! The way of a row, from edges to black pixels:
 //!
 //! ```text
-//! edge_list.rt    the edges while they are made; their rows are found for all at once, by `Tape::of`
+//! edge_list.rt    the edges while they are made; `Tape::of` then finds the rows of all at once
 //! edge_table.rt   the edges that meet the row: those walked from the row above, and those that begin there
-//! counted.rt      each of them is crossed, and each crossing is counted
-//! crossing.rt     what an edge does at the height of the row: the columns that it touches, and where it turns
+//! counted.rt      crosses each of them, and counts the crossings
+//! crossing.rt     an edge at the height of the row: the columns that it touches, and its turn
 //! collect.rt      touched columns are black spans (rule 2), turns are marks
 //! stretch.rt      the marks in order of their columns, and black spans where their sum isn't 0 (rule 1)
-//! paint.rt        the spans in a row of bytes; stamp.rt the same for a narrow glyph, by one word
-//! bounds.rt       how far the spans reach
+//! paint.rt        paints the spans in a row of bytes; stamp.rt paints a narrow glyph by one word
+//! bounds.rt       the least and the greatest black column
 //! ```
 //!
-//! `pixel.rt` asks all edges for one pixel: slow, and the rule itself.
+//! `pixel.rt` computes one pixel from all edges: slow, and the rule itself.
 #![tactic(auto)]
 
 mod bounds;

@@ -1,4 +1,4 @@
-//! What an edge leaves of a row: where it turns, and which columns are black.
+//! The results of an edge in a row: its turn, and its black columns.
 
 ghost use Rattle.std.specs.Prelude.{◌≡◌, ◌≤◌, unsigned_abs};
 ghost use Rattle.tt_scan.specs.Marks.{turn_of};
@@ -9,7 +9,8 @@ use crate::insertion::HasColumn;
 #[derive(Clone, Copy)]
 pub(crate) struct Mark {
     pub(crate) first: i32,
-    /// Not below 0 where the edge rises: it adds 1 to the winding of those centres. Else it falls, and takes 1 away.
+    /// Not below 0 where the edge rises: the edge adds 1 to the winding of those centres. Below 0 where it falls: it
+    /// subtracts 1.
     pub(crate) sign: i32,
 }
 
@@ -21,7 +22,7 @@ impl HasColumn for Mark {
 }
 
 impl Mark {
-    /// How the edge turns.
+    /// The edge's turn.
     #[inline(always)]
     pub(crate) fn turn(self) -> i64
         ensures exact { result ≡ turn_of self }

@@ -7,14 +7,14 @@ ghost use Rattle.tt_scan.specs.Marks.{covers, covers_from};
 use crate::bytes::fill;
 use crate::mark::Span;
 
-/// The columns that a row of bytes shows: so many, from a column on.
+/// The columns that a row of bytes shows: `width` columns, from `low` on.
 #[derive(Clone, Copy)]
 struct Window {
     low: i64,
     width: u32,
 }
 
-/// Of the columns that the window shows the first that is not left of a column; `width` where none is.
+/// The first place of the window whose column is not left of `at`; `width` where there is none.
 fn place(at: i64, window: Window) -> usize
     requires { unsigned_abs window.low < 2 ^ 41 }
     ensures { (k : ℕ) → k < window.width → int_le at (window.low +ℤ pos k) ≡ nat_le result k }
@@ -22,7 +22,7 @@ fn place(at: i64, window: Window) -> usize
     (at.clamp(window.low, window.low + i64::from(window.width)) - window.low) as usize
 }
 
-/// One past the last of them that is not right of a column; 0 where none is.
+/// One past the last place of the window whose column is not right of `at`; 0 where there is none.
 fn past(at: i64, window: Window) -> usize
     requires { unsigned_abs window.low < 2 ^ 41 }
     ensures { (k : ℕ) → k < window.width → int_le (window.low +ℤ pos k) at ≡ nat_lt k result }
@@ -31,7 +31,7 @@ fn past(at: i64, window: Window) -> usize
     (at.clamp(before, before + i64::from(window.width)) - before) as usize
 }
 
-/// Blackens the columns from `from` up to `to`, of those of the row.
+/// Blackens the row's columns from `from` up to `to`.
 fn blacken(row: &mut [u8], width: usize, from: usize, to: usize)
     requires { width ≤ 8 * length row.old }
     ensures bits { (k : ℕ) → bit row.new k ≡ (bit row.old k || (nat_lt k width && (nat_le from k && nat_lt k to))) }
@@ -43,7 +43,7 @@ fn blacken(row: &mut [u8], width: usize, from: usize, to: usize)
     }
 }
 
-/// Blackens the columns of a span, of those that the window shows.
+/// Blackens a span's columns, as far as the window shows them.
 fn paint_span(span: Span, window: Window, row: &mut [u8])
     requires low { unsigned_abs window.low < 2 ^ 41 }
     requires width { window.width ≤ 8 * length row.old }
@@ -74,7 +74,7 @@ pub(crate) fn paint_spans(spans: &[Span], shift: i64, width: u32, row: &mut [u8]
     }
 }
 
-/// The same from each pen.
+/// Blackens the columns of all spans from each pen.
 #[cold]
 #[inline(never)]
 pub(crate) fn paint_spans_at(spans: &[Span], pens: &[u32], width: u32, row: &mut [u8])

@@ -8,8 +8,8 @@ use crate::edge::Cross;
 use crate::tape::Tape;
 
 impl Tape {
-    /// Whether the pixel of a column and a row is black: its centre lies on an edge, or the edges wind
-    /// round it. Only tests call it: the program draws rows by a `Sweep`.
+    /// Whether the pixel of a column and a row is black: its centre lies on an edge, or the edges wind round it. Only
+    /// tests call this function: the program draws rows by a `Sweep`.
     pub fn pixel(&mut self, c: i64, r: i64) -> bool
         requires row_low { pos 0 ≤ℤ r }
         requires row_high { r <ℤ pos self.old.frame.height }
@@ -40,7 +40,7 @@ fn touches(cross: Cross, c: i64) -> bool
     }
 }
 
-/// What the edge adds to the winding of a column's centre.
+/// How much the edge adds to the winding of a column's centre.
 fn turn_before(cross: Cross, c: i64) -> i64
     requires { unsigned_abs cross.turn ≤ 1 }
     ensures small { unsigned_abs result ≤ 1 }

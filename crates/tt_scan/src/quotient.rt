@@ -6,14 +6,14 @@ ghost use Rattle.tt_scan.specs.Crossing.{spans};
 /// A pixel, in 1/8192 pixel.
 pub(crate) const PIXEL: i64 = 8192;
 
-/// How often a divisor goes into a number, and the rest: not negative, and less than the divisor.
+/// The floor of a quotient, and the rest: not negative, and less than the divisor.
 #[derive(Clone, Copy)]
 pub(crate) struct Quotient {
     pub(crate) whole: i64,
     pub(crate) rest: i64,
 }
 
-/// `n / d` without its fraction, and what is left of `n`, with its sign.
+/// `n / d` rounded toward 0, and the rest, with the sign of `n`.
 #[inline(always)]
 fn truncated(n: i64, d: i64) -> Quotient
     requires divisor { pos 2 ≤ℤ d }
@@ -27,7 +27,7 @@ fn truncated(n: i64, d: i64) -> Quotient
     }
 }
 
-/// The floor of `n / d`, and what is left of `n`.
+/// The floor of `n / d`, and the rest.
 #[inline(always)]
 pub(crate) fn divided(n: i64, d: i64) -> Quotient
     requires divisor { pos 2 ≤ℤ d }
@@ -47,7 +47,7 @@ pub(crate) fn divided(n: i64, d: i64) -> Quotient
     }
 }
 
-/// How many whole pixels there are in `n`, which is in 1/8192 pixel: the floor.
+/// The whole pixels in `n`, which is in 1/8192 pixel: the floor.
 #[inline(always)]
 pub(crate) fn whole_pixels(n: i64) -> i64
     ensures low { (pos 8192 *ℤ result) ≤ℤ n }
@@ -56,7 +56,7 @@ pub(crate) fn whole_pixels(n: i64) -> i64
     n >> 13
 }
 
-/// `a * b`, told as a product of whole numbers.
+/// `a * b`, with a contract that names the product of integers.
 #[inline(always)]
 pub(crate) fn product(a: i64, b: i64) -> i64
     requires left { unsigned_abs a < 2 ^ 31 }
@@ -67,8 +67,8 @@ pub(crate) fn product(a: i64, b: i64) -> i64
     a * b
 }
 
-/// The first and the last of the whole numbers of pixels from `low` to `high`, which are in 1/8192 pixel; None where
-/// there is none.
+/// The first and the last whole number of pixels from `low` to `high`, which are in 1/8192 pixel; None where there is
+/// none.
 #[inline(always)]
 pub(crate) fn pixels_between(low: i64, high: i64) -> Option<(i64, i64)>
     requires low { unsigned_abs low < 2 ^ 36 }

@@ -13,7 +13,7 @@ const LINE: i32 = 8192;
 /// From a centre line to the border of its row.
 const HALF: i32 = LINE / 2;
 
-/// How many rows high `n` is, which is in 1/8192 pixel: the floor.
+/// The whole rows in `n`, which is in 1/8192 pixel: the floor.
 #[inline(always)]
 fn whole_lines(n: i32) -> i32
     ensures low { (pos 8192 *ℤ result) ≤ℤ n }
@@ -22,8 +22,8 @@ fn whole_lines(n: i32) -> i32
     n >> 13
 }
 
-/// The first and the last of the whole numbers of rows from `low` to `high`, which are in 1/8192 pixel; None where
-/// there is none.
+/// The first and the last whole number of rows from `low` to `high`, which are in 1/8192 pixel; None where there is
+/// none.
 #[inline(always)]
 fn lines_between(low: i32, high: i32) -> Option<(i32, i32)>
     requires low { unsigned_abs low < 2 ^ 30 + 2 ^ 13 }
@@ -41,7 +41,7 @@ fn lines_between(low: i32, high: i32) -> Option<(i32, i32)>
     }
 }
 
-/// Of the rows from `first` to `last` those of a frame of so many rows: the first of them, and one past the last.
+/// The rows from `first` to `last` that a frame of `height` rows has: the first of them, and one past the last.
 #[inline(always)]
 fn within(first: i32, last: i32, height: i32) -> (i32, i32)
     requires first { unsigned_abs first < 2 ^ 25 }
@@ -60,8 +60,8 @@ fn within(first: i32, last: i32, height: i32) -> (i32, i32)
     (from, (last + 1).clamp(from, height))
 }
 
-/// The centre lines that meet an edge, from the lowest to the highest: line k runs half a pixel below k pixels over the
-/// base line. None where the edge lies between two of them.
+/// The lowest and the highest centre line that meet an edge. Line k runs half a pixel above the height of k pixels over
+/// the base line. None where the edge lies between two lines.
 #[inline(always)]
 fn lines_met(edge: Edge) -> Option<(i32, i32)>
     requires { EdgeFits edge }
@@ -72,14 +72,14 @@ fn lines_met(edge: Edge) -> Option<(i32, i32)>
     lines_between(edge.ay.min(edge.by) + HALF, edge.ay.max(edge.by) + HALF)
 }
 
-/// The centre lines of two rows, one above the other, or twice the same: no other stands between them. In 1/8192 pixel.
+/// Two neighbouring centre lines, or one centre line twice. In 1/8192 pixel.
 #[derive(Clone, Copy)]
 pub(crate) struct Gap {
     pub(crate) low: i32,
     pub(crate) high: i32,
 }
 
-/// The gap in which a height lies; nothing lies in it where the height is that of a centre line.
+/// The gap in which a height lies; an empty gap where the height is that of a centre line.
 #[inline(always)]
 pub(crate) fn gap_at(y: i32) -> Gap
     requires { unsigned_abs y < 2 ^ 30 }
@@ -92,7 +92,7 @@ pub(crate) fn gap_at(y: i32) -> Gap
     }
 }
 
-/// The gap in which height `y` lies. That of height `at` is known: edges follow on each other.
+/// The gap in which height `y` lies. The gap of height `at` is given, because one edge often follows on another.
 #[inline(always)]
 pub(crate) fn gap_from(gap: Gap, at: i32, y: i32) -> Gap
     requires gap { IsGapAt at gap }
@@ -121,7 +121,7 @@ fn top_line(frame: Frame) -> i32
 }
 
 /// The first of the frame's rows whose centre line meets the edge, its ends included, and one past the last; two equal
-/// numbers where none does.
+/// numbers where no row does.
 #[inline(always)]
 pub(crate) fn row_range(edge: Edge, frame: Frame) -> (i32, i32)
     requires edge { EdgeFits edge }
@@ -138,7 +138,7 @@ pub(crate) fn row_range(edge: Edge, frame: Frame) -> (i32, i32)
     }
 }
 
-/// The same rows, as they are told outside.
+/// A range of rows in the wider type of public calls.
 #[inline(always)]
 pub(crate) fn widened(rows: (i32, i32)) -> (i64, i64)
     ensures { result ≡ rows }
@@ -146,7 +146,8 @@ pub(crate) fn widened(rows: (i32, i32)) -> (i64, i64)
     (i64::from(rows.0), i64::from(rows.1))
 }
 
-/// Adds a range of rows: all are then those from the first to the last of both, where an empty one counts for nothing.
+/// Adds a range of rows to `all`, which becomes the rows from the first to the last of both. An empty range adds
+/// nothing.
 #[inline(always)]
 pub(crate) fn join(all: &mut (i32, i32), more: (i32, i32))
     ensures left { (row : ℤ) → has_row all.old row ≡ true → has_row all.new row ≡ true }
@@ -163,7 +164,7 @@ pub(crate) fn join(all: &mut (i32, i32), more: (i32, i32))
     }
 }
 
-/// The rows from the first to the last of two ranges of rows, where an empty one counts for nothing.
+/// The rows from the first to the last of two ranges of rows. An empty range adds nothing.
 #[inline(always)]
 fn joined(all: (i32, i32), more: (i32, i32)) -> (i32, i32)
     ensures left { (row : ℤ) → has_row all row ≡ true → has_row result row ≡ true }

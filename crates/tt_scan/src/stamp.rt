@@ -1,4 +1,4 @@
-//! The black columns of a narrow row as one word, which is painted at a place by eight bytes.
+//! The black columns of a narrow row as one word, which is painted by eight bytes at once.
 
 ghost use Rattle.std.specs.Prelude.{◌≡◌, ℕ, ℤ, ◌+◌, ◌-◌, ◌*◌, ◌/◌, ◌%◌, ◌^◌, ◌<◌, ◌≤◌, ◌+ℤ◌, ◌-ℤ◌, ◌<ℤ◌, ◌≤ℤ◌, ◌&&◌, ◌||◌, ◌==◌, true, false, nat_le, nat_lt, int_le, pos, [], ◌∷◌, length, take, slice_index, unsigned_abs, IfSome};
 ghost use Rattle.std.specs.Int.{bit_at};
@@ -10,7 +10,7 @@ ghost use Rattle.tt_scan.specs.declared.stamp.Stamp.{Stamp};
 use crate::mark::Span;
 use crate::paint::{paint_spans, paint_spans_at};
 
-/// So many columns from `low` on, at most 57: a bit for each, from the highest on.
+/// `columns` columns from `low` on, at most 57: a bit for each, from the highest bit on.
 #[derive(Clone, Copy)]
 pub(crate) struct Stamp {
     pub(crate) low: i64,
@@ -37,7 +37,7 @@ fn word_byte(word: u64, by: usize) -> u8
     ((word >> by) % 256) as u8
 }
 
-/// Blackens the columns of one byte that a mask has.
+/// Blackens the columns of one byte that a mask sets.
 #[inline(always)]
 fn or_byte(row: &mut [u8], byte: usize, mask: u8)
     requires { byte < length row.old }
@@ -47,7 +47,7 @@ fn or_byte(row: &mut [u8], byte: usize, mask: u8)
     row[byte] |= mask;
 }
 
-/// The columns of a word, which has so many, blackened byte by byte, the first of them at column `at` of the row.
+/// Blackens the columns of a word byte by byte, the first of them at column `at` of the row.
 #[cold]
 #[inline(never)]
 fn or_bytes(row: &mut [u8], at: usize, columns: u32, word: u64)
@@ -64,7 +64,7 @@ fn or_bytes(row: &mut [u8], at: usize, columns: u32, word: u64)
     }
 }
 
-/// Eight bytes of a row from `start` on as one number, the first of them the lowest.
+/// Eight bytes of a row from `start` on as one number, the first byte the lowest.
 fn read_eight(row: &[u8], start: usize) -> u64
     requires { start + 8 ≤ length row.now }
     ensures { (i : ℕ) → i < 8 → (b : ℕ) → b < 8 → bit_at result (8 * i + b) ≡ bit_at (slice_index row.now (start + i)) b }
@@ -72,7 +72,7 @@ fn read_eight(row: &[u8], start: usize) -> u64
     u64::from_le_bytes(*row[start..start + 8].as_array::<8>().unwrap())
 }
 
-/// Writes such a number in the place of eight bytes of a row.
+/// Writes a number in the place of eight bytes of a row, the lowest byte first.
 fn write_eight(row: &mut [u8], start: usize, eight: u64)
     requires { start + 8 ≤ length row.old }
     ensures within { (i : ℕ) → i < 8 → (b : ℕ) → b < 8 → bit_at (slice_index row.new (start + i)) b ≡ bit_at eight (8 * i + b) }
@@ -95,7 +95,7 @@ fn or_eight(row: &mut [u8], start: usize, word: u64)
     write_eight(row, start, old | word.swap_bytes());
 }
 
-/// Blackens the columns of a word, which has so many, the first of them at column `at` of the row.
+/// Blackens the columns of a word, the first of them at column `at` of the row.
 #[inline(always)]
 fn or_word(row: &mut [u8], at: usize, columns: u32, word: u64)
     requires narrow { columns ≤ 57 }
@@ -107,13 +107,14 @@ fn or_word(row: &mut [u8], at: usize, columns: u32, word: u64)
     if row.len() < 8 {
         or_bytes(row, at, columns, word);
     } else {
-        // The last eight bytes of the row hold what eight from the word's own byte on would pass.
+        // Near the row's end the last eight bytes hold the word, since eight bytes from the word's own byte would pass
+        // the end.
         let start = (at / 8).min(row.len() - 8);
         or_eight(row, start, word >> ((at - 8 * start) % 64));
     }
 }
 
-/// The same in a row that has eight bytes from the word's own byte on.
+/// Blackens the columns of a word, where the row has eight bytes from the word's own byte on.
 #[inline(always)]
 fn or_inside(row: &mut [u8], at: usize, columns: u32, word: u64)
     requires narrow { columns ≤ 57 }
@@ -126,7 +127,7 @@ fn or_inside(row: &mut [u8], at: usize, columns: u32, word: u64)
     or_eight(row, at / 8, word >> (at % 8));
 }
 
-/// A span's columns added to a stamp, where it has room for them.
+/// A stamp with a span's columns added; None where the stamp has no room for them.
 #[inline(always)]
 fn with_span(stamp: Stamp, span: Span) -> Option<Stamp>
     requires low { unsigned_abs stamp.low ≤ 2 ^ 40 }
@@ -150,8 +151,8 @@ fn with_span(stamp: Stamp, span: Span) -> Option<Stamp>
     })
 }
 
-/// The first column of the first span or of the last, if it isn't far off. Mostly no span begins left of it: stretches
-/// stand in order, and few columns are touched.
+/// The lesser first column of the first span and the last, if it isn't far off. Mostly no span begins left of it,
+/// because stretches are in order and few columns are touched.
 #[inline(always)]
 fn lowest(spans: &[Span]) -> i64
     ensures small { unsigned_abs result ≤ 2 ^ 40 }
@@ -165,7 +166,8 @@ fn lowest(spans: &[Span]) -> i64
         .clamp(-(1 << 40), 1 << 40)
 }
 
-/// Whether the last span ends too far right of a column for a stamp: of stretches in order none ends further right.
+/// Whether the last span ends too far right of `low` for a stamp. Where stretches are in order, no span ends further
+/// right.
 #[inline(always)]
 fn is_far(spans: &[Span], low: i64) -> bool
     requires { unsigned_abs low ≤ 2 ^ 40 }
@@ -173,7 +175,7 @@ fn is_far(spans: &[Span], low: i64) -> bool
     !spans.is_empty() && low + 56 < spans[spans.len() - 1].last
 }
 
-/// The columns of all spans as a stamp, where one has room for them.
+/// The columns of all spans as a stamp; None where a stamp has no room for them.
 pub(crate) fn stamped(spans: &[Span]) -> Option<Stamp>
     ensures { IfSome result (λ s. IsStampOf spans.now s) }
 {
@@ -192,7 +194,7 @@ pub(crate) fn stamped(spans: &[Span]) -> Option<Stamp>
     Some(stamp)
 }
 
-/// Where a stamp's first column lies in a row of so many pixels, if all of its columns lie within it.
+/// The place of a stamp's first column in a row of `width` pixels, if the row has all of the stamp's columns.
 #[inline(always)]
 fn place_of(stamp: Stamp, shift: i64, width: u32) -> Option<usize>
     requires low { unsigned_abs stamp.low ≤ 2 ^ 40 }
@@ -209,8 +211,8 @@ fn place_of(stamp: Stamp, shift: i64, width: u32) -> Option<usize>
     }
 }
 
-/// Before which column of a row of so many pixels a stamp begins whose columns all lie within the row, and eight bytes
-/// from its first one's on.
+/// The first column of a row of `width` pixels that is too far right for a stamp. A stamp that begins before it fits in
+/// the row with all its columns, and the row has eight bytes from the first column's byte on.
 #[inline(always)]
 fn inside(width: u32) -> i64
     ensures low { pos 0 ≤ℤ result }
@@ -219,8 +221,7 @@ fn inside(width: u32) -> i64
     i64::from(width.saturating_sub(63))
 }
 
-/// Blackens the columns of all spans from a pen, where all lie within a row of eight bytes and more; else does nothing.
-/// Returns whether they do.
+/// Blackens the columns of all spans from a pen, if the row has all of them; else does nothing. Returns whether it has.
 #[inline(always)]
 fn paint_fit(
     stamp: Stamp,
@@ -252,7 +253,8 @@ fn paint_fit(
     }
 }
 
-/// Blackens the columns of all spans, moved by `shift` columns to the right: by their stamp, or at a border by themselves.
+/// Blackens the columns of all spans, moved by `shift` columns to the right: by their stamp, or span by span at a
+/// border.
 #[inline(always)]
 pub(crate) fn paint_stamp(stamp: Stamp, spans: &[Span], shift: i64, width: u32, row: &mut [u8])
     requires stamp { IsStampOf spans.now stamp }
@@ -267,8 +269,8 @@ pub(crate) fn paint_stamp(stamp: Stamp, spans: &[Span], shift: i64, width: u32, 
     }
 }
 
-/// Blackens a stamp's columns from one pen after another, up to the first from which some lie outside of the row, or to
-/// the first of all if the row has fewer than eight bytes. Returns from how many.
+/// Paints the stamp at each pen until one does not fit; returns how many were painted. At none, if the row has fewer
+/// than eight bytes.
 #[inline(always)]
 fn paint_fitting(stamp: Stamp, spans: &[Span], pens: &[u32], width: u32, row: &mut [u8]) -> usize
     requires stamp { IsStampOf spans.now stamp }
@@ -289,7 +291,7 @@ fn paint_fitting(stamp: Stamp, spans: &[Span], pens: &[u32], width: u32, row: &m
     pens.len()
 }
 
-/// Blackens the columns of all spans from each pen: moved by so many columns to the right.
+/// Blackens the columns of all spans from each pen, moved to the right by the pen's columns.
 #[inline(always)]
 fn paint_stamps(stamp: Stamp, spans: &[Span], pens: &[u32], width: u32, row: &mut [u8])
     requires stamp { IsStampOf spans.now stamp }
@@ -303,7 +305,7 @@ fn paint_stamps(stamp: Stamp, spans: &[Span], pens: &[u32], width: u32, row: &mu
     }
 }
 
-/// The columns of one span as a stamp, where it has room for them.
+/// The columns of one span as a stamp; None where a stamp has no room for them.
 #[inline(always)]
 fn stamp_of(span: Span) -> Option<Stamp>
     ensures { IfSome result (λ s. IsStampOf (span ∷ []) s) }
@@ -344,7 +346,7 @@ fn paint_each(spans: &[Span], pens: &[u32], width: u32, row: &mut [u8])
     }
 }
 
-/// Blackens the columns of all spans from each pen: by their stamp, or where they have none span by span.
+/// Blackens the columns of all spans from each pen: by their stamp, or span by span where they have no stamp.
 #[inline(always)]
 pub(crate) fn paint_from(
     stamp: Option<Stamp>,
@@ -364,9 +366,9 @@ pub(crate) fn paint_from(
     }
 }
 
-/// Blackens the pixels of the columns that spans cover from each pen of a glyph: moved by as many columns to the right
-/// as the pen says, in a row of so many pixels, the leftmost in the highest bit of the first byte. All other bits stay
-/// as they are. It takes no memory. It is `Sweep::paint_all` of spans that were kept.
+/// Blackens the pixels that spans cover from each pen of a glyph, moved to the right by the pen's columns. The row has
+/// `width` pixels, the leftmost in the highest bit of the first byte. All other bits are unchanged. It takes no memory.
+/// It is `Sweep::paint_all` of spans that a caller stored.
 #[inline(never)]
 pub fn paint_columns(spans: &[Span], pens: &[u32], width: u32, row: &mut [u8])
     requires width { width ≤ 8 * length row.old }

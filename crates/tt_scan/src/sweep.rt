@@ -1,4 +1,4 @@
-//! The sweep of a row: its black columns, cut once from the edges of a tape, then painted wherever the glyph stands.
+//! The sweep of a row: its black columns, cut once from the edges of a tape, then painted wherever the glyph is.
 
 ghost use Rattle.std.specs.Prelude.{◌≡◌, ℕ, ℤ, ◌+◌, ◌-ℤ◌, ◌*◌, ◌^◌, ◌<◌, ◌≤◌, ◌<ℤ◌, ◌≤ℤ◌, ◌&&◌, ◌||◌, nat_lt, pos, [], length, unsigned_abs, IfOk};
 ghost use Rattle.tt_core.specs.Bits.{bit};
@@ -20,7 +20,7 @@ use std::marker::Model;
 pub struct Sweep {
     marks: Vec<Mark>,
     spans: Vec<Span>,
-    /// The same columns as the spans', where they are few.
+    /// The columns of the spans as one word, where they are few.
     stamp: Option<Stamp>,
     room: usize,
 }
@@ -40,7 +40,7 @@ impl Model for Sweep {
 }
 
 impl Sweep {
-    /// A sweep with memory for the rows of a tape with at most so many edges. No column is black yet.
+    /// A sweep with memory for the rows of a tape with at most `most` edges. No column is black yet.
     pub fn new(alloc: Global, most: usize) -> Result<Sweep, AllocError>
         ensures { IfOk result (λ sweep. sweep ≡ record { spans = []; room = most }) }
     {
@@ -53,7 +53,7 @@ impl Sweep {
         })
     }
 
-    /// The black columns of a row, whether its picture shows them or not. It takes no memory: the sweep has it.
+    /// Finds the black columns of a row, inside and outside its picture. It takes no memory: the sweep has it.
     pub fn cut(&mut self, tape: &mut Tape, r: i64)
         requires row_low { pos 0 ≤ℤ r }
         requires row_high { r <ℤ pos tape.old.frame.height }
@@ -63,7 +63,7 @@ impl Sweep {
             ≡ is_black tape.old.edges (column_x tape.old.frame.margin c) (row_y tape.old.frame r) }
         ensures room { self.new.room ≡ self.old.room }
         ensures tape { tape.new ≡ record tape.old { crosses = tape.new.crosses } }
-        // Each edge is crossed once where it meets the row, and else not at all.
+        // Each edge that meets the row is crossed once, and no other edge is.
         ensures crosses { tape.new.crosses ≡ tape.old.crosses + rows_met tape.old.edges (row_y tape.old.frame r) }
     {
         self.marks.clear();
@@ -73,8 +73,8 @@ impl Sweep {
         self.stamp = stamped(&self.spans);
     }
 
-    /// Blackens the pixels of the black columns, moved by `shift` columns to the right, in a row of so many pixels, the
-    /// leftmost in the highest bit of the first byte. All other bits stay as they are.
+    /// Blackens the pixels of the black columns, moved by `shift` columns to the right, in a row of `width` pixels, the
+    /// leftmost in the highest bit of the first byte. All other bits are unchanged.
     pub fn paint(&self, shift: i64, width: u32, row: &mut [u8])
         requires shift { unsigned_abs shift < 2 ^ 40 }
         requires width { width ≤ 8 * length row.old }
@@ -88,8 +88,8 @@ impl Sweep {
         }
     }
 
-    /// Blackens the same from each pen of a glyph: moved by as many columns to the right as the pen says, in a row of
-    /// so many pixels. It takes no memory.
+    /// Blackens the pixels of the black columns from each pen of a glyph, moved to the right by the pen's columns, in a
+    /// row of `width` pixels. It takes no memory.
     #[inline(never)]
     pub fn paint_all(&self, pens: &[u32], width: u32, row: &mut [u8])
         requires width { width ≤ 8 * length row.old }
@@ -100,7 +100,7 @@ impl Sweep {
         paint_from(self.stamp, &self.spans, pens, width, row);
     }
 
-    /// The black columns of the row cut last, in no order; some may be told twice. `paint_columns` paints them.
+    /// The black columns of the row cut last, in no order; some may occur twice. `paint_columns` paints them.
     pub fn spans(&self) -> &[Span]
         ensures exact { result.now ≡ self.now.spans }
         ensures few { length result.now ≤ 2 * self.now.room + 1 }
@@ -108,7 +108,7 @@ impl Sweep {
         &self.spans
     }
 
-    /// The least and the greatest column that is black in the row cut last, both included; None where none is.
+    /// The least and the greatest black column of the row cut last, both included; None where no column is black.
     pub fn bounds(&self) -> Option<(i64, i64)>
         ensures { AreBounds self.now.spans result }
     {

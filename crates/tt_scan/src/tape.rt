@@ -1,4 +1,5 @@
-//! The edges of one glyph, in the frame of its picture. They stand in `counted.rt`, so that each crossing is counted.
+//! The edges of one glyph, in the frame of its picture. They are stored in `counted.rt`, so that each crossing is
+//! counted.
 
 ghost use Rattle.std.specs.Prelude.{◌≡◌, ℕ, ℤ, false, int_lt, if◌then◌else◌, vec_capacity, ◌+◌, ◌*◌, ◌^◌, ◌<◌, ◌≤◌, ◌<ℤ◌, ◌≤ℤ◌, pos, List, length, [], ◌∷◌, ◌++◌, get_or, unsigned_abs, All, IfOk, OnOk, OnErr};
 ghost use Rattle.tt_scan.specs.declared.edge.Edge.{Edge};
@@ -46,8 +47,8 @@ impl Model for Tape {
         × IsReady t.edges.edges t.frame t.table };
 }
 
-/// Adds the entry of an edge with these rows, if it has any. Error: memory ran out, or the number is 2^32 or more, for
-/// which an entry has no room. After an error the entries are as they were.
+/// Adds the entry of an edge with these rows, if it has any. Errors: memory ran out, or the edge's number is 2^32 or
+/// more, for which an entry has no room. After an error the entries are unchanged.
 #[inline(always)]
 fn add_entry(table: &mut EdgeTable, rows: (i32, i32), edge: usize) -> Result<(), AllocError>
     requires low { pos 0 ≤ℤ rows.0 }
@@ -73,7 +74,8 @@ fn add_entry(table: &mut EdgeTable, rows: (i32, i32), edge: usize) -> Result<(),
     })
 }
 
-/// Adds what is found of an edge, whose number is that of the edges before it: its entry, and its rows to those of all.
+/// Adds an edge's entry to the table, and its rows to the rows of all edges. The edge's number is the count of the
+/// edges before it.
 #[inline(always)]
 fn enter(
     table: &mut EdgeTable,
@@ -110,7 +112,7 @@ impl Tape {
         }
     }
 
-    /// Takes memory for so many more edges. The edges stay as they are, whatever the result.
+    /// Takes memory for `more` further edges. The edges are unchanged, whatever the result.
     pub fn reserve(&mut self, more: usize) -> Result<(), AllocError>
         ensures { self.new ≡ self.old }
     {
@@ -119,7 +121,7 @@ impl Tape {
         self.table.reserve(more)
     }
 
-    /// Adds an edge. Error: memory ran out, or there are 2^32 edges before it. After an error the tape is as it was.
+    /// Adds an edge. Error: memory ran out, or there are 2^32 edges before it. After an error the tape is unchanged.
     #[inline(always)]
     pub fn push(&mut self, edge: Edge) -> Result<(), AllocError>
         requires { EdgeFits edge }
@@ -134,7 +136,7 @@ impl Tape {
         Ok(())
     }
 
-    /// The tape of some edges. Those that follow on each other between two rows cost little. Error: memory ran out, or
+    /// The tape of some edges. Edges that follow on each other between two rows cost little. Error: memory ran out, or
     /// there are more than 2^32 edges.
     pub fn of(alloc: Global, frame: Frame, list: EdgeList) -> Result<Tape, AllocError>
         requires { FrameFits frame }
@@ -164,8 +166,8 @@ impl Tape {
         })
     }
 
-    /// The edges given back, for a tape in another frame. What was asked of them on this tape is counted no more: the count
-    /// belongs to the tape. It takes no memory.
+    /// Gives back the edges, for a tape in another frame, with a count of crossings of 0: the count belongs to the
+    /// tape. It takes no memory.
     pub fn into_list(self) -> EdgeList
         ensures { result.edges ≡ self.edges }
     {
@@ -173,7 +175,7 @@ impl Tape {
         EdgeList::of(edges.anew())
     }
 
-    /// The same edges on a tape of its own, of which no crossing was asked for yet. Error: memory ran out.
+    /// A copy of the tape, with a count of crossings of 0. Error: memory ran out.
     pub fn copied(&self) -> Result<Tape, AllocError>
         ensures { IfOk result (λ t. t ≡ record self.now { crosses = 0 }) }
     {
@@ -193,7 +195,7 @@ impl Tape {
         self.frame
     }
 
-    /// How many columns the picture has.
+    /// The picture's width in columns.
     pub fn width(&self) -> u32
         ensures exact { result ≡ self.now.frame.width }
         ensures limit { result ≤ width_limit }
@@ -201,7 +203,7 @@ impl Tape {
         self.frame.width
     }
 
-    /// How many edges there are.
+    /// The number of edges.
     pub fn edges(&self) -> usize
         ensures exact { result ≡ length self.now.edges }
         ensures small { result < 2 ^ 63 }
@@ -209,7 +211,7 @@ impl Tape {
         self.edges.len()
     }
 
-    /// The edges, for dropout control alone: rows are cut by `Sweep::cut`, which counts each crossing.
+    /// The edges, for dropout control alone. Rows are cut by `Sweep::cut`, which counts each crossing.
     pub fn lend(&self) -> &[Edge]
         ensures exact { result.now ≡ self.now.edges }
         ensures fits { All EdgeFits result.now }
@@ -217,17 +219,17 @@ impl Tape {
         self.edges.lend()
     }
 
-    /// How many crossings were asked for. Only tests call it.
+    /// The count of crossings. Only tests call this function.
     pub fn crosses(&self) -> u64
         ensures { result ≡ self.now.crosses }
     {
         self.edges.crosses()
     }
 
-    /// How many crossings the rows of the picture ask for, all together: in each row one of every edge that meets it.
-    /// None is made or counted here, so that this can be told before any row is cut.
+    /// The crossings that all rows of the picture need: in each row one of every edge that meets it. No crossing is
+    /// made or counted here, so a caller can know the number before a row is cut.
     pub fn crossings(&self) -> u64
-        // So that the sum fits.
+        // This bound makes the sum fit.
         requires few { length self.now.edges ≤ 2 ^ 32 }
         ensures exact { result ≡ crossings_of self.now.frame self.now.edges }
         ensures bound { result ≤ (height_limit + 4) * length self.now.edges }
@@ -236,7 +238,7 @@ impl Tape {
     }
 
     /// The first of the frame's rows whose centre line meets some edge, and one past the last; two equal numbers where
-    /// none does. The other rows are blank.
+    /// no row does. The other rows are blank.
     pub fn rows(&self) -> (i64, i64)
         ensures exact { AreAllRows self.now.edges self.now.frame result }
         ensures blank { (r c : ℤ) → pos 0 ≤ℤ r → r <ℤ pos self.now.frame.height → has_row result r ≡ false
@@ -245,8 +247,8 @@ impl Tape {
         widened(self.rows)
     }
 
-    /// The first of the frame's rows whose centre line meets edge `i`, its ends included, and one past the
-    /// last; two equal numbers where none does. Only tests call it: a row finds its edges by the edge table.
+    /// The first of the frame's rows whose centre line meets edge `i`, its ends included, and one past the last; two
+    /// equal numbers where no row does. Only tests call this function: a row finds its edges by the edge table.
     pub fn rows_of(&self, i: usize) -> (i64, i64)
         requires { i < length self.now.edges }
         ensures { AreRows (edge_at self.now.edges i) self.now.frame result }
@@ -254,7 +256,7 @@ impl Tape {
         widened(self.edges.rows_of(i, self.frame))
     }
 
-    /// What edge `i` does at the centre line of a row. Only `pixel` and tests call it.
+    /// Crosses edge `i` at the centre line of a row. Only `pixel` and tests call this function.
     pub fn cross(&mut self, i: usize, row: i64) -> Cross
         requires within { i < length self.old.edges }
         requires row_low { pos 0 ≤ℤ row }
@@ -268,8 +270,8 @@ impl Tape {
             .cross(i, self.frame.margin, row_height(self.frame, row))
     }
 
-    /// What the edges that meet a row leave of it, the marks in order of their columns. Each of them is crossed once, and
-    /// no other.
+    /// Adds the marks of the edges that meet a row, in order of their columns, and the spans that they touch. Each of
+    /// these edges is crossed once, and no other edge is.
     pub(crate) fn collect(&mut self, r: i64, marks: &mut Vec<Mark>, black: &mut Vec<Span>)
         requires row_low { pos 0 ≤ℤ r }
         requires row_high { r <ℤ pos self.old.frame.height }
