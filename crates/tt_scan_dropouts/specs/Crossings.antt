@@ -1,6 +1,6 @@
 -- OpenType, "TrueType Fundamentals", the scan converter: where edges cross the centre lines of rows, and between which
--- pixels. Columns are the rows of an outline with x and y exchanged. In 1/8192 pixel, but for the numbers of lines and
--- gaps. That a crossing is cut to a whole number is profile.
+-- pixels. Columns are the rows of an outline with x and y exchanged. In 1/8192 pixel, except the numbers of lines and
+-- gaps. A crossing is rounded down to a whole number (profile).
 use Rattle.std.specs.Prelude.{◌≡◌, refl, ℕ, ◌+◌, Bool, not, if◌then◌else◌, ◌==◌, ◌&&◌, ◌||◌, ℤ, pos, ◌+ℤ◌, ◌-ℤ◌, ◌*ℤ◌, int_lt, unsigned_abs, List, [], ◌∷◌, map}
 use Rattle.std.specs.List.{range_with_len}
 use Rattle.std.specs.Int.{int_div_euclid, int_rem_euclid}
@@ -8,7 +8,7 @@ use Rattle.std.specs.Ordering.{int_eq}
 use Rattle.tt_scan.specs.declared.edge.Edge.{Edge}
 use Rattle.tt_scan_dropouts.specs.declared.mark.Crossing.{Crossing}
 
--- where line j stands, and centre c of a row
+-- the height of line j, and the place of centre c of a row
 abbrev pub centre : ℤ → ℤ
 centre j = pos 8192 *ℤ j +ℤ pos 4096
 
@@ -27,7 +27,8 @@ agree up other = if up then other else not other
 abbrev pub is_rising : Edge → Bool
 is_rising e = int_lt e.ay e.by
 
--- an edge crosses the lines from its lower end up to its upper: the former counts, the latter does not
+-- the number of lines that an edge crosses, from its lower end up to its upper: the lower end counts, the upper does
+-- not
 abbrev pub lines_crossed : Edge → ℕ
 lines_crossed e = unsigned_abs (line_from e.by -ℤ line_from e.ay)
 
@@ -35,18 +36,18 @@ lines_crossed e = unsigned_abs (line_from e.by -ℤ line_from e.ay)
 abbrev pub line_crossed : Edge → ℕ → ℤ
 line_crossed e k = if is_rising e then line_from e.ay +ℤ pos k else line_from e.ay -ℤ pos (k + 1)
 
--- where an edge stands at a height, cut to a whole number
+-- the place of an edge at a height, rounded down to a whole number
 abbrev pub edge_x : Edge → ℤ → ℤ
 edge_x e y = let u = upward e in u.ax +ℤ int_div_euclid ((u.bx -ℤ u.ax) *ℤ (y -ℤ u.ay)) (u.by -ℤ u.ay)
 
--- the gap from centre c up to the next, and how far from that centre
+-- the gap from centre c up to the next, and the distance from that centre
 abbrev pub gap_at : ℤ → ℤ
 gap_at x = int_div_euclid (x -ℤ pos 4096) (pos 8192)
 
 abbrev pub place_at : ℤ → ℕ
 place_at x = unsigned_abs (int_rem_euclid (x -ℤ pos 4096) (pos 8192))
 
--- a place of a line
+-- the crossing of a line at a place
 abbrev pub crossing_at : Bool → ℤ → ℤ → Crossing
 crossing_at up j x = record { line = j; gap = gap_at x; place = place_at x; up = up }
 

@@ -1,5 +1,5 @@
--- The dropouts of a glyph: first all rows are passed over, then all columns, for which the pixels that the rows added
--- are black (profile).
+-- The dropouts of a glyph: first a pass over all rows, then a pass over all columns. For the second pass the pixels
+-- that the rows added are black (profile).
 use Rattle.std.specs.Prelude.{ℕ, ◌+◌, Bool, ◌||◌, ℤ, pos, List, [], ◌∷◌, map}
 use Rattle.std.specs.List.{flat_map}
 use Rattle.std.specs.Int.{int_max, int_min}
@@ -36,7 +36,7 @@ abbrev pub columns_of : List Edge → Columns
 columns_of [] = record { first = pos 0; last = pos 0 }
 columns_of (e ∷ es) = columns_between (least_x e.ax (e ∷ es)) (greatest_x e.ax (e ∷ es))
 
--- what the pass over an outline's rows adds, where so much is black
+-- the pass over an outline's rows adds a pixel, by the pixels that are black before
 abbrev pub row_adds : Rules → List (List Edge) → (ℤ → ℤ → Bool) → ℤ → ℤ → Bool
 row_adds rules contours black c j =
     is_added rules (columns_of (edges_of contours)) (marks rules.stubs contours) black c j
@@ -48,7 +48,7 @@ is_inked contours c j = is_black (edges_of contours) (centre c) (centre j)
 abbrev pub is_added_by_rows : Rules → List (List Edge) → ℤ → ℤ → Bool
 is_added_by_rows rules contours c j = row_adds rules contours (is_inked contours) c j
 
--- columns: what is black now, with column and row exchanged
+-- the pass over columns adds a pixel; for it the rows' pixels are black, and column and row are exchanged
 abbrev pub is_added_by_columns : Rules → List (List Edge) → ℤ → ℤ → Bool
 is_added_by_columns rules contours c j = row_adds rules (outline_turned contours)
     (λ j c. is_inked contours c j || is_added_by_rows rules contours c j) j c
@@ -58,7 +58,7 @@ is_added_by_columns rules contours c j = row_adds rules (outline_turned contours
 abbrev pub is_dropout : Rules → List (List Edge) → ℤ → ℤ → Bool
 is_dropout rules contours c j = is_added_by_rows rules contours c j || is_added_by_columns rules contours c j
 
--- how many lines of rows and of columns edges cross
+-- the number of lines of rows and of columns that edges cross
 abbrev pub crossed : List Edge → ℕ
 crossed [] = 0
 crossed (e ∷ es) = (lines_crossed e + lines_crossed (turned_round e)) + crossed es

@@ -1,6 +1,6 @@
--- Worked pictures of outlines whose points are in 26.6, so that pixel centres stand at 32, 96, 160 and 224: by the scan
--- types 0, 1, 4 and 5, side by side, from the top row down. `#` is black by rules 1 and 2, `r` is added by the rows and `c`
--- by the columns.
+-- Worked pictures of outlines by the scan types 0, 1, 4 and 5, side by side, from the top row down. Points are in 26.6,
+-- so pixel centres are at 32, 96, 160 and 224. `#` is black by rules 1 and 2, `r` is added by the rows and `c` by the
+-- columns.
 use Rattle.std.specs.Prelude.{◌≡◌, refl, ℕ, ◌*◌, true, false, if◌then◌else◌, pos, List, [], ◌∷◌, ◌++◌, map, codes}
 use Rattle.std.specs.List.{range_with_len}
 use Rattle.tt_scan.specs.declared.edge.Edge.{Edge}
@@ -65,7 +65,7 @@ upright_stem_is_drawn : drawn upright_stem 3 ≡
 unfolding drawn row_by_each row_shown shown texts type_0 type_1 type_4 type_5 polygon path line upright_stem
 upright_stem_is_drawn = refl
 
--- the same nearer the right: now the right one is
+-- a stem nearer the right: the right pixel is taken
 stem_nearer_the_right : List Edge
 stem_nearer_the_right = polygon ((72, 0) ∷ (72, 256) ∷ (88, 256) ∷ (88, 0) ∷ [])
 
@@ -101,7 +101,7 @@ stem_in_the_middle_is_drawn : drawn stem_in_the_middle 3 ≡
 unfolding drawn row_by_each row_shown shown texts type_0 type_1 type_4 type_5 polygon path line stem_in_the_middle
 stem_in_the_middle_is_drawn = refl
 
--- the same, 1/64 pixel further to the right
+-- a stem 1/64 pixel right of the middle
 stem_past_the_middle : List Edge
 stem_past_the_middle = polygon ((16, 0) ∷ (16, 64) ∷ (49, 64) ∷ (49, 256) ∷ (80, 256) ∷ (80, 64) ∷ (160, 64) ∷ (160, 0) ∷ [])
 
@@ -161,7 +161,7 @@ low_tip_is_drawn : drawn low_tip 4 ≡
 unfolding drawn row_by_each row_shown shown texts type_0 type_1 type_4 type_5 polygon path line low_tip
 low_tip_is_drawn = refl
 
--- one that reaches further, but is less than half a pixel wide
+-- a tip that reaches further, but is less than half a pixel wide
 narrow_tip : List Edge
 narrow_tip = polygon ((32, 0) ∷ (32, 96) ∷ (105, 96) ∷ (105, 200) ∷ (133, 200) ∷ (133, 96) ∷ (224, 96) ∷ (224, 0) ∷ [])
 
@@ -173,7 +173,7 @@ narrow_tip_is_drawn : drawn narrow_tip 4 ≡
 unfolding drawn row_by_each row_shown shown texts type_0 type_1 type_4 type_5 polygon path line narrow_tip
 narrow_tip_is_drawn = refl
 
--- and one that is as wide
+-- a tip that reaches further, and is more than half a pixel wide
 wide_tip : List Edge
 wide_tip = polygon ((32, 0) ∷ (32, 96) ∷ (105, 96) ∷ (105, 200) ∷ (150, 200) ∷ (150, 96) ∷ (224, 96) ∷ (224, 0) ∷ [])
 
@@ -233,7 +233,7 @@ dot_on_one_line_is_drawn : drawn dot_on_one_line 3 ≡
 unfolding drawn row_by_each row_shown shown texts type_0 type_1 type_4 type_5 polygon path line dot_on_one_line
 dot_on_one_line_is_drawn = refl
 
--- two stems of which the left one gives way
+-- two stems; the left one gives way
 two_stems : List Edge
 two_stems = polygon ((16, 0) ∷ (16, 64) ∷ (80, 64) ∷ (80, 256) ∷ (92, 256) ∷ (92, 64)
     ∷ (140, 64) ∷ (140, 256) ∷ (156, 256) ∷ (156, 64) ∷ (240, 64) ∷ (240, 0) ∷ [])

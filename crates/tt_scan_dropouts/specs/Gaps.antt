@@ -1,5 +1,5 @@
--- The gaps of a line: which of them ask for a pixel, and which pixel. OpenType, "TrueType Fundamentals", rules 3 and 4
--- and the smart ones. The numbers, the glyph's box and giving way are profile. Places are in 1/8192 pixel.
+-- The gaps of a line: which of them need a pixel, and which pixel. OpenType, "TrueType Fundamentals", rules 3 and 4 and
+-- the smart ones. The numbers, the glyph's box and giving way are profile. Places are in 1/8192 pixel.
 use Rattle.std.specs.Prelude.{◌≡◌, ℕ, ◌+◌, ◌<◌, ◌≤◌, Bool, true, false, not, ◌&&◌, ◌||◌, nat_le, if◌then◌else◌, ℤ, pos, ◌+ℤ◌, ◌-ℤ◌, ◌*ℤ◌, int_le, int_lt, min, get_or, length, List, [], ◌∷◌, Option, Some, None}
 use Rattle.std.specs.List.{filter, slice_range}
 use Rattle.std.specs.Ordering.{int_eq}
@@ -18,18 +18,18 @@ in_gap j c m = int_eq m.at.line j && int_eq m.at.gap c
 abbrev pub gap_marks : List Mark → ℤ → ℤ → List Mark
 gap_marks ms j c = filter (in_gap j c) ms
 
--- some mark of a gap asks
+-- some mark of a gap needs a pixel
 abbrev pub some_asks : List Mark → Bool
 some_asks [] = false
 some_asks (m ∷ ms) = m.asks || some_asks ms
 
--- the least place of the marks of one direction; a whole pixel stands for none
+-- the least place of the marks of one direction; a whole pixel where there is none
 abbrev pub least_place : Bool → List Mark → ℕ
 least_place up [] = 8192
 least_place up (m ∷ ms) = if agree m.at.up up then min m.at.place (least_place up ms) else least_place up ms
 
--- the columns of a glyph's box: those with a centre from the least to the greatest x; where none has, the column nearer
--- to the middle, and the right one where both are as near
+-- the columns of a glyph's box: those with a centre from the least to the greatest x. Where there is none, the column
+-- nearer to the middle, and the right one where both are as near
 abbrev pub columns_between : ℤ → ℤ → Columns
 columns_between low high =
     let first = line_from low in
@@ -38,11 +38,11 @@ columns_between low high =
     else (if int_le (pos 16384 *ℤ first) (low +ℤ high) then record { first = first; last = first }
     else record { first = last; last = last })
 
--- the middle of what lies in a gap is so far right that the right pixel is taken: 65/64 of a pixel, halved
+-- the middle of the marks in a gap is so far right that the right pixel is taken: 65/64 of a pixel, halved
 abbrev pub leans_right : List Mark → Bool
 leans_right ms = nat_le 8320 (least_place true ms + least_place false ms)
 
--- a gap's pixel, not outside the box
+-- a gap's pixel, moved into the box
 abbrev pub boxed : Columns → ℤ → ℤ → ℤ
 boxed b c p = if int_lt p b.first then c +ℤ pos 1 else (if int_lt b.last p then c else p)
 
@@ -53,14 +53,14 @@ pixel_of rules b c ms = boxed b c (if rules.smart && leans_right ms then c +ℤ 
 abbrev pub is_free : (ℤ → ℤ → Bool) → ℤ → ℤ → Bool
 is_free black c j = not (black c j) && not (black (c +ℤ pos 1) j)
 
--- the marks in free gaps: no other counts
+-- the marks in free gaps; no other mark counts
 abbrev pub in_free_gap : (ℤ → ℤ → Bool) → Mark → Bool
 in_free_gap black m = is_free black m.at.gap m.at.line
 
 abbrev pub free_marks : (ℤ → ℤ → Bool) → List Mark → List Mark
 free_marks black ms = filter (in_free_gap black) ms
 
--- what gap c of line j asks for by its marks: nothing where one of its pixels is black
+-- the pixel that gap c of line j needs by its marks; None where one of its pixels is black
 abbrev pub asked_by : Rules → Columns → (ℤ → ℤ → Bool) → ℤ → ℤ → List Mark → Option ℤ
 asked_by rules b black j c here =
     if is_free black c j && some_asks here then Some (pixel_of rules b c here) else None
@@ -72,21 +72,21 @@ abbrev pub is_asked : Option ℤ → ℤ → Bool
 is_asked None p = false
 is_asked (Some q) p = int_eq q p
 
--- gap c of line j adds pixel p: it asks for it, and the gap left of it does not ask for the pixel in common
+-- gap c of line j adds pixel p: it needs the pixel, and the gap left of it does not need the pixel in common
 abbrev pub adds : Rules → Columns → List Mark → (ℤ → ℤ → Bool) → ℤ → ℤ → ℤ → Bool
 adds rules b ms black j c p =
     is_asked (asked rules b ms black j c) p && not (is_asked (asked rules b ms black j (c -ℤ pos 1)) c)
 
--- the same of a gap that asks, where the gap before it that asked last is known
+-- a gap that needs a pixel gives way, by the gap before it that needed one last
 abbrev pub gives_way : Option Wish → Wish → Bool
 gives_way None w = false
 gives_way (Some l) w = int_eq l.line w.line && (int_eq (l.gap +ℤ pos 1) w.gap && int_eq l.pixel w.gap)
 
--- a pass over all gaps adds the pixel of column p and line j, by the gap right of its centre or the one left of it
+-- a pass over all gaps adds the pixel of column p and line j, by the gap right of its centre or the gap left of it
 abbrev pub is_added : Rules → Columns → List Mark → (ℤ → ℤ → Bool) → ℤ → ℤ → Bool
 is_added rules b ms black p j = adds rules b ms black j p p || adds rules b ms black j (p -ℤ pos 1) p
 
--- a pixel is among some
+-- a list has a pixel
 abbrev pub has_pixel : List Pixel → ℤ → ℤ → Bool
 has_pixel [] c j = false
 has_pixel (p ∷ ps) c j = (int_eq p.column c && int_eq p.row j) || has_pixel ps c j
@@ -98,12 +98,12 @@ is_up_to a b = int_lt a.line b.line || (int_eq a.line b.line && int_le a.gap b.g
 abbrev pub IsInOrder : List Mark → Type 0
 IsInOrder ms = (i j : ℕ) (d : Mark) → i ≤ j → j < length ms → is_up_to (get_or ms i d).at (get_or ms j d).at ≡ true
 
--- no mark before one in order lies in its gap
+-- in marks in order, no mark before `start` lies in its gap
 abbrev pub IsFirstInGap : List Mark → ℕ → Type 0
 IsFirstInGap ms start = (i : ℕ) (d : Mark) → i < start
     → in_gap (get_or ms start d).at.line (get_or ms start d).at.gap (get_or ms i d) ≡ false
 
--- the marks from `start` up to `end` are all that lie in the gap of the first of them
+-- the marks from `start` up to `end` are all the marks in the gap of the first of them
 pub record IsGroup (ms : List Mark) (start end : ℕ) : Type 0 where
   pub order : start < end
   pub within : end ≤ length ms

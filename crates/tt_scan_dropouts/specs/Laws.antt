@@ -1,4 +1,4 @@
--- What the definitions come to: dropouts are white without them, and move with their glyph; and a free gap is crossed
+-- Lemmas about the definitions: dropouts are white without them, and move with their glyph; and a free gap is crossed
 -- both ways or not at all.
 use Rattle.std.specs.Prelude.{◌≡◌, refl, Bool, true, false, ◌&&◌, ℤ, pos, ◌+ℤ◌, ◌*ℤ◌, All, List, [], ◌∷◌, map}
 use Rattle.std.specs.List.{list_any}
@@ -17,18 +17,18 @@ abbrev pub AddedByRowsWasWhite : Type 0
 AddedByRowsWasWhite = (rules : Rules) (contours : List (List Edge)) (c j : ℤ)
     → is_added_by_rows rules contours c j ≡ true → is_inked contours c j ≡ false
 
--- one that the columns add is white by them too, and the rows do not add it
+-- a pixel that the columns add is white by rules 1 and 2, and the rows do not add it
 abbrev pub AddedByColumnsWasWhite : Type 0
 AddedByColumnsWasWhite = (rules : Rules) (contours : List (List Edge)) (c j : ℤ)
     → is_added_by_columns rules contours c j ≡ true
     → (is_inked contours c j ≡ false) × (is_added_by_rows rules contours c j ≡ false)
 
--- so a dropout is white by rules 1 and 2
+-- a dropout is white by rules 1 and 2
 abbrev pub DropoutWasWhite : Type 0
 DropoutWasWhite = (rules : Rules) (contours : List (List Edge)) (c j : ℤ)
     → is_dropout rules contours c j ≡ true → is_inked contours c j ≡ false
 
--- edges that stand k pixels further to the right and m further up
+-- an edge moved k pixels to the right and m up
 abbrev pub moved : ℤ → ℤ → Edge → Edge
 moved k m e = record {
   ax = e.ax +ℤ pos 8192 *ℤ k;
@@ -40,7 +40,7 @@ moved k m e = record {
 abbrev pub outline_moved : ℤ → ℤ → List (List Edge) → List (List Edge)
 outline_moved k m contours = map (map (moved k m)) contours
 
--- an outline that stands elsewhere by whole pixels has its dropouts moved by as much
+-- an outline moved by whole pixels has its dropouts moved by as much
 abbrev pub DropoutsMoved : Type 0
 DropoutsMoved = (rules : Rules) (contours : List (List Edge)) (k m c j : ℤ)
     → is_dropout rules (outline_moved k m contours) (c +ℤ k) (j +ℤ m) ≡ is_dropout rules contours c j
@@ -53,16 +53,16 @@ is_through up j c q = int_eq q.line j && int_eq q.gap c && agree q.up up
 abbrev pub goes_through : Bool → ℤ → ℤ → Edge → Bool
 goes_through up j c e = list_any (is_through up j c) (crossings e)
 
--- some edge has
+-- some edge has a crossing through gap c of line j, rising or falling
 abbrev pub crosses_gap : Bool → List Edge → ℤ → ℤ → Bool
 crosses_gap up es j c = list_any (goes_through up j c) es
 
--- some edge rises through a free gap of a row just where one falls through it, whatever the edges
+-- some edge rises through a free gap of a row if and only if one falls through it, whatever the edges
 abbrev pub RowsCrossedBothWays : Type 0
 RowsCrossedBothWays = (es : List Edge) (c j : ℤ) → is_free (λ c j. is_black es (centre c) (centre j)) c j ≡ true
     → crosses_gap true es j c ≡ crosses_gap false es j c
 
--- where all contours are closed, the same holds of a free gap of a column: that above the pixel of column c and row j
+-- where all contours are closed, a free gap of a column has this too: the gap above the pixel of column c and row j
 abbrev pub ColumnsCrossedBothWays : Type 0
 ColumnsCrossedBothWays = (contours : List (List Edge)) (c j : ℤ) → All IsClosed contours
     → is_free (λ j c. is_inked contours c j) j c ≡ true
@@ -96,8 +96,8 @@ no_other_gap_is_crossed : crosses_gap true stem (pos 0) (pos 1) ≡ false
 unfolding stem
 no_other_gap_is_crossed = refl
 
--- a level edge alone, between the centres of rows 0 and 1, is not closed: it goes through a free gap of a column,
--- and none goes back
+-- a level edge alone, between the centres of rows 0 and 1, is not closed: it goes through a free gap of a column, and
+-- no edge goes back
 stroke : List (List Edge)
 stroke = (record { ax = pos 0; ay = pos 8000; bx = pos 8192; by = pos 8000 } ∷ []) ∷ []
 

@@ -15,24 +15,24 @@ column_at f pen c = (pos c -ℤ pos f.margin) -ℤ pos pen
 abbrev pub line_at : Frame → ℕ → ℤ
 line_at f r = ((f.rise +ℤ pos f.margin) -ℤ pos 1) -ℤ pos r
 
--- contours that were made for pen 0 have column c of row r for a dropout from some pen
+-- contours made for pen 0 have a dropout at column c of row r, from some pen
 abbrev pub is_dropout_from : Frame → Rules → List (List Edge) → List ℕ → ℕ → ℕ → Bool
 is_dropout_from f rules contours [] c r = false
 is_dropout_from f rules contours (pen ∷ pens) c r =
     is_dropout rules contours (column_at f pen c) (line_at f r) || is_dropout_from f rules contours pens c r
 
--- a dropout is column c of row r, and it is among some
+-- a dropout is at column c of row r; some dropout of a list is
 abbrev pub is_at : ℕ → ℕ → Dropout → Bool
 is_at c r d = d.column == c && d.row == r
 
 abbrev pub is_among : List Dropout → ℕ → ℕ → Bool
 is_among ds c r = list_any (is_at c r) ds
 
--- they lie in a picture of so many columns
+-- dropouts lie in a picture of `w` columns
 abbrev pub AreInColumns : ℕ → List Dropout → Type 0
 AreInColumns w ds = All (λ d. d.column < w) ds
 
--- and are in order of their rows
+-- dropouts of a picture, in order of their rows
 pub record AreDropouts (w : ℕ) (ds : List Dropout) : Type 0 where
   pub order : IsNonDecreasingBy (λ d. d.row) ds
   pub columns : AreInColumns w ds

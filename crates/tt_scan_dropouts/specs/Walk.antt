@@ -25,13 +25,13 @@ walk es = flat_map steps_of es
 abbrev pub others : List Step → ℕ → List Step
 others w k = drop (k + 1) w ++ take k w
 
--- the way to the next crossing: that crossing, and how far from a line the edge ends lie that are passed
+-- the way to the next crossing: that crossing, and the greatest distance from a line of the edge ends on the way
 abbrev pub way : ℤ → ℕ → List Step → Option Leg
 way y far [] = None
 way y far (step.End h ∷ ss) = way y (max far (unsigned_abs (h -ℤ y))) ss
 way y far (step.Cross c ∷ ss) = Some (record { next = c; far = far })
 
--- the contour comes into a gap and leaves by it, without a crossing between
+-- the contour enters a gap and leaves by it, without a crossing between
 abbrev pub is_tip : Crossing → Crossing → Bool
 is_tip c d = int_eq c.line d.line && int_eq c.gap d.gap && not (agree c.up d.up)
 
@@ -50,7 +50,7 @@ is_of_stub w k c = is_stub c (way (centre c.line) 0 (others w k))
 abbrev pub mark_of : Bool → Crossing → Mark
 mark_of asks c = record { at = c; asks = asks }
 
--- what a step leaves, which is step k of a walk, where stubs are not drawn
+-- the marks of step k of a walk, where stubs are not drawn
 abbrev pub marks_of_step : List Step → ℕ → Step → List Mark
 marks_of_step w k (step.End h) = []
 marks_of_step w k (step.Cross c) = mark_of (not (is_of_stub w k c)) c ∷ []
@@ -61,11 +61,11 @@ step_marks w k = marks_of_step w k (get_or w k (step.End (pos 0)))
 abbrev pub walk_marks : List Step → List Mark
 walk_marks w = flat_map (step_marks w) (range_with_len 0 (length w))
 
--- what an edge leaves where they are: an end that touches a line counts as a crossing
+-- the marks of an edge where stubs are drawn: an end that touches a line counts as a crossing
 abbrev pub edge_marks : Edge → List Mark
 edge_marks e = map (mark_of true) (crossings e ++ touches e)
 
--- what an outline leaves, contour by contour
+-- the marks of an outline, contour by contour
 abbrev pub contour_marks : Bool → List Edge → List Mark
 contour_marks true es = flat_map edge_marks es
 contour_marks false es = walk_marks (walk es)
@@ -77,7 +77,7 @@ marks stubs contours = flat_map (contour_marks stubs) contours
 abbrev pub some_in_free_gap : (ℤ → ℤ → Bool) → List Crossing → Bool
 some_in_free_gap black cs = list_any (λ (c : Crossing). is_free black c.gap c.line) cs
 
--- an edge leaves something there
+-- an edge makes a mark in a free gap
 abbrev pub is_in_free_gap : Bool → (ℤ → ℤ → Bool) → Edge → Bool
 is_in_free_gap stubs black e =
     some_in_free_gap black (crossings e) || (stubs && some_in_free_gap black (touches e))

@@ -1,5 +1,5 @@
--- No part of the standard: the black pixels of a glyph in a window. What lies outside is taken for black, so that no gap
--- there is free.
+-- No part of the standard: the black pixels of a glyph in a window. Pixels outside count as black, so that no gap there
+-- is free.
 use Rattle.std.specs.Prelude.{ℕ, ◌+◌, ◌*◌, ◌^◌, ◌<◌, ◌≤◌, Bool, true, ◌&&◌, if◌then◌else◌, ℤ, pos, ◌+ℤ◌, ◌-ℤ◌, ◌≤ℤ◌, int_lt, int_le, unsigned_abs, List}
 use Rattle.std.specs.Int.{int_max}
 use Rattle.tt_core.specs.Bits.{bit, stride}
@@ -16,7 +16,7 @@ use Rattle.tt_scan_dropouts.specs.declared.window.Window.{Window}
 use Rattle.tt_scan_dropouts.specs.declared.window.Over.{Over}
 use Rattle.tt_scan_dropouts.specs.declared.window.Over.TheVariants as over
 
--- a window that the program takes: at most the rows of a picture, and two more on each side
+-- limits on a window: at most the rows of a picture, and two more on each side
 pub record WindowFits (w : Window) : Type 0 where
   pub left : unsigned_abs w.left < 2 ^ 19
   pub bottom : unsigned_abs w.bottom < 2 ^ 20
@@ -25,17 +25,17 @@ pub record WindowFits (w : Window) : Type 0 where
   pub low : 1 ≤ w.height
   pub high : w.height ≤ height_limit + 4
 
--- the columns of a box that the program takes, or its rows
+-- limits on the columns of a box, or its rows
 pub record ColumnsFit (b : Columns) : Type 0 where
   pub first : unsigned_abs b.first < 2 ^ 19
   pub last : unsigned_abs b.last < 2 ^ 19
 
--- how far places reach that the program takes
+-- limits on an extent
 pub record ExtentFits (e : Extent) : Type 0 where
   pub low : unsigned_abs e.low < 2 ^ 30
   pub high : unsigned_abs e.high < 2 ^ 30
 
--- one of so many numbers from a first one on
+-- one of `count` numbers from `first` on
 abbrev pub is_within : ℤ → ℕ → ℤ → Bool
 is_within first count n = int_le first n && int_lt n (first +ℤ pos count)
 
@@ -47,19 +47,18 @@ has w c j = is_within w.left w.width c && is_within w.bottom w.height j
 abbrev pub is_column_of : Columns → ℤ → Bool
 is_column_of b n = int_le b.first n && int_le n b.last
 
--- a pixel lies in a box, told by its columns and its rows
+-- a pixel lies in a box, given by its columns and its rows
 abbrev pub box_has : Columns → Columns → ℤ → ℤ → Bool
 box_has columns rows c j = is_column_of columns c && is_column_of rows j
 
--- a part of so many numbers from a first one on: not before them, and no later than the columns of a box ask for; not
--- past them
+-- a part of `count` numbers from `first` on: it begins no later than the columns of a box need
 pub record IsPart (first : ℤ) (count : ℕ) (b : Columns) (p : Part) : Type 0 where
   pub some : 1 ≤ p.count
   pub low : first ≤ℤ p.from
   pub near : p.from ≤ℤ int_max first b.first
   pub high : (p.from +ℤ pos p.count) ≤ℤ (first +ℤ pos count)
 
--- so many pixels larger on each side
+-- `n` pixels larger on each side
 abbrev pub widened : ℕ → Window → Window
 widened n w = record {
   left = w.left -ℤ pos n;
@@ -68,7 +67,7 @@ widened n w = record {
   height = w.height + 2 * n;
 }
 
--- the frame whose rows are those of a window, from the top down; its columns are not asked for
+-- a frame with the rows of a window, from the top down; its columns are arbitrary
 abbrev pub frame_of : Window → Frame
 frame_of w = record { width = 1; height = w.height; margin = 0; rise = w.bottom +ℤ pos w.height }
 
@@ -79,7 +78,7 @@ first_row f w = ((f.rise +ℤ pos f.margin) -ℤ w.bottom) -ℤ pos w.height
 abbrev pub has_rows : Frame → Window → Bool
 has_rows f w = int_le (pos 0) (first_row f w) && int_le (first_row f w +ℤ pos w.height) (pos f.height)
 
--- the row of a window that comes after so many from its top
+-- the row of a window after a number of rows from its top
 abbrev pub row_from_top : Window → ℕ → ℤ
 row_from_top w r = (w.bottom +ℤ pos w.height) -ℤ pos (r + 1)
 
@@ -88,14 +87,14 @@ pub record Bitmap : Type 0 where
   pub window : Window
   pub bits : List ℕ
 
--- where a pixel of the window stands among the bits
+-- the number of a pixel of the window among the bits
 abbrev pub place : Window → ℤ → ℤ → ℕ
 place w c j = 8 * (stride w.width * unsigned_abs (j -ℤ w.bottom)) + unsigned_abs (c -ℤ w.left)
 
 abbrev pub is_black_in : Bitmap → ℤ → ℤ → Bool
 is_black_in b c j = if has b.window c j then bit b.bits (place b.window c j) else true
 
--- centre p of line j, by rows or by columns
+-- pixel p of line j is black in a bitmap, by rows or by columns
 abbrev pub is_black_by : Over → Bitmap → ℤ → ℤ → Bool
 is_black_by over.Rows b p j = is_black_in b p j
 is_black_by over.Columns b p j = is_black_in b j p
@@ -105,7 +104,7 @@ abbrev pub seen_by : Over → Edge → Edge
 seen_by over.Rows e = e
 seen_by over.Columns e = turned_round e
 
--- a pass over columns tells pixels with column and row exchanged
+-- a list of pixels has pixel p of line j; in a pass over columns with column and row exchanged
 abbrev pub has_pixel_by : Over → List Pixel → ℤ → ℤ → Bool
 has_pixel_by over.Rows ps c j = has_pixel ps c j
 has_pixel_by over.Columns ps c j = has_pixel ps j c

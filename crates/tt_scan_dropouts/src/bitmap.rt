@@ -1,4 +1,4 @@
-//! The black pixels of a glyph in a window: what lies outside is taken for black, so that no gap there is free.
+//! The black pixels of a glyph in a window. Pixels outside count as black, so that no gap there is free.
 
 ghost use Rattle.std.specs.Prelude.{◌≡◌, not, ℕ, ℤ, true, length, ◌+◌, ◌*◌, ◌^◌, ◌<◌, ◌≤◌, ◌+ℤ◌, ◌&&◌, ◌||◌, nat_lt, pos, unsigned_abs, All, IfOk};
 ghost use Rattle.std.specs.Ordering.{int_eq};
@@ -34,14 +34,14 @@ impl Model for Bitmap {
     ghost invariant = { λ b. WindowFits b.window × (length b.bits.items ≡ stride b.window.width * b.window.height) };
 }
 
-/// How many bytes a row of the window has.
+/// The number of bytes in a row of the window.
 fn stride(window: Window) -> usize
     ensures { result ≡ stride window.width }
 {
     (window.width as usize).div_ceil(8)
 }
 
-/// The edges on a tape whose rows are those of the window, from the top down. Error: memory ran out.
+/// The edges on a tape with the rows of the window, from the top down. Error: memory ran out.
 fn tape_of(alloc: Global, edges: &[Edge], window: Window) -> Result<Tape, AllocError>
     requires edges { All EdgeFits edges.now }
     requires window { WindowFits window }
@@ -61,7 +61,7 @@ fn tape_of(alloc: Global, edges: &[Edge], window: Window) -> Result<Tape, AllocE
     Ok(tape)
 }
 
-/// Which row of a frame is the topmost of a window, if it has it.
+/// The row of a frame that is the topmost of a window; the frame may lack it.
 fn first_row(frame: Frame, window: Window) -> i64
     requires frame { FrameFits frame }
     requires window { WindowFits window }
@@ -83,7 +83,7 @@ fn has_rows(frame: Frame, window: Window) -> bool
     0 <= first && first + i64::from(window.height) <= i64::from(frame.height)
 }
 
-/// The edges of a glyph on a tape that has the rows of a window: a copy where the glyph's own has them. Error: memory
+/// The edges of a glyph on a tape with the rows of a window: a copy, if the glyph's own tape has them. Error: memory
 /// ran out.
 fn tape_for(alloc: Global, tape: &Tape, window: Window) -> Result<Tape, AllocError>
     requires window { WindowFits window }
@@ -98,7 +98,7 @@ fn tape_for(alloc: Global, tape: &Tape, window: Window) -> Result<Tape, AllocErr
     }
 }
 
-/// Blackens the columns of the window that edges blacken, in one of its rows, counted from the top.
+/// Blackens the columns of one row of the window that edges blacken; `r` counts from the top.
 fn paint_row(sweep: &mut Sweep, tape: &mut Tape, window: Window, r: u32, row: &mut [u8])
     requires window { WindowFits window }
     requires rows { has_rows tape.old.frame window ≡ true }
@@ -119,7 +119,7 @@ fn paint_row(sweep: &mut Sweep, tape: &mut Tape, window: Window, r: u32, row: &m
     sweep.paint(shift, window.width, row);
 }
 
-/// The same, in the bits of all rows of the window.
+/// Blackens the columns of row `r`, counted from the top, in the bits of all rows of the window.
 fn ink_row(sweep: &mut Sweep, tape: &mut Tape, window: Window, r: u32, bits: &mut [u8])
     requires window { WindowFits window }
     requires rows { has_rows tape.old.frame window ≡ true }
@@ -140,7 +140,7 @@ fn ink_row(sweep: &mut Sweep, tape: &mut Tape, window: Window, r: u32, bits: &mu
     paint_row(sweep, tape, window, r, &mut bits[start..start + bytes]);
 }
 
-/// Where a pixel of the window stands among the bits.
+/// The number of a pixel of the window among the bits.
 #[inline(always)]
 fn place(window: Window, column: i64, row: i64) -> usize
     requires window { WindowFits window }
@@ -180,7 +180,7 @@ impl Bitmap {
         (self.bits[at / 8] >> (7 - at % 8)) % 2 == 1
     }
 
-    /// Whether two pixels are white. None is that the window lacks.
+    /// Whether two pixels are white. A pixel outside the window is not.
     #[inline(always)]
     fn are_white(&self, column: i64, row: i64, other_column: i64, other_row: i64) -> bool
         ensures { result ≡ (not (is_black_in self.now column row) && not (is_black_in self.now other_column other_row)) }
@@ -220,7 +220,7 @@ impl Bitmap {
         }
     }
 
-    /// Blackens those of some pixels that the window has.
+    /// Blackens some pixels, as far as the window has them.
     pub(crate) fn blacken_all(&mut self, pixels: &[Pixel])
         ensures window { self.new.window ≡ self.old.window }
         ensures black { (c j : ℤ) → is_black_in self.new c j ≡ (is_black_in self.old c j || has_pixel pixels.now c j) }

@@ -1,6 +1,6 @@
-//! Whether some free gap is crossed both rising and falling. Each that an edge crosses is: so where none is, there are
-//! no dropouts, and nothing else need be asked. Two tables tell which gaps may be crossed both ways, and whether one of
-//! those may be free is asked of all edges.
+//! Whether some free gap is crossed both rising and falling. A free gap that an edge crosses is crossed both ways. So
+//! where no free gap is crossed both ways, there are no dropouts, and nothing else need be computed. Two tables show
+//! which gaps may be crossed both ways, and all edges decide whether one of those may be free.
 
 ghost use Rattle.std.specs.Prelude.{◌≡◌, List, ℕ, ℤ, ◌^◌, ◌<◌, true, false, ◌∷◌, [], ◌+◌, ◌++◌, length, get_or, map, unsigned_abs, All};
 ghost use Rattle.tt_scan.specs.Winding.{EdgeFits};
@@ -21,18 +21,17 @@ use crate::seen::{meets, seen_by};
 use crate::window::Over;
 use tt_scan::Edge;
 
-/// So many lines, and so many gaps of a line, a table tells apart: those whose numbers differ by a multiple have one
-/// place.
+/// A table distinguishes `LINES` lines and `GAPS` gaps of a line. Numbers that differ by a multiple share a place.
 const LINES: i64 = 32;
 
 const GAPS: i64 = 64;
 
 const PLACES: usize = 2048;
 
-/// So many gaps are looked at by themselves: each look asks all edges.
+/// The most gaps that are examined one by one: each examination reads all edges.
 const LOOKS: u32 = 16;
 
-/// Where a gap of a line stands in a table.
+/// The place of a gap of a line in a table.
 #[inline(always)]
 fn slot(line: i64, gap: i64) -> usize
     ensures exact { result ≡ slot line gap }
@@ -41,7 +40,7 @@ fn slot(line: i64, gap: i64) -> usize
     (GAPS * line.rem_euclid(LINES) + gap.rem_euclid(GAPS)) as usize
 }
 
-/// Marks a place in one of two tables. Answers whether the other has it.
+/// Marks a place in one of two tables. Returns whether the other table has it.
 #[inline(always)]
 fn mark(table: &mut [bool], other: &[bool], at: usize) -> bool
     requires table { length table.old ≡ 2048 }
@@ -56,8 +55,8 @@ fn mark(table: &mut [bool], other: &[bool], at: usize) -> bool
     other[at]
 }
 
-/// Whether a gap may be free. It may where no looks are left; else it is looked at. Few gaps are, so that this stands
-/// apart from the loop that asks it.
+/// Whether a gap may be free. True where no examinations remain; else all edges are read. Few gaps need this, so the
+/// code is outside the loop that calls it.
 #[cold]
 #[inline(never)]
 fn look(over: Over, edges: &[Edge], looks: &mut u32, gap: i64, line: i64) -> bool
@@ -73,8 +72,8 @@ fn look(over: Over, edges: &[Edge], looks: &mut u32, gap: i64, line: i64) -> boo
     may_be_free(over, edges, gap, line)
 }
 
-/// Marks the gaps in which an edge crosses lines in one of two tables. Answers whether one that the other has may be
-/// free.
+/// Marks in one of two tables the gaps in which an edge crosses lines. Returns whether such a gap is in the other table
+/// and may be free.
 #[inline(always)]
 fn mark_crossings(
     table: &mut [bool],
@@ -107,8 +106,8 @@ fn mark_crossings(
     false
 }
 
-/// Marks the gaps in which an edge, as a pass sees it, crosses lines. Answers whether one that is crossed the other way
-/// too may be free.
+/// Marks the gaps in which an edge, as a pass sees it, crosses lines. Returns whether one of them is crossed the other
+/// way too and may be free.
 #[inline(never)]
 fn mark_ways(
     rising: &mut [bool],
@@ -136,7 +135,7 @@ fn mark_ways(
     }
 }
 
-/// The same. Most edges are short and meet no line, so that they are not looked at closely.
+/// `mark_ways` with a quick test first: most edges are short and meet no line.
 #[inline(always)]
 fn mark_edge(
     rising: &mut [bool],
@@ -159,8 +158,8 @@ fn mark_edge(
     meets(over, false, edge) && mark_ways(rising, falling, over, edges, looks, edge)
 }
 
-/// Whether edges may cross some free gap both rising and falling, of a row or of a column. They do not where this is
-/// false; it is true too where more gaps want a look than are looked at.
+/// Whether edges may cross some free gap of a row or of a column both rising and falling. False means that they do not.
+/// True also where more gaps need an examination than are examined.
 pub(crate) fn may_cross_both_ways(edges: &[Edge]) -> bool
     requires { All EdgeFits edges.now }
     ensures rows { result ≡ false
@@ -207,7 +206,7 @@ fn has_end_on_line(edge: Edge) -> bool
     (is_on_line(edge.ax) || is_on_line(edge.ay)) || (is_on_line(edge.bx) || is_on_line(edge.by))
 }
 
-/// Whether some edge has.
+/// Whether an end of some edge lies on a line, of rows or of columns.
 fn some_end_on_line(edges: &[Edge]) -> bool
     requires { All EdgeFits edges.now }
     ensures { result ≡ list_any has_end_on_line edges.now }
@@ -220,8 +219,8 @@ fn some_end_on_line(edges: &[Edge]) -> bool
     false
 }
 
-/// Whether an outline whose contours are closed may have dropouts. It has none where this is false: it crosses no free
-/// gap both rising and falling, and, where stubs are drawn, no edge ends on a line.
+/// Whether an outline with closed contours may have dropouts. False means that it has none: it crosses no free gap both
+/// rising and falling, and, where stubs are drawn, no edge ends on a line.
 pub(crate) fn closed_may_have_dropouts(stubs: bool, edges: &[Edge], ends: &[usize]) -> bool
     requires edges { All EdgeFits edges.now }
     requires ends { AreEnds (length edges.now) ends.now }
@@ -235,8 +234,8 @@ pub(crate) fn closed_may_have_dropouts(stubs: bool, edges: &[Edge], ends: &[usiz
     may_cross_both_ways(edges)
 }
 
-/// Whether an outline may have dropouts. It has none where this is false: its contours are closed, and then the same
-/// holds.
+/// Whether an outline may have dropouts. False means that it has none: its contours are closed, and
+/// `closed_may_have_dropouts` is false.
 pub(crate) fn may_have_dropouts(stubs: bool, edges: &[Edge], ends: &[usize]) -> bool
     requires edges { All EdgeFits edges.now }
     requires ends { AreEnds (length edges.now) ends.now }

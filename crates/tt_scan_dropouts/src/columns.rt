@@ -11,7 +11,7 @@ use crate::crossing::{PIXEL, gap_at, line_from};
 use crate::mark::Columns;
 use tt_scan::Edge;
 
-/// The columns with a centre from the least to the greatest x, or else the one that is nearer to the middle.
+/// The columns with a centre from the least to the greatest x; where there is none, the column nearer to the middle.
 fn columns_between(low: i32, high: i32) -> Columns
     requires low { unsigned_abs low < 2 ^ 30 }
     requires high { unsigned_abs high < 2 ^ 30 }
@@ -29,7 +29,7 @@ fn columns_between(low: i32, high: i32) -> Columns
     }
 }
 
-/// How far some places reach, in 1/8192 pixel.
+/// The least and the greatest of some places, in 1/8192 pixel.
 #[derive(Clone, Copy)]
 struct Extent {
     low: i32,
@@ -52,7 +52,7 @@ fn with(extent: Extent, a: i32, b: i32) -> Extent
     }
 }
 
-/// How far the ends of edges reach in x and in y, and a place.
+/// The extents in x and in y of the ends of edges and of a point.
 fn extents(x: i32, y: i32, edges: &[Edge]) -> (Extent, Extent)
     requires x { unsigned_abs x < 2 ^ 30 }
     requires y { unsigned_abs y < 2 ^ 30 }
@@ -72,8 +72,8 @@ fn extents(x: i32, y: i32, edges: &[Edge]) -> (Extent, Extent)
     (across, up)
 }
 
-/// The columns and the rows of the box of edges: those with a centre from the least to the greatest x and y; where none
-/// has, the one that is nearer to the middle.
+/// The columns and the rows of the box of edges: those with a centre from the least to the greatest x and y. Where
+/// there is none, the column or row nearer to the middle.
 pub fn box_of(edges: &[Edge]) -> (Columns, Columns)
     requires { All EdgeFits edges.now }
     ensures columns { result.0 ≡ columns_of edges.now }

@@ -1,5 +1,5 @@
-//! Where the edges of an outline cross the centre lines of rows. OpenType, "TrueType Fundamentals". Lengths are in 1/8192
-//! pixel.
+//! Where the edges of an outline cross the centre lines of rows. OpenType, "TrueType Fundamentals". Lengths are in
+//! 1/8192 pixel.
 
 ghost use Rattle.std.specs.Prelude.{◌≡◌, ◌∷◌, [], pos, ◌^◌, ◌<◌, ◌≤◌, ◌≤ℤ◌, ◌<ℤ◌, ◌-ℤ◌, ◌*ℤ◌, unsigned_abs, IfNone, IfSome};
 ghost use Rattle.std.specs.Int.{int_div_euclid};
@@ -14,7 +14,7 @@ pub(crate) const PIXEL: i64 = 8192;
 
 pub(crate) const HALF: i64 = 4096;
 
-/// How many whole pixels a length has: the floor.
+/// The whole pixels in a length: the floor.
 #[inline(always)]
 pub(crate) fn whole_pixels(length: i64) -> i64
     requires { unsigned_abs length < 2 ^ 34 }
@@ -24,7 +24,7 @@ pub(crate) fn whole_pixels(length: i64) -> i64
     length >> 13
 }
 
-/// Where a line stands, and a column's centre.
+/// The height of a line, and the place of a column's centre.
 #[inline(always)]
 pub(crate) fn centre(line: i64) -> i64
     requires { unsigned_abs line < 2 ^ 40 }
@@ -43,7 +43,7 @@ pub(crate) fn line_from(y: i32) -> i64
     whole_pixels(i64::from(y) + (HALF - 1))
 }
 
-/// The last centre that is not right of a place.
+/// The gap of a place: the last centre that is not right of it.
 #[inline(always)]
 pub(crate) fn gap_at(x: i32) -> i64
     requires { unsigned_abs x < 2 ^ 30 }
@@ -73,7 +73,7 @@ fn upward(edge: Edge) -> Edge
     }
 }
 
-/// How many lines an edge crosses.
+/// The number of lines that an edge crosses.
 #[inline(always)]
 pub(crate) fn lines_crossed(edge: Edge) -> u64
     requires { EdgeFits edge }
@@ -120,7 +120,7 @@ pub(crate) fn line_crossed(edge: Edge, k: u64) -> i64
     }
 }
 
-/// How far right of its lower end an edge stands at a height that it crosses.
+/// How far an edge is right of its lower end at a height that it crosses.
 #[inline(always)]
 fn run_to(up: Edge, y: i64) -> i64
     requires edge { EdgeFits up }
@@ -132,7 +132,7 @@ fn run_to(up: Edge, y: i64) -> i64
     (up.run() * (y - i64::from(up.ay))).div_euclid(up.rise())
 }
 
-/// Where an edge stands at a height that it crosses.
+/// The place of an edge at a height that it crosses.
 #[inline(always)]
 fn edge_x(edge: Edge, y: i64) -> i64
     requires edge { EdgeFits edge }
@@ -145,7 +145,8 @@ fn edge_x(edge: Edge, y: i64) -> i64
     i64::from(up.ax) + run_to(up, y)
 }
 
-/// The gap in which an edge crosses a line, after `k` others. Where both its ends lie in one gap no division is needed.
+/// The gap in which an edge crosses a line, after `k` other lines. Where both ends lie in one gap no division is
+/// needed.
 #[inline(always)]
 pub(crate) fn gap_crossed(edge: Edge, k: u64) -> i64
     requires edge { EdgeFits edge }
@@ -160,7 +161,7 @@ pub(crate) fn gap_crossed(edge: Edge, k: u64) -> i64
     whole_pixels(edge_x(edge, centre(line_crossed(edge, k))) - HALF)
 }
 
-/// A place of a line.
+/// The crossing of a line at a place.
 #[inline(always)]
 fn crossing_at(up: bool, line: i64, x: i64) -> Crossing
     requires line { unsigned_abs line < 2 ^ 30 }
@@ -176,7 +177,7 @@ fn crossing_at(up: bool, line: i64, x: i64) -> Crossing
     }
 }
 
-/// The crossing of an edge that comes after `k` others.
+/// The crossing of an edge after `k` others.
 #[inline(always)]
 pub(crate) fn crossing(edge: Edge, k: u64) -> Crossing
     requires edge { EdgeFits edge }

@@ -1,5 +1,5 @@
-//! The dropouts of a glyph in a window: first a pass over the rows, and then one over the columns, for which the pixels
-//! that the first one added are black.
+//! The dropouts of a glyph in a window: first a pass over the rows, and then a pass over the columns. For the second
+//! pass the pixels that the first added are black.
 
 ghost use Rattle.std.specs.Prelude.{◌≡◌, false, ℤ, ◌^◌, ◌*◌, ◌+◌, ◌-◌, ◌≤◌, ◌||◌, ◌&&◌, [], ◌∷◌, length, map, All, IfOk, OnOk};
 ghost use Rattle.std.specs.List.{list_any};
@@ -37,7 +37,7 @@ fn all_turned_round(alloc: Global, edges: &[Edge]) -> Result<Vec<Edge>, AllocErr
     Ok(turned)
 }
 
-/// How many lines of rows and of columns edges cross: so much work their dropouts are.
+/// The number of lines of rows and of columns that edges cross. It measures the work for their dropouts.
 pub fn crossings(edges: &[Edge]) -> u64
     requires edges { All EdgeFits edges.now }
     requires few { length edges.now ≤ 2 ^ 32 }
@@ -61,7 +61,7 @@ fn reach(edge: Edge) -> u64
     edge.run().unsigned_abs() + edge.rise().unsigned_abs()
 }
 
-/// No fewer than `crossings`, with less work: along each axis an edge crosses at most one line more than it has whole
+/// At least `crossings`, with less work: along each axis an edge crosses at most one line more than it has whole
 /// pixels.
 pub fn most_crossings(edges: &[Edge]) -> u64
     requires edges { All EdgeFits edges.now }
@@ -76,7 +76,7 @@ pub fn most_crossings(edges: &[Edge]) -> u64
     far / 8192 + 2 * edges.len() as u64
 }
 
-/// What a pass adds to what is black, by edges as it sees them. Error: memory ran out.
+/// The pixels that a pass adds, by edges as the pass sees them. Error: memory ran out.
 fn pass_over(
     alloc: Global,
     rules: Rules,
@@ -97,7 +97,7 @@ fn pass_over(
     pass(alloc, rules, columns, over, ink, &marks)
 }
 
-/// Whether an edge, as a pass sees it, leaves something in a free gap: a crossing, or, where stubs are drawn, an end that
+/// Whether an edge, as a pass sees it, makes a mark in a free gap: a crossing, or, where stubs are drawn, an end that
 /// touches a line.
 #[inline(never)]
 fn leaves_something(ink: &Bitmap, over: Over, stubs: bool, edge: &Edge) -> bool
@@ -108,7 +108,7 @@ fn leaves_something(ink: &Bitmap, over: Over, stubs: bool, edge: &Edge) -> bool
     crosses_free_gap(ink, over, edge) || (stubs && touches_free_gap(ink, over, edge))
 }
 
-/// The same. Most edges are short and meet no line, so that they are not looked at closely.
+/// `leaves_something` with a quick test first: most edges are short and meet no line.
 #[inline(always)]
 fn is_in_free_gap(ink: &Bitmap, over: Over, stubs: bool, edge: &Edge) -> bool
     requires { EdgeFits edge.now }
@@ -117,8 +117,8 @@ fn is_in_free_gap(ink: &Bitmap, over: Over, stubs: bool, edge: &Edge) -> bool
     meets(over, stubs, edge) && leaves_something(ink, over, stubs, edge)
 }
 
-/// Whether some edge does by rows, and whether some does by columns. Where none does, the pass adds nothing, and its walk
-/// need not be made.
+/// Whether some edge makes a mark in a free gap by rows, and whether some edge does by columns. Where none does, the
+/// pass adds nothing, and its walk is not needed.
 #[inline(never)]
 fn some_in_free_gap(ink: &Bitmap, stubs: bool, edges: &[Edge]) -> (bool, bool)
     requires { All EdgeFits edges.now }
@@ -135,8 +135,7 @@ fn some_in_free_gap(ink: &Bitmap, stubs: bool, edges: &[Edge]) -> (bool, bool)
     (rows, columns)
 }
 
-/// What the pass over the rows adds to what is black; nothing where no edge leaves something in a free gap. Error: memory
-/// ran out.
+/// The pixels that the pass over the rows adds; none where no edge makes a mark in a free gap. Error: memory ran out.
 fn added_by_rows(
     alloc: Global,
     rules: Rules,
@@ -159,8 +158,8 @@ fn added_by_rows(
     pass_over(alloc, rules, columns, ink, Over::Rows, edges, ends)
 }
 
-/// What the pass over the columns adds, column and row exchanged; nothing where no edge leaves something in a free gap.
-/// Error: memory ran out.
+/// The pixels that the pass over the columns adds, with column and row exchanged; none where no edge makes a mark in a
+/// free gap. Error: memory ran out.
 fn added_by_columns(
     alloc: Global,
     rules: Rules,
@@ -185,7 +184,7 @@ fn added_by_columns(
     pass_over(alloc, rules, rows, ink, Over::Columns, &turned, ends)
 }
 
-/// A pixel of a pass by its column and its row.
+/// The pixel of a pass, by its column and its row.
 #[inline(always)]
 fn pixel_at(over: Over, pixel: Pixel) -> Pixel
     ensures { (c j : ℤ) → (int_eq result.column c && int_eq result.row j) ≡ has_pixel_by over (pixel ∷ []) c j }
@@ -211,7 +210,7 @@ fn push_if_within(found: &mut Vec<Pixel>, window: Window, pixel: Pixel) -> Resul
     Ok(())
 }
 
-/// Adds those of some pixels that lie in a window. Error: memory ran out.
+/// Adds the pixels of a list that lie in a window. Error: memory ran out.
 fn push_within(
     found: &mut Vec<Pixel>,
     window: Window,
@@ -250,7 +249,7 @@ fn added_by_both(
     let mut ink = Bitmap::inked(alloc, tape, widened(part))?;
     let (some_by_rows, some_by_columns) = some_in_free_gap(&ink, rules.stubs, edges);
     let by_rows = added_by_rows(alloc, rules, columns, &ink, some_by_rows, edges, ends)?;
-    // What is black now makes no gap free that was not, so that the columns' answer stays true.
+    // The pixels that are black now make no further gap free, so the test by columns remains true.
     ink.blacken_all(&by_rows);
     let by_columns = added_by_columns(alloc, rules, rows, &ink, some_by_columns, edges, ends)?;
     let mut found = Vec::new(alloc);
@@ -259,9 +258,9 @@ fn added_by_both(
     Ok(found)
 }
 
-/// The dropouts in a window of a glyph whose edges stand on a tape, and whose contours each end before the edge of a
-/// number: the pixels that are black besides those of the scan converter's rules 1 and 2. OpenType, "TrueType
-/// Fundamentals", rules 3 and 4. Error: memory ran out.
+/// The dropouts in a window of a glyph: the pixels that are black besides those of the scan converter's rules 1 and 2.
+/// OpenType, "TrueType Fundamentals", rules 3 and 4. The glyph's edges are on a tape, and each contour ends before the
+/// edge of a number in `ends`. Error: memory ran out.
 pub fn dropouts(
     alloc: Global,
     rules: Rules,
@@ -281,7 +280,7 @@ pub fn dropouts(
     added_by_both(alloc, rules, tape, ends, window)
 }
 
-/// The same, of a glyph whose contours are closed.
+/// The dropouts in a window of a glyph whose contours are closed. Error: memory ran out.
 pub(crate) fn closed_dropouts(
     alloc: Global,
     rules: Rules,

@@ -1,4 +1,4 @@
-//! Whether a gap is free, asked of each edge.
+//! Whether a gap is free, computed from each edge.
 
 ghost use Rattle.std.specs.Prelude.{◌≡◌, true, false, ◌+◌, ◌^◌, ◌<◌, unsigned_abs, All};
 ghost use Rattle.tt_scan.specs.Winding.{EdgeFits};
@@ -10,7 +10,7 @@ use crate::point::winding;
 use crate::window::Over;
 use tt_scan::Edge;
 
-/// Whether edges wind round the centre of a pixel of a line, as a pass sees it. The pixel is black where they do.
+/// Whether edges wind round the centre of a pixel of a line, as a pass sees it. If so, the pixel is black.
 fn is_wound_round(over: Over, edges: &[Edge], pixel: i64, line: i64) -> bool
     requires edges { All EdgeFits edges.now }
     requires pixel { unsigned_abs pixel < 2 ^ 18 }
@@ -23,8 +23,8 @@ fn is_wound_round(over: Over, edges: &[Edge], pixel: i64, line: i64) -> bool
     }
 }
 
-/// Whether a gap of a line may be free, as a pass sees it: it is not where edges wind round a pixel beside it. Whether
-/// such a pixel's centre lies on an edge is not asked.
+/// Whether a gap of a line may be free, as a pass sees it. It is not free where edges wind round a pixel beside it. The
+/// test does not look for edges through such a pixel's centre.
 pub(crate) fn may_be_free(over: Over, edges: &[Edge], gap: i64, line: i64) -> bool
     requires edges { All EdgeFits edges.now }
     requires gap { unsigned_abs gap + 1 < 2 ^ 18 }

@@ -1,28 +1,28 @@
-//! Dropout control: which pixels are black besides those of the scan converter's rules 1 and 2, so that no stroke is lost
-//! at small sizes. OpenType, "TrueType Fundamentals", rules 3 and 4, and the smart ones beside them.
+//! Dropout control: which pixels are black besides those of the scan converter's rules 1 and 2, so that no stroke is
+//! lost at small sizes. OpenType, "TrueType Fundamentals", rules 3 and 4, and the smart ones beside them.
 //!
-//! Here are the definitions, with worked pictures and laws, and the code:
+//! Here are the definitions, with worked pictures and lemmas, and the code:
 //!
 //! ```text
 //! crossing.rt   where edges cross the centre lines of rows, and between which pixels
 //! seen.rt       an edge as a pass over rows or columns sees it
 //! closed.rt     which contours are closed
-//! both_ways.rt  whether some free gap is crossed both rising and falling: where none is, there are no dropouts
-//! free.rt       whether a gap may be free, asked of each edge
-//! point.rt      how often edges wind round a point, asked of each
+//! both_ways.rt  whether some free gap is crossed both rising and falling; else there are no dropouts
+//! free.rt       whether a gap may be free, by each edge
+//! point.rt      how often edges wind round a point, by each edge
 //! steps.rt      the walk along a contour, step by step
 //! stub.rt       which crossings belong to a stub
-//! marks.rt      what the contours of an outline leave in gaps that are free
-//! bitmap.rt     what is black in a window
-//! gaps.rt       which pixel a gap asks for
+//! marks.rt      the marks of an outline's contours in free gaps
+//! bitmap.rt     the black pixels of a window
+//! gaps.rt       which pixel a gap needs
 //! columns.rt    the columns of a glyph's box
-//! pass.rt       what a pass over the gaps of all rows adds, and which gap gives way
+//! pass.rt       the pixels that a pass over the gaps of all rows adds, and which gap gives way
 //! filling.rt    the dropouts of a glyph in a window, and how much work they are
 //! picture.rt    the dropouts of a picture, as a list that is painted row by row
 //! laws.rt       dropouts are white without them, and move with their glyph; free gaps are crossed both ways
 //! ```
 //!
-//! All is said of rows. For columns it is said of the outline with x and y exchanged.
+//! The text speaks of rows. Columns are the rows of the outline with x and y exchanged.
 #![tactic(auto)]
 
 mod bitmap;

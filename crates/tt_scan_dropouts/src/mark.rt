@@ -1,4 +1,4 @@
-//! What an edge leaves of a line, and what is asked of the gaps between its pixels.
+//! Where an edge crosses a line, the marks in gaps, and the rules for filling dropouts.
 
 /// Where an edge crosses the centre line of a row.
 #[derive(Clone, Copy)]
@@ -7,7 +7,7 @@ pub(crate) struct Crossing {
     pub(crate) line: i32,
     /// The gap: the columns of its two pixels are this one and the next.
     pub(crate) gap: i32,
-    /// How far right of the left one's centre, in 1/8192 pixel, less than a pixel.
+    /// The distance to the right from the left pixel's centre, in 1/8192 pixel, less than a pixel.
     pub(crate) place: u16,
     /// Whether the edge rises.
     pub(crate) up: bool,
@@ -18,7 +18,7 @@ pub(crate) struct Crossing {
 pub(crate) enum Step {
     /// An edge crosses a line.
     Cross(Crossing),
-    /// It ends at a height, in 1/8192 pixel.
+    /// An edge ends at a height, in 1/8192 pixel.
     End(i32),
 }
 
@@ -26,7 +26,7 @@ pub(crate) enum Step {
 #[derive(Clone, Copy)]
 pub(crate) struct Mark {
     pub(crate) at: Crossing,
-    /// Whether its gap asks for a pixel because of it.
+    /// Whether its gap needs a pixel because of this mark.
     pub(crate) asks: bool,
 }
 
@@ -35,11 +35,11 @@ pub(crate) struct Mark {
 pub struct Rules {
     /// Stubs are drawn: scan types 0 and 4.
     pub stubs: bool,
-    /// The pixel that is nearer to the middle is taken, and not the left one: scan types 4 and 5.
+    /// The pixel nearer to the middle is taken, and not the left one: scan types 4 and 5.
     pub smart: bool,
 }
 
-/// A pixel by its column and its row. Columns count rightwards from where the glyph stands, rows upwards from the base
+/// A pixel by its column and its row. Columns count rightwards from the glyph's origin, rows upwards from the base
 /// line. In a pass over columns the two are exchanged.
 #[derive(Clone, Copy, Debug, PartialEq, Eq)]
 pub struct Pixel {
@@ -47,14 +47,15 @@ pub struct Pixel {
     pub row: i64,
 }
 
-/// The way to the next crossing: that crossing, and how far from a line the edge ends lie that are passed, in 1/8192 pixel.
+/// The way to the next crossing: that crossing, and the greatest distance from a line of the edge ends on the way, in
+/// 1/8192 pixel.
 #[derive(Clone, Copy)]
 pub(crate) struct Leg {
     pub(crate) next: Crossing,
     pub(crate) far: u64,
 }
 
-/// The columns of a glyph's box, the first and the last, both included; or its rows.
+/// The first and the last column of a glyph's box, both included; or its rows.
 #[derive(Clone, Copy)]
 pub struct Columns {
     pub first: i64,

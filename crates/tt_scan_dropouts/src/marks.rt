@@ -1,5 +1,5 @@
-//! The crossings of an outline as marks in the gaps of its lines. Those in gaps that are not free are left out: nothing
-//! comes of them.
+//! The crossings of an outline as marks in the gaps of its lines. Marks in gaps that are not free have no effect and
+//! are omitted.
 
 ghost use Rattle.std.specs.Prelude.{◌≡◌, ◌++◌, [], ◌∷◌, ◌<◌, true, length, map, All, IfOk, OnOk};
 ghost use Rattle.tt_scan.specs.Contours.{AreEnds, contours_at};
@@ -18,7 +18,7 @@ use crate::window::Over;
 use std::alloc::{AllocError, Global};
 use tt_scan::Edge;
 
-/// Whether the gap is free in which a crossing lies.
+/// Whether the gap of a crossing is free.
 #[inline(always)]
 pub(crate) fn is_free(ink: &Bitmap, over: Over, at: Crossing) -> bool
     ensures { result ≡ is_free (is_black_by over ink.now) at.gap at.line }
@@ -50,7 +50,7 @@ pub(crate) fn touches_free_gap(ink: &Bitmap, over: Over, edge: Edge) -> bool
     }
 }
 
-/// Adds a crossing that asks for a pixel. Error: memory ran out.
+/// Adds a crossing as a mark that needs a pixel. Error: memory ran out.
 #[inline(always)]
 fn push_asking(
     marks: &mut Vec<Mark>,
@@ -67,7 +67,7 @@ fn push_asking(
     Ok(())
 }
 
-/// Adds what step `k` of a walk leaves. Error: memory ran out.
+/// Adds the marks of step `k` of a walk. Error: memory ran out.
 fn push_step_marks(
     marks: &mut Vec<Mark>,
     ink: &Bitmap,
@@ -90,7 +90,7 @@ fn push_step_marks(
     Ok(())
 }
 
-/// Adds what a walk leaves, where stubs are not drawn. Error: memory ran out.
+/// Adds the marks of a walk, where stubs are not drawn. Error: memory ran out.
 fn push_walk_marks(
     marks: &mut Vec<Mark>,
     ink: &Bitmap,
@@ -123,7 +123,7 @@ fn push_crossings(
     Ok(())
 }
 
-/// Adds what an edge leaves, where stubs are drawn. Error: memory ran out.
+/// Adds the marks of an edge, where stubs are drawn. Error: memory ran out.
 fn push_edge_marks(
     marks: &mut Vec<Mark>,
     ink: &Bitmap,
@@ -141,7 +141,7 @@ fn push_edge_marks(
     Ok(())
 }
 
-/// Adds what the edges of a contour leave, where stubs are drawn. Error: memory ran out.
+/// Adds the marks of a contour's edges, where stubs are drawn. Error: memory ran out.
 fn push_all_edge_marks(
     marks: &mut Vec<Mark>,
     ink: &Bitmap,
@@ -158,7 +158,7 @@ fn push_all_edge_marks(
     Ok(())
 }
 
-/// Adds what a contour leaves. Error: memory ran out.
+/// Adds the marks of a contour. Error: memory ran out.
 fn push_contour_marks(
     alloc: Global,
     marks: &mut Vec<Mark>,
@@ -178,7 +178,7 @@ fn push_contour_marks(
     push_walk_marks(marks, ink, over, &steps)
 }
 
-/// What the contours of an outline leave in free gaps; `ends` has for each contour the number of its edges and of those
+/// The marks of an outline's contours in free gaps; `ends` has for each contour the number of its edges and of those
 /// before it. Error: memory ran out.
 pub(crate) fn free_marks(
     alloc: Global,

@@ -13,7 +13,7 @@ use crate::marks::is_free;
 use crate::window::Over;
 use std::alloc::{AllocError, Global};
 
-/// What the gap of these marks asks for.
+/// The pixel that the gap of these marks needs.
 fn asked(rules: Rules, columns: Columns, over: Over, ink: &Bitmap, marks: &[Mark]) -> Option<i64>
     requires { 0 < length marks.now }
     ensures { (d : Mark) → result ≡ asked_by rules columns (is_black_by over ink.now)
@@ -27,7 +27,7 @@ fn asked(rules: Rules, columns: Columns, over: Over, ink: &Bitmap, marks: &[Mark
     }
 }
 
-/// A gap that asked for a pixel.
+/// A gap that needs a pixel.
 #[derive(Clone, Copy)]
 struct Wish {
     line: i32,
@@ -35,7 +35,7 @@ struct Wish {
     pixel: i64,
 }
 
-/// Whether the gap right of some gap is this one.
+/// Whether `next` is the gap right of `gap`.
 fn is_next(gap: i32, next: i32) -> bool
     ensures { result ≡ int_eq (gap +ℤ pos 1) next }
 {
@@ -49,7 +49,7 @@ fn is_left(pixel: i64, gap: i32) -> bool
     pixel == i64::from(gap)
 }
 
-/// Whether a gap gives way: the one left of it, which asked last, takes the pixel in common.
+/// Whether a gap gives way: the gap left of it, which needed a pixel last, takes the pixel in common.
 fn gives_way(last: Option<Wish>, wish: Wish) -> bool
     ensures { result ≡ gives_way last wish }
 {
@@ -59,7 +59,7 @@ fn gives_way(last: Option<Wish>, wish: Wish) -> bool
     }
 }
 
-/// Adds the pixel that a gap asks for, unless it gives way. Error: memory ran out.
+/// Adds the pixel that a gap needs, unless the gap gives way. Error: memory ran out.
 fn grant(added: &mut Vec<Pixel>, last: Option<Wish>, wish: Wish) -> Result<(), AllocError>
     ensures { OnOk result ((p j : ℤ) → has_pixel added.new.items p j
         ≡ (has_pixel added.old.items p j
@@ -74,7 +74,7 @@ fn grant(added: &mut Vec<Pixel>, last: Option<Wish>, wish: Wish) -> Result<(), A
     Ok(())
 }
 
-/// The pixels that a pass adds, by marks in order, where so much is black. Error: memory ran out.
+/// The pixels that a pass adds, by marks in order and a bitmap of the black pixels. Error: memory ran out.
 pub(crate) fn pass(
     alloc: Global,
     rules: Rules,

@@ -1,4 +1,4 @@
-//! How often edges wind round a point, asked of each.
+//! How often edges wind round a point, by each edge.
 
 ghost use Rattle.std.specs.Prelude.{◌≡◌, false, ℤ, ◌-ℤ◌, ◌*ℤ◌, ◌^◌, ◌<◌, ◌≤◌, pos, unsigned_abs, All};
 ghost use Rattle.tt_scan_dropouts.specs.BothWays.{turn_by};
@@ -6,7 +6,7 @@ ghost use Rattle.tt_scan.specs.Winding.{EdgeFits, turned, winding};
 
 use tt_scan::Edge;
 
-/// The two products whose difference tells on which side of an edge a point lies.
+/// Two products; their difference shows the side of an edge on which a point lies.
 #[inline(always)]
 fn sides(edge: Edge, x: i64, y: i64) -> (i64, i64)
     requires edge { EdgeFits edge }
@@ -21,7 +21,7 @@ fn sides(edge: Edge, x: i64, y: i64) -> (i64, i64)
     )
 }
 
-/// How an edge from one height to another turns round a point at a third, by the products of its sides.
+/// The turn of an edge from one height to another round a point at a third, by the products of its sides.
 #[inline(always)]
 fn turn_by(from: i64, to: i64, y: i64, p: i64, q: i64) -> i64
     ensures exact { result ≡ turn_by from to y p q }
@@ -44,7 +44,7 @@ fn goes_through(from: i64, to: i64, y: i64) -> bool
     (from <= y) != (to <= y)
 }
 
-/// What an edge adds to the winding of a point.
+/// What an edge adds to the winding of a point: 1, 0 or -1.
 #[inline(always)]
 fn turned(edge: &Edge, x: i64, y: i64) -> i64
     requires edge { EdgeFits edge.now }

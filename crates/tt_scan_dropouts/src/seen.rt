@@ -23,7 +23,7 @@ pub(crate) fn turned_round(edge: Edge) -> Edge
     }
 }
 
-/// An edge as a pass sees it: one over columns, with x and y exchanged.
+/// An edge as a pass sees it: with x and y exchanged in a pass over columns.
 #[inline(always)]
 pub(crate) fn seen_by(over: Over, edge: Edge) -> Edge
     requires { EdgeFits edge }

@@ -25,7 +25,7 @@ pub(crate) fn walk(alloc: Global, edges: &[Edge]) -> Result<Vec<Step>, AllocErro
     requires { All EdgeFits edges.now }
     ensures { IfOk result (λ v. v.items ≡ walk edges.now) }
 {
-    // Each edge has its end for a step.
+    // Each edge has at least one step, its end.
     let mut steps = Vec::with_capacity(alloc, edges.len())?;
     for i in 0..edges.len() {
         push_steps(&mut steps, edges[i])?;

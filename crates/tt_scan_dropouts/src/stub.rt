@@ -1,4 +1,4 @@
-//! Which crossings belong to a stub: the contour comes into a gap and leaves by it, and does not reach far between.
+//! Which crossings belong to a stub: the contour enters a gap, leaves by it, and does not reach far between.
 
 ghost use Rattle.std.specs.Prelude.{◌≡◌, ◌+◌, ◌-◌, ◌<◌, get_or, nat_lt, length, reverse, if◌then◌else◌};
 ghost use Rattle.tt_scan_dropouts.specs.declared.mark.Step as step;
@@ -7,7 +7,7 @@ ghost use Rattle.tt_scan_dropouts.specs.Walk.{is_of_stub, is_stub, is_tip, other
 use crate::crossing::centre;
 use crate::mark::{Crossing, Leg, Step};
 
-/// The number of a step that is so many after the first of `count`, round to it again.
+/// The number of the step `i` after the first of `count`, cyclically.
 #[inline(always)]
 fn round(i: usize, count: usize) -> usize
     requires { i < count + count }
@@ -16,7 +16,7 @@ fn round(i: usize, count: usize) -> usize
     if i < count { i } else { i - count }
 }
 
-/// The step that comes after so many others on the way from step `k` round a closed walk, forward or backward.
+/// The step that comes after `m` others on the way from step `k` round a closed walk, forward or backward.
 #[inline(always)]
 fn other(steps: &[Step], k: usize, forward: bool, m: usize) -> Step
     requires step { k < length steps.now }
@@ -46,7 +46,7 @@ fn way(steps: &[Step], k: usize, forward: bool, y: i64) -> Option<Leg>
     None
 }
 
-/// Whether the contour comes into a gap and leaves by it.
+/// Whether the contour enters a gap and leaves by it.
 #[inline(always)]
 fn is_tip(c: Crossing, d: Crossing) -> bool
     ensures { result ≡ is_tip c d }

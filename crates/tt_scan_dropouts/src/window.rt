@@ -1,4 +1,4 @@
-//! The part of the plane in which dropouts are looked for, by rows or by columns.
+//! The part of the plane in which dropouts are sought, by rows or by columns.
 
 ghost use Rattle.std.specs.Prelude.{◌≡◌, ℤ, pos, true, false, ◌&&◌, ◌+ℤ◌, ◌-ℤ◌, ◌^◌, ◌<◌, unsigned_abs, IfNone, IfSome};
 ghost use Rattle.std.specs.Int.{int_max, int_min};
@@ -6,7 +6,7 @@ ghost use Rattle.tt_scan_dropouts.specs.Windows.{ColumnsFit, IsPart, WindowFits,
 
 use crate::mark::Columns;
 
-/// So many columns from `left` on, and so many rows from `bottom` up, by the numbers of pixels.
+/// A window of pixels: `width` columns from `left` on, and `height` rows from `bottom` up.
 #[derive(Clone, Copy, Debug, PartialEq, Eq)]
 pub struct Window {
     pub left: i32,
@@ -15,14 +15,14 @@ pub struct Window {
     pub height: u32,
 }
 
-/// What a pass goes over. In a pass over columns these are the lines, and a pixel's column and row are exchanged.
+/// The direction of a pass. In a pass over columns these are the lines, and a pixel's column and row are exchanged.
 #[derive(Clone, Copy)]
 pub(crate) enum Over {
     Rows,
     Columns,
 }
 
-/// Whether a number is one of so many from a first one on.
+/// Whether a number is one of `count` numbers from `first` on.
 #[inline(always)]
 fn is_within(first: i32, count: u32, n: i64) -> bool
     ensures { result ≡ is_within first count n }
@@ -31,7 +31,7 @@ fn is_within(first: i32, count: u32, n: i64) -> bool
     first <= n && n < first + i64::from(count)
 }
 
-/// How far a number is from the first of those that it is one of.
+/// The distance of a number from the first of its range.
 #[inline(always)]
 pub(crate) fn offset(first: i32, count: u32, n: i64) -> usize
     requires { is_within first count n ≡ true }
@@ -49,7 +49,7 @@ pub(crate) fn has(window: Window, column: i64, row: i64) -> bool
     is_within(window.left, window.width, column) && is_within(window.bottom, window.height, row)
 }
 
-/// The window with two pixels more on each side: so far the pixels stand that a dropout in it depends on.
+/// The window with two pixels more on each side: a dropout in the window depends on pixels as far off.
 pub(crate) fn widened(window: Window) -> Window
     requires { WindowFits (widened 2 window) }
     ensures { result ≡ widened 2 window }
@@ -62,14 +62,14 @@ pub(crate) fn widened(window: Window) -> Window
     }
 }
 
-/// So many numbers, from one on.
+/// A range of numbers, by its first and its count.
 #[derive(Clone, Copy)]
 struct Part {
     from: i32,
     count: u32,
 }
 
-/// Where those of so many numbers from a first one on begin that are columns of a box.
+/// The first number of a range that may be a column of a box.
 fn start_of(first: i32, columns: Columns) -> i64
     requires { ColumnsFit columns }
     ensures exact { result ≡ int_max first columns.first }
@@ -78,7 +78,7 @@ fn start_of(first: i32, columns: Columns) -> i64
     i64::from(first).max(columns.first)
 }
 
-/// The number after the last of those.
+/// One past the last number of a range that may be a column of a box.
 fn end_of(first: i32, count: u32, columns: Columns) -> i64
     requires { ColumnsFit columns }
     ensures exact { result ≡ int_min (first +ℤ pos count) (columns.last +ℤ pos 1) }
@@ -87,7 +87,7 @@ fn end_of(first: i32, count: u32, columns: Columns) -> i64
     (i64::from(first) + i64::from(count)).min(columns.last + 1)
 }
 
-/// Those of so many numbers from a first one on that are columns of a box.
+/// The numbers of a range that are columns of a box; None where there is none.
 fn overlap(first: i32, count: u32, columns: Columns) -> Option<Part>
     requires { ColumnsFit columns }
     ensures some { IfSome result (λ p. (n : ℤ) → is_within p.from p.count n
