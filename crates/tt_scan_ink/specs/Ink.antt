@@ -15,7 +15,7 @@ use Rattle.tt_scan_ink.specs.declared.ink.GlyphInk.{GlyphInk}
 abbrev pub pixel_box : ℤ → ℤ → GlyphInk
 pixel_box c j = record { left = c; bottom = j; right = c; top = j }
 
--- the least box that holds two
+-- the least box that holds two boxes
 abbrev pub joined_boxes : GlyphInk → GlyphInk → GlyphInk
 joined_boxes a b = record {
   left = int_min a.left b.left;
@@ -29,7 +29,7 @@ joined None b = b
 joined (Some a) None = Some a
 joined (Some a) (Some b) = Some (joined_boxes a b)
 
--- the box of the black ones among so many pixels of a line, from column c on
+-- the box of the black pixels among a number of pixels of a line, from column c on
 abbrev pub line_ink : (ℤ → ℤ → Bool) → ℤ → ℤ → ℕ → Option GlyphInk
 line_ink black j c zero = None
 line_ink black j c (suc n) =
@@ -39,7 +39,7 @@ line_ink black j c (suc n) =
 abbrev pub count_of : Columns → ℕ
 count_of b = unsigned_abs (b.last -ℤ b.first) + 1
 
--- the same of so many lines, from line j on, in some columns
+-- the box of the black pixels in some columns of a number of lines, from line j on
 abbrev pub lines_ink : (ℤ → ℤ → Bool) → Columns → ℤ → ℕ → Option GlyphInk
 lines_ink black columns j zero = None
 lines_ink black columns j (suc n) =

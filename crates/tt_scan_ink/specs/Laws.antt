@@ -1,4 +1,4 @@
--- What the definitions come to: the box holds all that is black, wherever it stands, and no smaller box does.
+-- Lemmas about the definitions: the box holds all black pixels of the plane, and no smaller box does.
 use Rattle.std.specs.Prelude.{Bool, ◌||◌, ℤ, All, List, Option}
 use Rattle.tt_scan.specs.Contours.{IsClosed}
 use Rattle.tt_scan.specs.declared.edge.Edge.{Edge}
@@ -13,12 +13,12 @@ abbrev pub EdgesInkHoldsAll : Type 0
 EdgesInkHoldsAll = (contours : List (List Edge)) → All IsClosed contours
     → IsInk (is_inked contours) (edges_ink (edges_of contours))
 
--- no dropout lies outside it, whatever the contours
+-- no dropout lies outside the box of the edges, whatever the contours
 abbrev pub DropoutsInkHoldsAll : Type 0
 DropoutsInkHoldsAll = (rules : Rules) (contours : List (List Edge))
     → IsInk (is_dropout rules contours) (dropouts_ink rules contours (edges_of contours))
 
--- two boxes joined are the box of what is black in either
+-- two boxes joined are the box of the pixels that are black in either
 abbrev pub JoinedHoldsBoth : Type 0
 JoinedHoldsBoth = (black other : ℤ → ℤ → Bool) (a b : Option GlyphInk) → IsInk black a → IsInk other b
     → IsInk (λ c j. black c j || other c j) (joined a b)

@@ -1,4 +1,4 @@
--- What the box of black pixels is, in one sentence: it holds them all, and a black pixel stands at each of its sides.
+-- The box of black pixels, in one sentence: it holds them all, and each of its sides has a black pixel.
 use Rattle.std.specs.Prelude.{◌≡◌, ℕ, Bool, true, false, ◌&&◌, ◌^◌, ◌<◌, ℤ, ◌≤ℤ◌, unsigned_abs, List, Option, Some, None}
 use Rattle.std.specs.Ordering.{int_eq}
 use Rattle.tt_scan.specs.Marks.{covers}
@@ -29,7 +29,7 @@ abbrev pub IsInk : (ℤ → ℤ → Bool) → Option GlyphInk → Type 0
 IsInk black None = (c j : ℤ) → black c j ≡ false
 IsInk black (Some b) = IsLeastBox black b
 
--- what is black in some columns of so many lines, from one on
+-- a pixel is black, and lies in some columns of `count` lines from `first` on
 abbrev pub shown : Columns → ℤ → ℕ → (ℤ → ℤ → Bool) → ℤ → ℤ → Bool
 shown columns first count black c j = is_column_of columns c && (is_within first count j && black c j)
 
@@ -37,17 +37,17 @@ shown columns first count black c j = is_column_of columns c && (is_within first
 abbrev pub is_inked_by : List Edge → ℤ → ℤ → Bool
 is_inked_by es c j = is_black es (centre c) (centre j)
 
--- what spans cover of one line in some columns
+-- spans cover a pixel of one line in some columns
 abbrev pub covered : Columns → ℤ → List Span → ℤ → ℤ → Bool
 covered columns line ss c j = is_column_of columns c && (int_eq line j && covers ss c)
 
--- columns or lines in order, none of them so far off that a window round them does not fit
+-- columns or lines in order, near enough that a window round them fits
 pub record AreNear (b : Columns) : Type 0 where
   pub first : unsigned_abs b.first < 2 ^ 18
   pub last : unsigned_abs b.last < 2 ^ 18
   pub order : b.first ≤ℤ b.last
 
--- a box that lies no further off
+-- a box as near
 pub record IsNear (b : GlyphInk) : Type 0 where
   pub left : unsigned_abs b.left < 2 ^ 18
   pub bottom : unsigned_abs b.bottom < 2 ^ 18

@@ -40,7 +40,7 @@ fn pixels_ink(pixels: &[Pixel]) -> Option<GlyphInk>
     ink
 }
 
-/// The window of some columns and of so many lines, from one on.
+/// The window of some columns and of `height` lines from `bottom` on.
 fn window_of(columns: Columns, bottom: i64, height: u32) -> Window
     requires columns { AreNear columns }
     requires some { 1 ≤ height }
@@ -76,8 +76,8 @@ fn window_ink(
     Ok(pixels_ink(&found))
 }
 
-/// The box of the dropouts in some columns and rows, window after window from the lowest on: a window has no more rows
-/// than a picture. Error: memory ran out.
+/// The box of the dropouts in some columns and rows, window after window from the lowest on, because a window has no
+/// more rows than a picture. Error: memory ran out.
 fn windows_ink(
     alloc: Global,
     rules: Rules,
@@ -105,8 +105,8 @@ fn windows_ink(
     Ok(ink)
 }
 
-/// The least box that holds all dropouts of a glyph whose edges stand on a tape, and whose contours each end before the
-/// edge of a number; None where there are none. The tape's frame is of no account. Error: memory ran out.
+/// The least box that holds all dropouts of a glyph; None where it has no dropout. The tape has the glyph's edges, and
+/// each contour ends before the edge of a number in `ends`. The tape's frame does not matter. Error: memory ran out.
 pub fn dropouts_ink(
     alloc: Global,
     rules: Rules,

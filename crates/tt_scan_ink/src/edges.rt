@@ -1,4 +1,4 @@
-//! The box of what a glyph's edges blacken by rules 1 and 2.
+//! The box of the pixels that a glyph's edges blacken by rules 1 and 2.
 
 ghost use Rattle.std.specs.Prelude.{◌≡◌, ◌+◌, ◌*◌, ◌^◌, ◌<◌, ◌≤◌, ◌-ℤ◌, pos, unsigned_abs, [], ◌∷◌, length, IfOk, IfSome};
 ghost use Rattle.tt_core.specs.Limits.{height_limit};
@@ -13,7 +13,7 @@ use tt_core::HEIGHT_LIMIT;
 use tt_scan::{EdgeList, Frame, Span, Sweep, Tape};
 use tt_scan_dropouts::{Columns, box_of};
 
-/// The box of what a span covers of a line in some columns.
+/// The box of a span on a line, cut to some columns.
 #[inline(always)]
 fn span_ink(span: Span, columns: Columns, line: i64) -> Option<GlyphInk>
     ensures { IsInk (covered columns line (span ∷ [])) result }
@@ -32,7 +32,7 @@ fn span_ink(span: Span, columns: Columns, line: i64) -> Option<GlyphInk>
     }
 }
 
-/// The box of what spans cover of a line in some columns.
+/// The box of spans on a line, cut to some columns.
 fn spans_ink(spans: &[Span], columns: Columns, line: i64) -> Option<GlyphInk>
     ensures { IsInk (covered columns line spans.now) result }
 {
@@ -43,8 +43,8 @@ fn spans_ink(spans: &[Span], columns: Columns, line: i64) -> Option<GlyphInk>
     ink
 }
 
-/// The box of what edges blacken in some columns of the rows of a tape's frame, the highest of which is the line below
-/// line `past`.
+/// The box of the pixels that edges blacken in some columns of the rows of a tape's frame. The highest row is the line
+/// below line `past`.
 fn rows_ink(tape: &mut Tape, sweep: &mut Sweep, columns: Columns, past: i64) -> Option<GlyphInk>
     requires columns { AreNear columns }
     requires margin { tape.old.frame.margin ≡ 0 }
@@ -65,8 +65,7 @@ fn rows_ink(tape: &mut Tape, sweep: &mut Sweep, columns: Columns, past: i64) -> 
     ink
 }
 
-/// The frame whose rows are so many lines, the highest of which is the line below line `past`, and whose columns count
-/// from the pen.
+/// A frame of `height` rows. The highest is the line below line `past`; columns count from the pen.
 fn frame_of(past: i64, height: u32) -> Frame
     requires some { 1 ≤ height }
     requires few { height ≤ height_limit }
@@ -82,8 +81,8 @@ fn frame_of(past: i64, height: u32) -> Frame
     }
 }
 
-/// The box of what edges blacken in some columns of so many lines, below line `past`, and the edges given back. Error:
-/// memory ran out.
+/// The box of the pixels that edges blacken in some columns of `height` lines below line `past`, and the edges given
+/// back. Error: memory ran out.
 fn band_ink(
     alloc: Global,
     list: EdgeList,
@@ -106,8 +105,8 @@ fn band_ink(
     Ok((tape.into_list(), ink))
 }
 
-/// The box of what edges blacken in some columns and rows, band after band from the lowest on: a tape has no more rows
-/// than a picture. Error: memory ran out.
+/// The box of the pixels that edges blacken in some columns and rows, band after band from the lowest on, because a
+/// tape has no more rows than a picture. Error: memory ran out.
 fn bands_ink(
     alloc: Global,
     list: EdgeList,
@@ -134,15 +133,15 @@ fn bands_ink(
     Ok(ink)
 }
 
-/// The least box that holds what edges blacken by the scan converter's rules 1 and 2 in the box of the edges, outside
-/// which closed contours blacken nothing; None where nothing is black there. Edges are in 1/8192 pixel. Error: memory
-/// ran out.
+/// The least box that holds the pixels that edges blacken by the scan converter's rules 1 and 2, in the box of the
+/// edges; None where no pixel is black there. Closed contours blacken nothing outside the box of the edges. Edges are
+/// in 1/8192 pixel. Error: memory ran out.
 pub fn edges_ink(alloc: Global, list: EdgeList) -> Result<Option<GlyphInk>, AllocError>
     requires few { length list.edges ≤ 2 ^ 17 }
     ensures exact { IfOk result (λ ink. ink ≡ edges_ink list.edges) }
     ensures near { IfOk result (λ ink. IfSome ink IsNear) }
 {
-    // A list lends no edges, a tape in any frame does.
+    // A list does not lend its edges; a tape in any frame does.
     let tape = Tape::of(alloc, frame_of(0, 1), list)?;
     let (columns, rows) = box_of(tape.lend());
     bands_ink(alloc, tape.into_list(), columns, rows)

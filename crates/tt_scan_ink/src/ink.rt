@@ -13,7 +13,7 @@ pub struct GlyphInk {
     pub top: i64,
 }
 
-/// The least box that holds two.
+/// The least box that holds two boxes.
 fn joined_boxes(a: GlyphInk, b: GlyphInk) -> GlyphInk
     ensures { result ≡ joined_boxes a b }
 {
@@ -25,7 +25,7 @@ fn joined_boxes(a: GlyphInk, b: GlyphInk) -> GlyphInk
     }
 }
 
-/// The least box that holds two; the other where one of them is none.
+/// The least box that holds two boxes, where None is the empty box.
 pub fn joined(a: Option<GlyphInk>, b: Option<GlyphInk>) -> Option<GlyphInk>
     ensures { result ≡ joined a b }
 {

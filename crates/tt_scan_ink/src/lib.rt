@@ -1,11 +1,11 @@
-//! The least box that holds the black pixels of one glyph, those outside any picture too.
+//! The least box that holds the black pixels of one glyph, inside and outside any picture.
 //!
 //! ```text
 //! ink.rt        a box, and two joined
-//! edges.rt      the box of what edges blacken by rules 1 and 2, line by line
+//! edges.rt      the box of the pixels that edges blacken by rules 1 and 2, line by line
 //! dropouts.rt   the box of the dropouts, window by window
-//! lines.rt      how many columns or lines a box has
-//! laws.rt       a box holds all that is black, wherever it stands
+//! lines.rt      the number of columns or lines of a box
+//! laws.rt       a box holds all black pixels of the plane
 //! ```
 #![tactic(auto)]
 

@@ -1,4 +1,4 @@
-//! How many numbers columns or lines have.
+//! The number of columns or lines of a box.
 
 ghost use Rattle.std.specs.Prelude.{◌≡◌, ◌^◌, ◌≤◌};
 ghost use Rattle.tt_scan_ink.specs.Least.{AreNear};
@@ -6,7 +6,7 @@ ghost use Rattle.tt_scan_ink.specs.Ink.{count_of};
 
 use tt_scan_dropouts::Columns;
 
-/// How many numbers there are from a first to a last.
+/// The count of numbers from a first to a last.
 pub(crate) fn count_of(numbers: Columns) -> u32
     requires { AreNear numbers }
     ensures exact { result ≡ count_of numbers }
