@@ -12,11 +12,11 @@ pub record Raster : Type 0 where
   pub top : ℤ
   pub rows : List (List Span)
 
--- where the centres of a line stand
+-- the height of the centres of a line
 abbrev pub line_y : ℤ → ℤ
 line_y j = pos 8192 *ℤ j +ℤ pos 4096
 
--- the spans of line j: none where no row is
+-- the spans of line j; none where the raster has no row for it
 abbrev pub spans_at : Raster → ℤ → List Span
 spans_at k j = if int_le j k.top then row_at k.rows (unsigned_abs (k.top -ℤ j)) else []
 
@@ -24,16 +24,16 @@ spans_at k j = if int_le j k.top then row_at k.rows (unsigned_abs (k.top -ℤ j)
 abbrev pub shows : Raster → ℤ → ℤ → Bool
 shows k c j = covers (spans_at k j) c
 
--- the same from one of some pens
+-- column c of line j is black from one of some pens
 abbrev pub shows_from : Raster → List ℕ → ℤ → ℤ → Bool
 shows_from k [] c j = false
 shows_from k (pen ∷ pens) c j = shows k (c -ℤ pos pen) j || shows_from k pens c j
 
--- the black columns of all lines, those without a row too
+-- a raster of edges: right in all lines, those without a row too
 abbrev pub IsRasterOf : List Edge → Raster → Type 0
 IsRasterOf es k = (c j : ℤ) → c <ℤ pos (2 ^ 63) → shows k c j ≡ is_black es (column_x 0 c) (line_y j)
 
--- how many lines may have their centres from a height up to another
+-- the number of lines that may have their centres from a height up to another
 abbrev pub lines_in : Option (ℤ × ℤ) → ℕ
 lines_in None = 0
 lines_in (Some t) = unsigned_abs (t.1 -ℤ t.0) / 8192 + 1

@@ -12,15 +12,15 @@ use Rattle.tt_scan.specs.declared.mark.Span.{Span}
 pub record Rows : Type 0 where
   pub rows : List (List Span)
 
--- row r; past the last one an empty row stands for none
+-- row r; past the last row, an empty row
 abbrev pub row_at : List (List Span) → ℕ → List Span
 row_at rows r = get_or rows r []
 
--- how many spans there are, of all rows together
+-- the number of spans of all rows together
 abbrev pub spans_in : List (List Span) → ℕ
 spans_in rows = sum_by length rows
 
--- the rows of a frame in which edges were cut: of each its black columns, whether a picture shows them or not
+-- the black columns of each row of a frame, inside and outside any picture
 pub record AreRowsOf (es : List Edge) (f : Frame) (rows : List (List Span)) : Type 0 where
   pub count : length rows ≡ f.height
   pub black : (r : ℕ) → r < f.height → (c : ℤ) → c <ℤ pos (2 ^ 63)
@@ -35,7 +35,8 @@ abbrev pub rows_at : List Span → List ℕ → List (List Span)
 rows_at ss [] = []
 rows_at ss (start ∷ ends) = rows_from start ss ends
 
--- such numbers, of so many spans: the first is 0, none is less than the one before it, and the last is the count
+-- the starts of rows among a number of spans: the first is 0, each is no less than the start before it, and the last is
+-- the number of spans
 abbrev pub AreStarts : ℕ → List ℕ → Type 0
 AreStarts count [] = ⊥
 AreStarts count (start ∷ ends) = (start ≡ 0) × AreEndsFrom start count ends

@@ -1,4 +1,4 @@
-//! The black columns of one glyph: a glyph that stands in many lines is cut once, and painted in each.
+//! The black columns of one glyph: a glyph that occurs in many lines is cut once, and painted in each.
 #![tactic(auto)]
 
 mod raster;

@@ -1,8 +1,7 @@
-//! The raster of one glyph: its black columns line by line, cut once, then painted wherever its base line and its pens
-//! stand.
+//! The raster of one glyph: its black columns line by line, cut once, then painted for any base line and any pens.
 //!
-//! A line counts pixel rows upwards from the base line: the centres of line j stand at 8192 j + 4096, in 1/8192 pixel.
-//! Columns count rightwards from the glyph's pen: the centres of column c stand at 8192 c + 4096.
+//! A line counts pixel rows upwards from the base line: the centres of line j are at 8192 j + 4096, in 1/8192 pixel.
+//! Columns count rightwards from the glyph's pen: the centres of column c are at 8192 c + 4096.
 
 ghost use Rattle.std.specs.Prelude.{◌≡◌, ℕ, ℤ, false, ◌+◌, ◌*◌, ◌^◌, ◌<◌, ◌≤◌, ◌&&◌, ◌||◌, ◌+ℤ◌, ◌-ℤ◌, ◌*ℤ◌, ◌<ℤ◌, ◌≤ℤ◌, pos, nat_lt, unsigned_abs, [], length, IfNone, IfOk, IfSome};
 ghost use Rattle.tt_core.specs.Bits.{bit};
@@ -24,7 +23,7 @@ use tt_scan::{EdgeList, Frame, Sweep, Tape};
 /// The most rows of a frame: those of a picture, and two more on each side.
 const MOST_ROWS: u32 = HEIGHT_LIMIT + 4;
 
-/// More spans than the edges of a glyph leave in all rows of a frame.
+/// More spans than the edges of a glyph yield in all rows of a frame.
 const MANY_SPANS: usize = 1 << 40;
 
 /// The black columns of a glyph's lines.
@@ -48,16 +47,16 @@ impl Model for Raster {
         × (spans_in k.rows.rows ≤ 2 ^ 40) };
 }
 
-/// What a glyph's edges became.
+/// The result of cutting a glyph's edges.
 #[derive(Drop)]
 pub enum Cut {
     /// The raster of the glyph.
     Raster(Raster),
-    /// The edges as they were: their raster would be too large.
+    /// The edges unchanged: their raster would be too large.
     Edges(EdgeList),
 }
 
-/// How many whole lines high `y` is, which is in 1/8192 pixel: the floor.
+/// The whole lines in `y`, which is in 1/8192 pixel: the floor.
 #[inline(always)]
 fn whole_lines(y: i32) -> i32
     ensures low { (pos 8192 *ℤ result) ≤ℤ y }
@@ -66,7 +65,7 @@ fn whole_lines(y: i32) -> i32
     y >> 13
 }
 
-/// The first and the last of the lines whose centres stand from height `low` up to `high`; None where there is none.
+/// The first and the last line whose centres are from height `low` up to `high`; None where there is none.
 fn lines_between(low: i32, high: i32) -> Option<(i32, i32)>
     requires low { unsigned_abs low < 2 ^ 30 }
     requires high { unsigned_abs high < 2 ^ 30 }
@@ -85,7 +84,7 @@ fn lines_between(low: i32, high: i32) -> Option<(i32, i32)>
     }
 }
 
-/// The first and the last of the lines that edges may meet; None where there is none. All other lines are blank.
+/// The first and the last line that edges may meet; None where there is none. All other lines are blank.
 fn lines_met(list: &EdgeList) -> Option<(i32, i32)>
     ensures blank { (x j : ℤ) → spans result j ≡ false → is_black list.now.edges x (line_y j) ≡ false }
     ensures order { IfSome result (λ t. t.0 ≤ℤ t.1) }
@@ -99,7 +98,7 @@ fn lines_met(list: &EdgeList) -> Option<(i32, i32)>
     }
 }
 
-/// How many lines there are from the first to the last.
+/// The number of lines from the first to the last.
 fn count_of(first: i32, last: i32) -> u32
     requires order { first ≤ℤ last }
     requires first { unsigned_abs first < 2 ^ 19 }
@@ -110,7 +109,7 @@ fn count_of(first: i32, last: i32) -> u32
     (last - first) as u32 + 1
 }
 
-/// The frame whose rows are so many lines from the last down, and whose columns count from the pen.
+/// The frame whose rows are `count` lines from the last down, and whose columns count from the pen.
 fn frame_of(count: u32, last: i32) -> Frame
     requires some { 1 ≤ count }
     requires count { count ≤ height_limit + 4 }
@@ -137,9 +136,9 @@ impl Raster {
         })
     }
 
-    /// The raster of all lines that edges meet. The edges are given back where these lie over more than `most_rows` lines,
-    /// or more than a frame has rows, or leave more than `most_spans` spans: how many a line has is left to the sweep, but
-    /// never more than twice as many as there are edges, and one. Error: memory ran out.
+    /// The raster of all lines that edges meet. The edges are given back where they span more than `most_rows` lines or
+    /// more lines than a frame has rows, or yield more than `most_spans` spans. The sweep decides the number of spans
+    /// of a line: at most twice the number of edges, plus one. Error: memory ran out.
     pub fn cut(
         alloc: Global,
         list: EdgeList,
@@ -163,7 +162,7 @@ impl Raster {
         Raster::cut_in(alloc, list, frame_of(count, last), last, most_spans)
     }
 
-    /// The raster of the rows of a frame, the first of which is line `top`; the edges where these leave more than
+    /// The raster of the rows of a frame; its first row is line `top`. The edges instead where the rows have more than
     /// `most_spans` spans. Error: memory ran out.
     fn cut_in(
         alloc: Global,
@@ -194,7 +193,7 @@ impl Raster {
         }
     }
 
-    /// The row of a line; None where there is none.
+    /// The row of a line; None where the raster has no row for it.
     #[inline(always)]
     fn row_of(&self, line: i64) -> Option<usize>
         ensures within { IfSome result (λ r. r < length self.now.rows) }
@@ -213,9 +212,9 @@ impl Raster {
         }
     }
 
-    /// Blackens the pixels of the black columns of a line from each pen of the glyph: moved by as many columns to the
-    /// right as the pen says, in a row of so many pixels, the leftmost in the highest bit of the first byte. All other
-    /// bits stay as they are. It takes no memory.
+    /// Blackens the pixels of the black columns of a line from each pen of the glyph, moved to the right by the pen's
+    /// columns. The row has `width` pixels, the leftmost in the highest bit of the first byte. All other bits are
+    /// unchanged. It takes no memory.
     pub fn paint(&self, line: i64, pens: &[u32], width: u32, row: &mut [u8])
         requires { width ≤ 8 * length row.old }
         ensures bits { (k : ℕ) → bit row.new k
@@ -237,8 +236,8 @@ impl Raster {
         }
     }
 
-    /// The lowest line that has a row, and one past the highest; two equal numbers where none has. All other lines are
-    /// blank.
+    /// The lowest line that has a row, and one past the highest; two equal numbers where there are no rows. All other
+    /// lines are blank.
     pub fn lines(&self) -> (i64, i64)
         ensures exact { result ≡ ((self.now.top +ℤ pos 1) -ℤ pos (length self.now.rows), self.now.top +ℤ pos 1) }
         ensures blank { (c j : ℤ) → has_row result j ≡ false → shows self.now c j ≡ false }
@@ -250,7 +249,7 @@ impl Raster {
         (past - self.rows.height() as i64, past)
     }
 
-    /// How many bytes the rows take: 16 each span, and 8 each row.
+    /// The bytes that the rows occupy: 16 for each span, and 8 for each row.
     pub fn bytes(&self) -> usize
         ensures { result ≡ 16 * spans_in self.now.rows + 8 * length self.now.rows }
     {

@@ -1,4 +1,4 @@
-//! The black columns of the rows of a glyph, cut once, then painted wherever the glyph stands.
+//! The black columns of the rows of a glyph, cut once, then painted wherever the glyph is.
 
 ghost use Rattle.std.specs.Prelude.{◌≡◌, ℕ, ◌+◌, ◌*◌, ◌^◌, ◌<◌, ◌≤◌, ◌&&◌, ◌||◌, nat_lt, [], ◌∷◌, ◌++◌, length, slice_range, IfNone, IfOk, IfSome, OnErr, OnOk};
 ghost use Rattle.tt_core.specs.Bits.{bit};
@@ -11,12 +11,12 @@ use std::alloc::{AllocError, Global};
 use std::marker::Model;
 use tt_scan::{Span, Sweep, Tape, bounds_of, paint_columns};
 
-/// The black columns of all rows of a glyph, row by row from the top of the frame that it was cut in.
+/// The black columns of all rows of a glyph, row by row from the top of its frame.
 #[derive(Drop)]
 pub(crate) struct Rows {
     /// The spans of all rows, one row after the other.
     spans: Vec<Span>,
-    /// Before which span each row begins; then how many spans there are.
+    /// The number of the first span of each row, and then the number of all spans.
     starts: Vec<usize>,
 }
 
@@ -43,7 +43,7 @@ fn part(spans: &[Span], from: usize, to: usize) -> &[Span]
 }
 
 impl Rows {
-    /// No row yet, and memory for where so many begin. Error: memory ran out.
+    /// No row yet, and memory for the starts of `height` rows. Error: memory ran out.
     pub(crate) fn empty(alloc: Global, height: u32) -> Result<Rows, AllocError>
         ensures { IfOk result (λ rows. rows ≡ record { rows = [] }) }
     {
@@ -55,7 +55,7 @@ impl Rows {
         })
     }
 
-    /// Adds a row below the others. After an error the rows are as they were.
+    /// Adds a row below the others. After an error the rows are unchanged.
     fn push(&mut self, row: &[Span]) -> Result<(), AllocError>
         ensures added { OnOk result (self.new.rows ≡ self.old.rows ++ row.now ∷ []) }
         ensures kept { OnErr result (self.new ≡ self.old) }
@@ -73,9 +73,9 @@ impl Rows {
         self.spans.shrink_to_fit();
     }
 
-    /// Cuts all rows of a tape's frame, each once. None, if more than `most` spans would be held: how many a row has is
-    /// left to the sweep, but never more than twice as many as it has room for edges, and one. Error: memory ran out.
-    /// Whatever the result, the tape's edges and the sweep's room stay.
+    /// Cuts all rows of a tape's frame, each once. None, if they have more than `most` spans. The sweep decides the
+    /// number of spans of a row: at most twice the number of edges that it has room for, plus one. Error: memory ran
+    /// out. Whatever the result, the tape's edges and the sweep's room are unchanged.
     pub(crate) fn cut(
         alloc: Global,
         tape: &mut Tape,
@@ -88,7 +88,7 @@ impl Rows {
         ensures held { IfOk result (λ found. IfSome found (λ rows. spans_in rows.rows ≤ most)) }
         ensures none { IfOk result (λ found. IfNone found (most < tape.old.frame.height * (2 * sweep.old.room + 1))) }
         ensures tape { tape.new ≡ record tape.old { crosses = tape.new.crosses } }
-        // Each edge is crossed once in each row that it meets, and else not at all.
+        // Each edge is crossed once in each row that it meets, and in no other row.
         ensures crosses { IfOk result (λ found. IfSome found (λ _. tape.new.crosses
             ≡ tape.old.crosses + crossings_of tape.old.frame tape.old.edges)) }
         ensures most_crosses { tape.new.crosses ≤ tape.old.crosses + crossings_of tape.old.frame tape.old.edges }
@@ -107,14 +107,14 @@ impl Rows {
         Ok(Some(rows))
     }
 
-    /// How many rows there are.
+    /// The number of rows.
     pub(crate) fn height(&self) -> usize
         ensures { result ≡ length self.now.rows }
     {
         self.starts.len() - 1
     }
 
-    /// How many spans are held, of all rows together. A span takes 16 bytes, a row 8 more.
+    /// The number of spans of all rows together. A span takes 16 bytes, a row 8 more.
     pub(crate) fn spans(&self) -> usize
         ensures { result ≡ spans_in self.now.rows }
     {
@@ -129,9 +129,9 @@ impl Rows {
         part(&self.spans, self.starts[r], self.starts[r + 1])
     }
 
-    /// Blackens the pixels of the black columns of row `r`, counted from the top, from each pen of the glyph: moved by
-    /// as many columns to the right as the pen says, in a row of so many pixels, the leftmost in the highest bit of the
-    /// first byte. All other bits stay as they are. It takes no memory.
+    /// Blackens the pixels of the black columns of row `r`, counted from the top, from each pen of the glyph, moved to
+    /// the right by the pen's columns. The row of bytes has `width` pixels, the leftmost in the highest bit of the
+    /// first byte. All other bits are unchanged. It takes no memory.
     pub(crate) fn paint(&self, r: usize, pens: &[u32], width: u32, row: &mut [u8])
         requires within { r < length self.now.rows }
         requires width { width ≤ 8 * length row.old }
