@@ -1,4 +1,4 @@
--- No part of the standard: what a call of C answers. The statuses 0 to 5 are those of the program (profile).
+-- No part of the standard: the answer of a call of C. The statuses 0 to 5 are those of the program (profile).
 use Rattle.std.specs.Prelude.{◌≡◌, refl, ℕ, [], ◌∷◌, codes, Result, Ok, Err, ◌⊎◌}
 use Rattle.tt_core.specs.declared.fault.JobFault.{JobFault}
 use Rattle.tt_core.specs.declared.fault.JobFault.TheVariants as fault
@@ -21,11 +21,11 @@ plain_answer status number = record {
   count = 0;
 }
 
--- so many bytes were written, and so many rows, entries or lines
+-- the answer of a call that wrote `bytes` bytes and `count` rows, entries or lines
 abbrev pub done_answer : ℕ → ℕ → CAnswer
 done_answer bytes count = record (plain_answer 0 0) { bytes = bytes; count = count }
 
--- there has to be room for so many
+-- the answer of a call that needs room for `bytes` bytes and `count` rows or entries
 abbrev pub room_answer : ℕ → ℕ → CAnswer
 room_answer bytes count = record (plain_answer 7 0) { bytes = bytes; count = count }
 
@@ -48,7 +48,7 @@ refusal_answer not_utf8 = plain_answer 6 0
 abbrev pub memory_answer : CAnswer
 memory_answer = plain_answer 5 0
 
--- the answer for what stopped a call
+-- the answer of a call that a fault stopped
 abbrev pub call_answer : CallFault → CAnswer
 call_answer (call.Font f) = fault_answer f
 call_answer (call.Job j) = job_answer j
@@ -58,12 +58,12 @@ call_answer call.LineEnds = plain_answer 2 67
 call_answer call.NotUtf8 = plain_answer 6 0
 call_answer call.Memory = memory_answer
 
--- an answer that tells why there is nothing that was wanted, or that memory was refused
+-- an answer that says why there is no result, or that memory was refused
 abbrev pub TellsRefusal : {X : Type 0} → Result X Refusal → CAnswer → Type 0
 TellsRefusal (Ok x) a = a ≡ memory_answer
 TellsRefusal (Err why) a = (a ≡ refusal_answer why) ⊎ (a ≡ memory_answer)
 
--- where an answer tells a defect of the font, this holds of it
+-- a property of the font's defect, where an answer reports one
 abbrev pub DefectStands : (Fault → Type 0) → CAnswer → Type 0
 DefectStands IsOne a = a.status ≡ 1 → (f : Fault) × (a ≡ fault_answer f) × IsOne f
 

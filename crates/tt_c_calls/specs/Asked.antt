@@ -1,4 +1,4 @@
--- No part of the standard: what a call of C asks for (profile).
+-- No part of the standard: the requests of a call of C (profile).
 use Rattle.std.specs.Prelude.{◌≡◌, refl, ℕ, ◌==◌, if◌then◌else◌, Bool, not, List, Result, Ok, Err, IsOkAnd}
 use Rattle.std.specs.Str.{is_utf8}
 use Rattle.tt_core.specs.Faults.{Fault}
@@ -10,7 +10,7 @@ use Rattle.tt_strike.specs.Job.{Job}
 use Rattle.tt_c_calls.specs.declared.asked.CJob.{CJob}
 use Rattle.tt_c_calls.specs.Refusals.{Refusal, not_utf8, unknown_fit}
 
--- the way to fit that a number stands for
+-- the way to fit of a number
 unfoldable pub fit_asked : ℕ → Result Fit Refusal
 fit_asked n =
     if n == 0 then Ok fit.Full
@@ -30,7 +30,7 @@ asked j text =
     text_asked text >>= λ t.
     Ok (record { text = t; ppem = j.size; margin = j.margin; fit = f })
 
--- whether the picture is to be made so much larger that no ink is cut
+-- whether the picture is to be enlarged so that no ink is cut
 abbrev pub grows : CJob → Bool
 grows j = not (j.grow == 0)
 

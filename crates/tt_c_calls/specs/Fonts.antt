@@ -7,11 +7,11 @@ use Rattle.tt_strike.specs.Tables.{Face, face_of}
 use Rattle.tt_c_calls.specs.declared.opening.CFont.{CFont}
 use Rattle.tt_c_calls.specs.Refusals.{Refusal, as_call}
 
--- the tables that every text is looked up in, of a file that is not too large
+-- the tables that every text needs, of a file that is not too large
 unfoldable pub face_wanted : List ℕ → Result Face Refusal
 face_wanted font = as_call (of_font (λ file. as_font (face_of file)) font)
 
--- what a font says of itself
+-- the figures of a font, for C
 abbrev pub font_told : Metrics → CFont
 font_told m = record {
   units_per_em = units_per_em_of m;
@@ -20,6 +20,6 @@ font_told m = record {
   glyphs = glyphs_of m;
 }
 
--- this is what a font file says of itself
+-- the figures of a font file, for C
 abbrev pub IsFontOf : List ℕ → CFont → Type 0
 IsFontOf font told = IsOkAnd (face_wanted font) (λ face. told ≡ font_told face.metrics)

@@ -1,4 +1,4 @@
--- Laws of the definitions: an answer says what the program's line says, and a picture that is not made larger is what
+-- Lemmas about the definitions: an answer's message is the program's line, and a picture without `grow` is the one that
 -- `run` writes.
 use Rattle.std.specs.Prelude.{◌≡◌, ℕ, true, List, Ok}
 use Rattle.tt_core.specs.declared.fault.JobFault.{JobFault}
@@ -13,15 +13,15 @@ use Rattle.tt_c_calls.specs.Messages.{message_of}
 use Rattle.tt_c_calls.specs.Pictures.{picture_wanted}
 use Rattle.tt_c_calls.specs.Refusals.{as_call}
 
--- the answer of a font that is refused says the program's line of the defect
+-- the message of a refused font is the program's line of the defect
 abbrev pub FontMessagesAreLines : Type 0
 FontMessagesAreLines = (f : Fault) → is_ascii f.table ≡ true → message_of (fault_answer f) ≡ font_line f
 
--- and that of a job the program's line of the job
+-- the message of a refused job is the program's line of the job
 abbrev pub JobMessagesAreLines : Type 0
 JobMessagesAreLines = (j : JobFault) → message_of (job_answer j) ≡ job_line j
 
--- without `grow` the picture of what is asked for is what `run` writes, or is refused for the same
+-- without `grow` the requested picture is the one that `run` writes, and is refused for the same reason
 abbrev pub PlainIsRun : Type 0
 PlainIsRun = (j : CJob) (text font : List ℕ) (a : Job) → j.grow ≡ 0 → asked j text ≡ Ok a
     → picture_wanted j text font ≡ as_call (run_outcome a font)

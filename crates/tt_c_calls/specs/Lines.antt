@@ -14,16 +14,16 @@ use Rattle.tt_c_calls.specs.Asked.{IsAskedDefect, fit_asked}
 use Rattle.tt_c_calls.specs.Pictures.{IsPictureOf, IsWritten, made_of, picture_told, picture_wanted}
 use Rattle.tt_c_calls.specs.Refusals.{Refusal, as_call, line_ends}
 
--- a line of texts, from one place to before another
+-- a line of texts, from one place up to another
 abbrev pub line_between : List ℕ → ℕ → ℕ → List ℕ
 line_between texts from end = take (end - from) (drop from texts)
 
--- the lines of texts, of which the first begins there, by where each ends
+-- the lines of texts, by the start of the first and the end of each
 abbrev pub lines_by : List ℕ → ℕ → List ℕ → List (List ℕ)
 lines_by texts from [] = []
 lines_by texts from (end ∷ ends) = line_between texts from end ∷ lines_by texts end ends
 
--- each line ends where it begins or after, and within so many bytes
+-- each line ends where it begins or later, and within `bytes` bytes
 abbrev pub AreEnds : ℕ → ℕ → List ℕ → Type 0
 AreEnds bytes from [] = ⊤
 AreEnds bytes from (end ∷ ends) = (from ≤ end) × (end ≤ bytes) × AreEnds bytes end ends
@@ -32,7 +32,7 @@ AreEnds bytes from (end ∷ ends) = (from ≤ end) × (end ≤ bytes) × AreEnds
 abbrev pub start_of : List ℕ → ℕ → ℕ
 start_of ends i = get_or (0 ∷ ends) i 0
 
--- what is told of a line whose rows stand there
+-- a line for C, by its picture and the place of its rows
 abbrev pub line_told : Picture → ℕ → CLine
 line_told p at = record { picture = picture_told p; at = at }
 
@@ -50,7 +50,7 @@ IsLineDrawn j font room at line told =
     (p : Picture) × IsPictureOf j line font p × (told ≡ line_told p at)
     × (take (length p.rows) (drop at room) ≡ p.rows)
 
--- the picture of a line was written at the front of a room that stands at that place of the caller's
+-- the picture of a line was written at the front of a room, which is at place `at` of the caller's room
 pub record IsLineWritten (j : CJob) (font line : List ℕ) (at : ℕ) (old new : List ℕ) (told : CLine) (a : CAnswer)
     : Type 0 where
   pub picture : Picture
@@ -59,14 +59,14 @@ pub record IsLineWritten (j : CJob) (font line : List ℕ) (at : ℕ) (old new :
   pub known : told ≡ line_told picture at
   pub answer : a ≡ done_answer (length picture.rows) picture.frame.height
 
--- lines were drawn one after the other, the first at that place
+-- lines were drawn one after the other, the first at place `at`
 abbrev pub AreLinesDrawn : CJob → List ℕ → List ℕ → ℕ → List (List ℕ) → List CLine → Type 0
 AreLinesDrawn j font room at [] [] = ⊤
 AreLinesDrawn j font room at (line ∷ lines) (told ∷ others) =
     IsLineDrawn j font room at line told × AreLinesDrawn j font room (at + line_bytes told) lines others
 AreLinesDrawn j font room at lines told = ⊥
 
--- the first lines, so many, were drawn in so many bytes, and nothing else was changed
+-- the first `count` lines were drawn in `used` bytes, and all else of the caller's is unchanged
 pub record DrawsLines (j : CJob) (font texts ends room_before room : List ℕ) (told_before told : List CLine)
     (used count : ℕ) : Type 0 where
   pub few : count ≤ length ends
@@ -76,12 +76,12 @@ pub record DrawsLines (j : CJob) (font texts ends room_before room : List ℕ) (
   pub rest : drop used room ≡ drop used room_before
   pub others : drop count told ≡ drop count told_before
 
--- the answer of a line that stopped a call, after lines that were drawn in so many bytes
+-- the answer of a line that stopped a call, after `count` lines that were drawn in `used` bytes
 abbrev pub stopped_answer : CAnswer → ℕ → ℕ → CAnswer
 stopped_answer a used count = record a { bytes = used + a.bytes; count = count }
 
--- why a line stopped a call, which left so much room, and the line's own answer: memory was refused; it is refused;
--- there is too little room
+-- the reason why a line stopped a call, and the line's own answer, where `left` bytes of room remained: memory was
+-- refused; the line is refused; the room is too small
 abbrev pub IsTextStopped : CJob → List ℕ → List ℕ → ℕ → CAnswer → Type 0
 IsTextStopped j font line left a =
     (a ≡ memory_answer)
@@ -89,7 +89,7 @@ IsTextStopped j font line left a =
     ⊎ ((p : Picture) × IsPictureOf j line font p × (left < length p.rows)
     × (a ≡ room_answer (length p.rows) p.frame.height))
 
--- why the line from one place to another stopped a call: there are no such ends; or the line did
+-- the reason why the line between two places stopped a call: there are no such ends; or the line itself
 abbrev pub IsLineStopped : CJob → List ℕ → List ℕ → ℕ → ℕ → ℕ → CAnswer → Type 0
 IsLineStopped j font texts from end left a =
     ((a ≡ refusal_answer line_ends) × ((end < from) ⊎ (length texts < end)))
@@ -101,8 +101,8 @@ lines_wanted j font =
     fit_asked j.fit >>= λ f.
     as_call (made_of (λ face. Ok face) (record { text = []; ppem = j.size; margin = j.margin; fit = f }) font)
 
--- why a call drew no more than the first lines: the font or the job is refused, and no line is drawn; or the next line
--- stopped it
+-- the reason why a call drew no more than the first lines: the font or the job is refused, and no line is drawn; or the
+-- next line stopped it
 abbrev pub IsStopped : CJob → List ℕ → List ℕ → List ℕ → ℕ → ℕ → CAnswer → Type 0
 IsStopped j font texts ends room used a =
     ((why : Refusal) × (lines_wanted j font ≡ Err why) × (a ≡ refusal_answer why))
@@ -110,23 +110,23 @@ IsStopped j font texts ends room used a =
     ⊎ ((own : CAnswer) × (a.count < length ends) × (a ≡ stopped_answer own used a.count)
     × IsLineStopped j font texts (start_of ends a.count) (get_or ends a.count 0) (room - used) own)
 
--- a font at the size and with the way to fit that are asked for, for lines
+-- a font at a job's size and with its way to fit, for lines
 pub record IsStrikeFor (j : CJob) (font : List ℕ) (s : Strike) : Type 0 where
   pub face : lines_wanted j font ≡ Ok s.face
   pub fit : fit_asked j.fit ≡ Ok s.fit
   pub size : s.ppem ≡ j.size
 
--- all lines were drawn, in so many bytes, or why not
+-- all lines were drawn, in `used` bytes, or the reason why not
 abbrev pub EndsWith : CJob → List ℕ → List ℕ → List ℕ → ℕ → ℕ → CAnswer → Type 0
 EndsWith j font texts ends room used a =
     (a ≡ done_answer used (length ends)) ⊎ ((a.status ≢ 0) × IsStopped j font texts ends room used a)
 
--- a defect of the font: of the tables that every text is looked up in, or of what the line of this number is drawn from
+-- a defect of the font: of the tables that every text needs, or of the data that line `i` is drawn from
 abbrev pub IsLinesDefect : CJob → List ℕ → List ℕ → List ℕ → ℕ → Fault → Type 0
 IsLinesDefect j font texts ends i f =
     IsFaceDefect font f ⊎ IsAskedDefect j (line_between texts (start_of ends i) (get_or ends i 0)) font f
 
--- where an answer tells a defect of the font, after lines that were drawn, this holds of the defect
+-- a property of the font's defect, where an answer reports one after lines that were drawn
 abbrev pub LineDefectStands : (Fault → Type 0) → CAnswer → Type 0
 LineDefectStands IsOne a = a.status ≡ 1 → (f : Fault)
     × (a ≡ record (fault_answer f) { bytes = a.bytes; count = a.count }) × IsOne f

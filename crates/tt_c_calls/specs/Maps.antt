@@ -1,4 +1,4 @@
--- No part of the standard: what a call of C tells of a text's characters in a font (profile).
+-- No part of the standard: the characters of a text in a font, for C (profile).
 use Rattle.std.specs.Prelude.{◌≡◌, ℕ, List, ◌++◌, chars, length, drop, map, Result, Ok}
 use Rattle.tt_cmap.specs.Lookup.{Cmap, glyph_of}
 use Rattle.tt_core.specs.Outcomes.{◌>>=◌}
@@ -33,12 +33,12 @@ abbrev pub AreGlyphsTold : List CGlyph → List CGlyph → List CGlyph → CAnsw
 AreGlyphsTold glyphs old new a =
     (new ≡ glyphs ++ drop (length glyphs) old) × (a ≡ done_answer 0 (length glyphs))
 
--- the same of the characters of a text
+-- the characters of a text were written at the front of a room
 abbrev pub AreGlyphsOf : List ℕ → List ℕ → List CGlyph → List CGlyph → CAnswer → Type 0
 AreGlyphsOf text font old new a =
     (glyphs : List CGlyph) × (glyphs_wanted text font ≡ Ok glyphs) × AreGlyphsTold glyphs old new a
 
--- they are more than a room has, as the answer tells
+-- the characters of a text are more than a room has, and the answer reports their number
 abbrev pub IsGlyphsSmall : List ℕ → List ℕ → ℕ → CAnswer → Type 0
 IsGlyphsSmall text font room a =
     (glyphs : List CGlyph) × (glyphs_wanted text font ≡ Ok glyphs) × IsEntriesSmall (length glyphs) room a

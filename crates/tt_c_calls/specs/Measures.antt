@@ -1,4 +1,4 @@
--- No part of the standard: what a call of C tells of a text's measure (profile).
+-- No part of the standard: the measure of a text, for C (profile).
 use Rattle.std.specs.Prelude.{◌≡◌, ℕ, ◌<◌, Bool, true, false, pos, List, ◌++◌, length, drop, map, Option, Some, None, Result, Ok, IsOkAnd}
 use Rattle.tt_core.specs.Outcomes.{◌>>=◌}
 use Rattle.tt_strike.specs.Grown.{grown_measured}
@@ -20,7 +20,7 @@ use Rattle.tt_c_calls.specs.Asked.{asked, grows}
 use Rattle.tt_c_calls.specs.Pictures.{made_of}
 use Rattle.tt_c_calls.specs.Refusals.{Refusal, as_call}
 
--- the measure of a job by a font's tables, of its picture as it is, or so much larger that no ink is cut
+-- the measure of a job by a font's tables: of its picture, or of the picture enlarged so that no ink is cut
 unfoldable pub measure_by : Bool → Face → Job → Result Measure Refused
 measure_by false face a = measured face a
 measure_by true face a = grown_measured face a
@@ -29,7 +29,7 @@ measure_by true face a = grown_measured face a
 unfoldable pub measure_wanted : CJob → List ℕ → List ℕ → Result Measure Refusal
 measure_wanted j text font = asked j text >>= λ a. as_call (made_of (λ face. measure_by (grows j) face a) a font)
 
--- a measure is that of a text by a font file, and these of its glyphs are not fitted
+-- a measure is that of a text by a font file, and these of its glyphs are unfitted
 pub record IsMeasureOf (j : CJob) (text font : List ℕ) (m : Measure) (entries : List Unfitted) : Type 0 where
   pub measure : measure_wanted j text font ≡ Ok m
   pub unfitted : IsOkAnd (asked j text) (λ a. IsOkAnd (face_of font) (λ face. report_by face a ≡ Ok entries))
@@ -43,7 +43,7 @@ abbrev pub box_told : Option InkBox → CBox
 box_told None = record { left = pos 0; top = pos 0; right = pos 0; bottom = pos 0 }
 box_told (Some b) = record { left = b.left; top = b.top; right = b.right; bottom = b.bottom }
 
--- what is told of a measure with so many glyphs that are not fitted
+-- a measure for C, with the number of unfitted glyphs
 abbrev pub measure_told : Measure → ℕ → CMeasure
 measure_told m unfitted = record {
   width = m.width;
@@ -63,7 +63,7 @@ character_told c = record {
   ink = box_told c.ink;
 }
 
--- the measure of a text was told
+-- the measure of a text was written
 abbrev pub IsMeasureTold : CJob → List ℕ → List ℕ → CMeasure → CAnswer → Type 0
 IsMeasureTold j text font told a =
     (m : Measure) × (unfitted : List Unfitted) × IsMeasureOf j text font m unfitted
@@ -74,11 +74,11 @@ abbrev pub AreCharactersTold : List CharacterMeasure → List CCharacter → Lis
 AreCharactersTold measured old new a =
     (new ≡ map character_told measured ++ drop (length measured) old) × (a ≡ done_answer 0 (length measured))
 
--- so many entries are more than a room has, as the answer tells
+-- `count` entries are more than a room has, and the answer reports their number
 abbrev pub IsEntriesSmall : ℕ → ℕ → CAnswer → Type 0
 IsEntriesSmall count room a = (room < count) × (a ≡ room_answer 0 count)
 
--- the same of the characters of a text
+-- the characters of a text were written at the front of a room
 abbrev pub AreCharactersOf : CJob → List ℕ → List ℕ → List CCharacter → List CCharacter → CAnswer → Type 0
 AreCharactersOf j text font old new a =
     (m : Measure) × (measure_wanted j text font ≡ Ok m) × AreCharactersTold m.characters old new a

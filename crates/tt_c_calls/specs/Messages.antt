@@ -1,4 +1,4 @@
--- No part of the standard: what an answer of a call of C says, for a person (profile).
+-- No part of the standard: the message of a call's answer, for a person (profile).
 use Rattle.std.specs.Prelude.{◌≡◌, refl, ℕ, ◌+◌, ◌<◌, ◌==◌, if◌then◌else◌, List, [], ◌∷◌, ◌++◌, codes, decimal, drop, length, Option, Some, None}
 use Rattle.std.specs.Fmt.{digits}
 use Rattle.tt_core.specs.declared.fault.JobFault.{JobFault}
@@ -11,7 +11,7 @@ use Rattle.tt_render.specs.declared.fault.RunFault.TheVariants as run
 use Rattle.tt_c_calls.specs.declared.answer.CAnswer.{CAnswer}
 use Rattle.tt_c_calls.specs.Answers.{done_answer, fault_answer, job_answer, plain_answer, room_answer}
 
--- what has a number
+-- the kind of a defect, by its number
 unfoldable pub why_of : ℕ → Option Why
 why_of n =
     if n == 1 then Some why.BadVersion
@@ -78,7 +78,7 @@ abbrev pub fault_of : List ℕ → ℕ → Option Why → Option Fault
 fault_of table offset None = None
 fault_of table offset (Some why) = ascii_fault table offset why
 
--- the defect that an answer tells, if there is such a one
+-- the defect that an answer reports, if there is one
 unfoldable pub defect_of : CAnswer → Option Fault
 defect_of a = fault_of a.table a.offset (why_of a.number)
 
@@ -93,7 +93,7 @@ abbrev pub refusal_text : Option JobFault → List ℕ
 refusal_text None = unknown_text
 refusal_text (Some j) = job_line j
 
--- of a font that is refused, and of a job
+-- the message of a refused font, and of a refused job
 abbrev pub defect_message : CAnswer → List ℕ
 defect_message a = fault_text (defect_of a)
 
@@ -108,7 +108,7 @@ room_message a =
     codes "tt_render: room for "
     ++ (decimal a.bytes ++ (codes " bytes and " ++ (decimal a.count ++ codes " entries is wanted")))
 
--- what an answer says: the program's line, where there is one
+-- the message of an answer: the program's line, where there is one
 unfoldable pub message_of : CAnswer → List ℕ
 message_of a =
     if a.status == 0 then codes "tt_render: done"
@@ -125,7 +125,7 @@ abbrev pub IsTextWritten : List ℕ → List ℕ → List ℕ → CAnswer → Ty
 IsTextWritten text old new a =
     (new ≡ text ++ (0 ∷ drop (length text + 1) old)) × (a ≡ done_answer (length text + 1) 0)
 
--- they are more than a room has, as the answer tells
+-- a text and a zero are more than a room has, and the answer reports their size
 abbrev pub IsTextSmall : List ℕ → ℕ → CAnswer → Type 0
 IsTextSmall text room a = (room < length text + 1) × (a ≡ room_answer (length text + 1) 0)
 

@@ -1,5 +1,5 @@
--- No part of the standard: what a call of C writes of a picture (profile). Netpbm, "PBM", format P4, has the bytes of a
--- row; a row begins with a byte of its own.
+-- No part of the standard: the rows of a picture, for C (profile). Netpbm, "PBM", format P4, has the bytes of a row;
+-- each row begins with a new byte.
 use Rattle.std.specs.Prelude.{◌≡◌, refl, ℕ, ◌*◌, ◌-◌, ◌<◌, min, Bool, true, false, pos, ◌+ℤ◌, List, ◌++◌, length, take, drop, Result, Ok, IsOkAnd}
 use Rattle.tt_core.specs.Bits.{stride}
 use Rattle.tt_core.specs.Outcomes.{◌>>=◌}
@@ -20,12 +20,12 @@ use Rattle.tt_c_calls.specs.Answers.{done_answer, room_answer}
 use Rattle.tt_c_calls.specs.Asked.{asked, grows}
 use Rattle.tt_c_calls.specs.Refusals.{Refusal, as_call}
 
--- the file of the picture of a job by a font's tables, as it is, or so much larger that no ink is cut
+-- the file of the picture of a job by a font's tables: as it is, or enlarged so that no ink is cut
 unfoldable pub picture_by : Bool → Face → Job → Result (List ℕ) Refused
 picture_by false face a = line_outcome face a
 picture_by true face a = grown_outcome face a
 
--- what is made by a font's tables, once a job is tested, and then the font's size
+-- a result made from a font's tables, after the tests of the job and then of the font's size
 abbrev pub made_of : {X : Type 0} → (Face → Result X Refused) → Job → List ℕ → Result X Refused
 made_of make a font = as_job (tested a) >>= λ u. of_font (λ file. as_font (face_of file) >>= make) font
 
@@ -33,13 +33,13 @@ made_of make a font = as_job (tested a) >>= λ u. of_font (λ file. as_font (fac
 unfoldable pub picture_wanted : CJob → List ℕ → List ℕ → Result (List ℕ) Refusal
 picture_wanted j text font = asked j text >>= λ a. as_call (made_of (λ face. picture_by (grows j) face a) a font)
 
--- where that picture stands
+-- the frame of that picture
 abbrev pub IsFramed : Bool → Face → Job → Frame → Type 0
 IsFramed false face a f =
     IsOkAnd (placement face.metrics face.cmap a.text a.ppem a.margin) (λ l. f ≡ frame_of l a.margin)
 IsFramed true face a f = IsOkAnd (grown_placement face a) (λ l. f ≡ frame_of l a.margin)
 
--- a picture of a job by a font's tables: where it stands, and which of its glyphs are not fitted
+-- a picture of a job by a font's tables: its frame, and its unfitted glyphs
 abbrev pub IsMadeBy : Bool → Job → Picture → Face → Type 0
 IsMadeBy grow a p face = IsFramed grow face a p.frame × (report_by face a ≡ Ok p.unfitted)
 
@@ -49,7 +49,7 @@ pub record IsPictureOf (j : CJob) (text font : List ℕ) (p : Picture) : Type 0 
   pub ready : IsReady p
   pub made : IsOkAnd (asked j text) (λ a. IsOkAnd (face_of font) (IsMadeBy (grows j) a p))
 
--- what is told of a picture
+-- a picture for C
 abbrev pub picture_told : Picture → CPicture
 picture_told p = record {
   width = p.frame.width;
@@ -59,7 +59,7 @@ picture_told p = record {
   unfitted = length p.unfitted;
 }
 
--- how many rows a picture of so many has in a band of at most `count`, from row `first` on
+-- the number of rows of a band: at most `count` from row `first` on, of a picture of `height` rows
 abbrev pub band_rows : ℕ → ℕ → ℕ → ℕ
 band_rows height first count = min count (height - first)
 
@@ -84,13 +84,13 @@ abbrev pub IsBandDrawn : CJob → List ℕ → List ℕ → ℕ → ℕ → List
 IsBandDrawn j text font first count old new told a =
     (p : Picture) × IsPictureOf j text font p × IsBandWritten p first count old new told a
 
--- a band of a picture is more than a room has, as the answer tells
+-- a band of a picture is more than a room has, and the answer reports its size
 abbrev pub IsBandSmall : Picture → ℕ → ℕ → List ℕ → CAnswer → Type 0
 IsBandSmall p first count room a =
     (length room < length (band_of p first count))
     × (a ≡ room_answer (length (band_of p first count)) (band_rows p.frame.height first count))
 
--- the same of a band of the picture of a text
+-- a band of the picture of a text is more than a room has, and the answer reports its size
 abbrev pub IsRoomSmall : CJob → List ℕ → List ℕ → ℕ → ℕ → List ℕ → CAnswer → Type 0
 IsRoomSmall j text font first count room a =
     (p : Picture) × IsPictureOf j text font p × IsBandSmall p first count room a

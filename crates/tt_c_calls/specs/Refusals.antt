@@ -7,8 +7,8 @@ use Rattle.tt_strike.specs.declared.fault.DrawFault.TheVariants as draw
 use Rattle.tt_c_calls.specs.declared.fault.CallFault.{CallFault}
 use Rattle.tt_c_calls.specs.declared.fault.CallFault.TheVariants as call
 
--- the font or the job is refused as `run` refuses it; the number of the way to fit is none of the four; a line ends past
--- the texts, or before it begins; the text is not UTF-8
+-- the font or the job is refused as `run` refuses it; the way to fit has an unknown number; a line ends past the texts
+-- or before it begins; the text is not UTF-8
 pub data Refusal : Type 0 where
   refused : Refused → Refusal
   unknown_fit : Refusal
@@ -19,7 +19,7 @@ abbrev pub as_call : {X : Type 0} → Result X Refused → Result X Refusal
 as_call (Ok x) = Ok x
 as_call (Err why) = Err (refused why)
 
--- what stops a call: nothing is told where memory ran out
+-- the refusal that stops a call; None where memory ran out
 abbrev pub call_refusal : CallFault → Option Refusal
 call_refusal (call.Font f) = Some (refused (font f))
 call_refusal (call.Job j) = Some (refused (job j))
@@ -34,7 +34,7 @@ abbrev pub call_font_fault : CallFault → Option Fault
 call_font_fault (call.Font f) = Some f
 call_font_fault e = None
 
--- what stopped the making of a picture stops the call
+-- a fault of drawing stops the call
 abbrev pub call_of_draw : DrawFault → CallFault
 call_of_draw (draw.Font f) = call.Font f
 call_of_draw (draw.Job j) = call.Job j

@@ -1,4 +1,4 @@
-//! What a call answers.
+//! The answer of a call.
 
 ghost use Rattle.std.specs.Prelude.{◌≡◌};
 ghost use Rattle.tt_c_calls.specs.Answers.{call_answer, done_answer, fault_answer, job_answer, plain_answer, room_answer};
@@ -6,7 +6,7 @@ ghost use Rattle.tt_c_calls.specs.Answers.{call_answer, done_answer, fault_answe
 use crate::fault::CallFault;
 use tt_core::{Fault, JobFault};
 
-/// What a call answers. Fields that an answer has no use for are 0.
+/// The answer of a call. Unused fields are 0.
 #[repr(C)]
 #[derive(Clone, Copy)]
 pub struct CAnswer {
@@ -19,9 +19,9 @@ pub struct CAnswer {
     pub table: [u8; 4],
     /// The defect's offset in it, in bytes.
     pub offset: u32,
-    /// How many bytes were written, or with status 7 how many there has to be room for.
+    /// The number of bytes written, or, with status 7, of bytes needed.
     pub bytes: u64,
-    /// How many rows, entries or lines were written, or with status 7 how many there has to be room for.
+    /// The number of rows, entries or lines written, or, with status 7, needed.
     pub count: u64,
 }
 
@@ -39,7 +39,7 @@ fn plain(status: u32, number: u32) -> CAnswer
     }
 }
 
-/// The answer of a call that wrote so many bytes, and so many rows, entries or lines.
+/// The answer of a call that wrote `bytes` bytes and `count` rows, entries or lines.
 pub(crate) fn done(bytes: u64, count: u64) -> CAnswer
     ensures { result ≡ done_answer bytes count }
 {
@@ -50,7 +50,7 @@ pub(crate) fn done(bytes: u64, count: u64) -> CAnswer
     }
 }
 
-/// The answer of a call for which there has to be room for so many.
+/// The answer of a call that needs room for `bytes` bytes and `count` rows or entries.
 pub(crate) fn wants_room(bytes: u64, count: u64) -> CAnswer
     ensures { result ≡ room_answer bytes count }
 {
@@ -78,7 +78,7 @@ fn of_job(fault: JobFault) -> CAnswer
     plain(2, u32::from(fault.number()))
 }
 
-/// The answer of a call that has none for this reason.
+/// The answer of a call that a fault stopped.
 pub(crate) fn answer_of(fault: CallFault) -> CAnswer
     ensures { result ≡ call_answer fault }
 {

@@ -1,4 +1,4 @@
-//! What a call asks for.
+//! The request of a call.
 
 ghost use Rattle.std.specs.Prelude.{◌≡◌, not, ◌==◌, IfErr};
 ghost use Rattle.tt_core.specs.Outcomes.{GivesUnless};
@@ -22,13 +22,12 @@ pub struct CJob {
     pub margin: u32,
     /// How outlines are fitted: 0 full, 1 none, 2 fallback, 3 best.
     pub fit: u32,
-    /// Not 0 where the picture is to be so much larger on each side, by the least whole columns and rows, that no ink is
-    /// cut.
+    /// Not 0 to enlarge the picture on each side, by the fewest columns and rows, so that no ink is cut.
     pub grow: u32,
 }
 
 impl CJob {
-    /// Whether the picture is to be larger where ink would be cut.
+    /// Whether the picture is enlarged where ink would be cut.
     pub(crate) fn grows(&self) -> bool
         ensures { result ≡ grows self.now }
     {

@@ -10,14 +10,14 @@ use crate::asked::CJob;
 use crate::pictures::{CPicture, picture_of, write_band};
 use std::alloc::Global;
 
-/// Draws a band of the picture of a text, of at most `count` rows from row `first` on: its rows stand one after the other
-/// at the front of `rows`, the highest first, the leftmost pixel in the highest bit, 1 for black. `told` tells of the
-/// whole picture, which is the one that `run` writes for this font, text and job, or with `grow` so much larger that no
-/// ink is cut. The rows before the band are made too, and given up.
+/// Draws a band of the picture of a text: at most `count` rows from row `first` on. `rows` gets the rows one after the
+/// other at its front, the highest first, the leftmost pixel in the highest bit, 1 for black. `told` describes the
+/// whole picture. This is the picture that `run` writes for the font, text and job, or, with `grow`, that picture
+/// enlarged so that no ink is cut. The rows before the band are made too, and discarded.
 ///
 /// Answers: done, with the bytes and rows of the band; the font is refused, too large, or the job refused; memory was
-/// refused; the text is not UTF-8; too small a room, with the bytes and rows there has to be room for. Unless it is done,
-/// `rows` and `told` are as they were.
+/// refused; the text is not UTF-8; the room is too small, with the bytes and rows needed. Unless the answer is done,
+/// `rows` and `told` are unchanged.
 pub fn draw_band(
     alloc: Global,
     font: &[u8],

@@ -13,11 +13,11 @@ use tt_strike::DrawFault;
 pub(crate) enum CallFault {
     /// The font has this defect.
     Font(Fault),
-    /// The job cannot be done.
+    /// The job is refused.
     Job(JobFault),
     /// The font has more than 67,108,864 bytes.
     FontLarge,
-    /// The number of the way to fit is none of the four.
+    /// The way to fit has an unknown number.
     UnknownFit,
     /// A line ends past the texts, or before it begins.
     LineEnds,

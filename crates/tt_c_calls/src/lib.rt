@@ -1,4 +1,4 @@
-//! What the calls of the C library do: fonts, texts and answers as C sees them. The crate tt_c exports each.
+//! The calls of the C library, with fonts, texts and answers in C's types. The crate tt_c exports each.
 #![tactic(auto)]
 
 mod answer;

@@ -22,7 +22,7 @@ pub struct CLine {
     pub at: u64,
 }
 
-/// The answer of a call that a line stopped, whose own answer this is: `count` lines before it were drawn, in `used`
+/// The answer of a call that a line stopped, by the line's own answer. The `count` lines before it were drawn in `used`
 /// bytes.
 fn stopped(answer: CAnswer, used: usize, count: usize) -> CAnswer
     requires { used + answer.bytes < 18446744073709551616 }
@@ -35,8 +35,8 @@ fn stopped(answer: CAnswer, used: usize, count: usize) -> CAnswer
     }
 }
 
-/// Draws a line at the front of a room that stands at this place of the caller's. Answers as `draw_band`, of the whole
-/// picture.
+/// Draws a line at the front of a room, which is at place `at` of the caller's room. Answers as `draw_band`, for the
+/// whole picture.
 fn draw_line(
     strike: &mut Strike,
     job: &CJob,
@@ -108,16 +108,17 @@ fn draw_by(
     done(used as u64, ends.len() as u64)
 }
 
-/// Draws lines one after the other, each as `draw_band` draws its whole picture, by a font that is opened once and whose
-/// programs are run once; with the way to fit `best` once a line. Line i begins in `texts` where the line before it ends,
-/// and ends before `ends[i]`. `rows` gets the rows of all lines one after the other, `lines[i]` what there is to know of
-/// line i. At most `keep` bytes of glyphs are kept from line to line.
+/// Draws lines one after the other, each as `draw_band` draws its whole picture. The font is opened once and its
+/// programs run once; with the way to fit `best` they run once a line. Line i begins in `texts` where the line before
+/// it ends, and ends before `ends[i]`. `rows` gets the rows of all lines one after the other, and `lines[i]` describes
+/// line i. Between lines at most `keep` bytes of glyphs are cached.
 ///
-/// Answers: done, with the bytes and the number of all lines; too small a room for `lines`, and then nothing is done; the
-/// font is refused, too large, or the size, the margin or the way to fit refused, and then no line is drawn. A line that
-/// is refused, that is no text, ends before it begins or past the texts, wants more room than there is left, or for which
-/// memory was refused, stops the call: the answer is the line's, with the number of the lines before it and the bytes of
-/// their rows, and, of a room that is too small, those of the line besides. What comes after these lines is as it was.
+/// Answers: done, with the bytes and the number of all lines. The room for `lines` is too small, and nothing is drawn.
+/// The font is refused or too large, or the size, the margin or the way to fit is refused, and no line is drawn. A line
+/// stops the call if it is refused, is not UTF-8, ends before it begins or past the texts, needs more room than
+/// remains, or if memory was refused for it. The answer is then the line's, with the number of the lines before it and
+/// the bytes of their rows; where the room is too small, the bytes include the line's own. All bytes and entries after
+/// the drawn lines are unchanged.
 pub fn draw_lines(
     alloc: Global,
     font: &[u8],

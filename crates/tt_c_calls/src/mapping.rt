@@ -35,7 +35,7 @@ fn glyph_of(face: &Face, c: char) -> CGlyph
     }
 }
 
-/// Writes the glyphs of a text at the front of a caller's room. Answers: done; or too small a room, and then nothing is
+/// Writes the glyphs of a text at the front of a caller's room. Answers: done; or the room is too small, and nothing is
 /// written.
 fn write_glyphs(face: &Face, text: &str, room: &mut [CGlyph]) -> CAnswer
     ensures done { result.status ≡ 0 → AreGlyphsTold (map (glyph_told face.now.metrics face.now.cmap) (chars text.now)) room.old room.new result }
@@ -54,9 +54,9 @@ fn write_glyphs(face: &Face, text: &str, room: &mut [CGlyph]) -> CAnswer
     done(0, count as u64)
 }
 
-/// Tells the glyph and the advance of each character of a text, in the order of the text. Answers: done, with the
-/// number of characters; the font is refused, too large, or the text too long; the text is not UTF-8; too small a room.
-/// Unless it is done, `room` is as it was. It takes no memory.
+/// Writes the glyph and the advance of each character of a text, in the order of the text. Answers: done, with the
+/// number of characters; the font is refused, too large, or the text too long; the text is not UTF-8; the room is too
+/// small. Unless the answer is done, `room` is unchanged. It takes no memory.
 pub fn map(font: &[u8], text: &[u8], room: &mut [CGlyph]) -> CAnswer
     ensures done { result.status ≡ 0 → AreGlyphsOf text.now font.now room.old room.new result }
     ensures refused { result.status ≢ 0 → result.status ≢ 7 → TellsRefusal (glyphs_wanted text.now font.now) result }

@@ -19,7 +19,7 @@ use crate::opening::face_of;
 use std::alloc::Global;
 use tt_strike::{CharacterMeasure, InkBox, Measure, Strike, test_job};
 
-/// A box of pixels, all four among those that it holds.
+/// A box of pixels; all four sides are included.
 #[repr(C)]
 #[derive(Clone, Copy)]
 pub struct CBox {
@@ -37,28 +37,28 @@ pub struct CMeasure {
     pub width: u32,
     /// Rows of the picture: 1 to 4,096.
     pub height: u32,
-    /// How many rows lie above the base line. Below 0, or more than the picture has, where that stands outside.
+    /// The number of rows above the base line. Below 0, or more than the picture has, where the base line is outside.
     pub baseline: i64,
-    /// How many distinct glyphs are drawn with their scaled points though their fitting was asked for.
+    /// The number of distinct glyphs drawn unfitted although the job requests fitting.
     pub unfitted: u64,
     /// 0 where nothing is black; the box is then all 0.
     pub has_ink: u64,
-    /// The box of all that the text blackens, past the picture's edges too.
+    /// The box of all black pixels, inside and outside the picture.
     pub ink: CBox,
 }
 
-/// Where a character of a text stands in its picture.
+/// The place of a character of a text in its picture.
 #[repr(C)]
 #[derive(Clone, Copy)]
 pub struct CCharacter {
     pub glyph: u32,
-    /// How many columns further the next character's origin stands.
+    /// The columns to the next character's origin.
     pub advance: u32,
-    /// The column of the picture at which the glyph's origin stands, the margin included.
+    /// The column of the picture at which the glyph's origin is, the margin included.
     pub pen: i64,
     /// 0 where the glyph blackens nothing; the box is then all 0.
     pub has_ink: u64,
-    /// The box of what the glyph blackens.
+    /// The box of the glyph's black pixels.
     pub ink: CBox,
 }
 
@@ -107,7 +107,7 @@ fn measure_of(measure: &Measure) -> CMeasure
     }
 }
 
-/// The measure of a text by a strike, of its picture as it is or grown. Errors: those of `Strike::measure` or
+/// The measure of a text by a strike: of its picture, or of the enlarged picture. Errors: those of `Strike::measure` or
 /// `Strike::grown_measure`.
 #[tactic(auto, unfolding(crate::specs::Measures::measure_by))]
 fn measured_by(
@@ -128,7 +128,7 @@ fn measured_by(
 }
 
 /// The measure of a text by a font file. Errors, the first of: UnknownFit, NotUtf8; SizeRange, MarginRange, TextLong;
-/// FontLarge; those of the tables that every text is looked up in; those of `measured_by`.
+/// FontLarge; those of the tables that every text needs; those of `measured_by`.
 #[tactic(auto, unfolding(crate::specs::Measures::measure_wanted))]
 fn measured(alloc: Global, font: &[u8], text: &[u8], job: &CJob) -> Result<Measure, CallFault>
     ensures exact { GivesUnless call_refusal measure_view result (measure_wanted job.now text.now font.now) }
@@ -142,9 +142,9 @@ fn measured(alloc: Global, font: &[u8], text: &[u8], job: &CJob) -> Result<Measu
     measured_by(&mut strike, job.grows(), asked.text, asked.margin)
 }
 
-/// Measures a text: how large its picture is, and where its base line and its ink stand. Answers: done; the font is
-/// refused, too large, or the job refused; memory was refused; the text is not UTF-8. Unless it is done, `told` is as
-/// it was.
+/// Measures a text: the size of its picture, its base line, and the box of its ink. Answers: done; the font is refused,
+/// too large, or the job refused; memory was refused; the text is not UTF-8. Unless the answer is done, `told` is
+/// unchanged.
 pub fn measure(alloc: Global, font: &[u8], text: &[u8], job: &CJob, told: &mut CMeasure) -> CAnswer
     ensures done { result.status ≡ 0 → IsMeasureTold job.now text.now font.now told.new result }
     ensures refused { result.status ≢ 0 → TellsRefusal (measure_wanted job.now text.now font.now) result }
@@ -160,7 +160,7 @@ pub fn measure(alloc: Global, font: &[u8], text: &[u8], job: &CJob, told: &mut C
     }
 }
 
-/// Writes the characters of a text at the front of a caller's room. Answers: done; or too small a room, and then
+/// Writes the characters of a text at the front of a caller's room. Answers: done; or the room is too small, and
 /// nothing is written.
 fn write_characters(measured: &[CharacterMeasure], room: &mut [CCharacter]) -> CAnswer
     ensures done { result.status ≡ 0 → AreCharactersTold measured.now room.old room.new result }
@@ -177,9 +177,9 @@ fn write_characters(measured: &[CharacterMeasure], room: &mut [CCharacter]) -> C
     done(0, count as u64)
 }
 
-/// Tells where each character of a text stands in its picture, in the order of the text. Answers: done, with the number
-/// of characters; the font is refused, too large, or the job refused; memory was refused; the text is not UTF-8; too
-/// small a room. Unless it is done, `room` is as it was.
+/// Writes the place of each character of a text in its picture, in the order of the text. Answers: done, with the
+/// number of characters; the font is refused, too large, or the job refused; memory was refused; the text is not UTF-8;
+/// the room is too small. Unless the answer is done, `room` is unchanged.
 pub fn characters(
     alloc: Global,
     font: &[u8],

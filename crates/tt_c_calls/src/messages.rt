@@ -1,4 +1,4 @@
-//! What an answer says, for a person.
+//! The message of an answer, for a person.
 
 ghost use Rattle.std.specs.Prelude.{◌≡◌, ◌≢◌, ◌+◌, ◌<◌, length, string_bytes, IfOk};
 ghost use Rattle.tt_core.specs.Faults.{is_ascii};
@@ -11,7 +11,7 @@ use std::alloc::{AllocError, Global};
 use tt_core::{Fault, JobFault, Why};
 use tt_render::{RunFault, line};
 
-/// What is wrong with a font, by the number that answers give.
+/// The kind of a font's defect, by its number; None where no kind has it.
 #[tactic(auto, unfolding(crate::specs::Messages::why_of))]
 fn why_of(number: u32) -> Option<Why>
     ensures { result ≡ why_of number }
@@ -66,7 +66,7 @@ fn why_of(number: u32) -> Option<Why>
     Some(why)
 }
 
-/// What is wrong with a job, by the number that answers give.
+/// The kind of a job's fault, by its number; None where no kind has it.
 #[tactic(auto, unfolding(crate::specs::Messages::job_of))]
 fn job_of(number: u32) -> Option<JobFault>
     ensures { result ≡ job_of number }
@@ -90,7 +90,7 @@ fn is_tag(table: &[u8]) -> bool
     table.iter().all(|byte| *byte < 128)
 }
 
-/// The defect that an answer tells, if there is such a one.
+/// The defect that an answer reports, if there is one.
 #[tactic(auto, unfolding(crate::specs::Messages::defect_of))]
 fn defect_of(told: &CAnswer) -> Option<Fault>
     ensures { result ≡ defect_of told.now }
@@ -102,7 +102,7 @@ fn defect_of(told: &CAnswer) -> Option<Fault>
     Some(Fault::new(told.table, told.offset, why))
 }
 
-/// The text of an answer, without a zero at its end. Error: want of memory.
+/// The text of an answer, without a zero at its end. Error: memory ran out.
 #[tactic(auto, unfolding(crate::specs::Messages::message_of))]
 fn text_of(alloc: Global, told: &CAnswer) -> Result<String, AllocError>
     ensures { IfOk result (λ text. string_bytes text ≡ message_of told.now) }
@@ -145,7 +145,7 @@ fn job_text(alloc: Global, told: &CAnswer) -> Result<String, AllocError>
     }
 }
 
-/// Writes a text and a zero at the front of a caller's room. Answers: done; or too small a room, and then nothing is
+/// Writes a text and a zero at the front of a caller's room. Answers: done; or the room is too small, and nothing is
 /// written.
 fn write_text(text: &[u8], room: &mut [u8]) -> CAnswer
     requires { length text.now < 9223372036854775808 }
@@ -162,8 +162,8 @@ fn write_text(text: &[u8], room: &mut [u8]) -> CAnswer
     done(count as u64 + 1, 0)
 }
 
-/// Writes what an answer says, as the program's line says it, and a zero after it. Answers: done, with the bytes, the
-/// zero among them; memory was refused; too small a room. Unless it is done, `room` is as it was.
+/// Writes an answer's message, which is the program's line where there is one, and a zero. Answers: done, with the
+/// bytes, the zero included; memory was refused; the room is too small. Unless the answer is done, `room` is unchanged.
 pub fn message(alloc: Global, told: &CAnswer, room: &mut [u8]) -> CAnswer
     ensures done { result.status ≡ 0 → IsTextWritten (message_of told.now) room.old room.new result }
     ensures refused { result.status ≢ 0 → result.status ≢ 7 → result ≡ memory_answer }

@@ -14,7 +14,7 @@ use crate::fault::CallFault;
 use tt_core::FONT_LIMIT;
 use tt_strike::Face;
 
-/// What a font says of itself.
+/// The figures of a font.
 #[repr(C)]
 #[derive(Clone, Copy)]
 pub struct CFont {
@@ -24,12 +24,12 @@ pub struct CFont {
     pub ascent: i32,
     /// Above the base line, in font units, so mostly negative.
     pub descent: i32,
-    /// How many glyphs there are.
+    /// The number of glyphs.
     pub glyphs: u32,
 }
 
-/// The tables of a font file that every text is looked up in. Errors: FontLarge, and those of the directory, of head,
-/// maxp, hhea and hmtx, and of cmap.
+/// The tables of a font file that every text needs. Errors: FontLarge, and those of the directory, of head, maxp, hhea
+/// and hmtx, and of cmap.
 #[tactic(auto, unfolding(crate::specs::Fonts::face_wanted))]
 pub(crate) fn face_of<'a>(font: &'a [u8]) -> Result<Face<'a>, CallFault>
     ensures exact { GivesUnless call_refusal (λ f. f) result (face_wanted font.now) }
@@ -42,8 +42,8 @@ pub(crate) fn face_of<'a>(font: &'a [u8]) -> Result<Face<'a>, CallFault>
     Ok(Face::open(font)?)
 }
 
-/// Tests the tables of a font that every text is looked up in, and tells what the font says of itself. Answers: done;
-/// the font is refused, or too large. It takes no memory.
+/// Tests the tables of a font that every text needs, and writes the font's figures. Answers: done; the font is refused,
+/// or too large. It takes no memory.
 pub fn open(font: &[u8], told: &mut CFont) -> CAnswer
     ensures done { result.status ≡ 0 → IsFontOf font.now told.new × (result ≡ done_answer 0 0) }
     ensures refused { result.status ≢ 0 → TellsRefusal (face_wanted font.now) result }

@@ -19,7 +19,7 @@ use crate::opening::face_of;
 use std::alloc::Global;
 use tt_strike::{Picture, Strike, test_job};
 
-/// What there is to know of a picture beside its pixels.
+/// A picture without its pixels.
 #[repr(C)]
 #[derive(Clone, Copy)]
 pub struct CPicture {
@@ -27,15 +27,15 @@ pub struct CPicture {
     pub width: u32,
     /// Rows: 1 to 4,096.
     pub height: u32,
-    /// Bytes of a row: a bit for each pixel, and up to seven bits more, which are 0.
+    /// The bytes of a row: a bit for each pixel, and up to seven bits more, which are 0.
     pub row_bytes: u64,
-    /// How many rows lie above the base line. Below 0, or more than the picture has, where that stands outside.
+    /// The number of rows above the base line. Below 0, or more than the picture has, where the base line is outside.
     pub baseline: i64,
-    /// How many distinct glyphs are drawn with their scaled points though their fitting was asked for.
+    /// The number of distinct glyphs drawn unfitted although the job requests fitting.
     pub unfitted: u64,
 }
 
-/// What there is to know of a picture.
+/// A picture's description for C.
 pub(crate) fn told_of(picture: &Picture) -> CPicture
     ensures { result ≡ picture_told picture.now }
 {
@@ -48,7 +48,7 @@ pub(crate) fn told_of(picture: &Picture) -> CPicture
     }
 }
 
-/// The picture of a text by a strike, as it is or grown. Errors: those of `Strike::line` or `Strike::grown_line`.
+/// The picture of a text by a strike, as it is or enlarged. Errors: those of `Strike::line` or `Strike::grown_line`.
 #[tactic(auto, unfolding(crate::specs::Pictures::picture_by))]
 pub(crate) fn picture_by(
     strike: &mut Strike,
@@ -70,7 +70,7 @@ pub(crate) fn picture_by(
 }
 
 /// The picture of a text by a font file. Errors, the first of: UnknownFit, NotUtf8; SizeRange, MarginRange, TextLong;
-/// FontLarge; those of the tables that every text is looked up in; those of `picture_by`.
+/// FontLarge; those of the tables that every text needs; those of `picture_by`.
 #[tactic(auto, unfolding(crate::specs::Pictures::picture_wanted))]
 pub(crate) fn picture_of(
     alloc: Global,
@@ -89,7 +89,7 @@ pub(crate) fn picture_of(
     picture_by(&mut strike, job.grows(), asked.text, asked.margin)
 }
 
-/// Makes so many rows of a picture, of which none is kept, in the place of one.
+/// Makes `count` rows of a picture in the place of one, and discards them.
 fn skip_rows(picture: &mut Picture, count: u32, row: &mut [u8])
     requires none { picture.old.made ≡ 0 }
     requires within { count ≤ picture.old.frame.height }
@@ -102,7 +102,7 @@ fn skip_rows(picture: &mut Picture, count: u32, row: &mut [u8])
     }
 }
 
-/// Makes the next rows of a picture, as many as `rows` has room for exactly.
+/// Makes the next rows of a picture; `rows` has room for exactly these.
 fn make_rows(picture: &mut Picture, count: u32, rows: &mut [u8])
     requires within { picture.old.made + count ≤ picture.old.frame.height }
     requires whole { length picture.old.rows ≡ stride picture.old.frame.width * picture.old.frame.height }
@@ -116,8 +116,8 @@ fn make_rows(picture: &mut Picture, count: u32, rows: &mut [u8])
     }
 }
 
-/// Writes a band of a picture at the front of a caller's room, of at most `count` rows from row `first` on, and tells of
-/// the picture. Answers: done; or too small a room, and then nothing is written or told.
+/// Writes a band of a picture at the front of a caller's room, at most `count` rows from row `first` on, and describes
+/// the picture in `told`. Answers: done; or the room is too small, and nothing is written.
 pub(crate) fn write_band(
     picture: &mut Picture,
     first: u32,
