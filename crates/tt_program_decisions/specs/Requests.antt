@@ -1,4 +1,4 @@
--- No part of the standard: what the program's command lines ask for, and what is done for them.
+-- No part of the standard: the requests of the program's command lines, and their performance.
 use Rattle.std.specs.Prelude.{◌≡◌, ℕ, Bool, true, false, List, [], codes, Option, Some, None, IfSome, if◌then◌else◌, Ok, ⊤}
 use Rattle.std.specs.Str.{bytes_eq}
 use Rattle.tt_fit.specs.declared.programs.Fit.{Fit}
@@ -32,46 +32,46 @@ fit_named name =
     else (if bytes_eq name (codes "fallback") then Some fit.Fallback
     else (if bytes_eq name (codes "best") then Some fit.Best else None)))
 
--- what is done with characters without a glyph, by its names
+-- the treatments of characters without a glyph by their names
 abbrev pub missing_named : List ℕ → Option Missing
 missing_named name =
     if bytes_eq name (codes "draw") then Some missing.Draw
     else (if bytes_eq name (codes "tell") then Some missing.Tell
     else (if bytes_eq name (codes "refuse") then Some missing.Refuse else None))
 
--- bytes of glyphs that are kept from line to line
+-- the bytes of glyphs that are cached from line to line
 abbrev pub glyphs_kept : ℕ
 glyphs_kept = 4194304
 
--- what goes out for a text: its measures or its picture, of the picture that grows or of the one that does not
+-- the product of a text: its measures or its picture, and of the grown picture or the plain one
 abbrev pub product_asked : Bool → Bool → Product
 product_asked false false = product.Picture
 product_asked false true = product.Grown
 product_asked true false = product.Measure
 product_asked true true = product.GrownMeasure
 
--- a setting of these two, where both names are known
+-- a setting with this way to fit and this treatment of missing glyphs, where both names are known
 abbrev pub setting_named : ℕ → ℕ → Option Fit → Option Missing → Product → Option Setting
 setting_named size margin (Some f) (Some m) wanted =
     Some (record { ppem = size; margin = margin; fit = f; missing = m; product = wanted; most = glyphs_kept })
 setting_named size margin f m wanted = None
 
--- the setting of a size and a margin, with the names of the way to fit and of what is done with missing glyphs
+-- the setting of a size and a margin, with the names of the way to fit and of the treatment of missing glyphs
 abbrev pub setting_asked : ℕ → ℕ → List ℕ → List ℕ → Product → Option Setting
 setting_asked size margin how what wanted = setting_named size margin (fit_named how) (missing_named what) wanted
 
--- what the options of a drawing ask for
+-- the setting of a drawing's options
 abbrev pub asked : Words → Product → Option Setting
 asked w wanted = setting_asked w.size w.margin w.fit.now w.missing.now wanted
 
--- `--size SIZE --margin MARGIN --fit FIT --missing MISSING`, of options that may lack
+-- `--size SIZE --margin MARGIN --fit FIT --missing MISSING`; options may be absent
 abbrev pub options_asked
     : Option ℕ → Option ℕ → Option (List ℕ) → Option (List ℕ) → Product → Option Setting
 options_asked (Some size) (Some margin) (Some how) (Some what) wanted = setting_asked size margin how what wanted
 options_asked size margin how what wanted = None
 
--- what is asked for, each by a font: the lines that map a text, the picture of a job, the product of a text with a
--- setting, or the products of the lines of standard input
+-- a request, each by a font: the lines that map a text, the picture of a job, the product of a text with a setting, or
+-- the products of the lines of standard input
 pub data Asked : Type 0 where
   map_text : List ℕ → List ℕ → Asked
   draw_job : List ℕ → Job → Asked
@@ -84,7 +84,7 @@ asked_of (Draw font job) = draw_job font.now (job_view job)
 asked_of (Text font text setting) = draw_text font.now text.now setting
 asked_of (Lines font setting) = draw_lines font.now setting
 
--- `map FONT TEXT`, of words that may lack
+-- `map FONT TEXT`; words may be absent
 abbrev pub map_asked : Option (List ℕ) → Option (List ℕ) → Option Asked
 map_asked (Some font) (Some text) = Some (map_text font text)
 map_asked font text = None
@@ -95,21 +95,21 @@ picture_asked missing.Draw font text s = draw_job font (job_by s text)
 picture_asked missing.Tell font text s = draw_text font text s
 picture_asked missing.Refuse font text s = draw_text font text s
 
--- what is asked for of a text with a setting, by its product
+-- the request of a text with a setting, by its product
 abbrev pub text_asked : Product → List ℕ → List ℕ → Setting → Asked
 text_asked product.Picture font text s = picture_asked s.missing font text s
 text_asked product.Grown font text s = draw_text font text s
 text_asked product.Measure font text s = draw_text font text s
 text_asked product.GrownMeasure font text s = draw_text font text s
 
--- `draw OPTION.. FONT TEXT`, or with standard input's lines `draw OPTION.. --lines FONT`, of words and options that may
--- lack
+-- `draw OPTION.. FONT TEXT`, or with standard input's lines `draw OPTION.. --lines FONT`; words and options may be
+-- absent
 abbrev pub draw_asked : Option (List ℕ) → Option (List ℕ) → Bool → Option Setting → Option Asked
 draw_asked (Some font) (Some text) false (Some s) = Some (text_asked s.product font text s)
 draw_asked (Some font) None true (Some s) = Some (draw_lines font s)
 draw_asked font text lines s = None
 
--- what `draw`, or `measure`, asks for by its arguments: a name's text, its number, and whether its flag is set
+-- the request of `draw`, or of `measure`, by its arguments: a name's text, its number, and whether its flag is set
 abbrev pub AsksDrawing
     : (List ℕ → Option (List ℕ)) → (List ℕ → Option ℕ → Type 0) → (List ℕ → Bool → Type 0) → Bool → Option Asked
     → Type 0
@@ -126,13 +126,13 @@ font_of (Draw font job) = font.now
 font_of (Text font text setting) = font.now
 font_of (Lines font setting) = font.now
 
--- the glyphs that a picture of a text by a font file lists as not fitted
+-- the unfitted glyphs that a picture of a text by a font file lists
 abbrev pub IsListed : Job → Option (List ℕ) → List Unfitted → Type 0
 IsListed a left entries = IfSome left (λ file. report_of a file ≡ Ok entries) × ListsOnce entries
 
--- a request is done and told: what it wants to be written for a font file, what it lists, and for which defects of the
--- file it is refused; of texts with a setting what their call's contract says. The second traffic is that of standard
--- input, and of the writer again
+-- a request is performed and reported. For a font file: the bytes to write, the list, and the defects that refuse the
+-- file. For texts with a setting: the contract of their call. The second traffic is that of standard input, and of the
+-- writer again
 abbrev pub Performs : Request → Traffic → Traffic → Errors → ℕ → Type 0
 Performs (Map font text) t lines e status =
     Does {V = Unit {0}} (λ v. []) (map_wanted text.now) (λ entries. ⊤) IsFaceDefect t e status
@@ -145,7 +145,7 @@ Performs (Text font text setting) t lines e status =
 Performs (Lines font setting) t lines e status =
     DoesTexts (λ answer told. FontLinesGive setting answer (reader_in t) lines told) e status
 
--- this holds where standard input's lines are not asked for
+-- a property that holds unless the request is for standard input's lines
 abbrev pub UnlessLines : Request → Type 0 → Type 0
 UnlessLines (Lines font setting) P = ⊤
 UnlessLines r P = P

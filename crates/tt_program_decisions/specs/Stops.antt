@@ -1,4 +1,4 @@
--- No part of the standard: the ends of the program at which no request is done.
+-- No part of the standard: the ends of the program without a request.
 use Rattle.std.specs.Prelude.{ℕ, List, [], ◌++◌, codes}
 use Rattle.std.specs.declared.io.ErrorKind.{ErrorKind}
 use Rattle.std.specs.declared.io.ErrorKind.TheVariants.{OutOfMemory}
@@ -26,7 +26,7 @@ stop_status stop.Incomplete = 2
 stop_status stop.Unopened = status_of run.Read
 stop_status stop.Memory = status_of run.Memory
 
--- clap has printed help, the version and why it refuses
+-- where the text is empty, clap has printed the help, the version or its refusal
 abbrev pub stop_text : Stop → List ℕ
 stop_text stop.Shown = []
 stop_text stop.NotShown = codes "tt_render: cannot write the help\n"

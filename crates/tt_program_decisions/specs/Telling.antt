@@ -1,4 +1,4 @@
--- No part of the standard: what the program tells of an answer, by its exit status and on standard error.
+-- No part of the standard: the program's report of an answer, by its exit status and on standard error.
 use Rattle.std.specs.Prelude.{◌≡◌, ◌⊎◌, ℕ, Bool, true, false, List, [], ◌∷◌, ◌++◌, codes, Option, Result, Ok, Err, IfOk}
 use Rattle.std.specs.Io.KnownBytes.{Keeps}
 use Rattle.tt_core.specs.Faults.{Fault}
@@ -17,28 +17,28 @@ use Rattle.tt_render.specs.Messages.{line_of, status_of, unfitted_line_of}
 abbrev pub TellsFault : RunFault → ℕ → Errors → Type 0
 TellsFault fault status e = (status ≡ status_of fault) × Prints e (line_of fault ++ codes "\n")
 
--- the lines of glyphs that are not fitted
+-- the lines of unfitted glyphs
 abbrev pub report_lines : List Unfitted → List ℕ
 report_lines [] = []
 report_lines (u ∷ us) = unfitted_line_of u ++ (codes "\n" ++ report_lines us)
 
--- a picture is told by the lines of its report, and not at all where that is empty; want of memory for the lines is told
--- in their place
+-- a picture's report is printed, or nothing where it is empty; if memory is refused for the lines, the program reports
+-- that instead
 abbrev pub TellsReport : List Unfitted → ℕ → Errors → Type 0
 TellsReport [] status e = (status ≡ 0) × PrintsNothing e
 TellsReport (u ∷ us) status e =
     ((status ≡ 0) × Prints e (report_lines (u ∷ us))) ⊎ TellsFault run.Memory status e
 
--- a fault is told by status and line; want of memory for that line is told in the fault's place
+-- a fault is reported by status and line; if memory is refused for that line, the program reports that instead
 abbrev pub TellsFailure : RunFault → ℕ → Errors → Type 0
 TellsFailure fault status e = TellsFault fault status e ⊎ TellsFault run.Memory status e
 
--- an answer that lists some glyphs where it is Ok
+-- an answer is reported; where it is Ok, by its list of unfitted glyphs
 abbrev pub Tells : {V : Type 0} → (V → List Unfitted) → Result V RunFault → ℕ → Errors → Type 0
 Tells entries (Ok v) status e = TellsReport (entries v) status e
 Tells entries (Err fault) status e = TellsFailure fault status e
 
--- a call gave some answer, with what its contract says of the devices, and the program told that answer
+-- a call gave some answer, with its contract about the devices, and the program reported that answer
 pub record Does {V : Type 0} (entries : V → List Unfitted) (wanted : Wanted) (IsListed : List Unfitted → Type 0)
     (IsDefect : List ℕ → Fault → Type 0) (t : Traffic) (e : Errors) (status : ℕ) : Type 0
   where
@@ -52,20 +52,20 @@ pub record Does {V : Type 0} (entries : V → List Unfitted) (wanted : Wanted) (
 abbrev pub TellsTextsFault : TextsFault → ℕ → Errors → Type 0
 TellsTextsFault fault status e = (status ≡ texts_status_of fault) × Prints e (texts_line_of fault ++ codes "\n")
 
--- such a fault is told by status and line, and want of memory for that line in the fault's place; by the status alone
--- where standard error had failed before
+-- a fault of a call that draws texts is reported by status and line; if memory is refused for the line, the program
+-- reports that instead. By the status alone, where standard error had failed before
 abbrev pub TellsTextsFailure : Bool → TextsFault → ℕ → Errors → Type 0
 TellsTextsFailure false fault status e = TellsTextsFault fault status e ⊎ TellsTextsFault texts.Memory status e
 TellsTextsFailure true fault status e =
     (status ≡ texts_status_of fault) × Keeps e.before e.after × (e.failed ≡ true)
 
--- an answer after its reports: nothing is printed where it is Ok
+-- an answer is reported after its reports; nothing is printed where it is Ok
 abbrev pub TellsTexts : {V : Type 0} → Bool → Result V TextsFault → ℕ → Errors → Type 0
 TellsTexts had_failed (Ok v) status e = (status ≡ 0) × Keeps e.before e.after × (e.failed ≡ had_failed)
 TellsTexts had_failed (Err fault) status e = TellsTextsFailure had_failed fault status e
 
--- a call that draws texts gave some answer, with what its contract says of the devices, and left standard error with
--- these bytes, failed or not; and the program told that answer after them
+-- a call that draws texts gave some answer, with its contract about the devices. It had written the bytes `between` to
+-- standard error, which had failed or not. The program reported the answer after them
 pub record DoesTexts (Gives : Result (Unit {0}) TextsFault → Errors → Type 0) (e : Errors) (status : ℕ) : Type 0 where
   pub answer : Result (Unit {0}) TextsFault
   pub between : Option (List ℕ)

@@ -1,4 +1,4 @@
-//! What the program decides: what a command line asks for, and which exit status and line each end has.
+//! The program's decisions: the request of a command line, and the exit status and line of each end.
 #![tactic(auto)]
 
 mod performing;

@@ -1,4 +1,4 @@
-//! A request done, over its font and the standard streams.
+//! The performance of a request, over its font and the standard streams.
 
 ghost use Rattle.std.specs.Prelude.{◌≡◌, ◌≤◌, false};
 ghost use Rattle.tt_program_decisions.specs.Requests.{Performs, UnlessLines};
@@ -11,8 +11,8 @@ use crate::telling_texts::tell_texts;
 use std::alloc::Global;
 use tt_core::{Sink, Source};
 
-/// Does what a request asks for, and tells on standard error a fault, or which glyphs are not fitted and which
-/// characters have no glyph though that was asked for; answers the exit status.
+/// Performs a request, and reports on standard error a fault, or the unfitted glyphs and, where requested, the
+/// characters without a glyph. Returns the exit status.
 pub fn perform<R: Source, L: Source, W: Sink, E: Sink>(
     alloc: Global,
     request: &Request,
@@ -26,7 +26,7 @@ pub fn perform<R: Source, L: Source, W: Sink, E: Sink>(
     requires out { W.has_failed out.old ≡ false }
     requires error { E.has_failed error.old ≡ false }
     ensures bound { result ≤ 5 }
-    // Some answer stands for what went through the devices, and the status and the lines are told of that answer.
+    // For some answer the call's contract about the devices holds, and the status and the lines report that answer.
     ensures outcome { Performs request.now (traffic_of R.left R.has_failed W.written W.has_failed font.old font.new out.old out.new) (traffic_of L.left L.has_failed W.written W.has_failed lines.old lines.new out.old out.new) (errors_of E.written E.has_failed error.old error.new) result }
     ensures lines { UnlessLines request.now (lines.new ≡ lines.old) }
 {

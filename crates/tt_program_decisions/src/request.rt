@@ -1,4 +1,4 @@
-//! What a command line asks for.
+//! The request of a command line.
 
 ghost use Rattle.std.specs.Prelude.{◌≡◌, ◌≢◌, ℕ, Bool, true, false, List, Option, None, codes, option_map};
 ghost use Rattle.tt_strike.specs.Job.{job_view};
@@ -8,7 +8,7 @@ ghost use Rattle.tt_program_decisions.specs.Requests.{AsksDrawing, asked, asked_
 use tt_fit::Fit;
 use tt_render::{Job, Missing, Product, Setting};
 
-/// What a command line asks for.
+/// The request of a command line.
 #[derive(Clone, Copy)]
 pub enum Request<'a> {
     /// Write each character's code point, glyph and advance.
@@ -21,14 +21,14 @@ pub enum Request<'a> {
         font: &'a str,
         job: Job<'a>,
     },
-    /// Draw a line of text of whose characters those without a glyph are told or refused, or whose picture grows; or
-    /// tell its measures.
+    /// Draw a line of text and report or refuse its characters without a glyph, or draw a picture that grows, or report
+    /// the line's measures.
     Text {
         font: &'a str,
         text: &'a str,
         setting: Setting,
     },
-    /// Draw each line of standard input, or tell its measures.
+    /// Draw each line of standard input, or report its measures.
     Lines {
         font: &'a str,
         setting: Setting,
@@ -51,20 +51,20 @@ impl<'a> Request<'a> {
 
 /// The arguments of a subcommand by their names, as a parser of command lines found them.
 pub trait Arguments<'a> {
-    // The text that stands for a name.
+    // The text of a name.
     ghost text: { Self → List ℕ → Option (List ℕ) };
 
-    // Whether this is the number that stands for a name, None where none does.
+    // Whether this is the number of a name, None where the name has no number.
     ghost IsNumber: { Self → List ℕ → Option ℕ → Type 0 };
 
-    // Whether this says if the flag of a name is set.
+    // Whether this Boolean is the flag of a name.
     ghost IsFlag: { Self → List ℕ → Bool → Type 0 };
 
-    /// The text that stands for a name, if one does.
+    /// The text of a name, if it has one.
     fn text_for(&self, name: &str) -> Option<&'a str>
         ensures { option_map (λ s. s.now) result ≡ text self.now name.now };
 
-    /// The number that stands for a name, if one does.
+    /// The number of a name, if it has one.
     fn number_for(&self, name: &str) -> Option<u32>
         ensures { IsNumber self.now name.now result };
 
@@ -73,8 +73,8 @@ pub trait Arguments<'a> {
         ensures { IsFlag self.now name.now result };
 }
 
-/// What a subcommand with these arguments asks for; None where there is no subcommand of that name, an argument lacks, a
-/// text stands beside standard input's lines, or a way to fit or to take characters without a glyph has no such name.
+/// The request of a subcommand with these arguments. None where the subcommand is unknown, an argument is absent, a
+/// text accompanies standard input's lines, or the name of a way to fit or of a treatment of missing glyphs is unknown.
 pub fn request_of<'a, A: Arguments<'a>>(subcommand: &str, arguments: &A) -> Option<Request<'a>>
     ensures map { subcommand.now ≡ codes "map" → option_map asked_of result ≡ map_asked (A.text arguments.now (codes "FONT")) (A.text arguments.now (codes "TEXT")) }
     ensures draw { subcommand.now ≡ codes "draw" → AsksDrawing (A.text arguments.now) (A.IsNumber arguments.now) (A.IsFlag arguments.now) false (option_map asked_of result) }
@@ -89,7 +89,7 @@ pub fn request_of<'a, A: Arguments<'a>>(subcommand: &str, arguments: &A) -> Opti
     }
 }
 
-/// What the arguments of `draw`, or of `measure`, ask for.
+/// The request of `draw`, or of `measure`, by its arguments.
 fn drawing_of<'a, A: Arguments<'a>>(arguments: &A, measures: bool) -> Option<Request<'a>>
     ensures { AsksDrawing (A.text arguments.now) (A.IsNumber arguments.now) (A.IsFlag arguments.now) measures (option_map asked_of result) }
 {
@@ -107,7 +107,7 @@ fn drawing_of<'a, A: Arguments<'a>>(arguments: &A, measures: bool) -> Option<Req
     )
 }
 
-/// What `map FONT TEXT` asks for, where both are there.
+/// The request `map FONT TEXT`, where both words are present.
 fn map_of<'a>(font: Option<&'a str>, text: Option<&'a str>) -> Option<Request<'a>>
     ensures { option_map asked_of result ≡ map_asked (option_map (λ s. s.now) font.entry) (option_map (λ s. s.now) text.entry) }
 {
@@ -117,7 +117,7 @@ fn map_of<'a>(font: Option<&'a str>, text: Option<&'a str>) -> Option<Request<'a
     })
 }
 
-/// What `draw OPTION.. FONT TEXT` asks for, or `draw OPTION.. --lines FONT`, where its words and options are there.
+/// The request `draw OPTION.. FONT TEXT` or `draw OPTION.. --lines FONT`, where its words and options are present.
 fn draw_of<'a>(
     font: Option<&'a str>,
     text: Option<&'a str>,
@@ -144,7 +144,7 @@ fn draw_of<'a>(
     }
 }
 
-/// What is asked for of a text with a setting, by the product.
+/// The request of a text with a setting, by the product.
 fn text_of<'a>(font: &'a str, text: &'a str, setting: Setting) -> Request<'a>
     ensures { asked_of result ≡ text_asked setting.product font.now text.now setting }
 {
@@ -187,7 +187,7 @@ pub fn job_of<'a>(text: &'a str, setting: &Setting) -> Job<'a>
     }
 }
 
-/// What `--size SIZE --margin MARGIN --fit FIT --missing MISSING` asks for of a product, where all are there.
+/// The setting of `--size SIZE --margin MARGIN --fit FIT --missing MISSING` for a product, where all are present.
 fn options_of(
     size: Option<u32>,
     margin: Option<u32>,
@@ -206,7 +206,7 @@ fn options_of(
     setting_of(&words, product)
 }
 
-/// What goes out for a text: its measures or its picture, of the picture that grows or of the one that does not.
+/// The product of a text: its measures or its picture, and of the grown picture or the plain one.
 fn product_of(measures: bool, grows: bool) -> Product
     ensures { result ≡ product_asked measures grows }
 {
@@ -218,7 +218,7 @@ fn product_of(measures: bool, grows: bool) -> Product
     }
 }
 
-/// The options of a drawing, as they stand on the command line.
+/// The options of a drawing, as the command line has them.
 #[derive(Clone, Copy)]
 pub struct Words<'a> {
     pub size: u32,
@@ -227,12 +227,11 @@ pub struct Words<'a> {
     pub missing: &'a str,
 }
 
-/// Bytes of glyphs that are kept from line to line: all letters of a Latin font at the largest size, and some thousand
-/// glyphs at a usual one.
+/// The bytes of glyphs that are cached from line to line: all letters of a Latin font at the largest size, and some
+/// thousand glyphs at a usual one.
 const GLYPHS_KEPT: usize = 4_194_304;
 
-/// How a product is asked for; None where the way to fit, or what is done with characters without a glyph, has no such
-/// name.
+/// The setting of a product; None where the name of the way to fit, or of the treatment of missing glyphs, is unknown.
 pub fn setting_of(words: &Words, product: Product) -> Option<Setting>
     ensures { result ≡ asked words.now product }
 {
@@ -246,7 +245,7 @@ pub fn setting_of(words: &Words, product: Product) -> Option<Setting>
     })
 }
 
-/// The way to fit that is taken where none is asked for.
+/// The default way to fit.
 pub const FULL: &str = "full";
 
 const NONE: &str = "none";
@@ -271,7 +270,7 @@ fn way_of(name: &str) -> Option<Fit>
     }
 }
 
-/// What is done with characters without a glyph where nothing is asked for.
+/// The default treatment of characters without a glyph.
 pub const DRAW: &str = "draw";
 
 const TELL: &str = "tell";
@@ -281,7 +280,7 @@ const REFUSE: &str = "refuse";
 /// The words of `--missing`.
 pub static MISSING_WORDS: [&str; 3] = [DRAW, TELL, REFUSE];
 
-/// What is done with characters without a glyph, by its name.
+/// The treatment of characters without a glyph that has this name.
 fn missing_of(name: &str) -> Option<Missing>
     ensures { result ≡ missing_named name.now }
 {

@@ -1,4 +1,4 @@
-//! The ends of the program at which no request is done.
+//! The ends of the program without a request.
 
 ghost use Rattle.std.specs.Prelude.{◌≡◌, ◌≤◌, false};
 ghost use Rattle.tt_program_decisions.specs.Stops.{stop_at_open, stop_at_words, stop_status, stop_text};
@@ -8,18 +8,18 @@ use crate::telling::{NO_MEMORY, print};
 use std::io::ErrorKind;
 use tt_core::Sink;
 
-/// Why no request is done.
+/// The reason why there is no request to perform.
 #[derive(Clone, Copy)]
 pub enum Stop {
-    /// Help or the version was asked for, and is printed.
+    /// The help or the version was requested, and is printed.
     Shown,
-    /// Help or the version was asked for, and cannot be printed.
+    /// The help or the version was requested, and cannot be printed.
     NotShown,
-    /// The command line is refused, and clap has said why.
+    /// The command line is refused, and clap has printed why.
     Refused,
-    /// A word of the command line is no text.
+    /// A word of the command line is not UTF-8.
     NoText,
-    /// A word lacks, though clap let the command line pass.
+    /// A word is missing, though clap accepted the command line.
     Incomplete,
     /// The font cannot be opened.
     Unopened,
@@ -27,7 +27,7 @@ pub enum Stop {
     Memory,
 }
 
-/// Why there are no words of a command line: memory, or a word that is no text.
+/// The reason why a command line has no words: memory, or a word that is not UTF-8.
 pub fn stop_of_words(kind: ErrorKind) -> Stop
     ensures { result ≡ stop_at_words kind }
 {
@@ -37,7 +37,7 @@ pub fn stop_of_words(kind: ErrorKind) -> Stop
     }
 }
 
-/// Why a font is not open.
+/// The reason why a font is not open.
 pub fn stop_of_open(kind: ErrorKind) -> Stop
     ensures { result ≡ stop_at_open kind }
 {
@@ -47,7 +47,7 @@ pub fn stop_of_open(kind: ErrorKind) -> Stop
     }
 }
 
-/// Says on standard error why no request is done; answers the exit status.
+/// Reports on standard error why there is no request to perform. Returns the exit status.
 #[tactic(auto, using(crate::proofs::Statuses::stop_within))]
 pub fn tell_stop<E: Sink>(stop: Stop, error: &mut E) -> u8
     requires { E.has_failed error.old ≡ false }
@@ -71,7 +71,7 @@ fn status_of(stop: Stop) -> u8
     }
 }
 
-/// A line with its line feed, or nothing where clap has printed.
+/// A line with its line feed; empty where clap has printed.
 fn text_of(stop: Stop) -> &'static str
     ensures { result.now ≡ stop_text stop }
 {

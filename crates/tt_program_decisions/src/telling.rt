@@ -1,4 +1,4 @@
-//! What is told of an answer: the exit status, and a line on standard error.
+//! The report of an answer: the exit status, and a line on standard error.
 
 ghost use Rattle.std.specs.Prelude.{◌≡◌, ◌≤◌, ◌++◌, [], false, codes, string_bytes, IfOk, IfErr};
 ghost use Rattle.tt_render.specs.declared.fault.RunFault.TheVariants.{Memory};
@@ -11,10 +11,10 @@ use tt_core::Sink;
 use tt_pbm::write_all_of;
 use tt_render::{Report, RunFault, Unfitted, line, status, unfitted_line};
 
-/// The line for want of memory, which takes none.
+/// The line for refused memory; it takes no memory.
 pub(crate) const NO_MEMORY: &str = "tt_render: out of memory\n";
 
-/// Tells the answer of `map` on standard error; answers the exit status.
+/// Reports the answer of `map` on standard error. Returns the exit status.
 pub(crate) fn tell<E: Sink>(alloc: Global, answer: &Result<(), RunFault>, error: &mut E) -> u8
     requires { E.has_failed error.old ≡ false }
     ensures bound { result ≤ 5 }
@@ -26,7 +26,7 @@ pub(crate) fn tell<E: Sink>(alloc: Global, answer: &Result<(), RunFault>, error:
     }
 }
 
-/// Tells the answer of `run` on standard error, and which glyphs are not fitted; answers the exit status.
+/// Reports the answer of `run`, with the unfitted glyphs, on standard error. Returns the exit status.
 pub(crate) fn tell_picture<E: Sink>(
     alloc: Global,
     answer: &Result<Report, RunFault>,
@@ -42,7 +42,7 @@ pub(crate) fn tell_picture<E: Sink>(
     }
 }
 
-/// Tells which glyphs are not fitted, or want of memory where that is refused for their lines.
+/// Reports the unfitted glyphs, or refused memory where memory is refused for their lines.
 fn tell_report<E: Sink>(alloc: Global, unfitted: &[Unfitted], error: &mut E) -> u8
     requires { E.has_failed error.old ≡ false }
     ensures bound { result ≤ 5 }
@@ -54,7 +54,7 @@ fn tell_report<E: Sink>(alloc: Global, unfitted: &[Unfitted], error: &mut E) -> 
     tell_text(report_lines(alloc, unfitted), 0, error)
 }
 
-/// Tells a text with a status, or want of memory where that was refused for the text.
+/// Prints a text and returns a status. Where memory was refused for the text, reports that instead.
 pub(crate) fn tell_text<E: Sink>(
     text: Result<String, AllocError>,
     status_then: u8,
@@ -78,7 +78,7 @@ pub(crate) fn tell_text<E: Sink>(
     }
 }
 
-/// A line for each glyph that is not fitted, with its line feed.
+/// A line for each unfitted glyph, with its line feed.
 fn report_lines(alloc: Global, unfitted: &[Unfitted]) -> Result<String, AllocError>
     ensures { IfOk result (λ text. string_bytes text ≡ report_lines unfitted.now) }
 {
@@ -90,7 +90,7 @@ fn report_lines(alloc: Global, unfitted: &[Unfitted]) -> Result<String, AllocErr
     Ok(text)
 }
 
-/// Tells a fault, or want of memory where that is refused for the fault's line.
+/// Reports a fault, or refused memory where memory is refused for the fault's line.
 #[tactic(auto, using(crate::proofs::Statuses::status_within))]
 fn tell_fault<E: Sink>(alloc: Global, fault: &RunFault, error: &mut E) -> u8
     requires { E.has_failed error.old ≡ false }
@@ -109,7 +109,7 @@ fn ended_line(alloc: Global, fault: &RunFault) -> Result<String, AllocError>
     Ok(text)
 }
 
-/// Prints a text on standard error. Where that fails, no other place is left to tell it.
+/// Prints a text on standard error. Where that fails, nowhere else can report it.
 pub(crate) fn print<E: Sink>(error: &mut E, text: &str)
     requires { E.has_failed error.old ≡ false }
     ensures { Prints (errors_of E.written E.has_failed error.old error.new) text.now }

@@ -1,5 +1,5 @@
-//! What is told of texts that were drawn, after what was printed while they were: the exit status, and a line on
-//! standard error.
+//! The report of texts that were drawn, after the reports printed meanwhile: the exit status, and a line on standard
+//! error.
 
 ghost use Rattle.std.specs.Prelude.{◌≡◌, ◌≤◌, ◌++◌, false, codes, string_bytes, IfOk};
 ghost use Rattle.tt_render.specs.Printing.{errors_of};
@@ -11,7 +11,7 @@ use std::alloc::{AllocError, Global};
 use tt_core::Sink;
 use tt_render::{TextsFault, texts_line, texts_status};
 
-/// Tells the answer of `draw_text` or `draw_lines` on standard error; answers the exit status.
+/// Reports the answer of `draw_text` or `draw_lines` on standard error. Returns the exit status.
 #[tactic(auto, using(crate::proofs::Statuses::texts_status_within))]
 pub(crate) fn tell_texts<E: Sink>(
     alloc: Global,
@@ -32,7 +32,7 @@ pub(crate) fn tell_texts<E: Sink>(
     }
 }
 
-/// Tells a fault, or want of memory where that is refused for the fault's line.
+/// Reports a fault, or refused memory where memory is refused for the fault's line.
 #[tactic(auto, using(crate::proofs::Statuses::texts_status_within))]
 fn tell_texts_fault<E: Sink>(alloc: Global, fault: &TextsFault, error: &mut E) -> u8
     requires { E.has_failed error.old ≡ false }
