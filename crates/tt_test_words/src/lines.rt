@@ -1,12 +1,12 @@
-//! Questions that come on standard input, a line each.
+//! Questions from standard input, a line each.
 
 use crate::words::Words;
 use anyhow::{Context, Result};
 use std::io::{self, BufRead, BufReader, BufWriter, Write};
 
-/// What answers the questions.
+/// A program that answers questions.
 pub trait Answers {
-    /// Takes the words of a line: prints the answer of a question, or keeps what those after it are asked of.
+    /// Takes the words of a line: prints the answer of a question, or stores data for the questions after it.
     fn take<W: Write>(&mut self, rt: &HostRuntime, out: &mut W, words: &mut Words) -> Result<()>;
 }
 

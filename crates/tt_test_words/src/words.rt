@@ -10,17 +10,17 @@ use std::str::SplitAsciiWhitespace;
 /// More edges, points and bytes than a question or a glyph has.
 pub const MOST: usize = 1 << 20;
 
-/// Words that are still to be read.
+/// The unread words.
 #[derive(Drop)]
 pub enum Words<'a> {
-    /// Those of the command line.
+    /// The words of the command line.
     Arguments(slice::Iter<'a, String>),
-    /// Those of a line.
+    /// The words of a line.
     Line(SplitAsciiWhitespace<'a>),
 }
 
 impl<'a> Words<'a> {
-    /// The next word; None where none is left.
+    /// The next word; None at the end.
     pub fn next(&mut self) -> Option<&'a str> {
         match self {
             Words::Arguments(words) => match words.next() {
@@ -31,12 +31,12 @@ impl<'a> Words<'a> {
         }
     }
 
-    /// The next word. Error: none is left.
+    /// The next word. Error: there is none.
     pub fn word(&mut self) -> Result<&'a str> {
         self.next().context("a word is missing")
     }
 
-    /// Error: a word is left.
+    /// Error: a further word.
     pub fn end(&mut self) -> Result<()> {
         if self.next().is_some() {
             bail!("a word too many");
@@ -44,7 +44,7 @@ impl<'a> Words<'a> {
         Ok(())
     }
 
-    /// The next word, a number from `low` to `high`. Errors: it lacks, or is no such number.
+    /// The next word, a number from `low` to `high`. Errors: there is no word, or it is no such number.
     pub fn number(&mut self, low: i64, high: i64) -> Result<i64>
         ensures low { IfOk result (λ n. low ≤ℤ n) }
         ensures high { IfOk result (λ n. n ≤ℤ high) }
@@ -56,7 +56,7 @@ impl<'a> Words<'a> {
         Ok(number)
     }
 
-    /// The next word, how many entries follow, or how many bytes come before a program.
+    /// The next word: a number of entries that follow, or of bytes before a program.
     pub fn count(&mut self) -> Result<u32>
         ensures { IfOk result (λ n. n ≤ 2 ^ 20) }
     {
