@@ -4,7 +4,7 @@ ghost use Rattle.std.specs.Prelude.{◌≡◌, ◌≤◌, length};
 
 use std::io::{self, ErrorKind, Read, Write};
 
-/// A device whose first `times` calls fail so, and which then gives a byte 7, or takes one byte.
+/// A device whose first `times` calls fail with `kind`. After them a read gives a byte 7, and a write takes one byte.
 #[derive(Drop)]
 pub(crate) struct Failing {
     pub(crate) times: u32,
@@ -43,7 +43,7 @@ impl Write for Failing {
     }
 }
 
-/// Puts a byte 7 to the front, where there is room for one.
+/// Puts a byte 7 at the front, where there is room for one.
 fn first_of(buf: &mut [u8]) -> usize
     ensures len { length buf.new ≡ length buf.old }
     ensures bound { result ≤ length buf.new }

@@ -1,5 +1,5 @@
-//! Tests of what no contract says of `Device`: what becomes of calls that are interrupted, fail or move nothing. Other
-//! cases are run by scripts, in the folder tests/.
+//! Tests of `Device` beyond its contract: calls that are interrupted, fail or move nothing. Scripts in the folder
+//! tests/ run other cases.
 #![tactic(auto)]
 
 #[cfg(test)]
