@@ -67,7 +67,7 @@ byte_whole row byte k within = elim (cases_eq (k / 8) byte) [
       rw kept (grind (arith, nat_tests))
 ]
 
--- nothing lies from a column up to it
+-- an empty range of columns has none
 pub nothing_more : (b : Bool) (at k : ℕ) → b ≡ (b || (nat_le at k && nat_lt k at))
 nothing_more true at k = refl
 nothing_more false at k = grind (arith, nat_tests)

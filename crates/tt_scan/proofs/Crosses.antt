@@ -1,4 +1,4 @@
--- What an edge does at a height, for each kind of edge.
+-- The crossing of an edge with a height, for each kind of edge.
 use Rattle.std.proofs.Common.{◌≡◌, ℕ, ap, sym, ◌∙◌, Bool, true, false, ◌&&◌, Option, Some, None, refl, arith}
 use Rattle.std.specs.Prelude.{ℤ, pos, negsuc, ◌+ℤ◌, ◌-ℤ◌, ◌*ℤ◌, neg_ℤ, ◌≤ℤ◌, ◌<ℤ◌, int_lt, int_le, if◌then◌else◌, IfSome}
 use Rattle.std.specs.Int.{int_min, int_max}
@@ -29,7 +29,7 @@ either_zero : (b : Bool) (z : ℤ) → z ≡ pos 0 → pos 0 ≡ (if b then z el
 either_zero true z e = sym e
 either_zero false z e = refl
 
--- an edge whose range of heights does not hold this one
+-- an edge whose range of heights does not include this height
 
 no_turn : (ay by y : ℤ) → is_between ay by y ≡ false → (if int_le ay y && int_lt y by then pos 1 else (if int_le by y && int_lt y ay then negsuc 0 else pos 0)) ≡ pos 0
 no_turn ay by y off = grind (arith, ints)
@@ -41,7 +41,7 @@ order_none : (t : Option (ℤ × ℤ)) → t ≡ None → IfSome t (λ t. t.0 �
 order_none None e = tt
 order_none (Some t) e = absurd (cc)
 
--- an edge that holds it
+-- an edge whose range of heights includes this height
 
 pub from_lower : (ay by y : ℤ) → ay <ℤ by → is_between ay by y ≡ true → ay ≤ℤ y
 from_lower ay by y rises on = grind (arith, ints)
@@ -96,7 +96,7 @@ top_turn ay by y rises top = grind (arith, ints)
 top_turned : (ay by y s : ℤ) → ay <ℤ by → by ≤ℤ y → turned_at ay by y s ≡ pos 0
 top_turned ay by y s rises top = grind (arith, ints)
 
--- the same at its upper end
+-- an edge from its lower end to its upper, at its upper end
 pub top_cross : (e : Edge) (m : ℕ) (y : ℤ) (r : Cross) (here : ℤ → Bool) → e.ay <ℤ e.by → y ≡ e.by
     → ((c : ℤ) → is_zero (side e (column_x m c) y) ≡ here c)
     → ((c : ℤ) → spans r.touch c ≡ here c) → IfSome r.touch (λ t. t.0 ≤ℤ t.1) → r.turn ≡ pos 0 → r.first ≡ pos 0 → IsCross e m y r
@@ -108,7 +108,7 @@ top_cross e m y r here rises top on touch order turn first = record {
   still = λ _. first;
 }
 
--- an edge does what it does from b to a, but turns the other way
+-- the crossing of an edge is that of the edge from b to a, with the turn reversed
 
 zero_turned : (s : ℤ) → is_zero s ≡ is_zero (neg_ℤ s)
 zero_turned s = grind (arith, ints)

@@ -26,7 +26,7 @@ or_true : (b : Bool) → (b || true) ≡ true
 or_true true = refl
 or_true false = refl
 
--- an edge that holds the point is one of the edges
+-- an edge through the point is one of the edges
 pub held : (es : List Edge) (i : ℕ) (x y : ℤ) → i < length es → lies_on (edge_at es i) x y ≡ true → lies_on_one es x y ≡ true
 held [] i x y below on = absurd (omega arith)
 held (e ∷ es) zero x y below on = rw on refl
@@ -44,7 +44,7 @@ one_or_none : (b : Bool) → (if b then 1 else 0) ≤ 1
 one_or_none true = omega arith
 one_or_none false = omega arith
 
--- so many edges meet a row at most
+-- a row meets at most all edges
 pub rows_few : (es : List Edge) (i : ℕ) (y : ℤ) → rows_met (take i es) y ≤ i
 rows_few es zero y = omega arith
 rows_few [] (suc i) y = omega arith

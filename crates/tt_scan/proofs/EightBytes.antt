@@ -123,7 +123,7 @@ eight_ored old new start word eight swapped k is read written before after = eli
   ]
 ]
 
--- a word moved to where its first column lies in the eight bytes
+-- a word moved to the place of its first column in the eight bytes
 
 in_window : (word at start by k : ℕ) → word < 2 ^ 64 → ((b : ℕ) → b < 7 → bit_at word b ≡ 0) → by ≡ at - 8 * start → 8 * start ≤ at → 8 * start ≤ k → k < 8 * start + 64
     → (bit_at (word / 2 ^ by) (63 - (k - 8 * start)) == 1) ≡ (nat_le at k && in_word word (k - at))

@@ -1,4 +1,4 @@
--- How far spans reach, and one span more.
+-- The least and the greatest column of spans, and one span more.
 use Rattle.std.proofs.Common.{◌≡◌, ◌∙◌, refl, ◌⊎◌, inl, inr, Bool, true, false, ◌&&◌, ◌||◌, List, [], ◌∷◌, ◌++◌, Option, Some, None, ℤ, ◌≤ℤ◌, ◌<ℤ◌, int_le, arith}
 use Rattle.std.specs.Int.{int_max, int_min}
 use Rattle.std.proofs.lemmas.Int.{by_lt_z, clamps, ints}

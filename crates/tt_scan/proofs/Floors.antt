@@ -1,4 +1,4 @@
--- Floors of quotients: how large one is, and which multiples of the divisor lie below the number that was divided.
+-- Floors of quotients: their size, and the multiples of the divisor below the dividend.
 use Rattle.std.proofs.Common.{◌≡◌, refl, ℕ, zero, suc, ◌/◌, ◌^◌, ◌≤◌, ap, ◌&&◌, SFits, w64, arith}
 use Rattle.std.specs.Prelude.{ℤ, pos, negsuc, ◌+ℤ◌, ◌-ℤ◌, ◌*ℤ◌, ◌≤ℤ◌, ◌<ℤ◌, neg_ℤ, int_lt, unsigned_abs}
 use Rattle.std.specs.Prelude.{int_div}
@@ -19,7 +19,7 @@ quotient_small (pos a) (pos b) f h = half_below a b (omega (arith, ints)) (omega
 quotient_small (negsuc a) (pos b) f h = rw (unsigned_abs-neg (suc a / b)) (half_below (suc a) b (omega (arith, ints)) (omega (arith, ints)))
 quotient_small n (negsuc b) f h = absurd (omega (arith, ints))
 
--- d goes q times into n, and the rest is left: n less c times d is below 0, and is 0
+-- for n with d going q times into it and a rest: whether n less c times d is below 0, and whether it is 0
 pub below_floor : (d q rest n c : ℤ) → pos 0 ≤ℤ rest → rest <ℤ d → d *ℤ q +ℤ rest ≡ n → int_lt (n -ℤ d *ℤ c) (pos 0) ≡ int_lt q c
 below_floor d q rest n c low high is =
     by_lt_z q c

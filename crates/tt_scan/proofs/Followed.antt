@@ -1,4 +1,4 @@
--- An edge that is followed from row to row: what it does in each.
+-- An edge followed from row to row, and its crossing in each row.
 use Rattle.std.proofs.Common.{◌≡◌, ◌≢◌, ℕ, ◌≤◌, unsigned_abs, true, ◌&&◌, refl, arith}
 use Rattle.std.specs.Prelude.{ℤ, pos, negsuc, ◌+ℤ◌, ◌-ℤ◌, ◌*ℤ◌, ◌≤ℤ◌, ◌<ℤ◌, IfSome}
 use Rattle.std.proofs.lemmas.Int.{ints, by_lt_z}
@@ -13,7 +13,7 @@ use Rattle.tt_scan.specs.Winding.{EdgeFits, is_between, is_zero}
 use Rattle.tt_scan.proofs.Crosses.{rising_cross, round_cross, from_lower, to_upper, from_lower_turned, to_upper_turned}
 use Rattle.tt_scan.proofs.Walks.{on_there, right_there, goes_down, goes_left, column_near, step_small}
 
--- an edge that rises, where the row above meets it too
+-- a rising edge, where the row above meets it too
 up_crosses : (u : Edge) (m : ℕ) (y : ℤ) (q : Quotient) (r : Cross) → StandsAt u m y q → u.ay ≤ℤ y → y <ℤ u.by
     → ((c : ℤ) → spans r.touch c ≡ (is_zero q.rest && is_zero (q.whole -ℤ c))) → IfSome r.touch (λ t. t.0 ≤ℤ t.1)
     → r.turn ≡ pos 1 → r.first ≡ q.whole +ℤ pos 1 → IsCross u m y r
@@ -63,7 +63,7 @@ up_fits u m z turn w fits margin tall low high is =
       rise = omega (arith, ints, rise, tall);
     }
 
--- where an edge meets a row and the one above, at any height that it meets
+-- an edge that meets a row and the row above, at any height that it meets
 pub walk_fits : (e : Edge) (m : ℕ) (y z : ℤ) (w : Walk) → EdgeFits e → m ≤ margin_limit → e.ay ≢ e.by → is_between e.ay e.by y ≡ true
     → is_between e.ay e.by (y +ℤ pos 8192) ≡ true → is_between e.ay e.by z ≡ true → IsWalk e m z w → WalkFits w
 walk_fits e m y z w fits margin sloped here above there is =

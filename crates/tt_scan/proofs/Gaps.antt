@@ -1,4 +1,4 @@
--- Gaps between the centre lines of rows, and edges that lie in one: no row meets them.
+-- Gaps between the centre lines of rows, and edges inside one gap: no row meets them.
 use Rattle.std.proofs.Common.{◌≡◌, ◌∙◌, ℕ, ◌+◌, ◌<◌, ◌≤◌, ◌^◌, length, take, get_or, All, SFits, w32, true, false, ◌&&◌, List, [], ◌∷◌, ◌++◌, inl, ℤ, pos, ◌+ℤ◌, ◌-ℤ◌, ◌*ℤ◌, ◌≤ℤ◌, ◌<ℤ◌, refl, sym, arith, append-nil}
 use Rattle.std.specs.Prelude.{int_lt, unsigned_abs}
 use Rattle.std.proofs.lemmas.Int.{ints, by_lt_z}
@@ -88,7 +88,7 @@ no_rows f e unmet = record {
 none_of_none : (row : ℤ) → has_row (pos 0, pos 0) row ≡ true → int_lt (pos 0) (pos 0) ≡ true
 none_of_none row within = absurd (grind (arith, ints))
 
--- one edge more that no row meets: nothing is to be found of it
+-- one edge more that no row meets: it has no entry
 pub unmet_entered : (es : List Edge) (e : Edge) (f : Frame) (r : ℤ × ℤ) (ms : List Entry)
     → AreEntered es f r ms → IsUnmet f e → AreEntered (es ++ e ∷ []) f r ms
 unmet_entered es e f r ms are unmet =

@@ -40,7 +40,7 @@ pub heights_more : (es : List Edge) (e : Edge) → heights_of (es ++ e ∷ []) �
 heights_more [] e = refl
 heights_more (d ∷ es) e = rw (heights_more es e) (ap Some (swapped d e (heights_of es)))
 
--- where they lie
+-- edges lie between their least and greatest height
 
 in_order : (e : Edge) (o : Option (ℤ × ℤ)) → IfSome o (λ t. t.0 ≤ℤ t.1) → (heights_with e o).0 ≤ℤ (heights_with e o).1
 in_order e None so_far = omega (arith, ints, clamps)

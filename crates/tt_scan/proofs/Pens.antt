@@ -1,4 +1,4 @@
--- What spans cover from several pens.
+-- The columns that spans cover from several pens.
 use Rattle.std.proofs.Common.{◌≡◌, refl, ℕ, zero, suc, ◌+◌, ◌-◌, ◌<◌, Bool, true, false, ◌&&◌, ◌||◌, List, [], ◌∷◌, ◌++◌, length, take, drop, slice_index, get_or, pos, ◌-ℤ◌, arith}
 use Rattle.std.proofs.lemmas.List.{take_more, take_rest}
 use Rattle.tt_scan.specs.declared.mark.Span.{Span}
@@ -67,7 +67,7 @@ one_span_painted ss i d pens k old inside below =
     rw (take_more ss i d below, from_more_spans (take i ss) (get_or ss i d) pens k)
     (joined old inside (covers_from (take i ss) pens k) (covers_from (get_or ss i d ∷ []) pens k))
 
--- nothing is covered from no pen, and by no span
+-- no column is covered from no pen, or by no span
 pub none_painted : (old inside : Bool) → old ≡ (old || (inside && false))
 none_painted true inside = refl
 none_painted false true = refl

@@ -1,4 +1,4 @@
--- Ranges of numbers, told in other ways.
+-- Ranges of numbers in other forms.
 use Rattle.std.proofs.Common.{◌≡◌, ◌∙◌, ℕ, ◌<◌, nat_le, nat_lt, Bool, true, false, ◌&&◌, ◌^◌, SFits, w64, refl, arith}
 use Rattle.std.specs.Prelude.{ℤ, pos, unsigned_abs, ◌+ℤ◌, ◌-ℤ◌, ◌*ℤ◌, ◌≤ℤ◌, ◌<ℤ◌, int_lt, int_le}
 use Rattle.std.specs.Int.{int_min, int_max}
@@ -28,7 +28,7 @@ between_is a b z =
     let high : int_max a b ≡ b = omega (arith, ints, clamps) in
     rw (low, high) (ordered a b z more))
 
--- the same of a number that counts from another place, upwards or downwards
+-- a number that counts from another place, upwards or downwards, between two numbers
 pub between_from : (a b z low high k : ℤ) → int_min a b -ℤ z ≡ low -ℤ k → int_max a b -ℤ z ≡ high -ℤ k → is_between a b z ≡ (int_le low k && int_le k high)
 between_from a b z low high k is_low is_high =
     let one = shifted (int_min a b) z low k is_low in
@@ -94,14 +94,14 @@ pub clipped : (first last height from past k : ℤ) → from ≡ int_max (pos 0)
 clipped first last height from past k is_from is_past low high =
     rw (clipped_first first height from k is_from low high) (same_after (int_le from k) (int_le k last) (int_lt k past) (λ reached. clipped_last last height from past k is_past high (omega (arith, ints))))
 
--- the same lines counted upwards and downwards
+-- lines counted upwards and downwards
 pub downwards : (top low high row : ℤ) → (int_le low (top -ℤ row) && int_le (top -ℤ row) high) ≡ (int_le (top -ℤ high) row && int_le row (top -ℤ low))
 downwards top low high row =
     let one = shifted low (top -ℤ row) row (top -ℤ low) (omega (arith, ints)) in
     let two = shifted (top -ℤ row) high (top -ℤ high) row (omega (arith, ints)) in
     rw (one, two) (and_turned (int_le row (top -ℤ low)) (int_le (top -ℤ high) row))
 
--- a column cut to those of a window: to so many from `low` on
+-- a column cut to those of a window: the window's columns from `low` on
 
 pub placed : (at z low : ℤ) (width k : ℕ) → z ≡ int_max low (int_min at (low +ℤ pos width)) → k < width
     → int_le at (low +ℤ pos k) ≡ nat_le (unsigned_abs (z -ℤ low)) k
@@ -128,6 +128,6 @@ before_fits low small = omega (arith, ints)
 pub one_after : (low : ℤ) → (low -ℤ pos 1) +ℤ pos 1 ≡ low
 one_after low = omega (arith, ints)
 
--- how far a cut column lies from where the window begins
+-- the distance of a cut column from the start of the window
 pub within_fits : (z low : ℤ) (n : ℕ) → n < 2 ^ 32 → low ≤ℤ z → z ≤ℤ (low +ℤ pos n) → SFits w64 (z -ℤ low)
 within_fits z low n few above below = omega (arith, ints)

@@ -1,4 +1,4 @@
--- Walked edges stand for those that begin above a row and meet it.
+-- Walked edges are those that begin above a row and meet it.
 use Rattle.std.proofs.Common.{◌≡◌, ◌∙◌, sym, refl, ℕ, suc, ◌≤◌, Bool, true, false, ◌&&◌, List, [], ◌∷◌, length, map, take, get_or, filter, sum_by, All, ℤ, pos, ◌+ℤ◌, ◌-ℤ◌, ◌≤ℤ◌, ◌<ℤ◌, int_lt, int_le, if◌then◌else◌, arith}
 use Rattle.std.specs.List.Sorted.{IsPermutation}
 use Rattle.std.specs.Prelude.{vec_capacity}
@@ -18,7 +18,7 @@ use Rattle.tt_scan.specs.Winding.{column_x}
 use Rattle.tt_scan.proofs.Standing.{stand, few_stand, sum_kept, sum_of_edges, up_of, down_of, on_of, wound, touched}
 use Rattle.tt_scan.proofs.Walked.{sum_of_entries, few_met}
 
--- what is counted of one list of entries, and as much of another
+-- a sum over one list of entries equals the sum over another
 
 sums_of_edges : (es : List Edge) (xs ys : List Entry) → ((g : Entry → ℕ) → sum_by g xs ≡ sum_by g ys) → (g : Edge → ℕ)
     → sum_by g (edges_of es xs) ≡ sum_by g (edges_of es ys)
@@ -49,7 +49,7 @@ left_same es m y xs ys ks ss same are =
       black_count = omega (arith, long, black_few);
     }
 
--- the entries that go on below a row, and those that meet the row below
+-- the entries that continue below a row are those that meet the row below
 
 meets_is : (first past r : ℤ) → first ≤ℤ (r -ℤ pos 1) → (int_le first r && int_lt r past) ≡ int_lt ((r -ℤ pos 1) +ℤ pos 1) past
 meets_is first past r begun = grind (arith, ints)
@@ -95,7 +95,7 @@ still_walked es f r ms n ws vs are sums walks on =
       on = on;
     }
 
--- no entry is begun
+-- no entry has begun
 pub none_walked : (es : List Edge) (f : Frame) (r : ℤ) (ms : List Entry) → AreWalked es f r ms 0 []
 none_walked es f r ms = record {
   within = omega arith;

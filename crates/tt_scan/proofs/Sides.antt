@@ -1,4 +1,4 @@
--- On which side of an edge the centre of a column lies.
+-- The side of an edge on which the centre of a column lies.
 use Rattle.std.proofs.Common.{◌≡◌, ℕ, ◌^◌, ◌<◌, ap, ◌∙◌, true, refl, unsigned_abs, SFits, w64, arith}
 use Rattle.std.specs.Prelude.{ℤ, pos, ◌+ℤ◌, ◌-ℤ◌, ◌*ℤ◌, neg_ℤ, ◌≤ℤ◌, ◌<ℤ◌}
 use Rattle.std.proofs.lemmas.Int.{ints, by_lt_z}
@@ -7,7 +7,7 @@ use Rattle.tt_core.specs.Products.{mul_diff, neg_mul, mul_neg, mul_assoc_z, mul_
 use Rattle.tt_scan.specs.declared.edge.Edge.{Edge}
 use Rattle.tt_scan.specs.Winding.{EdgeFits, column_x, side, is_zero, is_between}
 
--- what is computed of a rising edge at a height of its range fits
+-- the numbers computed for a rising edge at a height of its range fit
 pub record Computed (e : Edge) (y : ℤ) : Type 0 where
   pub run : SFits w64 (e.bx -ℤ e.ax)
   pub rise : SFits w64 (e.by -ℤ e.ay)
@@ -27,7 +27,7 @@ computed e y fits rises low high = record {
 pub sum_fits : (a b : ℤ) → unsigned_abs a < 2 ^ 62 → unsigned_abs b < 2 ^ 62 → SFits w64 (a +ℤ b)
 sum_fits a b left right = omega (arith, ints)
 
--- what is left of a number after the column's multiples of a divisor
+-- the rest of a number after the column's multiples of a divisor
 side_is : (run h rise at c : ℤ) → run *ℤ h -ℤ rise *ℤ (pos 8192 *ℤ c -ℤ at) ≡ (run *ℤ h +ℤ rise *ℤ at) -ℤ (pos 8192 *ℤ rise) *ℤ c
 side_is run h rise at c = omega (arith, ints, mul_diff rise (pos 8192 *ℤ c) at, mul_assoc_z rise (pos 8192) c, *ℤ_comm rise (pos 8192), ap (λ (z : ℤ). z *ℤ c) (*ℤ_comm rise (pos 8192)))
 

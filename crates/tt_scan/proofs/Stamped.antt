@@ -16,7 +16,7 @@ use Rattle.tt_scan.proofs.ActiveEdges.{reached}
 use Rattle.tt_scan.proofs.Words.{past_last}
 use Rattle.tt_scan.proofs.Visits.{covers_more}
 
--- a span from a stamp's first column on, up to its last; what the code computes of it fits
+-- a span from a stamp's first column on, up to its last; the numbers computed for it fit
 pub record Spanned (low first last : ℤ) : Type 0 where
   pub is_low : to_z w64 (of_z w64 low) ≡ low
   pub is_first : to_z w64 (of_z w64 first) ≡ first
@@ -141,7 +141,7 @@ stamp_painted ss s at k width shift is is_at room =
           rw (on, in_it, same) (within_row s.word s.columns at k width is.narrow is.free room)
     ])
 
--- both tests of a place that lies within are passed
+-- a place within the row passes both tests
 both_true : (a b : Bool) → (a && b) ≡ true → (a ≡ true) × (b ≡ true)
 both_true true b is = (refl, is)
 both_true false b is = absurd cc

@@ -1,4 +1,4 @@
--- The active edges of a row stand for all: what all come to there is counted over those alone that meet it.
+-- The active edges of a row give every sum over all edges that meet the row.
 use Rattle.std.proofs.Common.{◌≡◌, ◌∙◌, ap, sym, refl, ℕ, zero, suc, ◌+◌, ◌<◌, ◌≤◌, Bool, true, false, ◌&&◌, ◌||◌, nat_lt, List, [], ◌∷◌, ◌++◌, length, take, get_or, filter, sum_by, All, ℤ, pos, negsuc, ◌+ℤ◌, ◌-ℤ◌, ◌≤ℤ◌, ◌<ℤ◌, int_lt, int_le, if◌then◌else◌, arith}
 use Rattle.std.specs.List.Sorted.{IsPermutation}
 use Rattle.std.proofs.Math.Seq.{take-length}
@@ -46,7 +46,7 @@ same_sums g h (m ∷ ms) same =
     let other = sum_by-cons h m ms in
     omega arith
 
--- an edge more leaves those before it at their places
+-- one edge more does not move those before it
 kept_rows : (es : List Edge) (f : Frame) (ms : List Entry) (e : Edge) → IsTableOf es f ms → All (λ m. AreRows (edge_of (es ++ e ∷ []) m) f (m.first, m.past)) ms
 kept_rows es f ms e are = λ k d below. rw (kept_edge es e (get_or ms k d).edge (are.numbers k d below)) (are.rows k d below)
 
@@ -94,7 +94,7 @@ entries_permuted es f ms ns are same = record {
   sums = λ g none. sum_by-IsPermutation (λ (m : Entry). g (edge_of es m)) ms ns same ∙ are.sums g none;
 }
 
--- what is counted of those alone that a test keeps
+-- sums over the entries that a test selects
 
 kept_at : (h : Entry → ℕ) (p : Entry → Bool) (m : Entry) (ms : List Entry) (b : Bool) → p m ≡ b → (p m ≡ false → h m ≡ 0)
     → sum_by h (filter p ms) ≡ sum_by h ms → sum_by h (filter p (m ∷ ms)) ≡ sum_by h (m ∷ ms)
@@ -195,7 +195,7 @@ met_off : (y : ℤ) (e : Edge) → is_between e.ay e.by y ≡ false → met_of y
 unfolding met_of
 met_off y e off = rw off refl
 
--- so the edges that meet the row stand for all
+-- sums over the edges that meet the row are sums over all edges
 
 met_all : (es : List Edge) (y : ℤ) (ms : List Entry) → All (λ m. is_between (edge_of es m).ay (edge_of es m).by y ≡ true) ms → rows_met (edges_of es ms) y ≡ length ms
 met_all es y [] all = refl

@@ -1,4 +1,4 @@
--- What all rows of a picture come to: the rows of each edge, added up.
+-- The crossings of all rows of a picture: the rows of each edge, added up.
 use Rattle.std.proofs.Common.{◌≡◌, ◌∙◌, sym, refl, ℕ, zero, suc, ◌+◌, ◌-◌, ◌*◌, zero-add, ◌<◌, ◌≤◌, min, max, Bool, true, false, ◌&&◌, List, [], ◌∷◌, length, get_or, sum_by, All, ℤ, pos, ◌-ℤ◌, ◌≤ℤ◌, int_lt, int_le, unsigned_abs, if◌then◌else◌, arith}
 use Rattle.std.specs.List.{range_with_len}
 use Rattle.std.proofs.Math.Nat.{mul-le-mul_right}
@@ -44,7 +44,7 @@ exchanged f (e ∷ es) rows =
     both (meets f e) (λ row. rows_met es (row_y f (pos row))) rows
     ∙ rw (exchanged f es rows) (sym (sum_by-cons (λ (d : Edge). sum_by (meets f d) rows) e es))
 
--- the rows from i on that lie from the first of an edge up to one past its last
+-- the rows from i on, between the first of an edge and one past its last
 
 one_more : (b : Bool) (first past : ℤ) (i n rest : ℕ) → b ≡ (int_le first (pos i) && int_lt (pos i) past) → pos 0 ≤ℤ first → first ≤ℤ past
     → rest ≡ min (unsigned_abs past) (i + 1 + n) - max (unsigned_abs first) (i + 1)
@@ -76,7 +76,7 @@ no_rows f e off = none (meets f e) (range_with_len 0 f.height) (λ k d below.
     let at : get_or (range_with_len 0 f.height) k d ≡ k = get_or-range_with_len 0 f.height k d within ∙ zero-add k in
     rw (at, off (pos k) (omega (arith, ints)) (omega (arith, ints))) refl)
 
--- the entries of an edge table have as many rows as all rows ask for crossings
+-- the entries of an edge table have as many rows as all rows need crossings
 
 pub all_rows : (es : List Edge) (f : Frame) (ms : List Entry) → IsTableOf es f ms → sum_by rows_in ms ≡ crossings_of f es
 all_rows es f ms are =
@@ -85,7 +85,7 @@ all_rows es f ms are =
     ∙ are.sums (λ (e : Edge). sum_by (meets f e) (range_with_len 0 f.height)) (λ e off. no_rows f e off)
     ∙ sym (exchanged f es (range_with_len 0 f.height))
 
--- in each row no more than the edges
+-- each row needs at most one crossing of each edge
 pub few_crossings : (es : List Edge) (f : Frame) → FrameFits f → crossings_of f es ≤ (height_limit + 4) * length es
 few_crossings es f fits =
     let most = sum_by-le (λ (row : ℕ). rows_met es (row_y f (pos row))) (length es) (range_with_len 0 f.height)

@@ -1,4 +1,4 @@
--- What an edge leaves of a row.
+-- The marks and spans that an edge adds in a row.
 use Rattle.std.proofs.Common.{◌≡◌, ◌∙◌, ◌≢◌, refl, ℕ, ◌+◌, ◌<◌, ◌≤◌, Bool, true, false, ◌&&◌, ◌||◌, List, [], ◌∷◌, ◌++◌, length, drop, get_or, int_le, ◌≤ℤ◌, ◌<ℤ◌, nat_lt, inl, inr, arith}
 use Rattle.std.specs.Prelude.{ℤ, pos, negsuc, ◌+ℤ◌, ◌-ℤ◌, not, int_lt, unsigned_abs, if◌then◌else◌}
 use Rattle.std.proofs.lemmas.Bool.Decides.{nat_tests}
@@ -59,7 +59,7 @@ span_more old row new w ss i c d within so_far is_new =
     let left : (row || (w && covers (get_or ss i d ∷ drop (i + 1) ss) c)) ≡ old = rw (drop_more ss i d within) at so_far in
     rw is_new (both_ways row w (int_le (get_or ss i d).first c && int_le c (get_or ss i d).last) (covers (drop (i + 1) ss) c) ∙ left)
 
--- what is told of columns within the width alone
+-- statements about columns within the width alone
 pub within_width : (k width : ℕ) (s t : Bool) → (k < width → s ≡ t) → (nat_lt k width && s) ≡ (nat_lt k width && t)
 within_width k width s t same = elim (cases_lt k width) [
   | inl inside ↦ rw (same inside) refl

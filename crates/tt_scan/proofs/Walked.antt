@@ -1,4 +1,4 @@
--- Edges walked from row to row, those that begin in a row, and what they leave there.
+-- Edges walked from row to row, those that begin in a row, and the marks and spans that they add there.
 use Rattle.std.proofs.Common.{◌≡◌, ◌≢◌, ◌∙◌, sym, refl, ℕ, zero, suc, ◌+◌, ◌<◌, ◌≤◌, Bool, true, false, ◌&&◌, ◌||◌, List, [], ◌∷◌, ◌++◌, length, map, take, drop, get_or, filter, sum_by, All, inl, inr, ℤ, pos, ◌+ℤ◌, ◌-ℤ◌, ◌≤ℤ◌, ◌<ℤ◌, int_lt, int_le, if◌then◌else◌, arith}
 use Rattle.std.specs.Prelude.{set}
 use Rattle.std.proofs.lemmas.Int.{ints}
@@ -95,7 +95,7 @@ pub walked_here : (es : List Edge) (f : Frame) (r y : ℤ) (ws vs : List Walk) (
 walked_here es f r y ws vs i d v walks on same below height entry walk =
     at_below es f r y (get_or vs i d) v (walks i d below) (on i d below) height (rw same at entry) (rw same at walk)
 
--- one walk more stands in the row
+-- one walk more is at the row
 
 pub set_walked : (P : Walk → Type 0) (ws : List Walk) (i : ℕ) (v : Walk) → i < length ws → ((k : ℕ) (d : Walk) → k < i → P (get_or ws k d)) → P v
     → (k : ℕ) (d : Walk) → k < i + 1 → P (get_or (set ws i v) k d)
@@ -166,7 +166,7 @@ pub sum_if : (r : ℤ) (g : Entry → ℕ) (ws : List Walk)
 sum_if r g [] = refl
 sum_if r g (w ∷ ws) = sum_if_at r g w ws (int_lt (r +ℤ pos 1) w.entry.past) refl (sum_if r g ws)
 
--- so many entries begun
+-- a number of entries begun
 
 pub walked_more : (es : List Edge) (f : Frame) (r : ℤ) (ms : List Entry) (n : ℕ) (d : Entry) (ws vs : List Walk) → AreWalked es f r ms n ws → n < length ms
     → (get_or ms n d).first ≤ℤ r → ((g : Entry → ℕ) → sum_by (λ w. g w.entry) vs ≡ sum_by (λ w. g w.entry) ws + if_on r g (get_or ms n d))
@@ -244,7 +244,7 @@ room_for_mark r ms n d below met =
     rw (met_more r ms n d below, met) (longer (filter (meets_row r) (take n ms)) (get_or ms n d)) in
     omega (arith, few, one)
 
--- where an entry begins below the row, so do those after it
+-- where an entry begins below the row, those after it do too
 
 pub all_met : (r : ℤ) (ms : List Entry) (n : ℕ) → IsInOrder ms r → n < length ms → ((d : Entry) → r <ℤ (get_or ms n d).first)
     → filter (meets_row r) (take n ms) ≡ filter (meets_row r) ms
@@ -271,7 +271,7 @@ begun_at es f r y m w same number rows first past height walk = record {
   walk = rw height at (rw (← same) at walk);
 }
 
--- the walks that go on
+-- the walks that continue
 
 goes_on : (r past : ℤ) → int_lt (r +ℤ pos 1) past ≡ true → (r +ℤ pos 1) <ℤ past
 goes_on r past is = grind (arith, ints)

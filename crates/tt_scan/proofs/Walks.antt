@@ -12,7 +12,7 @@ use Rattle.tt_scan.specs.Winding.{EdgeFits, column_x, side, is_zero}
 use Rattle.tt_scan.proofs.Floors.{at_floor, below_floor}
 use Rattle.tt_scan.proofs.Sides.{side_at}
 
--- a row less
+-- one row down
 
 number_below : (e : Edge) (m : ℕ) (y : ℤ) → number_at e m (y -ℤ pos 8192) ≡ number_at e m y -ℤ pos 8192 *ℤ (e.bx -ℤ e.ax)
 number_below e m y =
@@ -48,7 +48,7 @@ goes_left e m y at step to is off whole rest below = record {
   high = omega (arith, ints);
 }
 
--- which centres lie on the edge there, and which right of it
+-- the centres on the edge there, and those right of it
 
 pub side_there : (e : Edge) (m : ℕ) (y c : ℤ) → side e (column_x m c) y ≡ number_at e m y -ℤ divisor_of e *ℤ c
 side_there e m y c = side_at e m y (e.ax -ℤ column_x m (pos 0)) c (number_at e m y) (divisor_of e) refl refl refl
@@ -61,7 +61,7 @@ pub right_there : (e : Edge) (m : ℕ) (y c : ℤ) (q : Quotient) → StandsAt e
     → int_lt (side e (column_x m c) y) (pos 0) ≡ int_lt q.whole c
 right_there e m y c q is = rw (side_there e m y c) (below_floor (divisor_of e) q.whole q.rest (number_at e m y) c is.low is.high is.exact)
 
--- how large a quotient may be
+-- bounds on a quotient
 
 pub quotient_within : (k : ℕ) (d q rest n : ℤ) → pos 0 <ℤ d → pos 0 ≤ℤ rest → rest <ℤ d → d *ℤ q +ℤ rest ≡ n
     → (d *ℤ neg_ℤ (pos k)) ≤ℤ n → n ≤ℤ (d *ℤ pos k) → unsigned_abs q ≤ k
@@ -78,7 +78,7 @@ quotient_within k d q rest n large low high is from to =
     absurd (omega (arith, ints, above, to, more, one)))
     (λ within. omega (arith, ints, near, within)))
 
--- what a row takes off an edge of more rows than one is less than its run
+-- the columns that an edge of several rows loses in a row are fewer than its run
 pub step_small : (e : Edge) (s : Quotient) → EdgeFits e → pos 8192 ≤ℤ (e.by -ℤ e.ay) → IsStep e s → unsigned_abs s.whole ≤ 2 ^ 20
 step_small e s fits tall is =
     let much = mul_mono (pos 1048576) (pos 67108864) (divisor_of e) (omega (arith, ints)) (omega (arith, ints, tall)) in
@@ -97,7 +97,7 @@ column_fits e whole rest fits rises low high exact =
     (omega (arith, ints, fits.ax, fits.bx, much, turned, same)) (omega (arith, ints, fits.ax, fits.bx, much, same)) in
     omega (arith, within)
 
--- a rest of pixels by pixels is a whole number of times 8192
+-- a rest in pixels divided by pixels is a multiple of 8192
 whole_rest : (rise whole rest times run : ℤ) → (pos 8192 *ℤ rise) *ℤ whole +ℤ rest ≡ pos 8192 *ℤ run → (pos 8192 *ℤ times) ≤ℤ rest
     → rest <ℤ (pos 8192 *ℤ (times +ℤ pos 1)) → pos 8192 *ℤ times ≡ rest
 whole_rest rise whole rest times run exact low high = omega (arith, ints, exact, low, high, mul_assoc_z (pos 8192) rise whole)

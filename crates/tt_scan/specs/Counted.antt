@@ -1,5 +1,5 @@
--- No part of the standard: the edges of a tape, the count of their crossings, and the number of edges for which there
--- is memory.
+-- No part of the standard: the edges of a tape, the count of their crossings, and the number of edges that memory
+-- suffices for.
 use Rattle.std.specs.Prelude.{ℕ, List}
 use Rattle.tt_scan.specs.declared.edge.Edge.{Edge}
 

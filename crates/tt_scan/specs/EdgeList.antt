@@ -1,4 +1,4 @@
--- No part of the standard: the edges of one glyph while they are made, the number for which there is memory, and their
+-- No part of the standard: the edges of one glyph while they are made, the number that memory suffices for, and their
 -- rows.
 use Rattle.std.specs.Prelude.{◌≡◌, refl, ℕ, Bool, false, ◌&&◌, ℤ, pos, negsuc, int_lt, ◌<ℤ◌, ◌-ℤ◌, ◌*ℤ◌, List, [], ◌∷◌, Option, Some, None}
 use Rattle.std.specs.Int.{int_max, int_min}

@@ -50,7 +50,7 @@ is_long m = if int_lt (m.first +ℤ pos 1) m.past then 1 else 0
 abbrev pub if_on : ℤ → (Entry → ℕ) → Entry → ℕ
 if_on row g m = if int_lt (row +ℤ pos 1) m.past then g m else 0
 
--- an edge that meets a row, to which it was walked
+-- a walk of an edge in a row that the edge meets
 pub record IsWalkAt (es : List Edge) (f : Frame) (row : ℤ) (w : Walk) : Type 0 where
   pub number : w.entry.edge < length es
   pub rows : AreRows (edge_of es w.entry) f (w.entry.first, w.entry.past)

@@ -30,7 +30,7 @@ column_x margin column = pos 8192 *ℤ (column -ℤ pos margin) +ℤ pos 4096
 abbrev pub row_y : Frame → ℤ → ℤ
 row_y f row = pos 8192 *ℤ ((f.rise +ℤ pos f.margin) -ℤ row) -ℤ pos 4096
 
--- the side of an edge's line on which a point lies, seen from a to b: below 0 on the right, above 0 on the left
+-- the side of a point at an edge's line, seen from a to b: below 0 on the right, above 0 on the left
 abbrev pub side : Edge → ℤ → ℤ → ℤ
 side e x y = (e.bx -ℤ e.ax) *ℤ (y -ℤ e.ay) -ℤ (e.by -ℤ e.ay) *ℤ (x -ℤ e.ax)
 

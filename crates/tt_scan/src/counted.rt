@@ -55,7 +55,7 @@ impl CountedEdges {
         self.edges.reserve(more)
     }
 
-    /// Adds an edge, for which there is memory.
+    /// Adds an edge; there is memory for it.
     #[inline(always)]
     pub(crate) fn push_reserved(&mut self, edge: Edge)
         requires { length self.old.edges < self.old.capacity }

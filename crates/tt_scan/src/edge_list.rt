@@ -10,7 +10,7 @@ use crate::edge::Edge;
 use std::alloc::{AllocError, Global};
 use std::marker::Model;
 
-/// The edges of one glyph, in the order in which they were added.
+/// The edges of one glyph, in the order of their addition.
 #[derive(Drop)]
 pub struct EdgeList {
     edges: CountedEdges,
@@ -60,7 +60,7 @@ impl EdgeList {
         self.edges.reserve(more)
     }
 
-    /// Adds an edge, for which there is memory.
+    /// Adds an edge; there is memory for it.
     #[inline(always)]
     pub fn push_reserved(&mut self, edge: Edge)
         requires edge { EdgeFits edge }

@@ -79,7 +79,7 @@ pub(crate) struct Gap {
     pub(crate) high: i32,
 }
 
-/// The gap in which a height lies; an empty gap where the height is that of a centre line.
+/// The gap around a height; an empty gap where the height is that of a centre line.
 #[inline(always)]
 pub(crate) fn gap_at(y: i32) -> Gap
     requires { unsigned_abs y < 2 ^ 30 }
@@ -92,7 +92,7 @@ pub(crate) fn gap_at(y: i32) -> Gap
     }
 }
 
-/// The gap in which height `y` lies. The gap of height `at` is given, because one edge often follows on another.
+/// The gap around height `y`. The gap around `at` is given, because one edge often follows on another.
 #[inline(always)]
 pub(crate) fn gap_from(gap: Gap, at: i32, y: i32) -> Gap
     requires gap { IsGapAt at gap }

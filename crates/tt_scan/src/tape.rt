@@ -48,7 +48,7 @@ impl Model for Tape {
 }
 
 /// Adds the entry of an edge with these rows, if it has any. Errors: memory ran out, or the edge's number is 2^32 or
-/// more, for which an entry has no room. After an error the entries are unchanged.
+/// more, which no entry can hold. After an error the entries are unchanged.
 #[inline(always)]
 fn add_entry(table: &mut EdgeTable, rows: (i32, i32), edge: usize) -> Result<(), AllocError>
     requires low { pos 0 ≤ℤ rows.0 }

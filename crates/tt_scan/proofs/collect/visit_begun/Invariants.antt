@@ -2,7 +2,7 @@ use Rattle.std.proofs.Common.{◌≡◌, ◌+◌, filter, length, take, vec_capa
 use Rattle.tt_scan.specs.EdgeTable.{AreLeft, AreWalked, meets_row}
 use Rattle.tt_scan.proofs.collect.visit_begun.Given as goal
 
--- the entries so far have left what they leave, and those that go on are walked
+-- the marks and spans of the entries so far are added, and those that continue are walked
 abbrev pub invariant-loop-next : goal.invariant-loop-next
 invariant-loop-next l = record {
   walked : AreWalked l.fn.edges.edges l.frame l.r l.entries l.next l.walks.items;

@@ -3,7 +3,7 @@ use Rattle.tt_scan.specs.declared.walk.Walk.{Walk}
 use Rattle.tt_scan.specs.EdgeTable.{AreLeft, IsWalkAt}
 use Rattle.tt_scan.proofs.collect.visit_walks.Given as goal
 
--- the walks so far stand in the row, the others still in the row above
+-- the walks so far are at the row, the others still at the row above
 abbrev pub invariant-loop-i : goal.invariant-loop-i
 invariant-loop-i l = record {
   len : length l.walks ≡ length l.fn.walks;

@@ -26,7 +26,7 @@ divided-requires c =
     let divisor : SFits w64 (pos 8192 *ℤ c.rise-rise.result) = omega (arith, ints, c.rise-rise.ensures.bound) in
     record { divisor = simp to_z-of_z (rw c.rise-rise.ensures.exact p.above) }
 
--- what was divided, and by what
+-- the dividend and the divisor
 abbrev number : goal.After-divided → ℤ
 number c = c.product.result +ℤ c.product-2.result
 

@@ -3,7 +3,7 @@ use Rattle.tt_core.specs.Bits.{bit}
 use Rattle.tt_scan.specs.Marks.{covers}
 use Rattle.tt_scan.proofs.paint.paint_spans.Given as goal
 
--- what is black so far, and the spans that are left, are all spans
+-- the black columns so far and the remaining spans are all spans
 abbrev pub invariant-loop-i : goal.invariant-loop-i
 invariant-loop-i l = record {
   bits : (k : ℕ) → (bit l.row k || (nat_lt k l.width && covers (drop l.i l.spans) (pos k -ℤ l.shift)))

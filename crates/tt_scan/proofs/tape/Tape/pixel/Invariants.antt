@@ -2,7 +2,7 @@ use Rattle.std.proofs.Common.{◌≡◌, ◌+◌, ◌≤◌, length, take, unsig
 use Rattle.tt_scan.specs.Winding.{winding, lies_on_one, column_x, row_y}
 use Rattle.tt_scan.proofs.tape.Tape.pixel.Given as goal
 
--- no edge so far holds the centre, and these wind round it so often
+-- no edge so far goes through the centre, and the winding of these edges is the sum
 abbrev pub invariant-loop-i : goal.invariant-loop-i
 invariant-loop-i l = record {
   end : l.i-end ≡ length l.fn.self.edges;
