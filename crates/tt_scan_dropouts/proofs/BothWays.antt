@@ -1,5 +1,5 @@
--- A free gap of a row is crossed both ways or not at all: from its left centre to its right one the winding changes by
--- the edges that go through it, and it is 0 at both.
+-- A free gap of a row is crossed both ways or not at all. From its left centre to its right one the winding changes by
+-- the edges that go through the gap, and the winding is 0 at both.
 use Rattle.std.proofs.Common.{◌≡◌, refl, sym, ap, ◌∙◌, ℕ, ◌+◌, Bool, true, false, not, ◌&&◌, ◌||◌, List, [], ◌∷◌, arith}
 use Rattle.std.specs.Prelude.{ℤ, pos, negsuc, ◌+ℤ◌, ◌-ℤ◌, ◌*ℤ◌, ◌≤ℤ◌, ◌<ℤ◌, int_le, int_lt, nat_lt, neg_ℤ, if◌then◌else◌}
 use Rattle.std.specs.Int.{int_div_euclid, int_rem_euclid}
@@ -16,7 +16,7 @@ use Rattle.tt_scan_dropouts.specs.Gaps.{is_free}
 use Rattle.tt_scan_dropouts.specs.Laws.{RowsCrossedBothWays, crosses_gap, goes_through}
 use Rattle.tt_scan_dropouts.proofs.Through.{in_gap, is_here, through_here}
 
--- a point lies strictly right of an edge just where the edge, its place cut to a whole number, is left of it
+-- a point lies strictly right of an edge if and only if the edge's place, rounded down to a whole number, is left of it
 
 whole : (n d : ℤ) → pos 0 <ℤ d
     → (pos 0 ≤ℤ int_rem_euclid n d) × (int_rem_euclid n d <ℤ d) × (d *ℤ int_div_euclid n d +ℤ int_rem_euclid n d ≡ n)
@@ -24,7 +24,7 @@ whole (pos a) (pos b) low = (omega (arith, ints), omega (arith, ints), omega (ar
 whole (negsuc a) (pos b) low = (omega (arith, ints), omega (arith, ints), omega (arith, ints))
 whole n (negsuc b) low = absurd (omega (arith, ints))
 
--- where an edge from its lower end to its upper stands at a height, cut to a whole number
+-- the place of an edge from its lower end to its upper at a height, rounded down to a whole number
 abbrev upward_x : Edge → ℤ → ℤ
 upward_x u y = u.ax +ℤ int_div_euclid ((u.bx -ℤ u.ax) *ℤ (y -ℤ u.ay)) (u.by -ℤ u.ay)
 
@@ -129,7 +129,7 @@ one_changes e j c = by_lt_z e.ay e.by (λ rises. rising_changes e j c rises)
     (λ other. by_lt_z e.by e.ay (λ falls. falling_changes e j c falls)
     (λ level. level_changes e j c (omega (arith, ints))))
 
--- and the winding by how many rise through the gap, less how many fall through it
+-- the winding changes by the number of edges that rise through the gap, less the number that fall through it
 
 how_many : Bool → ℤ → ℤ → List Edge → ℕ
 how_many up j c [] = 0

@@ -1,4 +1,4 @@
--- Where the marks of an outline stand: no further left, right, down or up than the ends of its edges.
+-- The marks of an outline are no further left, right, down or up than the ends of its edges.
 use Rattle.std.proofs.Common.{◌≡◌, refl, sym, ◌∙◌, ℕ, zero, suc, ◌+◌, ◌*◌, ◌/◌, ◌^◌, ◌<◌, ◌≤◌, Bool, true, false, List, [], ◌∷◌, ◌++◌, map, length, get_or, inl, inr, not, ◌&&◌, ◌==◌, arith}
 use Rattle.std.specs.Prelude.{ℤ, pos, negsuc, ◌+ℤ◌, ◌-ℤ◌, ◌*ℤ◌, ◌≤ℤ◌, ◌<ℤ◌, int_lt, neg_ℤ, unsigned_abs, All}
 use Rattle.std.specs.Int.{int_div_euclid, int_max, int_min, int_rem_euclid}
@@ -33,7 +33,7 @@ pub record EdgeWithin (least_x greatest_x least_y greatest_y : ℤ) (e : Edge) :
   pub bottom : least_y ≤ℤ int_min e.ay e.by
   pub top : int_max e.ay e.by ≤ℤ greatest_y
 
--- how far right of its lower end an edge stands at a height: between 0 and the whole of its width
+-- an edge's distance right of its lower end at a height is between 0 and its width
 
 rising_quotient : (w k b : ℕ) → k < b → (w * k) / b ≤ w
 rising_quotient w k b less = grind arith
@@ -137,7 +137,7 @@ crossings_within l r b t e h = λ k d less.
     rw (get_or-map-range_with_len (λ k. crossing e (line_crossed e k)) 0 (lines_crossed e) k k d below (omega arith))
     (crosses_within l r b t e k h below)
 
--- and touches them within it
+-- an edge that fits touches lines not far from the origin
 
 whole : (n : ℤ) → unsigned_abs (int_rem_euclid n (pos 8192)) ≡ 0 → pos 8192 *ℤ int_div_euclid n (pos 8192) ≡ n
 whole (pos a) is = omega (arith, ints)
@@ -169,11 +169,11 @@ touches_within l r b t e h =
       | inr none ↦ rw none (All-nil (IsWithin l r b t))
     ]
 
--- what holds of all that an edge leaves
+-- a property of all marks of an edge
 abbrev pub EdgeLeaves : (Crossing → Type 0) → Edge → Type 0
 EdgeLeaves P e = All P (crossings e ++ touches e)
 
--- an edge leaves what lies in its box
+-- the marks of an edge lie in its box
 pub edge_leaves_within : (l r b t : ℤ) (e : Edge) → EdgeWithin l r b t e → EdgeLeaves (IsWithin l r b t) e
 edge_leaves_within l r b t e h =
     All-append (IsWithin l r b t) (crossings e) (touches e) (crossings_within l r b t e h) (touches_within l r b t e h)
@@ -203,8 +203,8 @@ all_parts P f (x ∷ xs) h =
     All-cons (λ x. All P (f x)) x xs (all_before P (f x) (flat_map f xs) h)
     (all_parts P f xs (all_behind P (f x) (flat_map f xs) h))
 
--- every mark of an outline is a crossing of one of its edges, or an end of one that touches a line: what holds of all
--- that its edges leave holds of all its marks
+-- every mark of an outline is a crossing of one of its edges, or an end of an edge that touches a line. A property of
+-- all marks of its edges holds of all its marks
 
 abbrev StepLeaves : (Crossing → Type 0) → Step → Type 0
 StepLeaves P (step.End h) = Unit {0}

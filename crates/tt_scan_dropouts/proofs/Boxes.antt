@@ -1,4 +1,4 @@
--- The box of edges: the column that is nearer to the middle, where no centre lies in it, and how far it reaches.
+-- The box of edges: the column nearer to the middle, where the box has no centre, and the box's extent.
 use Rattle.std.proofs.Common.{◌≡◌, ◌<◌, ◌+◌, ℕ, List, [], ◌∷◌, refl, true, false, add-one, drop, drop-cons, get_or, length, map, arith}
 use Rattle.std.specs.Int.{int_max, int_min}
 use Rattle.std.specs.Prelude.{ℤ, pos, ◌+ℤ◌, ◌*ℤ◌, int_le}
@@ -17,7 +17,7 @@ pub left_is_nearer : (low high : ℤ) → int_le (line_from low) (gap_at high) �
     → columns_between low high ≡ record { first = gap_at high; last = gap_at high }
 left_is_nearer low high apart near = rw (apart, near) refl
 
--- the next edge of those that are left
+-- the next of the remaining edges
 pub least_over : (x : ℤ) (es : List Edge) (i : ℕ) (d : Edge) → i < length es
     → least_x x (drop i es)
     ≡ least_x (int_min x (int_min (get_or es i d).ax (get_or es i d).bx)) (drop (i + 1) es)
@@ -28,7 +28,7 @@ pub greatest_over : (x : ℤ) (es : List Edge) (i : ℕ) (d : Edge) → i < leng
     ≡ greatest_x (int_max x (int_max (get_or es i d).ax (get_or es i d).bx)) (drop (i + 1) es)
 greatest_over x es i d below = rw (add-one, drop-cons es i d below) refl
 
--- and the same of edges turned round
+-- the next of the remaining edges, turned round
 pub least_over_turned : (y : ℤ) (es : List Edge) (i : ℕ) (d : Edge) → i < length es
     → least_x y (map turned_round (drop i es))
     ≡ least_x (int_min y (int_min (get_or es i d).ay (get_or es i d).by)) (map turned_round (drop (i + 1) es))

@@ -1,4 +1,4 @@
--- The part of a window that lies in a box, and that a glyph's dropouts need be looked for in its box alone.
+-- The part of a window that lies in a box. A glyph's dropouts need be sought in its box alone.
 use Rattle.std.proofs.Common.{◌≡◌, refl, sym, ◌∙◌, ℕ, Bool, true, false, ◌&&◌, List, map, subst, arith}
 use Rattle.std.specs.Prelude.{ℤ, pos, ◌+ℤ◌, ◌-ℤ◌, ◌≤ℤ◌, ◌<ℤ◌, int_le, int_lt, unsigned_abs}
 use Rattle.std.specs.Int.{int_max, int_min}
@@ -26,7 +26,7 @@ swapped true false true d = refl
 swapped true false false d = refl
 swapped false b c d = refl
 
--- where the part of so many numbers begins that are columns of a box, and the number behind it
+-- the first number of a range that may be a column of a box, and one past the last
 pub record AreEndsOf (first : ℤ) (count : ℕ) (b : Columns) (from end : ℤ) : Type 0 where
   pub start : from ≡ int_max first b.first
   pub stop : end ≡ int_min (first +ℤ pos count) (b.last +ℤ pos 1)

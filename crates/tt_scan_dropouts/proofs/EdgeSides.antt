@@ -1,4 +1,4 @@
--- On which side of an edge a point lies that is not on it, by where the edge's ends lie of the point.
+-- The side of an edge on which a point off the edge lies, by the places of the edge's ends.
 use Rattle.std.proofs.Common.{◌≡◌, Bool, true, false, not, ◌&&◌, refl, arith}
 use Rattle.std.specs.Prelude.{ℤ, pos, ◌-ℤ◌, ◌*ℤ◌, ◌≤ℤ◌, ◌<ℤ◌, int_le, int_lt, neg_ℤ}
 use Rattle.std.proofs.lemmas.Int.{by_lt_z, ints}
@@ -7,7 +7,7 @@ use Rattle.tt_core.specs.Products.{mul_diff, mul_mono, mul_neg, neg_mul}
 use Rattle.tt_scan.specs.Winding.{is_between, is_zero, lies_on, side}
 use Rattle.tt_scan.specs.declared.edge.Edge.{Edge}
 
--- the sign of the product of how far a lies from x and b from y
+-- the sign of the product of the distances of a from x and of b from y
 record Sign (a x b y p : ℤ) : Type 0 where
   up : x <ℤ a → y <ℤ b → pos 0 <ℤ p
   down : a ≤ℤ x → b ≤ℤ y → pos 0 ≤ℤ p
@@ -41,7 +41,7 @@ sign_of a x b y =
       away = λ f g. omega (arith, ints, positive p (neg_ℤ q) (omega (arith, ints)) (omega (arith, ints)));
     }
 
--- what tests say
+-- the results of tests
 
 most : {a b : ℤ} → a <ℤ b → a ≤ℤ b
 most less = omega (arith, ints)
@@ -77,8 +77,8 @@ is_above s off low = grind (arith, ints)
 one_side : (s : ℤ) → is_zero s ≡ false → not (int_lt s (pos 0)) ≡ int_lt (pos 0) s
 one_side s off = grind (arith, ints)
 
--- an edge's start lies left of a point or level with it, where `p` holds, below it or level with it, where `q` does;
--- its end likewise by `u` and `v`. What is known then of whether the point lies right of the edge, and left of it
+-- an edge's start lies left of a point or level with it, where `p` holds, and below it or level with it, where `q`
+-- does; its end likewise by `u` and `v`. These decide whether the point lies right of the edge, and left of it
 abbrev pub Known : Bool → Bool → Bool → Bool → Bool → Bool → Type 0
 Known true true true false right left = right ≡ true
 Known true false true true right left = left ≡ true
@@ -164,7 +164,7 @@ module _ (ax ay bx by x y m n s : ℤ) (first : Sign ax x by y m) (second : Sign
   by_ends true false false true a b c d = tt
   by_ends false true true false a b c d = tt
 
--- the side is a difference of two such products
+-- the side is a difference of two of these products
 
 spread : (a b c d : ℤ) → (c -ℤ a) *ℤ neg_ℤ b -ℤ (d -ℤ b) *ℤ neg_ℤ a ≡ a *ℤ d -ℤ c *ℤ b
 spread a b c d = omega (

@@ -1,4 +1,4 @@
--- The ends of contours: where the one that comes next begins and ends.
+-- The ends of contours: the start and the end of the next contour.
 use Rattle.std.proofs.Common.{ℕ, ◌+◌, ◌<◌, ◌≤◌, List, [], ◌∷◌, length, get_or, drop, arith}
 use Rattle.std.proofs.lemmas.List.{drop_more}
 use Rattle.tt_scan.specs.Contours.{AreEndsFrom}

@@ -1,4 +1,4 @@
--- Marks in gaps that are not free add nothing: a pass may leave them out.
+-- Marks in gaps that are not free add nothing: a pass may omit them.
 use Rattle.std.proofs.Common.{◌≡◌, refl, Bool, true, false, List, [], ◌∷◌, arith}
 use Rattle.std.specs.Prelude.{ℤ, pos, ◌-ℤ◌}
 use Rattle.std.specs.List.{filter}
@@ -19,7 +19,7 @@ filter_twice p q (x ∷ xs) h =
 lies_free : (black : ℤ → ℤ → Bool) (j c : ℤ) (m : Mark) → is_free black c j ≡ true → in_gap j c m ≡ true → in_free_gap black m ≡ true
 lies_free black j c m free lies = grind (arith, ints)
 
--- of a free gap all marks are kept
+-- all marks of a free gap remain
 pub marks_kept : (black : ℤ → ℤ → Bool) (ms : List Mark) (j c : ℤ) → is_free black c j ≡ true
     → gap_marks (free_marks black ms) j c ≡ gap_marks ms j c
 marks_kept black ms j c free =
@@ -30,7 +30,7 @@ pub asked_kept : (rules : Rules) (b : Columns) (black : ℤ → ℤ → Bool) (m
 asked_kept rules b black ms j c true is = rw (marks_kept black ms j c is) refl
 asked_kept rules b black ms j c false is = rw is refl
 
--- what a pass adds by the marks in free gaps is what it adds by all
+-- the marks in free gaps add the pixels that all marks add
 pub added_kept : (rules : Rules) (b : Columns) (black : ℤ → ℤ → Bool) (ms : List Mark) (p j : ℤ)
     → is_added rules b (free_marks black ms) black p j ≡ is_added rules b ms black p j
 added_kept rules b black ms p j =

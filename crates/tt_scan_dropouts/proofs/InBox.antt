@@ -1,4 +1,4 @@
--- The dropouts of an outline lie in its box, so that they need be looked for there alone.
+-- The dropouts of an outline lie in its box, so they need be sought there alone.
 use Rattle.std.proofs.Common.{◌≡◌, refl, sym, ◌∙◌, ap, Bool, true, false, ◌&&◌, ◌||◌, List, [], ◌∷◌, ◌++◌, map, filter, if◌then◌else◌, inl, inr, subst, ◌⊎◌, arith}
 use Rattle.std.specs.Prelude.{ℤ, pos, ◌+ℤ◌, ◌-ℤ◌, ◌*ℤ◌, ◌≤ℤ◌, ◌<ℤ◌, int_le, All}
 use Rattle.std.specs.Int.{int_max, int_min}
@@ -68,7 +68,7 @@ pub record IsColumnOf (b : Columns) (c : ℤ) : Type 0 where
   pub first : b.first ≤ℤ c
   pub last : c ≤ℤ b.last
 
--- some mark of a gap that asks
+-- some mark of a gap that needs a pixel
 asking : (P : Mark → Type 0) (p : Mark → Bool) (ms : List Mark) → All P ms → some_asks (filter p ms) ≡ true
     → (m : Mark) × (p m ≡ true) × P m
 asking P p [] h some = absurd cc
@@ -107,7 +107,7 @@ gap_within l r c low high =
           ]
     ]
 
--- takes a pixel in them
+-- it takes a pixel in them
 boxed_within : (b : Columns) (c p : ℤ) (right : Bool) → IsGapOf b c
     → int_eq (boxed b c (if right then c +ℤ pos 1 else c)) p ≡ true → IsColumnOf b p
 boxed_within b c p true gap is = record { first = grind (arith, ints); last = grind (arith, ints) }
@@ -122,12 +122,12 @@ line_within b t j low high =
     let some : int_le (line_from b) (gap_at t) ≡ true = grind (arith, ints, from, to) in
     rw some (record { first = from; last = to })
 
--- a pixel lies in a box, told by its columns and its rows
+-- a pixel lies in a box, by its columns and its rows
 pub record LiesInBox (columns rows : Columns) (c j : ℤ) : Type 0 where
   pub column : IsColumnOf columns c
   pub row : IsColumnOf rows j
 
--- what a gap asks for lies in the box that its marks lie in
+-- the pixel that a gap needs lies in every box with the gap's marks
 asked_within : (rules : Rules) (l r b t : ℤ) (ms : List Mark) (black : ℤ → ℤ → Bool) (j c p : ℤ)
     → All (λ m. IsWithin l r b t m.at) ms → is_asked (asked rules (columns_between l r) ms black j c) p ≡ true
     → LiesInBox (columns_between l r) (columns_between b t) p j
@@ -164,7 +164,7 @@ outline_within l r b t stubs contours h = outline_leaves (IsWithin l r b t) stub
 abbrev pub LiesInBoxOf : List Edge → ℤ → ℤ → Type 0
 LiesInBoxOf es c j = LiesInBox (columns_of es) (columns_of (map turned_round es)) c j
 
--- what a pass over the rows of an outline adds lies in the box of its edges, whatever is black
+-- the pixels that a pass over the rows of an outline adds lie in the box of its edges, whatever is black
 pub added_in_box : (rules : Rules) (contours : List (List Edge)) (es : List Edge) (black : ℤ → ℤ → Bool) (p j : ℤ)
     → edges_of contours ≡ es → is_added rules (columns_of es) (marks rules.stubs contours) black p j ≡ true
     → LiesInBoxOf es p j

@@ -1,4 +1,4 @@
--- The rows of a window from the top down, and what it is to ink one.
+-- The rows of a window from the top down, and the inking of one row.
 use Rattle.std.proofs.Common.{◌≡◌, ◌∙◌, refl, ap, ◌⊎◌, inl, inr, ℕ, zero, suc, ◌+◌, ◌-◌, ◌*◌, ◌/◌, ◌%◌, ◌^◌, ◌<◌, ◌≤◌, Bool, true, false, ◌&&◌, ◌||◌, nat_lt, if◌then◌else◌, ℤ, pos, ◌+ℤ◌, ◌-ℤ◌, ◌<ℤ◌, ◌≤ℤ◌, unsigned_abs, List, [], ◌∷◌, ◌++◌, length, take, drop, slice_index, replicate, arith}
 use Rattle.std.specs.Ordering.{int_eq}
 use Rattle.std.specs.Prelude.{int_le}
@@ -50,7 +50,7 @@ row_painted w f es ss r k fits frame black =
     ∙ ap (λ x. is_black es x (row_y f (first_row f w +ℤ pos r))) (column_centre f.margin w.left k)
     ∙ ap (λ y. is_black es (centre (w.left +ℤ pos k)) y) (row_centre f w r))
 
--- so many edges meet a row at most
+-- a row meets at most all edges
 one_or_none : (b : Bool) → (if b then 1 else 0) ≤ 1
 one_or_none true = omega arith
 one_or_none false = omega arith
@@ -59,7 +59,7 @@ pub met_few : (es : List Edge) (y : ℤ) → rows_met es y ≤ length es
 met_few [] y = omega arith
 met_few (e ∷ es) y = omega (arith, one_or_none (is_between e.ay e.by y), met_few es y)
 
--- what stands in a list of which a part was written: the first `a` elements, `ys` in the place of `k`, and the rest
+-- a list with a part overwritten: the first `a` elements, `ys` in the place of `k`, and the rest
 
 written_below : (a k i : ℕ) (xs ys : List ℕ) → i < a → a ≤ length xs
     → slice_index (put_mid a k xs ys) i ≡ slice_index xs i
@@ -85,7 +85,7 @@ written_above a k i xs ys above long count =
     ∙ get_or-drop k (drop a xs) ((i - a) - k) 0 ∙ get_or-drop a xs (k + ((i - a) - k)) 0
     ∙ ap (λ n. slice_index xs n) from
 
--- and what its bits are
+-- the bits of such a list
 
 bit_within : (a k d : ℕ) (xs ys : List ℕ) → d < 8 * k → a ≤ length xs → length ys ≡ k
     → bit (put_mid a k xs ys) (8 * a + d) ≡ bit ys d
@@ -120,7 +120,7 @@ apart w s r d narrow other = elim (cases_lt s r) [
       let room = row_within w.width s r more in inr (omega (arith, room))
 ]
 
--- how far a pixel stands from the first of its row or column, and which row from the top that is
+-- the distance of a pixel from the first of its row or column, and the number of that row from the top
 offset_is : (first : ℤ) (n : ℕ) (a : ℤ) → is_within first n a ≡ true → first +ℤ pos (unsigned_abs (a -ℤ first)) ≡ a
 offset_is first n a within = grind (arith, ints)
 
@@ -169,7 +169,7 @@ row_inked w black r a k xs ys c j within start bytes long count painted inside =
           rw there (kept ∙ or_false (bit xs (place w c j)))
     ]
 
--- a pixel's row is one of so many from the top
+-- a pixel's row has a number from the top
 abbrev pub is_painted : Window → ℕ → ℤ → Bool
 is_painted w r j = int_le ((w.bottom +ℤ pos w.height) -ℤ pos r) j
 

@@ -47,7 +47,7 @@ few_lines e fits =
     let c = floor_low (e.by +ℤ pos 4095) in let d = floor_high (e.by +ℤ pos 4095) in
     omega (arith, ints, fits.ay, fits.by)
 
--- at most one more than it reaches whole pixels
+-- an edge crosses at most one line more than it has whole pixels
 pub lines_within : (e : Edge) → 8192 * lines_crossed e ≤ unsigned_abs (e.by -ℤ e.ay) + 8192
 lines_within e =
     let a = floor_low (e.ay +ℤ pos 4095) in let b = floor_high (e.ay +ℤ pos 4095) in
@@ -103,7 +103,7 @@ rest_positive (negsuc a) = omega (arith, ints)
 pub place_small : (x : ℤ) → SFits w64 (int_rem_euclid (x -ℤ pos 4096) (pos 8192))
 place_small x = rest_within (x -ℤ pos 4096)
 
--- how far an edge runs on the way to a height between its ends: no further than to its end
+-- an edge runs no further on the way to a height between its ends than to its end
 slope_of : (w : ℤ) (k b : ℕ) → unsigned_abs w < 2 ^ 31 → k < b → unsigned_abs (int_div_euclid (w *ℤ pos k) (pos b)) ≤ 2 ^ 31
 slope_of w k b wide high =
     let size = unsigned_abs-mul w (pos k) in

@@ -16,7 +16,7 @@ use Rattle.tt_scan_dropouts.proofs.MovedGaps.{IsMoved, added_moved, box_moved, n
 use Rattle.tt_scan_dropouts.proofs.MovedLines.{apart_moved, centre_moved, less_moved}
 use Rattle.tt_scan_dropouts.proofs.MovedMarks.{mark_moved, marks_moved}
 
--- what is black by rules 1 and 2
+-- blackness by rules 1 and 2
 
 side_kept : (k m : ℤ) (e : Edge) (x y : ℤ) → side (moved k m e) (x +ℤ pos 8192 *ℤ k) (y +ℤ pos 8192 *ℤ m) ≡ side e x y
 side_kept k m e x y =
@@ -77,7 +77,7 @@ ink_moved k m contours c j =
     ∙ ap₂ (λ x y. is_black (map (moved k m) (edges_of contours)) x y) (centre_moved c k) (centre_moved j m)
     ∙ black_kept k m (edges_of contours) (centre c) (centre j)
 
--- a pass; an outline without edges has no box, and leaves no marks
+-- a pass; an outline without edges has no box and no marks
 
 no_marks : (stubs : Bool) → contour_marks stubs [] ≡ []
 no_marks true = refl

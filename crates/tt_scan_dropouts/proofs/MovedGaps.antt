@@ -1,4 +1,4 @@
--- What a pass adds by moved marks: the pixels moved as far.
+-- A pass by moved marks adds the pixels moved as far.
 use Rattle.std.proofs.Common.{◌≡◌, refl, sym, ◌∙◌, ap, ap₂, ◌+◌, Bool, true, false, not, ◌&&◌, ◌||◌, nat_le, if◌then◌else◌, List, [], ◌∷◌, filter, inl, inr, arith}
 use Rattle.std.proofs.lemmas.Bool.{cases_Bool}
 use Rattle.std.specs.Prelude.{ℤ, pos, ◌+ℤ◌, ◌-ℤ◌, ◌*ℤ◌, int_le, int_lt, map, Option, Some, None}
@@ -144,7 +144,7 @@ pixel_moved k m rules b c ms =
     ∙ ap (boxed (columns_moved k b) (c +ℤ k)) (right_by (rules.smart && leans_right ms) c k)
     ∙ boxed_moved k b c (if rules.smart && leans_right ms then c +ℤ pos 1 else c)
 
--- a pass, where what is black is moved too
+-- a pass, where the black pixels are moved too
 
 abbrev pub IsMoved : ℤ → ℤ → (ℤ → ℤ → Bool) → (ℤ → ℤ → Bool) → Type 0
 IsMoved k m black there = (c j : ℤ) → there (c +ℤ k) (j +ℤ m) ≡ black c j
@@ -209,7 +209,7 @@ added_moved k m black there same rules b ms p j =
     (ap (λ d. adds rules (columns_moved k b) (map (mark_moved k m) ms) there (j +ℤ m) d (p +ℤ k)) (last_moved p k)
     ∙ adds_kept k m black there same rules b ms j (p -ℤ pos 1) p)
 
--- without marks the box is not asked for
+-- without marks the box does not matter
 pub none_added : (rules : Rules) (b other : Columns) (black there : ℤ → ℤ → Bool) (p j q i : ℤ)
     → is_added rules b [] black p j ≡ is_added rules other [] there q i
 none_added rules b other black there p j q i = none rules b black p j ∙ sym (none rules other there q i) where

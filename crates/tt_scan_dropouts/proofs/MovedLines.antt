@@ -1,4 +1,4 @@
--- Where a moved edge crosses lines: as many lines and gaps further as it is moved by whole pixels.
+-- The crossings of a moved edge: moved by as many lines and gaps as the edge by whole pixels.
 use Rattle.std.proofs.Common.{◌≡◌, refl, sym, ◌∙◌, ap, ℕ, ◌+◌, ◌==◌, Bool, true, false, ◌&&◌, if◌then◌else◌, List, [], ◌∷◌, arith}
 use Rattle.std.specs.Prelude.{ℤ, pos, negsuc, ◌+ℤ◌, ◌-ℤ◌, ◌*ℤ◌, ◌≤ℤ◌, ◌<ℤ◌, int_lt, unsigned_abs, map}
 use Rattle.std.specs.Int.{int_div_euclid, int_rem_euclid}

@@ -1,4 +1,4 @@
--- What a moved outline leaves in gaps: the marks of the outline, moved by as many lines and gaps.
+-- The marks of a moved outline: those of the outline, moved by as many lines and gaps.
 use Rattle.std.proofs.Common.{◌≡◌, refl, sym, ◌∙◌, ap, ap₂, ℕ, zero, suc, ◌+◌, Bool, true, false, not, ◌||◌, List, [], ◌∷◌, ◌++◌, length, take, drop, get_or, arith}
 use Rattle.std.specs.Prelude.{ℤ, pos, ◌+ℤ◌, ◌-ℤ◌, ◌*ℤ◌, unsigned_abs, max, map, reverse, Option, Some, None}
 use Rattle.std.specs.List.{flat_map, range_with_len}

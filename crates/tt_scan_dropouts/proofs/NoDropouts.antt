@@ -39,7 +39,7 @@ own_way false = refl
 goes_itself : (q : Crossing) → is_through q.up q.line q.gap q ≡ true
 goes_itself q = rw (eq_self q.line, eq_self q.gap, own_way q.up) refl
 
--- of two that are the same both hold where one does
+-- of two equal tests both pass where one does
 both_hold : (f : Bool → Bool) → f true ≡ f false → (up : Bool) → f up ≡ true → (f true && f false) ≡ true
 both_hold f same true is = ap₂ (λ a b. a && b) is (sym same ∙ is)
 both_hold f same false is = ap₂ (λ a b. a && b) (same ∙ is) is
@@ -61,7 +61,7 @@ not_free black es balanced none i d within k p less =
       | inr not ↦ not
     ]
 
--- so no edge leaves something in a free gap
+-- no edge makes a mark in a free gap
 nothing_free : (stubs : Bool) (black : ℤ → ℤ → Bool) (es : List Edge) → IsBalanced black es → NoneFreeBothWays black es
     → All (λ e. (stubs && (is_on_line e.ay || is_on_line e.by)) ≡ false) es
     → list_any (is_in_free_gap stubs black) es ≡ false
@@ -109,7 +109,7 @@ freed false true true more_b is = absurd cc
 freed false true false more_b is = absurd cc
 freed false false more_a more_b is = refl
 
--- and one that is not free is not where more is black
+-- and a gap that is not free is not free where more is black
 not_freed : (a b more_a more_b : Bool) → (not a && not b) ≡ false → (not (a || more_a) && not (b || more_b)) ≡ false
 not_freed true b more_a more_b is = refl
 not_freed false true true more_b is = refl

@@ -1,4 +1,4 @@
--- Where no edge leaves something in a free gap, a pass adds nothing.
+-- Where no edge makes a mark in a free gap, a pass adds nothing.
 use Rattle.std.proofs.Common.{inl, inr, ◌≢◌, int_lt, ◌≡◌, refl, sym, ap, ap₂, ◌∙◌, ℕ, zero, suc, ◌+◌, ◌<◌, Bool, true, false, not, ◌&&◌, ◌||◌, List, [], ◌∷◌, ◌++◌, map, length, get_or, arith}
 use Rattle.std.specs.Prelude.{ℤ, pos, ◌+ℤ◌, ◌-ℤ◌, None}
 use Rattle.std.specs.List.{flat_map, list_any, range_with_len}
@@ -32,7 +32,7 @@ other_not : (a b : Bool) → (a || b) ≡ false → b ≡ false
 other_not true b not = cc
 other_not false b not = not
 
--- the crossings of an edge, looked at one after the other
+-- the crossings of an edge, one after the other
 
 pub none_more : (black : ℤ → ℤ → Bool) (e : Edge) (k : ℕ)
     → some_in_free_gap black (map (λ k. crossing e (line_crossed e k)) (range_with_len 0 k)) ≡ false
@@ -54,7 +54,7 @@ one_settles black e k within free =
     let it = get_or-map-range_with_len f 0 (lines_crossed e) k k (f 0) within (omega arith) in
     list_any_at (λ (c : Crossing). is_free black c.gap c.line) (crossings e) k (f 0) (rw count within) (rw it free)
 
--- crossings that lie in no free gap leave nothing there
+-- crossings that lie in no free gap make no mark there
 
 no_marks_of : (black : ℤ → ℤ → Bool) (asks : Bool) (cs : List Crossing) → some_in_free_gap black cs ≡ false
     → free_marks black (map (mark_of asks) cs) ≡ []
@@ -81,7 +81,7 @@ no_marks_of_edges black (e ∷ es) none =
     ∙ ap₂ (λ a b. a ++ b) (no_edge_marks black e (first_not here rest none))
     (no_marks_of_edges black es (other_not here rest none))
 
--- the same of the steps of a walk, whether or not they belong to a stub
+-- the steps of a walk, in a stub or not, make no mark there
 
 abbrev lies_free : (ℤ → ℤ → Bool) → Step → Bool
 lies_free black (step.End h) = false
@@ -126,7 +126,7 @@ no_walk_free black (e ∷ es) none =
     ∙ ap₂ (λ a b. a || b) (no_cross_free black (crossings e) e.by crossed)
     (no_walk_free black es (other_not here rest none))
 
--- contours that leave nothing in free gaps
+-- contours without marks in free gaps
 
 no_contour_marks : (black : ℤ → ℤ → Bool) (stubs : Bool) (es : List Edge)
     → list_any (is_in_free_gap stubs black) es ≡ false
@@ -147,14 +147,14 @@ no_marks black stubs (es ∷ contours) none =
     ∙ ap₂ (λ a b. a ++ b) (no_contour_marks black stubs es (first_not here rest both))
     (no_marks black stubs contours (other_not here rest both))
 
--- where no edge of an outline leaves something in a free gap, there are no marks in free gaps
+-- where no edge of an outline makes a mark in a free gap, there are no marks in free gaps
 pub no_free_marks : (black : ℤ → ℤ → Bool) (stubs : Bool) (es : List Edge) (ends : List ℕ) → AreEnds (length es) ends
     → list_any (is_in_free_gap stubs black) es ≡ false
     → free_marks black (marks stubs (contours_at es ends)) ≡ []
 no_free_marks black stubs es ends fit none =
     no_marks black stubs (contours_at es ends) (rw (edges_at es ends fit) none)
 
--- by no marks nothing is asked
+-- without marks no pixel is needed
 
 none_asked : (rules : Rules) (b : Columns) (black : ℤ → ℤ → Bool) (j c : ℤ) (free : Bool) → is_free black c j ≡ free
     → asked rules b [] black j c ≡ None
@@ -167,7 +167,7 @@ none_added rules b black p j =
     let left = none_asked rules b black j (p -ℤ pos 1) (is_free black (p -ℤ pos 1) j) refl in
     rw (here, left) refl
 
--- and a pass adds nothing
+-- a pass adds nothing
 pub nothing_added : (rules : Rules) (black : ℤ → ℤ → Bool) (es : List Edge) (ends : List ℕ) → AreEnds (length es) ends
     → list_any (is_in_free_gap rules.stubs black) es ≡ false
     → (p j : ℤ) → row_adds rules (contours_at es ends) black p j ≡ false
@@ -187,7 +187,7 @@ none_of_two false true true more_b first second none = refl
 none_of_two false true false more_b first second none = rw (second refl) refl
 none_of_two false false more_a more_b first second none = absurd cc
 
--- so much is black at least
+-- at least these pixels are black
 abbrev pub IsWithin : (ℤ → ℤ → Bool) → (ℤ → ℤ → Bool) → Type 0
 IsWithin black more = (c j : ℤ) → black c j ≡ true → more c j ≡ true
 
@@ -221,7 +221,7 @@ still_none stubs black more (e ∷ es) within none =
     rw (none_freed_by stubs black more e within (first_not here rest none))
     (still_none stubs black more es within (other_not here rest none))
 
--- an edge that meets no line leaves nothing
+-- an edge that meets no line makes no mark
 
 no_crossings : (e : Edge) → line_from e.ay ≡ line_from e.by → crossings e ≡ []
 no_crossings e same =

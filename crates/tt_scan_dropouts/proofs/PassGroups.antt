@@ -1,4 +1,4 @@
--- The step of a pass from one gap to the next: whether the gap gives way, and which gap asked last.
+-- The step of a pass from one gap to the next: whether the gap gives way, and which gap needed a pixel last.
 use Rattle.std.proofs.Common.{◌≡◌, refl, sym, ◌∙◌, ap, ℕ, zero, suc, ◌+◌, ◌-◌, ◌<◌, ◌≤◌, Bool, true, false, not, ◌&&◌, ◌||◌, Option, Some, None, List, [], ◌∷◌, length, take, drop, get_or, slice_range, ℤ, pos, ◌+ℤ◌, ◌-ℤ◌, inl, inr, arith}
 use Rattle.std.proofs.lemmas.Bool.{cases_Bool}
 use Rattle.std.proofs.lemmas.Int.{ints}
@@ -13,7 +13,7 @@ use Rattle.tt_scan_dropouts.specs.declared.mark.Rules.{Rules}
 use Rattle.tt_scan_dropouts.specs.declared.pass.Wish.{Wish}
 use Rattle.tt_scan_dropouts.proofs.PassSteps.{AreBefore, IsLast, added_so_far, done, done_more, gap_of, none_in}
 
--- a gap with no mark asks for nothing, and one that asks takes one of its two pixels
+-- a gap without a mark needs no pixel, and a gap that needs one takes one of its two pixels
 abbrev pub IsUnasked : (ℤ → ℤ → Option ℤ) → List Mark → Type 0
 IsUnasked ask ms = (j c p : ℤ) → list_any (in_gap j c) ms ≡ false → is_asked (ask j c) p ≡ false
 
@@ -35,7 +35,7 @@ group_asks rules b ms black start end d r group is =
     get_or-take (end - start) (drop start ms) 0 d some ∙ from in
     sym (rw (first, group.all d) at is)
 
--- where the marks before the first of a gap lie, and that none after them lies in the gap before
+-- the marks before the first of a gap, and that no mark after them lies in the gap before
 
 at_gap_before : (a b : Crossing) → is_up_to a b ≡ true → (int_eq a.line b.line && int_eq a.gap b.gap) ≡ false
     → is_up_to a (record { line = b.line; gap = b.gap -ℤ pos 1; place = 0; up = false }) ≡ true
@@ -85,7 +85,7 @@ gives_way_is ask ms start d last q unasked order first below is_last =
     ∙ done_or_none (done ms start j (c -ℤ pos 1)) (is_asked (ask j (c -ℤ pos 1)) c)
     (λ none. unasked j (c -ℤ pos 1) c (none_in_gap_before ms start d order none))
 
--- what one more gap adds
+-- the pixel that one more gap adds
 
 at_one_gap : (f : ℤ → ℤ → Bool) (a b j c : ℤ)
     → ((int_eq a j && int_eq b c) && f j c) ≡ ((int_eq a j && int_eq b c) && f a b)
@@ -113,7 +113,7 @@ gap_more ask ms start end d below group j c p =
     ∙ ap (λ some. (done ms start j c && one_adds ask j c p) || some)
     (at_one_gap (λ i b. one_adds ask i b p) (get_or ms start d).at.line (get_or ms start d).at.gap j c))
 
--- a gap that asks adds its pixel, unless it gives way
+-- a gap that needs a pixel adds it, unless it gives way
 
 one_pixel : (x y line at left takes gives : Bool) → (takes ≡ true → (at || left) ≡ true)
     → ((x || ((line && at) && (takes && not gives))) || (y || ((line && left) && (takes && not gives))))
@@ -163,7 +163,7 @@ added_unasked ask ms start end d below group none p j =
       adds_nothing (added_so_far ask ms start j (p -ℤ pos 1) p) (gap_of ms start d j (p -ℤ pos 1)),
     ) refl
 
--- which gap asked last, where one more is done
+-- the gap that needed a pixel last, after one more gap
 
 not_yet_there : (a b : Crossing) (w : Wish) → is_up_to a b ≡ true
     → is_up_to b (record { line = w.line; gap = w.gap -ℤ pos 1; place = 0; up = false }) ≡ true

@@ -1,4 +1,4 @@
--- A pass gap by gap: what it has added, and which gap asked last.
+-- A pass gap by gap: the pixels that it has added, and the gap that needed one last.
 use Rattle.std.proofs.Common.{◌≡◌, refl, ◌∙◌, ap, ℕ, zero, suc, ◌+◌, ◌-◌, ◌<◌, ◌≤◌, Bool, true, false, not, ◌&&◌, ◌||◌, Option, Some, List, [], ◌∷◌, ◌++◌, length, take, drop, get_or, slice_range, filter, if◌then◌else◌, ℤ, pos, ◌+ℤ◌, ◌-ℤ◌, inl, inr, arith}
 use Rattle.std.proofs.lemmas.Bool.{cases_Bool}
 use Rattle.std.proofs.lemmas.Int.{ints}
@@ -21,7 +21,7 @@ pub pixel_more : (ps : List Pixel) (x : Pixel) (p j : ℤ) → has_pixel (ps ++ 
 pixel_more [] x p j = grind arith
 pixel_more (y ∷ ps) x p j = let more = pixel_more ps x p j in grind (arith, more)
 
--- only its two pixels are asked for by a gap, and none by one without a mark
+-- a gap needs only one of its two pixels, and none without a mark
 
 none_asked : (j c : ℤ) (ms : List Mark) → list_any (in_gap j c) ms ≡ false → gap_marks ms j c ≡ []
 none_asked j c [] none = refl
@@ -114,15 +114,15 @@ done_more ms start end d below group j c =
     ap (list_any (in_gap j c)) (group.all d) in
     rw split (joined ∙ ap (λ any. done ms start j c || any) (group_any ∙ one ∙ rw some (and_true (gap_of ms start d j c))))
 
--- what is added by the gaps so far
+-- the pixels added by the gaps so far
 abbrev pub added_so_far : (ℤ → ℤ → Option ℤ) → List Mark → ℕ → ℤ → ℤ → ℤ → Bool
 added_so_far ask ms start j c p = done ms start j c && (is_asked (ask j c) p && not (is_asked (ask j (c -ℤ pos 1)) c))
 
--- all marks before one stand at a gap or before it
+-- all marks before one are at its gap or before it
 abbrev pub AreBefore : List Mark → ℕ → ℤ → ℤ → Type 0
 AreBefore ms start j c = (i : ℕ) (d : Mark) → i < start → is_up_to (get_or ms i d).at (record { line = j; gap = c; place = 0; up = false }) ≡ true
 
--- the last gap so far that asked, as the next ones see it
+-- the last gap so far that needed a pixel, as the next gaps see it
 abbrev pub IsLast : (ℤ → ℤ → Option ℤ) → List Mark → ℕ → Option Wish → Type 0
 IsLast ask ms start last = (w : Wish) → AreBefore ms start w.line (w.gap -ℤ pos 1)
     → gives_way last w ≡ (done ms start w.line (w.gap -ℤ pos 1) && is_asked (ask w.line (w.gap -ℤ pos 1)) w.gap)
@@ -131,7 +131,7 @@ pub granted : (ps : List Pixel) (x : Pixel) (p j : ℤ)
     → has_pixel (ps ++ x ∷ []) p j ≡ (has_pixel ps p j || (not false && (int_eq x.column p && int_eq x.row j)))
 granted ps x p j = pixel_more ps x p j
 
--- where all groups are done, what is added is what a pass adds
+-- after all groups, the added pixels are those that a pass adds
 
 take_whole : (ms : List Mark) (n : ℕ) → length ms ≤ n → take n ms ≡ ms
 take_whole [] n over = take-nil n

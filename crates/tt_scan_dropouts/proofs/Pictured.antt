@@ -1,4 +1,4 @@
--- The dropouts of a picture: where a pixel of a glyph is seen, and which of a list lie in a row.
+-- The dropouts of a picture: the place of a glyph's pixel, and the dropouts of a list in a row.
 use Rattle.std.proofs.Common.{◌≡◌, ◌≢◌, refl, sym, ◌∙◌, ap, ℕ, zero, suc, ◌+◌, ◌<◌, ◌≤◌, Bool, true, false, ◌&&◌, ◌||◌, ◌==◌, nat_lt, List, [], ◌∷◌, ◌++◌, length, take, drop, get_or, ℤ, pos, ◌+ℤ◌, ◌-ℤ◌, All, inl, inr, arith}
 use Rattle.std.proofs.lemmas.Bool.{cases_Bool}
 use Rattle.std.proofs.lemmas.Bool.Decides.{nat_tests}
@@ -41,7 +41,7 @@ is_shown f pen c r low column row =
     grind (arith, ints, row) in
     rw (left, right, bottom, top) refl
 
--- a column and a row that are told by how far a pixel is from the pen and the base line
+-- a column and a row, by the distances of a pixel from the pen and the base line
 pub same_column : (f : Frame) (pen c k : ℕ) (column : ℤ) → (column +ℤ pos f.margin) +ℤ pos pen ≡ pos k
     → (k == c) ≡ int_eq column (column_at f pen c)
 same_column f pen c k column is = grind (arith, ints, nat_tests, is)
@@ -72,7 +72,7 @@ or_false false = refl
 pub among_pushed : (ds : List Dropout) (d : Dropout) (c r : ℕ) → is_among (ds ++ d ∷ []) c r ≡ (is_among ds c r || is_at c r d)
 among_pushed ds d c r = list_any-append (is_at c r) ds (d ∷ []) ∙ ap (λ b. is_among ds c r || b) (or_false (is_at c r d))
 
--- of the pixels so far, and of one more
+-- the pixels so far, and one more
 pixels_more : (ps qs : List Pixel) (c j : ℤ) → has_pixel (ps ++ qs) c j ≡ (has_pixel ps c j || has_pixel qs c j)
 pixels_more [] qs c j = refl
 pixels_more (p ∷ ps) qs c j = let rest = pixels_more ps qs c j in grind (arith, rest)
@@ -91,7 +91,7 @@ one_pixel_more ps i d c j old below =
     ∙ sym (pixels_more (take i ps) (p ∷ []) c j)
     ∙ ap (λ qs. has_pixel qs c j) (sym (take_more ps i d below)))
 
--- those of a row stand beside each other
+-- the dropouts of a row are next to each other
 other_row : (c r : ℕ) (d : Dropout) → d.row ≢ r → is_at c r d ≡ false
 other_row c r d other = grind (arith, nat_tests, other)
 
@@ -114,7 +114,7 @@ pub not_second : (a b : Bool) → b ≡ false → (a && b) ≡ false
 not_second true b white = white
 not_second false b white = refl
 
--- none of a row comes before its first one
+-- no dropout of a row comes before its first one
 above_none : (ds : List Dropout) (i c r : ℕ) → AllWithin (λ (d : Dropout). d.row < r) ds 0 i → is_among (take i ds) c r ≡ false
 above_none [] zero c r above = refl
 above_none [] (suc i) c r above = refl
@@ -133,7 +133,7 @@ pub none_yet : (ds : List Dropout) (i c r : ℕ) (old inside : Bool) → AllWith
     → old ≡ (old || (inside && is_among (take i ds) c r))
 none_yet ds i c r old inside above = rw (above_none ds i c r above) (and_false old inside)
 
--- all of it are met where the next one lies in another row
+-- all dropouts of a row are done where the next one lies in another row
 rest_none : (ds : List Dropout) (i c r : ℕ) → ((k : ℕ) (d : Dropout) → i ≤ k → k < length ds → (get_or ds k d).row ≢ r)
     → is_among (drop i ds) c r ≡ false
 rest_none [] zero c r others = refl
@@ -167,7 +167,7 @@ pub row_over : (ds : List Dropout) (i c r : ℕ) (d : Dropout) → IsNonDecreasi
 row_over ds i c r d order below low other =
     all_of_row ds i c r (λ k e from under. later_row ds i k r d e order from under low other)
 
--- and one more is black
+-- one more pixel is black
 pub one_blackened : (ds : List Dropout) (i c r w : ℕ) (d : Dropout) (old before after : Bool) → i < length ds
     → (get_or ds i d).row ≡ r → (get_or ds i d).column < w → before ≡ (old || (nat_lt c w && is_among (take i ds) c r))
     → after ≡ (before || (c == (get_or ds i d).column)) → after ≡ (old || (nat_lt c w && is_among (take (i + 1) ds) c r))
@@ -201,7 +201,7 @@ pixels_small w ps is fits are i d below =
     first_true (has w p.column p.row) (is p.column p.row) (sym (are p.column p.row) ∙ is_listed ps i d below) in
     small_in w p.column p.row fits inside
 
--- and are seen at a pen
+-- pixels that are seen at a pen
 pub seen_at : (w : Window) (ps : List Pixel) (is : ℤ → ℤ → Bool) (c j : ℤ) → has w c j ≡ true
     → ((c j : ℤ) → has_pixel ps c j ≡ (has w c j && is c j)) → has_pixel ps c j ≡ is c j
 seen_at w ps is c j inside are = are c j ∙ rw inside refl
@@ -215,7 +215,7 @@ from_more f rules contours (p ∷ pens) pen c r =
     ∙ sym (or_or (is_dropout rules contours (column_at f p c) (line_at f r)) (is_dropout_from f rules contours pens c r)
     (is_dropout_from f rules contours pen c r))
 
--- of the pens so far, and of one more
+-- the pens so far, and one more
 pub one_pen_more : (f : Frame) (rules : Rules) (contours : List (List Edge)) (pens : List ℕ) (i c r : ℕ) (old : Bool)
     → i < length pens
     → ((old || is_dropout_from f rules contours (take i pens) c r)

@@ -1,4 +1,4 @@
--- Whether a pixel is among some, when one more is put at the end.
+-- Whether a list has a pixel, when one more is put at the end.
 use Rattle.std.proofs.Common.{◌≡◌, refl, sym, ◌∙◌, ℕ, ◌+◌, ◌<◌, Bool, true, false, ◌&&◌, ◌||◌, List, [], ◌∷◌, ◌++◌, length, take, get_or, ap, arith}
 use Rattle.std.specs.Prelude.{ℤ}
 use Rattle.std.proofs.lemmas.Int.{ints}
@@ -53,14 +53,14 @@ within w ps p c j inside =
     has_more ps (p ∷ []) c j
     ∙ ap (λ b. has_pixel ps c j || b) (or_false (int_eq p.column c && int_eq p.row j) ∙ rw inside at only)
 
--- and one that lies outside is not
+-- a pixel outside the window is not added
 pub outside : (w : Window) (ps : List Pixel) (p : Pixel) (c j : ℤ) → has w p.column p.row ≡ false
     → has_pixel ps c j ≡ (has_pixel ps c j || (has w c j && (int_eq p.column c && int_eq p.row j)))
 outside w ps p c j out =
     let only = only_inside w p c j (int_eq p.column c && int_eq p.row j) refl in
     sym (ap (λ b. has_pixel ps c j || b) (sym (rw out at only)) ∙ or_false (has_pixel ps c j))
 
--- so far the pixels of a window among some, and then one more
+-- the pixels of a window in a list so far, and one more
 so_far : (old found new h by one : Bool) → found ≡ (old || (h && by)) → new ≡ (found || (h && one))
     → new ≡ (old || (h && (by || one)))
 so_far true found new h by one is next = rw (next, is) refl

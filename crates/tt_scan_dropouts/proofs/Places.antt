@@ -1,4 +1,4 @@
--- Where the pixels of a window stand among its bits, and what it is to blacken one.
+-- The places of a window's pixels among its bits, and the blackening of one pixel.
 use Rattle.std.proofs.Common.{◌≡◌, ℕ, zero, suc, ◌+◌, ◌*◌, ◌^◌, ◌<◌, ◌≤◌, ◌==◌, Bool, true, false, ◌&&◌, ◌||◌, ℤ, ◌-ℤ◌, unsigned_abs, List, [], ◌∷◌, length, take, get_or, refl, sym, ◌∙◌, inl, inr, arith}
 use Rattle.std.specs.Ordering.{int_eq}
 use Rattle.std.proofs.lemmas.Bool.{cases_lt}
@@ -45,7 +45,7 @@ place_within w h r c below inside = let row = row_within w h r below in omega (a
 pub few_bytes : (w r : ℕ) → w < 2 ^ 20 → r ≤ 4100 → stride w * r ≤ 2 ^ 17 * 4100
 few_bytes w r narrow low = mul-le (stride w) r (2 ^ 17) 4100 (omega arith) low
 
--- rows of so many bytes, and columns within them: two places are the same where both are
+-- rows with a number of bytes, and columns within them: two places are equal where row and column are
 rows_apart : (w r s c d : ℕ) → r < s → c < w → 8 * (stride w * r) + c < 8 * (stride w * s) + d
 rows_apart w r s c d less inside = let row = row_within w s r less in omega (arith, row)
 
@@ -59,7 +59,7 @@ same_place w r s c d one two = elim (cases_lt r s) [
   ]
 ]
 
--- numbers that are as far from a first one are the same
+-- numbers at equal distances from a first one are equal
 pub same_offset : (first : ℤ) (n m : ℕ) (a b : ℤ) → is_within first n a ≡ true → is_within first m b ≡ true
     → (unsigned_abs (a -ℤ first) == unsigned_abs (b -ℤ first)) ≡ int_eq b a
 same_offset first n m a b one two = grind (arith, ints, nat_tests)
@@ -67,7 +67,7 @@ same_offset first n m a b one two = grind (arith, ints, nat_tests)
 pub offset_within : (first : ℤ) (n : ℕ) (a : ℤ) → is_within first n a ≡ true → unsigned_abs (a -ℤ first) < n
 offset_within first n a within = grind (arith, ints)
 
--- two pixels of a window stand at one place where they are the same
+-- two pixels of a window have equal places where they are equal
 pub one_pixel : (w : Window) (c j d k : ℤ) → has w c j ≡ true → has w d k ≡ true
     → (place w c j == place w d k) ≡ (int_eq d c && int_eq k j)
 one_pixel w c j d k one two =
@@ -102,7 +102,7 @@ by_same true b c j d k is outside =
     rw out refl
 by_same false b c j d k is outside = or_false (is_black_in b c j)
 
--- outside of it nothing is blackened: it was black
+-- a pixel outside changes nothing: it counted as black
 pub not_blackened : (b : Bitmap) (c j d k : ℤ) → has b.window d k ≡ false
     → is_black_in b c j ≡ (is_black_in b c j || (int_eq d c && int_eq k j))
 not_blackened b c j d k outside = by_same (int_eq d c && int_eq k j) b c j d k refl outside

@@ -1,4 +1,5 @@
--- On which side of an edge a point lies, by two products; and how often edges wind round a point, one more at a time.
+-- The side of an edge on which a point lies, by two products; and the winding of edges round a point, one edge more at
+-- a time.
 use Rattle.std.proofs.Common.{◌≡◌, refl, ℕ, zero, suc, ◌+◌, ◌<◌, List, [], ◌∷◌, get_or, length, take, arith}
 use Rattle.std.specs.Prelude.{ℤ, pos, ◌+ℤ◌, ◌-ℤ◌, ◌*ℤ◌, int_lt}
 use Rattle.std.proofs.lemmas.Int.{ints}

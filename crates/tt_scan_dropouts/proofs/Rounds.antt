@@ -1,4 +1,4 @@
--- A contour is closed whose edges lead each to the next, and the last to the first.
+-- A contour is closed if its edges lead each to the next, and the last to the first.
 use Rattle.std.proofs.Common.{◌≡◌, ℕ, zero, suc, ◌+◌, ◌-◌, ◌<◌, true, ◌&&◌, List, [], ◌∷◌, get_or, drop, length, arith}
 use Rattle.std.specs.Prelude.{All}
 use Rattle.std.specs.List.{slice_range}

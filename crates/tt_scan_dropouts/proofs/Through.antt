@@ -1,4 +1,4 @@
--- Which edges go through a gap of a line: those that cross the line's height, and stand in the gap there.
+-- The edges that go through a gap of a line: those that cross the line's height, and are in the gap there.
 use Rattle.std.proofs.Common.{◌≡◌, refl, sym, ◌∙◌, ℕ, ◌+◌, ◌<◌, Bool, true, false, ◌&&◌, inl, inr, arith}
 use Rattle.std.specs.Prelude.{ℤ, pos, ◌+ℤ◌, ◌-ℤ◌, ◌*ℤ◌, ◌≤ℤ◌, ◌<ℤ◌, int_le, int_lt, unsigned_abs}
 use Rattle.std.specs.Ordering.{int_eq}
@@ -24,7 +24,7 @@ same_eq z = grind (arith, ints)
 abbrev pub is_crossed : Edge → ℤ → Bool
 is_crossed e y = int_le (upward e).ay y && int_lt y (upward e).by
 
--- so it has a crossing on each line whose height it crosses
+-- an edge has a crossing on each line whose height it crosses
 
 from_line : (y j : ℤ) → y ≤ℤ centre j → line_from y ≤ℤ j
 from_line y j low = let l = floor_low (y +ℤ pos 4095) in omega (arith, ints)
@@ -63,7 +63,7 @@ number_of e j is = by_lt_z e.by e.ay
     let r : int_lt e.ay e.by ≡ true = grind (arith, ints, b) in
     rw r (rising_number e.ay e.by j b.0 b.1))
 
--- what its crossings come to in one gap
+-- the crossings of an edge in one gap
 abbrev pub is_here : Bool → ℤ → ℤ → Edge → Bool
 is_here up j c e = is_crossed e (centre j) && int_eq (gap_at (edge_x e (centre j))) c && agree (is_rising e) up
 

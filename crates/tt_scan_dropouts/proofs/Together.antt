@@ -1,5 +1,5 @@
--- The two passes together: what they add in a window are the dropouts there, where so much is known to be black as lies
--- two pixels round it.
+-- The two passes together: the pixels that they add in a window are the dropouts there, if the black pixels up to two
+-- pixels round the window are known.
 use Rattle.std.proofs.Common.{◌≡◌, refl, sym, ap, ap₂, ◌∙◌, ℕ, Bool, true, false, ◌&&◌, ◌||◌, List, length, arith}
 use Rattle.std.specs.Prelude.{ℤ, pos, ◌+ℤ◌, ◌-ℤ◌, ◌≤ℤ◌, ◌<ℤ◌, int_le, int_lt}
 use Rattle.std.proofs.lemmas.Int.{ints}
@@ -17,7 +17,7 @@ use Rattle.tt_scan_dropouts.proofs.FreeMarks.{added_kept}
 use Rattle.tt_scan_dropouts.proofs.Locality.{added_alike}
 use Rattle.tt_scan_dropouts.proofs.Outlines.{edges_at}
 
--- a pass by the marks in free gaps, sorted, adds what one by all marks adds
+-- a pass by the sorted marks in free gaps adds the pixels that a pass by all marks adds
 pub pass_adds : (rules : Rules) (es : List Edge) (ends : List ℕ) (black adds : ℤ → ℤ → Bool) (free sorted : List Mark)
     → AreEnds (length es) ends → free ≡ free_marks black (marks rules.stubs (contours_at es ends))
     → ((rules : Rules) (b : Columns) (black : ℤ → ℤ → Bool) (p j : ℤ)
@@ -31,7 +31,7 @@ pass_adds rules es ends black adds free sorted fit is same by p j =
     ∙ ap (λ all. is_added rules (columns_of all) (marks rules.stubs (contours_at es ends)) black p j)
     (sym (edges_at es ends fit))
 
--- a pixel lies in a window, told by its four sides
+-- a pixel lies in a window, by its four sides
 pub record LiesIn (w : Window) (c j : ℤ) : Type 0 where
   pub left : w.left ≤ℤ c
   pub right : c <ℤ (w.left +ℤ pos w.width)
@@ -65,7 +65,7 @@ near w c j d k h left right bottom top = has_it (widened 2 w) d k (record {
   top = omega (arith, ints, h.top, top);
 })
 
--- what both passes know of a glyph in a window
+-- the facts about a glyph in a window that both passes use
 pub record Passes (rules : Rules) (contours : List (List Edge)) (w : Window)
     (inked after rows columns : ℤ → ℤ → Bool) : Type 0 where
   pub ink : (c j : ℤ) → has (widened 2 w) c j ≡ true → inked c j ≡ is_inked contours c j
@@ -108,7 +108,7 @@ pub together : {rules : Rules} {contours : List (List Edge)} {w : Window} {inked
     → ((has w c j && rows c j) || (has w c j && columns j c)) ≡ (has w c j && is_dropout rules contours c j)
 together {w = w} h c j = in_window h c j (has w c j) refl
 
--- where there are no dropouts, none is found
+-- where there are no dropouts, the list is empty
 pub nothing_there : (a b : Bool) → b ≡ false → false ≡ (a && b)
 nothing_there true b none = sym none
 nothing_there false b none = refl

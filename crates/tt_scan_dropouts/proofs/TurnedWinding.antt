@@ -1,5 +1,5 @@
--- Closed contours go as often round a point that lies on none of them as they go the other way round it with x and y
--- exchanged. So a free gap of a column is crossed both ways or not at all.
+-- Closed contours go round a point off all of them as often as they go the other way round it with x and y exchanged.
+-- So a free gap of a column is crossed both ways or not at all.
 use Rattle.std.proofs.Common.{◌≡◌, refl, sym, ap₂, ◌∙◌, Bool, true, false, not, ◌&&◌, ◌||◌, List, [], ◌∷◌, ◌++◌, map, arith}
 use Rattle.std.specs.Prelude.{ℤ, pos, negsuc, ◌+ℤ◌, int_le, int_lt, neg_ℤ, if◌then◌else◌, All}
 use Rattle.std.proofs.lemmas.Int.{ints}
@@ -15,7 +15,7 @@ use Rattle.tt_scan_dropouts.specs.Laws.{ColumnsCrossedBothWays}
 use Rattle.tt_scan_dropouts.proofs.BothWays.{both_ways, free, one_if, white}
 use Rattle.tt_scan_dropouts.proofs.EdgeSides.{Known, known}
 
--- what an edge adds to a winding: by whether its ends lie below the point, and on which side of it the point lies
+-- the summand of an edge in a winding, by whether its ends lie below the point, and on which side of it the point lies
 abbrev turn : Bool → Bool → Bool → Bool → ℤ
 turn q v right left = if q && not v && right then pos 1 else (if v && not q && left then negsuc 0 else pos 0)
 
@@ -37,8 +37,8 @@ turned_back ax bx x s z is =
     let left : int_lt (pos 0) z ≡ int_lt s (pos 0) = grind (arith, ints) in
     rw (turned_is ax bx x z, right, left) refl
 
--- 1 where a place lies left of a point and below it, or level with it: what an edge adds to both windings together is
--- this of its start, less that of its end
+-- 1 where a place lies left of a point and below it, or level with it. The summands of an edge in both windings
+-- together are this number of its start, less that of its end
 abbrev corner : ℤ → ℤ → ℤ → ℤ → ℤ
 corner x y px py = pos (one_if (int_le px x && int_le py y))
 

@@ -39,7 +39,7 @@ flat_more f xs i d h =
     ap (flat_map f) (take_more xs i d h) ∙ flat_map-append f (take i xs) (get_or xs i d ∷ [])
     ∙ ap (λ r. flat_map f (take i xs) ++ r) (append-nil (f (get_or xs i d)))
 
--- a way begins with a crossing, or goes on behind the end of an edge
+-- a way begins with a crossing, or continues after the end of an edge
 pub way_at_cross : (y : ℤ) (far : ℕ) (ss : List Step) (m : ℕ) (c : Crossing) → m < length ss
     → get_or ss m (step.End (pos 0)) ≡ step.Cross c → way y far (drop m ss) ≡ Some (record { next = c; far = far })
 way_at_cross y far ss m c h is = rw (drop_more ss m (step.End (pos 0)) h, is) refl
@@ -57,7 +57,7 @@ pub way_length : (w : List Step) (k : ℕ) (forward : Bool) → k < length w
 way_length w k true h = others_length w k h
 way_length w k false h = length-reverse (others w k) ∙ others_length w k h
 
--- what is free of lists one after another
+-- the free marks of lists one after another
 pub free_append : (black : ℤ → ℤ → Bool) (ms ns : List Mark)
     → free_marks black (ms ++ ns) ≡ free_marks black ms ++ free_marks black ns
 free_append black ms ns = filter-append (in_free_gap black) ms ns
@@ -100,14 +100,14 @@ free_next black stubs from es ends i d h =
     ap (λ r. free_marks black (marks stubs (contours_from from es r))) (drop_more ends i d h)
     ∙ free_append black (contour_marks stubs (slice_range es from (get_or ends i d))) (marks stubs (contours_from (get_or ends i d) es (drop (i + 1) ends)))
 
--- what an edge leaves that touches no line
+-- the marks of an edge that touches no line
 pub free_untouched : (black : ℤ → ℤ → Bool) (e : Edge) → touches e ≡ []
     → free_marks black (edge_marks e) ≡ free_marks black (map (mark_of true) (crossings e))
 free_untouched black e none =
     let crossed = free_marks black (map (mark_of true) (crossings e)) in
     free_edge black e ∙ ap (λ ts. crossed ++ free_marks black (map (mark_of true) ts)) none ∙ append-nil crossed
 
--- what a crossing in a free gap leaves
+-- the mark of a crossing in a free gap
 pub free_cross : (black : ℤ → ℤ → Bool) (w : List Step) (k : ℕ) (c : Crossing) (d : Step) → k < length w
     → get_or w k d ≡ step.Cross c → is_free black c.gap c.line ≡ true
     → free_marks black (step_marks w k) ≡ mark_of (not (is_of_stub w k c)) c ∷ []

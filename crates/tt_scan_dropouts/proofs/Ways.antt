@@ -65,12 +65,12 @@ one_passes p e (suc n) some =
       | inr last ↦ (n, omega arith, last_of (p (f n)) last)
     ]
 
--- how an edge goes through a gap
+-- the direction of an edge through a gap
 abbrev GoesThrough : Bool → ℤ → ℤ → Edge → Type 0
 GoesThrough up j c e = (k : ℕ) × (k < lines_crossed e) × (line_crossed e k ≡ j)
     × ((crossing e (line_crossed e k)).gap ≡ c) × (is_rising e ≡ up)
 
--- of one edge more either those before it cross a gap, or it does
+-- with one edge more, either those before it cross a gap, or it does
 one_goes : (up : Bool) (es : List Edge) (e : Edge) (j c : ℤ) → crosses_gap up (es ++ e ∷ []) j c ≡ true
     → (crosses_gap up es j c ≡ true) ⊎ GoesThrough up j c e
 one_goes up es e j c some =
@@ -91,7 +91,7 @@ one_goes up es e j c some =
           inr (it.0, it.1, line, gap, way)
     ]
 
--- marks are kept, an edge's gaps are marked, and none of them is free that the other table has
+-- marks remain, an edge's gaps are marked, and no gap of it that the other table has is free
 abbrev Kept : List Bool → List Bool → Type 0
 Kept old new = (s : ℕ) → get_or old s false ≡ true → get_or new s false ≡ true
 
@@ -129,7 +129,7 @@ other_before up es e j c way some = elim (one_goes up es e j c some) [
   | inr it ↦ let bad : true ≡ false = not_same up (sym it.4 ∙ way) in absurd cc
 ]
 
--- a gap that is crossed both ways by one edge more is not free, if none of its gaps is that the other table has
+-- a gap that is crossed both ways by one edge more is not free, if no gap of the edge in the other table is free
 by_one_more : (black : ℤ → ℤ → Bool) (up : Bool) (es : List Edge) (e : Edge) (other : List Bool) (j c : ℤ)
     → is_rising e ≡ up → AreMarked (not up) es other → NoneIsFree black e other
     → (crosses_gap up es j c ≡ true → crosses_gap (not up) es j c ≡ true → is_free black c j ≡ false)
@@ -171,7 +171,7 @@ one_falls black es e rising old new falls kept marked free told = record {
       (λ one other. told.none j c (ap₂ (λ a b. a && b) other one)) b.1 b.0;
 }
 
--- an edge that meets no line leaves the tables as they are
+-- an edge that meets no line leaves the tables unchanged
 pub none_more : (black : ℤ → ℤ → Bool) (es : List Edge) (e : Edge) (rising falling : List Bool)
     → meets_line false e.ay e.by ≡ false → AreTold black es rising falling → AreTold black (es ++ e ∷ []) rising falling
 none_more black es e rising falling unmet told =
@@ -186,7 +186,7 @@ none_more black es e rising falling unmet told =
           (λ k less. absurd (omega (arith, none, less))) told
     ]
 
--- one edge more of those so far
+-- one edge more after those so far
 pub more_seen : (f : Edge → Edge) (es : List Edge) (i : ℕ) (d : Edge) → i < length es
     → map f (take (i + 1) es) ≡ map f (take i es) ++ f (get_or es i d) ∷ []
 more_seen f es i d below = ap (map f) (take_more es i d below) ∙ map-append f (take i es) (get_or es i d ∷ [])

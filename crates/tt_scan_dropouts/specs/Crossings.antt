@@ -32,7 +32,7 @@ is_rising e = int_lt e.ay e.by
 abbrev pub lines_crossed : Edge → ℕ
 lines_crossed e = unsigned_abs (line_from e.by -ℤ line_from e.ay)
 
--- the lines in the order in which it crosses them
+-- the lines in the order of their crossing
 abbrev pub line_crossed : Edge → ℕ → ℤ
 line_crossed e k = if is_rising e then line_from e.ay +ℤ pos k else line_from e.ay -ℤ pos (k + 1)
 

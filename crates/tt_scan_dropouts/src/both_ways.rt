@@ -72,7 +72,7 @@ fn look(over: Over, edges: &[Edge], looks: &mut u32, gap: i64, line: i64) -> boo
     may_be_free(over, edges, gap, line)
 }
 
-/// Marks in one of two tables the gaps in which an edge crosses lines. Returns whether such a gap is in the other table
+/// Marks in one of two tables the gaps where an edge crosses lines. Returns whether such a gap is in the other table
 /// and may be free.
 #[inline(always)]
 fn mark_crossings(
@@ -106,8 +106,8 @@ fn mark_crossings(
     false
 }
 
-/// Marks the gaps in which an edge, as a pass sees it, crosses lines. Returns whether one of them is crossed the other
-/// way too and may be free.
+/// Marks the gaps where an edge, as a pass sees it, crosses lines. Returns whether one of them is crossed the other way
+/// too and may be free.
 #[inline(never)]
 fn mark_ways(
     rising: &mut [bool],

@@ -145,8 +145,7 @@ fn edge_x(edge: Edge, y: i64) -> i64
     i64::from(up.ax) + run_to(up, y)
 }
 
-/// The gap in which an edge crosses a line, after `k` other lines. Where both ends lie in one gap no division is
-/// needed.
+/// The gap where an edge crosses a line, after `k` other lines. Where both ends lie in one gap no division is needed.
 #[inline(always)]
 pub(crate) fn gap_crossed(edge: Edge, k: u64) -> i64
     requires edge { EdgeFits edge }

@@ -6,7 +6,7 @@ ghost use Rattle.tt_scan.specs.Winding.{EdgeFits, turned, winding};
 
 use tt_scan::Edge;
 
-/// Two products; their difference shows the side of an edge on which a point lies.
+/// Two products; their difference shows the side of a point at an edge.
 #[inline(always)]
 fn sides(edge: Edge, x: i64, y: i64) -> (i64, i64)
     requires edge { EdgeFits edge }
@@ -44,7 +44,7 @@ fn goes_through(from: i64, to: i64, y: i64) -> bool
     (from <= y) != (to <= y)
 }
 
-/// What an edge adds to the winding of a point: 1, 0 or -1.
+/// The summand of an edge in the winding of a point: 1, 0 or -1.
 #[inline(always)]
 fn turned(edge: &Edge, x: i64, y: i64) -> i64
     requires edge { EdgeFits edge.now }

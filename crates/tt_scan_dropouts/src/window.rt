@@ -1,4 +1,4 @@
-//! The part of the plane in which dropouts are sought, by rows or by columns.
+//! The part of the plane where dropouts are sought, by rows or by columns.
 
 ghost use Rattle.std.specs.Prelude.{◌≡◌, ℤ, pos, true, false, ◌&&◌, ◌+ℤ◌, ◌-ℤ◌, ◌^◌, ◌<◌, unsigned_abs, IfNone, IfSome};
 ghost use Rattle.std.specs.Int.{int_max, int_min};

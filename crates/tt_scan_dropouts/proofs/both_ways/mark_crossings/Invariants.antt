@@ -4,7 +4,7 @@ use Rattle.tt_scan_dropouts.specs.Crossings.{crossing, line_crossed}
 use Rattle.tt_scan_dropouts.specs.Gaps.{is_free}
 use Rattle.tt_scan_dropouts.proofs.both_ways.mark_crossings.Given as goal
 
--- the crossings so far are marked, and none that the other table has lies in a free gap
+-- the crossings so far are marked, and no marked one in the other table lies in a free gap
 abbrev pub invariant-loop-k : goal.invariant-loop-k
 invariant-loop-k l = record {
   marked : (m : ℕ) → m < l.k

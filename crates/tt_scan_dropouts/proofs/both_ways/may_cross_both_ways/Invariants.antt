@@ -4,7 +4,7 @@ use Rattle.tt_scan_dropouts.specs.Windows.{seen_by}
 use Rattle.tt_scan_dropouts.specs.declared.window.Over.TheVariants as over
 use Rattle.tt_scan_dropouts.proofs.both_ways.may_cross_both_ways.Given as goal
 
--- the tables tell of the edges so far
+-- the tables have the gaps of the edges so far
 abbrev pub invariant-loop-edge : goal.invariant-loop-edge
 invariant-loop-edge l = record {
   rows : AreTold (is_black_seen over.Rows l.edges) (map (seen_by over.Rows) (take l.edge-index l.edges))

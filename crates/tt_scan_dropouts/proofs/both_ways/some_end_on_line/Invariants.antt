@@ -3,6 +3,6 @@ use Rattle.std.specs.List.{list_any}
 use Rattle.tt_scan_dropouts.specs.BothWays.{has_end_on_line}
 use Rattle.tt_scan_dropouts.proofs.both_ways.some_end_on_line.Given as goal
 
--- none of the edges so far has
+-- no edge so far has an end on a line
 abbrev pub invariant-loop-edge : goal.invariant-loop-edge
 invariant-loop-edge l = record { none : list_any has_end_on_line (take l.edge-index l.edges) ≡ false }

@@ -3,7 +3,7 @@ use Rattle.tt_scan_dropouts.specs.Dropouts.{greatest_x, least_x, turned_round}
 use Rattle.tt_scan_dropouts.specs.Windows.{ExtentFits}
 use Rattle.tt_scan_dropouts.proofs.columns.extents.Given as goal
 
--- the edges that are left lead on to the end from what was found
+-- the remaining edges lead from the extents so far to the result
 abbrev pub invariant-loop-edge : goal.invariant-loop-edge
 invariant-loop-edge l = record {
   left : least_x l.across.low (drop l.edge-index l.edges) ≡ least_x l.fn.x l.edges;

@@ -2,7 +2,7 @@ use Rattle.std.proofs.Common.{◌≡◌, map, take}
 use Rattle.tt_scan_dropouts.specs.Dropouts.{turned_round}
 use Rattle.tt_scan_dropouts.proofs.filling.all_turned_round.Given as goal
 
--- those so far are turned round
+-- the edges so far are turned round
 abbrev pub invariant-loop-edge : goal.invariant-loop-edge
 invariant-loop-edge l = record {
   so_far : l.turned.items ≡ map turned_round (take l.edge-index l.edges);

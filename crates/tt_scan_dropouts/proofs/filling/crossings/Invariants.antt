@@ -2,7 +2,7 @@ use Rattle.std.proofs.Common.{◌≡◌, ◌+◌, ◌*◌, ◌^◌, ◌≤◌, d
 use Rattle.tt_scan_dropouts.specs.Dropouts.{crossed}
 use Rattle.tt_scan_dropouts.proofs.filling.crossings.Given as goal
 
--- the crossings so far, and those of the edges that are left, are all
+-- the crossings so far and those of the remaining edges are all crossings
 abbrev pub invariant-loop-edge : goal.invariant-loop-edge
 invariant-loop-edge l = record {
   sum : l.all + crossed (drop l.edge-index l.edges) ≡ crossed l.edges;

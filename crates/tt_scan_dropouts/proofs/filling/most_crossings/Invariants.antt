@@ -2,7 +2,7 @@ use Rattle.std.proofs.Common.{◌+◌, ◌-◌, ◌*◌, ◌^◌, ◌≤◌, dro
 use Rattle.tt_scan_dropouts.specs.Dropouts.{crossed}
 use Rattle.tt_scan_dropouts.proofs.filling.most_crossings.Given as goal
 
--- how far the edges so far reach is enough for them
+-- the bound so far is enough for the edges so far
 abbrev pub invariant-loop-edge : goal.invariant-loop-edge
 invariant-loop-edge l = record {
   enough : 8192 * crossed l.edges ≤ (l.far + 16384 * l.edge-index) + 8192 * crossed (drop l.edge-index l.edges);

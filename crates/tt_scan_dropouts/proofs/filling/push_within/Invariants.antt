@@ -4,7 +4,7 @@ use Rattle.tt_scan_dropouts.specs.Gaps.{has_pixel}
 use Rattle.tt_scan_dropouts.specs.Windows.{has, has_pixel_by}
 use Rattle.tt_scan_dropouts.proofs.filling.push_within.Given as goal
 
--- those so far are added
+-- the pixels so far are added
 abbrev pub invariant-loop-pixel : goal.invariant-loop-pixel
 invariant-loop-pixel l = record {
   so_far : (c j : ℤ) → has_pixel l.found.items c j

@@ -6,7 +6,7 @@ use Rattle.tt_scan_dropouts.specs.Windows.{is_black_by}
 use Rattle.tt_scan_dropouts.specs.declared.window.Over.TheVariants as over
 use Rattle.tt_scan_dropouts.proofs.filling.some_in_free_gap.Given as goal
 
--- whether one of the edges so far leaves something in a free gap
+-- whether one of the edges so far makes a mark in a free gap
 abbrev pub invariant-loop-edge : goal.invariant-loop-edge
 invariant-loop-edge l = record {
   rows : l.rows ≡ list_any (is_in_free_gap l.stubs (is_black_by over.Rows l.ink)) (take l.edge-index l.edges);

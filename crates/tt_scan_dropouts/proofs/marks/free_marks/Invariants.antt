@@ -5,7 +5,7 @@ use Rattle.tt_scan_dropouts.specs.Walk.{marks}
 use Rattle.tt_scan_dropouts.specs.Windows.{is_black_by}
 use Rattle.tt_scan_dropouts.proofs.marks.free_marks.Given as goal
 
--- the marks so far, and those of the contours that are left, are all
+-- the marks so far and those of the remaining contours are all marks
 abbrev pub invariant-loop-i : goal.invariant-loop-i
 invariant-loop-i l = record {
   left : AreEndsFrom l.from (length l.edges) (drop l.i l.ends);

@@ -4,7 +4,7 @@ use Rattle.tt_scan_dropouts.specs.Windows.{is_black_by}
 use Rattle.tt_scan_dropouts.proofs.PassSteps.{IsLast, added_so_far}
 use Rattle.tt_scan_dropouts.proofs.pass.pass.Given as goal
 
--- what the gaps so far add, and which of them asked last
+-- the pixels that the gaps so far add, and the gap that needed one last
 abbrev pub invariant-loop-start : goal.invariant-loop-start
 invariant-loop-start l = record {
   within : l.start ≤ length l.marks;

@@ -3,7 +3,7 @@ use Rattle.std.specs.Prelude.{unsigned_abs}
 use Rattle.tt_scan.specs.Winding as is
 use Rattle.tt_scan_dropouts.proofs.point.winding.Given as goal
 
--- so often the edges so far wind round the point
+-- the winding of the edges so far round the point
 abbrev pub invariant-loop-edge : goal.invariant-loop-edge
 invariant-loop-edge l = record {
   sum : l.winding ≡ is.winding (take l.edge-index l.edges) l.x l.y;
