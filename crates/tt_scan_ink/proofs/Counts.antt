@@ -1,4 +1,4 @@
--- How many crossings the rows of a tape ask for: the count of them fits.
+-- The number of crossings that the rows of a tape need: its count fits.
 use Rattle.std.proofs.Common.{◌≡◌, ℕ, ◌+◌, ◌*◌, ◌^◌, ◌≤◌, Bool, true, false, if◌then◌else◌, List, [], ◌∷◌, length, ℤ, arith}
 use Rattle.std.proofs.Math.Nat.{mul-le-mul_right}
 use Rattle.tt_scan.specs.Winding.{is_between, rows_met}

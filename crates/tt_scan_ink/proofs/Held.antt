@@ -1,4 +1,4 @@
--- What is black lies in the box of the edges: so the box of what is black there is the box of all that is black.
+-- Black pixels lie in the box of the edges: the box of those there is the box of all.
 use Rattle.std.proofs.Common.{◌≡◌, refl, ◌⊎◌, inl, inr, Bool, true, false, not, ◌&&◌, ◌||◌, List, [], ◌∷◌, map, ℤ, pos, ◌+ℤ◌, ◌≤ℤ◌, ◌<ℤ◌, int_le, int_lt, All, arith}
 use Rattle.std.specs.Int.{int_max, int_min}
 use Rattle.std.proofs.lemmas.Bool.{cases_Bool, false≢true}
@@ -21,7 +21,7 @@ use Rattle.tt_scan_ink.proofs.Near.{columns_order}
 use Rattle.tt_scan_ink.proofs.Regions.{counted, ink_is}
 use Rattle.tt_scan_ink.proofs.Together.{ink_alike}
 
--- a box outside which nothing is black
+-- a box without black pixels outside
 
 inside : (a b black : Bool) → (black ≡ true → (a ≡ true) × (b ≡ true)) → black ≡ (a && (b && black))
 inside a b true within = let both = within refl in rw (both.0, both.1) refl

@@ -1,4 +1,4 @@
--- The columns and the lines of the box of edges that the program takes: they are in order, and not far off.
+-- The columns and the lines of the box of edges within the limits: they are in order, and near.
 use Rattle.std.proofs.Common.{◌≡◌, refl, ◌+◌, ◌^◌, ◌<◌, Bool, true, false, if◌then◌else◌, List, [], ◌∷◌, map, ℤ, pos, ◌+ℤ◌, ◌-ℤ◌, ◌*ℤ◌, ◌≤ℤ◌, int_le, All, arith}
 use Rattle.std.specs.Int.{int_div_euclid, int_max, int_min}
 use Rattle.std.specs.Prelude.{unsigned_abs}
@@ -13,7 +13,7 @@ use Rattle.tt_scan_dropouts.specs.declared.mark.Columns.{Columns}
 use Rattle.tt_scan_dropouts.proofs.Lines.{floor_high, floor_low}
 use Rattle.tt_scan_ink.specs.Least.{AreNear}
 
--- how far the ends of edges reach
+-- the extents of the ends of edges
 
 least_near : (x : ℤ) (es : List Edge) → unsigned_abs x < 2 ^ 30 → All EdgeFits es → unsigned_abs (least_x x es) < 2 ^ 30
 least_near x [] here fits = here

@@ -1,4 +1,4 @@
--- The box of what is black in columns and lines that are near is near.
+-- The box of black pixels in near columns and lines is near.
 use Rattle.std.proofs.Common.{ℕ, zero, suc, ◌^◌, ◌<◌, Bool, true, false, if◌then◌else◌, List, Option, None, Some, ℤ, pos, neg_ℤ, ◌+ℤ◌, ◌≤ℤ◌, ◌<ℤ◌, All, arith}
 use Rattle.std.specs.Prelude.{IfSome, unsigned_abs}
 use Rattle.std.proofs.lemmas.Int.{clamps, ints}

@@ -1,4 +1,4 @@
--- What is black in a region of which one part comes after the other.
+-- The black pixels of a region made of two parts, one after the other.
 use Rattle.std.proofs.Common.{◌≡◌, ◌≢◌, ◌∙◌, ap, sym, refl, ℕ, zero, suc, ◌+◌, ◌^◌, Bool, true, false, ◌&&◌, ◌||◌, if◌then◌else◌, List, [], ◌∷◌, ◌++◌, Option, Some, None, ℤ, pos, ◌+ℤ◌, ◌-ℤ◌, ◌≤ℤ◌, ◌<ℤ◌, int_le, int_lt, arith}
 use Rattle.std.specs.Int.{int_max, int_min}
 use Rattle.std.specs.Ordering.{int_eq}
@@ -79,13 +79,13 @@ pub pixels_more : (ps qs : List Pixel) (c j : ℤ) → has_pixel (ps ++ qs) c j 
 pixels_more [] qs c j = refl
 pixels_more (p ∷ ps) qs c j = let rest = pixels_more ps qs c j in grind (arith)
 
--- what spans cover of a line
+-- the columns that spans cover of a line
 
 not_true : (b : Bool) → (b ≡ true → false ≡ true) → b ≡ false
 not_true true never_is = sym (never_is refl)
 not_true false never_is = refl
 
--- where a span begins and ends in some columns
+-- the start and the end of a span in some columns
 pub record IsClipped (columns : Columns) (s : Span) (from to : ℤ) : Type 0 where
   pub left : from ≡ int_max s.first columns.first
   pub right : to ≡ int_min s.last columns.last
@@ -241,7 +241,7 @@ bands_more columns black first a b c j =
     parted (is_column_of columns c) (is_within first (a + b) j) (is_within first a j) (is_within (first +ℤ pos a) b j)
     (black c j) (next_above first j a b)
 
--- what a window has
+-- the pixels of a window
 
 pub counted : (columns : Columns) (c : ℤ) → columns.first ≤ℤ columns.last
     → is_within columns.first (count_of columns) c ≡ is_column_of columns c
@@ -366,7 +366,7 @@ ink_is black columns rows order =
     (λ k l. rw (counted columns k order) refl)
     (lines_are black columns rows.first (count_of rows))
 
--- so the box that was found is that one
+-- the box that was found is that box
 pub found_is : (black : ℤ → ℤ → Bool) (columns rows : Columns) (x : Option GlyphInk) → AreNear columns
     → IsInk (shown columns rows.first (count_of rows) black) x → x ≡ ink_in black columns rows
 found_is black columns rows x near is =

@@ -1,4 +1,4 @@
--- The least box of what is black: there is only one, and two joined are the box of both.
+-- The least box of black pixels: there is only one, and two joined are the box of both.
 use Rattle.std.proofs.Common.{◌≡◌, ◌∙◌, ap, sym, refl, ◌⊎◌, inl, inr, Bool, true, false, ◌||◌, if◌then◌else◌, Option, Some, None, ℤ, arith}
 use Rattle.std.specs.Int.{int_max, int_min}
 use Rattle.std.specs.Prelude.{int_lt}
@@ -40,7 +40,7 @@ one_ink black None (Some b) p q = absurd (false≢true (no_box black b p q))
 one_ink black (Some a) None p q = absurd (false≢true (no_box black a q p))
 one_ink black (Some a) (Some b) p q = ap Some (one_least black a b p q)
 
--- of what is black alike
+-- the boxes of equal pictures
 
 alike_least : (a b : ℤ → ℤ → Bool) (x : GlyphInk) → ((c j : ℤ) → b c j ≡ a c j) → IsLeastBox a x → IsLeastBox b x
 alike_least a b x same p = record {

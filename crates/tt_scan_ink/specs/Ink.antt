@@ -58,7 +58,7 @@ edges_ink es =
 abbrev pub dropouts_ink : Rules → List (List Edge) → List Edge → Option GlyphInk
 dropouts_ink rules contours es = ink_in (is_dropout rules contours) (columns_of es) (columns_of (map turned_round es))
 
--- worked values: of two pixels, and one outside the columns and rows in which they are sought
+-- worked values: two pixels, and a pixel outside the columns and rows of the search
 two_and_one : ℤ → ℤ → Bool
 two_and_one c j = if int_eq c (pos 1) then int_eq j (pos 2) else (if int_eq c (negsuc 0) then int_eq j (pos 0)
     else (int_eq c (pos 7) && int_eq j (pos 7)))
