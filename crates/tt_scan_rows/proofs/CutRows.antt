@@ -14,7 +14,7 @@ use Rattle.tt_scan.specs.declared.edge.Frame.{Frame}
 use Rattle.tt_scan.specs.declared.mark.Span.{Span}
 use Rattle.tt_scan_rows.specs.Rows.{row_at, spans_in}
 
--- what is counted of the rows from one on
+-- sums over the rows from one on
 
 pub rest_more : (g : ℕ → ℕ) (r h : ℕ) → r < h
     → sum_by g (range_with_len r (h - r)) ≡ g r + sum_by g (range_with_len (r + 1) (h - (r + 1)))

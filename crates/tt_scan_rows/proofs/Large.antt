@@ -1,4 +1,4 @@
--- Edges that are given back, since their raster would be too large.
+-- Edges that are given back because their raster would be too large.
 use Rattle.std.proofs.Common.{◌≡◌, ℕ, ◌+◌, ◌*◌, ◌^◌, ◌<◌, ◌≤◌, min, List, length, inr, arith}
 use Rattle.std.proofs.Math.Nat.{mul-le-mul_right}
 use Rattle.tt_scan.specs.EdgeList.{EdgeList, heights_of}
@@ -8,7 +8,7 @@ use Rattle.tt_scan_rows.specs.Raster.{lines_in}
 use Rattle.tt_scan_rows.specs.declared.raster.Cut.{Cut}
 use Rattle.tt_scan_rows.specs.declared.raster.Cut.TheVariants as cut
 
--- spans that are too many
+-- too many spans
 
 pub many_spans : (most n height edges : ℕ) → n ≡ min most (2 ^ 40) → n < height * (2 * edges + 1) → height ≤ 4100
     → edges ≤ 2 ^ 17 → most < height * (2 * edges + 1)
@@ -16,7 +16,7 @@ many_spans most n height edges least many rows few =
     let all : height * (2 * edges + 1) ≤ 4100 * (2 * edges + 1) = mul-le-mul_right (2 * edges + 1) rows in
     omega (arith, all, least, many, few)
 
--- edges that are too large
+-- too large edges
 
 pub edges_then : (made : Cut) (P Q : EdgeList → Type 0) → ((l : EdgeList) → P l → Q l) → IfEdges made P → IfEdges made Q
 edges_then (cut.Raster k) P Q then is = tt

@@ -1,4 +1,4 @@
--- The lines of a raster: which they are, and what they show.
+-- The lines of a raster, and their black columns.
 use Rattle.std.proofs.Common.{◌≡◌, ◌∙◌, ap, sym, refl, ℕ, ◌+◌, ◌≤◌, true, false, ◌&&◌, List, [], ◌∷◌, length, ℤ, pos, ◌+ℤ◌, ◌-ℤ◌, ◌*ℤ◌, ◌≤ℤ◌, ◌<ℤ◌, int_le, inl, inr, arith}
 use Rattle.std.specs.Prelude.{unsigned_abs}
 use Rattle.std.proofs.lemmas.Bool.{cases_lt}
@@ -13,7 +13,7 @@ use Rattle.tt_scan.specs.declared.mark.Span.{Span}
 use Rattle.tt_scan_rows.specs.Raster.{IsRasterOf, Raster, line_y, shows, shows_from, spans_at}
 use Rattle.tt_scan_rows.specs.Rows.{AreRowsOf, row_at}
 
--- lines whose centres stand between two heights
+-- lines whose centres are between two heights
 
 first_line : (low first j : ℤ) → (pos 8192 *ℤ first) ≤ℤ (low +ℤ pos 4095)
     → (low +ℤ pos 4095) <ℤ (pos 8192 *ℤ (first +ℤ pos 1)) → int_le first j ≡ int_le low (line_y j)
@@ -44,7 +44,7 @@ lines_none first last j none = grind (arith, ints)
 pub lines_some : (first last : ℤ) → int_le first last ≡ true → first ≤ℤ last
 lines_some first last some = grind (arith, ints)
 
--- so many lines lie between two heights
+-- the number of lines between two heights
 
 pub lines_apart : (low high first last : ℤ) → (low +ℤ pos 4095) <ℤ (pos 8192 *ℤ (first +ℤ pos 1))
     → (pos 8192 *ℤ last) ≤ℤ (high -ℤ pos 4096) → (pos 8192 *ℤ (last -ℤ first)) ≤ℤ (high -ℤ low)
@@ -110,7 +110,7 @@ rows_are_lines es f rows top margin rise are blank = λ c j within.
           white (grind (arith, ints))
     ])
 
--- from all pens
+-- the black columns from all pens
 
 pub from_pens : (k : Raster) (pens : List ℕ) (n : ℕ) (j : ℤ)
     → shows_from k pens (pos n) j ≡ covers_from (spans_at k j) pens n

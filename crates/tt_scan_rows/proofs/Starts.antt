@@ -71,7 +71,7 @@ held_from from count ss (end ∷ ends) within is =
     let all = sum_by-cons length (slice_range ss from end) (rows_from end ss ends) in
     omega (arith, all, one, rest, is.0)
 
--- the same of numbers that begin with 0
+-- the rows of a list of numbers that begins with 0
 
 pub rows_pushed : (ss xs : List Span) (starts : List ℕ) → AreStarts (length ss) starts
     → rows_at (ss ++ xs) (starts ++ (length ss + length xs) ∷ []) ≡ rows_at ss starts ++ xs ∷ []
