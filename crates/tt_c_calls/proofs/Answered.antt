@@ -1,4 +1,4 @@
--- What an answer tells of what stopped a call.
+-- The answer for a fault that stopped a call.
 use Rattle.std.proofs.Common.{◌≡◌, ◌≢◌, List, ℕ, Bool, true, false, Result, Ok, Err, inl, inr, refl, nat_lt, length, arith}
 use Rattle.std.specs.Prelude.{IfSome, if◌then◌else◌}
 use Rattle.tt_core.specs.declared.fault.JobFault.{JobFault}
@@ -18,7 +18,7 @@ tells_memory : {X : Type 0} (wanted : Result X Refusal) → TellsRefusal wanted 
 tells_memory (Ok x) = refl
 tells_memory (Err why) = inr refl
 
--- an answer tells the refusal that a fault is
+-- an answer reports the refusal of a fault
 pub tells : {X : Type 0} (wanted : Result X Refusal) (f : CallFault) → IfSome (call_refusal f) (λ why. wanted ≡ Err why)
     → TellsRefusal wanted (call_answer f)
 tells wanted (call.Font f) is = rw is (inl refl)
@@ -29,7 +29,7 @@ tells wanted call.LineEnds is = rw is (inl refl)
 tells wanted call.NotUtf8 is = rw is (inl refl)
 tells wanted call.Memory is = tells_memory wanted
 
--- and the defect that it is
+-- an answer reports the defect of a fault
 pub stands : (P : Fault → Type 0) (f : CallFault) → IfSome (call_font_fault f) P → DefectStands P (call_answer f)
 stands P (call.Font f) is = λ _. (f, refl, is)
 stands P (call.Job j) is = λ h. absurd (omega (arith, h))
@@ -39,7 +39,7 @@ stands P call.LineEnds is = λ h. absurd (omega (arith, h))
 stands P call.NotUtf8 is = λ h. absurd (omega (arith, h))
 stands P call.Memory is = λ h. absurd (omega (arith, h))
 
--- nor does it tell that memory was refused where it was not
+-- an answer does not report refused memory where memory was not refused
 pub serves : (f : CallFault) → f ≢ call.Memory → (call_answer f).status ≢ 5
 serves (call.Font f) other = λ h. omega (arith, h)
 serves (call.Job j) other = λ h. omega (arith, h)
@@ -49,7 +49,7 @@ serves call.LineEnds other = λ h. omega (arith, h)
 serves call.NotUtf8 other = λ h. omega (arith, h)
 serves call.Memory other = λ h. other refl
 
--- of what stopped a call the answer is not that all is done
+-- the answer for a fault is not done
 pub fails : (f : CallFault) → (call_answer f).status ≢ 0
 fails (call.Font f) = λ h. omega (arith, h)
 fails (call.Job j) = λ h. omega (arith, h)
@@ -59,7 +59,7 @@ fails call.LineEnds = λ h. omega (arith, h)
 fails call.NotUtf8 = λ h. omega (arith, h)
 fails call.Memory = λ h. omega (arith, h)
 
--- nor that there is too little room
+-- the answer for a fault is not too small a room
 pub wants_none : (f : CallFault) → (call_answer f).status ≢ 7
 wants_none (call.Font f) = λ h. omega (arith, h)
 wants_none (call.Job j) = λ h. omega (arith, h)
@@ -69,7 +69,7 @@ wants_none call.LineEnds = λ h. omega (arith, h)
 wants_none call.NotUtf8 = λ h. omega (arith, h)
 wants_none call.Memory = λ h. omega (arith, h)
 
--- nor that anything was written
+-- the answer for a fault reports nothing written
 pub writes_none : (f : CallFault) → (call_answer f).bytes ≡ 0
 writes_none (call.Font f) = refl
 writes_none (call.Job j) = refl
@@ -79,7 +79,7 @@ writes_none call.LineEnds = refl
 writes_none call.NotUtf8 = refl
 writes_none call.Memory = refl
 
--- why the first part has no value is why there is none at all
+-- if the first part has no value, its reason is the reason of the whole
 pub first_stops : {A B : Type 0} (wanted : Result A Refusal) (f : A → Result B Refusal) (fault : CallFault)
     → IfSome (call_refusal fault) (λ why. wanted ≡ Err why)
     → IfSome (call_refusal fault) (λ why. (wanted >>= f) ≡ Err why)
@@ -98,14 +98,14 @@ by_size true face make = refl
 by_size false (Ok face) make = refl
 by_size false (Err f) make = refl
 
--- what is asked of a font passes its tests, and is of the font's tables
+-- a request of a font that passes its tests is one of the font's tables
 pub by_face : {X : Type 0} (test : Result (Unit {0}) JobFault) (make : Face → Result X Refused) (font : List ℕ)
     → test ≡ Ok tt → as_call (as_job test >>= λ u. of_font (λ file. as_font (face_of file) >>= make) font)
     ≡ (face_wanted font >>= λ face. as_call (make face))
 unfolding face_wanted
 by_face test make font passes = rw passes (by_size (nat_lt font_limit (length font)) (face_of font) make)
 
--- or fails them
+-- a request of a font that fails its tests
 pub by_test : {X : Type 0} (test : Result (Unit {0}) JobFault) (make : Unit {0} → Result X Refused) (j : JobFault)
     → test ≡ Err j → as_call (as_job test >>= make) ≡ Err (refused (job j))
 by_test test make j fails = rw fails refl

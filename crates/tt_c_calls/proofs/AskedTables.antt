@@ -1,4 +1,4 @@
--- What is asked of a font, by the font's tables.
+-- The request of a font, by the font's tables.
 use Rattle.std.proofs.Common.{◌≡◌, List, ℕ, Bool, true, false, Result, Ok, Err, inl, inr, ap, nat_lt, length, ◌==◌}
 use Rattle.std.specs.Prelude.{IfSome, if◌then◌else◌}
 use Rattle.std.specs.Str.{is_utf8}
@@ -21,7 +21,7 @@ use Rattle.tt_c_calls.specs.Pictures.{made_of}
 use Rattle.tt_c_calls.specs.Refusals.{Refusal, as_call, call_font_fault, call_refusal, not_utf8, refused, unknown_fit}
 use Rattle.tt_c_calls.proofs.Answered.{by_face}
 
--- what is asked for is never refused as `run` refuses
+-- a request itself is never refused as `run` refuses
 pub no_fit : (a b c d : Bool) (r : Refused)
     → (if a then Ok fit.Full else if b then Ok fit.None else if c then Ok fit.Fallback
     else if d then Ok fit.Best else Err unknown_fit) ≡ Err (refused r) → ⊥
@@ -71,12 +71,12 @@ read_by true read face is = absurd cc
 read_by false (Ok own) face is = cc
 read_by false (Err f) face is = absurd cc
 
--- the tables that are wanted are those of the file
+-- the requested tables are those of the file
 pub face_read : (file : List ℕ) (face : Face) → face_wanted file ≡ Ok face → face_of file ≡ Ok face
 unfolding face_wanted
 face_read file face is = read_by (nat_lt font_limit (length file)) (face_of file) face is
 
--- what a line tells of a font's tables is told of the file
+-- statements about a font's tables are statements about the file
 pub asked_defects : {V : Type 0} (j : CJob) (text file : List ℕ) (a : Job) (face : Face) (r : Result V CallFault)
     → asked j text ≡ Ok a → face_wanted file ≡ Ok face → HasNo (IsFaceDefect file)
     → TellsDefects call_font_fault (IsLineDefect face a (text_glyphs face.cmap a.text)) r

@@ -11,7 +11,7 @@ one_more xs old i v n within =
     rw (next, n) (set-append_seam xs (get_or old (length xs) v) (drop (length xs + 1) old) v
     ∙ sym (append_assoc xs (v ∷ []) (drop (length xs + 1) old)))
 
--- the entry of one element more, by what is told of each
+-- the entry of one element more
 pub next_told : {A B : Type 0} (told : A → B) (xs : List A) (old : List B) (i : ℕ) (d : A) → i < length xs
     → length xs ≤ length old
     → set (map told (take i xs) ++ drop i old) i (told (get_or xs i d)) ≡ map told (take (i + 1) xs) ++ drop (i + 1) old

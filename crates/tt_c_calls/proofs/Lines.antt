@@ -1,4 +1,4 @@
--- What an answer says is the program's line.
+-- The message of an answer is the program's line.
 use Rattle.std.proofs.Common.{◌≡◌, Some, refl}
 use Rattle.tt_core.specs.declared.fault.JobFault.TheVariants as job
 use Rattle.tt_core.specs.declared.fault.Why.{Why}
@@ -7,7 +7,7 @@ use Rattle.tt_core.specs.Faults.{job_number, why_number}
 use Rattle.tt_c_calls.specs.Laws.{FontMessagesAreLines, JobMessagesAreLines}
 use Rattle.tt_c_calls.specs.Messages.{defect_of, job_of, message_of, why_of}
 
--- each number is of what it tells
+-- each number belongs to its fault
 of_its_number : (w : Why) → why_of (why_number w) ≡ Some w
 unfolding why_of why_number
 of_its_number why.BadVersion = refl

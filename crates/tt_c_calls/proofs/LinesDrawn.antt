@@ -1,4 +1,4 @@
--- Lines drawn one after the other: what is true of one line more.
+-- Lines drawn one after the other: one line more.
 use Rattle.std.proofs.Common.{◌≡◌, ◌∙◌, sym, ap, refl, ℕ, zero, suc, ◌+◌, ◌-◌, ◌≤◌, ◌<◌, List, [], ◌∷◌, ◌++◌, length, take, drop, get_or, set, arith, inr, length-append, length-drop}
 use Rattle.std.proofs.lemmas.List.{append-nil, drop-drop, drop-set-lt, drop-take, drop_all, drop_at, length-take-le, take_all, take_at, take_more_set}
 use Rattle.std.proofs.Math.Seq.{take-take}
@@ -11,7 +11,7 @@ use Rattle.tt_c_calls.specs.Lines.{AreEnds, AreLinesDrawn, DrawsLines, EndsWith,
 use Rattle.tt_c_calls.specs.Pictures.{IsPictureOf, IsWritten}
 use Rattle.tt_strike.specs.Pictures.{Picture}
 
--- a part within what is the same is the same
+-- equal lists have equal parts
 same_part : (m at n : ℕ) (old new : List ℕ) → take m new ≡ take m old → at + n ≤ m
     → take n (drop at new) ≡ take n (drop at old)
 same_part m at n old new same within =
@@ -19,14 +19,14 @@ same_part m at n old new same within =
     ∙ ap (drop at) (sym (take-take (at + n) m new within) ∙ ap (take (at + n)) same ∙ take-take (at + n) m old within)
     ∙ drop-take at n old
 
--- a line that was drawn stays where the rows up to its end stay
+-- a drawn line remains where the rows up to its end are unchanged
 line_stays : (j : CJob) (font old new : List ℕ) (m at : ℕ) (line : List ℕ) (told : CLine) → take m new ≡ take m old
     → at + line_bytes told ≤ m → IsLineDrawn j font old at line told → IsLineDrawn j font new at line told
 line_stays j font old new m at line told same within (p, of, known, rows) =
     let many : length p.rows ≡ line_bytes told = rw known of.ready.rows in
     (p, of, known, same_part m at (length p.rows) old new same (rw many within) ∙ rows)
 
--- so do lines
+-- drawn lines remain where the rows up to their end are unchanged
 lines_stay : (j : CJob) (font old new : List ℕ) (m at : ℕ) (lines : List (List ℕ)) (told : List CLine)
     → take m new ≡ take m old → at + lines_bytes told ≤ m → AreLinesDrawn j font old at lines told
     → AreLinesDrawn j font new at lines told
@@ -38,7 +38,7 @@ lines_stay j font old new m at (l ∷ ls) (t ∷ ts) same within drawn = (
   lines_stay j font old new m (at + line_bytes t) ls ts same (omega arith) drawn.1,
 )
 
--- a line is drawn behind others
+-- a line is drawn after others
 line_behind : (j : CJob) (font texts room : List ℕ) (from at i : ℕ) (ends : List ℕ) (told : List CLine) (x : CLine)
     → i < length ends → AreLinesDrawn j font room at (lines_by texts from (take i ends)) told
     → IsLineDrawn j font room (at + lines_bytes told)
@@ -70,7 +70,7 @@ bytes_behind (t ∷ ts) x = omega (arith, bytes_behind ts x)
 room_behind : (room : List ℕ) (used : ℕ) → take (length room - used) (drop used room) ≡ drop used room
 room_behind room used = take_all (length room - used) (drop used room) (omega (arith, length-drop used room))
 
--- rows that were written there have room
+-- there is room for rows that were written there
 few_rows : (rows room new : List ℕ) (used : ℕ) → used ≤ length room → IsWritten rows (drop used room) new
     → length new ≡ length (drop used room) → used + length rows ≤ length room
 few_rows rows room new used within written many =
@@ -82,7 +82,7 @@ few_rows rows room new used within written many =
       length-drop (length rows) (drop used room),
     )
 
--- and stand before what was behind them
+-- rows that were written there come before the rest
 pub rows_behind : (rows room new : List ℕ) (used : ℕ) → used ≤ length room → IsWritten rows (drop used room) new
     → drop used (put_mid used (length room - used) room new) ≡ rows ++ drop (length rows) (drop used room)
 rows_behind rows room new used within written =
@@ -127,18 +127,18 @@ line_more j font texts ends before room new told_before told used i p so_far few
           ∙ drop-drop 1 i told_before;
     }
 
--- what a loop over lines knows before each
+-- the facts before each step of a loop over lines
 pub record IsDrawnTo (j : CJob) (font texts ends before room : List ℕ) (told_before told : List CLine)
     (from used i : ℕ) : Type 0 where
   pub start : from ≡ start_of ends i
   pub room_used : used ≤ length room
   pub so_far : DrawsLines j font texts ends before room told_before told used i
 
--- where the next line begins
+-- the start of the next line
 start_behind : (ends : List ℕ) (i : ℕ) → get_or ends i 0 ≡ start_of ends (i + 1)
 start_behind ends i = let next : i + 1 ≡ suc i = omega arith in rw next refl
 
--- and behind one that was drawn
+-- the start of the line after one that was drawn
 pub drawn_on : (j : CJob) (font texts ends before room new : List ℕ) (told_before told : List CLine) (told_new : CLine)
     (from used i : ℕ) (a : CAnswer) → IsDrawnTo j font texts ends before room told_before told from used i
     → i < length ends → i < length told → from ≤ get_or ends i 0 → get_or ends i 0 ≤ length texts

@@ -1,4 +1,4 @@
--- A call that draws lines, and stops before the first.
+-- A call that draws lines, and stops before the first line.
 use Rattle.std.proofs.Common.{◌≡◌, ◌∙◌, refl, ℕ, List, [], length, IfSome, Result, Ok, Err, inl, inr, arith, subst, sym}
 use Rattle.std.specs.Prelude.{◌==◌}
 use Rattle.tt_core.proofs.Whole.{directory-same}
@@ -36,7 +36,7 @@ none_drawn : (j : CJob) (file texts ends room : List ℕ) (told : List CLine)
 none_drawn j file texts ends room told =
     record { few = omega arith; within = tt; drawn = tt; bytes = refl; rest = refl; others = refl }
 
--- and why not
+-- the reason why no line was drawn
 abbrev IsDrawnNone : CJob → List ℕ → List ℕ → List ℕ → List ℕ → List CLine → CallFault → Type 0
 IsDrawnNone j file texts ends room told e = (used : ℕ)
     × DrawsLines j file texts ends room room told told used (call_answer e).count
@@ -77,7 +77,7 @@ fit_defect n IsOne call.LineEnds is = tt
 fit_defect n IsOne call.NotUtf8 is = tt
 fit_defect n IsOne call.Memory is = tt
 
--- the defect that an answer tells
+-- the defect that an answer reports
 pub lines_defect_told : (IsOne : Fault → Type 0) (e : CallFault) → IfSome (call_font_fault e) IsOne
     → LineDefectStands IsOne (call_answer e)
 lines_defect_told IsOne (call.Font f) stands is = (f, refl, stands)

@@ -1,4 +1,4 @@
--- A picture that is not made larger is what `run` writes.
+-- A picture without `grow` is the one that `run` writes.
 use Rattle.std.proofs.Common.{◌≡◌, Bool, true, false, List, ℕ, Result, Ok, Err, refl, nat_lt, length}
 use Rattle.std.specs.Prelude.{if◌then◌else◌}
 use Rattle.tt_core.specs.declared.fault.JobFault.{JobFault}
@@ -13,7 +13,7 @@ use Rattle.tt_strike.specs.Tables.{Face, face_of}
 use Rattle.tt_c_calls.specs.Laws.{PlainIsRun}
 use Rattle.tt_c_calls.specs.Pictures.{made_of, picture_by, picture_wanted}
 
--- a line of a job that is tested is not refused by its tests
+-- the tests of a line do not refuse the line of a tested job
 line_drawn : (face : Face) (a : Job) → tested a ≡ Ok tt → line_outcome face a ≡ pictured_by face a
 unfolding line_outcome
 line_drawn face a passes = rw passes refl

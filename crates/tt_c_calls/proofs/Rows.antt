@@ -7,13 +7,13 @@ use Rattle.std.proofs.lemmas.Nat.{mul-le}
 use Rattle.std.proofs.lemmas.Slice.{drop-append-drop, take-put_mid}
 use borrow.Rule.Slice.PartMut.{put_mid, same_len_mid}
 
--- a part of a room takes as many bytes as it has
+-- a part of a room has as many bytes as its range
 pub room_stays : (at n k : ℕ) (room row : List ℕ) → at + n ≤ length room → k ≡ n → length row ≡ n
     → length (put_mid at k room row) ≡ length room
 room_stays at n k room row within whole long =
     same_len_mid at k room row (omega (arith, length-take-le k (drop at room) (omega (arith, length-drop at room, whole)), whole, long))
 
--- one row more stands in its place
+-- one row more is in its place
 pub one_row_more : (n m r k : ℕ) (room rows row : List ℕ) → n * r + n ≤ length room → length row ≡ n
     → take (n * r) room ≡ take (n * r) (drop (n * m) rows) → row ≡ take n (drop (n * (m + r)) rows)
     → take (n * (r + 1)) (put_mid (n * r) k room row) ≡ take (n * (r + 1)) (drop (n * m) rows)
@@ -34,13 +34,13 @@ row_ends n r height below =
     let least : n * (r + 1) ≤ n * height = mul-le n (r + 1) n height (omega arith) (omega arith) in
     omega (arith, least)
 
--- and has as many bytes as each
+-- each row has as many bytes as the others
 pub row_long : (n r height : ℕ) (rows : List ℕ) → r < height → length rows ≡ n * height
     → length (take n (drop (n * r) rows)) ≡ n
 row_long n r height rows below whole =
     length-take-le n (drop (n * r) rows) (omega (arith, length-drop (n * r) rows, row_ends n r height below, whole))
 
--- a band of a picture's rows has so many bytes
+-- the number of bytes of a band of a picture's rows
 part_fits : (n k first height : ℕ) → k ≤ height - first → n * k ≤ n * height - n * first
 part_fits n k first height few = elim (cases_lt height first) [
   | inl past ↦ let none : n * k ≤ n * 0 = mul-le n k n 0 (omega arith) (omega (arith, few, past)) in omega (arith, none)
@@ -60,7 +60,7 @@ band_long n first count height rows whole =
       part_fits n (min count (height - first)) first height (min-le_right count (height - first)),
     ))
 
--- a band stands at the front of a room, whose first bytes had a row before
+-- a band is at the front of a room whose first bytes had a row before
 pub band_written : (n k : ℕ) (band row old new : List ℕ) → new ≡ band ++ drop (n * k) (row ++ drop n old)
     → length row ≡ n → 0 < k → length band ≡ n * k → new ≡ band ++ drop (length band) old
 band_written n k band row old new is row_long some long =
@@ -68,7 +68,7 @@ band_written n k band row old new is row_long some long =
     is ∙ ap (λ xs. band ++ xs) (drop-append-drop n old row (n * k) (omega (arith, whole)) row_long)
     ∙ ap (λ m. band ++ drop m old) (sym long)
 
--- and one of no row at the front of any
+-- a band of no rows is at the front of any room
 pub none_written : (n k : ℕ) (band old new : List ℕ) → new ≡ old → k ≤ 0 → length band ≡ n * k
     → new ≡ band ++ drop (length band) old
 none_written n k [] old new is none long = is

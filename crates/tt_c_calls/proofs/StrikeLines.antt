@@ -1,4 +1,4 @@
--- What a strike draws of a line is what is wanted of the strike's font.
+-- The picture that a strike draws of a line is the requested picture of the strike's font.
 use Rattle.std.proofs.Common.{◌≡◌, ◌≢◌, ◌∙◌, ap, refl, ℕ, ◌*◌, Bool, true, false, nat_lt, List, length, Option, Some, None, IfSome, Result, Ok, Err, inl, inr, arith}
 use Rattle.std.proofs.lemmas.List.{take_all}
 use Rattle.std.specs.Prelude.{if◌then◌else◌}
@@ -28,7 +28,7 @@ use Rattle.tt_c_calls.specs.Lines.{IsLineWritten, IsStrikeFor, IsTextStopped, li
 use Rattle.tt_c_calls.specs.Pictures.{IsBandSmall, IsBandWritten, IsMadeBy, IsPictureOf, band_of, band_rows, picture_by, picture_wanted}
 use Rattle.tt_c_calls.specs.Refusals.{Refusal, as_call, call_font_fault, call_refusal, line_ends, not_utf8, refused, unknown_fit}
 
--- a job that is tested twice is tested once
+-- a job tested twice is a job tested once
 twice : {X : Type 0} (t : Result (Unit {0}) JobFault) (f : Unit {0} → Result X Refused)
     → (as_job t >>= λ u. as_job t >>= f) ≡ (as_job t >>= f)
 twice (Ok u) f = refl
@@ -90,7 +90,7 @@ picture_of_line j file line t s p for text exact ready made = record {
   made = rw (asked_by j file line t s for text, (opened j file s for).face_of_file) made;
 }
 
--- what is refused of a line
+-- the refusal of a line
 pub if_some_more : {X : Type 0} (o : Option X) (P Q : X → Type 0) → ((x : X) → P x → Q x) → IfSome o P → IfSome o Q
 if_some_more None P Q more h = tt
 if_some_more (Some x) P Q more h = more x h
@@ -124,7 +124,7 @@ line_stopped j file line left call.LineEnds h = inr (inl (line_ends, h, refl))
 line_stopped j file line left call.NotUtf8 h = inr (inl (not_utf8, h, refl))
 line_stopped j file line left call.Memory h = inl refl
 
--- and that of a fault is not done
+-- the answer for a fault is not done
 pub not_done : (e : CallFault) → (call_answer e).status ≢ 0
 not_done (call.Font f) is = absurd (omega arith)
 not_done (call.Job j) is = absurd (omega arith)
@@ -134,7 +134,7 @@ not_done call.LineEnds is = absurd (omega arith)
 not_done call.NotUtf8 is = absurd (omega arith)
 not_done call.Memory is = absurd (omega arith)
 
--- a defect that the strike met is one of what is asked for
+-- a defect that the strike met is one that the request may meet
 pub line_defect : (j : CJob) (file line t : List ℕ) (s : Strike) (e : CallFault) → IsStrikeFor j file s
     → text_asked line ≡ Ok t
     → IfSome (call_font_fault e) (IsLineDefect s.face (job_of s t j.margin) (text_glyphs s.face.cmap t))
@@ -166,7 +166,7 @@ line_written j file line at height p room new known told a of all w is =
       answer = rw (all, whole, all_rows p.frame.height) at w.answer;
     }
 
--- a room that has too little for all rows
+-- a room too small for all rows
 pub room_small : (j : CJob) (file line room : List ℕ) (height : ℕ) (p : Picture) (a : CAnswer)
     → IsPictureOf j line file p → height ≡ p.frame.height → IsBandSmall p 0 height room a
     → IsTextStopped j file line (length room) a

@@ -1,4 +1,4 @@
--- Bytes that are a text, and bytes that are none.
+-- Bytes that are UTF-8, and bytes that are not.
 use Rattle.std.proofs.Common.{◌≡◌, ℕ, Bool, true, false, List, Ok, Err, refl}
 use Rattle.std.specs.Prelude.{IsUtf8}
 use Rattle.std.proofs.lemmas.Str.{IsUtf8-from_is_utf8, is_utf8-from_IsUtf8}

@@ -54,7 +54,7 @@ pub struct CCharacter {
     pub glyph: u32,
     /// The columns to the next character's origin.
     pub advance: u32,
-    /// The column of the picture at which the glyph's origin is, the margin included.
+    /// The column of the picture at the glyph's origin, the margin included.
     pub pen: i64,
     /// 0 where the glyph blackens nothing; the box is then all 0.
     pub has_ink: u64,

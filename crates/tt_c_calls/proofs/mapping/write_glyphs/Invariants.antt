@@ -2,7 +2,7 @@ use Rattle.std.proofs.Common.{◌≡◌, ◌++◌, length, drop, map}
 use Rattle.tt_c_calls.specs.Maps.{glyph_told}
 use Rattle.tt_c_calls.proofs.mapping.write_glyphs.Given as goal
 
--- the glyphs of the characters so far, and then the room as it was
+-- the glyphs of the characters so far, and then the unchanged room
 abbrev pub invariant-loop-c : goal.invariant-loop-c
 invariant-loop-c l = record {
   count : l.i ≡ length l.yielded;

@@ -2,7 +2,7 @@ use Rattle.std.proofs.Common.{◌≡◌, ◌+◌, ◌*◌, length, take, drop}
 use Rattle.tt_core.specs.Bits.{stride}
 use Rattle.tt_c_calls.proofs.pictures.make_rows.Given as goal
 
--- the first rows stand in their places
+-- the first rows are in their places
 abbrev pub invariant-loop-r : goal.invariant-loop-r
 invariant-loop-r l = record {
   bytes : l.bytes ≡ stride l.fn.picture.frame.width;

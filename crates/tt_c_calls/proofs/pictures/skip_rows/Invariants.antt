@@ -1,7 +1,7 @@
 use Rattle.std.proofs.Common.{◌≡◌, length}
 use Rattle.tt_c_calls.proofs.pictures.skip_rows.Given as goal
 
--- so many rows were made
+-- the number of rows made
 abbrev pub invariant-loop-r : goal.invariant-loop-r
 invariant-loop-r l = record {
   row : length l.row ≡ length l.fn.row;
