@@ -1,4 +1,4 @@
--- The lines of a report, one more at a time, and how a report is told.
+-- The lines of a report, one more at a time, and the printing of a report.
 use Rattle.std.proofs.Common.{◌≡◌, ℕ, ◌+◌, ◌<◌, Bool, false, ◌==◌, List, [], ◌∷◌, ◌++◌, length, take, drop, drop-cons, get_or, codes, append_assoc, add-one, Option, Result, Ok, Err, inl, inr, ◌∙◌}
 use Rattle.std.specs.Io.KnownBytes.{Appends}
 use Rattle.std.specs.Prelude.{◌⊎◌, IfOk, IfErr, OnOk, is_err}
@@ -9,7 +9,7 @@ use Rattle.tt_render.specs.Messages.{unfitted_line_of}
 use Rattle.tt_render.specs.Printing.{Errors, Prints, PrintsUnless}
 use Rattle.tt_program_decisions.specs.Telling.{TellsFault, TellsReport, report_lines}
 
--- a text was told, or want of memory for it
+-- a text was printed, or the line for refused memory
 pub text_told : {S E : Type 0} (r : Result S E) (bytes : S → List ℕ) (line : List ℕ) (status_then status : ℕ)
     (e : Errors) → IfOk r (λ t. bytes t ≡ line) → IfOk r (λ t. (status ≡ status_then) × Prints e (bytes t))
     → IfErr r (λ x. TellsFault run.Memory status e)
@@ -27,7 +27,7 @@ put_together : (before line feed behind : List ℕ) → ((before ++ line) ++ fee
 put_together before line feed behind =
     append_assoc (before ++ line) feed behind ∙ append_assoc before line (feed ++ behind)
 
--- a line and its line feed, after those that stand
+-- a line and its line feed, after the lines before
 pub line_behind : (us : List Unfitted) (i : ℕ) (u : Unfitted) (before : List ℕ) → i < length us → u ≡ get_or us i u
     → ((before ++ unfitted_line_of u) ++ codes "\n") ++ report_lines (drop (i + 1) us)
     ≡ before ++ report_lines (drop i us)
@@ -36,7 +36,7 @@ line_behind us i u before below is =
     let here : drop i us ≡ u ∷ drop (i + 1) us = rw (← is) at whole in
     rw here (put_together before (unfitted_line_of u) (codes "\n") (report_lines (drop (i + 1) us)))
 
--- what went out of the bytes of a text is what is printed of it
+-- the bytes of a text that went out are those printed
 pub printed : (r : Result (Unit {0}) Cut) (failed : Bool) (before after : Option (List ℕ)) (bytes text : List ℕ)
     → bytes ≡ text → OnOk r (Appends before after bytes) → IfErr r (λ cut. Appends before after (take cut.sent bytes))
     → IfErr r (λ cut. cut.sent < length bytes) → failed ≡ is_err r → PrintsUnless failed before after text
