@@ -21,7 +21,7 @@ use Rattle.tt_c_calls.specs.Pictures.{made_of}
 use Rattle.tt_c_calls.specs.Refusals.{Refusal, as_call, call_font_fault, call_refusal, not_utf8, refused, unknown_fit}
 use Rattle.tt_c_calls.proofs.Answered.{by_face}
 
--- a request itself is never refused as `run` refuses
+-- making the job of a request is never refused as `run` refuses
 pub no_fit : (a b c d : Bool) (r : Refused)
     → (if a then Ok fit.Full else if b then Ok fit.None else if c then Ok fit.Fallback
     else if d then Ok fit.Best else Err unknown_fit) ≡ Err (refused r) → ⊥

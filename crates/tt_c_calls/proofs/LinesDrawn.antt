@@ -82,7 +82,7 @@ few_rows rows room new used within written many =
       length-drop (length rows) (drop used room),
     )
 
--- rows that were written there come before the rest
+-- the room from a place on begins with the rows that were written there
 pub rows_behind : (rows room new : List ℕ) (used : ℕ) → used ≤ length room → IsWritten rows (drop used room) new
     → drop used (put_mid used (length room - used) room new) ≡ rows ++ drop (length rows) (drop used room)
 rows_behind rows room new used within written =
@@ -138,7 +138,7 @@ pub record IsDrawnTo (j : CJob) (font texts ends before room : List ℕ) (told_b
 start_behind : (ends : List ℕ) (i : ℕ) → get_or ends i 0 ≡ start_of ends (i + 1)
 start_behind ends i = let next : i + 1 ≡ suc i = omega arith in rw next refl
 
--- the start of the line after one that was drawn
+-- the facts after one line more
 pub drawn_on : (j : CJob) (font texts ends before room new : List ℕ) (told_before told : List CLine) (told_new : CLine)
     (from used i : ℕ) (a : CAnswer) → IsDrawnTo j font texts ends before room told_before told from used i
     → i < length ends → i < length told → from ≤ get_or ends i 0 → get_or ends i 0 ≤ length texts

@@ -7,7 +7,7 @@ use Rattle.std.proofs.lemmas.Nat.{mul-le}
 use Rattle.std.proofs.lemmas.Slice.{drop-append-drop, take-put_mid}
 use borrow.Rule.Slice.PartMut.{put_mid, same_len_mid}
 
--- a part of a room has as many bytes as its range
+-- a row written into a room does not change the length of the room
 pub room_stays : (at n k : ℕ) (room row : List ℕ) → at + n ≤ length room → k ≡ n → length row ≡ n
     → length (put_mid at k room row) ≡ length room
 room_stays at n k room row within whole long =
@@ -34,7 +34,7 @@ row_ends n r height below =
     let least : n * (r + 1) ≤ n * height = mul-le n (r + 1) n height (omega arith) (omega arith) in
     omega (arith, least)
 
--- each row has as many bytes as the others
+-- each row has `n` bytes
 pub row_long : (n r height : ℕ) (rows : List ℕ) → r < height → length rows ≡ n * height
     → length (take n (drop (n * r) rows)) ≡ n
 row_long n r height rows below whole =

@@ -49,7 +49,7 @@ left_same es m y xs ys ks ss same are =
       black_count = omega (arith, long, black_few);
     }
 
--- the entries that continue below a row are those that meet the row below
+-- of the entries begun, those that continue below a row are those that meet the row below
 
 meets_is : (first past r : ℤ) → first ≤ℤ (r -ℤ pos 1) → (int_le first r && int_lt r past) ≡ int_lt ((r -ℤ pos 1) +ℤ pos 1) past
 meets_is first past r begun = grind (arith, ints)

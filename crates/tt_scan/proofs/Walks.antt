@@ -78,7 +78,7 @@ quotient_within k d q rest n large low high is from to =
     absurd (omega (arith, ints, above, to, more, one)))
     (λ within. omega (arith, ints, near, within)))
 
--- the columns that an edge of several rows loses in a row are fewer than its run
+-- an edge of several rows loses few columns in a row
 pub step_small : (e : Edge) (s : Quotient) → EdgeFits e → pos 8192 ≤ℤ (e.by -ℤ e.ay) → IsStep e s → unsigned_abs s.whole ≤ 2 ^ 20
 step_small e s fits tall is =
     let much = mul_mono (pos 1048576) (pos 67108864) (divisor_of e) (omega (arith, ints)) (omega (arith, ints, tall)) in

@@ -169,7 +169,7 @@ row_inked w black r a k xs ys c j within start bytes long count painted inside =
           rw there (kept ∙ or_false (bit xs (place w c j)))
     ]
 
--- a pixel's row has a number from the top
+-- a pixel's row is one of the first `r` from the top
 abbrev pub is_painted : Window → ℕ → ℤ → Bool
 is_painted w r j = int_le ((w.bottom +ℤ pos w.height) -ℤ pos r) j
 

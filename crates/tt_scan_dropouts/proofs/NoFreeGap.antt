@@ -187,7 +187,7 @@ none_of_two false true true more_b first second none = refl
 none_of_two false true false more_b first second none = rw (second refl) refl
 none_of_two false false more_a more_b first second none = absurd cc
 
--- at least these pixels are black
+-- the black pixels of one picture are black in another
 abbrev pub IsWithin : (ℤ → ℤ → Bool) → (ℤ → ℤ → Bool) → Type 0
 IsWithin black more = (c j : ℤ) → black c j ≡ true → more c j ≡ true
 

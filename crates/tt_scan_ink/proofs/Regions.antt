@@ -366,7 +366,7 @@ ink_is black columns rows order =
     (λ k l. rw (counted columns k order) refl)
     (lines_are black columns rows.first (count_of rows))
 
--- the box that was found is that box
+-- the least box of the region is the box of the definition
 pub found_is : (black : ℤ → ℤ → Bool) (columns rows : Columns) (x : Option GlyphInk) → AreNear columns
     → IsInk (shown columns rows.first (count_of rows) black) x → x ≡ ink_in black columns rows
 found_is black columns rows x near is =
