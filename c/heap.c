@@ -1,12 +1,12 @@
-/* The memory functions of the program and the C library of tt_render, over malloc, realloc and free. A host with its own
- * heap defines these three itself, and omits this file. tt_render.h says what each owes.
+/* The memory functions of the program and the C library of tt_render, over malloc, realloc and free. A host with its
+ * own heap defines these three itself, and omits this file. tt_render.h has their contract.
  */
 #include <stddef.h>
 #include <stdlib.h>
 
 #include "tt_render.h"
 
-/* No address needs an alignment above 16. malloc aligns a block for every type that fits in it, so `align` is unused. */
+/* No address needs an alignment above 16. malloc aligns a block for each type that fits in it, so `align` is unused. */
 _Static_assert(_Alignof(max_align_t) >= 16 || sizeof(void *) < 8, "malloc aligns to less than 16 bytes");
 
 /* The address of a refused block: nobody reads or writes it. */

@@ -18,8 +18,8 @@ int __wrap_main(int argc, char **argv) {
   return __real_main(argc, argv);
 }
 
-/* Copies argument `number`, where 0 is the program's name, to the start of the room, without its final zero. Returns its
- * length; -1 where there is no such argument; -2 where it is longer than the room, which then is full.
+/* Copies argument `number`, where 0 is the program's name, to the start of the room, without its final zero. Returns
+ * its length; -1 where there is no such argument; -2 where it is longer than the room, which then is full.
  */
 ptrdiff_t rattle_arg(size_t number, uint8_t *to, size_t room) {
   if (count < 0 || number >= (size_t)count || !words[number]) return -1;
@@ -38,7 +38,7 @@ int32_t rattle_errno(void) { return errno; }
 /* Sets the error number. */
 void rattle_set_errno(int32_t error) { errno = error; }
 
-/* The program takes the functions below from glibc, which has the first from 2.33 on. Here they are for other systems. */
+/* The program takes these functions from glibc, which has the first from 2.33 on. For other systems they are here. */
 
 #if defined(__GLIBC__)
 #define GLIBC_HAS(minor) (__GLIBC__ > 2 || __GLIBC_MINOR__ >= (minor))

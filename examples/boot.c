@@ -1,7 +1,6 @@
-/* A picture where there is no C library and no heap, as early at a start: x86-64, on Linux only for its two system
- * calls. The font stands in the program, memory is taken from an arena, and the picture goes to standard output as P4:
- *
- *   cc -O2 -ffreestanding -nostdlib -static -I../include -DFONT='"FONT.ttf"' boot.c libtt_render.a -lgcc -o boot
+/* Draws a picture without a C library and without a heap, as early in the start of a system. The font is part of
+ * the program, memory comes from an arena, and the picture goes to standard output as P4. The program is for x86-64, and
+ * for Linux because of its two system calls. README.md has the commands.
  *
  * The exit status is the library's; 4 where the picture cannot be written.
  */
@@ -23,12 +22,12 @@ __asm__(
 
 static uint8_t rows[1 << 16];
 
-/* The library's memory: blocks of an arena, one after the other. The last block can grow where it is, and its place is
- * used again when it is given back; after a call none is in use, and `used = 0` gives back all. */
+/* The library's memory: blocks of an arena, one after the other. The last block can grow in its place, and its place is
+ * free again after rattle_dealloc. After a call no block is in use, so `used = 0` frees all. */
 static _Alignas(16) uint8_t arena[1 << 20];
 static size_t used, last;
 
-/* Makes the last block this one. A block of size 0 has its own place too. */
+/* Puts the last block at a place. A block of size 0 has its own place too. */
 static struct tt_block put_block(size_t at, size_t size) {
   if (size >= sizeof arena - at) return (struct tt_block){0, arena};
   last = at;
@@ -53,7 +52,7 @@ void rattle_dealloc(void *block) {
   if (block == arena + last) used = last;
 }
 
-/* The three functions of memory that a compiler takes for granted. */
+/* The three memory functions that compiled code calls, here without a C library. */
 void *memcpy(void *to, const void *from, size_t count) {
   void *place = to;
   __asm__ volatile("rep movsb" : "+D"(place), "+S"(from), "+c"(count) : : "memory");

@@ -1,6 +1,7 @@
 #!/usr/bin/env python3
-"""Prints a line of text as # and ., a character a pixel: draw.py LIBRARY FONT SIZE TEXT, where LIBRARY is the path of
-libtt_render.so. Where it is refused the library's line goes to standard error, and its status is the exit status."""
+"""Prints a line of text as # and ., a character for each pixel: draw.py LIBRARY FONT SIZE TEXT. LIBRARY is the path of
+libtt_render.so, with a slash in it. If the text is refused, the library's message goes to standard error, and its
+status is the exit status."""
 import ctypes
 import sys
 
@@ -23,12 +24,12 @@ DONE, BEST, ROOM = 0, 3, 7
 
 
 def counted(data):
-    """The two words by which C is given bytes."""
+    """Bytes as two arguments for C: a pointer and a length."""
     return ctypes.c_char_p(data), ctypes.c_size_t(len(data))
 
 
 def draw(library, font, text, job):
-    """The rows of a text's picture, in a room as large as the first answer says, and what is told of it."""
+    """The rows of a text's picture, in a room of the size that the first answer gives; the picture; the answer."""
     rows, picture, answer = (ctypes.c_uint8 * 0)(), Picture(), Answer()
     for _ in range(2):
         room = rows, ctypes.c_size_t(len(rows)), ctypes.byref(picture), ctypes.byref(answer)

@@ -2,8 +2,8 @@
  *
  *   label FONT SIZE TEXT >label.pbm
  *
- * The exit status is the library's; 2 too for a fault of the command line, 3 where the font cannot be read, and 4 where
- * the picture cannot be written.
+ * README.md has the commands. The exit status is the library's. It is 2 also for a fault of the command line, 3 where
+ * the font cannot be read, and 4 where the picture cannot be written.
  */
 #include <stdio.h>
 #include <stdlib.h>
@@ -16,7 +16,7 @@ static int complain(int status, const char *why) {
   return status;
 }
 
-/* The bytes of a file, in memory that the caller frees; NULL where it cannot be read. */
+/* The bytes of a file, in memory that the caller frees; NULL where the file cannot be read. */
 static uint8_t *read_file(const char *name, size_t *size) {
   uint8_t *bytes = NULL;
   long end;
@@ -34,7 +34,7 @@ static uint8_t *read_file(const char *name, size_t *size) {
   return bytes;
 }
 
-/* Tells why a call has no answer, and returns its status. */
+/* Prints the message of a refused call, and returns its status. */
 static int refused(const struct tt_answer *answer) {
   uint8_t text[256] = "tt_render: refused";
   struct tt_answer told;
@@ -43,7 +43,7 @@ static int refused(const struct tt_answer *answer) {
   return (int)answer->status;
 }
 
-/* Draws the text, in a room that is as large as its measure says. */
+/* Draws the text, in a room of the size that its measure gives. */
 static int draw(const uint8_t *font, size_t font_bytes, const char *words, const struct tt_job *job) {
   const uint8_t *text = (const uint8_t *)words;
   size_t text_bytes = strlen(words), room;

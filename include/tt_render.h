@@ -140,8 +140,8 @@ uint32_t tt_open(const uint8_t *font, size_t font_bytes, struct tt_font *told, s
 
 /*
  * The glyph and the advance of each character of a text, in order. The room holds as many entries as the text has
- * characters, which are at most as many as its bytes. It takes no memory. Of the refusals of a job only 61, a text
- * that is too long, occurs. count: characters.
+ * characters, which are at most as many as its bytes. It takes no memory. Of the refusals of a job only 61, a text that
+ * is too long, occurs. count: characters.
  */
 uint32_t tt_map(const uint8_t *font, size_t font_bytes, const uint8_t *text, size_t text_bytes,
                 struct tt_glyph *glyphs, size_t room, struct tt_answer *answer);
@@ -195,7 +195,8 @@ uint32_t tt_draw_lines(const uint8_t *font, size_t font_bytes, const uint8_t *te
 
 /*
  * The message of an answer, for a person: the program's line where there is one, with a zero at its end. bytes counts
- * the zero, and is at most 90: so a room of 90 bytes is always enough. told is the answer of another call; answer is another struct, the answer of this call.
+ * the zero, and is at most 90: so a room of 90 bytes is always enough. told is the answer of another call; answer is
+ * another struct, the answer of this call.
  */
 uint32_t tt_message(const struct tt_answer *told, uint8_t *text, size_t room, struct tt_answer *answer);
 
