@@ -1,5 +1,5 @@
-/* Draws a picture without a C library and without a heap, as early in the start of a system. The font is part of
- * the program, memory comes from an arena, and the picture goes to standard output as P4. The program is for x86-64, and
+/* Draws a picture without a C library and without a heap, as early in the start of a system. The font is part of the
+ * program, memory comes from an arena, and the picture goes to standard output as P4. The program is for x86-64, and
  * for Linux because of its two system calls. README.md has the commands.
  *
  * The exit status is the library's; 4 where the picture cannot be written.
