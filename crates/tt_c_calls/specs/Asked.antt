@@ -34,7 +34,7 @@ asked j text =
 abbrev pub grows : CJob → Bool
 grows j = not (j.grow == 0)
 
--- a defect of a font that a job of such a text meets
+-- a defect of a font that the job of a text meets
 abbrev pub IsAskedDefect : CJob → List ℕ → List ℕ → Fault → Type 0
 IsAskedDefect j text font f = IsOkAnd (asked j text) (λ a. IsRunDefect a font f)
 

@@ -10,14 +10,14 @@ use tt_core::{Fault, JobFault};
 #[repr(C)]
 #[derive(Clone, Copy)]
 pub struct CAnswer {
-    /// 0 done, 1 the font is refused, 2 the job is, 3 the font is larger than 67,108,864 bytes, 5 memory was refused,
-    /// 6 the text is not UTF-8, 7 the caller's room is too small.
+    /// 0: done. 1: the font is refused. 2: the job is refused. 3: the font is larger than 67,108,864 bytes. 5: memory was
+    /// refused. 6: the text is not UTF-8. 7: the caller's room is too small.
     pub status: u32,
     /// The number of the refusal, with status 1 and 2.
     pub number: u32,
     /// The tag of the table that has the defect, with status 1.
     pub table: [u8; 4],
-    /// The defect's offset in it, in bytes.
+    /// The defect's offset in the table, in bytes.
     pub offset: u32,
     /// The number of bytes written, or, with status 7, of bytes needed.
     pub bytes: u64,

@@ -111,14 +111,15 @@ fn draw_by(
 /// Draws lines one after the other, each as `draw_band` draws its whole picture. The font is opened once and its
 /// programs run once; with the way to fit `best` they run once a line. Line i begins in `texts` where the line before
 /// it ends, and ends before `ends[i]`. `rows` gets the rows of all lines one after the other, and `lines[i]` describes
-/// line i. Between lines at most `keep` bytes of glyphs are cached.
+/// line i. Between lines at most `keep` bytes of glyphs are cached; with `best` none are.
 ///
-/// Answers: done, with the bytes and the number of all lines. The room for `lines` is too small, and nothing is drawn.
-/// The font is refused or too large, or the size, the margin or the way to fit is refused, and no line is drawn. A line
-/// stops the call if it is refused, is not UTF-8, ends before it begins or past the texts, needs more room than
-/// remains, or if memory was refused for it. The answer is then the line's, with the number of the lines before it and
-/// the bytes of their rows; where the room is too small, the bytes include the line's own. All bytes and entries after
-/// the drawn lines are unchanged.
+/// Answers, where all bytes and entries after the drawn lines are unchanged:
+/// - done, with the bytes and the number of all lines;
+/// - the room for `lines` is too small, and nothing is drawn;
+/// - the font is refused or too large, or the size, the margin or the way to fit is refused, and no line is drawn;
+/// - the answer of the line that stopped the call, with the number of the lines before it and the bytes of their rows.
+///   Where its room is too small, the bytes include its own. A line stops the call if it is refused, is not UTF-8, ends
+///   before it begins or past the texts, needs more room than remains, or if memory was refused for it.
 pub fn draw_lines(
     alloc: Global,
     font: &[u8],

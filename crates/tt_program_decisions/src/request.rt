@@ -73,8 +73,8 @@ pub trait Arguments<'a> {
         ensures { IsFlag self.now name.now result };
 }
 
-/// The request of a subcommand with these arguments. None where the subcommand is unknown, an argument is absent, a
-/// text accompanies standard input's lines, or the name of a way to fit or of a treatment of missing glyphs is unknown.
+/// The request of a subcommand with these arguments. None where the subcommand is unknown, an argument is absent, or a
+/// text accompanies standard input's lines. None also for an unknown way to fit or treatment of missing glyphs.
 pub fn request_of<'a, A: Arguments<'a>>(subcommand: &str, arguments: &A) -> Option<Request<'a>>
     ensures map { subcommand.now ≡ codes "map" → option_map asked_of result ≡ map_asked (A.text arguments.now (codes "FONT")) (A.text arguments.now (codes "TEXT")) }
     ensures draw { subcommand.now ≡ codes "draw" → AsksDrawing (A.text arguments.now) (A.IsNumber arguments.now) (A.IsFlag arguments.now) false (option_map asked_of result) }

@@ -73,7 +73,7 @@ impl Sweep {
         self.stamp = stamped(&self.spans);
     }
 
-    /// Blackens the pixels of the black columns, moved by `shift` columns to the right, in a row of `width` pixels, the
+    /// Blackens the pixels of the black columns, moved by `shift` columns to the right. The row has `width` pixels, the
     /// leftmost in the highest bit of the first byte. All other bits are unchanged.
     pub fn paint(&self, shift: i64, width: u32, row: &mut [u8])
         requires shift { unsigned_abs shift < 2 ^ 40 }

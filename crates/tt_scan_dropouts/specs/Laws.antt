@@ -49,7 +49,7 @@ DropoutsMoved = (rules : Rules) (contours : List (List Edge)) (k m c j : ℤ)
 abbrev pub is_through : Bool → ℤ → ℤ → Crossing → Bool
 is_through up j c q = int_eq q.line j && int_eq q.gap c && agree q.up up
 
--- an edge has such a crossing
+-- an edge has a crossing through gap c of line j, rising or falling
 abbrev pub goes_through : Bool → ℤ → ℤ → Edge → Bool
 goes_through up j c e = list_any (is_through up j c) (crossings e)
 

@@ -35,8 +35,8 @@ way y far (step.Cross c ∷ ss) = Some (record { next = c; far = far })
 abbrev pub is_tip : Crossing → Crossing → Bool
 is_tip c d = int_eq c.line d.line && int_eq c.gap d.gap && not (agree c.up d.up)
 
--- a tip is a stub where it ends within half a pixel of the line, or short of the next line and is less than half a pixel
--- wide
+-- a tip is a stub where it ends within half a pixel of the line. It is also a stub where it ends short of the next line
+-- and is less than half a pixel wide
 abbrev pub is_stub : Crossing → Option Leg → Bool
 is_stub c None = false
 is_stub c (Some l) = is_tip c l.next

@@ -24,7 +24,7 @@ pub record IsLeastBox (black : ℤ → ℤ → Bool) (b : GlyphInk) : Type 0 whe
   pub bottom : (c : ℤ) × (black c b.bottom ≡ true)
   pub top : (c : ℤ) × (black c b.top ≡ true)
 
--- None where nothing is black
+-- the box of a picture; None where nothing is black
 abbrev pub IsInk : (ℤ → ℤ → Bool) → Option GlyphInk → Type 0
 IsInk black None = (c j : ℤ) → black c j ≡ false
 IsInk black (Some b) = IsLeastBox black b

@@ -105,8 +105,8 @@ fn band_ink(
     Ok((tape.into_list(), ink))
 }
 
-/// The box of the pixels that edges blacken in some columns and rows, band after band from the lowest on, because a
-/// tape has no more rows than a picture. Error: memory ran out.
+/// The box of the pixels that edges blacken in some columns and rows. The rows are done band after band from the lowest
+/// on, because a tape has no more rows than a picture. Error: memory ran out.
 fn bands_ink(
     alloc: Global,
     list: EdgeList,

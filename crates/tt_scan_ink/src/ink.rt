@@ -3,8 +3,8 @@
 ghost use Rattle.std.specs.Prelude.{◌≡◌};
 ghost use Rattle.tt_scan_ink.specs.Ink.{joined, joined_boxes};
 
-/// The least box that holds the black pixels of a glyph: columns count rightwards from its pen, lines of pixels upwards
-/// from the base line, and all four are included.
+/// The least box that holds the black pixels of a glyph; all four sides are included. Columns count rightwards from its
+/// pen, lines of pixels upwards from the base line.
 #[derive(Clone, Copy, Debug, PartialEq, Eq)]
 pub struct GlyphInk {
     pub left: i64,
