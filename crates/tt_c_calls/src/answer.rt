@@ -10,8 +10,8 @@ use tt_core::{Fault, JobFault};
 #[repr(C)]
 #[derive(Clone, Copy)]
 pub struct CAnswer {
-    /// 0: done. 1: the font is refused. 2: the job is refused. 3: the font is larger than 67,108,864 bytes. 5: memory was
-    /// refused. 6: the text is not UTF-8. 7: the caller's room is too small.
+    /// 0: done. 1: the font is refused. 2: the job is refused. 3: the font is larger than 67,108,864 bytes. 5: memory
+    /// was refused. 6: the text is not UTF-8. 7: the caller's room is too small.
     pub status: u32,
     /// The number of the refusal, with status 1 and 2.
     pub number: u32,

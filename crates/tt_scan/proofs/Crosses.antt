@@ -67,7 +67,7 @@ apart_cross e m y r off none turn first = record {
   still = λ _. first;
 }
 
--- an edge from its lower end to its upper, at a height of its range; `column` is the last whose centre is not right of it
+-- an edge from its lower end to its upper, at a height of its range; `column` is the last with a centre not right of it
 
 on_edge : (e : Edge) (m : ℕ) (y c : ℤ) (here : Bool) → e.ay <ℤ e.by → e.ay ≤ℤ y → y ≤ℤ e.by → is_zero (side e (column_x m c) y) ≡ here → lies_on e (column_x m c) y ≡ here
 on_edge e m y c here rises low high is =

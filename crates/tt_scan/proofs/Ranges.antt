@@ -41,7 +41,7 @@ and_turned true false = refl
 and_turned false true = refl
 and_turned false false = refl
 
--- whole pixels, from their counts: `first` from the floor of low and all but one more pixel, `last` from the floor of high
+-- whole pixels, from their counts: `first` by the floor of low and all but one more pixel, `last` by the floor of high
 pixel_first : (low first k : ℤ) → (pos 8192 *ℤ first) ≤ℤ (low +ℤ pos 8191) → (low +ℤ pos 8191) <ℤ (pos 8192 *ℤ (first +ℤ pos 1))
     → int_le first k ≡ int_le low (pos 8192 *ℤ k)
 pixel_first low first k floor next =
