@@ -24,7 +24,7 @@
  * then a caller has to be compiled anew.
  *
  * A call reports the first refusal in this order: the way to fit, UTF-8, size, margin, the text's length; the font's
- * size, its tables; the picture's size; the font's programs and glyphs. The room comes last.
+ * size, its tables; the picture's size; the font's programs and glyphs, and the work (65). The room comes last.
  *
  * Cost: tt_open and tt_map read tables alone. tt_measure, tt_characters, tt_draw and tt_draw_band each fit all glyphs
  * of the text, which is most of the cost of a drawing. This is so even where the room is too small.
