@@ -41,7 +41,9 @@ find_compiler() {
   local target tool tried
   read -ra cc <<<"${CC:-cc}"
   read -ra flags <<<"${CFLAGS--O2}"
-  for tool in "${cc[0]}" gzip sha256sum; do
+  command -v "${cc[0]}" >/dev/null ||
+    stop "${cc[0]} is not on the PATH; a C compiler is needed, on Debian: apt-get install gcc libc6-dev"
+  for tool in gzip sha256sum; do
     command -v "$tool" >/dev/null || stop "$tool is not on the PATH"
   done
   target=$("${cc[@]}" -dumpmachine 2>/dev/null) || target=$(uname -m)-linux
