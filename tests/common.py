@@ -25,6 +25,20 @@ def render_program():
     return path
 
 
+def answers_program():
+    """Returns the path of tt_test_answers, which common.sh finds or makes, or None where TT_ANSWERS is `none`."""
+    if os.environ.get("TT_ANSWERS") == "none":
+        return None
+    said = subprocess.run(["bash", "-c", 'asks=answers; . tests/common.sh; echo "$program"'], cwd=ROOT, text=True,
+                          stdin=subprocess.DEVNULL, stdout=subprocess.PIPE, check=True).stdout
+    return said.strip()
+
+
+def skip(name, why):
+    """Says that a part was not tried, and why. tests/run prints such lines again at its end."""
+    print(f"skipped {name}: {why}")
+
+
 def run(words):
     """Runs a command without input, and returns its status, standard output and standard error."""
     ran = subprocess.run(words, stdin=subprocess.DEVNULL, capture_output=True)
@@ -44,12 +58,12 @@ def verdict(name, why):
 
 
 def difference(wanted, got):
-    """Returns the first lines of `diff` between two texts."""
+    """Returns the first lines of `diff` between two texts, as one text."""
     with tempfile.TemporaryDirectory() as room:
         for name, data in (("wanted", wanted), ("got", got)):
             pathlib.Path(room, name).write_bytes(data)
         said = subprocess.run(["diff", "-a", "wanted", "got"], cwd=room, capture_output=True).stdout
-    return [line[:160].decode(errors="replace") for line in said.split(b"\n")[:6] if line]
+    return "\n".join(line[:160].decode(errors="replace") for line in said.splitlines()[:6])
 
 
 def tried(name, got, wanted):
@@ -58,7 +72,7 @@ def tried(name, got, wanted):
     for part, one, other in zip(("stdout", "stderr"), got[1:], wanted[1:]):
         if one != other:
             why.append(f"{part} has {len(one)} bytes, and not the {len(other)} that are wanted:")
-            why += difference(other, one)
+            why.append(difference(other, one))
     verdict(name, why)
 
 

@@ -249,6 +249,12 @@ def field(word):
     return b"" if word == "-" else bytes.fromhex(digits) * int(times or 1)
 
 
+def test_font():
+    """Returns the test font, which map.txt names."""
+    lines = (ROWS / "map.txt").read_text(encoding="utf-8").split("\n")
+    return bytes.fromhex(next(it for it in lines if it.startswith("font ")).split(" ")[1])
+
+
 def rows():
     """Yields the rows of tests/rows."""
     for table, kind in KINDS.items():
