@@ -37,6 +37,11 @@ test_program() {
   fi
 }
 
+# skip NAME REASON..: says that a part was not tried, and why. tests/run prints such lines again at its end.
+skip() {
+  echo "skipped $1: ${*:2}"
+}
+
 # Leaves the one that prints what the libraries say, or that of TT_ANSWERS=PATH, as $program.
 answers_program() {
   test_program tt_test_answers "${TT_ANSWERS:-}" machine
@@ -63,7 +68,9 @@ render_program() {
   fi
 }
 
-# A script that asks a program for tests says `asks=answers`, `asks=fonts` or `asks=dropouts` before it sources this file.
+# A script that asks a program for tests alone says `asks=answers`, `asks=fonts` or `asks=dropouts` before it sources
+# this file. tests/run skips it where that program is not there. It gives the variable of such a program the name `none`:
+# a script that asks our program too then skips a part of its cases.
 case ${asks:-render} in
   answers) answers_program ;;
   fonts) fonts_program ;;

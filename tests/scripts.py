@@ -2,6 +2,7 @@
 import os
 import pathlib
 import re
+import shutil
 import subprocess
 import time
 from concurrent.futures import ThreadPoolExecutor, as_completed
@@ -14,8 +15,8 @@ FIRST = "real_fonts"
 
 # Scripts by their seconds on a quiet core: the longest begins first, so that none is left over at the end. A script
 # that is not in the list comes behind these.
-LONGEST_FIRST = """memory fuzz c characters lines measure damaged work dist rows fallback dropouts hinted devices machine
-  launcher pixels outlines prove command_line glyphs best wrong_bodies real_lines""".split()
+LONGEST_FIRST = """fuzz characters lines c work damaged measure dist memory devices dropouts rows fallback hinted
+  prove pixels launcher command_line machine outlines glyphs real_lines best wrong_bodies""".split()
 
 # The programs for tests, by the word of `asks=` in a script: the variable that names one, and its crate.
 FOR_TESTS = {
@@ -60,12 +61,12 @@ def program_for_tests(word):
 
 
 def lacks(name):
-    """Returns why a script cannot run here, or nothing. A script whose head says `asks=WORD` needs that program."""
+    """Returns why a script cannot run here, or nothing. A script with a line `asks=WORD` needs that program for tests."""
     asked = re.search(r"^asks=(\w+)$", path_of(name).read_text(encoding="utf-8"), re.M)
     if asked and not os.access(program_for_tests(asked[1])[0], os.X_OK):
         return f"there is no program {FOR_TESTS[asked[1]][1]}, which the gate makes"
-    if name == "c" and not os.environ.get("TT_LIBRARY"):
-        return "there is no C library"
+    if name == "dist" and not (shutil.which("git") and (ROOT / ".git").exists()):
+        return "git is not on the PATH, or this is no clone"
     return ""
 
 
