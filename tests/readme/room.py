@@ -1,0 +1,79 @@
+"""A folder that looks like the repository, in which commands of documents run without writing to the repository."""
+import os
+import shutil
+import subprocess
+import tempfile
+from pathlib import Path
+
+import markdown
+
+# These folders are copied, since commands of documents write there.
+COPIED = ("docs", "examples")
+
+
+class Ran:
+    """What came of a command."""
+
+    def __init__(self, command, ended):
+        self.command, self.status, self.stdout = command, ended.returncode, ended.stdout
+        # The launcher says once that it has made the program.
+        lines = ended.stderr.decode(errors="replace").splitlines()
+        self.said = [it for it in lines if not it.startswith("tt_render: made in ")]
+
+    def faults(self):
+        """Returns what is wrong with a command that has to succeed without a word on standard error."""
+        if not self.status and not self.said:
+            return []
+        return [f"{self.command}: status {self.status}", *self.said[-5:]]
+
+
+class Room:
+    """A temporary folder with links to the top of the repository, and a home."""
+
+    def __init__(self):
+        self.made = tempfile.TemporaryDirectory(prefix="tt_readme.")
+        self.path = Path(self.made.name)
+        self.home = self.path / "home"
+        self.home.mkdir()
+        for path in markdown.ROOT.iterdir():
+            if path.name in COPIED:
+                shutil.copytree(path, self.path / path.name)
+            elif path.name not in (".git", "out"):
+                (self.path / path.name).symlink_to(path)
+        if os.environ.get("TT_RENDER"):
+            (self.path / "tt_render").unlink()
+            (self.path / "tt_render").symlink_to(os.environ["TT_RENDER"])
+        (self.home / "apt.conf").write_text('DPkg::Lock::Timeout "120";\nAPT::Get::Upgrade "false";\n')
+
+    def run(self, command, folder="."):
+        """Runs a command in bash, which ends where a part of it fails."""
+        words = {"HOME": str(self.home), "MANPAGER": "cat", "MANWIDTH": "80", "APT_CONFIG": str(self.home / "apt.conf")}
+        ended = subprocess.run(
+            ["bash", "-euo", "pipefail", "-c", command],
+            cwd=self.path / folder,
+            env={**os.environ, "DEBIAN_FRONTEND": "noninteractive", **words},
+            stdin=subprocess.DEVNULL,
+            capture_output=True,
+            timeout=300,
+        )
+        return Ran(command, ended)
+
+    def read(self, name):
+        """Returns the bytes of a file that a command wrote; none where it wrote no such file."""
+        path = self.path / name
+        return path.read_bytes() if path.is_file() else b""
+
+
+def pictures(data):
+    """Returns the pictures of a PBM file (P4), each as rows of '#' and '.', or nothing where it is no such file."""
+    found = []
+    while data:
+        head = data.split(b"\n", 2)
+        if len(head) < 3 or head[0] != b"P4":
+            return []
+        width, height = map(int, head[1].split())
+        bytes_a_row = (width + 7) // 8
+        rows = [head[2][at * bytes_a_row:(at + 1) * bytes_a_row] for at in range(height)]
+        found.append(["".join(f"{it:08b}" for it in row)[:width].translate({48: ".", 49: "#"}) for row in rows])
+        data = head[2][height * bytes_a_row:]
+    return found
