@@ -16,7 +16,7 @@ FIRST = "real_fonts"
 # Scripts by their seconds on a quiet core: the longest begins first, so that none is left over at the end. A script
 # that is not in the list comes behind these.
 LONGEST_FIRST = """fuzz characters lines c work damaged measure dist memory devices dropouts rows fallback hinted
-  prove pixels launcher command_line machine outlines glyphs real_lines best wrong_bodies""".split()
+  readme prove pixels launcher command_line machine outlines glyphs real_lines best wrong_bodies""".split()
 
 # The programs for tests, by the word of `asks=` in a script: the variable that names one, and its crate.
 FOR_TESTS = {
