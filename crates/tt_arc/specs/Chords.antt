@@ -24,8 +24,8 @@ edge_end_of p = record { x = pos 128 *ℤ p.x; y = pos 128 *ℤ p.y }
 abbrev pub edge_between : EdgeEnd → EdgeEnd → Edge
 edge_between a b = record { ax = a.x; ay = a.y; bx = b.x; by = b.y }
 
--- the end of the quadratic of a point p off the curve, towards a neighbour n: n itself, or the point midway if n is off
--- the curve too
+-- the end of the quadratic of a point p off the curve, towards a neighbour n. The end is n, or the point midway if n is
+-- off the curve too
 abbrev pub curve_end_of : Point → Point → CurveEnd
 curve_end_of n p = if n.on then record { x = pos 2 *ℤ n.x; y = pos 2 *ℤ n.y } else record { x = n.x +ℤ p.x; y = n.y +ℤ p.y }
 
@@ -33,8 +33,9 @@ curve_end_of n p = if n.on then record { x = pos 2 *ℤ n.x; y = pos 2 *ℤ n.y 
 abbrev pub quadratic_of : Point → Point → Point → Quadratic
 quadratic_of before p after = record { from = curve_end_of before p; control = p; to = curve_end_of after p }
 
--- one coordinate of a quadratic at t = k / 8, in 1/8192 pixel: 64 times (1 - t)^2 from + 2 t (1 - t) 2 control + t^2
--- to; the control point is in 26.6, the ends in 1/128 pixel
+-- one coordinate of a quadratic at t = k / 8, in 1/8192 pixel:
+-- 64 times (1 - t)^2 from + 2 t (1 - t) 2 control + t^2 to.
+-- The control point is in 26.6, the ends in 1/128 pixel
 abbrev pub eighth : ℕ → Coordinates → ℤ
 eighth k b = (pos ((8 - k) * (8 - k)) *ℤ b.from +ℤ pos (4 * k * (8 - k)) *ℤ b.control) +ℤ pos (k * k) *ℤ b.to
 

@@ -29,8 +29,8 @@ BlackByPoints = (points : List (ℤ × ℤ × Bool)) (ends : List ℕ) (dx dy x 
     → (is_black (chord_edges points ends dx dy) x y ≡ true)
     ↔ (LiesOnOutline points ends dx dy x y ⊎ (winding (chord_edges points ends dx dy) x y ≢ pos 0))
 
--- the part of an edge in a place's winding, by the edges strictly right of the place: the turn at the place's height,
--- with its sign changed
+-- the part of an edge in a place's winding, if the edges strictly right of the place count. It is the turn at the
+-- place's height, with its sign changed
 abbrev pub turned_right : Edge → ℤ → ℤ → ℤ
 turned_right e x y =
     if int_le e.ay y && int_lt y e.by && int_lt (pos 0) (side e x y) then negsuc 0

@@ -2,8 +2,8 @@
 
 ghost use Rattle.tt_arc.specs.Laws.{OnByPoints, BlackByPoints, SidesAgree, OutlineMoved, ContoursJoined, ContoursAreClosed, ContoursMoved, ContoursRaised};
 
-/// Lemma: a place is on an outline exactly when it is on a single point's edge, and black exactly when it is there or
-/// the edges go round it.
+/// Lemma: a place is on an outline exactly if it is on an edge of a single point. A place is black exactly if it is
+/// there, or the edges go round it.
 pub fn outline_points()
     ensures on { OnByPoints }
     ensures black { BlackByPoints }

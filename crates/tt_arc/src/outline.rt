@@ -45,8 +45,8 @@ fn most_edges(points: &[(i32, i32, bool)]) -> usize
     most
 }
 
-/// The edges of an outline moved by `dx` and `dy`, in 26.6: the straight lines of its closed contours, and eight
-/// chords for each curve (profile). A contour of one point has none. Apple TrueType Reference Manual, "Digitizing
+/// The edges of an outline moved by `dx` and `dy` (in 26.6). They are the straight lines of its closed contours, and
+/// eight chords for each curve (profile). A contour of one point has none. Apple TrueType Reference Manual, "Digitizing
 /// Letterform Designs". Error: memory ran out.
 pub fn edges(alloc: Global, outline: &Outline, dx: i64, dy: i64) -> Result<EdgeList, AllocError>
     requires ends { AreEnds (length outline.now.points.items) outline.now.ends.items }

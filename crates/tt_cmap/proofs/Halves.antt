@@ -13,7 +13,7 @@ rises-once s rises i within =
     (omega (arith, within)) in
     grind (arith, nat_tests, not)
 
--- so do all later ranges
+-- if no end falls, each later range ends at the range's end or after it
 pub rises-by : (s : Subtable) → falling_range s ≡ None → (i d : ℕ) → i + d < range_count s → range_end s i
     ≤ range_end s (i + d)
 rises-by s rises i zero within = let same : i + 0 ≡ i = add-zero i in rw same (omega arith)
@@ -32,7 +32,7 @@ before-fails s rises c m within below j first =
     let up : range_end s j ≤ range_end s m = rw sum at up in
     grind (arith, nat_tests, up, below)
 
--- a larger bound of steps changes nothing
+-- all bounds of steps that are at least the count of numbers give the same count of tests
 same-asked : (passes : ℕ → Bool) (n m low left : ℕ) → left ≤ n → left ≤ m
     → asked_within n passes low left ≡ asked_within m passes low left
 unfolding asked_within
@@ -84,8 +84,8 @@ pub few-ends : (s : Subtable) (c : ℕ) → range_count s < 2 ^ most_ends s → 
 unfolding ends_read
 few-ends s c small = few-within (reaches s c) (range_count s) 0 (range_count s) (most_ends s) small
 
--- the state of a search with the ranges from low to high remaining: none before low reaches the character, the range at
--- high does, and the remaining reads are those of a binary search
+-- the state of a search in which the ranges from low to high remain. No range before low reaches the character; the
+-- range at high does, if there is one. The remaining reads are those of a binary search
 pub record IsLeft (s : Subtable) (c count low high reads all : ℕ) : Type 0 where
   pub ordered : low ≤ high
   pub within : high ≤ count
@@ -111,7 +111,7 @@ at-most-23 : (s : Subtable) → most_ends s ≤ 23
 at-most-23 (segments m) = omega arith
 at-most-23 (groups m) = omega arith
 
--- the count of reads has room for all ends of a search
+-- a search reads few ends, so the count of reads has room for one more
 pub has-room : (s : Subtable) (c count low high reads start : ℕ) → IsLeft s c count low high reads (start + ends_read s c)
     → ends_read s c ≤ most_ends s → start + 2 ^ 30 < 2 ^ 32 → reads + 1 < 2 ^ 32
 has-room s c count low high reads start left few room = omega (arith, left.to_read, few, at-most-23 s, room)

@@ -106,7 +106,7 @@ with-shaped format.Groups table at s was =
     let same = groups-same table at by_map.value by_map.first in
     record { same = is-groups by_map.value (record { table = table; at = at }) s by_map.rest same; shape = groups-whole table at by_map.value by_map.first }
 
--- no end falls in a subtable of good shape
+-- if a subtable passes the test for falling ends, no end falls
 none-falls : (s t : Subtable) (found : Option ℕ) → or_falling s found ≡ Ok t → found ≡ None
 none-falls s t None was = refl
 none-falls s t (Some i) was = absurd cc

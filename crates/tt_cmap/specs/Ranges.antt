@@ -99,7 +99,7 @@ found_reads s c (Some i) = range_reads s c i
 abbrev pub reads_in : Subtable → ℕ → ℕ
 reads_in s c = ends_read s c + found_reads s c (range_of s c)
 
--- a bound of a lookup's reads of ends; format 4 has fewer than 2^15 segments, and format 12, with 12 bytes a group,
+-- a bound of a lookup's reads of ends. Format 4 has fewer than 2^15 segments. Format 12, with 12 bytes a group, has
 -- fewer than 2^23 groups in a font
 abbrev pub most_ends : Subtable → ℕ
 most_ends (segments m) = 15

@@ -7,7 +7,7 @@ use Rattle.tt_core.specs.Numbers.{nearest_quotient}
 below_multiple : (a b m : ℕ) → a < b * m → a / b < m
 below_multiple a b m h = grind arith
 
--- the quotient of a whole number between -b m and b (m + 1) by b
+-- for a whole number that is at least -b m and below b (m + 1), the quotient by b is at most m in magnitude
 quotient_within : (a : ℤ) (b m : ℕ) → a <ℤ pos (b * (m + 1)) → neg_ℤ (pos (b * m)) ≤ℤ a
     → unsigned_abs (int_div_euclid a (pos b)) ≤ m
 quotient_within (pos a) b m high low =
@@ -24,7 +24,7 @@ nearest_within n (pos d) h =
     quotient_within (pos 2 *ℤ n +ℤ pos d) (2 * d) (unsigned_abs n) (omega (arith, ints)) (omega (arith, ints))
 nearest_within n (negsuc d) h = absurd (omega (arith, ints))
 
--- a quotient is at most `most` if the numerator is at most `most` denominators
+-- in magnitude, a quotient is at most `most` if the numerator is at most `most` times the denominator
 pub nearest_at_most : (n d : ℤ) (most : ℕ) → pos 0 <ℤ d → unsigned_abs n ≤ unsigned_abs d * most
     → unsigned_abs (nearest_quotient n d) ≤ most
 nearest_at_most n (pos d) most h within =

@@ -1,5 +1,5 @@
--- Not from the standard. A chain of steps: which steps succeeded, and where the chain failed. A call's result: how it
--- follows from the definition.
+-- Not from the standard. A chain of steps: which steps succeeded, and where the chain failed. Statements about the
+-- definition's result hold for a call's result too.
 use Rattle.std.specs.Prelude.{◌≡◌, ℕ, ◌<◌, ◌==◌, nat_lt, Bool, true, false, not, if◌then◌else◌, Result, Ok, Err, OnOk, ◌⊎◌, refl}
 use Rattle.std.proofs.Common.{inl, inr, arith}
 use Rattle.std.proofs.lemmas.Bool.Decides.{nat_tests}

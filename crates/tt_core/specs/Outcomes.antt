@@ -44,6 +44,7 @@ font_fault fault.Memory = None
 abbrev pub FontGives : {X Y : Type 0} → (X → Y) → Result X FontFault → Result Y Fault → Type 0
 FontGives view result wanted = GivesUnless font_fault view result wanted
 
--- a value that a call leaves behind is the definition's, unless the call stopped at a fault or memory ran out
+-- if a call succeeds, the value that it leaves behind is the definition's; an error carries the definition's fault, or
+-- no fault if memory ran out
 abbrev pub Leaves : {X A : Type 0} → Result X FontFault → A → Result A Fault → Type 0
 Leaves result new wanted = GivesUnless font_fault (λ x. new) result wanted

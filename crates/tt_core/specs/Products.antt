@@ -54,7 +54,7 @@ cancel_le d a b low h =
     (omega (arith, ints)) in
     by_lt_z b a (λ less. let above = step less in absurd (omega (arith, ints))) (λ h. h)
 
--- n is d times q plus a rest below d: a multiple of d by more than q is above n, a multiple by at most q is not
+-- n is d times q plus a rest below d. A multiple of d by more than q is above n; a multiple by at most q is not
 pub floor_above : (d q rest n c : ℤ) → pos 0 ≤ℤ rest → rest <ℤ d → d *ℤ q +ℤ rest ≡ n → q <ℤ c → n <ℤ (d *ℤ c)
 floor_above d q rest n c left high is more =
     let step : (d *ℤ (q +ℤ pos 1)) ≤ℤ (d *ℤ c) = mul_mono d (q +ℤ pos 1) c (omega (arith, ints))

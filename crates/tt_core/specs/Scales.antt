@@ -6,7 +6,7 @@ use Rattle.tt_core.specs.declared.halves.Halves.{Halves}
 use Rattle.tt_core.specs.declared.halves.Halves.TheVariants as halves
 use Rattle.tt_core.specs.declared.scaling.Scale.{Scale}
 
--- n / d for any d but 0, rounded to the nearest whole number, a half away from zero; the magnitudes are divided, and
+-- n / d for any d but 0, rounded to the nearest whole number, a half away from zero. The magnitudes are divided, and
 -- then the quotient gets its sign
 abbrev pub away_quotient : ℤ → ℤ → ℤ
 away_quotient n d =

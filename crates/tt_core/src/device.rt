@@ -37,7 +37,7 @@ pub trait Source {
 
 /// The destination of the lines or the picture.
 pub trait Sink {
-    // The bytes written to here, if they are known.
+    // The bytes written so far, if they are known.
     ghost written: { Self → Option (List ℕ) };
 
     ghost has_failed: { Self → Bool };

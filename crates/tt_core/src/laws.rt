@@ -10,8 +10,8 @@ pub fn tables_are_whole()
     ensures table { TablesAreWhole }
 {}
 
-/// Lemma: scaling to 26.6 preserves the order of distances, preserves differences up to a 64th of a pixel, and, with
-/// halves away from zero, is odd.
+/// Lemma: scaling to 26.6 preserves the order of distances, and differences up to a 64th of a pixel. With halves away
+/// from zero, scaling is odd.
 pub fn scales_keep_order()
     ensures order { ScalesKeepOrder }
     ensures odd { ScalesAreOdd }

@@ -210,7 +210,7 @@ pub record AreUpTo (g : GlyphBytes) (at : ℕ) (read : Listing Record) : Type 0 
   pub items : written_records g at (suc n) ≡ read.items
   pub next : record_place g.bytes at (suc n) ≡ read.next
 
--- a record within the limit
+-- a good record: within the limit and the bytes, of a glyph of the font, and without a scaled offset
 pub record IsGoodRecord (glyphs : ℕ) (g : GlyphBytes) (at n allowed : ℕ) : Type 0 where
   pub few : n < allowed
   pub known : written_component g.bytes at < glyphs

@@ -6,7 +6,7 @@ use Rattle.tt_glyf.specs.Bytes.{GlyphBytes, after}
 use Rattle.tt_glyf.specs.Flags.{Run, run_at, flags_from}
 use Rattle.tt_glyf.proofs.Chains.{chain-same, after-after}
 
--- a bound of runs above the number of points changes nothing
+-- all bounds of runs that are at least the number of points give the same flags
 pub enough : (a b : ℕ) (g : GlyphBytes) (at left : ℕ) → left ≤ a → left ≤ b
     → flags_from a g at left ≡ flags_from b g at left
 unfolding flags_from

@@ -34,7 +34,7 @@ IsProgramCut g n f =
     (has_program (written_records g 10 (suc n)) ≡ true)
     × IsCut g (record_place g.bytes 10 (suc n) + 2 + unsigned_at g.bytes (record_place g.bytes 10 (suc n)) 2) f
 
--- as many covered points mean as many runs
+-- equal counts of covered points mean equal counts of runs
 runs-same : (bytes : List ℕ) (at k n : ℕ) → length (written_flags bytes at k) ≡ length (written_flags bytes at n)
     → k ≡ n
 runs-same bytes at zero zero same = refl

@@ -83,8 +83,8 @@ GoesOn g at zero = Unit {0}
 GoesOn g at (suc n) =
     (has (written_component_flags g.bytes at) more_components ≡ true) × GoesOn g (record_end g.bytes at) n
 
--- a bad record: it passes the end of the bytes, its glyph does not exist in the font, or a transform would change its
--- offset
+-- a bad record: it passes the end of the bytes, its glyph does not exist in the font, or it requests a transform that
+-- would change its offset
 abbrev pub IsBadRecord : ℕ → GlyphBytes → ℕ → Fault → Type 0
 IsBadRecord glyphs g at fault =
     IsCut g (record_end g.bytes at) fault

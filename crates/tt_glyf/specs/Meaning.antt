@@ -1,5 +1,5 @@
--- The meaning of a glyph's data, in terms of its bytes: which words are the ends, which run covers a point, which
--- deltas add up to a coordinate, and which records are the components. OpenType, "The 'glyf' table".
+-- The meaning of a glyph's data, in terms of its bytes. The definitions say which words are the ends, which run covers
+-- a point, which deltas add up to a coordinate, and which records are the components. OpenType, "The 'glyf' table".
 use Rattle.std.specs.Prelude.{◌≡◌, ℕ, zero, ◌+◌, ◌-◌, ◌*◌, ◌^◌, ◌<◌, ◌≤◌, true, false, suc, if◌then◌else◌, ℤ, pos, unsigned_abs, ◌+ℤ◌, ◌≤ℤ◌, ◌<ℤ◌, List, [], ◌∷◌, ◌++◌, length, map, fold, take, replicate, slice_index, slice_range, get_or, All, ◌⊎◌}
 use Rattle.tt_core.specs.Limits.{component_limit}
 use Rattle.tt_core.specs.Numbers.{unsigned_at, signed16}
@@ -130,13 +130,13 @@ y_deltas bytes at runs = deltas bytes y_axis (written_flags bytes at runs) (y_pl
 abbrev pub points_end : List ℕ → ℕ → ℕ → ℕ
 points_end bytes at runs = deltas_end bytes y_axis (written_flags bytes at runs) (y_place bytes at runs)
 
--- each value is the first value plus all deltas up to that index
+-- each value is `from` plus all deltas up to the value's index
 pub record AreSums (from : ℤ) (values by : List ℤ) : Type 0 where
   pub many : length values ≡ length by
   pub sums : (i : ℕ) → i < length values → get_or values i (pos 0) ≡ fold ◌+ℤ◌ from (take (i + 1) by)
 
--- the points whose flags begin at an offset. A point's flag is that of its run, and its coordinates are sums of deltas;
--- no run and no delta passes the end of the bytes
+-- the points whose flags begin at an offset. A point's flag is that of its run, and its coordinates are the sums of all
+-- deltas up to the point. No run and no delta passes the end of the bytes
 pub record ArePoints (bytes : List ℕ) (at : ℕ) (points : List RawPoint) : Type 0 where
   pub runs : ℕ
   pub on : map (λ p. p.on) points ≡ map (λ flag. has flag on_curve_point) (written_flags bytes at runs)
@@ -214,7 +214,7 @@ AreComponents g at (r ∷ s ∷ rs) =
     (r ≡ written_record g at) × (record_end g.bytes at ≤ length g.bytes) × (has r.flags more_components ≡ true)
     × AreComponents g (record_end g.bytes at) (s ∷ rs)
 
--- an offset is a signed number of 16 bits; the number of a point is an unsigned one
+-- an offset is at most 2^15 in magnitude; the number of a point is an unsigned number of 16 bits
 abbrev pub IsArgument : ℕ → ℤ → Type 0
 IsArgument flags a =
     (has flags args_are_xy_values ≡ true → unsigned_abs a ≤ 2 ^ 15)
@@ -234,8 +234,8 @@ abbrev pub records_end : List ℕ → ℕ → List Record → ℕ
 records_end bytes at [] = at
 records_end bytes at (r ∷ rs) = records_end bytes (record_end bytes at) rs
 
--- the fields of a composite glyph are the words of its bytes; if a record announces a program, its size follows the
--- records, and then the program
+-- the fields of a composite glyph are the words of its bytes. If a record announces a program, the program's size and
+-- then the program follow the records
 pub record AreCompositeWords (g : GlyphBytes) (c : CompositeGlyph) : Type 0 where
   pub contours : contour_count g.bytes <ℤ pos 0
   pub x_min : c.x_min ≡ written_x_min g.bytes

@@ -36,7 +36,8 @@ ends_of g contours = ends_from g header_size contours 0
 abbrev pub point_count : List ℕ → ℕ
 point_count ends = slice_index ends (length ends - 1) + 1
 
--- a number of points above the limit is refused, at the last contour's end, which precedes this offset (profile)
+-- a number of points above the limit is refused, at the word of the last contour's end, the last word of the list
+-- (profile)
 unfoldable pub points_within : GlyphBytes → Listing ℕ → Result ℕ Fault
 points_within g ends =
     if nat_lt point_limit (point_count ends.items) then Err (glyph_fault g (ends.next - word_size) why.PointLimit)

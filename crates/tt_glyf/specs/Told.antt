@@ -15,7 +15,7 @@ use Rattle.tt_glyf.specs.Raw.{Raw, empty, simple, composite}
 abbrev pub told_contours : List ℕ → ℤ
 told_contours bytes = if nat_lt (length bytes) header_size then pos 0 else contour_count bytes
 
--- the contours, plus the points by the last of endPtsOfContours, which must exist
+-- the contours, plus the points by the last of endPtsOfContours; 0 if that number is cut
 abbrev pub told_outline : List ℕ → ℕ → ℕ
 told_outline bytes contours =
     if nat_le (size_place contours) (length bytes) then contours + written_points bytes contours else 0

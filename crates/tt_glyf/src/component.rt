@@ -203,7 +203,7 @@ fn asks_scaled_offset(part: Record) -> bool
     scales_offsets(part.flags) && !is_identity(part) && !has_arguments_zero(part)
 }
 
-/// The record, unless a transform would change its offset. Error: ScaledOffset (profile).
+/// The record, unless it requests a transform that would change its offset. Error: ScaledOffset (profile).
 #[tactic(auto, unfolding(crate::specs::Composite::unscaled))]
 fn unscaled(glyph: &GlyphBytes, at: usize, part: Record) -> Result<Record, Fault>
     requires { at ≤ length glyph.now.bytes }

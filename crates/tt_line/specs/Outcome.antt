@@ -1,5 +1,5 @@
--- Not from the standard: the definitions' view of a line, and the job's fault that an error carries. Lack of memory
--- carries none.
+-- Not from the standard: the definitions' view of a line, and the job's fault that an error carries. An error for lack
+-- of memory carries none.
 use Rattle.std.specs.Prelude.{Option, Some, None}
 use Rattle.tt_core.specs.declared.fault.JobFault.{JobFault}
 use Rattle.tt_line.specs.declared.fault.LineFault.{LineFault}

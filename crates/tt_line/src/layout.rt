@@ -31,8 +31,11 @@ pub struct Line {
 /// Lays out a text at `ppem` pixels per em, with margins of `margin` pixels. Each advance is rounded to the nearest
 /// pixel; ascent and descent are rounded up. A refused line takes no memory.
 ///
-/// The first of these errors is returned: Job (EmptyPicture) if the width or the height is below 1; Job
-/// (PictureLarge) if the width is above 16,384 or the height above 4,096; Memory if an allocation fails.
+/// The first of these errors is returned:
+///
+/// - Job (EmptyPicture) if the width or the height is below 1;
+/// - Job (PictureLarge) if the width is above 16,384 or the height above 4,096;
+/// - Memory if an allocation fails.
 #[tactic(auto, unfolding(crate::specs::Layout::placement))]
 pub fn lay(
     alloc: Global,

@@ -18,7 +18,7 @@ use Rattle.tt_metrics.specs.Maxp.{maxp_tag, is_maxp_version, versioned_maxp, max
 use Rattle.tt_metrics.specs.Metrics.{metrics_of}
 use Rattle.tt_metrics.specs.Tables.{or_short, IsShort}
 
--- a table that is long enough is read unchanged
+-- a table that is read is long enough, and the read table is the table itself
 long-enough : (tag : List ℕ) (least : ℕ) (table read : List ℕ) → or_short tag least table ≡ Ok read
     → (nat_lt (length table) least ≡ false) × (read ≡ table)
 long-enough tag least table read was =

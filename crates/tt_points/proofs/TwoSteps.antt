@@ -64,7 +64,7 @@ put_twice : (b : Zone) (p : ℤ) (z : ZoneLists) (a q : Point)
 put_twice zone.Twilight p z a q = ap (λ ps. record z { twilight = ps }) (set-set z.twilight (unsigned_abs p) a q)
 put_twice zone.Glyph p z a q = ap (λ ps. record z { glyph = ps }) (set-set z.glyph (unsigned_abs p) a q)
 
--- zones beside a graphics state, all of them or with one point replaced
+-- zones beside a graphics state: given whole, or by the one point that is replaced
 abbrev before : GraphicsState → Result ZoneLists Why → Result (ZoneLists × GraphicsState) Why
 before g given = given >>= λ z. Ok (z, g)
 

@@ -18,7 +18,7 @@ signed d m = if int_lt d (pos 0) then neg_ℤ m else m
 abbrev pub apart : ℤ → ℤ → ℤ
 apart a b = magnitude (a -ℤ b)
 
--- the single width, with the distance's sign, for a distance within the single width cut-in
+-- the single width with the sign of d, if their magnitudes differ by less than the single-width cut-in; otherwise d
 unfoldable pub single_width : GraphicsState → ℤ → ℤ
 single_width g d =
     if int_lt (apart (magnitude d) (magnitude g.single_width)) g.single_cut_in then signed d (magnitude g.single_width)
@@ -28,7 +28,7 @@ single_width g d =
 abbrev pub at_least_minimum : GraphicsState → ℤ → ℤ → ℤ
 at_least_minimum g d e = if int_lt d (pos 0) then int_min e (neg_ℤ g.min_distance) else int_max e g.min_distance
 
--- a distance rounded, and one that is at least the minimum, if the options say so
+-- a distance, rounded if the options say so, and a distance, at least the minimum if the options say so
 abbrev pub rounded_by : Keeping → GraphicsState → ℤ → ℤ
 rounded_by k g e = if k.round then rounded g.round e else e
 
@@ -39,7 +39,7 @@ spaced_by k g d e = if k.minimum_distance then at_least_minimum g d e else e
 abbrev pub is_opposite : ℤ → ℤ → Bool
 is_opposite d c = (int_lt d (pos 0) && int_lt (pos 0) c) || (int_lt (pos 0) d && int_lt c (pos 0))
 
--- auto flip: a control value with the sign of the measured distance
+-- with auto flip, a control value gets the sign of the measured distance, if their signs are opposite
 abbrev pub flipped : GraphicsState → ℤ → ℤ → ℤ
 flipped g d c = if g.auto_flip && is_opposite d c then neg_ℤ c else c
 

@@ -31,8 +31,8 @@ coordinate position.Original m q = org m q
 unfoldable pub gc : Position → ℤ → ZoneLists → GraphicsState → Result ℤ Why
 gc of p z g = point_in g.zp2 p z >>= λ q. Ok (coordinate of (vectors_of g) q)
 
--- the distance between two points: current, along the projection vector; or original, along the dual one, by the scale
--- of the original places, if there is one
+-- the distance between two points. The current one is along the projection vector. The original one is along the dual
+-- vector, by the scale of the original places, if there is one
 abbrev pub distance : Position → Option Scale → Motion → Point → Point → ℤ
 distance position.Current s m a b = current_distance m a b
 distance position.Original s m a b = distance_by s m a b

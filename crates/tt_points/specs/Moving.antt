@@ -91,7 +91,8 @@ minus_ten_to_a_pixel : mdrp (keeping false true true) (pos 1) (zero_and (negsuc 
 unfolding mdrp mdrp_distance kept single_width direction project
 minus_ten_to_a_pixel = refl
 
--- two points 127 font units apart before the program, which are 95 at 12 of 1024; the first one is a twilight point too
+-- two points 127 font units apart before the program, which are 95 at 12 of 1024; the twilight zone has a copy of the
+-- first one
 abbrev first_in_units : Point
 first_in_units = record (at_x (pos 2)) { units_x = pos 3 }
 

@@ -28,7 +28,7 @@ abbrev pub further : Along → Motion → ℤ → Point → Result Point Why
 further along.Projection m d p = shifted m d p
 further along.Freedom m d p = shifted_along m.free d p
 
--- a point at a distance from another's original place, which is its own original place too
+-- a point placed at a distance from another's original place; the new place becomes its original place too
 unfoldable pub placed : Along → Motion → ℤ → Point → Point → Result Point Why
 placed by m d r p = further by m d (record p { x = r.org_x; y = r.org_y }) >>= λ q. Ok (settled q)
 

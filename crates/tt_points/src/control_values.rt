@@ -212,7 +212,7 @@ fn single_width_of(state: &GraphicsState, c: i32) -> Distance
     Distance(single_width(state, i64::from(c)))
 }
 
-/// MIRP[abcde], 0xE0 to 0xFF: p, n -> moves point p of zone pointer 1 to a distance from reference point 0, in zone
+/// MIRP[abcde], 0xE0 to 0xFF: p, n -> moves point p of zone pointer 1 to a distance from reference point 0, of zone
 /// pointer 0. The distance is `c`, the control value with number n, changed as `keeping` says. A twilight point is
 /// placed there first (profile). With rounding, and within one zone, the original distance replaces a control value
 /// that differs by more than the cut-in. Reference point 1 becomes reference point 0, and reference point 2 becomes p.

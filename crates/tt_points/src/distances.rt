@@ -52,7 +52,8 @@ fn apart(a: i64, b: i64) -> i64
     magnitude(a - b)
 }
 
-/// The single width with the sign of `d`, where `d` is within the single width cut-in of it; otherwise `d`.
+/// The single width with the sign of `d`, if their magnitudes differ by less than the single-width cut-in; otherwise
+/// `d`.
 #[tactic(auto, unfolding(crate::specs::Distances::single_width))]
 pub(crate) fn single_width(state: &GraphicsState, d: i64) -> i64
     requires { unsigned_abs d < 2 ^ 32 }
@@ -110,7 +111,7 @@ fn is_opposite(d: i64, c: i64) -> bool
     (d < 0 && c > 0) || (d > 0 && c < 0)
 }
 
-/// Auto flip: the control value `c` with the sign of the measured distance `d`.
+/// The control value `c`. With auto flip it gets the sign of the measured distance `d`, if their signs are opposite.
 pub(crate) fn flipped(state: &GraphicsState, d: i64, c: i64) -> i64
     requires { unsigned_abs c < 2 ^ 32 }
     ensures exact { result ≡ is.flipped state.now d c }

@@ -51,9 +51,9 @@ fn original_line(turned: bool, a: Point, b: Point) -> Vector
     Vector::line((a.org_x, a.org_y), (b.org_x, b.org_y), turned)
 }
 
-/// SPVTL[a], 0x06 and 0x07: p2, p1 -> sets the projection and the dual projection vector along a line: from point p1 of
-/// zone pointer 2 to point p2 of zone pointer 1. With `turned`, they are turned a quarter to the left. Error:
-/// PointRange.
+/// SPVTL[a], 0x06 and 0x07: p2, p1 -> sets the projection and the dual projection vector along a line. The line goes
+/// from point p1 of zone pointer 2 to point p2 of zone pointer 1. With `turned`, both vectors are turned a quarter to
+/// the left. Error: PointRange.
 #[tactic(auto, unfolding(crate::specs::Lines::spvtl))]
 pub fn spvtl(
     zones: &Zones,

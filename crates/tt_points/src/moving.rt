@@ -113,7 +113,7 @@ fn placed_and_kept(
     kept(q, m, d, seen(state, state.rp0, r, p, q))
 }
 
-/// MSIRP[a], 0x3A and 0x3B: p, d -> moves point p of zone pointer 1 to the distance d from reference point 0, in zone
+/// MSIRP[a], 0x3A and 0x3B: p, d -> moves point p of zone pointer 1 to the distance d from reference point 0, of zone
 /// pointer 0. A twilight point is placed there first (profile). Reference point 1 becomes reference point 0, and
 /// reference point 2 becomes p. With `set_rp0`, reference point 0 becomes p too. Errors: PointRange, Perpendicular,
 /// ValueRange.
@@ -160,7 +160,7 @@ fn mdrp_distance(keeping: Keeping, state: &GraphicsState, d: Distance) -> Distan
     Distance(mdrp_kept(keeping, state, single_width(state, d.0)))
 }
 
-/// MDRP[abcde], 0xC0 to 0xDF: p -> moves point p of zone pointer 1 to its original distance from reference point 0, in
+/// MDRP[abcde], 0xC0 to 0xDF: p -> moves point p of zone pointer 1 to its original distance from reference point 0, of
 /// zone pointer 0. `keeping` says how the distance changes first. Reference point 1 becomes reference point 0, and
 /// reference point 2 becomes p. Errors: PointRange, Perpendicular, ValueRange.
 #[tactic(auto, unfolding(crate::specs::Moving::mdrp))]

@@ -71,8 +71,8 @@ fn further(p: Point, m: &Motion, along: Along, d: Distance) -> Result<Point, Why
     }
 }
 
-/// The point `p` at the distance `d` from the original place of `r`. That is also its original place. Error:
-/// ValueRange.
+/// The point `p`, placed at the distance `d` from the original place of `r`. The new place becomes its original place
+/// too. Error: ValueRange.
 #[tactic(auto, unfolding(crate::specs::Twilight::placed))]
 pub(crate) fn placed(
     p: Point,

@@ -32,7 +32,7 @@ pub rest_more : (now old : List Point) (i : ℕ) (q : Point) → drop i now ≡ 
     → drop (i + 1) (set now i q) ≡ drop (i + 1) old
 rest_more now old i q rest = drop-set-lt (i + 1) now i q (omega arith) ∙ drop_more_same now old i rest
 
--- a count of points from a place on is interpolated, and the others are unchanged
+-- k points from a place on are interpolated, and the others are unchanged
 pub record Filled (f : Point → Point) (now old : List Point) (start k : ℕ) : Type 0 where
   pub front : take start now ≡ take start old
   pub so_far : take k (drop start now) ≡ map f (take k (drop start old))

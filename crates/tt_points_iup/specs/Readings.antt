@@ -7,12 +7,12 @@ use Rattle.tt_state.specs.declared.point.Point.{Point}
 use Rattle.tt_points_zones.specs.Points.{is_touched}
 use Rattle.tt_points_iup.specs.Interpolation.{first_touched}
 
--- reads up to the first touched point, or of all
+-- reads up to the first touched point, or of all points if none is touched
 abbrev pub up_to_first : Axis → List Point → ℕ
 up_to_first axis [] = 0
 up_to_first axis (p ∷ ps) = if is_touched axis p then 1 else 1 + up_to_first axis ps
 
--- reads after the first touched point, in a contour of n points
+-- reads after the search for the first touched point, in a contour of n points
 abbrev pub behind_first : Option Point → ℕ → ℕ
 behind_first None n = 0
 behind_first (Some p) n = 2 * n

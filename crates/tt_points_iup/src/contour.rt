@@ -54,8 +54,8 @@ fn fill(
     Ok(())
 }
 
-/// Goes from point `start` past the next touched point, or to the end. `before` is the touched point before `start`,
-/// `first` the first touched point of the contour. Error: ValueRange.
+/// Interpolates the points from `start` on, up to the next touched point or the end. The run includes that touched
+/// point. `before` is the touched point before `start`, `first` the first one of the contour. Error: ValueRange.
 fn next_run(
     contour: &mut Contour<'_>,
     start: usize,
@@ -89,7 +89,7 @@ fn next_run(
     Ok(Run { len: len + 1, last })
 }
 
-/// Goes from the first point of a contour to its end. `last` and `first` are its last and its first touched point.
+/// Interpolates a contour from its first point to its end. `last` and `first` are its last and first touched point.
 /// Error: ValueRange.
 fn sweep(contour: &mut Contour<'_>, last: PlainPoint, first: PlainPoint) -> Result<(), Why>
     requires points { All IsPoint contour.old.points.now }

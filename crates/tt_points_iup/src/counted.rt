@@ -138,7 +138,7 @@ impl<'a> Contour<'a> {
     }
 }
 
-/// Interpolates the points of one contour. Gives the count of touches read. Error: ValueRange.
+/// Interpolates the points of one contour. Returns the count of touches read. Error: ValueRange.
 fn one_contour(points: &mut [Point], along: Along) -> Result<u64, Why>
     requires points { All IsPoint points.old }
     requires room { 3 * length points.old < 2 ^ 64 }
@@ -152,7 +152,7 @@ fn one_contour(points: &mut [Point], along: Along) -> Result<u64, Why>
     Ok(contour.reads)
 }
 
-/// Interpolates the points of each contour by itself. Gives the count of touches read. Error: ValueRange.
+/// Interpolates the points of each contour by itself. Returns the count of touches read. Error: ValueRange.
 pub(crate) fn each_contour(
     points: &mut [Point],
     contours: &[(u32, u32)],

@@ -12,7 +12,7 @@ use tt_core::Why;
 use tt_points_zones::Zones;
 use tt_state::Axis;
 
-/// Does IUP as `iup` does. Gives the count of touches read, at most three for each point. Error: ValueRange.
+/// Does IUP as `iup` does. Returns the count of touches read, at most three for each point. Error: ValueRange.
 pub fn interpolate(zones: &mut Zones, axis: Axis) -> Result<u64, Why>
     requires { IsZones (zones_view zones.old) }
     ensures exact { Gives (λ n. zones_view zones.new) result (is.iup axis (zones_view zones.old)) }

@@ -39,12 +39,12 @@ cross a b = a.x *ℤ b.y -ℤ a.y *ℤ b.x
 unfoldable pub dot : Place → Place → ℤ
 dot a b = a.x *ℤ b.x +ℤ a.y *ℤ b.y
 
--- the tangent of the angle is at most 1 / 19, about 3 degrees, or one of the ways has length 0 (profile: the manual
--- says parallel)
+-- whether the tangent of the angle is at most 1 / 19, so that the angle is at most about 3 degrees, or one of the ways
+-- has length 0. This is profile: the manual says parallel
 unfoldable pub are_parallel : Place → Place → Bool
 are_parallel a b = nat_le (19 * unsigned_abs (cross a b)) (unsigned_abs (dot a b))
 
--- the place at the fraction n / d of a way
+-- the place at the fraction n / d of a way from `from`
 abbrev pub gone : Place → Place → ℤ → ℤ → Place
 gone from way n d = record
     { x = from.x +ℤ rounded_quotient (n *ℤ way.x) d; y = from.y +ℤ rounded_quotient (n *ℤ way.y) d }

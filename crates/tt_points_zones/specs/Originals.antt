@@ -19,7 +19,7 @@ abbrev pub is_glyph : Zone → Bool
 is_glyph zone.Twilight = false
 is_glyph zone.Glyph = true
 
--- the scale of the distance between two original places: the one in font units, where both zones are the glyph zone
+-- the scale of the distance between two original places: that of the glyph zone, if both zones are the glyph zone
 abbrev pub scale_between : Zone → Zone → ZoneLists → Option Scale
 scale_between zone.Glyph zone.Glyph z = z.originals.units
 scale_between zone.Glyph zone.Twilight z = None
@@ -43,7 +43,7 @@ pub record StoodAtUnits (s : Scale) (p : Point) : Type 0 where
   pub x : p.org_x ≡ scaled_by s p.units_x
   pub y : p.org_y ≡ scaled_by s p.units_y
 
--- with halves away from zero, a distance changes only its sign with its direction
+-- with halves away from zero, the distance of the way back is the distance of the way there with its sign changed
 abbrev pub DistancesTurnRound : Type 0
 DistancesTurnRound = (s : Scale) (m : Motion) (p q : Point) → IsScale s → s.halves ≡ halves.AwayFromZero
     → DualOnAxis m → distance_by (Some s) m q p ≡ neg_ℤ (distance_by (Some s) m p q)

@@ -21,8 +21,8 @@ is_of_profile why.OffProfile = true
 is_of_profile why.Perpendicular = true
 is_of_profile _ = false
 
--- two results, without the whole instruction set and with it: the second is the first after a change, or the same
--- refusal, unless that is one of the profile
+-- two results, without the whole instruction set and with it. The second is the first after a change, or the same
+-- refusal; after a refusal of the profile, it is any
 abbrev pub Stays : {A : Type 0} → (A → A) → Result A Why → Result A Why → Type 0
 Stays all (Ok a) with = with ≡ Ok (all a)
 Stays all (Err e) with = is_of_profile e ≡ false → with ≡ Err e

@@ -47,14 +47,14 @@ pub record IsZones (z : ZoneLists) : Type 0 where
   pub contours : AreContours 0 z.contours (length z.glyph)
   pub scale : IfSome z.originals.units IsScale
 
--- zones with the same counts of points and the same contours
+-- zones with the same counts of points, the same contours, and the same unit of original places
 pub record SameShape (old new : ZoneLists) : Type 0 where
   pub twilight : length new.twilight ≡ length old.twilight
   pub glyph : length new.glyph ≡ length old.glyph
   pub contours : new.contours ≡ old.contours
   pub originals : new.originals ≡ old.originals
 
--- a result with zones, alone or beside something else, of the same shape
+-- a result whose zones have the shape of the given ones; the zones are alone, or beside something else
 abbrev pub KeepsShape : {E : Type 0} → ZoneLists → Result ZoneLists E → Type 0
 KeepsShape z given = IfOk given (SameShape z)
 

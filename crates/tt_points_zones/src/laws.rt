@@ -7,8 +7,8 @@ ghost use Rattle.tt_state.specs.declared.graphics_state.Axis.{Axis};
 ghost use Rattle.tt_state.specs.declared.graphics_state.GraphicsState.{GraphicsState};
 ghost use Rattle.tt_state.specs.declared.point.Point.{Point};
 
-/// Lemma: where all three vectors are along one axis, points are measured and moved by their coordinates on it; without
-/// the whole instruction set, points move along one axis or are refused as Perpendicular.
+/// Lemma: where all three vectors are along one axis, points are measured and moved by their coordinates on it. Without
+/// the whole instruction set, vectors along one axis move points on it, and vectors along two axes are Perpendicular.
 pub fn on_axes()
     ensures points { (a : Axis) (p q : Point) (d : ℤ) (touched : Bool) → OnAxis a p q d touched }
     ensures direction { (g : GraphicsState) (projection freedom : Axis) → AlongBoth g projection freedom }
@@ -16,9 +16,9 @@ pub fn on_axes()
     tt_state::laws::on_axes();
 }
 
-/// Lemma: along an axis, with halves away from zero, a distance measured in font units changes only its sign with its
-/// direction; for points whose original places are their scaled font units, it differs by at most a 64th of a pixel
-/// from the distance in 26.6.
+/// Lemma: with halves away from zero, the way back has the distance of the way there with its sign changed. For points
+/// at their scaled font units, with any halves, the distance is at most a 64th of a pixel off that in 26.6. Both hold
+/// along an axis, for distances that are measured in font units and scaled.
 pub fn originals_turn_round()
     ensures turned { DistancesTurnRound }
     ensures near { DistancesAreNear }

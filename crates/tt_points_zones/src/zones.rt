@@ -13,7 +13,7 @@ use std::alloc::AllocError;
 use tt_core::{Halves, Scale, Why};
 use tt_state::{Point, Zone};
 
-/// The measure of the glyph points' original places.
+/// The unit of the glyph points' original places, and the rounding of halves.
 #[derive(Clone, Copy, Debug, PartialEq, Eq)]
 pub struct Originals {
     /// The scale, for a glyph zone in font units. None for one in 26.6.
@@ -86,8 +86,8 @@ impl Zones {
         self.point(zone, n).is_ok()
     }
 
-    /// The scale of the distance between two original places: the one in font units, where both zones are the glyph
-    /// zone. None in 26.6.
+    /// The scale of the distance between two original places: that of the font units, if both zones are the glyph zone
+    /// and the glyph zone is in font units. Otherwise None: the distance is measured in 26.6.
     pub fn scale_between(&self, from: Zone, to: Zone) -> Option<Scale>
         requires { IsZones (zones_view self.now) }
         ensures exact { result ≡ scale_between from to (zones_view self.now) }

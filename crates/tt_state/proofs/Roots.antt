@@ -33,7 +33,7 @@ pub one_root : (a b n : ℕ) → a * a ≤ n → n < (a + 1) * (a + 1) → IsRoo
 one_root a b n low high is =
     omega (arith, at_most a b n is.low high, at_most b a n low is.high)
 
--- if a is at most the quotient n / l, then a l is at most n; if a is above the quotient, then a l is above n
+-- if a is at most the quotient n / l, then a l is at most n. If a is above the quotient, then a l is above n
 pub quotient_low : (n l a : ℕ) → 0 < l → a ≤ n / l → a * l ≤ n
 quotient_low n l a some h = grind arith
 

@@ -12,15 +12,16 @@ pub record Pair : Type 0 where
 abbrev pub pair : ℤ → ℤ → Pair
 pair x y = record { x = x; y = y }
 
--- the ranges of a unit vector: neither a part nor the length is above 1, and the greater part is at least half the root
--- of 2
+-- the ranges of a unit vector. Neither a part nor the length is above 1. The magnitude of the greater part is at least
+-- half the root of 2
 pub record IsUnit (x y : ℤ) : Type 0 where
   pub across : unsigned_abs x ≤ 16384
   pub upward : unsigned_abs y ≤ 16384
   pub short : unsigned_abs x * unsigned_abs x + unsigned_abs y * unsigned_abs y ≤ 2 ^ 28
   pub long : 11585 ≤ max (unsigned_abs x) (unsigned_abs y)
 
--- the greatest whole number whose square is at most n, for an n below 4 ^ k: that of n / 4, and one more binary digit
+-- the greatest whole number whose square is at most n, for an n below 4 ^ k. It is that of n / 4 with one more binary
+-- digit
 unfoldable pub root : ℕ → ℕ → ℕ
 root zero n = 0
 root (suc k) n = let r = 2 * root k (n / 4) in if nat_le ((r + 1) * (r + 1)) n then r + 1 else r

@@ -20,7 +20,7 @@ pub enum Zone {
     Glyph,
 }
 
-/// A program's request for dropouts: places where a glyph's outline passes between the centers of pixels.
+/// A program's request to fill dropouts: places where a glyph's outline passes between the centers of pixels.
 #[derive(Clone, Copy, Debug, PartialEq, Eq)]
 pub struct ScanControl {
     /// Whether dropouts are filled.

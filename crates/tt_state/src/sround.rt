@@ -98,7 +98,7 @@ fn eighths(fine: u32, n: u8) -> i32
     fine as i32 * (i32::from(n) - 4)
 }
 
-/// The threshold, from bits 3 to 0: for 0 it is the period less one; for any other n it is n - 4 eighths of the
+/// The threshold, from bits 3 to 0. For 0 it is the period less one. For any other n it is n - 4 eighths of the
 /// period, rounded down. `fine` is the period in 2.14 pixels.
 fn threshold_of(fine: u32, byte: u8) -> i32
     requires low { 5792 ≤ fine }

@@ -5,8 +5,8 @@ ghost use Rattle.tt_state.specs.Tolerance as is;
 
 use tt_core::Why;
 
-/// How a machine treats an instruction that uses a missing item: a point, a contour, a zone, a control value or a
-/// storage place that does not exist.
+/// How a machine treats an instruction that uses a missing item. An item is a point, a contour, a zone, a control
+/// value or a storage place.
 #[derive(Clone, Copy, Debug, PartialEq, Eq)]
 pub enum Tolerance {
     /// The instruction is refused.
