@@ -79,7 +79,7 @@ never_both s n t fault e h (inr (inr more)) =
 abbrev Outcome : MachineState → Type 0
 Outcome s = ((n : ℕ) × (t : MachineState) × Ends s n t) ⊎ ((fault : Fault) × Halts s fault)
 
--- a reached state, at the limit of steps or below it
+-- the outcome at a state that all steps of the limit lead to
 last : (b : Bool) (n : ℕ) (s t : MachineState) → is_ended t ≡ b → n ≡ step_limit → Leads n s t → Outcome s
 last true n s t ended all leads = inl (n, t, record { few = omega arith; leads = leads; ended = ended })
 last false n s t ended all leads = inr (

@@ -33,7 +33,7 @@ if_from (condition ∷ s) at m =
     else skipped (record m { stack = s }) (if_end m.frame.code.bytes at)
 if_from [] at m = Err (fault_in m.frame at why.StackShort)
 
--- a reached ELSE ends the part before it
+-- an ELSE that the run reaches ends the part before it
 abbrev pub else_from : ℕ → MachineState → Result MachineState Fault
 else_from at m = skipped m (else_end m.frame.code.bytes at)
 

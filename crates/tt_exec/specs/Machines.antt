@@ -92,7 +92,7 @@ OutcomeIs outcome (Err (exec.Font f)) new = outcome ≡ Err f
 OutcomeIs outcome (Err exec.Memory) new = Unit {0}
 OutcomeIs outcome (Err exec.Failed) new = Unit {0}
 
--- the parts of a machine, or None after a run that failed
+-- the parts of a machine, or None if it has failed
 abbrev pub GivesParts : Machine → Option Parts → Type 0
 GivesParts m (Some p) = (m.failed ≡ false) × (p ≡ parts_in m.state)
 GivesParts m None = m.failed ≡ true

@@ -27,8 +27,7 @@ use Rattle.tt_exec.specs.Opcodes.{operation_of}
 use Rattle.tt_exec.specs.Operation.{Operation, takes}
 use Rattle.tt_exec.specs.Operation as op
 
--- a state with a new stack; with a new stack and graphics state; with a new stack, storage and control values; or the
--- refusal at the instruction's place
+-- a state with its new stack, graphics state, storage or control values; or the refusal at the instruction's place
 abbrev pub on_stack : ℕ → MachineState → Result (List ℤ) Why → Result MachineState Fault
 on_stack at m (Ok s) = Ok (record m { stack = s })
 on_stack at m (Err why) = Err (fault_in m.frame at why)

@@ -1,7 +1,7 @@
 -- No part of the standard: the work of a run, if its job has a budget (profile). A step is 1. Each point or stack entry
 -- that its instruction covers is 1, and so is each byte skipped. At the beginning of a run, each control value, storage
--- place, twilight point and definition copied for it is 1. Slower things weigh more: a point moved by itself or named
--- on the stack is 4, a vector or a place found from lines is 32.
+-- place, twilight point and definition copied for it is 1. Slower things weigh more. A point moved by itself or named
+-- on the stack is 4. A vector or a place found from lines is 32.
 use Rattle.std.specs.Prelude.{ℕ, zero, suc, ◌+◌, ◌-◌, ◌*◌, ◌==◌, ◌||◌, ◌&&◌, min, nat_le, ℤ, pos, unsigned_abs, Bool, if◌then◌else◌, List, [], ◌∷◌, length, slice_index, Option, Some, None, Result, Ok, Err}
 use Rattle.tt_core.specs.Faults.{Fault}
 use Rattle.tt_core.specs.Limits.{step_limit}

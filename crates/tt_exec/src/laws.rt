@@ -16,7 +16,8 @@ pub fn one_outcome()
     ensures { (state : MachineState) → HasOneOutcome state }
 {}
 
-/// Lemma: a run adds or removes no point, storage place or control value, and leaves the contours unchanged.
+/// Lemma: a run that ends adds or removes no point, storage place or control value, and leaves the contours unchanged.
+/// It begins with contours that are ranges of the glyph's points.
 pub fn sizes_are_kept()
     ensures shape { (old new : MachineState) (n : ℕ) → HasContours old.zones → Ends old n new
         → SameShape old.zones new.zones }
@@ -59,7 +60,7 @@ pub fn tolerant_runs_lack_nothing()
     tt_exec_points::laws::points_total();
 }
 
-/// Lemma: a run on a machine that is begun again is the run on a new machine.
+/// Lemma: for the same parts, a run on a machine that is begun again is the run on a new machine.
 pub fn runs_begin_again()
     ensures { RunsBeginAgain }
 {}

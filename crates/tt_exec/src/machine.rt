@@ -122,7 +122,7 @@ impl<'a> Machine<'a> {
         ensures exact { RunGives (code_of code.entry) self.old result self.new }
         // The result, by the function that computes a run.
         ensures outcome { OutcomeIs (run_outcome (run_from (code_of code.entry) self.old.state)) result self.new }
-        // A run adds or removes no point, storage place or control value, and leaves the contours unchanged.
+        // A run that ends adds or removes no point, storage place or control value, and leaves the contours unchanged.
         ensures shape { IfOk result (λ n. SameShape self.old.state.zones self.new.state.zones) }
         ensures sizes { IfOk result (λ n. SameSizes self.old.state self.new.state) }
     {
@@ -185,7 +185,7 @@ impl<'a> Machine<'a> {
         self.state.graphics.scan
     }
 
-    /// The machine's parts after its runs; None after a run that failed.
+    /// The machine's parts after its runs; None if the machine has failed.
     pub fn into_parts(self) -> Option<Parts<'a>>
         ensures exact { GivesParts self.entry (option_map parts_of result) }
         ensures size { IfSome result (λ p. p.ppem ≤ size_limit) }

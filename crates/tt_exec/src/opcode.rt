@@ -42,8 +42,8 @@ fn keeping(op: u8) -> Keeping
 }
 
 impl MachineState<'_> {
-    /// SPVTL[], SFVTL[], SDPVTL[], ISECT[] and ALIGNPTS[], 0x06 to 0x09, 0x0F, 0x27, 0x86 and 0x87. Error: OffProfile
-    /// without the whole instruction set.
+    /// SPVTL[], 0x06 and 0x07; SFVTL[], 0x08 and 0x09; ISECT[], 0x0F; ALIGNPTS[], 0x27; SDPVTL[], 0x86 and 0x87. Error:
+    /// OffProfile without the whole instruction set.
     fn on_lines(&mut self, op: PointInstruction, at: usize) -> Outcome
         requires { at < length self.old.frame.code.bytes.now }
         ensures exact { let given = is.operate (operation.beyond (operation.on_points op)) at (state_of self.old) in
@@ -56,7 +56,7 @@ impl MachineState<'_> {
         Outcome::Refused(Why::OffProfile)
     }
 
-    /// S45ROUND[] and DEBUG[], 0x77 and 0x4F. Error: OffProfile without the whole instruction set.
+    /// DEBUG[], 0x4F; S45ROUND[], 0x77. Error: OffProfile without the whole instruction set.
     fn set_beyond(&mut self, op: Setting, at: usize) -> Outcome
         requires { at < length self.old.frame.code.bytes.now }
         ensures exact { let given = is.operate (operation.beyond (operation.set_state op)) at (state_of self.old) in

@@ -35,8 +35,8 @@ nothing_looped s z g = (s, z, set_back g)
 abbrev pub too_little : Bool → List ℤ → GraphicsState → Bool
 too_little referred s g = not referred || nat_lt (length s) g.loops
 
--- an instruction applied to points from the stack, with or without its reference point; a tolerant machine takes no
--- point if something is missing (profile)
+-- An instruction applied to points from the stack, with or without its reference point. A tolerant machine takes no
+-- point if there is too little (profile).
 abbrev pub looped : Tolerance → Bool → List ℤ → ZoneLists → GraphicsState
     → (List ℤ → Result (ZoneLists × GraphicsState) Why) → Left
 looped t referred s z g change =

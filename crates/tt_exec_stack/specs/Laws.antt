@@ -44,7 +44,7 @@ abbrev pub LogicIsShort : Type 0
 LogicIsShort = (o : Logic) (state : Round) (s : List ℤ) → length s < logic.takes o
     → logic.evaluated o state s ≡ Err why.StackShort
 
--- a padded stack has the requested count of values, and one that has them is unchanged
+-- a padded stack has at least the requested count of values, and one that has them is unchanged
 abbrev pub PaddedIsEnough : Type 0
 PaddedIsEnough = (n : ℕ) (s : List ℤ) → n ≤ length (padded n s)
 

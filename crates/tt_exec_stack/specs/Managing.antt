@@ -38,7 +38,7 @@ abbrev pub cindex : Tolerance → List ℤ → Result (List ℤ) Why
 cindex t (k ∷ s) = unless_refused t (pos 0) (kth k s) >>= λ e. pushed e s
 cindex t [] = Err why.StackShort
 
--- a tolerant machine moves no missing entry (profile)
+-- for a missing entry a tolerant machine moves nothing (profile)
 abbrev pub mindex : Tolerance → List ℤ → Result (List ℤ) Why
 mindex t (k ∷ s) =
     unless_refused t s (kth k s >>= λ e. Ok (e ∷ (take (unsigned_abs k - 1) s ++ drop (unsigned_abs k) s)))

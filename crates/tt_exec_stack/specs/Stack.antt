@@ -34,8 +34,8 @@ abbrev pub Pops : List ℤ → Result ℤ Why → List ℤ → Type 0
 Pops old (Ok x) new = old ≡ x ∷ new
 Pops old (Err e) new = (old ≡ []) × (e ≡ why.StackShort)
 
--- the result of a call, or its refusal, is the definition's. After a refusal nothing is said of the stack, here and in
--- Pops except for an empty stack: a run ends at its first refusal.
+-- The result of a call, or its refusal, is the definition's. After a refusal nothing is said of the stack, because a
+-- run ends at its first refusal. In Pops a refusal says only that the stack was empty.
 abbrev pub Does : {S E : Type 0} → Result S E → S → Result (Unit {0}) E → Type 0
 Does given new (Ok _) = given ≡ Ok new
 Does given new (Err e) = given ≡ Err e

@@ -2,12 +2,14 @@
 
 ghost use Rattle.tt_exec_stack.specs.Laws.{ManagingIsLoosened, ManagingIsTotal, ArithmeticIsTotal, LogicIsTotal, ManagingIsShort, ArithmeticIsShort, LogicIsShort, PaddedIsEnough, EnoughStays};
 
-/// Lemma: a tolerant machine gives the result of a strict one, unless that is a refusal that tolerance lifts.
+/// Lemma, for instructions that manage the stack: a tolerant machine gives the result of a strict one, unless that is a
+/// refusal that tolerance lifts.
 pub fn managing_is_loosened()
     ensures { ManagingIsLoosened }
 {}
 
-/// Lemma: with the values that it takes, no instruction of a tolerant machine fails with too few values.
+/// Lemma: with the values that it takes, no instruction of a tolerant machine fails with too few values or for a
+/// missing entry.
 pub fn answers_are_total()
     ensures managing { ManagingIsTotal }
     ensures arithmetic { ArithmeticIsTotal }
@@ -21,7 +23,7 @@ pub fn few_values_are_refused()
     ensures logic { LogicIsShort }
 {}
 
-/// Lemma: a padded stack has the requested count of values, and a stack that has them is unchanged.
+/// Lemma: a padded stack has at least the requested count of values, and a stack that has them is unchanged.
 pub fn padding_is_enough()
     ensures enough { PaddedIsEnough }
     ensures stays { EnoughStays }

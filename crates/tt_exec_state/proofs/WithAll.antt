@@ -1,4 +1,5 @@
--- A result without the whole instruction set is the result with it; without it vectors stay on the axes.
+-- The whole instruction set changes no result, except for the refusals of the profile. Without it vectors stay on the
+-- axes.
 use Rattle.std.proofs.Common.{◌≡◌, ℤ, pos, Bool, true, false, ◌&&◌, ◌||◌, if◌then◌else◌, int_eq, int_lt, List, [], ◌∷◌, Result, Ok, Err, IfOk, refl}
 use Rattle.std.proofs.lemmas.Bool.{and_parts}
 use Rattle.std.proofs.lemmas.Bool.Decides.{Decides-int_eq}

@@ -31,8 +31,8 @@ projects_along v g = record g { proj = v; dual = v }
 unfoldable pub part : ℤ → ℤ
 part n = signed16 (unsigned_abs (int_rem_euclid n (pos 65536)))
 
--- the unit vector in the direction of a pair (profile: the manual leaves a pair that is no unit vector to the font);
--- without the whole instruction set only the pair of an axis, in 2.14, is allowed (profile)
+-- The unit vector in the direction of a pair (profile: the manual leaves a pair that is no unit vector to the font).
+-- Without the whole instruction set only the pair of an axis, in 2.14, is allowed (profile).
 abbrev pub vector_given : ℤ → ℤ → Bool → Result Vector Why
 vector_given x y true = Ok (vector_of (unit (part x) (part y)))
 vector_given x y false =

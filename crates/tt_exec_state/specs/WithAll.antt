@@ -1,5 +1,5 @@
--- Laws of the instructions that set the graphics state: a result without the whole instruction set is the result with
--- it, and without it vectors stay on the axes.
+-- Laws of the instructions that set the graphics state. The whole instruction set changes no result, except for the
+-- refusals of the profile. Without it vectors stay on the axes.
 use Rattle.std.specs.Prelude.{◌≡◌, ℕ, ℤ, false, List, IfOk}
 use Rattle.tt_core.specs.declared.scaling.Scale.{Scale}
 use Rattle.tt_state.specs.declared.graphics_state.GraphicsState.{GraphicsState}

@@ -15,7 +15,8 @@ pub fn sizes_are_kept()
         (λ r. (length r.1 ≡ length storage) × (length r.2 ≡ length cvt)) }
 {}
 
-/// Lemma: an instruction that sets the graphics state without the whole instruction set does the same with it.
+/// Lemma: the whole instruction set changes no result of an instruction that sets the graphics state, except for the
+/// refusals OffProfile and Perpendicular.
 pub fn settings_stay()
     ensures vectors { VectorsStay }
     ensures settings { SettingsStay }

@@ -14,7 +14,7 @@ use Rattle.tt_fit.specs.Outline.{IsPoint}
 use Rattle.tt_fit.specs.Scaling.{is_coordinate, scaled_by_scale, scaled_point, settled}
 use Rattle.tt_fit.specs.Size.{FontSize}
 
--- n / u is at most `most` where n is at most u times `most`
+-- n / u is at most `most` in magnitude where n is at most u times `most` in magnitude
 pub quotient-within : (h : Halves) (n : ℤ) (u most : ℕ) → 0 < u → unsigned_abs n ≤ u * most
     → unsigned_abs (quotient h n (pos u)) ≤ most
 quotient-within halves.Up n u most some within =

@@ -14,7 +14,7 @@ use Rattle.tt_fit.specs.Parts.{originals_by}
 use Rattle.tt_fit.specs.Units.{Units, in_units, with_units}
 use Rattle.tt_fit.specs.Outline.{Outline, PhantomPoints, IsOutline}
 
--- ends that never fall, from a number below all of them
+-- ends that never fall, from a number that is at most each of them
 contours-rise : (first n : ℕ) (ends : List ℕ)
     → ((i j : ℕ) → i ≤ j → j < length ends → slice_index ends i ≤ slice_index ends j)
     → ((i : ℕ) → i < length ends → first ≤ slice_index ends i) → ((i : ℕ) → slice_index ends i ≤ n) → first ≤ n

@@ -21,8 +21,8 @@ phantom_count = 4
 abbrev pub own_points : Glyf → ℕ → ℕ
 own_points t g = phantom_count + told_size t g
 
--- the count of a glyph with this many levels of components: its own points and its components' counts with one level
--- fewer; with no level, its own points alone
+-- The count of a glyph with this many levels of components: its own points and its components' counts with one level
+-- fewer. With no level, its own points alone.
 unfoldable pub points_asked : Glyf → ℕ → ℕ → ℕ
 points_asked t zero g = own_points t g
 points_asked t (suc levels) g = own_points t g + sum_by (λ r. points_asked t levels r.glyph) (components_of t g)

@@ -1,5 +1,5 @@
 -- Apple TrueType Reference Manual, "Instruction set" (SCANCTRL, SCANTYPE): the rules for filling the dropouts of a
--- character's glyph. Only Best fills dropouts; an unfitted glyph has scan type 1 (profile).
+-- character's glyph. Only Best fills dropouts. A glyph that is drawn without its programs has scan type 1 (profile).
 use Rattle.std.specs.Prelude.{◌≡◌, ℕ, ◌==◌, true, false, if◌then◌else◌, codes, Option, Some, None, refl}
 use Rattle.tt_core.specs.Faults.{Fault, fault_at}
 use Rattle.tt_core.specs.declared.fault.Why.TheVariants as why
@@ -16,7 +16,7 @@ use Rattle.tt_fit.specs.Outline.{Outline}
 abbrev pub default_rules : DropoutRules
 default_rules = record { stubs = false; smart = false }
 
--- types 0 and 4 fill stubs, 4 and 5 the nearer pixel; other types fill no dropouts
+-- types 0, 1, 4 and 5 fill dropouts: 0 and 4 at stubs too, 4 and 5 with the nearer pixel; other types fill none
 abbrev pub type_rules : ℕ → Option DropoutRules
 type_rules n =
     if n == 0 then Some (record { stubs = true; smart = false }) else

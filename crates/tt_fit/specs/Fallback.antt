@@ -11,8 +11,8 @@ use Rattle.tt_fit.specs.Hinting.{Hinting, off}
 unfoldable pub is_program_fault : Fault → Bool
 is_program_fault fault = nat_le 30 (why_number fault.why) && nat_le (why_number fault.why) 50
 
--- no glyph is unfitted; or each whose own or whose component's program is refused; or every glyph, for a fault of the
--- font program or the control value program
+-- Which glyphs are unfitted: none, or each whose own or whose component's program is refused. Or every glyph is, for a
+-- fault of the font program or the control value program.
 pub data Fallback : Type 0 where
   never : Fallback
   where_refused : Fallback

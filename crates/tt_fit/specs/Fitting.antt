@@ -34,9 +34,9 @@ use Rattle.tt_fit.specs.declared.rules.Scaling.{Scaling}
 use Rattle.tt_fit.specs.declared.rules.Scaling.TheVariants as scaling
 use Rattle.tt_fit.specs.Work.{if_ok, hinted_work, joined_work, left_in}
 
--- the inputs of outlines: a font's glyph data and metrics, the pixels per em, the scaling, the state after its
--- programs, and which glyphs are unfitted. Then the depth limit of components, the job's remaining work (None if
--- unbounded), and the source of the dropout rules
+-- The inputs of outlines: a font's glyph data and metrics, the pixels per em and the scaling. Then the state after its
+-- programs, which glyphs are unfitted, and the depth limit of components. Then the job's remaining work (None if
+-- unbounded), and the source of the dropout rules.
 pub record Fitter : Type 0 where
   pub tables : Glyf
   pub metrics : Metrics

@@ -39,7 +39,7 @@ are_on_grid p =
 unfoldable pub on_grid_at : ℕ → PhantomPoints → Result PhantomPoints Fault
 on_grid_at at p = if are_on_grid (on_grid p) then Ok (on_grid p) else Err (coordinate_fault at)
 
--- a point not yet touched: its old place, and its place now
+-- a point not yet touched: its original place, and its current place
 abbrev pub untouched : ℤ × ℤ → ℤ × ℤ → Bool → Point
 untouched org now on = record {
   units_x = pos 0;
@@ -56,7 +56,7 @@ untouched org now on = record {
 abbrev pub outline_point : ℤ × ℤ × Bool → Point
 outline_point p = untouched (p.0, p.1) (p.0, p.1) p.2
 
--- the phantom points in font units, before, and now
+-- the phantom points: in font units, their original places, and their current places
 abbrev pub phantom_zone : PhantomPoints → PhantomPoints → PhantomPoints → List Point
 phantom_zone units was now =
     with_units units.left (untouched was.left now.left true)

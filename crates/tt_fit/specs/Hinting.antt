@@ -18,7 +18,7 @@ pub data Hinting : Type 0 where
   off : Hinting
   ready : Parts → Hinting
 
--- holds of every result of the two programs
+-- a property of every result of the two programs
 abbrev pub IsHinting : Hinting → Type 0
 IsHinting off = ⊤
 IsHinting (ready parts) = AreParts parts
@@ -35,7 +35,7 @@ run_of program parts = run_outcome (run_from program (fresh parts)) >>= λ left.
 abbrev pub is_run : Parts → GlyphProgram → Bool
 is_run parts p = not (parts.skip_glyphs) && not (length p.code == 0)
 
--- the phantom points are rounded to the grid, and the program runs; its points are the outline
+-- the phantom points are rounded to the grid, and the program runs; the points after it are the outline
 unfoldable pub by_program : Parts → GlyphProgram → Outline → Result Outline Fault
 by_program parts p o = on_grid_at p.glyph_at o.phantom >>= λ grid.
     run_of (program_in_glyf p) (parts_with parts p.units o grid) >>= λ left.

@@ -116,7 +116,7 @@ NoneIsWithoutPrograms = (m : Metrics) (tables : Glyf) (programs : ProgramTables)
 abbrev pub UnboundedIsEnough : Type 0
 UnboundedIsEnough = (s : Fitter) (g : ℕ) → glyph_work s g None ≡ enough None
 
--- with every fit but Best a glyph's work is unbounded, and so is that of the font's two programs
+-- with every fit but Best a job's work is unbounded, and so is that of the font's two programs
 abbrev pub OthersAreUnbounded : Type 0
 OthersAreUnbounded = (m : Metrics) (tables : Glyf) (programs : ProgramTables) (ppem : ℕ) (how : Fit) (s : Fitter)
     → how ≢ fit.Best → fitter_of m tables programs ppem how ≡ Ok s
@@ -132,7 +132,7 @@ SpentWorkUnfits = (s : Fitter) (g : ℕ) (fault : Fault) → s.fallback ≡ wher
     → glyph_work s g s.work ≡ spent fault
     → (fitted_outline s g ≡ outline_at (with_hinting s off) s.levels g) × (unfitted_fault s g ≡ Some fault)
 
--- every glyph has it where the font's two programs exceed the job's work
+-- where the font's two programs exceed the job's work, every glyph is made without programs, and has that fault
 abbrev pub SpentProgramsUnfitAll : Type 0
 SpentProgramsUnfitAll = (m : Metrics) (tables : Glyf) (programs : ProgramTables) (ppem : ℕ) (how : Fit) (s : Fitter)
     (g : ℕ) (fault : Fault) → falls_back how ≡ true → fitter_of m tables programs ppem how ≡ Ok s
@@ -195,14 +195,14 @@ EmptyByTypeOne = (m : Metrics) (tables : Glyf) (programs : ProgramTables) (ppem 
     (unfitted : Option Fault) (o : Outline) → AreEmpty programs → fitter_of m tables programs ppem fit.Best ≡ Ok s
     → dropouts_of s unfitted o ≡ Some default_rules
 
--- so it has where the control value program switched glyph programs off
+-- where the control value program switched glyph programs off, every glyph has these rules too
 abbrev pub SkippedByTypeOne : Type 0
 SkippedByTypeOne = (m : Metrics) (tables : Glyf) (programs : ProgramTables) (ppem : ℕ) (s : Fitter) (parts : Parts)
     (unfitted : Option Fault) (o : Outline) → fitter_of m tables programs ppem fit.Best ≡ Ok s
     → s.hinting ≡ ready parts → parts.skip_glyphs ≡ true → dropouts_of s unfitted o ≡ Some default_rules
 
--- with Best, a font with one of the two programs, and glyph programs switched on: an outline's scan control, by the
--- last program run for it, or else by the control value program
+-- With Best, a font has at least one of the two programs, and glyph programs are switched on. The scan control of an
+-- outline is that of the last program run for it, or else that of the control value program.
 pub record LeftScan (m : Metrics) (tables : Glyf) (programs : ProgramTables) (ppem : ℕ) (s : Fitter) (o : Outline)
     (scan : ScanControl) : Type 0 where
   pub made : fitter_of m tables programs ppem fit.Best ≡ Ok s
@@ -217,7 +217,7 @@ abbrev pub FittedByScan : Type 0
 FittedByScan = (m : Metrics) (tables : Glyf) (programs : ProgramTables) (ppem : ℕ) (s : Fitter) (o : Outline)
     (scan : ScanControl) → LeftScan m tables programs ppem s o scan → dropouts_of s None o ≡ scan_rules scan
 
--- where the scan control is off, its dropouts are not filled
+-- where the scan control is off, the glyph's dropouts are not filled
 abbrev pub OffFillsNone : Type 0
 OffFillsNone = (m : Metrics) (tables : Glyf) (programs : ProgramTables) (ppem : ℕ) (s : Fitter) (o : Outline)
     (scan : ScanControl) → LeftScan m tables programs ppem s o scan → scan.on ≡ false → dropouts_of s None o ≡ None

@@ -41,8 +41,8 @@ work_of fit.None = None
 work_of fit.Fallback = None
 work_of fit.Best = Some work_limit
 
--- the source of the dropout rules: with Best the font's programs; scan type 1 where the font program and the control
--- value program are both empty (profile)
+-- The source of the dropout rules: with Best the font's programs. Scan type 1 is the source where the font program and
+-- the control value program are both empty (profile).
 abbrev pub dropouts_by : Fit → List ℕ → List ℕ → DropoutsBy
 dropouts_by fit.Full fpgm prep = by.Nobody
 dropouts_by fit.None fpgm prep = by.Nobody

@@ -1,5 +1,5 @@
 -- No part of the standard: the work of a glyph's programs, where the work of a job is bounded (profile). Each
--- definition follows the one of the same outline. A program has the work that remains after the one before it.
+-- definition corresponds to that of the same outline. A program has the work that remains after the one before it.
 use Rattle.std.specs.Prelude.{◌≡◌, ℕ, if◌then◌else◌, List, [], ◌∷◌, Option, Some, None, Result, Ok, Err}
 use Rattle.tt_core.specs.Faults.{Fault}
 use Rattle.tt_core.specs.Outcomes.{GivesUnless}
@@ -44,7 +44,7 @@ abbrev pub joined_work : (Record → Outline → Result Outline Fault) → (Reco
 joined_work add work [] o left = enough left
 joined_work add work (r ∷ rs) o left = then_work (work r left) (if_ok (add r o) (joined_work add work rs))
 
--- the work is enough
+-- the remaining work is enough
 abbrev pub IsEnough : Worked → Type 0
 IsEnough worked = (left : Option ℕ) × (worked ≡ enough left)
 

@@ -9,8 +9,8 @@ use tt_glyf::{Glyf, Record};
 /// The ends of a glyph's advance, its ascent and its descent.
 const PHANTOM_COUNT: u64 = 4;
 
-/// What remains of `most` after the points of a glyph with this many levels of components; None where they exceed
-/// `most`. At most `most` points are counted. Error: out of memory.
+/// The count of a glyph's points, with this many levels of components; None where there are more than `most`. At most
+/// `most` are counted. Error: out of memory.
 pub(crate) fn points_of(
     alloc: Global,
     glyf: &Glyf,

@@ -227,7 +227,7 @@ impl<'a> Fitter<'a> {
         }
     }
 
-    /// After a program failed: the outline without programs, or the fault.
+    /// After a refusal: the outline without programs if a program is refused or exceeds the work, else the refusal.
     fn unmade(
         &self,
         g: u16,

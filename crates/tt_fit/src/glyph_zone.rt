@@ -103,7 +103,7 @@ fn outline_points(room: Vec<Point>, points: &[(i32, i32, bool)]) -> Result<Vec<P
     Ok(zone)
 }
 
-/// Appends a phantom point to a zone: in font units, its old place, and its place now.
+/// Appends a phantom point to a zone: in font units, its original place, and its current place.
 #[tactic(auto, using(crate::proofs::Zones::one_more))]
 fn push_phantom(
     zone: &mut Vec<Point>,

@@ -14,9 +14,9 @@ pub fn outlines_are_counted()
     ensures { OutlinesAreCounted }
 {}
 
-/// Lemma: with enough work, `Fit::Fallback` and `Fit::Best` give the outline by the programs alone; after a program's
-/// fault, the answer without programs; any other fault unchanged. With `Fit::Fallback` these two answers are those of
-/// `Fit::Full` and `Fit::None`.
+/// Lemma: with enough work, `Fit::Fallback` and `Fit::Best` give the outline by the programs alone. After a program's
+/// fault they give the answer without programs. Any other fault is unchanged. With `Fit::Fallback` these two answers
+/// are those of `Fit::Full` and `Fit::None`.
 pub fn glyphs_fall_back()
     ensures fitted { FallbackFits }
     ensures scaled { FallbackScales }
@@ -58,9 +58,9 @@ pub fn others_fill_none()
     ensures stay { RulesStay }
 {}
 
-/// Lemma: with `Fit::Best` scan type 1 rules an unfitted glyph, and every glyph where the two font programs are empty
-/// or glyph programs are switched off. Else the last program's scan control gives the rules. Where it is off, or its
-/// type is none of 0, 1, 4 and 5, no dropouts are filled.
+/// Lemma: with `Fit::Best` an unfitted glyph has the rules of scan type 1. Every glyph has them where the font program
+/// and the control value program are both empty, or glyph programs are switched off. Else the last program's scan
+/// control gives the rules. Where it is off, or its type is none of 0, 1, 4 and 5, no dropouts are filled.
 pub fn best_fills_by_scan()
     ensures unfitted { UnfittedByTypeOne }
     ensures empty { EmptyByTypeOne }

@@ -38,7 +38,7 @@ pub(crate) struct Preparation<'a> {
     pub(crate) work: Work,
 }
 
-/// A table that is one program as a whole.
+/// The program of a table without other contents.
 fn whole_table<'a>(table: [u8; 4], bytes: &'a [u8]) -> Code<'a>
     requires ascii { IsTrue (is_ascii table) }
     requires fits { length bytes.now ≤ font_limit }

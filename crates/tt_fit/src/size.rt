@@ -107,7 +107,8 @@ impl Shift {
         (2 * n + i64::from(self.scale.units)) >> self.by
     }
 
-    /// The quotient of `scale`. The number is made positive first where halves round away from zero.
+    /// `n` divided by the font units, rounded as `scale` says. Where halves round away from zero, the magnitude of `n`
+    /// is divided.
     #[inline(always)]
     fn quotient(self, n: i64) -> i64
         requires { unsigned_abs n < 2 ^ 46 }

@@ -1,5 +1,5 @@
--- No part of the standard: a tolerant machine gives the result of a strict one for an instruction on several points,
--- unless that is a refusal that tolerance lifts.
+-- No part of the standard: instructions on several points. A tolerant machine gives the result of a strict one, unless
+-- that is a refusal that tolerance lifts.
 use Rattle.std.proofs.Common.{◌≡◌, ℕ, ◌%◌, ◌≤◌, nat_lt, ℤ, pos, negsuc, Bool, true, false, ◌||◌, if◌then◌else◌, List, [], ◌∷◌, reverse, Result, Ok, Err, ap, refl, arith}
 use Rattle.std.proofs.lemmas.Bool.Decides.{nat_tests}
 use Rattle.tt_core.specs.declared.fault.Why.{Why}

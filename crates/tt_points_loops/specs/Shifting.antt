@@ -38,7 +38,7 @@ reference_number by.Rp2 g = g.rp2
 abbrev pub reference : ReferencePoint → GraphicsState → ZoneLists → Result Point Why
 reference which g z = point_in (reference_zone which g) (reference_number which g) z
 
--- a point moved by the distance of a reference point from its original place: touched, or with its touches unchanged
+-- a point moved as far as a reference point has moved: touched, or with its touches unchanged
 abbrev pub moved_as : Motion → Point → Point → Result Point Why
 moved_as m r p = moved m (offset m r) p
 

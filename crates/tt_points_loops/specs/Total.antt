@@ -1,5 +1,5 @@
--- No part of the standard: refusals that cannot come from instructions on several points. A tolerant machine never
--- refuses them for a missing thing. They never fail with too few values.
+-- No part of the standard: no instruction on several points is refused for too few values. A tolerant machine never
+-- refuses an instruction on points or pairs in turn for a missing thing.
 use Rattle.std.proofs.Common.{◌≡◌, ℕ, suc, ◌+◌, nat_le, nat_lt, ℤ, pos, int_lt, unsigned_abs, slice_get, ◌-ℤ◌, Bool, true, false, ◌&&◌, ◌||◌, if◌then◌else◌, List, [], ◌∷◌, length, reverse, Option, Some, None, Result, Ok, Err, refl}
 use Rattle.std.specs.Option.{ok_or}
 use Rattle.std.specs.Ordering.{int_eq}

@@ -176,9 +176,9 @@ fn except_or_pass(
     }
 }
 
-/// DELTAP1[], DELTAP2[] and DELTAP3[], 0x5D, 0x71 and 0x72: pairs of an argument and a point of zp0 -> moves each point
-/// as its argument requests at `ppem` pixels per em. The last pair comes first. A tolerant machine passes over each
-/// missing point. Errors: BadArgument, PointRange, Perpendicular, ValueRange.
+/// DELTAP1[], 0x5D; DELTAP2[], 0x71; DELTAP3[], 0x72: pairs of an argument and a point of zp0 -> moves each point as
+/// requested. The size is `ppem` pixels per em. The last pair comes first. A tolerant machine passes over each missing
+/// point. Errors: BadArgument, PointRange, Perpendicular, ValueRange.
 pub fn deltap(
     zones: &mut Zones,
     state: &GraphicsState,

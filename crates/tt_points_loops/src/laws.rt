@@ -23,7 +23,8 @@ pub fn several_loosened()
     ensures { (z : ZoneLists) (g : GraphicsState) → SeveralLoosened z g }
 {}
 
-/// Lemma: a tolerant machine refuses no instruction on several points for a missing thing or for too few values.
+/// Lemma: a tolerant machine refuses no instruction on points or pairs in turn for a missing thing or too few values.
+/// No machine refuses FLIPRGON, FLIPRGOFF, SHC or SHZ for too few values.
 pub fn several_total()
     ensures { (z : ZoneLists) (g : GraphicsState) → SeveralTotal z g }
 {}

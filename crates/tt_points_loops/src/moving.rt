@@ -96,7 +96,8 @@ fn align_all(
 }
 
 /// ALIGNRP[], 0x3C: loop points of zp1 -> moves each point to the current coordinate of rp0, in zp0. A tolerant machine
-/// passes over each point that is missing or has no rp0. Errors: PointRange, Perpendicular, ValueRange.
+/// passes over each missing point, and over all points if rp0 is missing. Errors: PointRange, Perpendicular,
+/// ValueRange.
 pub fn alignrp(
     zones: &mut Zones,
     state: &mut GraphicsState,
@@ -301,8 +302,8 @@ fn interpolate_all(
 }
 
 /// IP[], 0x39: loop points of zp2 -> moves each point to its original share of the way from rp1, in zp0, to rp2, in
-/// zp1. A tolerant machine uses rp1 in place of a missing rp2. It passes over each point that is missing or has no rp1.
-/// Errors: PointRange, Perpendicular, ValueRange.
+/// zp1. A tolerant machine uses rp1 in place of a missing rp2. It passes over each missing point, and over all points
+/// if rp1 is missing. Errors: PointRange, Perpendicular, ValueRange.
 pub fn ip(
     zones: &mut Zones,
     state: &mut GraphicsState,

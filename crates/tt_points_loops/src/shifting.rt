@@ -53,7 +53,7 @@ fn reference(zones: &Zones, state: &GraphicsState, which: ReferencePoint) -> Res
     zones.point(reference_zone(state, which), reference_number(state, which))
 }
 
-/// The point moved by the distance of `r` from its original place, and touched. Error: ValueRange.
+/// The point moved as far as `r` has moved, and touched. Error: ValueRange.
 fn moved_as(p: Point, r: Point, m: &Motion) -> Result<Point, Why>
     requires p { IsPoint p }
     requires r { IsPoint r }
@@ -63,7 +63,7 @@ fn moved_as(p: Point, r: Point, m: &Motion) -> Result<Point, Why>
     m.moved(p, m.offset(r))
 }
 
-/// The point moved by the distance of `r` from its original place. Its touches are unchanged. Error: ValueRange.
+/// The point moved as far as `r` has moved, with its touches unchanged. Error: ValueRange.
 fn shifted_as(p: Point, r: Point, m: &Motion) -> Result<Point, Why>
     requires p { IsPoint p }
     requires r { IsPoint r }
@@ -73,7 +73,8 @@ fn shifted_as(p: Point, r: Point, m: &Motion) -> Result<Point, Why>
     m.shifted(p, m.offset(r))
 }
 
-/// The point moved as its reference point was. `touch` says whether it is touched. Errors: Perpendicular, ValueRange.
+/// The point moved as far as its reference point `r` has moved. `touch` says whether the move touches the point.
+/// Errors: Perpendicular, ValueRange.
 fn follow(p: Point, r: Point, touch: bool, state: &GraphicsState) -> Result<Point, Why>
     requires p { IsPoint p }
     requires r { IsPoint r }
@@ -89,7 +90,8 @@ fn follow(p: Point, r: Point, touch: bool, state: &GraphicsState) -> Result<Poin
     }
 }
 
-/// Moves a point of zp2 as its reference point was. `before` is that point before the first move.
+/// Moves a point of zp2 as far as its reference point has moved. `before` is the reference point before the first move.
+/// Errors: PointRange, Perpendicular, ValueRange.
 fn shift(
     zones: &mut Zones,
     state: &GraphicsState,
@@ -148,8 +150,8 @@ fn shift_all(
 }
 
 /// SHP[a], 0x32 and 0x33: loop points of zp2 -> moves each point by the distance of the reference point from its
-/// original place. A tolerant machine passes over each point that is missing or has no reference point. Errors:
-/// PointRange, Perpendicular, ValueRange.
+/// original place. A tolerant machine passes over each missing point, and over all points if the reference point is
+/// missing. Errors: PointRange, Perpendicular, ValueRange.
 pub fn shp(
     zones: &mut Zones,
     state: &mut GraphicsState,
@@ -183,7 +185,7 @@ fn number_in(zone: Zone, of: Zone, n: i32) -> Option<usize>
 #[derive(Clone, Copy)]
 struct Leader {
     reference: Point,
-    /// The number of the reference point, if it is in their zone. It doesn't follow itself.
+    /// The number of the reference point, if it is in the zone of the points that follow. It doesn't follow itself.
     but: Option<usize>,
     touch: bool,
 }

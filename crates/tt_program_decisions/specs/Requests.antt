@@ -39,7 +39,7 @@ missing_named name =
     else (if bytes_eq name (codes "tell") then Some missing.Tell
     else (if bytes_eq name (codes "refuse") then Some missing.Refuse else None))
 
--- the bytes of glyphs that are cached from line to line
+-- the limit of the cache of glyphs from line to line, in bytes
 abbrev pub glyphs_kept : ℕ
 glyphs_kept = 4194304
 
@@ -70,8 +70,8 @@ abbrev pub options_asked
 options_asked (Some size) (Some margin) (Some how) (Some what) wanted = setting_asked size margin how what wanted
 options_asked size margin how what wanted = None
 
--- a request, each by a font: the lines that map a text, the picture of a job, the product of a text with a setting, or
--- the products of the lines of standard input
+-- The requests, each with its font: the lines that map a text, the picture of a job, the product of a text with a
+-- setting. The last is the products of the lines of standard input.
 pub data Asked : Type 0 where
   map_text : List ℕ → List ℕ → Asked
   draw_job : List ℕ → Job → Asked
@@ -130,9 +130,9 @@ font_of (Lines font setting) = font.now
 abbrev pub IsListed : Job → Option (List ℕ) → List Unfitted → Type 0
 IsListed a left entries = IfSome left (λ file. report_of a file ≡ Ok entries) × ListsOnce entries
 
--- a request is performed and reported. For a font file: the bytes to write, the list, and the defects that refuse the
--- file. For texts with a setting: the contract of their call. The second traffic is that of standard input, and of the
--- writer again
+-- a request is performed and reported. For a font file: the bytes to write, the list, and the defects for which it is
+-- refused. For texts with a setting: the contract of their call. The second traffic is that of standard input, and of
+-- the writer again
 abbrev pub Performs : Request → Traffic → Traffic → Errors → ℕ → Type 0
 Performs (Map font text) t lines e status =
     Does {V = Unit {0}} (λ v. []) (map_wanted text.now) (λ entries. ⊤) IsFaceDefect t e status

@@ -227,8 +227,8 @@ pub struct Words<'a> {
     pub missing: &'a str,
 }
 
-/// The bytes of glyphs that are cached from line to line: all letters of a Latin font at the largest size, and some
-/// thousand glyphs at a usual one.
+/// The limit of the cache of glyphs from line to line, in bytes. All letters of a Latin font at the largest size fit,
+/// and some thousand glyphs at a usual one.
 const GLYPHS_KEPT: usize = 4_194_304;
 
 /// The setting of a product; None where the name of the way to fit, or of the treatment of missing glyphs, is unknown.

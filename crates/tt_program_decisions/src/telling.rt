@@ -109,7 +109,7 @@ fn ended_line(alloc: Global, fault: &RunFault) -> Result<String, AllocError>
     Ok(text)
 }
 
-/// Prints a text on standard error. Where that fails, nowhere else can report it.
+/// Prints a text on standard error. Where that fails, there is no other place for a report.
 pub(crate) fn print<E: Sink>(error: &mut E, text: &str)
     requires { E.has_failed error.old ≡ false }
     ensures { Prints (errors_of E.written E.has_failed error.old error.new) text.now }
