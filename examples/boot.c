@@ -27,7 +27,7 @@ static uint8_t rows[1 << 16];
 static _Alignas(16) uint8_t arena[1 << 20];
 static size_t used, last;
 
-/* Puts the last block at a place. A block of size 0 has its own place too. */
+/* Makes a block at place `at`, after all others. A block of size 0 has its own place too. */
 static struct tt_block put_block(size_t at, size_t size) {
   if (size >= sizeof arena - at) return (struct tt_block){0, arena};
   last = at;

@@ -1,9 +1,9 @@
 /*
  * tt_render: text drawn with a TrueType font, as black and white pictures.
  *
- * Each call takes a font as the bytes of its file. The library has no state, no handle and no thread. Each call fills
- * the caller's answer, and returns the status in it. Unless the status is 0, all other memory of the caller's is
- * unchanged; only tt_draw_lines leaves the lines before the one that stopped it. A text is UTF-8, and needs no zero at
+ * A call takes a font as the bytes of its file. The library has no state, no handle and no thread. Each call fills the
+ * caller's answer, and returns the status in it. Unless the status is 0, all other memory of the caller's is unchanged,
+ * except that tt_draw_lines has written the lines before the one that stopped it. A text is UTF-8, and needs no zero at
  * its end. Several threads may call at once.
  *
  * It is proved of the library's source that each call does what its comment says, except for costs. No proof holds C to
@@ -24,7 +24,9 @@
  * then a caller has to be compiled anew.
  *
  * A call reports the first refusal in this order: the way to fit, UTF-8, size, margin, the text's length; the font's
- * size, its tables; the picture's size; the font's programs and glyphs, and the work (65). The room comes last.
+ * size, its tables; the picture's size; loca and glyf, the font's programs, the points (65), the glyphs, the crossings
+ * (65). With grow, the size and the crossings of the enlarged picture follow. The room comes last. tt_draw_lines tests
+ * the way to fit, size, margin and font once; then it tests the rest line by line, first the line's ends.
  *
  * Cost: tt_open and tt_map read tables alone. tt_measure, tt_characters, tt_draw and tt_draw_band each fit all glyphs
  * of the text, which is most of the cost of a drawing. This is so even where the room is too small.
@@ -47,7 +49,7 @@ enum {
     TT_FONT_LARGE = 3, /* the font has more than 67,108,864 bytes */
     TT_MEMORY = 5,     /* memory was refused */
     TT_NOT_UTF8 = 6,   /* the text is not UTF-8 */
-    TT_ROOM = 7        /* the caller's room is too small: bytes and count say how much is needed */
+    TT_ROOM = 7        /* the caller's room is too small: bytes is the room needed, or count for entries */
 };
 
 /* The answer of a call. Unused fields are 0. */
@@ -170,7 +172,7 @@ uint32_t tt_draw(const uint8_t *font, size_t font_bytes, const uint8_t *text, si
 
 /*
  * Draws a band of the picture that tt_draw draws: at most count rows from row first on, as many as the picture has. The
- * rows before the band are made too, and discarded. told describes the whole picture.
+ * rows before the band are made too, and discarded. told describes the whole picture. bytes and count: of the band.
  */
 uint32_t tt_draw_band(const uint8_t *font, size_t font_bytes, const uint8_t *text, size_t text_bytes,
                       const struct tt_job *job, uint32_t first, uint32_t count, uint8_t *rows, size_t room,
@@ -205,8 +207,8 @@ uint32_t tt_message(const struct tt_answer *told, uint8_t *text, size_t room, st
  *
  * 65 WorkLarge comes with TT_BEST alone, for one of two counts of a line. Its glyphs, each once, have more than
  * 4,000,000 points, where each glyph and each component adds four points, and each contour one. Or the edges of its
- * glyphs cross the rows of the picture more than 16,000,000 times, where each line of pixels that dropout control tests
- * counts as four.
+ * glyphs, at all their places, cross the rows of the picture more than 16,000,000 times. Where a glyph's dropouts are
+ * filled, each row and each column that an edge crosses counts as four crossings more.
  */
 #define TT_REFUSALS(X) \
     X(1, BadVersion) \

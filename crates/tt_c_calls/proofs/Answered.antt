@@ -49,7 +49,7 @@ serves call.LineEnds other = λ h. omega (arith, h)
 serves call.NotUtf8 other = λ h. omega (arith, h)
 serves call.Memory other = λ h. other refl
 
--- the answer for a fault is not done
+-- the status of the answer for a fault is not 0, done
 pub fails : (f : CallFault) → (call_answer f).status ≢ 0
 fails (call.Font f) = λ h. omega (arith, h)
 fails (call.Job j) = λ h. omega (arith, h)
@@ -59,7 +59,7 @@ fails call.LineEnds = λ h. omega (arith, h)
 fails call.NotUtf8 = λ h. omega (arith, h)
 fails call.Memory = λ h. omega (arith, h)
 
--- the answer for a fault is not too small a room
+-- the status of the answer for a fault is not 7, a room that is too small
 pub wants_none : (f : CallFault) → (call_answer f).status ≢ 7
 wants_none (call.Font f) = λ h. omega (arith, h)
 wants_none (call.Job j) = λ h. omega (arith, h)

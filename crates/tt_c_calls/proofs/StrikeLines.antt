@@ -124,7 +124,7 @@ line_stopped j file line left call.LineEnds h = inr (inl (line_ends, h, refl))
 line_stopped j file line left call.NotUtf8 h = inr (inl (not_utf8, h, refl))
 line_stopped j file line left call.Memory h = inl refl
 
--- the answer for a fault is not done
+-- the status of the answer for a fault is not 0, done
 pub not_done : (e : CallFault) → (call_answer e).status ≢ 0
 not_done (call.Font f) is = absurd (omega arith)
 not_done (call.Job j) is = absurd (omega arith)

@@ -63,7 +63,7 @@ abbrev pub TellsRefusal : {X : Type 0} → Result X Refusal → CAnswer → Type
 TellsRefusal (Ok x) a = a ≡ memory_answer
 TellsRefusal (Err why) a = (a ≡ refusal_answer why) ⊎ (a ≡ memory_answer)
 
--- a property of the font's defect, where an answer reports one
+-- if an answer reports a defect of the font, the defect has a property
 abbrev pub DefectStands : (Fault → Type 0) → CAnswer → Type 0
 DefectStands IsOne a = a.status ≡ 1 → (f : Fault) × (a ≡ fault_answer f) × IsOne f
 

@@ -13,7 +13,7 @@ use Rattle.tt_c_calls.specs.Messages.{message_of}
 use Rattle.tt_c_calls.specs.Pictures.{picture_wanted}
 use Rattle.tt_c_calls.specs.Refusals.{as_call}
 
--- the message of a refused font is the program's line of the defect
+-- the message of a refused font is the program's line of the defect, if the table's tag is ASCII
 abbrev pub FontMessagesAreLines : Type 0
 FontMessagesAreLines = (f : Fault) → is_ascii f.table ≡ true → message_of (fault_answer f) ≡ font_line f
 

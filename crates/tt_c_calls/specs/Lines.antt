@@ -126,7 +126,7 @@ abbrev pub IsLinesDefect : CJob → List ℕ → List ℕ → List ℕ → ℕ �
 IsLinesDefect j font texts ends i f =
     IsFaceDefect font f ⊎ IsAskedDefect j (line_between texts (start_of ends i) (get_or ends i 0)) font f
 
--- a property of the font's defect, where an answer reports one after lines that were drawn
+-- if an answer reports a defect of the font, also after lines that were drawn, the defect has a property
 abbrev pub LineDefectStands : (Fault → Type 0) → CAnswer → Type 0
 LineDefectStands IsOne a = a.status ≡ 1 → (f : Fault)
     × (a ≡ record (fault_answer f) { bytes = a.bytes; count = a.count }) × IsOne f

@@ -21,7 +21,8 @@ pub struct CAnswer {
     pub offset: u32,
     /// The number of bytes written, or, with status 7, of bytes needed.
     pub bytes: u64,
-    /// The number of rows, entries or lines written, or, with status 7, needed.
+    /// The number of rows, entries or lines written. With status 7, of rows or entries needed; but where a line stopped
+    /// `draw_lines`, of lines written.
     pub count: u64,
 }
 

@@ -2,7 +2,8 @@
 
 ghost use Rattle.tt_c_calls.specs.Laws.{FontMessagesAreLines, JobMessagesAreLines, PlainIsRun};
 
-/// Lemma: the message of a refused font or job is the program's line on standard error.
+/// Lemma: the message of a refused font or job is the program's line on standard error; for a font, if the tag of the
+/// table is ASCII.
 pub fn messages_are_lines()
     ensures fonts { FontMessagesAreLines }
     ensures jobs { JobMessagesAreLines }

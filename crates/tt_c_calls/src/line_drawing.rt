@@ -116,10 +116,12 @@ fn draw_by(
 /// Answers, where all bytes and entries after the drawn lines are unchanged:
 /// - done, with the bytes and the number of all lines;
 /// - the room for `lines` is too small, and nothing is drawn;
-/// - the font is refused or too large, or the size, the margin or the way to fit is refused, and no line is drawn;
+/// - the font is refused or too large, or the size, margin or way to fit is refused, or memory was refused; no line is
+///   drawn;
 /// - the answer of the line that stopped the call, with the number of the lines before it and the bytes of their rows.
-///   Where its room is too small, the bytes include its own. A line stops the call if it is refused, is not UTF-8, ends
-///   before it begins or past the texts, needs more room than remains, or if memory was refused for it.
+///   Where the room is too small for the line, the bytes include those of its own rows. A line stops the call if it is
+///   refused, is not UTF-8, or ends before it begins or past the texts. It also stops the call if it needs more room
+///   than remains, or if memory was refused for it.
 pub fn draw_lines(
     alloc: Global,
     font: &[u8],

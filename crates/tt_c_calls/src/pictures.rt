@@ -116,8 +116,8 @@ fn make_rows(picture: &mut Picture, count: u32, rows: &mut [u8])
     }
 }
 
-/// Writes a band of a picture at the front of a caller's room, at most `count` rows from row `first` on, and describes
-/// the picture in `told`. Answers: done; or the room is too small, and nothing is written.
+/// Writes a band of a picture at the front of a caller's room: at most `count` rows from row `first` on. Describes the
+/// picture in `told`. Answers: done; or the room is too small, and `room` and `told` are unchanged.
 pub(crate) fn write_band(
     picture: &mut Picture,
     first: u32,

@@ -154,7 +154,8 @@ abbrev pub LinesGive : {V : Type 0} → Draws → Result V TextsFault → Traffi
 LinesGive draw (Ok v) t e = IfSome t.left_before (SendsDrawn draw t e None) × ReadsToEnd t × WriterServes t
 LinesGive draw (Err fault) t e = LinesFail draw fault t e
 
--- a call stopped by these tests, by the reader of its font, or by the font's tables; or memory ran out by then
+-- a call stopped by these tests, by the reader or the size of its font, or by the font's tables; or memory ran out by
+-- then
 abbrev pub StopsAtFont : {V S : Type 0} → Result (Unit {0}) JobFault → (List ℕ → Result S Refused) → Result V TextsFault
     → FontReader → Type 0
 StopsAtFont tests opened (Err (texts.Job j)) f = (tests ≡ Err j) × FontIsUnread f

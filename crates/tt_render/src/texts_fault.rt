@@ -59,7 +59,7 @@ pub enum TextsFault {
         number: Option<u32>,
         sent: u64,
     },
-    /// 4,294,967,295 lines were drawn, and there are more.
+    /// 4,294,967,295 lines were drawn; no test says whether there are more.
     #[error("too many lines")]
     Many,
     /// Memory was refused.

@@ -44,7 +44,7 @@ one_or_none : (b : Bool) → (if b then 1 else 0) ≤ 1
 one_or_none true = omega arith
 one_or_none false = omega arith
 
--- a row meets at most all edges
+-- a row meets at most i of the first i edges
 pub rows_few : (es : List Edge) (i : ℕ) (y : ℤ) → rows_met (take i es) y ≤ i
 rows_few es zero y = omega arith
 rows_few [] (suc i) y = omega arith

@@ -78,7 +78,7 @@ quotient_within k d q rest n large low high is from to =
     absurd (omega (arith, ints, above, to, more, one)))
     (λ within. omega (arith, ints, near, within)))
 
--- an edge of several rows loses few columns in a row
+-- an edge of several rows loses at most 2 ^ 20 columns in a row
 pub step_small : (e : Edge) (s : Quotient) → EdgeFits e → pos 8192 ≤ℤ (e.by -ℤ e.ay) → IsStep e s → unsigned_abs s.whole ≤ 2 ^ 20
 step_small e s fits tall is =
     let much = mul_mono (pos 1048576) (pos 67108864) (divisor_of e) (omega (arith, ints)) (omega (arith, ints, tall)) in
@@ -97,7 +97,7 @@ column_fits e whole rest fits rises low high exact =
     (omega (arith, ints, fits.ax, fits.bx, much, turned, same)) (omega (arith, ints, fits.ax, fits.bx, much, same)) in
     omega (arith, within)
 
--- a rest in pixels divided by pixels is a multiple of 8192
+-- where 8192 divides the dividend and the divisor, it divides the rest
 whole_rest : (rise whole rest times run : ℤ) → (pos 8192 *ℤ rise) *ℤ whole +ℤ rest ≡ pos 8192 *ℤ run → (pos 8192 *ℤ times) ≤ℤ rest
     → rest <ℤ (pos 8192 *ℤ (times +ℤ pos 1)) → pos 8192 *ℤ times ≡ rest
 whole_rest rise whole rest times run exact low high = omega (arith, ints, exact, low, high, mul_assoc_z (pos 8192) rise whole)

@@ -1,6 +1,6 @@
 //! The edges of a tape, and the count of their crossings. In this crate only `cross`, `cross_met`, `start` and
 //! `cross_below` give an edge's columns at a height, and each call counts. `rows_of` gives an edge's rows and no
-//! columns. Only dropout control, which is above this crate, borrows the edges themselves.
+//! columns. Outside this crate only functions of dropout control read the edges themselves.
 
 ghost use Rattle.std.specs.Prelude.{◌≡◌, true, ◌+◌, ◌^◌, ◌≢◌, ◌+ℤ◌, pos, ◌<◌, ◌≤◌, length, [], ◌∷◌, ◌++◌, unsigned_abs, IfOk, OnOk};
 ghost use Rattle.tt_core.specs.Limits.{margin_limit};

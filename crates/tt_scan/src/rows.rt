@@ -60,7 +60,7 @@ fn within(first: i32, last: i32, height: i32) -> (i32, i32)
     (from, (last + 1).clamp(from, height))
 }
 
-/// The lowest and the highest centre line that meet an edge. Line k runs half a pixel above the height of k pixels over
+/// The lowest and the highest centre line that meet an edge. Line k runs half a pixel below the height of k pixels over
 /// the base line. None where the edge lies between two lines.
 #[inline(always)]
 fn lines_met(edge: Edge) -> Option<(i32, i32)>

@@ -211,8 +211,8 @@ fn place_of(stamp: Stamp, shift: i64, width: u32) -> Option<usize>
     }
 }
 
-/// The first column of a row of `width` pixels that is too far right for a stamp. A stamp that begins before it fits in
-/// the row with all its columns, and the row has eight bytes from the first column's byte on.
+/// The first column of a row of `width` pixels that is too far right for a stamp. A stamp that begins before this
+/// column fits in the row, and the row has eight bytes from that of the stamp's first column on.
 #[inline(always)]
 fn inside(width: u32) -> i64
     ensures low { pos 0 ≤ℤ result }
@@ -269,8 +269,8 @@ pub(crate) fn paint_stamp(stamp: Stamp, spans: &[Span], shift: i64, width: u32, 
     }
 }
 
-/// Paints the stamp at each pen until one does not fit; returns how many were painted. At none, if the row has fewer
-/// than eight bytes.
+/// Paints the stamp at one pen after another, up to the first where it does not fit. Returns the number of these pens.
+/// The number is 0 if the row has fewer than eight bytes.
 #[inline(always)]
 fn paint_fitting(stamp: Stamp, spans: &[Span], pens: &[u32], width: u32, row: &mut [u8]) -> usize
     requires stamp { IsStampOf spans.now stamp }

@@ -88,8 +88,8 @@ impl Sweep {
         }
     }
 
-    /// Blackens the pixels of the black columns from each pen of a glyph, moved to the right by the pen's columns, in a
-    /// row of `width` pixels. It takes no memory.
+    /// Blackens the pixels of the black columns from each pen of a glyph, moved to the right by the pen's columns. The
+    /// row has `width` pixels. It takes no memory.
     #[inline(never)]
     pub fn paint_all(&self, pens: &[u32], width: u32, row: &mut [u8])
         requires width { width ≤ 8 * length row.old }

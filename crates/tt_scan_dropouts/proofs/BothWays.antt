@@ -1,5 +1,5 @@
 -- A free gap of a row is crossed both ways or not at all. From its left centre to its right one the winding changes by
--- the edges that go through the gap, and the winding is 0 at both.
+-- the edges that go through the gap. The winding is 0 at both.
 use Rattle.std.proofs.Common.{◌≡◌, refl, sym, ap, ◌∙◌, ℕ, ◌+◌, Bool, true, false, not, ◌&&◌, ◌||◌, List, [], ◌∷◌, arith}
 use Rattle.std.specs.Prelude.{ℤ, pos, negsuc, ◌+ℤ◌, ◌-ℤ◌, ◌*ℤ◌, ◌≤ℤ◌, ◌<ℤ◌, int_le, int_lt, nat_lt, neg_ℤ, if◌then◌else◌}
 use Rattle.std.specs.Int.{int_div_euclid, int_rem_euclid}

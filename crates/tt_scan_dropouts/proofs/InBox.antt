@@ -107,7 +107,7 @@ gap_within l r c low high =
           ]
     ]
 
--- it takes a pixel in them
+-- a gap of a box's columns takes a pixel in these columns
 boxed_within : (b : Columns) (c p : ℤ) (right : Bool) → IsGapOf b c
     → int_eq (boxed b c (if right then c +ℤ pos 1 else c)) p ≡ true → IsColumnOf b p
 boxed_within b c p true gap is = record { first = grind (arith, ints); last = grind (arith, ints) }

@@ -50,7 +50,7 @@ row_painted w f es ss r k fits frame black =
     ∙ ap (λ x. is_black es x (row_y f (first_row f w +ℤ pos r))) (column_centre f.margin w.left k)
     ∙ ap (λ y. is_black es (centre (w.left +ℤ pos k)) y) (row_centre f w r))
 
--- a row meets at most all edges
+-- a row meets at most all edges of a list
 one_or_none : (b : Bool) → (if b then 1 else 0) ≤ 1
 one_or_none true = omega arith
 one_or_none false = omega arith

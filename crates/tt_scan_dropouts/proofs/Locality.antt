@@ -1,4 +1,4 @@
--- The pixel that a pass adds depends on the pixels from two left of it to one right of it.
+-- Whether a pass adds a pixel depends only on the pixels from two left of it to one right of it.
 use Rattle.std.proofs.Common.{◌≡◌, refl, Bool, List, arith}
 use Rattle.std.specs.Prelude.{ℤ, pos, ◌+ℤ◌, ◌-ℤ◌, ◌≤ℤ◌}
 use Rattle.std.proofs.lemmas.Int.{ints}

@@ -35,7 +35,7 @@ group_asks rules b ms black start end d r group is =
     get_or-take (end - start) (drop start ms) 0 d some ∙ from in
     sym (rw (first, group.all d) at is)
 
--- the marks before the first of a gap, and that no mark after them lies in the gap before
+-- the marks before the first of a gap; no mark from this one on lies in the gap before
 
 at_gap_before : (a b : Crossing) → is_up_to a b ≡ true → (int_eq a.line b.line && int_eq a.gap b.gap) ≡ false
     → is_up_to a (record { line = b.line; gap = b.gap -ℤ pos 1; place = 0; up = false }) ≡ true

@@ -129,7 +129,7 @@ other_before up es e j c way some = elim (one_goes up es e j c some) [
   | inr it ↦ let bad : true ≡ false = not_same up (sym it.4 ∙ way) in absurd cc
 ]
 
--- a gap that is crossed both ways by one edge more is not free, if no gap of the edge in the other table is free
+-- a gap crossed both ways with one edge more is not free, if no gap of the edge in the other table is free
 by_one_more : (black : ℤ → ℤ → Bool) (up : Bool) (es : List Edge) (e : Edge) (other : List Bool) (j c : ℤ)
     → is_rising e ≡ up → AreMarked (not up) es other → NoneIsFree black e other
     → (crosses_gap up es j c ≡ true → crosses_gap (not up) es j c ≡ true → is_free black c j ≡ false)

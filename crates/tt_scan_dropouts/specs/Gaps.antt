@@ -82,7 +82,7 @@ abbrev pub gives_way : Option Wish → Wish → Bool
 gives_way None w = false
 gives_way (Some l) w = int_eq l.line w.line && (int_eq (l.gap +ℤ pos 1) w.gap && int_eq l.pixel w.gap)
 
--- a pass over all gaps adds the pixel of column p and line j, by the gap right of its centre or the gap left of it
+-- a pass over all gaps adds the pixel of column p and line j, by the gap right or left of its centre
 abbrev pub is_added : Rules → Columns → List Mark → (ℤ → ℤ → Bool) → ℤ → ℤ → Bool
 is_added rules b ms black p j = adds rules b ms black j p p || adds rules b ms black j (p -ℤ pos 1) p
 

@@ -119,7 +119,7 @@ fn paint_row(sweep: &mut Sweep, tape: &mut Tape, window: Window, r: u32, row: &m
     sweep.paint(shift, window.width, row);
 }
 
-/// Blackens the columns of row `r`, counted from the top, in the bits of all rows of the window.
+/// Blackens the columns of row `r`, counted from the top. `bits` has the bits of all rows of the window.
 fn ink_row(sweep: &mut Sweep, tape: &mut Tape, window: Window, r: u32, bits: &mut [u8])
     requires window { WindowFits window }
     requires rows { has_rows tape.old.frame window ≡ true }

@@ -1,6 +1,6 @@
-//! Whether some free gap is crossed both rising and falling. A free gap that an edge crosses is crossed both ways. So
-//! where no free gap is crossed both ways, there are no dropouts, and nothing else need be computed. Two tables show
-//! which gaps may be crossed both ways, and all edges decide whether one of those may be free.
+//! Whether some free gap is crossed both rising and falling. If closed contours cross a free gap, they cross it both
+//! ways. So where no free gap is crossed both ways, there are no dropouts, and nothing else need be computed. Two
+//! tables show which gaps may be crossed both ways, and all edges decide whether one of those may be free.
 
 ghost use Rattle.std.specs.Prelude.{◌≡◌, List, ℕ, ℤ, ◌^◌, ◌<◌, true, false, ◌∷◌, [], ◌+◌, ◌++◌, length, get_or, map, unsigned_abs, All};
 ghost use Rattle.tt_scan.specs.Winding.{EdgeFits};

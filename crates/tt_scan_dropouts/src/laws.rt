@@ -15,7 +15,8 @@ pub fn dropouts_moved()
     ensures { DropoutsMoved }
 {}
 
-/// Lemma: a free gap is crossed both ways or not at all; in a column, where the contours are closed.
+/// Lemma: a free gap of a row is crossed both ways or not at all, whatever the edges. A free gap of a column is too, if
+/// the contours are closed.
 pub fn crossed_both_ways()
     ensures rows { RowsCrossedBothWays }
     ensures columns { ColumnsCrossedBothWays }

@@ -47,7 +47,7 @@ pub record AreNear (b : Columns) : Type 0 where
   pub last : unsigned_abs b.last < 2 ^ 18
   pub order : b.first ≤ℤ b.last
 
--- a box as near
+-- a box that is as near
 pub record IsNear (b : GlyphInk) : Type 0 where
   pub left : unsigned_abs b.left < 2 ^ 18
   pub bottom : unsigned_abs b.bottom < 2 ^ 18

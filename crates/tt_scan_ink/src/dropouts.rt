@@ -76,8 +76,8 @@ fn window_ink(
     Ok(pixels_ink(&found))
 }
 
-/// The box of the dropouts in some columns and rows, window after window from the lowest on, because a window has no
-/// more rows than a picture. Error: memory ran out.
+/// The box of the dropouts in some columns and rows. The rows are done window after window from the lowest on, because
+/// a window has no more rows than a picture. Error: memory ran out.
 fn windows_ink(
     alloc: Global,
     rules: Rules,

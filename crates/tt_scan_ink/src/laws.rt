@@ -2,8 +2,8 @@
 
 ghost use Rattle.tt_scan_ink.specs.Laws.{DropoutsInkHoldsAll, EdgesInkHoldsAll, JoinedHoldsBoth};
 
-/// Lemma: the box of the pixels of closed contours, and the box of the dropouts of any contours, hold all of them, and
-/// no smaller box does.
+/// Lemma: the box of the black pixels of closed contours holds all these pixels, and no smaller box does. The box of
+/// the dropouts of any contours holds all these dropouts, and no smaller box does.
 pub fn holds_all_ink()
     ensures edges { EdgesInkHoldsAll }
     ensures dropouts { DropoutsInkHoldsAll }

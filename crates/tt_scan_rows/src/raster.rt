@@ -136,9 +136,9 @@ impl Raster {
         })
     }
 
-    /// The raster of all lines that edges meet. The edges are given back where they span more than `most_rows` lines or
-    /// more lines than a frame has rows, or yield more than `most_spans` spans. The sweep decides the number of spans
-    /// of a line: at most twice the number of edges, plus one. Error: memory ran out.
+    /// The raster of all lines that edges meet. The edges are given back where they meet more lines than `most_rows`
+    /// or than a frame has rows, or yield more spans than `most_spans`. The sweep decides the number of spans of a
+    /// line: at most twice the number of edges, plus one. Error: memory ran out.
     pub fn cut(
         alloc: Global,
         list: EdgeList,

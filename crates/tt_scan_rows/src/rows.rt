@@ -129,8 +129,8 @@ impl Rows {
         part(&self.spans, self.starts[r], self.starts[r + 1])
     }
 
-    /// Blackens the pixels of the black columns of row `r`, counted from the top, from each pen of the glyph, moved to
-    /// the right by the pen's columns. The row of bytes has `width` pixels, the leftmost in the highest bit of the
+    /// Blackens the pixels of the black columns of row `r` from each pen of the glyph, moved to the right by the pen's
+    /// columns. `r` counts from the top. The row of bytes has `width` pixels, the leftmost in the highest bit of the
     /// first byte. All other bits are unchanged. It takes no memory.
     pub(crate) fn paint(&self, r: usize, pens: &[u32], width: u32, row: &mut [u8])
         requires within { r < length self.now.rows }

@@ -32,7 +32,7 @@ pub crossings_moved : (f : Frame) (d : ℤ) (es : List Edge) → crossings_of f 
 crossings_moved f d es = same_sum (λ row. rows_met (moved_edges d es) (row_y f (pos row)))
     (λ row. rows_met es (row_y f (pos row))) (range_with_len 0 f.height) (λ row. met_moved d es (row_y f (pos row)))
 
--- they cross as many lines, when moved by whole pixels
+-- edges moved by whole pixels cross as many lines
 one_moved : (k : ℤ) (e : Edge) → lines_crossed (turned_round (moved_edge (pos 8192 *ℤ k) e)) ≡ lines_crossed (turned_round e)
 one_moved k e = rw (line_from_moved e.ax k, line_from_moved e.bx k, apart_moved (line_from e.bx) (line_from e.ax) k) refl
 

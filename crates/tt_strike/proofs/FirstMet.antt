@@ -16,12 +16,12 @@ or_three : (a b c : Bool) → (a || (b || c)) ≡ ((a || b) || c)
 or_three true b c = refl
 or_three false b c = refl
 
--- with one number more, no other is among them
+-- a number is among some and one more exactly if it is among the some or is the one more
 among_more : (n g : ℕ) (gs : List ℕ) → is_among n (gs ++ g ∷ []) ≡ (is_among n gs || (g == n))
 among_more n g [] = or_false (g == n)
 among_more n g (h ∷ gs) = rw (among_more n g gs) (or_three (h == n) (is_among n gs) (g == n))
 
--- the number is marked
+-- the mark of one number more: exactly the numbers among some are marked
 pub marked_more : (met : List Bool) (numbers : List ℕ) (g n : ℕ) → g < length met
     → slice_index_or met n false ≡ is_among n numbers
     → slice_index_or (set met g true) n false ≡ is_among n (numbers ++ g ∷ [])

@@ -43,7 +43,7 @@ is_not : (a : Bool) → not a ≡ true → a ≡ false
 is_not true is = absurd cc
 is_not false is = refl
 
--- a number after some is among them and itself
+-- a number that is not among some glyphs, and is not the one after them, is not among all of these
 among_pushed : (h g : ℕ) (gs : List ℕ) → is_among h gs ≡ false → (g == h) ≡ false → is_among h (gs ++ g ∷ []) ≡ false
 among_pushed h g [] not_there other = rw other refl
 among_pushed h g (k ∷ gs) not_there other =

@@ -30,7 +30,7 @@ pub measured_as_made : {keeps : Bool} (face : Face) (a : Job) (l : Placement) (g
 unfolding measured_line
 measured_as_made face a l gs made = rw (made.opened, made.few, made.fitted, made.seldom) refl
 
--- their list is the report of the line, and lists each once
+-- the list of the unfitted glyphs is the report of the line, and lists each once
 pub reported_as_made : {keeps : Bool} (face : Face) (a : Job) (l : Placement) (gs : List Glyph)
     (entries : List Unfitted) → AreMade keeps face a l gs → entries ≡ unfitted_standing gs
     → (line_report face a l ≡ Ok entries) × ListsOnce entries

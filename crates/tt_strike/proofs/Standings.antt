@@ -56,7 +56,7 @@ one_pen_more f drawn (p ∷ ps) pen c r =
     rw (one_pen_more f drawn ps pen c r)
     (or_or (is_drawn f drawn (pos c -ℤ pos p) r) (is_black_from f drawn ps c r) (is_drawn f drawn (pos c -ℤ pos pen) r))
 
--- it has no dropouts
+-- a glyph without a pen has no dropouts
 pub fills_nowhere : (f : Frame) (gs : List Glyph) (g : Glyph) (c r : ℕ) → g.pens ≡ []
     → is_filled_by f (stamps_in (gs ++ g ∷ [])) c r ≡ is_filled_by f (stamps_in gs) c r
 fills_nowhere f [] g c r none = rw none refl
@@ -133,7 +133,7 @@ at_pen o pen =
     ap (λ x. chord_edges o.points o.ends x (pos 0)) start
     ∙ outline_at o.points o.ends (pos (64 * 0) -ℤ origin_of o) (pos 0) (pos pen)
 
--- at a pen it blackens what it blackens at pen 0, moved right by the pen
+-- an outline at a pen blackens the points that it blackens at pen 0, moved right by the pen
 pub from_pen : (m : ℕ) (o : Outline) (pen : ℕ) (c y : ℤ) → is_black (edges_at pen o) (column_x m c) y
     ≡ is_black (edges_at 0 o) (column_x m (c -ℤ pos pen)) y
 from_pen m o pen c y =
@@ -142,7 +142,7 @@ from_pen m o pen c y =
     let moved = rw back at (black_in_columns (pos pen) (edges_at 0 o) m (c -ℤ pos pen) y) in
     rw edges moved
 
--- it crosses the rows as often
+-- an outline crosses the rows as often at a pen as at pen 0
 crosses_from : (f : Frame) (o : Outline) (pen : ℕ) → crossings_of f (edges_at pen o) ≡ crossings_of f (edges_at 0 o)
 crosses_from f o pen = rw (at_pen o pen) (crossings_moved f (pos 8192 *ℤ pos pen) (edges_at 0 o))
 
@@ -152,7 +152,7 @@ same_filled : (filled : Option Rules) (these those : List (List Edge)) (c j : �
 same_filled None these those c j same = refl
 same_filled (Some rules) these those c j same = rw same refl
 
--- moved by a pen, dropouts move by it to the right
+-- contours moved by a pen have their dropouts moved by the pen to the right
 edges_moved : (k : ℤ) (es : List Edge) → moved_edges (pos 8192 *ℤ k) es ≡ map (moved k (pos 0)) es
 edges_moved k [] = refl
 edges_moved k (e ∷ es) = let still : (y : ℤ) → y +ℤ pos 8192 *ℤ pos 0 ≡ y = λ y. omega (arith, ints) in rw (edges_moved k es, still e.ay, still e.by) refl
@@ -239,7 +239,7 @@ adds_at keeps maker f before gs i g placed near same same_dropouts as_often belo
           ∙ rw (as_often, works_as f o g.body g.filled rules placed.1 (drawn.tape none) filled drawn.fits drawn.body) refl;
     })
 
--- it is the same glyph
+-- a glyph with other pens has its number
 pub numbers_stood : (gs : List Glyph) (i : ℕ) (g : Glyph) (ps : List ℕ) → g ≡ get_or gs i g
     → numbers_of (set gs i (record g { pens = ps })) ≡ numbers_of gs
 numbers_stood gs i g ps is = map-set_same (λ (t : Glyph). t.number) gs i (record g { pens = ps }) g

@@ -63,7 +63,7 @@ pub font_tells : (P : Fault → Type 0) (e : FontFault) → IfSome (font_fault e
 font_tells P (font.Font f) stands = stands
 font_tells P font.Memory stands = tt
 
--- crossings past the limit stop it
+-- crossings past the limit stop the line
 pub crossings_stop : (face : Face) (a : Job) (l : Placement) (s : Fitter) (glyphs : List Shape) (j : JobFault)
     → setting_in face a ≡ Ok s → as_job (points_tested s a l) ≡ Ok tt → shapes_in s l ≡ Ok glyphs
     → crossings_tested a l glyphs ≡ Err j → shapes_made face a l ≡ Err (job j)
@@ -85,7 +85,7 @@ crossings_tell face a l s glyphs j there made refused =
     let past : crossing_limit < crossings_in (frame_of l a.margin) glyphs = let is = parts.2 in grind (arith, nat_tests) in
     (parts.0, (parts.1, inr (rw (there, made) past)))
 
--- a refused job is not refused by its font
+-- a job's refusal is one of its tests, not of its font
 refused_job : (r : Result (Unit {0}) JobFault) (j : JobFault) → as_job r ≡ Err (job j) → r ≡ Err j
 refused_job (Ok u) j was = absurd cc
 refused_job (Err i) j was = cc

@@ -18,7 +18,7 @@ pub same_tables : (s : Fitter) (g : ℕ) → (after_glyph s g).tables ≡ s.tabl
 unfolding after_glyph
 same_tables s g = refl
 
--- nor the source of the dropout rules
+-- a glyph does not change the source of the dropout rules
 pub same_dropouts : (s : Fitter) (g : ℕ) (unfitted : Option Fault) (o : Outline)
     → dropouts_of (after_glyph s g) unfitted o ≡ dropouts_of s unfitted o
 unfolding after_glyph
@@ -83,7 +83,7 @@ pub of_next : (e : FontFault) (now : Fitter) (before : List ℕ) (g : ℕ) → i
 of_next (font.Font f) now before g absent fails = (absent, fails)
 of_next font.Memory now before g absent fails = tt
 
--- the fault is that of the line
+-- the fault of a glyph that is not made yet is that of the line
 pub stuck_at : (e : FontFault) (maker : ℕ → Fitter) (now : Fitter) (before : List ℕ) (line : List (ℕ × ℕ)) (i : ℕ)
     (shapes : List Shape) → i < length line → IsNext maker now before (get_or line i (0, 0)).0
     → after_each (glyph_shape maker) (drop i line) shapes ≡ each (glyph_shape maker) line

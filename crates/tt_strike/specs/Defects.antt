@@ -98,7 +98,7 @@ abbrev pub HasTooManyPoints : Face → Job → Placement → Type 0
 HasTooManyPoints face a line = IsOkAnd (setting_in face a)
     (λ s. point_work_limit < points_in s (map (λ g. g.0) line.glyphs))
 
--- they cross the rows of its picture too often
+-- the glyphs of a line that is laid out cross the rows of its picture too often
 abbrev pub CrossesTooOften : Face → Job → Placement → Type 0
 CrossesTooOften face a line = IsOkAnd (setting_in face a)
     (λ s. IsOkAnd (shapes_in s line) (λ glyphs. crossing_limit < crossings_in (frame_of line a.margin) glyphs))

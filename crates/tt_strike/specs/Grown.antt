@@ -58,11 +58,11 @@ grown_line face a line = measured_line face a line >>= λ m. as_job (grown line 
 unfoldable pub grown_placement : Face → Job → Result Placement Refused
 grown_placement face a = laid_out face a >>= λ line. grown_line face a line
 
--- its picture
+-- the picture of the enlarged line
 unfoldable pub grown_outcome : Face → Job → Result (List ℕ) Refused
 grown_outcome face a = grown_placement face a >>= λ line. drawn face a line
 
--- the measure of its picture
+-- the measure of the enlarged line's picture
 unfoldable pub grown_measured : Face → Job → Result Measure Refused
 grown_measured face a = grown_placement face a >>= λ line. measured_line face a line
 

@@ -65,7 +65,7 @@ joined None b = b
 joined (Some a) None = Some a
 joined (Some a) (Some b) = Some (joined_boxes a b)
 
--- the least box of those that exist among some
+-- the least box that holds a first box and those of a list, as far as they exist
 abbrev pub all_joined : Option InkBox → List (Option InkBox) → Option InkBox
 all_joined so_far [] = so_far
 all_joined so_far (b ∷ bs) = all_joined (joined so_far b) bs

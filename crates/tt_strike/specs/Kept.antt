@@ -16,6 +16,6 @@ pub record IsKept (s : Fitter) (number : ℕ) (g : KeptGlyph) : Type 0 where
   pub filled : filled_by s number shape ≡ None
   pub unbounded : s.work ≡ None
 
--- all cached glyphs do
+-- all cached glyphs equal those made anew
 abbrev pub AreKeptFor : Fitter → List (ℕ × KeptGlyph) → Type 0
 AreKeptFor s entries = All (λ e. IsKept s e.0 e.1) entries

@@ -47,8 +47,8 @@ MarginMoves = (f g : Frame) (m : ℕ) (glyphs : List Shape) (c r : ℕ) → g.ma
 abbrev pub MeasuredAsDrawn : Type 0
 MeasuredAsDrawn = (face : Face) (a : Job) (r : Refused) → line_outcome face a ≡ Err r ↔ measured face a ≡ Err r
 
--- a line with added columns and rows has its pixels moved right and down by those on the left and the top, and no
--- others there
+-- a line with added columns and rows has its pixels, and no others. They are moved right and down by the columns on
+-- the left and the rows at the top
 abbrev pub SidesMove : Type 0
 SidesMove = (maker : ℕ → Fitter) (line : Placement) (s : Sides) (margin : ℕ) (glyphs larger : List Shape) (c r : ℕ)
     → each (glyph_shape maker) line.glyphs ≡ Ok glyphs

@@ -78,7 +78,7 @@ shapes_in s line = each (glyph_shape (line_fitter s (map (λ g. g.0) line.glyphs
 abbrev pub points_tested : Fitter → Job → Placement → Result (Unit {0}) JobFault
 points_tested s a line = work_tested a.fit point_work_limit (points_in s (map (λ g. g.0) line.glyphs))
 
--- their edges cross the rows of its picture seldom enough for the job
+-- the edges of a line's glyphs cross the rows of its picture seldom enough for the job
 abbrev pub crossings_tested : Job → Placement → List Shape → Result (Unit {0}) JobFault
 crossings_tested a line glyphs = work_tested a.fit crossing_limit (crossings_in (frame_of line a.margin) glyphs)
 

@@ -42,8 +42,8 @@ pub data Drawn : Type 0 where
   edges : List Edge → Drawn
   raster : Raster → Drawn
 
--- they blacken column c of row r, with the column counted from the glyph's pen. Edges include the margin, a raster
--- begins at the left end
+-- they blacken column c of row r, with the column counted from the glyph's pen. A pen of edges counts from the margin,
+-- a pen of a raster from the left end
 abbrev pub is_drawn : Frame → Drawn → ℤ → ℕ → Bool
 is_drawn f (edges es) c r = is_black es (column_x f.margin c) (row_y f (pos r))
 is_drawn f (raster k) c r = shows k c (line_at f r)

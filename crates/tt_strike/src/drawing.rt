@@ -30,7 +30,8 @@ use tt_fit::Fit;
 use tt_line::Line;
 use tt_strike_kept::KeptGlyphs;
 
-/// Whether glyphs are cached from line to line. They are not where each line uses up work of the fitter.
+/// Whether glyphs are cached from line to line. They are not if the cache's limit is 0, or if each line uses up work of
+/// the fitter.
 fn keeps_glyphs(kept: &KeptGlyphs, fit: Fit) -> bool
     ensures { result ≡ (nat_lt 0 kept.now.most && not (is_bounded fit)) }
 {

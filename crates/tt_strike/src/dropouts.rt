@@ -28,7 +28,7 @@ pub(crate) fn rules_for(rules: Option<DropoutRules>) -> Option<Rules>
     }
 }
 
-/// Adds a glyph's dropouts at its pens that lie in the picture. Error: Memory.
+/// Adds a glyph's dropouts at its pens, as far as the picture has them. Error: Memory.
 fn push_glyph(
     alloc: Global,
     found: &mut Vec<Dropout>,
@@ -52,7 +52,7 @@ fn push_glyph(
     }
 }
 
-/// The dropouts of some glyphs at their pens that lie in the picture, in order of their rows. Error: Memory.
+/// The dropouts of some glyphs at their pens, as far as the picture has them, in order of their rows. Error: Memory.
 pub(crate) fn line_dropouts(
     alloc: Global,
     frame: Frame,

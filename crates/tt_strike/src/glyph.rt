@@ -219,7 +219,7 @@ impl Glyph {
         }
     }
 
-    /// Its crossings at all its pens, at most the greatest number.
+    /// The crossings of the glyph at all its pens, or 2 ^ 64 - 1 if there are more.
     pub(crate) fn crossings(&self) -> u64
         requires few { length (edges_of self.now.body) ≤ 2 ^ 17 }
         ensures { result ≡ min (glyph_crossings self.now) (2 ^ 64 - 1) }

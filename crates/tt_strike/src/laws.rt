@@ -2,7 +2,8 @@
 
 ghost use Rattle.tt_strike.specs.Laws.{DrawnFontsAreWhole, FacesAreWhole, OthersListNothing, MarginMoves, MeasuredAsDrawn, GlyphsByThemselves, UnfilledAreEdges, OthersFillNone, OthersDrawByEdges, SidesMove};
 
-/// Lemma: a font whose tables are found, or whose picture is defined, has no defect for it.
+/// Lemma: where the definitions give a font's tables, these have no defect. Where they give a job's picture, the font
+/// has no defect for the job.
 pub fn fonts_are_whole()
     ensures tables { FacesAreWhole }
     ensures picture { DrawnFontsAreWhole }
@@ -32,8 +33,8 @@ pub fn measured_as_drawn()
     ensures { MeasuredAsDrawn }
 {}
 
-/// Lemma: a picture with added columns and rows has the pixels of the smaller one, moved right and down by those on the
-/// left and the top.
+/// Lemma: a picture with added columns and rows has the pixels of the smaller one. They are moved right and down by the
+/// columns on the left and the rows at the top.
 pub fn sides_move()
     ensures { SidesMove }
 {}

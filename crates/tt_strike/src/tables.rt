@@ -53,7 +53,7 @@ impl<'a> Face<'a> {
         Ok(Face { dir, metrics, cmap })
     }
 
-    /// The units per em, the glyph count and the advances.
+    /// The units per em, the ascent and the descent, the glyph count and the advances.
     pub fn metrics(&self) -> &Metrics<'a>
         ensures { result.now ≡ self.now.metrics }
     {

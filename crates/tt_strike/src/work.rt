@@ -78,7 +78,7 @@ pub(crate) fn test_crossings(fit: Fit, glyphs: &[Glyph]) -> Result<(), JobFault>
     Ok(())
 }
 
-/// How often some glyphs at their pens cross the rows of the picture, at most the greatest number.
+/// How often some glyphs at their pens cross the rows of the picture, or 2 ^ 64 - 1 if that is more.
 fn crossings(glyphs: &[Glyph]) -> u64
     requires tapes { All (λ g. length (edges_of g.body) ≤ 2 ^ 17) glyphs.now }
     ensures { result ≡ min (crossings_standing glyphs.now) (2 ^ 64 - 1) }

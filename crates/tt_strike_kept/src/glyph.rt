@@ -9,7 +9,7 @@ use std::rc::Rc;
 use tt_core::Fault;
 use tt_scan_rows::Raster;
 
-/// About the bytes of a glyph besides the rows of its raster: its place in the cache, and the raster itself.
+/// Roughly the bytes of a glyph without the rows of its raster: its place in the cache, and the raster itself.
 const PLACE: usize = 128;
 
 /// A cached glyph: its black columns, and the fault that makes it unfitted. Clauses see the raster itself.
