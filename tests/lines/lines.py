@@ -4,6 +4,7 @@ import re
 import subprocess
 import sys
 import tempfile
+from concurrent.futures import ThreadPoolExecutor
 from pathlib import Path
 
 sys.path.insert(0, str(Path(__file__).resolve().parent.parent / "damaged"))
@@ -108,8 +109,9 @@ def try_font(name, fit, size, margin, seed):
     status, stdout, stderr = run([*words, "--lines", font], "".join(f"{it}\n" for it in lines).encode())
     verdict(f"{name} {fit}: status", None if status == 0 else f"status {status}: {stderr[:300]!r}")
     at, told = 0, b""
-    for number, line in enumerate(lines, 1):
-        alone = run([*words, font, line])
+    with ThreadPoolExecutor(os.cpu_count()) as pool:
+        every = [*pool.map(lambda it: run([*words, font, it]), lines)]
+    for number, (line, alone) in enumerate(zip(lines, every), 1):
         told += told_of(number, alone[2])
         same = alone[0] == 0 and stdout.startswith(alone[1], at)
         verdict(f"{name} {fit}, line {number}: {line}", None if same else "is not the picture of its text alone")
