@@ -25,6 +25,9 @@ FOR_TESTS = {
     "dropouts": ("TT_DROPOUTS", "tt_test_dropouts"),
 }
 
+# Why a program for tests is not here, by the word, as name_programs finds it.
+WHY = {}
+
 
 class Result:
     """What a script came to: its seconds, its cases, the cases it skipped with their reasons, and all that it said."""
@@ -54,17 +57,33 @@ def all_names():
     return [*listed, *sorted(there - set(listed))]
 
 
+def newest_source():
+    """Returns the date of the newest file that a proof reads."""
+    files = [ROOT / "crates.txt", *(it for part in ("src", "specs", "proofs") for it in ROOT.glob(f"crates/*/{part}/**/*"))]
+    return max(it.stat().st_mtime for it in files)
+
+
 def program_for_tests(word):
-    """Returns the path of a program for tests, of its variable or as the gate leaves it, and the variable's name."""
+    """Returns the path of a program for tests, or why there is none.
+
+    It is that of the program's variable, or else the one that the gate left, where no source is newer.
+    """
     variable, crate = FOR_TESTS[word]
-    return os.environ.get(variable) or ROOT / "crates" / crate / "out" / crate, variable
+    named, built = os.environ.get(variable), ROOT / "crates" / crate / "out" / crate
+    if named:
+        return (named, "") if os.access(named, os.X_OK) else ("", f"there is no program {named}, which {variable} names")
+    if not os.access(built, os.X_OK):
+        return "", f"there is no program {crate}, which the gate makes"
+    if built.stat().st_mtime < newest_source():
+        return "", f"a source is newer than the program {crate}, which the gate makes"
+    return str(built), ""
 
 
 def lacks(name):
     """Returns why a script cannot run here, or nothing. A script with a line `asks=WORD` needs that program for tests."""
     asked = re.search(r"^asks=(\w+)$", path_of(name).read_text(encoding="utf-8"), re.M)
-    if asked and not os.access(program_for_tests(asked[1])[0], os.X_OK):
-        return f"there is no program {FOR_TESTS[asked[1]][1]}, which the gate makes"
+    if asked and WHY[asked[1]]:
+        return WHY[asked[1]]
     if name == "dist" and not (shutil.which("git") and (ROOT / ".git").exists()):
         return "git is not on the PATH, or this is no clone"
     return ""
@@ -75,9 +94,9 @@ def name_programs():
 
     A variable of one that is not here gets a name without a file: a script then passes over what needs it.
     """
-    for word in FOR_TESTS:
-        path, variable = program_for_tests(word)
-        os.environ[variable] = str(path) if os.access(path, os.X_OK) else "none"
+    for word, (variable, _) in FOR_TESTS.items():
+        path, WHY[word] = program_for_tests(word)
+        os.environ[variable] = path or "none"
 
 
 def run_one(name):
