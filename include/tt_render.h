@@ -208,7 +208,7 @@ uint32_t tt_message(const struct tt_answer *told, uint8_t *text, size_t room, st
  * 65 WorkLarge comes with TT_BEST alone, for one of two counts of a line. Its glyphs, each once, have more than
  * 4,000,000 points, where each glyph and each component adds four points, and each contour one. Or the edges of its
  * glyphs, at all their places, cross the rows of the picture more than 16,000,000 times. Where a glyph's dropouts are
- * filled, each row and each column that an edge crosses counts as four crossings more.
+ * filled, four crossings more are counted for each edge and each row or column that the edge crosses.
  */
 #define TT_REFUSALS(X) \
     X(1, BadVersion) \

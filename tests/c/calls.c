@@ -138,13 +138,16 @@ struct outcome tried(const struct call *call, const struct question *q) {
   return it;
 }
 
+/* The greatest length of a message with its zero, as the header has it. */
+enum { LONGEST_MESSAGE = 90 };
+
 const char *message_of(const struct tt_answer *answer) {
   static char text[512];
   struct question q = {.told = held(answer, sizeof *answer)};
   struct outcome it = tried(&messages, &q);
   text[0] = 0;
   if (expect(it.answer.status == TT_DONE, "tt_message: status %u", it.answer.status) &&
-      expect(it.room.size <= sizeof text, "tt_message: %zu bytes", it.room.size)) {
+      expect(it.room.size <= LONGEST_MESSAGE, "tt_message: %zu bytes", it.room.size)) {
     memcpy(text, it.room.at, it.room.size);
     expect(memchr(text, 0, it.room.size) == text + it.room.size - 1, "tt_message: no zero, or not where its end is");
     expect(it.answer.count == 0, "tt_message: %" PRIu64 " entries", it.answer.count);

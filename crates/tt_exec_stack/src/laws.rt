@@ -2,8 +2,8 @@
 
 ghost use Rattle.tt_exec_stack.specs.Laws.{ManagingIsLoosened, ManagingIsTotal, ArithmeticIsTotal, LogicIsTotal, ManagingIsShort, ArithmeticIsShort, LogicIsShort, PaddedIsEnough, EnoughStays};
 
-/// Lemma, for instructions that manage the stack: a tolerant machine gives the result of a strict one, unless that is a
-/// refusal that tolerance lifts.
+/// Lemma: by an instruction that manages the stack, a tolerant machine gives the result of a strict one, unless that is
+/// a refusal that tolerance lifts.
 pub fn managing_is_loosened()
     ensures { ManagingIsLoosened }
 {}
