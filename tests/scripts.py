@@ -59,8 +59,8 @@ def all_names():
 
 def newest_source():
     """Returns the date of the newest file that a proof reads."""
-    files = [ROOT / "crates.txt", *(it for part in ("src", "specs", "proofs") for it in ROOT.glob(f"crates/*/{part}/**/*"))]
-    return max(it.stat().st_mtime for it in files)
+    files = [it for part in ("src", "specs", "proofs") for it in ROOT.glob(f"crates/*/{part}/**/*")]
+    return max(it.stat().st_mtime for it in [ROOT / "crates.txt", *files])
 
 
 def program_for_tests(word):
@@ -70,8 +70,10 @@ def program_for_tests(word):
     """
     variable, crate = FOR_TESTS[word]
     named, built = os.environ.get(variable), ROOT / "crates" / crate / "out" / crate
+    if named and os.access(named, os.X_OK):
+        return named, ""
     if named:
-        return (named, "") if os.access(named, os.X_OK) else ("", f"there is no program {named}, which {variable} names")
+        return "", f"there is no program {named}, which {variable} names"
     if not os.access(built, os.X_OK):
         return "", f"there is no program {crate}, which the gate makes"
     if built.stat().st_mtime < newest_source():
@@ -80,7 +82,7 @@ def program_for_tests(word):
 
 
 def lacks(name):
-    """Returns why a script cannot run here, or nothing. A script with a line `asks=WORD` needs that program for tests."""
+    """Returns why a script cannot run here, or nothing. One with a line `asks=WORD` needs that program for tests."""
     asked = re.search(r"^asks=(\w+)$", path_of(name).read_text(encoding="utf-8"), re.M)
     if asked and WHY[asked[1]]:
         return WHY[asked[1]]

@@ -1,4 +1,4 @@
-"""What the verdicts on a crate's wrong bodies rest on, as a sum, and the file wrong_bodies/VERDICTS, which keeps the sums.
+"""What the verdicts on a crate's wrong bodies rest on, as a sum, and the file VERDICTS, which keeps the sums.
 
 Nothing here needs the toolchain.
 """
@@ -19,7 +19,7 @@ HEAD = """\
 
 
 def crates_of(root):
-    """Returns the crates of crates.txt: by name its line without a comment, and the crates of the repository it uses."""
+    """Returns by the name of each crate its line of crates.txt, and the crates of the repository that it uses."""
     lines = [line.partition("#")[0].split() for line in (root / "crates.txt").read_text().splitlines()]
     words = {line[0].rstrip(":"): " ".join(line) for line in lines if line}
     return {name: (line, [it for it in line.partition(":")[2].split() if it in words]) for name, line in words.items()}
@@ -49,7 +49,7 @@ def crates_with_edits(root):
 
 @functools.lru_cache(maxsize=None)
 def texts_of(folder, part):
-    """Returns the .rt and .antt files of a part of a crate, each by its path in the crate and its lines without comments."""
+    """Returns the .rt and .antt files of a part of a crate: the path of each and its lines without comments."""
     paths = sorted(path for path in (folder / part).rglob("*") if path.suffix in (".rt", ".antt"))
     return [(str(path.relative_to(folder)), bare_lines(path)) for path in paths]
 
@@ -106,7 +106,7 @@ def read_verdicts(root):
 
 
 def stale_crates(root):
-    """Returns the crates whose recorded sum is not the sum of what is here, and recorded ones that have no edits now."""
+    """Returns the crates whose recorded sum is not that of what is here, and recorded ones that have no edits now."""
     toolchain, (_, said) = toolchain_of(root), read_verdicts(root)
     names = crates_with_edits(root)
     changed = [it for it in names if said.get(it, "").split(" ")[0] != sum_of(root, it, toolchain)]
@@ -125,7 +125,7 @@ def alone(folder):
 
 
 def record(root, name, toolchain, line):
-    """Puts a crate's line into VERDICTS. Other lines stay, unless they are of another toolchain or have no edits now."""
+    """Puts a crate's line into VERDICTS. Lines of another toolchain, or of crates without edits, are removed."""
     folder = root / "wrong_bodies"
     with alone(folder):
         was, said = read_verdicts(root)
