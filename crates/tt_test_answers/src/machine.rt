@@ -21,109 +21,207 @@
 //! projection and the freedom vector, each as its parts `x,y` in 2.14, and after the functions stand the instructions as
 //! OPCODE TABLE START.
 
-ghost use Rattle.std.specs.Prelude.{◌≤◌, IfOk, IsTrue};
+ghost use Rattle.std.specs.Prelude.{◌≤◌, IsTrue};
 ghost use Rattle.tt_core.specs.Faults.{is_ascii};
 ghost use Rattle.tt_core.specs.Limits.{size_limit};
 ghost use Rattle.tt_core.specs.Scales.{IsScale};
 ghost use Rattle.tt_points_zones.specs.Zones.{IsZones, zones_view};
 
 mod parts;
-mod telling;
+mod state;
 
-use self::parts::{Program, Rules, parts_in, program_in};
-use self::telling::print_run;
-use anyhow::{Result, bail};
+use self::parts::{Rules, parts_in};
+use self::state::put_parts;
+use crate::tables::put_fault;
 use std::alloc::Global;
-use std::io::Write;
 use std::mem::swap;
-use tt_exec::{Code, Functions, Machine, Parts};
-use tt_test_words::{Answers, Words};
+use tt_exec::{Code, ExecFault, Functions, Machine, Parts};
+use tt_test_words::{Line, MOST};
 
-/// What answers them: it keeps the font program.
+/// A program: the offset of its first byte in its table, and its bytes.
 #[derive(Drop)]
-pub(crate) struct Runs {
-    font: Program,
+pub(crate) struct Program {
+    base: u32,
+    bytes: Vec<u8>,
 }
 
-impl Runs {
-    pub(crate) fn new(alloc: Global) -> Runs {
-        Runs {
-            font: Program::empty(alloc),
+impl Program {
+    pub(crate) fn empty(alloc: Global) -> Program {
+        Program {
+            base: 0,
+            bytes: Vec::new(alloc),
         }
     }
 }
 
-impl Answers for Runs {
-    fn take<W: Write>(&mut self, rt: &HostRuntime, out: &mut W, words: &mut Words) -> Result<()> {
-        let alloc = rt.alloc();
-        let (rules, table) = match words.word()? {
-            "font" => {
-                self.font = program_in(alloc, words)?;
-                return words.end();
-            }
-            "whole" => (Rules::Whole, words.word()?),
-            "tolerant" => (Rules::Tolerant, words.word()?),
-            table => (Rules::Profile, table),
+/// The program that the next two words are.
+fn program_in(alloc: Global, line: &mut Line) -> Program {
+    let base = line.count();
+    let bytes = line.bytes(alloc);
+    if bytes.len() > MOST {
+        line.refuse("the program is too long");
+    }
+    Program { base, bytes }
+}
+
+/// A program of a table. One that is too long has no bytes: its line is refused.
+fn code_of(table: [u8; 4], program: &Program) -> Code<'_>
+    requires { IsTrue (is_ascii table) }
+{
+    if program.base as usize > MOST || program.bytes.len() > MOST {
+        return Code {
+            table,
+            base: 0,
+            bytes: &[],
         };
-        let table = table_named(table)?;
-        let program = program_in(alloc, words)?;
-        let parts = parts_in(alloc, words, rules)?;
-        words.end()?;
-        let font = self.font.code(*b"fpgm");
-        answer(alloc, out, font, program.code(table), parts)?;
-        writeln!(out)?;
-        Ok(())
+    }
+    Code {
+        table,
+        base: program.base,
+        bytes: program.bytes.as_slice(),
     }
 }
 
-fn table_named(word: &str) -> Result<[u8; 4]>
-    ensures { IfOk result (λ table. IsTrue (is_ascii table)) }
+/// Answers a question, or keeps a font program.
+pub(crate) fn answer(alloc: Global, line: &mut Line, font: &mut Program) {
+    match line.word() {
+        "font" => {
+            *font = program_in(alloc, line);
+            line.end();
+        }
+        "whole" => {
+            let word = line.word();
+            answer_by(alloc, line, font, Rules::Whole, word);
+        }
+        "tolerant" => {
+            let word = line.word();
+            answer_by(alloc, line, font, Rules::Tolerant, word);
+        }
+        word => answer_by(alloc, line, font, Rules::Profile, word),
+    }
+}
+
+/// Answers a question about a program of a table.
+fn answer_by(alloc: Global, line: &mut Line, font: &Program, rules: Rules, table: &str) {
+    let table = table_named(line, table);
+    let program = program_in(alloc, line);
+    let parts = parts_in(alloc, line, rules);
+    line.end();
+    if !line.is_refused() {
+        run(
+            alloc,
+            line,
+            code_of(*b"fpgm", font),
+            code_of(table, &program),
+            parts,
+        );
+    }
+}
+
+fn table_named(line: &mut Line, word: &str) -> [u8; 4]
+    ensures { IsTrue (is_ascii result) }
 {
     match word {
-        "fpgm" => Ok(*b"fpgm"),
-        "prep" => Ok(*b"prep"),
-        "glyf" => Ok(*b"glyf"),
-        _ => bail!("no such question"),
+        "fpgm" => *b"fpgm",
+        "prep" => *b"prep",
+        "glyf" => *b"glyf",
+        _ => {
+            line.refuse("no such question");
+            *b"fpgm"
+        }
     }
 }
 
-/// Runs a program on these parts, after the font program has defined what it does.
-fn answer<'a, W: Write>(
+type Definitions<'a> = (Functions<'a>, Functions<'a>);
+
+/// Runs a program on these parts, after the font program has defined its functions and instructions.
+fn run<'a>(alloc: Global, line: &mut Line, font: Code<'a>, code: Code<'a>, parts: Parts<'a>)
+    requires size { parts.ppem ≤ size_limit }
+    requires scale { IsScale parts.scale }
+    requires zones { IsZones (zones_view parts.zones) }
+{
+    match definitions_of(alloc, &parts, font) {
+        Some(definitions) => run_defined(alloc, line, code, parts, definitions),
+        None => line.refuse("the font program stops, or memory is refused"),
+    }
+}
+
+/// The functions that the font program defines, and the instructions; None where the program stops.
+fn definitions_of<'a>(alloc: Global, parts: &Parts<'a>, font: Code<'a>) -> Option<Definitions<'a>>
+    requires size { parts.now.ppem ≤ size_limit }
+    requires scale { IsScale parts.now.scale }
+    requires zones { IsZones (zones_view parts.now.zones) }
+{
+    let machine = started(alloc, parts)?;
+    let parts = left_by(machine, font)?;
+    Some((parts.functions, parts.instructions))
+}
+
+/// A machine of the same parts.
+fn started<'a>(alloc: Global, parts: &Parts<'a>) -> Option<Machine<'a>>
+    requires size { parts.now.ppem ≤ size_limit }
+    requires scale { IsScale parts.now.scale }
+    requires zones { IsZones (zones_view parts.now.zones) }
+{
+    match parts.copy() {
+        Ok(copy) => Machine::new(alloc, copy).ok(),
+        Err(_) => None,
+    }
+}
+
+/// The parts that a program leaves; None where it stops.
+fn left_by<'a>(mut machine: Machine<'a>, code: Code<'a>) -> Option<Parts<'a>> {
+    match machine.run(code) {
+        Ok(_) => machine.into_parts(),
+        Err(_) => None,
+    }
+}
+
+/// Runs a program on these parts with other functions and instructions.
+fn run_defined<'a>(
     alloc: Global,
-    out: &mut W,
-    font: Code<'a>,
+    line: &mut Line,
     code: Code<'a>,
     mut parts: Parts<'a>,
-) -> Result<()>
+    mut definitions: Definitions<'a>,
+)
     requires size { parts.ppem ≤ size_limit }
     requires scale { IsScale parts.scale }
     requires zones { IsZones (zones_view parts.zones) }
 {
-    let before = parts.copy()?;
-    let (mut functions, mut instructions) = definitions_of(alloc, parts.copy()?, font)?;
-    swap(&mut parts.functions, &mut functions);
-    swap(&mut parts.instructions, &mut instructions);
-    print_run(out, Machine::new(alloc, parts)?, code, &before)
+    swap(&mut parts.functions, &mut definitions.0);
+    swap(&mut parts.instructions, &mut definitions.1);
+    match started(alloc, &parts) {
+        Some(machine) => put_run(line, machine, code, &parts),
+        None => line.refuse("out of memory"),
+    }
 }
 
-type Definitions<'a> = Functions<'a>;
+/// Runs a program, and puts what it leaves of the parts that were there before.
+fn put_run<'a>(line: &mut Line, mut machine: Machine<'a>, code: Code<'a>, before: &Parts) {
+    match machine.run(code) {
+        Ok(steps) => put_steps(line, steps, machine, before),
+        Err(fault) => put_refusal(line, fault),
+    }
+    line.put("\n");
+}
 
-/// The functions that the font program defines, and the instructions.
-fn definitions_of<'a>(
-    alloc: Global,
-    parts: Parts<'a>,
-    font: Code<'a>,
-) -> Result<(Definitions<'a>, Definitions<'a>)>
-    requires size { parts.ppem ≤ size_limit }
-    requires scale { IsScale parts.scale }
-    requires zones { IsZones (zones_view parts.zones) }
-{
-    let mut machine = Machine::new(alloc, parts)?;
-    if machine.run(font).is_err() {
-        bail!("the font program stops");
+/// Puts the steps, and what the machine holds after them.
+fn put_steps(line: &mut Line, steps: u32, machine: Machine, before: &Parts) {
+    line.put_number(i64::from(steps));
+    line.put(" steps; stack");
+    for value in machine.stack() {
+        line.put_field(i64::from(*value));
     }
     match machine.into_parts() {
-        Some(parts) => Ok((parts.functions, parts.instructions)),
-        None => bail!("the font program leaves no parts"),
+        Some(after) => put_parts(line, before, &after),
+        None => line.refuse("the run leaves no parts"),
+    }
+}
+
+fn put_refusal(line: &mut Line, fault: ExecFault) {
+    match fault {
+        ExecFault::Font(fault) => put_fault(line, fault),
+        _ => line.refuse("out of memory"),
     }
 }

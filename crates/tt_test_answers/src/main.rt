@@ -1,4 +1,4 @@
-//! Prints what the libraries say, to be compared with what other programs say:
+//! Prints the answers of the libraries, to be compared with those of other programs:
 //!
 //!     tt_test_answers glyphs FONT
 //!     tt_test_answers outlines FONT SIZE FIT all
@@ -8,44 +8,64 @@
 //!     tt_test_answers machine
 //!
 //! FIT is `full`, `none`, `fallback` or `best`. `pixels`, of edges and pixels, and `machine`, of runs of the bytecode
-//! machine, read their questions from standard input. The module of each word says what its lines hold. A glyph for which memory was refused is told on standard error, and asked for again.
+//! machine, read their questions from standard input. The module of each word states the form of its lines. Where
+//! memory is refused for a glyph, a note on standard error names the glyph, and the glyph is requested once more.
 #![tactic(auto)]
 
-mod asking;
 mod glyphs;
 mod machine;
 mod outlines;
+mod pictures;
 mod pixels;
 mod tables;
 
-use crate::machine::Runs;
-use crate::pixels::Pixels;
+use crate::machine::Program;
 use anyhow::{Result, bail};
+use std::io::{BufRead, BufReader};
 use std::{env, fs};
-use tt_test_words::{Answers, Words, take_all};
+use tt_test_words::Line;
 
 fn main(rt: HostRuntime) -> Result<()> {
-    let all: Vec<String> = env::args(&rt)?.collect(rt.alloc())?;
-    let mut words = Words::Arguments(all.as_slice().iter());
-    let _program = words.word()?;
-    match words.word()? {
-        "glyphs" => {
-            let font = fs::read(&rt, words.word()?)?;
-            words.end()?;
-            glyphs::print_table(&rt, font.as_slice())
-        }
-        "outlines" => {
-            let font = fs::read(&rt, words.word()?)?;
-            outlines::print_table(&rt, font.as_slice(), &mut words)
-        }
-        "pixels" => answer(&rt, &mut words, Pixels),
-        "machine" => answer(&rt, &mut words, Runs::new(rt.alloc())),
-        _ => bail!("no such table"),
+    let words: Vec<String> = env::args(&rt)?.collect(rt.alloc())?;
+    match words.as_slice() {
+        [_, what] => answer_lines(&rt, what.as_str()),
+        [_, what, font, rest @ ..] => answer_words(&rt, what.as_str(), font.as_str(), rest),
+        _ => bail!("a word is missing"),
     }
 }
 
-/// Answers the questions of standard input, where no word is left.
-fn answer<A: Answers + Drop>(rt: &HostRuntime, words: &mut Words, answers: A) -> Result<()> {
-    words.end()?;
-    take_all(rt, answers)
+/// Answers the words of the command line, about a font.
+fn answer_words(rt: &HostRuntime, what: &str, path: &str, words: &[String]) -> Result<()> {
+    let font = fs::read(rt, path)?;
+    let mut text = String::new(rt.alloc());
+    for word in words {
+        text.push_str(word.as_str())?;
+        text.push(' ')?;
+    }
+    let mut line = Line::new(rt.alloc(), text.as_str());
+    match what {
+        "glyphs" => glyphs::put_table(rt.alloc(), &mut line, font.as_slice()),
+        "outlines" => outlines::put_table(rt.alloc(), &mut line, font.as_slice()),
+        _ => line.refuse("no such table"),
+    }
+    line.print(rt, 0)
+}
+
+/// Answers the lines of standard input.
+fn answer_lines(rt: &HostRuntime, what: &str) -> Result<()> {
+    let input = BufReader::new(rt.alloc(), rt.reader())?;
+    let mut number = 0u64;
+    let mut font = Program::empty(rt.alloc());
+    for text in input.lines(rt.alloc()) {
+        let text = text?;
+        number = number.wrapping_add(1);
+        let mut line = Line::new(rt.alloc(), text.as_str());
+        match what {
+            "pixels" => pixels::answer(rt.alloc(), &mut line),
+            "machine" => machine::answer(rt.alloc(), &mut line, &mut font),
+            _ => line.refuse("no such table"),
+        }
+        line.print(rt, number)?;
+    }
+    Ok(())
 }

@@ -5,197 +5,201 @@
 //! point at 0. Of a glyph that falls back the outline's line has `unfitted TABLE+OFFSET: NUMBER NAME` behind the number,
 //! and a picture has the line `GLYPH unfitted TABLE+OFFSET: NUMBER NAME` before it.
 
-ghost use Rattle.std.specs.Prelude.{◌≡◌, ◌<◌, length, All, IfOk};
+ghost use Rattle.std.specs.Prelude.{◌≡◌, ◌<◌, length, All, IfOk, IfSome};
 ghost use Rattle.tt_fit.specs.Outline.{AreEnds, IsPoint};
 ghost use Rattle.tt_scan.specs.Winding.{FrameFits};
 
-use crate::asking::{fit_in, frame_in};
-use crate::pixels::print_pixels;
-use crate::tables::{Refusal, defect_of, failed, programs_of, tables_of, tell};
-use anyhow::{Result, bail};
-use std::alloc::AllocError;
-use std::io::{self, BufWriter, Write};
+use crate::pictures::{frame_in, put_picture};
+use crate::tables::{note_glyph, programs_of, put_fault, tables_of};
+use std::alloc::Global;
 use tt_arc::chords;
 use tt_core::{COORDINATE_LIMIT, FontFault, SIZE_LIMIT};
-use tt_fit::{Fit, Fitter, Outline, Programs};
+use tt_fit::{Fit, Fitter, Outline};
 use tt_scan::{Frame, Tape};
-use tt_test_words::Words;
+use tt_test_words::Line;
 
 const SIZE: i64 = SIZE_LIMIT as i64;
 
-const NO_PROGRAMS: Programs<'static> = Programs {
-    cvt: &[],
-    fpgm: &[],
-    prep: &[],
-};
-
-/// Prints what the words ask of a font: first the size and how outlines are fitted.
-pub(crate) fn print_table<R: Print + Eprint + AllocGlobal>(
-    rt: &R,
-    font: &[u8],
-    words: &mut Words,
-) -> Result<()> {
-    let size = words.number(1, SIZE)? as u32;
-    let fit = fit_in(words)?;
-    let (metrics, glyphs) = tables_of(font)?;
-    let programs = match fit {
-        Fit::Full | Fit::Fallback | Fit::Best => programs_of(font)?,
-        Fit::None => NO_PROGRAMS,
+/// Puts what the words request of a font: first the size and how outlines are fitted.
+pub(crate) fn put_table(alloc: Global, line: &mut Line, font: &[u8]) {
+    let size = line.number(1, SIZE) as u32;
+    let fit = fit_in(line);
+    let (Some((metrics, glyphs)), Some(programs)) = (tables_of(font), programs_of(font)) else {
+        line.refuse("the font is refused");
+        return;
     };
-    match Fitter::new(rt.alloc(), &metrics, glyphs, programs, size, fit) {
-        Ok(fitter) => print_glyphs(rt, &fitter, metrics.glyphs(), words),
-        Err(fault) => Err(failed(fault)),
+    if line.is_refused() {
+        return;
+    }
+    match Fitter::new(alloc, &metrics, glyphs, programs, size, fit) {
+        Ok(fitter) => put_glyphs(alloc, line, &fitter, metrics.glyphs()),
+        Err(_) => line.refuse("the font's programs are refused"),
     }
 }
 
-/// Does what the words say, with a font of so many glyphs.
-fn print_glyphs<R: Print + Eprint + AllocGlobal>(
-    rt: &R,
-    fitter: &Fitter,
-    glyphs: u16,
-    words: &mut Words,
-) -> Result<()>
+/// The next word, how outlines are fitted.
+fn fit_in(line: &mut Line) -> Fit {
+    match line.word() {
+        "full" => Fit::Full,
+        "none" => Fit::None,
+        "fallback" => Fit::Fallback,
+        "best" => Fit::Best,
+        word => {
+            line.note(word);
+            line.refuse(" is no way to fit");
+            Fit::None
+        }
+    }
+}
+
+/// Does what the words say, with a font of this number of glyphs.
+fn put_glyphs(alloc: Global, line: &mut Line, fitter: &Fitter, glyphs: u16)
     requires { fitter.now.tables.glyphs ≡ glyphs }
 {
-    let mut out = BufWriter::new(rt.alloc(), io::writer(rt))?;
-    match words.word()? {
+    match line.word() {
         "all" => {
-            words.end()?;
+            line.end();
             for g in 0..glyphs {
-                print_glyph(rt, &mut out, fitter, g)?;
+                put_glyph(line, fitter, g);
             }
         }
         "pixels" => {
-            let g = glyph_in(words.word()?, glyphs)?;
-            let frame = frame_in(words)?;
-            words.end()?;
-            print_picture(rt, &mut out, fitter, g, frame)?;
+            let word = line.word();
+            let glyph = glyph_of(line, word, glyphs);
+            let frame = frame_in(line);
+            line.end();
+            if let Some(g) = glyph {
+                put_pixels(alloc, line, fitter, g, frame);
+            }
         }
         first => {
-            print_glyph(rt, &mut out, fitter, glyph_in(first, glyphs)?)?;
+            let mut word = Some(first);
             for _ in 0..u64::MAX {
-                let Some(word) = words.next() else { break };
-                print_glyph(rt, &mut out, fitter, glyph_in(word, glyphs)?)?;
+                let Some(digits) = word else { break };
+                if let Some(g) = glyph_of(line, digits, glyphs) {
+                    put_glyph(line, fitter, g);
+                }
+                word = line.next();
             }
         }
     }
-    out.flush()?;
-    Ok(())
 }
 
-fn glyph_in(word: &str, glyphs: u16) -> Result<u16>
-    ensures { IfOk result (λ g. g < glyphs) }
+/// The glyph of a number. If there is none, the line is refused.
+fn glyph_of(line: &mut Line, word: &str, glyphs: u16) -> Option<u16>
+    ensures { IfSome result (λ g. g < glyphs) }
 {
-    let glyph: u16 = word.parse()?;
-    if glyph >= glyphs {
-        bail!("there is no glyph {glyph}");
+    match word.parse::<u16>() {
+        Ok(glyph) if glyph < glyphs => Some(glyph),
+        _ => {
+            line.refuse("there is no glyph ");
+            line.note(word);
+            None
+        }
     }
-    Ok(glyph)
 }
 
-fn print_glyph<R: Eprint, W: Write>(rt: &R, out: &mut W, fitter: &Fitter, g: u16) -> Result<()>
+fn put_glyph(line: &mut Line, fitter: &Fitter, g: u16)
     requires { g < fitter.now.tables.glyphs }
 {
-    match fitted_twice(rt, fitter, g) {
-        Ok(outline) => print_outline(out, g, &outline),
-        Err(fault) => print_refusal(out, g, fault),
+    match fitted_twice(line, fitter, g) {
+        Ok(outline) => put_outline(line, g, &outline),
+        Err(fault) => put_refusal(line, g, fault),
     }
 }
 
-/// Asks for an outline, and once more where memory was refused.
-fn fitted_twice<R: Eprint>(rt: &R, fitter: &Fitter, g: u16) -> Result<Outline, FontFault>
+/// Requests an outline, and once more where memory was refused.
+fn fitted_twice(line: &mut Line, fitter: &Fitter, g: u16) -> Result<Outline, FontFault>
     requires { g < fitter.now.tables.glyphs }
     ensures coordinates { IfOk result (λ o. All IsPoint o.points.items) }
     ensures ends { IfOk result (λ o. AreEnds (length o.points.items) o.ends.items) }
 {
     let first = fitter.fitted(g);
     if let Err(FontFault::Memory) = first {
-        tell(rt, g);
+        note_glyph(line, g);
         return fitter.fitted(g);
     }
     first
 }
 
-fn print_refusal<W: Write>(out: &mut W, g: u16, fault: FontFault) -> Result<()> {
-    match defect_of(fault) {
-        Some(fault) => {
-            let refusal = Refusal(fault);
-            writeln!(out, "{g} {refusal}")?;
-            Ok(())
+fn put_refusal(line: &mut Line, g: u16, fault: FontFault) {
+    match fault {
+        FontFault::Font(fault) => {
+            line.put_number(i64::from(g));
+            line.put(" ");
+            put_fault(line, fault);
+            line.put("\n");
         }
-        None => bail!("out of memory again"),
+        FontFault::Memory => line.refuse("out of memory again"),
     }
 }
 
-fn print_outline<W: Write>(out: &mut W, g: u16, outline: &Outline) -> Result<()> {
-    write!(out, "{g}")?;
+fn put_outline(line: &mut Line, g: u16, outline: &Outline) {
+    line.put_number(i64::from(g));
     if let Some(fault) = outline.unfitted {
-        let refusal = Refusal(fault);
-        write!(out, " unfitted {refusal}")?;
+        line.put(" unfitted ");
+        put_fault(line, fault);
     }
-    write!(out, " phantom")?;
+    line.put(" phantom");
     for (x, y) in &outline.phantom {
-        write!(out, " {x} {y}")?;
+        line.put_fields(&[i64::from(*x), i64::from(*y)]);
     }
-    write!(out, " ends")?;
+    line.put(" ends");
     for end in &outline.ends {
-        write!(out, " {end}")?;
+        line.put_field(i64::from(*end));
     }
-    write!(out, " points")?;
+    line.put(" points");
     for (x, y, on) in &outline.points {
-        let on = u8::from(*on);
-        write!(out, " {x} {y} {on}")?;
+        line.put_fields(&[i64::from(*x), i64::from(*y), i64::from(*on)]);
     }
-    writeln!(out)?;
-    Ok(())
+    line.put("\n");
 }
 
-fn print_picture<R: Eprint + AllocGlobal, W: Write>(
-    rt: &R,
-    out: &mut W,
-    fitter: &Fitter,
-    g: u16,
-    frame: Frame,
-) -> Result<()>
+fn put_pixels(alloc: Global, line: &mut Line, fitter: &Fitter, g: u16, frame: Frame)
     requires glyph { g < fitter.now.tables.glyphs }
     requires frame { FrameFits frame }
 {
-    match fitted_twice(rt, fitter, g) {
+    match fitted_twice(line, fitter, g) {
         Ok(outline) => {
-            let mut tape = chords_twice(rt, g, &outline, frame)?;
+            let Some(mut tape) = chords_twice(alloc, line, g, &outline, frame) else {
+                line.refuse("no chords");
+                return;
+            };
             if let Some(fault) = outline.unfitted {
-                let refusal = Refusal(fault);
-                writeln!(out, "{g} unfitted {refusal}")?;
+                line.put_number(i64::from(g));
+                line.put(" unfitted ");
+                put_fault(line, fault);
+                line.put("\n");
             }
-            print_pixels(out, &mut tape, frame, "\n")
+            put_picture(line, &mut tape, frame, b'\n');
         }
-        Err(fault) => print_refusal(out, g, fault),
+        Err(fault) => put_refusal(line, g, fault),
     }
 }
 
-/// The edges of an outline whose left phantom point is moved to 0; asked for once more where memory was refused.
-#[tactic(auto, using(crate::proofs::Near::near_of))]
-fn chords_twice<R: Eprint + AllocGlobal>(
-    rt: &R,
+/// The edges of an outline whose left phantom point is moved to 0, requested once more where memory was refused.
+fn chords_twice(
+    alloc: Global,
+    line: &mut Line,
     g: u16,
     outline: &Outline,
     frame: Frame,
-) -> Result<Tape>
+) -> Option<Tape>
     requires frame { FrameFits frame }
     requires coordinates { All IsPoint outline.now.points.items }
     requires ends { AreEnds (length outline.now.points.items) outline.now.ends.items }
-    ensures { IfOk result (λ t. t.frame ≡ frame) }
+    ensures { IfSome result (λ t. t.frame ≡ frame) }
 {
     let (left, _) = outline.phantom[0];
     if left < -COORDINATE_LIMIT || COORDINATE_LIMIT < left {
-        bail!("the phantom point is too far");
+        return None;
     }
     let dx = -i64::from(left);
-    match chords(rt.alloc(), outline, dx, 0, frame) {
-        Ok(tape) => Ok(tape),
-        Err(AllocError) => {
-            tell(rt, g);
-            Ok(chords(rt.alloc(), outline, dx, 0, frame)?)
+    match chords(alloc, outline, dx, 0, frame) {
+        Ok(tape) => Some(tape),
+        Err(_) => {
+            note_glyph(line, g);
+            chords(alloc, outline, dx, 0, frame).ok()
         }
     }
 }

@@ -6,125 +6,101 @@
 //!
 //! Its answer is a line too. For `pixels` it is the picture from the top, '#' for a black pixel and '.' for a white
 //! one, and '/' after each row. For `edges` it is for each edge `rows FIRST END`, or `rows none`, then for each row of
-//! the frame `|TURN FIRST`, or `|TURN FIRST touch FIRST LAST` where the edge touches centres, and '/' after each edge. An
-//! edge for which memory was refused is told on standard error, and put on the tape again.
+//! the frame `|TURN FIRST`, or `|TURN FIRST touch FIRST LAST` where the edge touches centres, and '/' after each edge.
+//! Where memory is refused for an edge, a note on standard error says so, and the edge is put on the tape again.
 
-ghost use Rattle.std.specs.Prelude.{◌≡◌, IfOk};
+ghost use Rattle.std.specs.Prelude.{◌≡◌, ◌≤ℤ◌, ◌<ℤ◌, ◌<◌, ◌^◌, pos, length};
 ghost use Rattle.tt_scan.specs.Winding.{EdgeFits, FrameFits};
 
-use crate::asking::frame_in;
-use anyhow::{Result, bail};
-use std::io::Write;
+use crate::pictures::{MOST_CROSSES, frame_in, put_picture};
+use std::alloc::Global;
 use tt_scan::{Edge, Frame, Tape};
-use tt_test_words::{Answers, MOST, Words};
-
-/// More crossings than are asked for.
-const MOST_CROSSES: u64 = 1 << 40;
+use tt_test_words::Line;
 
 /// The ends of an edge stay less than this from 0.
 const REACH: i64 = 1 << 30;
 
-/// What answers them.
-#[derive(Clone, Copy)]
-pub(crate) struct Pixels;
+/// Answers a question.
+pub(crate) fn answer(alloc: Global, line: &mut Line) {
+    let what = line.word();
+    let frame = frame_in(line);
+    let mut tape = Tape::new(alloc, frame);
+    push_all(line, &mut tape);
+    line.end();
+    if line.is_refused() {
+        return;
+    }
+    match what {
+        "pixels" => put_picture(line, &mut tape, frame, b'/'),
+        "edges" => put_edges(line, &mut tape, frame),
+        _ => line.refuse("no such question"),
+    }
+    line.put_byte(b'\n');
+}
 
-impl Answers for Pixels {
-    fn take<W: Write>(&mut self, rt: &HostRuntime, out: &mut W, words: &mut Words) -> Result<()> {
-        let what = words.word()?;
-        let frame = frame_in(words)?;
-        let mut tape = tape_in(rt, words, frame)?;
-        words.end()?;
-        match what {
-            "pixels" => print_pixels(out, &mut tape, frame, "/")?,
-            "edges" => print_edges(out, &mut tape, frame)?,
-            _ => bail!("no such question"),
-        }
-        writeln!(out)?;
-        Ok(())
+fn edge_in(line: &mut Line) -> Edge
+    ensures { EdgeFits result }
+{
+    Edge {
+        ax: line.number(1 - REACH, REACH - 1) as i32,
+        ay: line.number(1 - REACH, REACH - 1) as i32,
+        bx: line.number(1 - REACH, REACH - 1) as i32,
+        by: line.number(1 - REACH, REACH - 1) as i32,
     }
 }
 
-fn edge_in(words: &mut Words) -> Result<Edge>
-    ensures { IfOk result EdgeFits }
-{
-    Ok(Edge {
-        ax: words.number(1 - REACH, REACH - 1)? as i32,
-        ay: words.number(1 - REACH, REACH - 1)? as i32,
-        bx: words.number(1 - REACH, REACH - 1)? as i32,
-        by: words.number(1 - REACH, REACH - 1)? as i32,
-    })
-}
-
-fn tape_in<R: Eprint + AllocGlobal>(rt: &R, words: &mut Words, frame: Frame) -> Result<Tape>
-    requires { FrameFits frame }
-    ensures { IfOk result (λ t. t.frame ≡ frame) }
-{
-    let mut tape = Tape::new(rt.alloc(), frame);
-    for _ in 0..words.count()? {
-        push_twice(rt, &mut tape, edge_in(words)?)?;
-    }
-    Ok(tape)
-}
-
-/// Puts an edge on a tape, and once more where memory was refused.
-fn push_twice<R: Eprint>(rt: &R, tape: &mut Tape, edge: Edge) -> Result<()>
-    requires { EdgeFits edge }
+/// Puts the edges of a question on a tape, each once more where memory was refused.
+fn push_all(line: &mut Line, tape: &mut Tape)
     ensures { tape.new.frame ≡ tape.old.frame }
 {
-    if tape.push(edge).is_err() {
-        let _ = eprintln!(rt; "an edge: out of memory");
-        tape.push(edge)?;
-    }
-    Ok(())
-}
-
-/// Prints a picture from the top, with `end` after each row.
-pub(crate) fn print_pixels<W: Write>(
-    out: &mut W,
-    tape: &mut Tape,
-    frame: Frame,
-    end: &str,
-) -> Result<()>
-    requires { tape.old.frame ≡ frame }
-{
-    for r in 0..frame.height {
-        for c in 0..frame.width {
-            if tape.crosses() > MOST_CROSSES || tape.edges() > MOST {
-                bail!("too many crossings");
-            }
-            if tape.pixel(i64::from(c), i64::from(r)) {
-                write!(out, "#")?;
-            } else {
-                write!(out, ".")?;
+    for _ in 0..line.count() {
+        let edge = edge_in(line);
+        if tape.push(edge).is_err() {
+            line.note("an edge: out of memory\n");
+            if tape.push(edge).is_err() {
+                line.refuse("out of memory");
             }
         }
-        write!(out, "{end}")?;
     }
-    Ok(())
 }
 
-fn print_edges<W: Write>(out: &mut W, tape: &mut Tape, frame: Frame) -> Result<()>
+fn put_edges(line: &mut Line, tape: &mut Tape, frame: Frame)
     requires { tape.old.frame ≡ frame }
 {
     for i in 0..tape.edges() {
         let (first, end) = tape.rows_of(i);
         if first < end {
-            write!(out, "rows {first} {end}")?;
+            line.put("rows");
+            line.put_fields(&[first, end]);
         } else {
-            write!(out, "rows none")?;
+            line.put("rows none");
         }
         for r in 0..frame.height {
             if tape.crosses() > MOST_CROSSES {
-                bail!("too many crossings");
+                line.refuse("too many crossings");
+                return;
             }
-            let cross = tape.cross(i, i64::from(r));
-            let (turn, first) = (cross.turn, cross.first);
-            write!(out, "|{turn} {first}")?;
-            if let Some((from, to)) = cross.touch {
-                write!(out, " touch {from} {to}")?;
-            }
+            put_cross(line, tape, i, i64::from(r));
         }
-        write!(out, "/")?;
+        line.put_byte(b'/');
     }
-    Ok(())
+}
+
+/// Puts what an edge does in a row.
+fn put_cross(line: &mut Line, tape: &mut Tape, edge: usize, row: i64)
+    requires within { edge < length tape.old.edges }
+    requires row_low { pos 0 ≤ℤ row }
+    requires row_high { row <ℤ pos tape.old.frame.height }
+    requires few { tape.old.crosses < 2 ^ 63 }
+    ensures frame { tape.new.frame ≡ tape.old.frame }
+    ensures edges { tape.new.edges ≡ tape.old.edges }
+{
+    let cross = tape.cross(edge, row);
+    line.put_byte(b'|');
+    line.put_number(i64::from(cross.turn));
+    line.put_field(cross.first);
+    if let Some((from, to)) = cross.touch {
+        line.put(" touch");
+        line.put_fields(&[from, to]);
+    }
 }

@@ -1,20 +1,15 @@
-//! A question and its answer; the program's page says what they look like.
+//! A question and its answer, in the form that the program's page states.
 
-ghost use Rattle.std.specs.Prelude.{◌≡◌, ◌≤◌, ◌^◌, length, IfOk};
+ghost use Rattle.std.specs.Prelude.{◌≡◌, ◌≤◌, ◌^◌, length, IfSome};
 ghost use Rattle.tt_scan.specs.Contours.{AreEnds};
 ghost use Rattle.tt_scan.specs.Winding.{EdgeFits, FrameFits};
 ghost use Rattle.tt_scan_dropouts.specs.Windows.{WindowFits, widened};
 
-use crate::numbers::Numbers;
-use anyhow::{Result, bail};
 use std::alloc::Global;
-use std::io::Write;
 use tt_core::{HEIGHT_LIMIT, MARGIN_LIMIT, WIDTH_LIMIT};
 use tt_scan::{Edge, Frame, Tape};
 use tt_scan_dropouts::{Pixel, Rules, Window, dropouts};
-
-/// More edges and contours than a question has.
-const MOST: i64 = 1 << 20;
+use tt_test_words::{Line, MOST};
 
 /// The ends of an edge stay less than this from 0, in 1/8192 pixel.
 const REACH: i64 = 1 << 30;
@@ -31,81 +26,83 @@ const HEIGHT: i64 = HEIGHT_LIMIT as i64;
 
 const MARGIN: i64 = MARGIN_LIMIT as i64;
 
-fn rules_in(numbers: &mut Numbers) -> Result<Rules> {
-    Ok(Rules {
-        stubs: numbers.next(0, 1)? == 1,
-        smart: numbers.next(0, 1)? == 1,
-    })
+fn window_in(line: &mut Line) -> Window
+    ensures { WindowFits (widened 2 result) }
+{
+    Window {
+        left: line.number(1 - FAR, FAR - 1) as i32,
+        bottom: line.number(1 - FAR, FAR - 1) as i32,
+        width: line.number(1, WIDTH) as u32,
+        height: line.number(1, HEIGHT) as u32,
+    }
 }
 
-fn window_in(numbers: &mut Numbers) -> Result<Window>
-    ensures { IfOk result (λ w. WindowFits (widened 2 w)) }
+fn frame_in(line: &mut Line) -> Frame
+    ensures { FrameFits result }
 {
-    Ok(Window {
-        left: numbers.next(1 - FAR, FAR - 1)? as i32,
-        bottom: numbers.next(1 - FAR, FAR - 1)? as i32,
-        width: numbers.next(1, WIDTH)? as u32,
-        height: numbers.next(1, HEIGHT)? as u32,
-    })
+    Frame {
+        width: line.number(1, WIDTH) as u32,
+        height: line.number(1, HEIGHT) as u32,
+        margin: line.number(0, MARGIN) as u32,
+        rise: line.number(1 - RISE, RISE - 1) as i32,
+    }
 }
 
-fn frame_in(numbers: &mut Numbers) -> Result<Frame>
-    ensures { IfOk result FrameFits }
+fn edge_in(line: &mut Line) -> Edge
+    ensures { EdgeFits result }
 {
-    Ok(Frame {
-        width: numbers.next(1, WIDTH)? as u32,
-        height: numbers.next(1, HEIGHT)? as u32,
-        margin: numbers.next(0, MARGIN)? as u32,
-        rise: numbers.next(1 - RISE, RISE - 1)? as i32,
-    })
-}
-
-fn edge_in(numbers: &mut Numbers) -> Result<Edge>
-    ensures { IfOk result EdgeFits }
-{
-    Ok(Edge {
-        ax: numbers.next(1 - REACH, REACH - 1)? as i32,
-        ay: numbers.next(1 - REACH, REACH - 1)? as i32,
-        bx: numbers.next(1 - REACH, REACH - 1)? as i32,
-        by: numbers.next(1 - REACH, REACH - 1)? as i32,
-    })
+    Edge {
+        ax: line.number(1 - REACH, REACH - 1) as i32,
+        ay: line.number(1 - REACH, REACH - 1) as i32,
+        bx: line.number(1 - REACH, REACH - 1) as i32,
+        by: line.number(1 - REACH, REACH - 1) as i32,
+    }
 }
 
 /// The edges, on a tape with a frame.
-fn tape_in(alloc: Global, numbers: &mut Numbers) -> Result<Tape> {
-    let mut tape = Tape::new(alloc, frame_in(numbers)?);
-    for _ in 0..numbers.next(0, MOST)? {
-        tape.push(edge_in(numbers)?)?;
+fn tape_in(alloc: Global, line: &mut Line) -> Tape {
+    let mut tape = Tape::new(alloc, frame_in(line));
+    for _ in 0..line.count() {
+        if tape.push(edge_in(line)).is_err() {
+            line.refuse("out of memory");
+        }
     }
-    Ok(tape)
+    tape
 }
 
-/// Where a contour ends among so many edges, and not before the one in front of it does.
-fn end_in(numbers: &mut Numbers, from: usize, edges: usize) -> Result<usize>
+/// Where a contour ends among the edges. It ends where the contour before it does, or behind.
+fn end_in(line: &mut Line, from: usize, edges: usize) -> usize
     requires order { from ≤ edges }
     requires few { edges ≤ 2 ^ 32 }
-    ensures low { IfOk result (λ n. from ≤ n) }
-    ensures high { IfOk result (λ n. n ≤ edges) }
+    ensures low { from ≤ result }
+    ensures high { result ≤ edges }
 {
-    Ok(numbers.next(from as i64, edges as i64)? as usize)
+    line.number(from as i64, edges as i64) as usize
 }
 
-/// Where the contours end. The last one ends behind all edges.
-fn ends_in(alloc: Global, numbers: &mut Numbers, edges: usize) -> Result<Vec<usize>>
+/// Where the contours end. The last one ends behind all edges. If it does not, or memory runs out, the line is refused.
+fn ends_in(alloc: Global, line: &mut Line, edges: usize) -> Option<Vec<usize>>
     requires { edges ≤ 2 ^ 32 }
-    ensures { IfOk result (λ v. AreEnds edges v.items) }
+    ensures { IfSome result (λ v. AreEnds edges v.items) }
 {
     let mut ends = Vec::new(alloc);
     let mut from = 0;
-    'contours: for _ in 0..numbers.next(0, MOST)? {
-        let end = end_in(numbers, from, edges)?;
-        ends.push(end)?;
+    'contours: for _ in 0..line.count() {
+        let end = end_in(line, from, edges);
+        if ends.push(end).is_err() {
+            line.refuse("out of memory");
+            return None;
+        }
         from = end;
     }
     if from != edges {
-        bail!("the contours have {from} edges, and there are {edges}");
+        line.refuse("the contours have");
+        line.note_field(from as i64);
+        line.note(" edges, and there are");
+        line.note_field(edges as i64);
+        return None;
     }
-    Ok(ends)
+    Some(ends)
 }
 
 /// Whether a pixel is among some.
@@ -118,36 +115,45 @@ fn is_among(pixels: &[Pixel], column: i64, row: i64) -> bool {
     false
 }
 
-/// Prints a window from its top row down.
-fn print_window<W: Write>(out: &mut W, pixels: &[Pixel], window: Window) -> Result<()>
+/// Puts a window from its top row down.
+fn put_window(line: &mut Line, pixels: &[Pixel], window: Window)
     requires { WindowFits (widened 2 window) }
 {
     for r in 0..window.height {
         let row = i64::from(window.bottom) + i64::from(window.height) - 1 - i64::from(r);
         for c in 0..window.width {
             if is_among(pixels, i64::from(window.left) + i64::from(c), row) {
-                write!(out, "#")?;
+                line.put_byte(b'#');
             } else {
-                write!(out, ".")?;
+                line.put_byte(b'.');
             }
         }
-        write!(out, "/")?;
+        line.put_byte(b'/');
     }
-    Ok(())
+    line.put_byte(b'\n');
 }
 
-/// Prints the answer of a question.
-pub(crate) fn answer<W: Write>(alloc: Global, out: &mut W, numbers: &mut Numbers) -> Result<()> {
-    let rules = rules_in(numbers)?;
-    let window = window_in(numbers)?;
-    let tape = tape_in(alloc, numbers)?;
-    if tape.edges() as i64 > MOST {
-        bail!("too many edges");
+/// Answers a question.
+pub(crate) fn answer(alloc: Global, line: &mut Line) {
+    let rules = Rules {
+        stubs: line.number(0, 1) == 1,
+        smart: line.number(0, 1) == 1,
+    };
+    let window = window_in(line);
+    let tape = tape_in(alloc, line);
+    if tape.edges() > MOST {
+        line.refuse("too many edges");
+        return;
     }
-    let ends = ends_in(alloc, numbers, tape.edges())?;
-    numbers.end()?;
-    let pixels = dropouts(alloc, rules, &tape, &ends, window)?;
-    print_window(out, &pixels, window)?;
-    writeln!(out)?;
-    Ok(())
+    let Some(ends) = ends_in(alloc, line, tape.edges()) else {
+        return;
+    };
+    line.end();
+    if line.is_refused() {
+        return;
+    }
+    match dropouts(alloc, rules, &tape, &ends, window) {
+        Ok(pixels) => put_window(line, &pixels, window),
+        Err(_) => line.refuse("out of memory"),
+    }
 }

@@ -1,32 +1,20 @@
-//! Of what questions are asked, and their answers.
+//! The font and the devices of questions, and the answers.
+
+ghost use Rattle.std.specs.Prelude.{◌≤◌, ◌<◌, ◌^◌};
 
 use crate::devices::{Given, Manner, Written};
-use crate::reading::{change_in, size_in};
-use anyhow::{Result, bail};
 use std::alloc::Global;
+use std::str;
 use tt_core::Device;
-use tt_program_decisions::{Request, perform};
-use tt_render::{Job, Setting};
-use tt_test_words::Words;
-
-/// What comes on standard input.
-#[derive(Clone, Copy)]
-pub(crate) struct Lines<'a> {
-    pub(crate) bytes: &'a [u8],
-    /// The number of the read that fails, or 0.
-    pub(crate) fails_at: usize,
-}
-
-const NO_LINES: Lines<'static> = Lines {
-    bytes: &[],
-    fails_at: 0,
-};
+use tt_program_decisions::{DRAW, Request, Words, job_of, perform, setting_of};
+use tt_render::{Product, Setting};
+use tt_test_words::Line;
 
 /// The font, and how it is read and the answer is taken.
 #[derive(Drop)]
 pub(crate) struct Asked {
     pub(crate) font: Vec<u8>,
-    pub(crate) manner: Manner,
+    manner: Manner,
 }
 
 impl Asked {
@@ -37,79 +25,136 @@ impl Asked {
         }
     }
 
-    /// The font's first bytes, with those changes that the words are.
-    pub(crate) fn changed(&self, alloc: Global, words: &mut Words) -> Result<Vec<u8>> {
-        let mut font = Vec::new(alloc);
-        let Some(front) = self.font.get(..size_in(words)?) else {
-            bail!("the font is not so long");
-        };
-        font.extend_from_slice(front)?;
-        for _ in 0..u64::MAX {
-            let Some((at, byte)) = change_in(words)? else {
-                break;
+    /// Answers a question, or keeps a font or devices.
+    pub(crate) fn answer(&mut self, alloc: Global, line: &mut Line, word: &str) {
+        match word {
+            "font" => self.font = line.bytes(alloc),
+            "devices" => self.manner = manner_in(line),
+            "map" | "draw" | "lines" => self.put_answer(alloc, line, word),
+            _ => line.refuse("no such question"),
+        }
+        line.end();
+    }
+
+    /// Puts the answer of a question.
+    fn put_answer(&self, alloc: Global, line: &mut Line, question: &str) {
+        let bytes = line.bytes(alloc);
+        let text = str::from_utf8(bytes.as_slice()).unwrap_or("");
+        if text.len() < bytes.len() && question != "lines" {
+            line.refuse("the text is not in UTF-8");
+        }
+        let mut lines_fail_at = 0;
+        let mut missing = DRAW;
+        if question == "lines" {
+            lines_fail_at = size_in(line);
+            missing = line.word();
+        }
+        let mut request = Request::Map { font: "", text };
+        if question != "map" {
+            let Some(setting) = setting_in(line, missing) else {
+                line.refuse("no such way to fit, or to take missing characters");
+                return;
             };
-            match font.get_mut(at) {
-                Some(place) => *place = byte,
-                None => bail!("there is no place {at}"),
+            request = Request::Lines { font: "", setting };
+            if question == "draw" {
+                let job = job_of(text, &setting);
+                request = Request::Draw { font: "", job };
             }
         }
-        Ok(font)
+        let font = self.changed(alloc, line);
+        if line.is_refused() {
+            return;
+        }
+        let lines = Given::new(bytes.as_slice(), self.manner.failing_at(lines_fail_at));
+        put_done(
+            alloc,
+            line,
+            &request,
+            Given::new(font.as_slice(), self.manner),
+            lines,
+        );
     }
 
-    /// Prints the lines of a text; answers the exit status.
-    pub(crate) fn map(
-        &self,
-        alloc: Global,
-        font: &[u8],
-        text: &str,
-        written: &mut Written,
-        errors: &mut Vec<u8>,
-    ) -> u8 {
-        let request = Request::Map { font: "", text };
-        self.done(alloc, &request, font, NO_LINES, written, errors)
+    /// The font's first bytes, with the changes that the words name.
+    fn changed(&self, alloc: Global, line: &mut Line) -> Vec<u8> {
+        let mut font = Vec::new(alloc);
+        let size = size_in(line);
+        match self.font.get(..size) {
+            Some(front) => {
+                if font.extend_from_slice(front).is_err() {
+                    line.refuse("out of memory");
+                }
+            }
+            None => line.refuse("the font is not so long"),
+        }
+        for _ in 0..u64::MAX {
+            let Some(word) = line.next() else { break };
+            let byte = line.number(0, 255) as u8;
+            match word.parse::<usize>() {
+                Ok(at) if at < font.len() => font[at] = byte,
+                _ => line.refuse("there is no such place"),
+            }
+        }
+        font
     }
+}
 
-    /// Draws a text; answers the exit status.
-    pub(crate) fn draw(
-        &self,
-        alloc: Global,
-        font: &[u8],
-        job: Job<'_>,
-        written: &mut Written,
-        errors: &mut Vec<u8>,
-    ) -> u8 {
-        let request = Request::Draw { font: "", job };
-        self.done(alloc, &request, font, NO_LINES, written, errors)
+/// Does what a request says, and puts the answer.
+fn put_done(alloc: Global, line: &mut Line, request: &Request, font: Given, lines: Given) {
+    let mut written = Written::new(font.manner());
+    let mut errors = Vec::new(alloc);
+    let mut font = Device::new(font);
+    let mut lines = Device::new(lines);
+    let status = perform(
+        alloc,
+        request,
+        &mut font,
+        &mut lines,
+        &mut Device::new(&mut written),
+        &mut Device::new(&mut errors),
+    );
+    line.put_number(i64::from(status));
+    line.put(" ");
+    line.put_unsigned(written.count() as u64);
+    line.put(" ");
+    line.put_unsigned(written.sum());
+    line.put("|");
+    for byte in errors.as_slice() {
+        line.put_byte(if *byte == b'\n' { b'|' } else { *byte });
     }
+    line.put("\n");
+}
 
-    /// Draws lines; answers the exit status.
-    pub(crate) fn draw_lines(
-        &self,
-        alloc: Global,
-        font: &[u8],
-        lines: Lines<'_>,
-        setting: Setting,
-        written: &mut Written,
-        errors: &mut Vec<u8>,
-    ) -> u8 {
-        let request = Request::Lines { font: "", setting };
-        self.done(alloc, &request, font, lines, written, errors)
-    }
+/// The next word, a number of bytes.
+fn size_in(line: &mut Line) -> usize {
+    line.number(0, i64::MAX) as usize
+}
 
-    fn done(
-        &self,
-        alloc: Global,
-        request: &Request,
-        font: &[u8],
-        lines: Lines<'_>,
-        written: &mut Written,
-        errors: &mut Vec<u8>,
-    ) -> u8 {
-        let manner = self.manner.failing_at(lines.fails_at);
-        let mut font = Device::new(Given::new(font, self.manner));
-        let mut lines = Device::new(Given::new(lines.bytes, manner));
-        let mut out = Device::new(written);
-        let mut errors = Device::new(errors);
-        perform(alloc, request, &mut font, &mut lines, &mut out, &mut errors)
+/// The next five words, how a font is read and how the answer is taken.
+fn manner_in(line: &mut Line) -> Manner {
+    Manner {
+        read_step: size_in(line),
+        fails_at: size_in(line),
+        write_step: size_in(line),
+        room: size_in(line),
+        takes_nothing: match line.word() {
+            "fails" => false,
+            "nothing" => true,
+            _ => {
+                line.refuse("no such end");
+                false
+            }
+        },
     }
+}
+
+/// The next three words, size, margin and way to fit.
+fn setting_in(line: &mut Line, missing: &str) -> Option<Setting> {
+    let words = Words {
+        size: line.number(0, u32::MAX as i64) as u32,
+        margin: line.number(0, u32::MAX as i64) as u32,
+        fit: line.word(),
+        missing,
+    };
+    setting_of(&words, Product::Picture)
 }

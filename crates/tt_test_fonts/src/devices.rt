@@ -51,6 +51,10 @@ impl<'a> Given<'a> {
             calls: 0,
         }
     }
+
+    pub(crate) fn manner(&self) -> Manner {
+        self.manner
+    }
 }
 
 impl<'a> Read for Given<'a> {

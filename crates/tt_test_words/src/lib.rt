@@ -1,8 +1,8 @@
-//! Questions to the programs for tests: the lines of standard input, and their words.
+//! A question to a program for tests: a line of words, and the answer to it.
 #![tactic(auto)]
 
-mod lines;
+mod line;
 mod words;
 
-pub use lines::{Answers, take_all};
-pub use words::{MOST, Words};
+pub use line::Line;
+pub use words::MOST;

@@ -1,92 +1,108 @@
-//! The words of the command line, or of a question.
+//! The words of a question.
 
-ghost use Rattle.std.specs.Prelude.{◌≤◌, ◌<◌, ◌≤ℤ◌, ◌^◌, IfOk};
+ghost use Rattle.std.specs.Prelude.{◌≤◌, ◌<◌, ◌≤ℤ◌, ◌^◌};
 
-use anyhow::{Context, Result, bail};
+use crate::line::Line;
 use std::alloc::Global;
-use std::slice;
-use std::str::SplitAsciiWhitespace;
 
 /// More edges, points and bytes than a question or a glyph has.
 pub const MOST: usize = 1 << 20;
 
-/// The unread words.
-#[derive(Drop)]
-pub enum Words<'a> {
-    /// The words of the command line.
-    Arguments(slice::Iter<'a, String>),
-    /// The words of a line.
-    Line(SplitAsciiWhitespace<'a>),
-}
-
-impl<'a> Words<'a> {
-    /// The next word; None at the end.
-    pub fn next(&mut self) -> Option<&'a str> {
-        match self {
-            Words::Arguments(words) => match words.next() {
-                Some(word) => Some(word.as_str()),
-                None => None,
-            },
-            Words::Line(words) => words.next(),
+impl<'a> Line<'a> {
+    /// The next word. If there is none, the line is refused.
+    pub fn word(&mut self) -> &'a str {
+        match self.next() {
+            Some(word) => word,
+            None => {
+                self.refuse("a word is missing");
+                ""
+            }
         }
     }
 
-    /// The next word. Error: there is none.
-    pub fn word(&mut self) -> Result<&'a str> {
-        self.next().context("a word is missing")
-    }
-
-    /// Error: a further word.
-    pub fn end(&mut self) -> Result<()> {
+    /// Refuses the line if a word is left.
+    pub fn end(&mut self) {
         if self.next().is_some() {
-            bail!("a word too many");
+            self.refuse("a word too many");
         }
-        Ok(())
     }
 
-    /// The next word, a number from `low` to `high`. Errors: there is no word, or it is no such number.
-    pub fn number(&mut self, low: i64, high: i64) -> Result<i64>
-        ensures low { IfOk result (λ n. low ≤ℤ n) }
-        ensures high { IfOk result (λ n. n ≤ℤ high) }
+    /// The next word, a number from `low` to `high`. If it is no such number, the line is refused, and the answer is
+    /// `low`.
+    pub fn number(&mut self, low: i64, high: i64) -> i64
+        requires { low ≤ℤ high }
+        ensures low { low ≤ℤ result }
+        ensures high { result ≤ℤ high }
     {
-        let number: i64 = self.word()?.parse()?;
+        let number = self.any_number();
         if number < low || high < number {
-            bail!("{number} is not from {low} to {high}");
+            self.refuse_number(number, low, high);
+            return low;
         }
-        Ok(number)
+        number
     }
 
-    /// The next word: a number of entries that follow, or of bytes before a program.
-    pub fn count(&mut self) -> Result<u32>
-        ensures { IfOk result (λ n. n ≤ 2 ^ 20) }
+    /// The next word, a number. If it is none, the line is refused.
+    fn any_number(&mut self) -> i64 {
+        match self.word().parse::<i64>() {
+            Ok(number) => number,
+            Err(_) => {
+                self.refuse("a word is no number");
+                0
+            }
+        }
+    }
+
+    /// The next word, a count of what follows.
+    pub fn count(&mut self) -> u32
+        ensures { result ≤ 2 ^ 20 }
     {
-        Ok(self.number(0, MOST as i64)? as u32)
+        self.number(0, MOST as i64) as u32
     }
 
     /// The next word, bytes in hexadecimal, or `-`.
-    pub fn bytes(&mut self, alloc: Global) -> Result<Vec<u8>> {
+    pub fn bytes(&mut self, alloc: Global) -> Vec<u8> {
         let mut bytes = Vec::new(alloc);
-        let word = self.word()?;
+        let word = self.word();
         if word == "-" {
-            return Ok(bytes);
+            return bytes;
         }
         for pair in word.as_bytes().chunks(2) {
-            let [high, low] = pair else {
-                bail!("an odd number of digits");
-            };
-            bytes.push(16 * digit(*high)? + digit(*low)?)?;
+            match byte_of(pair) {
+                Some(byte) => {
+                    if bytes.push(byte).is_err() {
+                        self.refuse("out of memory");
+                    }
+                }
+                None => self.refuse("an odd number of digits, or no hexadecimal digit"),
+            }
         }
-        Ok(bytes)
+        bytes
     }
 }
 
-fn digit(byte: u8) -> Result<u8>
-    ensures { IfOk result (λ d. d < 16) }
-{
-    match byte {
-        b'0'..=b'9' => Ok(byte - b'0'),
-        b'A'..=b'F' => Ok(byte - b'A' + 10),
-        b'a'..=b'f' => Ok(byte - b'a' + 10),
-        _ => bail!("no hexadecimal digit"),
+/// The byte of two digits.
+fn byte_of(pair: &[u8]) -> Option<u8> {
+    let [high, low] = pair else {
+        return None;
+    };
+    let (high, low) = (digit(*high), digit(*low));
+    if high < 16 && low < 16 {
+        return Some(16 * high + low);
     }
+    None
+}
+
+/// The value of a digit, or 16.
+fn digit(byte: u8) -> u8 {
+    let digit = byte.wrapping_sub(b'0');
+    if digit < 10 {
+        return digit;
+    }
+    // The two cases of a letter differ by this bit.
+    let letter = (byte | 32).wrapping_sub(b'a');
+    if letter < 6 {
+        return letter + 10;
+    }
+    16
 }

@@ -4,10 +4,10 @@ use Rattle.tt_test_dropouts.proofs.question.window_in.Goals as goal
 
 pub returns : goal.returns
 returns c =
-    let left = c.in_ok-next.ensures in
-    let bottom = c.in_ok-next-2.ensures in
-    let width = c.in_ok-next-3.ensures in
-    let height = c.in_ok-next-4.ensures in
+    let left = c.number.ensures in
+    let bottom = c.number-2.ensures in
+    let width = c.number-3.ensures in
+    let height = c.number-4.ensures in
     record {
       left = omega (arith, ints, left.low, left.high);
       bottom = omega (arith, ints, bottom.low, bottom.high);
