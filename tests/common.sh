@@ -47,16 +47,6 @@ answers_program() {
   test_program tt_test_answers "${TT_ANSWERS:-}" machine
 }
 
-# Leaves the one that does what tt_render does, over memory, or that of TT_FONTS=PATH, as $program.
-fonts_program() {
-  test_program tt_test_fonts "${TT_FONTS:-}"
-}
-
-# Leaves the one that prints dropouts, or that of TT_DROPOUTS=PATH, as $program.
-dropouts_program() {
-  test_program tt_test_dropouts "${TT_DROPOUTS:-}"
-}
-
 # Leaves our program, or that of TT_RENDER=PATH, as $program. It is started once here, so that the time of building it
 # falls on no case, nor its lines on the case's standard error.
 render_program() {
@@ -68,13 +58,11 @@ render_program() {
   fi
 }
 
-# A script that asks a program for tests alone says `asks=answers`, `asks=fonts` or `asks=dropouts` before it sources
-# this file. tests/run skips it where that program is not there. It gives the variable of such a program the name `none`:
-# a script that asks our program too then skips a part of its cases.
+# A script that uses the program for tests alone says `asks=answers` before it sources this file. tests/run skips the
+# script where that program is not there, and sets TT_ANSWERS=none: a script that also uses our program then skips a part
+# of its cases.
 case ${asks:-render} in
   answers) answers_program ;;
-  fonts) fonts_program ;;
-  dropouts) dropouts_program ;;
   *) render_program ;;
 esac
 

@@ -18,15 +18,8 @@ FIRST = "real_fonts"
 LONGEST_FIRST = """fuzz characters lines c work damaged measure dist memory devices dropouts rows fallback hinted
   readme prove pixels launcher command_line machine outlines glyphs real_lines best wrong_bodies""".split()
 
-# The programs for tests, by the word of `asks=` in a script: the variable that names one, and its crate.
-FOR_TESTS = {
-    "answers": ("TT_ANSWERS", "tt_test_answers"),
-    "fonts": ("TT_FONTS", "tt_test_fonts"),
-    "dropouts": ("TT_DROPOUTS", "tt_test_dropouts"),
-}
-
-# Why a program for tests is not here, by the word, as name_programs finds it.
-WHY = {}
+# The program for tests: the variable that names another, and its crate.
+VARIABLE, CRATE = "TT_ANSWERS", "tt_test_answers"
 
 
 class Result:
@@ -63,42 +56,42 @@ def newest_source():
     return max(it.stat().st_mtime for it in [ROOT / "crates.txt", *files])
 
 
-def program_for_tests(word):
-    """Returns the path of a program for tests, or why there is none.
+def program_for_tests():
+    """Returns the path of the program for tests, or why there is none.
 
     It is that of the program's variable, or else the one that the gate left, where no source is newer.
     """
-    variable, crate = FOR_TESTS[word]
-    named, built = os.environ.get(variable), ROOT / "crates" / crate / "out" / crate
+    named, built = os.environ.get(VARIABLE), ROOT / "crates" / CRATE / "out" / CRATE
     if named and os.access(named, os.X_OK):
         return named, ""
     if named:
-        return "", f"there is no program {named}, which {variable} names"
+        return "", f"there is no program {named}, which {VARIABLE} names"
     if not os.access(built, os.X_OK):
-        return "", f"there is no program {crate}, which the gate makes"
+        return "", f"there is no program {CRATE}, which the gate makes"
     if built.stat().st_mtime < newest_source():
-        return "", f"a source is newer than the program {crate}, which the gate makes"
+        return "", f"a source is newer than the program {CRATE}, which the gate makes"
     return str(built), ""
 
 
-def lacks(name):
-    """Returns why a script cannot run here, or nothing. One with a line `asks=WORD` needs that program for tests."""
-    asked = re.search(r"^asks=(\w+)$", path_of(name).read_text(encoding="utf-8"), re.M)
-    if asked and WHY[asked[1]]:
-        return WHY[asked[1]]
+def lacks(name, why):
+    """Returns why a script cannot run here, or nothing. One with a line `asks=answers` needs the program for tests,
+    which is not here for the reason `why`, unless that is empty."""
+    if why and re.search(r"^asks=answers$", path_of(name).read_text(encoding="utf-8"), re.M):
+        return why
     if name == "dist" and not (shutil.which("git") and (ROOT / ".git").exists()):
         return "git is not on the PATH, or this is no clone"
     return ""
 
 
-def name_programs():
-    """Sets the variables of the programs for tests that are here, so that no script looks whether to make them anew.
+def name_program():
+    """Sets the variable of the program for tests, so that no script looks whether to make the program anew.
 
-    A variable of one that is not here gets a name without a file: a script then passes over what needs it.
+    Where the program is not here, the variable gets a name without a file: a script then passes over what needs the
+    program. Returns why it is not here, or nothing.
     """
-    for word, (variable, _) in FOR_TESTS.items():
-        path, WHY[word] = program_for_tests(word)
-        os.environ[variable] = path or "none"
+    path, why = program_for_tests()
+    os.environ[VARIABLE] = path or "none"
+    return why
 
 
 def run_one(name):

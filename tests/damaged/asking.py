@@ -1,4 +1,4 @@
-"""Questions to tt_test_fonts, and the judge of its answers, for the scripts of damaged/, devices/ and fuzz/."""
+"""Questions to `tt_test_answers fonts`, and the judge of its answers, for the scripts of damaged/, devices/ and fuzz/."""
 import os
 import re
 import struct
@@ -66,7 +66,7 @@ JOB_LINE = re.compile(r"tt_render: ([1-9][0-9]*) ([A-Za-z]+)\|")
 
 
 def sum_of(data):
-    """Returns the sum by FNV-1a of 64 bits, as tt_test_fonts does."""
+    """Returns the sum by FNV-1a of 64 bits, as `tt_test_answers fonts` does."""
     total = 0xCBF29CE484222325
     for byte in data:
         total = (total ^ byte) * 0x100000001B3 % 2**64
@@ -283,13 +283,13 @@ def question(kind, text, shape, size, changes=()):
 
 
 def asked(lines, seconds=900):
-    """Asks tt_test_fonts these lines; returns its answers, and what went wrong, or None."""
+    """Asks `tt_test_answers fonts` these lines; returns its answers, and what went wrong, or None."""
     with tempfile.TemporaryFile() as questions:
         questions.write("\n".join(lines).encode() + b"\n")
         questions.seek(0)
         try:
             ended = subprocess.run(
-                [os.environ["TT_FONTS"]],
+                [os.environ["TT_ANSWERS"], "fonts"],
                 stdin=questions,
                 stdout=subprocess.PIPE,
                 stderr=subprocess.PIPE,

@@ -166,7 +166,7 @@ class Case:
 
 
 class Program:
-    """`tt_test_fonts`, asked one question at a time, and started anew where it ended."""
+    """`tt_test_answers fonts`, asked one question at a time, and started anew where it ended."""
 
     def __init__(self):
         self.process, self.font, self.rest = None, None, b""
@@ -175,7 +175,7 @@ class Program:
         """Returns the answer, or None where the program ended or took too long, and why."""
         if self.process is None:
             self.process = subprocess.Popen(
-                [os.environ["TT_FONTS"]],
+                [os.environ["TT_ANSWERS"], "fonts"],
                 stdin=subprocess.PIPE,
                 stdout=subprocess.PIPE,
                 stderr=subprocess.PIPE,

@@ -1,2 +1,3 @@
+mod Ends
 pub mod Near
 mod Ranges

@@ -5,13 +5,19 @@
 //!     tt_test_answers outlines FONT SIZE FIT GLYPH ..
 //!     tt_test_answers outlines FONT SIZE FIT pixels GLYPH WIDTH HEIGHT MARGIN RISE
 //!     tt_test_answers pixels
+//!     tt_test_answers dropouts
 //!     tt_test_answers machine
+//!     tt_test_answers fonts
+//!     tt_test_answers any
 //!
-//! FIT is `full`, `none`, `fallback` or `best`. `pixels`, of edges and pixels, and `machine`, of runs of the bytecode
-//! machine, read their questions from standard input. The module of each word states the form of its lines. Where
-//! memory is refused for a glyph, a note on standard error names the glyph, and the glyph is requested once more.
+//! FIT is `full`, `none`, `fallback` or `best`. `pixels`, of edges and pixels, `dropouts`, `machine`, of runs of the
+//! bytecode machine, and `fonts`, of damaged fonts and devices that fail, read their questions from standard input. After
+//! `any` each line begins with one of these words. The module of each word states the form of its lines. Where memory is refused for a glyph, a note on standard error names
+//! the glyph, and the glyph is requested once more.
 #![tactic(auto)]
 
+mod dropouts;
+mod fonts;
 mod glyphs;
 mod machine;
 mod outlines;
@@ -19,6 +25,7 @@ mod pictures;
 mod pixels;
 mod tables;
 
+use crate::fonts::Asked;
 use crate::machine::Program;
 use anyhow::{Result, bail};
 use std::io::{BufRead, BufReader};
@@ -51,21 +58,47 @@ fn answer_words(rt: &HostRuntime, what: &str, path: &str, words: &[String]) -> R
     line.print(rt, 0)
 }
 
+/// What one line of standard input leaves for those after it.
+#[derive(Drop)]
+struct Kept {
+    /// The font program of the machine's questions.
+    program: Program,
+    /// The font and the devices of questions about fonts.
+    asked: Asked,
+}
+
 /// Answers the lines of standard input.
 fn answer_lines(rt: &HostRuntime, what: &str) -> Result<()> {
     let input = BufReader::new(rt.alloc(), rt.reader())?;
     let mut number = 0u64;
-    let mut font = Program::empty(rt.alloc());
+    let mut kept = Kept {
+        program: Program::empty(rt.alloc()),
+        asked: Asked::new(rt.alloc()),
+    };
     for text in input.lines(rt.alloc()) {
         let text = text?;
         number = number.wrapping_add(1);
-        let mut line = Line::new(rt.alloc(), text.as_str());
-        match what {
-            "pixels" => pixels::answer(rt.alloc(), &mut line),
-            "machine" => machine::answer(rt.alloc(), &mut line, &mut font),
-            _ => line.refuse("no such table"),
-        }
-        line.print(rt, number)?;
+        answer_line(rt, what, text.as_str(), number, &mut kept)?;
     }
     Ok(())
+}
+
+/// Answers a line of standard input.
+fn answer_line(
+    rt: &HostRuntime,
+    what: &str,
+    text: &str,
+    number: u64,
+    kept: &mut Kept,
+) -> Result<()> {
+    let mut line = Line::new(rt.alloc(), text);
+    let what = if what == "any" { line.word() } else { what };
+    match what {
+        "pixels" => pixels::answer(rt.alloc(), &mut line),
+        "dropouts" => dropouts::answer(rt.alloc(), &mut line),
+        "machine" => machine::answer(rt.alloc(), &mut line, &mut kept.program),
+        "fonts" => fonts::answer(rt, &mut line, &mut kept.asked)?,
+        _ => line.refuse("no such table"),
+    }
+    line.print(rt, number)
 }

@@ -7,9 +7,9 @@ use tt_core::{HEIGHT_LIMIT, MARGIN_LIMIT, WIDTH_LIMIT};
 use tt_scan::{Frame, Tape};
 use tt_test_words::{Line, MOST};
 
-const WIDTH: i64 = WIDTH_LIMIT as i64;
+pub(crate) const WIDTH: i64 = WIDTH_LIMIT as i64;
 
-const HEIGHT: i64 = HEIGHT_LIMIT as i64;
+pub(crate) const HEIGHT: i64 = HEIGHT_LIMIT as i64;
 
 const MARGIN: i64 = MARGIN_LIMIT as i64;
 

@@ -38,7 +38,7 @@ pub(crate) fn answer(alloc: Global, line: &mut Line) {
     line.put_byte(b'\n');
 }
 
-fn edge_in(line: &mut Line) -> Edge
+pub(crate) fn edge_in(line: &mut Line) -> Edge
     ensures { EdgeFits result }
 {
     Edge {

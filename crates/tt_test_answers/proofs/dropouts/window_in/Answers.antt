@@ -1,6 +1,6 @@
 use Rattle.std.proofs.Common.{arith}
 use Rattle.std.proofs.lemmas.Int.{ints}
-use Rattle.tt_test_dropouts.proofs.question.window_in.Goals as goal
+use Rattle.tt_test_answers.proofs.dropouts.window_in.Goals as goal
 
 pub returns : goal.returns
 returns c =

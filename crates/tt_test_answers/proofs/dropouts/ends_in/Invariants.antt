@@ -1,5 +1,5 @@
-use Rattle.tt_test_dropouts.proofs.Ends.{Begin}
-use Rattle.tt_test_dropouts.proofs.question.ends_in.Given as goal
+use Rattle.tt_test_answers.proofs.Ends.{Begin}
+use Rattle.tt_test_answers.proofs.dropouts.ends_in.Given as goal
 
 abbrev pub invariant-contours : goal.invariant-contours
 invariant-contours l = Begin l.ends.items l.from l.fn.edges

@@ -2,7 +2,7 @@
 
 ghost use Rattle.std.specs.Prelude.{◌≤◌, ◌<◌, ◌^◌};
 
-use crate::devices::{Given, Manner, Written};
+use super::devices::{Given, Manner, Written};
 use std::alloc::Global;
 use std::str;
 use tt_core::Device;

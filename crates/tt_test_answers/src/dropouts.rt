@@ -1,30 +1,28 @@
-//! A question and its answer, in the form that the program's page states.
+//! Prints the dropouts of outlines, to be compared with those of another program. A line of standard input is a
+//! question, in whole numbers with blanks between:
+//!
+//!     STUBS SMART LEFT BOTTOM WIDTH HEIGHT COLUMNS ROWS MARGIN RISE COUNT AX AY BX BY .. CONTOURS END ..
+//!
+//! STUBS and SMART, 0 or 1, are the rules. The next four numbers are the window, in pixels. The four after them are the
+//! frame of the tape that holds the edges, in pixels too. No answer depends on this frame. The ends of the COUNT edges
+//! are in 1/8192 pixel. END is for each contour the count of its edges and of all edges before it.
+//!
+//! The answer is a line too: the window from its top row down, '#' for a dropout and '.' for any other pixel, and '/'
+//! after each row.
 
 ghost use Rattle.std.specs.Prelude.{◌≡◌, ◌≤◌, ◌^◌, length, IfSome};
 ghost use Rattle.tt_scan.specs.Contours.{AreEnds};
-ghost use Rattle.tt_scan.specs.Winding.{EdgeFits, FrameFits};
 ghost use Rattle.tt_scan_dropouts.specs.Windows.{WindowFits, widened};
 
+use crate::pictures::{HEIGHT, WIDTH, frame_in};
+use crate::pixels::edge_in;
 use std::alloc::Global;
-use tt_core::{HEIGHT_LIMIT, MARGIN_LIMIT, WIDTH_LIMIT};
-use tt_scan::{Edge, Frame, Tape};
+use tt_scan::Tape;
 use tt_scan_dropouts::{Pixel, Rules, Window, dropouts};
 use tt_test_words::{Line, MOST};
 
-/// The ends of an edge stay less than this from 0, in 1/8192 pixel.
-const REACH: i64 = 1 << 30;
-
 /// The left and the lower side of a window stay less than this from 0, in pixels.
 const FAR: i64 = 1 << 18;
-
-/// The rise of a frame stays less than this from 0, in pixels.
-const RISE: i64 = 1 << 20;
-
-const WIDTH: i64 = WIDTH_LIMIT as i64;
-
-const HEIGHT: i64 = HEIGHT_LIMIT as i64;
-
-const MARGIN: i64 = MARGIN_LIMIT as i64;
 
 fn window_in(line: &mut Line) -> Window
     ensures { WindowFits (widened 2 result) }
@@ -34,28 +32,6 @@ fn window_in(line: &mut Line) -> Window
         bottom: line.number(1 - FAR, FAR - 1) as i32,
         width: line.number(1, WIDTH) as u32,
         height: line.number(1, HEIGHT) as u32,
-    }
-}
-
-fn frame_in(line: &mut Line) -> Frame
-    ensures { FrameFits result }
-{
-    Frame {
-        width: line.number(1, WIDTH) as u32,
-        height: line.number(1, HEIGHT) as u32,
-        margin: line.number(0, MARGIN) as u32,
-        rise: line.number(1 - RISE, RISE - 1) as i32,
-    }
-}
-
-fn edge_in(line: &mut Line) -> Edge
-    ensures { EdgeFits result }
-{
-    Edge {
-        ax: line.number(1 - REACH, REACH - 1) as i32,
-        ay: line.number(1 - REACH, REACH - 1) as i32,
-        bx: line.number(1 - REACH, REACH - 1) as i32,
-        by: line.number(1 - REACH, REACH - 1) as i32,
     }
 }
 

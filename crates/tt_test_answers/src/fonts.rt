@@ -17,30 +17,20 @@
 //!
 //! The answer of a question is a line too, `STATUS COUNT SUM|LINE|`: the exit status, the number of bytes that were
 //! written, their sum by FNV-1a of 64 bits, and the lines on standard error, with `|` for each line feed.
-#![tactic(auto)]
 
 mod asked;
 mod devices;
 
-use crate::asked::Asked;
+pub(crate) use self::asked::Asked;
 use anyhow::Result;
 use std::fs;
-use std::io::{BufRead, BufReader};
 use tt_test_words::Line;
 
-fn main(rt: HostRuntime) -> Result<()> {
-    let input = BufReader::new(rt.alloc(), rt.reader())?;
-    let mut number = 0u64;
-    let mut asked = Asked::new(rt.alloc());
-    for text in input.lines(rt.alloc()) {
-        let text = text?;
-        number = number.wrapping_add(1);
-        let mut line = Line::new(rt.alloc(), text.as_str());
-        match line.word() {
-            "file" => asked.font = fs::read(&rt, line.word())?,
-            word => asked.answer(rt.alloc(), &mut line, word),
-        }
-        line.print(&rt, number)?;
+/// Answers a question, or keeps a font or devices.
+pub(crate) fn answer(rt: &HostRuntime, line: &mut Line, asked: &mut Asked) -> Result<()> {
+    match line.word() {
+        "file" => asked.font = fs::read(rt, line.word())?,
+        word => asked.answer(rt.alloc(), line, word),
     }
     Ok(())
 }
