@@ -10,10 +10,11 @@
 //!     tt_test_answers fonts
 //!     tt_test_answers any
 //!
-//! FIT is `full`, `none`, `fallback` or `best`. `pixels`, of edges and pixels, `dropouts`, `machine`, of runs of the
-//! bytecode machine, and `fonts`, of damaged fonts and devices that fail, read their questions from standard input. After
-//! `any` each line begins with one of these words. The module of each word states the form of its lines. Where memory is refused for a glyph, a note on standard error names
-//! the glyph, and the glyph is requested once more.
+//! FIT is `full`, `none`, `fallback` or `best`. `pixels` is about edges and pixels, `dropouts` about dropout control,
+//! `machine` about runs of the bytecode machine, and `fonts` about damaged fonts and devices that fail. These four read
+//! their questions from standard input. After `any` each line begins with one of these four words. The module of each
+//! word states the form of its lines. Where memory is refused for a glyph, a note on standard error names the glyph, and
+//! the glyph is requested once more.
 #![tactic(auto)]
 
 mod dropouts;
