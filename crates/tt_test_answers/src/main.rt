@@ -13,8 +13,8 @@
 //! FIT is `full`, `none`, `fallback` or `best`. `pixels` is about edges and pixels, `dropouts` about dropout control,
 //! `machine` about runs of the bytecode machine, and `fonts` about damaged fonts and devices that fail. These four read
 //! their questions from standard input. After `any` each line begins with one of these four words. The module of each
-//! word states the form of its lines. Where memory is refused for a glyph, a note on standard error names the glyph, and
-//! the glyph is requested once more.
+//! word states the form of its lines. Where memory is refused for a glyph, a note on standard error names the glyph.
+//! Then the glyph is requested once more.
 #![tactic(auto)]
 
 mod dropouts;

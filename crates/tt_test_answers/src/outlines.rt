@@ -1,9 +1,9 @@
 //! The outlines of a font's glyphs at a size, fitted by the font's programs or scaled only, or the picture of one. An
 //! outline is a line `GLYPH phantom X Y X Y X Y X Y ends END .. points X Y ON ..`, in 26.6 pixels, where ON is 1 for a
-//! point on the curve and else 0; a glyph that is refused has the line `GLYPH TABLE+OFFSET: NUMBER NAME`. A picture is
-//! a line for each row, with '#' for a black pixel and '.' for a white one, and its glyph stands with its left phantom
-//! point at 0. Of a glyph that falls back the outline's line has `unfitted TABLE+OFFSET: NUMBER NAME` behind the number,
-//! and a picture has the line `GLYPH unfitted TABLE+OFFSET: NUMBER NAME` before it.
+//! point on the curve and else 0. A refused glyph has the line `GLYPH TABLE+OFFSET: NUMBER NAME`. A picture is a line
+//! for each row, with '#' for a black pixel and '.' for a white one; the left phantom point of its glyph is at 0. The
+//! outline of a glyph that falls back has `unfitted TABLE+OFFSET: NUMBER NAME` after the number. Its picture has the line
+//! `GLYPH unfitted TABLE+OFFSET: NUMBER NAME` before the rows.
 
 ghost use Rattle.std.specs.Prelude.{◌≡◌, ◌<◌, length, All, IfOk, IfSome};
 ghost use Rattle.tt_fit.specs.Outline.{AreEnds, IsPoint};
