@@ -56,7 +56,7 @@ fn end_in(line: &mut Line, from: usize, edges: usize) -> usize
     line.number(from as i64, edges as i64) as usize
 }
 
-/// Where the contours end. The last one ends behind all edges. If it does not, or memory runs out, the line is refused.
+/// Where the contours end. The last contour ends behind all edges. Else the line is refused, and where memory runs out.
 fn ends_in(alloc: Global, line: &mut Line, edges: usize) -> Option<Vec<usize>>
     requires { edges ≤ 2 ^ 32 }
     ensures { IfSome result (λ v. AreEnds edges v.items) }

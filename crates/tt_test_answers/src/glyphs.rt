@@ -47,7 +47,7 @@ fn put_glyph(alloc: Global, line: &mut Line, glyphs: &Glyf, g: u16)
     }
 }
 
-/// Puts what a simple glyph has. The sums are those of each coordinate times its point's place from 1 on, along x and
+/// Puts the parts of a simple glyph. The sums are those of each coordinate times its point's place from 1 on, along x and
 /// along y, and of the places of the points on the curve.
 fn put_simple(line: &mut Line, points: &[RawPoint], contours: usize, program: usize) {
     line.put(" simple");
@@ -65,7 +65,7 @@ fn put_simple(line: &mut Line, points: &[RawPoint], contours: usize, program: us
     line.put("\n");
 }
 
-/// Puts what a composite glyph has. The sums are those of each component's glyph, and of each of its arguments, times
+/// Puts the parts of a composite glyph. The sums are those of each component's glyph, and of each of its arguments, times
 /// its place from 1 on.
 fn put_composite(line: &mut Line, records: &[Record], program: usize) {
     line.put(" composite");

@@ -14,12 +14,12 @@
 //! programs have the whole instruction set, and the instructions too are those that the font program defines. After
 //! `tolerant` they have it too, and both are run by a tolerant machine.
 //!
-//! The answer of a question is a line too: the fault, or these parts of the state after the run, with a semicolon
-//! between them. First the number of steps, the stack from the bottom, and the fields of the graphics state. Then the
-//! places and values that changed, for each list; the functions as NUMBER TABLE START; and the two flags of INSTCTRL.
-//! The graphics state begins with the projection and the freedom vector, as X or Y. With the whole instruction set it
-//! begins with the projection, the dual projection and the freedom vector, each as its parts `x,y` in 2.14. Then the
-//! instructions follow the functions, as OPCODE TABLE START.
+//! The answer of a question is a line too: the fault, or what the run leaves, with a semicolon between the parts: the
+//! number of steps, the stack from the bottom, the fields of the graphics state, of each list the places and values
+//! that changed, the functions as NUMBER TABLE START, and the two flags of INSTCTRL. The graphics state begins with the
+//! projection and the freedom vector, as X or Y. With the whole instruction set it begins with the projection, the dual
+//! projection and the freedom vector, each as its parts `x,y` in 2.14, and after the functions stand the instructions as
+//! OPCODE TABLE START.
 
 ghost use Rattle.std.specs.Prelude.{◌≤◌, IsTrue};
 ghost use Rattle.tt_core.specs.Faults.{is_ascii};
@@ -197,7 +197,7 @@ fn run_defined<'a>(
     }
 }
 
-/// Runs a program, and puts what it leaves of the parts that were there before.
+/// Runs a program, and puts the parts that it leaves, or its fault.
 fn put_run<'a>(line: &mut Line, mut machine: Machine<'a>, code: Code<'a>, before: &Parts) {
     match machine.run(code) {
         Ok(steps) => put_steps(line, steps, machine, before),
@@ -206,7 +206,7 @@ fn put_run<'a>(line: &mut Line, mut machine: Machine<'a>, code: Code<'a>, before
     line.put("\n");
 }
 
-/// Puts the steps, and what the machine holds after them.
+/// Puts the steps, the stack and the parts that a run leaves.
 fn put_steps(line: &mut Line, steps: u32, machine: Machine, before: &Parts) {
     line.put_number(i64::from(steps));
     line.put(" steps; stack");

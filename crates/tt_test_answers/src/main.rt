@@ -10,11 +10,10 @@
 //!     tt_test_answers fonts
 //!     tt_test_answers any
 //!
-//! FIT is `full`, `none`, `fallback` or `best`. `pixels` is about edges and pixels, `dropouts` about dropout control,
-//! `machine` about runs of the bytecode machine, and `fonts` about damaged fonts and devices that fail. These four read
-//! their questions from standard input. After `any` each line begins with one of these four words. The module of each
-//! word states the form of its lines. Where memory is refused for a glyph, a note on standard error names the glyph.
-//! Then the glyph is requested once more.
+//! FIT is `full`, `none`, `fallback` or `best`. The last five read questions from standard input: about edges and
+//! pixels, about dropouts, about runs of the bytecode machine, and about damaged fonts and devices that fail. After
+//! `any` each line begins with one of the four words above it. The module of each word states the form of its lines.
+//! Where memory is refused for a glyph, a note on standard error names the glyph, and the glyph is requested once more.
 #![tactic(auto)]
 
 mod dropouts;
@@ -59,7 +58,7 @@ fn answer_words(rt: &HostRuntime, what: &str, path: &str, words: &[String]) -> R
     line.print(rt, 0)
 }
 
-/// What one line of standard input leaves for those after it.
+/// State that a line of standard input leaves for the lines after it.
 #[derive(Drop)]
 struct Kept {
     /// The font program of the machine's questions.

@@ -1,9 +1,9 @@
 //! The outlines of a font's glyphs at a size, fitted by the font's programs or scaled only, or the picture of one. An
 //! outline is a line `GLYPH phantom X Y X Y X Y X Y ends END .. points X Y ON ..`, in 26.6 pixels, where ON is 1 for a
-//! point on the curve and else 0. A refused glyph has the line `GLYPH TABLE+OFFSET: NUMBER NAME`. A picture is a line
-//! for each row, with '#' for a black pixel and '.' for a white one; the left phantom point of its glyph is at 0. The
-//! outline of a glyph that falls back has `unfitted TABLE+OFFSET: NUMBER NAME` after the number. Its picture has the line
-//! `GLYPH unfitted TABLE+OFFSET: NUMBER NAME` before the rows.
+//! point on the curve and else 0; a glyph that is refused has the line `GLYPH TABLE+OFFSET: NUMBER NAME`. A picture is
+//! a line for each row, with '#' for a black pixel and '.' for a white one, and its glyph stands with its left phantom
+//! point at 0. Of a glyph that falls back the outline's line has `unfitted TABLE+OFFSET: NUMBER NAME` behind the number,
+//! and a picture has the line `GLYPH unfitted TABLE+OFFSET: NUMBER NAME` before it.
 
 ghost use Rattle.std.specs.Prelude.{◌≡◌, ◌<◌, length, All, IfOk, IfSome};
 ghost use Rattle.tt_fit.specs.Outline.{AreEnds, IsPoint};
@@ -20,7 +20,7 @@ use tt_test_words::Line;
 
 const SIZE: i64 = SIZE_LIMIT as i64;
 
-/// Puts what the words request of a font: first the size and how outlines are fitted.
+/// Puts the outlines that the words request. The first two words are the size and the way to fit.
 pub(crate) fn put_table(alloc: Global, line: &mut Line, font: &[u8]) {
     let size = line.number(1, SIZE) as u32;
     let fit = fit_in(line);
@@ -52,7 +52,7 @@ fn fit_in(line: &mut Line) -> Fit {
     }
 }
 
-/// Does what the words say, with a font of this number of glyphs.
+/// Puts the outlines or the picture of the words. The font has this number of glyphs.
 fn put_glyphs(alloc: Global, line: &mut Line, fitter: &Fitter, glyphs: u16)
     requires { fitter.now.tables.glyphs ≡ glyphs }
 {

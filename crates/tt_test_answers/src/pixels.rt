@@ -86,7 +86,7 @@ fn put_edges(line: &mut Line, tape: &mut Tape, frame: Frame)
     }
 }
 
-/// Puts what an edge does in a row.
+/// Puts the crossing of an edge with a row.
 fn put_cross(line: &mut Line, tape: &mut Tape, edge: usize, row: i64)
     requires within { edge < length tape.old.edges }
     requires row_low { pos 0 ≤ℤ row }

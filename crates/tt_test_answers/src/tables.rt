@@ -1,4 +1,4 @@
-//! What is read of a font before its glyphs are.
+//! The tables of a font that are read before its glyphs.
 
 ghost use Rattle.std.specs.Prelude.{◌≡◌, ◌≤◌, length, IfSome};
 ghost use Rattle.tt_core.specs.Limits.{font_limit};

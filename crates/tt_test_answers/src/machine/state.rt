@@ -1,11 +1,11 @@
-//! What a run leaves.
+//! The parts that a run leaves, as text.
 
 use std::str;
 use tt_exec::{Functions, Parts};
 use tt_state::{GraphicsState, Point, Round, Vector, Zone};
 use tt_test_words::Line;
 
-/// Puts what a run leaves, of the parts that were there before.
+/// Puts the parts that a run leaves, by their difference from the parts before it.
 pub(crate) fn put_parts(line: &mut Line, before: &Parts, after: &Parts) {
     line.put("; ");
     put_state(line, &after.state);
@@ -144,7 +144,7 @@ fn put_point(line: &mut Line, point: &Point) {
     ]);
 }
 
-/// Puts what each number of a function or an opcode stands for.
+/// Puts the program and the place of each function, or of each instruction.
 fn put_bodies(line: &mut Line, name: &str, bodies: &Functions) {
     line.put(name);
     for number in 0..bodies.end() {
