@@ -1,5 +1,5 @@
-/* What the program asks of its host beside the C library's functions and the heap: its arguments, and the error number.
- * It is linked with -Wl,--wrap=main, so that the main here is called first.
+/* The host functions of the program beside the C library's own and the heap: its arguments, and the error number. The
+ * program is linked with -Wl,--wrap=main, so that the main here is called first.
  */
 #include <errno.h>
 #include <stddef.h>
@@ -11,15 +11,15 @@ static char **words;
 int __real_main(int argc, char **argv);
 int __wrap_main(int argc, char **argv);
 
-/* Keeps the arguments, and then is the program's own main, which looks at none. */
+/* Stores the arguments, and calls the program's own main, which reads none. */
 int __wrap_main(int argc, char **argv) {
   count = argc;
   words = argv;
   return __real_main(argc, argv);
 }
 
-/* Owes the argument of that number, of which 0 is the program's name, in the first of the `room` bytes, without the
- * zero that ends it, and its length; -1 where there is none; -2 where it is longer than the room, which then is full.
+/* Copies argument `number`, where 0 is the program's name, to the start of the room, without its final zero. Returns
+ * its length; -1 where there is no such argument; -2 where it is longer than the room, which then is full.
  */
 ptrdiff_t rattle_arg(size_t number, uint8_t *to, size_t room) {
   if (count < 0 || number >= (size_t)count || !words[number]) return -1;
@@ -32,13 +32,13 @@ ptrdiff_t rattle_arg(size_t number, uint8_t *to, size_t room) {
   return (ptrdiff_t)length;
 }
 
-/* Owes the error number, as the last call that failed left it. */
+/* Returns the error number of the last call that failed. */
 int32_t rattle_errno(void) { return errno; }
 
-/* Is given what the error number is to be. */
+/* Sets the error number. */
 void rattle_set_errno(int32_t error) { errno = error; }
 
-/* The rest the program takes from glibc, which has the first function from 2.33 on. */
+/* The program takes these functions from glibc, which has the first from 2.33 on. For other systems they are here. */
 
 #if defined(__GLIBC__)
 #define GLIBC_HAS(minor) (__GLIBC__ > 2 || __GLIBC_MINOR__ >= (minor))
@@ -49,15 +49,15 @@ void rattle_set_errno(int32_t error) { errno = error; }
 #if defined(__x86_64__) && !GLIBC_HAS(33)
 #include <cpuid.h>
 
-/* What cpuid leaves in eax, ebx, ecx and edx, and what of it the system lets a program use. */
+/* The features that cpuid reports in eax, ebx, ecx and edx, and those that the system lets a program use. */
 struct features {
   unsigned told[4], usable[4];
 };
 
 const struct features *__x86_get_cpuid_feature_leaf(unsigned number);
 
-/* Owes what cpuid's leaf 1 tells where the number is 0, its leaf 0x80000001 where it is 2, and else nothing. The
- * program asks for what x86-64-v2 has beyond the first x86-64; all of that, each system lets it use.
+/* Returns the features of cpuid's leaf 1 for number 0, of its leaf 0x80000001 for number 2, and no features for other
+ * numbers. The program looks for the features that x86-64-v2 adds to the first x86-64; every system permits their use.
  */
 const struct features *__x86_get_cpuid_feature_leaf(unsigned number) {
   static struct features leaves[2], none;
@@ -75,6 +75,6 @@ const struct features *__x86_get_cpuid_feature_leaf(unsigned number) {
 
 ptrdiff_t __write(int file, const void *from, size_t size);
 
-/* Owes what write does, by the name under which the program tells that its processor is too old. */
+/* write, under the name by which the program reports that its processor is too old. */
 ptrdiff_t __write(int file, const void *from, size_t size) { return write(file, from, size); }
 #endif

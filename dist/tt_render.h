@@ -1,23 +1,35 @@
 /*
  * tt_render: text drawn with a TrueType font, as black and white pictures.
  *
- * Each call takes a font as the bytes of its file, and keeps nothing: no state, no handle, no thread. Each writes what it
- * answers to a struct of the caller's, and returns the status in it. Unless that is 0, all else of the caller's is as it
- * was; tt_draw_lines alone keeps the lines before the one that stopped it. A text is UTF-8, and needs no zero at its end.
+ * A call takes a font as the bytes of its file. The library has no state, no handle and no thread. Each call fills the
+ * caller's answer, and returns the status in it. Unless the status is 0, all other memory of the caller's is unchanged,
+ * except that tt_draw_lines has written the lines before the one that stopped it. A text is UTF-8, and needs no zero at
+ * its end. Several threads may call at once.
  *
- * That each call keeps what its comment says is proved of the library's source. What a caller owes, since C cannot be
- * held to it:
- *   - each pointer is valid for as many elements as its length says, and aligned as its type wants; NULL goes with the
- *     length 0 alone;
- *   - nothing that a call writes to overlaps with anything else that it was given, and no one else writes to what it
- *     reads before it returns;
- *   - some 64 KiB of stack are free; and the processor is x86-64-v2 or newer;
- *   - rattle_alloc, rattle_realloc and rattle_dealloc, at the end of this header, do what stands there. Beside these the
- *     library wants memcpy, memmove, memset and, of the compiler's own runtime, __udivti3 (-lgcc where nothing else is).
- * Several threads may call at once.
+ * It is proved of the library's source that each call does what its comment says, except for costs. No proof holds C to
+ * the caller's part, which is:
+ *   - Each pointer is valid for as many elements as its length says, and aligned for its type. NULL goes with the
+ *     length 0 alone, and a struct is never NULL. The library tests no pointer: another NULL is undefined behaviour, a
+ *     crash as a rule.
+ *   - Memory that a call writes overlaps with nothing else that the call was given. So the two answers of tt_message
+ *     are two structs. Memory that a call only reads may overlap. No one else writes to it before the call returns, and
+ *     no one else touches the memory that the call writes.
+ *   - 64 KiB of stack are free.
+ *   - The processor is x86-64-v2 or newer, or aarch64 (Armv8-A). The library does not test this.
+ *   - rattle_alloc, rattle_realloc and rattle_dealloc do what the end of this header says. The library also needs
+ *     memcpy, memmove, memset and, from the compiler's own runtime, __udivti3 (-lgcc where nothing else is linked).
+ *   - No call comes from a signal handler, or from the forked child of a process with threads.
  *
- * What is refused is refused for the first of: the way to fit, UTF-8, size, margin, the text's length; the font's size,
- * its tables; the picture's size; the font's programs and glyphs. The room is looked at last.
+ * No struct has a size field or a version. So a struct, tt_job too, changes only with a new version of the library;
+ * then a caller has to be compiled anew.
+ *
+ * A call reports the first refusal in this order: the way to fit, UTF-8, size, margin, the text's length; the font's
+ * size, its tables; the picture's size; loca and glyf, the font's programs, the points (65), the glyphs, the crossings
+ * (65). With grow, the size and the crossings of the enlarged picture follow. The room comes last. tt_draw_lines tests
+ * the way to fit, size, margin and font once; then it tests the rest line by line, first the line's ends.
+ *
+ * Cost: tt_open and tt_map read tables alone. tt_measure, tt_characters, tt_draw and tt_draw_band each fit all glyphs
+ * of the text, which is most of the cost of a drawing. This is so even where the room is too small.
  */
 #ifndef TT_RENDER_H
 #define TT_RENDER_H
@@ -29,28 +41,28 @@
 extern "C" {
 #endif
 
-/* The status of an answer. Those up to 5 are the program's; 4, a write that failed, does not come here. */
+/* The status of an answer. Up to 5 these are the program's exit statuses; 4, a failed write, does not occur here. */
 enum {
     TT_DONE = 0,
-    TT_FONT = 1,       /* the font is refused: number, table and offset say for what */
-    TT_JOB = 2,        /* the job is refused: number says for what */
+    TT_FONT = 1,       /* the font is refused: number, table and offset say why */
+    TT_JOB = 2,        /* the job is refused: number says why */
     TT_FONT_LARGE = 3, /* the font has more than 67,108,864 bytes */
     TT_MEMORY = 5,     /* memory was refused */
     TT_NOT_UTF8 = 6,   /* the text is not UTF-8 */
-    TT_ROOM = 7        /* the caller's room is too small: bytes or count say how much is wanted */
+    TT_ROOM = 7        /* the caller's room is too small: bytes is the room needed, or count for entries */
 };
 
-/* What a call answers. Fields that an answer has no use for are 0. */
+/* The answer of a call. Unused fields are 0. */
 struct tt_answer {
     uint32_t status;
-    uint32_t number;  /* of a refusal: the table TT_REFUSALS below */
+    uint32_t number;  /* the refusal, of TT_REFUSALS below */
     uint8_t table[4]; /* the tag of the table that has the defect, "file" for the directory; no zero at the end */
     uint32_t offset;  /* the defect's offset in it, in bytes */
-    uint64_t bytes;   /* how many bytes were written, or are wanted; 0 of entries */
-    uint64_t count;   /* how many rows, entries or lines were written, or are wanted; of lines, how many were drawn */
+    uint64_t bytes;   /* the bytes written or needed; 0 for entries */
+    uint64_t count;   /* the rows, entries or lines written, or the rows or entries needed */
 };
 
-/* What a font says of itself, in font units but for the number of glyphs. */
+/* The figures of a font, in font units except the number of glyphs. */
 struct tt_font {
     uint32_t units_per_em; /* 16 to 16,384 */
     int32_t ascent;        /* above the base line */
@@ -58,32 +70,32 @@ struct tt_font {
     uint32_t glyphs;
 };
 
-/* How outlines are fitted to the pixels, in a job's fit. */
+/* The ways to fit outlines to the pixels, for a job's fit. */
 enum {
-    TT_FULL = 0,     /* by the font's programs; a glyph whose program is refused refuses the text */
-    TT_NONE = 1,     /* not at all */
-    TT_FALLBACK = 2, /* as full, but a glyph whose program is refused is drawn without */
-    TT_BEST = 3      /* as fallback, with the whole instruction set, bounded work, and dropouts filled */
+    TT_FULL = 0,     /* by the font's programs; if a glyph's program is refused, so is the text */
+    TT_NONE = 1,     /* not fitted */
+    TT_FALLBACK = 2, /* as full, but a glyph with a refused program is drawn unfitted */
+    TT_BEST = 3      /* as fallback, with the whole instruction set, bounded work and filled dropouts */
 };
 
-/* How a text is to be drawn. */
+/* A request to draw a text. */
 struct tt_job {
     uint32_t size;   /* pixels per em, 1 to 300 */
     uint32_t margin; /* pixels round the line, 0 to 64 */
     uint32_t fit;    /* TT_FULL .. TT_BEST */
-    uint32_t grow;   /* not 0: the picture is so much larger on each side, by the least, that no ink is cut */
+    uint32_t grow;   /* not 0: the picture is enlarged on each side, by as little as possible, so that no ink is cut */
 };
 
-/* What there is to know of a picture beside its pixels. */
+/* A picture without its pixels. */
 struct tt_picture {
     uint32_t width;     /* pixels in a row, 1 to 16,384 */
     uint32_t height;    /* rows, 1 to 4,096 */
     uint64_t row_bytes; /* (width + 7) / 8 */
-    int64_t baseline;   /* rows above the base line; it may lie outside the picture */
-    uint64_t unfitted;  /* distinct glyphs that are drawn without their programs though fitting was asked for */
+    int64_t baseline;   /* rows above the base line, which may lie outside the picture */
+    uint64_t unfitted;  /* the distinct glyphs drawn unfitted although the job requests fitting */
 };
 
-/* A box of pixels, all four among those that it holds. */
+/* A box of pixels; all four sides are included. */
 struct tt_box {
     int64_t left;
     int64_t top;
@@ -91,7 +103,7 @@ struct tt_box {
     int64_t bottom;
 };
 
-/* A text measured: its picture, and the box of all ink, which may reach past the picture's edges. */
+/* The measure of a text: its picture, and the box of all ink, which may reach past the picture's edges. */
 struct tt_measure {
     uint32_t width;
     uint32_t height;
@@ -124,69 +136,80 @@ struct tt_line {
 };
 
 /*
- * Tests the tables of a font that every text is looked up in, and tells what the font says of itself. It takes no memory.
+ * Tests the tables that every text needs, and fills told with the font's figures. It takes no memory.
  */
 uint32_t tt_open(const uint8_t *font, size_t font_bytes, struct tt_font *told, struct tt_answer *answer);
 
 /*
- * The glyph and the advance of each character of a text, in its order. There has to be room for as many entries as the
- * text has characters, which are at most its bytes. It takes no memory. Of a job it refuses only a text that is too
- * long. count: characters.
+ * The glyph and the advance of each character of a text, in order. The room holds as many entries as the text has
+ * characters, which are at most as many as its bytes. It takes no memory. Of the refusals of a job only 61, a text that
+ * is too long, occurs. count: characters.
  */
 uint32_t tt_map(const uint8_t *font, size_t font_bytes, const uint8_t *text, size_t text_bytes,
                 struct tt_glyph *glyphs, size_t room, struct tt_answer *answer);
 
 /*
- * How large the picture of a text is, where its base line and its ink stand.
+ * The size of a text's picture, its base line and the box of its ink.
  */
 uint32_t tt_measure(const uint8_t *font, size_t font_bytes, const uint8_t *text, size_t text_bytes,
                     const struct tt_job *job, struct tt_measure *told, struct tt_answer *answer);
 
 /*
- * Where each character of a text stands in its picture. count: characters.
+ * The place of each character of a text in its picture. count: characters.
  */
 uint32_t tt_characters(const uint8_t *font, size_t font_bytes, const uint8_t *text, size_t text_bytes,
                        const struct tt_job *job, struct tt_character *characters, size_t room,
                        struct tt_answer *answer);
 
 /*
- * Draws a text: the rows of its picture, the highest first, row_bytes each, the leftmost pixel in the highest bit of the
- * first byte, 1 for black, 0 after the last pixel. With the header "P4\n<width> <height>\n" before them they are the file
- * that the program writes for this font, text and job. bytes and count: of rows.
+ * Draws a text: the rows of its picture, the highest first, row_bytes each. The leftmost pixel is the highest bit of
+ * the first byte; 1 is black, and the bits after the last pixel are 0. With the header "P4\n<width> <height>\n" before
+ * them the rows are the file that the program writes for this font, text and job. bytes and count: of the rows.
  */
 uint32_t tt_draw(const uint8_t *font, size_t font_bytes, const uint8_t *text, size_t text_bytes,
                  const struct tt_job *job, uint8_t *rows, size_t room, struct tt_picture *told,
                  struct tt_answer *answer);
 
 /*
- * The same of at most count rows from row first on, as many of them as the picture has. The rows before them are made
- * too, and given up. told is of the whole picture.
+ * Draws a band of the picture that tt_draw draws: at most count rows from row first on, as many as the picture has. The
+ * rows before the band are made too, and discarded. told describes the whole picture. bytes and count: of the band.
  */
 uint32_t tt_draw_band(const uint8_t *font, size_t font_bytes, const uint8_t *text, size_t text_bytes,
                       const struct tt_job *job, uint32_t first, uint32_t count, uint8_t *rows, size_t room,
                       struct tt_picture *told, struct tt_answer *answer);
 
 /*
- * Draws lines one after the other, each as tt_draw does, by a font that is opened once and whose programs run once
- * (with TT_BEST once a line). Line i begins in texts where the line before it ends, and ends before ends[i]; rows has the
- * rows of all lines one after the other, lines[i] tells of line i. keep: how many bytes of glyphs may be kept from line to
- * line; 1 << 20 serves most fonts.
+ * Draws lines one after the other, each as tt_draw does. The font is opened once and its programs run once. Between
+ * lines at most keep bytes of glyphs are cached; 1 << 20 is enough for most fonts. With TT_BEST the programs run once a
+ * line, no glyph is cached and keep has no effect, so each line costs about as much as a call of tt_draw.
  *
- * A line that is refused stops the call: count lines before it are drawn, in bytes bytes of rows, and what comes after
- * these is as it was. With TT_ROOM bytes is what these lines and the next one want. Where ends[i] is less than the end
- * before it or more than text_bytes, the line is refused with number 67. Where lines_room is less than ends_count nothing
- * is drawn: TT_ROOM, with bytes 0, and with count ends_count.
+ * Line i begins in texts where the line before it ends, and ends before ends[i]. rows gets the rows of all lines one
+ * after the other, and lines[i] describes line i.
+ *
+ * A refused line stops the call: count lines before it are drawn, in bytes bytes of rows, and all memory after these is
+ * unchanged. With TT_ROOM bytes is the room that these lines and the next one need. Where ends[i] is less than the end
+ * before it or more than text_bytes, the line is refused with number 67. lines_room is tested first: where it is less
+ * than ends_count nothing is drawn, with TT_ROOM, bytes 0 and count ends_count.
  */
 uint32_t tt_draw_lines(const uint8_t *font, size_t font_bytes, const uint8_t *texts, size_t text_bytes,
                        const uint64_t *ends, size_t ends_count, const struct tt_job *job, size_t keep, uint8_t *rows,
                        size_t room, struct tt_line *lines, size_t lines_room, struct tt_answer *answer);
 
 /*
- * What an answer says, for a person: the program's line for it, with a zero at its end. bytes counts the zero.
+ * The message of an answer, for a person: the program's line where there is one, with a zero at its end. bytes counts
+ * the zero, and is at most 90: so a room of 90 bytes is always enough. told is the answer of another call; answer is
+ * another struct, the answer of this call.
  */
 uint32_t tt_message(const struct tt_answer *told, uint8_t *text, size_t room, struct tt_answer *answer);
 
-/* All refusals: X(number, name). Those from 60 on are of the job. */
+/*
+ * All refusals: X(number, name). From 60 on they refuse the job; the man page of the program explains each.
+ *
+ * 65 WorkLarge comes with TT_BEST alone, for one of two counts of a line. Its glyphs, each once, have more than
+ * 4,000,000 points, where each glyph and each component adds four points, and each contour one. Or the edges of its
+ * glyphs, at all their places, cross the rows of the picture more than 16,000,000 times. Where a glyph's dropouts are
+ * filled, four crossings more are counted for each edge and each row or column that the edge crosses.
+ */
 #define TT_REFUSALS(X) \
     X(1, BadVersion) \
     X(2, DirShort) \
@@ -242,10 +265,18 @@ uint32_t tt_message(const struct tt_answer *told, uint8_t *text, size_t room, st
     X(67, LineEnds)
 
 /*
- * The memory of the library. heap.c has these three over malloc, realloc and free; a host that has its own defines all
- * three itself, and leaves heap.o out. A block is aligned to each power of two up to 16 that divides its size. got is 0
- * where memory is refused; block is then any address but NULL. A size is never more than PTRDIFF_MAX; a block of size 0
- * may be any address but NULL that rattle_realloc and rattle_dealloc take.
+ * The memory of the library. heap.c has these three functions over malloc, realloc and free. A host with its own heap
+ * defines all three itself, and omits heap.o.
+ *
+ * rattle_alloc makes a block of size bytes. rattle_realloc makes a block into one of size bytes, which may be at
+ * another address. Its first kept bytes are unchanged; kept is at most the old size and at most size. rattle_dealloc
+ * frees a block.
+ *
+ * A block is aligned to each power of two up to 16 that divides its size; align is such a power. A size is at most
+ * PTRDIFF_MAX. A block of size 0 may be any address but NULL that rattle_realloc and rattle_dealloc accept.
+ *
+ * got is 1 and block the block, or got is 0 where memory is refused, and block is any address but NULL. Where
+ * rattle_realloc refuses, the old block remains, with all its bytes.
  */
 struct tt_block {
     uint64_t got;
