@@ -14,12 +14,8 @@ from texts import RT_WORD, bare_lines, bare_text, without_bodies
 
 HEAD = """\
 # The verdicts of tests/wrong_bodies/run: of each crate a sum of what they rest on, how many edits are refused, and how
-# many of these by names only; or how many are not judged yet. `tests/wrong_bodies/run --stale` names the crates whose
-# sum is another now.
+# many of these by names only. `tests/wrong_bodies/run --stale` names the crates whose sum is another now.
 """
-
-# How the line of a crate ends whose edits wait for a judge.
-UNJUDGED = " not judged"
 
 
 def crates_of(root):
@@ -115,11 +111,6 @@ def stale_crates(root):
     names = crates_with_edits(root)
     changed = [it for it in names if said.get(it, "").split(" ")[0] != sum_of(root, it, toolchain)]
     return [*changed, *sorted(set(said) - set(names))]
-
-
-def unjudged_crates(root):
-    """Returns the crates whose line says that their edits are not judged yet."""
-    return [name for name, line in read_verdicts(root)[1].items() if line.endswith(UNJUDGED)]
 
 
 @contextlib.contextmanager
