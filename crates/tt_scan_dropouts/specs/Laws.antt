@@ -1,11 +1,13 @@
--- Lemmas about the definitions: dropouts are white without them, and move with their glyph; and a free gap is crossed
--- both ways or not at all.
-use Rattle.std.specs.Prelude.{◌≡◌, refl, Bool, true, false, ◌&&◌, ℤ, pos, ◌+ℤ◌, ◌*ℤ◌, All, List, [], ◌∷◌, map}
-use Rattle.std.specs.List.{list_any}
+-- Lemmas about the definitions: dropouts are white without them, and move with their glyph. A free gap is crossed both
+-- ways or not at all. What a glyph needs is at most what it counts, and it counts the same at each pen.
+use Rattle.std.specs.Prelude.{◌≡◌, refl, ℕ, ◌/◌, ◌≤◌, Bool, true, false, ◌&&◌, ℤ, pos, ◌+ℤ◌, ◌*ℤ◌, All, List, [], ◌∷◌, map}
+use Rattle.std.specs.List.{list_any, range_with_len, sum_by}
 use Rattle.std.specs.Ordering.{int_eq}
 use Rattle.tt_scan.specs.Contours.{IsClosed}
-use Rattle.tt_scan.specs.Winding.{is_black}
+use Rattle.tt_scan.specs.Winding.{crossings_of, is_black}
 use Rattle.tt_scan.specs.declared.edge.Edge.{Edge}
+use Rattle.tt_scan.specs.declared.edge.Frame.{Frame}
+use Rattle.tt_scan_dropouts.specs.Counted.{bands, bitmap_bytes, box_columns, box_rows, edges_counted, filling_counted, rows_of_band}
 use Rattle.tt_scan_dropouts.specs.Crossings.{agree, centre, crossings}
 use Rattle.tt_scan_dropouts.specs.Dropouts.{edges_of, is_added_by_columns, is_added_by_rows, is_dropout, is_inked, outline_turned}
 use Rattle.tt_scan_dropouts.specs.Gaps.{is_free}
@@ -68,6 +70,25 @@ ColumnsCrossedBothWays = (contours : List (List Edge)) (c j : ℤ) → All IsClo
     → is_free (λ j c. is_inked contours c j) j c ≡ true
     → crosses_gap true (edges_of (outline_turned contours)) c j
     ≡ crosses_gap false (edges_of (outline_turned contours)) c j
+
+-- the rows of a frame need no more crossings of some edges than these count, whatever the frame
+abbrev pub RowsAreCounted : Type 0
+RowsAreCounted = (f : Frame) (es : List Edge) → crossings_of f es ≤ edges_counted es
+
+-- the bitmap of a part of the box of some edges is counted, and so are the bitmaps of all bands
+abbrev pub BitmapIsCounted : Type 0
+BitmapIsCounted = (es : List Edge) (columns rows : ℕ) → columns ≤ box_columns es → rows ≤ box_rows es
+    → bitmap_bytes columns rows / 64 ≤ filling_counted es
+
+abbrev pub BandsAreCounted : Type 0
+BandsAreCounted = (es : List Edge) (columns : ℕ) → columns ≤ box_columns es
+    → sum_by (λ k. bitmap_bytes columns (rows_of_band (box_rows es) k)) (range_with_len 0 (bands (box_rows es))) / 64
+    ≤ filling_counted es
+
+-- edges moved by whole pixels along the rows count the same
+abbrev pub CountsStay : Type 0
+CountsStay = (k : ℤ) (es : List Edge) → (edges_counted (map (moved k (pos 0)) es) ≡ edges_counted es)
+    × (filling_counted (map (moved k (pos 0)) es) ≡ filling_counted es)
 
 -- worked values: a stem from below row 0 to above it, between the centres of columns 0 and 1
 stem : List Edge

@@ -1,4 +1,5 @@
 pub mod BothWays
+pub mod Counted
 pub mod Crossings
 pub mod Dropouts
 pub mod Examples

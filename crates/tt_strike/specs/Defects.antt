@@ -21,7 +21,7 @@ use Rattle.tt_strike.specs.declared.fault.DrawFault.{DrawFault}
 use Rattle.tt_strike.specs.declared.fault.DrawFault.TheVariants as draw
 use Rattle.tt_strike.specs.Tables.{Face, face_of, cmap_tag, cvt_tag, fpgm_tag, prep_tag, programs_in}
 use Rattle.tt_strike.specs.Refusals.{needs_font}
-use Rattle.tt_strike.specs.Picture.{setting_in, shapes_in, frame_of}
+use Rattle.tt_strike.specs.Picture.{setting_in, shapes_in}
 use Rattle.tt_strike.specs.Work.{crossings_in, is_bounded, points_in}
 
 -- a defect of the directory, or of a table needed for every text
@@ -98,10 +98,10 @@ abbrev pub HasTooManyPoints : Face → Job → Placement → Type 0
 HasTooManyPoints face a line = IsOkAnd (setting_in face a)
     (λ s. point_work_limit < points_in s (map (λ g. g.0) line.glyphs))
 
--- the glyphs of a line that is laid out cross the rows of its picture too often
+-- the glyphs of a line that is laid out have too many crossings, in its picture and outside
 abbrev pub CrossesTooOften : Face → Job → Placement → Type 0
 CrossesTooOften face a line = IsOkAnd (setting_in face a)
-    (λ s. IsOkAnd (shapes_in s line) (λ glyphs. crossing_limit < crossings_in (frame_of line a.margin) glyphs))
+    (λ s. IsOkAnd (shapes_in s line) (λ glyphs. crossing_limit < crossings_in glyphs))
 
 -- the job's work is bounded, and its line exceeds it
 abbrev pub IsTooMuchWork : Face → Job → Placement → Type 0

@@ -10,7 +10,8 @@ use Rattle.tt_scan.specs.Contours.{AreEnds, IsClosed, contours_at}
 use Rattle.tt_scan.specs.declared.edge.Edge.{Edge}
 use Rattle.tt_scan.specs.declared.edge.Frame.{Frame}
 use Rattle.tt_scan.specs.Tape.{Tape}
-use Rattle.tt_scan.specs.Winding.{is_black, column_x, row_y, crossings_of}
+use Rattle.tt_scan.specs.Winding.{is_black, column_x, row_y}
+use Rattle.tt_scan_dropouts.specs.Counted.{edges_counted}
 use Rattle.tt_scan_dropouts.specs.Pictures.{column_at, is_among, line_at}
 use Rattle.tt_scan_dropouts.specs.declared.mark.Rules.{Rules}
 use Rattle.tt_scan_dropouts.specs.declared.picture.Dropout.{Dropout}
@@ -127,10 +128,9 @@ row_of f gs ds r = rows_by f gs ds (stride f.width * r) (stride f.width)
 abbrev pub all_rows : Frame → List Glyph → List Dropout → List ℕ
 all_rows f gs ds = rows_by f gs ds 0 (stride f.width * f.height)
 
--- how often a glyph crosses the rows of the picture, and the lines searched for its dropouts, at one pen and at all; a
--- raster is cut already
+-- the crossings of a glyph at one pen and at all, in the picture and outside; a raster is cut already
 abbrev pub body_crossings : Body → Option Rules → ℕ
-body_crossings (tape t) filled = crossings_of t.frame t.edges + filling_crossings filled t.edges
+body_crossings (tape t) filled = edges_counted t.edges + filling_crossings filled t.edges
 body_crossings (raster k) filled = 0
 
 abbrev pub pen_crossings : Glyph → ℕ
@@ -149,7 +149,7 @@ pub record Stand (keeps : Bool) (f : Frame) (gs : List Glyph) (shapes : List Sha
   pub black : (c r : ℕ) → c < 2 ^ 62 → is_black_by f (stamps_in gs) c r
       ≡ some_black shapes (column_x f.margin (pos c)) (row_y f (pos r))
   pub dropouts : (c r : ℕ) → is_filled_by f (stamps_in gs) c r ≡ some_filled f shapes c r
-  pub crossings : keeps ≡ false → crossings_standing gs ≡ crossings_in f shapes
+  pub crossings : keeps ≡ false → crossings_standing gs ≡ crossings_in shapes
 
 -- a list of glyphs adds one shape to the list before it
 pub record Adds (keeps : Bool) (f : Frame) (before after : List Glyph) (s : Shape) : Type 0 where
@@ -158,7 +158,7 @@ pub record Adds (keeps : Bool) (f : Frame) (before after : List Glyph) (s : Shap
   pub dropouts : (c r : ℕ) → is_filled_by f (stamps_in after) c r
       ≡ (is_filled_by f (stamps_in before) c r || is_filled s.filled s.contours (column_at f 0 c) (line_at f r))
   pub crossings : keeps ≡ false → crossings_standing after
-      ≡ crossings_standing before + (crossings_of f s.edges + filling_crossings s.filled s.edges)
+      ≡ crossings_standing before + (edges_counted s.edges + filling_crossings s.filled s.edges)
 
 -- for each glyph of the font 0, or one more than its place among some numbers
 pub record ArePlaces (table numbers : List ℕ) : Type 0 where

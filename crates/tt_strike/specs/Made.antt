@@ -22,7 +22,7 @@ pub record AreMade (keeps : Bool) (face : Face) (a : Job) (line : Placement) (gs
   pub opened : setting_in face a ≡ Ok setting
   pub few : as_job (points_tested setting a line) ≡ Ok tt
   pub fitted : shapes_in setting line ≡ Ok shapes
-  pub seldom : crossings_tested a line shapes ≡ Ok tt
+  pub seldom : crossings_tested a shapes ≡ Ok tt
   pub drawn : AreDrawn keeps (line_fitter setting (map (λ g. g.0) line.glyphs)) (frame_of line a.margin) gs
   pub numbers : numbers_of gs ≡ distinct (map (λ g. g.0) line.glyphs)
   pub within : AreWithin gs

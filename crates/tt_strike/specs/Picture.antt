@@ -78,16 +78,16 @@ shapes_in s line = each (glyph_shape (line_fitter s (map (λ g. g.0) line.glyphs
 abbrev pub points_tested : Fitter → Job → Placement → Result (Unit {0}) JobFault
 points_tested s a line = work_tested a.fit point_work_limit (points_in s (map (λ g. g.0) line.glyphs))
 
--- the edges of a line's glyphs cross the rows of its picture seldom enough for the job
-abbrev pub crossings_tested : Job → Placement → List Shape → Result (Unit {0}) JobFault
-crossings_tested a line glyphs = work_tested a.fit crossing_limit (crossings_in (frame_of line a.margin) glyphs)
+-- a line's glyphs have few enough crossings for the job, in its picture and outside
+abbrev pub crossings_tested : Job → List Shape → Result (Unit {0}) JobFault
+crossings_tested a glyphs = work_tested a.fit crossing_limit (crossings_in glyphs)
 
 -- the glyphs that are drawn for a job, or its first refusal
 abbrev pub line_shapes : Fitter → Job → Placement → Result (List Shape) Refused
 line_shapes s a line =
     as_job (points_tested s a line) >>= λ u.
     as_font (shapes_in s line) >>= λ glyphs.
-    as_job (crossings_tested a line glyphs) >>= λ u.
+    as_job (crossings_tested a glyphs) >>= λ u.
     Ok glyphs
 
 -- the picture of a laid-out line

@@ -1,5 +1,5 @@
 -- No part of the standard: the limits of a job's work (profile). It is bounded only with best.
-use Rattle.std.specs.Prelude.{◌≡◌, refl, ℕ, ◌+◌, ◌*◌, ◌&&◌, nat_lt, Bool, true, false, if◌then◌else◌, List, [], ◌∷◌, Option, Some, None, Result, Ok, Err}
+use Rattle.std.specs.Prelude.{◌≡◌, refl, ℕ, ◌+◌, ◌&&◌, nat_lt, Bool, true, false, if◌then◌else◌, List, [], ◌∷◌, Option, Some, None, Result, Ok, Err}
 use Rattle.std.specs.List.{sum_by}
 use Rattle.tt_core.specs.declared.fault.JobFault.{JobFault}
 use Rattle.tt_core.specs.declared.fault.JobFault.TheVariants as fault
@@ -10,9 +10,7 @@ use Rattle.tt_strike.specs.Distinct.{distinct}
 use Rattle.tt_fit.specs.declared.programs.Fit.{Fit}
 use Rattle.tt_fit.specs.declared.programs.Fit.TheVariants as fit
 use Rattle.tt_scan.specs.declared.edge.Edge.{Edge}
-use Rattle.tt_scan.specs.declared.edge.Frame.{Frame}
-use Rattle.tt_scan.specs.Winding.{crossings_of}
-use Rattle.tt_scan_dropouts.specs.Dropouts.{crossed}
+use Rattle.tt_scan_dropouts.specs.Counted.{edges_counted, filling_counted}
 use Rattle.tt_scan_dropouts.specs.declared.mark.Rules.{Rules}
 use Rattle.tt_strike.specs.Pixels.{Shape}
 
@@ -31,16 +29,15 @@ work_tested how limit work = if is_bounded how && nat_lt limit work then Err fau
 abbrev pub points_in : Fitter → List ℕ → ℕ
 points_in s gs = sum_by (points_asked s.tables s.levels) (distinct gs)
 
--- where dropouts are filled, each crossing of a line of rows or columns with the edges of a glyph counts four times
+-- where dropouts are filled, a glyph counts the search for them too
 abbrev pub filling_crossings : Option Rules → List Edge → ℕ
 filling_crossings None edges = 0
-filling_crossings (Some rules) edges = 4 * crossed edges
+filling_crossings (Some rules) edges = filling_counted edges
 
--- how often the edges of some glyphs cross the rows of a picture, and the lines searched for dropouts
-abbrev pub crossings_in : Frame → List Shape → ℕ
-crossings_in f [] = 0
-crossings_in f (s ∷ ss) =
-    (crossings_of f s.edges + filling_crossings s.filled s.edges) + crossings_in f ss
+-- the crossings of some glyphs, each at its pen: of all rows, inside a picture and outside
+abbrev pub crossings_in : List Shape → ℕ
+crossings_in [] = 0
+crossings_in (s ∷ ss) = (edges_counted s.edges + filling_crossings s.filled s.edges) + crossings_in ss
 
 -- worked values
 at_the_limit : work_tested fit.Best crossing_limit 16000000 ≡ Ok tt

@@ -1,0 +1,125 @@
+-- No part of the standard: what the edges of one glyph count where a job's work is bounded (profile). The count does
+-- not know the picture: rows inside and outside count, and a glyph counts the same at each pen.
+use Rattle.std.specs.Prelude.{◌≡◌, refl, ℕ, ◌+◌, ◌*◌, ◌/◌, ◌-◌, min, ℤ, pos, negsuc, ◌-ℤ◌, unsigned_abs, List, [], ◌∷◌, length, map}
+use Rattle.tt_core.specs.Bits.{stride}
+use Rattle.tt_scan.specs.declared.edge.Edge.{Edge}
+use Rattle.tt_scan_dropouts.specs.Crossings.{lines_crossed}
+use Rattle.tt_scan_dropouts.specs.Dropouts.{columns_of, crossed, turned_round}
+use Rattle.tt_scan_dropouts.specs.declared.mark.Columns.{Columns}
+
+-- rows are worked on in bands of at most this many
+abbrev pub band_rows : ℕ
+band_rows = 2048
+
+-- how many bands some rows are
+abbrev pub bands : ℕ → ℕ
+bands rows = (rows + 2047) / band_rows
+
+-- how many numbers the columns of a box are, or its rows
+abbrev pub numbers_in : Columns → ℕ
+numbers_in b = unsigned_abs (b.last -ℤ b.first) + 1
+
+-- how many columns the box of some edges has, and how many rows
+abbrev pub box_columns : List Edge → ℕ
+box_columns es = numbers_in (columns_of es)
+
+abbrev pub box_rows : List Edge → ℕ
+box_rows es = numbers_in (columns_of (map turned_round es))
+
+-- how many rows each edge crosses, all together
+abbrev pub rows_crossed : List Edge → ℕ
+rows_crossed [] = 0
+rows_crossed (e ∷ es) = lines_crossed e + rows_crossed es
+
+-- an edge counts one for each band of the box's rows, and one for each row that it crosses
+unfoldable pub edges_counted : List Edge → ℕ
+edges_counted es = bands (box_rows es) * length es + rows_crossed es
+
+-- the bytes of a bitmap of this many columns and rows, with two pixels more on each side
+abbrev pub bitmap_bytes : ℕ → ℕ → ℕ
+bitmap_bytes columns rows = stride (columns + 4) * (rows + 4)
+
+-- the bytes of the bitmaps of all bands
+abbrev pub bands_bytes : ℕ → ℕ → ℕ
+bands_bytes columns rows = stride (columns + 4) * (rows + 4 * bands rows)
+
+-- where dropouts are filled: four for each row or column that an edge crosses, and one for each 64 bytes of the
+-- bitmaps of the box
+unfoldable pub filling_counted : List Edge → ℕ
+filling_counted es = 4 * crossed es + bands_bytes (box_columns es) (box_rows es) / 64
+
+-- the rows of band k
+abbrev pub rows_of_band : ℕ → ℕ → ℕ
+rows_of_band rows k = min band_rows (rows - band_rows * k)
+
+-- worked values
+one_row_is_a_band : bands 1 ≡ 1
+one_row_is_a_band = refl
+
+a_whole_band : bands 2048 ≡ 1
+a_whole_band = refl
+
+one_row_more : bands 2049 ≡ 2
+one_row_more = refl
+
+the_band_of_that_row : rows_of_band 2049 1 ≡ 1
+the_band_of_that_row = refl
+
+forty_by_999 : bands_bytes 40 999 ≡ 6018
+forty_by_999 = refl
+
+one_pixel : bitmap_bytes 1 1 ≡ 5
+one_pixel = refl
+
+-- no edge: its box is one pixel, and no edge is counted
+no_edge_counts : edges_counted [] ≡ 0
+unfolding edges_counted
+no_edge_counts = refl
+
+no_edge_fills : filling_counted [] ≡ 0
+unfolding filling_counted
+no_edge_fills = refl
+
+-- from a pixel below the base line to a pixel above it, through the middle of the first column
+upright : Edge
+upright = record { ax = pos 4096; ay = negsuc 8191; bx = pos 4096; by = pos 8192 }
+
+-- along the base line, over four columns
+level : Edge
+level = record { ax = pos 0; ay = pos 0; bx = pos 32768; by = pos 0 }
+
+-- one for the band, and two rows
+its_rows_count : edges_counted (upright ∷ []) ≡ 3
+unfolding edges_counted upright
+its_rows_count = refl
+
+-- a level edge crosses no row
+a_level_edge_counts_one : edges_counted (level ∷ []) ≡ 1
+unfolding edges_counted level
+a_level_edge_counts_one = refl
+
+-- the level edge crosses four columns, and the upright edge two rows: 24, and a byte for each of six rows
+both_are_filled : filling_counted (upright ∷ level ∷ []) ≡ 24
+unfolding filling_counted upright level
+both_are_filled = refl
+
+-- from the centre of row 0 to that of row 1: the edge meets both, and crosses one
+between : Edge
+between = record { ax = pos 0; ay = pos 4096; bx = pos 0; by = pos 12288 }
+
+both_ends_count : edges_counted (between ∷ []) ≡ 2
+unfolding edges_counted between
+both_ends_count = refl
+
+-- from the base line 2,049 rows up: two bands
+high : Edge
+high = record { ax = pos 0; ay = pos 0; bx = pos 0; by = pos 16785408 }
+
+two_bands_count : edges_counted (high ∷ high ∷ []) ≡ 4102
+unfolding edges_counted high
+two_bands_count = refl
+
+-- four for each row, and 2,057 bytes of bitmaps: 32 times 64, and nine
+their_bitmaps_count : filling_counted (high ∷ []) ≡ 8228
+unfolding filling_counted high
+their_bitmaps_count = refl
