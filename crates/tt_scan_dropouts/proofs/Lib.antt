@@ -11,6 +11,7 @@ pub mod InBox
 pub mod Inked
 pub mod Lines
 pub mod Locality
+pub mod Counts
 pub mod MovedGaps
 pub mod MovedLines
 pub mod MovedMarks

@@ -47,13 +47,6 @@ few_lines e fits =
     let c = floor_low (e.by +ℤ pos 4095) in let d = floor_high (e.by +ℤ pos 4095) in
     omega (arith, ints, fits.ay, fits.by)
 
--- an edge crosses at most one line more than it has whole pixels
-pub lines_within : (e : Edge) → 8192 * lines_crossed e ≤ unsigned_abs (e.by -ℤ e.ay) + 8192
-lines_within e =
-    let a = floor_low (e.ay +ℤ pos 4095) in let b = floor_high (e.ay +ℤ pos 4095) in
-    let c = floor_low (e.by +ℤ pos 4095) in let d = floor_high (e.by +ℤ pos 4095) in
-    omega (arith, ints)
-
 pub line_small : (e : Edge) (k : ℕ) → EdgeFits e → k < lines_crossed e → unsigned_abs (line_crossed e k) < 2 ^ 19
 line_small e k fits within =
     let a = floor_low (e.ay +ℤ pos 4095) in let b = floor_high (e.ay +ℤ pos 4095) in

@@ -116,7 +116,7 @@ rows_moved : (k m : ℤ) (rules : Rules) (contours : List (List Edge))
 rows_moved k m rules contours = adds_moved k m (is_inked contours) (is_inked (outline_moved k m contours))
     (ink_moved k m contours) rules contours
 
-contour_turned : (k m : ℤ) (es : List Edge)
+pub contour_turned : (k m : ℤ) (es : List Edge)
     → map turned_round (map (moved k m) es) ≡ map (moved m k) (map turned_round es)
 contour_turned k m [] = refl
 contour_turned k m (e ∷ es) = ap (λ rest. moved m k (turned_round e) ∷ rest) (contour_turned k m es)

@@ -85,10 +85,10 @@ BandsAreCounted = (es : List Edge) (columns : ℕ) → columns ≤ box_columns e
     → sum_by (λ k. bitmap_bytes columns (rows_of_band (box_rows es) k)) (range_with_len 0 (bands (box_rows es))) / 64
     ≤ filling_counted es
 
--- edges moved by whole pixels along the rows count the same
+-- edges moved by whole pixels count the same
 abbrev pub CountsStay : Type 0
-CountsStay = (k : ℤ) (es : List Edge) → (edges_counted (map (moved k (pos 0)) es) ≡ edges_counted es)
-    × (filling_counted (map (moved k (pos 0)) es) ≡ filling_counted es)
+CountsStay = (k m : ℤ) (es : List Edge) → (edges_counted (map (moved k m) es) ≡ edges_counted es)
+    × (filling_counted (map (moved k m) es) ≡ filling_counted es)
 
 -- worked values: a stem from below row 0 to above it, between the centres of columns 0 and 1
 stem : List Edge

@@ -1,13 +1,12 @@
 //! The dropouts of a glyph in a window: first a pass over the rows, and then a pass over the columns. For the second
 //! pass the pixels that the first added are black.
 
-ghost use Rattle.std.specs.Prelude.{◌≡◌, false, ℤ, ◌^◌, ◌*◌, ◌+◌, ◌-◌, ◌≤◌, ◌||◌, ◌&&◌, [], ◌∷◌, length, map, All, IfOk, OnOk};
+ghost use Rattle.std.specs.Prelude.{◌≡◌, false, ℤ, ◌^◌, ◌≤◌, ◌||◌, ◌&&◌, [], ◌∷◌, length, map, All, IfOk, OnOk};
 ghost use Rattle.std.specs.List.{list_any};
 ghost use Rattle.std.specs.Ordering.{int_eq};
 ghost use Rattle.tt_scan.specs.Contours.{AreEnds, IsClosed, contours_at};
 ghost use Rattle.tt_scan.specs.Winding.{EdgeFits};
-ghost use Rattle.tt_scan_dropouts.specs.Crossings.{lines_crossed};
-ghost use Rattle.tt_scan_dropouts.specs.Dropouts.{columns_of, crossed, is_dropout, row_adds, turned_round};
+ghost use Rattle.tt_scan_dropouts.specs.Dropouts.{columns_of, is_dropout, row_adds, turned_round};
 ghost use Rattle.tt_scan_dropouts.specs.Gaps.{has_pixel};
 ghost use Rattle.tt_scan_dropouts.specs.Walk.{is_in_free_gap};
 ghost use Rattle.tt_scan_dropouts.specs.Windows.{WindowFits, has, has_pixel_by, is_black_by, seen_by, widened};
@@ -16,7 +15,6 @@ ghost use Rattle.tt_scan_dropouts.specs.declared.window.Over.TheVariants as over
 use crate::bitmap::Bitmap;
 use crate::both_ways::{closed_may_have_dropouts, may_have_dropouts};
 use crate::columns::box_of;
-use crate::crossing::lines_crossed;
 use crate::gaps::sort;
 use crate::mark::{Columns, Pixel, Rules};
 use crate::marks::{crosses_free_gap, free_marks, touches_free_gap};
@@ -35,45 +33,6 @@ fn all_turned_round(alloc: Global, edges: &[Edge]) -> Result<Vec<Edge>, AllocErr
         turned.push(turned_round(*edge))?;
     }
     Ok(turned)
-}
-
-/// The number of lines of rows and of columns that edges cross. It measures the work for their dropouts.
-pub fn crossings(edges: &[Edge]) -> u64
-    requires edges { All EdgeFits edges.now }
-    requires few { length edges.now ≤ 2 ^ 32 }
-    ensures exact { result ≡ crossed edges.now }
-    ensures bound { result ≤ 2 ^ 21 * length edges.now }
-{
-    let mut all = 0;
-    for edge in edges {
-        all += lines_crossed(*edge) + lines_crossed(turned_round(*edge));
-    }
-    all
-}
-
-/// How far an edge reaches along rows and along columns, both together.
-#[inline(always)]
-fn reach(edge: Edge) -> u64
-    requires { EdgeFits edge }
-    ensures enough { 8192 * (lines_crossed edge + lines_crossed (turned_round edge)) ≤ result + 16384 }
-    ensures small { result ≤ 2 ^ 32 - 4 }
-{
-    edge.run().unsigned_abs() + edge.rise().unsigned_abs()
-}
-
-/// At least `crossings`, with less work: along each axis an edge crosses at most one line more than it has whole
-/// pixels.
-pub fn most_crossings(edges: &[Edge]) -> u64
-    requires edges { All EdgeFits edges.now }
-    requires few { length edges.now ≤ 2 ^ 32 }
-    ensures enough { crossed edges.now ≤ result }
-    ensures bound { result ≤ 2 ^ 21 * length edges.now }
-{
-    let mut far = 0;
-    for edge in edges {
-        far += reach(*edge);
-    }
-    far / 8192 + 2 * edges.len() as u64
 }
 
 /// The pixels that a pass adds, by edges as the pass sees them. Error: memory ran out.

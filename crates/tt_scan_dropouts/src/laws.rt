@@ -1,6 +1,6 @@
 //! Lemmas about the definitions, for all outlines.
 
-ghost use Rattle.tt_scan_dropouts.specs.Laws.{AddedByColumnsWasWhite, AddedByRowsWasWhite, ColumnsCrossedBothWays, DropoutWasWhite, DropoutsMoved, RowsCrossedBothWays};
+ghost use Rattle.tt_scan_dropouts.specs.Laws.{AddedByColumnsWasWhite, AddedByRowsWasWhite, BandsAreCounted, BitmapIsCounted, ColumnsCrossedBothWays, CountsStay, DropoutWasWhite, DropoutsMoved, RowsAreCounted, RowsCrossedBothWays};
 
 /// Lemma: the rows add only pixels that rules 1 and 2 leave white, and the columns only pixels that are still white
 /// then.
@@ -20,4 +20,22 @@ pub fn dropouts_moved()
 pub fn crossed_both_ways()
     ensures rows { RowsCrossedBothWays }
     ensures columns { ColumnsCrossedBothWays }
+{}
+
+/// Lemma: the rows of a picture need at most as many crossings of a glyph's edges as these count, whatever the frame.
+/// So do the rows of several pictures, one below the other.
+pub fn rows_are_counted()
+    ensures { RowsAreCounted }
+{}
+
+/// Lemma: where dropouts are filled, the bitmap of a part of a glyph's box is counted, one for each 64 bytes. So are the
+/// bitmaps of all bands of the box.
+pub fn bitmaps_are_counted()
+    ensures part { BitmapIsCounted }
+    ensures bands { BandsAreCounted }
+{}
+
+/// Lemma: an outline moved by whole pixels counts the same.
+pub fn counts_stay()
+    ensures { CountsStay }
 {}

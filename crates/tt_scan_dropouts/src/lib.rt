@@ -17,9 +17,11 @@
 //! gaps.rt       which pixel a gap needs
 //! columns.rt    the columns of a glyph's box
 //! pass.rt       the pixels that a pass over the gaps of all rows adds, and which gap gives way
-//! filling.rt    the dropouts of a glyph in a window, and how much work they are
+//! filling.rt    the dropouts of a glyph in a window
+//! counting.rt   what the edges of a glyph count where work is bounded
 //! picture.rt    the dropouts of a picture, as a list that is painted row by row
-//! laws.rt       dropouts are white without them, and move with their glyph; free gaps are crossed both ways
+//! laws.rt       dropouts are white without them, and move with their glyph; free gaps are crossed both ways; what is
+//!               needed is counted
 //! ```
 //!
 //! The text speaks of rows. Columns are the rows of the outline with x and y exchanged.
@@ -29,6 +31,7 @@ mod bitmap;
 mod both_ways;
 mod closed;
 mod columns;
+mod counting;
 mod crossing;
 mod filling;
 mod free;
@@ -45,7 +48,8 @@ mod stub;
 mod window;
 
 pub use columns::box_of;
-pub use filling::{crossings, dropouts, most_crossings};
+pub use counting::{BAND_ROWS, edges_counted, filling_counted};
+pub use filling::dropouts;
 pub use mark::{Columns, Pixel, Rules};
 pub use picture::{Dropout, blacken_dropouts, push_dropouts, sort_by_rows};
 pub use window::Window;

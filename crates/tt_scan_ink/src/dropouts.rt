@@ -12,9 +12,8 @@ ghost use Rattle.tt_scan_ink.specs.Least.{AreNear, IsInk, IsNear, shown};
 use crate::ink::{GlyphInk, joined};
 use crate::lines::count_of;
 use std::alloc::{AllocError, Global};
-use tt_core::HEIGHT_LIMIT;
 use tt_scan::Tape;
-use tt_scan_dropouts::{Columns, Pixel, Rules, Window, box_of, dropouts};
+use tt_scan_dropouts::{BAND_ROWS, Columns, Pixel, Rules, Window, box_of, dropouts};
 
 /// The box of one pixel.
 #[inline(always)]
@@ -76,8 +75,8 @@ fn window_ink(
     Ok(pixels_ink(&found))
 }
 
-/// The box of the dropouts in some columns and rows. The rows are done window after window from the lowest on, because
-/// a window has no more rows than a picture. Error: memory ran out.
+/// The box of the dropouts in some columns and rows. The rows are done band after band from the lowest on: bitmaps of
+/// more rows take memory that the system clears anew each time. Error: memory ran out.
 fn windows_ink(
     alloc: Global,
     rules: Rules,
@@ -97,7 +96,7 @@ fn windows_ink(
     let mut ink = None;
     let mut done = 0;
     while done < count {
-        let height = (count - done).min(HEIGHT_LIMIT);
+        let height = (count - done).min(BAND_ROWS);
         let window = window_of(columns, rows.first + i64::from(done), height);
         ink = joined(ink, window_ink(alloc, rules, tape, ends, window)?);
         done += height;

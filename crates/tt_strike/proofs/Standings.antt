@@ -15,18 +15,20 @@ use Rattle.tt_scan.specs.declared.edge.Edge.{Edge}
 use Rattle.tt_scan.specs.declared.edge.Frame.{Frame}
 use Rattle.tt_scan.specs.Contours.{contours_at}
 use Rattle.tt_scan.proofs.Moved.{black_in_columns}
-use Rattle.tt_scan.specs.Winding.{is_black, column_x, row_y, crossings_of, moved_edges}
+use Rattle.tt_scan.specs.Winding.{is_black, column_x, row_y, moved_edges}
+use Rattle.tt_scan_dropouts.specs.Counted.{edges_counted}
 use Rattle.tt_scan_dropouts.specs.Dropouts.{is_dropout}
 use Rattle.tt_scan_dropouts.specs.Laws.{moved, outline_moved}
+use Rattle.tt_scan_dropouts.proofs.Counts.{edges_stay}
 use Rattle.tt_scan_dropouts.proofs.Moved.{dropouts_move}
 use Rattle.tt_scan_dropouts.specs.Pictures.{column_at, line_at}
 use Rattle.tt_scan_dropouts.specs.declared.mark.Rules.{Rules}
 use Rattle.tt_scan_rows.specs.Raster.{line_y}
-use Rattle.tt_strike.specs.Glyphs.{Body, tape, raster, BodyFits, IsBodyOf, IsTape, body_crossings, drawn_of, edges_of, left_of, Glyph, IsDrawn, AreDrawn, AreKept, AreWithin, Adds, Stand, crossings_standing, stamps_in, numbers_of}
+use Rattle.tt_strike.specs.Glyphs.{Body, tape, raster, IsBodyOf, IsTape, body_crossings, drawn_of, edges_of, left_of, Glyph, IsDrawn, AreDrawn, AreKept, AreWithin, Adds, Stand, crossings_standing, stamps_in, numbers_of}
 use Rattle.tt_strike.specs.Picture.{contours_of, origin_of, edges_at, filled_by, glyph_shape}
 use Rattle.tt_strike.specs.Pixels.{Drawn, Shape, is_drawn, is_black_from, is_black_by, is_filled, is_filled_from, is_filled_by, some_black, some_filled}
 use Rattle.tt_strike.specs.Work.{filling_crossings}
-use Rattle.tt_strike.proofs.Crossed.{crossings_moved, crosses_at, crossings_more, filling_moved}
+use Rattle.tt_strike.proofs.Crossed.{crosses_at, crossings_more, filling_moved}
 use Rattle.tt_strike.proofs.Places.{ok_and}
 
 or_false : (b : Bool) → (b || false) ≡ b
@@ -121,7 +123,7 @@ one_place_more keeps f before after shapes new stand adds = record {
   black = λ c r small.
       rw (adds.black c r small, stand.black c r small) (sym (some_more shapes new (column_x f.margin (pos c)) (row_y f (pos r))));
   dropouts = λ c r. rw (adds.dropouts c r, stand.dropouts c r) (sym (some_filled_more f shapes new c r));
-  crossings = λ none. let more = crossings_more f shapes new in
+  crossings = λ none. let more = crossings_more shapes new in
       omega (arith, adds.crossings none, stand.crossings none, more);
 }
 
@@ -142,10 +144,6 @@ from_pen m o pen c y =
     let moved = rw back at (black_in_columns (pos pen) (edges_at 0 o) m (c -ℤ pos pen) y) in
     rw edges moved
 
--- an outline crosses the rows as often at a pen as at pen 0
-crosses_from : (f : Frame) (o : Outline) (pen : ℕ) → crossings_of f (edges_at pen o) ≡ crossings_of f (edges_at 0 o)
-crosses_from f o pen = rw (at_pen o pen) (crossings_moved f (pos 8192 *ℤ pos pen) (edges_at 0 o))
-
 -- where dropouts are filled, equal contours have equal dropouts
 same_filled : (filled : Option Rules) (these those : List (List Edge)) (c j : ℤ) → IfSome filled (λ rules. these ≡ those)
     → is_filled filled these c j ≡ is_filled filled those c j
@@ -156,6 +154,18 @@ same_filled (Some rules) these those c j same = rw same refl
 edges_moved : (k : ℤ) (es : List Edge) → moved_edges (pos 8192 *ℤ k) es ≡ map (moved k (pos 0)) es
 edges_moved k [] = refl
 edges_moved k (e ∷ es) = let still : (y : ℤ) → y +ℤ pos 8192 *ℤ pos 0 ≡ y = λ y. omega (arith, ints) in rw (edges_moved k es, still e.ay, still e.by) refl
+
+-- an outline counts at a pen as much as at pen 0
+moved_there : (o : Outline) (pen : ℕ) → edges_at pen o ≡ map (moved (pos pen) (pos 0)) (edges_at 0 o)
+moved_there o pen = at_pen o pen ∙ edges_moved (pos pen) (edges_at 0 o)
+
+pub counts_from_pen : (o : Outline) (pen : ℕ) → edges_counted (edges_at pen o) ≡ edges_counted (edges_at 0 o)
+counts_from_pen o pen = ap edges_counted (moved_there o pen) ∙ edges_stay (pos pen) (pos 0) (edges_at 0 o)
+
+pub filling_from_pen : (filled : Option Rules) (o : Outline) (pen : ℕ)
+    → filling_crossings filled (edges_at pen o) ≡ filling_crossings filled (edges_at 0 o)
+filling_from_pen filled o pen = ap (filling_crossings filled) (moved_there o pen)
+    ∙ filling_moved filled (pos pen) (pos 0) (edges_at 0 o)
 
 all_moved : (k : ℤ) (contours : List (List Edge)) → map (moved_edges (pos 8192 *ℤ k)) contours ≡ outline_moved k (pos 0) contours
 all_moved k [] = refl
@@ -193,14 +203,13 @@ black_at f o (raster k) pen c r near small is =
     let line : line_y (line_at f r) ≡ row_y f (pos r) = omega (arith, ints) in
     is at (line_at f r) low ∙ rw (column, line) (sym (from_pen f.margin o pen (pos c) (row_y f (pos r))))
 
--- the work for a glyph at a pen, where its body is a tape
-works_as : (f : Frame) (o : Outline) (body : Body) (these filled : Option Rules) (pen : ℕ) → IsTape body → these ≡ filled
-    → BodyFits f 0 body → IsBodyOf (edges_at 0 o) body
-    → body_crossings body these ≡ crossings_of f (edges_at pen o) + filling_crossings filled (edges_at pen o)
-works_as f o (tape t) these filled pen is same fits edges =
-    rw (same, fits.frame, edges, crosses_from f o pen, at_pen o pen)
-    (ap (λ n. crossings_of f (edges_at 0 o) + n) (sym (filling_moved filled (pos pen) (edges_at 0 o))))
-works_as f o (raster k) these filled pen is same fits edges = absurd is
+-- the crossings of a glyph at a pen, where its body is a tape
+works_as : (o : Outline) (body : Body) (these filled : Option Rules) (pen : ℕ) → IsTape body → these ≡ filled
+    → IsBodyOf (edges_at 0 o) body
+    → body_crossings body these ≡ edges_counted (edges_at pen o) + filling_crossings filled (edges_at pen o)
+works_as o (tape t) these filled pen is same edges =
+    rw (same, edges, counts_from_pen o pen, filling_from_pen filled o pen) refl
+works_as o (raster k) these filled pen is same edges = absurd is
 
 -- the dropouts of a glyph at a pen: those of a raster are not filled
 fills_by : (f : Frame) (o : Outline) (body : Body) (these filled : Option Rules) (ends : List ℕ) (pen c r : ℕ) → these ≡ filled
@@ -236,7 +245,7 @@ adds_at keeps maker f before gs i g placed near same same_dropouts as_often belo
           ∙ rw (same_dropouts c r, drawn.left, fills_by f o g.body g.filled rules g.ends placed.1 c r filled drawn.of_tape drawn.contours) refl;
       crossings = λ none.
           crosses_at gs i g (placed.1 + g.left) below is
-          ∙ rw (as_often, works_as f o g.body g.filled rules placed.1 (drawn.tape none) filled drawn.fits drawn.body) refl;
+          ∙ rw (as_often, works_as o g.body g.filled rules placed.1 (drawn.tape none) filled drawn.body) refl;
     })
 
 -- a glyph with other pens has its number

@@ -19,7 +19,7 @@ use Rattle.tt_strike.specs.Defects.{IsTooMuchWork, IsExtentRefusal, IsLineRefusa
 use Rattle.tt_strike.specs.Tables.{Face}
 use Rattle.tt_strike.specs.Refusals.{Refused, as_font, as_job, job, refusal}
 use Rattle.tt_strike.specs.Refusals as outcome
-use Rattle.tt_strike.specs.Picture.{crossings_tested, drawn, laid_out, line_outcome, line_shapes, pictured_by, shapes_in, frame_of, points_tested, setting_in}
+use Rattle.tt_strike.specs.Picture.{crossings_tested, drawn, laid_out, line_outcome, line_shapes, pictured_by, shapes_in, points_tested, setting_in}
 use Rattle.tt_strike.specs.declared.fault.DrawFault.{DrawFault}
 use Rattle.tt_strike.specs.declared.fault.DrawFault.TheVariants as draw
 use Rattle.tt_strike.specs.Grown.{grown_outcome, grown_placement}
@@ -66,7 +66,7 @@ font_tells P font.Memory stands = tt
 -- crossings past the limit stop the line
 pub crossings_stop : (face : Face) (a : Job) (l : Placement) (s : Fitter) (glyphs : List Shape) (j : JobFault)
     → setting_in face a ≡ Ok s → as_job (points_tested s a l) ≡ Ok tt → shapes_in s l ≡ Ok glyphs
-    → crossings_tested a l glyphs ≡ Err j → shapes_made face a l ≡ Err (job j)
+    → crossings_tested a glyphs ≡ Err j → shapes_made face a l ≡ Err (job j)
 crossings_stop face a l s glyphs j there few made refused = rw (there, few, made, refused) refl
 
 tested_as : (bounded past : Bool) (j : JobFault)
@@ -77,12 +77,12 @@ tested_as true false j was = absurd cc
 tested_as false past j was = absurd cc
 
 pub crossings_tell : (face : Face) (a : Job) (l : Placement) (s : Fitter) (glyphs : List Shape) (j : JobFault)
-    → setting_in face a ≡ Ok s → shapes_in s l ≡ Ok glyphs → crossings_tested a l glyphs ≡ Err j
+    → setting_in face a ≡ Ok s → shapes_in s l ≡ Ok glyphs → crossings_tested a glyphs ≡ Err j
     → (j ≡ job_of.WorkLarge) × IsTooMuchWork face a l
 unfolding work_tested
 crossings_tell face a l s glyphs j there made refused =
-    let parts = tested_as (is_bounded a.fit) (nat_lt crossing_limit (crossings_in (frame_of l a.margin) glyphs)) j refused in
-    let past : crossing_limit < crossings_in (frame_of l a.margin) glyphs = let is = parts.2 in grind (arith, nat_tests) in
+    let parts = tested_as (is_bounded a.fit) (nat_lt crossing_limit (crossings_in glyphs)) j refused in
+    let past : crossing_limit < crossings_in glyphs = let is = parts.2 in grind (arith, nat_tests) in
     (parts.0, (parts.1, inr (rw (there, made) past)))
 
 -- a job's refusal is one of its tests, not of its font

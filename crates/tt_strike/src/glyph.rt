@@ -23,7 +23,7 @@ use tt_arc::{contour_ends, edges};
 use tt_core::{Fault, FontFault};
 use tt_fit::{Fitter, Outline};
 use tt_scan::{EdgeList, Frame, Tape};
-use tt_scan_dropouts::{Rules, crossings, most_crossings};
+use tt_scan_dropouts::{Rules, edges_counted, filling_counted};
 use tt_scan_rows::{Cut, Raster};
 use tt_strike_kept::{KeptGlyph, KeptGlyphs};
 
@@ -203,8 +203,8 @@ impl Glyph {
         Ok(self.pens.push(pen + self.left)?)
     }
 
-    /// How often the glyph at one pen crosses the rows of the picture, and the lines that are searched for its
-    /// dropouts. A crossing of such a line counts four times.
+    /// The crossings of the glyph at one pen, in the picture and outside. Where dropouts are filled, the search for them
+    /// counts too.
     fn pen_crossings(&self) -> u64
         requires few { length (edges_of self.now.body) ≤ 2 ^ 17 }
         ensures { result ≡ pen_crossings self.now }
@@ -212,10 +212,10 @@ impl Glyph {
         let Body::Tape(tape) = &self.body else {
             return 0;
         };
-        let rows = tape.crossings();
+        let edges = tape.lend();
         match self.filled {
-            Some(_) => rows + 4 * crossings(tape.lend()),
-            None => rows,
+            Some(_) => edges_counted(edges) + filling_counted(edges),
+            None => edges_counted(edges),
         }
     }
 
@@ -225,30 +225,6 @@ impl Glyph {
         ensures { result ≡ min (glyph_crossings self.now) (2 ^ 64 - 1) }
     {
         self.pen_crossings().saturating_mul(self.pens.len() as u64)
-    }
-
-    /// At least `pen_crossings`, with less work: counts no lines that are searched for dropouts.
-    fn most_pen_crossings(&self) -> u64
-        requires few { length (edges_of self.now.body) ≤ 2 ^ 17 }
-        ensures { pen_crossings self.now ≤ result }
-    {
-        let Body::Tape(tape) = &self.body else {
-            return 0;
-        };
-        let rows = tape.crossings();
-        match self.filled {
-            Some(_) => rows + 4 * most_crossings(tape.lend()),
-            None => rows,
-        }
-    }
-
-    /// At least `crossings`, with less work.
-    pub(crate) fn most_crossings(&self) -> u64
-        requires few { length (edges_of self.now.body) ≤ 2 ^ 17 }
-        ensures { min (glyph_crossings self.now) (2 ^ 64 - 1) ≤ result }
-    {
-        self.most_pen_crossings()
-            .saturating_mul(self.pens.len() as u64)
     }
 
     /// The number of its edges.

@@ -1,7 +1,7 @@
 //! The work of a job, which is bounded with `Fit::Best`.
 
 ghost use Rattle.std.specs.List.{sum_by};
-ghost use Rattle.std.specs.Prelude.{◌≡◌, ◌<◌, ◌≤◌, ◌-◌, ◌^◌, nat_lt, ◌&&◌, min, length, map, All, IfOk};
+ghost use Rattle.std.specs.Prelude.{◌≡◌, ◌<◌, ◌≤◌, ◌-◌, ◌^◌, nat_lt, min, length, map, All, IfOk};
 ghost use Rattle.tt_core.specs.Limits.{crossing_limit, point_work_limit};
 ghost use Rattle.tt_core.specs.Outcomes.{Gives, GivesUnless};
 ghost use Rattle.tt_fit.specs.Counting.{left_of, points_asked};
@@ -65,8 +65,7 @@ fn points_left(fitter: &Fitter, glyphs: &[u16], most: u64) -> Result<Option<u64>
     Ok(Some(left))
 }
 
-/// Tests how often a job's glyphs at their pens cross the rows of the picture. Error: WorkLarge, where work is bounded
-/// and they cross too often.
+/// Tests the crossings of a job's glyphs at their pens. Error: WorkLarge, where work is bounded and they are too many.
 #[tactic(auto, unfolding(crate::specs::Work::work_tested))]
 pub(crate) fn test_crossings(fit: Fit, glyphs: &[Glyph]) -> Result<(), JobFault>
     requires tapes { All (λ g. length (edges_of g.body) ≤ 2 ^ 17) glyphs.now }
@@ -78,7 +77,7 @@ pub(crate) fn test_crossings(fit: Fit, glyphs: &[Glyph]) -> Result<(), JobFault>
     Ok(())
 }
 
-/// How often some glyphs at their pens cross the rows of the picture, or 2 ^ 64 - 1 if that is more.
+/// The crossings of some glyphs at their pens, or 2 ^ 64 - 1 if there are more.
 fn crossings(glyphs: &[Glyph]) -> u64
     requires tapes { All (λ g. length (edges_of g.body) ≤ 2 ^ 17) glyphs.now }
     ensures { result ≡ min (crossings_standing glyphs.now) (2 ^ 64 - 1) }
@@ -90,23 +89,10 @@ fn crossings(glyphs: &[Glyph]) -> u64
     all
 }
 
-/// At least `crossings`, with less work.
-fn most_crossings(glyphs: &[Glyph]) -> u64
-    requires tapes { All (λ g. length (edges_of g.body) ≤ 2 ^ 17) glyphs.now }
-    ensures { min (crossings_standing glyphs.now) (2 ^ 64 - 1) ≤ result }
-{
-    let mut all: u64 = 0;
-    for glyph in glyphs {
-        all = all.saturating_add(glyph.most_crossings());
-    }
-    all
-}
-
-/// Whether some glyphs cross the rows of the picture more often than the limit. They are counted only where the cheap
-/// upper bound exceeds it.
+/// Whether some glyphs have more crossings than the limit.
 fn cross_too_often(glyphs: &[Glyph]) -> bool
     requires tapes { All (λ g. length (edges_of g.body) ≤ 2 ^ 17) glyphs.now }
     ensures { result ≡ nat_lt crossing_limit (crossings_standing glyphs.now) }
 {
-    most_crossings(glyphs) > CROSSING_LIMIT && crossings(glyphs) > CROSSING_LIMIT
+    crossings(glyphs) > CROSSING_LIMIT
 }

@@ -1,6 +1,6 @@
 use Rattle.std.proofs.Common.{◌≡◌, ◌+◌, ◌*◌, ◌^◌, ◌≤◌, drop}
 use Rattle.tt_scan_dropouts.specs.Dropouts.{crossed}
-use Rattle.tt_scan_dropouts.proofs.filling.crossings.Given as goal
+use Rattle.tt_scan_dropouts.proofs.counting.crossed.Given as goal
 
 -- the crossings so far and those of the remaining edges are all crossings
 abbrev pub invariant-loop-edge : goal.invariant-loop-edge

@@ -1,0 +1,107 @@
+//! What the edges of one glyph count where a job's work is bounded. The count knows no picture and no pen.
+
+ghost use Rattle.std.specs.Prelude.{◌≡◌, ◌^◌, ◌*◌, ◌+◌, ◌<◌, ◌≤◌, length, All};
+ghost use Rattle.tt_scan.specs.Winding.{EdgeFits};
+ghost use Rattle.tt_scan_dropouts.specs.Counted.{bands, bands_bytes, edges_counted, filling_counted, numbers_in, rows_crossed};
+ghost use Rattle.tt_scan_dropouts.specs.Dropouts.{crossed};
+ghost use Rattle.tt_scan_dropouts.specs.Windows.{ColumnsFit};
+
+use crate::columns::box_of;
+use crate::crossing::lines_crossed;
+use crate::mark::Columns;
+use crate::seen::turned_round;
+use tt_scan::Edge;
+
+/// The most rows that are worked on at once where a glyph may have more rows than a picture.
+pub const BAND_ROWS: u32 = 2048;
+
+/// How many numbers the columns of a box are, or its rows.
+fn numbers_in(numbers: Columns) -> u64
+    requires { ColumnsFit numbers }
+    ensures exact { result ≡ numbers_in numbers }
+    ensures small { result < 2 ^ 20 }
+{
+    (numbers.last - numbers.first).unsigned_abs() + 1
+}
+
+/// How many bands some rows are.
+fn bands(rows: u64) -> u64
+    requires { rows < 2 ^ 20 }
+    ensures exact { result ≡ bands rows }
+    ensures small { result ≤ 2 ^ 9 }
+{
+    rows.div_ceil(u64::from(BAND_ROWS))
+}
+
+/// One for each edge and each band.
+fn in_each_band(bands: u64, edges: usize) -> u64
+    requires bands { bands ≤ 2 ^ 9 }
+    requires edges { edges ≤ 2 ^ 32 }
+    ensures exact { result ≡ bands * edges }
+    ensures bound { result ≤ 2 ^ 9 * edges }
+{
+    bands * edges as u64
+}
+
+/// How many rows each edge crosses, all together.
+fn rows_crossed(edges: &[Edge]) -> u64
+    requires edges { All EdgeFits edges.now }
+    requires few { length edges.now ≤ 2 ^ 32 }
+    ensures exact { result ≡ rows_crossed edges.now }
+    ensures bound { result ≤ 2 ^ 20 * length edges.now }
+{
+    let mut all = 0;
+    for edge in edges {
+        all += lines_crossed(*edge);
+    }
+    all
+}
+
+/// How many rows and columns each edge crosses, all together.
+fn crossed(edges: &[Edge]) -> u64
+    requires edges { All EdgeFits edges.now }
+    requires few { length edges.now ≤ 2 ^ 32 }
+    ensures exact { result ≡ crossed edges.now }
+    ensures bound { result ≤ 2 ^ 21 * length edges.now }
+{
+    let mut all = 0;
+    for edge in edges {
+        all += lines_crossed(*edge) + lines_crossed(turned_round(*edge));
+    }
+    all
+}
+
+/// The bytes of the bitmaps of all bands of a box.
+fn bands_bytes(columns: u64, rows: u64) -> u64
+    requires columns { columns < 2 ^ 20 }
+    requires rows { rows < 2 ^ 20 }
+    ensures exact { result ≡ bands_bytes columns rows }
+    ensures bound { result ≤ 2 ^ 39 }
+{
+    (columns + 4).div_ceil(8) * (rows + 4 * bands(rows))
+}
+
+/// What edges count: one for each band of the rows of their box, and one for each row that they cross.
+#[tactic(auto, unfolding(crate::specs::Counted::edges_counted))]
+pub fn edges_counted(edges: &[Edge]) -> u64
+    requires edges { All EdgeFits edges.now }
+    requires few { length edges.now ≤ 2 ^ 32 }
+    ensures exact { result ≡ edges_counted edges.now }
+    ensures bound { result ≤ 2 ^ 21 * length edges.now }
+{
+    let (_, rows) = box_of(edges);
+    in_each_band(bands(numbers_in(rows)), edges.len()) + rows_crossed(edges)
+}
+
+/// What edges count besides where dropouts are filled: four for each row or column that an edge crosses, and one for
+/// each 64 bytes of the bitmaps of their box.
+#[tactic(auto, unfolding(crate::specs::Counted::filling_counted))]
+pub fn filling_counted(edges: &[Edge]) -> u64
+    requires edges { All EdgeFits edges.now }
+    requires few { length edges.now ≤ 2 ^ 32 }
+    ensures exact { result ≡ filling_counted edges.now }
+    ensures bound { result ≤ 2 ^ 23 * length edges.now + 2 ^ 33 }
+{
+    let (columns, rows) = box_of(edges);
+    4 * crossed(edges) + bands_bytes(numbers_in(columns), numbers_in(rows)) / 64
+}
