@@ -21,7 +21,7 @@ unfolding drawn measured_line
 drawn_so_measured face a r l fails =
     agrees (as_font (setting_in face a)) _ _ r (λ s. agrees (line_shapes s a l) _ _ r (λ glyphs never. absurd (cc))) fails
 
-measured_so_drawn : (face : Face) (a : Job) (r : Refused) (l : Placement) → measured_line face a l ≡ Err r
+pub measured_so_drawn : (face : Face) (a : Job) (r : Refused) (l : Placement) → measured_line face a l ≡ Err r
     → drawn face a l ≡ Err r
 unfolding drawn measured_line
 measured_so_drawn face a r l fails =

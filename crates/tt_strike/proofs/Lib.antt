@@ -24,4 +24,5 @@ mod GrownMeasures
 mod GrownStops
 mod Larger
 mod Agreeing
+mod SidesRefuse
 mod RowsCut

@@ -1,9 +1,10 @@
 -- Laws of the definitions. A font with a picture has no defect, and only fallback and best make a glyph unfitted. The
 -- others say which pixels are black with another margin, beside other glyphs, and without filled dropouts.
-use Rattle.std.specs.Prelude.{◌≡◌, ◌≢◌, refl, ℕ, ◌+◌, ◌||◌, true, false, pos, All, List, [], ◌∷◌, ◌++◌, ◌↔◌, codes, Option, Some, None, Ok, Err}
+use Rattle.std.specs.Prelude.{◌≡◌, ◌≢◌, refl, ℕ, ◌+◌, ◌||◌, true, false, pos, All, List, [], ◌∷◌, ◌++◌, ◌↔◌, ◌⊎◌, codes, Option, Some, None, Ok, Err}
 use Rattle.std.specs.Fmt.{digits}
 use Rattle.tt_core.specs.Directory.{HasNo}
 use Rattle.tt_core.specs.Outcomes.{each}
+use Rattle.tt_core.specs.declared.fault.JobFault.TheVariants as fault
 use Rattle.tt_fit.specs.declared.programs.Fit.TheVariants as fit
 use Rattle.tt_fit.specs.Fitting.{Fitter}
 use Rattle.tt_fit.specs.Rules.{falls_back}
@@ -16,11 +17,12 @@ use Rattle.tt_scan_dropouts.specs.declared.mark.Rules.{Rules}
 use Rattle.tt_strike.specs.Job.{Job}
 use Rattle.tt_strike.specs.declared.report.Unfitted.{Unfitted}
 use Rattle.tt_strike.specs.Defects.{IsFaceDefect, IsRunDefect}
-use Rattle.tt_strike.specs.Grown.{with_sides}
+use Rattle.tt_strike.specs.Grown.{grown_outcome, with_sides}
 use Rattle.tt_strike.specs.declared.growing.Sides.{Sides}
+use Rattle.tt_strike.specs.Picture as pictures
 use Rattle.tt_strike.specs.Picture.{setting_in, frame_of, glyph_shape, line_outcome, picture, pictured, shapes_in}
 use Rattle.tt_strike.specs.Measures.{measured}
-use Rattle.tt_strike.specs.Refusals.{Refused}
+use Rattle.tt_strike.specs.Refusals.{Refused, job}
 use Rattle.tt_strike.specs.Pixels.{Shape, some_black, is_black_pixel}
 use Rattle.tt_strike.specs.Report.{report_of}
 use Rattle.tt_strike.specs.Tables.{Face, face_of}
@@ -55,6 +57,16 @@ SidesMove = (maker : ℕ → Fitter) (line : Placement) (s : Sides) (margin : �
     → each (glyph_shape maker) (with_sides line s).glyphs ≡ Ok larger
     → is_black_pixel (frame_of (with_sides line s) margin) larger (c + s.left) (r + s.top)
     ≡ is_black_pixel (frame_of line margin) glyphs c r
+
+-- a line with added columns and rows is refused exactly where the line is, and for the same reason
+abbrev pub SidesRefuseNothing : Type 0
+SidesRefuseNothing = (face : Face) (a : Job) (line : Placement) (s : Sides) (r : Refused)
+    → pictures.drawn face a (with_sides line s) ≡ Err r ↔ pictures.drawn face a line ≡ Err r
+
+-- an enlarged picture is refused as the picture itself, or is too large
+abbrev pub GrownRefusals : Type 0
+GrownRefusals = (face : Face) (a : Job) (r : Refused) → grown_outcome face a ≡ Err r
+    → (line_outcome face a ≡ Err r) ⊎ (r ≡ job fault.PictureLarge)
 
 -- the black pixels of two lists of glyphs together are those of either
 abbrev pub GlyphsByThemselves : Type 0

@@ -1,6 +1,6 @@
 //! Laws of the definitions. Each function is a lemma: its clauses hold of all jobs, files and glyphs, and no code runs.
 
-ghost use Rattle.tt_strike.specs.Laws.{DrawnFontsAreWhole, FacesAreWhole, OthersListNothing, MarginMoves, MeasuredAsDrawn, GlyphsByThemselves, UnfilledAreEdges, OthersFillNone, OthersDrawByEdges, SidesMove};
+ghost use Rattle.tt_strike.specs.Laws.{DrawnFontsAreWhole, FacesAreWhole, OthersListNothing, MarginMoves, MeasuredAsDrawn, GlyphsByThemselves, UnfilledAreEdges, OthersFillNone, OthersDrawByEdges, GrownRefusals, SidesMove, SidesRefuseNothing};
 
 /// Lemma: where the definitions give a font's tables, these have no defect. Where they give a job's picture, the font
 /// has no defect for the job.
@@ -37,6 +37,13 @@ pub fn measured_as_drawn()
 /// columns on the left and the rows at the top.
 pub fn sides_move()
     ensures { SidesMove }
+{}
+
+/// Lemma: added columns and rows change no refusal of a line, because its glyphs count the same. So an enlarged picture
+/// is refused as the picture itself, or because it is too large.
+pub fn sides_refuse_nothing()
+    ensures line { SidesRefuseNothing }
+    ensures grown { GrownRefusals }
 {}
 
 /// Lemma: the black pixels of a glyph, dropouts included, do not depend on its neighbours.

@@ -149,8 +149,8 @@ impl<'f, 'a> Strike<'f, 'a> {
     }
 
     /// The picture of a text with the fewest added columns and rows such that no ink is cut; equal to that of `line`
-    /// where none is. Errors: those of `line`, and PictureLarge and WorkLarge of the larger picture. A refused line
-    /// leaves the strike unchanged.
+    /// where none is. Errors: those of `line`, and PictureLarge of the larger picture. A refused line leaves the strike
+    /// unchanged.
     #[tactic(auto, unfolding(crate::specs::Grown::grown_outcome, crate::specs::Grown::grown_placement, crate::specs::Grown::grown_line))]
     pub fn grown_line(&mut self, text: &str, margin: u32) -> Result<Picture, DrawFault>
         ensures exact { GivesUnless refusal picture_bytes result (grown_outcome self.old.face (job_of self.old text.now margin)) }
@@ -187,8 +187,8 @@ impl<'f, 'a> Strike<'f, 'a> {
         )
     }
 
-    /// The measure of the picture that `grown_line` makes. Errors: those of `measure`, and PictureLarge and WorkLarge
-    /// of the larger picture. No glyph is cached, and the strike is unchanged.
+    /// The measure of the picture that `grown_line` makes. Errors: those of `measure`, and PictureLarge of the larger
+    /// picture. No glyph is cached, and the strike is unchanged.
     #[tactic(auto, unfolding(crate::specs::Grown::grown_measured, crate::specs::Grown::grown_placement, crate::specs::Grown::grown_line))]
     pub fn grown_measure(&mut self, text: &str, margin: u32) -> Result<Measure, DrawFault>
         ensures exact { GivesUnless refusal measure_view result (grown_measured self.old.face (job_of self.old text.now margin)) }
