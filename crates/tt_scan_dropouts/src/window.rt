@@ -1,7 +1,8 @@
 //! The part of the plane where dropouts are sought, by rows or by columns.
 
-ghost use Rattle.std.specs.Prelude.{◌≡◌, ℤ, pos, true, false, ◌&&◌, ◌+ℤ◌, ◌-ℤ◌, ◌^◌, ◌<◌, unsigned_abs, IfNone, IfSome};
+ghost use Rattle.std.specs.Prelude.{◌≡◌, ℤ, pos, true, false, ◌&&◌, ◌+ℤ◌, ◌-ℤ◌, ◌^◌, ◌<◌, ◌≤◌, unsigned_abs, IfNone, IfSome};
 ghost use Rattle.std.specs.Int.{int_max, int_min};
+ghost use Rattle.tt_scan_dropouts.specs.Counted.{numbers_in};
 ghost use Rattle.tt_scan_dropouts.specs.Windows.{ColumnsFit, IsPart, WindowFits, box_has, has, is_column_of, is_within, widened};
 
 use crate::mark::Columns;
@@ -93,6 +94,7 @@ fn overlap(first: i32, count: u32, columns: Columns) -> Option<Part>
     ensures some { IfSome result (λ p. (n : ℤ) → is_within p.from p.count n
         ≡ (is_within first count n && is_column_of columns n)) }
     ensures within { IfSome result (IsPart first count columns) }
+    ensures few { IfSome result (λ p. p.count ≤ numbers_in columns) }
     ensures none { IfNone result ((n : ℤ) → (is_within first count n && is_column_of columns n) ≡ false) }
 {
     let from = start_of(first, columns);
@@ -114,6 +116,7 @@ pub(crate) fn clipped(window: Window, columns: Columns, rows: Columns) -> Option
     requires rows { ColumnsFit rows }
     ensures some { IfSome result (λ w. (c j : ℤ) → has w c j ≡ (has window c j && box_has columns rows c j)) }
     ensures fits { IfSome result (λ w. WindowFits (widened 2 w)) }
+    ensures small { IfSome result (λ w. (w.width ≤ numbers_in columns) × (w.height ≤ numbers_in rows)) }
     ensures none { IfNone result ((c j : ℤ) → (has window c j && box_has columns rows c j) ≡ false) }
 {
     let across = overlap(window.left, window.width, columns)?;

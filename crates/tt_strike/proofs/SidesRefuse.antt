@@ -1,5 +1,6 @@
 -- A line with added columns and rows is refused as the line is: its glyphs are the same, and count the same.
 use Rattle.std.proofs.Common.{◌≡◌, ◌∙◌, refl, sym, ℕ, ◌+◌, Bool, true, false, ◌||◌, nat_lt, if◌then◌else◌, List, [], ◌∷◌, map, Option, Some, None, Result, Ok, Err, inl, inr, ◌⊎◌}
+use Rattle.std.specs.Prelude.{⊤}
 use Rattle.tt_core.specs.Faults.{Fault}
 use Rattle.tt_core.specs.Limits.{height_limit, width_limit}
 use Rattle.tt_core.specs.Outcomes.{◌>>=◌, each}
@@ -91,10 +92,12 @@ after_test (Err j) x y alike = refl
 after_shapes : (a : Job) (these those : Result (List Shape) Fault) → AreCountedAlike these those
     → AreRefusedAlike (as_font these >>= λ glyphs. as_job (crossings_tested a glyphs) >>= λ u. Ok glyphs)
     (as_font those >>= λ glyphs. as_job (crossings_tested a glyphs) >>= λ u. Ok glyphs)
-after_shapes a (Ok these) (Ok those) alike = rw alike (after_test (crossings_tested a those) (Ok these) (Ok those) tt)
+after_shapes a (Ok these) (Ok those) alike =
+    let same : crossings_in these ≡ crossings_in those = alike in
+    rw same (after_test (crossings_tested a those) (Ok these) (Ok those) tt)
 after_shapes a (Ok these) (Err f) alike = absurd alike
 after_shapes a (Err e) (Ok those) alike = absurd alike
-after_shapes a (Err e) (Err f) alike = rw alike refl
+after_shapes a (Err e) (Err f) alike = let same : e ≡ f = alike in rw same refl
 
 line_alike : (s : Fitter) (a : Job) (line : Placement) (sides : Sides)
     → AreRefusedAlike (line_shapes s a line) (line_shapes s a (with_sides line sides))
@@ -152,7 +155,8 @@ by_measure : (face : Face) (a : Job) (line : Placement) (r : Refused) (measure :
     → measured_line face a line ≡ measure → ((measure >>= λ m. as_job (grown line m.ink)) >>= drawn face a) ≡ Err r
     → (drawn face a line ≡ Err r) ⊎ (r ≡ job fault.PictureLarge)
 by_measure face a line r (Ok m) is fails = by_ink face a line r m.ink fails
-by_measure face a line r (Err e) is fails = inl (measured_so_drawn face a r line (is ∙ fails))
+by_measure face a line r (Err e) is fails =
+    let same : e ≡ r = cc in inl (measured_so_drawn face a r line (rw same at is))
 
 by_line : (face : Face) (a : Job) (r : Refused) (laid : Result Placement Refused)
     → ((laid >>= grown_line face a) >>= drawn face a) ≡ Err r

@@ -51,6 +51,21 @@ returns-then-from-end-clause-within c =
     simp to_z-of_z
     (overlap_part c.args.first c.args.count c.args.columns c.start_of-from.result c.end_of-end.result ends order)
 
+pub returns-then-from-end-clause-few : goal.returns-then-from-end-clause-few
+returns-then-from-end-clause-few c =
+    let first : SFits w32 c.args.first = c.ranges.first in
+    let low : SFits w64 c.args.columns.first = omega (arith, ints, c.requires.first) in
+    let high : SFits w64 c.args.columns.last = omega (arith, ints, c.requires.last) in
+    let start = simp to_z-of_z at c.start_of-from.ensures.exact in
+    let stop = simp to_z-of_z at c.end_of-end.ensures.exact in
+    let from : SFits w64 c.start_of-from.result = omega (arith, ints, c.start_of-from.ensures.small) in
+    let end : SFits w64 c.end_of-end.result = omega (arith, ints, c.end_of-end.ensures.small) in
+    let count : SFits w64 (c.end_of-end.result -ℤ c.start_of-from.result) =
+    omega (arith, ints, c.start_of-from.ensures.small, c.end_of-end.ensures.small) in
+    let order : c.start_of-from.result <ℤ c.end_of-end.result =
+    grind (arith, ints, simp to_z-of_z at c.if-from-end.true) in
+    simp to_z-of_z (omega (arith, ints, clamps, order, start, stop))
+
 pub returns-else-from-end-clause-none : goal.returns-else-from-end-clause-none
 returns-else-from-end-clause-none c =
     let first : SFits w32 c.args.first = c.ranges.first in
