@@ -25,7 +25,7 @@ use tt_strike::{Job, Report, test_job};
 /// Errors, the first of: Job (SizeRange, MarginRange, TextLong), before the font is read; Read, FontLarge; Font and Job
 /// (EmptyPicture, PictureLarge), in reading order, with the picture's size known after cmap; Job (WorkLarge); Write.
 /// WorkLarge comes with `Fit::Best` alone: for too many points, before the glyphs are made, or for too many crossings
-/// of rows and of lines searched for dropouts. Memory may come at any allocation.
+/// of rows, in the picture and outside, with the search for dropouts. Memory may come at any allocation.
 pub fn run<R: Source, W: Sink>(
     alloc: Global,
     font: &mut R,

@@ -43,6 +43,9 @@ one_more true first past i rest within so_far =
     let here = within refl in omega (arith, ints, clamps, here.0, here.1, so_far)
 one_more false first past i rest within so_far = omega (arith, ints, clamps, so_far)
 
+no_more_than : (a b : ℕ) (most : ℤ) → a ≡ b → pos b ≤ℤ most → pos a ≤ℤ most
+no_more_than a b most same less = rw same less
+
 rows_between : (f : Frame) (e : Edge) (first past : ℤ) (i n : ℕ)
     → ((row : ℕ) → is_between e.ay e.by (row_y f (pos row)) ≡ true → (first ≤ℤ pos row) × (pos row <ℤ past))
     → pos (sum_by (meets f e) (range_with_len i n)) ≤ℤ int_max (pos 0) (past -ℤ int_max first (pos i))
@@ -50,7 +53,7 @@ unfolding meets
 rows_between f e first past i zero within = omega (arith, ints, clamps)
 rows_between f e first past i (suc n) within =
     let rest = rows_between f e first past (i + 1) n within in
-    rw (sum_by-cons (meets f e) i (range_with_len (i + 1) n))
+    no_more_than _ _ _ (sum_by-cons (meets f e) i (range_with_len (i + 1) n))
     (one_more (is_between e.ay e.by (row_y f (pos i))) first past i _ (within i) rest)
 
 and_both : (a b : Bool) → (a && b) ≡ true → (a ≡ true) × (b ≡ true)
@@ -119,6 +122,9 @@ strides a b less = omega (arith, less)
 counted_too : (a b n : ℕ) → a ≤ b → a / 64 ≤ 4 * n + b / 64
 counted_too a b n less = omega (arith, less)
 
+sum_counted : (sum a b n : ℕ) → sum ≡ a → a ≤ b → sum / 64 ≤ 4 * n + b / 64
+sum_counted sum a b n is less = omega (arith, is, less)
+
 within_bands : (c w r h : ℕ) → c ≤ w → r ≤ h + 1 → bitmap_bytes c r ≤ bands_bytes w (h + 1)
 within_bands c w r h narrow low =
     let some = some_band h in
@@ -133,12 +139,14 @@ bitmap_is_counted es columns rows narrow low =
     (within_bands columns (box_columns es) rows (unsigned_abs (b.last -ℤ b.first)) narrow low)
 
 -- the rows of all bands are all rows
+one_more_band : (rows k n rest : ℕ) → rest ≡ min (2048 * n) (rows - 2048 * (k + 1))
+    → rows_of_band rows k + rest ≡ min (2048 * suc n) (rows - 2048 * k)
+one_more_band rows k n rest is = omega (arith, is)
+
 rows_of_bands : (rows k n : ℕ) → sum_by (rows_of_band rows) (range_with_len k n) ≡ min (2048 * n) (rows - 2048 * k)
 rows_of_bands rows k zero = omega arith
-rows_of_bands rows k (suc n) =
-    let all = sum_by-cons (rows_of_band rows) k (range_with_len (k + 1) n) in
-    let rest = rows_of_bands rows (k + 1) n in
-    omega (arith, all, rest)
+rows_of_bands rows k (suc n) = sum_by-cons (rows_of_band rows) k (range_with_len (k + 1) n)
+    ∙ one_more_band rows k n _ (rows_of_bands rows (k + 1) n)
 
 one_band : (s h t n : ℕ) → s * (h + 4) + s * (t + 4 * n) ≡ s * ((h + t) + 4 * suc n)
 one_band s h t n =
@@ -148,7 +156,7 @@ one_band s h t n =
 bytes_of_bands : (columns rows k n : ℕ)
     → sum_by (λ k. bitmap_bytes columns (rows_of_band rows k)) (range_with_len k n)
     ≡ stride (columns + 4) * (sum_by (rows_of_band rows) (range_with_len k n) + 4 * n)
-bytes_of_bands columns rows k zero = refl
+bytes_of_bands columns rows k zero = omega arith
 bytes_of_bands columns rows k (suc n) =
     let rest = range_with_len (k + 1) n in
     sum_by-cons (λ k. bitmap_bytes columns (rows_of_band rows k)) k rest
@@ -166,9 +174,10 @@ pub bands_are_counted : BandsAreCounted
 unfolding filling_counted
 bands_are_counted es columns narrow =
     let rows = box_rows es in
-    rw (bytes_of_bands columns rows 0 (bands rows), all_rows rows)
-    (counted_too (bands_bytes columns rows) (bands_bytes (box_columns es) rows) (crossed es)
-    (wider columns (box_columns es) rows narrow))
+    let bytes = bytes_of_bands columns rows 0 (bands rows)
+    ∙ ap (λ m. stride (columns + 4) * (m + 4 * bands rows)) (all_rows rows) in
+    sum_counted _ (bands_bytes columns rows) (bands_bytes (box_columns es) rows) (crossed es) bytes
+    (wider columns (box_columns es) rows narrow)
 
 -- edges moved by whole pixels
 
@@ -197,13 +206,25 @@ crossed_stay k m (e ∷ es) =
     let columns : lines_crossed (turned_round (moved k m e)) ≡ lines_crossed (turned_round e) = lines_stay m k (turned_round e) in
     rw (lines_stay k m e, columns, crossed_stay k m es) refl
 
+edges_as : (r q n l c d : ℕ) → r ≡ q → n ≡ l → c ≡ d → bands r * n + c ≡ bands q * l + d
+edges_as r q n l c d rows many lines = rw (rows, many, lines) refl
+
 pub edges_stay : (k m : ℤ) (es : List Edge) → edges_counted (map (moved k m) es) ≡ edges_counted es
 unfolding edges_counted
-edges_stay k m es = rw (box_rows_stay k m es, length-map es (moved k m), rows_stay k m es) refl
+edges_stay k m es =
+    edges_as (box_rows (map (moved k m) es)) (box_rows es) (length (map (moved k m) es)) (length es)
+    (rows_crossed (map (moved k m) es)) (rows_crossed es) (box_rows_stay k m es) (length-map es (moved k m))
+    (rows_stay k m es)
+
+filling_as : (c d w v h g : ℕ) → c ≡ d → w ≡ v → h ≡ g → 4 * c + bands_bytes w h / 64 ≡ 4 * d + bands_bytes v g / 64
+filling_as c d w v h g lines columns rows = rw (lines, columns, rows) refl
 
 pub filling_stays : (k m : ℤ) (es : List Edge) → filling_counted (map (moved k m) es) ≡ filling_counted es
 unfolding filling_counted
-filling_stays k m es = rw (box_columns_stay k m es, box_rows_stay k m es, crossed_stay k m es) refl
+filling_stays k m es =
+    filling_as (crossed (map (moved k m) es)) (crossed es) (box_columns (map (moved k m) es)) (box_columns es)
+    (box_rows (map (moved k m) es)) (box_rows es) (crossed_stay k m es) (box_columns_stay k m es)
+    (box_rows_stay k m es)
 
 pub counts_stay : CountsStay
 counts_stay k m es = (edges_stay k m es, filling_stays k m es)

@@ -49,18 +49,16 @@ AreCountedAlike (Ok these) (Err f) = ⊥
 AreCountedAlike (Err e) (Ok those) = ⊥
 AreCountedAlike (Err e) (Err f) = e ≡ f
 
+summed : (a b c d e f : ℕ) → a ≡ d → b ≡ e → c ≡ f → (a + b) + c ≡ (d + e) + f
+summed a b c d e f first second third = rw (first, second, third) refl
+
 one_more : (s : Fitter) (g : ℕ × ℕ) (left : ℕ) (o : Outline) (these those : List Shape)
     → crossings_in these ≡ crossings_in those
     → crossings_in (shape_at s g o ∷ these) ≡ crossings_in (shape_at s (g.0, g.1 + left) o ∷ those)
 one_more s g left o these those same =
     let filled = (shape_at s g o).filled in
-    rw (
-      same,
-      counts_from_pen o g.1,
-      counts_from_pen o (g.1 + left),
-      filling_from_pen filled o g.1,
-      filling_from_pen filled o (g.1 + left),
-    ) refl
+    summed _ _ _ _ _ _ (counts_from_pen o g.1 ∙ sym (counts_from_pen o (g.1 + left)))
+    (filling_from_pen filled o g.1 ∙ sym (filling_from_pen filled o (g.1 + left))) same
 
 with_first : (s : Fitter) (g : ℕ × ℕ) (left : ℕ) (made : Result Outline Fault) (these those : Result (List Shape) Fault)
     → AreCountedAlike these those
