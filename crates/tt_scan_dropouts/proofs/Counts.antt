@@ -1,5 +1,5 @@
 -- What a glyph counts: the rows and the bitmaps that it needs, and as much at each pen.
-use Rattle.std.proofs.Common.{◌≡◌, ◌∙◌, sym, refl, ap, ℕ, zero, suc, ◌+◌, ◌-◌, ◌*◌, ◌/◌, ◌≤◌, ◌<◌, min, mul-add, mul-le-mul_right, Bool, true, false, ◌&&◌, if◌then◌else◌, List, [], ◌∷◌, length, map, sum_by, arith}
+use Rattle.std.proofs.Common.{◌≡◌, ◌∙◌, sym, refl, ap, ℕ, zero, suc, ◌+◌, ◌-◌, ◌*◌, ◌/◌, ◌≤◌, ◌<◌, min, mul-add, mul-le-mul_right, Bool, true, false, ◌&&◌, if◌then◌else◌, List, [], ◌∷◌, length, map, get_or, sum_by, arith}
 use Rattle.std.specs.Prelude.{ℤ, pos, ◌+ℤ◌, ◌-ℤ◌, ◌*ℤ◌, ◌≤ℤ◌, ◌<ℤ◌, int_le, unsigned_abs}
 use Rattle.std.specs.Int.{int_max, int_min}
 use Rattle.std.specs.List.{range_with_len}
@@ -89,7 +89,7 @@ rows_of_edge f e =
 
 no_rows : (g : ℕ → ℕ) (rows : List ℕ) → ((r : ℕ) → g r ≡ 0) → sum_by g rows ≤ 0
 no_rows g rows zeros =
-    let most = sum_by-le g 0 rows (λ k d below. let none = zeros _ in omega (arith, none)) in omega (arith, most)
+    let most = sum_by-le g 0 rows (λ k d below. let none = zeros (get_or rows k d) in omega (arith, none)) in omega (arith, most)
 
 -- each edge meets at most one row more than it crosses
 rows_needed : (f : Frame) (es : List Edge) → crossings_of f es ≤ length es + rows_crossed es
