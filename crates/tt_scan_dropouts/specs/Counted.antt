@@ -1,6 +1,6 @@
 -- No part of the standard: what the edges of one glyph count where a job's work is bounded (profile). The count does
 -- not know the picture: rows inside and outside count, and a glyph counts the same at each pen.
-use Rattle.std.specs.Prelude.{◌≡◌, refl, ℕ, ◌+◌, ◌*◌, ◌/◌, ◌-◌, min, ℤ, pos, negsuc, ◌-ℤ◌, unsigned_abs, List, [], ◌∷◌, length, map}
+use Rattle.std.specs.Prelude.{◌≡◌, refl, ℕ, ◌+◌, ◌*◌, ◌/◌, ◌-◌, min, pos, negsuc, ◌-ℤ◌, unsigned_abs, List, [], ◌∷◌, length, map}
 use Rattle.tt_core.specs.Bits.{stride}
 use Rattle.tt_scan.specs.declared.edge.Edge.{Edge}
 use Rattle.tt_scan_dropouts.specs.Crossings.{lines_crossed}
