@@ -116,10 +116,11 @@ pub record IsStrikeFor (j : CJob) (font : List ℕ) (s : Strike) : Type 0 where
   pub fit : fit_asked j.fit ≡ Ok s.fit
   pub size : s.ppem ≡ j.size
 
--- all lines were drawn, in `used` bytes, or the reason why not
+-- the font and the job are accepted and all lines were drawn, in `used` bytes; or the reason why not
 abbrev pub EndsWith : CJob → List ℕ → List ℕ → List ℕ → ℕ → ℕ → CAnswer → Type 0
 EndsWith j font texts ends room used a =
-    (a ≡ done_answer used (length ends)) ⊎ ((a.status ≢ 0) × IsStopped j font texts ends room used a)
+    ((face : Face) × (lines_wanted j font ≡ Ok face) × (a ≡ done_answer used (length ends)))
+    ⊎ ((a.status ≢ 0) × IsStopped j font texts ends room used a)
 
 -- a defect of the font: of the tables that every text needs, or of the data that line `i` is drawn from
 abbrev pub IsLinesDefect : CJob → List ℕ → List ℕ → List ℕ → ℕ → Fault → Type 0
