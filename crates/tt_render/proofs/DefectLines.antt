@@ -64,17 +64,17 @@ numbered IsOne d (Some text) (Some rest) out written e before f so_far is =
     ap (λ ls. get_or ls (before + 1 - 1) []) parts ∙ get_or_at so_far.0 is.0 is.1 [] (before + 1 - 1) at in
     rw same is.3
 
-pub stop_tells : {V : Type 0} (IsOne : List ℕ → Fault → Type 0) (d : Draws) (text left out written : Option (List ℕ)) (e : Errors)
+pub stop_tells : (V : Type 0) (IsOne : List ℕ → Fault → Type 0) (d : Draws) (text left out written : Option (List ℕ)) (e : Errors)
     (before : ℕ) (why : TextStop) → SoFar d text left out written e before
     → IfSome (stop_font_fault why) (λ f. IfSome left (BeginsDefective IsOne f))
     → LinesTell {V = V} IsOne text (Err (texts_fault_of (Some (before + 1)) why))
-stop_tells IsOne d text left out written e before (stop.Refused (fault.Font f)) so_far is =
+stop_tells V IsOne d text left out written e before (stop.Refused (fault.Font f)) so_far is =
     numbered IsOne d text left out written e before f so_far is
-stop_tells IsOne d text left out written e before (stop.Refused (fault.Job j)) so_far is = tt
-stop_tells IsOne d text left out written e before (stop.Refused fault.NotUtf8) so_far is = tt
-stop_tells IsOne d text left out written e before (stop.Refused (fault.Missing c)) so_far is = tt
-stop_tells IsOne d text left out written e before stop.Read so_far is = tt
-stop_tells IsOne d text left out written e before stop.Memory so_far is = tt
+stop_tells V IsOne d text left out written e before (stop.Refused (fault.Job j)) so_far is = tt
+stop_tells V IsOne d text left out written e before (stop.Refused fault.NotUtf8) so_far is = tt
+stop_tells V IsOne d text left out written e before (stop.Refused (fault.Missing c)) so_far is = tt
+stop_tells V IsOne d text left out written e before stop.Read so_far is = tt
+stop_tells V IsOne d text left out written e before stop.Memory so_far is = tt
 
 -- a defect of a line by a font's tables is one by the font's file
 pub lines_tell : {V : Type 0} (a : Setting) (file : List ℕ) (face : Face) (text : Option (List ℕ))
@@ -97,28 +97,28 @@ lines_tell a file face text (Err texts.Many) there tells = tt
 lines_tell a file face text (Err texts.Memory) there tells = tt
 
 -- a setting that is refused names no defect
-pub setting_tells : {V : Type 0} (font : Option (List ℕ)) (a : Setting) (text : Option (List ℕ)) (j : JobFault)
+pub setting_tells : (V : Type 0) (font : Option (List ℕ)) (a : Setting) (text : Option (List ℕ)) (j : JobFault)
     → LinesTellDefectsOf {V = V} font a text (Err (texts.Job j))
-setting_tells None a text j = tt
-setting_tells (Some file) a text j = tt
+setting_tells V None a text j = tt
+setting_tells V (Some file) a text j = tt
 
 -- nor does a font that could not be read
-pub reading_tells : {V : Type 0} (e : RunFault) (before after : Option (List ℕ)) (failed : Bool) (a : Setting)
+pub reading_tells : (V : Type 0) (e : RunFault) (before after : Option (List ℕ)) (failed : Bool) (a : Setting)
     (text : Option (List ℕ)) → ReadFails e before after failed
     → LinesTellDefectsOf {V = V} before a text (Err (texts_fault_of_run e))
-reading_tells e None after failed a text fails = tt
-reading_tells (run.Font f) (Some file) after failed a text fails = absurd fails
-reading_tells (run.Job j) (Some file) after failed a text fails = tt
-reading_tells run.Read (Some file) after failed a text fails = tt
-reading_tells run.FontLarge (Some file) after failed a text fails = tt
-reading_tells (run.Write sent) (Some file) after failed a text fails = absurd fails
-reading_tells run.Memory (Some file) after failed a text fails = tt
+reading_tells V e None after failed a text fails = tt
+reading_tells V (run.Font f) (Some file) after failed a text fails = absurd fails
+reading_tells V (run.Job j) (Some file) after failed a text fails = tt
+reading_tells V run.Read (Some file) after failed a text fails = tt
+reading_tells V run.FontLarge (Some file) after failed a text fails = tt
+reading_tells V (run.Write sent) (Some file) after failed a text fails = absurd fails
+reading_tells V run.Memory (Some file) after failed a text fails = tt
 
 -- nor does a strike that was not made
-pub strike_tells : {V : Type 0} (font : Option (List ℕ)) (a : Setting) (text : Option (List ℕ)) (d : DrawFault)
+pub strike_tells : (V : Type 0) (font : Option (List ℕ)) (a : Setting) (text : Option (List ℕ)) (d : DrawFault)
     → IfSome (draw_font_fault d) (λ _. ⊥)
     → LinesTellDefectsOf {V = V} font a text (Err (texts_fault_of_draw d))
-strike_tells None a text d none = tt
-strike_tells (Some file) a text (draw.Font f) none = absurd none
-strike_tells (Some file) a text (draw.Job j) none = tt
-strike_tells (Some file) a text draw.Memory none = tt
+strike_tells V None a text d none = tt
+strike_tells V (Some file) a text (draw.Font f) none = absurd none
+strike_tells V (Some file) a text (draw.Job j) none = tt
+strike_tells V (Some file) a text draw.Memory none = tt

@@ -76,14 +76,14 @@ returns-clause-outcome g c =
 pub returns-in_err-test_setting-clause-defects : goal.returns-in_err-test_setting-clause-defects
 returns-in_err-test_setting-clause-defects g c =
     let p = err_from_is_err_and c.from_residual.result c.from_residual.ensures.1 in
-    rw (p.1, p.2) (setting_tells {V = Unit {0}} (g.F.Source.left c.args.font.now) c.args.setting.now
+    rw (p.1, p.2) (setting_tells (Unit {0}) (g.F.Source.left c.args.font.now) c.args.setting.now
     (g.R.Source.left c.args.lines.now) c.in_err-test_setting.field-0.0)
 
 pub returns-in_err-file-clause-defects : goal.returns-in_err-file-clause-defects
 returns-in_err-file-clause-defects g c =
     let left = g.F.Source.left in
     let p = err_from_is_err_and c.from_residual-in_err-file.result c.from_residual-in_err-file.ensures.1 in
-    rw (p.1, p.2) (reading_tells {V = Unit {0}} c.in_err-file.field-0.0 (left c.args.font.now) (left c.read_font.new.font)
+    rw (p.1, p.2) (reading_tells (Unit {0}) c.in_err-file.field-0.0 (left c.args.font.now) (left c.read_font.new.font)
     (g.F.Source.has_failed c.read_font.new.font) c.args.setting.now (g.R.Source.left c.args.lines.now)
     c.in_err-file.ensures)
 
@@ -100,7 +100,7 @@ returns-in_err-face-clause-defects g c =
 pub returns-in_err-strike-clause-defects : goal.returns-in_err-strike-clause-defects
 returns-in_err-strike-clause-defects g c =
     let p = err_from_is_err_and c.from_residual-in_err-strike.result c.from_residual-in_err-strike.ensures.1 in
-    rw (p.1, p.2) (strike_tells {V = Unit {0}} (g.F.Source.left c.args.font.now) c.args.setting.now
+    rw (p.1, p.2) (strike_tells (Unit {0}) (g.F.Source.left c.args.font.now) c.args.setting.now
     (g.R.Source.left c.args.lines.now) c.in_err-strike.field-0.0 c.in_err-strike.ensures.font)
 
 pub returns-clause-defects : goal.returns-clause-defects

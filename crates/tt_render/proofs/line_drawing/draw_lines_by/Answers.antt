@@ -146,7 +146,7 @@ returns-in-Err-clause-defects g c =
     let rest = text_left c.loop-before.reader (left c.loop-before.lines) in
     let Tells : Strike → Type 0 = λ s. IfSome (stop_font_fault c.in-Err.stop)
     (λ f. IfSome rest (BeginsDefective (IsDefectBy a s) f)) in
-    rw c.texts_fault.ensures (stop_tells {V = Unit {0}} (IsDefectBy a c.args.strike.now) (draws_by a c.args.strike.now)
+    rw c.texts_fault.ensures (stop_tells (Unit {0}) (IsDefectBy a c.args.strike.now) (draws_by a c.args.strike.now)
     (left c.args.lines.now) rest (g.W.Sink.written c.args.out.now) (g.W.Sink.written c.loop-before.out)
     (errors_of g.E.Sink.written g.E.Sink.has_failed c.args.error.now c.loop-before.error) c.loop-before.before
     c.in-Err.stop so_far.so_far (subst Tells so_far.strike c.in-Err.ensures.defects))

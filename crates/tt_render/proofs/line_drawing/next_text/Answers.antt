@@ -17,5 +17,5 @@ returns-in_err-ready-clause-defects g c =
     let left = g.R.Source.left in
     let read = rw c.in-Ok-Some.field-0-is at c.in-Ok-Some.ensures.outcome in
     rw (p.1, p.2) (next_tells (IsDefectBy c.args.setting.now c.args.strike.now)
-    (text_left c.args.reader.now (left c.args.lines.now)) (text_left c.read_line.new.reader (left c.read_line.new.lines))
+    (text_left c.args.reader.now (left c.args.lines.now)) (text_left c.read_line.new.self (left c.read_line.new.source))
     _ c.in_err-ready.field-0.0 read.1 (rw c.line-line.ensures at c.in_err-ready.ensures.defects))
