@@ -1,5 +1,5 @@
 -- A call that draws lines, and stops before the first line.
-use Rattle.std.proofs.Common.{◌≡◌, ◌≢◌, ◌∙◌, ◌<◌, refl, ℕ, List, [], length, IfSome, Result, Ok, Err, inl, inr, arith, subst, sym}
+use Rattle.std.proofs.Common.{◌≡◌, ◌≢◌, ◌∙◌, ◌<◌, ap, refl, ℕ, List, [], length, IfSome, Result, Ok, Err, inl, inr, arith, subst, sym}
 use Rattle.std.specs.Prelude.{◌==◌}
 use Rattle.tt_core.proofs.Whole.{directory-same}
 use Rattle.tt_core.specs.Chains.{came-through}
@@ -157,6 +157,17 @@ pub strike_refused : (j : CJob) (how : Fit) (d : DrawFault) → tested (of_no_te
     → IfSome (refusal d) (λ why. as_job (size_tested j.size) ≡ Err why) → call_of_draw d ≡ call.Memory
 strike_refused j how d test h = no_memory d (size_tested j.size) (size_passed j how test) h
 
+-- a strike whose cached glyphs alone have changed
+pub for_kept : (j : CJob) (font : List ℕ) (s t : Strike) → t ≡ record s { kept = t.kept } → IsStrikeFor j font s
+    → IsStrikeFor j font t
+for_kept j font s t alone for =
+    let P : Strike → Type 0 = λ x. IsStrikeFor j font x in
+    subst P (sym alone) (record { face = for.face; fit = for.fit; size = for.size })
+
+pub kept_alone : (r s t : Strike) → s ≡ record r { kept = s.kept } → t ≡ record s { kept = t.kept }
+    → t ≡ record r { kept = t.kept }
+kept_alone r s t first second = second ∙ ap (λ (x : Strike). record x { kept = t.kept }) first
+
 -- the font of a strike
 face_directory : (file : List ℕ) (face : Face) → face_of file ≡ Ok face → face.directory ≡ file
 unfolding face_of
@@ -173,7 +184,7 @@ directory_is file face is = face_directory file face (face_read file face is)
 
 pub strike_for : (j : CJob) (file : List ℕ) (how : Fit) (face : Face) (s : Strike) (most : ℕ) → fit_asked j.fit ≡ Ok how
     → tested (of_no_text j how) ≡ Ok tt → face_wanted file ≡ Ok face
-    → s ≡ record { face = face; ppem = j.size; fit = how; most = most } → IsStrikeFor j s.face.directory s
+    → s ≡ record { face = face; ppem = j.size; fit = how; most = most; kept = [] } → IsStrikeFor j s.face.directory s
 strike_for j file how face s most fits test found is =
     let for : IsStrikeFor j file s =
     rw is (record { face = lines_opened j file how face fits test found; fit = fits; size = refl }) in

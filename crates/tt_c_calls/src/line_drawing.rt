@@ -52,7 +52,7 @@ fn draw_line(
     ensures bytes { result.bytes ≤ 8388608 }
     ensures kept { result.status ≢ 0 → room.new ≡ room.old }
     ensures told_kept { result.status ≢ 0 → told.new ≡ told.old }
-    ensures strike { strike.new ≡ strike.old }
+    ensures strike { strike.new ≡ record strike.old { kept = strike.new.kept } }
     ensures stands { DefectStands (IsAskedDefect job.now line.now font) result }
 {
     let text = match text_of(line) {

@@ -60,7 +60,7 @@ pub(crate) fn picture_by(
     ensures ready { IfOk result IsReady }
     ensures made { IfOk result (λ p. IsMadeBy grow (job_of strike.old text.now margin) p strike.old.face) }
     ensures defects { TellsDefects call_font_fault (IsLineDefect strike.old.face (job_of strike.old text.now margin) (text_glyphs strike.old.face.cmap text.now)) result }
-    ensures same { strike.new ≡ strike.old }
+    ensures same { strike.new ≡ record strike.old { kept = strike.new.kept } }
 {
     if grow {
         Ok(strike.grown_line(text, margin)?)

@@ -8,7 +8,9 @@ use Rattle.std.specs.Str.{is_utf8}
 use Rattle.tt_core.specs.declared.fault.JobFault.TheVariants as fault
 use Rattle.tt_strike.specs.Refusals.{job}
 use Rattle.tt_strike.specs.Strikes.{Strike}
+use Rattle.tt_strike_kept.specs.Glyph.{KeptGlyph}
 use Rattle.tt_render.specs.declared.setting.Setting.{Setting}
+use Rattle.tt_render.specs.declared.text_answers.ReadyText.{ReadyText}
 use Rattle.tt_render.specs.declared.texts_fault.TextStop.{TextStop}
 use Rattle.tt_render.specs.declared.texts_fault.TextStop.TheVariants as stop_of
 use Rattle.tt_render.specs.LineReading.{BeginsLong, LosesLine}
@@ -17,7 +19,7 @@ use Rattle.tt_render.specs.LinesOutcome.{BeginsRefused, Draws, DrawsLine, FailsB
 use Rattle.tt_render.specs.Outcome.{Traffic}
 use Rattle.tt_render.specs.Printing.{Errors, Prints, PrintsBehind}
 use Rattle.tt_render.specs.Reports.{told_of}
-use Rattle.tt_render.specs.Texts.{TextAnswer, TextRefusal, not_utf8, refused, text_answer}
+use Rattle.tt_render.specs.Texts.{TextAnswer, TextRefusal, not_utf8, product_of, refused, text_answer}
 use Rattle.tt_render.proofs.Printed.{appends_nothing, nothing_printed, printed_behind}
 use Rattle.tt_render.proofs.Sent.{appends_more}
 
@@ -47,6 +49,24 @@ line_of_text a s line text short is_text =
     let is : nat_lt line_limit (length line) ≡ false = grind (arith, nat_tests) in
     let yes = is_utf8-from_IsUtf8 line is_text.1 in
     rw (is, yes, is_text.0) refl
+
+-- a line is drawn alike whatever glyphs are cached
+kept_aside : (a : Setting) (s : Strike) (kept : List (ℕ × KeptGlyph)) → draws_by a (record s { kept = kept }) ≡ draws_by a s
+unfolding line_drawn text_answer product_of
+kept_aside a s kept = refl
+
+pub drawn_alike : (a : Setting) (s t : Strike) → t ≡ record s { kept = t.kept } → draws_by a t ≡ draws_by a s
+drawn_alike a s t alone = ap (λ (x : Strike). draws_by a x) alone ∙ kept_aside a s t.kept
+
+-- a strike whose cached glyphs alone have changed, twice
+pub kept_alone : (r s t : Strike) → s ≡ record r { kept = s.kept } → t ≡ record s { kept = t.kept }
+    → t ≡ record r { kept = t.kept }
+kept_alone r s t first second = second ∙ ap (λ (x : Strike). record x { kept = t.kept }) first
+
+pub next_drawn : (draw other : Draws) (r : ReadyText) (before after : Option (List ℕ)) → other ≡ draw
+    → DrawsLine other (Ok (Some r)) before after → DrawsLine draw (Ok (Some r)) before after
+next_drawn draw other r before after same next =
+    subst (λ (d : Draws). DrawsLine d (Ok (Some r)) before after) same next
 
 -- a text whose first line is too long begins with a refused line
 pub long_is_refused : (a : Setting) (s : Strike) (before : Option (List ℕ)) → IfSome before BeginsLong

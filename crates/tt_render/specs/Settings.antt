@@ -1,5 +1,5 @@
 -- No part of the standard: the tests of a setting before the font is read, and its strike (profile).
-use Rattle.std.specs.Prelude.{◌≡◌, refl, ℕ, List, Result, Ok, Err}
+use Rattle.std.specs.Prelude.{◌≡◌, refl, ℕ, List, [], Result, Ok, Err}
 use Rattle.tt_core.specs.declared.fault.JobFault.{JobFault}
 use Rattle.tt_core.specs.declared.fault.JobFault.TheVariants as fault
 use Rattle.tt_core.specs.Outcomes.{◌>>=◌}
@@ -17,9 +17,9 @@ use Rattle.tt_render.specs.Outcome.{of_font}
 unfoldable pub setting_tested : Setting → Result (Unit {0}) JobFault
 setting_tested a = size_tested a.ppem >>= λ u. margin_tested a.margin
 
--- the strike of a setting, by a font's tables
+-- the strike of a setting, by a font's tables, before its first line
 abbrev pub strike_by : Setting → Face → Strike
-strike_by a face = record { face = face; ppem = a.ppem; fit = a.fit; most = a.most }
+strike_by a face = record { face = face; ppem = a.ppem; fit = a.fit; most = a.most; kept = [] }
 
 -- the strike by a font's file, if it is not too large, or the first fault of the tables needed for every text
 unfoldable pub strike_of : Setting → List ℕ → Result Strike Refused

@@ -39,7 +39,7 @@ fn draw_line(
     ensures report { IfOk result (TellsOf (Some number)) }
     ensures serves { IsNoRead result }
     ensures defects { IfTold stop_font_fault result (IsDefectBy setting.now strike.old line.now) }
-    ensures same { strike.new ≡ strike.old }
+    ensures same { strike.new ≡ record strike.old { kept = strike.new.kept } }
 {
     if line.len() > LINE_LIMIT {
         return Err(TextStop::Refused(TextFault::Job(JobFault::TextLong)));
@@ -69,7 +69,7 @@ fn next_text<R: Source>(
     ensures report { IfReady result (TellsOf (Some number)) }
     ensures failure { FailsByStop (R.has_failed lines.new) result }
     ensures defects { IfTold stop_font_fault result (λ f. IfSome (text_left reader.old (R.left lines.old)) (BeginsDefective (IsDefectBy setting.now strike.old) f)) }
-    ensures same { strike.new ≡ strike.old }
+    ensures same { strike.new ≡ record strike.old { kept = strike.new.kept } }
 {
     let place = match reader.read_line(lines) {
         Ok(Some(place)) => place,

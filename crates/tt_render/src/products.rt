@@ -84,7 +84,7 @@ pub(crate) fn make_output(
     ensures ready { IfOk result CanGoOut }
     ensures serves { IsNoRead result }
     ensures defects { TellsDefects stop_font_fault (IsLineDefect strike.old.face (job_of strike.old text.now setting.now.margin) (text_glyphs strike.old.face.cmap text.now)) result }
-    ensures same { strike.new ≡ strike.old }
+    ensures same { strike.new ≡ record strike.old { kept = strike.new.kept } }
 {
     match setting.product {
         Product::Picture => {

@@ -66,7 +66,7 @@ pub(crate) fn answer_text(
     ensures report { IfOk result (TellsOf number) }
     ensures serves { IsNoRead result }
     ensures defects { TellsDefects stop_font_fault (IsLineDefect strike.old.face (job_of strike.old text.now setting.now.margin) (text_glyphs strike.old.face.cmap text.now)) result }
-    ensures same { strike.new ≡ strike.old }
+    ensures same { strike.new ≡ record strike.old { kept = strike.new.kept } }
 {
     let output = make_output(alloc, strike, face, setting, text)?;
     let lacking = missing_of(alloc, face.cmap(), setting.missing, text)?;

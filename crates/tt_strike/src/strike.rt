@@ -1,6 +1,6 @@
 //! A font at a size, which draws many lines and runs its programs once.
 
-ghost use Rattle.std.specs.Prelude.{◌≡◌, ◌≤◌, true, Ok, IfOk, IsOkAnd};
+ghost use Rattle.std.specs.Prelude.{◌≡◌, ◌≤◌, true, [], Ok, IfOk, IsOkAnd};
 ghost use Rattle.tt_core.specs.Outcomes.{GivesUnless, IfTold};
 ghost use Rattle.tt_line.specs.Layout.{placement, text_glyphs};
 ghost use Rattle.tt_strike.specs.Defects.{IsLineDefect, IsLineRefusal, TellsDefects, draw_font_fault, draw_job_fault};
@@ -13,6 +13,7 @@ ghost use Rattle.tt_strike.specs.Refusals.{as_job, refusal};
 ghost use Rattle.tt_strike.specs.Report.{report_by, ListsOnce};
 ghost use Rattle.tt_strike.specs.Strikes.{job_of};
 ghost use Rattle.tt_strike.specs.Work.{is_bounded};
+ghost use Rattle.tt_strike_kept.specs.Kept.{bytes_in};
 
 use crate::drawing::draw_line;
 use crate::fault::DrawFault;
@@ -30,8 +31,8 @@ use tt_strike_kept::KeptGlyphs;
 
 /// A font at a size with a fit, which draws lines one after the other. The font's programs run once, when the first
 /// line is drawn. With `Fit::Best` they run anew for each line, since a line uses up some of their work. Glyphs are
-/// cached for later lines. Clauses see the font's tables, the size, the fit and the cache's limit in bytes; no line
-/// changes them.
+/// cached for later lines. Clauses see the font's tables, the size, the fit, the cache's limit in bytes and the cached
+/// glyphs with their numbers, the newest first. A line changes the cached glyphs alone.
 #[derive(Drop)]
 pub struct Strike<'f, 'a> {
     alloc: Global,
@@ -54,7 +55,13 @@ impl<'f, 'a> Model for Strike<'f, 'a> {
 
     ghost Value = { strikes.Strike };
 
-    ghost view = { λ s. record { face = s.face.now; ppem = s.ppem; fit = s.fit; most = s.kept.most } };
+    ghost view = { λ s. record {
+      face = s.face.now;
+      ppem = s.ppem;
+      fit = s.fit;
+      most = s.kept.most;
+      kept = s.kept.entries;
+    } };
 
     ghost invariant = { λ s. (1 ≤ s.ppem) × (s.ppem ≤ size_limit)
         × IsMaker s.face.now s.ppem s.fit s.maker
@@ -73,7 +80,7 @@ impl<'f, 'a> Strike<'f, 'a> {
         most: usize,
     ) -> Result<Strike<'f, 'a>, DrawFault>
         ensures tested { GivesUnless refusal (λ s. tt) result (as_job (size_tested ppem)) }
-        ensures exact { IfOk result (λ s. s ≡ record { face = face.now; ppem = ppem; fit = fit; most = most }) }
+        ensures exact { IfOk result (λ s. s ≡ record { face = face.now; ppem = ppem; fit = fit; most = most; kept = [] }) }
         ensures font { IfTold draw_font_fault result (λ _. ⊥) }
         ensures refused { IfTold draw_job_fault result (IsSizeRefusal ppem) }
     {
@@ -91,7 +98,7 @@ impl<'f, 'a> Strike<'f, 'a> {
     /// The picture of a text of at most 4,096 characters, with a margin of 0 to 64 pixels: the picture that `run` would
     /// write for this font and job. Errors, the first of: MarginRange, TextLong; EmptyPicture, PictureLarge; those of
     /// loca and glyf; those of the programs; WorkLarge of the points; those of the glyphs in the order of the text;
-    /// WorkLarge of the crossings. Memory may come at any allocation. A refused line leaves the strike unchanged.
+    /// WorkLarge of the crossings. Memory may come at any allocation. A refused line too may change the cached glyphs.
     #[tactic(auto, unfolding(crate::specs::Picture::line_outcome, crate::specs::Picture::pictured_by, crate::specs::Report::report_by))]
     pub fn line(&mut self, text: &str, margin: u32) -> Result<Picture, DrawFault>
         ensures exact { GivesUnless refusal picture_bytes result (line_outcome self.old.face (job_of self.old text.now margin)) }
@@ -101,7 +108,7 @@ impl<'f, 'a> Strike<'f, 'a> {
         ensures once { IfOk result (λ p. ListsOnce p.unfitted) }
         ensures defects { TellsDefects draw_font_fault (IsLineDefect self.old.face (job_of self.old text.now margin) (text_glyphs self.old.face.cmap text.now)) result }
         ensures job { IfTold draw_job_fault result (IsLineRefusal self.old.face (job_of self.old text.now margin)) }
-        ensures same { self.new ≡ self.old }
+        ensures same { self.new ≡ record self.old { kept = self.new.kept } }
     {
         let job = Job {
             text,
@@ -149,8 +156,8 @@ impl<'f, 'a> Strike<'f, 'a> {
     }
 
     /// The picture of a text with the fewest added columns and rows such that no ink is cut; equal to that of `line`
-    /// where none is. Errors: those of `line`, and PictureLarge of the larger picture. A refused line leaves the strike
-    /// unchanged.
+    /// where none is. Errors: those of `line`, and PictureLarge of the larger picture. A refused line too may change the
+    /// cached glyphs.
     #[tactic(auto, unfolding(crate::specs::Grown::grown_outcome, crate::specs::Grown::grown_placement, crate::specs::Grown::grown_line))]
     pub fn grown_line(&mut self, text: &str, margin: u32) -> Result<Picture, DrawFault>
         ensures exact { GivesUnless refusal picture_bytes result (grown_outcome self.old.face (job_of self.old text.now margin)) }
@@ -159,7 +166,7 @@ impl<'f, 'a> Strike<'f, 'a> {
         ensures report { IfOk result (λ p. report_by self.old.face (job_of self.old text.now margin) ≡ Ok p.unfitted) }
         ensures once { IfOk result (λ p. ListsOnce p.unfitted) }
         ensures defects { TellsDefects draw_font_fault (IsLineDefect self.old.face (job_of self.old text.now margin) (text_glyphs self.old.face.cmap text.now)) result }
-        ensures same { self.new ≡ self.old }
+        ensures same { self.new ≡ record self.old { kept = self.new.kept } }
     {
         let job = Job {
             text,
@@ -226,6 +233,7 @@ impl<'f, 'a> Strike<'f, 'a> {
     /// The bytes of the cached glyphs: for each those of its black columns, and 128. With `Fit::None`, `Fit::Full` and
     /// `Fit::Fallback` the newest glyphs are cached; with `Fit::Best` none.
     pub fn kept_bytes(&self) -> usize
+        ensures exact { result ≡ bytes_in self.now.kept }
         ensures most { result ≤ self.now.most }
         ensures best { is_bounded self.now.fit ≡ true → result ≡ 0 }
     {

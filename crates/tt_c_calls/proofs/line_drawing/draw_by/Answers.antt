@@ -2,14 +2,18 @@ use Rattle.std.proofs.Common.{◌≡◌, ◌∙◌, ◌-◌, arith, inl, length,
 use Rattle.std.proofs.lemmas.List.{set-get_or}
 use borrow.Rule.Slice.PartMut.{put_mid, put_same}
 use Rattle.tt_c_calls.proofs.LinesDrawn.{drawn_on, line_stops}
+use Rattle.tt_c_calls.proofs.LinesStopped.{for_kept, kept_alone}
 use Rattle.tt_c_calls.proofs.line_drawing.draw_by.Goals as goal
+
+pub draw_line-requires : goal.draw_line-requires
+draw_line-requires g c = for_kept _ _ c.args.strike.now c.loop-i.strike c.loop-i.invariant.strike c.requires.strike
 
 pub loop-i-preserved : goal.loop-i-preserved
 loop-i-preserved g c =
     let so_far = c.loop-i.invariant in
     let own = c.draw_line-answer in
     record {
-      strike = own.ensures.strike ∙ so_far.strike;
+      strike = kept_alone c.args.strike.now c.loop-i.strike own.new.strike so_far.strike own.ensures.strike;
       drawn = drawn_on _ _ _ _ _ _ _ _ _ _ _ _ _ _ so_far.drawn c.loop-i-test.true (omega arith) (omega arith)
           (omega arith) (own.ensures.done c.if-answer-ne0.false) own.auto.room;
     }

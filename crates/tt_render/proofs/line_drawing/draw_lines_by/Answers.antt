@@ -10,7 +10,7 @@ use Rattle.tt_render.specs.Printing.{PrintsBehind, errors_of}
 use Rattle.tt_render.specs.Reports.{told_of}
 use Rattle.tt_render.specs.TextOutcome.{stop_font_fault}
 use Rattle.tt_render.proofs.DefectLines.{stop_tells}
-use Rattle.tt_render.proofs.DrawnLines.{all_drawn, cut_sent, many_sent, none_so_far, one_more, reader_at_end, some_sent, stopped, whole_text}
+use Rattle.tt_render.proofs.DrawnLines.{all_drawn, cut_sent, drawn_alike, kept_alone, many_sent, next_drawn, none_so_far, one_more, reader_at_end, some_sent, stopped, whole_text}
 use Rattle.tt_render.proofs.Printed.{keeps_itself}
 use Rattle.tt_render.proofs.line_drawing.draw_lines_by.Goals as goal
 
@@ -67,7 +67,7 @@ returns-in-Err-clause-outcome g c =
     let t = traffic_of left g.R.Source.has_failed g.W.Sink.written g.W.Sink.has_failed c.args.lines.now
     c.next_text-next.new.lines c.args.out.now c.loop-before.out in
     let e = errors_of g.E.Sink.written g.E.Sink.has_failed c.args.error.now c.loop-before.error in
-    let same = ap (λ (s : Strike). draws_by a s) so_far.strike in
+    let same = drawn_alike a c.args.strike.now c.loop-before.strike so_far.strike in
     let fails = stopped (draws_by a c.args.strike.now) (draws_by a c.loop-before.strike) c.in-Err.stop
     (text_left c.loop-before.reader (left c.loop-before.lines))
     (text_left c.next_text-next.new.reader (left c.next_text-next.new.lines)) t e c.loop-before.before same
@@ -80,7 +80,11 @@ returns-in-Err-write_output-clause-outcome g c =
     let draw = draws_by c.args.setting.now c.args.strike.now in
     let left = g.R.Source.left in
     let written = g.W.Sink.written in
-    let next = rw (c.in-Ok-Some.field-0-is, so_far.strike) at c.in-Ok-Some.ensures.outcome in
+    let next = next_drawn draw (draws_by c.args.setting.now c.loop-before.strike) c.in-Ok-Some.ready
+    (text_left c.loop-before.reader (left c.loop-before.lines))
+    (text_left c.next_text-next.new.reader (left c.next_text-next.new.lines))
+    (drawn_alike c.args.setting.now c.args.strike.now c.loop-before.strike so_far.strike)
+    (rw c.in-Ok-Some.field-0-is at c.in-Ok-Some.ensures.outcome) in
     let reads = c.in-Ok-Some.ensures.failure in
     let cut = c.in-Err-write_output in
     let t = traffic_of left g.R.Source.has_failed written g.W.Sink.has_failed c.args.lines.now
@@ -101,7 +105,11 @@ loop-before-preserved g c =
     let told = g.E.Sink.written in
     let failed = g.E.Sink.has_failed in
     let drawn = c.in-Ok-Some.ensures in
-    let next = rw (c.in-Ok-Some.field-0-is, so_far.strike) at drawn.outcome in
+    let next = next_drawn draw (draws_by c.args.setting.now c.loop-before.strike) c.in-Ok-Some.ready
+    (text_left c.loop-before.reader (left c.loop-before.lines))
+    (text_left c.next_text-next.new.reader (left c.next_text-next.new.lines))
+    (drawn_alike c.args.setting.now c.args.strike.now c.loop-before.strike so_far.strike)
+    (rw c.in-Ok-Some.field-0-is at drawn.outcome) in
     let printed : PrintsBehind (failed c.loop-before.error)
     (errors_of told failed c.loop-before.error c.print_text.new.error)
     (told_of (Some (c.loop-before.before + 1)) (answer_view c.in-Ok-Some.ready)) =
@@ -109,7 +117,7 @@ loop-before-preserved g c =
     rw (c.deref.ensures, report) at c.print_text.ensures in
     record {
       valid = drawn.valid;
-      strike = drawn.same ∙ so_far.strike;
+      strike = kept_alone c.args.strike.now c.loop-before.strike c.next_text-next.new.strike so_far.strike drawn.same;
       reads = drawn.failure;
       writes = c.in_default.ensures.failure;
       so_far = one_more draw (left c.args.lines.now) (text_left c.loop-before.reader (left c.loop-before.lines))
@@ -150,3 +158,6 @@ returns-in-Err-clause-defects g c =
     (left c.args.lines.now) rest (g.W.Sink.written c.args.out.now) (g.W.Sink.written c.loop-before.out)
     (errors_of g.E.Sink.written g.E.Sink.has_failed c.args.error.now c.loop-before.error) c.loop-before.before
     c.in-Err.stop so_far.so_far (subst Tells so_far.strike c.in-Err.ensures.defects))
+
+pub next_text-requires-clause-face : goal.next_text-requires-clause-face
+next_text-requires-clause-face g c = ap (λ (s : Strike). s.face) c.loop-before.invariant.strike ∙ c.requires.face

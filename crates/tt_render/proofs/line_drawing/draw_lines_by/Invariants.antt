@@ -9,7 +9,7 @@ use Rattle.tt_render.proofs.line_drawing.draw_lines_by.Given as goal
 abbrev pub invariant-loop-before : goal.invariant-loop-before
 invariant-loop-before g l = record {
   valid : IsReader l.reader;
-  strike : l.strike ≡ l.fn.strike;
+  strike : l.strike ≡ record l.fn.strike { kept = l.strike.kept };
   reads : g.R.Source.has_failed l.lines ≡ false;
   writes : g.W.Sink.has_failed l.out ≡ false;
   so_far : SoFar (draws_by l.setting l.fn.strike) (g.R.Source.left l.fn.lines)

@@ -14,7 +14,7 @@ use Rattle.tt_strike.proofs.strike.Strike.grown_measure.Goals as goal
 pub returns-in_err-line-clause-exact : goal.returns-in_err-line-clause-exact
 returns-in_err-line-clause-exact c =
     let p = err_from_is_err_and c.from_residual.result c.from_residual.ensures.1 in
-    let s : Strike = record { face = c.self.inside.face.now; ppem = c.self.inside.ppem; fit = c.self.inside.fit; most = c.self.inside.kept.most } in
+    let s : Strike = record { face = c.self.inside.face.now; ppem = c.self.inside.ppem; fit = c.self.inside.fit; most = c.self.inside.kept.most; kept = c.self.inside.kept.entries } in
     let a = job_of s c.args.text.now c.args.margin in
     rw (p.1, p.2, ← c.self.view_is) (not_laid_out s.face a c.in_err-line.field-0.0 c.in_err-line.ensures.exact)
 
@@ -26,7 +26,7 @@ returns-in_err-line-clause-defects c =
 pub returns-in_err-plain-clause-exact : goal.returns-in_err-plain-clause-exact
 returns-in_err-plain-clause-exact c =
     let p = err_from_is_err_and c.from_residual-in_err-plain.result c.from_residual-in_err-plain.ensures.1 in
-    let s : Strike = record { face = c.self.inside.face.now; ppem = c.self.inside.ppem; fit = c.self.inside.fit; most = c.self.inside.kept.most } in
+    let s : Strike = record { face = c.self.inside.face.now; ppem = c.self.inside.ppem; fit = c.self.inside.fit; most = c.self.inside.kept.most; kept = c.self.inside.kept.entries } in
     let a = job_of s c.args.text.now c.args.margin in
     rw (p.1, p.2, ← c.self.view_is) (not_measured s.face a (placement_of c.in_ok-line.line)
     c.in_err-plain.field-0.0 c.in_ok-line.ensures.exact c.in_err-plain.ensures.exact)
@@ -39,7 +39,7 @@ returns-in_err-plain-clause-defects c =
 pub returns-in_err-larger-clause-exact : goal.returns-in_err-larger-clause-exact
 returns-in_err-larger-clause-exact c =
     let p = err_from_is_err_and c.from_residual-in_err-larger.result c.from_residual-in_err-larger.ensures.1 in
-    let s : Strike = record { face = c.self.inside.face.now; ppem = c.self.inside.ppem; fit = c.self.inside.fit; most = c.self.inside.kept.most } in
+    let s : Strike = record { face = c.self.inside.face.now; ppem = c.self.inside.ppem; fit = c.self.inside.fit; most = c.self.inside.kept.most; kept = c.self.inside.kept.entries } in
     let a = job_of s c.args.text.now c.args.margin in
     rw (p.1, p.2, ← c.self.view_is) (not_grown s.face a (placement_of c.in_ok-line.line)
     (measure_view c.in_ok-plain.plain) c.in_err-larger.field-0.0 c.in_ok-line.ensures.exact
@@ -57,7 +57,7 @@ measure_line-requires-2-clause-known c =
 
 pub returns-clause-exact : goal.returns-clause-exact
 returns-clause-exact c =
-    let s : Strike = record { face = c.self.inside.face.now; ppem = c.self.inside.ppem; fit = c.self.inside.fit; most = c.self.inside.kept.most } in
+    let s : Strike = record { face = c.self.inside.face.now; ppem = c.self.inside.ppem; fit = c.self.inside.fit; most = c.self.inside.kept.most; kept = c.self.inside.kept.entries } in
     let a = job_of s c.args.text.now c.args.margin in
     rw (
       ← c.self.view_is,
@@ -69,7 +69,7 @@ returns-clause-exact c =
 pub returns-clause-report : goal.returns-clause-report
 unfolding report_by
 returns-clause-report c =
-    let s : Strike = record { face = c.self.inside.face.now; ppem = c.self.inside.ppem; fit = c.self.inside.fit; most = c.self.inside.kept.most } in
+    let s : Strike = record { face = c.self.inside.face.now; ppem = c.self.inside.ppem; fit = c.self.inside.fit; most = c.self.inside.kept.most; kept = c.self.inside.kept.entries } in
     let a = job_of s c.args.text.now c.args.margin in
     let l = placement_of c.in_ok-line.line in
     let larger = placement_of c.in_ok-larger.larger in

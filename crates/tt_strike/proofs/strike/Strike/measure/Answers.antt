@@ -9,7 +9,7 @@ use Rattle.tt_strike.proofs.strike.Strike.measure.Goals as goal
 pub returns-in_err-line-clause-exact : goal.returns-in_err-line-clause-exact
 returns-in_err-line-clause-exact c =
     let p = err_from_is_err_and c.from_residual.result c.from_residual.ensures.1 in
-    let s : Strike = record { face = c.self.inside.face.now; ppem = c.self.inside.ppem; fit = c.self.inside.fit; most = c.self.inside.kept.most } in
+    let s : Strike = record { face = c.self.inside.face.now; ppem = c.self.inside.ppem; fit = c.self.inside.fit; most = c.self.inside.kept.most; kept = c.self.inside.kept.entries } in
     rw (p.1, p.2, ← c.self.view_is) (measure_stops s.face (job_of s c.args.text.now c.args.margin) c.in_err-line.field-0.0
     c.in_err-line.ensures.exact)
 
@@ -32,7 +32,7 @@ returns-clause-defects c = rw (← c.self.view_is, ← c.in_ok-line.ensures.glyp
 
 pub returns-clause-job : goal.returns-clause-job
 returns-clause-job c =
-    let s : Strike = record { face = c.self.inside.face.now; ppem = c.self.inside.ppem; fit = c.self.inside.fit; most = c.self.inside.kept.most } in
+    let s : Strike = record { face = c.self.inside.face.now; ppem = c.self.inside.ppem; fit = c.self.inside.fit; most = c.self.inside.kept.most; kept = c.self.inside.kept.entries } in
     rw (← c.self.view_is) (work_refuses c.measure_line.result (job_of s c.args.text.now c.args.margin) s.face
     (placement_of c.in_ok-line.line) c.in_ok-line.ensures.laid c.measure_line.ensures.work)
 
