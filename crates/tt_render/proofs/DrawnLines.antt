@@ -8,7 +8,6 @@ use Rattle.std.specs.Str.{is_utf8}
 use Rattle.tt_core.specs.declared.fault.JobFault.TheVariants as fault
 use Rattle.tt_strike.specs.Refusals.{job}
 use Rattle.tt_strike.specs.Strikes.{Strike}
-use Rattle.tt_strike_kept.specs.Glyph.{KeptGlyph}
 use Rattle.tt_render.specs.declared.setting.Setting.{Setting}
 use Rattle.tt_render.specs.declared.text_answers.ReadyText.{ReadyText}
 use Rattle.tt_render.specs.declared.texts_fault.TextStop.{TextStop}
@@ -51,12 +50,12 @@ line_of_text a s line text short is_text =
     rw (is, yes, is_text.0) refl
 
 -- a line is drawn alike whatever glyphs are cached
-kept_aside : (a : Setting) (s : Strike) (kept : List (ℕ × KeptGlyph)) → draws_by a (record s { kept = kept }) ≡ draws_by a s
+kept_aside : (a : Setting) (s t : Strike) → draws_by a (record s { kept = t.kept }) ≡ draws_by a s
 unfolding line_drawn text_answer product_of
-kept_aside a s kept = refl
+kept_aside a s t = refl
 
 pub drawn_alike : (a : Setting) (s t : Strike) → t ≡ record s { kept = t.kept } → draws_by a t ≡ draws_by a s
-drawn_alike a s t alone = ap (λ (x : Strike). draws_by a x) alone ∙ kept_aside a s t.kept
+drawn_alike a s t alone = ap (λ (x : Strike). draws_by a x) alone ∙ kept_aside a s t
 
 -- a strike whose cached glyphs alone have changed, twice
 pub kept_alone : (r s t : Strike) → s ≡ record r { kept = s.kept } → t ≡ record s { kept = t.kept }
