@@ -5,8 +5,8 @@ use Rattle.tt_c_calls.proofs.LinesDrawn.{drawn_on, line_stops}
 use Rattle.tt_c_calls.proofs.LinesStopped.{for_kept, kept_alone}
 use Rattle.tt_c_calls.proofs.line_drawing.draw_by.Goals as goal
 
-pub draw_line-requires : goal.draw_line-requires
-draw_line-requires g c = for_kept _ _ c.args.strike.now c.loop-i.strike c.loop-i.invariant.strike c.requires.strike
+pub draw_line-answer-requires : goal.draw_line-answer-requires
+draw_line-answer-requires g c = for_kept _ _ c.args.strike.now c.loop-i.strike c.loop-i.invariant.strike c.requires.0
 
 pub loop-i-preserved : goal.loop-i-preserved
 loop-i-preserved g c =

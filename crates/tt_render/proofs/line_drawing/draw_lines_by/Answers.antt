@@ -159,5 +159,5 @@ returns-in-Err-clause-defects g c =
     (errors_of g.E.Sink.written g.E.Sink.has_failed c.args.error.now c.loop-before.error) c.loop-before.before
     c.in-Err.stop so_far.so_far (subst Tells so_far.strike c.in-Err.ensures.defects))
 
-pub next_text-requires-clause-face : goal.next_text-requires-clause-face
-next_text-requires-clause-face g c = ap (λ (s : Strike). s.face) c.loop-before.invariant.strike ∙ c.requires.face
+pub next_text-next-requires-clause-face : goal.next_text-next-requires-clause-face
+next_text-next-requires-clause-face g c = ap (λ (s : Strike). s.face) c.loop-before.invariant.strike ∙ c.requires.face
