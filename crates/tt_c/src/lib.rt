@@ -157,7 +157,7 @@ pub extern "C" fn tt_draw_lines(
     ensures drawn { length ends.now ≤ length lines.old → (used : ℕ) × DrawsLines job.now font.now texts.now ends.now rows.old rows.new lines.old lines.new used answer.new.count × EndsWith job.now font.now texts.now ends.now (length rows.old) used answer.new }
     ensures stands { LineDefectStands (IsLinesDefect job.now font.now texts.now ends.now answer.new.count) answer.new }
 {
-    *answer = tt_c_calls::draw_lines(alloc, font, texts, ends, job, keep, rows, lines);
+    *answer = tt_c_calls::draw_lines(alloc, font, texts, ends, job, keep, rows, lines).0;
     answer.status
 }
 

@@ -89,6 +89,7 @@ fn draw_by(
     requires lines { length ends.now ≤ length lines.old }
     ensures drawn { (used : ℕ) × DrawsLines job.now font texts.now ends.now rows.old rows.new lines.old lines.new used result.count × EndsWith job.now font texts.now ends.now (length rows.old) used result }
     ensures stands { LineDefectStands (IsLinesDefect job.now font texts.now ends.now result.count) result }
+    ensures strike { strike.new ≡ record strike.old { kept = strike.new.kept } }
 {
     let mut from = 0;
     let mut used = 0;
@@ -111,7 +112,8 @@ fn draw_by(
 /// Draws lines one after the other, each as `draw_band` draws its whole picture. The font is opened once and its
 /// programs run once; with the way to fit `best` they run once a line. Line i begins in `texts` where the line before
 /// it ends, and ends before `ends[i]`. `rows` gets the rows of all lines one after the other, and `lines[i]` describes
-/// line i. Between lines at most `keep` bytes of glyphs are cached; with `best` none are.
+/// line i. Between lines at most `keep` bytes of glyphs are cached; with `best` none are. Beside the answer the call
+/// returns the bytes of the glyphs that are cached at its end.
 ///
 /// Answers, the first of these, where all bytes and entries after the drawn lines are unchanged:
 /// - the way to fit, the size or the margin is refused, or the font is too large or refused; no line is drawn;
@@ -131,15 +133,16 @@ pub fn draw_lines(
     keep: usize,
     rows: &mut [u8],
     lines: &mut [CLine],
-) -> CAnswer
-    ensures order { AnswersInOrder (lines_wanted job.now font.now) (length lines.old) (length ends.now) result }
+) -> (CAnswer, usize)
+    ensures order { AnswersInOrder (lines_wanted job.now font.now) (length lines.old) (length ends.now) result.0 }
     ensures kept { length lines.old < length ends.now → (rows.new ≡ rows.old) × (lines.new ≡ lines.old) }
-    ensures drawn { length ends.now ≤ length lines.old → (used : ℕ) × DrawsLines job.now font.now texts.now ends.now rows.old rows.new lines.old lines.new used result.count × EndsWith job.now font.now texts.now ends.now (length rows.old) used result }
-    ensures stands { LineDefectStands (IsLinesDefect job.now font.now texts.now ends.now result.count) result }
+    ensures drawn { length ends.now ≤ length lines.old → (used : ℕ) × DrawsLines job.now font.now texts.now ends.now rows.old rows.new lines.old lines.new used result.0.count × EndsWith job.now font.now texts.now ends.now (length rows.old) used result.0 }
+    ensures stands { LineDefectStands (IsLinesDefect job.now font.now texts.now ends.now result.0.count) result.0 }
+    ensures cached { result.1 ≤ keep }
 {
     let fit = match fit_of(job.fit) {
         Ok(fit) => fit,
-        Err(fault) => return answer_of(fault),
+        Err(fault) => return (answer_of(fault), 0),
     };
     // A text of no characters is never too long.
     let none = Job {
@@ -149,18 +152,19 @@ pub fn draw_lines(
         fit,
     };
     if let Err(fault) = test_job(&none) {
-        return answer_of(CallFault::Job(fault));
+        return (answer_of(CallFault::Job(fault)), 0);
     }
     let face = match face_of(font) {
         Ok(face) => face,
-        Err(fault) => return answer_of(fault),
+        Err(fault) => return (answer_of(fault), 0),
     };
     if lines.len() < ends.len() {
-        return wants_room(0, ends.len() as u64);
+        return (wants_room(0, ends.len() as u64), 0);
     }
     let mut strike = match Strike::new(alloc, &face, job.size, fit, keep) {
         Ok(strike) => strike,
-        Err(fault) => return answer_of(CallFault::from(fault)),
+        Err(fault) => return (answer_of(CallFault::from(fault)), 0),
     };
-    draw_by(&mut strike, job, texts, ends, rows, lines)
+    let answer = draw_by(&mut strike, job, texts, ends, rows, lines);
+    (answer, strike.kept_bytes())
 }

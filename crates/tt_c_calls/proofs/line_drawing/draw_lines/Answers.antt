@@ -1,10 +1,11 @@
-use Rattle.std.proofs.Common.{◌≡◌, ℕ, List, arith, inl, length, subst}
+use Rattle.std.proofs.Common.{◌≡◌, ℕ, List, ap, arith, inl, length, subst}
 use Rattle.tt_c_calls.specs.Lines.{DrawsLines, EndsWith, IsLinesDefect, LineDefectStands}
 use Rattle.tt_c_calls.specs.declared.fault.CallFault.TheVariants as call
 use Rattle.tt_c_calls.proofs.LinesStopped.{directory_is, face_refused, fit_defect, fit_refused, job_first, job_refused, lines_defect_told, lines_opened, lines_refused, opened_first, refused_first, room_names_none, strike_for, strike_refused}
 use Rattle.tt_c_calls.specs.Refusals.{call_font_fault}
 use Rattle.tt_c_calls.proofs.StrikeLines.{if_some_more}
 use Rattle.tt_c_calls.proofs.line_drawing.draw_lines.Goals as goal
+use Rattle.tt_strike.specs.Strikes.{Strike}
 
 pub returns-in-Err-clause-order : goal.returns-in-Err-clause-order
 returns-in-Err-clause-order c = rw c.answer_of.ensures
@@ -82,8 +83,8 @@ returns-in-Err-new-clause-stands c =
     c.in-Err-new.ensures.tested in
     rw (c.answer_of-in-Err-new.ensures, c.from.ensures, memory) (lines_defect_told _ call.Memory tt)
 
-pub draw_by-requires : goal.draw_by-requires
-draw_by-requires c = (
+pub draw_by-answer-requires : goal.draw_by-answer-requires
+draw_by-answer-requires c = (
   strike_for c.args.job.now c.args.font.now c.in-Ok.fit c.in-Ok-face_of.face c.in-Ok-new.strike c.args.keep
       c.in-Ok.ensures.exact c.in_default.ensures.exact c.in-Ok-face_of.ensures.exact c.in-Ok-new.ensures.exact,
   c.if-lines-ends.false,
@@ -101,15 +102,25 @@ returns-clause-drawn c room =
     let font = directory_is c.args.font.now c.in-Ok-face_of.face c.in-Ok-face_of.ensures.exact in
     let same : c.in-Ok-new.strike.face.directory ≡ c.args.font.now = rw c.in-Ok-new.ensures.exact font in
     let D : List ℕ → Type 0 = λ file. (used : ℕ)
-    × DrawsLines c.args.job.now file c.args.texts.now c.args.ends.now c.args.rows.now c.draw_by.new.rows
-    c.args.lines.now c.draw_by.new.lines used c.draw_by.result.count
-    × EndsWith c.args.job.now file c.args.texts.now c.args.ends.now (length c.args.rows.now) used c.draw_by.result in
-    subst D same c.draw_by.ensures.drawn
+    × DrawsLines c.args.job.now file c.args.texts.now c.args.ends.now c.args.rows.now c.draw_by-answer.new.rows
+    c.args.lines.now c.draw_by-answer.new.lines used c.draw_by-answer.result.count
+    × EndsWith c.args.job.now file c.args.texts.now c.args.ends.now (length c.args.rows.now) used c.draw_by-answer.result in
+    subst D same c.draw_by-answer.ensures.drawn
 
 pub returns-clause-stands : goal.returns-clause-stands
 returns-clause-stands c =
     let font = directory_is c.args.font.now c.in-Ok-face_of.face c.in-Ok-face_of.ensures.exact in
     let same : c.in-Ok-new.strike.face.directory ≡ c.args.font.now = rw c.in-Ok-new.ensures.exact font in
     let D : List ℕ → Type 0 = λ file. LineDefectStands
-    (IsLinesDefect c.args.job.now file c.args.texts.now c.args.ends.now c.draw_by.result.count) c.draw_by.result in
-    subst D same c.draw_by.ensures.stands
+    (IsLinesDefect c.args.job.now file c.args.texts.now c.args.ends.now c.draw_by-answer.result.count) c.draw_by-answer.result in
+    subst D same c.draw_by-answer.ensures.stands
+
+pub returns-clause-cached : goal.returns-clause-cached
+returns-clause-cached c =
+    let most = λ (s : Strike). s.most in
+    omega (
+      arith,
+      c.kept_bytes.ensures.most,
+      ap most c.draw_by-answer.ensures.strike,
+      ap most c.in-Ok-new.ensures.exact,
+    )
