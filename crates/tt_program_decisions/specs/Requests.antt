@@ -140,10 +140,10 @@ Performs (Draw font job) t lines e status =
     Does {V = Report} (λ r. r.unfitted.items) (run_wanted (job_view job)) (IsListed (job_view job) t.left_before)
     (IsRunDefect (job_view job)) t e status
 Performs (Text font text setting) t lines e status =
-    DoesTexts (λ answer told. FontTextGives setting text.now answer t told
+    DoesTexts {V = Unit {0}} (λ answer told. FontTextGives setting text.now answer t told
     × TextTellsDefectsOf t.left_before (IsRunDefect (job_by setting text.now)) answer) e status
 Performs (Lines font setting) t lines e status =
-    DoesTexts (λ answer told. FontLinesGive setting answer (reader_in t) lines told) e status
+    DoesTexts {V = ℕ} (λ answer told. FontLinesGive setting answer (reader_in t) lines told) e status
 
 -- a property that holds unless the request is for standard input's lines
 abbrev pub UnlessLines : Request → Type 0 → Type 0

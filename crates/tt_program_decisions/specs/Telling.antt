@@ -66,9 +66,10 @@ TellsTexts had_failed (Err fault) status e = TellsTextsFailure had_failed fault 
 
 -- a call that draws texts gave some answer, with its contract about the devices. It had written the bytes `between` to
 -- standard error, which had failed or not. The program reported the answer after them
-pub record DoesTexts (Gives : Result (Unit {0}) TextsFault → Errors → Type 0) (e : Errors) (status : ℕ) : Type 0 where
-  pub answer : Result (Unit {0}) TextsFault
-  pub between : Option (List ℕ)
-  pub had_failed : Bool
-  pub outcome : Gives answer (record { before = e.before; after = between; failed = had_failed })
-  pub told : TellsTexts had_failed answer status (record { before = between; after = e.after; failed = e.failed })
+pub record DoesTexts {V : Type 0} (Gives : Result V TextsFault → Errors → Type 0) (e : Errors) (status : ℕ) : Type 0
+  where
+    pub answer : Result V TextsFault
+    pub between : Option (List ℕ)
+    pub had_failed : Bool
+    pub outcome : Gives answer (record { before = e.before; after = between; failed = had_failed })
+    pub told : TellsTexts had_failed answer status (record { before = between; after = e.after; failed = e.failed })

@@ -13,16 +13,16 @@ use tt_render::{TextsFault, texts_line, texts_status};
 
 /// Reports the answer of `draw_text` or `draw_lines` on standard error. Returns the exit status.
 #[tactic(auto, using(crate::proofs::Statuses::texts_status_within))]
-pub(crate) fn tell_texts<E: Sink>(
+pub(crate) fn tell_texts<T, E: Sink>(
     alloc: Global,
-    answer: &Result<(), TextsFault>,
+    answer: &Result<T, TextsFault>,
     error: &mut E,
 ) -> u8
     ensures bound { result ≤ 5 }
     ensures told { TellsTexts (E.has_failed error.old) answer.now result (errors_of E.written E.has_failed error.old error.new) }
 {
     match answer {
-        Ok(()) => 0,
+        Ok(_) => 0,
         Err(fault) => {
             if error.failed() {
                 return texts_status(fault);

@@ -1,6 +1,6 @@
 -- The answer of a line, and the drawing of lines in order.
 use Rattle.std.proofs.Common.{◌≡◌, ℕ, ◌+◌, ◌<◌, ◌≤◌, Bool, true, false, nat_lt, List, [], ◌∷◌, ◌++◌, length, take, Option, Some, None, IfSome, Result, Ok, Err, ap, sym, subst, refl, ◌∙◌, arith, append_assoc, append-nil, length-append}
-use Rattle.std.specs.Prelude.{IsUtf8}
+use Rattle.std.specs.Prelude.{IfOk, IsUtf8}
 use Rattle.std.proofs.lemmas.Bool.Decides.{nat_tests}
 use Rattle.std.proofs.lemmas.Str.{IsUtf8-from_is_utf8, is_utf8-from_IsUtf8}
 use Rattle.std.specs.Io.KnownBytes.{Appends, IsAtEnd, Keeps, prepend_known}
@@ -10,6 +10,7 @@ use Rattle.tt_strike.specs.Refusals.{job}
 use Rattle.tt_strike.specs.Strikes.{Strike}
 use Rattle.tt_render.specs.declared.setting.Setting.{Setting}
 use Rattle.tt_render.specs.declared.text_answers.ReadyText.{ReadyText}
+use Rattle.tt_render.specs.declared.texts_fault.TextsFault.{TextsFault}
 use Rattle.tt_render.specs.declared.texts_fault.TextStop.{TextStop}
 use Rattle.tt_render.specs.declared.texts_fault.TextStop.TheVariants as stop_of
 use Rattle.tt_render.specs.LineReading.{BeginsLong, LosesLine}
@@ -61,6 +62,11 @@ drawn_alike a s t alone = ap (λ (x : Strike). draws_by a x) alone ∙ kept_asid
 pub kept_alone : (r s t : Strike) → s ≡ record r { kept = s.kept } → t ≡ record s { kept = t.kept }
     → t ≡ record r { kept = t.kept }
 kept_alone r s t first second = second ∙ ap (λ (x : Strike). record x { kept = t.kept }) first
+
+-- the limit of a cache by another name
+pub kept_within : (r : Result ℕ TextsFault) (limit most : ℕ) → limit ≡ most → IfOk r (λ n. n ≤ limit)
+    → IfOk r (λ n. n ≤ most)
+kept_within r limit most same within = subst (λ (m : ℕ). IfOk r (λ n. n ≤ m)) same within
 
 pub next_drawn : (draw other : Draws) (r : ReadyText) (before after : Option (List ℕ)) → other ≡ draw
     → DrawsLine other (Ok (Some r)) before after → DrawsLine draw (Ok (Some r)) before after

@@ -28,18 +28,18 @@ idle left out error read write failed reads writes prints =
     ((keeps_itself left, reads), (keeps_itself out, writes), (keeps_itself error, prints))
 
 -- the font was not read to its end
-pub reading_stops : {S : Type 0} (tests : Result (Unit {0}) JobFault) (opened : List ℕ → Result S Refused)
+pub reading_stops : (V : Type 0) {S : Type 0} (tests : Result (Unit {0}) JobFault) (opened : List ℕ → Result S Refused)
     (fault : RunFault) (before after : Option (List ℕ)) (failed : Bool) → tests ≡ Ok tt
     → ReadFails fault before after failed
-    → StopsAtFont {V = Unit {0}} tests opened (Err (texts_fault_of_run fault))
+    → StopsAtFont {V = V} tests opened (Err (texts_fault_of_run fault))
     (record { before = before; after = after; failed = failed })
-reading_stops tests opened (run.Font f) before after failed passes fails = absurd fails
-reading_stops tests opened (run.Job j) before after failed passes fails = absurd fails
-reading_stops tests opened run.Read before after failed passes fails = (passes, fails)
-reading_stops tests opened run.FontLarge before after failed passes fails =
+reading_stops V tests opened (run.Font f) before after failed passes fails = absurd fails
+reading_stops V tests opened (run.Job j) before after failed passes fails = absurd fails
+reading_stops V tests opened run.Read before after failed passes fails = (passes, fails)
+reading_stops V tests opened run.FontLarge before after failed passes fails =
     (passes, fails.0, (fails.1, fails.2))
-reading_stops tests opened (run.Write sent) before after failed passes fails = absurd fails
-reading_stops tests opened run.Memory before after failed passes fails = (passes, fails)
+reading_stops V tests opened (run.Write sent) before after failed passes fails = absurd fails
+reading_stops V tests opened run.Memory before after failed passes fails = (passes, fails)
 
 -- the tables of a font that is not too large
 pub font_opened : (a : Setting) (file : List ℕ) (face : Face) → length file ≤ font_limit → face_of file ≡ Ok face
@@ -63,13 +63,13 @@ size_passes (Ok u) rest why passes refused = absurd cc
 size_passes (Err j) rest why passes refused = absurd cc
 
 -- so the strike was refused for lack of memory
-pub strike_stops : {S : Type 0} (a : Setting) (opened : List ℕ → Result S Refused) (fault : DrawFault) (f : FontReader)
+pub strike_stops : (V : Type 0) {S : Type 0} (a : Setting) (opened : List ℕ → Result S Refused) (fault : DrawFault) (f : FontReader)
     (file : List ℕ) → setting_tested a ≡ Ok tt → FontIsRead f file
     → IfSome (refusal fault) (λ why. as_job (size_tested a.ppem) ≡ Err why)
-    → StopsAtFont {V = Unit {0}} (setting_tested a) opened (Err (texts_fault_of_draw fault)) f
+    → StopsAtFont {V = V} (setting_tested a) opened (Err (texts_fault_of_draw fault)) f
 unfolding setting_tested
-strike_stops a opened (draw.Font fault) f file passes read refused =
+strike_stops V a opened (draw.Font fault) f file passes read refused =
     absurd (size_passes (size_tested a.ppem) _ _ passes refused)
-strike_stops a opened (draw.Job j) f file passes read refused =
+strike_stops V a opened (draw.Job j) f file passes read refused =
     absurd (size_passes (size_tested a.ppem) _ _ passes refused)
-strike_stops a opened draw.Memory f file passes read refused = (passes, ((file, read.0), read.2))
+strike_stops V a opened draw.Memory f file passes read refused = (passes, ((file, read.0), read.2))

@@ -1,6 +1,6 @@
 //! Draws the lines of a text in order, from a reader to a writer.
 
-ghost use Rattle.std.specs.Prelude.{◌≡◌, false, length, Some, IfOk, IfSome};
+ghost use Rattle.std.specs.Prelude.{◌≡◌, ◌≤◌, false, length, Some, IfOk, IfSome};
 ghost use Rattle.tt_core.specs.Outcomes.{GivesUnless, IfTold};
 ghost use Rattle.tt_render.specs.LineReading.{IsReader, text_left};
 ghost use Rattle.tt_render.specs.LinesDefects.{BeginsDefective, IsDefectBy, LinesTell, LinesTellDefectsOf};
@@ -84,7 +84,7 @@ fn next_text<R: Source>(
     Ok(Some(ready))
 }
 
-/// Draws the lines of a text with a strike, as `draw_lines` does.
+/// Draws the lines of a text with a strike, as `draw_lines` does. Returns the bytes of the cached glyphs.
 fn draw_lines_by<R: Source, W: Sink, E: Sink>(
     alloc: Global,
     strike: &mut Strike,
@@ -93,13 +93,14 @@ fn draw_lines_by<R: Source, W: Sink, E: Sink>(
     out: &mut W,
     error: &mut E,
     setting: &Setting,
-) -> Result<(), TextsFault>
+) -> Result<usize, TextsFault>
     requires face { strike.old.face ≡ face.now }
     requires lines { R.has_failed lines.old ≡ false }
     requires out { W.has_failed out.old ≡ false }
     requires error { E.has_failed error.old ≡ false }
     ensures outcome { LinesGive (draws_by setting.now strike.old) result (traffic_of R.left R.has_failed W.written W.has_failed lines.old lines.new out.old out.new) (errors_of E.written E.has_failed error.old error.new) }
     ensures defects { LinesTell (IsDefectBy setting.now strike.old) (R.left lines.old) result }
+    ensures kept { IfOk result (λ n. n ≤ strike.old.most) }
 {
     let mut reader = LineReader::new(alloc)?;
     for before in 0..u32::MAX {
@@ -107,7 +108,7 @@ fn draw_lines_by<R: Source, W: Sink, E: Sink>(
         let next = next_text(alloc, &mut reader, lines, strike, face, setting, number);
         let mut ready = match next {
             Ok(Some(ready)) => ready,
-            Ok(None) => return Ok(()),
+            Ok(None) => return Ok(strike.kept_bytes()),
             Err(stop) => return Err(texts_fault(Some(number), stop)),
         };
         if let Err(cut) = write_output(out, &mut ready.output) {
@@ -125,7 +126,8 @@ fn draw_lines_by<R: Source, W: Sink, E: Sink>(
 /// made. A line ends before its line feed, and before a carriage return there. The rest after the last line feed is a
 /// line too, unless it is empty. Nothing of a refused line is written, and later lines are not drawn. After a line's
 /// product its report is printed on `error`: a line for each glyph that could not be fitted. With `Missing::Tell` a
-/// line for each character without a glyph follows. A failure of `error` does not stop the drawing.
+/// line for each character without a glyph follows. A failure of `error` does not stop the drawing. Returns the bytes of
+/// the glyphs that are cached at the end, which are at most the setting's `most`.
 ///
 /// Errors, the first of: Job (SizeRange, MarginRange), before the font is read; FontRead, FontLarge; Font, of the
 /// tables needed for every text; then, line by line: Read; Text, with the line's number, from 1: TextLong, of more than
@@ -139,7 +141,7 @@ pub fn draw_lines<F: Source, R: Source, W: Sink, E: Sink>(
     out: &mut W,
     error: &mut E,
     setting: &Setting,
-) -> Result<(), TextsFault>
+) -> Result<usize, TextsFault>
     requires font { F.has_failed font.old ≡ false }
     requires lines { R.has_failed lines.old ≡ false }
     requires out { W.has_failed out.old ≡ false }
@@ -150,6 +152,7 @@ pub fn draw_lines<F: Source, R: Source, W: Sink, E: Sink>(
     // A font's fault in an error is a defect of the font: of the tables needed for every text, or of the data that the
     // numbered line is drawn from.
     ensures defects { LinesTellDefectsOf (F.left font.old) setting.now (R.left lines.old) result }
+    ensures kept { IfOk result (λ n. n ≤ setting.now.most) }
 {
     test_setting(setting)?;
     let file = read_font(alloc, font)?;

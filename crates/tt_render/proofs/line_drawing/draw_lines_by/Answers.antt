@@ -1,4 +1,4 @@
-use Rattle.std.proofs.Common.{◌≡◌, ◌∙◌, ◌+◌, IfSome, Some, arith, ap, refl, subst}
+use Rattle.std.proofs.Common.{◌≡◌, ◌∙◌, ℕ, ◌+◌, IfSome, Some, arith, ap, refl, subst}
 use Rattle.std.proofs.lemmas.Result.{err_from_is_err_and}
 use Rattle.tt_strike.specs.Strikes.{Strike}
 use Rattle.tt_render.specs.LineReading.{held, text_left}
@@ -154,10 +154,20 @@ returns-in-Err-clause-defects g c =
     let rest = text_left c.loop-before.reader (left c.loop-before.lines) in
     let Tells : Strike → Type 0 = λ s. IfSome (stop_font_fault c.in-Err.stop)
     (λ f. IfSome rest (BeginsDefective (IsDefectBy a s) f)) in
-    rw c.texts_fault.ensures (stop_tells (Unit {0}) (IsDefectBy a c.args.strike.now) (draws_by a c.args.strike.now)
+    rw c.texts_fault.ensures (stop_tells ℕ (IsDefectBy a c.args.strike.now) (draws_by a c.args.strike.now)
     (left c.args.lines.now) rest (g.W.Sink.written c.args.out.now) (g.W.Sink.written c.loop-before.out)
     (errors_of g.E.Sink.written g.E.Sink.has_failed c.args.error.now c.loop-before.error) c.loop-before.before
     c.in-Err.stop so_far.so_far (subst Tells so_far.strike c.in-Err.ensures.defects))
 
 pub next_text-next-requires-clause-face : goal.next_text-next-requires-clause-face
 next_text-next-requires-clause-face g c = ap (λ (s : Strike). s.face) c.loop-before.invariant.strike ∙ c.requires.face
+
+pub returns-in-Ok-None-clause-kept : goal.returns-in-Ok-None-clause-kept
+returns-in-Ok-None-clause-kept g c =
+    let most = λ (s : Strike). s.most in
+    omega (
+      arith,
+      c.kept_bytes.ensures.most,
+      ap most c.in-Ok-None.ensures.same,
+      ap most c.loop-before.invariant.strike,
+    )

@@ -37,7 +37,7 @@ returns-in_err-file-clause-outcome g c =
     let font = c.read_font.new.font in
     let failed = g.R.Source.has_failed font in
     let p = err_from_is_err_and c.from_residual-in_err-file.result c.from_residual-in_err-file.ensures.1 in
-    let stops = reading_stops (tested (job_by a c.args.text.now)) (strike_of a) c.in_err-file.field-0.0
+    let stops = reading_stops (Unit {0}) (tested (job_by a c.args.text.now)) (strike_of a) c.in_err-file.field-0.0
     (left c.args.font.now) (left font) failed c.in_ok-test_job.ensures.exact c.in_err-file.ensures in
     rw (p.1, p.2)
     (inl (
