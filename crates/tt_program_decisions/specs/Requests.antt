@@ -10,6 +10,7 @@ use Rattle.tt_render.specs.declared.setting.Missing.TheVariants as missing
 use Rattle.tt_render.specs.declared.setting.Product.{Product}
 use Rattle.tt_render.specs.declared.setting.Product.TheVariants as product
 use Rattle.tt_render.specs.declared.setting.Setting.{Setting}
+use Rattle.tt_render.specs.LinesDefects.{LinesTellDefectsOf}
 use Rattle.tt_render.specs.LinesOutcome.{FontLinesGive}
 use Rattle.tt_render.specs.MapLines.{map_wanted}
 use Rattle.tt_render.specs.Outcome.{Traffic}
@@ -143,7 +144,8 @@ Performs (Text font text setting) t lines e status =
     DoesTexts {V = Unit {0}} (λ answer told. FontTextGives setting text.now answer t told
     × TextTellsDefectsOf t.left_before (IsRunDefect (job_by setting text.now)) answer) e status
 Performs (Lines font setting) t lines e status =
-    DoesTexts {V = ℕ} (λ answer told. FontLinesGive setting answer (reader_in t) lines told) e status
+    DoesTexts {V = ℕ} (λ answer told. FontLinesGive setting answer (reader_in t) lines told
+    × LinesTellDefectsOf t.left_before setting lines.left_before answer) e status
 
 -- a property that holds unless the request is for standard input's lines
 abbrev pub UnlessLines : Request → Type 0 → Type 0

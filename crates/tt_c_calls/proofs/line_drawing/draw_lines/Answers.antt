@@ -1,5 +1,5 @@
 use Rattle.std.proofs.Common.{◌≡◌, ℕ, List, ap, arith, inl, length, subst}
-use Rattle.tt_c_calls.specs.Lines.{DrawsLines, EndsWith, IsLinesDefect, LineDefectStands}
+use Rattle.tt_c_calls.specs.Lines.{DrawsLines, EndsWith, IsLinesDefect, LineDefectStands, lines_wanted}
 use Rattle.tt_c_calls.specs.declared.fault.CallFault.TheVariants as call
 use Rattle.tt_c_calls.proofs.LinesStopped.{directory_is, face_refused, fit_defect, fit_refused, job_first, job_refused, lines_defect_told, lines_opened, lines_refused, opened_first, refused_first, room_names_none, strike_for, strike_refused}
 use Rattle.tt_c_calls.specs.Refusals.{call_font_fault}
@@ -9,7 +9,7 @@ use Rattle.tt_strike.specs.Strikes.{Strike}
 
 pub returns-in-Err-clause-order : goal.returns-in-Err-clause-order
 returns-in-Err-clause-order c = rw c.answer_of.ensures
-    (refused_first _ _ _ c.in-Err.fault c.in-Err.ensures.memory
+    (refused_first (lines_wanted c.args.job.now c.args.font.now) _ _ c.in-Err.fault c.in-Err.ensures.memory
     (fit_refused c.args.job.now c.args.font.now c.in-Err.fault c.in-Err.ensures.exact))
 
 pub returns-in-Err-clause-drawn : goal.returns-in-Err-clause-drawn
@@ -23,7 +23,7 @@ returns-in-Err-clause-stands c = rw c.answer_of.ensures (lines_defect_told _ c.i
 
 pub returns-in-Err-test_job-clause-order : goal.returns-in-Err-test_job-clause-order
 returns-in-Err-test_job-clause-order c = rw c.answer_of-in-Err-test_job.ensures
-    (job_first _ _ _ c.in-Err-test_job.fault
+    (job_first (lines_wanted c.args.job.now c.args.font.now) _ _ c.in-Err-test_job.fault
     (job_refused c.args.job.now c.args.font.now c.in-Ok.fit c.in-Err-test_job.fault c.in-Ok.ensures.exact
     c.in-Err-test_job.ensures.exact))
 
@@ -39,7 +39,7 @@ returns-in-Err-test_job-clause-stands c =
 
 pub returns-in-Err-face_of-clause-order : goal.returns-in-Err-face_of-clause-order
 returns-in-Err-face_of-clause-order c = rw c.answer_of-in-Err-face_of.ensures
-    (refused_first _ _ _ c.in-Err-face_of.fault c.in-Err-face_of.ensures.memory
+    (refused_first (lines_wanted c.args.job.now c.args.font.now) _ _ c.in-Err-face_of.fault c.in-Err-face_of.ensures.memory
     (face_refused c.args.job.now c.args.font.now c.in-Ok.fit c.in-Err-face_of.fault c.in-Ok.ensures.exact
     c.in_default.ensures.exact c.in-Err-face_of.ensures.exact))
 
@@ -56,7 +56,7 @@ returns-in-Err-face_of-clause-stands c = rw c.answer_of-in-Err-face_of.ensures
 
 pub returns-then-lines-ends-clause-order : goal.returns-then-lines-ends-clause-order
 returns-then-lines-ends-clause-order c =
-    opened_first _ c.in-Ok-face_of.face _ _ _
+    opened_first (lines_wanted c.args.job.now c.args.font.now) c.in-Ok-face_of.face _ _ _
     (lines_opened c.args.job.now c.args.font.now c.in-Ok.fit c.in-Ok-face_of.face c.in-Ok.ensures.exact
     c.in_default.ensures.exact c.in-Ok-face_of.ensures.exact) (λ few. c.wants_room.ensures)
 
@@ -65,7 +65,7 @@ returns-then-lines-ends-clause-stands c = rw c.wants_room.ensures (room_names_no
 
 pub returns-in-Err-new-clause-order : goal.returns-in-Err-new-clause-order
 returns-in-Err-new-clause-order c =
-    opened_first _ c.in-Ok-face_of.face _ _ _
+    opened_first (lines_wanted c.args.job.now c.args.font.now) c.in-Ok-face_of.face _ _ _
     (lines_opened c.args.job.now c.args.font.now c.in-Ok.fit c.in-Ok-face_of.face c.in-Ok.ensures.exact
     c.in_default.ensures.exact c.in-Ok-face_of.ensures.exact)
     (λ few. absurd (omega (arith, few, c.if-lines-ends.false)))
@@ -92,7 +92,7 @@ draw_by-answer-requires c = (
 
 pub returns-clause-order : goal.returns-clause-order
 returns-clause-order c =
-    opened_first _ c.in-Ok-face_of.face _ _ _
+    opened_first (lines_wanted c.args.job.now c.args.font.now) c.in-Ok-face_of.face _ _ _
     (lines_opened c.args.job.now c.args.font.now c.in-Ok.fit c.in-Ok-face_of.face c.in-Ok.ensures.exact
     c.in_default.ensures.exact c.in-Ok-face_of.ensures.exact)
     (λ few. absurd (omega (arith, few, c.if-lines-ends.false)))

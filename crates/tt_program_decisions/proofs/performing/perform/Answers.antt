@@ -30,6 +30,6 @@ returns-in-Lines-clause-outcome g c =
       answer = c.draw_lines-drawn.result;
       between = g.E.Sink.written c.draw_lines-drawn.new.error;
       had_failed = g.E.Sink.has_failed c.draw_lines-drawn.new.error;
-      outcome = c.draw_lines-drawn.ensures.outcome;
+      outcome = (c.draw_lines-drawn.ensures.outcome, c.draw_lines-drawn.ensures.defects);
       told = c.tell_texts-in-Lines.ensures.told;
     })
