@@ -15,7 +15,7 @@ use Rattle.tt_render.specs.declared.texts_fault.TextsFault.{TextsFault}
 use Rattle.tt_render.specs.declared.texts_fault.TextsFault.TheVariants as texts
 use Rattle.tt_render.specs.LineReading.{LosesLine}
 use Rattle.tt_render.specs.Lines.{lines_of}
-use Rattle.tt_render.specs.LinesDefects.{BeginsDefective, IsDefectBy, IsDefectIn, LinesTell, LinesTellDefects, LinesTellDefectsOf, line_of}
+use Rattle.tt_render.specs.LinesDefects.{BeginsDefective, IsDefectBy, IsDefectIn, LinesTell, LinesTellDefects, LinesTellDefectsOf, line_numbered}
 use Rattle.tt_render.specs.LinesOutcome.{Draws, texts_fault_of}
 use Rattle.tt_render.specs.Printing.{Errors}
 use Rattle.tt_render.specs.Reading.{ReadFails}
@@ -54,13 +54,13 @@ next_tells IsOne before after line why loses =
 -- it is a defect of the line with this number
 numbered : (IsOne : List ℕ → Fault → Type 0) (d : Draws) (text left out written : Option (List ℕ)) (e : Errors)
     (before : ℕ) (f : Fault) → SoFar d text left out written e before → IfSome left (BeginsDefective IsOne f)
-    → IfSome text (λ all. IsOne (line_of all (before + 1)) f)
+    → IfSome text (λ all. IsOne (line_numbered all (before + 1)) f)
 numbered IsOne d None left out written e before f so_far is = tt
 numbered IsOne d (Some text) None out written e before f so_far is = absurd so_far
 numbered IsOne d (Some text) (Some rest) out written e before f so_far is =
     let parts : lines_of text ≡ so_far.0 ++ is.0 ∷ is.1 = so_far.1 ∙ ap (λ ls. so_far.0 ++ ls) is.2 in
     let at : length so_far.0 ≡ before + 1 - 1 = omega (arith, so_far.2) in
-    let same : line_of text (before + 1) ≡ is.0 =
+    let same : line_numbered text (before + 1) ≡ is.0 =
     ap (λ ls. get_or ls (before + 1 - 1) []) parts ∙ get_or_at so_far.0 is.0 is.1 [] (before + 1 - 1) at in
     rw same is.3
 
@@ -87,7 +87,7 @@ lines_tell a file face text (Err texts.FontRead) there tells = tt
 lines_tell a file face text (Err texts.FontLarge) there tells = tt
 lines_tell a file face text (Err (texts.Text None f)) there tells = tt
 lines_tell a file face text (Err (texts.Text (Some n) (fault.Font f))) there tells =
-    if_some_more text _ (λ all. IsDefectIn a file (line_of all n) f) (λ all is. rw there is) tells
+    if_some_more text _ (λ all. IsDefectIn a file (line_numbered all n) f) (λ all is. rw there is) tells
 lines_tell a file face text (Err (texts.Text (Some n) (fault.Job j))) there tells = tt
 lines_tell a file face text (Err (texts.Text (Some n) fault.NotUtf8)) there tells = tt
 lines_tell a file face text (Err (texts.Text (Some n) (fault.Missing c))) there tells = tt

@@ -13,8 +13,8 @@ use Rattle.tt_strike.specs.Strikes.{Strike, job_of}
 use Rattle.tt_strike.specs.Tables.{face_of}
 
 -- the line of a text with this number, counted from 1
-abbrev pub line_of : List ℕ → ℕ → List ℕ
-line_of text number = get_or (lines_of text) (number - 1) []
+abbrev pub line_numbered : List ℕ → ℕ → List ℕ
+line_numbered text number = get_or (lines_of text) (number - 1) []
 
 -- a defect of the font that a line is drawn from, by a strike
 abbrev pub IsDefectBy : Setting → Strike → List ℕ → Fault → Type 0
@@ -33,7 +33,7 @@ BeginsDefective IsOne f text =
 -- where the text is known, the font's fault that refuses a line is a defect of that line; no other fault is the font's
 abbrev pub LinesTell : {V : Type 0} → (List ℕ → Fault → Type 0) → Option (List ℕ) → Result V TextsFault → Type 0
 LinesTell IsOne text (Err (texts.Text (Some number) (fault.Font f))) =
-    IfSome text (λ all. IsOne (line_of all number) f)
+    IfSome text (λ all. IsOne (line_numbered all number) f)
 LinesTell IsOne text (Err (texts.Font f)) = ⊥
 LinesTell IsOne text r = ⊤
 
@@ -41,7 +41,7 @@ LinesTell IsOne text r = ⊤
 -- of the data that the numbered line is drawn from
 abbrev pub LinesTellDefects : {V : Type 0} → Setting → Option (List ℕ) → Result V TextsFault → List ℕ → Type 0
 LinesTellDefects a text (Err (texts.Text (Some number) (fault.Font f))) file =
-    IfSome text (λ all. IsDefectIn a file (line_of all number) f)
+    IfSome text (λ all. IsDefectIn a file (line_numbered all number) f)
 LinesTellDefects a text (Err (texts.Font f)) file = IsFaceDefect file f
 LinesTellDefects a text r file = ⊤
 
@@ -50,10 +50,10 @@ abbrev pub LinesTellDefectsOf : {V : Type 0} → Option (List ℕ) → Setting �
 LinesTellDefectsOf {V} font a text result = IfSome font (LinesTellDefects {V = V} a text result)
 
 -- worked values
-the_second_line : line_of (codes "a\nbc\n") 2 ≡ codes "bc"
+the_second_line : line_numbered (codes "a\nbc\n") 2 ≡ codes "bc"
 unfolding lines_of
 the_second_line = refl
 
-the_only_line : line_of (codes "abc") 1 ≡ codes "abc"
+the_only_line : line_numbered (codes "abc") 1 ≡ codes "abc"
 unfolding lines_of
 the_only_line = refl
