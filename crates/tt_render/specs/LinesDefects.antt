@@ -1,5 +1,5 @@
 -- What a call that draws lines claims about the defects of a font.
-use Rattle.std.specs.Prelude.{◌≡◌, refl, ℕ, ◌-◌, List, [], ◌∷◌, get_or, codes, Option, Some, None, IfSome, Result, Ok, Err, IsOkAnd, ⊤}
+use Rattle.std.specs.Prelude.{◌≡◌, refl, ℕ, ◌-◌, List, [], ◌∷◌, get_or, codes, Option, Some, IfSome, Result, Err, IsOkAnd, ⊤}
 use Rattle.tt_core.specs.Faults.{Fault}
 use Rattle.tt_line.specs.Layout.{text_glyphs}
 use Rattle.tt_render.specs.declared.setting.Setting.{Setting}
