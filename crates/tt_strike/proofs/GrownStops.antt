@@ -1,43 +1,29 @@
--- An enlarged line: its refusals, its picture and its report.
+-- An enlarged line: its picture and its report.
 use Rattle.std.proofs.Common.{◌≡◌, ◌∙◌, refl, ap, sym, ℕ, List, map, Result, Ok, Err}
-use Rattle.std.specs.Prelude.{IfSome}
 use Rattle.tt_core.specs.Outcomes.{◌>>=◌}
-use Rattle.tt_core.specs.declared.fault.JobFault.{JobFault}
 use Rattle.tt_fit.specs.Fitting.{Fitter}
 use Rattle.tt_line.specs.Layout.{Placement}
 use Rattle.tt_strike.specs.Distinct.{distinct, line_fitter}
-use Rattle.tt_strike.specs.Grown.{grown, grown_line, grown_outcome, grown_placement}
+use Rattle.tt_strike.specs.Enlarged.{drawn_grown}
+use Rattle.tt_strike.specs.Grown.{grown_line, grown_outcome, grown_placement}
 use Rattle.tt_strike.specs.Job.{Job}
-use Rattle.tt_strike.specs.Measures.{Measure, measured_line}
 use Rattle.tt_strike.specs.Picture.{drawn, laid_out, line_shapes, setting_in}
 use Rattle.tt_strike.specs.Pixels.{Shape}
-use Rattle.tt_strike.specs.Refusals.{Refused, as_font, job, refusal}
+use Rattle.tt_strike.specs.Refusals.{Refused, as_font}
 use Rattle.tt_strike.specs.Report.{line_report, unfitted_among}
 use Rattle.tt_strike.specs.Tables.{Face}
-use Rattle.tt_strike.specs.declared.fault.DrawFault.{DrawFault}
 use Rattle.tt_strike.specs.declared.report.Unfitted.{Unfitted}
-use Rattle.tt_strike.proofs.Stopped.{stops}
 
-pub grown_unmeasured : (face : Face) (a : Job) (l : Placement) (e : DrawFault) → laid_out face a ≡ Ok l
-    → IfSome (refusal e) (λ r. measured_line face a l ≡ Err r) → IfSome (refusal e) (λ r. grown_outcome face a ≡ Err r)
-unfolding grown_outcome grown_placement grown_line
-grown_unmeasured face a l e laid stopped =
-    stops e (measured_line face a l) (grown_outcome face a) (λ r fails. rw (laid, fails) refl) stopped
+-- the line of a laid-out text is enlarged, and drawn
+pub placed_as_laid : (face : Face) (a : Job) (l : Placement) → laid_out face a ≡ Ok l
+    → grown_placement face a ≡ grown_line face a l
+unfolding grown_placement
+placed_as_laid face a l laid = rw laid refl
 
-pub grown_refused : (face : Face) (a : Job) (l : Placement) (m : Measure) (j : JobFault) → laid_out face a ≡ Ok l
-    → measured_line face a l ≡ Ok m → grown l m.ink ≡ Err j → grown_outcome face a ≡ Err (job j)
-unfolding grown_outcome grown_placement grown_line
-grown_refused face a l m j laid measured fails = rw (laid, measured, fails) refl
-
-pub grown_is_placed : (face : Face) (a : Job) (l larger : Placement) (m : Measure) → laid_out face a ≡ Ok l
-    → measured_line face a l ≡ Ok m → grown l m.ink ≡ Ok larger → grown_placement face a ≡ Ok larger
-unfolding grown_placement grown_line
-grown_is_placed face a l larger m laid measured made = rw (laid, measured, made) refl
-
-pub grown_is_drawn : (face : Face) (a : Job) (l larger : Placement) (m : Measure) → laid_out face a ≡ Ok l
-    → measured_line face a l ≡ Ok m → grown l m.ink ≡ Ok larger → grown_outcome face a ≡ drawn face a larger
+pub drawn_as_laid : (face : Face) (a : Job) (l : Placement) → laid_out face a ≡ Ok l
+    → grown_outcome face a ≡ drawn_grown face a l
 unfolding grown_outcome
-grown_is_drawn face a l larger m laid measured made = rw (grown_is_placed face a l larger m laid measured made) refl
+drawn_as_laid face a l laid = rw (placed_as_laid face a l laid) refl
 
 -- the report is that of the line
 

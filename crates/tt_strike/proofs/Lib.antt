@@ -23,6 +23,8 @@ mod Among
 mod GrownMeasures
 mod GrownStops
 mod Larger
+mod Reframed
+mod Enlarged
 mod Agreeing
 mod SidesRefuse
 mod RowsCut

@@ -47,7 +47,7 @@ same_ink : (these filled : Option Rules) (es fs : List Edge) (cs ds : List (List
 same_ink None filled es fs cs ds is edges contours = rw (← is, edges) refl
 same_ink (Some rules) filled es fs cs ds is edges contours = rw (← is, edges, contours) refl
 
-edges_are : (body : Body) (es : List Edge) → IsTape body → IsBodyOf es body → edges_of body ≡ es
+pub edges_are : (body : Body) (es : List Edge) → IsTape body → IsBodyOf es body → edges_of body ≡ es
 edges_are (tape t) es is of = of
 edges_are (raster k) es is of = absurd is
 

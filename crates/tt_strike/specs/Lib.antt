@@ -2,6 +2,7 @@ pub mod Job
 pub mod Refusals
 pub mod Defects
 pub mod Distinct
+pub mod Enlarged
 pub mod Tables
 pub mod Glyphs
 pub mod Grown

@@ -52,18 +52,18 @@ impl Body {
 /// A glyph by its number in the font, with its body.
 #[derive(Drop)]
 pub(crate) struct Glyph {
-    number: u16,
+    pub(crate) number: u16,
     pub(crate) body: Body,
     /// The rules for filling its dropouts.
     pub(crate) filled: Option<Rules>,
     /// The number of edges up to the end of each contour; empty where no dropouts are filled.
     pub(crate) ends: Vec<usize>,
     /// Added to every pen: 0 for a tape, the margin for a raster.
-    left: u32,
+    pub(crate) left: u32,
     /// Its pens in the line, in pixels from the left end, with `left` added.
     pub(crate) pens: Vec<u32>,
     /// The fault that makes it unfitted.
-    unfitted: Option<Fault>,
+    pub(crate) unfitted: Option<Fault>,
 }
 
 impl Model for Glyph {
@@ -269,7 +269,7 @@ fn edges_of(alloc: Global, outline: &Outline) -> Result<EdgeList, AllocError>
 }
 
 /// A tape of edges. Each row is cut when it is made.
-fn tape_of(alloc: Global, list: EdgeList, frame: Frame) -> Result<Body, AllocError>
+pub(crate) fn tape_of(alloc: Global, list: EdgeList, frame: Frame) -> Result<Body, AllocError>
     requires frame { FrameFits frame }
     requires few { length list.edges ≤ 2 ^ 17 }
     ensures body { IfOk result (λ b. IsBodyOf list.edges (body_view b) × IsTape (body_view b) × BodyFits frame 0 (body_view b)) }

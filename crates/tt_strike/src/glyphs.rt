@@ -4,15 +4,17 @@ ghost use Rattle.std.specs.Prelude.{◌≡◌, ◌≢◌, true, false, None, ℕ
 ghost use Rattle.tt_core.specs.Limits.{text_limit, width_limit};
 ghost use Rattle.tt_core.specs.Outcomes.{IfTold, each, font_fault};
 ghost use Rattle.tt_fit.specs.Fitting.{Fitter, fitted_outline};
+ghost use Rattle.tt_scan.specs.declared.edge.Frame.{Frame};
 ghost use Rattle.tt_scan.specs.Winding.{FrameFits};
 ghost use Rattle.tt_scan.specs.Winding.{is_black, column_x, row_y};
 ghost use Rattle.tt_strike.specs.Distinct.{IsNext, distinct, fitter_after, fitter_past, is_among, line_fitter, with_glyph};
-ghost use Rattle.tt_strike.specs.Glyphs.{AreDrawn, AreKept, AreWithin, Adds, ArePlaces, Stand, crossings_standing, numbers_of, stamps_in};
+ghost use Rattle.tt_strike.specs.Glyphs.{AreDrawn, AreKept, AreWithin, Adds, ArePlaces, Stand, crossings_standing, edges_of, numbers_of, stamps_in};
 ghost use Rattle.tt_strike.specs.Kept.{AreKeptFor};
 ghost use Rattle.tt_strike.specs.Picture.{glyph_shape};
 ghost use Rattle.tt_strike.specs.Pixels.{is_black_by, is_filled_by};
 
 use crate::glyph::Glyph;
+use crate::reframing::reframed_glyphs;
 use std::alloc::{AllocError, Global};
 use tt_core::FontFault;
 use tt_fit::Fitter;
@@ -54,6 +56,17 @@ impl Glyphs {
             0 => None,
             place => Some(usize::from(place) - 1),
         }
+    }
+
+    /// The place in `kept` of a glyph that is there.
+    fn place_of(&self, number: u16) -> usize
+        requires known { number < length self.now.places.items }
+        requires places { ArePlaces self.now.places.items (numbers_of self.now.kept.items) }
+        requires among { is_among number (numbers_of self.now.kept.items) ≡ true }
+        ensures within { result < length self.now.kept.items }
+        ensures number { slice_index (numbers_of self.now.kept.items) result ≡ number }
+    {
+        usize::from(self.places[usize::from(number)]) - 1
     }
 
     /// Adds a glyph after the others.
@@ -147,6 +160,51 @@ impl Glyphs {
         let at = self.keep(alloc, fitter, number, frame, kept, keeps)?;
         self.kept[at].stand(pen)?;
         Ok(())
+    }
+
+    /// Adds a pen of a glyph that is there. Error: Memory.
+    fn stand(&mut self, placed: (u16, u32)) -> Result<(), AllocError>
+        requires known { placed.0 < length self.old.places.items }
+        requires pen { placed.1 ≤ width_limit }
+        requires among { is_among placed.0 (numbers_of self.old.kept.items) ≡ true }
+        requires valid { AreKept (length self.old.places.items) self.old.places.items self.old.kept.items }
+        ensures valid { OnOk result (AreKept (length self.old.places.items) self.new.places.items self.new.kept.items) }
+        ensures numbers { OnOk result (numbers_of self.new.kept.items ≡ numbers_of self.old.kept.items) }
+        ensures pens { OnOk result (AreWithin self.old.kept.items → AreWithin self.new.kept.items) }
+        ensures drawn { OnOk result ((maker : ℕ → Fitter) (f : Frame) → AreDrawn false maker f self.old.kept.items → AreDrawn false maker f self.new.kept.items) }
+        ensures adds { OnOk result ((maker : ℕ → Fitter) (f : Frame) → AreDrawn false maker f self.old.kept.items → IsOkAnd (glyph_shape maker placed) (Adds false f self.old.kept.items self.new.kept.items)) }
+    {
+        let (number, pen) = placed;
+        let at = self.place_of(number);
+        self.kept[at].stand(pen)?;
+        Ok(())
+    }
+
+    /// The glyphs in another frame, at the places of another line of the same glyphs. No edge is copied. Error: Memory.
+    pub(crate) fn reframed(
+        self,
+        alloc: Global,
+        frame: Frame,
+        line: &[(u16, u32)],
+    ) -> Result<Vec<Glyph>, AllocError>
+        requires frame { FrameFits frame }
+        requires few { All (λ g. length (edges_of g.body) ≤ 2 ^ 17) self.kept.items }
+        requires places { ArePlaces self.places.items (numbers_of self.kept.items) }
+        requires known { All (λ g. g.0 < length self.places.items) line.now }
+        requires among { All (λ g. is_among g.0 (numbers_of self.kept.items) ≡ true) line.now }
+        requires pens { All (λ g. g.1 ≤ width_limit) line.now }
+        ensures numbers { IfOk result (λ v. numbers_of v.items ≡ numbers_of self.kept.items) }
+        ensures pens { IfOk result (λ v. AreWithin v.items) }
+        ensures drawn { IfOk result (λ v. (maker : ℕ → Fitter) (f : Frame) → AreDrawn false maker f self.kept.items → AreDrawn false maker frame v.items) }
+        ensures stand { IfOk result (λ v. (maker : ℕ → Fitter) (f : Frame) → AreDrawn false maker f self.kept.items → IsOkAnd (each (glyph_shape maker) line.now) (Stand false frame v.items)) }
+    {
+        let Glyphs { places, kept, room } = self;
+        let kept = reframed_glyphs(alloc, frame, kept)?;
+        let mut glyphs = Glyphs { places, kept, room };
+        for place in line {
+            glyphs.stand(*place)?;
+        }
+        Ok(glyphs.kept)
     }
 }
 

@@ -4,6 +4,7 @@
 mod distinct;
 mod drawing;
 mod dropouts;
+mod enlarging;
 mod fault;
 mod glyph;
 mod glyphs;
@@ -16,6 +17,7 @@ mod maker;
 mod measuring;
 mod painting;
 mod picture;
+mod reframing;
 mod report;
 mod rows;
 mod strike;

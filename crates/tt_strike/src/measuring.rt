@@ -1,6 +1,6 @@
 //! Measures a line that is laid out.
 
-ghost use Rattle.std.specs.Prelude.{◌≡◌, ℕ, ◌<◌, ◌≤◌, ◌^◌, true, length, map, unsigned_abs, All, IfOk, IfSome, Ok, Option};
+ghost use Rattle.std.specs.Prelude.{◌≡◌, ℕ, ◌<◌, ◌≤◌, ◌^◌, pos, ◌+ℤ◌, true, length, map, unsigned_abs, All, IfOk, IfSome, Ok, Option};
 ghost use Rattle.tt_core.specs.declared.fault.JobFault.TheVariants.{WorkLarge};
 ghost use Rattle.tt_core.specs.Limits.{height_limit, size_limit, text_limit, width_limit};
 ghost use Rattle.tt_core.specs.Outcomes.{GivesUnless, IfTold};
@@ -87,7 +87,7 @@ fn glyph_ink(alloc: Global, glyph: &Glyph) -> Result<Option<GlyphInk>, AllocErro
 }
 
 /// The boxes of some glyphs. Error: Memory.
-fn glyph_inks(alloc: Global, glyphs: &[Glyph]) -> Result<Vec<Option<GlyphInk>>, AllocError>
+pub(crate) fn glyph_inks(alloc: Global, glyphs: &[Glyph]) -> Result<Vec<Option<GlyphInk>>, AllocError>
     requires tapes { All (λ g. IsTape g.body) glyphs.now }
     requires glyphs { All CanBeFilled glyphs.now }
     ensures exact { IfOk result (λ v. v.items ≡ map ink_standing glyphs.now) }
@@ -135,7 +135,7 @@ fn character(
 }
 
 /// The measures of a line's characters, whose glyphs have these inks. Error: Memory.
-fn characters(
+pub(crate) fn characters(
     alloc: Global,
     metrics: &Metrics,
     ppem: u32,
@@ -164,7 +164,7 @@ fn characters(
 }
 
 /// The box of the ink of some characters.
-fn ink_of(characters: &[CharacterMeasure]) -> Option<InkBox>
+pub(crate) fn ink_of(characters: &[CharacterMeasure]) -> Option<InkBox>
     ensures { result ≡ ink_of characters.now }
 {
     let mut all = None;
@@ -172,6 +172,26 @@ fn ink_of(characters: &[CharacterMeasure]) -> Option<InkBox>
         all = joined(all, character.ink);
     }
     all
+}
+
+/// The measure of a line with this frame, these characters and this report.
+pub(crate) fn measure_of(
+    frame: Frame,
+    characters: Vec<CharacterMeasure>,
+    report: Report,
+) -> Measure
+    requires { FrameFits frame }
+    ensures exact { measure_view result ≡ record { width = frame.width; height = frame.height; baseline = frame.rise +ℤ pos frame.margin; ink = ink_of characters.items; characters = characters.items } }
+    ensures report { result.report ≡ report }
+{
+    Measure {
+        width: frame.width,
+        height: frame.height,
+        baseline: i64::from(frame.rise) + i64::from(frame.margin),
+        ink: ink_of(&characters),
+        characters,
+        report,
+    }
 }
 
 /// The measure of a line that is laid out. Errors: as `tested_glyphs`. No glyph is cached.
@@ -214,12 +234,5 @@ pub(crate) fn measure_line<'a>(
         &glyphs,
         &inks,
     )?;
-    Ok(Measure {
-        width: line.width,
-        height: line.height,
-        baseline: i64::from(line.rise) + i64::from(job.margin),
-        ink: ink_of(&characters),
-        characters,
-        report,
-    })
+    Ok(measure_of(frame, characters, report))
 }

@@ -16,8 +16,8 @@ ghost use Rattle.tt_strike.specs.Work.{is_bounded};
 ghost use Rattle.tt_strike_kept.specs.Kept.{bytes_in};
 
 use crate::drawing::draw_line;
+use crate::enlarging::{draw_grown, measure_grown};
 use crate::fault::DrawFault;
-use crate::growing::grown;
 use crate::job::{Job, test_size};
 use crate::laying::lay_out;
 use crate::maker::Maker;
@@ -158,7 +158,7 @@ impl<'f, 'a> Strike<'f, 'a> {
     /// The picture of a text with the fewest added columns and rows such that no ink is cut; equal to that of `line`
     /// where none is. Errors: those of `line`, and PictureLarge of the larger picture. A refused line too may change the
     /// cached glyphs.
-    #[tactic(auto, unfolding(crate::specs::Grown::grown_outcome, crate::specs::Grown::grown_placement, crate::specs::Grown::grown_line))]
+    #[tactic(auto, unfolding(crate::specs::Grown::grown_outcome, crate::specs::Grown::grown_placement))]
     pub fn grown_line(&mut self, text: &str, margin: u32) -> Result<Picture, DrawFault>
         ensures exact { GivesUnless refusal picture_bytes result (grown_outcome self.old.face (job_of self.old text.now margin)) }
         ensures valid { IfOk result IsReady }
@@ -175,28 +175,19 @@ impl<'f, 'a> Strike<'f, 'a> {
             fit: self.fit,
         };
         let line = lay_out(self.alloc, self.face, &job)?;
-        let measure = measure_line(
+        draw_grown(
             self.alloc,
             self.face,
             &mut self.maker,
             &mut self.kept,
             &job,
-            &line,
-        )?;
-        let larger = grown(line, measure.ink)?;
-        draw_line(
-            self.alloc,
-            self.face,
-            &mut self.maker,
-            &mut self.kept,
-            &job,
-            &larger,
+            line,
         )
     }
 
     /// The measure of the picture that `grown_line` makes. Errors: those of `measure`, and PictureLarge of the larger
     /// picture. No glyph is cached, and the strike is unchanged.
-    #[tactic(auto, unfolding(crate::specs::Grown::grown_measured, crate::specs::Grown::grown_placement, crate::specs::Grown::grown_line))]
+    #[tactic(auto, unfolding(crate::specs::Grown::grown_measured, crate::specs::Grown::grown_placement))]
     pub fn grown_measure(&mut self, text: &str, margin: u32) -> Result<Measure, DrawFault>
         ensures exact { GivesUnless refusal measure_view result (grown_measured self.old.face (job_of self.old text.now margin)) }
         ensures report { IfOk result (λ m. report_by self.old.face (job_of self.old text.now margin) ≡ Ok m.report.unfitted.items) }
@@ -211,22 +202,13 @@ impl<'f, 'a> Strike<'f, 'a> {
             fit: self.fit,
         };
         let line = lay_out(self.alloc, self.face, &job)?;
-        let plain = measure_line(
+        measure_grown(
             self.alloc,
             self.face,
             &mut self.maker,
             &mut self.kept,
             &job,
-            &line,
-        )?;
-        let larger = grown(line, plain.ink)?;
-        measure_line(
-            self.alloc,
-            self.face,
-            &mut self.maker,
-            &mut self.kept,
-            &job,
-            &larger,
+            line,
         )
     }
 

@@ -1,5 +1,4 @@
-use Rattle.std.proofs.Common.{◌≡◌, ◌∙◌, map, pos, ◌+ℤ◌, SFits, w32, w64, arith}
-use Rattle.std.proofs.lemmas.Int.{ints, to_z-of_z}
+use Rattle.std.proofs.Common.{◌∙◌, map, refl}
 use Rattle.tt_line.specs.Outcome.{placement_of}
 use Rattle.tt_strike.specs.Distinct.{line_fitter}
 use Rattle.tt_strike.specs.Glyphs.{numbers_of}
@@ -31,28 +30,21 @@ returns-clause-exact c =
     let inks = (rw c.deref.ensures.value at c.in_ok-inks.ensures.exact) ∙ inks_as_made c.args.face.now a l gs made in
     let measured = c.in_ok-characters.ensures (line_ink made.setting l) (c.deref-4.ensures.value ∙ inks) in
     let characters = rw (c.metrics.ensures, c.frame_of-frame.ensures.exact, c.deref-3.ensures.value) at measured in
-    let rise : SFits w32 line.rise = let small = c.requires.rise in omega (arith, ints) in
-    let up : c.from.result ≡ line.rise = simp to_z-of_z at c.from.ensures in
-    let long : SFits w64 line.rise = omega (arith, ints, c.requires.rise) in
-    let margin : SFits w64 (pos a.margin) = omega (arith, ints, c.requires.asked.margin) in
-    let sum : SFits w64 (line.rise +ℤ pos a.margin) = omega (arith, ints, c.requires.rise, c.requires.asked.margin) in
     rw (
       measured_as_made c.args.face.now a l gs made,
-      c.ink_of.ensures,
-      c.deref-5.ensures.value,
+      c.measure_of.ensures.exact,
+      c.frame_of-frame.ensures.exact,
       characters,
-      up,
-      c.from-2.ensures,
-    ) (simp to_z-of_z)
+    ) refl
 
 pub returns-clause-report : goal.returns-clause-report
 returns-clause-report c =
-    (reported_as_made c.args.face.now (job_view c.args.job.now) (placement_of c.args.line.now)
+    rw c.measure_of.ensures.report (reported_as_made c.args.face.now (job_view c.args.job.now) (placement_of c.args.line.now)
     c.in_ok-glyphs.glyphs.kept.items c.in_ok-report.report.unfitted.items c.in_ok-glyphs.ensures.made
     (rw c.deref-2.ensures.value at c.in_ok-report.ensures)).0
 
 pub returns-clause-once : goal.returns-clause-once
 returns-clause-once c =
-    (reported_as_made c.args.face.now (job_view c.args.job.now) (placement_of c.args.line.now)
+    rw c.measure_of.ensures.report (reported_as_made c.args.face.now (job_view c.args.job.now) (placement_of c.args.line.now)
     c.in_ok-glyphs.glyphs.kept.items c.in_ok-report.report.unfitted.items c.in_ok-glyphs.ensures.made
     (rw c.deref-2.ensures.value at c.in_ok-report.ensures)).1

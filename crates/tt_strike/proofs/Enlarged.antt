@@ -1,0 +1,196 @@
+-- A line enlarged by the glyphs of the line: its refusals, its picture and its measure.
+use Rattle.std.proofs.Common.{◌≡◌, ◌∙◌, refl, ap, sym, ℕ, ◌+◌, Bool, true, false, ◌||◌, nat_lt, if◌then◌else◌, List, [], ◌∷◌, map, Option, Some, None, Result, Ok, Err, arith}
+use Rattle.std.specs.Prelude.{IfSome}
+use Rattle.tt_core.specs.Limits.{height_limit, width_limit}
+use Rattle.tt_core.specs.Outcomes.{◌>>=◌, each}
+use Rattle.tt_core.specs.declared.fault.JobFault.{JobFault}
+use Rattle.tt_core.specs.declared.fault.JobFault.TheVariants as fault
+use Rattle.tt_fit.specs.Fitting.{Fitter, fitted_outline}
+use Rattle.tt_line.specs.Layout.{Placement}
+use Rattle.tt_scan.specs.declared.edge.Frame.{Frame}
+use Rattle.tt_scan_ink.specs.declared.ink.GlyphInk.{GlyphInk}
+use Rattle.tt_strike.specs.Distinct.{line_fitter}
+use Rattle.tt_strike.specs.Glyphs.{AreDrawn, Glyph, numbers_of}
+use Rattle.tt_strike.specs.Grown.{grown, grown_line, lacking, not_large, with_sides}
+use Rattle.tt_strike.specs.Ink.{glyph_ink}
+use Rattle.tt_strike.specs.Job.{Job}
+use Rattle.tt_strike.specs.Made.{AreMade, shapes_made}
+use Rattle.tt_strike.specs.Measures.{Measure, character_at, ink_of, line_ink, measure_by, measured_line}
+use Rattle.tt_strike.specs.Picture.{crossings_tested, drawn, frame_of, glyph_shape, picture, points_tested, setting_in, shape_at, shapes_in}
+use Rattle.tt_strike.specs.Pixels.{Shape}
+use Rattle.tt_strike.specs.Refusals.{Refused, as_job, job, refusal}
+use Rattle.tt_strike.specs.Report.{ListsOnce, line_report, unfitted_standing}
+use Rattle.tt_strike.specs.Tables.{Face}
+use Rattle.tt_strike.specs.Work.{crossings_in}
+use Rattle.tt_strike.specs.declared.fault.DrawFault.{DrawFault}
+use Rattle.tt_strike.specs.declared.ink_box.InkBox.{InkBox}
+use Rattle.tt_strike.specs.declared.measuring.CharacterMeasure.{CharacterMeasure}
+use Rattle.tt_strike.specs.declared.report.Unfitted.{Unfitted}
+use Rattle.tt_strike.proofs.Larger.{first_of}
+use Rattle.tt_strike.proofs.Listing.{standing_listed}
+use Rattle.tt_strike.proofs.Made.{measured_as_made, reported_as_made}
+use Rattle.tt_strike.proofs.Standings.{counts_from_pen, filling_from_pen}
+use Rattle.tt_strike.proofs.Stopped.{measuring_stops, stops}
+
+-- glyphs moved to the right
+abbrev pub rightwards : ℕ → List (ℕ × ℕ) → List (ℕ × ℕ)
+rightwards left gs = map (λ g. (g.0, g.1 + left)) gs
+
+pub same_numbers : (left : ℕ) (gs : List (ℕ × ℕ)) → map (λ g. g.0) (rightwards left gs) ≡ map (λ g. g.0) gs
+same_numbers left [] = refl
+same_numbers left (g ∷ gs) = ap (λ (ns : List ℕ). g.0 ∷ ns) (same_numbers left gs)
+
+unmoved : (gs : List (ℕ × ℕ)) → rightwards 0 gs ≡ gs
+unmoved [] = refl
+unmoved (g ∷ gs) = let here : g.1 + 0 ≡ g.1 = omega arith in rw (here, unmoved gs) refl
+
+-- each glyph of an enlarged line stands as many columns further to the right
+by_size : (large : Bool) (l larger : Placement)
+    → ◌≡◌ {A = Result Placement JobFault} (if large then Err fault.PictureLarge else Ok l) (Ok larger) → l ≡ larger
+by_size true l larger is = absurd cc
+by_size false l larger is = cc
+
+as_large : (l larger : Placement) → not_large l ≡ Ok larger → l ≡ larger
+unfolding not_large
+as_large l larger is = by_size (nat_lt width_limit l.width || nat_lt height_limit l.height) l larger is
+
+abbrev pub IsMoved : Placement → Placement → Type 0
+IsMoved l larger = (left : ℕ) × (larger.glyphs ≡ rightwards left l.glyphs)
+
+pub grown_moves : (l larger : Placement) (ink : Option InkBox) → grown l ink ≡ Ok larger → IsMoved l larger
+grown_moves l larger None is = let same = by_size false l larger is in (0, rw (← same) (sym (unmoved l.glyphs)))
+grown_moves l larger (Some b) is =
+    let s = lacking l.width l.height b in
+    let same : with_sides l s ≡ larger = as_large (with_sides l s) larger is in
+    (s.left, rw (← same) refl)
+
+-- the line is measured by the inks of its glyphs, and enlarged
+by_measure : (face : Face) (a : Job) (l : Placement) (m : Measure) → measured_line face a l ≡ Ok m
+    → grown_line face a l ≡ as_job (grown l m.ink)
+unfolding grown_line
+by_measure face a l m measured = rw measured refl
+
+-- the measures of the line's characters
+abbrev pub AreMeasured : Face → Job → Placement → Fitter → List CharacterMeasure → Type 0
+AreMeasured face a l s characters =
+    characters ≡ map (character_at face.metrics a.ppem (frame_of l a.margin) (line_ink s l)) l.glyphs
+
+by_characters : (face : Face) (a : Job) (l : Placement) (gs : List Glyph) (characters : List CharacterMeasure)
+    → (made : AreMade false face a l gs) → AreMeasured face a l made.setting characters
+    → grown_line face a l ≡ as_job (grown l (ink_of characters))
+by_characters face a l gs characters made are =
+    rw are (by_measure face a l (measure_by face.metrics a.ppem a.margin (line_ink made.setting l) l)
+    (measured_as_made face a l gs made))
+
+pub grown_as_made : (face : Face) (a : Job) (l larger : Placement) (gs : List Glyph) (characters : List CharacterMeasure)
+    → (made : AreMade false face a l gs) → AreMeasured face a l made.setting characters
+    → grown l (ink_of characters) ≡ Ok larger → grown_line face a l ≡ Ok larger
+grown_as_made face a l larger gs characters made are is = by_characters face a l gs characters made are ∙ rw is refl
+
+pub not_grown : (face : Face) (a : Job) (l : Placement) (j : JobFault) (gs : List Glyph) (characters : List CharacterMeasure)
+    → (made : AreMade false face a l gs) → AreMeasured face a l made.setting characters
+    → grown l (ink_of characters) ≡ Err j → grown_line face a l ≡ Err (job j)
+not_grown face a l j gs characters made are is = by_characters face a l gs characters made are ∙ rw is refl
+
+-- a stop in the line's glyphs stops the enlarged line
+pub unmade_stops : (face : Face) (a : Job) (l : Placement) (e : DrawFault)
+    → IfSome (refusal e) (λ r. shapes_made face a l ≡ Err r) → IfSome (refusal e) (λ r. grown_line face a l ≡ Err r)
+unfolding grown_line
+unmade_stops face a l e stopped =
+    stops e (measured_line face a l) (grown_line face a l) (λ r fails. rw fails refl) (measuring_stops face a l e stopped)
+
+-- a stop in the enlarged line stops what is made of it
+pub ungrown_stops : {X : Type 0} (face : Face) (a : Job) (l : Placement) (e : DrawFault) (f : Placement → Result X Refused)
+    → IfSome (refusal e) (λ r. grown_line face a l ≡ Err r) → IfSome (refusal e) (λ r. (grown_line face a l >>= f) ≡ Err r)
+ungrown_stops face a l e f stopped =
+    stops e (grown_line face a l) (grown_line face a l >>= f) (λ r fails. rw fails refl) stopped
+
+-- the same glyphs further to the right: they are made, and have as many crossings
+record AreMoved (maker : ℕ → Fitter) (left : ℕ) (gs : List (ℕ × ℕ)) (shapes : List Shape) : Type 0 where
+  pub larger : List Shape
+  pub made : each (glyph_shape maker) (rightwards left gs) ≡ Ok larger
+  pub crossings : crossings_in larger ≡ crossings_in shapes
+
+moved_shapes : (maker : ℕ → Fitter) (left : ℕ) (gs : List (ℕ × ℕ)) (shapes : List Shape)
+    → each (glyph_shape maker) gs ≡ Ok shapes → AreMoved maker left gs shapes
+moved_shapes maker left [] shapes made =
+    let none : shapes ≡ [] = cc in
+    record { larger = []; made = refl; crossings = rw none refl }
+moved_shapes maker left (g ∷ gs) shapes made =
+    let one = first_of maker g gs shapes made in
+    let rest = moved_shapes maker left gs one.rest one.others in
+    let o = one.outline in
+    let filled = (shape_at (maker g.0) g o).filled in
+    let here : glyph_shape maker (g.0, g.1 + left) ≡ Ok (shape_at (maker g.0) (g.0, g.1 + left) o) = rw one.fitted refl in
+    record {
+      larger = shape_at (maker g.0) (g.0, g.1 + left) o ∷ rest.larger;
+      made = rw (here, rest.made) refl;
+      crossings = rw (
+            one.all,
+            rest.crossings,
+            counts_from_pen o (g.1 + left),
+            counts_from_pen o g.1,
+            filling_from_pen filled o (g.1 + left),
+            filling_from_pen filled o g.1,
+          ) refl;
+    }
+
+-- the enlarged line is made by the fitter of the line, without a refusal
+pub record IsMade (face : Face) (a : Job) (line : Placement) (s : Fitter) : Type 0 where
+  pub shapes : List Shape
+  pub opened : setting_in face a ≡ Ok s
+  pub few : as_job (points_tested s a line) ≡ Ok tt
+  pub fitted : shapes_in s line ≡ Ok shapes
+  pub seldom : crossings_tested a shapes ≡ Ok tt
+
+pub larger_made : (face : Face) (a : Job) (l larger : Placement) (left : ℕ) (gs : List Glyph)
+    → (made : AreMade false face a l gs) → larger.glyphs ≡ rightwards left l.glyphs → IsMade face a larger made.setting
+larger_made face a l larger left gs made are =
+    let s = made.setting in
+    let numbers : map (λ g. g.0) larger.glyphs ≡ map (λ g. g.0) l.glyphs = rw are (same_numbers left l.glyphs) in
+    let moved = moved_shapes (line_fitter s (map (λ g. g.0) l.glyphs)) left l.glyphs made.shapes made.fitted in
+    record {
+      shapes = moved.larger;
+      opened = made.opened;
+      few = rw numbers made.few;
+      fitted = rw (numbers, are) moved.made;
+      seldom = rw moved.crossings made.seldom;
+    }
+
+pub larger_drawn : (face : Face) (a : Job) (larger : Placement) (s : Fitter) → (made : IsMade face a larger s)
+    → drawn face a larger ≡ Ok (picture (frame_of larger a.margin) made.shapes)
+unfolding drawn
+larger_drawn face a larger s made = rw (made.opened, made.few, made.fitted, made.seldom) refl
+
+-- by the inks of the line's glyphs
+same_inks : (s : Fitter) (l larger : Placement) → map (λ g. g.0) larger.glyphs ≡ map (λ g. g.0) l.glyphs
+    → line_ink s larger ≡ line_ink s l
+same_inks s l larger numbers = ap (λ (ns : List ℕ) (g : ℕ). glyph_ink (line_fitter s ns g) g) numbers
+
+measured_anew : (face : Face) (a : Job) (larger : Placement) (s : Fitter) → IsMade face a larger s
+    → measured_line face a larger ≡ Ok (measure_by face.metrics a.ppem a.margin (line_ink s larger) larger)
+unfolding measured_line
+measured_anew face a larger s made = rw (made.opened, made.few, made.fitted, made.seldom) refl
+
+pub larger_measured : (face : Face) (a : Job) (l larger : Placement) (s : Fitter)
+    → map (λ g. g.0) larger.glyphs ≡ map (λ g. g.0) l.glyphs → IsMade face a larger s
+    → measured_line face a larger ≡ Ok (measure_by face.metrics a.ppem a.margin (line_ink s l) larger)
+larger_measured face a l larger s numbers made =
+    let by : (ℕ → Option GlyphInk) → Measure = λ inked. measure_by face.metrics a.ppem a.margin inked larger in
+    measured_anew face a larger s made
+    ∙ ap Ok {x = by (line_ink s larger)} {y = by (line_ink s l)} (ap by (same_inks s l larger numbers))
+
+-- glyphs in another frame have the same faults, so the report is that of the line
+same_unfitted : (maker : ℕ → Fitter) (f h : Frame) (gs hs : List Glyph) → AreDrawn false maker f gs
+    → AreDrawn false maker h hs → numbers_of hs ≡ numbers_of gs → unfitted_standing hs ≡ unfitted_standing gs
+same_unfitted maker f h gs hs drawn anew numbers =
+    standing_listed maker h hs anew ∙ rw numbers (sym (standing_listed maker f gs drawn))
+
+pub larger_reported : (face : Face) (a : Job) (l : Placement) (h : Frame) (gs hs : List Glyph) (entries : List Unfitted)
+    → (made : AreMade false face a l gs) → AreDrawn false (line_fitter made.setting (map (λ g. g.0) l.glyphs)) h hs
+    → numbers_of hs ≡ numbers_of gs → entries ≡ unfitted_standing hs
+    → (line_report face a l ≡ Ok entries) × ListsOnce entries
+larger_reported face a l h gs hs entries made anew numbers listed =
+    let maker = line_fitter made.setting (map (λ g. g.0) l.glyphs) in
+    reported_as_made face a l gs entries made
+    (listed ∙ same_unfitted maker (frame_of l a.margin) h gs hs made.drawn anew numbers)

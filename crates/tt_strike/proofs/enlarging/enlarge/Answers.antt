@@ -1,0 +1,71 @@
+use Rattle.std.proofs.Common.{◌∙◌, map}
+use Rattle.std.proofs.lemmas.Result.{err_from_is_err_and}
+use Rattle.tt_line.specs.Outcome.{placement_of}
+use Rattle.tt_strike.specs.Distinct.{line_fitter}
+use Rattle.tt_strike.specs.Glyphs.{numbers_of}
+use Rattle.tt_strike.specs.Job.{job_view}
+use Rattle.tt_strike.specs.Measures.{ink_of, line_ink}
+use Rattle.tt_strike.proofs.Among.{all_among}
+use Rattle.tt_strike.proofs.Enlarged.{grown_as_made, grown_moves, not_grown, unmade_stops}
+use Rattle.tt_strike.proofs.Filled.{can_be_filled}
+use Rattle.tt_strike.proofs.Made.{inks_as_made}
+use Rattle.tt_strike.proofs.enlarging.enlarge.Goals as goal
+
+pub returns-in_err-glyphs-clause-stops : goal.returns-in_err-glyphs-clause-stops
+returns-in_err-glyphs-clause-stops c =
+    let p = err_from_is_err_and c.from_residual.result c.from_residual.ensures.1 in
+    rw (p.1, p.2) (unmade_stops c.args.face.now (job_view c.args.job.now) (placement_of c.args.line)
+    c.in_err-glyphs.field-0.0 c.in_err-glyphs.ensures.stops)
+
+pub glyph_inks-requires-clause-glyphs : goal.glyph_inks-requires-clause-glyphs
+glyph_inks-requires-clause-glyphs c =
+    let made = c.in_ok-glyphs.ensures.made in
+    rw c.deref.ensures.value (can_be_filled (line_fitter made.setting (map (λ g. g.0) c.args.line.glyphs.items))
+    c.in_ok-glyphs.glyphs.kept.items made.drawn made.within)
+
+pub characters-requires-clause-among : goal.characters-requires-clause-among
+characters-requires-clause-among c =
+    rw c.deref-2.ensures.value (all_among c.args.line.glyphs.items (numbers_of c.in_ok-glyphs.glyphs.kept.items)
+    c.in_ok-glyphs.ensures.made.numbers)
+
+pub returns-in_err-line-clause-stops : goal.returns-in_err-line-clause-stops
+returns-in_err-line-clause-stops c =
+    let a = job_view c.args.job.now in
+    let l = placement_of c.args.line in
+    let gs = c.in_ok-glyphs.glyphs.kept.items in
+    let characters = c.in_ok-characters.characters.items in
+    let made = c.in_ok-glyphs.ensures.made in
+    let p = err_from_is_err_and c.from_residual-in_err-line.result c.from_residual-in_err-line.ensures.1 in
+    let inks = (rw c.deref.ensures.value at c.in_ok-inks.ensures.exact) ∙ inks_as_made c.args.face.now a l gs made in
+    let all = c.in_ok-characters.ensures (line_ink made.setting l) (c.deref-3.ensures.value ∙ inks) in
+    let measured = rw (c.metrics.ensures, c.frame_of-frame.ensures.exact, c.deref-2.ensures.value) at all in
+    let ink = rw (c.ink_of.ensures, c.deref-4.ensures.value) at c.in_err-line.ensures.exact in
+    rw (p.1, p.2) (not_grown c.args.face.now a l c.in_err-line.field-0.0 gs characters made measured ink)
+
+pub returns-clause-enlarged : goal.returns-clause-enlarged
+returns-clause-enlarged c =
+    let a = job_view c.args.job.now in
+    let l = placement_of c.args.line in
+    let larger = placement_of c.in_ok-line.line in
+    let gs = c.in_ok-glyphs.glyphs.kept.items in
+    let characters = c.in_ok-characters.characters.items in
+    let made = c.in_ok-glyphs.ensures.made in
+    let are = rw c.deref.ensures.value at c.in_ok-inks.ensures.exact in
+    let inks = are ∙ inks_as_made c.args.face.now a l gs made in
+    let all = c.in_ok-characters.ensures (line_ink made.setting l) (c.deref-3.ensures.value ∙ inks) in
+    let measured = rw (c.metrics.ensures, c.frame_of-frame.ensures.exact, c.deref-2.ensures.value) at all in
+    let ink = rw (c.ink_of.ensures, c.deref-4.ensures.value) at c.in_ok-line.ensures.exact in
+    let moved = grown_moves l larger (ink_of characters) ink in
+    record {
+      made = made;
+      inked = are;
+      near = c.in_ok-inks.ensures.near;
+      left = moved.0;
+      moved = moved.1;
+      exact = grown_as_made c.args.face.now a l larger gs characters made measured ink;
+    }
+
+pub returns-in_err-glyphs-clause-defects : goal.returns-in_err-glyphs-clause-defects
+returns-in_err-glyphs-clause-defects c =
+    let p = err_from_is_err_and c.from_residual.result c.from_residual.ensures.1 in
+    rw (p.1, p.2) c.in_err-glyphs.ensures.defects
