@@ -71,13 +71,13 @@ with_first s g left (Ok o) (Err e) (Ok those) alike = absurd alike
 with_first s g left (Ok o) (Err e) (Err f) alike = alike
 
 counted_alike : (maker : ℕ → Fitter) (left : ℕ) (gs : List (ℕ × ℕ)) → AreCountedAlike (each (glyph_shape maker) gs)
-    (each (glyph_shape maker) (map (λ g. (g.0, g.1 + left)) gs))
+    (each (glyph_shape maker) (map (λ (g : ℕ × ℕ). (g.0, g.1 + left)) gs))
 counted_alike maker left [] = refl
 counted_alike maker left (g ∷ gs) =
     with_first (maker g.0) g left (fitted_outline (maker g.0) g.0) (each (glyph_shape maker) gs)
-    (each (glyph_shape maker) (map (λ g. (g.0, g.1 + left)) gs)) (counted_alike maker left gs)
+    (each (glyph_shape maker) (map (λ (g : ℕ × ℕ). (g.0, g.1 + left)) gs)) (counted_alike maker left gs)
 
-numbers_stay : (left : ℕ) (gs : List (ℕ × ℕ)) → map (λ g. g.0) (map (λ g. (g.0, g.1 + left)) gs) ≡ map (λ g. g.0) gs
+numbers_stay : (left : ℕ) (gs : List (ℕ × ℕ)) → map (λ (g : ℕ × ℕ). g.0) (map (λ (g : ℕ × ℕ). (g.0, g.1 + left)) gs) ≡ map (λ (g : ℕ × ℕ). g.0) gs
 numbers_stay left [] = refl
 numbers_stay left (g ∷ gs) = rw (numbers_stay left gs) refl
 
@@ -100,8 +100,8 @@ after_shapes a (Err e) (Err f) alike = let same : e ≡ f = alike in rw same ref
 line_alike : (s : Fitter) (a : Job) (line : Placement) (sides : Sides)
     → AreRefusedAlike (line_shapes s a line) (line_shapes s a (with_sides line sides))
 line_alike s a line sides =
-    let maker = line_fitter s (map (λ g. g.0) line.glyphs) in
-    let larger = map (λ g. (g.0, g.1 + sides.left)) line.glyphs in
+    let maker = line_fitter s (map (λ (g : ℕ × ℕ). g.0) line.glyphs) in
+    let larger = map (λ (g : ℕ × ℕ). (g.0, g.1 + sides.left)) line.glyphs in
     rw (numbers_stay sides.left line.glyphs) (after_test (points_tested s a line) _ _
     (after_shapes a (each (glyph_shape maker) line.glyphs) (each (glyph_shape maker) larger)
     (counted_alike maker sides.left line.glyphs)))
