@@ -77,7 +77,8 @@ counted_alike maker left (g ∷ gs) =
     with_first (maker g.0) g left (fitted_outline (maker g.0) g.0) (each (glyph_shape maker) gs)
     (each (glyph_shape maker) (map (λ (g : ℕ × ℕ). (g.0, g.1 + left)) gs)) (counted_alike maker left gs)
 
-numbers_stay : (left : ℕ) (gs : List (ℕ × ℕ)) → map (λ (g : ℕ × ℕ). g.0) (map (λ (g : ℕ × ℕ). (g.0, g.1 + left)) gs) ≡ map (λ (g : ℕ × ℕ). g.0) gs
+numbers_stay : (left : ℕ) (gs : List (ℕ × ℕ))
+    → map (λ (g : ℕ × ℕ). g.0) (map (λ (g : ℕ × ℕ). (g.0, g.1 + left)) gs) ≡ map (λ (g : ℕ × ℕ). g.0) gs
 numbers_stay left [] = refl
 numbers_stay left (g ∷ gs) = rw (numbers_stay left gs) refl
 
