@@ -5,7 +5,8 @@ use Rattle.tt_core.specs.Limits.{height_limit, width_limit}
 use Rattle.tt_core.specs.Outcomes.{◌>>=◌, each}
 use Rattle.tt_core.specs.declared.fault.JobFault.{JobFault}
 use Rattle.tt_core.specs.declared.fault.JobFault.TheVariants as fault
-use Rattle.tt_fit.specs.Fitting.{Fitter, fitted_outline}
+use Rattle.tt_fit.specs.Fitting.{Fitter}
+use Rattle.tt_fit.specs.Outline.{Outline}
 use Rattle.tt_line.specs.Layout.{Placement}
 use Rattle.tt_scan.specs.declared.edge.Frame.{Frame}
 use Rattle.tt_scan_ink.specs.declared.ink.GlyphInk.{GlyphInk}
@@ -111,6 +112,19 @@ record AreMoved (maker : ℕ → Fitter) (left : ℕ) (gs : List (ℕ × ℕ)) (
   pub made : each (glyph_shape maker) (rightwards left gs) ≡ Ok larger
   pub crossings : crossings_in larger ≡ crossings_in shapes
 
+one_moved : (s : Fitter) (g : ℕ × ℕ) (left : ℕ) (o : Outline) (these those : List Shape)
+    → crossings_in those ≡ crossings_in these
+    → crossings_in (shape_at s (g.0, g.1 + left) o ∷ those) ≡ crossings_in (shape_at s g o ∷ these)
+one_moved s g left o these those same =
+    let filled = (shape_at s g o).filled in
+    rw (
+      same,
+      counts_from_pen o (g.1 + left),
+      counts_from_pen o g.1,
+      filling_from_pen filled o (g.1 + left),
+      filling_from_pen filled o g.1,
+    ) refl
+
 moved_shapes : (maker : ℕ → Fitter) (left : ℕ) (gs : List (ℕ × ℕ)) (shapes : List Shape)
     → each (glyph_shape maker) gs ≡ Ok shapes → AreMoved maker left gs shapes
 moved_shapes maker left [] shapes made =
@@ -120,19 +134,11 @@ moved_shapes maker left (g ∷ gs) shapes made =
     let one = first_of maker g gs shapes made in
     let rest = moved_shapes maker left gs one.rest one.others in
     let o = one.outline in
-    let filled = (shape_at (maker g.0) g o).filled in
     let here : glyph_shape maker (g.0, g.1 + left) ≡ Ok (shape_at (maker g.0) (g.0, g.1 + left) o) = rw one.fitted refl in
     record {
       larger = shape_at (maker g.0) (g.0, g.1 + left) o ∷ rest.larger;
       made = rw (here, rest.made) refl;
-      crossings = rw (
-            one.all,
-            rest.crossings,
-            counts_from_pen o (g.1 + left),
-            counts_from_pen o g.1,
-            filling_from_pen filled o (g.1 + left),
-            filling_from_pen filled o g.1,
-          ) refl;
+      crossings = one_moved (maker g.0) g left o one.rest rest.larger rest.crossings ∙ sym (ap crossings_in one.all);
     }
 
 -- the enlarged line is made by the fitter of the line, without a refusal
@@ -165,7 +171,9 @@ larger_drawn face a larger s made = rw (made.opened, made.few, made.fitted, made
 -- by the inks of the line's glyphs
 same_inks : (s : Fitter) (l larger : Placement) → map (λ g. g.0) larger.glyphs ≡ map (λ g. g.0) l.glyphs
     → line_ink s larger ≡ line_ink s l
-same_inks s l larger numbers = ap (λ (ns : List ℕ) (g : ℕ). glyph_ink (line_fitter s ns g) g) numbers
+same_inks s l larger numbers =
+    let by : List ℕ → ℕ → Option GlyphInk = λ ns g. glyph_ink (line_fitter s ns g) g in
+    ap by numbers
 
 measured_anew : (face : Face) (a : Job) (larger : Placement) (s : Fitter) → IsMade face a larger s
     → measured_line face a larger ≡ Ok (measure_by face.metrics a.ppem a.margin (line_ink s larger) larger)

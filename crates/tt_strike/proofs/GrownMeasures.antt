@@ -3,7 +3,7 @@ use Rattle.std.proofs.Common.{◌≡◌, refl, Ok, Err}
 use Rattle.std.specs.Prelude.{IfSome}
 use Rattle.tt_line.specs.Layout.{Placement}
 use Rattle.tt_strike.specs.Enlarged.{measured_grown}
-use Rattle.tt_strike.specs.Grown.{grown_line, grown_measured, grown_placement}
+use Rattle.tt_strike.specs.Grown.{grown_measured, grown_placement}
 use Rattle.tt_strike.specs.Job.{Job}
 use Rattle.tt_strike.specs.Picture.{laid_out}
 use Rattle.tt_strike.specs.Refusals.{refusal}

@@ -7,7 +7,7 @@ use Rattle.tt_strike.specs.Distinct.{distinct, line_fitter}
 use Rattle.tt_strike.specs.Enlarged.{drawn_grown}
 use Rattle.tt_strike.specs.Grown.{grown_line, grown_outcome, grown_placement}
 use Rattle.tt_strike.specs.Job.{Job}
-use Rattle.tt_strike.specs.Picture.{drawn, laid_out, line_shapes, setting_in}
+use Rattle.tt_strike.specs.Picture.{laid_out, line_shapes, setting_in}
 use Rattle.tt_strike.specs.Pixels.{Shape}
 use Rattle.tt_strike.specs.Refusals.{Refused, as_font}
 use Rattle.tt_strike.specs.Report.{line_report, unfitted_among}

@@ -4,7 +4,7 @@ use Rattle.std.proofs.lemmas.Bool.Decides.{nat_tests}
 use Rattle.std.proofs.lemmas.List.{get_or_default}
 use Rattle.std.proofs.lemmas.List.Elements.{All-head, All-tail}
 use Rattle.std.specs.Prelude.{All, IfSome, IsOkAnd}
-use Rattle.tt_core.specs.Limits.{margin_limit, width_limit}
+use Rattle.tt_core.specs.Limits.{margin_limit}
 use Rattle.tt_core.specs.Outcomes.{each, after_each}
 use Rattle.tt_fit.specs.Fitting.{Fitter}
 use Rattle.tt_scan.specs.declared.edge.Frame.{Frame}

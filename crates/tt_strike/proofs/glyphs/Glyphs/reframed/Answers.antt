@@ -1,6 +1,6 @@
-use Rattle.std.proofs.Common.{◌≡◌, ◌∙◌, ◌<◌, ◌≤◌, ◌++◌, ◌∷◌, [], false, length, get_or, refl, arith}
+use Rattle.std.proofs.Common.{◌∙◌, ◌<◌, ◌≤◌, ◌++◌, ◌∷◌, [], false, length, get_or, refl, arith}
 use Rattle.tt_core.specs.Outcomes.{each}
-use Rattle.tt_strike.specs.Glyphs.{AreKept, Stand}
+use Rattle.tt_strike.specs.Glyphs.{Stand}
 use Rattle.tt_strike.specs.Picture.{glyph_shape}
 use Rattle.tt_strike.proofs.Places.{one_more_made}
 use Rattle.tt_strike.proofs.Reframed.{all_made, bare_lefts, bare_stand, bare_within}

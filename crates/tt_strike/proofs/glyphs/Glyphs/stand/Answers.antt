@@ -1,4 +1,4 @@
-use Rattle.std.proofs.Common.{◌++◌, ◌∷◌, [], ◌∙◌, ◌+◌, false, length, refl}
+use Rattle.std.proofs.Common.{◌++◌, ◌∷◌, [], ◌+◌, false, length, refl}
 use Rattle.tt_strike.proofs.Standings.{adds_at, numbers_stood, number_is, drawn_is, drawn_stood, kept_stood, left_is, within_stood}
 use Rattle.tt_strike.proofs.glyphs.Glyphs.stand.Goals as goal
 
