@@ -139,7 +139,11 @@ pub(crate) fn draw_grown<'a>(
         let larger = enlarged.into_line();
         return draw_line(alloc, face, maker, kept, job, &larger);
     }
-    let Enlarged { glyphs, line: larger, .. } = enlarged;
+    let Enlarged {
+        glyphs,
+        line: larger,
+        ..
+    } = enlarged;
     let frame = frame_of(&larger, job.margin);
     let moved = glyphs.reframed(alloc, frame, &larger.glyphs)?;
     Ok(draw_made(alloc, frame, moved)?)
@@ -172,7 +176,11 @@ pub(crate) fn measure_grown<'a>(
     ensures defects { TellsDefects draw_font_fault (IsLineDefect face.now (job_view job.now) (map (λ g. g.0) line.glyphs.items)) result }
 {
     let enlarged = enlarge(alloc, face, maker, kept, job, line)?;
-    let Enlarged { glyphs, inks, line: larger } = enlarged;
+    let Enlarged {
+        glyphs,
+        inks,
+        line: larger,
+    } = enlarged;
     let frame = frame_of(&larger, job.margin);
     let report = report_on(alloc, &glyphs.kept)?;
     let characters = characters(
