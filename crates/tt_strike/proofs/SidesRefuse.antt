@@ -130,9 +130,10 @@ drawn_alike face a line sides =
 
 pub sides_refuse_nothing : SidesRefuseNothing
 sides_refuse_nothing face a line sides r =
-    let alike = drawn_alike face a line sides in
-    (refused_here (drawn face a line) (drawn face a (with_sides line sides)) r alike,
-    refused_there (drawn face a line) (drawn face a (with_sides line sides)) r alike)
+    let alike = drawn_alike face a line sides in (
+      refused_here (drawn face a line) (drawn face a (with_sides line sides)) r alike,
+      refused_there (drawn face a line) (drawn face a (with_sides line sides)) r alike,
+    )
 
 -- an enlarged line, by the test of its size
 by_size : (face : Face) (a : Job) (line : Placement) (sides : Sides) (r : Refused) (large : Bool)

@@ -87,7 +87,10 @@ fn glyph_ink(alloc: Global, glyph: &Glyph) -> Result<Option<GlyphInk>, AllocErro
 }
 
 /// The boxes of some glyphs. Error: Memory.
-pub(crate) fn glyph_inks(alloc: Global, glyphs: &[Glyph]) -> Result<Vec<Option<GlyphInk>>, AllocError>
+pub(crate) fn glyph_inks(
+    alloc: Global,
+    glyphs: &[Glyph],
+) -> Result<Vec<Option<GlyphInk>>, AllocError>
     requires tapes { All (λ g. IsTape g.body) glyphs.now }
     requires glyphs { All CanBeFilled glyphs.now }
     ensures exact { IfOk result (λ v. v.items ≡ map ink_standing glyphs.now) }
@@ -175,11 +178,7 @@ pub(crate) fn ink_of(characters: &[CharacterMeasure]) -> Option<InkBox>
 }
 
 /// The measure of a line with this frame, these characters and this report.
-pub(crate) fn measure_of(
-    frame: Frame,
-    characters: Vec<CharacterMeasure>,
-    report: Report,
-) -> Measure
+pub(crate) fn measure_of(frame: Frame, characters: Vec<CharacterMeasure>, report: Report) -> Measure
     requires { FrameFits frame }
     ensures exact { measure_view result ≡ record { width = frame.width; height = frame.height; baseline = frame.rise +ℤ pos frame.margin; ink = ink_of characters.items; characters = characters.items } }
     ensures report { result.report ≡ report }

@@ -1,4 +1,4 @@
-use Rattle.std.proofs.Common.{◌-◌, arith}
+use Rattle.std.proofs.Common.{arith}
 use Rattle.std.proofs.lemmas.List.{length-map}
 use Rattle.tt_strike.specs.Glyphs.{Glyph, numbers_of}
 use Rattle.tt_strike.proofs.Reframed.{seated}

@@ -41,8 +41,7 @@ loop-place-preserved c =
       stand = λ maker f drawn.
           let stood = so_far.stand maker f drawn in
           let made = made_at false maker c.args.frame before after (get_or line i (0, 0))
-          (one.adds maker c.args.frame (so_far.drawn maker f drawn)) refl in
-          (
+          (one.adds maker c.args.frame (so_far.drawn maker f drawn)) refl in (
             stood.0 ++ made.0 ∷ [],
             one_more_made (glyph_shape maker) line i (0, 0) stood.0 made.0 below made.1 ∙ stood.1,
             one_place_more false c.args.frame before after stood.0 made.0 stood.2 made.2,
