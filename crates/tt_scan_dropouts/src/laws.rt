@@ -28,8 +28,8 @@ pub fn rows_are_counted()
     ensures { RowsAreCounted }
 {}
 
-/// Lemma: where dropouts are filled, the bitmap of a part of a glyph's box is counted, one for each 64 bytes. So are the
-/// bitmaps of all bands of the box.
+/// Lemma: where dropouts are filled, the bitmap of a part of a glyph's box is counted, one for each 64 bytes. So are
+/// the bitmaps of all bands of the box.
 pub fn bitmaps_are_counted()
     ensures part { BitmapIsCounted }
     ensures bands { BandsAreCounted }

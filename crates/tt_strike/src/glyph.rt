@@ -203,8 +203,8 @@ impl Glyph {
         Ok(self.pens.push(pen + self.left)?)
     }
 
-    /// The crossings of the glyph at one pen, in the picture and outside. Where dropouts are filled, the search for them
-    /// counts too.
+    /// The crossings of the glyph at one pen, in the picture and outside. Where dropouts are filled, the search for
+    /// them counts too.
     fn pen_crossings(&self) -> u64
         requires few { length (edges_of self.now.body) ≤ 2 ^ 17 }
         ensures { result ≡ pen_crossings self.now }
