@@ -1,5 +1,6 @@
 -- Functions by their places: the body of a number, and the list after a body is added or replaced.
-use Rattle.std.proofs.Common.{◌≡◌, ◌≢◌, ◌∙◌, ap, sym, ℕ, zero, suc, ◌+◌, ◌<◌, ◌≤◌, List, [], ◌∷◌, ◌++◌, length, set, get_or, replicate, All, refl, arith, add-one}
+use Rattle.std.proofs.Common.{◌≡◌, ◌≢◌, ◌∙◌, ap, sym, ℕ, zero, suc, ◌+◌, ◌<◌, ◌≤◌, max, List, [], ◌∷◌, ◌++◌, length, set, get_or, replicate, All, inl, inr, refl, arith, add-one}
+use Rattle.std.proofs.lemmas.Bool.{cases_eq, cases_lt}
 use Rattle.std.proofs.lemmas.Bool.Decides.{nat_tests}
 use Rattle.std.proofs.lemmas.Option.{slice_get-map}
 use Rattle.std.specs.BTreeMap.{insert_entry, is_at}
@@ -12,6 +13,7 @@ use Rattle.std.specs.declared.option.Option.TheVariants.{None, Some}
 use Rattle.std.specs.declared.cmp.Ordering.TheVariants.{Less, Equal, Greater}
 use Rattle.tt_exec.specs.MachineState.{Body}
 use Rattle.tt_exec.specs.FunctionTable.{body_of_place, body_if, body_at, listed_from, listed, slots}
+use Rattle.tt_exec.specs.Numbered.{extent}
 
 less : (n m : ℕ) → n < m → nat_cmp n m ≡ Less
 less n m lt = grind (arith, nat_tests)
@@ -177,3 +179,17 @@ pub few-listed : (k : ℕ) (ss : List (Option Body)) → length (listed_from k s
 few-listed k [] = omega arith
 few-listed k (None ∷ ss) = omega (arith, few-listed (suc k) ss)
 few-listed k (Some c ∷ ss) = omega (arith, few-listed (suc k) ss)
+
+-- the places after a number has a body
+pub extent-put : (n : ℕ) (b : Body) (fs : List (ℕ × Body)) → extent (insert_entry nat_cmp fs n b) ≡ max (n + 1) (extent fs)
+extent-put n b [] = refl
+extent-put n b ((k, c) ∷ fs) =
+    elim (cases_lt n k) [
+      | inl below ↦ rw (less n k below) refl
+      | inr above ↦ elim (cases_eq n k) [
+        | inl same ↦ rw (same, equal k) (omega arith)
+        | inr unlike ↦
+            let after : k < n = omega (arith, unlike) in
+            rw (greater n k after, extent-put n b fs) (omega arith)
+      ]
+    ]

@@ -1,5 +1,5 @@
 -- A table of functions with more room, with another body, and with a new one.
-use Rattle.std.proofs.Common.{◌≡◌, ◌≢◌, ◌∙◌, ap, sym, ℕ, zero, suc, ◌+◌, ◌-◌, ◌<◌, ◌≤◌, List, [], ◌∷◌, ◌++◌, length, map, set, get_or, replicate, All, inl, inr, refl, arith, length-set, length-append, get_or-set_same, get_or-set_other}
+use Rattle.std.proofs.Common.{◌≡◌, ◌≢◌, ◌∙◌, ap, sym, ℕ, zero, suc, ◌+◌, ◌-◌, ◌<◌, ◌≤◌, max, List, [], ◌∷◌, ◌++◌, length, map, set, get_or, replicate, All, inl, inr, refl, arith, length-set, length-append, get_or-set_same, get_or-set_other}
 use Rattle.std.proofs.lemmas.Bool.{cases_eq, cases_lt}
 use Rattle.std.proofs.lemmas.List.{length-map, map-append, map-set, get_or_append_left, get_or-append_right, get_or-replicate, length-replicate}
 use Rattle.std.proofs.lemmas.List.Elements.{All-set}
@@ -11,17 +11,22 @@ use Rattle.std.specs.Ordering.{nat_cmp}
 use Rattle.std.specs.declared.option.Option.TheVariants.{None, Some}
 use Rattle.tt_exec.specs.declared.program.Body as body
 use Rattle.tt_exec.specs.MachineState.{Body}
-use Rattle.tt_exec.specs.FunctionTable.{AreFunctions, IsGrown, body_at, body_of_place, listed, slots}
+use Rattle.tt_exec.specs.FunctionTable.{AreFunctions, AreSlots, IsGrown, body_at, body_of_place, listed, slots}
+use Rattle.tt_exec.specs.Numbered.{extent}
 use Rattle.tt_exec.specs.Views.{body_of}
-use Rattle.tt_exec.proofs.Slots.{as-many, few-listed, grown, new-slots, one-more, put-slot, put-slots}
+use Rattle.tt_exec.proofs.Slots.{as-many, extent-put, few-listed, grown, new-slots, one-more, put-slot, put-slots}
 
 -- no functions
 pub no-functions : AreFunctions [] []
 no-functions = record {
-  few = omega arith;
-  within = λ k d lt. absurd (omega (arith, lt));
-  apart = λ n m before below same. refl;
-  many = refl;
+  placed =
+      record {
+        few = omega arith;
+        within = λ k d lt. absurd (omega (arith, lt));
+        apart = λ n m before below same. refl;
+        many = refl;
+      };
+  ended = refl;
 }
 
 -- more room
@@ -37,7 +42,7 @@ no-bodies : (bs : List Body) (m : ℕ) → slots (replicate m 0) bs ≡ replicat
 no-bodies bs zero = refl
 no-bodies bs (suc m) = rw (no-bodies bs m) refl
 
-pub same-list : (ps : List ℕ) (bs : List Body) (m : ℕ) → listed (ps ++ replicate m 0) bs ≡ listed ps bs
+same-list : (ps : List ℕ) (bs : List Body) (m : ℕ) → listed (ps ++ replicate m 0) bs ≡ listed ps bs
 same-list ps bs m =
     rw (map-append (body_of_place bs) ps (replicate m 0), no-bodies bs m) (grown 0 m (slots ps bs))
 
@@ -52,7 +57,7 @@ place-within ps m n all k d lt =
           rw (get_or-append_right ps (replicate m 0) (length ps) k d refl above, none) (omega arith)
     ]
 
-pub grown-apart : (ps : List ℕ) (m : ℕ)
+grown-apart : (ps : List ℕ) (m : ℕ)
     → ((i j : ℕ) → i < j → j < length ps → get_or ps i 0 ≡ get_or ps j 0 → get_or ps i 0 ≡ 0)
     → (i j : ℕ) → i < j → get_or (ps ++ replicate m 0) i 0 ≡ get_or (ps ++ replicate m 0) j 0
     → get_or (ps ++ replicate m 0) i 0 ≡ 0
@@ -66,8 +71,8 @@ grown-apart ps m apart i j before same =
       | inr above ↦ same ∙ past ps m j above
     ]
 
-pub grown-are : (ps qs : List ℕ) (bs : List Body) → AreFunctions ps bs → IsGrown ps qs → length qs ≤ 65536
-    → AreFunctions qs bs × (listed qs bs ≡ listed ps bs)
+grown-are : (ps qs : List ℕ) (bs : List Body) → AreSlots ps bs → IsGrown ps qs → length qs ≤ 65536
+    → AreSlots qs bs × (listed qs bs ≡ listed ps bs)
 grown-are ps qs bs are (m, is) few =
     let list = same-list ps bs m in (
       record {
@@ -79,13 +84,27 @@ grown-are ps qs bs are (m, is) few =
       rw is list,
     )
 
+-- places with room for a number, up to the greatest
+pub record HaveRoom (n : ℕ) (ps qs : List ℕ) (bs : List Body) : Type 0 where
+  pub placed : AreSlots qs bs
+  pub same : listed qs bs ≡ listed ps bs
+  pub places : length qs ≡ max (n + 1) (extent (listed qs bs))
+
+pub room-made : (ps qs : List ℕ) (xs ys : List body.Body) (n : ℕ) → AreFunctions ps (map body_of xs) → ys ≡ xs
+    → IsGrown ps qs → length qs ≤ 65536 → length qs ≡ max (n + 1) (length ps) → HaveRoom n ps qs (map body_of ys)
+room-made ps qs xs ys n are same grown_to few all =
+    rw same (
+    let (placed, list) = grown-are ps qs (map body_of xs) are.placed grown_to few in
+    let now : extent (listed qs (map body_of xs)) ≡ length ps = ap extent list ∙ sym are.ended in
+    record { placed = placed; same = list; places = rw now all })
+
 slot-at : (ps : List ℕ) (bs : List Body) (n : ℕ) → n < length ps
     → slice_get (slots ps bs) n ≡ Some (body_of_place bs (get_or ps n 0))
 slot-at ps bs n lt =
     slice_get-map (body_of_place bs) ps n ∙ ap (option_map (body_of_place bs)) (slice_get-get_or ps n 0 lt)
 
 -- another body in a place
-others-apart : (ps : List ℕ) (bs : List Body) (n q : ℕ) → AreFunctions ps bs → n < length ps → get_or ps n 0 ≡ suc q
+others-apart : (ps : List ℕ) (bs : List Body) (n q : ℕ) → AreSlots ps bs → n < length ps → get_or ps n 0 ≡ suc q
     → (k : ℕ) → k < length ps → k ≢ n → get_or ps k 0 ≢ suc q
 others-apart ps bs n q are lt is k below ne same =
     elim (cases_lt k n) [
@@ -95,9 +114,9 @@ others-apart ps bs n q are lt is k below ne same =
           absurd (omega (arith, is, are.apart n k later below (is ∙ sym same)))
     ]
 
-pub put-again : (ps : List ℕ) (bs : List Body) (b : Body) (n q : ℕ) → AreFunctions ps bs → n < length ps
+put-again : (ps : List ℕ) (bs : List Body) (b : Body) (n q : ℕ) → AreSlots ps bs → n < length ps
     → get_or ps n 0 ≡ suc q
-    → AreFunctions ps (set bs q b) × (listed ps (set bs q b) ≡ insert_entry nat_cmp (listed ps bs) n b)
+    → AreSlots ps (set bs q b) × (listed ps (set bs q b) ≡ insert_entry nat_cmp (listed ps bs) n b)
 put-again ps bs b n q are lt is =
     let within : q < length bs = omega (arith, is, are.within n 0 lt) in
     let put = put-slots ps bs b n q lt within is (others-apart ps bs n q are lt is) in
@@ -138,9 +157,9 @@ apart-still ps n most all lt apart i j before below same =
       ]
     ]
 
-pub put-new : (ps : List ℕ) (bs : List Body) (b : Body) (n : ℕ) → AreFunctions ps bs → n < length ps
+put-new : (ps : List ℕ) (bs : List Body) (b : Body) (n : ℕ) → AreSlots ps bs → n < length ps
     → get_or ps n 0 ≡ 0
-    → AreFunctions (set ps n (length bs + 1)) (bs ++ b ∷ [])
+    → AreSlots (set ps n (length bs + 1)) (bs ++ b ∷ [])
     × (listed (set ps n (length bs + 1)) (bs ++ b ∷ []) ≡ insert_entry nat_cmp (listed ps bs) n b)
 put-new ps bs b n are lt is =
     let put = new-slots ps bs b n are.within in
@@ -177,26 +196,43 @@ pub read-body : (ps : List ℕ) (xs : List body.Body) (n : ℕ) (b : body.Body) 
 read-body ps xs n b lt ne le is =
     rw (slice_get-get_or ps n 0 lt) (sym (place-body xs (get_or ps n 0) b ne le is))
 
-pub put-in-place : (ps : List ℕ) (xs : List body.Body) (b : body.Body) (n v : ℕ) → AreFunctions ps (map body_of xs)
-    → n < length ps → v ≡ get_or ps n v → 0 < v
+-- the places still end with the greatest number
+ended-still : (ps qs : List ℕ) (bs cs : List Body) (b : Body) (n : ℕ)
+    → length ps ≡ max (n + 1) (extent (listed ps bs)) → length qs ≡ length ps
+    → AreSlots qs cs × (listed qs cs ≡ insert_entry nat_cmp (listed ps bs) n b)
+    → AreFunctions qs cs × (listed qs cs ≡ insert_entry nat_cmp (listed ps bs) n b)
+ended-still ps qs bs cs b n all same (placed, list) =
+    let now : extent (listed qs cs) ≡ max (n + 1) (extent (listed ps bs)) = ap extent list ∙ extent-put n b (listed ps bs) in
+    (record { placed = placed; ended = same ∙ all ∙ sym now }, list)
+
+pub put-in-place : (ps : List ℕ) (xs : List body.Body) (b : body.Body) (n v : ℕ) → AreSlots ps (map body_of xs)
+    → length ps ≡ max (n + 1) (extent (listed ps (map body_of xs))) → v ≡ get_or ps n v → 0 < v
     → AreFunctions ps (map body_of (set xs (v - 1) b))
     × (listed ps (map body_of (set xs (v - 1) b)) ≡ insert_entry nat_cmp (listed ps (map body_of xs)) n (body_of b))
-put-in-place ps xs b n v are lt is some =
+put-in-place ps xs b n v are all is some =
+    let lt : n < length ps = omega arith in
     let at : get_or ps n 0 ≡ suc (v - 1) = there ps n v lt is ∙ omega arith in
-    rw (map-set body_of xs (v - 1) b) (put-again ps (map body_of xs) (body_of b) n (v - 1) are lt at)
+    let bs = map body_of xs in
+    rw (map-set body_of xs (v - 1) b)
+    (ended-still ps ps bs (set bs (v - 1) (body_of b)) (body_of b) n all refl (put-again ps bs (body_of b) n (v - 1) are lt at))
 
 pub put-behind : (ps : List ℕ) (xs ys : List body.Body) (b : body.Body) (n v count : ℕ)
-    → AreFunctions ps (map body_of xs) → n < length ps → v ≡ get_or ps n v → v ≤ 0 → ys ≡ xs ++ b ∷ []
-    → count ≡ length ys
+    → AreSlots ps (map body_of xs) → length ps ≡ max (n + 1) (extent (listed ps (map body_of xs)))
+    → v ≡ get_or ps n v → v ≤ 0 → ys ≡ xs ++ b ∷ [] → count ≡ length ys
     → AreFunctions (set ps n count) (map body_of ys)
     × (listed (set ps n count) (map body_of ys) ≡ insert_entry nat_cmp (listed ps (map body_of xs)) n (body_of b))
-put-behind ps xs ys b n v count are lt is none pushed counted =
+put-behind ps xs ys b n v count are all is none pushed counted =
+    let lt : n < length ps = omega arith in
     let at : get_or ps n 0 ≡ 0 = there ps n v lt is ∙ omega arith in
-    let behind : map body_of ys ≡ map body_of xs ++ body_of b ∷ [] = rw (pushed, map-append body_of xs (b ∷ [])) refl in
-    let more : count ≡ length (map body_of xs) + 1 = rw (counted, pushed, length-map, length-append) refl in
-    rw (behind, more) (put-new ps (map body_of xs) (body_of b) n are lt at)
+    let bs = map body_of xs in
+    let behind : map body_of ys ≡ bs ++ body_of b ∷ [] = rw (pushed, map-append body_of xs (b ∷ [])) refl in
+    let more : count ≡ length bs + 1 = rw (counted, pushed, length-map, length-append) refl in
+    let same : length (set ps n (length bs + 1)) ≡ length ps = length-set ps n (length bs + 1) in
+    rw (behind, more)
+    (ended-still ps (set ps n (length bs + 1)) bs (bs ++ body_of b ∷ []) (body_of b) n all same
+    (put-new ps bs (body_of b) n are lt at))
 
-pub few-bodies : (ps : List ℕ) (xs : List body.Body) → AreFunctions ps (map body_of xs) → length xs ≤ 65536
+pub few-bodies : (ps : List ℕ) (xs : List body.Body) → AreSlots ps (map body_of xs) → length xs ≤ 65536
 few-bodies ps xs are =
     let many : length (listed ps (map body_of xs)) ≡ length xs = are.many ∙ rw length-map refl in
     let as_places : length (slots ps (map body_of xs)) ≡ length ps = rw length-map refl in

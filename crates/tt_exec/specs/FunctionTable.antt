@@ -1,6 +1,7 @@
 -- No part of the standard: the code's table of functions by number.
 use Rattle.std.specs.Prelude.{◌≡◌, ℕ, zero, suc, ◌<◌, ◌≤◌, List, [], ◌∷◌, ◌++◌, length, replicate, map, All, slice_get, slice_index_or, Option, Some, None}
 use Rattle.tt_exec.specs.MachineState.{Body}
+use Rattle.tt_exec.specs.Numbered.{extent}
 
 -- the body at a place, by 1 + the place; 0 means no body
 abbrev pub body_of_place : List Body → ℕ → Option Body
@@ -34,12 +35,17 @@ listed places bodies = listed_from 0 (slots places bodies)
 
 -- A place is that of a body, or 0, and two numbers share no place except 0. The counts of bodies and of functions are
 -- equal.
-pub record AreFunctions (places : List ℕ) (bodies : List Body) : Type 0 where
+pub record AreSlots (places : List ℕ) (bodies : List Body) : Type 0 where
   pub few : length places ≤ 65536
   pub within : All (λ place. place ≤ length bodies) places
   pub apart : (n m : ℕ) → n < m → m < length places → slice_index_or places n 0 ≡ slice_index_or places m 0
       → slice_index_or places n 0 ≡ 0
   pub many : length (listed places bodies) ≡ length bodies
+
+-- the places of functions: none is after that of the greatest number
+pub record AreFunctions (places : List ℕ) (bodies : List Body) : Type 0 where
+  pub placed : AreSlots places bodies
+  pub ended : length places ≡ extent (listed places bodies)
 
 -- places with room for more numbers, without bodies
 abbrev pub IsGrown : List ℕ → List ℕ → Type 0

@@ -1,5 +1,5 @@
 -- Apple TrueType Reference Manual, "Instruction set" (defining and using functions): functions by number.
-use Rattle.std.specs.Prelude.{ℕ, ℤ, pos, int_le, unsigned_abs, Bool, ◌&&◌, if◌then◌else◌, List, Option, None}
+use Rattle.std.specs.Prelude.{ℕ, ◌+◌, max, ℤ, pos, int_le, unsigned_abs, Bool, ◌&&◌, if◌then◌else◌, List, [], ◌∷◌, Option, None}
 use Rattle.std.specs.BTreeMap.{insert_entry, is_at}
 use Rattle.std.specs.Map.{lookup}
 use Rattle.std.specs.Ordering.{nat_cmp}
@@ -20,3 +20,8 @@ function_at n functions = if is_number n then lookup (is_at (nat_cmp (unsigned_a
 -- the functions with one more, which replaces an earlier one
 abbrev pub with_function : ℕ → Body → List (ℕ × Body) → List (ℕ × Body)
 with_function n f functions = insert_entry nat_cmp functions n f
+
+-- the places of a table of functions: one for each number up to the greatest
+abbrev pub extent : List (ℕ × Body) → ℕ
+extent [] = 0
+extent (f ∷ functions) = max (f.0 + 1) (extent functions)

@@ -1,7 +1,8 @@
 -- No part of the standard: the work of a run, if its job has a budget (profile). A step is 1. Each point or stack entry
 -- that its instruction covers is 1, and so is each byte skipped. At the beginning of a run, each control value, storage
--- place, twilight point and definition copied for it is 1. Slower things weigh more. A point moved by itself or named
--- on the stack is 4. A vector or a place found from lines is 32.
+-- place, twilight point, definition and place of a definition copied for it is 1. Slower things weigh more. A point
+-- moved by itself, named on the stack, or moved with its contour or zone is 4. A point that IUP covers is 2. A vector or
+-- a place found from lines is 32. These weights follow measured times.
 use Rattle.std.specs.Prelude.{ℕ, zero, suc, ◌+◌, ◌-◌, ◌*◌, ◌==◌, ◌||◌, ◌&&◌, min, nat_le, ℤ, pos, unsigned_abs, Bool, if◌then◌else◌, List, [], ◌∷◌, length, slice_index, Option, Some, None, Result, Ok, Err}
 use Rattle.tt_core.specs.Faults.{Fault}
 use Rattle.tt_core.specs.Limits.{step_limit}
@@ -9,7 +10,8 @@ use Rattle.tt_core.specs.declared.fault.Why.TheVariants as why
 use Rattle.tt_code.specs.declared.decoding.Halt.{Halt}
 use Rattle.tt_code.specs.Skips.{if_end, else_end, definition_end}
 use Rattle.tt_exec_stack.specs.Logic.{is_true}
-use Rattle.tt_exec.specs.MachineState.{MachineState, fault_in}
+use Rattle.tt_exec.specs.MachineState.{Body, MachineState, fault_in}
+use Rattle.tt_exec.specs.Numbered.{extent}
 use Rattle.tt_exec.specs.Step.{step, is_ended}
 
 -- the remaining work, None without a budget; or the fault of the instruction that needs more
@@ -44,9 +46,13 @@ is_looped op = op == 0x32 || op == 0x33 || op == 0x38 || op == 0x39 || op == 0x3
 abbrev pub is_counted : ℕ → Bool
 is_counted op = op == 0x5D || (nat_le 0x71 op && nat_le op 0x75) || op == 0x26
 
--- IUP, FLIPRGON and FLIPRGOFF cover points of the glyph
+-- IUP covers points of the glyph
 abbrev pub is_of_glyph : ℕ → Bool
-is_of_glyph op = op == 0x30 || op == 0x31 || op == 0x81 || op == 0x82
+is_of_glyph op = op == 0x30 || op == 0x31
+
+-- FLIPRGON and FLIPRGOFF cover points of the glyph, and only change a flag of each
+abbrev pub is_of_flags : ℕ → Bool
+is_of_flags op = op == 0x81 || op == 0x82
 
 -- SHC and SHZ cover points of either zone
 abbrev pub is_of_zone : ℕ → Bool
@@ -56,13 +62,30 @@ is_of_zone op = nat_le 0x34 op && nat_le op 0x37
 abbrev pub moves_one : ℕ → Bool
 moves_one op = op == 0x2E || op == 0x2F || op == 0x3A || op == 0x3B || op == 0x3E || op == 0x3F || op == 0x48 || nat_le 0xC0 op
 
--- SPVTL, SFVTL, SPVFS, SFVFS, ISECT and SDPVTL find a vector, or the meeting point of lines
+-- SPVTL, SFVTL, SPVFS, SFVFS and ISECT find a vector, or the meeting point of lines
 abbrev pub is_of_lines : ℕ → Bool
-is_of_lines op = (nat_le 0x06 op && nat_le op 0x0B) || op == 0x0F || op == 0x86 || op == 0x87
+is_of_lines op = (nat_le 0x06 op && nat_le op 0x0B) || op == 0x0F
+
+-- SDPVTL finds two vectors
+abbrev pub finds_two : ℕ → Bool
+finds_two op = op == 0x86 || op == 0x87
+
+-- MD measures the distance of two points
+abbrev pub is_of_distance : ℕ → Bool
+is_of_distance op = op == 0x49 || op == 0x4A
+
+-- GC, ROUND, NROUND, SROUND, S45ROUND and ROLL cover no point or entry, but are slow
+abbrev pub is_slow : ℕ → Bool
+is_slow op =
+    op == 0x46 || op == 0x47 || (nat_le 0x68 op && nat_le op 0x6F) || op == 0x76 || op == 0x77 || op == 0x8A
 
 -- NPUSHB and NPUSHW push entries; the byte after them is the count
 abbrev pub is_push_of_many : ℕ → Bool
 is_push_of_many op = op == 0x40 || op == 0x41
+
+-- the extra work of an instruction that covers no point or entry
+abbrev pub slowness : ℕ → ℕ
+slowness op = if is_of_distance op then 2 else (if is_slow op then 1 else 0)
 
 -- the extra work of an instruction, which doesn't depend on the loop variable or the stack; ALIGNPTS moves two points
 abbrev pub weight : ℕ → MachineState → ℕ
@@ -70,16 +93,22 @@ weight op m =
     if moves_one op then 4 else (
     if op == 0x27 then 8 else (
     if is_of_lines op then 32 else (
-    if is_push_of_many op then slice_index m.frame.code.bytes (m.frame.place + 1) else 0)))
+    if finds_two op then 48 else (
+    if is_push_of_many op then slice_index m.frame.code.bytes (m.frame.place + 1) else slowness op))))
+
+-- the work for the two reference points of IP, whatever the loop variable
+abbrev pub referred : ℕ → ℕ
+referred op = if op == 0x39 then 4 else 0
 
 -- the work for the points or stack entries that an instruction covers; for a contour, a zone or a range all points
 -- count
 abbrev pub gone_over : ℕ → MachineState → ℕ
 gone_over op m =
-    if is_looped op then 4 * of_stack m.graphics.loops m else (
+    if is_looped op then 4 * of_stack m.graphics.loops m + referred op else (
     if is_counted op then of_stack (unsigned_abs (top_of m.stack)) m else (
-    if is_of_glyph op then length m.zones.glyph else (
-    if is_of_zone op then length m.zones.twilight + length m.zones.glyph else weight op m)))
+    if is_of_glyph op then 2 * length m.zones.glyph else (
+    if is_of_flags op then length m.zones.glyph else (
+    if is_of_zone op then 4 * (length m.zones.twilight + length m.zones.glyph) else weight op m))))
 
 -- the bytes skipped after an opcode, up to the program's end for a skip without an end
 abbrev pub passed_by : MachineState → Result ℕ Halt → ℕ
@@ -100,9 +129,15 @@ cost_by op m = 1 + (gone_over op m + passed op m)
 abbrev pub step_cost : MachineState → ℕ
 step_cost m = cost_by (slice_index m.frame.code.bytes m.frame.place) m
 
+-- the things copied for a table of functions: its bodies, and a place for each number up to the greatest
+abbrev pub table_copies : List (ℕ × Body) → ℕ
+table_copies functions = length functions + extent functions
+
 -- the things copied for a run
 abbrev pub copied : MachineState → ℕ
-copied m = length m.cvt + (length m.storage + (length m.zones.twilight + (length m.functions + length m.instructions)))
+copied m =
+    length m.cvt
+    + (length m.storage + (length m.zones.twilight + (table_copies m.functions + table_copies m.instructions)))
 
 -- a run that would exceed its budget halts at its present place
 abbrev pub over_at : MachineState → Fault

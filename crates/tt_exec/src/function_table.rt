@@ -1,11 +1,12 @@
 //! The functions that programs define, by number. Apple TrueType Reference Manual, "Instruction set" (defining and
 //! using functions).
 
-ghost use Rattle.std.specs.Prelude.{◌≡◌, ℕ, ◌^◌, ◌<◌, ◌≤◌, pos, [], length, map, All, None, IfOk, OnOk};
+ghost use Rattle.std.specs.Prelude.{◌≡◌, ℕ, ◌+◌, ◌<◌, ◌≤◌, max, pos, [], length, map, vec_len, vec_capacity, All, None, IfOk, OnErr, OnOk};
 ghost use Rattle.std.specs.Option.{option_map};
-ghost use Rattle.tt_exec.specs.FunctionTable.{AreFunctions, IsGrown, body_at, listed};
-ghost use Rattle.tt_exec.specs.Numbered.{function_at, with_function};
+ghost use Rattle.tt_exec.specs.FunctionTable.{AreFunctions, AreSlots, IsGrown, body_at, listed};
+ghost use Rattle.tt_exec.specs.Numbered.{extent, function_at, with_function};
 ghost use Rattle.tt_exec.specs.Views.{body_of};
+ghost use Rattle.tt_exec.specs.Work.{table_copies};
 
 use crate::program::Body;
 use std::alloc::{AllocError, Global};
@@ -14,7 +15,7 @@ use std::marker::Model;
 /// Functions by number. A clause sees them as a list, the least number first.
 #[derive(Drop)]
 pub struct Functions<'a> {
-    /// For each number 1 + the place of its body, or 0 without one.
+    /// For each number up to the greatest: 1 + the place of its body, or 0 without one.
     places: Vec<u32>,
     /// In the order of the first definitions of their numbers.
     bodies: Vec<Body<'a>>,
@@ -48,13 +49,14 @@ fn body_at<'a>(places: &[u32], bodies: &[Body<'a>], n: usize) -> Option<Body<'a>
     Some(bodies[place - 1])
 }
 
-/// Makes room for number `n`, without a body.
+/// Makes room for number `n`, without a body, and for no greater number. If memory is refused, nothing changes.
 fn make_room(places: &mut Vec<u32>, n: usize) -> Result<(), AllocError>
     requires number { n < 65536 }
     requires few { length places.old.items ≤ 65536 }
     ensures grown { IsGrown places.old.items places.new.items }
     ensures few { length places.new.items ≤ 65536 }
-    ensures room { OnOk result (n < length places.new.items) }
+    ensures room { OnOk result (length places.new.items ≡ max (n + 1) (length places.old.items)) }
+    ensures refused { OnErr result (places.new.items ≡ places.old.items) }
 {
     if places.len() <= n {
         places.resize(n + 1, 0)?;
@@ -63,25 +65,20 @@ fn make_room(places: &mut Vec<u32>, n: usize) -> Result<(), AllocError>
 }
 
 /// Gives number `n` a body: in place of its earlier one, or after all others.
-fn put<'a>(
-    places: &mut Vec<u32>,
-    bodies: &mut Vec<Body<'a>>,
-    n: usize,
-    body: Body<'a>,
-) -> Result<(), AllocError>
-    requires room { n < length places.old.items }
-    requires functions { AreFunctions places.old.items (map body_of bodies.old.items) }
-    ensures exact { OnOk result (listed places.new.items (map body_of bodies.new.items) ≡ with_function n (body_of body.entry) (listed places.old.items (map body_of bodies.old.items))) }
+fn put<'a>(places: &mut Vec<u32>, bodies: &mut Vec<Body<'a>>, n: usize, body: Body<'a>)
+    requires places { length places.old.items ≡ max (n + 1) (extent (listed places.old.items (map body_of bodies.old.items))) }
+    requires room { vec_len bodies.old < vec_capacity bodies.old }
+    requires slots { AreSlots places.old.items (map body_of bodies.old.items) }
+    ensures exact { listed places.new.items (map body_of bodies.new.items) ≡ with_function n (body_of body.entry) (listed places.old.items (map body_of bodies.old.items)) }
     ensures functions { AreFunctions places.new.items (map body_of bodies.new.items) }
 {
     let place = places[n] as usize;
     if place > 0 {
         bodies[place - 1] = body;
-        return Ok(());
+        return;
     }
-    bodies.push(body)?;
+    bodies.push_reserved(body);
     places[n] = bodies.as_slice().len() as u32;
-    Ok(())
 }
 
 impl<'a> Functions<'a> {
@@ -95,16 +92,16 @@ impl<'a> Functions<'a> {
         }
     }
 
-    /// The count of functions.
-    pub(crate) fn len(&self) -> usize
-        ensures exact { result ≡ length self.now }
-        ensures few { result < 2 ^ 63 }
+    /// The count of things that a copy of the functions consists of: their bodies, and places up to the greatest number.
+    pub(crate) fn copies(&self) -> usize
+        ensures { result ≡ table_copies self.now }
     {
-        self.bodies.as_slice().len()
+        self.bodies.as_slice().len() + self.places.as_slice().len()
     }
 
-    /// No number from here on has a function.
+    /// 1 + the greatest number of a function; 0 without functions.
     pub fn end(&self) -> usize
+        ensures exact { result ≡ extent self.now }
         ensures few { result ≤ 65536 }
         ensures none { (n : ℕ) → result ≤ n → n < 65536 → function_at (pos n) self.now ≡ None }
     {
@@ -127,8 +124,11 @@ impl<'a> Functions<'a> {
         ensures { OnOk result (self.new ≡ with_function n (body_of body.entry) self.old) }
     {
         let n = usize::from(n);
+        // Memory comes first, so that a refusal leaves no place without a body at the end.
+        self.bodies.reserve(1)?;
         make_room(&mut self.places, n)?;
-        put(&mut self.places, &mut self.bodies, n, body)
+        put(&mut self.places, &mut self.bodies, n, body);
+        Ok(())
     }
 
     /// A copy in memory of its own.

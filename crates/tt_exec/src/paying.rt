@@ -14,9 +14,9 @@ use tt_code::{Halt, skip_def, skip_else, skip_if};
 const COSTS: [u8; 256] = [
     1, 1, 1, 1, 1, 1, 33, 33, 33, 33, 33, 33, 1, 1, 1, 33, 1, 1, 1, 1, 1, 1, 1, 1, 1, 1, 1, 0, 1,
     1, 1, 1, 1, 1, 1, 1, 1, 1, 0, 9, 1, 1, 1, 1, 0, 1, 5, 5, 0, 0, 0, 0, 0, 0, 0, 0, 0, 0, 5, 5, 0,
-    1, 5, 5, 0, 0, 1, 1, 1, 1, 1, 1, 5, 1, 1, 1, 1, 1, 1, 1, 1, 1, 1, 1, 1, 1, 1, 1, 0, 1, 1, 1, 1,
-    0, 1, 1, 1, 1, 1, 1, 1, 1, 1, 1, 1, 1, 1, 1, 1, 1, 1, 1, 1, 0, 0, 0, 0, 0, 1, 1, 1, 1, 1, 1, 1,
-    1, 1, 1, 0, 0, 0, 1, 1, 1, 33, 33, 1, 0, 1, 1, 1, 1, 1, 1, 1, 1, 1, 1, 1, 1, 1, 1, 1, 1, 1, 1,
+    1, 5, 5, 0, 0, 1, 1, 1, 1, 2, 2, 5, 3, 3, 1, 1, 1, 1, 1, 1, 1, 1, 1, 1, 1, 1, 1, 0, 1, 1, 1, 1,
+    0, 1, 1, 1, 1, 1, 1, 1, 1, 1, 1, 2, 2, 2, 2, 2, 2, 2, 2, 1, 0, 0, 0, 0, 0, 2, 2, 1, 1, 1, 1, 1,
+    1, 1, 1, 0, 0, 0, 1, 1, 1, 49, 49, 1, 0, 2, 1, 1, 1, 1, 1, 1, 1, 1, 1, 1, 1, 1, 1, 1, 1, 1, 1,
     1, 1, 1, 1, 1, 1, 1, 1, 1, 1, 1, 1, 1, 1, 1, 1, 1, 1, 1, 1, 1, 1, 1, 1, 1, 1, 1, 1, 1, 1, 1, 1,
     1, 1, 1, 1, 5, 5, 5, 5, 5, 5, 5, 5, 5, 5, 5, 5, 5, 5, 5, 5, 5, 5, 5, 5, 5, 5, 5, 5, 5, 5, 5, 5,
     5, 5, 5, 5, 5, 5, 5, 5, 5, 5, 5, 5, 5, 5, 5, 5, 5, 5, 5, 5, 5, 5, 5, 5, 5, 5, 5, 5, 5, 5, 5, 5,
@@ -29,6 +29,18 @@ fn fixed_cost(op: u8) -> u64
     ensures { result ≢ 0 → (m : machine.MachineState) → is.cost_by op m ≡ result }
 {
     u64::from(COSTS[usize::from(op)])
+}
+
+/// The extra work of an opcode that covers no point or stack entry.
+fn slowness(op: u8) -> u64
+    ensures exact { result ≡ is.slowness op }
+    ensures few { result ≤ 2 }
+{
+    match op {
+        0x49 | 0x4A => 2,
+        0x46 | 0x47 | 0x68..=0x6F | 0x76 | 0x77 | 0x8A => 1,
+        _ => 0,
+    }
 }
 
 impl MachineState<'_> {
@@ -56,12 +68,13 @@ impl MachineState<'_> {
         match op {
             0x2E | 0x2F | 0x3A | 0x3B | 0x3E | 0x3F | 0x48 | 0xC0..=0xFF => 4,
             0x27 => 8,
-            0x06..=0x0B | 0x0F | 0x86 | 0x87 => 32,
+            0x06..=0x0B | 0x0F => 32,
+            0x86 | 0x87 => 48,
             0x40 | 0x41 => match self.frame.code.bytes.get(self.frame.place + 1) {
                 Some(count) => u64::from(*count),
                 None => 0,
             },
-            _ => 0,
+            _ => slowness(op),
         }
     }
 
@@ -72,10 +85,12 @@ impl MachineState<'_> {
         ensures few { result < 2 ^ 63 }
     {
         match op {
-            0x32 | 0x33 | 0x38 | 0x39 | 0x3C | 0x80 => 4 * self.of_stack(self.graphics.loops),
+            0x32 | 0x33 | 0x38 | 0x3C | 0x80 => 4 * self.of_stack(self.graphics.loops),
+            0x39 => 4 * self.of_stack(self.graphics.loops) + 4,
             0x26 | 0x5D | 0x71..=0x75 => self.of_stack(self.top_of_stack().unsigned_abs()),
-            0x30 | 0x31 | 0x81 | 0x82 => self.points.glyph_count() as u64,
-            0x34..=0x37 => (self.points.twilight_count() + self.points.glyph_count()) as u64,
+            0x30 | 0x31 => 2 * self.points.glyph_count() as u64,
+            0x34..=0x37 => 4 * (self.points.twilight_count() + self.points.glyph_count()) as u64,
+            0x81 | 0x82 => self.points.glyph_count() as u64,
             _ => self.weight(op),
         }
     }
@@ -168,8 +183,8 @@ impl MachineState<'_> {
         let left = left.checked_sub(self.cvt.len() as u64)?;
         let left = left.checked_sub(self.storage.len() as u64)?;
         let left = left.checked_sub(self.points.twilight_count() as u64)?;
-        let left = left.checked_sub(self.functions.len() as u64)?;
-        left.checked_sub(self.instructions.len() as u64)
+        let left = left.checked_sub(self.functions.copies() as u64)?;
+        left.checked_sub(self.instructions.copies() as u64)
     }
 
     /// Pays for the copies made for a run. False if there is not enough work; then no work remains.

@@ -60,7 +60,7 @@ impl Points {
     /// The count of points in the twilight zone.
     pub fn twilight_count(&self) -> usize
         ensures exact { result ≡ length self.now.twilight }
-        ensures few { result < 2 ^ 62 }
+        ensures few { result < 2 ^ 59 }
     {
         self.zones.twilight.as_slice().len()
     }
@@ -68,7 +68,7 @@ impl Points {
     /// The count of points in the glyph zone.
     pub fn glyph_count(&self) -> usize
         ensures exact { result ≡ length self.now.glyph }
-        ensures few { result < 2 ^ 62 }
+        ensures few { result < 2 ^ 59 }
     {
         self.zones.glyph.as_slice().len()
     }

@@ -16,3 +16,6 @@ returns-clause-none c = λ n past few.
     let after : length places ≤ n = omega (arith, c.len.ensures) in
     let none : body_at n places bodies ≡ None = rw (none_past places n after) refl in
     rw (← c.self.view_is) (sym (number_at (pos n) n places bodies refl few) ∙ none)
+
+pub returns-clause-exact : goal.returns-clause-exact
+returns-clause-exact c = rw (← c.self.view_is) (c.len.ensures ∙ c.self.invariant.ended)

@@ -1,21 +1,23 @@
 use Rattle.std.proofs.Common.{map}
 use Rattle.tt_exec.specs.Views.{body_of}
-use Rattle.tt_exec.proofs.Tables.{grown-are}
+use Rattle.tt_exec.proofs.Tables.{room-made}
 use Rattle.tt_exec.proofs.function_table.Functions.set.Goals as goal
 
 pub returns : goal.returns
 returns c =
-    let bodies = map body_of c.self.inside.bodies.items in
-    let grown = grown-are c.self.inside.places.items c.make_room.new.places.items bodies c.self.invariant
-    c.make_room.ensures.grown c.make_room.ensures.few in
-    rw (c.from-n.ensures, grown.1, c.self.view_is) at c.put.ensures.exact
+    let made = room-made c.self.inside.places.items c.make_room.new.places.items c.self.inside.bodies.items
+    c.reserve.new.self.items c.args.n c.self.invariant c.in_ok-reserve.ensures.items c.make_room.ensures.grown
+    c.make_room.ensures.few c.in_ok-make_room.ensures.room in
+    rw (c.from-n.ensures, made.same, c.in_ok-reserve.ensures.items, c.self.view_is) at c.put.ensures.exact
 
-pub put-requires-clause-functions : goal.put-requires-clause-functions
-put-requires-clause-functions c =
-    (grown-are c.self.inside.places.items c.make_room.new.places.items (map body_of c.self.inside.bodies.items)
-    c.self.invariant c.make_room.ensures.grown c.make_room.ensures.few).0
+pub put-requires-clause-places : goal.put-requires-clause-places
+put-requires-clause-places c =
+    (room-made c.self.inside.places.items c.make_room.new.places.items c.self.inside.bodies.items
+    c.reserve.new.self.items c.args.n c.self.invariant c.in_ok-reserve.ensures.items c.make_room.ensures.grown
+    c.make_room.ensures.few c.in_ok-make_room.ensures.room).places
 
-pub invariant_of-self : goal.invariant_of-self
-invariant_of-self c =
-    (grown-are c.self.inside.places.items c.make_room.new.places.items (map body_of c.self.inside.bodies.items)
-    c.self.invariant c.make_room.ensures.grown c.make_room.ensures.few).0
+pub put-requires-clause-slots : goal.put-requires-clause-slots
+put-requires-clause-slots c =
+    (room-made c.self.inside.places.items c.make_room.new.places.items c.self.inside.bodies.items
+    c.reserve.new.self.items c.args.n c.self.invariant c.in_ok-reserve.ensures.items c.make_room.ensures.grown
+    c.make_room.ensures.few c.in_ok-make_room.ensures.room).placed
