@@ -93,10 +93,9 @@ pub record HaveRoom (n : ℕ) (ps qs : List ℕ) (bs : List Body) : Type 0 where
 pub room-made : (ps qs : List ℕ) (xs ys : List body.Body) (n : ℕ) → AreFunctions ps (map body_of xs) → ys ≡ xs
     → IsGrown ps qs → length qs ≤ 65536 → length qs ≡ max (n + 1) (length ps) → HaveRoom n ps qs (map body_of ys)
 room-made ps qs xs ys n are same grown_to few all =
-    rw same (
     let (placed, list) = grown-are ps qs (map body_of xs) are.placed grown_to few in
     let now : extent (listed qs (map body_of xs)) ≡ length ps = ap extent list ∙ sym are.ended in
-    record { placed = placed; same = list; places = rw now all })
+    rw same (record { placed = placed; same = list; places = all ∙ ap (max (n + 1)) (sym now) })
 
 slot-at : (ps : List ℕ) (bs : List Body) (n : ℕ) → n < length ps
     → slice_get (slots ps bs) n ≡ Some (body_of_place bs (get_or ps n 0))
@@ -227,7 +226,7 @@ put-behind ps xs ys b n v count are all is none pushed counted =
     let bs = map body_of xs in
     let behind : map body_of ys ≡ bs ++ body_of b ∷ [] = rw (pushed, map-append body_of xs (b ∷ [])) refl in
     let more : count ≡ length bs + 1 = rw (counted, pushed, length-map, length-append) refl in
-    let same : length (set ps n (length bs + 1)) ≡ length ps = length-set ps n (length bs + 1) in
+    let same : length (set ps n (length bs + 1)) ≡ length ps = rw length-set refl in
     rw (behind, more)
     (ended-still ps (set ps n (length bs + 1)) bs (bs ++ body_of b ∷ []) (body_of b) n all same
     (put-new ps bs (body_of b) n are lt at))

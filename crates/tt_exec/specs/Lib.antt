@@ -20,4 +20,5 @@ pub mod Step
 pub mod Views
 pub mod WithAll
 pub mod Work
+pub mod WorkExamples
 pub mod Worked

@@ -18,4 +18,4 @@ returns-clause-none c = λ n past few.
     rw (← c.self.view_is) (sym (number_at (pos n) n places bodies refl few) ∙ none)
 
 pub returns-clause-exact : goal.returns-clause-exact
-returns-clause-exact c = rw (← c.self.view_is) (c.len.ensures ∙ c.self.invariant.ended)
+returns-clause-exact c = rw (← c.self.view_is) (omega (arith, c.len.ensures, c.self.invariant.ended))
