@@ -66,7 +66,7 @@ fn make_room(places: &mut Vec<u32>, n: usize) -> Result<(), AllocError>
 
 /// Gives number `n` a body: in place of its earlier one, or after all others.
 fn put<'a>(places: &mut Vec<u32>, bodies: &mut Vec<Body<'a>>, n: usize, body: Body<'a>)
-    requires places { length places.old.items ≡ max (n + 1) (extent (listed places.old.items (map body_of bodies.old.items))) }
+    requires numbers { length places.old.items ≡ max (n + 1) (extent (listed places.old.items (map body_of bodies.old.items))) }
     requires room { vec_len bodies.old < vec_capacity bodies.old }
     requires slots { AreSlots places.old.items (map body_of bodies.old.items) }
     ensures exact { listed places.new.items (map body_of bodies.new.items) ≡ with_function n (body_of body.entry) (listed places.old.items (map body_of bodies.old.items)) }

@@ -10,8 +10,8 @@ returns c =
     c.make_room.ensures.few c.in_ok-make_room.ensures.room in
     rw (c.from-n.ensures, made.same, c.in_ok-reserve.ensures.items, c.self.view_is) at c.put.ensures.exact
 
-pub put-requires-clause-places : goal.put-requires-clause-places
-put-requires-clause-places c =
+pub put-requires-clause-numbers : goal.put-requires-clause-numbers
+put-requires-clause-numbers c =
     (room-made c.self.inside.places.items c.make_room.new.places.items c.self.inside.bodies.items
     c.reserve.new.self.items c.from-n.result c.self.invariant c.in_ok-reserve.ensures.items c.make_room.ensures.grown
     c.make_room.ensures.few c.in_ok-make_room.ensures.room).places
