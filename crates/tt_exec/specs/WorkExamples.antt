@@ -1,5 +1,5 @@
 -- Worked work: that of steps, and the things copied for a run. No part of the standard (profile).
-use Rattle.std.specs.Prelude.{◌≡◌, ℕ, ◌×◌, ℤ, pos, false, List, [], ◌∷◌, map, replicate, codes, refl}
+use Rattle.std.specs.Prelude.{◌≡◌, ℕ, ℤ, pos, false, List, [], ◌∷◌, map, replicate, codes, refl}
 use Rattle.tt_core.specs.Scales.{exact_scale}
 use Rattle.tt_core.specs.declared.halves.Halves.TheVariants as halves
 use Rattle.tt_points_zones.specs.Zones.{in_pixels}

@@ -1,4 +1,4 @@
-use Rattle.std.proofs.Common.{◌≡◌, ◌∙◌, ◌+◌, ap, sym, map, length, refl, arith}
+use Rattle.std.proofs.Common.{◌≡◌, ◌∙◌, ◌+◌, ap, map, length, refl, arith}
 use Rattle.std.proofs.lemmas.List.{length-map}
 use Rattle.tt_exec.specs.FunctionTable.{listed}
 use Rattle.tt_exec.specs.Views.{body_of}

@@ -1,5 +1,3 @@
-use Rattle.std.proofs.Common.{map}
-use Rattle.tt_exec.specs.Views.{body_of}
 use Rattle.tt_exec.proofs.Tables.{room-made}
 use Rattle.tt_exec.proofs.function_table.Functions.set.Goals as goal
 
