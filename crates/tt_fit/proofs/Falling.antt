@@ -13,10 +13,9 @@ use Rattle.tt_fit.specs.Fallback.{Fallback, never, where_refused, everywhere, is
 use Rattle.tt_fit.specs.Fitting.{Fitter, with_hinting, outline_at, outline_work, glyph_work, unfitted_fault, fitted_outline, left_after, after_glyph}
 use Rattle.tt_fit.specs.Laws.{HasWork, ProgramsHaveWork, FallbackFits, FallbackScales, FallbackRefuses, FallbackUnfitsAll, OthersNeverFallBack, FullIsByPrograms, NoneIsWithoutPrograms, UnboundedIsEnough, OthersAreUnbounded, UnboundedStays, SpentWorkUnfits, SpentProgramsUnfitAll}
 use Rattle.tt_fit.specs.Outline.{Outline}
-use Rattle.tt_fit.specs.Parts.{begun_parts}
-use Rattle.tt_fit.specs.Preparation.{ProgramTables, with_fallback, left_at, work_at, prepared_by, prepared, fitter_with, fitter_of}
+use Rattle.tt_fit.specs.Preparation.{ProgramTables, with_fallback, begun_at, left_at, work_at, prepared_by, prepared, fitter_with, fitter_of}
 use Rattle.tt_fit.specs.Hinting.{Hinting, off}
-use Rattle.tt_fit.specs.Rules.{falls_back, levels_of, rules_of, dropouts_by}
+use Rattle.tt_fit.specs.Rules.{falls_back, levels_of, dropouts_by}
 use Rattle.tt_fit.proofs.Unbounded.{of-outline, of-programs}
 
 -- for no glyph
@@ -298,11 +297,11 @@ unbounded-by m tables ppem fit.Best who s worked left other is = absurd (other r
 programs-unbounded : (m : Metrics) (programs : ProgramTables) (ppem : ℕ) (how : Fit) → how ≢ fit.Best
     → ProgramsHaveWork m programs ppem how
 programs-unbounded m programs ppem fit.Full other =
-    (None, of-programs (begun_parts m programs.cvt ppem (rules_of fit.Full)) programs)
+    (None, of-programs (begun_at m programs ppem fit.Full) programs)
 programs-unbounded m programs ppem fit.None other =
-    (None, of-programs (begun_parts m programs.cvt ppem (rules_of fit.None)) programs)
+    (None, of-programs (begun_at m programs ppem fit.None) programs)
 programs-unbounded m programs ppem fit.Fallback other =
-    (None, of-programs (begun_parts m programs.cvt ppem (rules_of fit.Fallback)) programs)
+    (None, of-programs (begun_at m programs ppem fit.Fallback) programs)
 programs-unbounded m programs ppem fit.Best other = absurd (other refl)
 
 pub others-are-unbounded : OthersAreUnbounded
@@ -353,7 +352,7 @@ unfolding fitter_of prepared
 spent-programs-unfit-all m tables programs ppem fit.Full s g f falls is over = absurd cc
 spent-programs-unfit-all m tables programs ppem fit.None s g f falls is over = absurd cc
 spent-programs-unfit-all m tables programs ppem fit.Fallback s g f falls is over =
-    let free = of-programs (begun_parts m programs.cvt ppem (rules_of fit.Fallback)) programs in absurd cc
+    let free = of-programs (begun_at m programs ppem fit.Fallback) programs in absurd cc
 spent-programs-unfit-all m tables programs ppem fit.Best s g f falls is over =
     let who = dropouts_by fit.Best programs.fpgm programs.prep in
     over-by m tables ppem who s g f (work_at m programs ppem fit.Best) (left_at m programs ppem fit.Best) over is

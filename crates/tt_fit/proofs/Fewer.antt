@@ -21,9 +21,9 @@ use Rattle.tt_fit.specs.GlyphZone.{GlyphProgram, program_in_glyf, on_grid_at}
 use Rattle.tt_fit.specs.Hinting.{Hinting, off, ready, is_run, run_of}
 use Rattle.tt_fit.specs.Laws.{Fewer, WorkFalls, BestIsBounded}
 use Rattle.tt_fit.specs.Outline.{Outline}
-use Rattle.tt_fit.specs.Parts.{begun_parts, parts_with}
-use Rattle.tt_fit.specs.Preparation.{ProgramTables, font_program, control_value_program, with_definitions, programs_work, left_at, work_at, prepared_by, prepared, fitter_with, fitter_of}
-use Rattle.tt_fit.specs.Rules.{rules_of, dropouts_by}
+use Rattle.tt_fit.specs.Parts.{parts_with}
+use Rattle.tt_fit.specs.Preparation.{ProgramTables, font_program, control_value_program, with_definitions, programs_work, begun_at, left_at, work_at, prepared_by, prepared, fitter_with, fitter_of}
+use Rattle.tt_fit.specs.Rules.{dropouts_by}
 use Rattle.tt_fit.specs.Scaling.{scaled_outline}
 use Rattle.tt_fit.specs.Work.{if_ok, code_work, program_work, hinted_work, joined_work}
 
@@ -146,4 +146,4 @@ unfolding fitter_of prepared
 best-is-bounded m tables programs ppem s is =
     let who = dropouts_by fit.Best programs.fpgm programs.prep in
     begun-by m tables ppem who s (work_at m programs ppem fit.Best) (left_at m programs ppem fit.Best)
-    (of-programs (begun_parts m programs.cvt ppem (rules_of fit.Best)) programs work_limit) is
+    (of-programs (begun_at m programs ppem fit.Best) programs work_limit) is

@@ -19,9 +19,8 @@ use Rattle.tt_fit.specs.Fitting.{Fitter, size_of, start, composite_program, simp
 use Rattle.tt_fit.specs.GlyphZone.{GlyphProgram, program_in_glyf, on_grid_at}
 use Rattle.tt_fit.specs.Hinting.{Hinting, off, ready, is_run, run_of}
 use Rattle.tt_fit.specs.Outline.{Outline}
-use Rattle.tt_fit.specs.Parts.{begun_parts, parts_with}
-use Rattle.tt_fit.specs.Preparation.{ProgramTables, font_program, control_value_program, with_definitions, programs_work, with_fallback, within_work, left_at, work_at, prepared}
-use Rattle.tt_fit.specs.Rules.{rules_of}
+use Rattle.tt_fit.specs.Parts.{parts_with}
+use Rattle.tt_fit.specs.Preparation.{ProgramTables, font_program, control_value_program, with_definitions, programs_work, with_fallback, within_work, begun_at, left_at, work_at, prepared}
 use Rattle.tt_fit.specs.Scaling.{scaled_outline}
 use Rattle.tt_fit.specs.Work.{IsUnbounded, RefusalLeaves, if_ok, code_work, program_work, hinted_work, joined_work}
 
@@ -107,7 +106,7 @@ pub prepared-falling : (m : Metrics) (programs : ProgramTables) (ppem : ℕ) (ho
     → prepared m programs ppem how ≡ Ok (within_work (work_at m programs ppem how) (left_at m programs ppem how))
 unfolding prepared
 prepared-falling m programs ppem fit.Fallback is =
-    rw (of-programs (begun_parts m programs.cvt ppem (rules_of fit.Fallback)) programs)
+    rw (of-programs (begun_at m programs ppem fit.Fallback) programs)
     (ap Ok (within (left_at m programs ppem fit.Fallback)))
 prepared-falling m programs ppem fit.Best is = refl
 prepared-falling m programs ppem fit.Full is = elim is [

@@ -18,7 +18,7 @@ use Rattle.tt_fit.specs.Fallback.{Fallback, never, where_refused, everywhere}
 use Rattle.tt_fit.specs.Fitting.{Fitter}
 use Rattle.tt_fit.specs.Hinting.{Hinting, off, ready, run_of}
 use Rattle.tt_fit.specs.Parts.{begun_parts, left_to_glyphs}
-use Rattle.tt_fit.specs.Rules.{rules_of, levels_of, work_of, dropouts_by}
+use Rattle.tt_fit.specs.Rules.{rules_of, levels_of, work_of, cvt_read, dropouts_by}
 use Rattle.tt_fit.specs.Work.{if_ok, code_work}
 
 -- the control values, the font program and the control value program
@@ -78,12 +78,16 @@ prepared_by fit.Full worked by_programs = by_programs >>= λ hinting. Ok (withou
 prepared_by fit.Fallback worked by_programs = Ok (with_fallback by_programs)
 prepared_by fit.Best worked by_programs = Ok (within_work worked by_programs)
 
--- the state after the two programs at a size by the rules of a fit
+-- the parts at the start of the two programs at a size by the rules of a fit
+abbrev pub begun_at : Metrics → ProgramTables → ℕ → Fit → Parts
+begun_at m programs ppem fit = begun_parts m (cvt_read fit programs.cvt) ppem (rules_of fit)
+
+-- the state after the two programs
 abbrev pub left_at : Metrics → ProgramTables → ℕ → Fit → Result Hinting Fault
-left_at m programs ppem fit = left_by_programs (begun_parts m programs.cvt ppem (rules_of fit)) programs
+left_at m programs ppem fit = left_by_programs (begun_at m programs ppem fit) programs
 
 abbrev pub work_at : Metrics → ProgramTables → ℕ → Fit → Worked
-work_at m programs ppem fit = programs_work (begun_parts m programs.cvt ppem (rules_of fit)) programs (work_of fit)
+work_at m programs ppem fit = programs_work (begun_at m programs ppem fit) programs (work_of fit)
 
 unfoldable pub prepared : Metrics → ProgramTables → ℕ → Fit → Result Preparation Fault
 prepared m programs ppem fit = prepared_by fit (work_at m programs ppem fit) (left_at m programs ppem fit)

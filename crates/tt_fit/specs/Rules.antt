@@ -1,5 +1,5 @@
 -- No part of the standard: the rules of each fit (profile).
-use Rattle.std.specs.Prelude.{◌≡◌, ℕ, ◌==◌, Bool, true, false, ◌&&◌, if◌then◌else◌, List, length, Option, Some, None, refl}
+use Rattle.std.specs.Prelude.{◌≡◌, ℕ, ◌*◌, ◌==◌, Bool, true, false, ◌&&◌, if◌then◌else◌, List, [], ◌∷◌, length, take, Option, Some, None, refl}
 use Rattle.tt_core.specs.Limits.{level_limit, best_level_limit, work_limit}
 use Rattle.tt_state.specs.declared.tolerance.Tolerance.TheVariants as tolerance
 use Rattle.tt_fit.specs.declared.dropouts.DropoutsBy.{DropoutsBy}
@@ -41,6 +41,18 @@ work_of fit.None = None
 work_of fit.Fallback = None
 work_of fit.Best = Some work_limit
 
+-- control values that are read, if the job's work is bounded
+abbrev pub cvt_limit : ℕ
+cvt_limit = 65535
+
+-- The bytes of the control values that are read. A value is two bytes. With Best the values past the limit are missing
+-- (profile).
+abbrev pub cvt_read : Fit → List ℕ → List ℕ
+cvt_read fit.Full cvt = cvt
+cvt_read fit.None cvt = cvt
+cvt_read fit.Fallback cvt = cvt
+cvt_read fit.Best cvt = take (2 * cvt_limit) cvt
+
 -- The source of the dropout rules: with Best the font's programs. Scan type 1 is the source where the font program and
 -- the control value program are both empty (profile).
 abbrev pub dropouts_by : Fit → List ℕ → List ℕ → DropoutsBy
@@ -58,3 +70,13 @@ eight_with_best = refl
 
 best_is_bounded : work_of fit.Best ≡ Some 100000000
 best_is_bounded = refl
+
+limit_in_bytes : 2 * cvt_limit ≡ 131070
+limit_in_bytes = refl
+
+none_of_none : cvt_read fit.Best [] ≡ []
+none_of_none = refl
+
+-- an odd last byte remains, and is no value
+few_are_read : cvt_read fit.Best (0 ∷ 100 ∷ 255 ∷ 255 ∷ 9 ∷ []) ≡ 0 ∷ 100 ∷ 255 ∷ 255 ∷ 9 ∷ []
+few_are_read = refl

@@ -7,8 +7,7 @@ ghost use Rattle.tt_core.specs.Limits.{font_limit};
 ghost use Rattle.tt_core.specs.Outcomes.{FontGives};
 ghost use Rattle.tt_exec.specs.Parts.{parts_of};
 ghost use Rattle.tt_exec.specs.Views.{code_of};
-ghost use Rattle.tt_fit.specs.Parts.{AreParts, begun_parts, left_to_glyphs};
-ghost use Rattle.tt_fit.specs.Preparation.{program_tables, left_by_programs, programs_work, without_fallback, within_work, prepared};
+ghost use Rattle.tt_fit.specs.Preparation.{program_tables, programs_work, without_fallback, within_work, begun_at, left_at, work_at, prepared};
 ghost use Rattle.tt_fit.specs.Fallback.{everywhere};
 ghost use Rattle.tt_fit.specs.Hinting.{IsHinting, off};
 ghost use Rattle.tt_fit.specs.Rules.{rules_of, work_of};
@@ -21,7 +20,7 @@ use crate::fallback::Fallback;
 use crate::hinting::{Hinting, run};
 use crate::parts::{begun_parts, left_to_glyphs};
 use crate::programs::{Fit, Programs};
-use crate::rules::{rules_of, work_of};
+use crate::rules::{cvt_read, rules_of, work_of};
 use crate::size::FontSize;
 use crate::unmade::{Unmade, unbounded};
 use std::alloc::Global;
@@ -64,14 +63,16 @@ fn left_by_programs<'a>(
     requires size { size_view size ≡ size_by (rules_of fit).scaling size.ppem (units_per_em_of metrics.now) }
     requires fpgm { length programs.fpgm.now ≤ font_limit }
     requires prep { length programs.prep.now ≤ font_limit }
-    ensures exact { Makes hinting_view result (left_by_programs (begun_parts metrics.now programs.entry.cvt.now size.ppem (rules_of fit)) (program_tables programs.entry)) }
-    ensures work { WorkGives result work.new.left (programs_work (begun_parts metrics.now programs.entry.cvt.now size.ppem (rules_of fit)) (program_tables programs.entry) work.old.left) }
+    ensures exact { Makes hinting_view result (left_at metrics.now (program_tables programs.entry) size.ppem fit) }
+    ensures work { let tables = program_tables programs.entry in
+        WorkGives result work.new.left (programs_work (begun_at metrics.now tables size.ppem fit) tables work.old.left) }
     ensures valid { IfOk result (λ h. IsHinting (hinting_view h)) }
 {
     let rules = rules_of(fit);
-    let begun = begun_parts(alloc, metrics, programs.cvt, size, rules)?;
+    let cvt = cvt_read(fit, programs.cvt);
+    let begun = begun_parts(alloc, metrics, cvt, size, rules)?;
     let mut font = run(alloc, begun, whole_table(*b"fpgm", programs.fpgm), work)?;
-    let mut prep_parts = begun_parts(alloc, metrics, programs.cvt, size, rules)?;
+    let mut prep_parts = begun_parts(alloc, metrics, cvt, size, rules)?;
     swap(&mut prep_parts.functions, &mut font.functions);
     swap(&mut prep_parts.instructions, &mut font.instructions);
     let prep = whole_table(*b"prep", programs.prep);
@@ -90,7 +91,7 @@ fn left_unbounded<'a>(
     requires size { size_view size ≡ size_by (rules_of fit).scaling size.ppem (units_per_em_of metrics.now) }
     requires fpgm { length programs.fpgm.now ≤ font_limit }
     requires prep { length programs.prep.now ≤ font_limit }
-    ensures exact { FontGives hinting_view result (left_by_programs (begun_parts metrics.now programs.entry.cvt.now size.ppem (rules_of fit)) (program_tables programs.entry)) }
+    ensures exact { FontGives hinting_view result (left_at metrics.now (program_tables programs.entry) size.ppem fit) }
     ensures valid { IfOk result (λ h. IsHinting (hinting_view h)) }
 {
     let mut work = Work { left: None };
@@ -136,7 +137,8 @@ fn with_fallback<'a>(
     requires size { size_view size ≡ size_by (rules_of fit).scaling size.ppem (units_per_em_of metrics.now) }
     requires fpgm { length programs.fpgm.now ≤ font_limit }
     requires prep { length programs.prep.now ≤ font_limit }
-    ensures exact { FontGives preparation_view result (Ok (within_work (programs_work (begun_parts metrics.now programs.entry.cvt.now size.ppem (rules_of fit)) (program_tables programs.entry) (work_of fit)) (left_by_programs (begun_parts metrics.now programs.entry.cvt.now size.ppem (rules_of fit)) (program_tables programs.entry)))) }
+    ensures exact { let tables = program_tables programs.entry in
+        FontGives preparation_view result (Ok (within_work (work_at metrics.now tables size.ppem fit) (left_at metrics.now tables size.ppem fit))) }
     ensures valid { IfOk result (λ p. IsHinting (hinting_view p.hinting)) }
 {
     let mut work = work_of(fit);

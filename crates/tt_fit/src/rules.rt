@@ -1,13 +1,16 @@
 //! The rules of each fit.
 
 ghost use Rattle.std.specs.Prelude.{◌≡◌};
-ghost use Rattle.tt_fit.specs.Rules.{rules_of, levels_of, work_of, dropouts_by};
+ghost use Rattle.tt_fit.specs.Rules.{rules_of, levels_of, work_of, cvt_read, dropouts_by};
 
 use crate::dropouts::DropoutsBy;
 use crate::programs::{Fit, Programs};
 use tt_core::{BEST_LEVEL_LIMIT, LEVEL_LIMIT, WORK_LIMIT};
 use tt_exec::Work;
 use tt_state::Tolerance;
+
+/// Bytes of the control values that are read, if the job's work is bounded.
+const CVT_BYTES: usize = 2 * 65_535;
 
 /// How distances in font units are scaled to pixels.
 #[derive(Clone, Copy)]
@@ -61,6 +64,16 @@ pub(crate) fn work_of(fit: Fit) -> Work
     match fit {
         Fit::Full | Fit::None | Fit::Fallback => Work::unbounded(),
         Fit::Best => Work::of(WORK_LIMIT),
+    }
+}
+
+/// The bytes of the control values that are read.
+pub(crate) fn cvt_read(fit: Fit, cvt: &[u8]) -> &[u8]
+    ensures { result.now ≡ cvt_read fit cvt.now }
+{
+    match fit {
+        Fit::Full | Fit::None | Fit::Fallback => cvt,
+        Fit::Best => &cvt[..CVT_BYTES.min(cvt.len())],
     }
 }
 
