@@ -15,7 +15,7 @@ use Rattle.tt_exec.specs.MachineState.{MachineState}
 use Rattle.tt_exec.specs.Parts.{Parts}
 use Rattle.tt_exec.specs.Runs.{run_within}
 use Rattle.tt_exec.specs.Step.{step}
-use Rattle.tt_exec.specs.Work.{enough, spent, work_within, run_work}
+use Rattle.tt_exec.specs.Work.{enough, spent, copied_of, work_within, run_work}
 
 -- the state after a count of steps
 abbrev after : ℕ → MachineState → Result MachineState Fault
@@ -118,3 +118,8 @@ refusal_paid = refl
 copy_not_paid : run_work (begun_with []) (Some 0) ≡ spent (fault_at (codes "prep") 40 why.StepLimit)
 unfolding its_parts run_work
 copy_not_paid = refl
+
+-- that place, and two control values
+three_copies : copied_of (record its_parts { cvt = pos 0 ∷ negsuc 0 ∷ [] }) ≡ 3
+unfolding its_parts
+three_copies = refl

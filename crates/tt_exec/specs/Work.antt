@@ -13,6 +13,8 @@ use Rattle.tt_exec_stack.specs.Logic.{is_true}
 use Rattle.tt_exec.specs.MachineState.{Body, MachineState, fault_in}
 use Rattle.tt_exec.specs.Numbered.{extent}
 use Rattle.tt_exec.specs.Step.{step, is_ended}
+use Rattle.tt_exec.specs.Machines.{fresh}
+use Rattle.tt_exec.specs.Parts.{Parts}
 
 -- the remaining work, None without a budget; or the fault of the instruction that needs more
 pub data Worked : Type 0 where
@@ -142,6 +144,10 @@ copied m =
 -- a run that would exceed its budget halts at its present place
 abbrev pub over_at : MachineState → Fault
 over_at m = fault_in m.frame m.frame.place why.StepLimit
+
+-- the things copied for a run of any program that begins with these parts
+abbrev pub copied_of : Parts → ℕ
+copied_of parts = copied (fresh parts)
 
 -- the work after a step; a refused step is the last
 abbrev pub work_after : (MachineState → Option ℕ → Worked) → Result MachineState Fault → Option ℕ → Worked

@@ -3,6 +3,7 @@
 #![tactic(auto)]
 
 mod callers;
+mod copies;
 mod families;
 mod fault;
 mod flow;
@@ -21,6 +22,7 @@ mod stepping;
 mod taking;
 mod work;
 
+pub use copies::Copies;
 pub use fault::ExecFault;
 pub use function_table::Functions;
 pub use machine::Machine;

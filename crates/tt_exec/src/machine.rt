@@ -1,21 +1,22 @@
 //! A machine and its runs. Apple TrueType Reference Manual, "Instructing TrueType Glyphs".
 
-ghost use Rattle.std.specs.Prelude.{◌≡◌, ◌<◌, ◌≤◌, length, reverse, true, false, All, IfOk, IfSome, OnErr, OnOk};
+ghost use Rattle.std.specs.Prelude.{◌≡◌, ◌+◌, ◌<◌, ◌≤◌, length, reverse, true, false, All, IfOk, IfSome, OnErr, OnOk};
 ghost use Rattle.std.specs.Option.{option_map};
 ghost use Rattle.tt_core.specs.Scales.{IsScale};
 ghost use Rattle.tt_core.specs.Limits.{size_limit};
 ghost use Rattle.tt_exec_points.specs.Zones.{no_zones};
 ghost use Rattle.tt_points_zones.specs.Zones.{zones_view, IsPoint, IsZones, SameShape};
-ghost use Rattle.tt_core.specs.Limits.{stack_limit};
+ghost use Rattle.tt_core.specs.Limits.{stack_limit, step_limit};
 ghost use Rattle.tt_exec.specs.Machines.{begun_again, kind_of, run_from, GivesParts, OutcomeIs, RunGives};
 ghost use Rattle.tt_exec.specs.Parts.{parts_of};
 ghost use Rattle.tt_exec.specs.Runs.{run_outcome};
 ghost use Rattle.tt_exec.specs.Sizes.{SameSizes};
 ghost use Rattle.tt_exec.specs.Views.{code_of};
-ghost use Rattle.tt_exec.specs.Work.{run_work};
+ghost use Rattle.tt_exec.specs.Work.{copied_of, run_work, work_within};
 ghost use Rattle.tt_exec.specs.Worked.{OutcomeWithin, Paid, RunsWithin, WorkIs};
 
 use crate::callers::Callers;
+use crate::copies::Copies;
 use crate::fault::ExecFault;
 use crate::laws;
 use crate::machine_state::{Kind, MachineState};
@@ -101,16 +102,24 @@ impl<'a> Machine<'a> {
         replace(&mut self.state.points, Points::none(alloc)).into_zones()
     }
 
-    /// Becomes a new machine of these parts, with other zones, whatever earlier runs did. All is copied, reusing the
-    /// machine's memory. If more memory is refused, the machine has failed until it is begun again.
-    pub fn begin_again(&mut self, parts: &Parts<'a>, zones: Zones) -> Result<(), AllocError>
+    /// Becomes a new machine of these parts, with other zones, whatever earlier runs did. All else is copied, reusing
+    /// the machine's memory. The copies were paid for, those of the twilight zone's points among them. If more memory is
+    /// refused, the machine has failed until it is begun again.
+    pub fn begin_again(
+        &mut self,
+        parts: &Parts<'a>,
+        zones: Zones,
+        copies: &mut Copies,
+    ) -> Result<(), AllocError>
         requires size { parts.now.ppem ≤ size_limit }
         requires scale { IsScale parts.now.scale }
         requires zones { IsZones (zones_view zones) }
+        requires paid { copies.old.left + length parts.now.zones.twilight.items ≡ copied_of (parts_of parts.now) }
         ensures exact { OnOk result (self.new ≡ begun_again (record (parts_of parts.now) { zones = zones_view zones })) }
         ensures refused { OnErr result (self.new.failed ≡ true) }
+        ensures rest { copies.new.rest ≡ copies.old.rest }
     {
-        let begun = self.state.begin_again(parts, zones);
+        let begun = self.state.begin_again(parts, zones, copies);
         self.failed = begun.is_err();
         begun
     }
@@ -154,6 +163,38 @@ impl<'a> Machine<'a> {
         self.state.points.are_valid();
         self.state.begin(code, kind_of(code.table));
         match self.state.run(work) {
+            Ok(steps) => Ok(steps),
+            Err(stop) => {
+                self.failed = true;
+                Err(WorkFault::from(stop))
+            }
+        }
+    }
+
+    /// Runs a program as `run_within` does, on a machine whose copies are paid for. The allowance says so: the work is
+    /// what remained after that payment.
+    pub fn run_paid(
+        &mut self,
+        code: Code<'a>,
+        copies: Copies,
+        work: &mut Work,
+    ) -> Result<u32, WorkFault>
+        requires { copies.rest ≡ work.old.left }
+        ensures exact { RunsWithin (code_of code.entry) self.old result self.new }
+        ensures outcome { OutcomeWithin (run_outcome (run_from (code_of code.entry) self.old.state)) result self.new }
+        ensures work { WorkIs (work_within step_limit (run_from (code_of code.entry) self.old.state)) work.old.left result work.new.left }
+        // Each step used at least 1 of the work.
+        ensures paid { IfOk result (λ n. Paid n work.old.left work.new.left) }
+        ensures shape { IfOk result (λ n. SameShape self.old.state.zones self.new.state.zones) }
+        ensures sizes { IfOk result (λ n. SameSizes self.old.state self.new.state) }
+    {
+        if self.failed {
+            return Err(WorkFault::Run(ExecFault::Failed));
+        }
+        laws::sizes_are_kept();
+        self.state.points.are_valid();
+        self.state.begin(code, kind_of(code.table));
+        match self.state.go(work) {
             Ok(steps) => Ok(steps),
             Err(stop) => {
                 self.failed = true;

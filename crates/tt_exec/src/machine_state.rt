@@ -1,6 +1,6 @@
 //! The state of a machine during a run. Apple TrueType Reference Manual, "Instructing TrueType Glyphs".
 
-ghost use Rattle.std.specs.Prelude.{◌≡◌, ◌<◌, ◌≤◌, length, OnOk};
+ghost use Rattle.std.specs.Prelude.{◌≡◌, ◌+◌, ◌<◌, ◌≤◌, length, OnOk};
 ghost use Rattle.tt_core.specs.Limits.{size_limit};
 ghost use Rattle.tt_core.specs.Scales.{IsScale};
 ghost use Rattle.tt_points_zones.specs.Zones.{zones_view, IsZones};
@@ -9,8 +9,10 @@ ghost use Rattle.tt_exec.specs.MachineState.{fault_in};
 ghost use Rattle.tt_exec.specs.Parts.{parts_of};
 ghost use Rattle.tt_exec.specs.States.{state_of};
 ghost use Rattle.tt_exec.specs.Views.{frame_of, code_of};
+ghost use Rattle.tt_exec.specs.Work.{copied_of};
 
 use crate::callers::Callers;
+use crate::copies::Copies;
 use crate::function_table::Functions;
 use crate::parts::Parts;
 use crate::program::{Code, Frame};
@@ -53,27 +55,27 @@ pub(crate) struct MachineState<'a> {
     pub(crate) kind: Kind,
 }
 
-/// Copies values, reusing memory.
-fn copy_in(values: &mut Vec<i32>, others: &[i32]) -> Result<(), AllocError>
-    ensures { OnOk result (values.new.items ≡ others.now) }
-{
-    values.clear();
-    values.extend_from_slice(others)
-}
-
 impl<'a> MachineState<'a> {
-    /// Becomes the state of a new machine of these parts and zones, reusing its memory.
-    pub(crate) fn begin_again(&mut self, parts: &Parts<'a>, zones: Zones) -> Result<(), AllocError>
+    /// Becomes the state of a new machine of these parts and zones, reusing its memory. The points of the twilight zone
+    /// have been copied by the same allowance.
+    pub(crate) fn begin_again(
+        &mut self,
+        parts: &Parts<'a>,
+        zones: Zones,
+        copies: &mut Copies,
+    ) -> Result<(), AllocError>
         requires size { parts.now.ppem ≤ size_limit }
         requires scale { IsScale parts.now.scale }
         requires zones { IsZones (zones_view zones) }
-        ensures { OnOk result (state_of self.new ≡ fresh (record (parts_of parts.now) { zones = zones_view zones })) }
+        requires paid { copies.old.left + length parts.now.zones.twilight.items ≡ copied_of (parts_of parts.now) }
+        ensures exact { OnOk result (state_of self.new ≡ fresh (record (parts_of parts.now) { zones = zones_view zones })) }
+        ensures rest { copies.new.rest ≡ copies.old.rest }
     {
         self.begin(Frame::idle().code, Kind::Glyph);
-        self.functions.copy_from(&parts.functions)?;
-        self.instructions.copy_from(&parts.instructions)?;
-        copy_in(&mut self.storage, &parts.storage)?;
-        copy_in(&mut self.cvt, &parts.cvt)?;
+        copies.copy_table(&mut self.functions, &parts.functions)?;
+        copies.copy_table(&mut self.instructions, &parts.instructions)?;
+        copies.copy_values(&mut self.storage, &parts.storage)?;
+        copies.copy_values(&mut self.cvt, &parts.cvt)?;
         self.graphics = parts.state;
         self.tolerance = parts.tolerance;
         self.points = Points::new(zones);

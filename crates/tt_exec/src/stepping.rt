@@ -86,7 +86,7 @@ impl MachineState<'_> {
     /// Runs to the program's end, and pays for each step. Gives the count of steps. Errors: StepLimit; those of a step;
     /// Spent for a step that needs more work than remains.
     #[inline(never)]
-    fn go(&mut self, work: &mut Work) -> Result<u32, Stop>
+    pub(crate) fn go(&mut self, work: &mut Work) -> Result<u32, Stop>
         ensures ends { IfOk result (λ n. Ends (state_of self.old) n (state_of self.new)) }
         ensures halts { IfErr result (λ stop. IfSome (own_fault stop) (Halts (state_of self.old))) }
         ensures work { StopWorkIs (work_within step_limit (state_of self.old)) work.old.left result work.new.left }

@@ -9,6 +9,7 @@ pub mod Bounds
 pub mod Counts
 pub mod Originals
 pub mod Outlines
+pub mod Paid
 pub mod Placing
 pub mod Standing
 pub mod Unbounded

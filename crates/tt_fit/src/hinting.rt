@@ -1,10 +1,11 @@
 //! Runs a glyph's program over its outline. Apple TrueType Reference Manual, "Instructing TrueType Glyphs".
 
 ghost use Rattle.std.specs.Prelude.{◌≡◌, ◌≢◌, false, option_map, IfOk, OnOk};
+ghost use Rattle.tt_core.specs.Limits.{step_limit};
 ghost use Rattle.tt_exec.specs.declared.fault.ExecFault.TheVariants as exec;
 ghost use Rattle.tt_exec.specs.declared.work.WorkFault.TheVariants as machine;
 ghost use Rattle.tt_exec.specs.Machines.{begun_again, exec_fault, parts_in, run_from};
-ghost use Rattle.tt_exec.specs.Work.{run_work};
+ghost use Rattle.tt_exec.specs.Work.{copied_of, run_work, work_within};
 ghost use Rattle.tt_exec.specs.Parts.{parts_of};
 ghost use Rattle.tt_exec.specs.Views.{code_of};
 ghost use Rattle.tt_points_zones.specs.Zones.{IsZones, SameShape};
@@ -17,13 +18,14 @@ ghost use Rattle.tt_fit.specs.Work.{Makes, WorkGives, code_work, hinted_work, pr
 
 use crate::glyph_zone::{left_outline, on_grid};
 use crate::outline::Outline;
-use crate::parts::glyph_zones;
+use crate::parts::{glyph_zones, without_contents};
 use crate::programs::GlyphProgram;
+use crate::scaling::glyf_fault;
 use crate::units::Units;
 use crate::unmade::Unmade;
 use std::alloc::{AllocError, Global};
-use tt_core::FontFault;
-use tt_exec::{Code, ExecFault, Machine, Parts, Work, WorkFault};
+use tt_core::{FontFault, Why};
+use tt_exec::{Code, Copies, ExecFault, Machine, Parts, Work, WorkFault};
 
 /// The machine that runs the programs of all glyphs in turn; None before the first.
 pub(crate) type GlyphMachine<'a> = Option<Box<Machine<'a>>>;
@@ -74,6 +76,26 @@ fn run_on<'a>(machine: &mut Machine<'a>, code: Code<'a>, work: &mut Work) -> Res
     }
 }
 
+/// Runs a glyph's program on a machine that has not failed and whose copies are paid for. Errors: those of the program,
+/// Memory, Spent.
+fn run_paid<'a>(
+    machine: &mut Machine<'a>,
+    code: Code<'a>,
+    copies: Copies,
+    work: &mut Work,
+) -> Result<(), Unmade>
+    requires done { machine.old.failed ≡ false }
+    requires paid { copies.rest ≡ work.old.left }
+    ensures exact { Makes (λ _. parts_in machine.new.state) result (run_on (code_of code.entry) machine.old.state) }
+    ensures work { WorkGives result work.new.left (work_within step_limit (run_from (code_of code.entry) machine.old.state) work.old.left) }
+    ensures shape { OnOk result (SameShape machine.old.state.zones machine.new.state.zones) }
+{
+    match machine.run_paid(code, copies, work) {
+        Ok(_) => Ok(()),
+        Err(fault) => Err(unmade(fault)),
+    }
+}
+
 /// A machine's parts after a program. Errors: those of the program, Memory, Spent.
 #[tactic(auto, unfolding(crate::specs::Hinting::run_of))]
 pub(crate) fn run<'a>(
@@ -106,14 +128,16 @@ fn code_in_glyf<'a>(program: GlyphProgram<'a, '_>) -> Code<'a>
     }
 }
 
-/// A machine for the programs of all glyphs.
+/// A machine for the programs of all glyphs. It copies nothing: the first glyph is put into it like each later one.
 fn first_machine<'a>(alloc: Global, parts: &Parts<'a>) -> Result<Box<Machine<'a>>, AllocError>
     requires { AreParts (parts_of parts.now) }
 {
-    Ok(Box::new(alloc, Machine::new(alloc, parts.copy()?)?)?)
+    let parts = without_contents(alloc, parts)?;
+    Ok(Box::new(alloc, Machine::new(alloc, parts)?)?)
 }
 
-/// Puts a glyph into a machine, which then equals a new machine made of the parts with this glyph.
+/// Puts a glyph into a machine, which then equals a new machine made of the parts with this glyph. An allowance that
+/// covers all copies of the parts is used up.
 fn put_glyph<'a>(
     alloc: Global,
     machine: &mut Machine<'a>,
@@ -121,19 +145,23 @@ fn put_glyph<'a>(
     units: Option<Units>,
     outline: &Outline,
     grid: &[(i32, i32); 4],
+    copies: &mut Copies,
 ) -> Result<(), AllocError>
     requires parts { AreParts (parts_of parts.now) }
     requires outline { IsOutline (outline_of outline.now) }
     requires grid { ArePhantom (phantom_of grid.now) }
+    requires paid { copies.old.left ≡ copied_of (parts_of parts.now) }
     ensures exact { OnOk result (machine.new ≡ begun_again (parts_with (parts_of parts.now) (option_map units_view units.entry) (outline_of outline.now) (phantom_of grid.now))) }
     ensures valid { OnOk result (IsZones machine.new.state.zones) }
+    ensures rest { copies.new.rest ≡ copies.old.rest }
 {
-    let zones = glyph_zones(machine.take_zones(alloc), parts, units, outline, grid)?;
-    machine.begin_again(parts, zones)
+    let room = machine.take_zones(alloc);
+    let zones = glyph_zones(room, parts, units, outline, grid, copies)?;
+    machine.begin_again(parts, zones, copies)
 }
 
-/// The outline after a glyph's program, run on a machine into which the glyph is put first. Errors: CoordRange of a
-/// phantom point, those of the program, Memory, Spent.
+/// The outline after a glyph's program, run on a machine into which the glyph is put first. Without work for the copies
+/// nothing is copied. Errors: CoordRange of a phantom point, those of the program, Memory, Spent.
 #[tactic(auto, unfolding(crate::specs::Hinting::by_program, crate::specs::Work::program_work))]
 fn by_machine<'a>(
     alloc: Global,
@@ -150,8 +178,11 @@ fn by_machine<'a>(
     ensures valid { IfOk result (λ o. IsOutline (outline_of o)) }
 {
     let grid = on_grid(program.glyph_at, &outline.phantom)?;
-    put_glyph(alloc, machine, parts, program.units, &outline, &grid)?;
-    run_on(machine, code_in_glyf(program), work)?;
+    let Some(mut copies) = parts.pay(work) else {
+        return Err(Unmade::Spent(glyf_fault(program.code_at, Why::StepLimit)));
+    };
+    put_glyph(alloc, machine, parts, program.units, &outline, &grid, &mut copies)?;
+    run_paid(machine, code_in_glyf(program), copies, work)?;
     Ok(left_outline(outline, machine.glyph_points(), machine.scan())?)
 }
 

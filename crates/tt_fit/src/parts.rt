@@ -18,10 +18,10 @@ use crate::size::FontSize;
 use crate::units::Units;
 use std::alloc::{AllocError, Global};
 use tt_core::{Halves, Scale, i16_at};
-use tt_exec::{Functions, Parts};
+use tt_exec::{Copies, Functions, Parts};
 use tt_metrics::Metrics;
 use tt_points_zones::{Originals, Zones};
-use tt_state::{GraphicsState, Point};
+use tt_state::GraphicsState;
 
 /// A control value in 26.6 pixels.
 fn control_value(size: FontSize, cvt: &[u8], i: usize) -> i32
@@ -85,6 +85,26 @@ pub(crate) fn begun_parts<'a>(
     })
 }
 
+/// Parts at the same size, with nothing that a run copies.
+pub(crate) fn without_contents<'a>(alloc: Global, parts: &Parts<'a>) -> Result<Parts<'a>, AllocError>
+    requires { AreParts (parts_of parts.now) }
+    ensures { IfOk result (λ p. AreParts (parts_of p)) }
+{
+    Ok(Parts {
+        scale: parts.scale,
+        ppem: parts.ppem,
+        cvt: Vec::new(alloc),
+        storage: Vec::new(alloc),
+        zones: without_glyph(alloc, parts.scale.halves, 0)?,
+        functions: Functions::new(alloc),
+        instructions: Functions::new(alloc),
+        state: parts.state,
+        tolerance: parts.tolerance,
+        skip_glyphs: parts.skip_glyphs,
+        default_state: parts.default_state,
+    })
+}
+
 /// Sets the vectors, the reference points, the zone pointers and the loop to their defaults.
 fn pointers_set_back(state: &GraphicsState) -> GraphicsState
     ensures { result ≡ pointers_set_back state.now }
@@ -138,32 +158,28 @@ fn originals_by(scale: Scale, units: Option<Units>) -> Originals
     }
 }
 
-/// A copy of some points, in the given memory.
-fn copied(mut room: Vec<Point>, points: &[Point]) -> Result<Vec<Point>, AllocError>
-    ensures { IfOk result (λ v. v.items ≡ points.now) }
-{
-    room.clear();
-    room.extend_from_slice(points)?;
-    Ok(room)
-}
-
 /// A glyph's zones: the twilight points after the control value program, and the outline's points and contours. They
-/// reuse the memory of other zones, whose contents are dropped.
+/// reuse the memory of other zones, whose contents are dropped. The twilight points are copied by an allowance.
 pub(crate) fn glyph_zones(
     room: Zones,
     parts: &Parts,
     units: Option<Units>,
     outline: &Outline,
     grid: &[(i32, i32); 4],
+    copies: &mut Copies,
 ) -> Result<Zones, AllocError>
     requires parts { AreParts (parts_of parts.now) }
     requires outline { IsOutline (outline_of outline.now) }
     requires grid { ArePhantom (phantom_of grid.now) }
+    requires paid { length parts.now.zones.twilight.items ≤ copies.old.left }
     ensures exact { IfOk result (λ z. zones_view z ≡ (parts_with (parts_of parts.now) (option_map units_view units.entry) (outline_of outline.now) (phantom_of grid.now)).zones) }
     ensures valid { IfOk result (λ z. IsZones (zones_view z)) }
+    ensures used { copies.new.left + length parts.now.zones.twilight.items ≡ copies.old.left }
+    ensures rest { copies.new.rest ≡ copies.old.rest }
 {
+    let twilight = copies.copy_points(room.twilight, &parts.zones.twilight)?;
     Ok(Zones {
-        twilight: copied(room.twilight, &parts.zones.twilight)?,
+        twilight,
         glyph: glyph_zone(room.glyph, units, outline, grid)?,
         contours: contours(room.contours, &outline.ends)?,
         originals: originals_by(parts.scale, units),

@@ -1,0 +1,123 @@
+//! The copies for a run, and the payment for them (profile). Only `Parts::pay` makes an allowance. Each copy here uses
+//! up what it copies, so nothing is copied twice or before it is paid for. No clause sees a copy that is made without
+//! these methods.
+
+ghost use Rattle.std.specs.Prelude.{◌≡◌, ◌+◌, ◌≤◌, length, IfOk, OnOk};
+ghost use Rattle.tt_exec.specs.Copies.{PaysFor, of_table};
+ghost use Rattle.tt_exec.specs.Parts.{parts_of};
+ghost use Rattle.tt_exec.specs.Work.{copied_of};
+
+use crate::function_table::Functions;
+use crate::parts::Parts;
+use crate::work::Work;
+use std::alloc::AllocError;
+use std::marker::Model;
+use tt_state::Point;
+
+/// An allowance of copies. A clause sees how many things may still be copied, and the work that remained after the
+/// payment.
+#[derive(Drop)]
+pub struct Copies {
+    left: u128,
+    rest: Option<u64>,
+}
+
+impl Model for Copies {
+    ghost use Rattle.tt_exec.specs.Copies as paid;
+
+    ghost Value = { paid.Copies };
+
+    ghost view = { λ c. record { left = c.left; rest = c.rest } };
+}
+
+/// The count of things that are copied for a table of functions.
+fn of_table(table: &Functions) -> usize
+    ensures { result ≡ of_table table.now }
+{
+    table.len()
+}
+
+impl Copies {
+    /// Uses up a count.
+    fn take(&mut self, count: usize)
+        requires { count ≤ self.old.left }
+        ensures used { self.new.left + count ≡ self.old.left }
+        ensures rest { self.new.rest ≡ self.old.rest }
+    {
+        self.left -= count as u128;
+    }
+
+    /// Copies points into the given memory, whose contents are dropped.
+    pub fn copy_points(&mut self, room: Vec<Point>, points: &[Point]) -> Result<Vec<Point>, AllocError>
+        requires { length points.now ≤ self.old.left }
+        ensures exact { IfOk result (λ v. v.items ≡ points.now) }
+        ensures used { self.new.left + length points.now ≡ self.old.left }
+        ensures rest { self.new.rest ≡ self.old.rest }
+    {
+        self.take(points.len());
+        let mut copy = room;
+        copy.clear();
+        copy.extend_from_slice(points)?;
+        Ok(copy)
+    }
+
+    /// Copies values, reusing memory.
+    pub(crate) fn copy_values(&mut self, room: &mut Vec<i32>, values: &[i32]) -> Result<(), AllocError>
+        requires { length values.now ≤ self.old.left }
+        ensures exact { OnOk result (room.new.items ≡ values.now) }
+        ensures used { self.new.left + length values.now ≡ self.old.left }
+        ensures rest { self.new.rest ≡ self.old.rest }
+    {
+        self.take(values.len());
+        room.clear();
+        room.extend_from_slice(values)
+    }
+
+    /// Copies a table of functions, reusing memory.
+    pub(crate) fn copy_table<'a>(
+        &mut self,
+        room: &mut Functions<'a>,
+        table: &Functions<'a>,
+    ) -> Result<(), AllocError>
+        requires { of_table table.now ≤ self.old.left }
+        ensures exact { OnOk result (room.new ≡ table.now) }
+        ensures used { self.new.left + of_table table.now ≡ self.old.left }
+        ensures rest { self.new.rest ≡ self.old.rest }
+    {
+        self.take(of_table(table));
+        room.copy_from(table)
+    }
+}
+
+impl Parts<'_> {
+    /// The count of things that a run beginning with these parts copies.
+    fn copied(&self) -> u128
+        ensures { result ≡ copied_of (parts_of self.now) }
+    {
+        let values = self.cvt.len() as u128 + self.storage.len() as u128;
+        let points = self.zones.twilight.len() as u128;
+        let definitions = of_table(&self.functions) as u128 + of_table(&self.instructions) as u128;
+        values + points + definitions
+    }
+
+    /// Pays for the copies of a run that begins with these parts, once. None if there is not enough work: then no work
+    /// remains.
+    pub fn pay(&self, work: &mut Work) -> Option<Copies>
+        ensures { PaysFor (copied_of (parts_of self.now)) work.old.left result work.new.left }
+    {
+        let cost = self.copied();
+        let Some(left) = work.left else {
+            return Some(Copies {
+                left: cost,
+                rest: None,
+            });
+        };
+        if cost > left as u128 {
+            work.left = Some(0);
+            return None;
+        }
+        let rest = Some(left - cost as u64);
+        work.left = rest;
+        Some(Copies { left: cost, rest })
+    }
+}
