@@ -48,7 +48,11 @@ impl Copies {
     }
 
     /// Copies points into the given memory, whose contents are dropped.
-    pub fn copy_points(&mut self, room: Vec<Point>, points: &[Point]) -> Result<Vec<Point>, AllocError>
+    pub fn copy_points(
+        &mut self,
+        room: Vec<Point>,
+        points: &[Point],
+    ) -> Result<Vec<Point>, AllocError>
         requires { length points.now ≤ self.old.left }
         ensures exact { IfOk result (λ v. v.items ≡ points.now) }
         ensures used { self.new.left + length points.now ≡ self.old.left }
@@ -62,7 +66,11 @@ impl Copies {
     }
 
     /// Copies values, reusing memory.
-    pub(crate) fn copy_values(&mut self, room: &mut Vec<i32>, values: &[i32]) -> Result<(), AllocError>
+    pub(crate) fn copy_values(
+        &mut self,
+        room: &mut Vec<i32>,
+        values: &[i32],
+    ) -> Result<(), AllocError>
         requires { length values.now ≤ self.old.left }
         ensures exact { OnOk result (room.new.items ≡ values.now) }
         ensures used { self.new.left + length values.now ≡ self.old.left }

@@ -86,7 +86,10 @@ pub(crate) fn begun_parts<'a>(
 }
 
 /// Parts at the same size, with nothing that a run copies.
-pub(crate) fn without_contents<'a>(alloc: Global, parts: &Parts<'a>) -> Result<Parts<'a>, AllocError>
+pub(crate) fn without_contents<'a>(
+    alloc: Global,
+    parts: &Parts<'a>,
+) -> Result<Parts<'a>, AllocError>
     requires { AreParts (parts_of parts.now) }
     ensures { IfOk result (λ p. AreParts (parts_of p)) }
 {
