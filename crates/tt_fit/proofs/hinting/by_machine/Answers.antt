@@ -1,22 +1,24 @@
-use Rattle.std.proofs.Common.{◌∙◌, ap, length, arith}
+use Rattle.std.proofs.Common.{◌≡◌, ◌∙◌, ap, length, arith}
 use Rattle.std.specs.Prelude.{option_map}
 use Rattle.tt_exec.specs.MachineState.{Machine}
+use Rattle.tt_exec.specs.Parts.{parts_of}
+use Rattle.tt_fit.proofs.Paid.{copies-spent, copies-paid}
 use Rattle.tt_fit.proofs.Zones.{zone-length}
 use Rattle.tt_fit.specs.Outline.{outline_of, phantom_of}
-use Rattle.tt_fit.specs.Views.{units_view}
+use Rattle.tt_fit.specs.Views.{program_view, units_view}
 use Rattle.tt_fit.specs.Hinting.{by_program, run_of}
 use Rattle.tt_fit.proofs.hinting.by_machine.Goals as goal
 
-pub returns-in_err-run_on-clause-exact : goal.returns-in_err-run_on-clause-exact
+pub returns-in_err-run_paid-clause-exact : goal.returns-in_err-run_paid-clause-exact
 unfolding by_program run_of
-returns-in_err-run_on-clause-exact c =
+returns-in_err-run_paid-clause-exact c =
     grind (
       arith,
       c.in_ok-grid.ensures.exact,
       c.in_ok-put_glyph.ensures.exact,
       c.code_in_glyf.ensures,
-      c.in_err-run_on.ensures.exact,
-      c.from_residual-in_err-run_on.ensures,
+      c.in_err-run_paid.ensures.exact,
+      c.from_residual-in_err-run_paid.ensures,
     )
 
 pub returns-clause-exact : goal.returns-clause-exact
@@ -27,7 +29,7 @@ returns-clause-exact c =
       c.in_ok-grid.ensures.exact,
       c.in_ok-put_glyph.ensures.exact,
       c.code_in_glyf.ensures,
-      c.in_ok-run_on.ensures.exact,
+      c.in_ok-run_paid.ensures.exact,
       c.glyph_points.ensures.exact,
       c.scan.ensures,
       c.in_ok-left_outline.ensures.exact,
@@ -35,7 +37,7 @@ returns-clause-exact c =
 
 pub left_outline-requires-clause-count : goal.left_outline-requires-clause-count
 left_outline-requires-clause-count c =
-    ap length c.glyph_points.ensures.exact ∙ c.in_ok-run_on.ensures.shape.glyph
+    ap length c.glyph_points.ensures.exact ∙ c.in_ok-run_paid.ensures.shape.glyph
     ∙ ap (λ (m : Machine). length m.state.zones.glyph) c.in_ok-put_glyph.ensures.exact
     ∙ zone-length (option_map units_view c.args.program.units) (outline_of c.args.outline)
     (phantom_of c.in_ok-grid.grid)
