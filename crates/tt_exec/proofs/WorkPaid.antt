@@ -1,5 +1,5 @@
 -- The work of a run, step by step, and its laws.
-use Rattle.std.proofs.Common.{◌≡◌, ℕ, zero, suc, ◌+◌, ◌-◌, ◌<◌, ◌≤◌, nat_le, Bool, true, false, if◌then◌else◌, ◌⊎◌, inl, inr, Option, Some, None, Result, Ok, Err, sym, ◌∙◌, ap, refl, arith}
+use Rattle.std.proofs.Common.{◌≡◌, ℕ, zero, suc, ◌+◌, ◌-◌, ◌≤◌, nat_le, Bool, true, false, if◌then◌else◌, ◌⊎◌, inl, inr, Option, Some, None, Result, Ok, Err, sym, ◌∙◌, ap, refl, arith}
 use Rattle.std.proofs.lemmas.Bool.Decides.{nat_tests}
 use Rattle.tt_core.specs.Faults.{Fault}
 use Rattle.tt_core.specs.Limits.{step_limit}
@@ -93,16 +93,6 @@ charged_spent : (told : Fault) (cost : ℕ) (left : Option ℕ) (fault : Fault) 
     → fault ≡ told
 charged_spent told cost None fault e = absurd (cc)
 charged_spent told cost (Some left) fault e = spent_by (nat_le cost left) (Some (left - cost)) told fault e
-
--- a charge, whichever fault it would tell
-pub charge_met : (cost left : ℕ) (fault : Fault) → cost ≤ left
-    → charged fault cost (Some left) ≡ enough (Some (left - cost))
-charge_met cost left fault within =
-    let is : nat_le cost left ≡ true = grind (arith, nat_tests, within) in rw is refl
-
-pub charge_not_met : (cost left : ℕ) (fault : Fault) → left < cost → charged fault cost (Some left) ≡ spent fault
-charge_not_met cost left fault less =
-    let is : nat_le cost left ≡ false = grind (arith, nat_tests, less) in rw is refl
 
 enough_by : (b : Bool) (cost left : ℕ) (told : Fault) (after : Option ℕ) → nat_le cost left ≡ b
     → (if b then enough (Some (left - cost)) else spent told) ≡ enough after
