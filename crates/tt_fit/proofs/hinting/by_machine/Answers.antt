@@ -1,7 +1,8 @@
-use Rattle.std.proofs.Common.{◌≡◌, ◌∙◌, ap, length, arith}
+use Rattle.std.proofs.Common.{◌∙◌, ap, length, arith, rules}
 use Rattle.std.specs.Prelude.{option_map}
 use Rattle.tt_exec.specs.MachineState.{Machine}
 use Rattle.tt_exec.specs.Parts.{parts_of}
+use Rattle.tt_exec.specs.Views.{code_of}
 use Rattle.tt_fit.proofs.Paid.{copies-spent, copies-paid}
 use Rattle.tt_fit.proofs.Zones.{zone-length}
 use Rattle.tt_fit.specs.Outline.{outline_of, phantom_of}
@@ -41,3 +42,30 @@ left_outline-requires-clause-count c =
     ∙ ap (λ (m : Machine). length m.state.zones.glyph) c.in_ok-put_glyph.ensures.exact
     ∙ zone-length (option_map units_view c.args.program.units) (outline_of c.args.outline)
     (phantom_of c.in_ok-grid.grid)
+
+pub returns-in_default-clause-work : goal.returns-in_default-clause-work
+returns-in_default-clause-work c =
+    copies-spent (parts_of c.args.parts.now) (program_view c.args.program) (outline_of c.args.outline)
+    (phantom_of c.in_ok-grid.grid) c.args.work.now.left c.glyf_fault.result c.in_ok-grid.ensures.exact
+    c.in_default.ensures.0 c.glyf_fault.ensures.exact
+
+pub run_paid-requires-clause-paid : goal.run_paid-requires-clause-paid
+run_paid-requires-clause-paid c = c.in_ok-put_glyph.ensures.rest ∙ c.in-Some.ensures.1
+
+pub returns-in_err-run_paid-clause-work : goal.returns-in_err-run_paid-clause-work
+returns-in_err-run_paid-clause-work c =
+    let works =
+    copies-paid (parts_of c.args.parts.now) (program_view c.args.program) (outline_of c.args.outline)
+    (phantom_of c.in_ok-grid.grid) c.args.work.now.left c.pay.new.work.left (code_of c.code_in_glyf.result)
+    c.put_glyph.new.machine c.in_ok-grid.ensures.exact c.in-Some.ensures.2 c.code_in_glyf.ensures
+    c.in_ok-put_glyph.ensures.exact in
+    rw works (search rules)
+
+pub returns-clause-work : goal.returns-clause-work
+returns-clause-work c =
+    let works =
+    copies-paid (parts_of c.args.parts.now) (program_view c.args.program) (outline_of c.args.outline)
+    (phantom_of c.in_ok-grid.grid) c.args.work.now.left c.pay.new.work.left (code_of c.code_in_glyf.result)
+    c.put_glyph.new.machine c.in_ok-grid.ensures.exact c.in-Some.ensures.2 c.code_in_glyf.ensures
+    c.in_ok-put_glyph.ensures.exact in
+    works ∙ c.in_ok-run_paid.ensures.work
