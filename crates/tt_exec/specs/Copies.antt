@@ -1,17 +1,12 @@
 -- No part of the standard: the copies for a run, and the payment for them (profile).
-use Rattle.std.specs.Prelude.{◌≡◌, ℕ, List, length, Option, Some, None}
+use Rattle.std.specs.Prelude.{◌≡◌, ℕ, Option, Some, None}
 use Rattle.tt_core.specs.Faults.{Fault}
-use Rattle.tt_exec.specs.MachineState.{Body}
 use Rattle.tt_exec.specs.Work.{enough, spent, charged}
 
 -- what a payment allows: the count of things that may still be copied, and the work that remained after the payment
 pub record Copies : Type 0 where
   pub left : ℕ
   pub rest : Option ℕ
-
--- the things copied for a table of functions
-abbrev pub of_table : List (ℕ × Body) → ℕ
-of_table fs = length fs
 
 -- A payment of a cost, from the remaining work before it and after it. If there was enough, so many things may be
 -- copied. If not, nothing may be copied, and no work remains. Whichever fault is told.

@@ -3,9 +3,9 @@
 //! these methods.
 
 ghost use Rattle.std.specs.Prelude.{◌≡◌, ◌+◌, ◌≤◌, length, IfOk, OnOk};
-ghost use Rattle.tt_exec.specs.Copies.{PaysFor, of_table};
+ghost use Rattle.tt_exec.specs.Copies.{PaysFor};
 ghost use Rattle.tt_exec.specs.Parts.{parts_of};
-ghost use Rattle.tt_exec.specs.Work.{copied_of};
+ghost use Rattle.tt_exec.specs.Work.{copied_of, table_copies};
 
 use crate::function_table::Functions;
 use crate::parts::Parts;
@@ -28,13 +28,6 @@ impl Model for Copies {
     ghost Value = { paid.Copies };
 
     ghost view = { λ c. record { left = c.left; rest = c.rest } };
-}
-
-/// The count of things that are copied for a table of functions.
-fn of_table(table: &Functions) -> usize
-    ensures { result ≡ of_table table.now }
-{
-    table.len()
 }
 
 impl Copies {
@@ -87,12 +80,12 @@ impl Copies {
         room: &mut Functions<'a>,
         table: &Functions<'a>,
     ) -> Result<(), AllocError>
-        requires { of_table table.now ≤ self.old.left }
+        requires { table_copies table.now ≤ self.old.left }
         ensures exact { OnOk result (room.new ≡ table.now) }
-        ensures used { self.new.left + of_table table.now ≡ self.old.left }
+        ensures used { self.new.left + table_copies table.now ≡ self.old.left }
         ensures rest { self.new.rest ≡ self.old.rest }
     {
-        self.take(of_table(table));
+        self.take(table.copies());
         room.copy_from(table)
     }
 }
@@ -104,7 +97,7 @@ impl Parts<'_> {
     {
         let values = self.cvt.len() as u128 + self.storage.len() as u128;
         let points = self.zones.twilight.len() as u128;
-        let definitions = of_table(&self.functions) as u128 + of_table(&self.instructions) as u128;
+        let definitions = self.functions.copies() as u128 + self.instructions.copies() as u128;
         values + points + definitions
     }
 
