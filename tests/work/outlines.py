@@ -1,0 +1,113 @@
+"""Lines whose outlines have as many points or crossings as a line may have, or more."""
+import small_fonts as small
+from asking import DRAWN, REFUSED, told
+from counting import counted, edges_of
+
+POINTS, CROSSINGS = 1_000_000, 16_000_000
+
+
+def composite_of(*glyphs):
+    return small.composite(*[small.record(small.OFFSETS, glyph, 0, 0) for glyph in glyphs])
+
+
+def points(asked):
+    """Composites of empty glyphs, each of which has four phantom points, as each composite has."""
+    # Glyphs by four points each: 32 empty ones and their composite, 32 such, and 32 such.
+    small_one, middle, large = 33, 1057, 33_825
+    larges, rest = divmod(POINTS // 4, large)
+    middles, rest = divmod(rest - 1, middle)
+    # Behind these come a composite of small ones, a small one, and one of the rest.
+    smalls, rest = divmod(rest - 1 - small_one - 1, small_one)
+    assert larges * large + 1 + middles * middle + 1 + smalls * small_one + small_one + 1 + rest == POINTS // 4
+    shown = larges + 5
+    of_smalls, of_empty, empty, one, two = range(shown + 1, shown + 6)
+    glyphs = [
+        *[composite_of(*[of_smalls] * 32)] * larges,
+        composite_of(*[of_smalls] * middles),
+        composite_of(*[of_empty] * smalls),
+        composite_of(*[empty] * 32),
+        composite_of(*[empty] * rest),
+        # One more: 6 and 7 in place of three times 4.
+        composite_of(*[empty] * (rest - 3), one, two),
+    ]
+    hidden = [composite_of(*[of_empty] * 32), composite_of(*[empty] * 32), b"", small.dots(1), small.dots(2)]
+    asked.font.write_bytes(small.line_font(glyphs, hidden=hidden))
+    text = small.line_text(shown)
+    most, more = text[:-1], text[:-2] + text[-1]
+    name = f"points: {POINTS:,}"
+    told(name, asked.draw("best", 16, most), asked.draw("none", 16, most))
+    told(f"{name}, each glyph twice", asked.draw("best", 16, most + most), asked.draw("none", 16, most + most))
+    told(f"{name}, measured", asked.measure("best", 16, most), DRAWN)
+    told(f"{name}, and 1", asked.draw("best", 16, more), REFUSED)
+    told(f"{name}, and 1, measured", asked.measure("best", 16, more), REFUSED)
+    told(f"{name}, and 1, without a bound", asked.draw("fallback", 16, more), DRAWN)
+
+
+class Crossing:
+    """A font whose one glyph crosses rows often. The characters A and B are this glyph, the first with an advance. A
+    prep that sets vectors alone asks for no dropouts; without one they are filled.
+    """
+
+    def __init__(self, contours, size, em, advance, ascent, filled=False):
+        scale = size * 64 // em
+        assert scale * em == size * 64
+        xs = [x for contour in contours for x, *_ in contour]
+        glyph = small.simple(*contours)
+        metrics = [(0, 0), (advance, min(xs)), (0, min(xs))]
+        others = {} if filled else {"prep": b"\x00"}
+        self.size = size
+        self.data = small.font([b"", glyph, glyph], metrics, em=em, ascent=ascent, others=others)
+        scaled = [[(x * scale, y * scale, on) for x, y, on in contour] for contour in map(with_flags, contours)]
+        self.count = counted([edge for contour in scaled for edge in edges_of(contour)], filled)
+
+
+def with_flags(contour):
+    """Points as (x, y, on)."""
+    return [point if len(point) == 3 else (*point, 1) for point in contour]
+
+
+def at_the_limit(asked, name, font, same=False):
+    """Cases of as many places as the crossings allow, and of one more: drawn, measured and grown."""
+    asked.font.write_bytes(font.data)
+    most = CROSSINGS // font.count
+    line, more = "A" + "B" * (most - 1), "A" + "B" * most
+    name = f"crossings: {name}, {most} times"
+    picture = asked.draw("none", font.size, line) if same else DRAWN
+    told(f"{name}: drawn", asked.draw("best", font.size, line), picture)
+    told(f"{name}: measured", asked.measure("best", font.size, line), DRAWN)
+    told(f"{name}: grown", asked.draw("best", font.size, line, "--grow"), DRAWN)
+    told(f"{name} and once: drawn", asked.draw("best", font.size, more), REFUSED)
+    told(f"{name} and once: measured", asked.measure("best", font.size, more), REFUSED)
+    told(f"{name} and once: grown", asked.draw("best", font.size, more, "--grow"), REFUSED)
+    told(f"{name} and once: without a bound", asked.draw("none", font.size, more), DRAWN)
+
+
+def zigzag(low, high, points=160):
+    return [(it, high if it % 2 else low) for it in range(points)]
+
+
+def flat(rows, points=16384):
+    """131,055 edges that meet no row, and two sides that are so many rows high, at a pixel for each unit."""
+    return [(0, 0), (0, rows)] + [(it % 2, 0, 0) for it in range(points - 2)]
+
+
+def crossings(asked):
+    """Rows inside of the picture and outside, edges that meet none, bands of 2,048 rows, dropouts and bitmaps."""
+    # 16 units of 26.6 for each of the font's: 999 rows.
+    inside = Crossing([zigzag(0, 3996)], 250, 1000, 4, 3996)
+    assert inside.count == 160_000
+    at_the_limit(asked, "160 edges over 999 rows", inside, same=True)
+    below = Crossing([zigzag(-4996, -1000)], 250, 1000, 4, 3996)
+    assert below.count == 160_000
+    at_the_limit(asked, "below the picture", below, same=True)
+    filled = Crossing([zigzag(0, 3996)], 250, 1000, 4, 3996, filled=True)
+    assert filled.count == 799_774
+    at_the_limit(asked, "with dropouts", filled)
+    for rows in 0, 2048, 2049:
+        at_the_limit(asked, f"131,057 edges, {rows:,} rows", Crossing([flat(rows)], 16, 16, 4, 2050), same=True)
+    # Two specks at the corners of a box: 300 units of 26.6 for each of the font's.
+    specks = [(0, 0), (1, 0), (0, 0)], [(1746, 872), (1747, 872), (1746, 872)]
+    at_the_limit(asked, "a bitmap of 8,189 pixels by 4,088", Crossing(specks, 300, 64, 1750, 873, filled=True))
+    plain = Crossing(specks, 300, 64, 1750, 873)
+    asked.font.write_bytes(plain.data)
+    told("crossings: no bitmap without dropouts", asked.draw("best", plain.size, "A" + "B" * 4095), DRAWN)
