@@ -95,6 +95,49 @@ def random_rows(edges=3900, others=PLAIN):
     return line_of([scattered(edges, 0, HEIGHT, 0, WIDTH, 5)], others=others, **LARGE)
 
 
+# A pixel for each unit, at 300 pixels per em.
+UNITS = {"size": 300, "em": 300, "advance": 16380}
+
+
+def shuffled(rows, on=1):
+    """Glyphs whose edges have another order in each row, so that each row is sorted anew: as many as may be."""
+    each = POINTS * (rows + 1) if on else POINTS * (rows // 2 + 8)
+    count = max(1, min(61, 16_000_000 // each))
+    choose = random.Random(rows)
+    glyph = small.simple([(choose.randrange(16380), rows if it % 2 else 0, on) for it in range(POINTS)])
+    return line_of([glyph] * count, others=PLAIN, ascent=rows, **UNITS)
+
+
+def all_edges(rows, others=PLAIN):
+    """61 glyphs of 131,072 edges, the most that the points allow."""
+    glyph = small.simple([(it, rows if it % 2 else 0, 0) for it in range(POINTS - 4)])
+    return line_of([glyph, *again(60)], others=others, ascent=max(rows, 1), **UNITS)
+
+
+def level_edges(pens=970):
+    """16,384 level edges along the centre line of a row, at so many places: each is a span of its own."""
+    glyph = small.simple([(32760 * (it % 2), 1) for it in range(POINTS)])
+    tables = {**PLAIN, "cmap": small.line_cmap(2)}
+    font = small.font([b"", glyph, glyph], [(0, 0), (32760, 0), (0, 0)], em=600, ascent=2, others=tables)
+    first, second = small.line_text(2)
+    return Hostile(font, first + second * pens, 300)
+
+
+def deep_beside(count=55, code=None):
+    """16,000 points carried up eight levels, and beside them 31 empty components on each level."""
+    inner = [composite_of([count + it + 2, *[count + 8] * 31], code) for it in range(6)]
+    hidden = [*inner, small.dots(16000), b""]
+    shown = [composite_of([count + 1, *[count + 8] * 31], code)] * count
+    font = small.line_font(shown, hidden=hidden)
+    return Hostile(font, small.line_text(count))
+
+
+def missing(count=4096):
+    """A text of characters that the font lacks."""
+    font = small.line_font([small.simple(small.square(0, 0, 64, 64))])
+    return Hostile(font, "".join(map(chr, range(0x6000, 0x6000 + count))))
+
+
 def pens(count=1950):
     """A rectangle as large as the picture at so many places: 8 million spans of 16,383 pixels."""
     glyph = small.simple(small.square(-WIDTH, 0, 0, HEIGHT))
@@ -242,6 +285,19 @@ FONTS = {
     "beyond_30": lambda: beyond(30),
     "beyond_scattered": beyond_scattered,
     "random_rows": random_rows,
+    "shuffled_4": lambda: shuffled(4),
+    "shuffled_16": lambda: shuffled(16),
+    "shuffled_60": lambda: shuffled(60),
+    "shuffled_250": lambda: shuffled(250),
+    "shuffled_970": lambda: shuffled(970),
+    "shuffled_curves": lambda: shuffled(16, 0),
+    "edges_none_in_a_row": lambda: all_edges(0, {}),
+    "edges_each_in_a_row": lambda: all_edges(15),
+    "level_edges": level_edges,
+    "deep_beside": deep_beside,
+    # ENDF, which is refused: each glyph is made anew without its programs
+    "deep_refused": lambda: deep_beside(code=b"\x2d"),
+    "missing": missing,
     "random_filled": lambda: random_rows(1300, {}),
     "pens": pens,
     "rectangles": rectangles,

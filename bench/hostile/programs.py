@@ -84,6 +84,10 @@ FONTS = {
     "lines": lambda: of_code("B1 00 01 86", tail="", before=b""),
     "moves": lambda: of_code("B1 03 00 FF", tail=""),
     "pushes": lambda: looping(pushes(255) + b"\x22", b""),
+    "pushes_of_eight": lambda: of_code("B7 0001020304050607", 8, "22"),
+    "words_of_eight": lambda: of_code("BF 00000001000200030004000500060007", 8, "22"),
+    "jumps": lambda: of_code("B0 01 1C", 8, ""),
+    "jumps_if": lambda: of_code("B1 01 01 78 B1 01 00 79", 4, ""),
     # IP of 7,900 points
     "leaning": lambda: looping(pushes(7905) + b"\xb8" + small.words(7900) + bytes.fromhex("17 39 22")),
     # 126 pairs of point 3, all at 16 pixels per em
