@@ -28,4 +28,5 @@ def chosen(words):
 
 
 def is_drawn_only(name):
+    """Whether a font is of a family whose fonts are only drawn."""
     return any(name in FAMILIES[it] for it in DRAWN_ONLY)

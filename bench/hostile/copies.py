@@ -1,4 +1,4 @@
-"""Fonts whose tables are large: each run of a program begins with a copy of control values, storage, points and more."""
+"""Fonts with large tables: each run of a program begins with a copy of control values, storage, points and bodies."""
 import array
 import struct
 
@@ -12,11 +12,12 @@ SHORT = b"\x01"
 
 
 def values(count):
+    """The table of this many control values."""
     return {"cvt ": bytes([0, 64]) * count} if count else {}
 
 
 def copied(count=TEXT, cvt=0, twilight=0, storage=0, glyph=None, size=16, others=(), **sizes):
-    """So many glyphs with a program of a byte, in a font with such tables."""
+    """Glyphs with a program of one byte, in a font with tables of these sizes."""
     tables = {"maxp": small.maxp(count + 1, twilight, storage), **values(cvt), **dict(others)}
     return line_of([glyph or dotted(SHORT)] * count, size, others=tables, **sizes)
 
@@ -25,7 +26,8 @@ def number(value):
     """Pushes a number of at most 65,535: above 32,767 as a sum."""
     if value < 32768:
         return b"\xb8" + small.words(value)
-    return b"\xb9" + small.words(32767, min(value - 32767, 32767)) + b"\x60" + (b"\xb0\x01\x60" if value == 65535 else b"")
+    sum_of_two = b"\xb9" + small.words(32767, min(value - 32767, 32767)) + b"\x60"
+    return sum_of_two + b"\xb0\x01\x60" if value == 65535 else sum_of_two
 
 
 def functions(numbers):

@@ -22,6 +22,7 @@ LARGE = {**outlines.LARGE, "others": outlines.PLAIN}
 
 
 def two_and_rectangles():
+    """1,950 rectangles as large as the picture."""
     glyph = small.simple(small.square(-outlines.WIDTH, 0, 0, outlines.HEIGHT))
     return beside([glyph] * 1950, bearing=-outlines.WIDTH, **LARGE)
 
@@ -32,10 +33,12 @@ def two_and_tall():
 
 
 def two_and_rows():
+    """Nearly 16,000,000 crossings of rows, by edges that cross each other."""
     return beside([outlines.scattered(3900, 0, outlines.HEIGHT, 0, outlines.WIDTH, 5)], **LARGE)
 
 
 def two_and_far():
+    """64 bitmaps of 65,530 columns and rows, nearly all of it outside of the picture."""
     far = outlines.FAR
     glyph = small.simple(outlines.speck(-far, -far), outlines.speck(far, far, -1))
     return beside([glyph] * 64, bearing=-far, **outlines.DISTANT)

@@ -3,8 +3,7 @@ from functools import partial
 
 from hostile.parts import POINTS, SLANTED, looping, spread
 
-# What takes the program elsewhere, or takes bytes behind it: ELSE, JMPR, LOOPCALL, CALL, FDEF, ENDF, IF, JROT, JROF, IDEF
-# and the pushes.
+# Instructions that jump, or that bytes follow: ELSE, JMPR, LOOPCALL, CALL, FDEF, ENDF, IF, JROT, JROF, IDEF, pushes.
 LEFT_OUT = {0x1B, 0x1C, 0x2A, 0x2B, 0x2C, 0x2D, 0x40, 0x41, 0x58, 0x78, 0x79, 0x89, *range(0xB0, 0xC0)}
 # PUSHB of eight numbers: points of the glyph, all of them in the stack.
 OPERANDS = bytes.fromhex("B7 03 01 02 00 03 02 00 01")

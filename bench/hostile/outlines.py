@@ -87,6 +87,7 @@ def scattered(points, low, high, left, right, seed):
 
 
 def beyond_scattered():
+    """Edges that cross 65,530 rows, and each other."""
     return line_of([scattered(POINTS, -FAR, FAR, -3000, 3000, 3)], others=PLAIN, **DISTANT)
 
 

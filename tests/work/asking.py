@@ -19,9 +19,11 @@ class Asked:
         return ran.returncode, ran.stdout, ran.stderr.decode(errors="replace").splitlines()
 
     def draw(self, fit, size, text, *options):
+        """Draws a text."""
         return self.run("draw", "--fit", fit, "--size", size, *options, text=text)
 
     def measure(self, fit, size, text):
+        """Measures a text."""
         return self.run("measure", "--fit", fit, "--size", size, text=text)
 
 

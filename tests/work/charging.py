@@ -86,10 +86,12 @@ def definition(op, value, body=()):
 
 
 def code_of(steps):
+    """The code of these steps."""
     return b"".join(code for code, _ in steps)
 
 
 def work_of(steps):
+    """The work of these steps, each once."""
     return sum(work for _, work in steps)
 
 

@@ -57,6 +57,7 @@ def extent(edges, axis):
 
 
 def bands(edges):
+    """How many bands the rows of the box are."""
     return (extent(edges, 1) + BAND_ROWS - 1) // BAND_ROWS
 
 

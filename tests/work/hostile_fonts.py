@@ -43,6 +43,7 @@ MEASURED = {
 
 
 def hostile(asked):
+    """Draws and measures each font, and prints the slowest."""
     slowest = 0.0, ""
     jobs = [("draw", name, end) for name, end in DRAWN.items()]
     jobs += [(job, name, end) for name, end in MEASURED.items() for job in ("measure", "draw --grow")]

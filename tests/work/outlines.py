@@ -7,6 +7,7 @@ POINTS, CROSSINGS = 1_000_000, 16_000_000
 
 
 def composite_of(*glyphs):
+    """A composite of these glyphs."""
     return small.composite(*[small.record(small.OFFSETS, glyph, 0, 0) for glyph in glyphs])
 
 
@@ -83,6 +84,7 @@ def at_the_limit(asked, name, font, same=False):
 
 
 def zigzag(low, high, points=160):
+    """A contour of points by turns at a low and a high row, a unit apart."""
     return [(it, high if it % 2 else low) for it in range(points)]
 
 

@@ -1,6 +1,6 @@
-"""Asks the program for lines whose work `--fit best` bounds. `run` calls it with the path of the program and a folder for
-fonts, and says at its head what the parts are; parts that are named after these are tried alone. Prints a line for each
-case, `ok NAME`, or `NAME: ` and what was other; and the slowest of the hostile fonts.
+"""Tries lines whose work `--fit best` bounds. `run` calls this script with the path of the program and a folder for
+fonts. Parts named after these are tried alone. Prints a line for each case, `ok NAME`, or `NAME -- ` and the
+difference; and the slowest of the hostile fonts.
 """
 import sys
 from pathlib import Path
@@ -16,6 +16,7 @@ PARTS = programs, functions, weights, values, points, crossings, hostile
 
 
 def main():
+    """Tries the parts, or those that the command line names."""
     asked = Asked(sys.argv[1], Path(sys.argv[2]))
     for part in PARTS:
         if part.__name__ in sys.argv[3:] or not sys.argv[3:]:
