@@ -1,23 +1,30 @@
-"""Each instruction in a loop: eight small numbers are pushed, the instruction runs, and the stack is cleared."""
+"""Each instruction in a loop: eight small numbers are pushed, the instruction runs four times, the stack is cleared."""
 from functools import partial
 
 from hostile.parts import POINTS, SLANTED, looping, spread
+from hostile.programs import UNNAMED
 
 # Instructions that jump, or that bytes follow: ELSE, JMPR, LOOPCALL, CALL, FDEF, ENDF, IF, JROT, JROF, IDEF, pushes.
-LEFT_OUT = {0x1B, 0x1C, 0x2A, 0x2B, 0x2C, 0x2D, 0x40, 0x41, 0x58, 0x78, 0x79, 0x89, *range(0xB0, 0xC0)}
+JUMPS = {0x1B, 0x1C, 0x2A, 0x2B, 0x2C, 0x2D, 0x40, 0x41, 0x58, 0x78, 0x79, 0x89, *range(0xB0, 0xC0)}
+LEFT_OUT = {*JUMPS, *UNNAMED}
 # PUSHB of eight numbers: points of the glyph, all of them in the stack.
 OPERANDS = bytes.fromhex("B7 03 01 02 00 03 02 00 01")
 CLEAR = b"\x22"
 
 
+def rounds_of(op):
+    """Four rounds of an instruction. Where it takes more than there is, it goes on with less."""
+    return (OPERANDS + bytes([op]) * 4 + CLEAR) * 4
+
+
 def alone(op):
     """The instruction by vectors at a slant, in a glyph of four points."""
-    return looping((OPERANDS + bytes([op]) + CLEAR) * 4)
+    return looping(rounds_of(op))
 
 
 def beside_points(op):
     """The instruction in a glyph of 16,384 points."""
-    return looping((OPERANDS + bytes([op]) + CLEAR) * 4, SLANTED, spread(POINTS), deep=False)
+    return looping(rounds_of(op), SLANTED, spread(POINTS), deep=False)
 
 
 FONTS = {f"op_{op:02X}": partial(alone, op) for op in range(0x100) if op not in LEFT_OUT}

@@ -67,11 +67,11 @@ def with_flags(contour):
     return [point if len(point) == 3 else (*point, 1) for point in contour]
 
 
-def at_the_limit(asked, name, font, same=False):
+def at_the_limit(asked, name, font, same=False, next_to="B"):
     """Cases of as many places as the crossings allow, and of one more: drawn, measured and grown."""
     asked.font.write_bytes(font.data)
     most = CROSSINGS // font.count
-    line, more = "A" + "B" * (most - 1), "A" + "B" * most
+    line, more = "A" + next_to * (most - 1), "A" + next_to * most
     name = f"crossings: {name}, {most} times"
     picture = asked.draw("none", font.size, line) if same else DRAWN
     told(f"{name}: drawn", asked.draw("best", font.size, line), picture)
@@ -98,7 +98,7 @@ def crossings(asked):
     # 16 units of 26.6 for each of the font's: 999 rows.
     inside = Crossing([zigzag(0, 3996)], 250, 1000, 4, 3996)
     assert inside.count == 160_000
-    at_the_limit(asked, "160 edges over 999 rows", inside, same=True)
+    at_the_limit(asked, "160 edges over 999 rows", inside, same=True, next_to="A")
     below = Crossing([zigzag(-4996, -1000)], 250, 1000, 4, 3996)
     assert below.count == 160_000
     at_the_limit(asked, "below the picture", below, same=True)
