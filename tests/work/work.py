@@ -9,8 +9,8 @@ sys.path.insert(0, str(Path(__file__).resolve().parent.parent / "outlines"))
 
 from asking import Asked
 from hostile_fonts import hostile
-from outlines import crossings, points
 from programs import functions, programs, values, weights
+from shapes import crossings, points
 
 PARTS = programs, functions, weights, values, points, crossings, hostile
 
