@@ -44,22 +44,39 @@ def points(asked):
     told(f"{name}, and 1, without a bound", asked.draw("fallback", 16, more), DRAWN)
 
 
+def edges_alone(count):
+    """A glyph of this many edges in one point, at least two: off the curve, eight for each of its points."""
+    curves, rest = divmod(count - 2, 8)
+    if curves == 1:
+        curves, rest = 0, rest + 8
+    contours = [[(0, 0, 0)] * curves, [(0, 0)] * (rest + 2)]
+    return small.simple(*[it for it in contours if it])
+
+
 class Crossing:
-    """A font whose one glyph crosses rows often. The characters A and B are this glyph, the first with an advance. A
-    prep that sets vectors alone asks for no dropouts; without one they are filled.
+    """A font whose glyph crosses rows often. Three other glyphs make up the rest of the crossings, or one more. A prep
+    that sets vectors alone asks for no dropouts; without one they are filled.
     """
 
     def __init__(self, contours, size, em, advance, ascent, filled=False):
         scale = size * 64 // em
         assert scale * em == size * 64
-        xs = [x for contour in contours for x, *_ in contour]
-        glyph = small.simple(*contours)
-        metrics = [(0, 0), (advance, min(xs)), (0, min(xs))]
-        others = {} if filled else {"prep": b"\x00"}
-        self.size = size
-        self.data = small.font([b"", glyph, glyph], metrics, em=em, ascent=ascent, others=others)
         scaled = [[(x * scale, y * scale, on) for x, y, on in contour] for contour in map(with_flags, contours)]
-        self.count = counted([edge for contour in scaled for edge in edges_of(contour)], filled)
+        self.size, self.count = size, counted([it for contour in scaled for it in edges_of(contour)], filled)
+        self.most = (CROSSINGS - 4) // self.count
+        rest = CROSSINGS - self.most * self.count
+        left = min(x for contour in contours for x, *_ in contour)
+        glyph = small.simple(*contours)
+        glyphs = [b"", glyph, glyph, *map(edges_alone, (rest - rest // 2, rest // 2, rest // 2 + 1))]
+        metrics = [(0, 0), (advance, left), (0, left), (0, 0), (0, 0), (0, 0)]
+        others = {"cmap": small.line_cmap(5)} if filled else {"cmap": small.line_cmap(5), "prep": b"\x00"}
+        self.data = small.font(glyphs, metrics, em=em, ascent=ascent, others=others, long_loca=True)
+
+    def lines(self, one_place=True):
+        """A line with all the crossings that are allowed, one more, and a place of the glyph more."""
+        wide, narrow, rest, last, more = small.line_text(5)
+        places = (narrow if one_place else wide) * (self.most - 1)
+        return places + rest + last + wide, places + rest + more + wide, places + rest + last + narrow + wide
 
 
 def with_flags(contour):
@@ -67,20 +84,20 @@ def with_flags(contour):
     return [point if len(point) == 3 else (*point, 1) for point in contour]
 
 
-def at_the_limit(asked, name, font, same=False, next_to="B"):
-    """Cases of as many places as the crossings allow, and of one more: drawn, measured and grown."""
+def at_the_limit(asked, name, font, same=False, one_place=True):
+    """Cases of as many crossings as are allowed, and of more: drawn, measured and grown."""
     asked.font.write_bytes(font.data)
-    most = CROSSINGS // font.count
-    line, more = "A" + next_to * (most - 1), "A" + next_to * most
-    name = f"crossings: {name}, {most} times"
-    picture = asked.draw("none", font.size, line) if same else DRAWN
-    told(f"{name}: drawn", asked.draw("best", font.size, line), picture)
-    told(f"{name}: measured", asked.measure("best", font.size, line), DRAWN)
-    told(f"{name}: grown", asked.draw("best", font.size, line, "--grow"), DRAWN)
-    told(f"{name} and once: drawn", asked.draw("best", font.size, more), REFUSED)
-    told(f"{name} and once: measured", asked.measure("best", font.size, more), REFUSED)
-    told(f"{name} and once: grown", asked.draw("best", font.size, more, "--grow"), REFUSED)
-    told(f"{name} and once: without a bound", asked.draw("none", font.size, more), DRAWN)
+    most, one_more, place_more = font.lines(one_place)
+    name = f"crossings: {name}, {font.most} times"
+    picture = asked.draw("none", font.size, most) if same else DRAWN
+    told(f"{name}: drawn", asked.draw("best", font.size, most), picture)
+    told(f"{name}: measured", asked.measure("best", font.size, most), DRAWN)
+    told(f"{name}: grown", asked.draw("best", font.size, most, "--grow"), DRAWN)
+    told(f"{name}, and 1: drawn", asked.draw("best", font.size, one_more), REFUSED)
+    told(f"{name}, and 1: measured", asked.measure("best", font.size, one_more), REFUSED)
+    told(f"{name}, and 1: grown", asked.draw("best", font.size, one_more, "--grow"), REFUSED)
+    told(f"{name}, and once: drawn", asked.draw("best", font.size, place_more), REFUSED)
+    told(f"{name}, and once: without a bound", asked.draw("none", font.size, place_more), DRAWN)
 
 
 def zigzag(low, high, points=160):
@@ -98,7 +115,7 @@ def crossings(asked):
     # 16 units of 26.6 for each of the font's: 999 rows.
     inside = Crossing([zigzag(0, 3996)], 250, 1000, 4, 3996)
     assert inside.count == 160_000
-    at_the_limit(asked, "160 edges over 999 rows", inside, same=True, next_to="A")
+    at_the_limit(asked, "160 edges over 999 rows", inside, same=True, one_place=False)
     below = Crossing([zigzag(-4996, -1000)], 250, 1000, 4, 3996)
     assert below.count == 160_000
     at_the_limit(asked, "below the picture", below, same=True)
@@ -112,4 +129,5 @@ def crossings(asked):
     at_the_limit(asked, "a bitmap of 8,189 pixels by 4,088", Crossing(specks, 300, 64, 1750, 873, filled=True))
     plain = Crossing(specks, 300, 64, 1750, 873)
     asked.font.write_bytes(plain.data)
-    told("crossings: no bitmap without dropouts", asked.draw("best", plain.size, "A" + "B" * 4095), DRAWN)
+    wide, narrow = small.line_text(2)
+    told("crossings: no bitmap without dropouts", asked.draw("best", plain.size, narrow * 4095 + wide), DRAWN)
