@@ -73,6 +73,7 @@ class Bench:
             _, status, used = os.wait4(ran.pid, 0)
             ran.returncode = os.waitstatus_to_exitcode(status)
             errors.seek(0)
-            first = errors.readline().decode(errors="replace").strip().removeprefix("tt_render: ")
+            first = errors.readline().decode(errors="replace").strip()
+            first = first.removeprefix("tt_render: ").removeprefix("line 1: ")
         end = "stopped" if ran.returncode < 0 else str(ran.returncode)
         return Run(used.ru_utime + used.ru_stime, used.ru_maxrss / 1024, f"{end} {first}".strip())
