@@ -275,6 +275,7 @@ FONTS = {
     "corners_wide_512": lambda: corners_wide(512),
     "specks_wide": lambda: specks(4096, (-FAR, 0), (FAR, 4), -FAR, **DISTANT),
     "specks_high": lambda: specks(4096, (0, -FAR), (4, FAR), **DISTANT),
+    "specks_plain": lambda: specks(4096, (0, -FAR), (4, FAR), others=PLAIN, **DISTANT),
     "far": far,
     "far_16": lambda: far(16),
     "far_256": lambda: far(256),
