@@ -100,12 +100,12 @@ def random_rows(edges=3900, others=PLAIN):
 UNITS = {"size": 300, "em": 300, "advance": 16380}
 
 
-def shuffled(rows, on=1):
+def shuffled(rows, on=1, points=POINTS):
     """Glyphs whose edges have another order in each row, so that each row is sorted anew: as many as may be."""
-    each = POINTS * (rows + 1) if on else POINTS * (rows // 2 + 8)
-    count = max(1, min(61, 16_000_000 // each))
+    each = points * (rows + 1) if on else points * (rows // 2 + 8)
+    count = max(1, min(1_000_000 // (points + 5), 16_000_000 // each, 4096))
     choose = random.Random(rows)
-    glyph = small.simple([(choose.randrange(16380), rows if it % 2 else 0, on) for it in range(POINTS)])
+    glyph = small.simple([(choose.randrange(16380), rows if it % 2 else 0, on) for it in range(points)])
     return line_of([glyph] * count, others=PLAIN, ascent=rows, **UNITS)
 
 
@@ -292,6 +292,9 @@ FONTS = {
     "shuffled_60": lambda: shuffled(60),
     "shuffled_250": lambda: shuffled(250),
     "shuffled_970": lambda: shuffled(970),
+    "shuffled_256": lambda: shuffled(16, points=256),
+    "shuffled_1024": lambda: shuffled(16, points=1024),
+    "shuffled_4096": lambda: shuffled(60, points=4096),
     "shuffled_curves": lambda: shuffled(16, 0),
     "edges_none_in_a_row": lambda: all_edges(0, {}),
     "edges_each_in_a_row": lambda: all_edges(15),
