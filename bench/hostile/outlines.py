@@ -296,8 +296,10 @@ FONTS = {
     "shuffled_1024": lambda: shuffled(16, points=1024),
     "shuffled_4096": lambda: shuffled(60, points=4096),
     "shuffled_curves": lambda: shuffled(16, 0),
-    "edges_none_in_a_row": lambda: all_edges(0, {}),
+    "edges_none_in_a_row": lambda: all_edges(0),
+    "edges_none_filled": lambda: all_edges(0, {}),
     "edges_each_in_a_row": lambda: all_edges(15),
+    "edges_each_filled": lambda: all_edges(15, {}),
     "level_edges": level_edges,
     "deep_beside": deep_beside,
     # ENDF, which is refused: each glyph is made anew without its programs
