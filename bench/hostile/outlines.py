@@ -133,10 +133,10 @@ def deep_beside(count=55, code=None):
     return Hostile(font, small.line_text(count))
 
 
-def missing(count=4096):
-    """A text of characters that the font lacks."""
+def missing(count=4095):
+    """A square, and characters that the font lacks."""
     font = small.line_font([small.simple(small.square(0, 0, 64, 64))])
-    return Hostile(font, "".join(map(chr, range(0x6000, 0x6000 + count))))
+    return Hostile(font, small.line_text(1) + "".join(map(chr, range(0x6000, 0x6000 + count))))
 
 
 def pens(count=1950):
