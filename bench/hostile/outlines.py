@@ -226,8 +226,8 @@ def over_a_border(points=POINTS, rows=2048):
     return line_of([glyph, *again(39)], **LARGE)
 
 
-def free_gaps(count=1000):
-    """Strokes of no width in all rows and all columns: 4,000,000 free gaps in one glyph."""
+def free_gaps(count=200):
+    """Strokes of no width in all rows and all columns: 2,400,000 free gaps in one glyph."""
     upright = [(it * WIDTH // count, along) for it in range(count) for along in (0, HEIGHT, 0)]
     level = [(along, it * HEIGHT // count) for it in range(count // 4) for along in (0, WIDTH, 0)]
     return line_of([small.simple(upright, level)], **LARGE)
@@ -252,7 +252,7 @@ def thin_steps(count=64):
     return line_of([small.simple(turns + turns[-2:0:-1])] * count, **LARGE)
 
 
-def comb(count=64, teeth=8000):
+def comb(count=5, teeth=8000):
     """Teeth thinner than a pixel along the base line: each row has as many gaps as the glyph has teeth."""
     contour = [(it * WIDTH // (2 * teeth), 8 if it % 4 in (1, 2) else 0) for it in range(2 * teeth)]
     return line_of([small.simple(contour)] * count, **LARGE)
