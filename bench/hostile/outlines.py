@@ -179,7 +179,7 @@ def looks_afar():
     """The same, and a stroke of 65,530 rows outside of the picture."""
     zigzag = [(100 + it // 2 * 40 + it % 2 * 4, 900 if it % 2 else 100) for it in range(80)]
     square = small.square(0, 0, 1024, 1024)
-    stroke = [(0, -32000), (40, 32000)]
+    stroke = [(0, -32000), (20, 0), (40, 32000), (20, 0)]
     points = POINTS - len(square) - len(zigzag) - len(stroke)
     glyph = small.simple(square, [(400 + it % 32, 400 + it % 2, 0) for it in range(points)], zigzag, stroke)
     return line_of([glyph], 300, em=300, ascent=1024, advance=1024)
@@ -219,11 +219,11 @@ def far_short():
     return line_of([glyph], bearing=-FAR, **DISTANT)
 
 
-def over_a_border(points=POINTS, rows=2048):
-    """A zigzag of few rows on both sides of a border of bands."""
-    middle = rows * EM // 300
+def over_a_border(points=POINTS, count=11):
+    """A zigzag of few rows on both sides of the border of two bands of 2,048 rows."""
+    middle = 2048 * EM // 300
     glyph = small.simple([(it % 4000, middle + (it % 2) * 2 - 1) for it in range(points)])
-    return line_of([glyph, *again(39)], **LARGE)
+    return line_of([glyph, *again(count - 1)], **LARGE)
 
 
 def free_gaps(count=200):
@@ -305,7 +305,7 @@ FONTS = {
     # ENDF, which is refused: each glyph is made anew without its programs
     "deep_refused": lambda: deep_beside(code=b"\x2d"),
     "missing": missing,
-    "random_filled": lambda: random_rows(1300, {}),
+    "random_filled": lambda: random_rows(350, {}),
     "pens": pens,
     "rectangles": rectangles,
     "flat": flat,
@@ -317,7 +317,7 @@ FONTS = {
     "points_960": distinct_points,
     "dots_apart": dots_apart,
     "slivers": slivers,
-    "slivers_large": lambda: slivers(60, size=300, em=1024),
+    "slivers_large": lambda: slivers(15, size=300),
     "border": over_a_border,
     "free_gaps": free_gaps,
     "combining": combining,
