@@ -175,14 +175,14 @@ def with_looks(count=240, size=16, **sizes):
     return line_of([glyph, *again(count - 1)], size, **{**COARSE, **sizes})
 
 
-def looks_afar():
-    """The same, and a stroke of 65,530 rows outside of the picture."""
+def looks_afar(count=6):
+    """The same, and a stroke of 32,000 rows, nearly all of them outside of the picture."""
     zigzag = [(100 + it // 2 * 40 + it % 2 * 4, 900 if it % 2 else 100) for it in range(80)]
     square = small.square(0, 0, 1024, 1024)
-    stroke = [(0, -32000), (20, 0), (40, 32000), (20, 0)]
+    stroke = [(0, -16000), (40, 16000)]
     points = POINTS - len(square) - len(zigzag) - len(stroke)
     glyph = small.simple(square, [(400 + it % 32, 400 + it % 2, 0) for it in range(points)], zigzag, stroke)
-    return line_of([glyph], 300, em=300, ascent=1024, advance=1024)
+    return line_of([glyph, *again(count - 1)], 300, em=300, ascent=1024, advance=1024)
 
 
 def deep_points(count=220):
