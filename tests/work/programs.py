@@ -1,7 +1,7 @@
 """Lines whose programs need as much work as there is, or more."""
 import small_fonts as small
 from asking import told, unfitted, places_of
-from charging import PHANTOMS, STEPS, VALUES, WORK
+from charging import PHANTOMS, POINT_WORK, STEPS, VALUES, WORK
 from charging import Machine, code_of, definition, number, push, refused_at, step, work_of
 
 # Three steps a round, which stand at 0, 1 and 4: SVTCA, PUSHW -4, JMPR.
@@ -9,6 +9,11 @@ ROUND, PLACES = bytes.fromhex("00 B8FFFC 1C"), (0, 1, 4)
 FDEF, IDEF = 0x2C, 0x89
 # Where the program of a simple glyph of one contour begins.
 CODE = 14
+
+
+def pointed(*points):
+    """The work that glyphs of one contour and of these points take before the first of them is made."""
+    return POINT_WORK * sum(it + 1 + PHANTOMS for it in points)
 
 
 def endless_font(count):
@@ -20,7 +25,7 @@ def endless_font(count):
 def stopped_at(count):
     """The step at which each of so many programs without end is refused."""
     copied = Machine().copied()
-    left = WORK - 2 * copied
+    left = WORK - pointed(*[1] * count) - 2 * copied
     for _ in range(count):
         steps = min(STEPS, left - copied) if left >= copied else 0
         left = left - copied - STEPS if left - copied >= STEPS else 0
@@ -72,7 +77,7 @@ def exactly(asked, name, machine, steps, fpgm=()):
     """Two cases of one glyph: what is left of the work is just enough for it, or 1 too little. Before it in the line
     comes a glyph that leaves this much.
     """
-    asked_for = machine.begun() + work_of(fpgm) + 3 * machine.copied() + work_of(steps)
+    asked_for = pointed(POINTS, 4) + machine.begun() + work_of(fpgm) + 3 * machine.copied() + work_of(steps)
     for short, kind in enumerate(("enough", "1 too little")):
         glyphs = [filler(WORK - asked_for + short), small.with_program(SQUARE, code_of(steps))]
         asked.font.write_bytes(small.line_font(glyphs, others=tables_of(machine, 2, fpgm)))
@@ -88,7 +93,8 @@ def fitted_until(asked, name, machine, fpgm=(), count=4095):
     asked.font.write_bytes(small.line_font(glyphs, others=tables_of(machine, count, fpgm)))
     text = small.line_text(count)
     status, picture, _ = asked.draw("none", 16, text)
-    fitted = (WORK - machine.begun() - work_of(fpgm) - machine.copied()) // (machine.copied() + 1)
+    left = WORK - pointed(*[1] * count) - machine.begun() - work_of(fpgm) - machine.copied()
+    fitted = left // (machine.copied() + 1)
     lines = [unfitted(it + 1, place + CODE) for it, place in enumerate(places_of(glyphs)) if it >= fitted]
     told(f"{name}: {min(fitted, count)} of {count} glyphs", asked.draw("best", 16, text), (status, picture, lines))
 
