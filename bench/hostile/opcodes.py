@@ -1,7 +1,7 @@
 """Each instruction in a loop: eight small numbers are pushed, the instruction runs four times, the stack is cleared."""
 from functools import partial
 
-from hostile.parts import POINTS, SLANTED, looping, spread
+from hostile.parts import POINTS, SLANTED, calls, function, line_of, looping, spread, steps_of
 from hostile.programs import UNNAMED
 
 # Instructions that jump, or that bytes follow: ELSE, JMPR, LOOPCALL, CALL, FDEF, ENDF, IF, JROT, JROF, IDEF, pushes.
@@ -23,8 +23,10 @@ def alone(op):
 
 
 def beside_points(op):
-    """The instruction in a glyph of 16,384 points."""
-    return looping(rounds_of(op), SLANTED, spread(POINTS), deep=False)
+    """The instruction in 60 glyphs of 16,384 points."""
+    body = rounds_of(op)
+    glyph = spread(POINTS)(SLANTED + calls(970_000 // (steps_of(body) + 2)))
+    return line_of([glyph] * 60, others={"fpgm": function(body)})
 
 
 FONTS = {f"op_{op:02X}": partial(alone, op) for op in range(0x100) if op not in LEFT_OUT}
