@@ -89,7 +89,7 @@ def format_12(groups=5_590_000):
     data = table.tobytes()
     cmap = small.words(0, 1, 3, 10, 0, 12, 12, 0) + struct.pack(">III", 16 + len(data), 0, groups) + data
     glyph = small.simple(small.square(0, 0, 100, 100))
-    return Hostile(small.font([b"", glyph], [(0, 0), (1, 0)], others={"cmap": cmap}), "A")
+    return Hostile(small.font([b"", glyph], [(64, 0), (64, 0)], others={"cmap": cmap}), "A")
 
 
 def format_4(segments=32767):
@@ -98,7 +98,7 @@ def format_4(segments=32767):
     table = small.words(4, 0xFFFF, 0, 2 * segments, 0, 0, 0, *ends, 0, *ends, *ones, *[0] * segments)
     cmap = small.words(0, 1, 3, 1, 0, 12) + table
     glyph = small.simple(small.square(0, 0, 100, 100))
-    return Hostile(small.font([b"", glyph], [(0, 0), (1, 0)], others={"cmap": cmap}), small.line_text(TEXT))
+    return Hostile(small.font([b"", glyph], [(64, 0), (64, 0)], others={"cmap": cmap}), small.line_text(TEXT))
 
 
 # Opcodes that IDEF may define, with the greatest one.
