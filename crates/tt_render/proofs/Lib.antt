@@ -13,3 +13,4 @@ mod DefectLines
 mod OneText
 mod TextsReports
 mod Faces
+mod Runs
