@@ -12,3 +12,4 @@ mod MeasureLines
 mod OneText
 mod TextsReports
 mod Faces
+mod Runs

@@ -11,6 +11,7 @@ pub mod Printing
 pub mod Reading
 pub mod Reports
 pub mod Run
+pub mod RunLaws
 pub mod Settings
 pub mod TextOutcome
 pub mod Texts

@@ -1,6 +1,7 @@
 //! Laws of the definitions. Each function is a lemma: its clauses hold of all jobs and files, and no code runs.
 
 ghost use Rattle.tt_render.specs.Laws.{WrittenFontsAreWhole, MappedFontsAreWhole, OthersWriteByEdges};
+ghost use Rattle.tt_render.specs.RunLaws.{LinesAreRuns, LinesAreTexts, TextsAreRuns};
 
 /// Lemma: where the definition of `run` or `map` gives bytes, the font has no defect for the call. So a call that ends
 /// with Ok or Write found none.
@@ -17,3 +18,12 @@ pub fn others_fill_none()
 {
     tt_strike::laws::others_fill_none();
 }
+
+/// Lemma: the picture of `draw_text`, and of each line of `draw_lines`, is what `run` gives for that text alone. A text
+/// that `run` refuses is refused for the same reason. A line of at most 16,384 bytes of UTF-8 has the answer of
+/// `draw_text`.
+pub fn lines_are_runs()
+    ensures texts { TextsAreRuns }
+    ensures lines { LinesAreRuns }
+    ensures alike { LinesAreTexts }
+{}

@@ -1,0 +1,128 @@
+-- The picture of a text, and of a line, is what `run` gives for it.
+use Rattle.std.proofs.Common.{◌≡◌, ◌∙◌, refl, ap, sym, ℕ, ◌≤◌, nat_lt, Bool, true, false, if◌then◌else◌, List, length, map, Result, Ok, Err, arith}
+use Rattle.std.proofs.lemmas.Bool.Decides.{nat_tests}
+use Rattle.std.specs.Str.{is_utf8}
+use Rattle.tt_core.specs.declared.fault.JobFault.TheVariants as fault
+use Rattle.tt_core.specs.Chains.{came-through, passed-on}
+use Rattle.tt_core.specs.Limits.{font_limit}
+use Rattle.tt_core.specs.Outcomes.{◌>>=◌}
+use Rattle.tt_line.specs.Layout.{placement}
+use Rattle.tt_strike.specs.declared.report.Unfitted.{Unfitted}
+use Rattle.tt_strike.specs.Distinct.{distinct, line_fitter}
+use Rattle.tt_strike.specs.Job.{Job, tested}
+use Rattle.tt_strike.specs.Picture.{drawn, line_outcome, line_shapes, pictured, pictured_by, setting_in}
+use Rattle.tt_strike.specs.Refusals.{Refused, as_font, as_job, job, large}
+use Rattle.tt_strike.specs.Report.{line_report, report_by, unfitted_among}
+use Rattle.tt_strike.specs.Strikes.{Strike, job_of}
+use Rattle.tt_strike.specs.Tables.{Face, face_of}
+use Rattle.tt_render.specs.declared.setting.Product.{Product}
+use Rattle.tt_render.specs.declared.setting.Product.TheVariants as product
+use Rattle.tt_render.specs.declared.setting.Setting.{Setting}
+use Rattle.tt_render.specs.Lines.{line_drawn, line_limit}
+use Rattle.tt_render.specs.LinesOutcome.{draws_by}
+use Rattle.tt_render.specs.Outcome.{of_font}
+use Rattle.tt_render.specs.Run.{run_outcome}
+use Rattle.tt_render.specs.RunLaws.{LinesAreRuns, LinesAreTexts, TextsAreRuns, bytes_of, run_for}
+use Rattle.tt_render.specs.Settings.{strike_by, strike_of}
+use Rattle.tt_render.specs.TextOutcome.{job_by, text_by}
+use Rattle.tt_render.specs.Texts.{TextAnswer, TextRefusal, answer_of, as_text, missing_tested, not_utf8, product_of, refused, text_answer}
+
+-- a text with a picture has a report
+has_report : (face : Face) (a : Job) (bytes : List ℕ) → line_outcome face a ≡ Ok bytes
+    → (entries : List Unfitted) × (report_by face a ≡ Ok entries)
+unfolding line_outcome pictured_by drawn report_by line_report
+has_report face a bytes was =
+    let by_tests = came-through (as_job (tested a)) _ bytes was in
+    let by_line = came-through (as_job (placement face.metrics face.cmap a.text a.ppem a.margin)) _ bytes
+    by_tests.rest in
+    let by_setting = came-through (as_font (setting_in face a)) _ bytes by_line.rest in
+    let by_shapes = came-through (line_shapes by_setting.value a by_line.value) _ bytes by_setting.rest in
+    let numbers = map (λ (g : ℕ × ℕ). g.0) by_line.value.glyphs in
+    (
+      unfitted_among (line_fitter by_setting.value numbers) (distinct numbers),
+      rw (by_line.first, by_setting.first, by_shapes.first) refl,
+    )
+
+-- the bytes of an answer by its parts, where a picture has a report
+drawn_unless : (bytes : List ℕ) (entries : List Unfitted) (lacking : Result (List ℕ) TextRefusal)
+    → bytes_of (answer_of (Ok bytes) (Ok entries) lacking) ≡ (lacking >>= λ cs. Ok bytes)
+drawn_unless bytes entries (Ok cs) = refl
+drawn_unless bytes entries (Err why) = refl
+
+bytes_by_parts : (picture : Result (List ℕ) Refused) (report : Result (List Unfitted) Refused)
+    (lacking : Result (List ℕ) TextRefusal)
+    → ((bytes : List ℕ) → picture ≡ Ok bytes → (entries : List Unfitted) × (report ≡ Ok entries))
+    → bytes_of (answer_of picture report lacking) ≡ (as_text picture >>= λ bytes. lacking >>= λ cs. Ok bytes)
+bytes_by_parts (Ok bytes) report lacking reported =
+    let there = reported bytes refl in
+    ap (λ (r : Result (List Unfitted) Refused). bytes_of (answer_of (Ok bytes) r lacking)) there.1
+    ∙ drawn_unless bytes there.0 lacking
+bytes_by_parts (Err why) report lacking reported = refl
+
+ok_same : {X E : Type 0} (x y : X) → ◌≡◌ {A = Result X E} (Ok x) (Ok y) → x ≡ y
+ok_same x y is = cc
+
+-- a strike that is opened by a file draws the picture of `run` for that file
+is_run : (a : Setting) (file text : List ℕ) (s : Strike) → strike_of a file ≡ Ok s
+    → line_outcome s.face (job_of s text a.margin) ≡ run_outcome (job_by a text) file
+unfolding strike_of line_outcome run_outcome pictured
+is_run a file text s opened =
+    let fits = passed-on (nat_lt font_limit (length file)) large
+    (as_font (face_of file) >>= λ face. Ok (strike_by a face)) s opened in
+    let by_face = came-through (as_font (face_of file)) _ s fits.1 in
+    let face = by_face.value in
+    let j = job_by a text in
+    let same = ok_same (strike_by a face) s by_face.rest in
+    let small = fits.0 in
+    let read = by_face.first in
+    let made : pictured_by face j ≡ of_font (pictured j) file = rw (small, read) refl in
+    ap (λ (t : Strike). line_outcome t.face (job_of t text a.margin)) (sym same)
+    ∙ ap (λ (r : Result (List ℕ) Refused). as_job (tested j) >>= λ u. r) made
+
+picture_of : (s : Strike) (wanted : Product) (margin : ℕ) (text : List ℕ) → wanted ≡ product.Picture
+    → product_of s wanted margin text ≡ line_outcome s.face (job_of s text margin)
+unfolding product_of
+picture_of s wanted margin text is = rw is refl
+
+pub texts_are_runs : TextsAreRuns
+unfolding text_answer
+texts_are_runs a file text s is opened =
+    let picture = picture_of s a.product a.margin text is ∙ is_run a file text s opened in
+    let report = report_by s.face (job_of s text a.margin) in
+    let lacking = missing_tested s.face.cmap a.missing text in
+    bytes_by_parts (product_of s a.product a.margin text) report lacking
+    (λ bytes was. has_report s.face (job_of s text a.margin) bytes
+    (sym (picture_of s a.product a.margin text is) ∙ was))
+    ∙ ap (λ (r : Result (List ℕ) Refused). as_text r >>= λ bytes. lacking >>= λ cs. Ok bytes) picture
+
+-- what is drawn by a strike was given by `run`
+was_run : (ran : Result (List ℕ) Refused) (lacking : Result (List ℕ) TextRefusal) (bytes : List ℕ)
+    → (as_text ran >>= λ made. lacking >>= λ cs. Ok made) ≡ Ok bytes → ran ≡ Ok bytes
+was_run (Ok made) (Ok cs) bytes is = let same : made ≡ bytes = cc in ap Ok same
+was_run (Ok made) (Err why) bytes is = absurd cc
+was_run (Err why) lacking bytes is = absurd cc
+
+-- a drawn line passed its tests
+utf8_answer : (whole : Bool) (answer : Result TextAnswer TextRefusal) (t : TextAnswer)
+    → (if whole then answer else Err not_utf8) ≡ Ok t → answer ≡ Ok t
+utf8_answer true answer t was = was
+utf8_answer false answer t was = absurd cc
+
+line_passes : (a : Setting) (line : List ℕ) (s : Strike) (t : TextAnswer) → draws_by a s line ≡ Ok t
+    → text_by a line s ≡ Ok t
+unfolding line_drawn
+line_passes a line s t was =
+    let short = passed-on (nat_lt line_limit (length line)) (refused (job fault.TextLong)) _ t was in
+    utf8_answer (is_utf8 line) (text_by a line s) t short.1
+
+pub lines_are_runs : LinesAreRuns
+lines_are_runs a file line s t is opened was =
+    let drawn : text_by a line s ≡ Ok t = line_passes a line s t was in
+    was_run (run_outcome (job_by a line) file) (missing_tested s.face.cmap a.missing line) t.bytes
+    (sym (texts_are_runs a file line s is opened) ∙ ap bytes_of drawn)
+
+pub lines_are_texts : LinesAreTexts
+unfolding line_drawn
+lines_are_texts a line s short whole =
+    let passes : nat_lt line_limit (length line) ≡ false = grind (arith, nat_tests) in
+    rw (passes, whole) refl

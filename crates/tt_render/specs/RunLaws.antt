@@ -1,0 +1,51 @@
+-- Laws of texts and lines: the picture of each is what `run` gives for that text alone.
+use Rattle.std.specs.Prelude.{◌≡◌, refl, ℕ, ◌≤◌, true, List, [], ◌∷◌, length, codes, Result, Ok, Err}
+use Rattle.std.specs.Str.{is_utf8}
+use Rattle.tt_core.specs.declared.fault.JobFault.TheVariants as fault
+use Rattle.tt_core.specs.Outcomes.{◌>>=◌}
+use Rattle.tt_strike.specs.Refusals.{job}
+use Rattle.tt_strike.specs.Strikes.{Strike}
+use Rattle.tt_render.specs.declared.setting.Product.TheVariants as product
+use Rattle.tt_render.specs.declared.setting.Setting.{Setting}
+use Rattle.tt_render.specs.Lines.{line_limit}
+use Rattle.tt_render.specs.LinesOutcome.{draws_by}
+use Rattle.tt_render.specs.Run.{run_outcome}
+use Rattle.tt_render.specs.Settings.{strike_of}
+use Rattle.tt_render.specs.TextOutcome.{job_by, text_by}
+use Rattle.tt_render.specs.Texts.{TextAnswer, TextRefusal, as_text, missing, missing_tested, refused}
+
+-- the bytes of an answer, or its refusal
+abbrev pub bytes_of : Result TextAnswer TextRefusal → Result (List ℕ) TextRefusal
+bytes_of answer = answer >>= λ t. Ok t.bytes
+
+-- what `run` gives for a text and a font file; a missing character may refuse the text after that
+abbrev pub run_for : Setting → Strike → List ℕ → List ℕ → Result (List ℕ) TextRefusal
+run_for a s file text =
+    as_text (run_outcome (job_by a text) file) >>= λ bytes.
+    missing_tested s.face.cmap a.missing text >>= λ lacking.
+    Ok bytes
+
+-- the picture of a text is what `run` gives for it, and the text is refused for the same reason
+abbrev pub TextsAreRuns : Type 0
+TextsAreRuns = (a : Setting) (file text : List ℕ) (s : Strike) → a.product ≡ product.Picture → strike_of a file ≡ Ok s
+    → bytes_of (text_by a text s) ≡ run_for a s file text
+
+-- the picture of each line is what `run` gives for that line alone
+abbrev pub LinesAreRuns : Type 0
+LinesAreRuns = (a : Setting) (file line : List ℕ) (s : Strike) (t : TextAnswer) → a.product ≡ product.Picture
+    → strike_of a file ≡ Ok s → draws_by a s line ≡ Ok t → run_outcome (job_by a line) file ≡ Ok t.bytes
+
+-- a line of at most 16,384 bytes of UTF-8 has the answer of a text, whatever the product
+abbrev pub LinesAreTexts : Type 0
+LinesAreTexts = (a : Setting) (line : List ℕ) (s : Strike) → length line ≤ line_limit → is_utf8 line ≡ true
+    → draws_by a s line ≡ text_by a line s
+
+-- worked values: the bytes of a drawn text, and of a refused one
+drawn_bytes : bytes_of (Ok (record { bytes = codes "P4"; unfitted = []; lacking = codes "A" })) ≡ Ok (codes "P4")
+drawn_bytes = refl
+
+no_bytes : bytes_of (Err (missing 67)) ≡ Err (missing 67)
+no_bytes = refl
+
+refused_alike : as_text {X = List ℕ} (Err (job fault.TextLong)) ≡ Err (refused (job fault.TextLong))
+refused_alike = refl
