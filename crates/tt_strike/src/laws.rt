@@ -1,6 +1,7 @@
 //! Laws of the definitions. Each function is a lemma: its clauses hold of all jobs, files and glyphs, and no code runs.
 
 ghost use Rattle.tt_strike.specs.Laws.{DrawnFontsAreWhole, FacesAreWhole, OthersListNothing, MarginMoves, MeasuredAsDrawn, GlyphsByThemselves, UnfilledAreEdges, OthersFillNone, OthersDrawByEdges, SidesMove};
+ghost use Rattle.tt_strike.specs.InkLaws.{GrownMeasuredAsDrawn};
 
 /// Lemma: where the definitions give a font's tables, these have no defect. Where they give a job's picture, the font
 /// has no defect for the job.
@@ -53,3 +54,8 @@ pub fn others_fill_none()
 {
     tt_fit::laws::others_fill_none();
 }
+
+/// Lemma: a text's grown picture is refused exactly where its measure is, and for the same reason.
+pub fn grown_measured_as_drawn()
+    ensures { GrownMeasuredAsDrawn }
+{}
