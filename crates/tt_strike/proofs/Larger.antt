@@ -36,14 +36,14 @@ one_filled filled f g o pen left top c r margin rise =
     ∙ rw (column, line) (filled_from_pen filled f o pen c r)
 
 -- the shapes of a line, one by one: the first glyph's, and those of the others
-record First (maker : ℕ → Fitter) (g : ℕ × ℕ) (gs : List (ℕ × ℕ)) (shapes : List Shape) : Type 0 where
+pub record First (maker : ℕ → Fitter) (g : ℕ × ℕ) (gs : List (ℕ × ℕ)) (shapes : List Shape) : Type 0 where
   pub outline : Outline
   pub rest : List Shape
   pub fitted : fitted_outline (maker g.0) g.0 ≡ Ok outline
   pub others : each (glyph_shape maker) gs ≡ Ok rest
   pub all : shapes ≡ shape_at (maker g.0) g outline ∷ rest
 
-first_of : (maker : ℕ → Fitter) (g : ℕ × ℕ) (gs : List (ℕ × ℕ)) (shapes : List Shape)
+pub first_of : (maker : ℕ → Fitter) (g : ℕ × ℕ) (gs : List (ℕ × ℕ)) (shapes : List Shape)
     → each (glyph_shape maker) (g ∷ gs) ≡ Ok shapes → First maker g gs shapes
 first_of maker g gs shapes made =
     let one = came-through (glyph_shape maker g) _ shapes made in

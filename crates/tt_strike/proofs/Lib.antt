@@ -23,5 +23,6 @@ mod Among
 mod GrownMeasures
 mod GrownStops
 mod Larger
+mod InkHeld
 mod Agreeing
 mod RowsCut

@@ -1,7 +1,7 @@
 //! Laws of the definitions. Each function is a lemma: its clauses hold of all jobs, files and glyphs, and no code runs.
 
 ghost use Rattle.tt_strike.specs.Laws.{DrawnFontsAreWhole, FacesAreWhole, OthersListNothing, MarginMoves, MeasuredAsDrawn, GlyphsByThemselves, UnfilledAreEdges, OthersFillNone, OthersDrawByEdges, SidesMove};
-ghost use Rattle.tt_strike.specs.InkLaws.{GrownMeasuredAsDrawn};
+ghost use Rattle.tt_strike.specs.InkLaws.{GrownMeasuredAsDrawn, InkIsDrawn, MeasureHoldsInk};
 
 /// Lemma: where the definitions give a font's tables, these have no defect. Where they give a job's picture, the font
 /// has no defect for the job.
@@ -59,3 +59,14 @@ pub fn others_fill_none()
 pub fn grown_measured_as_drawn()
     ensures { GrownMeasuredAsDrawn }
 {}
+
+/// Lemma: the box of a measure holds all black pixels of the line, those outside of the picture too, and no smaller box
+/// does. Within the picture they are the picture's black pixels.
+pub fn measure_holds_ink()
+    ensures ink { MeasureHoldsInk }
+    ensures drawn { InkIsDrawn }
+{
+    tt_scan_ink::laws::holds_all_ink();
+    tt_arc::laws::contours_joined();
+    tt_arc::laws::contours_closed();
+}
