@@ -24,5 +24,6 @@ mod GrownMeasures
 mod GrownStops
 mod Larger
 mod InkHeld
+mod GrownWhole
 mod Agreeing
 mod RowsCut

@@ -1,13 +1,13 @@
 -- Laws of ink. The box of a measure is the least that holds a line's black pixels, those outside of the picture too. A
--- grown picture is refused exactly where its measure is.
-use Rattle.std.specs.Prelude.{◌≡◌, refl, ℕ, ◌||◌, Bool, true, false, ℤ, pos, negsuc, ◌+ℤ◌, ◌-ℤ◌, ◌≤ℤ◌, List, [], ◌∷◌, Option, Some, None, Ok, Err, ◌↔◌}
+-- grown picture is refused exactly where its measure is, and it cuts no ink.
+use Rattle.std.specs.Prelude.{◌≡◌, refl, ℕ, ◌||◌, Bool, true, false, ℤ, pos, negsuc, ◌+ℤ◌, ◌-ℤ◌, ◌≤ℤ◌, ◌<ℤ◌, List, [], ◌∷◌, Option, Some, None, Ok, Err, ◌↔◌}
 use Rattle.tt_fit.specs.Fitting.{Fitter}
 use Rattle.tt_line.specs.Layout.{Placement}
 use Rattle.tt_scan.specs.declared.edge.Edge.{Edge}
 use Rattle.tt_scan.specs.declared.edge.Frame.{Frame}
 use Rattle.tt_scan.specs.Winding.{column_x, row_y}
 use Rattle.tt_scan_dropouts.specs.declared.mark.Rules.{Rules}
-use Rattle.tt_strike.specs.Grown.{grown_measured, grown_outcome}
+use Rattle.tt_strike.specs.Grown.{grown_measured, grown_outcome, grown_placement}
 use Rattle.tt_strike.specs.Job.{Job}
 use Rattle.tt_strike.specs.Measures.{Measure, measured_line}
 use Rattle.tt_strike.specs.Picture.{frame_of, setting_in, shapes_in}
@@ -70,6 +70,19 @@ MeasureHoldsInk = (face : Face) (a : Job) (line : Placement) (m : Measure) (glyp
 -- a text's grown picture is refused exactly where its measure is, and for the same reason
 abbrev pub GrownMeasuredAsDrawn : Type 0
 GrownMeasuredAsDrawn = (face : Face) (a : Job) (r : Refused) → grown_outcome face a ≡ Err r ↔ grown_measured face a ≡ Err r
+
+-- column c of row r is in a line's picture
+pub record IsInPicture (line : Placement) (c r : ℤ) : Type 0 where
+  pub left : pos 0 ≤ℤ c
+  pub top : pos 0 ≤ℤ r
+  pub right : c <ℤ pos line.width
+  pub bottom : r <ℤ pos line.height
+
+-- no ink of a grown picture lies outside of it
+abbrev pub GrownCutsNone : Type 0
+GrownCutsNone = (face : Face) (a : Job) (line : Placement) (glyphs : List Shape) (c r : ℤ)
+    → grown_placement face a ≡ Ok line → AreGlyphs face a line glyphs
+    → is_ink (frame_of line a.margin) glyphs c r ≡ true → IsInPicture line c r
 
 -- worked values: a picture of one pixel on the base line. An upright edge in the next column, through that pixel's row
 -- and the row above it
