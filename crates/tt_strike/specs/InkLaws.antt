@@ -91,7 +91,7 @@ one_pixel = record { width = 1; height = 1; margin = 0; rise = pos 1 }
 
 upright : List Shape
 upright =
-    let edges = record { ax = pos 12288; ay = pos 0; bx = pos 12288; by = pos 16384 } ∷ [] in
+    let edges : List Edge = record { ax = pos 12288; ay = pos 0; bx = pos 12288; by = pos 16384 } ∷ [] in
     record { edges = edges; contours = edges ∷ []; filled = None } ∷ []
 
 ink_on_the_right : is_ink one_pixel upright (pos 1) (pos 0) ≡ true
@@ -124,7 +124,7 @@ stem_side ax ay bx by = record { ax = pos ax; ay = pos ay; bx = pos bx; by = pos
 
 stem : Option Rules → List Shape
 stem filled =
-    let edges = stem_side 5120 8192 5120 24576 ∷ stem_side 5120 24576 7168 24576 ∷ stem_side 7168 24576 7168 8192
+    let edges : List Edge = stem_side 5120 8192 5120 24576 ∷ stem_side 5120 24576 7168 24576 ∷ stem_side 7168 24576 7168 8192
         ∷ stem_side 7168 8192 5120 8192 ∷ [] in
     record { edges = edges; contours = edges ∷ []; filled = filled } ∷ []
 
