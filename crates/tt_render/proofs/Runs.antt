@@ -1,5 +1,5 @@
 -- The picture of a text, and of a line, is what `run` gives for it.
-use Rattle.std.proofs.Common.{◌≡◌, ◌∙◌, refl, ap, sym, ℕ, ◌≤◌, nat_lt, Bool, true, false, if◌then◌else◌, List, length, map, Result, Ok, Err, arith}
+use Rattle.std.proofs.Common.{◌≡◌, ◌∙◌, refl, ap, sym, ℕ, nat_lt, Bool, true, false, if◌then◌else◌, List, length, map, Result, Ok, Err, arith}
 use Rattle.std.proofs.lemmas.Bool.Decides.{nat_tests}
 use Rattle.std.specs.Str.{is_utf8}
 use Rattle.tt_core.specs.declared.fault.JobFault.TheVariants as fault
@@ -22,7 +22,7 @@ use Rattle.tt_render.specs.Lines.{line_drawn, line_limit}
 use Rattle.tt_render.specs.LinesOutcome.{draws_by}
 use Rattle.tt_render.specs.Outcome.{of_font}
 use Rattle.tt_render.specs.Run.{run_outcome}
-use Rattle.tt_render.specs.RunLaws.{LinesAreRuns, LinesAreTexts, TextsAreRuns, bytes_of, run_for}
+use Rattle.tt_render.specs.RunLaws.{LinesAreRuns, LinesAreTexts, TextsAreRuns, bytes_of}
 use Rattle.tt_render.specs.Settings.{strike_by, strike_of}
 use Rattle.tt_render.specs.TextOutcome.{job_by, text_by}
 use Rattle.tt_render.specs.Texts.{TextAnswer, TextRefusal, answer_of, as_text, missing_tested, not_utf8, product_of, refused, text_answer}

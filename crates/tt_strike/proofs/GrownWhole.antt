@@ -1,5 +1,5 @@
 -- All ink of a grown picture lies in it.
-use Rattle.std.proofs.Common.{◌≡◌, ◌∙◌, refl, ap, subst, sym, ℕ, suc, ◌+◌, ◌-◌, nat_lt, Bool, true, false, ◌||◌, ℤ, pos, negsuc, ◌+ℤ◌, ◌-ℤ◌, ◌≤ℤ◌, ◌<ℤ◌, List, [], ◌∷◌, map, Option, Some, None, Ok, arith}
+use Rattle.std.proofs.Common.{◌≡◌, ◌∙◌, refl, ap, subst, sym, ℕ, ◌+◌, ◌-◌, nat_lt, Bool, true, false, ◌||◌, ℤ, pos, negsuc, ◌+ℤ◌, ◌-ℤ◌, ◌≤ℤ◌, ◌<ℤ◌, List, [], ◌∷◌, map, Option, Some, None, Ok, arith}
 use Rattle.std.proofs.lemmas.Bool.{false≢true}
 use Rattle.std.proofs.lemmas.Int.{ints}
 use Rattle.tt_core.specs.declared.fault.JobFault.TheVariants as fault
@@ -94,10 +94,10 @@ none_cut maker margin l line None c r none is black =
     absurd (false≢true (sym (none c r) ∙ ap (λ (p : Placement). line_ink maker margin p c r) same ∙ black))
 none_cut maker margin l line (Some b) c r held is black =
     let same = not_too_large (with_sides l (lacking l.width l.height b)) line is in
-    let before : line_ink maker margin (with_sides l (lacking l.width l.height b)) c r ≡ true =
+    let larger : line_ink maker margin (with_sides l (lacking l.width l.height b)) c r ≡ true =
     ap (λ (p : Placement). line_ink maker margin p c r) same ∙ black in
     subst (λ (p : Placement). IsInPicture p c r) same
-    (in_sides maker margin l b c r (least_box (line_ink maker margin l) b held) before)
+    (in_sides maker margin l b c r (least_box (line_ink maker margin l) b held) larger)
 
 pub grown_cuts_none : BoxLaws → GrownCutsNone
 unfolding grown_placement grown_line
