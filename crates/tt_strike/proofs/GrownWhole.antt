@@ -20,7 +20,7 @@ use Rattle.tt_strike.proofs.InkHeld.{BoxLaws, glyph_black, least_box, line_black
 use Rattle.tt_strike.proofs.Whole.{of-job}
 
 -- a line with more columns on its left and more rows at its top
-moved_black : (maker : ℕ → Fitter) (f g : Frame) (left top : ℕ) (gs : List (ℕ × ℕ)) (c r : ℤ) → g.margin ≡ f.margin
+pub moved_black : (maker : ℕ → Fitter) (f g : Frame) (left top : ℕ) (gs : List (ℕ × ℕ)) (c r : ℤ) → g.margin ≡ f.margin
     → g.rise ≡ f.rise +ℤ pos top
     → line_black maker g (map (λ (p : ℕ × ℕ). (p.0, p.1 + left)) gs) c r
     ≡ line_black maker f gs (c -ℤ pos left) (r -ℤ pos top)
@@ -43,12 +43,12 @@ same_numbers left (g ∷ gs) = ap (λ (ns : List ℕ). g.0 ∷ ns) (same_numbers
 
 -- an enlarged line is the line with the columns and rows that its ink lacks
 
-not_too_large : (l line : Placement) → not_large l ≡ Ok line → l ≡ line
+pub not_too_large : (l line : Placement) → not_large l ≡ Ok line → l ≡ line
 unfolding not_large
 not_too_large l line is =
     (passed (nat_lt width_limit l.width || nat_lt height_limit l.height) fault.PictureLarge l line is).1
 
-same_glyphs : (l line : Placement) (ink : Option InkBox) → grown l ink ≡ Ok line
+pub same_glyphs : (l line : Placement) (ink : Option InkBox) → grown l ink ≡ Ok line
     → map (λ (g : ℕ × ℕ). g.0) line.glyphs ≡ map (λ (g : ℕ × ℕ). g.0) l.glyphs
 same_glyphs l line None is =
     let same : l ≡ line = cc in
@@ -68,7 +68,7 @@ not_past : (count left : ℕ) (at c : ℤ) → (c -ℤ pos left) ≤ℤ at → c
 not_past count left (pos n) c high = omega (arith, ints)
 not_past count left (negsuc n) c high = omega (arith, ints)
 
-abbrev line_ink : (ℕ → Fitter) → ℕ → Placement → ℤ → ℤ → Bool
+abbrev pub line_ink : (ℕ → Fitter) → ℕ → Placement → ℤ → ℤ → Bool
 line_ink maker margin line c r = line_black maker (frame_of line margin) line.glyphs c r
 
 in_sides : (maker : ℕ → Fitter) (margin : ℕ) (l : Placement) (b : InkBox) (c r : ℤ)

@@ -25,5 +25,6 @@ mod GrownStops
 mod Larger
 mod InkHeld
 mod GrownWhole
+mod GrownNeeded
 mod Agreeing
 mod RowsCut

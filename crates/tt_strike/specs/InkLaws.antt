@@ -1,19 +1,20 @@
 -- Laws of ink. The box of a measure is the least that holds a line's black pixels, those outside of the picture too. A
--- grown picture is refused exactly where its measure is, and it cuts no ink.
-use Rattle.std.specs.Prelude.{◌≡◌, refl, ℕ, ◌||◌, Bool, true, false, ℤ, pos, negsuc, ◌+ℤ◌, ◌-ℤ◌, ◌≤ℤ◌, ◌<ℤ◌, List, [], ◌∷◌, Option, Some, None, Ok, Err, ◌↔◌}
+-- grown picture is refused exactly where its measure is. It cuts no ink, and no smaller picture does so.
+use Rattle.std.specs.Prelude.{◌≡◌, refl, ℕ, ◌<◌, ◌||◌, Bool, true, false, ℤ, pos, negsuc, ◌+ℤ◌, ◌-ℤ◌, ◌≤ℤ◌, ◌<ℤ◌, List, [], ◌∷◌, Option, Some, None, Ok, Err, ◌↔◌, ◌⊎◌}
 use Rattle.tt_fit.specs.Fitting.{Fitter}
 use Rattle.tt_line.specs.Layout.{Placement}
 use Rattle.tt_scan.specs.declared.edge.Edge.{Edge}
 use Rattle.tt_scan.specs.declared.edge.Frame.{Frame}
 use Rattle.tt_scan.specs.Winding.{column_x, row_y}
 use Rattle.tt_scan_dropouts.specs.declared.mark.Rules.{Rules}
-use Rattle.tt_strike.specs.Grown.{grown_measured, grown_outcome, grown_placement}
+use Rattle.tt_strike.specs.Grown.{grown_measured, grown_outcome, grown_placement, with_sides}
 use Rattle.tt_strike.specs.Job.{Job}
 use Rattle.tt_strike.specs.Measures.{Measure, measured_line}
-use Rattle.tt_strike.specs.Picture.{frame_of, setting_in, shapes_in}
+use Rattle.tt_strike.specs.Picture.{frame_of, laid_out, setting_in, shapes_in}
 use Rattle.tt_strike.specs.Pixels.{Shape, is_black_pixel, is_filled, some_black}
 use Rattle.tt_strike.specs.Refusals.{Refused}
 use Rattle.tt_strike.specs.Tables.{Face}
+use Rattle.tt_strike.specs.declared.growing.Sides.{Sides}
 use Rattle.tt_strike.specs.declared.ink_box.InkBox.{InkBox}
 
 -- a row's line, counted upwards from the base line
@@ -83,6 +84,20 @@ abbrev pub GrownCutsNone : Type 0
 GrownCutsNone = (face : Face) (a : Job) (line : Placement) (glyphs : List Shape) (c r : ℤ)
     → grown_placement face a ≡ Ok line → AreGlyphs face a line glyphs
     → is_ink (frame_of line a.margin) glyphs c r ≡ true → IsInPicture line c r
+
+-- each side that is added to a picture has ink in its outermost column or row
+pub record AreNeeded (s : Sides) (line : Placement) (black : ℤ → ℤ → Bool) : Type 0 where
+  pub left : 0 < s.left → (r : ℤ) × (black (pos 0) r ≡ true)
+  pub top : 0 < s.top → (c : ℤ) × (black c (pos 0) ≡ true)
+  pub right : 0 < s.right → (r : ℤ) × (black (pos line.width -ℤ pos 1) r ≡ true)
+  pub bottom : 0 < s.bottom → (c : ℤ) × (black c (pos line.height -ℤ pos 1) ≡ true)
+
+-- a grown picture is the plain one, or that with the fewest columns and rows added on each side
+abbrev pub GrownAddsFewest : Type 0
+GrownAddsFewest = (face : Face) (a : Job) (plain line : Placement) (glyphs : List Shape)
+    → laid_out face a ≡ Ok plain → grown_placement face a ≡ Ok line → AreGlyphs face a line glyphs
+    → (line ≡ plain) ⊎ ((s : Sides) × (line ≡ with_sides plain s)
+    × AreNeeded s line (is_ink (frame_of line a.margin) glyphs))
 
 -- worked values: a picture of one pixel on the base line. An upright edge in the next column, through that pixel's row
 -- and the row above it

@@ -1,7 +1,7 @@
 //! Laws of the definitions. Each function is a lemma: its clauses hold of all jobs, files and glyphs, and no code runs.
 
 ghost use Rattle.tt_strike.specs.Laws.{DrawnFontsAreWhole, FacesAreWhole, OthersListNothing, MarginMoves, MeasuredAsDrawn, GlyphsByThemselves, UnfilledAreEdges, OthersFillNone, OthersDrawByEdges, SidesMove};
-ghost use Rattle.tt_strike.specs.InkLaws.{GrownCutsNone, GrownMeasuredAsDrawn, InkIsDrawn, MeasureHoldsInk};
+ghost use Rattle.tt_strike.specs.InkLaws.{GrownAddsFewest, GrownCutsNone, GrownMeasuredAsDrawn, InkIsDrawn, MeasureHoldsInk};
 
 /// Lemma: where the definitions give a font's tables, these have no defect. Where they give a job's picture, the font
 /// has no defect for the job.
@@ -71,9 +71,11 @@ pub fn measure_holds_ink()
     tt_arc::laws::contours_closed();
 }
 
-/// Lemma: no ink of a grown picture lies outside of it.
+/// Lemma: no ink of a grown picture lies outside of it. On each side where columns or rows were added, the outermost one
+/// has ink.
 pub fn grown_cuts_none()
-    ensures { GrownCutsNone }
+    ensures cut { GrownCutsNone }
+    ensures fewest { GrownAddsFewest }
 {
     tt_scan_ink::laws::holds_all_ink();
     tt_arc::laws::contours_joined();
