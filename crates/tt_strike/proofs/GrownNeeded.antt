@@ -1,5 +1,5 @@
 -- Each side that is added to a grown picture has ink at its end.
-use Rattle.std.proofs.Common.{◌≡◌, ◌∙◌, refl, ap, subst, sym, ℕ, ◌+◌, ◌-◌, ◌<◌, Bool, true, ℤ, pos, negsuc, ◌+ℤ◌, ◌-ℤ◌, List, map, Option, Some, None, Ok, Result, ◌⊎◌, inl, inr, arith}
+use Rattle.std.proofs.Common.{◌≡◌, ◌∙◌, refl, ap, subst, sym, ℕ, ◌+◌, ◌<◌, Bool, true, ℤ, pos, negsuc, ◌+ℤ◌, ◌-ℤ◌, List, map, Option, Some, None, Ok, Result, ◌⊎◌, inl, inr, arith}
 use Rattle.std.proofs.lemmas.Int.{ints}
 use Rattle.tt_core.specs.Chains.{came-through}
 use Rattle.tt_core.specs.Outcomes.{each}
