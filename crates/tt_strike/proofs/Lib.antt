@@ -11,6 +11,9 @@ mod Crossed
 mod Filled
 mod Alike
 mod Beside
+mod InkHeld
+mod GrownWhole
+mod GrownNeeded
 mod Unfilled
 mod Listing
 mod Whole
@@ -23,8 +26,5 @@ mod Among
 mod GrownMeasures
 mod GrownStops
 mod Larger
-mod InkHeld
-mod GrownWhole
-mod GrownNeeded
 mod Agreeing
 mod RowsCut
