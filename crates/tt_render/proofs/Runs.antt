@@ -1,16 +1,18 @@
 -- The picture of a text, and of a line, is what `run` gives for it.
-use Rattle.std.proofs.Common.{◌≡◌, ◌∙◌, refl, ap, sym, ℕ, ◌≤◌, nat_lt, Bool, true, false, if◌then◌else◌, List, length, map, Result, Ok, Err, arith}
+use Rattle.std.proofs.Common.{◌≡◌, ◌∙◌, refl, ap, sym, ℕ, nat_lt, Bool, true, false, if◌then◌else◌, List, length, map, Result, Ok, Err, arith}
 use Rattle.std.proofs.lemmas.Bool.Decides.{nat_tests}
 use Rattle.std.specs.Str.{is_utf8}
 use Rattle.tt_core.specs.declared.fault.JobFault.TheVariants as fault
 use Rattle.tt_core.specs.Chains.{came-through, passed-on}
 use Rattle.tt_core.specs.Limits.{font_limit}
 use Rattle.tt_core.specs.Outcomes.{◌>>=◌}
-use Rattle.tt_line.specs.Layout.{placement}
+use Rattle.tt_fit.specs.Fitting.{Fitter}
+use Rattle.tt_line.specs.Layout.{Placement, placement}
 use Rattle.tt_strike.specs.declared.report.Unfitted.{Unfitted}
 use Rattle.tt_strike.specs.Distinct.{distinct, line_fitter}
 use Rattle.tt_strike.specs.Job.{Job, tested}
 use Rattle.tt_strike.specs.Picture.{drawn, line_outcome, line_shapes, pictured, pictured_by, setting_in}
+use Rattle.tt_strike.specs.Pixels.{Shape}
 use Rattle.tt_strike.specs.Refusals.{Refused, as_font, as_job, job, large}
 use Rattle.tt_strike.specs.Report.{line_report, report_by, unfitted_among}
 use Rattle.tt_strike.specs.Strikes.{Strike, job_of}
@@ -22,15 +24,22 @@ use Rattle.tt_render.specs.Lines.{line_drawn, line_limit}
 use Rattle.tt_render.specs.LinesOutcome.{draws_by}
 use Rattle.tt_render.specs.Outcome.{of_font}
 use Rattle.tt_render.specs.Run.{run_outcome}
-use Rattle.tt_render.specs.RunLaws.{LinesAreRuns, LinesAreTexts, TextsAreRuns, bytes_of, run_for}
+use Rattle.tt_render.specs.RunLaws.{LinesAreRuns, LinesAreTexts, TextsAreRuns, bytes_of}
 use Rattle.tt_render.specs.Settings.{strike_by, strike_of}
 use Rattle.tt_render.specs.TextOutcome.{job_by, text_by}
 use Rattle.tt_render.specs.Texts.{TextAnswer, TextRefusal, answer_of, as_text, missing_tested, not_utf8, product_of, refused, text_answer}
 
 -- a text with a picture has a report
+report_is : (face : Face) (a : Job) (line : Placement) (s : Fitter) (shapes : List Shape)
+    → as_job (placement face.metrics face.cmap a.text a.ppem a.margin) ≡ Ok line
+    → as_font (setting_in face a) ≡ Ok s → line_shapes s a line ≡ Ok shapes
+    → report_by face a ≡ Ok (unfitted_among (line_fitter s (map (λ g. g.0) line.glyphs)) (distinct (map (λ g. g.0) line.glyphs)))
+unfolding report_by line_report
+report_is face a line s shapes laid made drawn = rw (laid, made, drawn) refl
+
 has_report : (face : Face) (a : Job) (bytes : List ℕ) → line_outcome face a ≡ Ok bytes
     → (entries : List Unfitted) × (report_by face a ≡ Ok entries)
-unfolding line_outcome pictured_by drawn report_by line_report
+unfolding line_outcome pictured_by drawn
 has_report face a bytes was =
     let by_tests = came-through (as_job (tested a)) _ bytes was in
     let by_line = came-through (as_job (placement face.metrics face.cmap a.text a.ppem a.margin)) _ bytes
@@ -40,7 +49,7 @@ has_report face a bytes was =
     let numbers = map (λ (g : ℕ × ℕ). g.0) by_line.value.glyphs in
     (
       unfitted_among (line_fitter by_setting.value numbers) (distinct numbers),
-      rw (by_line.first, by_setting.first, by_shapes.first) refl,
+      report_is face a by_line.value by_setting.value by_shapes.value by_line.first by_setting.first by_shapes.first,
     )
 
 -- the bytes of an answer by its parts, where a picture has a report
@@ -62,10 +71,15 @@ bytes_by_parts (Err why) report lacking reported = refl
 ok_same : {X E : Type 0} (x y : X) → ◌≡◌ {A = Result X E} (Ok x) (Ok y) → x ≡ y
 ok_same x y is = cc
 
+by_file : (j : Job) (file : List ℕ) (face : Face) → nat_lt font_limit (length file) ≡ false
+    → as_font (face_of file) ≡ Ok face → pictured_by face j ≡ of_font (pictured j) file
+unfolding pictured
+by_file j file face small read = rw (small, read) refl
+
 -- a strike that is opened by a file draws the picture of `run` for that file
 is_run : (a : Setting) (file text : List ℕ) (s : Strike) → strike_of a file ≡ Ok s
     → line_outcome s.face (job_of s text a.margin) ≡ run_outcome (job_by a text) file
-unfolding strike_of line_outcome run_outcome pictured
+unfolding strike_of line_outcome run_outcome
 is_run a file text s opened =
     let fits = passed-on (nat_lt font_limit (length file)) large
     (as_font (face_of file) >>= λ face. Ok (strike_by a face)) s opened in
@@ -73,9 +87,7 @@ is_run a file text s opened =
     let face = by_face.value in
     let j = job_by a text in
     let same = ok_same (strike_by a face) s by_face.rest in
-    let small = fits.0 in
-    let read = by_face.first in
-    let made : pictured_by face j ≡ of_font (pictured j) file = rw (small, read) refl in
+    let made = by_file j file face fits.0 by_face.first in
     ap (λ (t : Strike). line_outcome t.face (job_of t text a.margin)) (sym same)
     ∙ ap (λ (r : Result (List ℕ) Refused). as_job (tested j) >>= λ u. r) made
 

@@ -2,6 +2,8 @@
 use Rattle.std.proofs.Common.{◌≡◌, ◌∙◌, refl, Result, Ok, Err, sym}
 use Rattle.tt_core.specs.Outcomes.{◌>>=◌}
 use Rattle.tt_line.specs.Layout.{Placement}
+use Rattle.tt_strike.specs.Grown.{grown_measured, grown_outcome, grown_placement}
+use Rattle.tt_strike.specs.InkLaws.{GrownMeasuredAsDrawn}
 use Rattle.tt_strike.specs.Job.{Job}
 use Rattle.tt_strike.specs.Laws.{MeasuredAsDrawn}
 use Rattle.tt_strike.specs.Measures.{measured, measured_line}
@@ -34,4 +36,11 @@ measured_as_drawn face a r = (
       (sym (line_as_laid face a) ∙ fails),
   λ fails. line_as_laid face a
       ∙ agrees (laid_out face a) (measured_line face a) (drawn face a) r (measured_so_drawn face a r) fails,
+)
+
+pub grown_measured_as_drawn : GrownMeasuredAsDrawn
+unfolding grown_outcome grown_measured
+grown_measured_as_drawn face a r = (
+  λ fails. agrees (grown_placement face a) (drawn face a) (measured_line face a) r (drawn_so_measured face a r) fails,
+  λ fails. agrees (grown_placement face a) (measured_line face a) (drawn face a) r (measured_so_drawn face a r) fails,
 )

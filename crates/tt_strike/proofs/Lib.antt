@@ -11,6 +11,9 @@ mod Crossed
 mod Filled
 mod Alike
 mod Beside
+mod InkHeld
+mod GrownWhole
+mod GrownNeeded
 mod Unfilled
 mod Listing
 mod Whole

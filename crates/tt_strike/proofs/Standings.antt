@@ -171,7 +171,7 @@ all_moved : (k : ℤ) (contours : List (List Edge)) → map (moved_edges (pos 81
 all_moved k [] = refl
 all_moved k (es ∷ contours) = rw (edges_moved k es, all_moved k contours) refl
 
-contours_at_pen : (o : Outline) (pen : ℕ) → contours_of pen o ≡ outline_moved (pos pen) (pos 0) (contours_of 0 o)
+pub contours_at_pen : (o : Outline) (pen : ℕ) → contours_of pen o ≡ outline_moved (pos pen) (pos 0) (contours_of 0 o)
 contours_at_pen o pen =
     let start : pos (64 * pen) -ℤ origin_of o ≡ (pos (64 * 0) -ℤ origin_of o) +ℤ pos 64 *ℤ pos pen = omega
     (arith, ints) in

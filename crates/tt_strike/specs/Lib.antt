@@ -7,6 +7,7 @@ pub mod Tables
 pub mod Glyphs
 pub mod Grown
 pub mod Ink
+pub mod InkLaws
 pub mod Kept
 pub mod Laws
 pub mod Made

@@ -2,6 +2,8 @@
 
 ghost use Rattle.tt_strike.specs.Laws.{DrawnFontsAreWhole, FacesAreWhole, OthersListNothing, MarginMoves, MeasuredAsDrawn, GlyphsByThemselves, UnfilledAreEdges, OthersFillNone, OthersDrawByEdges, GrownRefusals, SidesMove, SidesRefuseNothing};
 
+ghost use Rattle.tt_strike.specs.InkLaws.{GrownAddsFewest, GrownCutsNone, GrownMeasuredAsDrawn, InkIsDrawn, MeasureHoldsInk};
+
 /// Lemma: where the definitions give a font's tables, these have no defect. Where they give a job's picture, the font
 /// has no defect for the job.
 pub fn fonts_are_whole()
@@ -59,4 +61,31 @@ pub fn others_fill_none()
     ensures picture { OthersDrawByEdges }
 {
     tt_fit::laws::others_fill_none();
+}
+
+/// Lemma: a text's grown picture is refused exactly where its measure is, and for the same reason.
+pub fn grown_measured_as_drawn()
+    ensures { GrownMeasuredAsDrawn }
+{}
+
+/// Lemma: the box of a measure holds all black pixels of the line, those outside of the picture too, and no smaller box
+/// does. Within the picture they are the picture's black pixels.
+pub fn measure_holds_ink()
+    ensures ink { MeasureHoldsInk }
+    ensures drawn { InkIsDrawn }
+{
+    tt_scan_ink::laws::holds_all_ink();
+    tt_arc::laws::contours_joined();
+    tt_arc::laws::contours_closed();
+}
+
+/// Lemma: no ink of a grown picture lies outside of it. On each side where columns or rows were added, the outermost one
+/// has ink.
+pub fn grown_cuts_none()
+    ensures cut { GrownCutsNone }
+    ensures fewest { GrownAddsFewest }
+{
+    tt_scan_ink::laws::holds_all_ink();
+    tt_arc::laws::contours_joined();
+    tt_arc::laws::contours_closed();
 }
