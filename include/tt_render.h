@@ -25,8 +25,8 @@
  *
  * A call reports the first refusal in this order: the way to fit, UTF-8, size, margin, the text's length; the font's
  * size, its tables; the picture's size; loca and glyf, the font's programs, the points (65), the glyphs, the crossings
- * (65). With grow, the size and the crossings of the enlarged picture follow. The room comes last. tt_draw_lines tests
- * the way to fit, size, margin and font once, then lines_room, and then the rest line by line, first the line's ends.
+ * (65). With grow, the size of the enlarged picture follows. The room comes last. tt_draw_lines tests the way to fit,
+ * size, margin and font once, then lines_room, and then the rest line by line, first the line's ends.
  *
  * Cost: tt_open and tt_map read tables alone. tt_measure, tt_characters, tt_draw and tt_draw_band each fit all glyphs
  * of the text, which is most of the cost of a drawing. This is so even where the room is too small.
@@ -205,10 +205,13 @@ uint32_t tt_message(const struct tt_answer *told, uint8_t *text, size_t room, st
 /*
  * All refusals: X(number, name). From 60 on they refuse the job; the man page of the program explains each.
  *
- * 65 WorkLarge comes with TT_BEST alone, for one of two counts of a line. Its glyphs, each once, have more than
- * 4,000,000 points, where each glyph and each component adds four points, and each contour one. Or the edges of its
- * glyphs, at all their places, cross the rows of the picture more than 16,000,000 times. Where a glyph's dropouts are
- * filled, four crossings more are counted for each edge and each row or column that the edge crosses.
+ * 65 WorkLarge comes with TT_BEST alone, for one of two counts of a line.
+ *   - Points: its glyphs, each once, have more than 1,000,000. Each glyph and each component adds four, each contour one.
+ *   - Crossings: its glyphs, at all their places, have more than 16,000,000, or more than the line's work allows. An
+ *     edge counts one for each row that it crosses, inside the picture or outside, and one for each 2,048 rows of its
+ *     glyph. Where dropouts are filled, four count for each row or column that an edge crosses, and one for each 64
+ *     bytes of a bitmap of the glyph. The work allows 250,000, and one for each 4 units that points and programs leave
+ *     of 100,000,000. A point takes 40 units.
  */
 #define TT_REFUSALS(X) \
     X(1, BadVersion) \
