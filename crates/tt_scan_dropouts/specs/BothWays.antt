@@ -10,6 +10,10 @@ use Rattle.tt_scan_dropouts.specs.Laws.{crosses_gap}
 use Rattle.tt_scan_dropouts.specs.declared.window.Over.{Over}
 use Rattle.tt_scan_dropouts.specs.declared.window.Over.TheVariants as over
 
+-- the gaps of a glyph that are examined one by one: each examination reads all edges (profile)
+abbrev pub look_limit : ℕ
+look_limit = 16
+
 -- pixel p of line q is black by rules 1 and 2, as a pass over all edges sees it
 abbrev pub is_black_seen : Over → List Edge → ℤ → ℤ → Bool
 is_black_seen over.Rows all p q = is_black all (centre p) (centre q)

@@ -1,8 +1,8 @@
 //! Whether some free gap is crossed both rising and falling. If closed contours cross a free gap, they cross it both
 //! ways. So where no free gap is crossed both ways, there are no dropouts, and nothing else need be computed. Two
-//! tables show which gaps may be crossed both ways, and all edges decide whether one of those may be free.
+//! tables show which gaps may be crossed both ways, and a look at all edges decides whether one of those may be free.
 
-ghost use Rattle.std.specs.Prelude.{◌≡◌, List, ℕ, ℤ, ◌^◌, ◌<◌, true, false, ◌∷◌, [], ◌+◌, ◌++◌, length, get_or, map, unsigned_abs, All};
+ghost use Rattle.std.specs.Prelude.{◌≡◌, List, ℕ, ℤ, ◌<◌, ◌≤◌, true, false, ◌∷◌, [], ◌+◌, ◌++◌, length, get_or, map, All};
 ghost use Rattle.tt_scan.specs.Winding.{EdgeFits};
 ghost use Rattle.std.specs.List.{list_any};
 ghost use Rattle.tt_scan.specs.Contours.{AreEnds, IsClosed, contours_at};
@@ -16,7 +16,7 @@ ghost use Rattle.tt_scan_dropouts.specs.declared.window.Over.TheVariants as over
 
 use crate::closed::are_closed;
 use crate::crossing::{gap_crossed, is_on_line, line_crossed, lines_crossed};
-use crate::free::may_be_free;
+use crate::looks::{Looks, look, may_cross_both_ways};
 use crate::seen::{meets, seen_by};
 use crate::window::Over;
 use tt_scan::Edge;
@@ -27,9 +27,6 @@ const LINES: i64 = 32;
 const GAPS: i64 = 64;
 
 const PLACES: usize = 2048;
-
-/// The most gaps that are examined one by one: each examination reads all edges.
-const LOOKS: u32 = 16;
 
 /// The place of a gap of a line in a table.
 #[inline(always)]
@@ -55,23 +52,6 @@ fn mark(table: &mut [bool], other: &[bool], at: usize) -> bool
     other[at]
 }
 
-/// Whether a gap may be free. True where no examinations remain; else all edges are read. Few gaps need this, so the
-/// code is outside the loop that calls it.
-#[cold]
-#[inline(never)]
-fn look(over: Over, edges: &[Edge], looks: &mut u32, gap: i64, line: i64) -> bool
-    requires edges { All EdgeFits edges.now }
-    requires gap { unsigned_abs gap + 1 < 2 ^ 18 }
-    requires line { unsigned_abs line < 2 ^ 18 }
-    ensures { result ≡ false → is_free (is_black_seen over edges.now) gap line ≡ false }
-{
-    if *looks == 0 {
-        return true;
-    }
-    *looks -= 1;
-    may_be_free(over, edges, gap, line)
-}
-
 /// Marks in one of two tables the gaps where an edge crosses lines. Returns whether such a gap is in the other table
 /// and may be free.
 #[inline(always)]
@@ -80,7 +60,7 @@ fn mark_crossings(
     other: &[bool],
     over: Over,
     edges: &[Edge],
-    looks: &mut u32,
+    looks: &mut Looks,
     edge: Edge,
 ) -> bool
     requires edge { EdgeFits edge }
@@ -95,6 +75,7 @@ fn mark_crossings(
         → is_free (is_black_seen over edges.now) (crossing edge (line_crossed edge k)).gap (line_crossed edge k)
         ≡ false }
     ensures len { length table.new ≡ 2048 }
+    ensures fewer { looks.new ≤ looks.old }
 {
     for k in 0..lines_crossed(edge) {
         let line = line_crossed(edge, k);
@@ -114,7 +95,7 @@ fn mark_ways(
     falling: &mut [bool],
     over: Over,
     edges: &[Edge],
-    looks: &mut u32,
+    looks: &mut Looks,
     edge: &Edge,
 ) -> bool
     requires edge { EdgeFits edge.now }
@@ -126,6 +107,7 @@ fn mark_ways(
         → AreTold (is_black_seen over edges.now) (es ++ seen_by over edge.now ∷ []) rising.new falling.new }
     ensures rising_len { length rising.new ≡ 2048 }
     ensures falling_len { length falling.new ≡ 2048 }
+    ensures fewer { looks.new ≤ looks.old }
 {
     let edge = seen_by(over, *edge);
     if edge.ay < edge.by {
@@ -142,7 +124,7 @@ fn mark_edge(
     falling: &mut [bool],
     over: Over,
     edges: &[Edge],
-    looks: &mut u32,
+    looks: &mut Looks,
     edge: &Edge,
 ) -> bool
     requires edge { EdgeFits edge.now }
@@ -154,31 +136,32 @@ fn mark_edge(
         → AreTold (is_black_seen over edges.now) (es ++ seen_by over edge.now ∷ []) rising.new falling.new }
     ensures rising_len { length rising.new ≡ 2048 }
     ensures falling_len { length falling.new ≡ 2048 }
+    ensures fewer { looks.new ≤ looks.old }
 {
     meets(over, false, edge) && mark_ways(rising, falling, over, edges, looks, edge)
 }
 
 /// Whether edges may cross some free gap of a row or of a column both rising and falling. False means that they do not.
-/// True also where more gaps need an examination than are examined.
-pub(crate) fn may_cross_both_ways(edges: &[Edge]) -> bool
+/// True also where more gaps need a look than remain.
+pub(crate) fn mark_edges(edges: &[Edge], looks: &mut Looks) -> bool
     requires { All EdgeFits edges.now }
     ensures rows { result ≡ false
         → NoneFreeBothWays (is_black_seen over.Rows edges.now) (map (seen_by over.Rows) edges.now) }
     ensures columns { result ≡ false
         → NoneFreeBothWays (is_black_seen over.Columns edges.now) (map (seen_by over.Columns) edges.now) }
+    ensures fewer { looks.new ≤ looks.old }
 {
     let mut row_rising = [false; PLACES];
     let mut row_falling = [false; PLACES];
     let mut column_rising = [false; PLACES];
     let mut column_falling = [false; PLACES];
-    let mut looks = LOOKS;
     for edge in edges {
         if mark_edge(
             &mut row_rising,
             &mut row_falling,
             Over::Rows,
             edges,
-            &mut looks,
+            looks,
             edge,
         ) {
             return true;
@@ -188,7 +171,7 @@ pub(crate) fn may_cross_both_ways(edges: &[Edge]) -> bool
             &mut column_falling,
             Over::Columns,
             edges,
-            &mut looks,
+            looks,
             edge,
         ) {
             return true;
@@ -234,9 +217,10 @@ pub(crate) fn closed_may_have_dropouts(stubs: bool, edges: &[Edge], ends: &[usiz
     may_cross_both_ways(edges)
 }
 
-/// Whether an outline may have dropouts. False means that it has none: its contours are closed, and
-/// `closed_may_have_dropouts` is false.
-pub(crate) fn may_have_dropouts(stubs: bool, edges: &[Edge], ends: &[usize]) -> bool
+/// Whether an outline may have dropouts. False means that it has none: its contours are closed, it crosses no free gap
+/// both rising and falling, and, where stubs are drawn, no edge ends on a line. Each contour ends before the edge of a
+/// number in `ends`.
+pub fn may_have_dropouts(stubs: bool, edges: &[Edge], ends: &[usize]) -> bool
     requires edges { All EdgeFits edges.now }
     requires ends { AreEnds (length edges.now) ends.now }
     ensures { result ≡ false → (rules : Rules) → rules.stubs ≡ stubs → (c j : ℤ)

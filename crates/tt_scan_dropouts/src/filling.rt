@@ -13,7 +13,7 @@ ghost use Rattle.tt_scan_dropouts.specs.Windows.{WindowFits, has, has_pixel_by, 
 ghost use Rattle.tt_scan_dropouts.specs.declared.window.Over.TheVariants as over;
 
 use crate::bitmap::Bitmap;
-use crate::both_ways::{closed_may_have_dropouts, may_have_dropouts};
+use crate::both_ways::closed_may_have_dropouts;
 use crate::columns::box_of;
 use crate::gaps::sort;
 use crate::mark::{Columns, Pixel, Rules};
@@ -185,8 +185,11 @@ fn push_within(
     Ok(())
 }
 
-/// The dropouts in a window of a glyph, by both passes.
-fn added_by_both(
+/// The dropouts in a window of a glyph: the pixels that are black besides those of the scan converter's rules 1 and 2.
+/// OpenType, "TrueType Fundamentals", rules 3 and 4. The glyph's edges are on a tape, and each contour ends before the
+/// edge of a number in `ends`. A caller asks `may_have_dropouts` first, once for all windows of a glyph. Error: memory
+/// ran out.
+pub fn dropouts(
     alloc: Global,
     rules: Rules,
     tape: &Tape,
@@ -217,28 +220,6 @@ fn added_by_both(
     Ok(found)
 }
 
-/// The dropouts in a window of a glyph: the pixels that are black besides those of the scan converter's rules 1 and 2.
-/// OpenType, "TrueType Fundamentals", rules 3 and 4. The glyph's edges are on a tape, and each contour ends before the
-/// edge of a number in `ends`. Error: memory ran out.
-pub fn dropouts(
-    alloc: Global,
-    rules: Rules,
-    tape: &Tape,
-    ends: &[usize],
-    window: Window,
-) -> Result<Vec<Pixel>, AllocError>
-    requires few { length tape.now.edges ≤ 2 ^ 32 }
-    requires ends { AreEnds (length tape.now.edges) ends.now }
-    requires window { WindowFits (widened 2 window) }
-    ensures exact { IfOk result (λ v. (c j : ℤ) → has_pixel v.items c j
-        ≡ (has window c j && is_dropout rules (contours_at tape.now.edges ends.now) c j)) }
-{
-    if !may_have_dropouts(rules.stubs, tape.lend(), ends) {
-        return Ok(Vec::new(alloc));
-    }
-    added_by_both(alloc, rules, tape, ends, window)
-}
-
 /// The dropouts in a window of a glyph whose contours are closed. Error: memory ran out.
 pub(crate) fn closed_dropouts(
     alloc: Global,
@@ -257,5 +238,5 @@ pub(crate) fn closed_dropouts(
     if !closed_may_have_dropouts(rules.stubs, tape.lend(), ends) {
         return Ok(Vec::new(alloc));
     }
-    added_by_both(alloc, rules, tape, ends, window)
+    dropouts(alloc, rules, tape, ends, window)
 }

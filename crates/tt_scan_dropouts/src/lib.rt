@@ -8,7 +8,7 @@
 //! seen.rt       an edge as a pass over rows or columns sees it
 //! closed.rt     which contours are closed
 //! both_ways.rt  whether some free gap is crossed both rising and falling; else there are no dropouts
-//! free.rt       whether a gap may be free, by each edge
+//! looks.rt      whether a gap may be free, by each edge, and for how many gaps of a glyph that is asked
 //! point.rt      how often edges wind round a point, by each edge
 //! steps.rt      the walk along a contour, step by step
 //! stub.rt       which crossings belong to a stub
@@ -34,9 +34,9 @@ mod columns;
 mod counting;
 mod crossing;
 mod filling;
-mod free;
 mod gaps;
 pub mod laws;
+mod looks;
 mod mark;
 mod marks;
 mod pass;
@@ -47,6 +47,7 @@ mod steps;
 mod stub;
 mod window;
 
+pub use both_ways::may_have_dropouts;
 pub use columns::box_of;
 pub use counting::{BAND_ROWS, edges_counted, filling_counted};
 pub use filling::dropouts;

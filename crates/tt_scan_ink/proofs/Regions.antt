@@ -372,3 +372,15 @@ pub found_is : (black : ℤ → ℤ → Bool) (columns rows : Columns) (x : Opti
 found_is black columns rows x near is =
     one_ink (shown columns rows.first (count_of rows) black) x (ink_in black columns rows) is
     (ink_is black columns rows near.order)
+
+none_shown : (a b black : Bool) → black ≡ false → (a && (b && black)) ≡ false
+none_shown true true black none = none
+none_shown true false black none = refl
+none_shown false b black none = refl
+
+-- where nothing is black, the box is none
+pub none_is : (black : ℤ → ℤ → Bool) (columns rows : Columns) → AreNear columns → ((c j : ℤ) → black c j ≡ false)
+    → None ≡ ink_in black columns rows
+none_is black columns rows near none =
+    found_is black columns rows None near (λ c j. none_shown (is_column_of columns c)
+    (is_within rows.first (count_of rows) j) (black c j) (none c j))

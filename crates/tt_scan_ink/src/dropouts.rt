@@ -13,7 +13,7 @@ use crate::ink::{GlyphInk, joined};
 use crate::lines::count_of;
 use std::alloc::{AllocError, Global};
 use tt_scan::Tape;
-use tt_scan_dropouts::{BAND_ROWS, Columns, Pixel, Rules, Window, box_of, dropouts};
+use tt_scan_dropouts::{BAND_ROWS, Columns, Pixel, Rules, Window, box_of, dropouts, may_have_dropouts};
 
 /// The box of one pixel.
 #[inline(always)]
@@ -117,6 +117,11 @@ pub fn dropouts_ink(
     ensures exact { IfOk result (λ ink. ink ≡ dropouts_ink rules (contours_at tape.now.edges ends.now) tape.now.edges) }
     ensures near { IfOk result (λ ink. IfSome ink IsNear) }
 {
-    let (columns, rows) = box_of(tape.lend());
+    // The question reads all edges, and one answer holds for all windows.
+    let edges = tape.lend();
+    if !may_have_dropouts(rules.stubs, edges, ends) {
+        return Ok(None);
+    }
+    let (columns, rows) = box_of(edges);
     windows_ink(alloc, rules, tape, ends, columns, rows)
 }

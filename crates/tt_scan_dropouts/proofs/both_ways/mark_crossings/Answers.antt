@@ -39,7 +39,7 @@ loop-k-preserved c =
     λ has. elim c.else-mark.branch [
       | else-mark-via-then-mark+else-look w ↦
           let not : is_free black c.gap_crossed-gap.result c.line_crossed-line.result ≡ false =
-          simp to_z-of_z at (w.look.ensures w.if-look.false) in
+          simp to_z-of_z at (w.look.ensures.free w.if-look.false) in
           ap₂ (is_free black) (sym in_gap) (sym on_line) ∙ not
       | else-mark-via-else-mark w ↦
           let bad : true ≡ false =
@@ -58,4 +58,8 @@ loop-k-preserved c =
         | inr not ↦ let same : m ≡ k = omega arith in rw same (its (rw same at has))
       ];
       len = c.mark.ensures.len;
+      fewer = elim c.else-mark.branch [
+        | else-mark-via-then-mark+else-look w ↦ rw w.looks-is (omega (arith, w.look.ensures.fewer, so_far.fewer))
+        | else-mark-via-else-mark w ↦ rw w.looks-is so_far.fewer
+      ];
     }

@@ -1,10 +1,10 @@
-use Rattle.std.proofs.Common.{◌≡◌, length, map, take}
+use Rattle.std.proofs.Common.{◌≡◌, ◌≤◌, length, map, take}
 use Rattle.tt_scan_dropouts.specs.BothWays.{AreTold, is_black_seen}
 use Rattle.tt_scan_dropouts.specs.Windows.{seen_by}
 use Rattle.tt_scan_dropouts.specs.declared.window.Over.TheVariants as over
-use Rattle.tt_scan_dropouts.proofs.both_ways.may_cross_both_ways.Given as goal
+use Rattle.tt_scan_dropouts.proofs.both_ways.mark_edges.Given as goal
 
--- the tables have the gaps of the edges so far
+-- the tables have the gaps of the edges so far, and looks are only taken
 abbrev pub invariant-loop-edge : goal.invariant-loop-edge
 invariant-loop-edge l = record {
   rows : AreTold (is_black_seen over.Rows l.edges) (map (seen_by over.Rows) (take l.edge-index l.edges))
@@ -15,4 +15,5 @@ invariant-loop-edge l = record {
   row_falling_len : length l.row_falling ≡ 2048;
   column_rising_len : length l.column_rising ≡ 2048;
   column_falling_len : length l.column_falling ≡ 2048;
+  fewer : l.looks ≤ l.fn.looks;
 }

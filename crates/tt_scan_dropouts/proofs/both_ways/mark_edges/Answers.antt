@@ -1,10 +1,10 @@
-use Rattle.std.proofs.Common.{refl, sym, subst, pos, map, take}
+use Rattle.std.proofs.Common.{refl, sym, subst, pos, map, take, arith}
 use Rattle.tt_scan.specs.declared.edge.Edge.{Edge}
 use Rattle.tt_scan_dropouts.specs.BothWays.{AreTold, is_black_seen}
 use Rattle.tt_scan_dropouts.specs.Windows.{seen_by}
 use Rattle.tt_scan_dropouts.specs.declared.window.Over.TheVariants as over
 use Rattle.tt_scan_dropouts.proofs.Ways.{more_seen}
-use Rattle.tt_scan_dropouts.proofs.both_ways.may_cross_both_ways.Goals as goal
+use Rattle.tt_scan_dropouts.proofs.both_ways.mark_edges.Goals as goal
 
 pub loop-edge-init : goal.loop-edge-init
 loop-edge-init c = record {
@@ -14,6 +14,7 @@ loop-edge-init c = record {
   row_falling_len = refl;
   column_rising_len = refl;
   column_falling_len = refl;
+  fewer = omega arith;
 }
 
 abbrev none : Edge
@@ -38,4 +39,5 @@ loop-edge-preserved c =
       row_falling_len = c.mark_edge.ensures.falling_len;
       column_rising_len = c.mark_edge-in-loop-edge.ensures.rising_len;
       column_falling_len = c.mark_edge-in-loop-edge.ensures.falling_len;
+      fewer = omega (arith, so_far.fewer, c.mark_edge.ensures.fewer, c.mark_edge-in-loop-edge.ensures.fewer);
     }
