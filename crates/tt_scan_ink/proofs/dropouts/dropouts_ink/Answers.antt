@@ -1,4 +1,4 @@
-use Rattle.std.proofs.Common.{◌≡◌, ◌∙◌, ap, refl, false, Bool, ℤ, map, All, None}
+use Rattle.std.proofs.Common.{◌≡◌, ◌∙◌, ap, refl, false, Bool, ℤ, map, All}
 use Rattle.std.specs.Prelude.{IfSome}
 use Rattle.std.proofs.lemmas.Result.{IfOk-weaker}
 use Rattle.tt_scan.specs.Contours.{contours_at}
