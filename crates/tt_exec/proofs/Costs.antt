@@ -2,24 +2,24 @@
 use Rattle.std.proofs.Common.{◌≡◌, ◌≢◌, ℕ, zero, suc, ◌+◌, ◌<◌, ◌==◌, ◌||◌, ◌&&◌, Bool, true, false, if◌then◌else◌, not, List, [], ◌∷◌, length, slice_index_or, refl, sym, ◌∙◌, arith}
 use Rattle.std.proofs.lemmas.Bool.Decides.{nat_tests}
 use Rattle.tt_exec.specs.MachineState.{MachineState}
-use Rattle.tt_exec.specs.Work.{cost_by, is_looped, is_counted, is_of_glyph, is_of_flags, is_of_zone, is_push_of_many, moves_one, is_of_lines, finds_two, is_of_distance, is_slow}
+use Rattle.tt_exec.specs.Work.{cost_by, is_looped, is_counted, is_of_glyph, is_of_flags, is_of_zone, is_push_of_many, moves_one, is_relative, is_of_lines, finds_two, is_of_distance, is_slow}
 
 abbrev pub costs : List ℕ
 costs =
     1 ∷ 1 ∷ 1 ∷ 1 ∷ 1 ∷ 1 ∷ 33 ∷ 33 ∷ 33 ∷ 33 ∷ 33 ∷ 33 ∷ 1 ∷ 1 ∷ 1 ∷ 33 ∷
-    1 ∷ 1 ∷ 1 ∷ 1 ∷ 1 ∷ 1 ∷ 1 ∷ 1 ∷ 1 ∷ 1 ∷ 1 ∷ 0 ∷ 1 ∷ 1 ∷ 1 ∷ 1 ∷
+    1 ∷ 1 ∷ 1 ∷ 1 ∷ 1 ∷ 1 ∷ 1 ∷ 1 ∷ 1 ∷ 1 ∷ 1 ∷ 0 ∷ 1 ∷ 1 ∷ 1 ∷ 2 ∷
     1 ∷ 1 ∷ 1 ∷ 1 ∷ 1 ∷ 1 ∷ 0 ∷ 9 ∷ 1 ∷ 1 ∷ 1 ∷ 1 ∷ 0 ∷ 1 ∷ 5 ∷ 5 ∷
     0 ∷ 0 ∷ 0 ∷ 0 ∷ 0 ∷ 0 ∷ 0 ∷ 0 ∷ 0 ∷ 0 ∷ 5 ∷ 5 ∷ 0 ∷ 1 ∷ 5 ∷ 5 ∷
-    0 ∷ 0 ∷ 1 ∷ 1 ∷ 1 ∷ 1 ∷ 2 ∷ 2 ∷ 5 ∷ 3 ∷ 3 ∷ 1 ∷ 1 ∷ 1 ∷ 1 ∷ 1 ∷
+    0 ∷ 0 ∷ 1 ∷ 1 ∷ 1 ∷ 1 ∷ 2 ∷ 2 ∷ 5 ∷ 3 ∷ 3 ∷ 1 ∷ 1 ∷ 1 ∷ 1 ∷ 2 ∷
     1 ∷ 1 ∷ 1 ∷ 1 ∷ 1 ∷ 1 ∷ 1 ∷ 1 ∷ 0 ∷ 1 ∷ 1 ∷ 1 ∷ 1 ∷ 0 ∷ 1 ∷ 1 ∷
     1 ∷ 1 ∷ 1 ∷ 1 ∷ 1 ∷ 1 ∷ 1 ∷ 1 ∷ 2 ∷ 2 ∷ 2 ∷ 2 ∷ 2 ∷ 2 ∷ 2 ∷ 2 ∷
-    1 ∷ 0 ∷ 0 ∷ 0 ∷ 0 ∷ 0 ∷ 2 ∷ 2 ∷ 1 ∷ 1 ∷ 1 ∷ 1 ∷ 1 ∷ 1 ∷ 1 ∷ 1 ∷
+    1 ∷ 0 ∷ 0 ∷ 0 ∷ 0 ∷ 0 ∷ 2 ∷ 2 ∷ 2 ∷ 2 ∷ 1 ∷ 1 ∷ 1 ∷ 1 ∷ 1 ∷ 1 ∷
     0 ∷ 0 ∷ 0 ∷ 1 ∷ 1 ∷ 1 ∷ 49 ∷ 49 ∷ 1 ∷ 0 ∷ 2 ∷ 1 ∷ 1 ∷ 1 ∷ 1 ∷ 1 ∷
     1 ∷ 1 ∷ 1 ∷ 1 ∷ 1 ∷ 1 ∷ 1 ∷ 1 ∷ 1 ∷ 1 ∷ 1 ∷ 1 ∷ 1 ∷ 1 ∷ 1 ∷ 1 ∷
     1 ∷ 1 ∷ 1 ∷ 1 ∷ 1 ∷ 1 ∷ 1 ∷ 1 ∷ 1 ∷ 1 ∷ 1 ∷ 1 ∷ 1 ∷ 1 ∷ 1 ∷ 1 ∷
-    1 ∷ 1 ∷ 1 ∷ 1 ∷ 1 ∷ 1 ∷ 1 ∷ 1 ∷ 1 ∷ 1 ∷ 1 ∷ 1 ∷ 1 ∷ 1 ∷ 1 ∷ 1 ∷
-    5 ∷ 5 ∷ 5 ∷ 5 ∷ 5 ∷ 5 ∷ 5 ∷ 5 ∷ 5 ∷ 5 ∷ 5 ∷ 5 ∷ 5 ∷ 5 ∷ 5 ∷ 5 ∷
-    5 ∷ 5 ∷ 5 ∷ 5 ∷ 5 ∷ 5 ∷ 5 ∷ 5 ∷ 5 ∷ 5 ∷ 5 ∷ 5 ∷ 5 ∷ 5 ∷ 5 ∷ 5 ∷
+    1 ∷ 1 ∷ 1 ∷ 1 ∷ 2 ∷ 2 ∷ 2 ∷ 2 ∷ 1 ∷ 1 ∷ 1 ∷ 1 ∷ 2 ∷ 2 ∷ 2 ∷ 2 ∷
+    7 ∷ 7 ∷ 7 ∷ 7 ∷ 7 ∷ 7 ∷ 7 ∷ 7 ∷ 7 ∷ 7 ∷ 7 ∷ 7 ∷ 7 ∷ 7 ∷ 7 ∷ 7 ∷
+    7 ∷ 7 ∷ 7 ∷ 7 ∷ 7 ∷ 7 ∷ 7 ∷ 7 ∷ 7 ∷ 7 ∷ 7 ∷ 7 ∷ 7 ∷ 7 ∷ 7 ∷ 7 ∷
     5 ∷ 5 ∷ 5 ∷ 5 ∷ 5 ∷ 5 ∷ 5 ∷ 5 ∷ 5 ∷ 5 ∷ 5 ∷ 5 ∷ 5 ∷ 5 ∷ 5 ∷ 5 ∷
     5 ∷ 5 ∷ 5 ∷ 5 ∷ 5 ∷ 5 ∷ 5 ∷ 5 ∷ 5 ∷ 5 ∷ 5 ∷ 5 ∷ 5 ∷ 5 ∷ 5 ∷ 5 ∷ []
 
@@ -40,9 +40,10 @@ by_slowness distance slow = if distance then 3 else (if slow then 2 else 1)
 abbrev said : ℕ → ℕ
 said op =
     if moves_one op then 5 else (
+    if is_relative op then 7 else (
     if op == 0x27 then 9 else (
     if is_of_lines op then 33 else (
-    if finds_two op then 49 else by_slowness (is_of_distance op) (is_slow op))))
+    if finds_two op then 49 else by_slowness (is_of_distance op) (is_slow op)))))
 
 -- a table's entries, from an opcode on, are the defined work, or 0
 abbrev agrees : ℕ → ℕ → Bool
@@ -80,16 +81,17 @@ neither_second : (a b : Bool) → (a || b) ≡ false → b ≡ false
 neither_second true b h = absurd cc
 neither_second false b h = h
 
-by_class : (a b c d e f : Bool)
-    → 1 + ((if a then 4 else (if b then 8 else (if c then 32 else (if d then 48 else (if e then 2 else (if f then 1 else 0)))))) + 0)
-    ≡ (if a then 5 else (if b then 9 else (if c then 33 else (if d then 49 else by_slowness e f))))
-by_class true b c d e f = refl
-by_class false true c d e f = refl
-by_class false false true d e f = refl
-by_class false false false true e f = refl
-by_class false false false false true f = refl
-by_class false false false false false true = refl
-by_class false false false false false false = refl
+by_class : (a b c d e f g : Bool)
+    → 1 + ((if a then 4 else (if b then 6 else (if c then 8 else (if d then 32 else (if e then 48 else (if f then 2 else (if g then 1 else 0))))))) + 0)
+    ≡ (if a then 5 else (if b then 7 else (if c then 9 else (if d then 33 else (if e then 49 else by_slowness f g)))))
+by_class true b c d e f g = refl
+by_class false true c d e f g = refl
+by_class false false true d e f g = refl
+by_class false false false true e f g = refl
+by_class false false false false true f g = refl
+by_class false false false false false true g = refl
+by_class false false false false false false true = refl
+by_class false false false false false false false = refl
 
 nat_same : (a b : ℕ) → (a == b) ≡ true → a ≡ b
 nat_same a b h = grind (arith, nat_tests)
@@ -113,7 +115,7 @@ says op m h =
     let else_at = neither_first (op == 0x1B) _ h in
     let def_at = neither_second (op == 0x1B) (op == 0x2C || op == 0x89) h in
     rw (looped, counted, glyph, flags, zone, push, if_at, else_at, def_at)
-    (by_class (moves_one op) (op == 0x27) (is_of_lines op) (finds_two op) (is_of_distance op) (is_slow op))
+    (by_class (moves_one op) (is_relative op) (op == 0x27) (is_of_lines op) (finds_two op) (is_of_distance op) (is_slow op))
 
 by_entry : (some varying same : Bool) (op : ℕ) (m : MachineState) (cost : ℕ) → (cost == 0) ≡ some → varies op ≡ varying
     → (cost == said op) ≡ same → (some || (not varying && same)) ≡ true → cost ≢ 0 → cost_by op m ≡ cost

@@ -1,8 +1,8 @@
 -- No part of the standard: the work of a run, if its job has a budget (profile). A step is 1. Each point or stack entry
 -- that its instruction covers is 1, and so is each byte skipped. At the beginning of a run, each control value, storage
 -- place, twilight point, definition and place of a definition copied for it is 1. Slower things weigh more. A point
--- moved by itself, named on the stack, or moved with its contour or zone is 4. A point that IUP covers is 2. A vector or
--- a place found from lines is 32. These weights follow measured times.
+-- moved by itself, named on the stack, or moved with its contour or zone is 4. A point that MDRP moves is 6. A point that
+-- IUP covers is 2. A vector or a place found from lines is 32. These weights follow measured times.
 use Rattle.std.specs.Prelude.{ℕ, zero, suc, ◌+◌, ◌-◌, ◌*◌, ◌==◌, ◌||◌, ◌&&◌, min, nat_le, ℤ, pos, unsigned_abs, Bool, if◌then◌else◌, List, [], ◌∷◌, length, slice_index, Option, Some, None, Result, Ok, Err}
 use Rattle.tt_core.specs.Faults.{Fault}
 use Rattle.tt_core.specs.Limits.{step_limit}
@@ -60,9 +60,13 @@ is_of_flags op = op == 0x81 || op == 0x82
 abbrev pub is_of_zone : ℕ → Bool
 is_of_zone op = nat_le 0x34 op && nat_le op 0x37
 
--- MDAP, MSIRP, MIAP, SCFS, MDRP and MIRP move a point
+-- MDAP, MSIRP, MIAP, SCFS and MIRP move a point
 abbrev pub moves_one : ℕ → Bool
-moves_one op = op == 0x2E || op == 0x2F || op == 0x3A || op == 0x3B || op == 0x3E || op == 0x3F || op == 0x48 || nat_le 0xC0 op
+moves_one op = op == 0x2E || op == 0x2F || op == 0x3A || op == 0x3B || op == 0x3E || op == 0x3F || op == 0x48 || nat_le 0xE0 op
+
+-- MDRP measures an original distance, and moves a point by this distance
+abbrev pub is_relative : ℕ → Bool
+is_relative op = nat_le 0xC0 op && nat_le op 0xDF
 
 -- SPVTL, SFVTL, SPVFS, SFVFS and ISECT find a vector, or the meeting point of lines
 abbrev pub is_of_lines : ℕ → Bool
@@ -76,10 +80,22 @@ finds_two op = op == 0x86 || op == 0x87
 abbrev pub is_of_distance : ℕ → Bool
 is_of_distance op = op == 0x49 || op == 0x4A
 
--- GC, ROUND, NROUND, SROUND, S45ROUND and ROLL cover no point or entry, but are slow
+-- PUSHB and PUSHW of five to eight values
+abbrev pub is_long_push : ℕ → Bool
+is_long_push op = (nat_le 0xB4 op && nat_le op 0xB7) || (nat_le 0xBC op && nat_le op 0xBF)
+
+-- SSW, GC, DEBUG, ROUND, NROUND, SROUND, S45ROUND, JROT, JROF, ROLL and long pushes cover no point or entry, but are
+-- slow
 abbrev pub is_slow : ℕ → Bool
 is_slow op =
-    op == 0x46 || op == 0x47 || (nat_le 0x68 op && nat_le op 0x6F) || op == 0x76 || op == 0x77 || op == 0x8A
+    op == 0x1F
+    || op == 0x46
+    || op == 0x47
+    || op == 0x4F
+    || (nat_le 0x68 op && nat_le op 0x6F)
+    || (nat_le 0x76 op && nat_le op 0x79)
+    || op == 0x8A
+    || is_long_push op
 
 -- NPUSHB and NPUSHW push entries; the byte after them is the count
 abbrev pub is_push_of_many : ℕ → Bool
@@ -93,10 +109,11 @@ slowness op = if is_of_distance op then 2 else (if is_slow op then 1 else 0)
 abbrev pub weight : ℕ → MachineState → ℕ
 weight op m =
     if moves_one op then 4 else (
+    if is_relative op then 6 else (
     if op == 0x27 then 8 else (
     if is_of_lines op then 32 else (
     if finds_two op then 48 else (
-    if is_push_of_many op then slice_index m.frame.code.bytes (m.frame.place + 1) else slowness op))))
+    if is_push_of_many op then slice_index m.frame.code.bytes (m.frame.place + 1) else slowness op)))))
 
 -- the work for the two reference points of IP, whatever the loop variable
 abbrev pub referred : ℕ → ℕ

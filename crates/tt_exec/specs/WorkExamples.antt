@@ -100,10 +100,36 @@ none_on_the_stack = refl
 points_measured : costs_of (0x45 ∷ 0x46 ∷ 0x47 ∷ 0x48 ∷ 0x49 ∷ 0x4A ∷ 0x4B ∷ []) ≡ 1 ∷ 2 ∷ 2 ∷ 5 ∷ 3 ∷ 3 ∷ 1 ∷ []
 points_measured = refl
 
--- CEILING; ROUND and NROUND, first and last; WCVTF; SROUND, S45ROUND; JROT
-values_rounded : costs_of (0x67 ∷ 0x68 ∷ 0x6B ∷ 0x6C ∷ 0x6F ∷ 0x70 ∷ 0x76 ∷ 0x77 ∷ 0x78 ∷ [])
-    ≡ 1 ∷ 2 ∷ 2 ∷ 2 ∷ 2 ∷ 1 ∷ 2 ∷ 2 ∷ 1 ∷ []
+-- CEILING; ROUND and NROUND, first and last; WCVTF; SROUND, S45ROUND
+values_rounded : costs_of (0x67 ∷ 0x68 ∷ 0x6B ∷ 0x6C ∷ 0x6F ∷ 0x70 ∷ 0x76 ∷ 0x77 ∷ [])
+    ≡ 1 ∷ 2 ∷ 2 ∷ 2 ∷ 2 ∷ 1 ∷ 2 ∷ 2 ∷ []
 values_rounded = refl
+
+-- JMPR; JROT, JROF; ROFF
+jumps : costs_of (0x1C ∷ 0x78 ∷ 0x79 ∷ 0x7A ∷ []) ≡ 1 ∷ 2 ∷ 2 ∷ 1 ∷ []
+jumps = refl
+
+-- SSWCI, SSW, DUP
+single_width_set : costs_of (0x1E ∷ 0x1F ∷ 0x20 ∷ []) ≡ 1 ∷ 2 ∷ 1 ∷ []
+single_width_set = refl
+
+-- FLIPOFF, DEBUG, LT
+debug_ignored : costs_of (0x4E ∷ 0x4F ∷ 0x50 ∷ []) ≡ 1 ∷ 2 ∷ 1 ∷ []
+debug_ignored = refl
+
+-- PUSHB of one, four, five and eight values; the same of PUSHW
+values_pushed : costs_of (0xB0 ∷ 0xB3 ∷ 0xB4 ∷ 0xB7 ∷ 0xB8 ∷ 0xBB ∷ 0xBC ∷ 0xBF ∷ [])
+    ≡ 1 ∷ 1 ∷ 2 ∷ 2 ∷ 1 ∷ 1 ∷ 2 ∷ 2 ∷ []
+values_pushed = refl
+
+-- MDRP, first and last; MIRP, first and last
+distances_set : costs_of (0xC0 ∷ 0xDF ∷ 0xE0 ∷ 0xFF ∷ []) ≡ 7 ∷ 7 ∷ 5 ∷ 5 ∷ []
+distances_set = refl
+
+-- MDAP, MSIRP and MIAP, each twice; SCFS
+one_point_moved : costs_of (0x2E ∷ 0x2F ∷ 0x3A ∷ 0x3B ∷ 0x3E ∷ 0x3F ∷ 0x48 ∷ [])
+    ≡ 5 ∷ 5 ∷ 5 ∷ 5 ∷ 5 ∷ 5 ∷ 5 ∷ []
+one_point_moved = refl
 
 -- SCANCTRL; SDPVTL twice; GETINFO; ROLL; MAX
 two_vectors_found : costs_of (0x85 ∷ 0x86 ∷ 0x87 ∷ 0x88 ∷ 0x8A ∷ 0x8B ∷ []) ≡ 1 ∷ 49 ∷ 49 ∷ 1 ∷ 2 ∷ 1 ∷ []

@@ -181,7 +181,15 @@ fn by_machine<'a>(
     let Some(mut copies) = parts.pay(work) else {
         return Err(Unmade::Spent(glyf_fault(program.code_at, Why::StepLimit)));
     };
-    put_glyph(alloc, machine, parts, program.units, &outline, &grid, &mut copies)?;
+    put_glyph(
+        alloc,
+        machine,
+        parts,
+        program.units,
+        &outline,
+        &grid,
+        &mut copies,
+    )?;
     run_paid(machine, code_in_glyf(program), copies, work)?;
     Ok(left_outline(outline, machine.glyph_points(), machine.scan())?)
 }
