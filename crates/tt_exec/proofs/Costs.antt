@@ -2,7 +2,7 @@
 use Rattle.std.proofs.Common.{◌≡◌, ◌≢◌, ℕ, zero, suc, ◌+◌, ◌<◌, ◌==◌, ◌||◌, ◌&&◌, Bool, true, false, if◌then◌else◌, not, List, [], ◌∷◌, length, slice_index_or, refl, sym, ◌∙◌, arith}
 use Rattle.std.proofs.lemmas.Bool.Decides.{nat_tests}
 use Rattle.tt_exec.specs.MachineState.{MachineState}
-use Rattle.tt_exec.specs.Work.{cost_by, is_looped, is_counted, is_of_glyph, is_of_flags, is_of_zone, is_push_of_many, moves_one, is_relative, is_of_lines, finds_two, is_of_distance, is_slow}
+use Rattle.tt_exec.specs.Work.{cost_by, is_looped, is_counted, is_of_glyph, is_of_flags, is_of_zone, is_push_of_many, moves_one, is_relative, is_of_lines, finds_two, is_of_distance, is_slow, slowness}
 
 abbrev pub costs : List ℕ
 costs =
@@ -97,6 +97,7 @@ nat_same : (a b : ℕ) → (a == b) ≡ true → a ≡ b
 nat_same a b h = grind (arith, nat_tests)
 
 says : (op : ℕ) (m : MachineState) → varies op ≡ false → cost_by op m ≡ said op
+unfolding slowness
 says op m h =
     let looped = neither_first (is_looped op) _ h in
     let h = neither_second (is_looped op) _ h in
@@ -131,3 +132,8 @@ told op m d few some =
     let cost = slice_index_or costs op d in
     by_entry (cost == 0) (varies op) (cost == said op) op m cost refl refl refl
     (entry_agrees costs 0 op op d they_do (omega arith) (omega arith)) some
+
+-- past a program's end the opcode counts as 0
+pub past_the_end : (m : MachineState) → cost_by 0 m ≡ 1
+unfolding slowness
+past_the_end m = refl

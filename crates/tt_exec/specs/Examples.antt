@@ -15,7 +15,7 @@ use Rattle.tt_exec.specs.MachineState.{MachineState}
 use Rattle.tt_exec.specs.Parts.{Parts}
 use Rattle.tt_exec.specs.Runs.{run_within}
 use Rattle.tt_exec.specs.Step.{step}
-use Rattle.tt_exec.specs.Work.{enough, spent, copied_of, work_within, run_work}
+use Rattle.tt_exec.specs.Work.{enough, spent, copied_of, slowness, work_within, run_work}
 
 -- the state after a count of steps
 abbrev after : ℕ → MachineState → Result MachineState Fault
@@ -96,22 +96,22 @@ begun_with bytes = run_from (record { table = codes "prep"; base = 40; bytes = b
 
 -- PUSHB 2, 3; SUB; POP
 three_paid : work_within 3 (begun_with (0xB1 ∷ 2 ∷ 3 ∷ 0x61 ∷ 0x21 ∷ [])) (Some 3) ≡ enough (Some 0)
-unfolding its_parts pushed work_within
+unfolding its_parts pushed work_within slowness
 three_paid = refl
 
 two_of_three_paid : work_within 3 (begun_with (0xB1 ∷ 2 ∷ 3 ∷ 0x61 ∷ 0x21 ∷ [])) (Some 2)
     ≡ spent (fault_at (codes "prep") 44 why.StepLimit)
-unfolding its_parts pushed work_within
+unfolding its_parts pushed work_within slowness
 two_of_three_paid = refl
 
 -- PUSHB 0; IF; ELSE; PUSHB 5; EIF: four steps, and the ELSE that IF skips
 skip_paid : work_within 4 (begun_with (0xB0 ∷ 0 ∷ 0x58 ∷ 0x1B ∷ 0xB0 ∷ 5 ∷ 0x59 ∷ [])) (Some 7) ≡ enough (Some 2)
-unfolding its_parts pushed work_within
+unfolding its_parts pushed work_within slowness
 skip_paid = refl
 
 -- PUSHB 9; POP; JMPR, which is refused: its step is paid for
 refusal_paid : work_within 3 (begun_with (0xB0 ∷ 9 ∷ 0x21 ∷ 0x1C ∷ [])) (Some 7) ≡ enough (Some 4)
-unfolding its_parts pushed work_within
+unfolding its_parts pushed work_within slowness
 refusal_paid = refl
 
 -- one place of the storage area was copied for the run

@@ -1,8 +1,8 @@
 -- No part of the standard: the work of a run, if its job has a budget (profile). A step is 1. Each point or stack entry
 -- that its instruction covers is 1, and so is each byte skipped. At the beginning of a run, each control value, storage
 -- place, twilight point, definition and place of a definition copied for it is 1. Slower things weigh more. A point
--- moved by itself, named on the stack, or moved with its contour or zone is 4. A point that MDRP moves is 6. A point that
--- IUP covers is 2. A vector or a place found from lines is 32. These weights follow measured times.
+-- moved by itself, named on the stack, or moved with its contour or zone is 4. A point that MDRP moves is 6. A point
+-- that IUP covers is 2. A vector or a place found from lines is 32. These weights follow measured times.
 use Rattle.std.specs.Prelude.{ℕ, zero, suc, ◌+◌, ◌-◌, ◌*◌, ◌==◌, ◌||◌, ◌&&◌, min, nat_le, ℤ, pos, unsigned_abs, Bool, if◌then◌else◌, List, [], ◌∷◌, length, slice_index, Option, Some, None, Result, Ok, Err}
 use Rattle.tt_core.specs.Faults.{Fault}
 use Rattle.tt_core.specs.Limits.{step_limit}
@@ -102,7 +102,7 @@ abbrev pub is_push_of_many : ℕ → Bool
 is_push_of_many op = op == 0x40 || op == 0x41
 
 -- the extra work of an instruction that covers no point or entry
-abbrev pub slowness : ℕ → ℕ
+unfoldable pub slowness : ℕ → ℕ
 slowness op = if is_of_distance op then 2 else (if is_slow op then 1 else 0)
 
 -- the extra work of an instruction, which doesn't depend on the loop variable or the stack; ALIGNPTS moves two points

@@ -9,7 +9,7 @@ use Rattle.tt_state.specs.declared.tolerance.Tolerance.TheVariants as tolerance
 use Rattle.tt_exec.specs.Machines.{fresh, no_code, run_from}
 use Rattle.tt_exec.specs.MachineState.{Body, MachineState}
 use Rattle.tt_exec.specs.Parts.{Parts}
-use Rattle.tt_exec.specs.Work.{copied, step_cost}
+use Rattle.tt_exec.specs.Work.{copied, slowness, step_cost}
 
 a_point : Point
 a_point = record { units_x = pos 0; units_y = pos 0; org_x = pos 0; org_y = pos 0; x = pos 0; y = pos 0; touched_x = false; touched_y = false; on = false }
@@ -98,28 +98,34 @@ none_on_the_stack = refl
 
 -- RCVT; GC twice; SCFS; MD twice; MPPEM
 points_measured : costs_of (0x45 ∷ 0x46 ∷ 0x47 ∷ 0x48 ∷ 0x49 ∷ 0x4A ∷ 0x4B ∷ []) ≡ 1 ∷ 2 ∷ 2 ∷ 5 ∷ 3 ∷ 3 ∷ 1 ∷ []
+unfolding slowness
 points_measured = refl
 
 -- CEILING; ROUND and NROUND, first and last; WCVTF; SROUND, S45ROUND
 values_rounded : costs_of (0x67 ∷ 0x68 ∷ 0x6B ∷ 0x6C ∷ 0x6F ∷ 0x70 ∷ 0x76 ∷ 0x77 ∷ [])
     ≡ 1 ∷ 2 ∷ 2 ∷ 2 ∷ 2 ∷ 1 ∷ 2 ∷ 2 ∷ []
+unfolding slowness
 values_rounded = refl
 
 -- JMPR; JROT, JROF; ROFF
 jumps : costs_of (0x1C ∷ 0x78 ∷ 0x79 ∷ 0x7A ∷ []) ≡ 1 ∷ 2 ∷ 2 ∷ 1 ∷ []
+unfolding slowness
 jumps = refl
 
 -- SSWCI, SSW, DUP
 single_width_set : costs_of (0x1E ∷ 0x1F ∷ 0x20 ∷ []) ≡ 1 ∷ 2 ∷ 1 ∷ []
+unfolding slowness
 single_width_set = refl
 
 -- FLIPOFF, DEBUG, LT
 debug_ignored : costs_of (0x4E ∷ 0x4F ∷ 0x50 ∷ []) ≡ 1 ∷ 2 ∷ 1 ∷ []
+unfolding slowness
 debug_ignored = refl
 
 -- PUSHB of one, four, five and eight values; the same of PUSHW
 values_pushed : costs_of (0xB0 ∷ 0xB3 ∷ 0xB4 ∷ 0xB7 ∷ 0xB8 ∷ 0xBB ∷ 0xBC ∷ 0xBF ∷ [])
     ≡ 1 ∷ 1 ∷ 2 ∷ 2 ∷ 1 ∷ 1 ∷ 2 ∷ 2 ∷ []
+unfolding slowness
 values_pushed = refl
 
 -- MDRP, first and last; MIRP, first and last
@@ -133,10 +139,12 @@ one_point_moved = refl
 
 -- SCANCTRL; SDPVTL twice; GETINFO; ROLL; MAX
 two_vectors_found : costs_of (0x85 ∷ 0x86 ∷ 0x87 ∷ 0x88 ∷ 0x8A ∷ 0x8B ∷ []) ≡ 1 ∷ 49 ∷ 49 ∷ 1 ∷ 2 ∷ 1 ∷ []
+unfolding slowness
 two_vectors_found = refl
 
 -- SVTCA; SPVTL, first; SFVFS; GPV; SFVTPV; ISECT; SRP0
 one_vector_found : costs_of (0x00 ∷ 0x06 ∷ 0x0B ∷ 0x0C ∷ 0x0E ∷ 0x0F ∷ 0x10 ∷ []) ≡ 1 ∷ 33 ∷ 33 ∷ 1 ∷ 1 ∷ 33 ∷ 1 ∷ []
+unfolding slowness
 one_vector_found = refl
 
 -- ALIGNPTS

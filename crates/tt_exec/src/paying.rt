@@ -32,6 +32,7 @@ fn fixed_cost(op: u8) -> u64
 }
 
 /// The extra work of an opcode that covers no point or stack entry.
+#[tactic(auto, unfolding(crate::specs::Work::slowness))]
 fn slowness(op: u8) -> u64
     ensures exact { result ≡ is.slowness op }
     ensures few { result ≤ 2 }

@@ -6,7 +6,7 @@ use Rattle.tt_core.specs.Faults.{Fault, fault_at, why_number}
 use Rattle.tt_core.specs.declared.fault.Why.TheVariants as why
 use Rattle.tt_core.specs.Limits.{level_limit}
 use Rattle.tt_exec.specs.Runs.{run_within, run_outcome}
-use Rattle.tt_exec.specs.Work.{run_work, work_within}
+use Rattle.tt_exec.specs.Work.{run_work, slowness, work_within}
 use Rattle.tt_glyf.specs.Bytes.{byte_in, word_in, signed_in, slice_in}
 use Rattle.tt_glyf.specs.Composite.{transform_at, argument_at, arguments_at, unscaled, known_glyph, record_at, records_from, program_of, composite_of}
 use Rattle.tt_glyf.specs.Coordinates.{delta_at, within_words, coordinate_at, coordinates_from}
@@ -124,7 +124,7 @@ by_it_every_glyph_is_unfitted = refl
 -- with best: an opcode that nothing defines, whose step counts as work
 with_best_every_glyph_is_unfitted : prepared its_metrics (record its_programs { fpgm = 0xA0 ∷ [] }) 16 fit.Best ≡ Ok
     (record { hinting = off; fallback = everywhere (fault_at (codes "fpgm") 0 why.BadOpcode); work = Some 99999999 })
-unfolding prepared left_by_programs run_of run_outcome run_within programs_work run_work work_within
+unfolding prepared left_by_programs run_of run_outcome run_within programs_work run_work work_within slowness
 with_best_every_glyph_is_unfitted = refl
 
 -- this fault makes a glyph without a program unfitted too
