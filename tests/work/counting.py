@@ -1,5 +1,6 @@
-"""What the edges of a glyph count among the crossings of a line, from the definitions alone: by the rows of the glyph and
-those that they cross, and where dropouts are filled by columns and by the glyph's box as a bitmap. No picture is known.
+"""What the edges of a glyph count among the crossings of a line, from the definitions alone: by the rows of the glyph
+and those that they cross; where dropouts are filled, also by the edges, the columns that they cross, and the glyph's
+box as a bitmap. No picture is known.
 
 Points are (x, y, on) in 26.6 pixels; edges are pairs of ends in 1/8192 pixel.
 """

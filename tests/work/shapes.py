@@ -61,8 +61,8 @@ def counted_in(contours, filled):
 
 
 def made_up(count, filled):
-    """Glyphs of edges in one point, which count so much together: several of the first, and one of the second. The third
-    and the fourth count one more than the second.
+    """How many of the first glyph, and glyphs of edges in one point: so many of the first and one of the second count so
+    much together. The third and the fourth count one more than the second.
     """
     weight = counted_in(edges_alone(3), filled) - counted_in(edges_alone(2), filled)
     places = next(it for it in range(2, 99) if (count - it) % weight == 0 and count <= it * weight * MOST_EDGES)
