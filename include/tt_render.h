@@ -210,9 +210,9 @@ uint32_t tt_message(const struct tt_answer *told, uint8_t *text, size_t room, st
  *     one.
  *   - Crossings: its glyphs, at all their places, have more than 16,000,000, or more than the line's work allows. An
  *     edge counts four for each row that it crosses, inside the picture or outside, and one for each 2,048 rows of its
- *     glyph. Each row of the glyph counts one. Where dropouts are filled, an edge counts two more, and four more for
- *     each row or column that it crosses. Each 64 bytes of a bitmap of the glyph then count one. The work allows
- *     250,000, and one for each 4 units that points and programs leave of 100,000,000. A point takes 40 units.
+ *     glyph. Each row of the glyph counts one. Where dropouts are filled, an edge counts four more for each row or
+ *     column that it crosses. Each 64 bytes of a bitmap of the glyph then count one. The work allows 250,000, and one
+ *     for each 4 units that points and programs leave of 100,000,000. A point takes 40 units.
  */
 #define TT_REFUSALS(X) \
     X(1, BadVersion) \

@@ -61,14 +61,13 @@ def counted_in(contours, filled):
 
 
 def made_up(count, filled):
-    """How many of the first glyph, and glyphs of edges in one point: so many of the first and one of the second count so
-    much together. The third and the fourth count one more than the second.
+    """How many of the first glyph, and glyphs of edges in one point. So many of the first and one of the second count
+    together as asked; the third and the fourth count one more than the second.
     """
-    weight = counted_in(edges_alone(3), filled) - counted_in(edges_alone(2), filled)
-    places = next(it for it in range(2, 99) if (count - it) % weight == 0 and count <= it * weight * MOST_EDGES)
-    edges = (count - places) // weight
-    each = edges // places
-    last = edges - each * (places - 1)
+    places = -(-count // MOST_EDGES)
+    # Each edge counts one, and so does the row of each glyph.
+    each, rest = divmod(count - places, places)
+    last = each + rest
     glyphs = [edges_alone(it) for it in (each, last, last // 2, last - last // 2)]
     counts = [counted_in(it, filled) for it in glyphs]
     assert (places - 1) * counts[0] + counts[1] == count and counts[2] + counts[3] == counts[1] + 1
@@ -142,7 +141,7 @@ def crossings(asked):
     assert below.count == inside.count
     at_the_limit(asked, "below the picture", below, same=True)
     filled = Crossing([zigzag(0, 3996)], 250, 1000, 4, 3996, filled=True)
-    assert filled.count == 640_519 + 2 * 160 + 4 * (159_840 + 80) + 94 == 1_280_613
+    assert filled.count == 640_519 + 4 * (159_840 + 80) + 94 == 1_280_293
     at_the_limit(asked, "with dropouts", filled)
     for rows in 0, 2048, 2049:
         at_the_limit(asked, f"131,057 edges, {rows:,} rows", Crossing([flat(rows)], 16, 16, 4, 2050), same=True)

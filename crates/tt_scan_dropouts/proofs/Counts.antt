@@ -119,11 +119,11 @@ rows_are_counted f es =
 strides : (a b : ℕ) → a ≤ b → stride a ≤ stride b
 strides a b less = omega (arith, less)
 
-counted_too : (a b l n : ℕ) → a ≤ b → a / 64 ≤ 2 * l + (4 * n + b / 64)
-counted_too a b l n less = omega (arith, less)
+counted_too : (a b n : ℕ) → a ≤ b → a / 64 ≤ 4 * n + b / 64
+counted_too a b n less = omega (arith, less)
 
-sum_counted : (sum a b l n : ℕ) → sum ≡ a → a ≤ b → sum / 64 ≤ 2 * l + (4 * n + b / 64)
-sum_counted sum a b l n is less = omega (arith, is, less)
+sum_counted : (sum a b n : ℕ) → sum ≡ a → a ≤ b → sum / 64 ≤ 4 * n + b / 64
+sum_counted sum a b n is less = omega (arith, is, less)
 
 within_bands : (c w r h : ℕ) → c ≤ w → r ≤ h + 1 → bitmap_bytes c r ≤ bands_bytes w (h + 1)
 within_bands c w r h narrow low =
@@ -135,7 +135,7 @@ pub bitmap_is_counted : BitmapIsCounted
 unfolding filling_counted
 bitmap_is_counted es columns rows narrow low =
     let b = columns_of (map turned_round es) in
-    counted_too (bitmap_bytes columns rows) (bands_bytes (box_columns es) (box_rows es)) (length es) (crossed es)
+    counted_too (bitmap_bytes columns rows) (bands_bytes (box_columns es) (box_rows es)) (crossed es)
     (within_bands columns (box_columns es) rows (unsigned_abs (b.last -ℤ b.first)) narrow low)
 
 -- the rows of all bands are all rows
@@ -176,7 +176,7 @@ bands_are_counted es columns narrow =
     let rows = box_rows es in
     let bytes = bytes_of_bands columns rows 0 (bands rows)
     ∙ ap (λ m. stride (columns + 4) * (m + 4 * bands rows)) (all_rows rows) in
-    sum_counted _ (bands_bytes columns rows) (bands_bytes (box_columns es) rows) (length es) (crossed es) bytes
+    sum_counted _ (bands_bytes columns rows) (bands_bytes (box_columns es) rows) (crossed es) bytes
     (wider columns (box_columns es) rows narrow)
 
 -- edges moved by whole pixels
@@ -216,16 +216,15 @@ edges_stay k m es =
     (rows_crossed (map (moved k m) es)) (rows_crossed es) (box_rows_stay k m es) (length-map es (moved k m))
     (rows_stay k m es)
 
-filling_as : (n l c d w v h g : ℕ) → n ≡ l → c ≡ d → w ≡ v → h ≡ g
-    → 2 * n + (4 * c + bands_bytes w h / 64) ≡ 2 * l + (4 * d + bands_bytes v g / 64)
-filling_as n l c d w v h g many lines columns rows = rw (many, lines, columns, rows) refl
+filling_as : (c d w v h g : ℕ) → c ≡ d → w ≡ v → h ≡ g → 4 * c + bands_bytes w h / 64 ≡ 4 * d + bands_bytes v g / 64
+filling_as c d w v h g lines columns rows = rw (lines, columns, rows) refl
 
 pub filling_stays : (k m : ℤ) (es : List Edge) → filling_counted (map (moved k m) es) ≡ filling_counted es
 unfolding filling_counted
 filling_stays k m es =
-    filling_as (length (map (moved k m) es)) (length es) (crossed (map (moved k m) es)) (crossed es)
-    (box_columns (map (moved k m) es)) (box_columns es) (box_rows (map (moved k m) es)) (box_rows es)
-    (length-map es (moved k m)) (crossed_stay k m es) (box_columns_stay k m es) (box_rows_stay k m es)
+    filling_as (crossed (map (moved k m) es)) (crossed es) (box_columns (map (moved k m) es)) (box_columns es)
+    (box_rows (map (moved k m) es)) (box_rows es) (crossed_stay k m es) (box_columns_stay k m es)
+    (box_rows_stay k m es)
 
 pub counts_stay : CountsStay
 counts_stay k m es = (edges_stay k m es, filling_stays k m es)

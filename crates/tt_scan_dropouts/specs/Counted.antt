@@ -44,10 +44,10 @@ bitmap_bytes columns rows = stride (columns + 4) * (rows + 4)
 abbrev pub bands_bytes : ℕ → ℕ → ℕ
 bands_bytes columns rows = stride (columns + 4) * (rows + 4 * bands rows)
 
--- where dropouts are filled: two for each edge, four for each row or column that an edge crosses, and one for each 64
--- bytes of the bitmaps of the box
+-- where dropouts are filled: four for each row or column that an edge crosses, and one for each 64 bytes of the
+-- bitmaps of the box
 unfoldable pub filling_counted : List Edge → ℕ
-filling_counted es = 2 * length es + (4 * crossed es + bands_bytes (box_columns es) (box_rows es) / 64)
+filling_counted es = 4 * crossed es + bands_bytes (box_columns es) (box_rows es) / 64
 
 -- the rows of band k
 abbrev pub rows_of_band : ℕ → ℕ → ℕ
@@ -103,12 +103,12 @@ a_level_edge_counts_two = refl
 at_a_corner : Edge
 at_a_corner = record { ax = pos 0; ay = pos 0; bx = pos 0; by = pos 0 }
 
-a_point_is_filled : filling_counted (at_a_corner ∷ []) ≡ 2
+a_point_is_not_filled : filling_counted (at_a_corner ∷ []) ≡ 0
 unfolding filling_counted at_a_corner
-a_point_is_filled = refl
+a_point_is_not_filled = refl
 
--- the level edge crosses four columns, and the upright edge two rows: 4 and 24, and a byte for each of six rows
-both_are_filled : filling_counted (upright ∷ level ∷ []) ≡ 28
+-- the level edge crosses four columns, and the upright edge two rows: 24, and a byte for each of six rows
+both_are_filled : filling_counted (upright ∷ level ∷ []) ≡ 24
 unfolding filling_counted upright level
 both_are_filled = refl
 
@@ -128,7 +128,7 @@ two_bands_count : edges_counted (high ∷ high ∷ []) ≡ 18445
 unfolding edges_counted high
 two_bands_count = refl
 
--- two, four for each row, and 2,057 bytes of bitmaps: 32 times 64, and nine
-their_bitmaps_count : filling_counted (high ∷ []) ≡ 8230
+-- four for each row, and 2,057 bytes of bitmaps: 32 times 64, and nine
+their_bitmaps_count : filling_counted (high ∷ []) ≡ 8228
 unfolding filling_counted high
 their_bitmaps_count = refl

@@ -95,16 +95,15 @@ pub fn edges_counted(edges: &[Edge]) -> u64
     in_each_band(bands(rows), edges.len()) + (4 * rows_crossed(edges) + rows)
 }
 
-/// What edges count besides where dropouts are filled: two for each edge, four for each row or column that an edge
-/// crosses, and one for each 64 bytes of the bitmaps of their box.
+/// What edges count besides where dropouts are filled: four for each row or column that an edge crosses, and one for
+/// each 64 bytes of the bitmaps of their box.
 #[tactic(auto, unfolding(crate::specs::Counted::filling_counted))]
 pub fn filling_counted(edges: &[Edge]) -> u64
     requires edges { All EdgeFits edges.now }
     requires few { length edges.now ≤ 2 ^ 32 }
     ensures exact { result ≡ filling_counted edges.now }
-    ensures bound { result ≤ 2 ^ 24 * length edges.now + 2 ^ 33 }
+    ensures bound { result ≤ 2 ^ 23 * length edges.now + 2 ^ 33 }
 {
     let (columns, rows) = box_of(edges);
-    let bytes = bands_bytes(numbers_in(columns), numbers_in(rows));
-    2 * edges.len() as u64 + (4 * crossed(edges) + bytes / 64)
+    4 * crossed(edges) + bands_bytes(numbers_in(columns), numbers_in(rows)) / 64
 }
