@@ -206,12 +206,13 @@ uint32_t tt_message(const struct tt_answer *told, uint8_t *text, size_t room, st
  * All refusals: X(number, name). From 60 on they refuse the job; the man page of the program explains each.
  *
  * 65 WorkLarge comes with TT_BEST alone, for one of two counts of a line.
- *   - Points: its glyphs, each once, have more than 1,000,000. Each glyph and each component adds four, each contour one.
+ *   - Points: its glyphs, each once, have more than 1,000,000. Each glyph and each component adds four, each contour
+ *     one.
  *   - Crossings: its glyphs, at all their places, have more than 16,000,000, or more than the line's work allows. An
- *     edge counts one for each row that it crosses, inside the picture or outside, and one for each 2,048 rows of its
- *     glyph. Where dropouts are filled, four count for each row or column that an edge crosses, and one for each 64
- *     bytes of a bitmap of the glyph. The work allows 250,000, and one for each 4 units that points and programs leave
- *     of 100,000,000. A point takes 40 units.
+ *     edge counts four for each row that it crosses, inside the picture or outside, and one for each 2,048 rows of its
+ *     glyph. Each row of the glyph counts one. Where dropouts are filled, an edge counts four more for each row or
+ *     column that it crosses. Each 64 bytes of a bitmap of the glyph then count one. The work allows 250,000, and one
+ *     for each 4 units that points and programs leave of 100,000,000. A point takes 40 units.
  */
 #define TT_REFUSALS(X) \
     X(1, BadVersion) \

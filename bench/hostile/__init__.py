@@ -3,4 +3,4 @@ import sys
 from pathlib import Path
 
 ROOT = Path(__file__).resolve().parents[2]
-sys.path.insert(0, str(ROOT / "tests" / "outlines"))
+sys.path[:0] = [str(ROOT / "tests" / it) for it in ("outlines", "work")]

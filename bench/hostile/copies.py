@@ -3,10 +3,8 @@ import array
 import struct
 
 import small_fonts as small
-from hostile.parts import Hostile, composite_of, dotted, line_of, one_of, tree
+from hostile.parts import TEXT, Hostile, composite_of, dotted, line_of, one_of, tree
 
-# As many characters as a text has.
-TEXT = 4096
 # SVTCA alone.
 SHORT = b"\x01"
 

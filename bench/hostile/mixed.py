@@ -6,6 +6,7 @@ from functools import partial
 import small_fonts as small
 from hostile import copies, outlines, programs
 from hostile.parts import POINTS, RECORDS, Hostile, again, calls, composite_of, dotted, line_of, one_of, pushes
+from hostile.sizes import most_glyphs
 
 LONG = programs.LONG
 
@@ -22,9 +23,9 @@ LARGE = {**outlines.LARGE, "others": outlines.PLAIN}
 
 
 def two_and_rectangles():
-    """1,950 rectangles as large as the picture."""
-    glyph = small.simple(small.square(-outlines.WIDTH, 0, 0, outlines.HEIGHT))
-    return beside([glyph] * 1950, bearing=-outlines.WIDTH, **LARGE)
+    """Rectangles as large as the picture, as many as may be."""
+    count = most_glyphs([outlines.RECTANGLE], **LARGE)
+    return beside([small.simple(outlines.RECTANGLE)] * count, bearing=-outlines.WIDTH, **LARGE)
 
 
 def two_and_tall():
@@ -34,7 +35,7 @@ def two_and_tall():
 
 def two_and_rows():
     """Nearly 16,000,000 crossings of rows, by edges that cross each other."""
-    return beside([outlines.scattered(3900, 0, outlines.HEIGHT, 0, outlines.WIDTH, 5)], **LARGE)
+    return beside([outlines.crossing_rows()], **LARGE)
 
 
 def two_and_far():

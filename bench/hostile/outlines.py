@@ -3,6 +3,7 @@ import random
 
 import small_fonts as small
 from hostile.parts import POINTS, PROGRAM, Hostile, again, composite_of, dotted, line_of, one_of
+from hostile.sizes import largest, most_glyphs
 
 # A prep that sets vectors alone: the font has programs, and asks for no dropouts.
 PLAIN = {"prep": b"\x01"}
@@ -16,6 +17,11 @@ DISTANT = {"size": 300, "em": EM, "ascent": 16}
 def up_and_down(points, on, high=HEIGHT, low=0):
     """Points by turns at the lowest and at the highest row, from left to right."""
     return small.simple([(it * WIDTH // points, high if it % 2 else low, on) for it in range(points)])
+
+
+def as_many_of(contours, **sizes):
+    """Glyphs of these contours, as many as a line may have."""
+    return line_of([small.simple(*contours)] * most_glyphs(contours, **sizes), **sizes)
 
 
 def as_many(on):
@@ -33,19 +39,24 @@ def tall(count=243, others=PLAIN):
     return line_of([up_and_down(POINTS, 0), *again(count - 1)], others=others, **LARGE)
 
 
-def strokes(count, upright):
-    """So many strokes of no width, each drawn there and back: dropouts in all rows, or in all columns."""
+def there_and_back(count, apart, low, high, upright):
+    """So many strokes of no width, each drawn there and back."""
+    turns = [(it * apart, along) for it in range(count) for along in (low, high, low)]
+    return [[(x, y) if upright else (y, x) for x, y in turns]]
+
+
+def strokes(upright):
+    """As many strokes of no width as may be: dropouts in all rows, or in all columns."""
     far = 27900
-    turns = [(it * (far // count), along) for it in range(count) for along in (0, far, 0)]
-    glyph = small.simple([(x, y) if upright else (y, x) for x, y in turns])
-    return line_of([glyph], 300, em=2048, ascent=far, advance=far)
+    sizes = {"size": 300, "em": 2048, "ascent": far, "advance": far}
+    contours = largest(lambda it: there_and_back(it, far // it, 0, far, upright), 1000, **sizes)
+    return line_of([small.simple(*contours)], **sizes)
 
 
-def far_strokes(count=29, upright=True):
+def far_strokes(upright):
     """The same over 65,530 rows or columns, nearly all of them outside of the picture."""
-    turns = [(it * 40, along) for it in range(count) for along in (-FAR, FAR, -FAR)]
-    glyph = small.simple([(x, y) if upright else (y, x) for x, y in turns])
-    return line_of([glyph], bearing=0 if upright else -FAR, **DISTANT)
+    contours = largest(lambda it: there_and_back(it, 40, -FAR, FAR, upright), 100, **DISTANT)
+    return line_of([small.simple(*contours)], bearing=0 if upright else -FAR, **DISTANT)
 
 
 def speck(x, y, way=1):
@@ -54,9 +65,10 @@ def speck(x, y, way=1):
 
 
 def specks(count, low, high, bearing=0, **sizes):
-    """So many glyphs of two specks at opposite corners of a box."""
-    glyph = small.simple(speck(*low), speck(*high, -1))
-    return line_of([glyph] * count, bearing=bearing, **sizes)
+    """So many glyphs of two specks at opposite corners of a box; without a count as many as may be."""
+    contours = speck(*low), speck(*high, -1)
+    count = count or most_glyphs(contours, **sizes)
+    return line_of([small.simple(*contours)] * count, bearing=bearing, **sizes)
 
 
 def corners(count=4096):
@@ -81,19 +93,25 @@ def beyond(count=1, on=1, points=POINTS):
 
 
 def scattered(points, low, high, left, right, seed):
-    """The same with points at random columns, so that the edges cross each other."""
+    """A contour with points at random columns, by turns low and high, so that the edges cross each other."""
     random_x = random.Random(seed)
-    return small.simple([(random_x.randrange(left, right), high if it % 2 else low) for it in range(points)])
+    return [(random_x.randrange(left, right), high if it % 2 else low) for it in range(points)]
 
 
 def beyond_scattered():
     """Edges that cross 65,530 rows, and each other."""
-    return line_of([scattered(POINTS, -FAR, FAR, -3000, 3000, 3)], others=PLAIN, **DISTANT)
+    return line_of([small.simple(scattered(POINTS, -FAR, FAR, -3000, 3000, 3))], others=PLAIN, **DISTANT)
 
 
-def random_rows(edges=3900, others=PLAIN):
-    """Edges that cross each other all the time, in all rows of the picture."""
-    return line_of([scattered(edges, 0, HEIGHT, 0, WIDTH, 5)], others=others, **LARGE)
+def crossing_rows(others=PLAIN):
+    """A glyph of edges that cross each other all the time, in all rows of the picture: as many as may be."""
+    contours_of = lambda points: [scattered(points, 0, HEIGHT, 0, WIDTH, 5)]
+    return small.simple(*largest(contours_of, POINTS, others=others, **LARGE))
+
+
+def random_rows(others=PLAIN):
+    """A line of this glyph."""
+    return line_of([crossing_rows(others)], others=others, **LARGE)
 
 
 # A pixel for each unit, at 300 pixels per em.
@@ -101,18 +119,19 @@ UNITS = {"size": 300, "em": 300, "advance": 16380}
 
 
 def shuffled(rows, on=1, points=POINTS):
-    """Glyphs whose edges have another order in each row, so that each row is sorted anew: as many as may be."""
-    each = points * (rows + 1) if on else points * (rows // 2 + 8)
-    count = max(1, min(1_000_000 // (points + 5), 16_000_000 // each, 4096))
-    choose = random.Random(rows)
-    glyph = small.simple([(choose.randrange(16380), rows if it % 2 else 0, on) for it in range(points)])
-    return line_of([glyph] * count, others=PLAIN, ascent=rows, **UNITS)
+    """Glyphs whose edges have another order in each row, so that each row is sorted anew: as many as may be. One glyph
+    has fewer points where it alone would be refused.
+    """
+    choose, sizes = random.Random(rows), {**UNITS, "others": PLAIN, "ascent": rows}
+    contour = [(choose.randrange(16380), rows if it % 2 else 0, on) for it in range(points)]
+    return as_many_of(largest(lambda it: [contour[:it]], points, **sizes), **sizes)
 
 
 def all_edges(rows, others=PLAIN):
-    """61 glyphs of 131,072 edges, the most that the points allow."""
-    glyph = small.simple([(it, rows if it % 2 else 0, 0) for it in range(POINTS - 4)])
-    return line_of([glyph, *again(60)], others=others, ascent=max(rows, 1), **UNITS)
+    """As many glyphs of 131,040 edges as may be; the points allow 61."""
+    contour = [(it, rows if it % 2 else 0, 0) for it in range(POINTS - 4)]
+    sizes = {**UNITS, "others": others, "ascent": max(rows, 1)}
+    return line_of([small.simple(contour), *again(most_glyphs([contour], **sizes) - 1)], **sizes)
 
 
 def level_edges(pens=970):
@@ -139,20 +158,22 @@ def missing(count=4095):
     return Hostile(font, small.line_text(1) + "".join(map(chr, range(0x6000, 0x6000 + count))))
 
 
-def pens(count=1950):
-    """A rectangle as large as the picture at so many places: 8 million spans of 16,383 pixels."""
-    glyph = small.simple(small.square(-WIDTH, 0, 0, HEIGHT))
-    glyphs = [b"", b"", glyph]
+# A rectangle as large as the picture.
+RECTANGLE = small.square(-WIDTH, 0, 0, HEIGHT)
+
+
+def pens():
+    """Such a rectangle at as many places as may be: nearly 1.8 million spans of 16,383 pixels."""
+    glyphs = [b"", b"", small.simple(RECTANGLE)]
     others = {**PLAIN, "cmap": small.line_cmap(2)}
     font = small.font(glyphs, [(0, 0), (WIDTH, 0), (0, -WIDTH)], em=EM, ascent=HEIGHT, others=others)
     first, second = small.line_text(2)
-    return Hostile(font, first + second * count, 300)
+    return Hostile(font, first + second * most_glyphs([RECTANGLE], others=others, **LARGE), 300)
 
 
-def rectangles(count=1950):
+def rectangles():
     """The same by glyphs that are not the same."""
-    glyph = small.simple(small.square(-WIDTH, 0, 0, HEIGHT))
-    return line_of([glyph] * count, bearing=-WIDTH, others=PLAIN, **LARGE)
+    return as_many_of([RECTANGLE], bearing=-WIDTH, others=PLAIN, **LARGE)
 
 
 # At 16 pixels and 16,384 units per em the points of these are 1/1,024 pixel apart.
@@ -175,14 +196,15 @@ def with_looks(count=240, size=16, **sizes):
     return line_of([glyph, *again(count - 1)], size, **{**COARSE, **sizes})
 
 
-def looks_afar(count=6):
-    """The same, and a stroke of 32,000 rows, nearly all of them outside of the picture."""
+def looks_afar():
+    """The same, as many as may be, and in each a stroke of 32,000 rows, nearly all of them outside of the picture."""
     zigzag = [(100 + it // 2 * 40 + it % 2 * 4, 900 if it % 2 else 100) for it in range(80)]
     square = small.square(0, 0, 1024, 1024)
     stroke = [(0, -16000), (40, 16000)]
     points = POINTS - len(square) - len(zigzag) - len(stroke)
-    glyph = small.simple(square, [(400 + it % 32, 400 + it % 2, 0) for it in range(points)], zigzag, stroke)
-    return line_of([glyph, *again(count - 1)], 300, em=300, ascent=1024, advance=1024)
+    contours = square, [(400 + it % 32, 400 + it % 2, 0) for it in range(points)], zigzag, stroke
+    sizes = {"size": 300, "em": 300, "ascent": 1024, "advance": 1024}
+    return line_of([small.simple(*contours), *again(most_glyphs(contours, **sizes) - 1)], **sizes)
 
 
 def deep_points(count=220):
@@ -219,37 +241,42 @@ def far_short():
     return line_of([glyph], bearing=-FAR, **DISTANT)
 
 
-def over_a_border(points=POINTS, count=11):
-    """A zigzag of few rows on both sides of the border of two bands of 2,048 rows."""
+def over_a_border():
+    """Zigzags of few rows on both sides of the border of two bands of 2,048 rows, as many as may be."""
     middle = 2048 * EM // 300
-    glyph = small.simple([(it % 4000, middle + (it % 2) * 2 - 1) for it in range(points)])
-    return line_of([glyph, *again(count - 1)], **LARGE)
+    contour = [(it % 4000, middle + (it % 2) * 2 - 1) for it in range(POINTS)]
+    return line_of([small.simple(contour), *again(most_glyphs([contour], **LARGE) - 1)], **LARGE)
 
 
-def free_gaps(count=200):
-    """Strokes of no width in all rows and all columns: 2,400,000 free gaps in one glyph."""
+def upright_and_level(count):
+    """So many upright strokes of no width, and a quarter as many level ones."""
     upright = [(it * WIDTH // count, along) for it in range(count) for along in (0, HEIGHT, 0)]
     level = [(along, it * HEIGHT // count) for it in range(count // 4) for along in (0, WIDTH, 0)]
-    return line_of([small.simple(upright, level)], **LARGE)
+    return upright, level
 
 
-def combining(count=4096):
-    """A mark without advance, 4,096 times, each a glyph of its own, at 300 pixels per em."""
+def free_gaps():
+    """As many of these in one glyph as may be: free gaps in all rows and all columns."""
+    return line_of([small.simple(*largest(upright_and_level, 400, **LARGE))], **LARGE)
+
+
+def combining():
+    """A mark without advance, as often as may be, each a glyph of its own, at 300 pixels per em."""
     ring = [(0, 0, 1), (0, 400, 0), (400, 400, 0), (400, 0, 0)]
     hole = [(100, 100, 1), (300, 100, 0), (300, 300, 0), (100, 300, 0)]
-    return line_of([small.simple(ring, hole)] * count, 300, em=1024, ascent=1024, advance=64)
+    return as_many_of([ring, hole], size=300, em=1024, ascent=1024, advance=64)
 
 
-def left_ink(count=64):
-    """Ink 16,000 columns left of the picture, which grows by these."""
-    glyph = small.simple(small.square(-3413, 0, -3400, HEIGHT), small.square(0, 0, 20, HEIGHT))
-    return line_of([glyph] * count, bearing=-3413, size=300, em=EM, ascent=HEIGHT, advance=60)
+def left_ink():
+    """Ink 16,000 columns left of the picture, which grows by these: as many glyphs as may be."""
+    squares = small.square(-3413, 0, -3400, HEIGHT), small.square(0, 0, 20, HEIGHT)
+    return as_many_of(squares, bearing=-3413, size=300, em=EM, ascent=HEIGHT, advance=60)
 
 
-def thin_steps(count=64):
-    """A stroke of no width from corner to corner, whose pixels each are a dropout in a row and in a column."""
+def thin_steps():
+    """Strokes of no width from corner to corner, whose pixels each are a dropout in a row and in a column."""
     turns = [(it * WIDTH // 100, it * HEIGHT // 100) for it in range(101)]
-    return line_of([small.simple(turns + turns[-2:0:-1])] * count, **LARGE)
+    return as_many_of([turns + turns[-2:0:-1]], **LARGE)
 
 
 def comb(count=5, teeth=8000):
@@ -266,16 +293,16 @@ FONTS = {
     "glyphs_4096": lambda: many_large(4096),
     "tall": tall,
     "tall_filled": lambda: tall(others={}),
-    "stems": lambda: strokes(390, True),
-    "bars": lambda: strokes(480, False),
-    "far_stems": far_strokes,
-    "far_bars": lambda: far_strokes(upright=False),
+    "stems": lambda: strokes(True),
+    "bars": lambda: strokes(False),
+    "far_stems": lambda: far_strokes(True),
+    "far_bars": lambda: far_strokes(False),
     "corners": corners,
     "corners_wide": corners_wide,
     "corners_wide_512": lambda: corners_wide(512),
-    "specks_wide": lambda: specks(4096, (-FAR, 0), (FAR, 4), -FAR, **DISTANT),
-    "specks_high": lambda: specks(4096, (0, -FAR), (4, FAR), **DISTANT),
-    "specks_plain": lambda: specks(4096, (0, -FAR), (4, FAR), others=PLAIN, **DISTANT),
+    "specks_wide": lambda: specks(None, (-FAR, 0), (FAR, 4), -FAR, **DISTANT),
+    "specks_high": lambda: specks(None, (0, -FAR), (4, FAR), **DISTANT),
+    "specks_plain": lambda: specks(None, (0, -FAR), (4, FAR), others=PLAIN, **DISTANT),
     "far": far,
     "far_16": lambda: far(16),
     "far_256": lambda: far(256),
@@ -305,7 +332,7 @@ FONTS = {
     # ENDF, which is refused: each glyph is made anew without its programs
     "deep_refused": lambda: deep_beside(code=b"\x2d"),
     "missing": missing,
-    "random_filled": lambda: random_rows(350, {}),
+    "random_filled": lambda: random_rows({}),
     "pens": pens,
     "rectangles": rectangles,
     "flat": flat,

@@ -7,6 +7,8 @@ import small_fonts as small
 PROGRAM = 0x100
 # The most records of a glyph, and the most points.
 RECORDS, POINTS = 32, 16384
+# As many characters as a text has.
+TEXT = 4096
 # As many bytes as the program of a glyph may have.
 CODE = 65535
 

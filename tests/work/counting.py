@@ -1,5 +1,6 @@
-"""How often the edges of a glyph count among the crossings of a line, from the definitions alone: with the rows that
-they cross, and where dropouts are filled with the columns and the box of the glyph as a bitmap. No picture is known.
+"""What the edges of a glyph count among the crossings of a line, from the definitions alone: by the rows of the glyph
+and those that they cross; where dropouts are filled, also by the columns that they cross, and the glyph's box as a
+bitmap. No picture is known.
 
 Points are (x, y, on) in 26.6 pixels; edges are pairs of ends in 1/8192 pixel.
 """
@@ -67,8 +68,10 @@ def bitmap_bytes(edges):
 
 
 def counted(edges, filled):
-    """What a glyph counts: each edge one for each band, and one for each row that it crosses."""
-    count = bands(edges) * len(edges) + crossed(edges, 1)
+    """What a glyph counts: each edge one for each band, and four for each row that it crosses; each row of the box one.
+    Where dropouts are filled, each edge four more for each row or column that it crosses, and 64 bytes of bitmap one.
+    """
+    count = bands(edges) * len(edges) + 4 * crossed(edges, 1) + extent(edges, 1)
     if filled:
         count += 4 * (crossed(edges, 0) + crossed(edges, 1)) + bitmap_bytes(edges) // 64
     return count

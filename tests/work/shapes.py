@@ -4,6 +4,8 @@ from asking import DRAWN, REFUSED, told
 from counting import counted, edges_of
 
 POINTS, CROSSINGS = 1_000_000, 16_000_000
+# A glyph that makes up the rest of the crossings has about as many edges, or fewer.
+MOST_EDGES = 100_000
 
 
 def composite_of(*glyphs):
@@ -45,16 +47,35 @@ def points(asked):
 
 
 def edges_alone(count):
-    """A glyph of this many edges in one point, at least two: off the curve, eight for each of its points."""
+    """Contours of this many edges in one point, at least two: off the curve, eight for each of its points."""
     curves, rest = divmod(count - 2, 8)
     if curves == 1:
         curves, rest = 0, rest + 8
-    contours = [[(0, 0, 0)] * curves, [(0, 0)] * (rest + 2)]
-    return small.simple(*[it for it in contours if it])
+    contours = [[(0, 0, 0)] * curves, [(0, 0, 1)] * (rest + 2)]
+    return [it for it in contours if it]
+
+
+def counted_in(contours, filled):
+    """What the edges of some contours count together."""
+    return counted([it for contour in contours for it in edges_of(contour)], filled)
+
+
+def made_up(count, filled):
+    """How many of the first glyph, and glyphs of edges in one point. So many of the first and one of the second count
+    together as asked; the third and the fourth count one more than the second.
+    """
+    places = -(-count // MOST_EDGES)
+    # Each edge counts one, and so does the row of each glyph.
+    each, rest = divmod(count - places, places)
+    last = each + rest
+    glyphs = [edges_alone(it) for it in (each, last, last // 2, last - last // 2)]
+    counts = [counted_in(it, filled) for it in glyphs]
+    assert (places - 1) * counts[0] + counts[1] == count and counts[2] + counts[3] == counts[1] + 1
+    return places - 1, glyphs
 
 
 class Crossing:
-    """A font whose glyph crosses rows often. Three other glyphs make up the rest of the crossings, or one more. A prep
+    """A font whose glyph crosses rows often. Four other glyphs make up the rest of the crossings, or one more. A prep
     that sets vectors alone asks for no dropouts; without one they are filled.
     """
 
@@ -62,21 +83,21 @@ class Crossing:
         scale = size * 64 // em
         assert scale * em == size * 64
         scaled = [[(x * scale, y * scale, on) for x, y, on in contour] for contour in map(with_flags, contours)]
-        self.size, self.count = size, counted([it for contour in scaled for it in edges_of(contour)], filled)
-        self.most = (CROSSINGS - 4) // self.count
-        rest = CROSSINGS - self.most * self.count
+        self.size, self.count = size, counted_in(scaled, filled)
+        self.most = (CROSSINGS - 100) // self.count
+        self.rests, others = made_up(CROSSINGS - self.most * self.count, filled)
         left = min(x for contour in contours for x, *_ in contour)
         glyph = small.simple(*contours)
-        glyphs = [b"", glyph, glyph, *map(edges_alone, (rest - rest // 2, rest // 2, rest // 2 + 1))]
-        metrics = [(0, 0), (advance, left), (0, left), (0, 0), (0, 0), (0, 0)]
-        others = {"cmap": small.line_cmap(5)} if filled else {"cmap": small.line_cmap(5), "prep": b"\x00"}
-        self.data = small.font(glyphs, metrics, em=em, ascent=ascent, others=others, long_loca=True)
+        glyphs = [b"", glyph, glyph, *[small.simple(*it) for it in others]]
+        metrics = [(0, 0), (advance, left), (0, left), (0, 0), (0, 0), (0, 0), (0, 0)]
+        tables = {"cmap": small.line_cmap(6)} if filled else {"cmap": small.line_cmap(6), "prep": b"\x00"}
+        self.data = small.font(glyphs, metrics, em=em, ascent=ascent, others=tables, long_loca=True)
 
     def lines(self, one_place=True):
         """A line with all the crossings that are allowed, one more, and a place of the glyph more."""
-        wide, narrow, rest, last, more = small.line_text(5)
-        places = (narrow if one_place else wide) * (self.most - 1)
-        return places + rest + last + wide, places + rest + more + wide, places + rest + last + narrow + wide
+        wide, narrow, rest, last, one, two = small.line_text(6)
+        places = (narrow if one_place else wide) * (self.most - 1) + rest * self.rests
+        return places + last + wide, places + one + two + wide, places + last + narrow + wide
 
 
 def with_flags(contour):
@@ -114,13 +135,13 @@ def crossings(asked):
     """Rows inside of the picture and outside, edges that meet none, bands of 2,048 rows, dropouts and bitmaps."""
     # 16 units of 26.6 for each of the font's: 999 rows.
     inside = Crossing([zigzag(0, 3996)], 250, 1000, 4, 3996)
-    assert inside.count == 160_000
+    assert inside.count == 160 + 4 * 159_840 + 999 == 640_519
     at_the_limit(asked, "160 edges over 999 rows", inside, same=True, one_place=False)
     below = Crossing([zigzag(-4996, -1000)], 250, 1000, 4, 3996)
-    assert below.count == 160_000
+    assert below.count == inside.count
     at_the_limit(asked, "below the picture", below, same=True)
     filled = Crossing([zigzag(0, 3996)], 250, 1000, 4, 3996, filled=True)
-    assert filled.count == 799_774
+    assert filled.count == 640_519 + 4 * (159_840 + 80) + 94 == 1_280_293
     at_the_limit(asked, "with dropouts", filled)
     for rows in 0, 2048, 2049:
         at_the_limit(asked, f"131,057 edges, {rows:,} rows", Crossing([flat(rows)], 16, 16, 4, 2050), same=True)
@@ -128,6 +149,5 @@ def crossings(asked):
     specks = [(0, 0), (1, 0), (0, 0)], [(1746, 872), (1747, 872), (1746, 872)]
     at_the_limit(asked, "a bitmap of 8,189 pixels by 4,088", Crossing(specks, 300, 64, 1750, 873, filled=True))
     plain = Crossing(specks, 300, 64, 1750, 873)
-    asked.font.write_bytes(plain.data)
-    wide, narrow = small.line_text(2)
-    told("crossings: no bitmap without dropouts", asked.draw("best", plain.size, narrow * 4095 + wide), DRAWN)
+    assert plain.count < 4200
+    at_the_limit(asked, "4,088 rows, and no bitmap without dropouts", plain, same=True)

@@ -104,14 +104,14 @@ rows_needed f (e ∷ es) =
 some_band : (n : ℕ) → 1 ≤ bands (n + 1)
 some_band n = omega arith
 
-for_bands : (c n b r : ℕ) → 1 ≤ b → c ≤ n + r → c ≤ b * n + r
-for_bands c n b r some few = let each : 1 * n ≤ b * n = mul-le-mul_right n some in omega (arith, each, few)
+for_bands : (c n b r h : ℕ) → 1 ≤ b → c ≤ n + r → c ≤ b * n + (4 * r + h)
+for_bands c n b r h some few = let each : 1 * n ≤ b * n = mul-le-mul_right n some in omega (arith, each, few)
 
 pub rows_are_counted : RowsAreCounted
 unfolding edges_counted
 rows_are_counted f es =
     let b = columns_of (map turned_round es) in
-    for_bands (crossings_of f es) (length es) (bands (box_rows es)) (rows_crossed es)
+    for_bands (crossings_of f es) (length es) (bands (box_rows es)) (rows_crossed es) (box_rows es)
     (some_band (unsigned_abs (b.last -ℤ b.first))) (rows_needed f es)
 
 -- bitmaps
@@ -206,7 +206,7 @@ crossed_stay k m (e ∷ es) =
     let columns : lines_crossed (turned_round (moved k m e)) ≡ lines_crossed (turned_round e) = lines_stay m k (turned_round e) in
     rw (lines_stay k m e, columns, crossed_stay k m es) refl
 
-edges_as : (r q n l c d : ℕ) → r ≡ q → n ≡ l → c ≡ d → bands r * n + c ≡ bands q * l + d
+edges_as : (r q n l c d : ℕ) → r ≡ q → n ≡ l → c ≡ d → bands r * n + (4 * c + r) ≡ bands q * l + (4 * d + q)
 edges_as r q n l c d rows many lines = rw (rows, many, lines) refl
 
 pub edges_stay : (k m : ℤ) (es : List Edge) → edges_counted (map (moved k m) es) ≡ edges_counted es

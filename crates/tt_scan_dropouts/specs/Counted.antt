@@ -31,9 +31,10 @@ abbrev pub rows_crossed : List Edge → ℕ
 rows_crossed [] = 0
 rows_crossed (e ∷ es) = lines_crossed e + rows_crossed es
 
--- an edge counts one for each band of the box's rows, and one for each row that it crosses
+-- an edge counts one for each band of the box's rows, and four for each row that it crosses; each row of the box counts
+-- one
 unfoldable pub edges_counted : List Edge → ℕ
-edges_counted es = bands (box_rows es) * length es + rows_crossed es
+edges_counted es = bands (box_rows es) * length es + (4 * rows_crossed es + box_rows es)
 
 -- the bytes of a bitmap of this many columns and rows, with two pixels more on each side
 abbrev pub bitmap_bytes : ℕ → ℕ → ℕ
@@ -71,10 +72,10 @@ forty_by_999 = refl
 one_pixel : bitmap_bytes 1 1 ≡ 5
 one_pixel = refl
 
--- no edge: its box is one pixel, and no edge is counted
-no_edge_counts : edges_counted [] ≡ 0
+-- no edge: its box is one pixel, and the row of that pixel is counted
+no_edge_counts_one : edges_counted [] ≡ 1
 unfolding edges_counted
-no_edge_counts = refl
+no_edge_counts_one = refl
 
 no_edge_fills : filling_counted [] ≡ 0
 unfolding filling_counted
@@ -88,34 +89,42 @@ upright = record { ax = pos 4096; ay = negsuc 8191; bx = pos 4096; by = pos 8192
 level : Edge
 level = record { ax = pos 0; ay = pos 0; bx = pos 32768; by = pos 0 }
 
--- one for the band, and two rows
-its_rows_count : edges_counted (upright ∷ []) ≡ 3
+-- one for the band, four for each of two rows, and the two rows
+its_rows_count : edges_counted (upright ∷ []) ≡ 11
 unfolding edges_counted upright
 its_rows_count = refl
 
--- a level edge crosses no row
-a_level_edge_counts_one : edges_counted (level ∷ []) ≡ 1
+-- a level edge crosses no row: one for the band, and the row of its box
+a_level_edge_counts_two : edges_counted (level ∷ []) ≡ 2
 unfolding edges_counted level
-a_level_edge_counts_one = refl
+a_level_edge_counts_two = refl
+
+-- an edge in one point, which crosses nothing
+at_a_corner : Edge
+at_a_corner = record { ax = pos 0; ay = pos 0; bx = pos 0; by = pos 0 }
+
+a_point_is_not_filled : filling_counted (at_a_corner ∷ []) ≡ 0
+unfolding filling_counted at_a_corner
+a_point_is_not_filled = refl
 
 -- the level edge crosses four columns, and the upright edge two rows: 24, and a byte for each of six rows
 both_are_filled : filling_counted (upright ∷ level ∷ []) ≡ 24
 unfolding filling_counted upright level
 both_are_filled = refl
 
--- from the centre of row 0 to that of row 1: the edge meets both, and crosses one
+-- from the centre of row 0 to that of row 1: the edge meets both rows, which are its box, and crosses one
 between : Edge
 between = record { ax = pos 0; ay = pos 4096; bx = pos 0; by = pos 12288 }
 
-both_ends_count : edges_counted (between ∷ []) ≡ 2
+both_ends_count : edges_counted (between ∷ []) ≡ 7
 unfolding edges_counted between
 both_ends_count = refl
 
--- from the base line 2,049 rows up: two bands
+-- from the base line 2,049 rows up: two bands, and 4 times 4,098
 high : Edge
 high = record { ax = pos 0; ay = pos 0; bx = pos 0; by = pos 16785408 }
 
-two_bands_count : edges_counted (high ∷ high ∷ []) ≡ 4102
+two_bands_count : edges_counted (high ∷ high ∷ []) ≡ 18445
 unfolding edges_counted high
 two_bands_count = refl
 

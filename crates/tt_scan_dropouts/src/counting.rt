@@ -81,16 +81,18 @@ fn bands_bytes(columns: u64, rows: u64) -> u64
     (columns + 4).div_ceil(8) * (rows + 4 * bands(rows))
 }
 
-/// What edges count: one for each band of the rows of their box, and one for each row that they cross.
+/// What edges count: one for each band of the rows of their box, and four for each row that they cross. Each row of the
+/// box counts one.
 #[tactic(auto, unfolding(crate::specs::Counted::edges_counted))]
 pub fn edges_counted(edges: &[Edge]) -> u64
     requires edges { All EdgeFits edges.now }
     requires few { length edges.now ≤ 2 ^ 32 }
     ensures exact { result ≡ edges_counted edges.now }
-    ensures bound { result ≤ 2 ^ 21 * length edges.now }
+    ensures bound { result ≤ 2 ^ 23 * length edges.now + 2 ^ 20 }
 {
     let (_, rows) = box_of(edges);
-    in_each_band(bands(numbers_in(rows)), edges.len()) + rows_crossed(edges)
+    let rows = numbers_in(rows);
+    in_each_band(bands(rows), edges.len()) + (4 * rows_crossed(edges) + rows)
 }
 
 /// What edges count besides where dropouts are filled: four for each row or column that an edge crosses, and one for
