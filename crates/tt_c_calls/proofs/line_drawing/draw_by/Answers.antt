@@ -1,4 +1,4 @@
-use Rattle.std.proofs.Common.{◌≡◌, ◌∙◌, ◌-◌, arith, inl, length, refl, set}
+use Rattle.std.proofs.Common.{◌≡◌, ◌-◌, arith, inl, length, refl, set}
 use Rattle.std.proofs.lemmas.List.{set-get_or}
 use borrow.Rule.Slice.PartMut.{put_mid, put_same}
 use Rattle.tt_c_calls.proofs.LinesDrawn.{drawn_on, line_stops}
