@@ -35,7 +35,15 @@ use Rattle.tt_c_calls.proofs.StrikeLines.{if_some_more, not_done}
 none_drawn : (j : CJob) (file texts ends room : List ℕ) (told : List CLine)
     → DrawsLines j file texts ends room room told told 0 0
 none_drawn j file texts ends room told =
-    record { few = omega arith; within = tt; drawn = tt; bytes = refl; rest = refl; others = refl }
+    record {
+      few = omega arith;
+      within = tt;
+      drawn = tt;
+      affordable = λ i less. absurd (omega (arith, less));
+      bytes = refl;
+      rest = refl;
+      others = refl;
+    }
 
 -- the reason why no line was drawn
 abbrev IsDrawnNone : CJob → List ℕ → List ℕ → List ℕ → List ℕ → List CLine → CallFault → Type 0

@@ -14,8 +14,9 @@ loop-i-preserved g c =
     let own = c.draw_line-answer in
     record {
       strike = kept_alone c.args.strike.now c.loop-i.strike own.new.strike so_far.strike own.ensures.strike;
-      drawn = drawn_on _ _ _ _ _ _ _ _ _ _ _ _ _ _ so_far.drawn c.loop-i-test.true (omega arith) (omega arith)
-          (omega arith) (own.ensures.done c.if-answer-ne0.false) own.auto.room;
+      drawn = drawn_on _ _ _ _ _ _ _ _ _ _ _ _ _ _ _ _ so_far.drawn
+          (omega (arith, c.lines_budget-budget.ensures, c.if-taken-gt-budget.false)) (omega arith) c.loop-i-test.true
+          (omega arith) (omega arith) (omega arith) (own.ensures.done c.if-answer-ne0.false) own.auto.room;
     }
 
 pub returns-then-answer-ne0-clause-drawn : goal.returns-then-answer-ne0-clause-drawn
@@ -32,7 +33,8 @@ returns-then-answer-ne0-clause-drawn g c =
       c.loop-i.used,
       rw (rows, lines) so_far.drawn.so_far,
       line_stops _ _ _ _ _ _ _ _ _ _ c.loop-i-test.true c.if-answer-ne0.true so_far.drawn.start (omega arith)
-          (omega arith) c.loop-i.auto.rows (own.ensures.stopped c.if-answer-ne0.true),
+          (omega arith) c.loop-i.auto.rows (own.ensures.stopped c.if-answer-ne0.true)
+          (omega (arith, so_far.drawn.takes, c.lines_budget-budget.ensures, c.if-taken-gt-budget.false)),
     )
 
 pub returns-clause-drawn : goal.returns-clause-drawn
