@@ -118,7 +118,7 @@ fn draw_lines_by<R: Source, W: Sink, E: Sink>(
         let line = reader.line(place);
         let mut ready = match draw_line(alloc, strike, face, setting, number, line) {
             Ok(ready) => ready,
-            Err(stop) => return Err(texts_fault(Some(number), stop)),
+            Err(refusal) => return Err(texts_fault(Some(number), refusal)),
         };
         used += u128::from(ready.output.cost());
         if let Err(cut) = write_output(out, &mut ready.output) {
