@@ -1,6 +1,7 @@
 -- Lines drawn one after the other: one line more.
 use Rattle.std.proofs.Common.{◌≡◌, ◌∙◌, sym, ap, refl, ℕ, zero, suc, ◌+◌, ◌-◌, ◌≤◌, ◌<◌, List, [], ◌∷◌, ◌++◌, length, take, drop, get_or, set, Result, Ok, Err, Bool, arith, ◌⊎◌, inl, inr, length-append, length-drop, subst}
 use Rattle.std.proofs.lemmas.Bool.{cases_lt}
+use Rattle.std.proofs.lemmas.List.Sums.{sum_by-append}
 use Rattle.std.proofs.lemmas.List.{take-append-le, append-nil, drop-drop, drop-set-lt, drop-take, drop_all, drop_at, length-take-le, take_all, take_at, take_more_set}
 use Rattle.std.proofs.Math.Seq.{take-take}
 use Rattle.std.proofs.lemmas.Slice.{take-put_mid_below}
@@ -93,10 +94,14 @@ lines_many texts from [] = refl
 lines_many texts from (e ∷ es) = omega (arith, lines_many texts e es)
 
 -- what the lines take with one more
+none_plus : (n : ℕ) → 0 + n ≡ n
+none_plus n = omega arith
+
 taken_too : (j : CJob) (font : List ℕ) (lines : List (List ℕ)) (line : List ℕ)
     → lines_taken j font (lines ++ line ∷ []) ≡ lines_taken j font lines + cost_taken (cost_asked j font line)
-taken_too j font [] line = omega arith
-taken_too j font (x ∷ xs) line = omega (arith, taken_too j font xs line)
+taken_too j font lines line =
+    sum_by-append (λ (l : List ℕ). cost_taken (cost_asked j font l)) lines (line ∷ [])
+    ∙ ap (λ (n : ℕ). lines_taken j font lines + n) (none_plus (cost_taken (cost_asked j font line)))
 
 -- the budget serves for one line more
 affordable_behind : (j : CJob) (font : List ℕ) (first : List (List ℕ)) (line : List ℕ) → AreAffordable j font first

@@ -82,7 +82,7 @@ pub begun_tells : (V : Type 0) (IsOne : List ℕ → Fault → Type 0) (text lef
     (before used : ℕ) (why : TextStop) → FindsLine r before used (Err why) left after
     → LinesTell {V = V} IsOne text (Err (texts_fault_of (Some (before + 1)) why))
 begun_tells V IsOne text left after r before used (stop.Refused (fault.Font f)) (inl (is, long)) = absurd cc
-begun_tells V IsOne text left after r before used (stop.Refused (fault.Font f)) (inr (is, spent)) = absurd cc
+begun_tells V IsOne text left after r before used (stop.Refused (fault.Font f)) (inr (is, spent, has)) = absurd cc
 begun_tells V IsOne text left after r before used (stop.Refused (fault.Job j)) begun = tt
 begun_tells V IsOne text left after r before used (stop.Refused fault.NotUtf8) begun = tt
 begun_tells V IsOne text left after r before used (stop.Refused (fault.Missing c)) begun = tt

@@ -3,6 +3,7 @@ use Rattle.std.proofs.Common.{◌≡◌, ◌⊎◌, inl, inr, ℕ, ◌+◌, ◌<
 use Rattle.std.specs.Prelude.{IfOk, IsUtf8}
 use Rattle.std.proofs.lemmas.Bool.{cases_lt}
 use Rattle.std.proofs.lemmas.Bool.Decides.{nat_tests}
+use Rattle.std.proofs.lemmas.List.Sums.{sum_by-append}
 use Rattle.std.proofs.lemmas.List.{get_or_append_left, get_or_at, take-append-le, take_at}
 use Rattle.std.proofs.lemmas.Str.{IsUtf8-from_is_utf8, is_utf8-from_IsUtf8}
 use Rattle.std.specs.Io.KnownBytes.{Appends, IsAtEnd, Keeps, prepend_known}
@@ -73,6 +74,10 @@ pub kept_within : (r : Result ℕ TextsFault) (limit most : ℕ) → limit ≡ m
     → IfOk r (λ n. n ≤ most)
 kept_within r limit most same within = subst (λ (m : ℕ). IfOk r (λ n. n ≤ m)) same within
 
+pub drawn_too : (draw other : Draws) (line : List ℕ) (r : Result TextAnswer TextRefusal) → other ≡ draw
+    → other line ≡ r → draw line ≡ r
+drawn_too draw other line r same is = subst (λ (d : Draws). d line ≡ r) same is
+
 -- a line that was found too long
 pub found_long : (before after : Option (List ℕ)) (line : List ℕ) → LosesLine before after line
     → line_limit < length line → IfSome before BeginsLong
@@ -119,10 +124,14 @@ drawn_append n draw (line ∷ lines) rest none =
     (drawn_from (n + 1) draw (lines ++ rest)) none (λ all. drawn_append (n + 1) draw lines rest all))
 
 -- the cost of one line more
+none_plus : (n : ℕ) → 0 + n ≡ n
+none_plus n = omega arith
+
 cost_too : (draw : Draws) (first : List (List ℕ)) (line : List ℕ)
     → lines_cost draw (first ++ (line ∷ [])) ≡ lines_cost draw first + cost_drawn (draw line)
-cost_too draw [] line = omega arith
-cost_too draw (x ∷ xs) line = omega (arith, cost_too draw xs line)
+cost_too draw first line =
+    sum_by-append (λ (l : List ℕ). cost_drawn (draw l)) first (line ∷ [])
+    ∙ ap (λ (n : ℕ). lines_cost draw first + n) (none_plus (cost_drawn (draw line)))
 
 -- the budget serves for one line more
 affordable_too : (draw : Draws) (first : List (List ℕ)) (line : List ℕ) → AreAffordable draw first
@@ -395,10 +404,13 @@ not_begun : (draw : Draws)
     → IfSome text (IsLineFault draw t e (number + 1) f)
 not_begun draw long None left t e number used f so_far begun = tt
 not_begun draw long (Some text) None t e number used f so_far begun = absurd so_far
-not_begun draw long (Some text) (Some rest) t e number used f so_far (inl (is, line, others, parts, longer)) =
-    let refuses : draw line ≡ Err (refusal_of f) = rw is (long line longer) in
-    let never : length line ≤ line_limit → used ≤ lines_budget number = λ short. absurd (omega (arith, short, longer)) in
-    inl (next_refused draw text rest t e number used (refusal_of f) so_far (line, others, parts, refuses, never))
+not_begun draw long (Some text) (Some rest) t e number used f so_far (inl (is, begins)) =
+    let line = begins.0 in
+    let refuses : draw line ≡ Err (refusal_of f) = rw is (long line begins.3) in
+    let never : length line ≤ line_limit → used ≤ lines_budget number =
+    λ short. absurd (omega (arith, short, begins.3)) in
+    inl (next_refused draw text rest t e number used (refusal_of f) so_far
+    (line, begins.1, begins.2, refuses, never))
 not_begun draw long (Some text) (Some rest) t e number used f so_far (inr (is, spent, has)) =
     inr (is, budget_sent draw text rest t e number used so_far spent has)
 

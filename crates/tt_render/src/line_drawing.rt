@@ -136,13 +136,14 @@ fn draw_lines_by<R: Source, W: Sink, E: Sink>(
 /// made. A line ends before its line feed, and before a carriage return there. The rest after the last line feed is a
 /// line too, unless it is empty. Nothing of a refused line is written, and later lines are not drawn. After a line's
 /// product its report is printed on `error`: a line for each glyph that could not be fitted. With `Missing::Tell` a
-/// line for each character without a glyph follows. A failure of `error` does not stop the drawing. Returns the bytes of
-/// the glyphs that are cached at the end, which are at most the setting's `most`.
+/// line for each character without a glyph follows. A failure of `error` does not stop the drawing. With `Fit::Best`
+/// the lines share a budget: a line is drawn only if those before it took at most 20,000,000 and 8,000,000 for each of
+/// them. Returns the bytes of the glyphs that are cached at the end, which are at most the setting's `most`.
 ///
 /// Errors, the first of: Job (SizeRange, MarginRange), before the font is read; FontRead, FontLarge; Font, of the
 /// tables needed for every text; then, line by line: Read; Text, with the line's number, from 1: TextLong, of more than
-/// 16,384 bytes; NotUtf8; those of `Strike::line`, `Strike::grown_line`, `Strike::measure` or `Strike::grown_measure`;
-/// Missing; and Write. Many comes after 4,294,967,295 lines. Memory may come at any allocation.
+/// 16,384 bytes; WorkLarge, where the lines before it took more than their budget; NotUtf8; those of `Strike::line`,
+/// `Strike::grown_line`, `Strike::measure` or `Strike::grown_measure`; Missing; and Write. Many comes after 4,294,967,295 lines. Memory may come at any allocation.
 #[tactic(auto, unfolding(crate::specs::Settings::strike_of))]
 pub fn draw_lines<F: Source, R: Source, W: Sink, E: Sink>(
     alloc: Global,
