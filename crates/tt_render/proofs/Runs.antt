@@ -56,7 +56,7 @@ has_report face a bytes was =
 -- a text with a picture has a cost
 goes_on : {X : Type 0} (r : Result X Refused) (x : X) (f : X → Result ℕ Refused) → r ≡ Ok x
     → (n : ℕ) × (f x ≡ Ok n) → (n : ℕ) × ((r >>= f) ≡ Ok n)
-goes_on r x f is (n, then) = (n, rw is then)
+goes_on r x f is (n, last) = (n, rw is last)
 
 cost_is : (face : Face) (a : Job) (line : Placement) (s : Fitter) (shapes : List Shape)
     → as_job (placement face.metrics face.cmap a.text a.ppem a.margin) ≡ Ok line
