@@ -1,5 +1,5 @@
 -- Lines drawn one after the other: one line more.
-use Rattle.std.proofs.Common.{◌≡◌, ◌∙◌, sym, ap, refl, ℕ, zero, suc, ◌+◌, ◌-◌, ◌≤◌, ◌<◌, List, [], ◌∷◌, ◌++◌, length, take, drop, get_or, set, Result, Ok, Err, Bool, arith, ◌⊎◌, inl, inr, length-append, length-drop, subst}
+use Rattle.std.proofs.Common.{◌≡◌, ◌∙◌, sym, ap, refl, ℕ, zero, suc, ◌+◌, ◌-◌, ◌*◌, ◌≤◌, ◌<◌, List, [], ◌∷◌, ◌++◌, length, take, drop, get_or, set, Result, Ok, Err, Bool, arith, ◌⊎◌, inl, inr, length-append, length-drop, subst}
 use Rattle.std.proofs.lemmas.Bool.{cases_lt}
 use Rattle.std.proofs.lemmas.List.Sums.{sum_by-append}
 use Rattle.std.proofs.lemmas.List.{take-append-le, append-nil, drop-drop, drop-set-lt, drop-take, drop_all, drop_at, length-take-le, take_all, take_at, take_more_set}
@@ -222,16 +222,16 @@ start_behind ends i = let next : i + 1 ≡ suc i = omega arith in rw next refl
 
 -- the facts after one line more
 pub drawn_on : (j : CJob) (font texts ends before room new : List ℕ) (told_before told : List CLine) (told_new : CLine)
-    (from used i taken : ℕ) (a : CAnswer) (cost : ℕ)
+    (from used i taken : ℕ) (a : CAnswer) (cost after : ℕ)
     → IsDrawnTo j font texts ends before room told_before told from used i taken → taken ≤ lines_budget i
-    → cost ≤ 18446744073709551615 → i < length ends → i < length told → from ≤ get_or ends i 0 → get_or ends i 0 ≤ length texts
+    → cost ≤ 18446744073709551615 → after ≡ taken + cost → i < length ends → i < length told → from ≤ get_or ends i 0 → get_or ends i 0 ≤ length texts
     → IsLineWritten j font (line_between texts from (get_or ends i 0)) used
     (take (length room - used) (drop used room)) new told_new a cost
     → length new ≡ length (take (length room - used) (drop used room))
     → IsDrawnTo j font texts ends before (put_mid used (length room - used) room new) told_before
-    (set told i told_new) (get_or ends i 0) (used + a.bytes) (i + 1) (taken + cost)
-drawn_on j font texts ends before room new told_before told told_new from used i taken a cost so_far enough low few
-    room_few order small w many =
+    (set told i told_new) (get_or ends i 0) (used + a.bytes) (i + 1) after
+drawn_on j font texts ends before room new told_before told told_new from used i taken a cost after so_far enough low is
+    few room_few order small w many =
     let p = w.picture in
     let written : IsWritten p.rows (drop used room) new = rw (room_behind room used) at w.rows in
     let many_new : length new ≡ length (drop used room) = rw (room_behind room used) at many in
@@ -245,8 +245,8 @@ drawn_on j font texts ends before room new told_before told told_new from used i
       so_far = rw (w.answer, w.known) (line_more j font texts ends before room new told_before told used i p
           so_far.so_far (omega (arith, so_far.takes, enough)) few room_few so_far.room_used
           (rw so_far.start at order) small of written);
-      takes = omega (arith, first_taken_too j font texts ends i p few of, so_far.takes, w.takes);
-      few = omega (arith, so_far.few, low);
+      takes = omega (arith, first_taken_too j font texts ends i p few of, so_far.takes, w.takes, is);
+      few = omega (arith, so_far.few, low, is);
     }
 
 -- a call that a line stopped, after those before it
@@ -262,13 +262,6 @@ line_stops j font texts ends room used from i own most few not_done start order 
     rw (room_behind room used) (omega (arith, length-drop used room, same)) in
     let why = inr (rw start at order, small, rw (left, start) at stopped) in
     inr (not_done, inr (inr (inl (own, few, refl, why, inr enough))))
-
--- a call that stops at a line whose ends are refused
-pub ends_stop : (j : CJob) (font texts ends : List ℕ) (used from i most : ℕ) → i < length ends → from ≡ start_of ends i
-    → (get_or ends i 0 < from) ⊎ (length texts < get_or ends i 0)
-    → EndsWith j font texts ends most used (stopped_answer (refusal_answer line_ends) used i)
-ends_stop j font texts ends used from i most few start wrong =
-    inr ((λ h. omega (arith, h)), inr (inr (inl (refusal_answer line_ends, few, refl, inl (refl, rw start at wrong), inl refl))))
 
 -- a call that the budget stops
 pub budget_stops : (j : CJob) (font texts ends : List ℕ) (used from i most : ℕ) → i < length ends → from ≡ start_of ends i
