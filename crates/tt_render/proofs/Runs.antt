@@ -47,8 +47,7 @@ has_report face a bytes was =
     by_tests.rest in
     let by_setting = came-through (as_font (setting_in face a)) _ bytes by_line.rest in
     let by_shapes = came-through (line_shapes by_setting.value a by_line.value) _ bytes by_setting.rest in
-    let numbers = map (λ (g : ℕ × ℕ). g.0) by_line.value.glyphs in
-    (
+    let numbers = map (λ (g : ℕ × ℕ). g.0) by_line.value.glyphs in (
       unfitted_among (line_fitter by_setting.value numbers) (distinct numbers),
       report_is face a by_line.value by_setting.value by_shapes.value by_line.first by_setting.first by_shapes.first,
     )

@@ -55,6 +55,10 @@ returns-then-taken-budget-clause-drawn g c =
     rw (c.stopped-then-taken-budget.ensures, c.answer_of-then-taken-budget.ensures) (
       c.loop-i.used,
       so_far.so_far,
-      budget_stops _ _ _ _ _ _ _ _ c.loop-i-test.true so_far.start (omega arith) (omega arith) (omega (arith, so_far.takes,
-      c.lines_budget-budget.ensures, c.if-taken-budget.true)),
+      budget_stops _ _ _ _ _ _ _ _ c.loop-i-test.true so_far.start (omega arith) (omega arith) (omega (
+        arith,
+        so_far.takes,
+        c.lines_budget-budget.ensures,
+        c.if-taken-budget.true,
+      )),
     )
