@@ -12,15 +12,23 @@ class Asked:
     def __init__(self, program, room):
         self.program, self.font = program, room / "font"
 
-    def run(self, *words, text):
-        """Returns the status, standard output and the lines of standard error."""
-        command = [self.program, *map(str, words), "--", str(self.font), text]
-        ran = subprocess.run(command, stdin=subprocess.DEVNULL, capture_output=True)
+    def run(self, *words, text=None, lines=b""):
+        """Returns the status, standard output and the lines of standard error. Lines stand on standard input."""
+        command = [self.program, *map(str, words), "--", str(self.font), *([] if text is None else [text])]
+        ran = subprocess.run(command, input=lines, capture_output=True)
         return ran.returncode, ran.stdout, ran.stderr.decode(errors="replace").splitlines()
 
     def draw(self, fit, size, text, *options):
         """Draws a text."""
         return self.run("draw", "--fit", fit, "--size", size, *options, text=text)
+
+    def lines(self, fit, size, lines, *options):
+        """Draws the lines of some bytes."""
+        return self.run("draw", "--fit", fit, "--size", size, "--lines", *options, lines=lines)
+
+    def measured(self, fit, size, lines):
+        """Measures the lines of some bytes."""
+        return self.run("measure", "--fit", fit, "--size", size, "--lines", lines=lines)
 
     def measure(self, fit, size, text):
         """Measures a text."""

@@ -9,10 +9,11 @@ sys.path.insert(0, str(Path(__file__).resolve().parent.parent / "outlines"))
 
 from asking import Asked
 from hostile_fonts import hostile
+from many_lines import lines
 from programs import functions, programs, values, weights
 from shapes import crossings, points
 
-PARTS = programs, functions, weights, values, points, crossings, hostile
+PARTS = programs, functions, weights, values, points, crossings, lines, hostile
 
 
 def main():

@@ -1,14 +1,28 @@
 -- Lines drawn one after the other: one line more.
-use Rattle.std.proofs.Common.{◌≡◌, ◌∙◌, sym, ap, refl, ℕ, zero, suc, ◌+◌, ◌-◌, ◌≤◌, ◌<◌, List, [], ◌∷◌, ◌++◌, length, take, drop, get_or, set, arith, inr, length-append, length-drop}
-use Rattle.std.proofs.lemmas.List.{append-nil, drop-drop, drop-set-lt, drop-take, drop_all, drop_at, length-take-le, take_all, take_at, take_more_set}
+use Rattle.std.proofs.Common.{◌≡◌, ◌∙◌, sym, ap, refl, ℕ, zero, suc, ◌+◌, ◌-◌, ◌*◌, ◌≤◌, ◌<◌, List, [], ◌∷◌, ◌++◌, length, take, drop, get_or, set, Result, Ok, Err, Bool, arith, ◌⊎◌, inl, inr, length-append, length-drop, subst}
+use Rattle.std.proofs.lemmas.Bool.{cases_lt}
+use Rattle.std.proofs.lemmas.List.Sums.{sum_by-append}
+use Rattle.std.proofs.lemmas.List.{take-append-le, append-nil, drop-drop, drop-set-lt, drop-take, drop_all, drop_at, length-take-le, take_all, take_at, take_more_set}
 use Rattle.std.proofs.Math.Seq.{take-take}
 use Rattle.std.proofs.lemmas.Slice.{take-put_mid_below}
 use borrow.Rule.Slice.PartMut.{put_mid, same_len_mid}
+use Rattle.std.specs.Prelude.{IsOkAnd}
+use Rattle.tt_core.specs.declared.fault.JobFault.TheVariants as fault
+use Rattle.tt_core.specs.Faults.{Fault}
+use Rattle.tt_core.specs.Outcomes.{◌>>=◌}
+use Rattle.tt_render.specs.Lines.{lines_budget}
+use Rattle.tt_strike.specs.Costs.{cost_by}
+use Rattle.tt_strike.specs.Job.{Job}
+use Rattle.tt_strike.specs.Refusals.{as_font}
+use Rattle.tt_strike.specs.Tables.{Face, face_of}
 use Rattle.tt_c_calls.specs.declared.answer.CAnswer.{CAnswer}
 use Rattle.tt_c_calls.specs.declared.asked.CJob.{CJob}
 use Rattle.tt_c_calls.specs.declared.line_drawing.CLine.{CLine}
-use Rattle.tt_c_calls.specs.Lines.{AreEnds, AreLinesDrawn, DrawsLines, EndsWith, IsLineDrawn, IsLineWritten, IsTextStopped, line_between, line_bytes, line_told, lines_by, lines_bytes, start_of, stopped_answer}
-use Rattle.tt_c_calls.specs.Pictures.{IsPictureOf, IsWritten}
+use Rattle.tt_c_calls.specs.Asked.{asked, grows}
+use Rattle.tt_c_calls.specs.Answers.{job_answer}
+use Rattle.tt_c_calls.specs.Refusals.{Refusal, as_call}
+use Rattle.tt_c_calls.specs.Lines.{AreAffordable, cost_asked, cost_taken, first_taken, lines_taken, AreEnds, AreLinesDrawn, DrawsLines, EndsWith, IsLineDrawn, IsLineWritten, IsTextStopped, line_between, line_bytes, line_told, lines_by, lines_bytes, start_of, stopped_answer}
+use Rattle.tt_c_calls.specs.Pictures.{IsMadeBy, IsPictureOf, IsWritten}
 use Rattle.tt_strike.specs.Pictures.{Picture}
 
 -- equal lists have equal parts
@@ -66,6 +80,66 @@ bytes_behind : (told : List CLine) (x : CLine) → lines_bytes (told ++ x ∷ []
 bytes_behind [] x = omega arith
 bytes_behind (t ∷ ts) x = omega (arith, bytes_behind ts x)
 
+-- the lines up to one more
+lines_behind : (texts : List ℕ) (from i : ℕ) (ends : List ℕ) → i < length ends
+    → lines_by texts from (take (suc i) ends)
+    ≡ lines_by texts from (take i ends) ++ line_between texts (get_or (from ∷ ends) i 0) (get_or ends i 0) ∷ []
+lines_behind texts from i [] few = absurd (omega (arith, few))
+lines_behind texts from zero (e ∷ es) few = refl
+lines_behind texts from (suc i) (e ∷ es) few =
+    ap (λ ls. line_between texts from e ∷ ls) (lines_behind texts e i es (omega (arith, few)))
+
+lines_many : (texts : List ℕ) (from : ℕ) (ends : List ℕ) → length (lines_by texts from ends) ≡ length ends
+lines_many texts from [] = refl
+lines_many texts from (e ∷ es) = omega (arith, lines_many texts e es)
+
+-- what the lines take with one more
+none_plus : (n : ℕ) → 0 + n ≡ n
+none_plus n = omega arith
+
+taken_too : (j : CJob) (font : List ℕ) (lines : List (List ℕ)) (line : List ℕ)
+    → lines_taken j font (lines ++ line ∷ []) ≡ lines_taken j font lines + cost_taken (cost_asked j font line)
+taken_too j font lines line =
+    sum_by-append (λ (l : List ℕ). cost_taken (cost_asked j font l)) lines (line ∷ [])
+    ∙ ap (λ (n : ℕ). lines_taken j font lines + n) (none_plus (cost_taken (cost_asked j font line)))
+
+-- the budget serves for one line more
+affordable_behind : (j : CJob) (font : List ℕ) (first : List (List ℕ)) (line : List ℕ) → AreAffordable j font first
+    → lines_taken j font first ≤ lines_budget (length first) → AreAffordable j font (first ++ line ∷ [])
+affordable_behind j font first line before here i within = serves (cases_lt i (length first))
+  where
+    serves : (i < length first) ⊎ (length first ≤ i)
+        → lines_taken j font (take i (first ++ line ∷ [])) ≤ lines_budget i
+    serves (inl less) = rw (take-append-le i first (line ∷ []) (omega (arith, less))) (before i less)
+    serves (inr more) =
+        let last : length first ≡ i = omega (arith, more, within, length-append first (line ∷ [])) in
+        let whole : take i (first ++ line ∷ []) ≡ first = take_at first (line ∷ []) i last in
+        rw whole (subst (λ (n : ℕ). lines_taken j font first ≤ lines_budget n) last here)
+
+-- what the line of a picture takes
+cost_found : (r : Result Job Refusal) (f : Result Face Fault) (p : Picture) (grow : Bool)
+    → IsOkAnd r (λ a. IsOkAnd f (IsMadeBy grow a p))
+    → (r >>= λ a. as_call (as_font f >>= λ face. cost_by face a)) ≡ Ok p.cost
+cost_found (Err why) f p grow made = absurd made
+cost_found (Ok a) (Err f) p grow made = absurd made
+cost_found (Ok a) (Ok face) p grow made = rw made.2 refl
+
+cost_of_line : (j : CJob) (font line : List ℕ) (p : Picture) → IsPictureOf j line font p
+    → cost_taken (cost_asked j font line) ≡ p.cost
+cost_of_line j font line p of = ap cost_taken (cost_found (asked j line) (face_of font) p (grows j) of.made)
+
+-- what the lines so far take, and one line more
+first_taken_too : (j : CJob) (font texts ends : List ℕ) (i : ℕ) (p : Picture) → i < length ends
+    → IsPictureOf j (line_between texts (start_of ends i) (get_or ends i 0)) font p
+    → first_taken j font texts ends (i + 1) ≡ first_taken j font texts ends i + p.cost
+first_taken_too j font texts ends i p few of =
+    let line = line_between texts (start_of ends i) (get_or ends i 0) in
+    let next : i + 1 ≡ suc i = omega arith in
+    let all : lines_by texts 0 (take (i + 1) ends) ≡ lines_by texts 0 (take i ends) ++ line ∷ [] =
+    rw next (lines_behind texts 0 i ends few) in
+    ap (lines_taken j font) all
+    ∙ omega (arith, taken_too j font (lines_by texts 0 (take i ends)) line, cost_of_line j font line p of)
+
 -- a room from a place on
 room_behind : (room : List ℕ) (used : ℕ) → take (length room - used) (drop used room) ≡ drop used room
 room_behind room used = take_all (length room - used) (drop used room) (omega (arith, length-drop used room))
@@ -93,13 +167,13 @@ rows_behind rows room new used within written =
 
 -- the lines so far, and one line more
 line_more : (j : CJob) (font texts ends before room new : List ℕ) (told_before told : List CLine) (used i : ℕ)
-    (p : Picture) → DrawsLines j font texts ends before room told_before told used i → i < length ends
-    → i < length told → used ≤ length room → start_of ends i ≤ get_or ends i 0 → get_or ends i 0 ≤ length texts
+    (p : Picture) → DrawsLines j font texts ends before room told_before told used i
+    → first_taken j font texts ends i ≤ lines_budget i → i < length ends → i < length told → used ≤ length room → start_of ends i ≤ get_or ends i 0 → get_or ends i 0 ≤ length texts
     → IsPictureOf j (line_between texts (start_of ends i) (get_or ends i 0)) font p
     → IsWritten p.rows (drop used room) new
     → DrawsLines j font texts ends before (put_mid used (length room - used) room new) told_before
     (set told i (line_told p used)) (used + length p.rows) (i + 1)
-line_more j font texts ends before room new told_before told used i p so_far few room_few within order small of
+line_more j font texts ends before room new told_before told used i p so_far enough few room_few within order small of
     written =
     let room_new = put_mid used (length room - used) room new in
     let x = line_told p used in
@@ -116,10 +190,16 @@ line_more j font texts ends before room new told_before told used i p so_far few
     let there : IsLineDrawn j font room_new used line x =
     (p, of, refl, ap (take n) placed ∙ take_at p.rows _ n refl) in
     let one : IsLineDrawn j font room_new (0 + lines_bytes (take i told)) line x = rw place there in
+    let so_many : length (lines_by texts 0 (take i ends)) ≡ i =
+    lines_many texts 0 (take i ends) ∙ length-take-le i ends (omega (arith, few)) in
+    let serves : lines_taken j font (lines_by texts 0 (take i ends))
+    ≤ lines_budget (length (lines_by texts 0 (take i ends))) = omega (arith, so_many, enough) in
+    let affords = affordable_behind j font (lines_by texts 0 (take i ends)) line so_far.affordable serves in
     record {
       few = omega arith;
       within = rw next (ends_behind (length texts) 0 i ends few so_far.within order small);
       drawn = rw (lines, next) (line_behind j font texts room_new 0 0 i ends (take i told) x few stay one);
+      affordable = rw (next, lines_behind texts 0 i ends few) affords;
       bytes = rw (lines, bytes_behind (take i told) x, of.ready.rows, so_far.bytes) refl;
       rest = sym (drop-drop n used room_new) ∙ ap (drop n) placed ∙ drop_at p.rows _ n refl
           ∙ ap (drop n) so_far.rest ∙ drop-drop n used before;
@@ -129,10 +209,12 @@ line_more j font texts ends before room new told_before told used i p so_far few
 
 -- the facts before each step of a loop over lines
 pub record IsDrawnTo (j : CJob) (font texts ends before room : List ℕ) (told_before told : List CLine)
-    (from used i : ℕ) : Type 0 where
+    (from used i taken : ℕ) : Type 0 where
   pub start : from ≡ start_of ends i
   pub room_used : used ≤ length room
   pub so_far : DrawsLines j font texts ends before room told_before told used i
+  pub takes : first_taken j font texts ends i ≡ taken
+  pub few : taken ≤ 18446744073709551615 * i
 
 -- the start of the next line
 start_behind : (ends : List ℕ) (i : ℕ) → get_or ends i 0 ≡ start_of ends (i + 1)
@@ -140,26 +222,31 @@ start_behind ends i = let next : i + 1 ≡ suc i = omega arith in rw next refl
 
 -- the facts after one line more
 pub drawn_on : (j : CJob) (font texts ends before room new : List ℕ) (told_before told : List CLine) (told_new : CLine)
-    (from used i : ℕ) (a : CAnswer) → IsDrawnTo j font texts ends before room told_before told from used i
-    → i < length ends → i < length told → from ≤ get_or ends i 0 → get_or ends i 0 ≤ length texts
+    (from used i taken : ℕ) (a : CAnswer) (cost after : ℕ)
+    → IsDrawnTo j font texts ends before room told_before told from used i taken → taken ≤ lines_budget i
+    → cost ≤ 18446744073709551615 → after ≡ taken + cost → i < length ends → i < length told → from ≤ get_or ends i 0 → get_or ends i 0 ≤ length texts
     → IsLineWritten j font (line_between texts from (get_or ends i 0)) used
-    (take (length room - used) (drop used room)) new told_new a
+    (take (length room - used) (drop used room)) new told_new a cost
     → length new ≡ length (take (length room - used) (drop used room))
     → IsDrawnTo j font texts ends before (put_mid used (length room - used) room new) told_before
-    (set told i told_new) (get_or ends i 0) (used + a.bytes) (i + 1)
-drawn_on j font texts ends before room new told_before told told_new from used i a so_far few room_few order small w
-    many =
+    (set told i told_new) (get_or ends i 0) (used + a.bytes) (i + 1) after
+drawn_on j font texts ends before room new told_before told told_new from used i taken a cost after so_far enough low is
+    few room_few order small w many =
     let p = w.picture in
     let written : IsWritten p.rows (drop used room) new = rw (room_behind room used) at w.rows in
     let many_new : length new ≡ length (drop used room) = rw (room_behind room used) at many in
     let keeps : length (put_mid used (length room - used) room new) ≡ length room =
     same_len_mid used (length room - used) room new many in
+    let of : IsPictureOf j (line_between texts (start_of ends i) (get_or ends i 0)) font p =
+    rw so_far.start at w.of in
     record {
       start = start_behind ends i;
       room_used = rw (w.answer, keeps) (few_rows p.rows room new used so_far.room_used written many_new);
       so_far = rw (w.answer, w.known) (line_more j font texts ends before room new told_before told used i p
-          so_far.so_far few room_few so_far.room_used
-          (rw so_far.start at order) small (rw so_far.start at w.of) written);
+          so_far.so_far (omega (arith, so_far.takes, enough)) few room_few so_far.room_used
+          (rw so_far.start at order) small of written);
+      takes = omega (arith, first_taken_too j font texts ends i p few of, so_far.takes, w.takes, is);
+      few = omega (arith, so_far.few, low, is);
     }
 
 -- a call that a line stopped, after those before it
@@ -168,9 +255,17 @@ pub line_stops : (j : CJob) (font texts ends room : List ℕ) (used from i : ℕ
     → (own.status ≡ 0 → ⊥) → from ≡ start_of ends i → from ≤ get_or ends i 0 → get_or ends i 0 ≤ length texts
     → length room ≡ most
     → IsTextStopped j font (line_between texts from (get_or ends i 0))
-    (length (take (length room - used) (drop used room))) own
+    (length (take (length room - used) (drop used room))) own → first_taken j font texts ends i ≤ lines_budget i
     → EndsWith j font texts ends most used (stopped_answer own used i)
-line_stops j font texts ends room used from i own most few not_done start order small same stopped =
+line_stops j font texts ends room used from i own most few not_done start order small same stopped enough =
     let left : length (take (length room - used) (drop used room)) ≡ most - used =
     rw (room_behind room used) (omega (arith, length-drop used room, same)) in
-    inr (not_done, inr (inr (own, few, refl, inr (rw start at order, small, rw (left, start) at stopped))))
+    let why = inr (rw start at order, small, rw (left, start) at stopped) in
+    inr (not_done, inr (inr (inl (own, few, refl, why, inr enough))))
+
+-- a call that the budget stops
+pub budget_stops : (j : CJob) (font texts ends : List ℕ) (used from i most : ℕ) → i < length ends → from ≡ start_of ends i
+    → from ≤ get_or ends i 0 → get_or ends i 0 ≤ length texts → lines_budget i < first_taken j font texts ends i
+    → EndsWith j font texts ends most used (stopped_answer (job_answer fault.WorkLarge) used i)
+budget_stops j font texts ends used from i most few start order small spent =
+    inr ((λ h. omega (arith, h)), inr (inr (inr (few, (rw start at order, small), spent, refl))))

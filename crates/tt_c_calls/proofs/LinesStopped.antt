@@ -35,7 +35,15 @@ use Rattle.tt_c_calls.proofs.StrikeLines.{if_some_more, not_done}
 none_drawn : (j : CJob) (file texts ends room : List ℕ) (told : List CLine)
     → DrawsLines j file texts ends room room told told 0 0
 none_drawn j file texts ends room told =
-    record { few = omega arith; within = tt; drawn = tt; bytes = refl; rest = refl; others = refl }
+    record {
+      few = omega arith;
+      within = tt;
+      drawn = tt;
+      affordable = λ i less. absurd (omega (arith, less));
+      bytes = refl;
+      rest = refl;
+      others = refl;
+    }
 
 -- the reason why no line was drawn
 abbrev IsDrawnNone : CJob → List ℕ → List ℕ → List ℕ → List ℕ → List CLine → CallFault → Type 0
@@ -158,10 +166,10 @@ pub strike_refused : (j : CJob) (how : Fit) (d : DrawFault) → tested (of_no_te
 strike_refused j how d test h = no_memory d (size_tested j.size) (size_passed j how test) h
 
 -- a strike whose cached glyphs alone have changed
-pub for_kept : (j : CJob) (font : List ℕ) (s t : Strike) → t ≡ record s { kept = t.kept } → IsStrikeFor j font s
-    → IsStrikeFor j font t
-for_kept j font s t alone for =
-    let P : Strike → Type 0 = λ x. IsStrikeFor j font x in
+pub for_kept : (j : CJob) (file : List ℕ) (s t : Strike) → t ≡ record s { kept = t.kept } → IsStrikeFor j file s
+    → IsStrikeFor j file t
+for_kept j file s t alone for =
+    let P : Strike → Type 0 = λ x. IsStrikeFor j file x in
     subst P (sym alone) (record { face = for.face; fit = for.fit; size = for.size })
 
 pub kept_alone : (r s t : Strike) → s ≡ record r { kept = s.kept } → t ≡ record s { kept = t.kept }

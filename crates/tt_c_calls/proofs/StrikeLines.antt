@@ -153,10 +153,10 @@ whole_band p ready =
     (take_all (stride p.frame.width * p.frame.height) p.rows (omega (arith, ready.rows)))
 
 pub line_written : (j : CJob) (file line : List ℕ) (at height : ℕ) (p : Picture) (room new : List ℕ)
-    (known : CPicture) (told : CLine) (a : CAnswer) → IsPictureOf j line file p → height ≡ p.frame.height
-    → IsBandWritten p 0 height room new known a → told ≡ record { picture = known; at = at }
-    → IsLineWritten j file line at room new told a
-line_written j file line at height p room new known told a of all w is =
+    (known : CPicture) (told : CLine) (a : CAnswer) (cost : ℕ) → IsPictureOf j line file p → height ≡ p.frame.height
+    → IsBandWritten p 0 height room new known a → told ≡ record { picture = known; at = at } → cost ≡ p.cost
+    → IsLineWritten j file line at room new told a cost
+line_written j file line at height p room new known told a cost of all w is takes =
     let whole = whole_band p of.ready in
     record {
       picture = p;
@@ -164,6 +164,7 @@ line_written j file line at height p room new known told a of all w is =
       rows = rw (all, whole) at w.rows;
       known = rw w.picture at is;
       answer = rw (all, whole, all_rows p.frame.height) at w.answer;
+      takes = takes;
     }
 
 -- a room too small for all rows

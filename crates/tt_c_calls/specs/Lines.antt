@@ -1,16 +1,21 @@
 -- No part of the standard: lines drawn one after the other by a call of C (profile).
 use Rattle.std.specs.Prelude.{◌≡◌, ◌≢◌, refl, ℕ, ◌+◌, ◌-◌, ◌*◌, ◌<◌, ◌≤◌, List, [], ◌∷◌, length, take, drop, get_or, Result, Ok, Err, ◌⊎◌, ⊤}
-use Rattle.tt_core.specs.Faults.{Fault}
+use Rattle.std.specs.List.{sum_by}
+use Rattle.tt_core.specs.declared.fault.JobFault.TheVariants as fault
+use Rattle.tt_core.specs.Faults.{Fault, job_number}
 use Rattle.tt_core.specs.Outcomes.{◌>>=◌}
+use Rattle.tt_render.specs.Lines.{lines_budget}
+use Rattle.tt_strike.specs.Costs.{cost_by}
 use Rattle.tt_strike.specs.Defects.{IsFaceDefect}
 use Rattle.tt_strike.specs.Pictures.{Picture}
+use Rattle.tt_strike.specs.Refusals.{as_font}
 use Rattle.tt_strike.specs.Strikes.{Strike}
-use Rattle.tt_strike.specs.Tables.{Face}
+use Rattle.tt_strike.specs.Tables.{Face, face_of}
 use Rattle.tt_c_calls.specs.declared.answer.CAnswer.{CAnswer}
 use Rattle.tt_c_calls.specs.declared.asked.CJob.{CJob}
 use Rattle.tt_c_calls.specs.declared.line_drawing.CLine.{CLine}
-use Rattle.tt_c_calls.specs.Answers.{done_answer, fault_answer, memory_answer, plain_answer, refusal_answer, room_answer}
-use Rattle.tt_c_calls.specs.Asked.{IsAskedDefect, fit_asked}
+use Rattle.tt_c_calls.specs.Answers.{done_answer, fault_answer, job_answer, memory_answer, plain_answer, refusal_answer, room_answer}
+use Rattle.tt_c_calls.specs.Asked.{IsAskedDefect, asked, fit_asked}
 use Rattle.tt_c_calls.specs.Pictures.{IsPictureOf, IsWritten, made_of, picture_told, picture_wanted}
 use Rattle.tt_c_calls.specs.Refusals.{Refusal, as_call, line_ends, unknown_fit}
 
@@ -27,6 +32,27 @@ lines_by texts from (end ∷ ends) = line_between texts from end ∷ lines_by te
 abbrev pub AreEnds : ℕ → ℕ → List ℕ → Type 0
 AreEnds bytes from [] = ⊤
 AreEnds bytes from (end ∷ ends) = (from ≤ end) × (end ≤ bytes) × AreEnds bytes end ends
+
+-- what a line takes of the budget of a call
+abbrev pub cost_asked : CJob → List ℕ → List ℕ → Result ℕ Refusal
+cost_asked j font line = asked j line >>= λ a. as_call (as_font (face_of font) >>= λ face. cost_by face a)
+
+-- a refused line takes nothing
+abbrev pub cost_taken : Result ℕ Refusal → ℕ
+cost_taken (Ok n) = n
+cost_taken (Err why) = 0
+
+-- what some lines take together
+abbrev pub lines_taken : CJob → List ℕ → List (List ℕ) → ℕ
+lines_taken j font lines = sum_by (λ line. cost_taken (cost_asked j font line)) lines
+
+-- before each of these lines, the lines before it took no more than the budget
+abbrev pub AreAffordable : CJob → List ℕ → List (List ℕ) → Type 0
+AreAffordable j font lines = (i : ℕ) → i < length lines → lines_taken j font (take i lines) ≤ lines_budget i
+
+-- what the first lines of some texts take
+abbrev pub first_taken : CJob → List ℕ → List ℕ → List ℕ → ℕ → ℕ
+first_taken j font texts ends count = lines_taken j font (lines_by texts 0 (take count ends))
 
 -- where line i begins
 abbrev pub start_of : List ℕ → ℕ → ℕ
@@ -50,14 +76,16 @@ IsLineDrawn j font room at line told =
     (p : Picture) × IsPictureOf j line font p × (told ≡ line_told p at)
     × (take (length p.rows) (drop at room) ≡ p.rows)
 
--- the picture of a line was written at the front of a room, which is at place `at` of the caller's room
+-- the picture of a line was written at the front of a room, which is at place `at` of the caller's room, and takes this
+-- much of the budget
 pub record IsLineWritten (j : CJob) (font line : List ℕ) (at : ℕ) (old new : List ℕ) (told : CLine) (a : CAnswer)
-    : Type 0 where
+    (cost : ℕ) : Type 0 where
   pub picture : Picture
   pub of : IsPictureOf j line font picture
   pub rows : IsWritten picture.rows old new
   pub known : told ≡ line_told picture at
   pub answer : a ≡ done_answer (length picture.rows) picture.frame.height
+  pub takes : cost ≡ picture.cost
 
 -- lines were drawn one after the other, the first at place `at`
 abbrev pub AreLinesDrawn : CJob → List ℕ → List ℕ → ℕ → List (List ℕ) → List CLine → Type 0
@@ -66,12 +94,14 @@ AreLinesDrawn j font room at (line ∷ lines) (told ∷ others) =
     IsLineDrawn j font room at line told × AreLinesDrawn j font room (at + line_bytes told) lines others
 AreLinesDrawn j font room at lines told = ⊥
 
--- the first `count` lines were drawn in `used` bytes, and all else of the caller's is unchanged
+-- the first `count` lines were drawn in `used` bytes, the budget serves for them, and all else of the caller's is
+-- unchanged
 pub record DrawsLines (j : CJob) (font texts ends room_before room : List ℕ) (told_before told : List CLine)
     (used count : ℕ) : Type 0 where
   pub few : count ≤ length ends
   pub within : AreEnds (length texts) 0 (take count ends)
   pub drawn : AreLinesDrawn j font room 0 (lines_by texts 0 (take count ends)) (take count told)
+  pub affordable : AreAffordable j font (lines_by texts 0 (take count ends))
   pub bytes : used ≡ lines_bytes (take count told)
   pub rest : drop used room ≡ drop used room_before
   pub others : drop count told ≡ drop count told_before
@@ -107,14 +137,23 @@ abbrev pub AnswersInOrder : Result Face Refusal → ℕ → ℕ → CAnswer → 
 AnswersInOrder (Err why) room lines a = a ≡ refusal_answer why
 AnswersInOrder (Ok face) room lines a = room < lines → a ≡ room_answer 0 lines
 
--- the reason why a call drew no more than the first lines: the font or the job is refused, and no line is drawn; or the
--- next line stopped it
+-- line i ends where it begins or later, and within the texts
+abbrev pub IsLine : List ℕ → List ℕ → ℕ → Type 0
+IsLine texts ends i = (start_of ends i ≤ get_or ends i 0) × (get_or ends i 0 ≤ length texts)
+
+-- the reason why a call drew no more than the first lines: the font or the job is refused, and no line is drawn; memory
+-- was refused; the next line stopped it, for which the budget serves, or its ends are refused; or there is a next line,
+-- and the lines before it took more than the budget
 abbrev pub IsStopped : CJob → List ℕ → List ℕ → List ℕ → ℕ → ℕ → CAnswer → Type 0
 IsStopped j font texts ends room used a =
     ((why : Refusal) × (lines_wanted j font ≡ Err why) × (a ≡ refusal_answer why))
     ⊎ (a ≡ memory_answer)
     ⊎ ((own : CAnswer) × (a.count < length ends) × (a ≡ stopped_answer own used a.count)
-    × IsLineStopped j font texts (start_of ends a.count) (get_or ends a.count 0) (room - used) own)
+    × IsLineStopped j font texts (start_of ends a.count) (get_or ends a.count 0) (room - used) own
+    × ((own ≡ refusal_answer line_ends) ⊎ (first_taken j font texts ends a.count ≤ lines_budget a.count)))
+    ⊎ ((a.count < length ends) × IsLine texts ends a.count
+    × (lines_budget a.count < first_taken j font texts ends a.count)
+    × (a ≡ stopped_answer (job_answer fault.WorkLarge) used a.count))
 
 -- a font at a job's size and with its way to fit, for lines
 pub record IsStrikeFor (j : CJob) (font : List ℕ) (s : Strike) : Type 0 where
@@ -144,3 +183,11 @@ an_unknown_fit_comes_before_the_room = refl
 
 room_for_two_of_three_lines : (face : Face) → AnswersInOrder (Ok face) 2 3 (room_answer 0 3)
 room_for_two_of_three_lines face few = refl
+
+no_line_takes_anything : (j : CJob) (font : List ℕ) → lines_taken j font [] ≡ 0
+no_line_takes_anything j font = refl
+
+a_line_that_the_budget_stops : stopped_answer (job_answer fault.WorkLarge) 96 1
+    ≡ record (plain_answer 2 65) { bytes = 96; count = 1 }
+unfolding job_number
+a_line_that_the_budget_stops = refl

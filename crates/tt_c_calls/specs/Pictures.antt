@@ -6,6 +6,7 @@ use Rattle.tt_core.specs.Outcomes.{◌>>=◌}
 use Rattle.tt_line.specs.Layout.{placement}
 use Rattle.tt_render.specs.Outcome.{of_font}
 use Rattle.tt_scan.specs.declared.edge.Frame.{Frame}
+use Rattle.tt_strike.specs.Costs.{cost_by}
 use Rattle.tt_strike.specs.Grown.{grown_outcome, grown_placement}
 use Rattle.tt_strike.specs.Job.{Job, tested}
 use Rattle.tt_strike.specs.Picture.{frame_of, line_outcome}
@@ -39,9 +40,10 @@ IsFramed false face a f =
     IsOkAnd (placement face.metrics face.cmap a.text a.ppem a.margin) (λ l. f ≡ frame_of l a.margin)
 IsFramed true face a f = IsOkAnd (grown_placement face a) (λ l. f ≡ frame_of l a.margin)
 
--- a picture of a job by a font's tables: its frame, and its unfitted glyphs
+-- a picture of a job by a font's tables: its frame, its unfitted glyphs, and what it takes of the budget of many lines
 abbrev pub IsMadeBy : Bool → Job → Picture → Face → Type 0
-IsMadeBy grow a p face = IsFramed grow face a p.frame × (report_by face a ≡ Ok p.unfitted)
+IsMadeBy grow a p face =
+    IsFramed grow face a p.frame × (report_by face a ≡ Ok p.unfitted) × (cost_by face a ≡ Ok p.cost)
 
 -- a picture is that of a text by a font file
 pub record IsPictureOf (j : CJob) (text font : List ℕ) (p : Picture) : Type 0 where

@@ -11,6 +11,8 @@ use crate::fault::CallFault;
 use crate::opening::face_of;
 use crate::pictures::{CPicture, picture_by, told_of, write_band};
 use std::alloc::Global;
+use tt_core::JobFault;
+use tt_render::lines_budget;
 use tt_strike::{Job, Strike, test_job};
 
 /// A line that was drawn.
@@ -36,7 +38,7 @@ fn stopped(answer: CAnswer, used: usize, count: usize) -> CAnswer
 }
 
 /// Draws a line at the front of a room, which is at place `at` of the caller's room. Answers as `draw_band`, for the
-/// whole picture.
+/// whole picture. Beside the answer it returns what the line takes of the budget of the call.
 fn draw_line(
     strike: &mut Strike,
     job: &CJob,
@@ -44,25 +46,26 @@ fn draw_line(
     at: usize,
     room: &mut [u8],
     told: &mut CLine,
-) -> CAnswer
+) -> (CAnswer, u64)
     ghost font: { List ℕ }
     requires { IsStrikeFor job.now font strike.old }
-    ensures done { result.status ≡ 0 → IsLineWritten job.now font line.now at room.old room.new told.new result }
-    ensures stopped { result.status ≢ 0 → IsTextStopped job.now font line.now (length room.old) result }
-    ensures bytes { result.bytes ≤ 8388608 }
-    ensures kept { result.status ≢ 0 → room.new ≡ room.old }
-    ensures told_kept { result.status ≢ 0 → told.new ≡ told.old }
+    ensures done { result.0.status ≡ 0 → IsLineWritten job.now font line.now at room.old room.new told.new result.0 result.1 }
+    ensures stopped { result.0.status ≢ 0 → IsTextStopped job.now font line.now (length room.old) result.0 }
+    ensures bytes { result.0.bytes ≤ 8388608 }
+    ensures kept { result.0.status ≢ 0 → room.new ≡ room.old }
+    ensures told_kept { result.0.status ≢ 0 → told.new ≡ told.old }
     ensures strike { strike.new ≡ record strike.old { kept = strike.new.kept } }
-    ensures stands { DefectStands (IsAskedDefect job.now line.now font) result }
+    ensures stands { DefectStands (IsAskedDefect job.now line.now font) result.0 }
 {
     let text = match text_of(line) {
         Ok(text) => text,
-        Err(fault) => return answer_of(fault),
+        Err(fault) => return (answer_of(fault), 0),
     };
     let mut picture = match picture_by(strike, job.grows(), text, job.margin) {
         Ok(picture) => picture,
-        Err(fault) => return answer_of(fault),
+        Err(fault) => return (answer_of(fault), 0),
     };
+    let cost = picture.cost();
     let height = picture.height();
     let mut known = told_of(&picture);
     let answer = write_band(&mut picture, 0, height, room, &mut known);
@@ -72,7 +75,7 @@ fn draw_line(
             at: at as u64,
         };
     }
-    answer
+    (answer, cost)
 }
 
 /// Draws lines by a strike, as `draw_lines` says.
@@ -93,17 +96,24 @@ fn draw_by(
 {
     let mut from = 0;
     let mut used = 0;
+    let mut taken = 0;
     for i in 0..ends.len() {
         let end = ends[i];
         if end < from as u64 || end > texts.len() as u64 {
             return stopped(answer_of(CallFault::LineEnds), used, i);
         }
+        let budget = lines_budget(i as u64);
+        if taken > budget {
+            let spent = CallFault::Job(JobFault::WorkLarge);
+            return stopped(answer_of(spent), used, i);
+        }
         let line = &texts[from..end as usize];
-        let answer = draw_line(strike, job, line, used, &mut rows[used..], &mut lines[i]);
+        let (answer, cost) = draw_line(strike, job, line, used, &mut rows[used..], &mut lines[i]);
         if answer.status != 0 {
             return stopped(answer, used, i);
         }
         used += answer.bytes as usize;
+        taken += u128::from(cost);
         from = end as usize;
     }
     done(used as u64, ends.len() as u64)
@@ -122,7 +132,8 @@ fn draw_by(
 /// - the answer of the line that stopped the call, with the number of the lines before it and the bytes of their rows.
 ///   Where the room is too small for the line, the bytes include those of its own rows. A line stops the call if it is
 ///   refused, is not UTF-8, or ends before it begins or past the texts. It also stops the call if it needs more room
-///   than remains, or if memory was refused for it;
+///   than remains, or if memory was refused for it. With `best` it is refused where the lines before it took more than
+///   20,000,000 and 8,000,000 for each of them;
 /// - done, with the bytes and the number of all lines.
 pub fn draw_lines(
     alloc: Global,

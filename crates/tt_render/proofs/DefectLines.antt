@@ -1,5 +1,5 @@
 -- A font's fault that stops the drawing of lines is a defect of the font.
-use Rattle.std.proofs.Common.{◌≡◌, ℕ, ◌+◌, ◌-◌, Bool, List, [], ◌∷◌, ◌++◌, length, get_or, Option, Some, None, IfSome, Result, Ok, Err, ap, ◌∙◌, arith}
+use Rattle.std.proofs.Common.{◌≡◌, ℕ, ◌+◌, ◌-◌, Bool, List, [], ◌∷◌, ◌++◌, length, get_or, Option, Some, None, IfSome, Result, Ok, Err, ap, ◌∙◌, inl, inr, arith}
 use Rattle.std.proofs.lemmas.List.{get_or_at}
 use Rattle.tt_core.specs.declared.fault.JobFault.{JobFault}
 use Rattle.tt_core.specs.Faults.{Fault}
@@ -7,6 +7,7 @@ use Rattle.tt_core.specs.Outcomes.{IfTold}
 use Rattle.tt_render.specs.declared.fault.RunFault.{RunFault}
 use Rattle.tt_render.specs.declared.fault.RunFault.TheVariants as run
 use Rattle.tt_render.specs.declared.setting.Setting.{Setting}
+use Rattle.tt_render.specs.declared.lines.LineReader.{LineReader}
 use Rattle.tt_render.specs.declared.text_answers.ReadyText.{ReadyText}
 use Rattle.tt_render.specs.declared.texts_fault.TextFault.TheVariants as fault
 use Rattle.tt_render.specs.declared.texts_fault.TextStop.{TextStop}
@@ -16,7 +17,7 @@ use Rattle.tt_render.specs.declared.texts_fault.TextsFault.TheVariants as texts
 use Rattle.tt_render.specs.LineReading.{LosesLine}
 use Rattle.tt_render.specs.Lines.{lines_of}
 use Rattle.tt_render.specs.LinesDefects.{BeginsDefective, IsDefectBy, IsDefectIn, LinesTell, LinesTellDefects, LinesTellDefectsOf, line_numbered}
-use Rattle.tt_render.specs.LinesOutcome.{Draws, texts_fault_of}
+use Rattle.tt_render.specs.LinesOutcome.{Draws, FindsLine, texts_fault_of}
 use Rattle.tt_render.specs.Printing.{Errors}
 use Rattle.tt_render.specs.Reading.{ReadFails}
 use Rattle.tt_render.specs.Settings.{strike_by}
@@ -53,11 +54,11 @@ next_tells IsOne before after line why loses =
 
 -- it is a defect of the line with this number
 numbered : (IsOne : List ℕ → Fault → Type 0) (d : Draws) (text left out written : Option (List ℕ)) (e : Errors)
-    (before : ℕ) (f : Fault) → SoFar d text left out written e before → IfSome left (BeginsDefective IsOne f)
+    (before used : ℕ) (f : Fault) → SoFar d text left out written e before used → IfSome left (BeginsDefective IsOne f)
     → IfSome text (λ all. IsOne (line_numbered all (before + 1)) f)
-numbered IsOne d None left out written e before f so_far is = tt
-numbered IsOne d (Some text) None out written e before f so_far is = absurd so_far
-numbered IsOne d (Some text) (Some rest) out written e before f so_far is =
+numbered IsOne d None left out written e before used f so_far is = tt
+numbered IsOne d (Some text) None out written e before used f so_far is = absurd so_far
+numbered IsOne d (Some text) (Some rest) out written e before used f so_far is =
     let parts : lines_of text ≡ so_far.0 ++ is.0 ∷ is.1 = so_far.1 ∙ ap (λ ls. so_far.0 ++ ls) is.2 in
     let at : length so_far.0 ≡ before + 1 - 1 = omega (arith, so_far.2) in
     let same : line_numbered text (before + 1) ≡ is.0 =
@@ -65,16 +66,28 @@ numbered IsOne d (Some text) (Some rest) out written e before f so_far is =
     rw same is.3
 
 pub stop_tells : (V : Type 0) (IsOne : List ℕ → Fault → Type 0) (d : Draws) (text left out written : Option (List ℕ)) (e : Errors)
-    (before : ℕ) (why : TextStop) → SoFar d text left out written e before
+    (before used : ℕ) (why : TextStop) → SoFar d text left out written e before used
     → IfSome (stop_font_fault why) (λ f. IfSome left (BeginsDefective IsOne f))
     → LinesTell {V = V} IsOne text (Err (texts_fault_of (Some (before + 1)) why))
-stop_tells V IsOne d text left out written e before (stop.Refused (fault.Font f)) so_far is =
-    numbered IsOne d text left out written e before f so_far is
-stop_tells V IsOne d text left out written e before (stop.Refused (fault.Job j)) so_far is = tt
-stop_tells V IsOne d text left out written e before (stop.Refused fault.NotUtf8) so_far is = tt
-stop_tells V IsOne d text left out written e before (stop.Refused (fault.Missing c)) so_far is = tt
-stop_tells V IsOne d text left out written e before stop.Read so_far is = tt
-stop_tells V IsOne d text left out written e before stop.Memory so_far is = tt
+stop_tells V IsOne d text left out written e before used (stop.Refused (fault.Font f)) so_far is =
+    numbered IsOne d text left out written e before used f so_far is
+stop_tells V IsOne d text left out written e before used (stop.Refused (fault.Job j)) so_far is = tt
+stop_tells V IsOne d text left out written e before used (stop.Refused fault.NotUtf8) so_far is = tt
+stop_tells V IsOne d text left out written e before used (stop.Refused (fault.Missing c)) so_far is = tt
+stop_tells V IsOne d text left out written e before used stop.Read so_far is = tt
+stop_tells V IsOne d text left out written e before used stop.Memory so_far is = tt
+
+-- a line that is not begun names no defect
+pub begun_tells : (V : Type 0) (IsOne : List ℕ → Fault → Type 0) (text left after : Option (List ℕ)) (r : LineReader)
+    (before used : ℕ) (why : TextStop) → FindsLine r before used (Err why) left after
+    → LinesTell {V = V} IsOne text (Err (texts_fault_of (Some (before + 1)) why))
+begun_tells V IsOne text left after r before used (stop.Refused (fault.Font f)) (inl (is, long)) = absurd cc
+begun_tells V IsOne text left after r before used (stop.Refused (fault.Font f)) (inr (is, spent, has)) = absurd cc
+begun_tells V IsOne text left after r before used (stop.Refused (fault.Job j)) begun = tt
+begun_tells V IsOne text left after r before used (stop.Refused fault.NotUtf8) begun = tt
+begun_tells V IsOne text left after r before used (stop.Refused (fault.Missing c)) begun = tt
+begun_tells V IsOne text left after r before used stop.Read begun = tt
+begun_tells V IsOne text left after r before used stop.Memory begun = tt
 
 -- a defect of a line by a font's tables is one by the font's file
 pub lines_tell : {V : Type 0} (a : Setting) (file : List ℕ) (face : Face) (text : Option (List ℕ))

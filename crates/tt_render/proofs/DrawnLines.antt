@@ -1,7 +1,10 @@
 -- The answer of a line, and the drawing of lines in order.
-use Rattle.std.proofs.Common.{◌≡◌, ℕ, ◌+◌, ◌<◌, ◌≤◌, Bool, true, false, nat_lt, List, [], ◌∷◌, ◌++◌, length, take, Option, Some, None, IfSome, Result, Ok, Err, ap, sym, subst, refl, ◌∙◌, arith, append_assoc, append-nil, length-append}
+use Rattle.std.proofs.Common.{◌≡◌, ◌⊎◌, inl, inr, ℕ, ◌+◌, ◌<◌, ◌≤◌, Bool, true, false, nat_lt, List, [], ◌∷◌, ◌++◌, length, take, Option, Some, None, IfSome, Result, Ok, Err, ap, sym, subst, refl, ◌∙◌, arith, append_assoc, append-nil, length-append, get_or}
 use Rattle.std.specs.Prelude.{IfOk, IsUtf8}
+use Rattle.std.proofs.lemmas.Bool.{cases_lt}
 use Rattle.std.proofs.lemmas.Bool.Decides.{nat_tests}
+use Rattle.std.proofs.lemmas.List.Sums.{sum_by-append}
+use Rattle.std.proofs.lemmas.List.{get_or_append_left, get_or_at, take-append-le, take_at}
 use Rattle.std.proofs.lemmas.Str.{IsUtf8-from_is_utf8, is_utf8-from_IsUtf8}
 use Rattle.std.specs.Io.KnownBytes.{Appends, IsAtEnd, Keeps, prepend_known}
 use Rattle.std.specs.Str.{is_utf8}
@@ -9,13 +12,16 @@ use Rattle.tt_core.specs.declared.fault.JobFault.TheVariants as fault
 use Rattle.tt_strike.specs.Refusals.{job}
 use Rattle.tt_strike.specs.Strikes.{Strike}
 use Rattle.tt_render.specs.declared.setting.Setting.{Setting}
+use Rattle.tt_render.specs.declared.lines.LineReader.{LineReader}
 use Rattle.tt_render.specs.declared.text_answers.ReadyText.{ReadyText}
+use Rattle.tt_render.specs.declared.texts_fault.TextFault.{TextFault}
+use Rattle.tt_render.specs.declared.texts_fault.TextFault.TheVariants as text_of
 use Rattle.tt_render.specs.declared.texts_fault.TextsFault.{TextsFault}
 use Rattle.tt_render.specs.declared.texts_fault.TextStop.{TextStop}
 use Rattle.tt_render.specs.declared.texts_fault.TextStop.TheVariants as stop_of
 use Rattle.tt_render.specs.LineReading.{BeginsLong, LosesLine}
-use Rattle.tt_render.specs.Lines.{LinesDrawn, drawn_from, drawn_with, line_drawn, line_limit, lines_of}
-use Rattle.tt_render.specs.LinesOutcome.{BeginsRefused, Draws, DrawsLine, FailsByStop, IsCutAfter, LinesFail, SendsDrawn, SendsFirstLines, SendsSome, draws_by, refusal_of, texts_fault_of}
+use Rattle.tt_render.specs.Lines.{AreAffordable, LinesDrawn, cost_drawn, drawn_from, drawn_with, line_drawn, line_limit, lines_budget, lines_cost, lines_of}
+use Rattle.tt_render.specs.LinesOutcome.{Draws, FailsByStop, FindsLine, HasLine, IsCutAfter, IsNoRead, IsNotBegun, LinesFail, SendsBudget, SendsDrawn, SendsFirstLines, SendsSome, draws_by, refusal_of, texts_fault_of, told}
 use Rattle.tt_render.specs.Outcome.{Traffic}
 use Rattle.tt_render.specs.Printing.{Errors, Prints, PrintsBehind}
 use Rattle.tt_render.specs.Reports.{told_of}
@@ -68,16 +74,23 @@ pub kept_within : (r : Result ℕ TextsFault) (limit most : ℕ) → limit ≡ m
     → IfOk r (λ n. n ≤ most)
 kept_within r limit most same within = subst (λ (m : ℕ). IfOk r (λ n. n ≤ m)) same within
 
-pub next_drawn : (draw other : Draws) (r : ReadyText) (before after : Option (List ℕ)) → other ≡ draw
-    → DrawsLine other (Ok (Some r)) before after → DrawsLine draw (Ok (Some r)) before after
-next_drawn draw other r before after same next =
-    subst (λ (d : Draws). DrawsLine d (Ok (Some r)) before after) same next
+pub drawn_too : (draw other : Draws) (line : List ℕ) (r : Result TextAnswer TextRefusal) → other ≡ draw
+    → other line ≡ r → draw line ≡ r
+drawn_too draw other line r same is = subst (λ (d : Draws). d line ≡ r) same is
 
--- a text whose first line is too long begins with a refused line
-pub long_is_refused : (a : Setting) (s : Strike) (before : Option (List ℕ)) → IfSome before BeginsLong
-    → IfSome before (BeginsRefused (draws_by a s) (refused (job fault.TextLong)))
-long_is_refused a s None long = tt
-long_is_refused a s (Some text) long = (long.0, long.1, long.2, long_line a s long.0 long.3)
+-- a line that was found too long
+pub found_long : (before after : Option (List ℕ)) (line : List ℕ) → LosesLine before after line
+    → line_limit < length line → IfSome before BeginsLong
+found_long None after line loses long = tt
+found_long (Some text) None line loses long = absurd loses
+found_long (Some text) (Some rest) line loses long = (line, lines_of rest, loses, long)
+
+-- a line that was found, and is not too long
+pub found_line : (before after : Option (List ℕ)) (line : List ℕ) → LosesLine before after line
+    → length line ≤ line_limit → IfSome before (λ text. HasLine (lines_of text))
+found_line None after line loses short = tt
+found_line (Some text) None line loses short = absurd loses
+found_line (Some text) (Some rest) line loses short = rw loses short
 
 -- lines that are all drawn, and then others
 record AreJoined (first rest all : LinesDrawn) : Type 0 where
@@ -110,36 +123,85 @@ drawn_append n draw (line ∷ lines) rest none =
     rw same (after_drawn n (draw line) (drawn_from (n + 1) draw lines) (drawn_from (n + 1 + length lines) draw rest)
     (drawn_from (n + 1) draw (lines ++ rest)) none (λ all. drawn_append (n + 1) draw lines rest all))
 
--- lines without a refusal were written with their reports
-pub record AreSent (draw : Draws) (out_before out_after : Option (List ℕ)) (e : Errors) (lines : List (List ℕ)) : Type 0 where
+-- the cost of one line more
+none_plus : (n : ℕ) → 0 + n ≡ n
+none_plus n = omega arith
+
+cost_too : (draw : Draws) (first : List (List ℕ)) (line : List ℕ)
+    → lines_cost draw (first ++ (line ∷ [])) ≡ lines_cost draw first + cost_drawn (draw line)
+cost_too draw first line =
+    sum_by-append (λ (l : List ℕ). cost_drawn (draw l)) first (line ∷ [])
+    ∙ ap (λ (n : ℕ). lines_cost draw first + n) (none_plus (cost_drawn (draw line)))
+
+-- the budget serves for one line more
+affordable_too : (draw : Draws) (first : List (List ℕ)) (line : List ℕ) → AreAffordable draw first
+    → (length line ≤ line_limit → lines_cost draw first ≤ lines_budget (length first))
+    → AreAffordable draw (first ++ (line ∷ []))
+affordable_too draw first line before here i within short = serves (cases_lt i (length first))
+  where
+    serves : (i < length first) ⊎ (length first ≤ i)
+        → lines_cost draw (take i (first ++ (line ∷ []))) ≤ lines_budget i
+    serves (inl less) =
+        let same : get_or (first ++ (line ∷ [])) i [] ≡ get_or first i [] =
+        get_or_append_left first (line ∷ []) [] i less in
+        rw (take-append-le i first (line ∷ []) (omega (arith, less))) (before i less (rw same at short))
+    serves (inr more) =
+        let last : length first ≡ i = omega (arith, more, within, length-append first (line ∷ [])) in
+        let whole : take i (first ++ (line ∷ [])) ≡ first = take_at first (line ∷ []) i last in
+        let same : get_or (first ++ (line ∷ [])) i [] ≡ line = get_or_at first line [] [] i last in
+        let enough = here (rw same at short) in
+        rw whole (subst (λ (n : ℕ). lines_cost draw first ≤ lines_budget n) last enough)
+
+-- the lines up to the next one
+up_to_next : (all first rest : List (List ℕ)) (line : List ℕ) (number : ℕ) → all ≡ first ++ (line ∷ rest)
+    → length first ≡ number → take (number + 1) all ≡ first ++ (line ∷ [])
+up_to_next all first rest line number is counted =
+    ap (take (number + 1)) (is ∙ sym (append_assoc first (line ∷ []) rest))
+    ∙ take_at (first ++ (line ∷ [])) rest (number + 1) (omega (arith, length-append first (line ∷ []), counted))
+
+-- lines without a refusal, which took this much of the budget, were written with their reports
+pub record AreSent (draw : Draws) (out_before out_after : Option (List ℕ)) (e : Errors) (lines : List (List ℕ)) (used : ℕ)
+    : Type 0 where
   pub stop : (drawn_from 1 draw lines).stop ≡ None
+  pub affordable : AreAffordable draw lines
+  pub cost : lines_cost draw lines ≡ used
   pub bytes : Appends out_before out_after (drawn_from 1 draw lines).bytes
   pub told : Prints e (drawn_from 1 draw lines).told
 
--- the lines of a text so far, where it is known: this many were written, and these remain
-abbrev pub SoFar : Draws → Option (List ℕ) → Option (List ℕ) → Option (List ℕ) → Option (List ℕ) → Errors → ℕ → Type 0
-SoFar draw None left out_before out_after e number = Unit {0}
-SoFar draw (Some text) None out_before out_after e number = ⊥
-SoFar draw (Some text) (Some rest) out_before out_after e number =
+-- the lines of a text so far, where it is known: this many were written, took this much of the budget, and these remain
+abbrev pub SoFar : Draws → Option (List ℕ) → Option (List ℕ) → Option (List ℕ) → Option (List ℕ) → Errors → ℕ → ℕ
+    → Type 0
+SoFar draw None left out_before out_after e number used = Unit {0}
+SoFar draw (Some text) None out_before out_after e number used = ⊥
+SoFar draw (Some text) (Some rest) out_before out_after e number used =
     (first : List (List ℕ)) × (lines_of text ≡ first ++ lines_of rest) × (length first ≡ number)
-    × AreSent draw out_before out_after e first
+    × AreSent draw out_before out_after e first used
+
+-- no line is dear
+none_dear : (draw : Draws) → AreAffordable draw []
+none_dear draw i less short = absurd (omega (arith, less))
 
 pub none_so_far : (draw : Draws) (text left out error : Option (List ℕ)) (failed : Bool) → Keeps text left
-    → failed ≡ false → SoFar draw text left out out (record { before = error; after = error; failed = failed }) 0
+    → failed ≡ false → SoFar draw text left out out (record { before = error; after = error; failed = failed }) 0 0
 none_so_far draw None left out error failed kept serves = tt
 none_so_far draw (Some text) None out error failed kept serves = absurd kept
 none_so_far draw (Some text) (Some rest) out error failed kept serves =
-    let sent : AreSent draw out out (record { before = error; after = error; failed = failed }) [] =
-    record { stop = refl; bytes = appends_nothing out; told = nothing_printed error failed serves } in
+    let sent : AreSent draw out out (record { before = error; after = error; failed = failed }) [] 0 = record {
+      stop = refl;
+      affordable = none_dear draw;
+      cost = refl;
+      bytes = appends_nothing out;
+      told = nothing_printed error failed serves;
+    } in
     ([], ap lines_of (sym kept), refl, sent)
 
 -- a line after others that were written
 sent_too : (draw : Draws) (a b c x y z : Option (List ℕ)) (failed now : Bool) (first : List (List ℕ)) (line : List ℕ)
-    (answer : TextAnswer) → AreSent draw a b (record { before = x; after = y; failed = failed }) first
-    → draw line ≡ Ok answer → Appends b c answer.bytes
+    (answer : TextAnswer) (used : ℕ) → AreSent draw a b (record { before = x; after = y; failed = failed }) first used
+    → used ≤ lines_budget (length first) → draw line ≡ Ok answer → Appends b c answer.bytes
     → PrintsBehind failed (record { before = y; after = z; failed = now }) (told_of (Some (length first + 1)) answer)
-    → AreSent draw a c (record { before = x; after = z; failed = now }) (first ++ (line ∷ []))
-sent_too draw a b c x y z failed now first line answer sent is out printed =
+    → AreSent draw a c (record { before = x; after = z; failed = now }) (first ++ (line ∷ [])) (used + answer.cost)
+sent_too draw a b c x y z failed now first line answer used sent enough is out printed =
     let joined = drawn_append 1 draw first (line ∷ []) sent.stop in
     let number : 1 + length first ≡ length first + 1 = omega arith in
     let stop : (drawn_from (1 + length first) draw (line ∷ [])).stop ≡ None = rw is refl in
@@ -148,8 +210,11 @@ sent_too draw a b c x y z failed now first line answer sent is out printed =
     let told : (drawn_from (1 + length first) draw (line ∷ [])).told ≡ told_of (Some (length first + 1)) answer =
     rw (is, number) (append-nil (told_of (Some (length first + 1)) answer)) in
     let before = drawn_from 1 draw first in
+    let taken : cost_drawn (draw line) ≡ answer.cost = ap cost_drawn is in
     record {
       stop = joined.stop ∙ stop;
+      affordable = affordable_too draw first line sent.affordable (λ short. omega (arith, sent.cost, enough));
+      cost = omega (arith, cost_too draw first line, sent.cost, taken);
       bytes = rw (joined.bytes, bytes) (appends_more a b c before.bytes answer.bytes (before.bytes ++ answer.bytes)
           sent.bytes out refl);
       told = rw (joined.told, told) (printed_behind failed now x y z before.told
@@ -158,17 +223,20 @@ sent_too draw a b c x y z failed now first line answer sent is out printed =
 
 -- the next line is drawn too
 pub one_more : (draw : Draws) (text left after a b c x y z : Option (List ℕ)) (failed now : Bool) (number : ℕ)
-    (line : List ℕ) (answer : TextAnswer)
-    → SoFar draw text left a b (record { before = x; after = y; failed = failed }) number → LosesLine left after line
-    → draw line ≡ Ok answer → Appends b c answer.bytes
+    (line : List ℕ) (answer : TextAnswer) (used : ℕ)
+    → SoFar draw text left a b (record { before = x; after = y; failed = failed }) number used
+    → LosesLine left after line → used ≤ lines_budget number → draw line ≡ Ok answer → Appends b c answer.bytes
     → PrintsBehind failed (record { before = y; after = z; failed = now }) (told_of (Some (number + 1)) answer)
-    → SoFar draw text after a c (record { before = x; after = z; failed = now }) (number + 1)
-one_more draw None left after a b c x y z failed now number line answer so_far loses is out printed = tt
-one_more draw (Some text) None after a b c x y z failed now number line answer so_far loses is out printed =
+    → SoFar draw text after a c (record { before = x; after = z; failed = now }) (number + 1) (used + answer.cost)
+one_more draw None left after a b c x y z failed now number line answer used so_far loses enough is out printed = tt
+one_more draw (Some text) None after a b c x y z failed now number line answer used so_far loses enough is out printed =
     absurd so_far
-one_more draw (Some text) (Some rest) None a b c x y z failed now number line answer so_far loses is out printed =
+one_more draw (Some text) (Some rest) None a b c x y z failed now number line answer used so_far loses enough is out
+    printed =
     absurd loses
-one_more draw (Some text) (Some rest) (Some left) a b c x y z failed now number line answer so_far loses is out printed =
+one_more draw (Some text) (Some rest) (Some left) a b c x y z failed now number line answer used so_far loses enough is
+    out printed =
+    let few : used ≤ lines_budget (length so_far.0) = omega (arith, so_far.2, enough) in
     let first = so_far.0 in
     let joined : lines_of text ≡ (first ++ (line ∷ [])) ++ lines_of left =
     so_far.1 ∙ ap (λ ls. first ++ ls) loses ∙ sym (append_assoc first (line ∷ []) (lines_of left)) in
@@ -177,31 +245,35 @@ one_more draw (Some text) (Some rest) (Some left) a b c x y z failed now number 
       first ++ (line ∷ []),
       joined,
       omega (arith, length-append first (line ∷ []), so_far.2),
-      sent_too draw a b c x y z failed now first line answer so_far.3 is out behind,
+      sent_too draw a b c x y z failed now first line answer used so_far.3 few is out behind,
     )
 
 -- no line remains
-pub all_drawn : (draw : Draws) (left : Option (List ℕ)) (t : Traffic) (e : Errors) (number : ℕ)
-    → SoFar draw t.left_before left t.out_before t.out_after e number → IfSome left (λ rest. lines_of rest ≡ [])
-    → IfSome t.left_before (SendsDrawn draw t e None)
-all_drawn draw left t e number so_far none = all t.left_before left so_far none
+pub all_drawn : (draw : Draws) (left : Option (List ℕ)) (t : Traffic) (e : Errors) (number used : ℕ)
+    → SoFar draw t.left_before left t.out_before t.out_after e number used
+    → IfSome left (λ rest. lines_of rest ≡ []) → IfSome t.left_before (SendsDrawn draw t e None)
+all_drawn draw left t e number used so_far none = all t.left_before left so_far none
   where
-    all : (text left : Option (List ℕ)) → SoFar draw text left t.out_before t.out_after e number
+    all : (text left : Option (List ℕ)) → SoFar draw text left t.out_before t.out_after e number used
         → IfSome left (λ rest. lines_of rest ≡ []) → IfSome text (SendsDrawn draw t e None)
     all None left so_far none = tt
     all (Some text) None so_far none = absurd so_far
     all (Some text) (Some rest) so_far none =
         let whole : lines_of text ≡ so_far.0 = so_far.1 ∙ ap (λ ls. so_far.0 ++ ls) none ∙ append-nil so_far.0 in
         let sent = so_far.3 in
-        (rw whole sent.stop, rw whole sent.bytes, rw whole sent.told)
+        (rw whole sent.stop, rw whole sent.affordable, rw whole sent.bytes, rw whole sent.told)
+
+-- the first line of a text is refused, and the budget serves for it, or it is too long
+abbrev BeginsRefused : Draws → ℕ → ℕ → TextRefusal → List ℕ → Type 0
+BeginsRefused draw number used why text =
+    (line : List ℕ) × (rest : List (List ℕ)) × (lines_of text ≡ line ∷ rest) × (draw line ≡ Err why)
+    × (length line ≤ line_limit → used ≤ lines_budget number)
 
 -- the next line is refused
-next_refused : (draw : Draws) (text left : Option (List ℕ)) (t : Traffic) (e : Errors) (number : ℕ) (why : TextRefusal)
-    → SoFar draw text left t.out_before t.out_after e number → IfSome left (BeginsRefused draw why)
-    → IfSome text (SendsDrawn draw t e (Some (number + 1, why)))
-next_refused draw None left t e number why so_far begins = tt
-next_refused draw (Some text) None t e number why so_far begins = absurd so_far
-next_refused draw (Some text) (Some rest) t e number why so_far begins =
+next_refused : (draw : Draws) (text rest : List ℕ) (t : Traffic) (e : Errors) (number used : ℕ) (why : TextRefusal)
+    → SoFar draw (Some text) (Some rest) t.out_before t.out_after e number used
+    → BeginsRefused draw number used why rest → SendsDrawn draw t e (Some (number + 1, why)) text
+next_refused draw text rest t e number used why so_far begins =
     let first = so_far.0 in
     let sent = so_far.3 in
     let is = begins.3 in
@@ -216,27 +288,34 @@ next_refused draw (Some text) (Some rest) t e number why so_far begins =
     rw (joined.bytes, bytes) (append-nil (drawn_from 1 draw first).bytes) in
     let reports : (drawn_from 1 draw (first ++ others)).told ≡ (drawn_from 1 draw first).told =
     rw (joined.told, told) (append-nil (drawn_from 1 draw first).told) in
-    (rw parts (joined.stop ∙ stop), rw (parts, out) sent.bytes, rw (parts, reports) sent.told)
+    let serves = affordable_too draw first begins.0 sent.affordable
+    (λ short. omega (arith, so_far.2, sent.cost, begins.4 short)) in
+    let up_to = up_to_next (lines_of text) first begins.1 begins.0 number parts so_far.2 in (
+      rw parts (joined.stop ∙ stop),
+      rw up_to serves,
+      rw (parts, out) sent.bytes,
+      rw (parts, reports) sent.told,
+    )
 
 -- the output of the lines so far was written, and then more
-first_sent : (draw : Draws) (text left b : Option (List ℕ)) (t : Traffic) (e : Errors) (number : ℕ) (more : List ℕ)
-    (P : List (List ℕ) → Type 0) → SoFar draw text left t.out_before b e number → Appends b t.out_after more
+first_sent : (draw : Draws) (text left b : Option (List ℕ)) (t : Traffic) (e : Errors) (number used : ℕ) (more : List ℕ)
+    (P : List (List ℕ) → Type 0) → SoFar draw text left t.out_before b e number used → Appends b t.out_after more
     → IfSome left (λ rest. P (lines_of rest)) → IfSome text (SendsFirstLines draw t e number more P)
-first_sent draw None left b t e number more P so_far out holds = tt
-first_sent draw (Some text) None b t e number more P so_far out holds = absurd so_far
-first_sent draw (Some text) (Some rest) b t e number more P so_far out holds =
+first_sent draw None left b t e number used more P so_far out holds = tt
+first_sent draw (Some text) None b t e number used more P so_far out holds = absurd so_far
+first_sent draw (Some text) (Some rest) b t e number used more P so_far out holds =
     let first = so_far.0 in
     let sent = so_far.3 in
     let bytes = (drawn_from 1 draw first).bytes in
     let all = appends_more t.out_before b t.out_after bytes more (bytes ++ more) sent.bytes out refl in
-    (first, lines_of rest, so_far.1, so_far.2, (sent.stop, all, sent.told), holds)
+    (first, lines_of rest, so_far.1, so_far.2, (sent.stop, sent.affordable, all, sent.told), holds)
 
 -- the output of this many lines was written
-pub many_sent : (draw : Draws) (left : Option (List ℕ)) (t : Traffic) (e : Errors) (number many : ℕ) → number ≡ many
-    → SoFar draw t.left_before left t.out_before t.out_after e number
+pub many_sent : (draw : Draws) (left : Option (List ℕ)) (t : Traffic) (e : Errors) (number many used : ℕ)
+    → number ≡ many → SoFar draw t.left_before left t.out_before t.out_after e number used
     → IfSome t.left_before (SendsFirstLines draw t e many [] (λ rest. Unit {0}))
-many_sent draw left t e number many is so_far = rw (← is)
-    (first_sent draw t.left_before left t.out_after t e number [] (λ rest. Unit {0}) so_far
+many_sent draw left t e number many used is so_far = rw (← is)
+    (first_sent draw t.left_before left t.out_after t e number used [] (λ rest. Unit {0}) so_far
     (appends_nothing t.out_after) (always left))
   where
     always : (left : Option (List ℕ)) → IfSome left (λ rest. Unit {0})
@@ -244,61 +323,144 @@ many_sent draw left t e number many is so_far = rw (← is)
     always (Some rest) = tt
 
 -- the output of some lines was written
-pub some_sent : (draw : Draws) (left : Option (List ℕ)) (t : Traffic) (e : Errors) (number : ℕ)
-    → SoFar draw t.left_before left t.out_before t.out_after e number → IfSome t.left_before (SendsSome draw t e)
-some_sent draw left t e number so_far = some t.left_before (many_sent draw left t e number number refl so_far)
+pub some_sent : (draw : Draws) (left : Option (List ℕ)) (t : Traffic) (e : Errors) (number used : ℕ)
+    → SoFar draw t.left_before left t.out_before t.out_after e number used → IfSome t.left_before (SendsSome draw t e)
+some_sent draw left t e number used so_far =
+    some t.left_before (many_sent draw left t e number number used refl so_far)
   where
     some : (text : Option (List ℕ)) → IfSome text (SendsFirstLines draw t e number [] (λ rest. Unit {0}))
         → IfSome text (SendsSome draw t e)
     some None sends = tt
     some (Some text) sends = (number, sends)
 
+-- the budget serves for the lines up to the next one
+up_to_affordable : (draw : Draws) (text left b after : Option (List ℕ)) (t : Traffic) (e : Errors) (number used : ℕ)
+    (line : List ℕ) → SoFar draw text left t.out_before b e number used → LosesLine left after line
+    → used ≤ lines_budget number → IfSome text (λ all. AreAffordable draw (take (number + 1) (lines_of all)))
+up_to_affordable draw None left b after t e number used line so_far loses enough = tt
+up_to_affordable draw (Some text) None b after t e number used line so_far loses enough = absurd so_far
+up_to_affordable draw (Some text) (Some rest) b None t e number used line so_far loses enough = absurd loses
+up_to_affordable draw (Some text) (Some rest) b (Some left) t e number used line so_far loses enough =
+    let first = so_far.0 in
+    let parts : lines_of text ≡ first ++ (line ∷ lines_of left) = so_far.1 ∙ ap (λ ls. first ++ ls) loses in
+    rw (up_to_next (lines_of text) first (lines_of left) line number parts so_far.2)
+    (affordable_too draw first line so_far.3.affordable
+    (λ short. omega (arith, so_far.2, so_far.3.cost, enough)))
+
 -- then a front of the next line's output was written
-pub cut_sent : (draw : Draws) (left after b : Option (List ℕ)) (t : Traffic) (e : Errors) (number sent : ℕ)
-    (line : List ℕ) (answer : TextAnswer) → SoFar draw t.left_before left t.out_before b e number
-    → LosesLine left after line → draw line ≡ Ok answer → sent < length answer.bytes
+pub cut_sent : (draw : Draws) (left after b : Option (List ℕ)) (t : Traffic) (e : Errors) (number used sent : ℕ)
+    (line : List ℕ) (answer : TextAnswer) → SoFar draw t.left_before left t.out_before b e number used
+    → LosesLine left after line → used ≤ lines_budget number → draw line ≡ Ok answer → sent < length answer.bytes
     → Appends b t.out_after (take sent answer.bytes)
     → IfSome t.left_before (λ all. (before : ℕ) × (part : List ℕ) × (before + 1 ≡ number + 1)
-    × SendsFirstLines draw t e before part (IsCutAfter draw sent part) all)
-cut_sent draw left after b t e number sent line answer so_far loses is few out =
+    × SendsFirstLines draw t e before part (IsCutAfter draw sent part) all
+    × AreAffordable draw (take (number + 1) (lines_of all)))
+cut_sent draw left after b t e number used sent line answer so_far loses enough is few out =
     let part = take sent answer.bytes in
-    with_part t.left_before (first_sent draw t.left_before left b t e number part (IsCutAfter draw sent part) so_far out
-    (cut left after loses so_far))
+    with_part t.left_before (first_sent draw t.left_before left b t e number used part (IsCutAfter draw sent part) so_far
+    out (cut left after loses)) (up_to_affordable draw t.left_before left b after t e number used line so_far loses enough)
   where
     with_part : (text : Option (List ℕ))
         → IfSome text (SendsFirstLines draw t e number (take sent answer.bytes)
         (IsCutAfter draw sent (take sent answer.bytes)))
+        → IfSome text (λ all. AreAffordable draw (take (number + 1) (lines_of all)))
         → IfSome text (λ all. (before : ℕ) × (part : List ℕ) × (before + 1 ≡ number + 1)
-        × SendsFirstLines draw t e before part (IsCutAfter draw sent part) all)
-    with_part None sends = tt
-    with_part (Some text) sends = (number, take sent answer.bytes, refl, sends)
+        × SendsFirstLines draw t e before part (IsCutAfter draw sent part) all
+        × AreAffordable draw (take (number + 1) (lines_of all)))
+    with_part None sends serves = tt
+    with_part (Some text) sends serves = (number, take sent answer.bytes, refl, sends, serves)
 
     cut : (left after : Option (List ℕ)) → LosesLine left after line
-        → SoFar draw t.left_before left t.out_before b e number
         → IfSome left (λ rest. IsCutAfter draw sent (take sent answer.bytes) (lines_of rest))
-    cut None after loses so_far = tt
-    cut (Some rest) None loses so_far = absurd loses
-    cut (Some rest) (Some left) loses so_far = rw loses (answer, is, few, refl)
+    cut None after loses = tt
+    cut (Some rest) None loses = absurd loses
+    cut (Some rest) (Some left) loses = rw loses (answer, is, few, refl)
 
--- a stop in a line stops the call
-stops : (draw : Draws) (fault : TextStop) (left after : Option (List ℕ)) (t : Traffic) (e : Errors) (number : ℕ)
-    → SoFar draw t.left_before left t.out_before t.out_after e number → DrawsLine draw (Err fault) left after
-    → FailsByStop t.read_failed (Err fault) → t.write_failed ≡ false
-    → LinesFail draw (texts_fault_of (Some (number + 1)) fault) t e
-stops draw (stop_of.Refused f) left after t e number so_far outcome reads writes =
-    (next_refused draw t.left_before left t e number (refusal_of f) so_far outcome, reads, writes)
-stops draw stop_of.Read left after t e number so_far outcome reads writes =
-    (some_sent draw left t e number so_far, reads, writes)
-stops draw stop_of.Memory left after t e number so_far outcome reads writes =
-    (some_sent draw left t e number so_far, reads, writes)
+-- the lines so far took more than the budget, and a line follows
+budget_sent : (draw : Draws) (text rest : List ℕ) (t : Traffic) (e : Errors) (number used : ℕ)
+    → SoFar draw (Some text) (Some rest) t.out_before t.out_after e number used → lines_budget number < used
+    → HasLine (lines_of rest) → SendsBudget draw t e (number + 1) text
+budget_sent draw text rest t e number used so_far spent has =
+    let first = so_far.0 in
+    let sent = so_far.3 in
+    let front : take number (lines_of text) ≡ first =
+    ap (take number) so_far.1 ∙ take_at first (lines_of rest) number so_far.2 in
+    let dear : lines_budget number < lines_cost draw first = omega (arith, spent, sent.cost) in
+    let sends = first_sent draw (Some text) (Some rest) t.out_after t e number used [] HasLine so_far
+    (appends_nothing t.out_after) has in
+    (number, refl, sends, rw front dear)
 
-pub stopped : (draw other : Draws) (fault : TextStop) (left after : Option (List ℕ)) (t : Traffic) (e : Errors)
-    (number : ℕ) → other ≡ draw → SoFar draw t.left_before left t.out_before t.out_after e number
-    → DrawsLine other (Err fault) left after → FailsByStop t.read_failed (Err fault) → t.write_failed ≡ false
-    → LinesFail draw (texts_fault_of (Some (number + 1)) fault) t e
-stopped draw other fault left after t e number same so_far outcome reads writes =
-    stops draw fault left after t e number so_far
-    (subst (λ (d : Draws). DrawsLine d (Err fault) left after) same outcome) reads writes
+-- the fault of a line that was not drawn
+abbrev IsLineFault : Draws → Traffic → Errors → ℕ → TextFault → List ℕ → Type 0
+IsLineFault draw t e number f text =
+    SendsDrawn draw t e (Some (number, refusal_of f)) text
+    ⊎ ((f ≡ text_of.Job fault.WorkLarge) × SendsBudget draw t e number text)
+
+-- the next line is not begun
+not_begun : (draw : Draws)
+    → ((line : List ℕ) → line_limit < length line → draw line ≡ Err (refused (job fault.TextLong)))
+    → (text left : Option (List ℕ)) (t : Traffic) (e : Errors) (number used : ℕ) (f : TextFault)
+    → SoFar draw text left t.out_before t.out_after e number used → IsNotBegun number used f left
+    → IfSome text (IsLineFault draw t e (number + 1) f)
+not_begun draw long None left t e number used f so_far begun = tt
+not_begun draw long (Some text) None t e number used f so_far begun = absurd so_far
+not_begun draw long (Some text) (Some rest) t e number used f so_far (inl (is, begins)) =
+    let line = begins.0 in
+    let refuses : draw line ≡ Err (refusal_of f) = rw is (long line begins.3) in
+    let never : length line ≤ line_limit → used ≤ lines_budget number =
+    λ short. absurd (omega (arith, short, begins.3)) in
+    inl (next_refused draw text rest t e number used (refusal_of f) so_far
+    (line, begins.1, begins.2, refuses, never))
+not_begun draw long (Some text) (Some rest) t e number used f so_far (inr (is, spent, has)) =
+    inr (is, budget_sent draw text rest t e number used so_far spent has)
+
+-- so the call stops
+pub stopped_before : (a : Setting) (s : Strike) (r : LineReader) (fault : TextStop) (left after : Option (List ℕ))
+    (t : Traffic) (e : Errors) (number used : ℕ)
+    → SoFar (draws_by a s) t.left_before left t.out_before t.out_after e number used
+    → FindsLine r number used (Err fault) left after → FailsByStop t.read_failed (Err fault)
+    → t.write_failed ≡ false → LinesFail (draws_by a s) (texts_fault_of (Some (number + 1)) fault) t e
+stopped_before a s r (stop_of.Refused f) left after t e number used so_far begun reads writes = (
+  not_begun (draws_by a s) (long_line a s) t.left_before left t e number used f so_far begun,
+  reads,
+  writes,
+)
+stopped_before a s r stop_of.Read left after t e number used so_far begun reads writes =
+    (some_sent (draws_by a s) left t e number used so_far, reads, writes)
+stopped_before a s r stop_of.Memory left after t e number used so_far begun reads writes = absurd begun
+
+-- the next line is refused when it is drawn
+line_refused : (draw : Draws) (text left after : Option (List ℕ)) (t : Traffic) (e : Errors) (number used : ℕ)
+    (line : List ℕ) (f : TextFault) → SoFar draw text left t.out_before t.out_after e number used
+    → LosesLine left after line → used ≤ lines_budget number → draw line ≡ Err (refusal_of f)
+    → IfSome text (IsLineFault draw t e (number + 1) f)
+line_refused draw None left after t e number used line f so_far loses enough is = tt
+line_refused draw (Some text) None after t e number used line f so_far loses enough is = absurd so_far
+line_refused draw (Some text) (Some rest) None t e number used line f so_far loses enough is = absurd loses
+line_refused draw (Some text) (Some rest) (Some left) t e number used line f so_far loses enough is =
+    inl (next_refused draw text rest t e number used (refusal_of f) so_far
+    (line, lines_of left, loses, is, λ short. enough))
+
+-- so the call stops
+stops : (draw : Draws) (why : TextStop) (left after : Option (List ℕ)) (t : Traffic) (e : Errors)
+    (number used : ℕ) (line : List ℕ) → SoFar draw t.left_before left t.out_before t.out_after e number used
+    → LosesLine left after line → used ≤ lines_budget number → IfSome (told why) (λ r. draw line ≡ Err r)
+    → IsNoRead {V = ReadyText} (Err why) → t.read_failed ≡ false → t.write_failed ≡ false
+    → LinesFail draw (texts_fault_of (Some (number + 1)) why) t e
+stops draw (stop_of.Refused f) left after t e number used line so_far loses enough is serves reads writes =
+    (line_refused draw t.left_before left after t e number used line f so_far loses enough is, reads, writes)
+stops draw stop_of.Read left after t e number used line so_far loses enough is serves reads writes = absurd serves
+stops draw stop_of.Memory left after t e number used line so_far loses enough is serves reads writes =
+    (some_sent draw left t e number used so_far, reads, writes)
+
+pub stopped_in : (draw other : Draws) (why : TextStop) (left after : Option (List ℕ)) (t : Traffic) (e : Errors)
+    (number used : ℕ) (line : List ℕ) → other ≡ draw
+    → SoFar draw t.left_before left t.out_before t.out_after e number used → LosesLine left after line
+    → used ≤ lines_budget number → IfSome (told why) (λ r. other line ≡ Err r) → IsNoRead {V = ReadyText} (Err why)
+    → t.read_failed ≡ false → t.write_failed ≡ false → LinesFail draw (texts_fault_of (Some (number + 1)) why) t e
+stopped_in draw other why left after t e number used line same so_far loses enough is =
+    stops draw why left after t e number used line so_far loses enough
+    (subst (λ (d : Draws). IfSome (told why) (λ r. d line ≡ Err r)) same is)
 
 -- the reader is at its end where nothing of its text remains
 pub reader_at_end : (held : List ℕ) (left : Option (List ℕ)) → IsAtEnd (prepend_known held left) → IsAtEnd left

@@ -8,6 +8,7 @@ use Rattle.tt_core.specs.Limits.{font_limit}
 use Rattle.tt_core.specs.Outcomes.{◌>>=◌}
 use Rattle.tt_fit.specs.Fitting.{Fitter}
 use Rattle.tt_line.specs.Layout.{Placement, placement}
+use Rattle.tt_strike.specs.Costs.{cost_by, line_cost}
 use Rattle.tt_strike.specs.declared.report.Unfitted.{Unfitted}
 use Rattle.tt_strike.specs.Distinct.{distinct, line_fitter}
 use Rattle.tt_strike.specs.Job.{Job, tested}
@@ -46,27 +47,51 @@ has_report face a bytes was =
     by_tests.rest in
     let by_setting = came-through (as_font (setting_in face a)) _ bytes by_line.rest in
     let by_shapes = came-through (line_shapes by_setting.value a by_line.value) _ bytes by_setting.rest in
-    let numbers = map (λ (g : ℕ × ℕ). g.0) by_line.value.glyphs in
-    (
+    let numbers = map (λ (g : ℕ × ℕ). g.0) by_line.value.glyphs in (
       unfitted_among (line_fitter by_setting.value numbers) (distinct numbers),
       report_is face a by_line.value by_setting.value by_shapes.value by_line.first by_setting.first by_shapes.first,
     )
 
--- the bytes of an answer by its parts, where a picture has a report
-drawn_unless : (bytes : List ℕ) (entries : List Unfitted) (lacking : Result (List ℕ) TextRefusal)
-    → bytes_of (answer_of (Ok bytes) (Ok entries) lacking) ≡ (lacking >>= λ cs. Ok bytes)
-drawn_unless bytes entries (Ok cs) = refl
-drawn_unless bytes entries (Err why) = refl
+-- a text with a picture has a cost
+goes_on : {X : Type 0} (r : Result X Refused) (x : X) (f : X → Result ℕ Refused) → r ≡ Ok x
+    → (n : ℕ) × (f x ≡ Ok n) → (n : ℕ) × ((r >>= f) ≡ Ok n)
+goes_on r x f is (n, last) = (n, rw is last)
+
+cost_is : (face : Face) (a : Job) (line : Placement) (s : Fitter) (shapes : List Shape)
+    → as_job (placement face.metrics face.cmap a.text a.ppem a.margin) ≡ Ok line
+    → as_font (setting_in face a) ≡ Ok s → line_shapes s a line ≡ Ok shapes → (n : ℕ) × (cost_by face a ≡ Ok n)
+unfolding cost_by line_cost
+cost_is face a line s shapes laid made drawn = goes_on _ line _ laid (goes_on _ s _ made (goes_on _ shapes _ drawn (_, refl)))
+
+has_cost : (face : Face) (a : Job) (bytes : List ℕ) → line_outcome face a ≡ Ok bytes
+    → (n : ℕ) × (cost_by face a ≡ Ok n)
+unfolding line_outcome pictured_by drawn
+has_cost face a bytes was =
+    let by_tests = came-through (as_job (tested a)) _ bytes was in
+    let by_line = came-through (as_job (placement face.metrics face.cmap a.text a.ppem a.margin)) _ bytes
+    by_tests.rest in
+    let by_setting = came-through (as_font (setting_in face a)) _ bytes by_line.rest in
+    let by_shapes = came-through (line_shapes by_setting.value a by_line.value) _ bytes by_setting.rest in
+    cost_is face a by_line.value by_setting.value by_shapes.value by_line.first by_setting.first by_shapes.first
+
+-- the bytes of an answer by its parts, where a picture has a report and a cost
+drawn_unless : (bytes : List ℕ) (entries : List Unfitted) (lacking : Result (List ℕ) TextRefusal) (cost : ℕ)
+    → bytes_of (answer_of (Ok bytes) (Ok entries) lacking (Ok cost)) ≡ (lacking >>= λ cs. Ok bytes)
+drawn_unless bytes entries (Ok cs) cost = refl
+drawn_unless bytes entries (Err why) cost = refl
 
 bytes_by_parts : (picture : Result (List ℕ) Refused) (report : Result (List Unfitted) Refused)
-    (lacking : Result (List ℕ) TextRefusal)
+    (lacking : Result (List ℕ) TextRefusal) (taken : Result ℕ Refused)
     → ((bytes : List ℕ) → picture ≡ Ok bytes → (entries : List Unfitted) × (report ≡ Ok entries))
-    → bytes_of (answer_of picture report lacking) ≡ (as_text picture >>= λ bytes. lacking >>= λ cs. Ok bytes)
-bytes_by_parts (Ok bytes) report lacking reported =
+    → ((bytes : List ℕ) → picture ≡ Ok bytes → (n : ℕ) × (taken ≡ Ok n))
+    → bytes_of (answer_of picture report lacking taken) ≡ (as_text picture >>= λ bytes. lacking >>= λ cs. Ok bytes)
+bytes_by_parts (Ok bytes) report lacking taken reported costed =
     let there = reported bytes refl in
-    ap (λ (r : Result (List Unfitted) Refused). bytes_of (answer_of (Ok bytes) r lacking)) there.1
-    ∙ drawn_unless bytes there.0 lacking
-bytes_by_parts (Err why) report lacking reported = refl
+    let cost = costed bytes refl in
+    ap (λ (r : Result (List Unfitted) Refused). bytes_of (answer_of (Ok bytes) r lacking taken)) there.1
+    ∙ ap (λ (r : Result ℕ Refused). bytes_of (answer_of (Ok bytes) (Ok there.0) lacking r)) cost.1
+    ∙ drawn_unless bytes there.0 lacking cost.0
+bytes_by_parts (Err why) report lacking taken reported costed = refl
 
 ok_same : {X E : Type 0} (x y : X) → ◌≡◌ {A = Result X E} (Ok x) (Ok y) → x ≡ y
 ok_same x y is = cc
@@ -102,8 +127,10 @@ texts_are_runs a file text s is opened =
     let picture = picture_of s a.product a.margin text is ∙ is_run a file text s opened in
     let report = report_by s.face (job_of s text a.margin) in
     let lacking = missing_tested s.face.cmap a.missing text in
-    bytes_by_parts (product_of s a.product a.margin text) report lacking
+    bytes_by_parts (product_of s a.product a.margin text) report lacking (cost_by s.face (job_of s text a.margin))
     (λ bytes was. has_report s.face (job_of s text a.margin) bytes
+    (sym (picture_of s a.product a.margin text is) ∙ was))
+    (λ bytes was. has_cost s.face (job_of s text a.margin) bytes
     (sym (picture_of s a.product a.margin text is) ∙ was))
     ∙ ap (λ (r : Result (List ℕ) Refused). as_text r >>= λ bytes. lacking >>= λ cs. Ok bytes) picture
 

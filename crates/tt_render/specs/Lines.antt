@@ -1,5 +1,6 @@
 -- No part of the standard: the lines of a text, and their drawing in order (profile).
-use Rattle.std.specs.Prelude.{◌≡◌, refl, ℕ, ◌+◌, ◌==◌, nat_lt, if◌then◌else◌, List, [], ◌∷◌, ◌++◌, length, codes, Option, Some, None, Result, Ok, Err}
+use Rattle.std.specs.Prelude.{◌≡◌, refl, ℕ, ◌+◌, ◌*◌, ◌<◌, ◌≤◌, ◌==◌, nat_lt, if◌then◌else◌, List, [], ◌∷◌, ◌++◌, length, take, get_or, codes, Option, Some, None, Result, Ok, Err}
+use Rattle.std.specs.List.{sum_by}
 use Rattle.std.specs.Io.BufRead.{strip_last}
 use Rattle.std.specs.Fmt.{digits}
 use Rattle.std.specs.Str.{is_utf8}
@@ -74,6 +75,24 @@ drawn_from number draw (line ∷ lines) = drawn_with number (draw line) (drawn_f
 abbrev pub text_drawn : (List ℕ → Result TextAnswer TextRefusal) → List ℕ → LinesDrawn
 text_drawn draw text = drawn_from 1 draw (lines_of text)
 
+-- what the lines of a call may take before one more is drawn, by how many they are
+abbrev pub lines_budget : ℕ → ℕ
+lines_budget before = 20000000 + 8000000 * before
+
+-- what a line takes of this budget; a refused line takes nothing
+abbrev pub cost_drawn : Result TextAnswer TextRefusal → ℕ
+cost_drawn (Ok a) = a.cost
+cost_drawn (Err why) = 0
+
+-- what some lines take together
+abbrev pub lines_cost : (List ℕ → Result TextAnswer TextRefusal) → List (List ℕ) → ℕ
+lines_cost draw lines = sum_by (λ line. cost_drawn (draw line)) lines
+
+-- before each of these lines that is not too long, the lines before it took no more than the budget
+abbrev pub AreAffordable : (List ℕ → Result TextAnswer TextRefusal) → List (List ℕ) → Type 0
+AreAffordable draw lines = (i : ℕ) → i < length lines → length (get_or lines i []) ≤ line_limit
+    → lines_cost draw (take i lines) ≤ lines_budget i
+
 -- worked values
 no_lines : lines_of [] ≡ []
 unfolding lines_of
@@ -93,7 +112,7 @@ a_return_before_the_feed = refl
 
 -- of these lines the first two are drawn: a letter A is reported, and two letters are refused
 as_many_as_are_drawn : drawn_from 1 (λ line. if nat_lt 1 (length line) then Err not_utf8
-    else Ok (record { bytes = line; unfitted = []; lacking = line }))
+    else Ok (record { bytes = line; unfitted = []; lacking = line; cost = 7 }))
     (codes "A" ∷ (codes "B" ∷ (codes "CD" ∷ (codes "E" ∷ []))))
     ≡ record {
       bytes = codes "AB";
@@ -102,3 +121,16 @@ as_many_as_are_drawn : drawn_from 1 (λ line. if nat_lt 1 (length line) then Err
     }
 unfolding report_text_of digits
 as_many_as_are_drawn = refl
+
+the_first_line_may_follow_nothing : lines_budget 0 ≡ 20000000
+the_first_line_may_follow_nothing = refl
+
+the_fifth_line : lines_budget 4 ≡ 52000000
+the_fifth_line = refl
+
+-- of these three lines the second is refused
+refused_lines_take_nothing : lines_cost (λ line. if nat_lt 1 (length line) then Err not_utf8
+    else Ok (record { bytes = line; unfitted = []; lacking = []; cost = 12500000 }))
+    (codes "A" ∷ (codes "BC" ∷ (codes "D" ∷ [])))
+    ≡ 25000000
+refused_lines_take_nothing = refl

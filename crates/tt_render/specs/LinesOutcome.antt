@@ -1,7 +1,8 @@
 -- The promises of drawing the lines of a text: the answer and the devices.
-use Rattle.std.specs.Prelude.{◌≡◌, ◌⊎◌, ℕ, ◌+◌, ◌<◌, Bool, true, false, List, [], ◌∷◌, ◌++◌, length, take, Option, Some, None, IfSome, Result, Ok, Err, string_bytes, ⊤}
+use Rattle.std.specs.Prelude.{◌≡◌, ◌⊎◌, ℕ, ◌+◌, ◌<◌, ◌≤◌, Bool, true, false, List, [], ◌∷◌, ◌++◌, length, take, Option, Some, None, IfSome, Result, Ok, Err, string_bytes, ⊤}
 use Rattle.std.specs.Io.KnownBytes.{Appends, IsAtEnd}
 use Rattle.tt_core.specs.declared.fault.JobFault.{JobFault}
+use Rattle.tt_core.specs.declared.fault.JobFault.TheVariants as job_fault
 use Rattle.tt_core.specs.Bits.{stride}
 use Rattle.tt_core.specs.Limits.{font_limit}
 use Rattle.tt_render.specs.declared.setting.Setting.{Setting}
@@ -14,8 +15,10 @@ use Rattle.tt_render.specs.declared.texts_fault.TextStop.{TextStop}
 use Rattle.tt_render.specs.declared.texts_fault.TextStop.TheVariants as stop
 use Rattle.tt_render.specs.declared.texts_fault.TextsFault.{TextsFault}
 use Rattle.tt_render.specs.declared.texts_fault.TextsFault.TheVariants as texts
-use Rattle.tt_render.specs.LineReading.{LosesLine}
-use Rattle.tt_render.specs.Lines.{drawn_from, line_drawn, lines_limit, lines_of, text_drawn}
+use Rattle.tt_render.specs.declared.lines.LinePlace.{LinePlace}
+use Rattle.tt_render.specs.declared.lines.LineReader.{LineReader}
+use Rattle.tt_render.specs.LineReading.{BeginsLong, IsPlace, LosesLine, line_at}
+use Rattle.tt_render.specs.Lines.{AreAffordable, drawn_from, line_drawn, line_limit, lines_budget, lines_cost, lines_limit, lines_of, text_drawn}
 use Rattle.tt_render.specs.Outcome.{Traffic, SendsAll, ReadsNothing, ReadsToEnd, WritesNothing, WriterServes, WriterFails}
 use Rattle.tt_render.specs.Printing.{Errors, Prints, PrintsNothing}
 use Rattle.tt_render.specs.Reading.{FontReader, FontFails, FontIsBegun, FontIsRead, FontIsUnread}
@@ -53,7 +56,7 @@ abbrev pub IsNoRead : {V : Type 0} → Result V TextStop → Type 0
 IsNoRead (Err stop.Read) = ⊥
 IsNoRead r = ⊤
 
--- the bytes of an output, and its unfitted glyphs
+-- the bytes of an output, its unfitted glyphs, and what it takes of the budget of many lines
 abbrev pub bytes_in : Output → List ℕ
 bytes_in (output.Picture drawn) = picture_bytes drawn.picture
 bytes_in (output.Text text report) = string_bytes text
@@ -61,6 +64,10 @@ bytes_in (output.Text text report) = string_bytes text
 abbrev pub unfitted_in : Output → List Unfitted
 unfitted_in (output.Picture drawn) = drawn.picture.unfitted
 unfitted_in (output.Text text report) = report.unfitted.items
+
+abbrev pub cost_in : Output → ℕ
+cost_in (output.Picture drawn) = drawn.picture.cost
+cost_in (output.Text text report) = report.cost
 
 -- a picture with no row made yet, and memory for one
 abbrev pub CanGoOut : Output → Type 0
@@ -74,40 +81,48 @@ answer_view r = record {
   bytes = bytes_in r.output;
   unfitted = unfitted_in r.output;
   lacking = r.lacking.items;
+  cost = cost_in r.output;
 }
 
 -- the report is this text's; the number is that of a line
 abbrev pub TellsOf : Option ℕ → ReadyText → Type 0
 TellsOf number r = string_bytes r.report ≡ report_text_of number (unfitted_in r.output) r.lacking.items
 
--- a fact of the ready text
-abbrev pub IfReady : Result (Option ReadyText) TextStop → (ReadyText → Type 0) → Type 0
-IfReady (Ok (Some d)) P = P d
-IfReady r P = ⊤
+-- lines begin with one that is not too long
+abbrev pub HasLine : List (List ℕ) → Type 0
+HasLine [] = ⊥
+HasLine (line ∷ rest) = length line ≤ line_limit
 
--- the first line of a text is refused
-abbrev pub BeginsRefused : Draws → TextRefusal → List ℕ → Type 0
-BeginsRefused draw why text =
-    (line : List ℕ) × (rest : List (List ℕ)) × (lines_of text ≡ line ∷ rest) × (draw line ≡ Err why)
+-- why the next line is not drawn: it is too long; or the lines before it, `drawn` lines that took `used`, took more than
+-- the budget
+abbrev pub IsNotBegun : ℕ → ℕ → TextFault → Option (List ℕ) → Type 0
+IsNotBegun drawn used f before =
+    ((f ≡ fault.Job job_fault.TextLong) × IfSome before BeginsLong)
+    ⊎ ((f ≡ fault.Job job_fault.WorkLarge) × (lines_budget drawn < used)
+    × IfSome before (λ text. HasLine (lines_of text)))
 
--- the remaining text after drawing the next line
-abbrev pub DrawsLine : Draws → Result (Option ReadyText) TextStop → Option (List ℕ) → Option (List ℕ) → Type 0
-DrawsLine draw (Ok (Some d)) before after =
-    (line : List ℕ) × LosesLine before after line × (draw line ≡ Ok (answer_view d))
-DrawsLine draw (Ok None) before after = IfSome before (λ text. lines_of text ≡ []) × IsAtEnd after
-DrawsLine draw (Err (stop.Refused f)) before after = IfSome before (BeginsRefused draw (refusal_of f))
-DrawsLine draw (Err e) before after = ⊤
+-- the remaining text after finding the next line, behind `drawn` lines that took `used` of the budget
+abbrev pub FindsLine : LineReader → ℕ → ℕ → Result (Option LinePlace) TextStop → Option (List ℕ) → Option (List ℕ)
+    → Type 0
+FindsLine r drawn used (Ok (Some place)) before after =
+    IsPlace r place × LosesLine before after (line_at r place) × (length (line_at r place) ≤ line_limit)
+    × (used ≤ lines_budget drawn)
+FindsLine r drawn used (Ok None) before after = IfSome before (λ text. lines_of text ≡ []) × IsAtEnd after
+FindsLine r drawn used (Err (stop.Refused f)) before after = IsNotBegun drawn used f before
+FindsLine r drawn used (Err stop.Read) before after = ⊤
+FindsLine r drawn used (Err stop.Memory) before after = ⊥
 
 -- the reader failed exactly where it stopped the line
-abbrev pub FailsByStop : Bool → Result (Option ReadyText) TextStop → Type 0
+abbrev pub FailsByStop : Bool → Result (Option LinePlace) TextStop → Type 0
 FailsByStop failed (Err stop.Read) = failed ≡ true
 FailsByStop failed r = failed ≡ false
 
--- none of these lines, from line 1, is refused; their output was written, and then these bytes; their reports were
--- printed
+-- none of these lines, from line 1, is refused, and the budget serves for all; their output was written, and then these
+-- bytes; their reports were printed
 abbrev pub SendsLines : Draws → Option (List ℕ) → Option (List ℕ) → Errors → List (List ℕ) → List ℕ → Type 0
 SendsLines draw out_before out_after e lines more =
-    ((drawn_from 1 draw lines).stop ≡ None) × Appends out_before out_after ((drawn_from 1 draw lines).bytes ++ more)
+    ((drawn_from 1 draw lines).stop ≡ None) × AreAffordable draw lines
+    × Appends out_before out_after ((drawn_from 1 draw lines).bytes ++ more)
     × Prints e (drawn_from 1 draw lines).told
 
 -- the output of this many first lines of a text was written, and then these bytes; a fact of the lines after them
@@ -126,10 +141,23 @@ IsCutAfter draw sent part (line ∷ rest) =
 abbrev pub SendsSome : Draws → Traffic → Errors → List ℕ → Type 0
 SendsSome draw t e text = (number : ℕ) × SendsFirstLines draw t e number [] (λ rest. ⊤) text
 
--- the drawing of the lines was written, with the reports, and stopped by this refusal, if any
+-- the lines up to the refused one, if any
+abbrev pub lines_up_to : Option (ℕ × TextRefusal) → List (List ℕ) → List (List ℕ)
+lines_up_to None lines = lines
+lines_up_to (Some (number, why)) lines = take number lines
+
+-- the drawing of the lines was written, with the reports, and stopped by this refusal, if any; the budget serves for all
+-- lines up to there
 abbrev pub SendsDrawn : Draws → Traffic → Errors → Option (ℕ × TextRefusal) → List ℕ → Type 0
 SendsDrawn draw t e why text =
-    ((text_drawn draw text).stop ≡ why) × SendsAll t (text_drawn draw text).bytes × Prints e (text_drawn draw text).told
+    ((text_drawn draw text).stop ≡ why) × AreAffordable draw (lines_up_to why (lines_of text))
+    × SendsAll t (text_drawn draw text).bytes × Prints e (text_drawn draw text).told
+
+-- the line with this number was not drawn: the lines before it were sent, and took more than the budget
+abbrev pub SendsBudget : Draws → Traffic → Errors → ℕ → List ℕ → Type 0
+SendsBudget draw t e number text =
+    (before : ℕ) × (before + 1 ≡ number) × SendsFirstLines draw t e before [] HasLine text
+    × (lines_budget before < lines_cost draw (take before (lines_of text)))
 
 abbrev pub ReaderServes : Traffic → Type 0
 ReaderServes t = t.read_failed ≡ false
@@ -137,12 +165,15 @@ ReaderServes t = t.read_failed ≡ false
 -- a call that draws lines by an opened font failed with this fault
 abbrev pub LinesFail : Draws → TextsFault → Traffic → Errors → Type 0
 LinesFail draw (texts.Text (Some number) f) t e =
-    IfSome t.left_before (SendsDrawn draw t e (Some (number, refusal_of f))) × ReaderServes t × WriterServes t
+    IfSome t.left_before (λ text. SendsDrawn draw t e (Some (number, refusal_of f)) text
+    ⊎ ((f ≡ fault.Job job_fault.WorkLarge) × SendsBudget draw t e number text))
+    × ReaderServes t × WriterServes t
 LinesFail draw texts.Read t e =
     IfSome t.left_before (SendsSome draw t e) × (t.read_failed ≡ true) × WriterServes t
 LinesFail draw (texts.Write (Some number) sent) t e =
     IfSome t.left_before (λ text. (before : ℕ) × (part : List ℕ) × (before + 1 ≡ number)
-    × SendsFirstLines draw t e before part (IsCutAfter draw sent part) text)
+    × SendsFirstLines draw t e before part (IsCutAfter draw sent part) text
+    × AreAffordable draw (take number (lines_of text)))
     × ReaderServes t × WriterFails t
 LinesFail draw texts.Many t e =
     IfSome t.left_before (SendsFirstLines draw t e lines_limit [] (λ rest. ⊤)) × ReaderServes t × WriterServes t

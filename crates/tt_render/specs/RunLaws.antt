@@ -41,7 +41,7 @@ LinesAreTexts = (a : Setting) (line : List ℕ) (s : Strike) → length line ≤
     → draws_by a s line ≡ text_by a line s
 
 -- worked values: the bytes of a drawn text, and of a refused one
-drawn_bytes : bytes_of (Ok (record { bytes = codes "P4"; unfitted = []; lacking = codes "A" })) ≡ Ok (codes "P4")
+drawn_bytes : bytes_of (Ok (record { bytes = codes "P4"; unfitted = []; lacking = codes "A"; cost = 12 })) ≡ Ok (codes "P4")
 drawn_bytes = refl
 
 no_bytes : bytes_of (Err (missing 67)) ≡ Err (missing 67)

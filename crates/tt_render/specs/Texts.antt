@@ -4,6 +4,7 @@ use Rattle.tt_cmap.specs.Lacking.{lacking_of}
 use Rattle.tt_cmap.specs.Lookup.{Cmap, by_segments}
 use Rattle.tt_core.specs.Outcomes.{◌>>=◌}
 use Rattle.tt_strike.specs.declared.report.Unfitted.{Unfitted}
+use Rattle.tt_strike.specs.Costs.{cost_by}
 use Rattle.tt_strike.specs.Grown.{grown_measured, grown_outcome}
 use Rattle.tt_strike.specs.Measures.{measured}
 use Rattle.tt_strike.specs.Picture.{line_outcome}
@@ -26,11 +27,13 @@ abbrev pub as_text : {X : Type 0} → Result X Refused → Result X TextRefusal
 as_text (Ok x) = Ok x
 as_text (Err why) = Err (refused why)
 
--- the answer of a text: the bytes of its output, its unfitted glyphs, and its reported characters without a glyph
+-- the answer of a text: the bytes of its output, its unfitted glyphs, its reported characters without a glyph, and what
+-- it takes of the budget of a call of many lines
 pub record TextAnswer : Type 0 where
   pub bytes : List ℕ
   pub unfitted : List Unfitted
   pub lacking : List ℕ
+  pub cost : ℕ
 
 -- no character is missing, or the first missing one refuses the text
 abbrev pub none_missing : List ℕ → Result (List ℕ) TextRefusal
@@ -47,15 +50,16 @@ missing_among how.Refuse cs = none_missing cs
 unfoldable pub missing_tested : Cmap → Missing → List ℕ → Result (List ℕ) TextRefusal
 missing_tested m asked text = missing_among asked (lacking_of m (chars text))
 
--- the answer of a text by its parts, or the first refusal: its output, its unfitted glyphs, and its characters without
--- a glyph
+-- the answer of a text by its parts, or the first refusal: its output, its unfitted glyphs, its characters without a
+-- glyph, and its cost
 abbrev pub answer_of : Result (List ℕ) Refused → Result (List Unfitted) Refused → Result (List ℕ) TextRefusal
-    → Result TextAnswer TextRefusal
-answer_of product report lacking =
+    → Result ℕ Refused → Result TextAnswer TextRefusal
+answer_of product report lacking taken =
     as_text product >>= λ bytes.
     as_text report >>= λ unfitted.
     lacking >>= λ cs.
-    Ok (record { bytes = bytes; unfitted = unfitted; lacking = cs })
+    as_text taken >>= λ cost.
+    Ok (record { bytes = bytes; unfitted = unfitted; lacking = cs; cost = cost })
 
 -- the output of a text that is drawn by a strike, with a margin
 unfoldable pub product_of : Strike → Product → ℕ → List ℕ → Result (List ℕ) Refused
@@ -70,7 +74,7 @@ product_of s product.GrownMeasure margin text =
 unfoldable pub text_answer : Strike → Product → Missing → ℕ → List ℕ → Result TextAnswer TextRefusal
 text_answer s wanted asked margin text =
     answer_of (product_of s wanted margin text) (report_by s.face (job_of s text margin))
-    (missing_tested s.face.cmap asked text)
+    (missing_tested s.face.cmap asked text) (cost_by s.face (job_of s text margin))
 
 -- worked values: A and B have glyphs, C and @ have none
 told_in_their_order : missing_among how.Tell (lacking_of (by_segments 3) (codes "CA@BC")) ≡ Ok (codes "C@")

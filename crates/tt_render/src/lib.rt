@@ -21,7 +21,7 @@ mod texts_messages;
 mod writing;
 
 pub use fault::RunFault;
-pub use line_drawing::draw_lines;
+pub use line_drawing::{draw_lines, lines_budget};
 pub use mapping::map;
 pub use messages::{line, missing_line, status, unfitted_line};
 pub use running::run;

@@ -1,16 +1,17 @@
 //! Draws the lines of a text in order, from a reader to a writer.
 
-ghost use Rattle.std.specs.Prelude.{◌≡◌, ◌≤◌, false, length, Some, IfOk, IfSome};
+ghost use Rattle.std.specs.Prelude.{◌≡◌, ◌≤◌, false, length, Some, IfOk};
 ghost use Rattle.tt_core.specs.Outcomes.{GivesUnless, IfTold};
 ghost use Rattle.tt_render.specs.LineReading.{IsReader, text_left};
-ghost use Rattle.tt_render.specs.LinesDefects.{BeginsDefective, IsDefectBy, LinesTell, LinesTellDefectsOf};
-ghost use Rattle.tt_render.specs.LinesOutcome.{CanGoOut, DrawsLine, FailsByStop, FontLinesGive, IfReady, IsNoRead, LinesGive, TellsOf, answer_view, draws_by, told};
+ghost use Rattle.tt_render.specs.Lines.{line_limit, lines_budget};
+ghost use Rattle.tt_render.specs.LinesDefects.{IsDefectBy, LinesTell, LinesTellDefectsOf};
+ghost use Rattle.tt_render.specs.LinesOutcome.{CanGoOut, FailsByStop, FindsLine, FontLinesGive, IsNoRead, LinesGive, TellsOf, answer_view, draws_by, told};
 ghost use Rattle.tt_render.specs.Outcome.{traffic_of};
 ghost use Rattle.tt_render.specs.Printing.{errors_of};
 ghost use Rattle.tt_render.specs.Reading.{font_reader_of};
 ghost use Rattle.tt_render.specs.TextOutcome.{stop_font_fault};
 
-use crate::lines::{LINE_LIMIT, LineReader, ReadFault};
+use crate::lines::{LINE_LIMIT, LinePlace, LineReader, ReadFault};
 use crate::printing::print_text;
 use crate::reading::read_font;
 use crate::setting::{Setting, test_setting};
@@ -22,8 +23,14 @@ use std::str;
 use tt_core::{JobFault, Sink, Source};
 use tt_strike::{Face, Strike};
 
-/// The answer of the line with this number. Errors, the first of: TextLong, of more than 16,384 bytes; NotUtf8; those
-/// of a text.
+/// What the lines of a call may take with `Fit::Best` before one more is drawn, by how many they are.
+pub fn lines_budget(before: u64) -> u128
+    ensures { result ≡ lines_budget before }
+{
+    20_000_000 + 8_000_000 * u128::from(before)
+}
+
+/// The answer of the line with this number. Errors, the first of: NotUtf8; those of a text.
 #[tactic(auto, unfolding(crate::specs::Lines::line_drawn))]
 fn draw_line(
     alloc: Global,
@@ -34,6 +41,7 @@ fn draw_line(
     line: &[u8],
 ) -> Result<ReadyText, TextStop>
     requires face { strike.old.face ≡ face.now }
+    requires short { length line.now ≤ line_limit }
     ensures exact { GivesUnless told answer_view result (draws_by setting.now strike.old line.now) }
     ensures valid { IfOk result (λ r. CanGoOut r.output) }
     ensures report { IfOk result (TellsOf (Some number)) }
@@ -41,35 +49,25 @@ fn draw_line(
     ensures defects { IfTold stop_font_fault result (IsDefectBy setting.now strike.old line.now) }
     ensures same { strike.new ≡ record strike.old { kept = strike.new.kept } }
 {
-    if line.len() > LINE_LIMIT {
-        return Err(TextStop::Refused(TextFault::Job(JobFault::TextLong)));
-    }
     let Ok(text) = str::from_utf8(line) else {
         return Err(TextStop::Refused(TextFault::NotUtf8));
     };
     answer_text(alloc, strike, face, setting, Some(number), text)
 }
 
-/// The answer of the next line, which has this number, if there is one. Errors: those of a line; Read.
-fn next_text<R: Source>(
-    alloc: Global,
+/// The place of the next line, if there is one. The `drawn` lines before it took `used` of the budget. Errors, the first
+/// of: Read; TextLong, of more than 16,384 bytes; WorkLarge, where those lines took more than the budget.
+fn next_line<R: Source>(
     reader: &mut LineReader,
     lines: &mut R,
-    strike: &mut Strike,
-    face: &Face,
-    setting: &Setting,
-    number: u32,
-) -> Result<Option<ReadyText>, TextStop>
+    drawn: u32,
+    used: u128,
+) -> Result<Option<LinePlace>, TextStop>
     requires valid { IsReader reader.old }
     requires source { R.has_failed lines.old ≡ false }
-    requires face { strike.old.face ≡ face.now }
     ensures valid { IsReader reader.new }
-    ensures outcome { DrawsLine (draws_by setting.now strike.old) result (text_left reader.old (R.left lines.old)) (text_left reader.new (R.left lines.new)) }
-    ensures ready { IfReady result (λ r. CanGoOut r.output) }
-    ensures report { IfReady result (TellsOf (Some number)) }
+    ensures outcome { FindsLine reader.new drawn used result (text_left reader.old (R.left lines.old)) (text_left reader.new (R.left lines.new)) }
     ensures failure { FailsByStop (R.has_failed lines.new) result }
-    ensures defects { IfTold stop_font_fault result (λ f. IfSome (text_left reader.old (R.left lines.old)) (BeginsDefective (IsDefectBy setting.now strike.old) f)) }
-    ensures same { strike.new ≡ record strike.old { kept = strike.new.kept } }
 {
     let place = match reader.read_line(lines) {
         Ok(Some(place)) => place,
@@ -80,8 +78,14 @@ fn next_text<R: Source>(
         Err(ReadFault::Read) => return Err(TextStop::Read),
     };
     let line = reader.line(place);
-    let ready = draw_line(alloc, strike, face, setting, number, line)?;
-    Ok(Some(ready))
+    if line.len() > LINE_LIMIT {
+        return Err(TextStop::Refused(TextFault::Job(JobFault::TextLong)));
+    }
+    let budget = lines_budget(u64::from(drawn));
+    if used > budget {
+        return Err(TextStop::Refused(TextFault::Job(JobFault::WorkLarge)));
+    }
+    Ok(Some(place))
 }
 
 /// Draws the lines of a text with a strike, as `draw_lines` does. Returns the bytes of the cached glyphs.
@@ -103,14 +107,20 @@ fn draw_lines_by<R: Source, W: Sink, E: Sink>(
     ensures kept { IfOk result (λ n. n ≤ strike.old.most) }
 {
     let mut reader = LineReader::new(alloc)?;
+    let mut used = 0;
     for before in 0..u32::MAX {
         let number = before + 1;
-        let next = next_text(alloc, &mut reader, lines, strike, face, setting, number);
-        let mut ready = match next {
-            Ok(Some(ready)) => ready,
+        let place = match next_line(&mut reader, lines, before, used) {
+            Ok(Some(place)) => place,
             Ok(None) => return Ok(strike.kept_bytes()),
             Err(stop) => return Err(texts_fault(Some(number), stop)),
         };
+        let line = reader.line(place);
+        let mut ready = match draw_line(alloc, strike, face, setting, number, line) {
+            Ok(ready) => ready,
+            Err(refusal) => return Err(texts_fault(Some(number), refusal)),
+        };
+        used += u128::from(ready.output.cost());
         if let Err(cut) = write_output(out, &mut ready.output) {
             return Err(TextsFault::Write {
                 number: Some(number),
@@ -126,13 +136,14 @@ fn draw_lines_by<R: Source, W: Sink, E: Sink>(
 /// made. A line ends before its line feed, and before a carriage return there. The rest after the last line feed is a
 /// line too, unless it is empty. Nothing of a refused line is written, and later lines are not drawn. After a line's
 /// product its report is printed on `error`: a line for each glyph that could not be fitted. With `Missing::Tell` a
-/// line for each character without a glyph follows. A failure of `error` does not stop the drawing. Returns the bytes of
-/// the glyphs that are cached at the end, which are at most the setting's `most`.
+/// line for each character without a glyph follows. A failure of `error` does not stop the drawing. With `Fit::Best`
+/// the lines share a budget: a line is drawn only if those before it took at most 20,000,000 and 8,000,000 for each of
+/// them. Returns the bytes of the glyphs that are cached at the end, which are at most the setting's `most`.
 ///
 /// Errors, the first of: Job (SizeRange, MarginRange), before the font is read; FontRead, FontLarge; Font, of the
 /// tables needed for every text; then, line by line: Read; Text, with the line's number, from 1: TextLong, of more than
-/// 16,384 bytes; NotUtf8; those of `Strike::line`, `Strike::grown_line`, `Strike::measure` or `Strike::grown_measure`;
-/// Missing; and Write. Many comes after 4,294,967,295 lines. Memory may come at any allocation.
+/// 16,384 bytes; WorkLarge, where the lines before it took more than their budget; NotUtf8; those of `Strike::line`,
+/// `Strike::grown_line`, `Strike::measure` or `Strike::grown_measure`; Missing; and Write. Many comes after 4,294,967,295 lines. Memory may come at any allocation.
 #[tactic(auto, unfolding(crate::specs::Settings::strike_of))]
 pub fn draw_lines<F: Source, R: Source, W: Sink, E: Sink>(
     alloc: Global,

@@ -3,10 +3,11 @@
 ghost use Rattle.std.specs.Prelude.{◌≡◌, chars, Ok, IfOk};
 ghost use Rattle.tt_core.specs.Outcomes.{GivesUnless, IfTold};
 ghost use Rattle.tt_line.specs.Layout.{text_glyphs};
-ghost use Rattle.tt_render.specs.LinesOutcome.{CanGoOut, IsNoRead, bytes_in, told, unfitted_in};
+ghost use Rattle.tt_render.specs.LinesOutcome.{CanGoOut, IsNoRead, bytes_in, cost_in, told, unfitted_in};
 ghost use Rattle.tt_render.specs.TextOutcome.{stop_font_fault};
 ghost use Rattle.tt_render.specs.MeasureText.{measure_text};
 ghost use Rattle.tt_render.specs.Texts.{as_text, product_of};
+ghost use Rattle.tt_strike.specs.Costs.{cost_by};
 ghost use Rattle.tt_strike.specs.Defects.{IsLineDefect, TellsDefects};
 ghost use Rattle.tt_strike.specs.Measures.{measure_view};
 ghost use Rattle.tt_strike.specs.Pictures.{IsReady, picture_bytes};
@@ -39,6 +40,16 @@ impl Output {
             Output::Text(_, report) => &report.unfitted,
         }
     }
+
+    /// What the text takes of the budget of a call of many lines.
+    pub(crate) fn cost(&self) -> u64
+        ensures { result ≡ cost_in self.now }
+    {
+        match self {
+            Output::Picture(drawn) => drawn.picture.cost(),
+            Output::Text(_, report) => report.cost,
+        }
+    }
 }
 
 /// A picture, ready to be written.
@@ -46,6 +57,7 @@ fn picture_output(alloc: Global, picture: Picture) -> Result<Output, AllocError>
     requires { IsReady picture }
     ensures exact { IfOk result (λ o. bytes_in o ≡ picture_bytes picture) }
     ensures report { IfOk result (λ o. unfitted_in o ≡ picture.unfitted) }
+    ensures cost { IfOk result (λ o. cost_in o ≡ picture.cost) }
     ensures ready { IfOk result CanGoOut }
 {
     let row = vec![in alloc; 0u8; picture.row_bytes()]?;
@@ -61,6 +73,7 @@ fn measure_output(
 ) -> Result<Output, AllocError>
     ensures exact { IfOk result (λ o. bytes_in o ≡ measure_text face.now.metrics (chars text.now) (measure_view measure)) }
     ensures report { IfOk result (λ o. unfitted_in o ≡ measure.report.unfitted.items) }
+    ensures cost { IfOk result (λ o. cost_in o ≡ measure.report.cost) }
     ensures ready { IfOk result CanGoOut }
 {
     let lines = measure_text(alloc, face.metrics(), text, &measure)?;
@@ -81,6 +94,7 @@ pub(crate) fn make_output(
     requires face { strike.old.face ≡ face.now }
     ensures exact { GivesUnless told bytes_in result (as_text (product_of strike.old setting.now.product setting.now.margin text.now)) }
     ensures report { IfOk result (λ o. report_by strike.old.face (job_of strike.old text.now setting.now.margin) ≡ Ok (unfitted_in o)) }
+    ensures cost { IfOk result (λ o. cost_by strike.old.face (job_of strike.old text.now setting.now.margin) ≡ Ok (cost_in o)) }
     ensures ready { IfOk result CanGoOut }
     ensures serves { IsNoRead result }
     ensures defects { TellsDefects stop_font_fault (IsLineDefect strike.old.face (job_of strike.old text.now setting.now.margin) (text_glyphs strike.old.face.cmap text.now)) result }

@@ -9,5 +9,5 @@ ghost-draw_line g a = g.font
 abbrev pub invariant-loop-i : goal.invariant-loop-i
 invariant-loop-i g l = record {
   strike : l.strike ≡ record l.fn.strike { kept = l.strike.kept };
-  drawn : IsDrawnTo l.job g.font l.texts l.ends l.fn.rows l.rows l.fn.lines l.lines l.from l.used l.i;
+  drawn : IsDrawnTo l.job g.font l.texts l.ends l.fn.rows l.rows l.fn.lines l.lines l.from l.used l.i l.taken;
 }

@@ -53,8 +53,8 @@ returns-clause-done g c done =
       | then-answer-eq0 w ↦ w.told-is
       | else-answer-eq0 w ↦ absurd (w.if-answer-eq0.false done)
     ] in
-    line_written c.args.job.now g.font c.args.line.now c.args.at _ c.in-Ok-picture_by.picture c.args.room.now _ _ _ _ of
-    c.height-height.ensures.exact (c.write_band-answer.ensures.done done) told
+    line_written c.args.job.now g.font c.args.line.now c.args.at _ c.in-Ok-picture_by.picture c.args.room.now _ _ _ _ _ of
+    c.height-height.ensures.exact (c.write_band-answer.ensures.done done) told c.cost-cost.ensures
 
 pub returns-clause-stopped : goal.returns-clause-stopped
 returns-clause-stopped g c not_done =

@@ -1,4 +1,3 @@
-use Rattle.std.proofs.Common.{arith}
 use Rattle.tt_render.proofs.DefectLines.{told_of_text}
 use Rattle.tt_render.proofs.DrawnLines.{line_of_no_text, line_of_text}
 use Rattle.tt_render.proofs.line_drawing.draw_line.Goals as goal
@@ -6,12 +5,12 @@ use Rattle.tt_render.proofs.line_drawing.draw_line.Goals as goal
 pub returns-in_default-clause-exact : goal.returns-in_default-clause-exact
 returns-in_default-clause-exact c =
     line_of_no_text c.args.setting.now c.args.strike.now c.args.line.now
-    (omega (arith, c.if-line-gt-LINE_LIMIT.false)) c.in_default.ensures.cases.0
+    c.requires.short c.in_default.ensures.cases.0
 
 pub returns-clause-exact : goal.returns-clause-exact
 returns-clause-exact c =
     let drawn = line_of_text c.args.setting.now c.args.strike.now c.args.line.now c.in-Ok.text.now
-    (omega (arith, c.if-line-gt-LINE_LIMIT.false)) c.in-Ok.ensures.cases in
+    c.requires.short c.in-Ok.ensures.cases in
     rw drawn c.answer_text.ensures.exact
 
 pub returns-clause-defects : goal.returns-clause-defects

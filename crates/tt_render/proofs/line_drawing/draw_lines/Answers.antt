@@ -1,4 +1,4 @@
-use Rattle.std.proofs.Common.{◌≡◌, ◌≤◌, ℕ, List, Result, ap, inl, inr, subst}
+use Rattle.std.proofs.Common.{ℕ, List, ap, inl, inr, subst}
 use Rattle.std.proofs.lemmas.Result.{err_from_is_err_and}
 use Rattle.tt_render.specs.LinesDefects.{LinesTellDefects}
 use Rattle.tt_render.specs.Reading.{FontIsRead, FontIsUnread, font_reader_of}

@@ -1,16 +1,16 @@
-use Rattle.std.proofs.Common.{◌≡◌, ◌∙◌, ℕ, ◌+◌, IfSome, Some, arith, ap, refl, subst}
+use Rattle.std.proofs.Common.{◌≡◌, ◌∙◌, ℕ, ◌+◌, IfSome, Some, Ok, arith, ap, refl, subst}
 use Rattle.std.proofs.lemmas.Result.{err_from_is_err_and}
 use Rattle.tt_strike.specs.Strikes.{Strike}
-use Rattle.tt_render.specs.LineReading.{held, text_left}
+use Rattle.tt_render.specs.LineReading.{held, line_at, text_left}
 use Rattle.tt_render.specs.Lines.{lines_limit}
-use Rattle.tt_render.specs.LinesDefects.{BeginsDefective, IsDefectBy}
+use Rattle.tt_render.specs.LinesDefects.{IsDefectBy}
 use Rattle.tt_render.specs.LinesOutcome.{answer_view, draws_by}
 use Rattle.tt_render.specs.Outcome.{traffic_of}
 use Rattle.tt_render.specs.Printing.{PrintsBehind, errors_of}
 use Rattle.tt_render.specs.Reports.{told_of}
 use Rattle.tt_render.specs.TextOutcome.{stop_font_fault}
-use Rattle.tt_render.proofs.DefectLines.{stop_tells}
-use Rattle.tt_render.proofs.DrawnLines.{all_drawn, cut_sent, drawn_alike, kept_alone, many_sent, next_drawn, none_so_far, one_more, reader_at_end, some_sent, stopped, whole_text}
+use Rattle.tt_render.proofs.DefectLines.{begun_tells, next_tells, stop_tells}
+use Rattle.tt_render.proofs.DrawnLines.{SoFar, all_drawn, cut_sent, drawn_alike, drawn_too, kept_alone, many_sent, none_so_far, one_more, reader_at_end, some_sent, stopped_before, stopped_in, whole_text}
 use Rattle.tt_render.proofs.Printed.{keeps_itself}
 use Rattle.tt_render.proofs.line_drawing.draw_lines_by.Goals as goal
 
@@ -25,7 +25,7 @@ returns-in_err-reader-clause-outcome g c =
     let t = traffic_of g.R.Source.left g.R.Source.has_failed g.W.Sink.written g.W.Sink.has_failed c.args.lines.now
     c.args.lines.now c.args.out.now c.args.out.now in
     let e = errors_of g.E.Sink.written g.E.Sink.has_failed c.args.error.now c.args.error.now in
-    let sends = some_sent draw left t e 0
+    let sends = some_sent draw left t e 0 0
     (none_so_far draw left left out error failed (keeps_itself left) c.requires.error) in
     rw (p.1, p.2) (sends, c.requires.lines, c.requires.out)
 
@@ -37,6 +37,7 @@ loop-before-init g c =
       valid = reader.ensures.valid;
       strike = refl;
       reads = c.requires.lines;
+      few = omega arith;
       writes = c.requires.out;
       so_far = none_so_far (draws_by c.args.setting.now c.args.strike.now) left (text_left reader.reader left)
           (g.W.Sink.written c.args.out.now) (g.E.Sink.written c.args.error.now)
@@ -50,82 +51,109 @@ returns-in-Ok-None-clause-outcome g c =
     let draw = draws_by c.args.setting.now c.args.strike.now in
     let left = g.R.Source.left in
     let t = traffic_of left g.R.Source.has_failed g.W.Sink.written g.W.Sink.has_failed c.args.lines.now
-    c.next_text-next.new.lines c.args.out.now c.loop-before.out in
+    c.next_line.new.lines c.args.out.now c.loop-before.out in
     let e = errors_of g.E.Sink.written g.E.Sink.has_failed c.args.error.now c.loop-before.error in
     let none = rw c.in-Ok-None.field-0-is at c.in-Ok-None.ensures.outcome in
     let reads = c.in-Ok-None.ensures.failure in
     let sends = all_drawn draw (text_left c.loop-before.reader (left c.loop-before.lines)) t e c.loop-before.before
-    so_far.so_far none.0 in
-    let end = reader_at_end (held c.next_text-next.new.reader) (left c.next_text-next.new.lines) none.1 in
+    c.loop-before.used so_far.so_far none.0 in
+    let end = reader_at_end (held c.next_line.new.reader) (left c.next_line.new.lines) none.1 in
     (sends, (end, reads), so_far.writes)
 
 pub returns-in-Err-clause-outcome : goal.returns-in-Err-clause-outcome
 returns-in-Err-clause-outcome g c =
     let so_far = c.loop-before.invariant in
-    let a = c.args.setting.now in
     let left = g.R.Source.left in
     let t = traffic_of left g.R.Source.has_failed g.W.Sink.written g.W.Sink.has_failed c.args.lines.now
-    c.next_text-next.new.lines c.args.out.now c.loop-before.out in
+    c.next_line.new.lines c.args.out.now c.loop-before.out in
     let e = errors_of g.E.Sink.written g.E.Sink.has_failed c.args.error.now c.loop-before.error in
-    let same = drawn_alike a c.args.strike.now c.loop-before.strike so_far.strike in
-    let fails = stopped (draws_by a c.args.strike.now) (draws_by a c.loop-before.strike) c.in-Err.stop
+    let fails = stopped_before c.args.setting.now c.args.strike.now c.next_line.new.reader c.in-Err.stop
     (text_left c.loop-before.reader (left c.loop-before.lines))
-    (text_left c.next_text-next.new.reader (left c.next_text-next.new.lines)) t e c.loop-before.before same
+    (text_left c.next_line.new.reader (left c.next_line.new.lines)) t e c.loop-before.before c.loop-before.used
     so_far.so_far c.in-Err.ensures.outcome c.in-Err.ensures.failure so_far.writes in
     rw c.texts_fault.ensures fails
+
+pub returns-in-Err-draw_line-clause-outcome : goal.returns-in-Err-draw_line-clause-outcome
+returns-in-Err-draw_line-clause-outcome g c =
+    let so_far = c.loop-before.invariant in
+    let a = c.args.setting.now in
+    let left = g.R.Source.left in
+    let found = rw c.in-Ok-Some.field-0-is at c.in-Ok-Some.ensures.outcome in
+    let t = traffic_of left g.R.Source.has_failed g.W.Sink.written g.W.Sink.has_failed c.args.lines.now
+    c.next_line.new.lines c.args.out.now c.loop-before.out in
+    let e = errors_of g.E.Sink.written g.E.Sink.has_failed c.args.error.now c.loop-before.error in
+    let same = drawn_alike a c.args.strike.now c.loop-before.strike so_far.strike in
+    let is = rw c.line-line.ensures at c.in-Err-draw_line.ensures.exact in
+    let fails = stopped_in (draws_by a c.args.strike.now) (draws_by a c.loop-before.strike) c.in-Err-draw_line.refusal
+    (text_left c.loop-before.reader (left c.loop-before.lines))
+    (text_left c.next_line.new.reader (left c.next_line.new.lines)) t e c.loop-before.before c.loop-before.used
+    (line_at c.next_line.new.reader c.in-Ok-Some.place) same so_far.so_far found.1 found.3 is
+    c.in-Err-draw_line.ensures.serves c.in-Ok-Some.ensures.failure so_far.writes in
+    rw c.texts_fault-in-Err-draw_line.ensures fails
 
 pub returns-in-Err-write_output-clause-outcome : goal.returns-in-Err-write_output-clause-outcome
 returns-in-Err-write_output-clause-outcome g c =
     let so_far = c.loop-before.invariant in
-    let draw = draws_by c.args.setting.now c.args.strike.now in
+    let a = c.args.setting.now in
+    let draw = draws_by a c.args.strike.now in
     let left = g.R.Source.left in
     let written = g.W.Sink.written in
-    let next = next_drawn draw (draws_by c.args.setting.now c.loop-before.strike) c.in-Ok-Some.ready
-    (text_left c.loop-before.reader (left c.loop-before.lines))
-    (text_left c.next_text-next.new.reader (left c.next_text-next.new.lines))
-    (drawn_alike c.args.setting.now c.args.strike.now c.loop-before.strike so_far.strike)
-    (rw c.in-Ok-Some.field-0-is at c.in-Ok-Some.ensures.outcome) in
-    let reads = c.in-Ok-Some.ensures.failure in
+    let found = rw c.in-Ok-Some.field-0-is at c.in-Ok-Some.ensures.outcome in
+    let line = line_at c.next_line.new.reader c.in-Ok-Some.place in
+    let is : draw line ≡ Ok (answer_view c.in-Ok.ready) =
+    drawn_too draw (draws_by a c.loop-before.strike) line (Ok (answer_view c.in-Ok.ready))
+    (drawn_alike a c.args.strike.now c.loop-before.strike so_far.strike)
+    (rw c.line-line.ensures at c.in-Ok.ensures.exact) in
     let cut = c.in-Err-write_output in
     let t = traffic_of left g.R.Source.has_failed written g.W.Sink.has_failed c.args.lines.now
-    c.next_text-next.new.lines c.args.out.now c.write_output.new.out in
+    c.next_line.new.lines c.args.out.now c.write_output.new.out in
     let e = errors_of g.E.Sink.written g.E.Sink.has_failed c.args.error.now c.loop-before.error in
     let sends = cut_sent draw (text_left c.loop-before.reader (left c.loop-before.lines))
-    (text_left c.next_text-next.new.reader (left c.next_text-next.new.lines)) (written c.loop-before.out) t e
-    c.loop-before.before cut.cut.sent next.0 (answer_view c.in-Ok-Some.ready) so_far.so_far next.1 next.2
+    (text_left c.next_line.new.reader (left c.next_line.new.lines)) (written c.loop-before.out) t e
+    c.loop-before.before c.loop-before.used cut.cut.sent line (answer_view c.in-Ok.ready) so_far.so_far found.1 found.3 is
     cut.ensures.within cut.ensures.part in
-    (sends, reads, cut.ensures.failure)
+    (sends, c.in-Ok-Some.ensures.failure, cut.ensures.failure)
 
 pub loop-before-preserved : goal.loop-before-preserved
 loop-before-preserved g c =
     let so_far = c.loop-before.invariant in
-    let draw = draws_by c.args.setting.now c.args.strike.now in
+    let a = c.args.setting.now in
+    let draw = draws_by a c.args.strike.now in
     let left = g.R.Source.left in
     let written = g.W.Sink.written in
     let told = g.E.Sink.written in
     let failed = g.E.Sink.has_failed in
-    let drawn = c.in-Ok-Some.ensures in
-    let next = next_drawn draw (draws_by c.args.setting.now c.loop-before.strike) c.in-Ok-Some.ready
-    (text_left c.loop-before.reader (left c.loop-before.lines))
-    (text_left c.next_text-next.new.reader (left c.next_text-next.new.lines))
-    (drawn_alike c.args.setting.now c.args.strike.now c.loop-before.strike so_far.strike)
-    (rw c.in-Ok-Some.field-0-is at drawn.outcome) in
+    let found = rw c.in-Ok-Some.field-0-is at c.in-Ok-Some.ensures.outcome in
+    let line = line_at c.next_line.new.reader c.in-Ok-Some.place in
+    let answer = answer_view c.in-Ok.ready in
+    let is : draw line ≡ Ok answer =
+    drawn_too draw (draws_by a c.loop-before.strike) line (Ok answer)
+    (drawn_alike a c.args.strike.now c.loop-before.strike so_far.strike)
+    (rw c.line-line.ensures at c.in-Ok.ensures.exact) in
     let printed : PrintsBehind (failed c.loop-before.error)
     (errors_of told failed c.loop-before.error c.print_text.new.error)
-    (told_of (Some (c.loop-before.before + 1)) (answer_view c.in-Ok-Some.ready)) =
-    let report = rw c.in-Ok-Some.field-0-is at drawn.report in
-    rw (c.deref.ensures, report) at c.print_text.ensures in
+    (told_of (Some (c.loop-before.before + 1)) answer) =
+    rw (c.deref.ensures, c.in-Ok.ensures.report) at c.print_text.ensures in
+    let Sent : ℕ → Type 0 = λ n. SoFar draw (left c.args.lines.now)
+    (text_left c.next_line.new.reader (left c.next_line.new.lines)) (written c.args.out.now)
+    (written c.write_output.new.out) (errors_of told failed c.args.error.now c.print_text.new.error)
+    (c.loop-before.before + 1) n in
+    let used : c.loop-before.used + answer.cost ≡ c.loop-before.used + c.from-used.result =
+    omega (arith, c.from-used.ensures, c.cost.ensures) in
     record {
-      valid = drawn.valid;
-      strike = kept_alone c.args.strike.now c.loop-before.strike c.next_text-next.new.strike so_far.strike drawn.same;
-      reads = drawn.failure;
+      valid = c.in-Ok-Some.ensures.valid;
+      strike = kept_alone c.args.strike.now c.loop-before.strike c.draw_line.new.strike so_far.strike
+          c.in-Ok.ensures.same;
+      reads = c.in-Ok-Some.ensures.failure;
+      few = omega (arith, so_far.few, c.from-used.ensures);
       writes = c.in_default.ensures.failure;
-      so_far = one_more draw (left c.args.lines.now) (text_left c.loop-before.reader (left c.loop-before.lines))
-          (text_left c.next_text-next.new.reader (left c.next_text-next.new.lines)) (written c.args.out.now)
+      so_far = subst Sent used (one_more draw (left c.args.lines.now)
+          (text_left c.loop-before.reader (left c.loop-before.lines))
+          (text_left c.next_line.new.reader (left c.next_line.new.lines)) (written c.args.out.now)
           (written c.loop-before.out) (written c.write_output.new.out) (told c.args.error.now)
           (told c.loop-before.error) (told c.print_text.new.error) (failed c.loop-before.error)
-          (failed c.print_text.new.error) c.loop-before.before next.0 (answer_view c.in-Ok-Some.ready) so_far.so_far
-          next.1 next.2 c.in_default.ensures.all printed;
+          (failed c.print_text.new.error) c.loop-before.before line answer c.loop-before.used so_far.so_far
+          found.1 found.3 is c.in_default.ensures.all printed);
     }
 
 pub returns-clause-outcome : goal.returns-clause-outcome
@@ -139,7 +167,7 @@ returns-clause-outcome g c =
     c.loop-before.lines c.args.out.now c.loop-before.out in
     let e = errors_of g.E.Sink.written g.E.Sink.has_failed c.args.error.now c.loop-before.error in
     let sends = many_sent draw (text_left c.loop-before.reader (left c.loop-before.lines)) t e c.loop-before.before
-    lines_limit all so_far.so_far in
+    lines_limit c.loop-before.used all so_far.so_far in
     (sends, so_far.reads, so_far.writes)
 
 pub returns-in_err-reader-clause-defects : goal.returns-in_err-reader-clause-defects
@@ -148,19 +176,32 @@ returns-in_err-reader-clause-defects g c =
 
 pub returns-in-Err-clause-defects : goal.returns-in-Err-clause-defects
 returns-in-Err-clause-defects g c =
+    let left = g.R.Source.left in
+    rw c.texts_fault.ensures (begun_tells ℕ (IsDefectBy c.args.setting.now c.args.strike.now) (left c.args.lines.now)
+    (text_left c.loop-before.reader (left c.loop-before.lines))
+    (text_left c.next_line.new.reader (left c.next_line.new.lines)) c.next_line.new.reader c.loop-before.before
+    c.loop-before.used c.in-Err.stop c.in-Err.ensures.outcome)
+
+pub returns-in-Err-draw_line-clause-defects : goal.returns-in-Err-draw_line-clause-defects
+returns-in-Err-draw_line-clause-defects g c =
     let so_far = c.loop-before.invariant in
     let a = c.args.setting.now in
     let left = g.R.Source.left in
     let rest = text_left c.loop-before.reader (left c.loop-before.lines) in
-    let Tells : Strike → Type 0 = λ s. IfSome (stop_font_fault c.in-Err.stop)
-    (λ f. IfSome rest (BeginsDefective (IsDefectBy a s) f)) in
-    rw c.texts_fault.ensures (stop_tells ℕ (IsDefectBy a c.args.strike.now) (draws_by a c.args.strike.now)
+    let after = text_left c.next_line.new.reader (left c.next_line.new.lines) in
+    let found = rw c.in-Ok-Some.field-0-is at c.in-Ok-Some.ensures.outcome in
+    let line = line_at c.next_line.new.reader c.in-Ok-Some.place in
+    let why = c.in-Err-draw_line.refusal in
+    let Tells : Strike → Type 0 = λ s. IfSome (stop_font_fault why) (IsDefectBy a s line) in
+    let is = subst Tells so_far.strike (rw c.line-line.ensures at c.in-Err-draw_line.ensures.defects) in
+    let IsOne = IsDefectBy a c.args.strike.now in
+    rw c.texts_fault-in-Err-draw_line.ensures (stop_tells ℕ IsOne (draws_by a c.args.strike.now)
     (left c.args.lines.now) rest (g.W.Sink.written c.args.out.now) (g.W.Sink.written c.loop-before.out)
     (errors_of g.E.Sink.written g.E.Sink.has_failed c.args.error.now c.loop-before.error) c.loop-before.before
-    c.in-Err.stop so_far.so_far (subst Tells so_far.strike c.in-Err.ensures.defects))
+    c.loop-before.used why so_far.so_far (next_tells IsOne rest after line why found.1 is))
 
-pub next_text-next-requires-clause-face : goal.next_text-next-requires-clause-face
-next_text-next-requires-clause-face g c = ap (λ (s : Strike). s.face) c.loop-before.invariant.strike ∙ c.requires.face
+pub draw_line-requires-clause-face : goal.draw_line-requires-clause-face
+draw_line-requires-clause-face g c = ap (λ (s : Strike). s.face) c.loop-before.invariant.strike ∙ c.requires.face
 
 pub returns-in-Ok-None-clause-kept : goal.returns-in-Ok-None-clause-kept
 returns-in-Ok-None-clause-kept g c =
@@ -168,6 +209,5 @@ returns-in-Ok-None-clause-kept g c =
     omega (
       arith,
       c.kept_bytes.ensures.most,
-      ap most c.in-Ok-None.ensures.same,
       ap most c.loop-before.invariant.strike,
     )
