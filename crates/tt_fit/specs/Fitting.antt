@@ -1,6 +1,6 @@
 -- OpenType, "The 'glyf' table": the outline of a glyph at a size, with its components made first, in the order of their
 -- records.
-use Rattle.std.specs.Prelude.{◌≡◌, ℕ, zero, suc, ◌≤◌, true, ℤ, pos, neg_ℤ, ◌+ℤ◌, codes, List, [], ◌∷◌, Option, None, Result, Ok, Err, refl}
+use Rattle.std.specs.Prelude.{◌≡◌, ℕ, zero, suc, ◌-◌, ◌≤◌, true, ℤ, pos, neg_ℤ, ◌+ℤ◌, codes, List, [], ◌∷◌, Option, Some, None, Result, Ok, Err, refl}
 use Rattle.tt_core.specs.Faults.{Fault}
 use Rattle.tt_core.specs.declared.fault.Why.TheVariants as why
 use Rattle.tt_core.specs.Faults.{fault_at}
@@ -159,6 +159,15 @@ left_after (everywhere fault) worked left = left
 unfoldable pub after_glyph : Fitter → ℕ → Fitter
 after_glyph s g = record s { work = left_after s.fallback (glyph_work s g s.work) s.work }
 
+-- a job's remaining work after a cost; none remains where there was less
+abbrev pub work_less : ℕ → Option ℕ → Option ℕ
+work_less cost None = None
+work_less cost (Some left) = Some (left - cost)
+
+-- this fitter after a cost
+abbrev pub charged_fitter : Fitter → ℕ → Fitter
+charged_fitter s cost = record s { work = work_less cost s.work }
+
 -- the fitter that makes a character's glyph
 abbrev pub glyph_fitter : Fitter → ℕ → Fitter
 glyph_fitter s g = with_hinting s (hinting_for (unfitted_fault s g) s.hinting)
@@ -166,6 +175,16 @@ glyph_fitter s g = with_hinting s (hinting_for (unfitted_fault s g) s.hinting)
 -- the outline of a character's glyph, or the fault that comes first
 unfoldable pub fitted_outline : Fitter → ℕ → Result Outline Fault
 fitted_outline s g = outline_at (glyph_fitter s g) s.levels g
+
+-- worked values: some work is charged, more than there is, and work that is not bounded
+some_is_charged : work_less 40 (Some 100) ≡ Some 60
+some_is_charged = refl
+
+more_than_remains : work_less 40 (Some 39) ≡ Some 0
+more_than_remains = refl
+
+not_bounded : work_less 40 None ≡ None
+not_bounded = refl
 
 -- worked values: three glyphs at 16 pixels, 256 units in an em, each 256 wide; the bearing of glyph 1 alone is 64
 abbrev its_metrics : Metrics

@@ -12,7 +12,7 @@ ghost use Rattle.tt_fit.specs.Joining.{placed};
 ghost use Rattle.tt_fit.specs.Defects.{IsOutlineDefect};
 ghost use Rattle.tt_fit.specs.Dropouts.{dropouts_of};
 ghost use Rattle.tt_fit.specs.Fallback.{never, where_refused};
-ghost use Rattle.tt_fit.specs.Fitting.{IsFitter, with_hinting, size_of, start, glyph_program, simple_outline, joined, added, outline_at, simple_work, added_work, outline_work, glyph_work, unfitted_fault, fitted_outline, after_glyph};
+ghost use Rattle.tt_fit.specs.Fitting.{IsFitter, with_hinting, size_of, start, glyph_program, simple_outline, joined, added, outline_at, simple_work, added_work, outline_work, glyph_work, unfitted_fault, fitted_outline, after_glyph, charged_fitter};
 ghost use Rattle.tt_fit.specs.Outline.{outline_of, phantom_of, IsPoint, ArePhantom, AreEnds, IsOutline};
 ghost use Rattle.tt_fit.specs.Preparation.{program_tables, fitter_of};
 ghost use Rattle.tt_fit.specs.Hinting.{IsHinting};
@@ -173,6 +173,22 @@ impl<'a> Fitter<'a> {
         self.machine = machine;
         self.work = work;
         Ok(outline)
+    }
+
+    /// The job's remaining work; None where it is not bounded.
+    pub fn work(&self) -> Option<u64>
+        ensures { result ≡ self.now.work }
+    {
+        self.work.left
+    }
+
+    /// Charges a cost to the job, where work is bounded. No work remains where there was less.
+    pub fn charge(&mut self, cost: u64)
+        ensures { self.new ≡ charged_fitter self.old cost }
+    {
+        if let Some(left) = self.work.left {
+            self.work.left = Some(left.saturating_sub(cost));
+        }
     }
 
     /// The rules for filling the dropouts of a glyph's outline; None where none are filled.

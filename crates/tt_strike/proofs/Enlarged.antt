@@ -10,7 +10,7 @@ use Rattle.tt_fit.specs.Outline.{Outline}
 use Rattle.tt_line.specs.Layout.{Placement}
 use Rattle.tt_scan.specs.declared.edge.Frame.{Frame}
 use Rattle.tt_scan_ink.specs.declared.ink.GlyphInk.{GlyphInk}
-use Rattle.tt_strike.specs.Distinct.{line_fitter}
+use Rattle.tt_strike.specs.Work.{line_fitter}
 use Rattle.tt_strike.specs.Glyphs.{AreDrawn, Glyph, numbers_of}
 use Rattle.tt_strike.specs.Grown.{grown, grown_line, lacking, not_large, with_sides}
 use Rattle.tt_strike.specs.Ink.{glyph_ink}
@@ -147,7 +147,7 @@ pub record IsMade (face : Face) (a : Job) (line : Placement) (s : Fitter) : Type
   pub opened : setting_in face a ≡ Ok s
   pub few : as_job (points_tested s a line) ≡ Ok tt
   pub fitted : shapes_in s line ≡ Ok shapes
-  pub seldom : crossings_tested a shapes ≡ Ok tt
+  pub seldom : crossings_tested s a line shapes ≡ Ok tt
 
 pub larger_made : (face : Face) (a : Job) (l larger : Placement) (left : ℕ) (gs : List Glyph)
     → (made : AreMade false face a l gs) → larger.glyphs ≡ rightwards left l.glyphs → IsMade face a larger made.setting
@@ -160,7 +160,7 @@ larger_made face a l larger left gs made are =
       opened = made.opened;
       few = rw numbers made.few;
       fitted = rw (numbers, are) moved.made;
-      seldom = rw moved.crossings made.seldom;
+      seldom = rw (numbers, moved.crossings) made.seldom;
     }
 
 pub larger_drawn : (face : Face) (a : Job) (larger : Placement) (s : Fitter) → (made : IsMade face a larger s)

@@ -7,7 +7,7 @@ ghost use Rattle.tt_fit.specs.Fitting.{Fitter, fitted_outline};
 ghost use Rattle.tt_scan.specs.declared.edge.Frame.{Frame};
 ghost use Rattle.tt_scan.specs.Winding.{FrameFits};
 ghost use Rattle.tt_scan.specs.Winding.{is_black, column_x, row_y};
-ghost use Rattle.tt_strike.specs.Distinct.{IsNext, distinct, fitter_after, fitter_past, is_among, line_fitter, with_glyph};
+ghost use Rattle.tt_strike.specs.Distinct.{IsNext, distinct, each_fitter, fitter_after, fitter_past, is_among, with_glyph};
 ghost use Rattle.tt_strike.specs.Glyphs.{AreDrawn, AreKept, AreWithin, Adds, ArePlaces, Stand, crossings_standing, edges_of, numbers_of, stamps_in};
 ghost use Rattle.tt_strike.specs.Kept.{AreKeptFor};
 ghost use Rattle.tt_strike.specs.Picture.{glyph_shape};
@@ -232,10 +232,10 @@ pub(crate) fn line_glyphs(
     ensures room { IfOk result (λ g. length g.places.items ≡ glyphs) }
     ensures after { IfOk result (λ g. fitter.new ≡ fitter_after fitter.old (numbers_of g.kept.items)) }
     ensures pens { IfOk result (λ g. AreWithin g.kept.items) }
-    ensures valid { IfOk result (λ g. AreDrawn keeps (line_fitter fitter.old (map (λ g. g.0) line.now)) frame g.kept.items) }
+    ensures valid { IfOk result (λ g. AreDrawn keeps (each_fitter fitter.old (map (λ g. g.0) line.now)) frame g.kept.items) }
     ensures numbers { IfOk result (λ g. numbers_of g.kept.items ≡ distinct (map (λ g. g.0) line.now)) }
-    ensures stand { IfOk result (λ g. IsOkAnd (each (glyph_shape (line_fitter fitter.old (map (λ g. g.0) line.now))) line.now) (Stand keeps frame g.kept.items)) }
-    ensures fault { IfTold font_fault result (λ f. each (glyph_shape (line_fitter fitter.old (map (λ g. g.0) line.now))) line.now ≡ Err f) }
+    ensures stand { IfOk result (λ g. IsOkAnd (each (glyph_shape (each_fitter fitter.old (map (λ g. g.0) line.now))) line.now) (Stand keeps frame g.kept.items)) }
+    ensures fault { IfTold font_fault result (λ f. each (glyph_shape (each_fitter fitter.old (map (λ g. g.0) line.now))) line.now ≡ Err f) }
 {
     tt_fit::laws::work_unfits();
     let mut distinct = Glyphs::new(alloc, glyphs, line.len())?;

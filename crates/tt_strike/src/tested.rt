@@ -23,7 +23,7 @@ use crate::glyphs::{Glyphs, line_glyphs};
 use crate::job::Job;
 use crate::maker::Maker;
 use crate::tables::Face;
-use crate::work::{test_crossings, test_points};
+use crate::work::{charge_points, crossings_allowed, test_crossings};
 use std::alloc::Global;
 use tt_line::Line;
 use tt_scan::Frame;
@@ -81,10 +81,11 @@ pub(crate) fn tested_glyphs<'a>(
     tt_fit::laws::work_unfits();
     let mut fitter = maker.take(alloc, face, job)?;
     let count = face.metrics().glyphs();
-    test_points(alloc, job.fit, &fitter, count, &line.glyphs)?;
+    charge_points(alloc, job.fit, &mut fitter, count, &line.glyphs)?;
     let frame = frame_of(line, job.margin);
     let glyphs = line_glyphs(alloc, &mut fitter, count, &line.glyphs, frame, kept, keeps)?;
-    test_crossings(job.fit, &glyphs.kept)?;
+    let most = crossings_allowed(fitter.work());
+    test_crossings(job.fit, most, &glyphs.kept)?;
     maker.give_back(fitter, job.fit);
     Ok(glyphs)
 }
