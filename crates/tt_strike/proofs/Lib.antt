@@ -31,3 +31,5 @@ mod Enlarged
 mod Agreeing
 mod SidesRefuse
 mod RowsCut
+mod RowsNeeded
+mod Needed

@@ -2,19 +2,19 @@
 
 ghost use Rattle.std.specs.Prelude.{◌≡◌, ◌<◌, ◌≤◌, ◌^◌, ◌&&◌, not, nat_lt, Bool, true, List, length, map, unsigned_abs, All, Ok, IfOk};
 ghost use Rattle.tt_core.specs.declared.fault.JobFault.TheVariants.{WorkLarge};
-ghost use Rattle.tt_core.specs.Limits.{text_limit, width_limit, height_limit};
+ghost use Rattle.tt_core.specs.Limits.{crossing_limit, text_limit, width_limit, height_limit};
 ghost use Rattle.tt_core.specs.Outcomes.{GivesUnless, IfTold};
 ghost use Rattle.tt_fit.specs.Fitting.{Fitter};
 ghost use Rattle.tt_line.specs.Outcome.{placement_of};
 ghost use Rattle.tt_metrics.specs.Metrics.{glyphs_of};
 ghost use Rattle.tt_scan.specs.Winding.{FrameFits};
 ghost use Rattle.tt_strike.specs.Defects.{IsLineDefect, IsTooMuchWork, TellsDefects, draw_font_fault, draw_job_fault};
-ghost use Rattle.tt_strike.specs.Glyphs.{BodyFits, CanBeFilled, Stand};
+ghost use Rattle.tt_strike.specs.Glyphs.{BodyFits, CanBeFilled, Stand, edges_cut};
 ghost use Rattle.tt_strike.specs.Job.{job_view, IsJob};
 ghost use Rattle.tt_strike.specs.Kept.{AreKeptFor};
 ghost use Rattle.tt_strike.specs.Makers.{IsMaker};
 ghost use Rattle.tt_strike.specs.Picture.{drawn, frame_of, picture, setting_in};
-ghost use Rattle.tt_strike.specs.Pictures.{IsReady, picture_bytes};
+ghost use Rattle.tt_strike.specs.Pictures.{IsReady, all_crossings, picture_bytes};
 ghost use Rattle.tt_strike.specs.Pixels.{Shape};
 ghost use Rattle.tt_strike.specs.Refusals.{refusal};
 ghost use Rattle.tt_strike.specs.Report.{line_report, unfitted_standing, ListsOnce};
@@ -58,6 +58,7 @@ pub(crate) fn draw_made(
     ensures valid { IfOk result IsReady }
     ensures frame { IfOk result (λ p. p.frame ≡ frame) }
     ensures unfitted { IfOk result (λ p. p.unfitted ≡ unfitted_standing glyphs.items) }
+    ensures edges { IfOk result (λ p. p.edges ≡ edges_cut glyphs.items) }
 {
     let dropouts = line_dropouts(alloc, frame, &glyphs)?;
     Picture::new(alloc, frame, glyphs, dropouts)
@@ -88,6 +89,7 @@ pub(crate) fn draw_line<'a>(
     ensures frame { IfOk result (λ p. p.frame ≡ frame_of (placement_of line.now) job.now.margin) }
     ensures report { IfOk result (λ p. line_report face.now (job_view job.now) (placement_of line.now) ≡ Ok p.unfitted) }
     ensures once { IfOk result (λ p. ListsOnce p.unfitted) }
+    ensures few { is_bounded job.now.fit ≡ true → IfOk result (λ p. all_crossings p ≤ crossing_limit) }
     ensures maker { IsMaker face.now job.now.ppem job.now.fit maker.new }
     ensures kept { (s : Fitter) → setting_in face.now (job_view job.now) ≡ Ok s → AreKeptFor s kept.new.entries }
     ensures same { is_bounded job.now.fit ≡ true → kept.new ≡ kept.old }

@@ -2,7 +2,7 @@
 //! work is bounded with `Fit::Best`.
 
 ghost use Rattle.std.specs.Prelude.{◌≡◌, ◌<◌, ◌≤◌, ◌^◌, true, length, map, unsigned_abs, All, Ok, Err, IfOk, IsOkAnd};
-ghost use Rattle.tt_core.specs.Limits.{height_limit, text_limit, width_limit};
+ghost use Rattle.tt_core.specs.Limits.{crossing_limit, height_limit, text_limit, width_limit};
 ghost use Rattle.tt_core.specs.Outcomes.{GivesUnless, IfTold};
 ghost use Rattle.tt_fit.specs.Fitting.{Fitter};
 ghost use Rattle.tt_line.specs.Outcome.{placement_of};
@@ -16,7 +16,7 @@ ghost use Rattle.tt_strike.specs.Kept.{AreKeptFor};
 ghost use Rattle.tt_strike.specs.Makers.{IsMaker};
 ghost use Rattle.tt_strike.specs.Measures.{measure_view};
 ghost use Rattle.tt_strike.specs.Picture.{frame_of, setting_in};
-ghost use Rattle.tt_strike.specs.Pictures.{IsReady, picture_bytes};
+ghost use Rattle.tt_strike.specs.Pictures.{IsReady, all_crossings, picture_bytes};
 ghost use Rattle.tt_strike.specs.Refusals.{refusal};
 ghost use Rattle.tt_strike.specs.Report.{line_report, ListsOnce};
 ghost use Rattle.tt_strike.specs.Work.{is_bounded};
@@ -128,6 +128,7 @@ pub(crate) fn draw_grown<'a>(
     ensures frame { IfOk result (λ p. IsOkAnd (grown_line face.now (job_view job.now) (placement_of line)) (λ l. p.frame ≡ frame_of l job.now.margin)) }
     ensures report { IfOk result (λ p. line_report face.now (job_view job.now) (placement_of line) ≡ Ok p.unfitted) }
     ensures once { IfOk result (λ p. ListsOnce p.unfitted) }
+    ensures few { is_bounded job.now.fit ≡ true → IfOk result (λ p. all_crossings p ≤ crossing_limit) }
     ensures maker { IsMaker face.now job.now.ppem job.now.fit maker.new }
     ensures kept { (s : Fitter) → setting_in face.now (job_view job.now) ≡ Ok s → AreKeptFor s kept.new.entries }
     ensures same { is_bounded job.now.fit ≡ true → kept.new ≡ kept.old }

@@ -1,6 +1,7 @@
 //! A font at a size, which draws many lines and runs its programs once.
 
 ghost use Rattle.std.specs.Prelude.{◌≡◌, ◌≤◌, true, [], Ok, IfOk, IsOkAnd};
+ghost use Rattle.tt_core.specs.Limits.{crossing_limit};
 ghost use Rattle.tt_core.specs.Outcomes.{GivesUnless, IfTold};
 ghost use Rattle.tt_line.specs.Layout.{placement, text_glyphs};
 ghost use Rattle.tt_strike.specs.Defects.{IsLineDefect, IsLineRefusal, TellsDefects, draw_font_fault, draw_job_fault};
@@ -8,7 +9,7 @@ ghost use Rattle.tt_strike.specs.Grown.{grown_measured, grown_outcome, grown_pla
 ghost use Rattle.tt_strike.specs.Job.{size_tested, IsSizeRefusal};
 ghost use Rattle.tt_strike.specs.Measures.{measure_view, measured};
 ghost use Rattle.tt_strike.specs.Picture.{frame_of, line_outcome};
-ghost use Rattle.tt_strike.specs.Pictures.{IsReady, picture_bytes};
+ghost use Rattle.tt_strike.specs.Pictures.{IsReady, all_crossings, picture_bytes};
 ghost use Rattle.tt_strike.specs.Refusals.{as_job, refusal};
 ghost use Rattle.tt_strike.specs.Report.{report_by, ListsOnce};
 ghost use Rattle.tt_strike.specs.Strikes.{job_of};
@@ -106,6 +107,7 @@ impl<'f, 'a> Strike<'f, 'a> {
         ensures frame { IfOk result (λ p. IsOkAnd (placement self.old.face.metrics self.old.face.cmap text.now self.old.ppem margin) (λ l. p.frame ≡ frame_of l margin)) }
         ensures report { IfOk result (λ p. report_by self.old.face (job_of self.old text.now margin) ≡ Ok p.unfitted) }
         ensures once { IfOk result (λ p. ListsOnce p.unfitted) }
+        ensures few { is_bounded self.old.fit ≡ true → IfOk result (λ p. all_crossings p ≤ crossing_limit) }
         ensures defects { TellsDefects draw_font_fault (IsLineDefect self.old.face (job_of self.old text.now margin) (text_glyphs self.old.face.cmap text.now)) result }
         ensures job { IfTold draw_job_fault result (IsLineRefusal self.old.face (job_of self.old text.now margin)) }
         ensures same { self.new ≡ record self.old { kept = self.new.kept } }
@@ -165,6 +167,7 @@ impl<'f, 'a> Strike<'f, 'a> {
         ensures frame { IfOk result (λ p. IsOkAnd (grown_placement self.old.face (job_of self.old text.now margin)) (λ l. p.frame ≡ frame_of l margin)) }
         ensures report { IfOk result (λ p. report_by self.old.face (job_of self.old text.now margin) ≡ Ok p.unfitted) }
         ensures once { IfOk result (λ p. ListsOnce p.unfitted) }
+        ensures few { is_bounded self.old.fit ≡ true → IfOk result (λ p. all_crossings p ≤ crossing_limit) }
         ensures defects { TellsDefects draw_font_fault (IsLineDefect self.old.face (job_of self.old text.now margin) (text_glyphs self.old.face.cmap text.now)) result }
         ensures same { self.new ≡ record self.old { kept = self.new.kept } }
     {

@@ -8,6 +8,7 @@ use Rattle.tt_strike.specs.Pictures.{picture_bytes}
 use Rattle.tt_strike.proofs.Filled.{can_be_filled}
 use Rattle.tt_strike.proofs.Kept.{unbounded_where}
 use Rattle.tt_strike.proofs.Made.{drawn_as_made, reported_as_made}
+use Rattle.tt_strike.proofs.Needed.{tested_crossings}
 use Rattle.tt_strike.proofs.Stopped.{drawing_stops}
 use Rattle.tt_strike.proofs.drawing.draw_line.Goals as goal
 
@@ -53,3 +54,14 @@ returns-clause-once c =
 
 pub returns-clause-frame : goal.returns-clause-frame
 returns-clause-frame c = c.in_ok-draw_made.ensures.frame ∙ c.frame_of-frame.ensures.exact
+
+pub returns-clause-few : goal.returns-clause-few
+returns-clause-few c = λ bounded.
+    let a = job_view c.args.job.now in
+    let l = placement_of c.args.line.now in
+    let gs = c.in_ok-glyphs.field-0.kept.items in
+    let made = c.in_ok-glyphs.ensures.made in
+    let frame : c.in_ok-draw_made.field-0.frame ≡ frame_of l a.margin =
+    c.in_ok-draw_made.ensures.frame ∙ c.frame_of-frame.ensures.exact in
+    rw (frame, c.in_ok-draw_made.ensures.edges)
+    (tested_crossings {keeps = c.keeps_glyphs-keeps.result} a l made.setting (frame_of l a.margin) gs made.shapes made.drawn made.numbers made.fitted made.seldom bounded)
