@@ -39,14 +39,20 @@ unspent stays s t u gs numbers begun after none =
     let then : u ≡ fitter_after s numbers = rw same at after in
     then ∙ unchanged stays s numbers none
 
--- the crossings that the work allows after the line's glyphs
+-- the work that remains after the line's glyphs
+pub work_remains : (s t u : Fitter) (gs numbers : List ℕ) (left : Option ℕ) → left ≡ u.work → u ≡ fitter_after t numbers
+    → t ≡ started s gs → numbers ≡ distinct gs → left ≡ work_left s gs
+work_remains s t u gs numbers left is after begun each_once =
+    let these : fitter_after t numbers ≡ fitter_after (started s gs) (distinct gs) = rw (begun, each_once) refl in
+    let all : u ≡ fitter_after (started s gs) (distinct gs) = after ∙ these in
+    is ∙ ap (λ (f : Fitter). f.work) all
+
+-- the crossings that this work allows
 pub crossings_most : (s t u : Fitter) (gs numbers : List ℕ) (most : ℕ) (left : Option ℕ) → most ≡ crossings_allowed left
     → left ≡ u.work → u ≡ fitter_after t numbers → t ≡ started s gs → numbers ≡ distinct gs
     → most ≡ crossings_allowed (work_left s gs)
 crossings_most s t u gs numbers most left allowed is after begun each_once =
-    let these : fitter_after t numbers ≡ fitter_after (started s gs) (distinct gs) = rw (begun, each_once) refl in
-    let all : u ≡ fitter_after (started s gs) (distinct gs) = after ∙ these in
-    allowed ∙ ap crossings_allowed (is ∙ ap (λ (f : Fitter). f.work) all)
+    allowed ∙ ap crossings_allowed (work_remains s t u gs numbers left is after begun each_once)
 
 pub given_back : (face : Face) (ppem : ℕ) (how : Fit) (s t : Fitter) (before after : Maker) (bounded : Bool)
     → IsSetting face ppem how s → (bounded ≡ false → t ≡ s) → IsMaker face ppem how before

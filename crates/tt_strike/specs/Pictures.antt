@@ -9,14 +9,15 @@ use Rattle.tt_scan.specs.Winding.{FrameFits}
 use Rattle.tt_strike.specs.Pixels.{crossings_up_to}
 use Rattle.tt_strike.specs.declared.report.Unfitted.{Unfitted}
 
--- the frame, the bytes of its rows, how many rows were made, the unfitted glyphs, and the edges that rows are cut
--- from, glyph by glyph
+-- the frame, the bytes of its rows, how many rows were made, the unfitted glyphs, the edges that rows are cut from,
+-- glyph by glyph, and what the text takes of the budget of many lines
 pub record Picture : Type 0 where
   pub frame : Frame
   pub rows : List ℕ
   pub made : ℕ
   pub unfitted : List Unfitted
   pub edges : List (List Edge)
+  pub cost : ℕ
 
 -- the bytes of row r
 abbrev pub row_at : Picture → ℕ → List ℕ
@@ -56,6 +57,7 @@ nine_wide = record {
   made = 0;
   unfitted = [];
   edges = (upright ∷ []) ∷ [] ∷ (upright ∷ upright ∷ []) ∷ [];
+  cost = 0;
 }
 
 its_row_in_the_middle : row_at nine_wide 1 ≡ 2 ∷ 0 ∷ []

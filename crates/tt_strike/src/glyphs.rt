@@ -29,6 +29,8 @@ pub(crate) struct Glyphs {
     pub(crate) kept: Vec<Glyph>,
     /// How many pens each glyph has room for at first.
     room: usize,
+    /// What the line takes of the budget of a call of many lines, once its glyphs are tested.
+    pub(crate) cost: u64,
 }
 
 impl Glyphs {
@@ -42,6 +44,7 @@ impl Glyphs {
             places: vec![in alloc; 0u16; usize::from(glyphs)]?,
             kept: Vec::new(alloc),
             room: (count / 16).clamp(4, 64),
+            cost: 0,
         })
     }
 
@@ -198,9 +201,19 @@ impl Glyphs {
         ensures drawn { IfOk result (λ v. (maker : ℕ → Fitter) (f : Frame) → AreDrawn false maker f self.kept.items → AreDrawn false maker frame v.items) }
         ensures stand { IfOk result (λ v. (maker : ℕ → Fitter) (f : Frame) → AreDrawn false maker f self.kept.items → IsOkAnd (each (glyph_shape maker) line.now) (Stand false frame v.items)) }
     {
-        let Glyphs { places, kept, room } = self;
+        let Glyphs {
+            places,
+            kept,
+            room,
+            cost,
+        } = self;
         let kept = reframed_glyphs(alloc, frame, kept)?;
-        let mut glyphs = Glyphs { places, kept, room };
+        let mut glyphs = Glyphs {
+            places,
+            kept,
+            room,
+            cost,
+        };
         for place in line {
             glyphs.stand(*place)?;
         }

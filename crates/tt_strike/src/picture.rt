@@ -41,7 +41,7 @@ impl Model for Picture {
 
     ghost Value = { pictures.Picture };
 
-    ghost view = { λ p. record { frame = p.frame; rows = all_rows p.frame p.glyphs.items p.dropouts.items; made = p.made; unfitted = p.report.unfitted.items; edges = edges_cut p.glyphs.items } };
+    ghost view = { λ p. record { frame = p.frame; rows = all_rows p.frame p.glyphs.items p.dropouts.items; made = p.made; unfitted = p.report.unfitted.items; edges = edges_cut p.glyphs.items; cost = p.report.cost } };
 
     ghost invariant = { λ p. FrameFits p.frame × (p.frame.height ≤ height_limit) × (p.made ≤ p.frame.height)
         × All (GlyphFits p.frame p.made p.sweep.room) p.glyphs.items
@@ -49,22 +49,23 @@ impl Model for Picture {
 }
 
 impl Picture {
-    /// The picture of some glyphs and dropouts, with no row made yet. Error: out of memory.
+    /// The picture of some glyphs and dropouts, with no row made yet, of a text with this cost. Error: out of memory.
     pub(crate) fn new(
         alloc: Global,
         frame: Frame,
         glyphs: Vec<Glyph>,
         dropouts: Vec<Dropout>,
+        cost: u64,
     ) -> Result<Picture, AllocError>
         requires frame { FrameFits frame }
         requires height { frame.height ≤ height_limit }
         requires glyphs { All (λ g. BodyFits frame 0 g.body) glyphs.items }
         requires dropouts { AreDropouts frame.width dropouts.items }
-        ensures exact { IfOk result (λ p. p ≡ record { frame = frame; rows = all_rows frame glyphs.items dropouts.items; made = 0; unfitted = unfitted_standing glyphs.items; edges = edges_cut glyphs.items }) }
+        ensures exact { IfOk result (λ p. p ≡ record { frame = frame; rows = all_rows frame glyphs.items dropouts.items; made = 0; unfitted = unfitted_standing glyphs.items; edges = edges_cut glyphs.items; cost = cost }) }
         ensures valid { IfOk result IsReady }
     {
         let most = most_edges(&glyphs);
-        let report = report_on(alloc, &glyphs)?;
+        let report = report_on(alloc, &glyphs, cost)?;
         Ok(Picture {
             frame,
             glyphs,
@@ -112,6 +113,13 @@ impl Picture {
         ensures { result.now ≡ self.now.unfitted }
     {
         &self.report.unfitted
+    }
+
+    /// What the text takes of the budget of a call of many lines.
+    pub fn cost(&self) -> u64
+        ensures { result ≡ self.now.cost }
+    {
+        self.report.cost
     }
 
     /// The picture's report.

@@ -1,10 +1,11 @@
 //! The work of a job, which is bounded with `Fit::Best`.
 
 ghost use Rattle.std.specs.List.{sum_by};
-ghost use Rattle.std.specs.Prelude.{◌≡◌, ◌<◌, ◌≤◌, ◌-◌, ◌^◌, nat_lt, false, None, min, length, map, All, IfOk, OnOk};
+ghost use Rattle.std.specs.Prelude.{◌≡◌, ◌<◌, ◌≤◌, ◌-◌, ◌^◌, true, false, None, min, length, map, All, IfOk, OnOk};
 ghost use Rattle.tt_core.specs.Limits.{crossing_limit, point_work_limit};
 ghost use Rattle.tt_core.specs.Outcomes.{Gives, GivesUnless};
 ghost use Rattle.tt_fit.specs.Counting.{left_of, points_asked};
+ghost use Rattle.tt_strike.specs.Costs.{cost_of};
 ghost use Rattle.tt_strike.specs.Glyphs.{crossings_standing, edges_of};
 ghost use Rattle.tt_strike.specs.Refusals.{as_job, refusal};
 ghost use Rattle.tt_strike.specs.Work.{crossings_allowed, is_bounded, points_in, started, work_tested};
@@ -13,7 +14,7 @@ use crate::distinct::distinct;
 use crate::fault::DrawFault;
 use crate::glyph::Glyph;
 use std::alloc::{AllocError, Global};
-use tt_core::{CROSSING_LIMIT, JobFault, POINT_WORK_LIMIT};
+use tt_core::{CROSSING_LIMIT, JobFault, POINT_WORK_LIMIT, WORK_LIMIT};
 use tt_fit::{Fit, Fitter};
 
 /// The work that each point of a line's glyphs takes.
@@ -90,18 +91,37 @@ fn points_left(fitter: &Fitter, glyphs: &[u16], most: u64) -> Result<Option<u64>
     Ok(Some(left))
 }
 
-/// Tests the crossings of a job's glyphs at their pens. Error: WorkLarge, where work is bounded and they are more than
-/// `most`.
+/// Counts the crossings of a job's glyphs at their pens, where work is bounded; else 0. Error: WorkLarge, where they are
+/// more than `most`.
 #[tactic(auto, unfolding(crate::specs::Work::work_tested))]
-pub(crate) fn test_crossings(fit: Fit, most: u64, glyphs: &[Glyph]) -> Result<(), JobFault>
+pub(crate) fn test_crossings(fit: Fit, most: u64, glyphs: &[Glyph]) -> Result<u64, JobFault>
     requires tapes { All (λ g. length (edges_of g.body) ≤ 2 ^ 17) glyphs.now }
     requires most { most < 2 ^ 64 - 1 }
-    ensures exact { Gives (λ u. u) result (work_tested fit most (crossings_standing glyphs.now)) }
+    ensures exact { Gives (λ n. tt) result (work_tested fit most (crossings_standing glyphs.now)) }
+    ensures count { is_bounded fit ≡ true → IfOk result (λ n. n ≡ crossings_standing glyphs.now) }
+    ensures few { IfOk result (λ n. n ≤ most) }
 {
-    if is_bounded(fit) && cross_too_often(most, glyphs) {
+    let count = if is_bounded(fit) {
+        crossings(glyphs)
+    } else {
+        0
+    };
+    if count > most {
         return Err(JobFault::WorkLarge);
     }
-    Ok(())
+    Ok(count)
+}
+
+/// What a line takes of the budget of a call of many lines, by the work that remains and the line's crossings. Nothing
+/// where work is not bounded.
+pub(crate) fn cost_of(left: Option<u64>, crossings: u64) -> u64
+    requires { crossings ≤ crossing_limit }
+    ensures { result ≡ cost_of left crossings }
+{
+    match left {
+        None => 0,
+        Some(left) => WORK_LIMIT.saturating_sub(left) + CROSSING_WORK * crossings,
+    }
 }
 
 /// The crossings of some glyphs at their pens, or 2 ^ 64 - 1 if there are more.
@@ -114,13 +134,4 @@ fn crossings(glyphs: &[Glyph]) -> u64
         all = all.saturating_add(glyph.crossings());
     }
     all
-}
-
-/// Whether some glyphs have more crossings than `most`.
-fn cross_too_often(most: u64, glyphs: &[Glyph]) -> bool
-    requires tapes { All (λ g. length (edges_of g.body) ≤ 2 ^ 17) glyphs.now }
-    requires most { most < 2 ^ 64 - 1 }
-    ensures { result ≡ nat_lt most (crossings_standing glyphs.now) }
-{
-    crossings(glyphs) > most
 }

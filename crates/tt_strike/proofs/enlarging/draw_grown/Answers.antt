@@ -2,6 +2,7 @@ use Rattle.std.proofs.Common.{◌≡◌, ◌∙◌, ◌<◌, false, ap, refl, sy
 use Rattle.std.proofs.lemmas.Result.{IfOk-weaker, err_from_is_err_and}
 use Rattle.tt_line.specs.Outcome.{placement_of}
 use Rattle.tt_metrics.specs.Metrics.{glyphs_of}
+use Rattle.tt_strike.specs.Costs.{line_cost}
 use Rattle.tt_strike.specs.Distinct.{distinct}
 use Rattle.tt_strike.specs.Work.{line_fitter}
 use Rattle.tt_strike.specs.Glyphs.{AreDrawn, Stand, numbers_of}
@@ -10,7 +11,7 @@ use Rattle.tt_strike.specs.Picture.{drawn, frame_of, picture}
 use Rattle.tt_strike.specs.Pictures.{Picture, picture_bytes}
 use Rattle.tt_strike.specs.Report.{line_report, unfitted_standing}
 use Rattle.tt_strike.proofs.Among.{all_among, of_same_glyphs}
-use Rattle.tt_strike.proofs.Enlarged.{larger_drawn, larger_made, larger_reported, ungrown_stops}
+use Rattle.tt_strike.proofs.Enlarged.{larger_drawn, larger_made, larger_reported, same_cost, ungrown_stops}
 use Rattle.tt_strike.proofs.Filled.{can_be_filled, tapes_few}
 use Rattle.tt_strike.proofs.GrownStops.{same_report}
 use Rattle.tt_strike.proofs.Made.{reported_as_made}
@@ -155,3 +156,18 @@ returns-clause-few c = λ bounded.
     rw c.in_ok-enlarged.ensures.glyphs (c.in_ok-moved.ensures.numbers ∙ e.made.numbers) in
     rw (frame, c.in_ok-draw_made.ensures.edges) (tested_crossings {keeps = false} a larger s (frame_of larger a.margin) hs made.shapes
     there numbers made.fitted made.seldom bounded)
+
+pub returns-clause-cost : goal.returns-clause-cost
+returns-clause-cost c = rw c.in_ok-draw_made.ensures.cost c.in_ok-enlarged.ensures.cost
+
+pub returns-then-not-is_bounded-clause-cost : goal.returns-then-not-is_bounded-clause-cost
+returns-then-not-is_bounded-clause-cost c =
+    let face = c.args.face.now in
+    let a = job_view c.args.job.now in
+    let l = placement_of c.args.line in
+    let larger = placement_of c.in_ok-enlarged.enlarged.line in
+    let e = c.in_ok-enlarged.ensures.enlarged in
+    let same = same_cost face a l larger e.left c.in_ok-enlarged.enlarged.glyphs.kept.items e.made e.moved in
+    let anew = rw c.into_line-larger.ensures at c.draw_line.ensures.cost in
+    IfOk-weaker c.draw_line.result (λ (p : Picture). line_cost face a larger ≡ Ok p.cost)
+    (λ (p : Picture). line_cost face a l ≡ Ok p.cost) (λ p is. sym same ∙ is) anew

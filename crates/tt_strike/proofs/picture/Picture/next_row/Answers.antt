@@ -23,4 +23,4 @@ returns-clause-same c =
     sym (length-map c.make_row.new.glyphs stamp_of) ∙ ap length c.make_row.ensures.stamps
     ∙ length-map c.deref_mut.result.now stamp_of ∙ c.deref_mut.ensures.len in
     rw (← c.self.view_is, with_items_is p.glyphs c.make_row.new.glyphs many)
-    (ap (λ (ss : List Stamp). record { frame = f; rows = rows f.width (shows_by f ss p.dropouts.items) 0 (stride f.width * f.height); made = p.made + 1; unfitted = p.report.unfitted.items; edges = map (λ s. cut_from s.drawn) ss }) stamps)
+    (ap (λ (ss : List Stamp). record { frame = f; rows = rows f.width (shows_by f ss p.dropouts.items) 0 (stride f.width * f.height); made = p.made + 1; unfitted = p.report.unfitted.items; edges = map (λ s. cut_from s.drawn) ss; cost = p.report.cost }) stamps)
