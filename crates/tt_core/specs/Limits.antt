@@ -54,9 +54,9 @@ work_limit = 100000000
 
 -- points of all glyphs of a job, with phantom points and one for each contour, if the job's work is bounded
 abbrev pub point_work_limit : ℕ
-point_work_limit = 4000000
+point_work_limit = 1000000
 
--- crossings of a job's glyphs with the rows of its picture, if the job's work is bounded
+-- crossings of a job's glyphs, if the job's work is bounded
 abbrev pub crossing_limit : ℕ
 crossing_limit = 16000000
 

@@ -43,9 +43,9 @@ pub const WORK_LIMIT: u64 = 100_000_000;
 
 /// Points of all glyphs of a job, if the job's work is bounded. Phantom points count too, and one more for each
 /// contour.
-pub const POINT_WORK_LIMIT: u64 = 4_000_000;
+pub const POINT_WORK_LIMIT: u64 = 1_000_000;
 
-/// Crossings of a job's glyphs with the rows of its picture, if the job's work is bounded.
+/// Crossings of a job's glyphs, if the job's work is bounded.
 pub const CROSSING_LIMIT: u64 = 16_000_000;
 
 /// Open calls of functions.

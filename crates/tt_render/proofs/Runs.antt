@@ -10,7 +10,8 @@ use Rattle.tt_fit.specs.Fitting.{Fitter}
 use Rattle.tt_line.specs.Layout.{Placement, placement}
 use Rattle.tt_strike.specs.Costs.{cost_by, line_cost}
 use Rattle.tt_strike.specs.declared.report.Unfitted.{Unfitted}
-use Rattle.tt_strike.specs.Distinct.{distinct, line_fitter}
+use Rattle.tt_strike.specs.Distinct.{distinct}
+use Rattle.tt_strike.specs.Work.{line_fitter}
 use Rattle.tt_strike.specs.Job.{Job, tested}
 use Rattle.tt_strike.specs.Picture.{drawn, line_outcome, line_shapes, pictured, pictured_by, setting_in}
 use Rattle.tt_strike.specs.Pixels.{Shape}

@@ -55,7 +55,7 @@ one_glyph_crosses gs i g all most whole below is so_far =
     let all : drop i gs ≡ get_or gs i g ∷ drop (i + 1) gs = rw add-one (drop-cons gs i g below) in rw (← is) at all in
     stops_at all (glyph_crossings g) (crossings_standing (drop (i + 1) gs)) most whole (rw from at so_far)
 
-none_left : (gs : List Glyph) (i : ℕ) → length gs ≤ i → drop i gs ≡ []
+pub none_left : (gs : List Glyph) (i : ℕ) → length gs ≤ i → drop i gs ≡ []
 none_left [] zero over = refl
 none_left [] (suc i) over = refl
 none_left (g ∷ gs) zero over = absurd (omega (arith, over))

@@ -10,7 +10,8 @@ use Rattle.tt_fit.specs.Outline.{Outline}
 use Rattle.tt_line.specs.Layout.{Placement}
 use Rattle.tt_scan.specs.declared.edge.Frame.{Frame}
 use Rattle.tt_scan_ink.specs.declared.ink.GlyphInk.{GlyphInk}
-use Rattle.tt_strike.specs.Distinct.{line_fitter}
+use Rattle.tt_strike.specs.Work.{line_fitter}
+use Rattle.tt_strike.specs.Costs.{cost_of, line_cost}
 use Rattle.tt_strike.specs.Glyphs.{AreDrawn, Glyph, numbers_of}
 use Rattle.tt_strike.specs.Grown.{grown, grown_line, lacking, not_large, with_sides}
 use Rattle.tt_strike.specs.Ink.{glyph_ink}
@@ -22,11 +23,12 @@ use Rattle.tt_strike.specs.Pixels.{Shape}
 use Rattle.tt_strike.specs.Refusals.{Refused, as_job, job, refusal}
 use Rattle.tt_strike.specs.Report.{ListsOnce, line_report, unfitted_standing}
 use Rattle.tt_strike.specs.Tables.{Face}
-use Rattle.tt_strike.specs.Work.{crossings_in}
+use Rattle.tt_strike.specs.Work.{crossings_in, work_left}
 use Rattle.tt_strike.specs.declared.fault.DrawFault.{DrawFault}
 use Rattle.tt_strike.specs.declared.ink_box.InkBox.{InkBox}
 use Rattle.tt_strike.specs.declared.measuring.CharacterMeasure.{CharacterMeasure}
 use Rattle.tt_strike.specs.declared.report.Unfitted.{Unfitted}
+use Rattle.tt_strike.proofs.Costed.{costed, costed_as_made}
 use Rattle.tt_strike.proofs.Larger.{first_of}
 use Rattle.tt_strike.proofs.Listing.{standing_listed}
 use Rattle.tt_strike.proofs.Made.{measured_as_made, reported_as_made}
@@ -147,7 +149,7 @@ pub record IsMade (face : Face) (a : Job) (line : Placement) (s : Fitter) : Type
   pub opened : setting_in face a ≡ Ok s
   pub few : as_job (points_tested s a line) ≡ Ok tt
   pub fitted : shapes_in s line ≡ Ok shapes
-  pub seldom : crossings_tested a shapes ≡ Ok tt
+  pub seldom : crossings_tested s a line shapes ≡ Ok tt
 
 pub larger_made : (face : Face) (a : Job) (l larger : Placement) (left : ℕ) (gs : List Glyph)
     → (made : AreMade false face a l gs) → larger.glyphs ≡ rightwards left l.glyphs → IsMade face a larger made.setting
@@ -160,8 +162,24 @@ larger_made face a l larger left gs made are =
       opened = made.opened;
       few = rw numbers made.few;
       fitted = rw (numbers, are) moved.made;
-      seldom = rw moved.crossings made.seldom;
+      seldom = rw (numbers, moved.crossings) made.seldom;
     }
+
+-- it costs as much as the line
+pub same_cost : (face : Face) (a : Job) (l larger : Placement) (left : ℕ) (gs : List Glyph)
+    → (made : AreMade false face a l gs) → larger.glyphs ≡ rightwards left l.glyphs
+    → line_cost face a larger ≡ line_cost face a l
+unfolding moved_shapes larger_made
+same_cost face a l larger left gs made are =
+    let s = made.setting in
+    let numbers : map (λ g. g.0) larger.glyphs ≡ map (λ g. g.0) l.glyphs = rw are (same_numbers left l.glyphs) in
+    let moved = moved_shapes (line_fitter s (map (λ g. g.0) l.glyphs)) left l.glyphs made.shapes made.fitted in
+    let anew = larger_made face a l larger left gs made are in
+    let cost : List ℕ → ℕ → Result ℕ Refused = λ ns n. Ok (cost_of (work_left s ns) n) in
+    let alike : cost (map (λ g. g.0) larger.glyphs) (crossings_in moved.larger)
+    ≡ cost (map (λ g. g.0) l.glyphs) (crossings_in made.shapes) = rw (numbers, moved.crossings) refl in
+    costed face a larger s moved.larger anew.opened anew.few anew.fitted anew.seldom
+    ∙ alike ∙ sym (costed_as_made face a l gs made)
 
 pub larger_drawn : (face : Face) (a : Job) (larger : Placement) (s : Fitter) → (made : IsMade face a larger s)
     → drawn face a larger ≡ Ok (picture (frame_of larger a.margin) made.shapes)

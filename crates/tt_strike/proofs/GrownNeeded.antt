@@ -6,7 +6,7 @@ use Rattle.tt_core.specs.Outcomes.{each}
 use Rattle.tt_fit.specs.Fitting.{Fitter}
 use Rattle.tt_line.specs.Layout.{Placement}
 use Rattle.tt_scan_ink.specs.Least.{IsInk}
-use Rattle.tt_strike.specs.Distinct.{line_fitter}
+use Rattle.tt_strike.specs.Work.{line_fitter}
 use Rattle.tt_strike.specs.Grown.{before, grown, grown_line, grown_placement, lacking, past, with_sides}
 use Rattle.tt_strike.specs.InkLaws.{AreNeeded, GrownAddsFewest, IsLeast, is_ink}
 use Rattle.tt_strike.specs.Measures.{measured_line}
@@ -44,21 +44,29 @@ needed maker margin l b least =
     let s = lacking l.width l.height b in
     record {
       left = λ more.
-          let at = least.left in
-          (at.0 +ℤ pos s.top, moved_ink maker margin l s (pos 0) (at.0 +ℤ pos s.top) b.left at.0 (at_first b.left more)
-          (back at.0 s.top) at.1);
+          let at = least.left in (
+            at.0 +ℤ pos s.top,
+            moved_ink maker margin l s (pos 0) (at.0 +ℤ pos s.top) b.left at.0 (at_first b.left more)
+                (back at.0 s.top) at.1,
+          );
       top = λ more.
-          let at = least.top in
-          (at.0 +ℤ pos s.left, moved_ink maker margin l s (at.0 +ℤ pos s.left) (pos 0) at.0 b.top (back at.0 s.left)
-          (at_first b.top more) at.1);
+          let at = least.top in (
+            at.0 +ℤ pos s.left,
+            moved_ink maker margin l s (at.0 +ℤ pos s.left) (pos 0) at.0 b.top (back at.0 s.left)
+                (at_first b.top more) at.1,
+          );
       right = λ more.
-          let at = least.right in
-          (at.0 +ℤ pos s.top, moved_ink maker margin l s (pos (with_sides l s).width -ℤ pos 1) (at.0 +ℤ pos s.top) b.right
-          at.0 (at_last l.width s.left b.right more) (back at.0 s.top) at.1);
+          let at = least.right in (
+            at.0 +ℤ pos s.top,
+            moved_ink maker margin l s (pos (with_sides l s).width -ℤ pos 1) (at.0 +ℤ pos s.top) b.right
+                at.0 (at_last l.width s.left b.right more) (back at.0 s.top) at.1,
+          );
       bottom = λ more.
-          let at = least.bottom in
-          (at.0 +ℤ pos s.left, moved_ink maker margin l s (at.0 +ℤ pos s.left) (pos (with_sides l s).height -ℤ pos 1)
-          at.0 b.bottom (back at.0 s.left) (at_last l.height s.top b.bottom more) at.1);
+          let at = least.bottom in (
+            at.0 +ℤ pos s.left,
+            moved_ink maker margin l s (at.0 +ℤ pos s.left) (pos (with_sides l s).height -ℤ pos 1)
+                at.0 b.bottom (back at.0 s.left) (at_last l.height s.top b.bottom more) at.1,
+          );
     }
 
 needed_alike : (s : Sides) (line : Placement) (these those : ℤ → ℤ → Bool) → ((c r : ℤ) → those c r ≡ these c r)
@@ -77,17 +85,24 @@ adds_needed maker margin l line None held is = inl (let same : l ≡ line = cc i
 adds_needed maker margin l line (Some b) held is =
     let s = lacking l.width l.height b in
     let same = not_too_large (with_sides l s) line is in
-    inr (s, sym same, subst (λ (p : Placement). AreNeeded s p (line_ink maker margin p)) same
-    (needed maker margin l b (least_box (line_ink maker margin l) b held)))
+    inr (
+      s,
+      sym same,
+      subst (λ (p : Placement). AreNeeded s p (line_ink maker margin p)) same
+          (needed maker margin l b (least_box (line_ink maker margin l) b held)),
+    )
 
 as_drawn : (maker : ℕ → Fitter) (margin : ℕ) (l line : Placement) (glyphs : List Shape)
     → each (glyph_shape maker) line.glyphs ≡ Ok glyphs
     → (line ≡ l) ⊎ ((s : Sides) × (line ≡ with_sides l s) × AreNeeded s line (line_ink maker margin line))
     → (line ≡ l) ⊎ ((s : Sides) × (line ≡ with_sides l s) × AreNeeded s line (is_ink (frame_of line margin) glyphs))
 as_drawn maker margin l line glyphs fitted (inl same) = inl same
-as_drawn maker margin l line glyphs fitted (inr adds) = inr (adds.0, adds.1,
-    needed_alike adds.0 line (line_ink maker margin line) (is_ink (frame_of line margin) glyphs)
-    (λ c r. shapes_black maker (frame_of line margin) line.glyphs glyphs c r fitted) adds.2)
+as_drawn maker margin l line glyphs fitted (inr adds) = inr (
+  adds.0,
+  adds.1,
+  needed_alike adds.0 line (line_ink maker margin line) (is_ink (frame_of line margin) glyphs)
+      (λ c r. shapes_black maker (frame_of line margin) line.glyphs glyphs c r fitted) adds.2,
+)
 
 same_line : {A E : Type 0} (r : Result A E) (x y : A) → r ≡ Ok x → r ≡ Ok y → x ≡ y
 same_line r x y one other = cc

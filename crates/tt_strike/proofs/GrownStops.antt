@@ -3,7 +3,7 @@ use Rattle.std.proofs.Common.{◌≡◌, ◌∙◌, refl, ap, sym, ℕ, List, ma
 use Rattle.tt_core.specs.Outcomes.{◌>>=◌}
 use Rattle.tt_fit.specs.Fitting.{Fitter}
 use Rattle.tt_line.specs.Layout.{Placement}
-use Rattle.tt_strike.specs.Distinct.{distinct, line_fitter}
+use Rattle.tt_strike.specs.Distinct.{distinct}
 use Rattle.tt_strike.specs.Enlarged.{drawn_grown}
 use Rattle.tt_strike.specs.Grown.{grown_line, grown_outcome, grown_placement}
 use Rattle.tt_strike.specs.Job.{Job}
@@ -12,6 +12,7 @@ use Rattle.tt_strike.specs.Pixels.{Shape}
 use Rattle.tt_strike.specs.Refusals.{Refused, as_font}
 use Rattle.tt_strike.specs.Report.{line_report, unfitted_among}
 use Rattle.tt_strike.specs.Tables.{Face}
+use Rattle.tt_strike.specs.Work.{line_fitter}
 use Rattle.tt_strike.specs.declared.report.Unfitted.{Unfitted}
 
 -- the line of a laid-out text is enlarged, and drawn

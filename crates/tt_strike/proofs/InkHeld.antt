@@ -24,7 +24,7 @@ use Rattle.tt_scan_ink.specs.Laws.{DropoutsInkHoldsAll, EdgesInkHoldsAll}
 use Rattle.tt_scan_ink.specs.Least.{IsInk, IsLeastBox}
 use Rattle.tt_scan_ink.specs.declared.ink.GlyphInk.{GlyphInk}
 use Rattle.tt_scan_ink.proofs.Together.{ink_alike, joined_is}
-use Rattle.tt_strike.specs.Distinct.{line_fitter}
+use Rattle.tt_strike.specs.Work.{line_fitter}
 use Rattle.tt_strike.specs.Ink.{all_joined, box_at, column_of, filled_ink, glyph_ink, ink_at, ink_by, joined, outline_ink, row_of}
 use Rattle.tt_strike.specs.InkLaws.{InkIsDrawn, IsBoxOf, IsLeast, MeasureHoldsInk, is_ink, line_of, some_dropout}
 use Rattle.tt_strike.specs.Job.{Job}

@@ -4,7 +4,7 @@ use Rattle.std.specs.Prelude.{IfSome}
 use Rattle.std.proofs.lemmas.List.Elements.{All-weaker}
 use Rattle.std.specs.Map.{lookup}
 use Rattle.tt_core.specs.Faults.{Fault}
-use Rattle.tt_fit.specs.Fitting.{Fitter, fitted_outline, unfitted_fault}
+use Rattle.tt_fit.specs.Fitting.{Fitter, charged_fitter, fitted_outline, unfitted_fault}
 use Rattle.tt_fit.specs.Laws.{UnboundedStays}
 use Rattle.tt_fit.specs.Outline.{Outline}
 use Rattle.tt_fit.specs.declared.programs.Fit.{Fit}
@@ -16,7 +16,7 @@ use Rattle.tt_strike.specs.Glyphs.{Body, tape, raster, IsBodyOf, IsTape, edges_o
 use Rattle.tt_strike.specs.Kept.{AreKeptFor, IsKept}
 use Rattle.tt_strike.specs.Picture.{edges_at, filled_by}
 use Rattle.tt_strike.specs.Work.{is_bounded, work_tested}
-use Rattle.tt_strike.proofs.Setting.{unchanged}
+use Rattle.tt_strike.proofs.Setting.{uncharged, unchanged}
 use Rattle.tt_strike_kept.proofs.CallerLemmas.{all_found}
 use Rattle.tt_strike_kept.specs.Glyph.{KeptGlyph}
 
@@ -48,6 +48,18 @@ pub kept_after : UnboundedStays → (s : Fitter) (gs : List ℕ) (es : List (ℕ
 kept_after stays s gs es all =
     All-weaker (IsAsMade s) (IsAsMade (fitter_after s gs)) (λ e kept. rw (unchanged stays s gs kept.unbounded) kept)
     es all
+
+-- cached glyphs equal those made after a cost, and those made before it
+pub kept_at_a_cost : (s : Fitter) (cost : ℕ) (es : List (ℕ × KeptGlyph)) → AreKeptFor s es
+    → AreKeptFor (charged_fitter s cost) es
+kept_at_a_cost s cost es all =
+    All-weaker (IsAsMade s) (IsAsMade (charged_fitter s cost)) (λ e kept. rw (uncharged s cost kept.unbounded) kept) es all
+
+pub kept_before_a_cost : (s : Fitter) (cost : ℕ) (before after : List (ℕ × KeptGlyph)) (keeps : Bool)
+    → (keeps ≡ true → s.work ≡ None) → (keeps ≡ false → after ≡ before) → AreKeptFor s before
+    → AreKeptFor (charged_fitter s cost) after → AreKeptFor s after
+kept_before_a_cost s cost before after true unbounded same old new = rw (uncharged s cost (unbounded refl)) at new
+kept_before_a_cost s cost before after false unbounded same old new = rw (same refl) old
 
 -- cached glyphs after a line equal those made by the fitter before it
 pub kept_before : UnboundedStays → (s : Fitter) (gs : List ℕ) (before after : List (ℕ × KeptGlyph)) (keeps : Bool)

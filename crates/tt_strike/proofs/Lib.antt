@@ -31,3 +31,6 @@ mod Enlarged
 mod Agreeing
 mod SidesRefuse
 mod RowsCut
+mod Costed
+mod RowsNeeded
+mod Needed

@@ -1,5 +1,5 @@
 -- The unfitted glyphs, each once: the list found by searching a line's glyphs has no glyph twice.
-use Rattle.std.proofs.Common.{◌≡◌, ◌≢◌, ℕ, ◌+◌, ◌<◌, Bool, true, false, not, ◌&&◌, ◌||◌, ◌==◌, List, [], ◌∷◌, ◌++◌, length, map, drop, get_or, Option, Some, None, Result, Ok, refl, ap, ◌∙◌, arith, append_assoc, add-one, drop-cons}
+use Rattle.std.proofs.Common.{◌≡◌, ◌≢◌, ℕ, ◌+◌, ◌*◌, ◌<◌, Bool, true, false, not, ◌&&◌, ◌||◌, ◌==◌, List, [], ◌∷◌, ◌++◌, length, map, drop, get_or, Option, Some, None, Result, Ok, refl, ap, ◌∙◌, arith, append_assoc, add-one, drop-cons}
 use Rattle.std.proofs.lemmas.Bool.Decides.{nat_tests}
 use Rattle.std.proofs.lemmas.List.Elements.{All-head, All-tail}
 use Rattle.tt_core.specs.Faults.{Fault}
@@ -16,11 +16,13 @@ use Rattle.tt_strike.specs.Tables.{Face, face_of, programs_in, glyphs_in}
 use Rattle.tt_strike.specs.Laws.{OthersListNothing}
 use Rattle.tt_strike.specs.Refusals.{Refused, as_font, as_job}
 use Rattle.tt_strike.specs.Picture.{line_shapes, setting, setting_in}
+use Rattle.tt_strike.proofs.Setting.{uncharged}
 use Rattle.tt_strike.proofs.Whole.{of-font}
 use Rattle.tt_strike.specs.declared.report.Unfitted.{Unfitted}
 use Rattle.tt_strike.specs.Distinct.{is_among, with_glyph, distinct, distinct_after, fitter_for}
 use Rattle.tt_strike.specs.Glyphs.{Glyph, IsDrawn, AreDrawn, numbers_of}
 use Rattle.tt_strike.specs.Report.{listed, unfitted_among, unfitted_standing, line_report, report_by, report_of, all_differ, ListsOnce}
+use Rattle.tt_strike.specs.Work.{line_fitter, point_work, points_in, started}
 
 -- drawn glyphs are those of the definition
 pub standing_listed : {keeps : Bool} (maker : ℕ → Fitter) (f : Frame) (gs : List Glyph) → AreDrawn keeps maker f gs
@@ -170,13 +172,15 @@ line_lists_nothing laws face a line entries was other =
     let by_tables = came-through (glyphs_in face.directory face.metrics) _ s
     (of-font (setting_in face a) s by_setting.first) in
     let by_programs = came-through (programs_in face.directory a.fit) _ s by_tables.rest in
-    let numbers = distinct (map (λ g. g.0) line.glyphs) in
+    let all = map (λ g. g.0) line.glyphs in
+    let numbers = distinct all in
     let unbounded = laws.others face.metrics by_tables.value by_programs.value a.ppem a.fit s (not_best a.fit other)
     by_programs.rest in
     let stays : (g : ℕ) → after_glyph s g ≡ s = λ g. (laws.stays s g unbounded.0).1 in
-    let none : (g : ℕ) → unfitted_fault (fitter_for s numbers g) g ≡ None = λ g. rw (stays_for s numbers g stays)
+    let same : started s all ≡ s = uncharged s (point_work * points_in s all) unbounded.0 in
+    let none : (g : ℕ) → unfitted_fault (line_fitter s all g) g ≡ None = λ g. rw (same, stays_for s numbers g stays)
     (laws.never face.metrics by_tables.value by_programs.value a.ppem a.fit s g other by_programs.rest) in
-    let empty = none_listed (fitter_for s numbers) numbers none in
+    let empty = none_listed (line_fitter s all) numbers none in
     ok_empty _ entries by_edges.rest empty
 
 pub others_list_nothing : FitLaws → OthersListNothing

@@ -7,7 +7,7 @@ use Rattle.tt_line.specs.Layout.{Placement}
 use Rattle.tt_scan.specs.declared.edge.Edge.{Edge}
 use Rattle.tt_scan.specs.declared.edge.Frame.{Frame}
 use Rattle.tt_scan_dropouts.specs.declared.mark.Rules.{Rules}
-use Rattle.tt_strike.specs.Distinct.{line_fitter}
+use Rattle.tt_strike.specs.Work.{line_fitter}
 use Rattle.tt_strike.specs.Glyphs.{Body, tape, raster, AreDrawn, Glyph, IsBodyOf, IsDrawn, IsTape, edges_of, ink_standing, numbers_of}
 use Rattle.tt_strike.specs.Ink.{glyph_ink, ink_by}
 use Rattle.tt_strike.specs.Job.{Job}

@@ -1,16 +1,16 @@
 -- Every fit but Best leaves the fitter unchanged.
-use Rattle.std.proofs.Common.{◌≡◌, ◌≢◌, ℕ, Bool, true, false, List, [], ◌∷◌, None, Ok, refl}
-use Rattle.tt_fit.specs.Fitting.{Fitter}
+use Rattle.std.proofs.Common.{◌≡◌, ◌≢◌, ◌∙◌, ℕ, ◌*◌, Bool, true, false, List, [], ◌∷◌, Option, None, Ok, ap, refl}
+use Rattle.tt_fit.specs.Fitting.{Fitter, charged_fitter, work_less}
 use Rattle.tt_fit.specs.Laws.{OthersAreUnbounded, UnboundedStays}
 use Rattle.tt_fit.specs.Preparation.{ProgramTables, fitter_of}
 use Rattle.tt_fit.specs.declared.programs.Fit.{Fit}
 use Rattle.tt_fit.specs.declared.programs.Fit.TheVariants as fit
 use Rattle.tt_glyf.specs.Loca.{Glyf}
 use Rattle.tt_metrics.specs.Metrics.{Metrics}
-use Rattle.tt_strike.specs.Distinct.{fitter_after}
+use Rattle.tt_strike.specs.Distinct.{distinct, fitter_after}
 use Rattle.tt_strike.specs.Makers.{IsMaker, IsSetting}
 use Rattle.tt_strike.specs.Tables.{Face}
-use Rattle.tt_strike.specs.Work.{is_bounded}
+use Rattle.tt_strike.specs.Work.{crossings_allowed, is_bounded, point_work, points_in, started, work_left}
 use Rattle.tt_strike.specs.declared.maker.Maker.{Maker}
 use Rattle.tt_strike.specs.declared.maker.Maker.TheVariants as maker
 
@@ -24,6 +24,35 @@ unbounded law m tables programs ppem how s made other = (law m tables programs p
 pub unchanged : UnboundedStays → (s : Fitter) (gs : List ℕ) → s.work ≡ None → fitter_after s gs ≡ s
 unchanged stays s [] none = refl
 unchanged stays s (g ∷ gs) none = rw (stays s g none).1 (unchanged stays s gs none)
+
+-- no cost changes unbounded work
+pub uncharged : (s : Fitter) (cost : ℕ) → s.work ≡ None → charged_fitter s cost ≡ s
+uncharged s cost none =
+    let same : work_less cost s.work ≡ s.work = rw none refl in
+    ap (λ (w : Option ℕ). record s { work = w }) same
+
+-- a fitter with unbounded work is unchanged after a cost and some glyphs
+pub unspent : UnboundedStays → (s t u : Fitter) (gs numbers : List ℕ) → t ≡ started s gs → u ≡ fitter_after t numbers
+    → s.work ≡ None → u ≡ s
+unspent stays s t u gs numbers begun after none =
+    let same : t ≡ s = begun ∙ uncharged s (point_work * points_in s gs) none in
+    let then : u ≡ fitter_after s numbers = rw same at after in
+    then ∙ unchanged stays s numbers none
+
+-- the work that remains after the line's glyphs
+pub work_remains : (s t u : Fitter) (gs numbers : List ℕ) (left : Option ℕ) → left ≡ u.work → u ≡ fitter_after t numbers
+    → t ≡ started s gs → numbers ≡ distinct gs → left ≡ work_left s gs
+work_remains s t u gs numbers left is after begun each_once =
+    let these : fitter_after t numbers ≡ fitter_after (started s gs) (distinct gs) = rw (begun, each_once) refl in
+    let all : u ≡ fitter_after (started s gs) (distinct gs) = after ∙ these in
+    is ∙ ap (λ (f : Fitter). f.work) all
+
+-- the crossings that this work allows
+pub crossings_most : (s t u : Fitter) (gs numbers : List ℕ) (most : ℕ) (left : Option ℕ) → most ≡ crossings_allowed left
+    → left ≡ u.work → u ≡ fitter_after t numbers → t ≡ started s gs → numbers ≡ distinct gs
+    → most ≡ crossings_allowed (work_left s gs)
+crossings_most s t u gs numbers most left allowed is after begun each_once =
+    allowed ∙ ap crossings_allowed (work_remains s t u gs numbers left is after begun each_once)
 
 pub given_back : (face : Face) (ppem : ℕ) (how : Fit) (s t : Fitter) (before after : Maker) (bounded : Bool)
     → IsSetting face ppem how s → (bounded ≡ false → t ≡ s) → IsMaker face ppem how before

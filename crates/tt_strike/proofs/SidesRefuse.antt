@@ -9,16 +9,15 @@ use Rattle.tt_core.specs.declared.fault.JobFault.TheVariants as fault
 use Rattle.tt_fit.specs.Fitting.{Fitter, fitted_outline}
 use Rattle.tt_fit.specs.Outline.{Outline}
 use Rattle.tt_line.specs.Layout.{Placement}
-use Rattle.tt_strike.specs.Distinct.{line_fitter}
 use Rattle.tt_strike.specs.Grown.{grown, grown_line, grown_outcome, grown_placement, lacking, not_large, with_sides}
 use Rattle.tt_strike.specs.Job.{Job}
 use Rattle.tt_strike.specs.Laws.{GrownRefusals, SidesRefuseNothing}
 use Rattle.tt_strike.specs.Measures.{Measure, measured_line}
-use Rattle.tt_strike.specs.Picture.{crossings_tested, drawn, frame_of, glyph_shape, laid_out, line_shapes, picture, points_tested, setting_in, shape_at}
+use Rattle.tt_strike.specs.Picture.{drawn, frame_of, glyph_shape, laid_out, line_shapes, picture, points_tested, setting_in, shape_at}
 use Rattle.tt_strike.specs.Pixels.{Shape}
 use Rattle.tt_strike.specs.Refusals.{Refused, as_font, as_job, job}
 use Rattle.tt_strike.specs.Tables.{Face}
-use Rattle.tt_strike.specs.Work.{crossings_in}
+use Rattle.tt_strike.specs.Work.{crossings_allowed, crossings_in, line_fitter, work_left, work_tested}
 use Rattle.tt_strike.specs.declared.growing.Sides.{Sides}
 use Rattle.tt_strike.specs.declared.ink_box.InkBox.{InkBox}
 use Rattle.tt_strike.proofs.Agreeing.{measured_so_drawn}
@@ -88,23 +87,25 @@ after_test : {A B : Type 0} (t : Result (Unit {0}) JobFault) (x : Result A Refus
 after_test (Ok u) x y alike = alike
 after_test (Err j) x y alike = refl
 
-after_shapes : (a : Job) (these those : Result (List Shape) Fault) → AreCountedAlike these those
-    → AreRefusedAlike (as_font these >>= λ glyphs. as_job (crossings_tested a glyphs) >>= λ u. Ok glyphs)
-    (as_font those >>= λ glyphs. as_job (crossings_tested a glyphs) >>= λ u. Ok glyphs)
-after_shapes a (Ok these) (Ok those) alike =
+after_shapes : (a : Job) (most : ℕ) (these those : Result (List Shape) Fault) → AreCountedAlike these those
+    → AreRefusedAlike
+    (as_font these >>= λ glyphs. as_job (work_tested a.fit most (crossings_in glyphs)) >>= λ u. Ok glyphs)
+    (as_font those >>= λ glyphs. as_job (work_tested a.fit most (crossings_in glyphs)) >>= λ u. Ok glyphs)
+after_shapes a most (Ok these) (Ok those) alike =
     let same : crossings_in these ≡ crossings_in those = alike in
-    rw same (after_test (crossings_tested a those) (Ok these) (Ok those) tt)
-after_shapes a (Ok these) (Err f) alike = absurd alike
-after_shapes a (Err e) (Ok those) alike = absurd alike
-after_shapes a (Err e) (Err f) alike = let same : e ≡ f = alike in rw same refl
+    rw same (after_test (work_tested a.fit most (crossings_in those)) (Ok these) (Ok those) tt)
+after_shapes a most (Ok these) (Err f) alike = absurd alike
+after_shapes a most (Err e) (Ok those) alike = absurd alike
+after_shapes a most (Err e) (Err f) alike = let same : e ≡ f = alike in rw same refl
 
 line_alike : (s : Fitter) (a : Job) (line : Placement) (sides : Sides)
     → AreRefusedAlike (line_shapes s a line) (line_shapes s a (with_sides line sides))
 line_alike s a line sides =
-    let maker = line_fitter s (map (λ (g : ℕ × ℕ). g.0) line.glyphs) in
+    let numbers = map (λ (g : ℕ × ℕ). g.0) line.glyphs in
+    let maker = line_fitter s numbers in
     let larger = map (λ (g : ℕ × ℕ). (g.0, g.1 + sides.left)) line.glyphs in
     rw (numbers_stay sides.left line.glyphs) (after_test (points_tested s a line) _ _
-    (after_shapes a (each (glyph_shape maker) line.glyphs) (each (glyph_shape maker) larger)
+    (after_shapes a (crossings_allowed (work_left s numbers)) (each (glyph_shape maker) line.glyphs) (each (glyph_shape maker) larger)
     (counted_alike maker sides.left line.glyphs)))
 
 shown_alike : {A B C D E : Type 0} (x : Result A E) (y : Result B E) (p : A → C) (q : B → D) → AreRefusedAlike x y

@@ -7,7 +7,7 @@ use Rattle.tt_core.specs.declared.font_fault.FontFault.TheVariants as font
 use Rattle.tt_core.specs.declared.fault.JobFault.{JobFault}
 use Rattle.tt_core.specs.declared.fault.JobFault.TheVariants as job_of
 use Rattle.tt_core.specs.Faults.{Fault}
-use Rattle.tt_core.specs.Limits.{crossing_limit, point_work_limit}
+use Rattle.tt_core.specs.Limits.{point_work_limit}
 use Rattle.tt_core.specs.Outcomes.{◌>>=◌, FontGives, IfTold, font_fault}
 use Rattle.tt_fit.specs.Fitting.{Fitter}
 use Rattle.tt_line.specs.declared.fault.LineFault.{LineFault}
@@ -26,7 +26,7 @@ use Rattle.tt_strike.specs.Grown.{grown_outcome, grown_placement}
 use Rattle.tt_strike.specs.Made.{shapes_made}
 use Rattle.tt_strike.specs.Measures.{measured, measured_line}
 use Rattle.tt_strike.specs.Pixels.{Shape}
-use Rattle.tt_strike.specs.Work.{crossings_in, is_bounded, points_in, work_tested}
+use Rattle.tt_strike.specs.Work.{crossings_allowed, crossings_in, is_bounded, points_in, work_left, work_tested}
 use Rattle.tt_strike.specs.Views.{draw_fault_of_font, draw_fault_of_line}
 
 pub laying_stops : (a : Job) (face : Face) (e : LineFault) → tested a ≡ Ok tt
@@ -66,7 +66,7 @@ font_tells P font.Memory stands = tt
 -- crossings past the limit stop the line
 pub crossings_stop : (face : Face) (a : Job) (l : Placement) (s : Fitter) (glyphs : List Shape) (j : JobFault)
     → setting_in face a ≡ Ok s → as_job (points_tested s a l) ≡ Ok tt → shapes_in s l ≡ Ok glyphs
-    → crossings_tested a glyphs ≡ Err j → shapes_made face a l ≡ Err (job j)
+    → crossings_tested s a l glyphs ≡ Err j → shapes_made face a l ≡ Err (job j)
 crossings_stop face a l s glyphs j there few made refused = rw (there, few, made, refused) refl
 
 tested_as : (bounded past : Bool) (j : JobFault)
@@ -77,12 +77,13 @@ tested_as true false j was = absurd cc
 tested_as false past j was = absurd cc
 
 pub crossings_tell : (face : Face) (a : Job) (l : Placement) (s : Fitter) (glyphs : List Shape) (j : JobFault)
-    → setting_in face a ≡ Ok s → shapes_in s l ≡ Ok glyphs → crossings_tested a glyphs ≡ Err j
+    → setting_in face a ≡ Ok s → shapes_in s l ≡ Ok glyphs → crossings_tested s a l glyphs ≡ Err j
     → (j ≡ job_of.WorkLarge) × IsTooMuchWork face a l
 unfolding work_tested
 crossings_tell face a l s glyphs j there made refused =
-    let parts = tested_as (is_bounded a.fit) (nat_lt crossing_limit (crossings_in glyphs)) j refused in
-    let past : crossing_limit < crossings_in glyphs = let is = parts.2 in grind (arith, nat_tests) in
+    let most = crossings_allowed (work_left s (map (λ g. g.0) l.glyphs)) in
+    let parts = tested_as (is_bounded a.fit) (nat_lt most (crossings_in glyphs)) j refused in
+    let past : most < crossings_in glyphs = let is = parts.2 in grind (arith, nat_tests) in
     (parts.0, (parts.1, inr (rw (there, made) past)))
 
 -- a job's refusal is one of its tests, not of its font

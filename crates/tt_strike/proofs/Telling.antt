@@ -16,7 +16,7 @@ use Rattle.tt_line.specs.Layout.{text_glyphs}
 use Rattle.tt_metrics.specs.Metrics.{Metrics}
 use Rattle.tt_strike.specs.Job.{Job}
 use Rattle.tt_strike.specs.Defects.{IsFaceDefect, IsGlyphTableDefect, IsProgramTableDefect, IsSettingDefect, IsGlyphDefect, IsLineDefect, IsRunDefect}
-use Rattle.tt_strike.specs.Distinct.{line_fitter}
+use Rattle.tt_strike.specs.Work.{line_fitter}
 use Rattle.tt_strike.specs.Tables.{Face, face_of, programs_in}
 use Rattle.tt_strike.specs.Picture.{setting_in, glyph_shape}
 use Rattle.tt_strike.specs.Pixels.{Shape}

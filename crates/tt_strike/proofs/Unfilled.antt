@@ -20,6 +20,7 @@ use Rattle.tt_strike.specs.Refusals.{as_font, as_job}
 use Rattle.tt_strike.specs.Picture.{setting, setting_in, shape_at, glyph_shape, frame_of, picture, shapes_in, points_tested, crossings_tested, line_shapes, drawn, pictured, pictured_by}
 use Rattle.tt_strike.specs.Pixels.{Shape, is_black_pixel, some_black}
 use Rattle.tt_strike.specs.Tables.{Face, face_of, glyphs_in, programs_in}
+use Rattle.tt_strike.specs.Work.{line_fitter, started}
 use Rattle.tt_strike.proofs.Alike.{rows_alike}
 use Rattle.tt_strike.proofs.Beside.{unfilled_are_edges}
 use Rattle.tt_strike.proofs.Whole.{of-font, of-job}
@@ -73,10 +74,10 @@ unfolding setting
 others_fill_none laws face a line s glyphs other is fitted =
     let by_tables = came-through (glyphs_in face.directory face.metrics) _ s is in
     let by_programs = came-through (programs_in face.directory a.fit) _ s by_tables.rest in
-    let numbers = distinct (map (λ g. g.0) line.glyphs) in
+    let all = map (λ g. g.0) line.glyphs in
     let none = laws.none face.metrics by_tables.value by_programs.value a.ppem a.fit s in
-    all_unfilled (fitter_for s numbers) line.glyphs glyphs
-    (λ g unfitted o. kept_for laws s numbers g unfitted o ∙ none unfitted o other by_programs.rest) fitted
+    all_unfilled (line_fitter s all) line.glyphs glyphs
+    (λ g unfitted o. kept_for laws (started s all) (distinct all) g unfitted o ∙ none unfitted o other by_programs.rest) fitted
 
 -- the picture of unfilled glyphs
 same_by_edges : (f : Frame) (glyphs : List Shape) → AreUnfilled glyphs → picture f glyphs ≡ edges_picture f glyphs
@@ -97,7 +98,7 @@ line_by_edges laws a file bytes face line other read laid was =
     let by_points = came-through (as_job (points_tested s a line)) _ by_edges.value by_edges.first in
     let by_glyphs = came-through (as_font (shapes_in s line)) _ by_edges.value by_points.rest in
     let glyphs = by_glyphs.value in
-    let by_crossings = came-through (as_job (crossings_tested a glyphs)) _ by_edges.value by_glyphs.rest in
+    let by_crossings = came-through (as_job (crossings_tested s a line glyphs)) _ by_edges.value by_glyphs.rest in
     let fitted = of-font (shapes_in s line) glyphs by_glyphs.first in
     let unfilled = others_fill_none laws face a line s glyphs other made fitted in
     let f = frame_of line a.margin in

@@ -14,15 +14,14 @@ use Rattle.tt_cmap.specs.Defects.{IsBadCmap}
 use Rattle.tt_metrics.specs.Metrics.{Metrics, IsMetricsDefect}
 use Rattle.tt_core.specs.declared.fault.JobFault.{JobFault}
 use Rattle.tt_core.specs.declared.fault.JobFault.TheVariants as fault
-use Rattle.tt_core.specs.Limits.{crossing_limit, point_work_limit}
-use Rattle.tt_strike.specs.Distinct.{line_fitter}
+use Rattle.tt_core.specs.Limits.{point_work_limit}
 use Rattle.tt_strike.specs.Job.{Job, IsTestRefusal}
 use Rattle.tt_strike.specs.declared.fault.DrawFault.{DrawFault}
 use Rattle.tt_strike.specs.declared.fault.DrawFault.TheVariants as draw
 use Rattle.tt_strike.specs.Tables.{Face, face_of, cmap_tag, cvt_tag, fpgm_tag, prep_tag, programs_in}
 use Rattle.tt_strike.specs.Refusals.{needs_font}
 use Rattle.tt_strike.specs.Picture.{setting_in, shapes_in}
-use Rattle.tt_strike.specs.Work.{crossings_in, is_bounded, points_in}
+use Rattle.tt_strike.specs.Work.{crossings_allowed, crossings_in, is_bounded, line_fitter, points_in, work_left}
 
 -- a defect of the directory, or of a table needed for every text
 abbrev pub IsFaceDefect : List ℕ → Fault → Type 0
@@ -98,10 +97,11 @@ abbrev pub HasTooManyPoints : Face → Job → Placement → Type 0
 HasTooManyPoints face a line = IsOkAnd (setting_in face a)
     (λ s. point_work_limit < points_in s (map (λ g. g.0) line.glyphs))
 
--- the glyphs of a line that is laid out have too many crossings, in its picture and outside
+-- the glyphs of a line that is laid out have more crossings, in its picture and outside, than the work that remains
+-- allows
 abbrev pub CrossesTooOften : Face → Job → Placement → Type 0
-CrossesTooOften face a line = IsOkAnd (setting_in face a)
-    (λ s. IsOkAnd (shapes_in s line) (λ glyphs. crossing_limit < crossings_in glyphs))
+CrossesTooOften face a line = IsOkAnd (setting_in face a) (λ s. IsOkAnd (shapes_in s line)
+    (λ glyphs. crossings_allowed (work_left s (map (λ g. g.0) line.glyphs)) < crossings_in glyphs))
 
 -- the job's work is bounded, and its line exceeds it
 abbrev pub IsTooMuchWork : Face → Job → Placement → Type 0

@@ -34,9 +34,9 @@ abbrev pub fitter_for : Fitter → List ℕ → ℕ → Fitter
 fitter_for s [] g = s
 fitter_for s (h ∷ hs) g = if h == g then s else fitter_for (after_glyph s h) hs g
 
--- the fitter for each glyph of a line
-abbrev pub line_fitter : Fitter → List ℕ → ℕ → Fitter
-line_fitter s gs g = fitter_for s (distinct gs) g
+-- the fitter for each of some glyphs, which are made in the order of first appearance
+abbrev pub each_fitter : Fitter → List ℕ → ℕ → Fitter
+each_fitter s gs g = fitter_for s (distinct gs) g
 
 -- a glyph not made yet is made with this fitter
 abbrev pub IsNext : (ℕ → Fitter) → Fitter → List ℕ → ℕ → Type 0
@@ -46,8 +46,8 @@ IsNext maker s before g = is_among g before ≡ false → maker g ≡ s
 each_once : distinct (7 ∷ 3 ∷ 7 ∷ 3 ∷ 5 ∷ []) ≡ 7 ∷ 3 ∷ 5 ∷ []
 each_once = refl
 
-third_after_two : (s : Fitter) → line_fitter s (7 ∷ 3 ∷ 7 ∷ 3 ∷ 5 ∷ []) 5 ≡ after_glyph (after_glyph s 7) 3
+third_after_two : (s : Fitter) → each_fitter s (7 ∷ 3 ∷ 7 ∷ 3 ∷ 5 ∷ []) 5 ≡ after_glyph (after_glyph s 7) 3
 third_after_two s = refl
 
-first_before_all : (s : Fitter) → line_fitter s (7 ∷ 3 ∷ 7 ∷ 3 ∷ 5 ∷ []) 7 ≡ s
+first_before_all : (s : Fitter) → each_fitter s (7 ∷ 3 ∷ 7 ∷ 3 ∷ 5 ∷ []) 7 ≡ s
 first_before_all s = refl

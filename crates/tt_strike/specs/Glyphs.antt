@@ -20,7 +20,7 @@ use Rattle.tt_scan_ink.specs.declared.ink.GlyphInk.{GlyphInk}
 use Rattle.tt_strike.specs.Ink.{ink_by}
 use Rattle.tt_strike.specs.Picture.{contours_of, edges_at, filled_by}
 use Rattle.tt_strike.specs.Pixels as pixels
-use Rattle.tt_strike.specs.Pixels.{Drawn, Shape, Stamp, TapeFits, is_black_by, is_filled, is_filled_by, some_black, some_filled}
+use Rattle.tt_strike.specs.Pixels.{Drawn, Shape, Stamp, TapeFits, cut_from, is_black_by, is_filled, is_filled_by, some_black, some_filled}
 use Rattle.tt_strike.specs.Work.{crossings_in, filling_crossings}
 
 -- the part of a glyph that blackens rows: a tape of its edges, or the black columns of its lines
@@ -72,15 +72,28 @@ stamps_in gs = map stamp_of gs
 abbrev pub numbers_of : List Glyph → List ℕ
 numbers_of gs = map (λ g. g.number) gs
 
+-- the edges that rows are cut from, glyph by glyph
+abbrev pub edges_cut : List Glyph → List (List Edge)
+edges_cut gs = map (λ s. cut_from s.drawn) (stamps_in gs)
+
 -- a body has the edges of an outline, or their black columns
 abbrev pub IsBodyOf : List Edge → Body → Type 0
 IsBodyOf es (tape t) = t.edges ≡ es
 IsBodyOf es (raster k) = IsRasterOf es k
 
--- a tape has this frame, few edges, and a crossing count of at most `asked`
+-- a tape has this frame and few edges, and counts the crossings of the first rows, this many
 abbrev pub BodyFits : Frame → ℕ → Body → Type 0
-BodyFits f asked (tape t) = TapeFits f asked t
-BodyFits f asked (raster k) = ⊤
+BodyFits f made (tape t) = TapeFits f made t
+BodyFits f made (raster k) = ⊤
+
+-- the count of crossings made so far, of a glyph and of some
+abbrev pub body_crosses : Body → ℕ
+body_crosses (tape t) = t.crosses
+body_crosses (raster k) = 0
+
+abbrev pub crosses_in : List Glyph → ℕ
+crosses_in [] = 0
+crosses_in (g ∷ gs) = body_crosses g.body + crosses_in gs
 
 -- a glyph has the body of its outline, dropouts by its contours, and the fault that makes it unfitted; without a cache
 -- it is a tape
@@ -166,9 +179,9 @@ pub record ArePlaces (table numbers : List ℕ) : Type 0 where
   pub found : (n : ℕ) → 0 < slice_index table n → slice_index numbers (slice_index table n - 1) ≡ n
   pub there : (i : ℕ) → i < length numbers → slice_index table (slice_index numbers i) ≡ i + 1
 
--- a glyph with at most `asked` crossings, on a tape of the frame, with no more edges than a sweep has memory for
-pub record GlyphFits (f : Frame) (asked most : ℕ) (g : Glyph) : Type 0 where
-  pub body : BodyFits f asked g.body
+-- a glyph of the frame, whose first rows are made, this many, with no more edges than a sweep has memory for
+pub record GlyphFits (f : Frame) (made most : ℕ) (g : Glyph) : Type 0 where
+  pub body : BodyFits f made g.body
   pub room : length (edges_of g.body) ≤ most
 
 -- each glyph is drawn by its fitter

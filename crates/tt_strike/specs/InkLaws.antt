@@ -140,7 +140,7 @@ stem_side ax ay bx by = record { ax = pos ax; ay = pos ay; bx = pos bx; by = pos
 stem : Option Rules → List Shape
 stem filled =
     let edges : List Edge = stem_side 5120 8192 5120 24576 ∷ stem_side 5120 24576 7168 24576 ∷ stem_side 7168 24576 7168 8192
-        ∷ stem_side 7168 8192 5120 8192 ∷ [] in
+    ∷ stem_side 7168 8192 5120 8192 ∷ [] in
     record { edges = edges; contours = edges ∷ []; filled = filled } ∷ []
 
 dropout_above : is_ink one_pixel (stem (Some (record { stubs = true; smart = false }))) (pos 0) (negsuc 1) ≡ true

@@ -1,5 +1,6 @@
 pub mod Job
 pub mod Refusals
+pub mod Costs
 pub mod Defects
 pub mod Distinct
 pub mod Enlarged

@@ -3,13 +3,14 @@ use Rattle.std.specs.Prelude.{◌≡◌, Bool, List, map, Result, Ok}
 use Rattle.tt_core.specs.Outcomes.{◌>>=◌}
 use Rattle.tt_fit.specs.Fitting.{Fitter}
 use Rattle.tt_line.specs.Layout.{Placement}
-use Rattle.tt_strike.specs.Distinct.{distinct, line_fitter}
+use Rattle.tt_strike.specs.Distinct.{distinct}
 use Rattle.tt_strike.specs.Glyphs.{AreDrawn, AreWithin, Glyph, Stand, numbers_of}
 use Rattle.tt_strike.specs.Job.{Job}
 use Rattle.tt_strike.specs.Picture.{crossings_tested, frame_of, line_shapes, points_tested, setting_in, shapes_in}
 use Rattle.tt_strike.specs.Pixels.{Shape}
 use Rattle.tt_strike.specs.Refusals.{Refused, as_font, as_job}
 use Rattle.tt_strike.specs.Tables.{Face}
+use Rattle.tt_strike.specs.Work.{line_fitter}
 
 -- the glyphs of the line, or its first refusal
 abbrev pub shapes_made : Face → Job → Placement → Result (List Shape) Refused
@@ -22,7 +23,7 @@ pub record AreMade (keeps : Bool) (face : Face) (a : Job) (line : Placement) (gs
   pub opened : setting_in face a ≡ Ok setting
   pub few : as_job (points_tested setting a line) ≡ Ok tt
   pub fitted : shapes_in setting line ≡ Ok shapes
-  pub seldom : crossings_tested a shapes ≡ Ok tt
+  pub seldom : crossings_tested setting a line shapes ≡ Ok tt
   pub drawn : AreDrawn keeps (line_fitter setting (map (λ g. g.0) line.glyphs)) (frame_of line a.margin) gs
   pub numbers : numbers_of gs ≡ distinct (map (λ g. g.0) line.glyphs)
   pub within : AreWithin gs

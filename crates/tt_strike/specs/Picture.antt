@@ -4,7 +4,7 @@ use Rattle.std.specs.Prelude.{ℕ, ◌*◌, ℤ, pos, ◌-ℤ◌, List, map, Opt
 use Rattle.tt_arc.specs.Chords.{chord_contours, chord_edges}
 use Rattle.tt_core.specs.declared.fault.JobFault.{JobFault}
 use Rattle.tt_core.specs.Faults.{Fault}
-use Rattle.tt_core.specs.Limits.{crossing_limit, point_work_limit}
+use Rattle.tt_core.specs.Limits.{point_work_limit}
 use Rattle.tt_core.specs.Outcomes.{◌>>=◌, each}
 use Rattle.tt_fit.specs.Dropouts.{dropouts_of}
 use Rattle.tt_fit.specs.Fitting.{Fitter, fitted_outline, unfitted_fault}
@@ -17,12 +17,11 @@ use Rattle.tt_pbm.specs.P4.{p4}
 use Rattle.tt_scan.specs.declared.edge.Edge.{Edge}
 use Rattle.tt_scan.specs.declared.edge.Frame.{Frame}
 use Rattle.tt_scan_dropouts.specs.declared.mark.Rules.{Rules}
-use Rattle.tt_strike.specs.Distinct.{line_fitter}
 use Rattle.tt_strike.specs.Job.{Job, tested}
 use Rattle.tt_strike.specs.Refusals.{Refused, as_font, as_job}
 use Rattle.tt_strike.specs.Pixels.{Shape, is_black_pixel}
 use Rattle.tt_strike.specs.Tables.{Face, face_of, glyphs_in, programs_in}
-use Rattle.tt_strike.specs.Work.{crossings_in, points_in, work_tested}
+use Rattle.tt_strike.specs.Work.{crossings_allowed, crossings_in, line_fitter, points_in, work_left, work_tested}
 
 -- the fitter: the glyph data, and the state after the font's programs at the size
 unfoldable pub setting : Face → ℕ → Fit → Result Fitter Fault
@@ -78,16 +77,17 @@ shapes_in s line = each (glyph_shape (line_fitter s (map (λ g. g.0) line.glyphs
 abbrev pub points_tested : Fitter → Job → Placement → Result (Unit {0}) JobFault
 points_tested s a line = work_tested a.fit point_work_limit (points_in s (map (λ g. g.0) line.glyphs))
 
--- a line's glyphs have few enough crossings for the job, in its picture and outside
-abbrev pub crossings_tested : Job → List Shape → Result (Unit {0}) JobFault
-crossings_tested a glyphs = work_tested a.fit crossing_limit (crossings_in glyphs)
+-- a line's glyphs have few enough crossings, in its picture and outside, for the work that remains
+abbrev pub crossings_tested : Fitter → Job → Placement → List Shape → Result (Unit {0}) JobFault
+crossings_tested s a line glyphs =
+    work_tested a.fit (crossings_allowed (work_left s (map (λ g. g.0) line.glyphs))) (crossings_in glyphs)
 
 -- the glyphs that are drawn for a job, or its first refusal
 abbrev pub line_shapes : Fitter → Job → Placement → Result (List Shape) Refused
 line_shapes s a line =
     as_job (points_tested s a line) >>= λ u.
     as_font (shapes_in s line) >>= λ glyphs.
-    as_job (crossings_tested a glyphs) >>= λ u.
+    as_job (crossings_tested s a line glyphs) >>= λ u.
     Ok glyphs
 
 -- the picture of a laid-out line

@@ -5,7 +5,7 @@ use Rattle.std.specs.Prelude.{◌≡◌, ℕ, ◌≤◌, ◌^◌, Bool, false, �
 use Rattle.tt_scan.specs.declared.edge.Edge.{Edge}
 use Rattle.tt_scan.specs.declared.edge.Frame.{Frame}
 use Rattle.tt_scan.specs.Tape.{Tape}
-use Rattle.tt_scan.specs.Winding.{is_black, column_x, row_y}
+use Rattle.tt_scan.specs.Winding.{is_black, column_x, row_y, crossings_of}
 use Rattle.tt_scan_dropouts.specs.Dropouts.{is_dropout}
 use Rattle.tt_scan_dropouts.specs.Pictures.{column_at, line_at}
 use Rattle.tt_scan_dropouts.specs.declared.mark.Rules.{Rules}
@@ -75,12 +75,17 @@ abbrev pub is_filled_by : Frame → List Stamp → ℕ → ℕ → Bool
 is_filled_by f [] c r = false
 is_filled_by f (g ∷ gs) c r = is_filled_from f g.filled g.contours g.pens c r || is_filled_by f gs c r
 
--- the tape has this frame, at most 2 ^ 17 edges, and a crossing count of at most `asked`
-pub record TapeFits (f : Frame) (asked : ℕ) (t : Tape) : Type 0 where
+-- the edges that rows are cut from; a raster is cut already
+abbrev pub cut_from : Drawn → List Edge
+cut_from (edges es) = es
+cut_from (raster k) = []
+
+-- the crossings that the first rows of a frame need, this many
+abbrev pub crossings_up_to : Frame → ℕ → List Edge → ℕ
+crossings_up_to f count es = crossings_of (record f { height = count }) es
+
+-- the tape has this frame and at most 2 ^ 17 edges, and it counts the crossings of the first rows, this many
+pub record TapeFits (f : Frame) (made : ℕ) (t : Tape) : Type 0 where
   pub frame : t.frame ≡ f
   pub edges : length t.edges ≤ 2 ^ 17
-  pub crosses : t.crosses ≤ asked
-
--- the most crossings in one row of a glyph: each of 2 ^ 17 edges once
-abbrev pub row_crossings : ℕ
-row_crossings = 2 ^ 17
+  pub crosses : t.crosses ≡ crossings_up_to f made t.edges

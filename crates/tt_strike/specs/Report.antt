@@ -9,10 +9,11 @@ use Rattle.tt_line.specs.Layout.{Placement, placement}
 use Rattle.tt_strike.specs.Job.{Job}
 use Rattle.tt_strike.specs.declared.report.Unfitted.{Unfitted}
 use Rattle.tt_strike.specs.Tables.{Face, face_of}
-use Rattle.tt_strike.specs.Distinct.{distinct, is_among, line_fitter}
+use Rattle.tt_strike.specs.Distinct.{distinct, is_among}
 use Rattle.tt_strike.specs.Glyphs.{Glyph}
 use Rattle.tt_strike.specs.Refusals.{Refused, as_font, as_job}
 use Rattle.tt_strike.specs.Picture.{setting_in, line_shapes}
+use Rattle.tt_strike.specs.Work.{line_fitter}
 
 -- puts a glyph before those after it, if a fault makes it unfitted
 abbrev pub listed : ℕ → Option Fault → List Unfitted → List Unfitted

@@ -1,12 +1,12 @@
 -- No part of the standard: the limits of a job's work (profile). It is bounded only with best.
-use Rattle.std.specs.Prelude.{◌≡◌, refl, ℕ, ◌+◌, ◌&&◌, nat_lt, Bool, true, false, if◌then◌else◌, List, [], ◌∷◌, Option, Some, None, Result, Ok, Err}
+use Rattle.std.specs.Prelude.{◌≡◌, refl, ℕ, ◌+◌, ◌*◌, ◌/◌, min, ◌&&◌, nat_lt, Bool, true, false, if◌then◌else◌, List, [], ◌∷◌, Option, Some, None, Result, Ok, Err}
 use Rattle.std.specs.List.{sum_by}
 use Rattle.tt_core.specs.declared.fault.JobFault.{JobFault}
 use Rattle.tt_core.specs.declared.fault.JobFault.TheVariants as fault
 use Rattle.tt_core.specs.Limits.{crossing_limit}
 use Rattle.tt_fit.specs.Counting.{points_asked}
-use Rattle.tt_fit.specs.Fitting.{Fitter}
-use Rattle.tt_strike.specs.Distinct.{distinct}
+use Rattle.tt_fit.specs.Fitting.{Fitter, charged_fitter}
+use Rattle.tt_strike.specs.Distinct.{distinct, each_fitter, fitter_after}
 use Rattle.tt_fit.specs.declared.programs.Fit.{Fit}
 use Rattle.tt_fit.specs.declared.programs.Fit.TheVariants as fit
 use Rattle.tt_scan.specs.declared.edge.Edge.{Edge}
@@ -29,6 +29,27 @@ work_tested how limit work = if is_bounded how && nat_lt limit work then Err fau
 abbrev pub points_in : Fitter → List ℕ → ℕ
 points_in s gs = sum_by (points_asked s.tables s.levels) (distinct gs)
 
+-- each point takes this much of a line's work, before the first glyph is made
+abbrev pub point_work : ℕ
+point_work = 40
+
+-- the fitter of a line, after the points of the line's glyphs
+abbrev pub started : Fitter → List ℕ → Fitter
+started s gs = charged_fitter s (point_work * points_in s gs)
+
+-- the fitter for each glyph of a line
+abbrev pub line_fitter : Fitter → List ℕ → ℕ → Fitter
+line_fitter s gs g = each_fitter (started s gs) gs g
+
+-- the work that remains after the programs of a line's glyphs
+abbrev pub work_left : Fitter → List ℕ → Option ℕ
+work_left s gs = (fitter_after (started s gs) (distinct gs)).work
+
+-- how many crossings the remaining work allows: each takes 4, and 250,000 are free
+abbrev pub crossings_allowed : Option ℕ → ℕ
+crossings_allowed None = crossing_limit
+crossings_allowed (Some left) = min crossing_limit (left / 4 + 250000)
+
 -- where dropouts are filled, a glyph counts the search for them too
 abbrev pub filling_crossings : Option Rules → List Edge → ℕ
 filling_crossings None edges = 0
@@ -39,7 +60,19 @@ abbrev pub crossings_in : List Shape → ℕ
 crossings_in [] = 0
 crossings_in (s ∷ ss) = (edges_counted s.edges + filling_crossings s.filled s.edges) + crossings_in ss
 
--- worked values
+-- worked values: all work remains, some, three, and none
+all_remains : crossings_allowed (Some 100000000) ≡ 16000000
+all_remains = refl
+
+some_remains : crossings_allowed (Some 40000003) ≡ 10250000
+some_remains = refl
+
+too_little_for_one : crossings_allowed (Some 3) ≡ 250000
+too_little_for_one = refl
+
+none_remains : crossings_allowed (Some 0) ≡ 250000
+none_remains = refl
+
 at_the_limit : work_tested fit.Best crossing_limit 16000000 ≡ Ok tt
 unfolding work_tested
 at_the_limit = refl

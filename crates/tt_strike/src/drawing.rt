@@ -2,19 +2,20 @@
 
 ghost use Rattle.std.specs.Prelude.{◌≡◌, ◌<◌, ◌≤◌, ◌^◌, ◌&&◌, not, nat_lt, Bool, true, List, length, map, unsigned_abs, All, Ok, IfOk};
 ghost use Rattle.tt_core.specs.declared.fault.JobFault.TheVariants.{WorkLarge};
-ghost use Rattle.tt_core.specs.Limits.{text_limit, width_limit, height_limit};
+ghost use Rattle.tt_core.specs.Limits.{crossing_limit, text_limit, width_limit, height_limit};
 ghost use Rattle.tt_core.specs.Outcomes.{GivesUnless, IfTold};
 ghost use Rattle.tt_fit.specs.Fitting.{Fitter};
 ghost use Rattle.tt_line.specs.Outcome.{placement_of};
 ghost use Rattle.tt_metrics.specs.Metrics.{glyphs_of};
 ghost use Rattle.tt_scan.specs.Winding.{FrameFits};
+ghost use Rattle.tt_strike.specs.Costs.{line_cost};
 ghost use Rattle.tt_strike.specs.Defects.{IsLineDefect, IsTooMuchWork, TellsDefects, draw_font_fault, draw_job_fault};
-ghost use Rattle.tt_strike.specs.Glyphs.{BodyFits, CanBeFilled, Stand};
+ghost use Rattle.tt_strike.specs.Glyphs.{BodyFits, CanBeFilled, Stand, edges_cut};
 ghost use Rattle.tt_strike.specs.Job.{job_view, IsJob};
 ghost use Rattle.tt_strike.specs.Kept.{AreKeptFor};
 ghost use Rattle.tt_strike.specs.Makers.{IsMaker};
 ghost use Rattle.tt_strike.specs.Picture.{drawn, frame_of, picture, setting_in};
-ghost use Rattle.tt_strike.specs.Pictures.{IsReady, picture_bytes};
+ghost use Rattle.tt_strike.specs.Pictures.{IsReady, all_crossings, picture_bytes};
 ghost use Rattle.tt_strike.specs.Pixels.{Shape};
 ghost use Rattle.tt_strike.specs.Refusals.{refusal};
 ghost use Rattle.tt_strike.specs.Report.{line_report, unfitted_standing, ListsOnce};
@@ -48,6 +49,7 @@ pub(crate) fn draw_made(
     alloc: Global,
     frame: Frame,
     glyphs: Vec<Glyph>,
+    cost: u64,
 ) -> Result<Picture, AllocError>
     requires frame { FrameFits frame }
     requires height { frame.height ≤ height_limit }
@@ -58,9 +60,11 @@ pub(crate) fn draw_made(
     ensures valid { IfOk result IsReady }
     ensures frame { IfOk result (λ p. p.frame ≡ frame) }
     ensures unfitted { IfOk result (λ p. p.unfitted ≡ unfitted_standing glyphs.items) }
+    ensures edges { IfOk result (λ p. p.edges ≡ edges_cut glyphs.items) }
+    ensures cost { IfOk result (λ p. p.cost ≡ cost) }
 {
     let dropouts = line_dropouts(alloc, frame, &glyphs)?;
-    Picture::new(alloc, frame, glyphs, dropouts)
+    Picture::new(alloc, frame, glyphs, dropouts, cost)
 }
 
 /// The picture of a line that is laid out. Errors: those of loca and glyf, of the programs; WorkLarge of its points;
@@ -88,6 +92,8 @@ pub(crate) fn draw_line<'a>(
     ensures frame { IfOk result (λ p. p.frame ≡ frame_of (placement_of line.now) job.now.margin) }
     ensures report { IfOk result (λ p. line_report face.now (job_view job.now) (placement_of line.now) ≡ Ok p.unfitted) }
     ensures once { IfOk result (λ p. ListsOnce p.unfitted) }
+    ensures cost { IfOk result (λ p. line_cost face.now (job_view job.now) (placement_of line.now) ≡ Ok p.cost) }
+    ensures few { is_bounded job.now.fit ≡ true → IfOk result (λ p. all_crossings p ≤ crossing_limit) }
     ensures maker { IsMaker face.now job.now.ppem job.now.fit maker.new }
     ensures kept { (s : Fitter) → setting_in face.now (job_view job.now) ≡ Ok s → AreKeptFor s kept.new.entries }
     ensures same { is_bounded job.now.fit ≡ true → kept.new ≡ kept.old }
@@ -96,7 +102,7 @@ pub(crate) fn draw_line<'a>(
     ensures work { IfTold draw_job_fault result (λ j. (j ≡ WorkLarge) × IsTooMuchWork face.now (job_view job.now) (placement_of line.now)) }
 {
     let keeps = keeps_glyphs(kept, job.fit);
-    let glyphs = tested_glyphs(alloc, face, maker, kept, job, line, keeps)?.kept;
+    let glyphs = tested_glyphs(alloc, face, maker, kept, job, line, keeps)?;
     let frame = frame_of(line, job.margin);
-    Ok(draw_made(alloc, frame, glyphs)?)
+    Ok(draw_made(alloc, frame, glyphs.kept, glyphs.cost)?)
 }

@@ -2,11 +2,12 @@
 //! work is bounded with `Fit::Best`.
 
 ghost use Rattle.std.specs.Prelude.{◌≡◌, ◌<◌, ◌≤◌, ◌^◌, true, length, map, unsigned_abs, All, Ok, Err, IfOk, IsOkAnd};
-ghost use Rattle.tt_core.specs.Limits.{height_limit, text_limit, width_limit};
+ghost use Rattle.tt_core.specs.Limits.{crossing_limit, height_limit, text_limit, width_limit};
 ghost use Rattle.tt_core.specs.Outcomes.{GivesUnless, IfTold};
 ghost use Rattle.tt_fit.specs.Fitting.{Fitter};
 ghost use Rattle.tt_line.specs.Outcome.{placement_of};
 ghost use Rattle.tt_metrics.specs.Metrics.{glyphs_of};
+ghost use Rattle.tt_strike.specs.Costs.{line_cost};
 ghost use Rattle.tt_strike.specs.Defects.{IsLineDefect, TellsDefects, draw_font_fault};
 ghost use Rattle.tt_strike.specs.Enlarged.{IsEnlarged, drawn_grown, measured_grown};
 ghost use Rattle.tt_strike.specs.Glyphs.{ArePlaces, numbers_of};
@@ -16,7 +17,7 @@ ghost use Rattle.tt_strike.specs.Kept.{AreKeptFor};
 ghost use Rattle.tt_strike.specs.Makers.{IsMaker};
 ghost use Rattle.tt_strike.specs.Measures.{measure_view};
 ghost use Rattle.tt_strike.specs.Picture.{frame_of, setting_in};
-ghost use Rattle.tt_strike.specs.Pictures.{IsReady, picture_bytes};
+ghost use Rattle.tt_strike.specs.Pictures.{IsReady, all_crossings, picture_bytes};
 ghost use Rattle.tt_strike.specs.Refusals.{refusal};
 ghost use Rattle.tt_strike.specs.Report.{line_report, ListsOnce};
 ghost use Rattle.tt_strike.specs.Work.{is_bounded};
@@ -76,6 +77,7 @@ fn enlarge<'a>(
     requires pens { All (λ g. g.1 ≤ line.width) line.glyphs.items }
     requires count { length line.glyphs.items ≤ text_limit }
     ensures enlarged { IfOk result (λ e. IsEnlarged face.now (job_view job.now) (placement_of line) (placement_of e.line) e.glyphs.kept.items e.inks.items) }
+    ensures cost { IfOk result (λ e. line_cost face.now (job_view job.now) (placement_of line) ≡ Ok e.glyphs.cost) }
     ensures places { IfOk result (λ e. ArePlaces e.glyphs.places.items (numbers_of e.glyphs.kept.items)) }
     ensures room { IfOk result (λ e. length e.glyphs.places.items ≡ glyphs_of face.now.metrics) }
     ensures width { IfOk result (λ e. (1 ≤ e.line.width) × (e.line.width ≤ width_limit)) }
@@ -128,6 +130,8 @@ pub(crate) fn draw_grown<'a>(
     ensures frame { IfOk result (λ p. IsOkAnd (grown_line face.now (job_view job.now) (placement_of line)) (λ l. p.frame ≡ frame_of l job.now.margin)) }
     ensures report { IfOk result (λ p. line_report face.now (job_view job.now) (placement_of line) ≡ Ok p.unfitted) }
     ensures once { IfOk result (λ p. ListsOnce p.unfitted) }
+    ensures cost { IfOk result (λ p. line_cost face.now (job_view job.now) (placement_of line) ≡ Ok p.cost) }
+    ensures few { is_bounded job.now.fit ≡ true → IfOk result (λ p. all_crossings p ≤ crossing_limit) }
     ensures maker { IsMaker face.now job.now.ppem job.now.fit maker.new }
     ensures kept { (s : Fitter) → setting_in face.now (job_view job.now) ≡ Ok s → AreKeptFor s kept.new.entries }
     ensures same { is_bounded job.now.fit ≡ true → kept.new ≡ kept.old }
@@ -144,9 +148,10 @@ pub(crate) fn draw_grown<'a>(
         line: larger,
         ..
     } = enlarged;
+    let cost = glyphs.cost;
     let frame = frame_of(&larger, job.margin);
     let moved = glyphs.reframed(alloc, frame, &larger.glyphs)?;
-    Ok(draw_made(alloc, frame, moved)?)
+    Ok(draw_made(alloc, frame, moved, cost)?)
 }
 
 /// The measure of the picture that `draw_grown` makes. Errors: as `enlarge`. The glyphs are made once, and none is
@@ -171,6 +176,7 @@ pub(crate) fn measure_grown<'a>(
     ensures exact { GivesUnless refusal measure_view result (measured_grown face.now (job_view job.now) (placement_of line)) }
     ensures report { IfOk result (λ m. line_report face.now (job_view job.now) (placement_of line) ≡ Ok m.report.unfitted.items) }
     ensures once { IfOk result (λ m. ListsOnce m.report.unfitted.items) }
+    ensures cost { IfOk result (λ m. line_cost face.now (job_view job.now) (placement_of line) ≡ Ok m.report.cost) }
     ensures maker { IsMaker face.now job.now.ppem job.now.fit maker.new }
     ensures same { kept.new ≡ kept.old }
     ensures defects { TellsDefects draw_font_fault (IsLineDefect face.now (job_view job.now) (map (λ g. g.0) line.glyphs.items)) result }
@@ -182,7 +188,7 @@ pub(crate) fn measure_grown<'a>(
         line: larger,
     } = enlarged;
     let frame = frame_of(&larger, job.margin);
-    let report = report_on(alloc, &glyphs.kept)?;
+    let report = report_on(alloc, &glyphs.kept, glyphs.cost)?;
     let characters = characters(
         alloc,
         face.metrics(),

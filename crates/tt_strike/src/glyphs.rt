@@ -7,7 +7,7 @@ ghost use Rattle.tt_fit.specs.Fitting.{Fitter, fitted_outline};
 ghost use Rattle.tt_scan.specs.declared.edge.Frame.{Frame};
 ghost use Rattle.tt_scan.specs.Winding.{FrameFits};
 ghost use Rattle.tt_scan.specs.Winding.{is_black, column_x, row_y};
-ghost use Rattle.tt_strike.specs.Distinct.{IsNext, distinct, fitter_after, fitter_past, is_among, line_fitter, with_glyph};
+ghost use Rattle.tt_strike.specs.Distinct.{IsNext, distinct, each_fitter, fitter_after, fitter_past, is_among, with_glyph};
 ghost use Rattle.tt_strike.specs.Glyphs.{AreDrawn, AreKept, AreWithin, Adds, ArePlaces, Stand, crossings_standing, edges_of, numbers_of, stamps_in};
 ghost use Rattle.tt_strike.specs.Kept.{AreKeptFor};
 ghost use Rattle.tt_strike.specs.Picture.{glyph_shape};
@@ -29,6 +29,8 @@ pub(crate) struct Glyphs {
     pub(crate) kept: Vec<Glyph>,
     /// How many pens each glyph has room for at first.
     room: usize,
+    /// What the line takes of the budget of a call of many lines, once its glyphs are tested.
+    pub(crate) cost: u64,
 }
 
 impl Glyphs {
@@ -42,6 +44,7 @@ impl Glyphs {
             places: vec![in alloc; 0u16; usize::from(glyphs)]?,
             kept: Vec::new(alloc),
             room: (count / 16).clamp(4, 64),
+            cost: 0,
         })
     }
 
@@ -198,9 +201,19 @@ impl Glyphs {
         ensures drawn { IfOk result (λ v. (maker : ℕ → Fitter) (f : Frame) → AreDrawn false maker f self.kept.items → AreDrawn false maker frame v.items) }
         ensures stand { IfOk result (λ v. (maker : ℕ → Fitter) (f : Frame) → AreDrawn false maker f self.kept.items → IsOkAnd (each (glyph_shape maker) line.now) (Stand false frame v.items)) }
     {
-        let Glyphs { places, kept, room } = self;
+        let Glyphs {
+            places,
+            kept,
+            room,
+            cost,
+        } = self;
         let kept = reframed_glyphs(alloc, frame, kept)?;
-        let mut glyphs = Glyphs { places, kept, room };
+        let mut glyphs = Glyphs {
+            places,
+            kept,
+            room,
+            cost,
+        };
         for place in line {
             glyphs.stand(*place)?;
         }
@@ -232,10 +245,10 @@ pub(crate) fn line_glyphs(
     ensures room { IfOk result (λ g. length g.places.items ≡ glyphs) }
     ensures after { IfOk result (λ g. fitter.new ≡ fitter_after fitter.old (numbers_of g.kept.items)) }
     ensures pens { IfOk result (λ g. AreWithin g.kept.items) }
-    ensures valid { IfOk result (λ g. AreDrawn keeps (line_fitter fitter.old (map (λ g. g.0) line.now)) frame g.kept.items) }
+    ensures valid { IfOk result (λ g. AreDrawn keeps (each_fitter fitter.old (map (λ g. g.0) line.now)) frame g.kept.items) }
     ensures numbers { IfOk result (λ g. numbers_of g.kept.items ≡ distinct (map (λ g. g.0) line.now)) }
-    ensures stand { IfOk result (λ g. IsOkAnd (each (glyph_shape (line_fitter fitter.old (map (λ g. g.0) line.now))) line.now) (Stand keeps frame g.kept.items)) }
-    ensures fault { IfTold font_fault result (λ f. each (glyph_shape (line_fitter fitter.old (map (λ g. g.0) line.now))) line.now ≡ Err f) }
+    ensures stand { IfOk result (λ g. IsOkAnd (each (glyph_shape (each_fitter fitter.old (map (λ g. g.0) line.now))) line.now) (Stand keeps frame g.kept.items)) }
+    ensures fault { IfTold font_fault result (λ f. each (glyph_shape (each_fitter fitter.old (map (λ g. g.0) line.now))) line.now ≡ Err f) }
 {
     tt_fit::laws::work_unfits();
     let mut distinct = Glyphs::new(alloc, glyphs, line.len())?;

@@ -10,6 +10,7 @@ ghost use Rattle.tt_line.specs.Outcome.{placement_of};
 ghost use Rattle.tt_metrics.specs.Metrics.{glyphs_of};
 ghost use Rattle.tt_scan.specs.Winding.{FrameFits};
 ghost use Rattle.tt_scan_ink.specs.declared.ink.GlyphInk.{GlyphInk};
+ghost use Rattle.tt_strike.specs.Costs.{line_cost};
 ghost use Rattle.tt_strike.specs.Defects.{IsLineDefect, IsTooMuchWork, TellsDefects, draw_font_fault, draw_job_fault};
 ghost use Rattle.tt_strike.specs.Distinct.{is_among};
 ghost use Rattle.tt_strike.specs.Glyphs.{ArePlaces, CanBeFilled, IsTape, ink_standing, numbers_of};
@@ -215,6 +216,7 @@ pub(crate) fn measure_line<'a>(
     ensures exact { GivesUnless refusal measure_view result (measured_line face.now (job_view job.now) (placement_of line.now)) }
     ensures report { IfOk result (λ m. line_report face.now (job_view job.now) (placement_of line.now) ≡ Ok m.report.unfitted.items) }
     ensures once { IfOk result (λ m. ListsOnce m.report.unfitted.items) }
+    ensures cost { IfOk result (λ m. line_cost face.now (job_view job.now) (placement_of line.now) ≡ Ok m.report.cost) }
     ensures maker { IsMaker face.now job.now.ppem job.now.fit maker.new }
     ensures same { kept.new ≡ kept.old }
     ensures defects { TellsDefects draw_font_fault (IsLineDefect face.now (job_view job.now) (map (λ g. g.0) line.now.glyphs.items)) result }
@@ -223,7 +225,7 @@ pub(crate) fn measure_line<'a>(
     let glyphs = tested_glyphs(alloc, face, maker, kept, job, line, false)?;
     let frame = frame_of(line, job.margin);
     let inks = glyph_inks(alloc, &glyphs.kept)?;
-    let report = report_on(alloc, &glyphs.kept)?;
+    let report = report_on(alloc, &glyphs.kept, glyphs.cost)?;
     let characters = characters(
         alloc,
         face.metrics(),

@@ -3,10 +3,10 @@
 ghost use Rattle.std.specs.Prelude.{◌≡◌, ℕ, ℤ, ◌+◌, ◌*◌, ◌<◌, ◌≤◌, ◌&&◌, ◌||◌, false, nat_lt, pos, length};
 ghost use Rattle.tt_core.specs.Bits.{bit};
 ghost use Rattle.tt_core.specs.Limits.{height_limit};
-ghost use Rattle.tt_scan.specs.Winding.{is_black, column_x, row_y};
+ghost use Rattle.tt_scan.specs.Winding.{is_black, column_x, row_y, rows_met};
 ghost use Rattle.tt_scan_dropouts.specs.Pictures.{line_at};
-ghost use Rattle.tt_strike.specs.Glyphs.{GlyphFits, drawn_of, stamp_of};
-ghost use Rattle.tt_strike.specs.Pixels.{TapeFits, edges, is_black_from, row_crossings};
+ghost use Rattle.tt_strike.specs.Glyphs.{GlyphFits, body_crosses, drawn_of, stamp_of};
+ghost use Rattle.tt_strike.specs.Pixels.{TapeFits, edges, is_black_from};
 
 use crate::glyph::{Body, Glyph};
 use tt_scan::{Frame, Sweep, Tape};
@@ -21,7 +21,8 @@ fn line_of(frame: Frame, r: u32) -> i64
 /// Whether an edge of a tape may meet a row of the picture. Without one the tape blackens nothing there.
 fn meets(tape: &Tape, r: u32) -> bool
     requires { r < tape.now.frame.height }
-    ensures { result ≡ false → (c : ℤ) → is_black tape.now.edges (column_x tape.now.frame.margin c) (row_y tape.now.frame (pos r)) ≡ false }
+    ensures none { result ≡ false → rows_met tape.now.edges (row_y tape.now.frame (pos r)) ≡ 0 }
+    ensures white { result ≡ false → (c : ℤ) → is_black tape.now.edges (column_x tape.now.frame.margin c) (row_y tape.now.frame (pos r)) ≡ false }
 {
     let (first, past) = tape.rows();
     let row = i64::from(r);
@@ -30,14 +31,14 @@ fn meets(tape: &Tape, r: u32) -> bool
 
 /// Blackens the pixels of a row that the edges of a tape cover at some pens; all others are unchanged.
 fn add_tape(tape: &mut Tape, sweep: &mut Sweep, pens: &[u32], frame: Frame, r: u32, row: &mut [u8])
-    requires tape { TapeFits frame (r * row_crossings) tape.old }
+    requires tape { TapeFits frame r tape.old }
     requires room { length tape.old.edges ≤ sweep.old.room }
     requires height { frame.height ≤ height_limit }
     requires within { r < frame.height }
     requires width { frame.width ≤ 8 * length row.old }
     ensures bits { (k : ℕ) → bit row.new k ≡ (bit row.old k || (nat_lt k frame.width && is_black_from frame (edges tape.old.edges) pens.now k r)) }
     ensures len { length row.new ≡ length row.old }
-    ensures tape { TapeFits frame ((r + 1) * row_crossings) tape.new }
+    ensures tape { TapeFits frame (r + 1) tape.new }
     ensures edges { tape.new.edges ≡ tape.old.edges }
     ensures room { sweep.new.room ≡ sweep.old.room }
 {
@@ -49,15 +50,25 @@ fn add_tape(tape: &mut Tape, sweep: &mut Sweep, pens: &[u32], frame: Frame, r: u
 }
 
 impl Glyph {
+    /// How often rows crossed its edges so far; 0 for a raster, which is cut already.
+    pub(crate) fn crosses(&self) -> u64
+        ensures { result ≡ body_crosses self.now.body }
+    {
+        match &self.body {
+            Body::Tape(tape) => tape.crosses(),
+            Body::Raster(_) => 0,
+        }
+    }
+
     /// Blackens the pixels of a row that the glyph covers at its pens; all others are unchanged.
     pub(crate) fn add_to_row(&mut self, sweep: &mut Sweep, frame: Frame, r: u32, row: &mut [u8])
-        requires glyph { GlyphFits frame (r * row_crossings) sweep.old.room self.old }
+        requires glyph { GlyphFits frame r sweep.old.room self.old }
         requires height { frame.height ≤ height_limit }
         requires within { r < frame.height }
         requires width { frame.width ≤ 8 * length row.old }
         ensures bits { (k : ℕ) → bit row.new k ≡ (bit row.old k || (nat_lt k frame.width && is_black_from frame (drawn_of self.old.body) self.old.pens k r)) }
         ensures len { length row.new ≡ length row.old }
-        ensures glyph { GlyphFits frame ((r + 1) * row_crossings) sweep.new.room self.new }
+        ensures glyph { GlyphFits frame (r + 1) sweep.new.room self.new }
         ensures stamp { stamp_of self.new ≡ stamp_of self.old }
         ensures room { sweep.new.room ≡ sweep.old.room }
     {

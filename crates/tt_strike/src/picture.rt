@@ -1,17 +1,17 @@
 //! The picture of a line, whose rows are made in order.
 
-ghost use Rattle.std.specs.Prelude.{◌≡◌, ◌+ℤ◌, ◌+◌, ◌<◌, ◌≤◌, pos, length, All, IfOk};
+ghost use Rattle.std.specs.Prelude.{◌≡◌, ◌+ℤ◌, ◌+◌, ◌-◌, ◌^◌, ◌<◌, ◌≤◌, min, pos, length, All, IfOk};
 ghost use Rattle.tt_core.specs.Bits.{stride};
 ghost use Rattle.tt_core.specs.Limits.{width_limit, height_limit};
 ghost use Rattle.tt_scan.specs.Winding.{FrameFits};
 ghost use Rattle.tt_scan_dropouts.specs.Pictures.{AreDropouts};
-ghost use Rattle.tt_strike.specs.Glyphs.{BodyFits, all_rows};
-ghost use Rattle.tt_strike.specs.Pictures.{IsReady, row_at};
+ghost use Rattle.tt_strike.specs.Glyphs.{BodyFits, all_rows, edges_cut};
+ghost use Rattle.tt_strike.specs.Pictures.{IsReady, all_crossings, crossings_made, row_at};
 ghost use Rattle.tt_strike.specs.Report.{unfitted_standing};
 
 use crate::glyph::Glyph;
 use crate::report::{Report, Unfitted, report_on};
-use crate::rows::{make_row, most_edges};
+use crate::rows::{crosses, make_row, most_edges};
 use std::alloc::{AllocError, Global};
 use std::marker::Model;
 use tt_scan::{Frame, Sweep};
@@ -32,40 +32,40 @@ pub struct Picture {
 }
 
 impl Model for Picture {
-    ghost use Rattle.std.specs.Prelude.{◌≤◌, ◌*◌, All};
+    ghost use Rattle.std.specs.Prelude.{◌≤◌, All};
     ghost use Rattle.tt_core.specs.Limits.{height_limit};
     ghost use Rattle.tt_scan.specs.Winding.{FrameFits};
     ghost use Rattle.tt_scan_dropouts.specs.Pictures.{AreDropouts};
-    ghost use Rattle.tt_strike.specs.Glyphs.{GlyphFits, all_rows};
-    ghost use Rattle.tt_strike.specs.Pixels.{row_crossings};
+    ghost use Rattle.tt_strike.specs.Glyphs.{GlyphFits, all_rows, edges_cut};
     ghost use Rattle.tt_strike.specs.Pictures as pictures;
 
     ghost Value = { pictures.Picture };
 
-    ghost view = { λ p. record { frame = p.frame; rows = all_rows p.frame p.glyphs.items p.dropouts.items; made = p.made; unfitted = p.report.unfitted.items } };
+    ghost view = { λ p. record { frame = p.frame; rows = all_rows p.frame p.glyphs.items p.dropouts.items; made = p.made; unfitted = p.report.unfitted.items; edges = edges_cut p.glyphs.items; cost = p.report.cost } };
 
-    ghost invariant = { λ p. FrameFits p.frame × (p.frame.height ≤ height_limit)
-        × All (GlyphFits p.frame (p.made * row_crossings) p.sweep.room) p.glyphs.items
+    ghost invariant = { λ p. FrameFits p.frame × (p.frame.height ≤ height_limit) × (p.made ≤ p.frame.height)
+        × All (GlyphFits p.frame p.made p.sweep.room) p.glyphs.items
         × AreDropouts p.frame.width p.dropouts.items };
 }
 
 impl Picture {
-    /// The picture of some glyphs and dropouts, with no row made yet. Error: out of memory.
+    /// The picture of some glyphs and dropouts, with no row made yet, of a text with this cost. Error: out of memory.
     pub(crate) fn new(
         alloc: Global,
         frame: Frame,
         glyphs: Vec<Glyph>,
         dropouts: Vec<Dropout>,
+        cost: u64,
     ) -> Result<Picture, AllocError>
         requires frame { FrameFits frame }
         requires height { frame.height ≤ height_limit }
         requires glyphs { All (λ g. BodyFits frame 0 g.body) glyphs.items }
         requires dropouts { AreDropouts frame.width dropouts.items }
-        ensures exact { IfOk result (λ p. p ≡ record { frame = frame; rows = all_rows frame glyphs.items dropouts.items; made = 0; unfitted = unfitted_standing glyphs.items }) }
+        ensures exact { IfOk result (λ p. p ≡ record { frame = frame; rows = all_rows frame glyphs.items dropouts.items; made = 0; unfitted = unfitted_standing glyphs.items; edges = edges_cut glyphs.items; cost = cost }) }
         ensures valid { IfOk result IsReady }
     {
         let most = most_edges(&glyphs);
-        let report = report_on(alloc, &glyphs)?;
+        let report = report_on(alloc, &glyphs, cost)?;
         Ok(Picture {
             frame,
             glyphs,
@@ -115,12 +115,27 @@ impl Picture {
         &self.report.unfitted
     }
 
+    /// What the text takes of the budget of a call of many lines.
+    pub fn cost(&self) -> u64
+        ensures { result ≡ self.now.cost }
+    {
+        self.report.cost
+    }
+
     /// The picture's report.
     pub fn into_report(self) -> Report
         ensures { result.unfitted.items ≡ self.unfitted }
     {
         let Picture { report, .. } = self;
         report
+    }
+
+    /// How often the rows made so far crossed edges, or 2 ^ 64 - 1 if that is more. Only tests call this function.
+    pub fn crosses(&self) -> u64
+        ensures exact { result ≡ min (crossings_made self.now) (2 ^ 64 - 1) }
+        ensures within { result ≤ all_crossings self.now }
+    {
+        crosses(&self.glyphs)
     }
 
     /// Makes the next row, the highest first, and overwrites `row`. The leftmost pixel is the highest bit of the first

@@ -20,11 +20,15 @@ pub struct Report {
     /// With `Fit::Fallback` and `Fit::Best` the distinct unfitted glyphs of the text, in order of first appearance.
     /// Empty with any other fit.
     pub unfitted: Vec<Unfitted>,
+    /// What the text takes of the budget of a call of many lines: with `Fit::Best` the work of its points and programs,
+    /// and 4 for each crossing. 0 with any other fit.
+    pub cost: u64,
 }
 
-/// The report of some glyphs.
-pub(crate) fn report_on(alloc: Global, glyphs: &[Glyph]) -> Result<Report, AllocError>
-    ensures { IfOk result (λ r. r.unfitted.items ≡ unfitted_standing glyphs.now) }
+/// The report of some glyphs with this cost.
+pub(crate) fn report_on(alloc: Global, glyphs: &[Glyph], cost: u64) -> Result<Report, AllocError>
+    ensures unfitted { IfOk result (λ r. r.unfitted.items ≡ unfitted_standing glyphs.now) }
+    ensures cost { IfOk result (λ r. r.cost ≡ cost) }
 {
     let mut unfitted = Vec::new(alloc);
     for glyph in glyphs {
@@ -32,5 +36,5 @@ pub(crate) fn report_on(alloc: Global, glyphs: &[Glyph]) -> Result<Report, Alloc
             unfitted.push(entry)?;
         }
     }
-    Ok(Report { unfitted })
+    Ok(Report { unfitted, cost })
 }

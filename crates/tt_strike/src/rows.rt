@@ -1,11 +1,11 @@
 //! Makes the rows of a picture, one at a time.
 
-ghost use Rattle.std.specs.Prelude.{◌≡◌, ℕ, ◌+◌, ◌*◌, ◌<◌, ◌≤◌, ◌||◌, ◌&&◌, nat_lt, length, replicate, All};
+ghost use Rattle.std.specs.Prelude.{◌≡◌, ℕ, ◌+◌, ◌-◌, ◌*◌, ◌^◌, ◌<◌, ◌≤◌, ◌||◌, ◌&&◌, min, nat_lt, length, replicate, All};
 ghost use Rattle.tt_core.specs.Bits.{bit, stride};
 ghost use Rattle.tt_core.specs.Limits.{width_limit, height_limit};
 ghost use Rattle.tt_scan_dropouts.specs.Pictures.{AreDropouts};
-ghost use Rattle.tt_strike.specs.Glyphs.{GlyphFits, edges_of, row_of, stamps_in};
-ghost use Rattle.tt_strike.specs.Pixels.{is_black_by, row_crossings};
+ghost use Rattle.tt_strike.specs.Glyphs.{GlyphFits, crosses_in, edges_of, row_of, stamps_in};
+ghost use Rattle.tt_strike.specs.Pixels.{is_black_by};
 
 use crate::glyph::Glyph;
 use tt_scan::{Frame, Sweep};
@@ -22,6 +22,17 @@ pub(crate) fn most_edges(glyphs: &[Glyph]) -> usize
     most
 }
 
+/// How often some glyphs were crossed so far, or 2 ^ 64 - 1 if that is more.
+pub(crate) fn crosses(glyphs: &[Glyph]) -> u64
+    ensures { result ≡ min (crosses_in glyphs.now) (2 ^ 64 - 1) }
+{
+    let mut all: u64 = 0;
+    for glyph in glyphs {
+        all = all.saturating_add(glyph.crosses());
+    }
+    all
+}
+
 /// Makes row `r` of a picture, and overwrites `row`. It takes no memory.
 pub(crate) fn make_row(
     glyphs: &mut [Glyph],
@@ -32,12 +43,12 @@ pub(crate) fn make_row(
     row: &mut [u8],
 )
     requires dropouts { AreDropouts frame.width dropouts.now }
-    requires glyphs { All (GlyphFits frame (r * row_crossings) sweep.old.room) glyphs.old }
+    requires glyphs { All (GlyphFits frame r sweep.old.room) glyphs.old }
     requires height { frame.height ≤ height_limit }
     requires within { r < frame.height }
     requires len { length row.old ≡ stride frame.width }
     ensures row { row.new ≡ row_of frame glyphs.old dropouts.now r }
-    ensures glyphs { All (GlyphFits frame ((r + 1) * row_crossings) sweep.new.room) glyphs.new }
+    ensures glyphs { All (GlyphFits frame (r + 1) sweep.new.room) glyphs.new }
     ensures stamps { stamps_in glyphs.new ≡ stamps_in glyphs.old }
     ensures room { sweep.new.room ≡ sweep.old.room }
 {
@@ -55,13 +66,13 @@ fn whiten(row: &mut [u8])
 
 /// Blackens the pixels of a row that some glyph covers; all others are unchanged.
 fn add_glyphs(glyphs: &mut [Glyph], sweep: &mut Sweep, frame: Frame, r: u32, row: &mut [u8])
-    requires glyphs { All (GlyphFits frame (r * row_crossings) sweep.old.room) glyphs.old }
+    requires glyphs { All (GlyphFits frame r sweep.old.room) glyphs.old }
     requires height { frame.height ≤ height_limit }
     requires within { r < frame.height }
     requires width { frame.width ≤ 8 * length row.old }
     ensures bits { (k : ℕ) → bit row.new k ≡ (bit row.old k || (nat_lt k frame.width && is_black_by frame (stamps_in glyphs.old) k r)) }
     ensures len { length row.new ≡ length row.old }
-    ensures glyphs { All (GlyphFits frame ((r + 1) * row_crossings) sweep.new.room) glyphs.new }
+    ensures glyphs { All (GlyphFits frame (r + 1) sweep.new.room) glyphs.new }
     ensures stamps { stamps_in glyphs.new ≡ stamps_in glyphs.old }
     ensures room { sweep.new.room ≡ sweep.old.room }
 {

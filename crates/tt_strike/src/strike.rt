@@ -1,14 +1,16 @@
 //! A font at a size, which draws many lines and runs its programs once.
 
 ghost use Rattle.std.specs.Prelude.{◌≡◌, ◌≤◌, true, [], Ok, IfOk, IsOkAnd};
+ghost use Rattle.tt_core.specs.Limits.{crossing_limit};
 ghost use Rattle.tt_core.specs.Outcomes.{GivesUnless, IfTold};
 ghost use Rattle.tt_line.specs.Layout.{placement, text_glyphs};
+ghost use Rattle.tt_strike.specs.Costs.{cost_by};
 ghost use Rattle.tt_strike.specs.Defects.{IsLineDefect, IsLineRefusal, TellsDefects, draw_font_fault, draw_job_fault};
 ghost use Rattle.tt_strike.specs.Grown.{grown_measured, grown_outcome, grown_placement};
 ghost use Rattle.tt_strike.specs.Job.{size_tested, IsSizeRefusal};
 ghost use Rattle.tt_strike.specs.Measures.{measure_view, measured};
 ghost use Rattle.tt_strike.specs.Picture.{frame_of, line_outcome};
-ghost use Rattle.tt_strike.specs.Pictures.{IsReady, picture_bytes};
+ghost use Rattle.tt_strike.specs.Pictures.{IsReady, all_crossings, picture_bytes};
 ghost use Rattle.tt_strike.specs.Refusals.{as_job, refusal};
 ghost use Rattle.tt_strike.specs.Report.{report_by, ListsOnce};
 ghost use Rattle.tt_strike.specs.Strikes.{job_of};
@@ -99,13 +101,15 @@ impl<'f, 'a> Strike<'f, 'a> {
     /// write for this font and job. Errors, the first of: MarginRange, TextLong; EmptyPicture, PictureLarge; those of
     /// loca and glyf; those of the programs; WorkLarge of the points; those of the glyphs in the order of the text;
     /// WorkLarge of the crossings. Memory may come at any allocation. A refused line too may change the cached glyphs.
-    #[tactic(auto, unfolding(crate::specs::Picture::line_outcome, crate::specs::Picture::pictured_by, crate::specs::Report::report_by))]
+    #[tactic(auto, unfolding(crate::specs::Picture::line_outcome, crate::specs::Picture::pictured_by, crate::specs::Report::report_by, crate::specs::Costs::cost_by))]
     pub fn line(&mut self, text: &str, margin: u32) -> Result<Picture, DrawFault>
         ensures exact { GivesUnless refusal picture_bytes result (line_outcome self.old.face (job_of self.old text.now margin)) }
         ensures valid { IfOk result IsReady }
         ensures frame { IfOk result (λ p. IsOkAnd (placement self.old.face.metrics self.old.face.cmap text.now self.old.ppem margin) (λ l. p.frame ≡ frame_of l margin)) }
         ensures report { IfOk result (λ p. report_by self.old.face (job_of self.old text.now margin) ≡ Ok p.unfitted) }
         ensures once { IfOk result (λ p. ListsOnce p.unfitted) }
+        ensures cost { IfOk result (λ p. cost_by self.old.face (job_of self.old text.now margin) ≡ Ok p.cost) }
+        ensures few { is_bounded self.old.fit ≡ true → IfOk result (λ p. all_crossings p ≤ crossing_limit) }
         ensures defects { TellsDefects draw_font_fault (IsLineDefect self.old.face (job_of self.old text.now margin) (text_glyphs self.old.face.cmap text.now)) result }
         ensures job { IfTold draw_job_fault result (IsLineRefusal self.old.face (job_of self.old text.now margin)) }
         ensures same { self.new ≡ record self.old { kept = self.new.kept } }
@@ -129,11 +133,12 @@ impl<'f, 'a> Strike<'f, 'a> {
 
     /// The base line, the ink and the characters' places of a text's picture, without the picture. Errors as those of
     /// `line`. No glyph is cached, and the strike is unchanged.
-    #[tactic(auto, unfolding(crate::specs::Measures::measured, crate::specs::Report::report_by))]
+    #[tactic(auto, unfolding(crate::specs::Measures::measured, crate::specs::Report::report_by, crate::specs::Costs::cost_by))]
     pub fn measure(&mut self, text: &str, margin: u32) -> Result<Measure, DrawFault>
         ensures exact { GivesUnless refusal measure_view result (measured self.old.face (job_of self.old text.now margin)) }
         ensures report { IfOk result (λ m. report_by self.old.face (job_of self.old text.now margin) ≡ Ok m.report.unfitted.items) }
         ensures once { IfOk result (λ m. ListsOnce m.report.unfitted.items) }
+        ensures cost { IfOk result (λ m. cost_by self.old.face (job_of self.old text.now margin) ≡ Ok m.report.cost) }
         ensures defects { TellsDefects draw_font_fault (IsLineDefect self.old.face (job_of self.old text.now margin) (text_glyphs self.old.face.cmap text.now)) result }
         ensures job { IfTold draw_job_fault result (IsLineRefusal self.old.face (job_of self.old text.now margin)) }
         ensures same { self.new ≡ self.old }
@@ -165,6 +170,8 @@ impl<'f, 'a> Strike<'f, 'a> {
         ensures frame { IfOk result (λ p. IsOkAnd (grown_placement self.old.face (job_of self.old text.now margin)) (λ l. p.frame ≡ frame_of l margin)) }
         ensures report { IfOk result (λ p. report_by self.old.face (job_of self.old text.now margin) ≡ Ok p.unfitted) }
         ensures once { IfOk result (λ p. ListsOnce p.unfitted) }
+        ensures cost { IfOk result (λ p. cost_by self.old.face (job_of self.old text.now margin) ≡ Ok p.cost) }
+        ensures few { is_bounded self.old.fit ≡ true → IfOk result (λ p. all_crossings p ≤ crossing_limit) }
         ensures defects { TellsDefects draw_font_fault (IsLineDefect self.old.face (job_of self.old text.now margin) (text_glyphs self.old.face.cmap text.now)) result }
         ensures same { self.new ≡ record self.old { kept = self.new.kept } }
     {
@@ -192,6 +199,7 @@ impl<'f, 'a> Strike<'f, 'a> {
         ensures exact { GivesUnless refusal measure_view result (grown_measured self.old.face (job_of self.old text.now margin)) }
         ensures report { IfOk result (λ m. report_by self.old.face (job_of self.old text.now margin) ≡ Ok m.report.unfitted.items) }
         ensures once { IfOk result (λ m. ListsOnce m.report.unfitted.items) }
+        ensures cost { IfOk result (λ m. cost_by self.old.face (job_of self.old text.now margin) ≡ Ok m.report.cost) }
         ensures defects { TellsDefects draw_font_fault (IsLineDefect self.old.face (job_of self.old text.now margin) (text_glyphs self.old.face.cmap text.now)) result }
         ensures same { self.new ≡ self.old }
     {

@@ -8,6 +8,7 @@ ghost use Rattle.tt_fit.specs.Fitting.{Fitter};
 ghost use Rattle.tt_line.specs.Outcome.{placement_of};
 ghost use Rattle.tt_metrics.specs.Metrics.{glyphs_of};
 ghost use Rattle.tt_scan.specs.Winding.{FrameFits};
+ghost use Rattle.tt_strike.specs.Costs.{line_cost};
 ghost use Rattle.tt_strike.specs.Defects.{IsLineDefect, IsTooMuchWork, TellsDefects, draw_font_fault, draw_job_fault};
 ghost use Rattle.tt_strike.specs.Glyphs.{ArePlaces, numbers_of};
 ghost use Rattle.tt_strike.specs.Job.{job_view, IsJob};
@@ -23,7 +24,7 @@ use crate::glyphs::{Glyphs, line_glyphs};
 use crate::job::Job;
 use crate::maker::Maker;
 use crate::tables::Face;
-use crate::work::{test_crossings, test_points};
+use crate::work::{charge_points, cost_of, crossings_allowed, test_crossings};
 use std::alloc::Global;
 use tt_line::Line;
 use tt_scan::Frame;
@@ -70,6 +71,7 @@ pub(crate) fn tested_glyphs<'a>(
     ensures made { IfOk result (λ g. AreMade keeps face.now (job_view job.now) (placement_of line.now) g.kept.items) }
     ensures places { IfOk result (λ g. ArePlaces g.places.items (numbers_of g.kept.items)) }
     ensures room { IfOk result (λ g. length g.places.items ≡ glyphs_of face.now.metrics) }
+    ensures cost { IfOk result (λ g. line_cost face.now (job_view job.now) (placement_of line.now) ≡ Ok g.cost) }
     ensures stops { IfTold refusal result (λ r. shapes_made face.now (job_view job.now) (placement_of line.now) ≡ Err r) }
     ensures maker { IsMaker face.now job.now.ppem job.now.fit maker.new }
     ensures kept { (s : Fitter) → setting_in face.now (job_view job.now) ≡ Ok s → AreKeptFor s kept.new.entries }
@@ -81,10 +83,13 @@ pub(crate) fn tested_glyphs<'a>(
     tt_fit::laws::work_unfits();
     let mut fitter = maker.take(alloc, face, job)?;
     let count = face.metrics().glyphs();
-    test_points(alloc, job.fit, &fitter, count, &line.glyphs)?;
+    charge_points(alloc, job.fit, &mut fitter, count, &line.glyphs)?;
     let frame = frame_of(line, job.margin);
-    let glyphs = line_glyphs(alloc, &mut fitter, count, &line.glyphs, frame, kept, keeps)?;
-    test_crossings(job.fit, &glyphs.kept)?;
+    let mut glyphs = line_glyphs(alloc, &mut fitter, count, &line.glyphs, frame, kept, keeps)?;
+    let left = fitter.work();
+    let most = crossings_allowed(left);
+    let crossings = test_crossings(job.fit, most, &glyphs.kept)?;
+    glyphs.cost = cost_of(left, crossings);
     maker.give_back(fitter, job.fit);
     Ok(glyphs)
 }

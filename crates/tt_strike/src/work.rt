@@ -1,20 +1,30 @@
 //! The work of a job, which is bounded with `Fit::Best`.
 
 ghost use Rattle.std.specs.List.{sum_by};
-ghost use Rattle.std.specs.Prelude.{◌≡◌, ◌<◌, ◌≤◌, ◌-◌, ◌^◌, nat_lt, min, length, map, All, IfOk};
+ghost use Rattle.std.specs.Prelude.{◌≡◌, ◌<◌, ◌≤◌, ◌-◌, ◌^◌, true, false, None, min, length, map, All, IfOk, OnOk};
 ghost use Rattle.tt_core.specs.Limits.{crossing_limit, point_work_limit};
 ghost use Rattle.tt_core.specs.Outcomes.{Gives, GivesUnless};
 ghost use Rattle.tt_fit.specs.Counting.{left_of, points_asked};
+ghost use Rattle.tt_strike.specs.Costs.{cost_of};
 ghost use Rattle.tt_strike.specs.Glyphs.{crossings_standing, edges_of};
 ghost use Rattle.tt_strike.specs.Refusals.{as_job, refusal};
-ghost use Rattle.tt_strike.specs.Work.{is_bounded, points_in, work_tested};
+ghost use Rattle.tt_strike.specs.Work.{crossings_allowed, is_bounded, points_in, started, work_tested};
 
 use crate::distinct::distinct;
 use crate::fault::DrawFault;
 use crate::glyph::Glyph;
 use std::alloc::{AllocError, Global};
-use tt_core::{CROSSING_LIMIT, JobFault, POINT_WORK_LIMIT};
+use tt_core::{CROSSING_LIMIT, JobFault, POINT_WORK_LIMIT, WORK_LIMIT};
 use tt_fit::{Fit, Fitter};
+
+/// The work that each point of a line's glyphs takes.
+const POINT_WORK: u64 = 40;
+
+/// The work that each crossing takes.
+const CROSSING_WORK: u64 = 4;
+
+/// The crossings that take no work.
+const CROSSINGS_FREE: u64 = 250_000;
 
 /// Whether the work of a job is bounded.
 pub(crate) fn is_bounded(fit: Fit) -> bool
@@ -26,27 +36,43 @@ pub(crate) fn is_bounded(fit: Fit) -> bool
     }
 }
 
-/// Tests the points of a line's distinct glyphs. Errors: WorkLarge, where work is bounded and they are too many;
-/// Memory.
+/// Charges the points of a line's distinct glyphs to its work. Errors: WorkLarge, where work is bounded and they are
+/// too many; Memory.
 #[tactic(auto, unfolding(crate::specs::Work::work_tested))]
-pub(crate) fn test_points(
+pub(crate) fn charge_points(
     alloc: Global,
     fit: Fit,
-    fitter: &Fitter,
+    fitter: &mut Fitter,
     glyphs: u16,
     line: &[(u16, u32)],
 ) -> Result<(), DrawFault>
-    requires glyphs { glyphs ≡ fitter.now.tables.glyphs }
+    requires glyphs { glyphs ≡ fitter.old.tables.glyphs }
     requires known { All (λ g. g.0 < glyphs) line.now }
-    ensures exact { GivesUnless refusal (λ u. u) result (as_job (work_tested fit point_work_limit (points_in fitter.now (map (λ g. g.0) line.now)))) }
+    requires unbounded { is_bounded fit ≡ false → fitter.old.work ≡ None }
+    ensures exact { GivesUnless refusal (λ u. u) result (as_job (work_tested fit point_work_limit (points_in fitter.old (map (λ g. g.0) line.now)))) }
+    ensures charged { OnOk result (fitter.new ≡ started fitter.old (map (λ g. g.0) line.now)) }
 {
     if !is_bounded(fit) {
         return Ok(());
     }
     let numbers = distinct(alloc, glyphs, line)?;
     match points_left(fitter, numbers.as_slice(), POINT_WORK_LIMIT)? {
-        Some(_) => Ok(()),
+        Some(left) => {
+            fitter.charge(POINT_WORK * (POINT_WORK_LIMIT - left));
+            Ok(())
+        }
         None => Err(DrawFault::Job(JobFault::WorkLarge)),
+    }
+}
+
+/// How many crossings a line may have by the work that its programs left.
+pub(crate) fn crossings_allowed(left: Option<u64>) -> u64
+    ensures exact { result ≡ crossings_allowed left }
+    ensures small { result ≤ crossing_limit }
+{
+    match left {
+        None => CROSSING_LIMIT,
+        Some(left) => CROSSING_LIMIT.min(left / CROSSING_WORK + CROSSINGS_FREE),
     }
 }
 
@@ -65,16 +91,37 @@ fn points_left(fitter: &Fitter, glyphs: &[u16], most: u64) -> Result<Option<u64>
     Ok(Some(left))
 }
 
-/// Tests the crossings of a job's glyphs at their pens. Error: WorkLarge, where work is bounded and they are too many.
+/// Counts the crossings of a job's glyphs at their pens, where work is bounded; else 0. Error: WorkLarge, where they are
+/// more than `most`.
 #[tactic(auto, unfolding(crate::specs::Work::work_tested))]
-pub(crate) fn test_crossings(fit: Fit, glyphs: &[Glyph]) -> Result<(), JobFault>
+pub(crate) fn test_crossings(fit: Fit, most: u64, glyphs: &[Glyph]) -> Result<u64, JobFault>
     requires tapes { All (λ g. length (edges_of g.body) ≤ 2 ^ 17) glyphs.now }
-    ensures exact { Gives (λ u. u) result (work_tested fit crossing_limit (crossings_standing glyphs.now)) }
+    requires most { most < 2 ^ 64 - 1 }
+    ensures exact { Gives (λ n. tt) result (work_tested fit most (crossings_standing glyphs.now)) }
+    ensures count { is_bounded fit ≡ true → IfOk result (λ n. n ≡ crossings_standing glyphs.now) }
+    ensures few { IfOk result (λ n. n ≤ most) }
 {
-    if is_bounded(fit) && cross_too_often(glyphs) {
+    let count = if is_bounded(fit) {
+        crossings(glyphs)
+    } else {
+        0
+    };
+    if count > most {
         return Err(JobFault::WorkLarge);
     }
-    Ok(())
+    Ok(count)
+}
+
+/// What a line takes of the budget of a call of many lines, by the work that remains and the line's crossings. Nothing
+/// where work is not bounded.
+pub(crate) fn cost_of(left: Option<u64>, crossings: u64) -> u64
+    requires { crossings ≤ crossing_limit }
+    ensures { result ≡ cost_of left crossings }
+{
+    match left {
+        None => 0,
+        Some(left) => WORK_LIMIT.saturating_sub(left) + CROSSING_WORK * crossings,
+    }
 }
 
 /// The crossings of some glyphs at their pens, or 2 ^ 64 - 1 if there are more.
@@ -87,12 +134,4 @@ fn crossings(glyphs: &[Glyph]) -> u64
         all = all.saturating_add(glyph.crossings());
     }
     all
-}
-
-/// Whether some glyphs have more crossings than the limit.
-fn cross_too_often(glyphs: &[Glyph]) -> bool
-    requires tapes { All (λ g. length (edges_of g.body) ≤ 2 ^ 17) glyphs.now }
-    ensures { result ≡ nat_lt crossing_limit (crossings_standing glyphs.now) }
-{
-    crossings(glyphs) > CROSSING_LIMIT
 }

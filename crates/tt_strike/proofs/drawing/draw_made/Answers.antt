@@ -1,7 +1,7 @@
 use Rattle.std.proofs.Common.{◌≡◌, Bool, List, refl, arith}
 use Rattle.std.proofs.lemmas.Result.{IfOk-weaker}
 use Rattle.tt_pbm.specs.P4.{p4_header_of}
-use Rattle.tt_strike.specs.Glyphs.{Stand, all_rows}
+use Rattle.tt_strike.specs.Glyphs.{Stand, all_rows, edges_cut}
 use Rattle.tt_strike.specs.Picture.{picture}
 use Rattle.tt_strike.specs.Pictures.{Picture, picture_bytes}
 use Rattle.tt_strike.specs.Pixels.{Shape}
@@ -16,7 +16,7 @@ returns-clause-exact c =
     let ds = c.in_ok-dropouts.dropouts.items in
     let alike = rw c.deref.ensures.value at c.in_ok-dropouts.ensures.exact in
     IfOk-weaker c.new.result
-    (λ (p : Picture). p ≡ record { frame = f; rows = all_rows f gs ds; made = 0; unfitted = unfitted_standing gs })
+    (λ (p : Picture). p ≡ record { frame = f; rows = all_rows f gs ds; made = 0; unfitted = unfitted_standing gs; edges = edges_cut gs; cost = c.args.cost })
     (λ (p : Picture). (keeps : Bool) (shapes : List Shape) → Stand keeps f gs shapes → picture_bytes p ≡ picture f shapes)
     (λ p its keeps shapes stand. rw its (same_picture f gs ds shapes (p4_header_of f.width f.height) refl
     (omega (arith, c.requires.frame.width_high)) stand alike)) c.new.ensures.exact

@@ -2,17 +2,20 @@ use Rattle.std.proofs.Common.{◌≡◌, ◌∙◌, ◌<◌, false, ap, refl, sy
 use Rattle.std.proofs.lemmas.Result.{IfOk-weaker, err_from_is_err_and}
 use Rattle.tt_line.specs.Outcome.{placement_of}
 use Rattle.tt_metrics.specs.Metrics.{glyphs_of}
-use Rattle.tt_strike.specs.Distinct.{line_fitter}
-use Rattle.tt_strike.specs.Glyphs.{Stand, numbers_of}
+use Rattle.tt_strike.specs.Costs.{line_cost}
+use Rattle.tt_strike.specs.Distinct.{distinct}
+use Rattle.tt_strike.specs.Work.{line_fitter}
+use Rattle.tt_strike.specs.Glyphs.{AreDrawn, Stand, numbers_of}
 use Rattle.tt_strike.specs.Job.{job_view}
 use Rattle.tt_strike.specs.Picture.{drawn, frame_of, picture}
 use Rattle.tt_strike.specs.Pictures.{Picture, picture_bytes}
 use Rattle.tt_strike.specs.Report.{line_report, unfitted_standing}
 use Rattle.tt_strike.proofs.Among.{all_among, of_same_glyphs}
-use Rattle.tt_strike.proofs.Enlarged.{larger_drawn, larger_made, larger_reported, ungrown_stops}
+use Rattle.tt_strike.proofs.Enlarged.{larger_drawn, larger_made, larger_reported, same_cost, ungrown_stops}
 use Rattle.tt_strike.proofs.Filled.{can_be_filled, tapes_few}
 use Rattle.tt_strike.proofs.GrownStops.{same_report}
 use Rattle.tt_strike.proofs.Made.{reported_as_made}
+use Rattle.tt_strike.proofs.Needed.{tested_crossings}
 use Rattle.tt_strike.proofs.enlarging.draw_grown.Goals as goal
 
 pub returns-in_err-enlarged-clause-exact : goal.returns-in_err-enlarged-clause-exact
@@ -132,3 +135,39 @@ returns-clause-once c =
     (larger_reported c.args.face.now (job_view c.args.job.now) (placement_of c.args.line) c.frame_of-frame.result
     c.in_ok-enlarged.enlarged.glyphs.kept.items c.in_ok-moved.moved.items c.in_ok-draw_made.field-0.unfitted e.made
     (c.in_ok-moved.ensures.drawn maker f e.made.drawn) c.in_ok-moved.ensures.numbers c.in_ok-draw_made.ensures.unfitted).1
+
+pub returns-clause-few : goal.returns-clause-few
+returns-clause-few c = λ bounded.
+    let a = job_view c.args.job.now in
+    let l = placement_of c.args.line in
+    let larger = placement_of c.in_ok-enlarged.enlarged.line in
+    let gs = c.in_ok-enlarged.enlarged.glyphs.kept.items in
+    let e = c.in_ok-enlarged.ensures.enlarged in
+    let s = e.made.setting in
+    let maker = line_fitter s (map (λ g. g.0) l.glyphs) in
+    let hs = c.in_ok-moved.moved.items in
+    let made = larger_made c.args.face.now a l larger e.left gs e.made e.moved in
+    let drawn = rw c.frame_of-frame.ensures.exact at (c.in_ok-moved.ensures.drawn maker (frame_of l a.margin) e.made.drawn) in
+    let frame : c.in_ok-draw_made.field-0.frame ≡ frame_of larger a.margin =
+    c.in_ok-draw_made.ensures.frame ∙ c.frame_of-frame.ensures.exact in
+    let there : AreDrawn false (line_fitter s (map (λ g. g.0) larger.glyphs)) (frame_of larger a.margin) hs =
+    rw c.in_ok-enlarged.ensures.glyphs drawn in
+    let numbers : numbers_of hs ≡ distinct (map (λ g. g.0) larger.glyphs) =
+    rw c.in_ok-enlarged.ensures.glyphs (c.in_ok-moved.ensures.numbers ∙ e.made.numbers) in
+    rw (frame, c.in_ok-draw_made.ensures.edges) (tested_crossings {keeps = false} a larger s (frame_of larger a.margin) hs made.shapes
+    there numbers made.fitted made.seldom bounded)
+
+pub returns-clause-cost : goal.returns-clause-cost
+returns-clause-cost c = rw c.in_ok-draw_made.ensures.cost c.in_ok-enlarged.ensures.cost
+
+pub returns-then-not-is_bounded-clause-cost : goal.returns-then-not-is_bounded-clause-cost
+returns-then-not-is_bounded-clause-cost c =
+    let face = c.args.face.now in
+    let a = job_view c.args.job.now in
+    let l = placement_of c.args.line in
+    let larger = placement_of c.in_ok-enlarged.enlarged.line in
+    let e = c.in_ok-enlarged.ensures.enlarged in
+    let same = same_cost face a l larger e.left c.in_ok-enlarged.enlarged.glyphs.kept.items e.made e.moved in
+    let anew = rw c.into_line-larger.ensures at c.draw_line.ensures.cost in
+    IfOk-weaker c.draw_line.result (λ (p : Picture). line_cost face a larger ≡ Ok p.cost)
+    (λ (p : Picture). line_cost face a l ≡ Ok p.cost) (λ p is. sym same ∙ is) anew

@@ -1,7 +1,7 @@
 use Rattle.std.proofs.Common.{◌∙◌, map}
 use Rattle.std.proofs.lemmas.Result.{err_from_is_err_and}
 use Rattle.tt_line.specs.Outcome.{placement_of}
-use Rattle.tt_strike.specs.Distinct.{line_fitter}
+use Rattle.tt_strike.specs.Work.{line_fitter}
 use Rattle.tt_strike.specs.Glyphs.{numbers_of}
 use Rattle.tt_strike.specs.Job.{job_view}
 use Rattle.tt_strike.specs.Measures.{ink_of, line_ink}

@@ -63,10 +63,13 @@ pub returns-clause-report : goal.returns-clause-report
 returns-clause-report c =
     rw c.measure_of.ensures.report (reported_as_made c.args.face.now (job_view c.args.job.now) (placement_of c.args.line)
     c.in_ok-enlarged.enlarged.glyphs.kept.items c.in_ok-report.report.unfitted.items
-    c.in_ok-enlarged.ensures.enlarged.made (rw c.deref.ensures.value at c.in_ok-report.ensures)).0
+    c.in_ok-enlarged.ensures.enlarged.made (rw c.deref.ensures.value at c.in_ok-report.ensures.unfitted)).0
 
 pub returns-clause-once : goal.returns-clause-once
 returns-clause-once c =
     rw c.measure_of.ensures.report (reported_as_made c.args.face.now (job_view c.args.job.now) (placement_of c.args.line)
     c.in_ok-enlarged.enlarged.glyphs.kept.items c.in_ok-report.report.unfitted.items
-    c.in_ok-enlarged.ensures.enlarged.made (rw c.deref.ensures.value at c.in_ok-report.ensures)).1
+    c.in_ok-enlarged.ensures.enlarged.made (rw c.deref.ensures.value at c.in_ok-report.ensures.unfitted)).1
+
+pub returns-clause-cost : goal.returns-clause-cost
+returns-clause-cost c = rw (c.measure_of.ensures.report, c.in_ok-report.ensures.cost) c.in_ok-enlarged.ensures.cost

@@ -1,7 +1,7 @@
 use Rattle.std.proofs.Common.{◌∙◌, ◌<◌, ◌++◌, ◌∷◌, [], length, map, drop, get_or, suc, add-one, drop-cons, refl, ap, arith}
 use Rattle.std.proofs.lemmas.Result.{err_from_is_err_and}
 use Rattle.tt_core.specs.Outcomes.{each}
-use Rattle.tt_strike.specs.Distinct.{IsNext, distinct, line_fitter}
+use Rattle.tt_strike.specs.Distinct.{IsNext, distinct, each_fitter}
 use Rattle.tt_strike.specs.Glyphs.{numbers_of}
 use Rattle.tt_strike.specs.Picture.{glyph_shape}
 use Rattle.tt_strike_kept.specs.Kept.{Kept}
@@ -15,7 +15,7 @@ pub loop-placed-init : goal.loop-placed-init
 loop-placed-init c =
     let none = c.in_ok-distinct.ensures.kept in
     let line = c.args.line.now in
-    let maker = line_fitter c.args.fitter.now (map (λ g. g.0) line) in
+    let maker = each_fitter c.args.fitter.now (map (λ g. g.0) line) in
     record {
       kept = c.requires.kept;
       most = refl;
@@ -46,7 +46,7 @@ loop-placed-preserved c =
     let i = c.loop-placed.placed-index in
     let before = c.loop-placed.distinct.kept.items in
     let line = c.args.line.now in
-    let maker = line_fitter c.args.fitter.now (map (λ g. g.0) line) in
+    let maker = each_fitter c.args.fitter.now (map (λ g. g.0) line) in
     let make = glyph_shape maker in
     let below : i < length line = c.loop-placed-test.true in
     let whole = drop-cons line i (0, 0) below in
@@ -86,7 +86,7 @@ returns-in_err-place-clause-fault c =
     let i = c.loop-placed.placed-index in
     let before = c.loop-placed.distinct.kept.items in
     let line = c.args.line.now in
-    let maker = line_fitter c.args.fitter.now (map (λ g. g.0) line) in
+    let maker = each_fitter c.args.fitter.now (map (λ g. g.0) line) in
     let below : i < length line = c.loop-placed-test.true in
     let numbers = rw (drop-cons line i (0, 0) below) at so_far.numbers in
     let next : IsNext maker c.loop-placed.fitter (numbers_of before) (get_or line i (0, 0)).0 =

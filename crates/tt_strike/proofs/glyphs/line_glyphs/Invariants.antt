@@ -1,6 +1,6 @@
 use Rattle.std.proofs.Common.{◌≡◌, ◌≤◌, false, length, drop, map, List}
 use Rattle.tt_core.specs.Outcomes.{each, after_each}
-use Rattle.tt_strike.specs.Distinct.{distinct, distinct_after, fitter_after, line_fitter}
+use Rattle.tt_strike.specs.Distinct.{distinct, distinct_after, each_fitter, fitter_after}
 use Rattle.tt_strike.specs.Glyphs.{AreDrawn, AreKept, AreWithin, Stand, numbers_of}
 use Rattle.tt_strike.specs.Kept.{AreKeptFor}
 use Rattle.tt_strike.specs.Picture.{glyph_shape}
@@ -17,12 +17,12 @@ invariant-loop-placed l = record {
   valid : AreKept l.fn.fitter.tables.glyphs l.distinct.places.items l.distinct.kept.items;
   tables : l.fitter.tables ≡ l.fn.fitter.tables;
   left : l.fitter ≡ fitter_after l.fn.fitter (numbers_of l.distinct.kept.items);
-  drawn : AreDrawn l.keeps (line_fitter l.fn.fitter (map (λ g. g.0) l.line)) l.frame l.distinct.kept.items;
+  drawn : AreDrawn l.keeps (each_fitter l.fn.fitter (map (λ g. g.0) l.line)) l.frame l.distinct.kept.items;
   numbers : distinct_after (numbers_of l.distinct.kept.items) (map (λ g. g.0) (drop l.placed-index l.line))
       ≡ distinct (map (λ g. g.0) l.line);
   pens : AreWithin l.distinct.kept.items;
   stand : (shapes : List Shape)
-      × (after_each (glyph_shape (line_fitter l.fn.fitter (map (λ g. g.0) l.line))) (drop l.placed-index l.line) shapes
-      ≡ each (glyph_shape (line_fitter l.fn.fitter (map (λ g. g.0) l.line))) l.line)
+      × (after_each (glyph_shape (each_fitter l.fn.fitter (map (λ g. g.0) l.line))) (drop l.placed-index l.line) shapes
+      ≡ each (glyph_shape (each_fitter l.fn.fitter (map (λ g. g.0) l.line))) l.line)
       × Stand l.keeps l.frame l.distinct.kept.items shapes;
 }

@@ -1,6 +1,6 @@
 use Rattle.std.proofs.Common.{◌∙◌, map, refl}
 use Rattle.tt_line.specs.Outcome.{placement_of}
-use Rattle.tt_strike.specs.Distinct.{line_fitter}
+use Rattle.tt_strike.specs.Work.{line_fitter}
 use Rattle.tt_strike.specs.Glyphs.{numbers_of}
 use Rattle.tt_strike.specs.Job.{job_view}
 use Rattle.tt_strike.specs.Measures.{line_ink}
@@ -41,10 +41,13 @@ pub returns-clause-report : goal.returns-clause-report
 returns-clause-report c =
     rw c.measure_of.ensures.report (reported_as_made c.args.face.now (job_view c.args.job.now) (placement_of c.args.line.now)
     c.in_ok-glyphs.glyphs.kept.items c.in_ok-report.report.unfitted.items c.in_ok-glyphs.ensures.made
-    (rw c.deref-2.ensures.value at c.in_ok-report.ensures)).0
+    (rw c.deref-2.ensures.value at c.in_ok-report.ensures.unfitted)).0
 
 pub returns-clause-once : goal.returns-clause-once
 returns-clause-once c =
     rw c.measure_of.ensures.report (reported_as_made c.args.face.now (job_view c.args.job.now) (placement_of c.args.line.now)
     c.in_ok-glyphs.glyphs.kept.items c.in_ok-report.report.unfitted.items c.in_ok-glyphs.ensures.made
-    (rw c.deref-2.ensures.value at c.in_ok-report.ensures)).1
+    (rw c.deref-2.ensures.value at c.in_ok-report.ensures.unfitted)).1
+
+pub returns-clause-cost : goal.returns-clause-cost
+returns-clause-cost c = rw (c.measure_of.ensures.report, c.in_ok-report.ensures.cost) c.in_ok-glyphs.ensures.cost

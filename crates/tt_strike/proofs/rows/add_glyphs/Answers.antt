@@ -1,10 +1,10 @@
-use Rattle.std.proofs.Common.{◌≡◌, ◌∙◌, ◌≢◌, ℕ, ◌+◌, ◌*◌, ◌<◌, ◌&&◌, ◌||◌, nat_lt, length, get_or, set, refl, arith}
+use Rattle.std.proofs.Common.{◌≡◌, ◌∙◌, ◌≢◌, ℕ, ◌+◌, ◌<◌, ◌&&◌, ◌||◌, nat_lt, length, get_or, set, refl, arith}
 use Rattle.std.proofs.lemmas.List.{get_or-map, get_or-set_other, length-set, length-map}
 use Rattle.std.proofs.lemmas.List.Elements.{AllWithin-more_set}
 use Rattle.std.proofs.Math.Seq.{map-set_same}
 use Rattle.tt_core.specs.Bits.{bit}
 use Rattle.tt_strike.specs.Glyphs.{GlyphFits, stamp_of, stamps_in}
-use Rattle.tt_strike.specs.Pixels.{Stamp, is_black_from, row_crossings}
+use Rattle.tt_strike.specs.Pixels.{Stamp, is_black_from}
 use Rattle.tt_strike.proofs.Blackened.{one_glyph_more}
 use Rattle.tt_strike.proofs.rows.add_glyphs.Goals as goal
 
@@ -36,7 +36,7 @@ loop-i-preserved c =
           (nat_lt k c.args.frame.width) within);
       len = c.add_to_row.ensures.len ∙ so_far.len;
       done = rw room (AllWithin-more_set c.loop-i.glyphs i new inside
-          (GlyphFits c.args.frame ((c.args.r + 1) * row_crossings) c.loop-i.sweep.room) so_far.done fits_after);
+          (GlyphFits c.args.frame (c.args.r + 1) c.loop-i.sweep.room) so_far.done fits_after);
       left = λ k d low high.
           let other : k ≢ i = λ e. absurd (omega (arith, e)) in
           rw (room, get_or-set_other c.loop-i.glyphs i k new d other) (so_far.left k d (omega arith) high);

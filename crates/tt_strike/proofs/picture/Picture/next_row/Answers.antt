@@ -1,8 +1,9 @@
-use Rattle.std.proofs.Common.{◌≡◌, ◌∙◌, ◌*◌, ◌+◌, ap, length, sym, vec_len}
+use Rattle.std.proofs.Common.{◌≡◌, ◌∙◌, ◌*◌, ◌+◌, List, ap, length, map, sym, vec_len}
 use Rattle.std.proofs.lemmas.List.{length-map, with_items_is}
 use Rattle.tt_core.specs.Bits.{stride}
 use Rattle.tt_pbm.specs.P4.{rows}
 use Rattle.tt_strike.specs.Glyphs.{shows_by, stamp_of, stamps_in}
+use Rattle.tt_strike.specs.Pixels.{Stamp, cut_from}
 use Rattle.tt_strike.proofs.RowsCut.{row_cut}
 use Rattle.tt_strike.proofs.picture.Picture.next_row.Goals as goal
 
@@ -22,4 +23,4 @@ returns-clause-same c =
     sym (length-map c.make_row.new.glyphs stamp_of) ∙ ap length c.make_row.ensures.stamps
     ∙ length-map c.deref_mut.result.now stamp_of ∙ c.deref_mut.ensures.len in
     rw (← c.self.view_is, with_items_is p.glyphs c.make_row.new.glyphs many)
-    (ap (λ ss. record { frame = f; rows = rows f.width (shows_by f ss p.dropouts.items) 0 (stride f.width * f.height); made = p.made + 1; unfitted = p.report.unfitted.items }) stamps)
+    (ap (λ (ss : List Stamp). record { frame = f; rows = rows f.width (shows_by f ss p.dropouts.items) 0 (stride f.width * f.height); made = p.made + 1; unfitted = p.report.unfitted.items; edges = map (λ s. cut_from s.drawn) ss; cost = p.report.cost }) stamps)

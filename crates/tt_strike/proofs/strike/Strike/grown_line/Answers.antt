@@ -1,5 +1,6 @@
 use Rattle.std.proofs.lemmas.Result.{err_from_is_err_and}
 use Rattle.tt_line.specs.Outcome.{placement_of}
+use Rattle.tt_strike.specs.Costs.{cost_by}
 use Rattle.tt_strike.specs.Report.{report_by}
 use Rattle.tt_strike.specs.Strikes.{Strike, job_of}
 use Rattle.tt_strike.proofs.GrownStops.{drawn_as_laid, placed_as_laid}
@@ -38,3 +39,7 @@ returns-clause-report c = rw (← c.self.view_is, c.in_ok-line.ensures.laid) c.d
 
 pub returns-clause-defects : goal.returns-clause-defects
 returns-clause-defects c = rw (← c.self.view_is, ← c.in_ok-line.ensures.glyphs) c.draw_grown.ensures.defects
+
+pub returns-clause-cost : goal.returns-clause-cost
+unfolding cost_by
+returns-clause-cost c = rw (← c.self.view_is, c.in_ok-line.ensures.laid) c.draw_grown.ensures.cost

@@ -1,5 +1,6 @@
 use Rattle.std.proofs.lemmas.Result.{err_from_is_err_and}
 use Rattle.tt_line.specs.Outcome.{placement_of}
+use Rattle.tt_strike.specs.Costs.{cost_by}
 use Rattle.tt_strike.specs.Report.{report_by}
 use Rattle.tt_strike.specs.Strikes.{Strike, job_of}
 use Rattle.tt_strike.proofs.GrownMeasures.{measured_as_laid, not_laid_out}
@@ -31,3 +32,7 @@ returns-clause-report c = rw (← c.self.view_is, c.in_ok-line.ensures.laid) c.m
 
 pub returns-clause-defects : goal.returns-clause-defects
 returns-clause-defects c = rw (← c.self.view_is, ← c.in_ok-line.ensures.glyphs) c.measure_grown.ensures.defects
+
+pub returns-clause-cost : goal.returns-clause-cost
+unfolding cost_by
+returns-clause-cost c = rw (← c.self.view_is, c.in_ok-line.ensures.laid) c.measure_grown.ensures.cost

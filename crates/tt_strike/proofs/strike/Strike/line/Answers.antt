@@ -1,5 +1,6 @@
 use Rattle.std.proofs.lemmas.Result.{err_from_is_err_and}
 use Rattle.tt_line.specs.Outcome.{placement_of}
+use Rattle.tt_strike.specs.Costs.{cost_by}
 use Rattle.tt_strike.specs.Report.{report_by}
 use Rattle.tt_strike.specs.Strikes.{Strike, job_of}
 use Rattle.tt_strike.proofs.Stopped.{line_as_laid, line_stops, no_defect_told, work_refuses}
@@ -43,3 +44,7 @@ returns-clause-exact c =
 
 pub returns-clause-frame : goal.returns-clause-frame
 returns-clause-frame c = rw (← c.self.view_is, c.in_ok-line.ensures.laid) c.draw_line.ensures.frame
+
+pub returns-clause-cost : goal.returns-clause-cost
+unfolding cost_by
+returns-clause-cost c = rw (← c.self.view_is, c.in_ok-line.ensures.laid) c.draw_line.ensures.cost

@@ -1,5 +1,6 @@
 use Rattle.std.proofs.lemmas.Result.{err_from_is_err_and}
 use Rattle.tt_line.specs.Outcome.{placement_of}
+use Rattle.tt_strike.specs.Costs.{cost_by}
 use Rattle.tt_strike.specs.Measures.{measured}
 use Rattle.tt_strike.specs.Report.{report_by}
 use Rattle.tt_strike.specs.Strikes.{Strike, job_of}
@@ -39,3 +40,7 @@ returns-clause-job c =
 pub returns-clause-exact : goal.returns-clause-exact
 unfolding measured
 returns-clause-exact c = rw (← c.self.view_is, c.in_ok-line.ensures.exact) c.measure_line.ensures.exact
+
+pub returns-clause-cost : goal.returns-clause-cost
+unfolding cost_by
+returns-clause-cost c = rw (← c.self.view_is, c.in_ok-line.ensures.laid) c.measure_line.ensures.cost
