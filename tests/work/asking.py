@@ -23,12 +23,12 @@ class Asked:
         return self.run("draw", "--fit", fit, "--size", size, *options, text=text)
 
     def lines(self, fit, size, lines, *options):
-        """Draws the lines of some bytes."""
-        return self.run("draw", "--fit", fit, "--size", size, "--lines", *options, lines=lines)
+        """Draws the lines of some bytes, with a margin: a glyph without an advance has a picture too."""
+        return self.run("draw", "--fit", fit, "--size", size, "--margin", 1, "--lines", *options, lines=lines)
 
     def measured(self, fit, size, lines):
         """Measures the lines of some bytes."""
-        return self.run("measure", "--fit", fit, "--size", size, "--lines", lines=lines)
+        return self.run("measure", "--fit", fit, "--size", size, "--margin", 1, "--lines", lines=lines)
 
     def measure(self, fit, size, text):
         """Measures a text."""

@@ -8,7 +8,7 @@ WORK, STEPS = 100_000_000, 1_000_000
 # The control values of a font, and the phantom points of a glyph.
 VALUES, PHANTOMS = 65_535, 4
 # The work that each point of a line's glyphs takes before the first glyph is made; contours and phantom points count.
-POINT_WORK = 0
+POINT_WORK = 40
 
 # Instructions of which each point named on the stack weighs 4; the loop variable is their count.
 LOOPED = {0x32, 0x33, 0x38, 0x39, 0x3C, 0x80}

@@ -45,10 +45,10 @@ line_fitter s gs g = each_fitter (started s gs) gs g
 abbrev pub work_left : Fitter → List ℕ → Option ℕ
 work_left s gs = (fitter_after (started s gs) (distinct gs)).work
 
--- how many crossings the remaining work allows: each takes 4, and 250,000 are free
+-- how many crossings the remaining work allows: each takes 4, and 500,000 are free
 abbrev pub crossings_allowed : Option ℕ → ℕ
 crossings_allowed None = crossing_limit
-crossings_allowed (Some left) = min crossing_limit (left / 4 + 250000)
+crossings_allowed (Some left) = min crossing_limit (left / 4 + 500000)
 
 -- where dropouts are filled, a glyph counts the search for them too
 abbrev pub filling_crossings : Option Rules → List Edge → ℕ
@@ -64,13 +64,13 @@ crossings_in (s ∷ ss) = (edges_counted s.edges + filling_crossings s.filled s.
 all_remains : crossings_allowed (Some 100000000) ≡ 16000000
 all_remains = refl
 
-some_remains : crossings_allowed (Some 40000003) ≡ 10250000
+some_remains : crossings_allowed (Some 40000003) ≡ 10500000
 some_remains = refl
 
-too_little_for_one : crossings_allowed (Some 3) ≡ 250000
+too_little_for_one : crossings_allowed (Some 3) ≡ 500000
 too_little_for_one = refl
 
-none_remains : crossings_allowed (Some 0) ≡ 250000
+none_remains : crossings_allowed (Some 0) ≡ 500000
 none_remains = refl
 
 at_the_limit : work_tested fit.Best crossing_limit 16000000 ≡ Ok tt

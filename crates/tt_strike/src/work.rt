@@ -24,7 +24,7 @@ const POINT_WORK: u64 = 40;
 const CROSSING_WORK: u64 = 4;
 
 /// The crossings that take no work.
-const CROSSINGS_FREE: u64 = 250_000;
+const CROSSINGS_FREE: u64 = 500_000;
 
 /// Whether the work of a job is bounded.
 pub(crate) fn is_bounded(fit: Fit) -> bool
