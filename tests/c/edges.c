@@ -152,6 +152,21 @@ static void try_ends(const char *name, struct room text, const uint64_t *ends, s
   verdict("%s", name);
 }
 
+/* A refused job comes before too small a room for lines, and the room before a line's end. */
+static void try_order(const char *name, struct room text, struct tt_job job, size_t lines, uint32_t status,
+                      uint32_t number) {
+  uint64_t end = UINT64_MAX;
+  struct question q = question_of(font, text, job);
+  give_up(q.ends);
+  q.ends = held(&end, sizeof end);
+  struct drawn_lines it = asked_lines(&q, 0, lines);
+  expect(it.answer.status == status && it.answer.number == number, "tt_draw_lines: status %u, number %u",
+         it.answer.status, it.answer.number);
+  forget_lines(it);
+  give_up_question(q);
+  verdict("%s", name);
+}
+
 static void try_all_ends(void) {
   struct room text = text_of("AB\u03A9A");
   struct tt_job wide = {.size = 16, .margin = 1, .fit = TT_FALLBACK, .grow = 0};
@@ -164,6 +179,11 @@ static void try_all_ends(void) {
   try_ends("a line without a character", text, (const uint64_t[]){1, 1, 2}, 3, usual, TT_JOB, 62, 1);
   try_ends("a line without a character in a margin", text, (const uint64_t[]){0, 1, 1}, 3, wide, TT_DONE, 0, 3);
   try_ends("no line", text, NULL, 0, usual, TT_DONE, 0, 0);
+  struct tt_job large = {.size = 301, .margin = 0, .fit = TT_FULL, .grow = 0};
+  try_ends("no line, and a size of 301", text, NULL, 0, large, TT_JOB, 60, 0);
+  try_order("a line without room and with a wrong end, and a size of 301", text, large, 0, TT_JOB, 60);
+  try_order("a line with a wrong end, and a size of 301", text, large, 1, TT_JOB, 60);
+  try_order("a line without room and with a wrong end", text, usual, 0, TT_ROOM, 0);
   give_up(text);
 }
 

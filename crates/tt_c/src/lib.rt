@@ -3,10 +3,10 @@
 
 ghost use Rattle.std.specs.Prelude.{◌≡◌, ◌≢◌, ◌≤◌, ◌<◌, ◌^◌, ℕ, length};
 ghost use Rattle.tt_strike.specs.Defects.{IsFaceDefect};
-ghost use Rattle.tt_c_calls.specs.Answers.{DefectStands, TellsRefusal, done_answer, memory_answer, room_answer};
+ghost use Rattle.tt_c_calls.specs.Answers.{DefectStands, TellsRefusal, done_answer, memory_answer};
 ghost use Rattle.tt_c_calls.specs.Asked.{IsAskedDefect};
 ghost use Rattle.tt_c_calls.specs.Fonts.{IsFontOf, face_wanted};
-ghost use Rattle.tt_c_calls.specs.Lines.{DrawsLines, EndsWith, IsLinesDefect, LineDefectStands};
+ghost use Rattle.tt_c_calls.specs.Lines.{AnswersInOrder, DrawsLines, EndsWith, IsLinesDefect, LineDefectStands, lines_wanted};
 ghost use Rattle.tt_c_calls.specs.Maps.{AreGlyphsOf, IsGlyphsSmall, glyphs_wanted};
 ghost use Rattle.tt_c_calls.specs.Measures.{AreCharactersOf, IsCharactersSmall, IsMeasureTold, measure_wanted};
 ghost use Rattle.tt_c_calls.specs.Messages.{IsTextSmall, IsTextWritten, message_of};
@@ -152,9 +152,10 @@ pub extern "C" fn tt_draw_lines(
     answer: &mut CAnswer,
 ) -> u32
     ensures status { result ≡ answer.new.status }
-    ensures room { length lines.old < length ends.now → (answer.new ≡ room_answer 0 (length ends.now)) × (rows.new ≡ rows.old) × (lines.new ≡ lines.old) }
+    ensures order { AnswersInOrder (lines_wanted job.now font.now) (length lines.old) (length ends.now) answer.new }
+    ensures kept { length lines.old < length ends.now → (rows.new ≡ rows.old) × (lines.new ≡ lines.old) }
     ensures drawn { length ends.now ≤ length lines.old → (used : ℕ) × DrawsLines job.now font.now texts.now ends.now rows.old rows.new lines.old lines.new used answer.new.count × EndsWith job.now font.now texts.now ends.now (length rows.old) used answer.new }
-    ensures stands { length ends.now ≤ length lines.old → LineDefectStands (IsLinesDefect job.now font.now texts.now ends.now answer.new.count) answer.new }
+    ensures stands { LineDefectStands (IsLinesDefect job.now font.now texts.now ends.now answer.new.count) answer.new }
 {
     *answer = tt_c_calls::draw_lines(alloc, font, texts, ends, job, keep, rows, lines);
     answer.status

@@ -1,5 +1,5 @@
 -- A call that draws lines, and stops before the first line.
-use Rattle.std.proofs.Common.{◌≡◌, ◌∙◌, refl, ℕ, List, [], length, IfSome, Result, Ok, Err, inl, inr, arith, subst, sym}
+use Rattle.std.proofs.Common.{◌≡◌, ◌≢◌, ◌∙◌, ◌<◌, refl, ℕ, List, [], length, IfSome, Result, Ok, Err, inl, inr, arith, subst, sym}
 use Rattle.std.specs.Prelude.{◌==◌}
 use Rattle.tt_core.proofs.Whole.{directory-same}
 use Rattle.tt_core.specs.Chains.{came-through}
@@ -18,13 +18,14 @@ use Rattle.tt_strike.specs.Refusals.{as_job, font, job, large, refusal}
 use Rattle.tt_strike.specs.Strikes.{Strike}
 use Rattle.tt_strike.specs.Tables.{Face, cmap_tag, face_of}
 use Rattle.tt_c_calls.specs.Fonts.{face_wanted}
+use Rattle.tt_c_calls.specs.declared.answer.CAnswer.{CAnswer}
 use Rattle.tt_c_calls.specs.declared.asked.CJob.{CJob}
 use Rattle.tt_c_calls.specs.declared.fault.CallFault.{CallFault}
 use Rattle.tt_c_calls.specs.declared.fault.CallFault.TheVariants as call
 use Rattle.tt_c_calls.specs.declared.line_drawing.CLine.{CLine}
-use Rattle.tt_c_calls.specs.Answers.{call_answer}
+use Rattle.tt_c_calls.specs.Answers.{call_answer, room_answer}
 use Rattle.tt_c_calls.specs.Asked.{fit_asked}
-use Rattle.tt_c_calls.specs.Lines.{DrawsLines, EndsWith, IsStrikeFor, LineDefectStands, lines_wanted}
+use Rattle.tt_c_calls.specs.Lines.{AnswersInOrder, DrawsLines, EndsWith, IsStrikeFor, LineDefectStands, lines_wanted}
 use Rattle.tt_c_calls.specs.Refusals.{Refusal, as_call, call_font_fault, call_of_draw, call_refusal, line_ends, not_utf8, refused, unknown_fit}
 use Rattle.tt_c_calls.proofs.Answered.{by_face}
 use Rattle.tt_c_calls.proofs.AskedTables.{face_read, no_fit}
@@ -58,6 +59,29 @@ lines_refused j file texts ends room told call.NotUtf8 h =
     (0, none_drawn j file texts ends room told, inr (not_done call.NotUtf8, inl (not_utf8, h, refl)))
 lines_refused j file texts ends room told call.Memory h =
     (0, none_drawn j file texts ends room told, inr (not_done call.Memory, inr (inl refl)))
+
+-- the answer before any line is drawn
+pub refused_first : (wanted : Result Face Refusal) (room lines : ℕ) (e : CallFault) → e ≢ call.Memory
+    → IfSome (call_refusal e) (λ why. wanted ≡ Err why) → AnswersInOrder wanted room lines (call_answer e)
+refused_first wanted room lines (call.Font f) other h = rw h refl
+refused_first wanted room lines (call.Job why) other h = rw h refl
+refused_first wanted room lines call.FontLarge other h = rw h refl
+refused_first wanted room lines call.UnknownFit other h = rw h refl
+refused_first wanted room lines call.LineEnds other h = rw h refl
+refused_first wanted room lines call.NotUtf8 other h = rw h refl
+refused_first wanted room lines call.Memory other h = absurd (other refl)
+
+pub job_first : (wanted : Result Face Refusal) (room lines : ℕ) (why : JobFault) → wanted ≡ Err (refused (job why))
+    → AnswersInOrder wanted room lines (call_answer (call.Job why))
+job_first wanted room lines why h = rw h refl
+
+pub opened_first : (wanted : Result Face Refusal) (face : Face) (room lines : ℕ) (a : CAnswer) → wanted ≡ Ok face
+    → (room < lines → a ≡ room_answer 0 lines) → AnswersInOrder wanted room lines a
+opened_first wanted face room lines a h small = rw h small
+
+-- too small a room for the lines names no defect
+pub room_names_none : (IsOne : Fault → Type 0) (bytes count : ℕ) → LineDefectStands IsOne (room_answer bytes count)
+room_names_none IsOne bytes count is = absurd (omega arith)
 
 -- the way to fit is refused
 pub fit_refused : (j : CJob) (file : List ℕ) (e : CallFault)
@@ -108,6 +132,10 @@ unfolding lines_wanted
 lines_of_font j file how fits test =
     rw fits (by_face (tested (of_no_text j how)) (λ face. Ok face) file test ∙ all_faces (face_wanted file))
 
+pub lines_opened : (j : CJob) (file : List ℕ) (how : Fit) (face : Face) → fit_asked j.fit ≡ Ok how
+    → tested (of_no_text j how) ≡ Ok tt → face_wanted file ≡ Ok face → lines_wanted j file ≡ Ok face
+lines_opened j file how face fits test found = lines_of_font j file how fits test ∙ found
+
 pub face_refused : (j : CJob) (file : List ℕ) (how : Fit) (e : CallFault) → fit_asked j.fit ≡ Ok how
     → tested (of_no_text j how) ≡ Ok tt → IfSome (call_refusal e) (λ why. face_wanted file ≡ Err why)
     → IfSome (call_refusal e) (λ why. lines_wanted j file ≡ Err why)
@@ -148,6 +176,6 @@ pub strike_for : (j : CJob) (file : List ℕ) (how : Fit) (face : Face) (s : Str
     → s ≡ record { face = face; ppem = j.size; fit = how; most = most } → IsStrikeFor j s.face.directory s
 strike_for j file how face s most fits test found is =
     let for : IsStrikeFor j file s =
-    rw is (record { face = lines_of_font j file how fits test ∙ found; fit = fits; size = refl }) in
+    rw is (record { face = lines_opened j file how face fits test found; fit = fits; size = refl }) in
     let same : s.face.directory ≡ file = rw is (directory_is file face found) in
     let P : List ℕ → Type 0 = λ l. IsStrikeFor j l s in subst P (sym same) for

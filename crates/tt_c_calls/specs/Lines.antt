@@ -1,5 +1,5 @@
 -- No part of the standard: lines drawn one after the other by a call of C (profile).
-use Rattle.std.specs.Prelude.{◌≡◌, ◌≢◌, ℕ, ◌+◌, ◌-◌, ◌*◌, ◌<◌, ◌≤◌, List, [], ◌∷◌, length, take, drop, get_or, Result, Ok, Err, ◌⊎◌, ⊤}
+use Rattle.std.specs.Prelude.{◌≡◌, ◌≢◌, refl, ℕ, ◌+◌, ◌-◌, ◌*◌, ◌<◌, ◌≤◌, List, [], ◌∷◌, length, take, drop, get_or, Result, Ok, Err, ◌⊎◌, ⊤}
 use Rattle.tt_core.specs.Faults.{Fault}
 use Rattle.tt_core.specs.Outcomes.{◌>>=◌}
 use Rattle.tt_strike.specs.Defects.{IsFaceDefect}
@@ -9,10 +9,10 @@ use Rattle.tt_strike.specs.Tables.{Face}
 use Rattle.tt_c_calls.specs.declared.answer.CAnswer.{CAnswer}
 use Rattle.tt_c_calls.specs.declared.asked.CJob.{CJob}
 use Rattle.tt_c_calls.specs.declared.line_drawing.CLine.{CLine}
-use Rattle.tt_c_calls.specs.Answers.{done_answer, fault_answer, memory_answer, refusal_answer, room_answer}
+use Rattle.tt_c_calls.specs.Answers.{done_answer, fault_answer, memory_answer, plain_answer, refusal_answer, room_answer}
 use Rattle.tt_c_calls.specs.Asked.{IsAskedDefect, fit_asked}
 use Rattle.tt_c_calls.specs.Pictures.{IsPictureOf, IsWritten, made_of, picture_told, picture_wanted}
-use Rattle.tt_c_calls.specs.Refusals.{Refusal, as_call, line_ends}
+use Rattle.tt_c_calls.specs.Refusals.{Refusal, as_call, line_ends, unknown_fit}
 
 -- a line of texts, from one place up to another
 abbrev pub line_between : List ℕ → ℕ → ℕ → List ℕ
@@ -101,6 +101,12 @@ lines_wanted j font =
     fit_asked j.fit >>= λ f.
     as_call (made_of (λ face. Ok face) (record { text = []; ppem = j.size; margin = j.margin; fit = f }) font)
 
+-- the answer before any line is drawn: a refused way to fit, size, margin or font comes first, and then too small a room
+-- for the lines
+abbrev pub AnswersInOrder : Result Face Refusal → ℕ → ℕ → CAnswer → Type 0
+AnswersInOrder (Err why) room lines a = a ≡ refusal_answer why
+AnswersInOrder (Ok face) room lines a = room < lines → a ≡ room_answer 0 lines
+
 -- the reason why a call drew no more than the first lines: the font or the job is refused, and no line is drawn; or the
 -- next line stopped it
 abbrev pub IsStopped : CJob → List ℕ → List ℕ → List ℕ → ℕ → ℕ → CAnswer → Type 0
@@ -116,10 +122,11 @@ pub record IsStrikeFor (j : CJob) (font : List ℕ) (s : Strike) : Type 0 where
   pub fit : fit_asked j.fit ≡ Ok s.fit
   pub size : s.ppem ≡ j.size
 
--- all lines were drawn, in `used` bytes, or the reason why not
+-- the font and the job are accepted and all lines were drawn, in `used` bytes; or the reason why not
 abbrev pub EndsWith : CJob → List ℕ → List ℕ → List ℕ → ℕ → ℕ → CAnswer → Type 0
 EndsWith j font texts ends room used a =
-    (a ≡ done_answer used (length ends)) ⊎ ((a.status ≢ 0) × IsStopped j font texts ends room used a)
+    ((face : Face) × (lines_wanted j font ≡ Ok face) × (a ≡ done_answer used (length ends)))
+    ⊎ ((a.status ≢ 0) × IsStopped j font texts ends room used a)
 
 -- a defect of the font: of the tables that every text needs, or of the data that line `i` is drawn from
 abbrev pub IsLinesDefect : CJob → List ℕ → List ℕ → List ℕ → ℕ → Fault → Type 0
@@ -130,3 +137,10 @@ IsLinesDefect j font texts ends i f =
 abbrev pub LineDefectStands : (Fault → Type 0) → CAnswer → Type 0
 LineDefectStands IsOne a = a.status ≡ 1 → (f : Fault)
     × (a ≡ record (fault_answer f) { bytes = a.bytes; count = a.count }) × IsOne f
+
+-- worked values
+an_unknown_fit_comes_before_the_room : AnswersInOrder (Err unknown_fit) 0 1 (plain_answer 2 66)
+an_unknown_fit_comes_before_the_room = refl
+
+room_for_two_of_three_lines : (face : Face) → AnswersInOrder (Ok face) 2 3 (room_answer 0 3)
+room_for_two_of_three_lines face few = refl

@@ -1,6 +1,6 @@
 //! The request of a call.
 
-ghost use Rattle.std.specs.Prelude.{◌≡◌, not, ◌==◌, IfErr};
+ghost use Rattle.std.specs.Prelude.{◌≡◌, ◌≢◌, not, ◌==◌, IfErr};
 ghost use Rattle.tt_core.specs.Outcomes.{GivesUnless};
 ghost use Rattle.tt_strike.specs.Job.{job_view};
 ghost use Rattle.tt_c_calls.specs.Asked.{asked, fit_asked, grows, text_asked};
@@ -38,7 +38,8 @@ impl CJob {
 /// The way to fit of a number. Error: UnknownFit.
 #[tactic(auto, unfolding(crate::specs::Asked::fit_asked))]
 pub(crate) fn fit_of(number: u32) -> Result<Fit, CallFault>
-    ensures { GivesUnless call_refusal (λ f. f) result (fit_asked number) }
+    ensures exact { GivesUnless call_refusal (λ f. f) result (fit_asked number) }
+    ensures memory { IfErr result (λ f. f ≢ call.Memory) }
 {
     match number {
         0 => Ok(Fit::Full),

@@ -1,9 +1,9 @@
 //! Lines drawn one after the other by one font.
 
 ghost use Rattle.std.specs.Prelude.{◌≡◌, ◌≢◌, ◌+◌, ◌<◌, ◌≤◌, ℕ, List, length};
-ghost use Rattle.tt_c_calls.specs.Answers.{DefectStands, room_answer};
+ghost use Rattle.tt_c_calls.specs.Answers.{DefectStands};
 ghost use Rattle.tt_c_calls.specs.Asked.{IsAskedDefect};
-ghost use Rattle.tt_c_calls.specs.Lines.{DrawsLines, EndsWith, IsLineWritten, IsLinesDefect, IsStrikeFor, IsTextStopped, LineDefectStands, stopped_answer};
+ghost use Rattle.tt_c_calls.specs.Lines.{AnswersInOrder, DrawsLines, EndsWith, IsLineWritten, IsLinesDefect, IsStrikeFor, IsTextStopped, LineDefectStands, lines_wanted, stopped_answer};
 
 use crate::answer::{CAnswer, answer_of, done, wants_room};
 use crate::asked::{CJob, fit_of, text_of};
@@ -113,15 +113,15 @@ fn draw_by(
 /// it ends, and ends before `ends[i]`. `rows` gets the rows of all lines one after the other, and `lines[i]` describes
 /// line i. Between lines at most `keep` bytes of glyphs are cached; with `best` none are.
 ///
-/// Answers, where all bytes and entries after the drawn lines are unchanged:
-/// - done, with the bytes and the number of all lines;
-/// - the room for `lines` is too small, and nothing is drawn;
-/// - the font is refused or too large, or the size, margin or way to fit is refused, or memory was refused; no line is
-///   drawn;
+/// Answers, the first of these, where all bytes and entries after the drawn lines are unchanged:
+/// - the way to fit, the size or the margin is refused, or the font is too large or refused; no line is drawn;
+/// - the room for `lines` is too small; no line is drawn, and `count` is the number of all lines;
+/// - memory was refused; no line is drawn;
 /// - the answer of the line that stopped the call, with the number of the lines before it and the bytes of their rows.
 ///   Where the room is too small for the line, the bytes include those of its own rows. A line stops the call if it is
 ///   refused, is not UTF-8, or ends before it begins or past the texts. It also stops the call if it needs more room
-///   than remains, or if memory was refused for it.
+///   than remains, or if memory was refused for it;
+/// - done, with the bytes and the number of all lines.
 pub fn draw_lines(
     alloc: Global,
     font: &[u8],
@@ -132,13 +132,11 @@ pub fn draw_lines(
     rows: &mut [u8],
     lines: &mut [CLine],
 ) -> CAnswer
-    ensures room { length lines.old < length ends.now → (result ≡ room_answer 0 (length ends.now)) × (rows.new ≡ rows.old) × (lines.new ≡ lines.old) }
+    ensures order { AnswersInOrder (lines_wanted job.now font.now) (length lines.old) (length ends.now) result }
+    ensures kept { length lines.old < length ends.now → (rows.new ≡ rows.old) × (lines.new ≡ lines.old) }
     ensures drawn { length ends.now ≤ length lines.old → (used : ℕ) × DrawsLines job.now font.now texts.now ends.now rows.old rows.new lines.old lines.new used result.count × EndsWith job.now font.now texts.now ends.now (length rows.old) used result }
-    ensures stands { length ends.now ≤ length lines.old → LineDefectStands (IsLinesDefect job.now font.now texts.now ends.now result.count) result }
+    ensures stands { LineDefectStands (IsLinesDefect job.now font.now texts.now ends.now result.count) result }
 {
-    if lines.len() < ends.len() {
-        return wants_room(0, ends.len() as u64);
-    }
     let fit = match fit_of(job.fit) {
         Ok(fit) => fit,
         Err(fault) => return answer_of(fault),
@@ -157,6 +155,9 @@ pub fn draw_lines(
         Ok(face) => face,
         Err(fault) => return answer_of(fault),
     };
+    if lines.len() < ends.len() {
+        return wants_room(0, ends.len() as u64);
+    }
     let mut strike = match Strike::new(alloc, &face, job.size, fit, keep) {
         Ok(strike) => strike,
         Err(fault) => return answer_of(CallFault::from(fault)),

@@ -1,7 +1,10 @@
 use Rattle.tt_c.proofs.tt_draw_lines.Goals as goal
 
-pub returns-clause-room : goal.returns-clause-room
-returns-clause-room c = c.draw_lines.ensures.room
+pub returns-clause-order : goal.returns-clause-order
+returns-clause-order c = c.draw_lines.ensures.order
+
+pub returns-clause-kept : goal.returns-clause-kept
+returns-clause-kept c = c.draw_lines.ensures.kept
 
 pub returns-clause-drawn : goal.returns-clause-drawn
 returns-clause-drawn c = c.draw_lines.ensures.drawn

@@ -1,4 +1,4 @@
-use Rattle.std.proofs.Common.{◌≡◌, ◌∙◌, ◌-◌, arith, length, set}
+use Rattle.std.proofs.Common.{◌≡◌, ◌∙◌, ◌-◌, arith, inl, length, refl, set}
 use Rattle.std.proofs.lemmas.List.{set-get_or}
 use borrow.Rule.Slice.PartMut.{put_mid, put_same}
 use Rattle.tt_c_calls.proofs.LinesDrawn.{drawn_on, line_stops}
@@ -30,3 +30,9 @@ returns-then-answer-ne0-clause-drawn g c =
       line_stops _ _ _ _ _ _ _ _ _ _ c.loop-i-test.true c.if-answer-ne0.true so_far.drawn.start (omega arith)
           (omega arith) c.loop-i.auto.rows (own.ensures.stopped c.if-answer-ne0.true),
     )
+
+pub returns-clause-drawn : goal.returns-clause-drawn
+returns-clause-drawn g c =
+    let so_far = c.loop-i.invariant.drawn.so_far in
+    let all : c.loop-i.i ≡ length c.args.ends.now = omega arith in
+    rw c.done.ensures (c.loop-i.used, rw all at so_far, inl (c.args.strike.now.face, c.requires.0.face, refl))
