@@ -9,6 +9,7 @@ pub mod Text
 mod Answered
 mod Made
 mod MeasureLines
+mod DefectLines
 mod OneText
 mod TextsReports
 mod Faces

@@ -2,6 +2,7 @@ pub mod Defects
 pub mod Laws
 pub mod LineReading
 pub mod Lines
+pub mod LinesDefects
 pub mod LinesOutcome
 pub mod MapLines
 pub mod MeasureText

@@ -1,12 +1,14 @@
 //! Draws the lines of a text in order, from a reader to a writer.
 
-ghost use Rattle.std.specs.Prelude.{◌≡◌, false, length, Some, IfOk};
-ghost use Rattle.tt_core.specs.Outcomes.{GivesUnless};
+ghost use Rattle.std.specs.Prelude.{◌≡◌, false, length, Some, IfOk, IfSome};
+ghost use Rattle.tt_core.specs.Outcomes.{GivesUnless, IfTold};
 ghost use Rattle.tt_render.specs.LineReading.{IsReader, text_left};
+ghost use Rattle.tt_render.specs.LinesDefects.{BeginsDefective, IsDefectBy, LinesTell, LinesTellDefectsOf};
 ghost use Rattle.tt_render.specs.LinesOutcome.{CanGoOut, DrawsLine, FailsByStop, FontLinesGive, IfReady, IsNoRead, LinesGive, TellsOf, answer_view, draws_by, told};
 ghost use Rattle.tt_render.specs.Outcome.{traffic_of};
 ghost use Rattle.tt_render.specs.Printing.{errors_of};
 ghost use Rattle.tt_render.specs.Reading.{font_reader_of};
+ghost use Rattle.tt_render.specs.TextOutcome.{stop_font_fault};
 
 use crate::lines::{LINE_LIMIT, LineReader, ReadFault};
 use crate::printing::print_text;
@@ -36,6 +38,7 @@ fn draw_line(
     ensures valid { IfOk result (λ r. CanGoOut r.output) }
     ensures report { IfOk result (TellsOf (Some number)) }
     ensures serves { IsNoRead result }
+    ensures defects { IfTold stop_font_fault result (IsDefectBy setting.now strike.old line.now) }
     ensures same { strike.new ≡ strike.old }
 {
     if line.len() > LINE_LIMIT {
@@ -65,6 +68,7 @@ fn next_text<R: Source>(
     ensures ready { IfReady result (λ r. CanGoOut r.output) }
     ensures report { IfReady result (TellsOf (Some number)) }
     ensures failure { FailsByStop (R.has_failed lines.new) result }
+    ensures defects { IfTold stop_font_fault result (λ f. IfSome (text_left reader.old (R.left lines.old)) (BeginsDefective (IsDefectBy setting.now strike.old) f)) }
     ensures same { strike.new ≡ strike.old }
 {
     let place = match reader.read_line(lines) {
@@ -95,6 +99,7 @@ fn draw_lines_by<R: Source, W: Sink, E: Sink>(
     requires out { W.has_failed out.old ≡ false }
     requires error { E.has_failed error.old ≡ false }
     ensures outcome { LinesGive (draws_by setting.now strike.old) result (traffic_of R.left R.has_failed W.written W.has_failed lines.old lines.new out.old out.new) (errors_of E.written E.has_failed error.old error.new) }
+    ensures defects { LinesTell (IsDefectBy setting.now strike.old) (R.left lines.old) result }
 {
     let mut reader = LineReader::new(alloc)?;
     for before in 0..u32::MAX {
@@ -142,6 +147,9 @@ pub fn draw_lines<F: Source, R: Source, W: Sink, E: Sink>(
     // Either the call stopped before it read a line, and did nothing else. Or the font was read to its end and opened,
     // and the reading, writing and printing are as defined for the lines by that font.
     ensures outcome { FontLinesGive setting.now result (font_reader_of F.left F.has_failed font.old font.new) (traffic_of R.left R.has_failed W.written W.has_failed lines.old lines.new out.old out.new) (errors_of E.written E.has_failed error.old error.new) }
+    // A font's fault in an error is a defect of the font: of the tables needed for every text, or of the data that the
+    // numbered line is drawn from.
+    ensures defects { LinesTellDefectsOf (F.left font.old) setting.now (R.left lines.old) result }
 {
     test_setting(setting)?;
     let file = read_font(alloc, font)?;

@@ -1,4 +1,5 @@
 use Rattle.std.proofs.Common.{arith}
+use Rattle.tt_render.proofs.DefectLines.{told_of_text}
 use Rattle.tt_render.proofs.DrawnLines.{line_of_no_text, line_of_text}
 use Rattle.tt_render.proofs.line_drawing.draw_line.Goals as goal
 
@@ -12,3 +13,7 @@ returns-clause-exact c =
     let drawn = line_of_text c.args.setting.now c.args.strike.now c.args.line.now c.in-Ok.text.now
     (omega (arith, c.if-line-gt-LINE_LIMIT.false)) c.in-Ok.ensures.cases in
     rw drawn c.answer_text.ensures.exact
+
+pub returns-clause-defects : goal.returns-clause-defects
+returns-clause-defects c =
+    told_of_text _ c.answer_text.result (rw c.in-Ok.ensures.cases.0 at c.answer_text.ensures.defects)

@@ -1,13 +1,17 @@
-use Rattle.std.proofs.Common.{inl, inr}
+use Rattle.std.proofs.Common.{ℕ, List, inl, inr, subst}
 use Rattle.std.proofs.lemmas.Result.{err_from_is_err_and}
+use Rattle.tt_render.specs.LinesDefects.{LinesTellDefects}
 use Rattle.tt_render.specs.Reading.{FontIsRead, FontIsUnread, font_reader_of}
 use Rattle.tt_render.specs.Settings.{strike_by, strike_of}
+use Rattle.tt_render.proofs.Calls.{known_of}
+use Rattle.tt_render.proofs.DefectLines.{lines_tell, reading_tells, setting_tells, strike_tells}
 use Rattle.tt_render.proofs.FontLines.{font_opened, font_refused, idle, reading_stops, strike_stops}
 use Rattle.tt_render.proofs.Printed.{keeps_itself}
 use Rattle.tt_render.proofs.line_drawing.draw_lines.Goals as goal
+use Rattle.tt_strike.specs.Defects.{IsFaceDefect}
 
-pub returns-in_err-test_setting : goal.returns-in_err-test_setting
-returns-in_err-test_setting g c =
+pub returns-in_err-test_setting-clause-outcome : goal.returns-in_err-test_setting-clause-outcome
+returns-in_err-test_setting-clause-outcome g c =
     let p = err_from_is_err_and c.from_residual.result c.from_residual.ensures.1 in
     let rest = idle (g.R.Source.left c.args.lines.now) (g.W.Sink.written c.args.out.now)
     (g.E.Sink.written c.args.error.now) (g.R.Source.has_failed c.args.lines.now)
@@ -15,10 +19,10 @@ returns-in_err-test_setting g c =
     c.requires.error in
     let unread : FontIsUnread (font_reader_of g.F.Source.left g.F.Source.has_failed c.args.font.now c.args.font.now) =
     (keeps_itself (g.F.Source.left c.args.font.now), c.requires.font) in
-    rw (p.1, p.2) (record { outcome = inl ((c.in_err-test_setting.ensures, unread), rest) })
+    rw (p.1, p.2) (inl ((c.in_err-test_setting.ensures, unread), rest))
 
-pub returns-in_err-file : goal.returns-in_err-file
-returns-in_err-file g c =
+pub returns-in_err-file-clause-outcome : goal.returns-in_err-file-clause-outcome
+returns-in_err-file-clause-outcome g c =
     let left = g.F.Source.left in
     let p = err_from_is_err_and c.from_residual-in_err-file.result c.from_residual-in_err-file.ensures.1 in
     let rest = idle (g.R.Source.left c.args.lines.now) (g.W.Sink.written c.args.out.now)
@@ -28,10 +32,10 @@ returns-in_err-file g c =
     let stops = reading_stops _ (strike_of c.args.setting.now) c.in_err-file.field-0.0 (left c.args.font.now)
     (left c.read_font.new.font) (g.F.Source.has_failed c.read_font.new.font) c.in_ok-test_setting.ensures
     c.in_err-file.ensures in
-    rw (p.1, p.2) (record { outcome = inl (stops, rest) })
+    rw (p.1, p.2) (inl (stops, rest))
 
-pub returns-in_err-face : goal.returns-in_err-face
-returns-in_err-face g c =
+pub returns-in_err-face-clause-outcome : goal.returns-in_err-face-clause-outcome
+returns-in_err-face-clause-outcome g c =
     let file = c.in_ok-file in
     let p = err_from_is_err_and c.from_residual-in_err-face.result c.from_residual-in_err-face.ensures.1 in
     let rest = idle (g.R.Source.left c.args.lines.now) (g.W.Sink.written c.args.out.now)
@@ -42,12 +46,10 @@ returns-in_err-face g c =
     let refused = font_refused c.args.setting.now file.file.items c.in_err-face.field-0.0 file.ensures.2 there in
     let f = font_reader_of g.F.Source.left g.F.Source.has_failed c.args.font.now c.read_font.new.font in
     let read : FontIsRead f file.file.items = (file.ensures.0, file.ensures.1, file.ensures.3) in
-    rw (p.1, p.2) (record {
-      outcome = inl ((c.in_ok-test_setting.ensures, file.file.items, read, refused), rest);
-    })
+    rw (p.1, p.2) (inl ((c.in_ok-test_setting.ensures, file.file.items, read, refused), rest))
 
-pub returns-in_err-strike : goal.returns-in_err-strike
-returns-in_err-strike g c =
+pub returns-in_err-strike-clause-outcome : goal.returns-in_err-strike-clause-outcome
+returns-in_err-strike-clause-outcome g c =
     let file = c.in_ok-file in
     let p = err_from_is_err_and c.from_residual-in_err-strike.result c.from_residual-in_err-strike.ensures.1 in
     let rest = idle (g.R.Source.left c.args.lines.now) (g.W.Sink.written c.args.out.now)
@@ -58,10 +60,10 @@ returns-in_err-strike g c =
     let stops = strike_stops c.args.setting.now (strike_of c.args.setting.now) c.in_err-strike.field-0.0 f
     file.file.items c.in_ok-test_setting.ensures (file.ensures.0, file.ensures.1, file.ensures.3)
     c.in_err-strike.ensures.tested in
-    rw (p.1, p.2) (record { outcome = inl (stops, rest) })
+    rw (p.1, p.2) (inl (stops, rest))
 
-pub returns : goal.returns
-returns g c =
+pub returns-clause-outcome : goal.returns-clause-outcome
+returns-clause-outcome g c =
     let a = c.args.setting.now in
     let file = c.in_ok-file in
     let there = rw c.deref.ensures.value at c.in_ok-face.ensures.exact in
@@ -69,6 +71,46 @@ returns g c =
     let f = font_reader_of g.F.Source.left g.F.Source.has_failed c.args.font.now c.read_font.new.font in
     let read : FontIsRead f file.file.items = (file.ensures.0, file.ensures.1, file.ensures.3) in
     let gives = rw c.in_ok-strike.ensures.exact at c.draw_lines_by.ensures.outcome in
-    record {
-      outcome = inr (c.in_ok-test_setting.ensures, file.file.items, read, strike_by a c.in_ok-face.face, opened, gives);
-    }
+    inr (c.in_ok-test_setting.ensures, file.file.items, read, strike_by a c.in_ok-face.face, opened, gives)
+
+pub returns-in_err-test_setting-clause-defects : goal.returns-in_err-test_setting-clause-defects
+returns-in_err-test_setting-clause-defects g c =
+    let p = err_from_is_err_and c.from_residual.result c.from_residual.ensures.1 in
+    rw (p.1, p.2) (setting_tells (Unit {0}) (g.F.Source.left c.args.font.now) c.args.setting.now
+    (g.R.Source.left c.args.lines.now) c.in_err-test_setting.field-0.0)
+
+pub returns-in_err-file-clause-defects : goal.returns-in_err-file-clause-defects
+returns-in_err-file-clause-defects g c =
+    let left = g.F.Source.left in
+    let p = err_from_is_err_and c.from_residual-in_err-file.result c.from_residual-in_err-file.ensures.1 in
+    rw (p.1, p.2) (reading_tells (Unit {0}) c.in_err-file.field-0.0 (left c.args.font.now) (left c.read_font.new.font)
+    (g.F.Source.has_failed c.read_font.new.font) c.args.setting.now (g.R.Source.left c.args.lines.now)
+    c.in_err-file.ensures)
+
+pub returns-in_err-face-clause-defects : goal.returns-in_err-face-clause-defects
+returns-in_err-face-clause-defects g c =
+    let left = g.F.Source.left in
+    let file = c.in_ok-file in
+    let fault = c.in_err-face.field-0.0 in
+    let p = err_from_is_err_and c.from_residual-in_err-face.result c.from_residual-in_err-face.ensures.1 in
+    let Tells : List ℕ → Type 0 = λ bytes. IsFaceDefect bytes fault in
+    rw (p.1, p.2) (known_of (left c.args.font.now) (left c.read_font.new.font) file.file.items Tells file.ensures.0
+    file.ensures.1 (subst Tells c.deref.ensures.value c.in_err-face.ensures.fault))
+
+pub returns-in_err-strike-clause-defects : goal.returns-in_err-strike-clause-defects
+returns-in_err-strike-clause-defects g c =
+    let p = err_from_is_err_and c.from_residual-in_err-strike.result c.from_residual-in_err-strike.ensures.1 in
+    rw (p.1, p.2) (strike_tells (Unit {0}) (g.F.Source.left c.args.font.now) c.args.setting.now
+    (g.R.Source.left c.args.lines.now) c.in_err-strike.field-0.0 c.in_err-strike.ensures.font)
+
+pub returns-clause-defects : goal.returns-clause-defects
+returns-clause-defects g c =
+    let a = c.args.setting.now in
+    let left = g.F.Source.left in
+    let text = g.R.Source.left c.args.lines.now in
+    let file = c.in_ok-file in
+    let there = rw c.deref.ensures.value at c.in_ok-face.ensures.exact in
+    let tells = rw c.in_ok-strike.ensures.exact at c.draw_lines_by.ensures.defects in
+    known_of (left c.args.font.now) (left c.read_font.new.font) file.file.items
+    (LinesTellDefects a text c.draw_lines_by.result) file.ensures.0 file.ensures.1
+    (lines_tell a file.file.items c.in_ok-face.face text c.draw_lines_by.result there tells)

@@ -1,18 +1,21 @@
-use Rattle.std.proofs.Common.{◌≡◌, ◌∙◌, ◌+◌, Some, arith, ap, refl}
+use Rattle.std.proofs.Common.{◌≡◌, ◌∙◌, ◌+◌, IfSome, Some, arith, ap, refl, subst}
 use Rattle.std.proofs.lemmas.Result.{err_from_is_err_and}
 use Rattle.tt_strike.specs.Strikes.{Strike}
 use Rattle.tt_render.specs.LineReading.{held, text_left}
 use Rattle.tt_render.specs.Lines.{lines_limit}
+use Rattle.tt_render.specs.LinesDefects.{BeginsDefective, IsDefectBy}
 use Rattle.tt_render.specs.LinesOutcome.{answer_view, draws_by}
 use Rattle.tt_render.specs.Outcome.{traffic_of}
 use Rattle.tt_render.specs.Printing.{PrintsBehind, errors_of}
 use Rattle.tt_render.specs.Reports.{told_of}
+use Rattle.tt_render.specs.TextOutcome.{stop_font_fault}
+use Rattle.tt_render.proofs.DefectLines.{stop_tells}
 use Rattle.tt_render.proofs.DrawnLines.{all_drawn, cut_sent, many_sent, none_so_far, one_more, reader_at_end, some_sent, stopped, whole_text}
 use Rattle.tt_render.proofs.Printed.{keeps_itself}
 use Rattle.tt_render.proofs.line_drawing.draw_lines_by.Goals as goal
 
-pub returns-in_err-reader : goal.returns-in_err-reader
-returns-in_err-reader g c =
+pub returns-in_err-reader-clause-outcome : goal.returns-in_err-reader-clause-outcome
+returns-in_err-reader-clause-outcome g c =
     let draw = draws_by c.args.setting.now c.args.strike.now in
     let left = g.R.Source.left c.args.lines.now in
     let out = g.W.Sink.written c.args.out.now in
@@ -24,7 +27,7 @@ returns-in_err-reader g c =
     let e = errors_of g.E.Sink.written g.E.Sink.has_failed c.args.error.now c.args.error.now in
     let sends = some_sent draw left t e 0
     (none_so_far draw left left out error failed (keeps_itself left) c.requires.error) in
-    rw (p.1, p.2) (record { outcome = (sends, c.requires.lines, c.requires.out) })
+    rw (p.1, p.2) (sends, c.requires.lines, c.requires.out)
 
 pub loop-before-init : goal.loop-before-init
 loop-before-init g c =
@@ -41,8 +44,8 @@ loop-before-init g c =
           c.requires.error;
     }
 
-pub returns-in-Ok-None : goal.returns-in-Ok-None
-returns-in-Ok-None g c =
+pub returns-in-Ok-None-clause-outcome : goal.returns-in-Ok-None-clause-outcome
+returns-in-Ok-None-clause-outcome g c =
     let so_far = c.loop-before.invariant in
     let draw = draws_by c.args.setting.now c.args.strike.now in
     let left = g.R.Source.left in
@@ -54,10 +57,10 @@ returns-in-Ok-None g c =
     let sends = all_drawn draw (text_left c.loop-before.reader (left c.loop-before.lines)) t e c.loop-before.before
     so_far.so_far none.0 in
     let end = reader_at_end (held c.next_text-next.new.reader) (left c.next_text-next.new.lines) none.1 in
-    record { outcome = (sends, (end, reads), so_far.writes) }
+    (sends, (end, reads), so_far.writes)
 
-pub returns-in-Err : goal.returns-in-Err
-returns-in-Err g c =
+pub returns-in-Err-clause-outcome : goal.returns-in-Err-clause-outcome
+returns-in-Err-clause-outcome g c =
     let so_far = c.loop-before.invariant in
     let a = c.args.setting.now in
     let left = g.R.Source.left in
@@ -69,10 +72,10 @@ returns-in-Err g c =
     (text_left c.loop-before.reader (left c.loop-before.lines))
     (text_left c.next_text-next.new.reader (left c.next_text-next.new.lines)) t e c.loop-before.before same
     so_far.so_far c.in-Err.ensures.outcome c.in-Err.ensures.failure so_far.writes in
-    record { outcome = rw c.texts_fault.ensures fails }
+    rw c.texts_fault.ensures fails
 
-pub returns-in-Err-write_output : goal.returns-in-Err-write_output
-returns-in-Err-write_output g c =
+pub returns-in-Err-write_output-clause-outcome : goal.returns-in-Err-write_output-clause-outcome
+returns-in-Err-write_output-clause-outcome g c =
     let so_far = c.loop-before.invariant in
     let draw = draws_by c.args.setting.now c.args.strike.now in
     let left = g.R.Source.left in
@@ -87,7 +90,7 @@ returns-in-Err-write_output g c =
     (text_left c.next_text-next.new.reader (left c.next_text-next.new.lines)) (written c.loop-before.out) t e
     c.loop-before.before cut.cut.sent next.0 (answer_view c.in-Ok-Some.ready) so_far.so_far next.1 next.2
     cut.ensures.within cut.ensures.part in
-    record { outcome = (sends, reads, cut.ensures.failure) }
+    (sends, reads, cut.ensures.failure)
 
 pub loop-before-preserved : goal.loop-before-preserved
 loop-before-preserved g c =
@@ -117,8 +120,8 @@ loop-before-preserved g c =
           next.1 next.2 c.in_default.ensures.all printed;
     }
 
-pub returns : goal.returns
-returns g c =
+pub returns-clause-outcome : goal.returns-clause-outcome
+returns-clause-outcome g c =
     let so_far = c.loop-before.invariant in
     let draw = draws_by c.args.setting.now c.args.strike.now in
     let left = g.R.Source.left in
@@ -129,4 +132,21 @@ returns g c =
     let e = errors_of g.E.Sink.written g.E.Sink.has_failed c.args.error.now c.loop-before.error in
     let sends = many_sent draw (text_left c.loop-before.reader (left c.loop-before.lines)) t e c.loop-before.before
     lines_limit all so_far.so_far in
-    record { outcome = (sends, so_far.reads, so_far.writes) }
+    (sends, so_far.reads, so_far.writes)
+
+pub returns-in_err-reader-clause-defects : goal.returns-in_err-reader-clause-defects
+returns-in_err-reader-clause-defects g c =
+    let p = err_from_is_err_and c.from_residual.result c.from_residual.ensures.1 in rw (p.1, p.2) tt
+
+pub returns-in-Err-clause-defects : goal.returns-in-Err-clause-defects
+returns-in-Err-clause-defects g c =
+    let so_far = c.loop-before.invariant in
+    let a = c.args.setting.now in
+    let left = g.R.Source.left in
+    let rest = text_left c.loop-before.reader (left c.loop-before.lines) in
+    let Tells : Strike → Type 0 = λ s. IfSome (stop_font_fault c.in-Err.stop)
+    (λ f. IfSome rest (BeginsDefective (IsDefectBy a s) f)) in
+    rw c.texts_fault.ensures (stop_tells (Unit {0}) (IsDefectBy a c.args.strike.now) (draws_by a c.args.strike.now)
+    (left c.args.lines.now) rest (g.W.Sink.written c.args.out.now) (g.W.Sink.written c.loop-before.out)
+    (errors_of g.E.Sink.written g.E.Sink.has_failed c.args.error.now c.loop-before.error) c.loop-before.before
+    c.in-Err.stop so_far.so_far (subst Tells so_far.strike c.in-Err.ensures.defects))

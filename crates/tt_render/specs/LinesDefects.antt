@@ -1,0 +1,59 @@
+-- What a call that draws lines claims about the defects of a font.
+use Rattle.std.specs.Prelude.{◌≡◌, refl, ℕ, ◌-◌, List, [], ◌∷◌, get_or, codes, Option, Some, None, IfSome, Result, Ok, Err, IsOkAnd, ⊤}
+use Rattle.tt_core.specs.Faults.{Fault}
+use Rattle.tt_line.specs.Layout.{text_glyphs}
+use Rattle.tt_render.specs.declared.setting.Setting.{Setting}
+use Rattle.tt_render.specs.declared.texts_fault.TextFault.TheVariants as fault
+use Rattle.tt_render.specs.declared.texts_fault.TextsFault.{TextsFault}
+use Rattle.tt_render.specs.declared.texts_fault.TextsFault.TheVariants as texts
+use Rattle.tt_render.specs.Lines.{lines_of}
+use Rattle.tt_render.specs.TextOutcome.{job_by}
+use Rattle.tt_strike.specs.Defects.{IsFaceDefect, IsLineDefect}
+use Rattle.tt_strike.specs.Strikes.{Strike, job_of}
+use Rattle.tt_strike.specs.Tables.{face_of}
+
+-- the line of a text with this number, counted from 1
+abbrev pub line_of : List ℕ → ℕ → List ℕ
+line_of text number = get_or (lines_of text) (number - 1) []
+
+-- a defect of the font that a line is drawn from, by a strike
+abbrev pub IsDefectBy : Setting → Strike → List ℕ → Fault → Type 0
+IsDefectBy a s line f = IsLineDefect s.face (job_of s line a.margin) (text_glyphs s.face.cmap line) f
+
+-- a defect of the font that a line is drawn from, by the font's file
+abbrev pub IsDefectIn : Setting → List ℕ → List ℕ → Fault → Type 0
+IsDefectIn a file line f =
+    IsOkAnd (face_of file) (λ face. IsLineDefect face (job_by a line) (text_glyphs face.cmap line) f)
+
+-- the first line of a text has a defect
+abbrev pub BeginsDefective : (List ℕ → Fault → Type 0) → Fault → List ℕ → Type 0
+BeginsDefective IsOne f text =
+    (line : List ℕ) × (rest : List (List ℕ)) × (lines_of text ≡ line ∷ rest) × IsOne line f
+
+-- where the text is known, the font's fault that refuses a line is a defect of that line; no other fault is the font's
+abbrev pub LinesTell : {V : Type 0} → (List ℕ → Fault → Type 0) → Option (List ℕ) → Result V TextsFault → Type 0
+LinesTell IsOne text (Err (texts.Text (Some number) (fault.Font f))) =
+    IfSome text (λ all. IsOne (line_of all number) f)
+LinesTell IsOne text (Err (texts.Font f)) = ⊥
+LinesTell IsOne text r = ⊤
+
+-- a font's fault in an error is a defect of the font: of the tables that every text needs, or, where the text is known,
+-- of the data that the numbered line is drawn from
+abbrev pub LinesTellDefects : {V : Type 0} → Setting → Option (List ℕ) → Result V TextsFault → List ℕ → Type 0
+LinesTellDefects a text (Err (texts.Text (Some number) (fault.Font f))) file =
+    IfSome text (λ all. IsDefectIn a file (line_of all number) f)
+LinesTellDefects a text (Err (texts.Font f)) file = IsFaceDefect file f
+LinesTellDefects a text r file = ⊤
+
+-- this claim for the bytes of a font's reader, where they are known
+abbrev pub LinesTellDefectsOf : {V : Type 0} → Option (List ℕ) → Setting → Option (List ℕ) → Result V TextsFault → Type 0
+LinesTellDefectsOf {V} font a text result = IfSome font (LinesTellDefects {V = V} a text result)
+
+-- worked values
+the_second_line : line_of (codes "a\nbc\n") 2 ≡ codes "bc"
+unfolding lines_of
+the_second_line = refl
+
+the_only_line : line_of (codes "abc") 1 ≡ codes "abc"
+unfolding lines_of
+the_only_line = refl
