@@ -174,11 +174,13 @@ HOSTILE = {
 
 def hostile(asked):
     slowest = 0.0, ""
+    script = TESTS.parent / "bench" / "hostile_font"
     for name, wanted in HOSTILE.items():
-        script = "worst_font.py" if name == "on" else "worst_programs.py"
-        subprocess.run([sys.executable, "-B", str(TESTS.parent / "bench" / script), name, str(asked.font)], check=True)
+        made = subprocess.run([sys.executable, "-B", str(script), name, str(asked.font.parent)], check=True,
+                              capture_output=True, text=True)
+        text = asked.font.with_name("text").read_text(encoding="utf-8")
         before = resource.getrusage(resource.RUSAGE_CHILDREN)
-        status, _, lines = asked.draw("best", 300 if name == "on" else 16, "A")
+        status, _, lines = asked.draw("best", int(made.stdout), text)
         after = resource.getrusage(resource.RUSAGE_CHILDREN)
         seconds = after.ru_utime + after.ru_stime - before.ru_utime - before.ru_stime
         slowest = max(slowest, (seconds, name))

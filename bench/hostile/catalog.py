@@ -1,0 +1,32 @@
+"""All hostile fonts by their families and names."""
+from hostile import copies, mixed, opcodes, outlines, programs
+
+# The font whose seconds are the measure of all.
+STANDARD = "two"
+FAMILIES = {
+    "programs": programs.FONTS,
+    "copies": copies.FONTS,
+    "outlines": outlines.FONTS,
+    "mixed": mixed.FONTS,
+    "beside": opcodes.BESIDE_FONTS,
+    "opcodes": opcodes.FONTS,
+    "mutants": mixed.MUTANTS,
+}
+# Families of which each font is only drawn: there are many of them.
+DRAWN_ONLY = {"opcodes", "mutants"}
+FONTS = {name: make for fonts in FAMILIES.values() for name, make in fonts.items()}
+
+
+def chosen(words):
+    """The names of the fonts that words name, each a family or a font; without words those of all families."""
+    names = []
+    for word in words or FAMILIES:
+        if word not in FAMILIES and word not in FONTS:
+            raise SystemExit(f"there is no font and no family {word}; families are {', '.join(FAMILIES)}")
+        names += FAMILIES.get(word, [word])
+    return list(dict.fromkeys(names))
+
+
+def is_drawn_only(name):
+    """Whether a font is of a family whose fonts are only drawn."""
+    return any(name in FAMILIES[it] for it in DRAWN_ONLY)

@@ -1,0 +1,79 @@
+"""Runs of the program with a hostile font: processor time, memory, and what it answered."""
+import math
+import os
+import resource
+import subprocess
+import sys
+from dataclasses import dataclass
+from pathlib import Path
+
+from hostile import ROOT
+
+# What a run may hold: most machines do not have more.
+MOST_BYTES = 4 << 30
+# The work of a job, by its name: the command, whether it reads lines, and how many.
+JOBS = {
+    "draw": (("draw",), 0),
+    "measure": (("measure",), 0),
+    "grow": (("draw", "--grow"), 0),
+    "1 line": (("draw", "--lines"), 1),
+    "10 lines": (("draw", "--lines"), 10),
+}
+# Pairs of options, in place of these.
+PAIRS = {
+    "margin": (("draw", "--margin", "64"), 0),
+    "grow, margin": (("draw", "--grow", "--margin", "64"), 0),
+    "measure, grow": (("measure", "--grow"), 0),
+    "grow, 10 lines": (("draw", "--grow", "--lines"), 10),
+    "measure, 10 lines": (("measure", "--lines"), 10),
+    "missing, measure": (("measure", "--missing", "tell", "--margin", "64"), 0),
+}
+
+
+@dataclass
+class Run:
+    """Seconds of processor time, MiB resident at most, and how the run ended: its status, and its first message."""
+
+    seconds: float
+    mib: float
+    end: str
+
+
+class Bench:
+    """A program, the way to fit, and a folder with a font, its text and its lines."""
+
+    def __init__(self, program, fit, room):
+        self.program, self.fit = program, fit
+        self.font, self.text, self.lines = (Path(room) / it for it in ("font", "text", "lines"))
+        self.size = 16
+
+    def write(self, name):
+        """Makes a font. Another process does it, so that its memory is not counted as the program's."""
+        made = subprocess.run([sys.executable, "-B", str(ROOT / "bench" / "hostile_font"), name, str(self.font.parent)],
+                              check=True, capture_output=True, text=True)
+        self.size = int(made.stdout)
+
+    def run(self, command, lines, most_seconds=600):
+        """Runs a job with the font; a job that needs more processor time is ended."""
+        words = [self.program, *command, "--fit", self.fit, "--size", str(self.size), "--", str(self.font)]
+        source = os.devnull
+        if lines:
+            given = self.lines.read_text(encoding="utf-8").split("\n")[:lines]
+            source = self.lines.with_name("given")
+            source.write_text("\n".join(given), encoding="utf-8")
+        else:
+            words.append(self.text.read_text(encoding="utf-8"))
+
+        def limit():
+            resource.setrlimit(resource.RLIMIT_CPU, (math.ceil(most_seconds), math.ceil(most_seconds) + 1))
+            resource.setrlimit(resource.RLIMIT_AS, (MOST_BYTES, MOST_BYTES))
+
+        with open(source, "rb") as given, open(self.font.with_name("errors"), "w+b") as errors:
+            ran = subprocess.Popen(words, stdin=given, stdout=subprocess.DEVNULL, stderr=errors, preexec_fn=limit)
+            _, status, used = os.wait4(ran.pid, 0)
+            ran.returncode = os.waitstatus_to_exitcode(status)
+            errors.seek(0)
+            first = errors.readline().decode(errors="replace").strip()
+            first = first.removeprefix("tt_render: ").removeprefix("line 1: ")
+        end = "stopped" if ran.returncode < 0 else str(ran.returncode)
+        return Run(used.ru_utime + used.ru_stime, used.ru_maxrss / 1024, f"{end} {first}".strip())
