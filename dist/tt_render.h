@@ -26,7 +26,7 @@
  * A call reports the first refusal in this order: the way to fit, UTF-8, size, margin, the text's length; the font's
  * size, its tables; the picture's size; loca and glyf, the font's programs, the points (65), the glyphs, the crossings
  * (65). With grow, the size and the crossings of the enlarged picture follow. The room comes last. tt_draw_lines tests
- * the way to fit, size, margin and font once; then it tests the rest line by line, first the line's ends.
+ * the way to fit, size, margin and font once, then lines_room, and then the rest line by line, first the line's ends.
  *
  * Cost: tt_open and tt_map read tables alone. tt_measure, tt_characters, tt_draw and tt_draw_band each fit all glyphs
  * of the text, which is most of the cost of a drawing. This is so even where the room is too small.
@@ -188,8 +188,8 @@ uint32_t tt_draw_band(const uint8_t *font, size_t font_bytes, const uint8_t *tex
  *
  * A refused line stops the call: count lines before it are drawn, in bytes bytes of rows, and all memory after these is
  * unchanged. With TT_ROOM bytes is the room that these lines and the next one need. Where ends[i] is less than the end
- * before it or more than text_bytes, the line is refused with number 67. lines_room is tested first: where it is less
- * than ends_count nothing is drawn, with TT_ROOM, bytes 0 and count ends_count.
+ * before it or more than text_bytes, the line is refused with number 67. Where the way to fit, size, margin and font
+ * are accepted and lines_room is less than ends_count, nothing is drawn, with TT_ROOM, bytes 0 and count ends_count.
  */
 uint32_t tt_draw_lines(const uint8_t *font, size_t font_bytes, const uint8_t *texts, size_t text_bytes,
                        const uint64_t *ends, size_t ends_count, const struct tt_job *job, size_t keep, uint8_t *rows,
