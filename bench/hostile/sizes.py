@@ -7,7 +7,7 @@ from hostile.parts import TEXT
 # What a line may have: the points of its glyphs, each once, and their crossings at all places.
 MOST_POINTS, MOST_CROSSINGS = 1_000_000, 16_000_000
 # The work of a line, what a point takes of it, what a crossing takes, and the crossings that need none.
-WORK, POINT, CROSSING, FREE = 100_000_000, 40, 4, 250_000
+WORK, POINT, CROSSING, FREE = 100_000_000, 40, 4, 500_000
 # The points that each glyph and each component adds.
 PHANTOMS = 4
 
