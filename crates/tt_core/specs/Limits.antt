@@ -48,7 +48,7 @@ coordinate_limit = 2097151
 abbrev pub step_limit : ℕ
 step_limit = 1000000
 
--- work of all programs of a job, if the job's work is bounded
+-- work of a line's points and programs, if the job's work is bounded
 abbrev pub work_limit : ℕ
 work_limit = 100000000
 

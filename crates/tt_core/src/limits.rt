@@ -37,8 +37,8 @@ pub const COORDINATE_LIMIT: i32 = 2_097_151;
 /// Steps of one run of a program. A step is one instruction.
 pub const STEP_LIMIT: u32 = 1_000_000;
 
-/// Work of all programs of a job, if the job's work is bounded. The work counts steps, points that instructions go
-/// over, bytes that skips pass, and the values that are copied for each run.
+/// Work of a line's points and programs, if the job's work is bounded. The work counts steps, points that instructions
+/// go over, bytes that skips pass, the values that are copied for each run, and 40 for each point of the line's glyphs.
 pub const WORK_LIMIT: u64 = 100_000_000;
 
 /// Points of all glyphs of a job, if the job's work is bounded. Phantom points count too, and one more for each
