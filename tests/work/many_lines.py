@@ -18,12 +18,12 @@ def budget(before):
 
 
 def costing(cost):
-    """A glyph such that a line of it behind the first glyph takes this much: the points of both, the copies for both
-    programs of the font and for those of the glyphs, their steps, and the crossings.
+    """A glyph such that a line of it alone takes this much: its points, the copies for both programs of the font and
+    for its own, the steps of its own, and its crossings.
     """
     edges = edges_of([(0, 0, 1)] * POINTS)
-    copies = 2 * MACHINE.begun() + 2 * MACHINE.copied()
-    return filler(cost - pointed(1, POINTS) - copies - 1 - CROSSING * counted(edges, True))
+    taken = pointed(POINTS) + 2 * MACHINE.begun() + MACHINE.copied() + CROSSING * counted(edges, True)
+    return filler(cost - taken)
 
 
 def refused(asked, name, text, number, size=16, options=(), why="65 WorkLarge", status=2):
@@ -43,11 +43,11 @@ def lines(asked):
     """Fonts whose lines take what the budget allows, and 1 more: at the second line and at the fifth."""
     second, fifth, each = budget(1), budget(4) // 4, EACH
     costs = [second, second + 1, fifth, fifth + 1, each, each + FIRST // 20]
-    # The first glyph alone has an advance, so each line begins with it.
-    asked.font.write_bytes(small.line_font([small.with_program(small.dots(1), b"\x00"), *map(costing, costs)]))
-    wide, *dear_ones = small.line_text(len(costs) + 1)
-    cheap = f"{wide}\n".encode()
-    at_two, past_two, at_five, past_five, even, dear = (f"{wide}{it}\n".encode() for it in dear_ones)
+    glyphs = [*map(costing, costs), small.with_program(small.dots(1), b"\x00")]
+    asked.font.write_bytes(small.line_font(glyphs))
+    at_two, past_two, at_five, past_five, even, dear, cheap = (
+        f"{it}\n".encode() for it in small.line_text(len(glyphs))
+    )
     for name, options in (("drawn", ()), ("grown", ("--grow",))):
         drawn(asked, f"the second line, {name}", at_two + cheap, options=options)
         refused(asked, f"the second line, 1 too little, {name}", past_two + cheap, 2, options=options)
