@@ -23,8 +23,8 @@ LARGE = {**outlines.LARGE, "others": outlines.PLAIN}
 
 
 def two_and_rectangles():
-    """Rectangles as large as the picture, as many as may be."""
-    count = most_glyphs([outlines.RECTANGLE], **LARGE)
+    """Rectangles as large as the picture, as many as may be where the programs leave no work."""
+    count = most_glyphs([outlines.RECTANGLE], 0, **LARGE)
     return beside([small.simple(outlines.RECTANGLE)] * count, bearing=-outlines.WIDTH, **LARGE)
 
 
@@ -34,8 +34,8 @@ def two_and_tall():
 
 
 def two_and_rows():
-    """Nearly 16,000,000 crossings of rows, by edges that cross each other."""
-    return beside([outlines.crossing_rows()], **LARGE)
+    """Edges that cross each other in all rows, as many as may be where the programs leave no work."""
+    return beside([outlines.crossing_rows(work=0)], **LARGE)
 
 
 def two_and_far():

@@ -3,7 +3,7 @@ import random
 
 import small_fonts as small
 from hostile.parts import POINTS, PROGRAM, Hostile, again, composite_of, dotted, line_of, one_of
-from hostile.sizes import largest, most_glyphs
+from hostile.sizes import WORK, largest, most_glyphs
 
 # A prep that sets vectors alone: the font has programs, and asks for no dropouts.
 PLAIN = {"prep": b"\x01"}
@@ -103,10 +103,10 @@ def beyond_scattered():
     return line_of([small.simple(scattered(POINTS, -FAR, FAR, -3000, 3000, 3))], others=PLAIN, **DISTANT)
 
 
-def crossing_rows(others=PLAIN):
+def crossing_rows(others=PLAIN, work=WORK):
     """A glyph of edges that cross each other all the time, in all rows of the picture: as many as may be."""
     contours_of = lambda points: [scattered(points, 0, HEIGHT, 0, WIDTH, 5)]
-    return small.simple(*largest(contours_of, POINTS, others=others, **LARGE))
+    return small.simple(*largest(contours_of, POINTS, work, others=others, **LARGE))
 
 
 def random_rows(others=PLAIN):

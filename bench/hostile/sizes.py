@@ -27,9 +27,9 @@ def counts(contours, size=16, em=1024, others=(), **_):
     return points, counted(edges, "prep" not in dict(others))
 
 
-def is_allowed(points, crossings):
-    """Whether a line may have so many points and crossings, where no program runs."""
-    left = FREE + (WORK - POINT * points) // CROSSING
+def is_allowed(points, crossings, work):
+    """Whether a line may have so many points and crossings, where its programs leave this work to both."""
+    left = FREE + max(0, work - POINT * points) // CROSSING
     return points <= MOST_POINTS and crossings <= min(MOST_CROSSINGS, left)
 
 
@@ -38,12 +38,12 @@ def most(fits, high):
     return high if fits(high) else bisect_left(range(1, high), True, key=lambda it: not fits(it))
 
 
-def most_glyphs(contours, **sizes):
+def most_glyphs(contours, work=WORK, **sizes):
     """How many glyphs of these contours a line may have."""
     points, crossings = counts(contours, **sizes)
-    return most(lambda it: is_allowed(it * points, it * crossings), TEXT)
+    return most(lambda it: is_allowed(it * points, it * crossings, work), TEXT)
 
 
-def largest(contours_of, high, **sizes):
+def largest(contours_of, high, work=WORK, **sizes):
     """The contours that are made of the largest number, up to a high one, by which a line may have them once."""
-    return contours_of(most(lambda it: is_allowed(*counts(contours_of(it), **sizes)), high))
+    return contours_of(most(lambda it: is_allowed(*counts(contours_of(it), **sizes), work), high))
