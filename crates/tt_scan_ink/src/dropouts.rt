@@ -13,7 +13,9 @@ use crate::ink::{GlyphInk, joined};
 use crate::lines::count_of;
 use std::alloc::{AllocError, Global};
 use tt_scan::Tape;
-use tt_scan_dropouts::{BAND_ROWS, Columns, Pixel, Rules, Window, box_of, dropouts, may_have_dropouts};
+use tt_scan_dropouts::{
+    BAND_ROWS, Columns, Pixel, Rules, Window, box_of, dropouts, may_have_dropouts,
+};
 
 /// The box of one pixel.
 #[inline(always)]
