@@ -12,24 +12,29 @@ POINT_WORK = 40
 
 # Instructions of which each point named on the stack weighs 4; the loop variable is their count.
 LOOPED = {0x32, 0x33, 0x38, 0x39, 0x3C, 0x80}
-# Instructions that go over pairs or entries; the top of the stack is their count.
+# Instructions of which each pair or entry weighs 2; the top of the stack is their count.
 COUNTED = {0x5D, 0x71, 0x72, 0x73, 0x74, 0x75, 0x26}
 # What a point of the glyph weighs: IUP, FLIPRGON and FLIPRGOFF.
 OF_GLYPH = {0x30: 2, 0x31: 2, 0x81: 1, 0x82: 1}
 # SHC and SHZ: each point of both zones weighs 4.
 OF_ZONES = {0x34, 0x35, 0x36, 0x37}
-# What other instructions weigh beside their step.
+# What instructions weigh beside their step, besides those of the sets above.
 WEIGHTS = {
     **dict.fromkeys([0x2E, 0x2F, 0x3A, 0x3B, 0x3E, 0x3F, 0x48, *range(0xE0, 0x100)], 4),
     **dict.fromkeys(range(0xC0, 0xE0), 6),
     0x27: 8,
     **dict.fromkeys([0x06, 0x07, 0x08, 0x09, 0x0A, 0x0B, 0x0F], 32),
     **dict.fromkeys([0x86, 0x87], 48),
-    **dict.fromkeys([0x49, 0x4A], 2),
-    **dict.fromkeys([0x1F, 0x46, 0x47, 0x4F, *range(0x68, 0x70), *range(0x76, 0x7A), 0x8A], 1),
-    # PUSHB and PUSHW of five to eight values.
-    **dict.fromkeys([*range(0xB4, 0xB8), *range(0xBC, 0xC0)], 1),
+    **dict.fromkeys([0x49, 0x4A], 3),
+    **dict.fromkeys([0x46, 0x47, 0x62], 2),
+    # PUSHB and PUSHW: each value after the first.
+    **{op: op % 8 for op in range(0xB0, 0xC0)},
+    # The quick ones: SVTCA to SFVTCA, SFVTPV, RTG, RTHG, ELSE, DUP to CINDEX, FDEF, ENDF, IF, EIF, SUB, JROT, IDEF.
+    **dict.fromkeys([*range(0x06), 0x0E, 0x18, 0x19, 0x1B, *range(0x20, 0x26), 0x2C, 0x2D, 0x58, 0x59], 0),
+    **dict.fromkeys([0x61, 0x78, 0x89], 0),
 }
+# What each other instruction weighs beside its step.
+OTHERS = 1
 IP = 0x39
 
 
@@ -59,7 +64,7 @@ def step(op, data=b"", *, stack=0, top=0, loops=1, points=0, twilight=0, skipped
     if op in LOOPED:
         over = 4 * min(loops, stack) + (4 if op == IP else 0)
     elif op in COUNTED:
-        over = min(abs(top), stack)
+        over = 2 * min(abs(top), stack)
     elif op in OF_GLYPH:
         over = OF_GLYPH[op] * points
     elif op in OF_ZONES:
@@ -67,7 +72,7 @@ def step(op, data=b"", *, stack=0, top=0, loops=1, points=0, twilight=0, skipped
     elif op in (0x40, 0x41):
         over = data[0]
     else:
-        over = WEIGHTS.get(op, 0)
+        over = WEIGHTS.get(op, OTHERS)
     return bytes([op]) + data, 1 + over + skipped
 
 

@@ -68,10 +68,11 @@ def bitmap_bytes(edges):
 
 
 def counted(edges, filled):
-    """What a glyph counts: each edge one for each band, and four for each row that it crosses; each row of the box one.
-    Where dropouts are filled, each edge four more for each row or column that it crosses, and 64 bytes of bitmap one.
+    """What a glyph counts: each edge one for each band, and five for each row that it crosses; each row of the box one.
+    Where dropouts are filled, each edge three more for each row or column that it crosses, and one for each band; and
+    64 bytes of bitmap one.
     """
-    count = bands(edges) * len(edges) + 4 * crossed(edges, 1) + extent(edges, 1)
+    count = bands(edges) * len(edges) + 5 * crossed(edges, 1) + extent(edges, 1)
     if filled:
-        count += 4 * (crossed(edges, 0) + crossed(edges, 1)) + bitmap_bytes(edges) // 64
+        count += (bands(edges) + 3) * (crossed(edges, 0) + crossed(edges, 1)) + bitmap_bytes(edges) // 64
     return count

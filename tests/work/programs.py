@@ -4,8 +4,8 @@ from asking import told, unfitted, places_of
 from charging import PHANTOMS, POINT_WORK, STEPS, VALUES, WORK
 from charging import Machine, code_of, definition, number, push, refused_at, step, work_of
 
-# Three steps a round, which stand at 0, 1 and 4: SVTCA, PUSHW -4, JMPR.
-ROUND, PLACES = bytes.fromhex("00 B8FFFC 1C"), (0, 1, 4)
+# Three steps a round, which stand at 0, 3 and 4: PUSHW -4, DUP, JROT.
+ROUND, PLACES = bytes.fromhex("B8FFFC 20 78"), (0, 3, 4)
 FDEF, IDEF = 0x2C, 0x89
 # Where the program of a simple glyph of one contour begins.
 CODE = 14
@@ -189,6 +189,9 @@ def rounds_of_weights():
         "GC[0]": answering(0x46, 0),
         "GC[1]": answering(0x47, 0),
         "ROLL": answering(0x8A, 0, 0, 0),
+        "DIV": answering(0x62, 64, 64),
+        "MUL": answering(0x63, 64, 64),
+        "JMPR": on_points(0x1C, 1),
         "ROUND": [it for op in range(0x68, 0x6C) for it in answering(op, 0)],
         "NROUND": [it for op in range(0x6C, 0x70) for it in answering(op, 0)],
         "SROUND": on_points(0x76, 0x48),

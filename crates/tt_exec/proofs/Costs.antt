@@ -1,23 +1,23 @@
 -- The work of a step by its opcode, as in the table.
-use Rattle.std.proofs.Common.{◌≡◌, ◌≢◌, ℕ, zero, suc, ◌+◌, ◌<◌, ◌==◌, ◌||◌, ◌&&◌, Bool, true, false, if◌then◌else◌, not, List, [], ◌∷◌, length, slice_index_or, refl, sym, ◌∙◌, arith}
+use Rattle.std.proofs.Common.{◌≡◌, ◌≢◌, ℕ, zero, suc, ◌+◌, ◌%◌, ◌<◌, ◌==◌, ◌||◌, ◌&&◌, Bool, true, false, if◌then◌else◌, not, List, [], ◌∷◌, length, slice_index_or, refl, sym, ◌∙◌, arith}
 use Rattle.std.proofs.lemmas.Bool.Decides.{nat_tests}
 use Rattle.tt_exec.specs.MachineState.{MachineState}
-use Rattle.tt_exec.specs.Work.{cost_by, is_looped, is_counted, is_of_glyph, is_of_flags, is_of_zone, is_push_of_many, moves_one, is_relative, is_of_lines, finds_two, is_of_distance, is_slow, slowness}
+use Rattle.tt_exec.specs.Work.{cost_by, is_looped, is_counted, is_of_glyph, is_of_flags, is_of_zone, is_push_of_many, moves_one, is_relative, is_of_lines, finds_two, is_of_distance, is_slow, is_push, is_quick, slowness}
 
 abbrev pub costs : List ℕ
 costs =
-    1 ∷ 1 ∷ 1 ∷ 1 ∷ 1 ∷ 1 ∷ 33 ∷ 33 ∷ 33 ∷ 33 ∷ 33 ∷ 33 ∷ 1 ∷ 1 ∷ 1 ∷ 33 ∷
-    1 ∷ 1 ∷ 1 ∷ 1 ∷ 1 ∷ 1 ∷ 1 ∷ 1 ∷ 1 ∷ 1 ∷ 1 ∷ 0 ∷ 1 ∷ 1 ∷ 1 ∷ 2 ∷
-    1 ∷ 1 ∷ 1 ∷ 1 ∷ 1 ∷ 1 ∷ 0 ∷ 9 ∷ 1 ∷ 1 ∷ 1 ∷ 1 ∷ 0 ∷ 1 ∷ 5 ∷ 5 ∷
-    0 ∷ 0 ∷ 0 ∷ 0 ∷ 0 ∷ 0 ∷ 0 ∷ 0 ∷ 0 ∷ 0 ∷ 5 ∷ 5 ∷ 0 ∷ 1 ∷ 5 ∷ 5 ∷
-    0 ∷ 0 ∷ 1 ∷ 1 ∷ 1 ∷ 1 ∷ 2 ∷ 2 ∷ 5 ∷ 3 ∷ 3 ∷ 1 ∷ 1 ∷ 1 ∷ 1 ∷ 2 ∷
-    1 ∷ 1 ∷ 1 ∷ 1 ∷ 1 ∷ 1 ∷ 1 ∷ 1 ∷ 0 ∷ 1 ∷ 1 ∷ 1 ∷ 1 ∷ 0 ∷ 1 ∷ 1 ∷
-    1 ∷ 1 ∷ 1 ∷ 1 ∷ 1 ∷ 1 ∷ 1 ∷ 1 ∷ 2 ∷ 2 ∷ 2 ∷ 2 ∷ 2 ∷ 2 ∷ 2 ∷ 2 ∷
-    1 ∷ 0 ∷ 0 ∷ 0 ∷ 0 ∷ 0 ∷ 2 ∷ 2 ∷ 2 ∷ 2 ∷ 1 ∷ 1 ∷ 1 ∷ 1 ∷ 1 ∷ 1 ∷
-    0 ∷ 0 ∷ 0 ∷ 1 ∷ 1 ∷ 1 ∷ 49 ∷ 49 ∷ 1 ∷ 0 ∷ 2 ∷ 1 ∷ 1 ∷ 1 ∷ 1 ∷ 1 ∷
-    1 ∷ 1 ∷ 1 ∷ 1 ∷ 1 ∷ 1 ∷ 1 ∷ 1 ∷ 1 ∷ 1 ∷ 1 ∷ 1 ∷ 1 ∷ 1 ∷ 1 ∷ 1 ∷
-    1 ∷ 1 ∷ 1 ∷ 1 ∷ 1 ∷ 1 ∷ 1 ∷ 1 ∷ 1 ∷ 1 ∷ 1 ∷ 1 ∷ 1 ∷ 1 ∷ 1 ∷ 1 ∷
-    1 ∷ 1 ∷ 1 ∷ 1 ∷ 2 ∷ 2 ∷ 2 ∷ 2 ∷ 1 ∷ 1 ∷ 1 ∷ 1 ∷ 2 ∷ 2 ∷ 2 ∷ 2 ∷
+    1 ∷ 1 ∷ 1 ∷ 1 ∷ 1 ∷ 1 ∷ 33 ∷ 33 ∷ 33 ∷ 33 ∷ 33 ∷ 33 ∷ 2 ∷ 2 ∷ 1 ∷ 33 ∷
+    2 ∷ 2 ∷ 2 ∷ 2 ∷ 2 ∷ 2 ∷ 2 ∷ 2 ∷ 1 ∷ 1 ∷ 2 ∷ 0 ∷ 2 ∷ 2 ∷ 2 ∷ 2 ∷
+    1 ∷ 1 ∷ 1 ∷ 1 ∷ 1 ∷ 1 ∷ 0 ∷ 9 ∷ 2 ∷ 2 ∷ 2 ∷ 2 ∷ 0 ∷ 1 ∷ 5 ∷ 5 ∷
+    0 ∷ 0 ∷ 0 ∷ 0 ∷ 0 ∷ 0 ∷ 0 ∷ 0 ∷ 0 ∷ 0 ∷ 5 ∷ 5 ∷ 0 ∷ 2 ∷ 5 ∷ 5 ∷
+    0 ∷ 0 ∷ 2 ∷ 2 ∷ 2 ∷ 2 ∷ 3 ∷ 3 ∷ 5 ∷ 4 ∷ 4 ∷ 2 ∷ 2 ∷ 2 ∷ 2 ∷ 2 ∷
+    2 ∷ 2 ∷ 2 ∷ 2 ∷ 2 ∷ 2 ∷ 2 ∷ 2 ∷ 0 ∷ 1 ∷ 2 ∷ 2 ∷ 2 ∷ 0 ∷ 2 ∷ 2 ∷
+    2 ∷ 1 ∷ 3 ∷ 2 ∷ 2 ∷ 2 ∷ 2 ∷ 2 ∷ 2 ∷ 2 ∷ 2 ∷ 2 ∷ 2 ∷ 2 ∷ 2 ∷ 2 ∷
+    2 ∷ 0 ∷ 0 ∷ 0 ∷ 0 ∷ 0 ∷ 2 ∷ 2 ∷ 1 ∷ 2 ∷ 2 ∷ 2 ∷ 2 ∷ 2 ∷ 2 ∷ 2 ∷
+    0 ∷ 0 ∷ 0 ∷ 2 ∷ 2 ∷ 2 ∷ 49 ∷ 49 ∷ 2 ∷ 0 ∷ 2 ∷ 2 ∷ 2 ∷ 2 ∷ 2 ∷ 2 ∷
+    2 ∷ 2 ∷ 2 ∷ 2 ∷ 2 ∷ 2 ∷ 2 ∷ 2 ∷ 2 ∷ 2 ∷ 2 ∷ 2 ∷ 2 ∷ 2 ∷ 2 ∷ 2 ∷
+    2 ∷ 2 ∷ 2 ∷ 2 ∷ 2 ∷ 2 ∷ 2 ∷ 2 ∷ 2 ∷ 2 ∷ 2 ∷ 2 ∷ 2 ∷ 2 ∷ 2 ∷ 2 ∷
+    1 ∷ 2 ∷ 3 ∷ 4 ∷ 5 ∷ 6 ∷ 7 ∷ 8 ∷ 1 ∷ 2 ∷ 3 ∷ 4 ∷ 5 ∷ 6 ∷ 7 ∷ 8 ∷
     7 ∷ 7 ∷ 7 ∷ 7 ∷ 7 ∷ 7 ∷ 7 ∷ 7 ∷ 7 ∷ 7 ∷ 7 ∷ 7 ∷ 7 ∷ 7 ∷ 7 ∷ 7 ∷
     7 ∷ 7 ∷ 7 ∷ 7 ∷ 7 ∷ 7 ∷ 7 ∷ 7 ∷ 7 ∷ 7 ∷ 7 ∷ 7 ∷ 7 ∷ 7 ∷ 7 ∷ 7 ∷
     5 ∷ 5 ∷ 5 ∷ 5 ∷ 5 ∷ 5 ∷ 5 ∷ 5 ∷ 5 ∷ 5 ∷ 5 ∷ 5 ∷ 5 ∷ 5 ∷ 5 ∷ 5 ∷
@@ -33,9 +33,10 @@ varies_by_data op = is_of_flags op || (is_of_zone op || (is_push_of_many op || s
 abbrev varies : ℕ → Bool
 varies op = is_looped op || (is_counted op || (is_of_glyph op || varies_by_data op))
 
--- the cost by an opcode's class
-abbrev by_slowness : Bool → Bool → ℕ
-by_slowness distance slow = if distance then 3 else (if slow then 2 else 1)
+-- the cost by an opcode's class, where a push of more than one value has this extra work
+abbrev by_slowness : Bool → Bool → Bool → Bool → ℕ → ℕ
+by_slowness distance slow push quick more =
+    if distance then 4 else (if slow then 3 else (if push then 1 + more else (if quick then 1 else 2)))
 
 abbrev said : ℕ → ℕ
 said op =
@@ -43,7 +44,7 @@ said op =
     if is_relative op then 7 else (
     if op == 0x27 then 9 else (
     if is_of_lines op then 33 else (
-    if finds_two op then 49 else by_slowness (is_of_distance op) (is_slow op)))))
+    if finds_two op then 49 else by_slowness (is_of_distance op) (is_slow op) (is_push op) (is_quick op) (op % 8)))))
 
 -- a table's entries, from an opcode on, are the defined work, or 0
 abbrev agrees : ℕ → ℕ → Bool
@@ -81,17 +82,19 @@ neither_second : (a b : Bool) → (a || b) ≡ false → b ≡ false
 neither_second true b h = absurd cc
 neither_second false b h = h
 
-by_class : (a b c d e f g : Bool)
-    → 1 + ((if a then 4 else (if b then 6 else (if c then 8 else (if d then 32 else (if e then 48 else (if f then 2 else (if g then 1 else 0))))))) + 0)
-    ≡ (if a then 5 else (if b then 7 else (if c then 9 else (if d then 33 else (if e then 49 else by_slowness f g)))))
-by_class true b c d e f g = refl
-by_class false true c d e f g = refl
-by_class false false true d e f g = refl
-by_class false false false true e f g = refl
-by_class false false false false true f g = refl
-by_class false false false false false true g = refl
-by_class false false false false false false true = refl
-by_class false false false false false false false = refl
+by_class : (a b c d e f g h k : Bool) (n : ℕ)
+    → 1 + ((if a then 4 else (if b then 6 else (if c then 8 else (if d then 32 else (if e then 48 else (if f then 3 else (if g then 2 else (if h then n else (if k then 0 else 1))))))))) + 0)
+    ≡ (if a then 5 else (if b then 7 else (if c then 9 else (if d then 33 else (if e then 49 else by_slowness f g h k n)))))
+by_class true b c d e f g h k n = refl
+by_class false true c d e f g h k n = refl
+by_class false false true d e f g h k n = refl
+by_class false false false true e f g h k n = refl
+by_class false false false false true f g h k n = refl
+by_class false false false false false true g h k n = refl
+by_class false false false false false false true h k n = refl
+by_class false false false false false false false true k n = omega arith
+by_class false false false false false false false false true n = refl
+by_class false false false false false false false false false n = refl
 
 nat_same : (a b : ℕ) → (a == b) ≡ true → a ≡ b
 nat_same a b h = grind (arith, nat_tests)
@@ -116,7 +119,7 @@ says op m h =
     let else_at = neither_first (op == 0x1B) _ h in
     let def_at = neither_second (op == 0x1B) (op == 0x2C || op == 0x89) h in
     rw (looped, counted, glyph, flags, zone, push, if_at, else_at, def_at)
-    (by_class (moves_one op) (is_relative op) (op == 0x27) (is_of_lines op) (finds_two op) (is_of_distance op) (is_slow op))
+    (by_class (moves_one op) (is_relative op) (op == 0x27) (is_of_lines op) (finds_two op) (is_of_distance op) (is_slow op) (is_push op) (is_quick op) (op % 8))
 
 by_entry : (some varying same : Bool) (op : ℕ) (m : MachineState) (cost : ℕ) → (cost == 0) ≡ some → varies op ≡ varying
     → (cost == said op) ≡ same → (some || (not varying && same)) ≡ true → cost ≢ 0 → cost_by op m ≡ cost

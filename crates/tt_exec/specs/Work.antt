@@ -1,9 +1,11 @@
--- No part of the standard: the work of a run, if its job has a budget (profile). A step is 1. Each point or stack entry
--- that its instruction covers is 1, and so is each byte skipped. At the beginning of a run, each control value, storage
--- place, twilight point, definition and place of a definition copied for it is 1. Slower things weigh more. A point
--- moved by itself, named on the stack, or moved with its contour or zone is 4. A point that MDRP moves is 6. A point
--- that IUP covers is 2. A vector or a place found from lines is 32. These weights follow measured times.
-use Rattle.std.specs.Prelude.{ℕ, zero, suc, ◌+◌, ◌-◌, ◌*◌, ◌==◌, ◌||◌, ◌&&◌, min, nat_le, ℤ, pos, unsigned_abs, Bool, if◌then◌else◌, List, [], ◌∷◌, length, slice_index, Option, Some, None, Result, Ok, Err}
+-- No part of the standard: the work of a run, if its job has a budget (profile). A step is 1. Each point that its
+-- instruction covers is 1, and so is each byte skipped, and each entry pushed after the first. At the beginning of a
+-- run, each control value, storage place, twilight point, definition and place of a definition copied for it is 1.
+-- Slower things weigh more. An instruction that is not quick is 2, DIV and GC are 3, MD is 4. A pair of DELTAP or
+-- DELTAC, and an entry of MINDEX, is 2. A point moved by itself, named on the stack, or moved with its contour or zone
+-- is 4. A point that MDRP moves is 6. A point that IUP covers is 2. A vector or a place found from lines is 32. These
+-- weights follow measured times.
+use Rattle.std.specs.Prelude.{ℕ, zero, suc, ◌+◌, ◌-◌, ◌*◌, ◌%◌, ◌==◌, ◌||◌, ◌&&◌, min, nat_le, ℤ, pos, unsigned_abs, Bool, if◌then◌else◌, List, [], ◌∷◌, length, slice_index, Option, Some, None, Result, Ok, Err}
 use Rattle.tt_core.specs.Faults.{Fault}
 use Rattle.tt_core.specs.Limits.{step_limit}
 use Rattle.tt_core.specs.declared.fault.Why.TheVariants as why
@@ -80,30 +82,43 @@ finds_two op = op == 0x86 || op == 0x87
 abbrev pub is_of_distance : ℕ → Bool
 is_of_distance op = op == 0x49 || op == 0x4A
 
--- PUSHB and PUSHW of five to eight values
-abbrev pub is_long_push : ℕ → Bool
-is_long_push op = (nat_le 0xB4 op && nat_le op 0xB7) || (nat_le 0xBC op && nat_le op 0xBF)
-
--- SSW, GC, DEBUG, ROUND, NROUND, SROUND, S45ROUND, JROT, JROF, ROLL and long pushes cover no point or entry, but are
--- slow
+-- DIV and GC are slow
 abbrev pub is_slow : ℕ → Bool
-is_slow op =
-    op == 0x1F
-    || op == 0x46
-    || op == 0x47
-    || op == 0x4F
-    || (nat_le 0x68 op && nat_le op 0x6F)
-    || (nat_le 0x76 op && nat_le op 0x79)
-    || op == 0x8A
-    || is_long_push op
+is_slow op = op == 0x46 || op == 0x47 || op == 0x62
+
+-- PUSHB and PUSHW push up to eight values
+abbrev pub is_push : ℕ → Bool
+is_push op = nat_le 0xB0 op && nat_le op 0xBF
+
+-- the quick ones: SVTCA, SPVTCA, SFVTCA, SFVTPV, RTG, RTHG, ELSE, DUP, POP, CLEAR, SWAP, DEPTH, CINDEX, FDEF, ENDF, IF,
+-- EIF, SUB, JROT, IDEF
+abbrev pub is_quick : ℕ → Bool
+is_quick op =
+    nat_le op 0x05
+    || op == 0x0E
+    || op == 0x18
+    || op == 0x19
+    || op == 0x1B
+    || (nat_le 0x20 op && nat_le op 0x25)
+    || op == 0x2C
+    || op == 0x2D
+    || op == 0x58
+    || op == 0x59
+    || op == 0x61
+    || op == 0x78
+    || op == 0x89
 
 -- NPUSHB and NPUSHW push entries; the byte after them is the count
 abbrev pub is_push_of_many : ℕ → Bool
 is_push_of_many op = op == 0x40 || op == 0x41
 
--- the extra work of an instruction that covers no point or entry
+-- the extra work of an instruction that covers no point or entry; a push of n values has n - 1
 unfoldable pub slowness : ℕ → ℕ
-slowness op = if is_of_distance op then 2 else (if is_slow op then 1 else 0)
+slowness op =
+    if is_of_distance op then 3 else (
+    if is_slow op then 2 else (
+    if is_push op then op % 8 else (
+    if is_quick op then 0 else 1)))
 
 -- the extra work of an instruction, which doesn't depend on the loop variable or the stack; ALIGNPTS moves two points
 abbrev pub weight : ℕ → MachineState → ℕ
@@ -124,7 +139,7 @@ referred op = if op == 0x39 then 4 else 0
 abbrev pub gone_over : ℕ → MachineState → ℕ
 gone_over op m =
     if is_looped op then 4 * of_stack m.graphics.loops m + referred op else (
-    if is_counted op then of_stack (unsigned_abs (top_of m.stack)) m else (
+    if is_counted op then 2 * of_stack (unsigned_abs (top_of m.stack)) m else (
     if is_of_glyph op then 2 * length m.zones.glyph else (
     if is_of_flags op then length m.zones.glyph else (
     if is_of_zone op then 4 * (length m.zones.twilight + length m.zones.glyph) else weight op m))))

@@ -1,5 +1,5 @@
 -- Worked work: that of steps, and the things copied for a run. No part of the standard (profile).
-use Rattle.std.specs.Prelude.{◌≡◌, ℕ, ℤ, pos, false, List, [], ◌∷◌, map, replicate, codes, refl}
+use Rattle.std.specs.Prelude.{◌≡◌, ℕ, ℤ, pos, negsuc, false, List, [], ◌∷◌, map, replicate, codes, refl}
 use Rattle.tt_core.specs.Scales.{exact_scale}
 use Rattle.tt_core.specs.declared.halves.Halves.TheVariants as halves
 use Rattle.tt_points_zones.specs.Zones.{in_pixels}
@@ -97,34 +97,34 @@ none_on_the_stack : looped_cost 0x32 1 [] ≡ 1
 none_on_the_stack = refl
 
 -- RCVT; GC twice; SCFS; MD twice; MPPEM
-points_measured : costs_of (0x45 ∷ 0x46 ∷ 0x47 ∷ 0x48 ∷ 0x49 ∷ 0x4A ∷ 0x4B ∷ []) ≡ 1 ∷ 2 ∷ 2 ∷ 5 ∷ 3 ∷ 3 ∷ 1 ∷ []
+points_measured : costs_of (0x45 ∷ 0x46 ∷ 0x47 ∷ 0x48 ∷ 0x49 ∷ 0x4A ∷ 0x4B ∷ []) ≡ 2 ∷ 3 ∷ 3 ∷ 5 ∷ 4 ∷ 4 ∷ 2 ∷ []
 unfolding slowness
 points_measured = refl
 
 -- CEILING; ROUND and NROUND, first and last; WCVTF; SROUND, S45ROUND
 values_rounded : costs_of (0x67 ∷ 0x68 ∷ 0x6B ∷ 0x6C ∷ 0x6F ∷ 0x70 ∷ 0x76 ∷ 0x77 ∷ [])
-    ≡ 1 ∷ 2 ∷ 2 ∷ 2 ∷ 2 ∷ 1 ∷ 2 ∷ 2 ∷ []
+    ≡ 2 ∷ 2 ∷ 2 ∷ 2 ∷ 2 ∷ 2 ∷ 2 ∷ 2 ∷ []
 unfolding slowness
 values_rounded = refl
 
 -- JMPR; JROT, JROF; ROFF
-jumps : costs_of (0x1C ∷ 0x78 ∷ 0x79 ∷ 0x7A ∷ []) ≡ 1 ∷ 2 ∷ 2 ∷ 1 ∷ []
+jumps : costs_of (0x1C ∷ 0x78 ∷ 0x79 ∷ 0x7A ∷ []) ≡ 2 ∷ 1 ∷ 2 ∷ 2 ∷ []
 unfolding slowness
 jumps = refl
 
 -- SSWCI, SSW, DUP
-single_width_set : costs_of (0x1E ∷ 0x1F ∷ 0x20 ∷ []) ≡ 1 ∷ 2 ∷ 1 ∷ []
+single_width_set : costs_of (0x1E ∷ 0x1F ∷ 0x20 ∷ []) ≡ 2 ∷ 2 ∷ 1 ∷ []
 unfolding slowness
 single_width_set = refl
 
 -- FLIPOFF, DEBUG, LT
-debug_ignored : costs_of (0x4E ∷ 0x4F ∷ 0x50 ∷ []) ≡ 1 ∷ 2 ∷ 1 ∷ []
+debug_ignored : costs_of (0x4E ∷ 0x4F ∷ 0x50 ∷ []) ≡ 2 ∷ 2 ∷ 2 ∷ []
 unfolding slowness
 debug_ignored = refl
 
--- PUSHB of one, four, five and eight values; the same of PUSHW
+-- PUSHB of one, four, five and eight values; PUSHW likewise
 values_pushed : costs_of (0xB0 ∷ 0xB3 ∷ 0xB4 ∷ 0xB7 ∷ 0xB8 ∷ 0xBB ∷ 0xBC ∷ 0xBF ∷ [])
-    ≡ 1 ∷ 1 ∷ 2 ∷ 2 ∷ 1 ∷ 1 ∷ 2 ∷ 2 ∷ []
+    ≡ 1 ∷ 4 ∷ 5 ∷ 8 ∷ 1 ∷ 4 ∷ 5 ∷ 8 ∷ []
 unfolding slowness
 values_pushed = refl
 
@@ -138,18 +138,41 @@ one_point_moved : costs_of (0x2E ∷ 0x2F ∷ 0x3A ∷ 0x3B ∷ 0x3E ∷ 0x3F �
 one_point_moved = refl
 
 -- SCANCTRL; SDPVTL twice; GETINFO; ROLL; MAX
-two_vectors_found : costs_of (0x85 ∷ 0x86 ∷ 0x87 ∷ 0x88 ∷ 0x8A ∷ 0x8B ∷ []) ≡ 1 ∷ 49 ∷ 49 ∷ 1 ∷ 2 ∷ 1 ∷ []
+two_vectors_found : costs_of (0x85 ∷ 0x86 ∷ 0x87 ∷ 0x88 ∷ 0x8A ∷ 0x8B ∷ []) ≡ 2 ∷ 49 ∷ 49 ∷ 2 ∷ 2 ∷ 2 ∷ []
 unfolding slowness
 two_vectors_found = refl
 
 -- SVTCA; SPVTL, first; SFVFS; GPV; SFVTPV; ISECT; SRP0
-one_vector_found : costs_of (0x00 ∷ 0x06 ∷ 0x0B ∷ 0x0C ∷ 0x0E ∷ 0x0F ∷ 0x10 ∷ []) ≡ 1 ∷ 33 ∷ 33 ∷ 1 ∷ 1 ∷ 33 ∷ 1 ∷ []
+one_vector_found : costs_of (0x00 ∷ 0x06 ∷ 0x0B ∷ 0x0C ∷ 0x0E ∷ 0x0F ∷ 0x10 ∷ []) ≡ 1 ∷ 33 ∷ 33 ∷ 2 ∷ 1 ∷ 33 ∷ 2 ∷ []
 unfolding slowness
 one_vector_found = refl
 
 -- ALIGNPTS
 two_points_moved : points_cost 0x27 3 5 ≡ 9
 two_points_moved = refl
+
+-- ADD, SUB, DIV, MUL, ABS
+numbers_reckoned : costs_of (0x60 ∷ 0x61 ∷ 0x62 ∷ 0x63 ∷ 0x64 ∷ []) ≡ 2 ∷ 1 ∷ 3 ∷ 2 ∷ 2 ∷ []
+unfolding slowness
+numbers_reckoned = refl
+
+-- the work of an opcode with these stack entries, the top one first
+abbrev counted_cost : ℕ → List ℤ → ℕ
+counted_cost op stack = step_cost (record (before op 3 5) { stack = stack })
+
+-- DELTAP1, DELTAC1 and MINDEX: each pair or entry is 2, whatever the sign of the count
+two_counted : map (λ op. counted_cost op (pos 2 ∷ pos 0 ∷ pos 0 ∷ pos 0 ∷ [])) (0x5D ∷ 0x73 ∷ 0x26 ∷ []) ≡ 5 ∷ 5 ∷ 5 ∷ []
+two_counted = refl
+
+counted_below_0 : counted_cost 0x5D (negsuc 1 ∷ pos 0 ∷ pos 0 ∷ []) ≡ 5
+counted_below_0 = refl
+
+-- no more than the stack has
+one_counted : counted_cost 0x5D (pos 9 ∷ []) ≡ 3
+one_counted = refl
+
+none_counted : map (λ stack. counted_cost 0x5D stack) ((pos 0 ∷ pos 4 ∷ []) ∷ [] ∷ []) ≡ 1 ∷ 1 ∷ []
+none_counted = refl
 
 -- what is copied with four twilight points, and with functions and instructions of these numbers
 a_body : Body

@@ -104,7 +104,7 @@ rows_needed f (e ∷ es) =
 some_band : (n : ℕ) → 1 ≤ bands (n + 1)
 some_band n = omega arith
 
-for_bands : (c n b r h : ℕ) → 1 ≤ b → c ≤ n + r → c ≤ b * n + (4 * r + h)
+for_bands : (c n b r h : ℕ) → 1 ≤ b → c ≤ n + r → c ≤ b * n + (5 * r + h)
 for_bands c n b r h some few = let each : 1 * n ≤ b * n = mul-le-mul_right n some in omega (arith, each, few)
 
 pub rows_are_counted : RowsAreCounted
@@ -119,10 +119,10 @@ rows_are_counted f es =
 strides : (a b : ℕ) → a ≤ b → stride a ≤ stride b
 strides a b less = omega (arith, less)
 
-counted_too : (a b n : ℕ) → a ≤ b → a / 64 ≤ 4 * n + b / 64
+counted_too : (a b n : ℕ) → a ≤ b → a / 64 ≤ n + b / 64
 counted_too a b n less = omega (arith, less)
 
-sum_counted : (sum a b n : ℕ) → sum ≡ a → a ≤ b → sum / 64 ≤ 4 * n + b / 64
+sum_counted : (sum a b n : ℕ) → sum ≡ a → a ≤ b → sum / 64 ≤ n + b / 64
 sum_counted sum a b n is less = omega (arith, is, less)
 
 within_bands : (c w r h : ℕ) → c ≤ w → r ≤ h + 1 → bitmap_bytes c r ≤ bands_bytes w (h + 1)
@@ -135,7 +135,8 @@ pub bitmap_is_counted : BitmapIsCounted
 unfolding filling_counted
 bitmap_is_counted es columns rows narrow low =
     let b = columns_of (map turned_round es) in
-    counted_too (bitmap_bytes columns rows) (bands_bytes (box_columns es) (box_rows es)) (crossed es)
+    counted_too (bitmap_bytes columns rows) (bands_bytes (box_columns es) (box_rows es))
+    ((bands (box_rows es) + 3) * crossed es)
     (within_bands columns (box_columns es) rows (unsigned_abs (b.last -ℤ b.first)) narrow low)
 
 -- the rows of all bands are all rows
@@ -176,7 +177,7 @@ bands_are_counted es columns narrow =
     let rows = box_rows es in
     let bytes = bytes_of_bands columns rows 0 (bands rows)
     ∙ ap (λ m. stride (columns + 4) * (m + 4 * bands rows)) (all_rows rows) in
-    sum_counted _ (bands_bytes columns rows) (bands_bytes (box_columns es) rows) (crossed es) bytes
+    sum_counted _ (bands_bytes columns rows) (bands_bytes (box_columns es) rows) ((bands rows + 3) * crossed es) bytes
     (wider columns (box_columns es) rows narrow)
 
 -- edges moved by whole pixels
@@ -206,7 +207,7 @@ crossed_stay k m (e ∷ es) =
     let columns : lines_crossed (turned_round (moved k m e)) ≡ lines_crossed (turned_round e) = lines_stay m k (turned_round e) in
     rw (lines_stay k m e, columns, crossed_stay k m es) refl
 
-edges_as : (r q n l c d : ℕ) → r ≡ q → n ≡ l → c ≡ d → bands r * n + (4 * c + r) ≡ bands q * l + (4 * d + q)
+edges_as : (r q n l c d : ℕ) → r ≡ q → n ≡ l → c ≡ d → bands r * n + (5 * c + r) ≡ bands q * l + (5 * d + q)
 edges_as r q n l c d rows many lines = rw (rows, many, lines) refl
 
 pub edges_stay : (k m : ℤ) (es : List Edge) → edges_counted (map (moved k m) es) ≡ edges_counted es
@@ -216,7 +217,8 @@ edges_stay k m es =
     (rows_crossed (map (moved k m) es)) (rows_crossed es) (box_rows_stay k m es) (length-map es (moved k m))
     (rows_stay k m es)
 
-filling_as : (c d w v h g : ℕ) → c ≡ d → w ≡ v → h ≡ g → 4 * c + bands_bytes w h / 64 ≡ 4 * d + bands_bytes v g / 64
+filling_as : (c d w v h g : ℕ) → c ≡ d → w ≡ v → h ≡ g
+    → (bands h + 3) * c + bands_bytes w h / 64 ≡ (bands g + 3) * d + bands_bytes v g / 64
 filling_as c d w v h g lines columns rows = rw (lines, columns, rows) refl
 
 pub filling_stays : (k m : ℤ) (es : List Edge) → filling_counted (map (moved k m) es) ≡ filling_counted es

@@ -31,10 +31,10 @@ abbrev pub rows_crossed : List Edge → ℕ
 rows_crossed [] = 0
 rows_crossed (e ∷ es) = lines_crossed e + rows_crossed es
 
--- an edge counts one for each band of the box's rows, and four for each row that it crosses; each row of the box counts
+-- an edge counts one for each band of the box's rows, and five for each row that it crosses; each row of the box counts
 -- one
 unfoldable pub edges_counted : List Edge → ℕ
-edges_counted es = bands (box_rows es) * length es + (4 * rows_crossed es + box_rows es)
+edges_counted es = bands (box_rows es) * length es + (5 * rows_crossed es + box_rows es)
 
 -- the bytes of a bitmap of this many columns and rows, with two pixels more on each side
 abbrev pub bitmap_bytes : ℕ → ℕ → ℕ
@@ -44,10 +44,10 @@ bitmap_bytes columns rows = stride (columns + 4) * (rows + 4)
 abbrev pub bands_bytes : ℕ → ℕ → ℕ
 bands_bytes columns rows = stride (columns + 4) * (rows + 4 * bands rows)
 
--- where dropouts are filled: four for each row or column that an edge crosses, and one for each 64 bytes of the
--- bitmaps of the box
+-- where dropouts are filled: for each row or column that an edge crosses three, and one for each band, since a band
+-- reads them all; and one for each 64 bytes of the bitmaps of the box
 unfoldable pub filling_counted : List Edge → ℕ
-filling_counted es = 4 * crossed es + bands_bytes (box_columns es) (box_rows es) / 64
+filling_counted es = (bands (box_rows es) + 3) * crossed es + bands_bytes (box_columns es) (box_rows es) / 64
 
 -- the rows of band k
 abbrev pub rows_of_band : ℕ → ℕ → ℕ
@@ -89,8 +89,8 @@ upright = record { ax = pos 4096; ay = negsuc 8191; bx = pos 4096; by = pos 8192
 level : Edge
 level = record { ax = pos 0; ay = pos 0; bx = pos 32768; by = pos 0 }
 
--- one for the band, four for each of two rows, and the two rows
-its_rows_count : edges_counted (upright ∷ []) ≡ 11
+-- one for the band, five for each of two rows, and the two rows
+its_rows_count : edges_counted (upright ∷ []) ≡ 13
 unfolding edges_counted upright
 its_rows_count = refl
 
@@ -107,7 +107,7 @@ a_point_is_not_filled : filling_counted (at_a_corner ∷ []) ≡ 0
 unfolding filling_counted at_a_corner
 a_point_is_not_filled = refl
 
--- the level edge crosses four columns, and the upright edge two rows: 24, and a byte for each of six rows
+-- the level edge crosses four columns, and the upright edge two rows: four times 6, and a byte for each of six rows
 both_are_filled : filling_counted (upright ∷ level ∷ []) ≡ 24
 unfolding filling_counted upright level
 both_are_filled = refl
@@ -116,19 +116,19 @@ both_are_filled = refl
 between : Edge
 between = record { ax = pos 0; ay = pos 4096; bx = pos 0; by = pos 12288 }
 
-both_ends_count : edges_counted (between ∷ []) ≡ 7
+both_ends_count : edges_counted (between ∷ []) ≡ 8
 unfolding edges_counted between
 both_ends_count = refl
 
--- from the base line 2,049 rows up: two bands, and 4 times 4,098
+-- from the base line 2,049 rows up: two bands of two edges, 5 times 4,098, and 2,049 rows
 high : Edge
 high = record { ax = pos 0; ay = pos 0; bx = pos 0; by = pos 16785408 }
 
-two_bands_count : edges_counted (high ∷ high ∷ []) ≡ 18445
+two_bands_count : edges_counted (high ∷ high ∷ []) ≡ 22543
 unfolding edges_counted high
 two_bands_count = refl
 
--- four for each row, and 2,057 bytes of bitmaps: 32 times 64, and nine
-their_bitmaps_count : filling_counted (high ∷ []) ≡ 8228
+-- five for each row, and 2,057 bytes of bitmaps: 32 times 64, and nine
+their_bitmaps_count : filling_counted (high ∷ []) ≡ 10277
 unfolding filling_counted high
 their_bitmaps_count = refl

@@ -81,7 +81,7 @@ fn bands_bytes(columns: u64, rows: u64) -> u64
     (columns + 4).div_ceil(8) * (rows + 4 * bands(rows))
 }
 
-/// What edges count: one for each band of the rows of their box, and four for each row that they cross. Each row of the
+/// What edges count: one for each band of the rows of their box, and five for each row that they cross. Each row of the
 /// box counts one.
 #[tactic(auto, unfolding(crate::specs::Counted::edges_counted))]
 pub fn edges_counted(edges: &[Edge]) -> u64
@@ -92,18 +92,29 @@ pub fn edges_counted(edges: &[Edge]) -> u64
 {
     let (_, rows) = box_of(edges);
     let rows = numbers_in(rows);
-    in_each_band(bands(rows), edges.len()) + (4 * rows_crossed(edges) + rows)
+    in_each_band(bands(rows), edges.len()) + (5 * rows_crossed(edges) + rows)
 }
 
-/// What edges count besides where dropouts are filled: four for each row or column that an edge crosses, and one for
-/// each 64 bytes of the bitmaps of their box.
+/// What the search for dropouts counts for the rows and columns that edges cross: three for each, and one for each band.
+fn searched(bands: u64, crossed: u64) -> u64
+    requires bands { bands ≤ 2 ^ 9 }
+    requires crossed { crossed ≤ 2 ^ 53 }
+    ensures exact { result ≡ (bands + 3) * crossed }
+    ensures bound { result ≤ 2 ^ 10 * crossed }
+{
+    (bands + 3) * crossed
+}
+
+/// What edges count besides where dropouts are filled: for each row or column that an edge crosses three, and one for
+/// each band; and one for each 64 bytes of the bitmaps of their box.
 #[tactic(auto, unfolding(crate::specs::Counted::filling_counted))]
 pub fn filling_counted(edges: &[Edge]) -> u64
     requires edges { All EdgeFits edges.now }
     requires few { length edges.now ≤ 2 ^ 32 }
     ensures exact { result ≡ filling_counted edges.now }
-    ensures bound { result ≤ 2 ^ 23 * length edges.now + 2 ^ 33 }
+    ensures bound { result ≤ 2 ^ 31 * length edges.now + 2 ^ 33 }
 {
     let (columns, rows) = box_of(edges);
-    4 * crossed(edges) + bands_bytes(numbers_in(columns), numbers_in(rows)) / 64
+    let rows = numbers_in(rows);
+    searched(bands(rows), crossed(edges)) + bands_bytes(numbers_in(columns), rows) / 64
 }
