@@ -21,7 +21,7 @@ OF_ZONES = {0x34, 0x35, 0x36, 0x37}
 # What instructions weigh beside their step, besides those of the sets above.
 WEIGHTS = {
     **dict.fromkeys([0x2E, 0x2F, 0x3A, 0x3B, 0x3E, 0x3F, 0x48, *range(0xE0, 0x100)], 4),
-    **dict.fromkeys(range(0xC0, 0xE0), 6),
+    **dict.fromkeys(range(0xC0, 0xE0), 7),
     0x27: 8,
     **dict.fromkeys([0x06, 0x07, 0x08, 0x09, 0x0A, 0x0B, 0x0F], 32),
     **dict.fromkeys([0x86, 0x87], 48),
@@ -29,9 +29,8 @@ WEIGHTS = {
     **dict.fromkeys([0x46, 0x47, 0x62], 2),
     # PUSHB and PUSHW: each value after the first.
     **{op: op % 8 for op in range(0xB0, 0xC0)},
-    # The quick ones: SVTCA to SFVTCA, SFVTPV, RTG, RTHG, ELSE, DUP to CINDEX, FDEF, ENDF, IF, EIF, SUB, JROT, IDEF.
-    **dict.fromkeys([*range(0x06), 0x0E, 0x18, 0x19, 0x1B, *range(0x20, 0x26), 0x2C, 0x2D, 0x58, 0x59], 0),
-    **dict.fromkeys([0x61, 0x78, 0x89], 0),
+    # The quick ones: SVTCA to SFVTCA, SFVTPV, RTG, RTHG, DUP to SWAP, EIF, SUB, JROT.
+    **dict.fromkeys([*range(0x06), 0x0E, 0x18, 0x19, *range(0x20, 0x24), 0x59, 0x61, 0x78], 0),
 }
 # What each other instruction weighs beside its step.
 OTHERS = 1

@@ -1,14 +1,14 @@
 -- The work of a step by its opcode, as in the table.
-use Rattle.std.proofs.Common.{◌≡◌, ◌≢◌, ℕ, zero, suc, ◌+◌, ◌%◌, ◌<◌, ◌==◌, ◌||◌, ◌&&◌, Bool, true, false, if◌then◌else◌, not, List, [], ◌∷◌, length, slice_index_or, refl, sym, ◌∙◌, arith}
+use Rattle.std.proofs.Common.{◌≡◌, ◌≢◌, ℕ, zero, suc, ◌+◌, ◌%◌, ◌<◌, ◌==◌, ◌||◌, ◌&&◌, Bool, true, false, if◌then◌else◌, not, List, [], ◌∷◌, length, slice_index_or, refl, sym, ap, ◌∙◌, arith}
 use Rattle.std.proofs.lemmas.Bool.Decides.{nat_tests}
 use Rattle.tt_exec.specs.MachineState.{MachineState}
-use Rattle.tt_exec.specs.Work.{cost_by, is_looped, is_counted, is_of_glyph, is_of_flags, is_of_zone, is_push_of_many, moves_one, is_relative, is_of_lines, finds_two, is_of_distance, is_slow, is_push, is_quick, slowness}
+use Rattle.tt_exec.specs.Work.{cost_by, gone_over, passed, is_looped, is_counted, is_of_glyph, is_of_flags, is_of_zone, is_push_of_many, moves_one, is_relative, is_of_lines, finds_two, is_of_distance, is_slow, is_push, is_quick, slowness}
 
 abbrev pub costs : List ℕ
 costs =
     1 ∷ 1 ∷ 1 ∷ 1 ∷ 1 ∷ 1 ∷ 33 ∷ 33 ∷ 33 ∷ 33 ∷ 33 ∷ 33 ∷ 2 ∷ 2 ∷ 1 ∷ 33 ∷
     2 ∷ 2 ∷ 2 ∷ 2 ∷ 2 ∷ 2 ∷ 2 ∷ 2 ∷ 1 ∷ 1 ∷ 2 ∷ 0 ∷ 2 ∷ 2 ∷ 2 ∷ 2 ∷
-    1 ∷ 1 ∷ 1 ∷ 1 ∷ 1 ∷ 1 ∷ 0 ∷ 9 ∷ 2 ∷ 2 ∷ 2 ∷ 2 ∷ 0 ∷ 1 ∷ 5 ∷ 5 ∷
+    1 ∷ 1 ∷ 1 ∷ 1 ∷ 2 ∷ 2 ∷ 0 ∷ 9 ∷ 2 ∷ 2 ∷ 2 ∷ 2 ∷ 0 ∷ 2 ∷ 5 ∷ 5 ∷
     0 ∷ 0 ∷ 0 ∷ 0 ∷ 0 ∷ 0 ∷ 0 ∷ 0 ∷ 0 ∷ 0 ∷ 5 ∷ 5 ∷ 0 ∷ 2 ∷ 5 ∷ 5 ∷
     0 ∷ 0 ∷ 2 ∷ 2 ∷ 2 ∷ 2 ∷ 3 ∷ 3 ∷ 5 ∷ 4 ∷ 4 ∷ 2 ∷ 2 ∷ 2 ∷ 2 ∷ 2 ∷
     2 ∷ 2 ∷ 2 ∷ 2 ∷ 2 ∷ 2 ∷ 2 ∷ 2 ∷ 0 ∷ 1 ∷ 2 ∷ 2 ∷ 2 ∷ 0 ∷ 2 ∷ 2 ∷
@@ -18,8 +18,8 @@ costs =
     2 ∷ 2 ∷ 2 ∷ 2 ∷ 2 ∷ 2 ∷ 2 ∷ 2 ∷ 2 ∷ 2 ∷ 2 ∷ 2 ∷ 2 ∷ 2 ∷ 2 ∷ 2 ∷
     2 ∷ 2 ∷ 2 ∷ 2 ∷ 2 ∷ 2 ∷ 2 ∷ 2 ∷ 2 ∷ 2 ∷ 2 ∷ 2 ∷ 2 ∷ 2 ∷ 2 ∷ 2 ∷
     1 ∷ 2 ∷ 3 ∷ 4 ∷ 5 ∷ 6 ∷ 7 ∷ 8 ∷ 1 ∷ 2 ∷ 3 ∷ 4 ∷ 5 ∷ 6 ∷ 7 ∷ 8 ∷
-    7 ∷ 7 ∷ 7 ∷ 7 ∷ 7 ∷ 7 ∷ 7 ∷ 7 ∷ 7 ∷ 7 ∷ 7 ∷ 7 ∷ 7 ∷ 7 ∷ 7 ∷ 7 ∷
-    7 ∷ 7 ∷ 7 ∷ 7 ∷ 7 ∷ 7 ∷ 7 ∷ 7 ∷ 7 ∷ 7 ∷ 7 ∷ 7 ∷ 7 ∷ 7 ∷ 7 ∷ 7 ∷
+    8 ∷ 8 ∷ 8 ∷ 8 ∷ 8 ∷ 8 ∷ 8 ∷ 8 ∷ 8 ∷ 8 ∷ 8 ∷ 8 ∷ 8 ∷ 8 ∷ 8 ∷ 8 ∷
+    8 ∷ 8 ∷ 8 ∷ 8 ∷ 8 ∷ 8 ∷ 8 ∷ 8 ∷ 8 ∷ 8 ∷ 8 ∷ 8 ∷ 8 ∷ 8 ∷ 8 ∷ 8 ∷
     5 ∷ 5 ∷ 5 ∷ 5 ∷ 5 ∷ 5 ∷ 5 ∷ 5 ∷ 5 ∷ 5 ∷ 5 ∷ 5 ∷ 5 ∷ 5 ∷ 5 ∷ 5 ∷
     5 ∷ 5 ∷ 5 ∷ 5 ∷ 5 ∷ 5 ∷ 5 ∷ 5 ∷ 5 ∷ 5 ∷ 5 ∷ 5 ∷ 5 ∷ 5 ∷ 5 ∷ 5 ∷ []
 
@@ -41,7 +41,7 @@ by_slowness distance slow push quick more =
 abbrev said : ℕ → ℕ
 said op =
     if moves_one op then 5 else (
-    if is_relative op then 7 else (
+    if is_relative op then 8 else (
     if op == 0x27 then 9 else (
     if is_of_lines op then 33 else (
     if finds_two op then 49 else by_slowness (is_of_distance op) (is_slow op) (is_push op) (is_quick op) (op % 8)))))
@@ -83,8 +83,8 @@ neither_second true b h = absurd cc
 neither_second false b h = h
 
 by_class : (a b c d e f g h k : Bool) (n : ℕ)
-    → 1 + ((if a then 4 else (if b then 6 else (if c then 8 else (if d then 32 else (if e then 48 else (if f then 3 else (if g then 2 else (if h then n else (if k then 0 else 1))))))))) + 0)
-    ≡ (if a then 5 else (if b then 7 else (if c then 9 else (if d then 33 else (if e then 49 else by_slowness f g h k n)))))
+    → 1 + ((if a then 4 else (if b then 7 else (if c then 8 else (if d then 32 else (if e then 48 else (if f then 3 else (if g then 2 else (if h then n else (if k then 0 else 1))))))))) + 0)
+    ≡ (if a then 5 else (if b then 8 else (if c then 9 else (if d then 33 else (if e then 49 else by_slowness f g h k n)))))
 by_class true b c d e f g h k n = refl
 by_class false true c d e f g h k n = refl
 by_class false false true d e f g h k n = refl
@@ -98,6 +98,10 @@ by_class false false false false false false false false false n = refl
 
 nat_same : (a b : ℕ) → (a == b) ≡ true → a ≡ b
 nat_same a b h = grind (arith, nat_tests)
+
+passes_none : (op : ℕ) (m : MachineState) → (op == 0x58) ≡ false → (op == 0x1B) ≡ false
+    → (op == 0x2C || op == 0x89) ≡ false → passed op m ≡ 0
+passes_none op m if_at else_at def_at = rw (if_at, else_at, def_at) refl
 
 says : (op : ℕ) (m : MachineState) → varies op ≡ false → cost_by op m ≡ said op
 unfolding slowness
@@ -118,7 +122,8 @@ says op m h =
     let h = neither_second (op == 0x58) (op == 0x1B || (op == 0x2C || op == 0x89)) h in
     let else_at = neither_first (op == 0x1B) _ h in
     let def_at = neither_second (op == 0x1B) (op == 0x2C || op == 0x89) h in
-    rw (looped, counted, glyph, flags, zone, push, if_at, else_at, def_at)
+    ap (λ n. 1 + (gone_over op m + n)) (passes_none op m if_at else_at def_at)
+    ∙ rw (looped, counted, glyph, flags, zone, push)
     (by_class (moves_one op) (is_relative op) (op == 0x27) (is_of_lines op) (finds_two op) (is_of_distance op) (is_slow op) (is_push op) (is_quick op) (op % 8))
 
 by_entry : (some varying same : Bool) (op : ℕ) (m : MachineState) (cost : ℕ) → (cost == 0) ≡ some → varies op ≡ varying

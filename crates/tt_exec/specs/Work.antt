@@ -3,7 +3,7 @@
 -- run, each control value, storage place, twilight point, definition and place of a definition copied for it is 1.
 -- Slower things weigh more. An instruction that is not quick is 2, DIV and GC are 3, MD is 4. A pair of DELTAP or
 -- DELTAC, and an entry of MINDEX, is 2. A point moved by itself, named on the stack, or moved with its contour or zone
--- is 4. A point that MDRP moves is 6. A point that IUP covers is 2. A vector or a place found from lines is 32. These
+-- is 4. A point that MDRP moves is 7. A point that IUP covers is 2. A vector or a place found from lines is 32. These
 -- weights follow measured times.
 use Rattle.std.specs.Prelude.{ℕ, zero, suc, ◌+◌, ◌-◌, ◌*◌, ◌%◌, ◌==◌, ◌||◌, ◌&&◌, min, nat_le, ℤ, pos, unsigned_abs, Bool, if◌then◌else◌, List, [], ◌∷◌, length, slice_index, Option, Some, None, Result, Ok, Err}
 use Rattle.tt_core.specs.Faults.{Fault}
@@ -90,23 +90,17 @@ is_slow op = op == 0x46 || op == 0x47 || op == 0x62
 abbrev pub is_push : ℕ → Bool
 is_push op = nat_le 0xB0 op && nat_le op 0xBF
 
--- the quick ones: SVTCA, SPVTCA, SFVTCA, SFVTPV, RTG, RTHG, ELSE, DUP, POP, CLEAR, SWAP, DEPTH, CINDEX, FDEF, ENDF, IF,
--- EIF, SUB, JROT, IDEF
+-- the quick ones: SVTCA, SPVTCA, SFVTCA, SFVTPV, RTG, RTHG, DUP, POP, CLEAR, SWAP, EIF, SUB, JROT
 abbrev pub is_quick : ℕ → Bool
 is_quick op =
     nat_le op 0x05
     || op == 0x0E
     || op == 0x18
     || op == 0x19
-    || op == 0x1B
-    || (nat_le 0x20 op && nat_le op 0x25)
-    || op == 0x2C
-    || op == 0x2D
-    || op == 0x58
+    || (nat_le 0x20 op && nat_le op 0x23)
     || op == 0x59
     || op == 0x61
     || op == 0x78
-    || op == 0x89
 
 -- NPUSHB and NPUSHW push entries; the byte after them is the count
 abbrev pub is_push_of_many : ℕ → Bool
@@ -124,7 +118,7 @@ slowness op =
 abbrev pub weight : ℕ → MachineState → ℕ
 weight op m =
     if moves_one op then 4 else (
-    if is_relative op then 6 else (
+    if is_relative op then 7 else (
     if op == 0x27 then 8 else (
     if is_of_lines op then 32 else (
     if finds_two op then 48 else (

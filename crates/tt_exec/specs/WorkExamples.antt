@@ -129,7 +129,7 @@ unfolding slowness
 values_pushed = refl
 
 -- MDRP, first and last; MIRP, first and last
-distances_set : costs_of (0xC0 ∷ 0xDF ∷ 0xE0 ∷ 0xFF ∷ []) ≡ 7 ∷ 7 ∷ 5 ∷ 5 ∷ []
+distances_set : costs_of (0xC0 ∷ 0xDF ∷ 0xE0 ∷ 0xFF ∷ []) ≡ 8 ∷ 8 ∷ 5 ∷ 5 ∷ []
 distances_set = refl
 
 -- MDAP, MSIRP and MIAP, each twice; SCFS
@@ -150,6 +150,11 @@ one_vector_found = refl
 -- ALIGNPTS
 two_points_moved : points_cost 0x27 3 5 ≡ 9
 two_points_moved = refl
+
+-- SWAP, DEPTH; CALL, ENDF; EIF
+calls_and_stack : costs_of (0x23 ∷ 0x24 ∷ 0x2B ∷ 0x2D ∷ 0x59 ∷ []) ≡ 1 ∷ 2 ∷ 2 ∷ 2 ∷ 1 ∷ []
+unfolding slowness
+calls_and_stack = refl
 
 -- ADD, SUB, DIV, MUL, ABS
 numbers_reckoned : costs_of (0x60 ∷ 0x61 ∷ 0x62 ∷ 0x63 ∷ 0x64 ∷ []) ≡ 2 ∷ 1 ∷ 3 ∷ 2 ∷ 2 ∷ []
