@@ -132,7 +132,7 @@ FONTS = {
     # SHZ of the twilight zone
     "shz_twilight": lambda: looping(bytes.fromhex("B000 36"), SLANTED + bytes.fromhex("B000 15"),
                                     maxp=small.maxp(4, 65535)),
-    "shc": lambda: over_points("B000 34" * 8, SLANTED, spread(8000)),
+    "shc": lambda: over_points("B000 34" * 8, SLANTED, spread(7000)),
     "iup": lambda: over_points("30 31", b"", spread(POINTS)),
     "iup_half": lambda: over_points("30 31", touch(4000, 2), spread(4000)),
     "iup_quarter": lambda: over_points("30 31", touch(4000, 4), spread(4000)),

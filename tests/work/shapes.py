@@ -135,16 +135,18 @@ def crossings(asked):
     """Rows inside of the picture and outside, edges that meet none, bands of 2,048 rows, dropouts and bitmaps."""
     # 16 units of 26.6 for each of the font's: 999 rows.
     inside = Crossing([zigzag(0, 3996)], 250, 1000, 4, 3996)
-    assert inside.count == 160 + 4 * 159_840 + 999 == 640_519
+    assert inside.count == 160 + 5 * 159_840 + 999 == 800_359
     at_the_limit(asked, "160 edges over 999 rows", inside, same=True, one_place=False)
     below = Crossing([zigzag(-4996, -1000)], 250, 1000, 4, 3996)
     assert below.count == inside.count
     at_the_limit(asked, "below the picture", below, same=True)
     filled = Crossing([zigzag(0, 3996)], 250, 1000, 4, 3996, filled=True)
-    assert filled.count == 640_519 + 4 * (159_840 + 80) + 94 == 1_280_293
+    assert filled.count == 800_359 + 4 * (159_840 + 80) + 94 == 1_440_133
     at_the_limit(asked, "with dropouts", filled)
     for rows in 0, 2048, 2049:
         at_the_limit(asked, f"131,057 edges, {rows:,} rows", Crossing([flat(rows)], 16, 16, 4, 2050), same=True)
+    banded = Crossing([flat(2049)], 16, 16, 4, 2050, filled=True)
+    at_the_limit(asked, "131,057 edges, 2,049 rows, with dropouts", banded)
     # Two specks at the corners of a box: 300 units of 26.6 for each of the font's.
     specks = [(0, 0), (1, 0), (0, 0)], [(1746, 872), (1747, 872), (1746, 872)]
     at_the_limit(asked, "a bitmap of 8,189 pixels by 4,088", Crossing(specks, 300, 64, 1750, 873, filled=True))
