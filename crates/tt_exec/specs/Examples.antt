@@ -94,23 +94,23 @@ one_step_of_two = refl
 abbrev begun_with : List ℕ → MachineState
 begun_with bytes = run_from (record { table = codes "prep"; base = 40; bytes = bytes }) (fresh its_parts)
 
--- PUSHB 2, 3; SUB; POP
-three_paid : work_within 3 (begun_with (0xB1 ∷ 2 ∷ 3 ∷ 0x61 ∷ 0x21 ∷ [])) (Some 3) ≡ enough (Some 0)
+-- PUSHB 2, 3; SUB; POP: three steps, and the second entry pushed
+three_paid : work_within 3 (begun_with (0xB1 ∷ 2 ∷ 3 ∷ 0x61 ∷ 0x21 ∷ [])) (Some 4) ≡ enough (Some 0)
 unfolding its_parts pushed work_within slowness
 three_paid = refl
 
-two_of_three_paid : work_within 3 (begun_with (0xB1 ∷ 2 ∷ 3 ∷ 0x61 ∷ 0x21 ∷ [])) (Some 2)
+two_of_three_paid : work_within 3 (begun_with (0xB1 ∷ 2 ∷ 3 ∷ 0x61 ∷ 0x21 ∷ [])) (Some 3)
     ≡ spent (fault_at (codes "prep") 44 why.StepLimit)
 unfolding its_parts pushed work_within slowness
 two_of_three_paid = refl
 
--- PUSHB 0; IF; ELSE; PUSHB 5; EIF: four steps, and the ELSE that IF skips
-skip_paid : work_within 4 (begun_with (0xB0 ∷ 0 ∷ 0x58 ∷ 0x1B ∷ 0xB0 ∷ 5 ∷ 0x59 ∷ [])) (Some 7) ≡ enough (Some 2)
+-- PUSHB 0; IF; ELSE; PUSHB 5; EIF: four steps, of which IF is 2, and the ELSE that IF skips
+skip_paid : work_within 4 (begun_with (0xB0 ∷ 0 ∷ 0x58 ∷ 0x1B ∷ 0xB0 ∷ 5 ∷ 0x59 ∷ [])) (Some 7) ≡ enough (Some 1)
 unfolding its_parts pushed work_within slowness
 skip_paid = refl
 
--- PUSHB 9; POP; JMPR, which is refused: its step is paid for
-refusal_paid : work_within 3 (begun_with (0xB0 ∷ 9 ∷ 0x21 ∷ 0x1C ∷ [])) (Some 7) ≡ enough (Some 4)
+-- PUSHB 9; POP; JMPR, which is refused: its step, of 2, is paid for
+refusal_paid : work_within 3 (begun_with (0xB0 ∷ 9 ∷ 0x21 ∷ 0x1C ∷ [])) (Some 7) ≡ enough (Some 3)
 unfolding its_parts pushed work_within slowness
 refusal_paid = refl
 
