@@ -181,38 +181,36 @@ def asked(known, asking):
     return faults
 
 
-def crates_by_name(sources):
-    """Returns the crates that refuse with each name, apart from where names and messages are made."""
-    found = {}
+def tables_by_name(sources):
+    """Returns for each name the places that refuse with it, with the tables whose tags the place's file names.
+
+    Where it names none, the tags are those of its crate. Where names and messages are made is no such place.
+    """
+    tags, of_crates, found = {}, {}, {}
+    for path, text in sources.items():
+        tags[path] = set(re.findall(r"\bconst \w+: \[u8; 4\] = \*b\"(.{4})\"", text))
+        of_crates.setdefault(path.split("/")[1], set()).update(tags[path])
     for path, text in sources.items():
         for name in re.findall(r"\bWhy::(\w+)", text) if path not in (ENUMS, MESSAGES) else ():
-            found.setdefault(name, set()).add(path.split("/")[1])
-    return found
-
-
-def tables_by_crate(sources):
-    """Returns the tables of each crate's refusals: the tags that its code names."""
-    found = {}
-    for path, text in sources.items():
-        found.setdefault(path.split("/")[1], set()).update(re.findall(r"\bconst \w+: \[u8; 4\] = \*b\"(.{4})\"", text))
+            found.setdefault(name, {})[path] = tags[path] or of_crates[path.split("/")[1]]
     return found
 
 
 def tables(known, asking, sources):
-    """The tables at which the judge lets a refusal stand are those of the crates that refuse so."""
-    crates, tags, faults = crates_by_name(sources), tables_by_crate(sources), []
+    """The tables at which the judge lets a refusal stand are those of the code that refuses so."""
+    by_name, faults = tables_by_name(sources), []
     for number, (name, places) in asking.REFUSALS.items():
-        its, places = crates.get(name, set()), set(places)
+        its, places = by_name.get(name, {}), set(places)
         if not its:
-            faults.append(f"no crate refuses with {number} {name}")
+            faults.append(f"no code refuses with {number} {name}")
         if name in known.programs and places != set(asking.PROGRAMS):
             faults.append(f"{number} {name} may stand at {', '.join(sorted(places))}, and not at all programs")
         if name not in known.font or name == OF_ANY_TABLE:
             continue
-        here = sorted(it for it in its if not tags[it] & places)
+        here = [path for path, tags in its.items() if not tags & places]
         faults += [f"{it} refuses with {number} {name}, and at none of {', '.join(sorted(places))}" for it in here]
-        others = sorted(places - set().union(*(tags[it] for it in its)))
-        faults += [f"{number} {name} may stand at {', '.join(others)}, and no crate refuses so there"] if others else []
+        others = sorted(places - set().union(*its.values()))
+        faults += [f"{number} {name} may stand at {', '.join(others)}, and no code refuses so there"] if others else []
     return faults
 
 
