@@ -13,7 +13,7 @@ WORD = re.compile(r'//[^\n]*|/\*.*?\*/|\bb?r(#*)".*?"\1|"(?:[^"\\]|\\.)*"|\'(?:\
 HEAD = re.compile(r'^[ \t]*(?:pub(?:\(\w+\))? )?(?:const )?(?:unsafe )?(?:extern "\.*" )?fn (\w+)', re.M)
 # A type of its own, or at the top level another name of one.
 TYPE = re.compile(r"^(?:[ \t]*(pub(?:\(\w+\))? )?(?:struct|enum|union|trait)|(pub(?:\(\w+\))? )?type) (\w+)", re.M)
-CLAUSE = re.compile(r"\s*(requires|ensures|decreases)\b[^{;]*")
+CLAUSE = re.compile(r"\s*(requires|ensures|decreases|ghost)\b[^{;]*")
 IMPL = re.compile(r"^[ \t]*(?:impl\b|(?:pub(?:\(\w+\))? )?trait\b)", re.M)
 PAIRS = {"(": ")", "[": "]", "{": "}"}
 
@@ -125,7 +125,7 @@ def after_head(text, at):
     while at < len(text):
         clause = CLAUSE.match(text, at)
         if clause:
-            clauses += clause[1] != "decreases"
+            clauses += clause[1] in ("requires", "ensures")
             at = close_of(text, clause.end()) + 1
         elif text[at] == "{":
             return clauses, at
@@ -194,7 +194,7 @@ def functions_of(crate, path, source, text):
             'extern "' in found[0],
             comment_above(lines, first),
             [named(it) for it in parts_of(text[opens + 1 : closes])],
-            re.match(r"\s*(?:->)?([^{;]*?)(?=\s(?:requires|ensures|where)\b|[{;])", text[closes + 1 :])[1].strip(),
+            re.match(r"\s*(?:->)?([^{;]*?)(?=\s(?:requires|ensures|ghost|where)\b|[{;])", text[closes + 1 :])[1].strip(),
             clauses,
             brace - first,
             max(text.count("\n", body, end) - 1, 0),
