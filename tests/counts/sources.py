@@ -13,6 +13,7 @@ WORD = re.compile(r'//[^\n]*|/\*.*?\*/|\bb?r(#*)".*?"\1|"(?:[^"\\]|\\.)*"|\'(?:\
 HEAD = re.compile(r'^[ \t]*(?:pub(?:\(\w+\))? )?(?:const )?(?:unsafe )?(?:extern "\.*" )?fn (\w+)', re.M)
 # A type of its own, or at the top level another name of one.
 TYPE = re.compile(r"^(?:[ \t]*(pub(?:\(\w+\))? )?(?:struct|enum|union|trait)|(pub(?:\(\w+\))? )?type) (\w+)", re.M)
+RESULT = re.compile(r"\s*(?:->)?([^{;]*?)(?=\s(?:requires|ensures|ghost|where)\b|[{;])")
 CLAUSE = re.compile(r"\s*(requires|ensures|decreases|ghost)\b[^{;]*")
 IMPL = re.compile(r"^[ \t]*(?:impl\b|(?:pub(?:\(\w+\))? )?trait\b)", re.M)
 PAIRS = {"(": ")", "[": "]", "{": "}"}
@@ -194,7 +195,7 @@ def functions_of(crate, path, source, text):
             'extern "' in found[0],
             comment_above(lines, first),
             [named(it) for it in parts_of(text[opens + 1 : closes])],
-            re.match(r"\s*(?:->)?([^{;]*?)(?=\s(?:requires|ensures|ghost|where)\b|[{;])", text[closes + 1 :])[1].strip(),
+            RESULT.match(text, closes + 1)[1].strip(),
             clauses,
             brace - first,
             max(text.count("\n", body, end) - 1, 0),
