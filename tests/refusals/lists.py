@@ -13,6 +13,11 @@ BOUNDS, BOUNDS_DEFINED = "crates/tt_fit/src/fallback.rt", "crates/tt_fit/specs/F
 HEADER, PAGE = "include/tt_render.h", "tt_render.1"
 CASES = "tests/rows/cases.txt"
 
+# The files that a list is in. Where one moves, its name here moves with it.
+FILES = (
+    *(ENUMS, DEFINED, OF_CALLS, OF_CALLS_DEFINED, MESSAGES, MESSAGES_DEFINED, BOUNDS, BOUNDS_DEFINED),
+    *(HEADER, PAGE, CASES, "README.md"),
+)
 # This refusal names the table that is not there.
 OF_ANY_TABLE = "NoTable"
 # The refusals that only a call of C gives, wherever they have their numbers.
@@ -240,13 +245,9 @@ def cases(known, read, machine):
     return faults
 
 
-def statuses(read):
-    """The statuses of a refused font and of a refused request, where they are listed."""
+def statuses(read, code, defined):
+    """The statuses of a refused font and of a refused request, in all code and definitions and where they are listed."""
     places = (
-        ("crates/tt_render/src/messages.rt", r"RunFault::Font\(_\) => (\d)", r"RunFault::Job\(_\) => (\d)"),
-        ("crates/tt_render/src/texts_messages.rt", r"Fault::Font\(_\) => (\d)", r"Fault::Job\(_\)[^=]*=> (\d)"),
-        ("crates/tt_render/specs/Messages.antt", r"_of \(\w+\.Font f\) = (\d)", r"_of \(\w+\.Job j\) = (\d)"),
-        ("crates/tt_render/specs/TextsMessages.antt", r"_of \(\w+\.Font f\) = (\d)", r"_of \(\w+\.Job j\) = (\d)"),
         (OF_CALLS, r"plain\((\d), u32::from\(fault\.why", r"plain\((\d), (?:u32::from\(fault\.number|[1-9])"),
         (OF_CALLS_DEFINED, r"plain_answer (\d) \(why_number", r"plain_answer (\d) (?:\(job_number|[1-9])"),
         (HEADER, r"TT_FONT = (\d)", r"TT_JOB = (\d)"),
@@ -254,13 +255,23 @@ def statuses(read):
         ("README.md", r"\| (\d) \| the font is", r"\| (\d) \| wrong command line or request"),
         (CASES, r"^refused (\d) tt_render: \w+\+", r"^refused (\d) tt_render: \d"),
     )
-    wanted = [set(re.findall(it, read(places[0][0]))) for it in places[0][1:]]
-    faults = []
+    found = {
+        "code": [found_in(code, r"::Font\(_\) => (\d)\b"), found_in(code, r"::Job\(_\)[^=\n]* => (\d)\b")],
+        "definitions": [found_in(defined, rf"^\w*status_of \(\w+\.{it} \w+\) = (\d)$") for it in ("Font", "Job")],
+    }
     for path, *patterns in places:
-        found = [set(re.findall(it, read(path), re.M)) for it in patterns]
-        if found != wanted:
-            faults.append(f"{path} has the statuses {found} for a font and a request, and not {wanted}")
+        found[path] = [found_in({path: read(path)}, it) for it in patterns]
+    wanted = found["code"]
+    faults = [] if [len(it) for it in wanted] == [1, 1] else [f"the code has the statuses {wanted}"]
+    for path, statuses_here in found.items():
+        if statuses_here != wanted:
+            faults.append(f"{path}: the statuses are {statuses_here} for a font and a request, and not {wanted}")
     return faults
+
+
+def found_in(texts, pattern):
+    """Returns what a pattern finds in some texts."""
+    return {it for text in texts.values() for it in re.findall(pattern, text, re.M)}
 
 
 def mentions(known, texts):
