@@ -246,7 +246,7 @@ def cases(known, read, machine):
 
 
 def statuses(read, code, defined):
-    """The statuses of a refused font and of a refused request, in all code and definitions and where they are listed."""
+    """The statuses of a refused font and of a refused request, in all code, in all definitions, and in their lists."""
     places = (
         (OF_CALLS, r"plain\((\d), u32::from\(fault\.why", r"plain\((\d), (?:u32::from\(fault\.number|[1-9])"),
         (OF_CALLS_DEFINED, r"plain_answer (\d) \(why_number", r"plain_answer (\d) (?:\(job_number|[1-9])"),
