@@ -1,0 +1,288 @@
+"""The lists of refusals, each read from its file, and compared with the enums of tt_core.
+
+Each function here returns what is wrong, as lines. `known` is the table of all refusals; `read` gives a file's text.
+"""
+import re
+from dataclasses import dataclass, field
+
+ENUMS = "crates/tt_core/src/fault.rt"
+DEFINED = "crates/tt_core/specs/Faults.antt"
+OF_CALLS, OF_CALLS_DEFINED = "crates/tt_c_calls/src/answer.rt", "crates/tt_c_calls/specs/Answers.antt"
+MESSAGES, MESSAGES_DEFINED = "crates/tt_c_calls/src/messages.rt", "crates/tt_c_calls/specs/Messages.antt"
+BOUNDS, BOUNDS_DEFINED = "crates/tt_fit/src/fallback.rt", "crates/tt_fit/specs/Fallback.antt"
+HEADER, PAGE = "include/tt_render.h", "tt_render.1"
+CASES = "tests/rows/cases.txt"
+
+# The files that a list is in. Where one moves, its name here moves with it.
+FILES = (
+    *(ENUMS, DEFINED, OF_CALLS, OF_CALLS_DEFINED, MESSAGES, MESSAGES_DEFINED, BOUNDS, BOUNDS_DEFINED),
+    *(HEADER, PAGE, CASES, "README.md"),
+)
+# This refusal names the table that is not there.
+OF_ANY_TABLE = "NoTable"
+# The refusals that only a call of C gives, wherever they have their numbers.
+OF_C_ALONE = ("UnknownFit", "LineEnds")
+# The refusals that have no case in tests/rows, and where their cases are.
+ELSEWHERE = {"WorkLarge": "tests/work/hostile_fonts.py", **dict.fromkeys(OF_C_ALONE, "tests/c/edges.c")}
+
+
+@dataclass
+class Known:
+    """The refusals by name: of the font's tables, of its programs, of a request, and of calls of C alone."""
+
+    font: dict = field(default_factory=dict)
+    programs: dict = field(default_factory=dict)
+    request: dict = field(default_factory=dict)
+    calls: dict = field(default_factory=dict)
+    enums: dict = field(default_factory=dict)
+
+    def all(self):
+        """Returns the numbers of all of them."""
+        return {**self.font, **self.programs, **self.request, **self.calls}
+
+    def of_files(self):
+        """Returns the numbers of those of a font."""
+        return {**self.font, **self.programs}
+
+
+def bounds(read):
+    """Returns the first and the last number of a program's refusal."""
+    body = re.search(r"fn is_program_fault.*?\n}", read(BOUNDS), re.S)[0]
+    numbers = sorted(int(it) for it in re.findall(r"\b\d+\b", body))
+    return numbers[0], numbers[-1]
+
+
+def table(read):
+    """Reads the table of all refusals: the enums of tt_core, and the numbers that answers of C have besides."""
+    known, (low, high) = Known(), bounds(read)
+    for name, text in re.findall(r"^pub enum (\w+) \{(.*?)\n\}", read(ENUMS), re.S | re.M):
+        numbers = {it: int(number) for it, number in re.findall(r"^ +(\w+) = (\d+),", text, re.M)}
+        if numbers:
+            known.enums[name] = numbers
+    for it, number in known.enums["Why"].items():
+        (known.programs if low <= number <= high else known.font)[it] = number
+    for name, numbers in known.enums.items():
+        if name != "Why":
+            known.request.update(numbers)
+    for it, number in re.findall(r"CallFault::(\w+) => plain\(\d, (\d+)\)", read(OF_CALLS)):
+        if int(number) and it not in known.request:
+            known.calls[it] = int(number)
+    return known
+
+
+def compared(found, wanted, order=False):
+    """Compares the numbers of a list, as pairs of a number and a name, with the wanted ones."""
+    names, faults = dict(map(reversed, found)), []
+    faults += [f"it lacks {number} {name}" for name, number in wanted.items() if name not in names]
+    for number, name in found:
+        if wanted.get(name) != number:
+            faults.append(f"it has {number} {name}, and the number in the table is {wanted.get(name)}")
+    if len(found) != len(names):
+        faults.append("it has a name twice")
+    if order and [it for it, _ in found] != sorted(it for it, _ in found):
+        faults.append("its numbers do not rise")
+    return faults
+
+
+def pairs(pattern, text):
+    """Returns the numbers and names that a pattern with the groups `n` and `name` finds."""
+    return [(int(it["n"]), it["name"]) for it in re.finditer(pattern, text, re.M)]
+
+
+def numbers_of_enums(known):
+    """No number and no name may stand twice, in whichever enum."""
+    seen, faults = {}, []
+    for name, number in [it for numbers in [*known.enums.values(), known.calls] for it in numbers.items()]:
+        if number in seen:
+            faults.append(f"{number} is {seen[number]} and {name}")
+        seen[number] = name
+    if len(set(seen.values())) != len(seen):
+        faults.append("a name has two numbers")
+    return faults
+
+
+def names_of_enums(known, read):
+    """`name` gives each variant's name."""
+    faults = []
+    for kind, numbers in known.enums.items():
+        found = dict(re.findall(rf"^ +{kind}::(\w+) => \"(\w+)\",", read(ENUMS), re.M))
+        faults += [f"{kind}::{it} has the name {found.get(it)}" for it in numbers if found.get(it) != it]
+    return faults
+
+
+def definitions(known, read):
+    """Numbers and names of Faults.antt, by the definitions of `number` and `name` of each enum."""
+    text, faults = read(DEFINED), []
+    numbers = pairs(r"^\w+_number \w+\.(?P<name>\w+) = (?P<n>\d+)$", text)
+    faults += compared(numbers, {it: number for of in known.enums.values() for it, number in of.items()})
+    names = re.findall(r"^\w+_name \w+\.(\w+) = codes \"(\w+)\"$", text, re.M)
+    faults += [f"{it} has the name {other}" for it, other in names if it != other]
+    return faults + [f"{it} has no name" for of in known.enums.values() for it in of if it not in dict(names)]
+
+
+def header(known, read):
+    """The table of the header."""
+    text = read(HEADER)
+    found = pairs(r"^ +X\((?P<n>\d+), (?P<name>\w+)\)", text[text.index("#define TT_REFUSALS") :])
+    return compared(found, known.all(), order=True)
+
+
+def page(known, read):
+    """The three lists of the page of the manual."""
+    text, faults = read(PAGE), []
+    text = text[text.index("\n.SH REFUSALS") :]
+    text = text[: text.index("\n.SH ", 1)]
+    parts = dict(re.findall(r"^\.SS ([^\n]*)\n(.*?)(?=^\.SS|\Z)", text, re.S | re.M))
+    wanted = {
+        "Of a font": known.font,
+        "Of a request": {it: number for it, number in known.request.items() if it not in OF_C_ALONE},
+        "Of the font's programs": known.programs,
+    }
+    if parts.keys() != wanted.keys():
+        faults.append(f"its lists are {', '.join(parts)}")
+    for name in wanted.keys() & parts.keys():
+        found = pairs(r"^\.B \"?(?:\\ )?(?P<n>\d+) (?P<name>\w+)\"?$", parts[name])
+        faults += [f"{name}: {it}" for it in compared(found, wanted[name], order=True)]
+    return faults
+
+
+def by_number(known, read, code):
+    """The kinds by their numbers, of which C makes messages; and the calls' own, in code or in the definition."""
+    text = read(MESSAGES if code else MESSAGES_DEFINED)
+    kinds = r"^ +(?P<n>\d+) => \w+::(?P<name>\w+),$" if code else r"== (?P<n>\d+) then Some \w+\.(?P<name>\w+)$"
+    case = r"^ +(\d+) => String\S+\(alloc, " if code else r"if a\.number == (\d+) then codes "
+    own = re.findall(case + r"\"tt_render: (\d+) (\w+)\"", text, re.M)
+    faults = compared(pairs(kinds, text), {it: number for of in known.enums.values() for it, number in of.items()})
+    faults += [f"at {at} it has the text {number} {name}" for at, number, name in own if at != number]
+    return faults + compared([(int(number), name) for _, number, name in own], known.calls)
+
+
+def answers_defined(known, read):
+    """The numbers that answers of calls have in the definition."""
+    found = pairs(r"^call_answer call\.(?P<name>\w+) = plain_answer 2 (?P<n>\d+)$", read(OF_CALLS_DEFINED))
+    refusals = re.findall(r"^refusal_answer (\w+) = plain_answer 2 (\d+)$", read(OF_CALLS_DEFINED), re.M)
+    other = [(int(number), "".join(it.title() for it in name.split("_"))) for name, number in refusals]
+    return compared(found, known.calls) + compared(other, known.calls)
+
+
+def bounds_defined(read):
+    """The bounds of a program's refusals in the definition."""
+    line = re.search(r"^is_program_fault fault = (.*)$", read(BOUNDS_DEFINED), re.M)[1]
+    found = sorted(int(it) for it in re.findall(r"\b\d+\b", line))
+    return [] if (found[0], found[-1]) == bounds(read) else [f"it has {found}, and {BOUNDS} {bounds(read)}"]
+
+
+def asked(known, asking):
+    """The lists of the judge of answers: numbers, names, and which may come for which question."""
+    found = [(number, name) for number, (name, _) in asking.REFUSALS.items()]
+    faults = compared(found, known.of_files())
+    for name, got, wanted in (
+        ("OF_PROGRAMS", asking.OF_PROGRAMS, known.programs),
+        ("NUMBERS of none", asking.NUMBERS["none"], known.font),
+        ("NUMBERS of full", asking.NUMBERS["full"], known.of_files()),
+    ):
+        if sorted(got) != sorted(wanted.values()):
+            faults.append(f"{name} are {sorted(got)}, and not {sorted(wanted.values())}")
+    return faults
+
+
+def tables_by_name(sources):
+    """Returns for each name the places that refuse with it, with the tables whose tags the place's file names.
+
+    Where it names none, the tags are those of its crate. Where names and messages are made is no such place.
+    """
+    tags, of_crates, found = {}, {}, {}
+    for path, text in sources.items():
+        tags[path] = set(re.findall(r"\bconst \w+: \[u8; 4\] = \*b\"(.{4})\"", text))
+        of_crates.setdefault(path.split("/")[1], set()).update(tags[path])
+    for path, text in sources.items():
+        for name in re.findall(r"\bWhy::(\w+)", text) if path not in (ENUMS, MESSAGES) else ():
+            found.setdefault(name, {})[path] = tags[path] or of_crates[path.split("/")[1]]
+    return found
+
+
+def tables(known, asking, sources):
+    """The tables at which the judge lets a refusal stand are those of the code that refuses so."""
+    by_name, faults = tables_by_name(sources), []
+    for number, (name, places) in asking.REFUSALS.items():
+        its, places = by_name.get(name, {}), set(places)
+        if not its:
+            faults.append(f"no code refuses with {number} {name}")
+        if name in known.programs and places != set(asking.PROGRAMS):
+            faults.append(f"{number} {name} may stand at {', '.join(sorted(places))}, and not at all programs")
+        if name not in known.font or name == OF_ANY_TABLE:
+            continue
+        here = [path for path, tags in its.items() if not tags & places]
+        faults += [f"{it} refuses with {number} {name}, and at none of {', '.join(sorted(places))}" for it in here]
+        others = sorted(places - set().union(*its.values()))
+        faults += [f"{number} {name} may stand at {', '.join(others)}, and no code refuses so there"] if others else []
+    return faults
+
+
+def not_of_best(known, asking, make_rows, read):
+    """Three lists of the programs' refusals that do not occur with best: two of tests, and the page's."""
+    names = {number: name for name, number in known.programs.items()}
+    wanted = [f"{number} {names.get(number)}" for number in asking.NOT_OF_BEST]
+    faults = [] if list(make_rows) == wanted else [f"tests/rows/make_rows.py has {list(make_rows)}, and not {wanted}"]
+    line = re.search(r"^(\d[\d, a-z]*) do not occur with$", read(PAGE), re.M)
+    told = []
+    for first, last in re.findall(r"(\d+)(?: to (\d+))?", line[1] if line else ""):
+        told += range(int(first), int(last or first) + 1)
+    return faults + ([] if told == list(asking.NOT_OF_BEST) else [f"{PAGE} has {told}, and not {asking.NOT_OF_BEST}"])
+
+
+def cases(known, read, machine):
+    """Each refusal has a case: of a font and a request in the rows, of a program in the machine's too."""
+    rows, faults = read(CASES), []
+    for name, number in known.all().items():
+        where = ELSEWHERE.get(name, CASES)
+        pattern = rf"\b{number}\b" if where.endswith(".c") else rf"\b{number} {name}\b"
+        if not re.search(pattern, rows if where == CASES else read(where)):
+            faults.append(f"{where} has no case of {number} {name}")
+    for name, number in known.programs.items():
+        if not re.search(rf"\+\d+: {number} {name}$", machine, re.M):
+            faults.append(f"the tables of tests/machine have no run with {number} {name}")
+    return faults
+
+
+def statuses(read, code, defined):
+    """The statuses of a refused font and of a refused request, in all code, in all definitions, and in their lists."""
+    places = (
+        (OF_CALLS, r"plain\((\d), u32::from\(fault\.why", r"plain\((\d), (?:u32::from\(fault\.number|[1-9])"),
+        (OF_CALLS_DEFINED, r"plain_answer (\d) \(why_number", r"plain_answer (\d) (?:\(job_number|[1-9])"),
+        (HEADER, r"TT_FONT = (\d)", r"TT_JOB = (\d)"),
+        (PAGE, r"\.B (\d)\nThe font is refused:", r"\.B (\d)\n(?:(?!\.TP).*\n)*Or the request is refused:"),
+        ("README.md", r"\| (\d) \| the font is", r"\| (\d) \| wrong command line or request"),
+        (CASES, r"^refused (\d) tt_render: \w+\+", r"^refused (\d) tt_render: \d"),
+    )
+    found = {
+        "code": [found_in(code, r"::Font\(_\) => (\d)\b"), found_in(code, r"::Job\(_\)[^=\n]* => (\d)\b")],
+        "definitions": [found_in(defined, rf"^\w*status_of \(\w+\.{it} \w+\) = (\d)$") for it in ("Font", "Job")],
+    }
+    for path, *patterns in places:
+        found[path] = [found_in({path: read(path)}, it) for it in patterns]
+    wanted = found["code"]
+    faults = [] if [len(it) for it in wanted] == [1, 1] else [f"the code has the statuses {wanted}"]
+    for path, statuses_here in found.items():
+        if statuses_here != wanted:
+            faults.append(f"{path}: the statuses are {statuses_here} for a font and a request, and not {wanted}")
+    return faults
+
+
+def found_in(texts, pattern):
+    """Returns what a pattern finds in some texts."""
+    return {it for text in texts.values() for it in re.findall(pattern, text, re.M)}
+
+
+def mentions(known, texts):
+    """A number and a name behind it go together, wherever they are written."""
+    numbers, faults = known.all(), []
+    line = re.compile(r"tt_render: (?:line \d+: |glyph \d+ unfitted: )*(?:[a-z]{4}\+\d+: )?(\d+) ([A-Z]\w+)")
+    for path, text in texts.items():
+        for number, name in re.findall(r"(?<![\w.,+*])(\d{1,2}) ([A-Z][A-Za-z]+)\b", text):
+            if name in numbers and numbers[name] != int(number):
+                faults.append(f"{path} has {number} {name}")
+        for number, name in set(line.findall(text)):
+            if name not in numbers:
+                faults.append(f"{path} has {number} {name}, which is no refusal")
+    return faults
