@@ -25,8 +25,9 @@
  *
  * A call reports the first refusal in this order: the way to fit, UTF-8, size, margin, the text's length; the font's
  * size, its tables; the picture's size; loca and glyf, the font's programs, the points (65), the glyphs, the crossings
- * (65). With grow, the size and the crossings of the enlarged picture follow. The room comes last. tt_draw_lines tests
- * the way to fit, size, margin and font once, then lines_room, and then the rest line by line, first the line's ends.
+ * (65). With grow, the size of the enlarged picture follows. The room comes last. tt_draw_lines tests the way to fit,
+ * size, margin and font once, then lines_room, and then the rest line by line, first the line's ends, then the work of
+ * the lines before it (65).
  *
  * Cost: tt_open and tt_map read tables alone. tt_measure, tt_characters, tt_draw and tt_draw_band each fit all glyphs
  * of the text, which is most of the cost of a drawing. This is so even where the room is too small.
@@ -186,6 +187,9 @@ uint32_t tt_draw_band(const uint8_t *font, size_t font_bytes, const uint8_t *tex
  * Line i begins in texts where the line before it ends, and ends before ends[i]. rows gets the rows of all lines one
  * after the other, and lines[i] describes line i.
  *
+ * With TT_BEST the lines of a call share a budget. A line after which no budget is left is still drawn; the next one is
+ * refused with number 65.
+ *
  * A refused line stops the call: count lines before it are drawn, in bytes bytes of rows, and all memory after these is
  * unchanged. With TT_ROOM bytes is the room that these lines and the next one need. Where ends[i] is less than the end
  * before it or more than text_bytes, the line is refused with number 67. Where the way to fit, size, margin and font
@@ -205,10 +209,17 @@ uint32_t tt_message(const struct tt_answer *told, uint8_t *text, size_t room, st
 /*
  * All refusals: X(number, name). From 60 on they refuse the job; the man page of the program explains each.
  *
- * 65 WorkLarge comes with TT_BEST alone, for one of two counts of a line. Its glyphs, each once, have more than
- * 4,000,000 points, where each glyph and each component adds four points, and each contour one. Or the edges of its
- * glyphs, at all their places, cross the rows of the picture more than 16,000,000 times. Where a glyph's dropouts are
- * filled, four crossings more are counted for each edge and each row or column that the edge crosses.
+ * 65 WorkLarge comes with TT_BEST alone, for one of two counts of a line, or for the lines before it.
+ *   - Points: its glyphs, each once, have more than 1,000,000. Each glyph and each component adds four, each contour
+ *     one.
+ *   - Crossings: its glyphs, at all their places, have more than 16,000,000, or more than the line's work allows. An
+ *     edge counts five for each row that it crosses, inside the picture or outside, and one for each 2,048 rows of its
+ *     glyph. Each row of the glyph counts one. Where dropouts are filled, each row or column that an edge crosses counts
+ *     three more, and one for each 2,048 rows of the glyph. Each 64 bytes of a bitmap of the glyph then count one. The
+ *     work allows 500,000, and one for each 4 units that points and programs leave of 100,000,000. A point takes 40
+ *     units.
+ *   - Lines of tt_draw_lines: those before this one took more than 20,000,000 units, and 8,000,000 for each of them. A
+ *     line takes the units of its points and programs, and 4 units for each crossing.
  */
 #define TT_REFUSALS(X) \
     X(1, BadVersion) \
