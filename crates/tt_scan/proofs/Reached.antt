@@ -6,15 +6,16 @@ use Rattle.std.proofs.lemmas.Int.{ints}
 use Rattle.std.proofs.lemmas.List.Sums.{sum_by-cons}
 use Rattle.std.proofs.lemmas.List.{length-map}
 use Rattle.std.proofs.lemmas.List.Sorted.{All-permutation, sum_by-IsPermutation}
-use Rattle.tt_scan.specs.declared.edge.Edge.{Edge}
-use Rattle.tt_scan.specs.declared.edge.Frame.{Frame}
+use Rattle.tt_scan_edges.specs.declared.edge.Edge.{Edge}
+use Rattle.tt_scan_edges.specs.declared.edge.Frame.{Frame}
 use Rattle.tt_scan.specs.declared.edge_table.EdgeTable.{EdgeTable}
-use Rattle.tt_scan.specs.declared.edge_table.Entry.{Entry}
-use Rattle.tt_scan.specs.declared.mark.Mark.{Mark}
-use Rattle.tt_scan.specs.declared.mark.Span.{Span}
-use Rattle.tt_scan.specs.declared.walk.Walk.{Walk}
-use Rattle.tt_scan.specs.EdgeTable.{AreLeft, AreWalked, HasRoom, IsReady, IsTableOf, IsWalkAt, edge_of, edges_of, if_on, meets_row}
-use Rattle.tt_scan.specs.Winding.{column_x}
+use Rattle.tt_scan_edges.specs.declared.entry.Entry.{Entry}
+use Rattle.tt_scan_edges.specs.declared.mark.Mark.{Mark}
+use Rattle.tt_scan_edges.specs.declared.mark.Span.{Span}
+use Rattle.tt_scan_edges.specs.declared.walk.Walk.{Walk}
+use Rattle.tt_scan_edges.specs.Entries.{edge_of}
+use Rattle.tt_scan.specs.EdgeTable.{AreLeft, AreWalked, HasRoom, IsReady, IsTableOf, IsWalkAt, edges_of, if_on, meets_row}
+use Rattle.tt_scan_edges.specs.Winding.{column_x}
 use Rattle.tt_scan.proofs.Standing.{stand, few_stand, sum_kept, sum_of_edges, up_of, down_of, on_of, wound, touched}
 use Rattle.tt_scan.proofs.Walked.{sum_of_entries, few_met}
 

@@ -6,20 +6,29 @@ use Rattle.std.proofs.lemmas.Bool.{cases_eq}
 use Rattle.std.proofs.lemmas.List.{append-nil, map-append, take_more, take-append-drop, get_or-drop, length-drop, length-map, get_or-set_same, get_or-set_other}
 use Rattle.std.proofs.lemmas.List.Elements.{All-push, All-cons, filter-append}
 use Rattle.std.proofs.lemmas.List.Sums.{sum_by-cons, sum_by_push, sum_by-take-le}
-use Rattle.tt_scan.specs.declared.edge.Edge.{Edge}
-use Rattle.tt_scan.specs.declared.edge.Frame.{Frame}
-use Rattle.tt_scan.specs.declared.edge_table.Entry.{Entry}
-use Rattle.tt_scan.specs.declared.mark.Mark.{Mark}
-use Rattle.tt_scan.specs.declared.mark.Span.{Span}
-use Rattle.tt_scan.specs.declared.walk.Walk.{Walk}
-use Rattle.tt_scan.specs.Crossing.{AreRows}
-use Rattle.tt_scan.specs.EdgeTable.{AreLeft, AreWalked, IsInOrder, IsWalkAt, edge_of, edges_of, if_on, is_long, meets_row}
-use Rattle.tt_scan.specs.Marks.{covers, turns}
-use Rattle.tt_scan.specs.Walks.{IsWalk}
-use Rattle.tt_scan.specs.Winding.{column_x, row_y, is_between, lies_on, turned}
-use Rattle.tt_scan.proofs.ActiveEdges.{none_met}
-use Rattle.tt_scan.proofs.Crosses.{level_here}
+use Rattle.tt_scan_edges.specs.declared.edge.Edge.{Edge}
+use Rattle.tt_scan_edges.specs.declared.edge.Frame.{Frame}
+use Rattle.tt_scan_edges.specs.declared.entry.Entry.{Entry}
+use Rattle.tt_scan_edges.specs.declared.mark.Mark.{Mark}
+use Rattle.tt_scan_edges.specs.declared.mark.Span.{Span}
+use Rattle.tt_scan_edges.specs.declared.walk.Walk.{Walk}
+use Rattle.tt_scan_edges.specs.Crossing.{AreRows}
+use Rattle.tt_scan_edges.specs.Entries.{IsInOrder, edge_of}
+use Rattle.tt_scan.specs.EdgeTable.{AreLeft, AreWalked, IsWalkAt, edges_of, if_on, is_long, meets_row}
+use Rattle.tt_scan_edges.specs.Marks.{covers, turns}
+use Rattle.tt_scan_edges.specs.Walks.{IsWalk}
+use Rattle.tt_scan_edges.specs.Winding.{column_x, row_y, is_between, lies_on, turned}
+use Rattle.tt_scan_edges.proofs.Crosses.{level_here}
 use Rattle.tt_scan.proofs.Standing.{on_push, winding_push}
+
+-- no edge meets the row where all begin below it
+
+pub none_met : (r : ℤ) (ms : List Entry) → ((i : ℕ) (d : Entry) → i < length ms → r <ℤ (get_or ms i d).first) → filter (meets_row r) ms ≡ []
+none_met r [] left = refl
+none_met r (m ∷ ms) left =
+    let one = left 0 m (omega arith) in
+    let off : meets_row r m ≡ false = grind (arith, ints) in
+    rw off (none_met r ms (λ k d below. left (suc k) d (omega arith)))
 
 -- a walk of the row above
 

@@ -1,18 +1,18 @@
 -- No part of the standard: the edge table of a scan converter. Its entries are the edges that meet some row of the
 -- frame, and some of these are walked from row to row.
-use Rattle.std.specs.Prelude.{◌≡◌, ◌≢◌, ℕ, ◌<◌, ◌≤◌, Bool, true, false, ℤ, pos, int_lt, ◌<ℤ◌, ◌≤ℤ◌, ◌+ℤ◌, ◌-ℤ◌, unsigned_abs, if◌then◌else◌, List, map, length, get_or, take, sum_by, vec_capacity, All}
-use Rattle.tt_scan.specs.declared.edge.Edge.{Edge}
-use Rattle.tt_scan.specs.declared.edge.Frame.{Frame}
+use Rattle.std.specs.Prelude.{◌≡◌, ℕ, ◌<◌, ◌≤◌, Bool, true, false, ℤ, pos, int_lt, ◌<ℤ◌, ◌≤ℤ◌, ◌+ℤ◌, ◌-ℤ◌, unsigned_abs, if◌then◌else◌, List, map, length, take, sum_by, vec_capacity, All}
+use Rattle.tt_scan_edges.specs.declared.edge.Edge.{Edge}
+use Rattle.tt_scan_edges.specs.declared.edge.Frame.{Frame}
 use Rattle.tt_scan.specs.declared.edge_table.EdgeTable.{EdgeTable}
-use Rattle.tt_scan.specs.declared.edge_table.Entry.{Entry}
-use Rattle.tt_scan.specs.declared.mark.Mark.{Mark}
-use Rattle.tt_scan.specs.declared.mark.Span.{Span}
-use Rattle.tt_scan.specs.declared.walk.Walk.{Walk}
-use Rattle.tt_scan.specs.Crossing.{AreRows, has_row}
-use Rattle.tt_scan.specs.Marks.{covers, turns}
-use Rattle.tt_scan.specs.Tape.{edge_at}
-use Rattle.tt_scan.specs.Walks.{IsWalk}
-use Rattle.tt_scan.specs.Winding.{column_x, row_y, is_between, lies_on_one, winding}
+use Rattle.tt_scan_edges.specs.declared.entry.Entry.{Entry}
+use Rattle.tt_scan_edges.specs.declared.mark.Mark.{Mark}
+use Rattle.tt_scan_edges.specs.declared.mark.Span.{Span}
+use Rattle.tt_scan_edges.specs.declared.walk.Walk.{Walk}
+use Rattle.tt_scan_edges.specs.Crossing.{AreRows, has_row}
+use Rattle.tt_scan_edges.specs.Marks.{covers, turns}
+use Rattle.tt_scan_edges.specs.Entries.{IsInOrder, edge_of}
+use Rattle.tt_scan_edges.specs.Walks.{IsWalk}
+use Rattle.tt_scan_edges.specs.Winding.{column_x, row_y, is_between, lies_on_one, winding}
 
 -- the edge of an entry meets a row
 abbrev pub meets_row : ℤ → Entry → Bool
@@ -22,25 +22,8 @@ meets_row r m = has_row (m.first, m.past) r
 abbrev pub rows_in : Entry → ℕ
 rows_in m = unsigned_abs (m.past -ℤ m.first)
 
--- the edge of an entry, among the edges of a tape
-abbrev pub edge_of : List Edge → Entry → Edge
-edge_of es m = edge_at es m.edge
-
 abbrev pub edges_of : List Edge → List Entry → List Edge
 edges_of es ms = map (λ m. edge_of es m) ms
-
--- the edges that begin below a row are in order of their first rows
-abbrev pub IsInOrder : List Entry → ℤ → Type 0
-IsInOrder ms row = (i j : ℕ) (d : Entry) → i ≤ j → j < length ms → row <ℤ (get_or ms i d).first
-    → (get_or ms i d).first ≤ℤ (get_or ms j d).first
-
--- the first `n` entries are in order of their first rows
-abbrev pub IsOrderedTo : List Entry → ℕ → Type 0
-IsOrderedTo ms n = (i j : ℕ) (d : Entry) → i ≤ j → j < n → (get_or ms i d).first ≤ℤ (get_or ms j d).first
-
--- the first `n` entries are in order, but entry `k` may belong before its place
-abbrev pub IsOrderedBut : List Entry → ℕ → ℕ → Type 0
-IsOrderedBut ms n k = (i j : ℕ) (d : Entry) → i ≤ j → j < n → j ≢ k → (get_or ms i d).first ≤ℤ (get_or ms j d).first
 
 -- 1 where an edge has rows below its first, else 0
 abbrev pub is_long : Entry → ℕ

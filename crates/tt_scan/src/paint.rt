@@ -2,10 +2,10 @@
 
 ghost use Rattle.std.specs.Prelude.{◌≡◌, ℕ, ◌*◌, ◌^◌, ◌<◌, ◌≤◌, ◌+ℤ◌, ◌-ℤ◌, ◌&&◌, ◌||◌, nat_le, nat_lt, int_le, pos, length, unsigned_abs};
 ghost use Rattle.tt_core.specs.Bits.{bit};
-ghost use Rattle.tt_scan.specs.Marks.{covers, covers_from};
+ghost use Rattle.tt_scan_edges.specs.Marks.{covers, covers_from};
 
 use crate::bytes::fill;
-use crate::mark::Span;
+use tt_scan_edges::Span;
 
 /// The columns that a row of bytes shows: `width` columns, from `low` on.
 #[derive(Clone, Copy)]

@@ -2,18 +2,16 @@
 
 ghost use Rattle.std.specs.Prelude.{◌≡◌, ℕ, ℤ, ◌+◌, ◌-ℤ◌, ◌*◌, ◌^◌, ◌<◌, ◌≤◌, ◌<ℤ◌, ◌≤ℤ◌, ◌&&◌, ◌||◌, nat_lt, pos, [], length, unsigned_abs, IfOk};
 ghost use Rattle.tt_core.specs.Bits.{bit};
-ghost use Rattle.tt_scan.specs.Bounds.{AreBounds};
-ghost use Rattle.tt_scan.specs.Marks.{covers, covers_from};
-ghost use Rattle.tt_scan.specs.Winding.{is_black, column_x, row_y, rows_met};
+ghost use Rattle.tt_scan_edges.specs.Bounds.{AreBounds};
+ghost use Rattle.tt_scan_edges.specs.Marks.{covers, covers_from};
+ghost use Rattle.tt_scan_edges.specs.Winding.{is_black, column_x, row_y, rows_met};
 
-use crate::bounds::bounds_of;
-use crate::mark::{Mark, Span};
 use crate::paint::paint_spans;
 use crate::stamp::{Stamp, paint_from, paint_stamp, stamped};
-use crate::stretch::wind;
 use crate::tape::Tape;
 use std::alloc::{AllocError, Global};
 use std::marker::Model;
+use tt_scan_edges::{Mark, Span, bounds_of, wind};
 
 /// The black columns of a row, and memory for the rows of a tape.
 #[derive(Drop)]
@@ -28,7 +26,7 @@ pub struct Sweep {
 impl Model for Sweep {
     ghost use Rattle.std.specs.Prelude.{IfSome, ◌+◌, ◌*◌, ◌^◌, ◌<◌, ◌≤◌, length};
     ghost use Rattle.std.specs.Vec.{vec_capacity};
-    ghost use Rattle.tt_scan.specs.Marks.{Swept};
+    ghost use Rattle.tt_scan_edges.specs.Marks.{Swept};
     ghost use Rattle.tt_scan.specs.Stamps.{IsStampOf};
 
     ghost Value = { Swept };

@@ -1,8 +1,8 @@
 use Rattle.std.proofs.Common.{◌≡◌, ◌∙◌, SFits, to_z, w8, w32, w64, of_z, rules, arith, refl}
 use Rattle.std.proofs.lemmas.Int.{ints, to_z-of_z}
-use Rattle.tt_scan.specs.Marks.{turns}
-use Rattle.tt_scan.proofs.Stretches.{turns_more}
-use Rattle.tt_scan.proofs.Visits.{sign_is}
+use Rattle.tt_scan_edges.specs.Marks.{turns}
+use Rattle.tt_scan_edges.proofs.Stretches.{turns_more}
+use Rattle.tt_scan_edges.proofs.Visits.{sign_is}
 use Rattle.tt_scan.proofs.collect.leave_mark.Goals as goal
 
 pub returns-clause-turns : goal.returns-clause-turns

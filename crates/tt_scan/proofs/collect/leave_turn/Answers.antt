@@ -1,5 +1,5 @@
 use Rattle.std.proofs.Common.{◌∙◌, ap, of_z, w8}
-use Rattle.tt_scan.proofs.Stretches.{turns_permuted}
+use Rattle.tt_scan_edges.proofs.Stretches.{turns_permuted}
 use Rattle.tt_scan.proofs.collect.leave_turn.Goals as goal
 
 pub leave_mark-requires-clause-some : goal.leave_mark-requires-clause-some

@@ -2,7 +2,7 @@ use Rattle.std.proofs.Common.{◌≡◌, ◌∙◌, sym, ap, ◌+◌, [], ◌∷
 use Rattle.std.proofs.lemmas.Int.{to_z-of_z}
 use Rattle.std.proofs.lemmas.List.{get_or_default, take_all}
 use Rattle.tt_scan.specs.EdgeTable.{AreLeft, AreWalked, meets_row}
-use Rattle.tt_scan.proofs.ActiveEdges.{no_entry, is_less, reached}
+use Rattle.tt_scan_edges.proofs.Orders.{no_entry, is_less, reached}
 use Rattle.tt_scan.proofs.Walked.{all_met, room_for_mark, room_for_walk, walked_more, met_more}
 use Rattle.tt_scan.proofs.collect.visit_begun.Goals as goal
 

@@ -4,10 +4,11 @@ use Rattle.std.proofs.lemmas.List.{append-nil}
 use Rattle.std.proofs.lemmas.List.Elements.{All-push}
 use Rattle.std.proofs.lemmas.List.Sorted.{All-permutation, sum_by-IsPermutation}
 use Rattle.std.proofs.lemmas.List.Sums.{sum_by_push}
-use Rattle.tt_scan.specs.declared.walk.Walk.{Walk}
-use Rattle.tt_scan.specs.EdgeTable.{IsWalkAt, edge_of, meets_row}
-use Rattle.tt_scan.specs.Walks.{IsWalk}
-use Rattle.tt_scan.proofs.ActiveEdges.{is_less, reached}
+use Rattle.tt_scan_edges.specs.declared.walk.Walk.{Walk}
+use Rattle.tt_scan_edges.specs.Entries.{edge_of}
+use Rattle.tt_scan.specs.EdgeTable.{IsWalkAt, meets_row}
+use Rattle.tt_scan_edges.specs.Walks.{IsWalk}
+use Rattle.tt_scan_edges.proofs.Orders.{is_less, reached}
 use Rattle.tt_scan.proofs.Walked.{inside, ended_above, met_at, sloped_long, left_push, begun_at}
 use Rattle.tt_scan.proofs.collect.visit_entry.Goals as goal
 

@@ -1,7 +1,7 @@
 use Rattle.std.proofs.Common.{SFits, w64, w8, rules}
 use Rattle.std.proofs.lemmas.Int.{to_z-of_z}
-use Rattle.tt_scan.specs.Crossing.{IsCross}
-use Rattle.tt_scan.specs.EdgeTable.{edge_of}
+use Rattle.tt_scan_edges.specs.Crossing.{IsCross}
+use Rattle.tt_scan_edges.specs.Entries.{edge_of}
 use Rattle.tt_scan.proofs.collect.visit_first.Goals as goal
 
 crossed : (c : goal.After-sink_walk) → IsCross (edge_of c.args.edges.now.edges c.args.entry) c.args.margin c.args.y c.start.result.1

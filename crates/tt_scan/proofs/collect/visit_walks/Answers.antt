@@ -2,9 +2,10 @@ use Rattle.std.proofs.Common.{◌≡◌, ◌∙◌, ◌<◌, add_assoc, length, 
 use Rattle.std.proofs.Math.Seq.{take-length, map-set_same}
 use Rattle.std.proofs.lemmas.Int.{to_z-of_z}
 use Rattle.std.proofs.lemmas.List.{length-map, length-set, get_or-set_same}
-use Rattle.tt_scan.specs.declared.walk.Walk.{Walk}
-use Rattle.tt_scan.specs.EdgeTable.{AreLeft, IsWalkAt, edge_of}
-use Rattle.tt_scan.specs.Walks.{IsWalk}
+use Rattle.tt_scan_edges.specs.declared.walk.Walk.{Walk}
+use Rattle.tt_scan_edges.specs.Entries.{edge_of}
+use Rattle.tt_scan.specs.EdgeTable.{AreLeft, IsWalkAt}
+use Rattle.tt_scan_edges.specs.Walks.{IsWalk}
 use Rattle.tt_scan.proofs.Walked.{no_walk, walk_here, walked_here, set_walked, set_above, entries_more, left_push}
 use Rattle.tt_scan.proofs.collect.visit_walks.Goals as goal
 

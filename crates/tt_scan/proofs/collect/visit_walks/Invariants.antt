@@ -1,5 +1,5 @@
 use Rattle.std.proofs.Common.{◌≡◌, ℕ, ◌+◌, ◌<◌, ◌≤◌, false, get_or, length, map, take, vec_capacity, ◌+ℤ◌, ◌<ℤ◌, pos}
-use Rattle.tt_scan.specs.declared.walk.Walk.{Walk}
+use Rattle.tt_scan_edges.specs.declared.walk.Walk.{Walk}
 use Rattle.tt_scan.specs.EdgeTable.{AreLeft, IsWalkAt}
 use Rattle.tt_scan.proofs.collect.visit_walks.Given as goal
 

@@ -1,7 +1,7 @@
 use Rattle.std.proofs.Common.{Bool, ◌∙◌, ◌||◌, ap, refl, SFits, w64, rules}
 use Rattle.std.proofs.lemmas.Int.{to_z-of_z}
 use Rattle.tt_core.specs.Bits.{bit}
-use Rattle.tt_scan.proofs.Visits.{within_width}
+use Rattle.tt_scan_edges.proofs.Visits.{within_width}
 use Rattle.tt_scan.proofs.paint.paint_span.Goals as goal
 
 pub returns-clause-bits : goal.returns-clause-bits

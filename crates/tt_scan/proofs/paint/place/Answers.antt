@@ -1,7 +1,7 @@
 use Rattle.std.proofs.Common.{◌≡◌, ◌+ℤ◌, ◌-ℤ◌, pos, SFits, w64, rules, arith}
 use Rattle.std.specs.Int.{int_min, int_max}
 use Rattle.std.proofs.lemmas.Int.{ints, to_z-of_z}
-use Rattle.tt_scan.proofs.Ranges.{placed, within_fits}
+use Rattle.tt_scan_edges.proofs.Ranges.{placed, within_fits}
 use Rattle.tt_scan.proofs.paint.place.Goals as goal
 
 pub returns : goal.returns

@@ -1,8 +1,8 @@
 use Rattle.std.proofs.Common.{◌≡◌, ◌∙◌, ◌||◌, SFits, w64, pos, refl}
 use Rattle.std.proofs.lemmas.Int.{to_z-of_z}
-use Rattle.tt_scan.specs.Marks.{covers, turns, stretches}
-use Rattle.tt_scan.specs.Winding.{column_x, row_y, lies_on_one, winding}
-use Rattle.tt_scan.proofs.Stretches.{all_stretches}
+use Rattle.tt_scan_edges.specs.Marks.{covers, turns, stretches}
+use Rattle.tt_scan_edges.specs.Winding.{column_x, row_y, lies_on_one, winding}
+use Rattle.tt_scan_edges.proofs.Stretches.{all_stretches}
 use Rattle.tt_scan.proofs.sweep.Sweep.cut.Goals as goal
 
 pub returns-clause-black : goal.returns-clause-black

@@ -1,9 +1,9 @@
 use Rattle.std.proofs.Common.{◌≡◌, ◌∙◌, refl, SFits, w32, w64, rules, arith}
 use Rattle.std.proofs.lemmas.Int.{ints, to_z-of_z}
-use Rattle.tt_scan.specs.Marks.{turns}
-use Rattle.tt_scan.specs.Winding.{FrameFits, column_x, row_y, winding}
+use Rattle.tt_scan_edges.specs.Marks.{turns}
+use Rattle.tt_scan_edges.specs.Winding.{FrameFits, column_x, row_y, winding}
 use Rattle.tt_scan.proofs.Reached.{ready_kept}
-use Rattle.tt_scan.proofs.Stretches.{turns_permuted}
+use Rattle.tt_scan_edges.proofs.Stretches.{turns_permuted}
 use Rattle.tt_scan.proofs.tape.Tape.collect.Goals as goal
 
 pub visit-requires-clause-high : goal.visit-requires-clause-high
