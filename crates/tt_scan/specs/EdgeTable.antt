@@ -5,14 +5,11 @@ use Rattle.tt_scan_edges.specs.declared.edge.Edge.{Edge}
 use Rattle.tt_scan_edges.specs.declared.edge.Frame.{Frame}
 use Rattle.tt_scan.specs.declared.edge_table.EdgeTable.{EdgeTable}
 use Rattle.tt_scan_edges.specs.declared.entry.Entry.{Entry}
-use Rattle.tt_scan_edges.specs.declared.mark.Mark.{Mark}
-use Rattle.tt_scan_edges.specs.declared.mark.Span.{Span}
 use Rattle.tt_scan_edges.specs.declared.walk.Walk.{Walk}
 use Rattle.tt_scan_edges.specs.Crossing.{AreRows, has_row}
-use Rattle.tt_scan_edges.specs.Marks.{covers, turns}
 use Rattle.tt_scan_edges.specs.Entries.{IsInOrder, edge_of}
 use Rattle.tt_scan_edges.specs.Walks.{IsWalk}
-use Rattle.tt_scan_edges.specs.Winding.{column_x, row_y, is_between, lies_on_one, winding}
+use Rattle.tt_scan_edges.specs.Winding.{row_y, is_between}
 
 -- the edge of an entry meets a row
 abbrev pub meets_row : ℤ → Entry → Bool
@@ -33,6 +30,11 @@ is_long m = if int_lt (m.first +ℤ pos 1) m.past then 1 else 0
 abbrev pub if_on : ℤ → (Entry → ℕ) → Entry → ℕ
 if_on row g m = if int_lt (row +ℤ pos 1) m.past then g m else 0
 
+-- an entry has the number of an edge, and its rows
+pub record IsEntryOf (es : List Edge) (f : Frame) (m : Entry) : Type 0 where
+  pub number : m.edge < length es
+  pub rows : AreRows (edge_of es m) f (m.first, m.past)
+
 -- a walk of an edge in a row that the edge meets
 pub record IsWalkAt (es : List Edge) (f : Frame) (row : ℤ) (w : Walk) : Type 0 where
   pub number : w.entry.edge < length es
@@ -48,13 +50,6 @@ pub record AreWalked (es : List Edge) (f : Frame) (row : ℤ) (ms : List Entry) 
   pub sums : (g : Entry → ℕ) → sum_by (λ w. g w.entry) ws ≡ sum_by (if_on row g) (take begun ms)
   pub walks : All (IsWalkAt es f row) ws
   pub on : All (λ w. (row +ℤ pos 1) <ℤ w.entry.past) ws
-
--- the marks and spans of some entries' edges at the height of a row
-pub record AreLeft (es : List Edge) (margin : ℕ) (y : ℤ) (ms : List Entry) (left : List Mark) (spans : List Span) : Type 0 where
-  pub black : (c : ℤ) → covers spans c ≡ lies_on_one (edges_of es ms) (column_x margin c) y
-  pub turn : (c : ℤ) → turns left c ≡ winding (edges_of es ms) (column_x margin c) y
-  pub count : length left ≤ length ms
-  pub black_count : length spans ≤ length ms
 
 -- no row of the frame meets an edge
 abbrev pub IsUnmet : Frame → Edge → Type 0

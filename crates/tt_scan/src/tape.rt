@@ -1,10 +1,11 @@
 //! The edges of one glyph, in the frame of its picture. `CountedEdges` stores them, so that each crossing is counted.
 
-ghost use Rattle.std.specs.Prelude.{◌≡◌, ℤ, false, int_lt, if◌then◌else◌, vec_capacity, ◌+◌, ◌*◌, ◌^◌, ◌<◌, ◌≤◌, ◌<ℤ◌, ◌≤ℤ◌, pos, List, length, [], ◌∷◌, ◌++◌, unsigned_abs, All, IfOk, OnOk, OnErr};
+ghost use Rattle.std.specs.Prelude.{◌≡◌, ℤ, false, int_lt, if◌then◌else◌, ◌+◌, ◌*◌, ◌^◌, ◌<◌, ◌≤◌, ◌<ℤ◌, ◌≤ℤ◌, pos, List, length, [], ◌∷◌, ◌++◌, unsigned_abs, All, IfOk, OnOk, OnErr};
 ghost use Rattle.tt_scan_edges.specs.declared.edge.Edge.{Edge};
 ghost use Rattle.tt_core.specs.Limits.{width_limit, height_limit};
-ghost use Rattle.tt_scan_edges.specs.Winding.{EdgeFits, FrameFits, is_black, column_x, row_y, lies_on_one, winding, rows_met, crossings_of};
-ghost use Rattle.tt_scan_edges.specs.Marks.{covers, turns, IsRising};
+ghost use Rattle.tt_scan_edges.specs.Winding.{EdgeFits, FrameFits, is_black, column_x, row_y, rows_met, crossings_of};
+ghost use Rattle.tt_scan_edges.specs.Marks.{IsRising};
+ghost use Rattle.tt_scan_edges.specs.Left.{IsBlank, IsLeftBy};
 ghost use Rattle.tt_scan_edges.specs.Crossing.{IsCross, AreRows, AreAllRows, has_row};
 ghost use Rattle.tt_scan.specs.EdgeList.{AreEntered};
 ghost use Rattle.tt_scan.specs.EdgeTable.{HasRoom};
@@ -12,10 +13,11 @@ ghost use Rattle.tt_scan_edges.specs.Counted.{edge_at};
 
 use crate::edge_list::EdgeList;
 use crate::edge_table::EdgeTable;
+use crate::row_at::RowAt;
 use crate::rows::{gap_at, gap_from, is_in, join, row_range, widened};
 use std::alloc::{AllocError, Global};
 use std::marker::Model;
-use tt_scan_edges::{CountedEdges, Cross, Edge, Entry, Frame, Mark, Span, row_height};
+use tt_scan_edges::{CountedEdges, Cross, Edge, Entry, Frame, RowLeft, row_height};
 
 /// The edges of one glyph, in the frame of its picture.
 #[derive(Drop)]
@@ -282,29 +284,19 @@ impl Tape {
 
     /// Adds the marks of the edges that meet a row, in order of their columns, and the spans that they touch. Each of
     /// these edges is crossed once, and no other edge is.
-    pub(crate) fn collect(&mut self, r: i64, marks: &mut Vec<Mark>, black: &mut Vec<Span>)
+    pub(crate) fn collect(&mut self, r: i64, left: &mut RowLeft)
         requires row_low { pos 0 ≤ℤ r }
         requires row_high { r <ℤ pos self.old.frame.height }
         requires count { self.old.crosses + length self.old.edges ≤ 2 ^ 63 }
-        requires none { marks.old.items ≡ [] }
-        requires white { black.old.items ≡ [] }
-        requires room { length self.old.edges ≤ vec_capacity marks.old }
-        requires black_room { length self.old.edges ≤ vec_capacity black.old }
-        ensures black { (c : ℤ) → covers black.new.items c
-            ≡ lies_on_one self.old.edges (column_x self.old.frame.margin c) (row_y self.old.frame r) }
-        ensures turns { (c : ℤ) → turns marks.new.items c
-            ≡ winding self.old.edges (column_x self.old.frame.margin c) (row_y self.old.frame r) }
-        ensures order { IsRising marks.new.items }
-        ensures count { length marks.new.items ≤ length self.old.edges }
-        ensures black_count { length black.new.items ≤ length self.old.edges }
-        ensures capacity { vec_capacity marks.new ≡ vec_capacity marks.old }
-        ensures black_capacity { vec_capacity black.new ≡ vec_capacity black.old }
+        requires blank { IsBlank left.old }
+        requires room { length self.old.edges ≤ left.old.most }
+        ensures left { IsLeftBy self.old.edges self.old.frame.margin (row_y self.old.frame r) left.old.most left.new }
+        ensures order { IsRising left.new.marks }
         ensures tape { self.new ≡ record self.old { crosses = self.new.crosses } }
         ensures crosses { self.new.crosses ≡ self.old.crosses + rows_met self.old.edges (row_y self.old.frame r) }
     {
-        let y = row_height(self.frame, r);
-        self.table
-            .visit(&mut self.edges, self.frame, y, r as i32, marks, black);
-        self.table.settle(marks);
+        let at = RowAt::of(self.frame, r);
+        self.table.visit(&mut self.edges, at, left);
+        self.table.settle(left);
     }
 }

@@ -1,4 +1,5 @@
 pub mod Bools
+pub mod Crossed
 pub mod Crosses
 pub mod Edges
 pub mod Extents

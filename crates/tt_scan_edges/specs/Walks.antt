@@ -1,10 +1,10 @@
 -- No part of the standard: the place of a rising edge at the centre line of a row, as a column and a rest, and what
 -- both lose from row to row.
-use Rattle.std.specs.Prelude.{◌≡◌, ℕ, ◌^◌, ◌<◌, ◌≤◌, ℤ, pos, negsuc, unsigned_abs, ◌+ℤ◌, ◌-ℤ◌, ◌*ℤ◌, ◌≤ℤ◌, ◌<ℤ◌}
+use Rattle.std.specs.Prelude.{◌≡◌, ◌≢◌, true, ℕ, ◌^◌, ◌<◌, ◌≤◌, ℤ, pos, negsuc, unsigned_abs, ◌+ℤ◌, ◌-ℤ◌, ◌*ℤ◌, ◌≤ℤ◌, ◌<ℤ◌}
 use Rattle.tt_scan_edges.specs.declared.edge.Edge.{Edge}
 use Rattle.tt_scan_edges.specs.declared.quotient.Quotient.{Quotient}
 use Rattle.tt_scan_edges.specs.declared.walk.Walk.{Walk}
-use Rattle.tt_scan_edges.specs.Winding.{column_x}
+use Rattle.tt_scan_edges.specs.Winding.{column_x, is_between}
 
 -- 8192 times the rise of an edge
 abbrev pub divisor_of : Edge → ℤ
@@ -50,6 +50,13 @@ pub record IsWalkUp (e : Edge) (margin : ℕ) (y way : ℤ) (w : Walk) : Type 0 
 pub record IsWalk (e : Edge) (margin : ℕ) (y : ℤ) (w : Walk) : Type 0 where
   pub rises : e.ay <ℤ e.by → IsWalkUp e margin y (pos 1) w
   pub falls : e.by <ℤ e.ay → IsWalkUp (turned_round e) margin y (negsuc 0) w
+
+-- an edge that is not level, which meets the row at a height and the row above it, where it is walked
+pub record GoesBelow (e : Edge) (margin : ℕ) (y : ℤ) (w : Walk) : Type 0 where
+  pub sloped : e.ay ≢ e.by
+  pub met : is_between e.ay e.by y ≡ true
+  pub above : is_between e.ay e.by (y +ℤ pos 8192) ≡ true
+  pub walk : IsWalk e margin (y +ℤ pos 8192) w
 
 -- numbers small enough for a row down
 pub record WalkFits (w : Walk) : Type 0 where

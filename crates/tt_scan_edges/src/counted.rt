@@ -2,13 +2,13 @@
 //! edge's columns at a height, and each call counts. `lend` lends the edges to those who need their rows, and to dropout
 //! control.
 
-ghost use Rattle.std.specs.Prelude.{◌≡◌, true, ◌+◌, ◌^◌, ◌≢◌, ◌+ℤ◌, pos, ◌<◌, ◌≤◌, length, [], ◌∷◌, ◌++◌, unsigned_abs, IfOk, OnOk};
+ghost use Rattle.std.specs.Prelude.{◌≡◌, true, ◌+◌, ◌^◌, ◌≢◌, pos, ◌<◌, ◌≤◌, length, [], ◌∷◌, ◌++◌, unsigned_abs, IfOk, OnOk};
 ghost use Rattle.tt_core.specs.Limits.{margin_limit};
 ghost use Rattle.tt_scan_edges.specs.Winding.{EdgeFits, is_between};
 ghost use Rattle.tt_scan_edges.specs.Crossing.{IsCross};
 ghost use Rattle.tt_scan_edges.specs.Entries.{edge_of};
 ghost use Rattle.tt_scan_edges.specs.Counted.{edge_at};
-ghost use Rattle.tt_scan_edges.specs.Walks.{IsWalk};
+ghost use Rattle.tt_scan_edges.specs.Walks.{GoesBelow, IsWalk};
 
 use crate::crossing::{crossing, crossing_met};
 use crate::edge::{Cross, Edge};
@@ -91,6 +91,7 @@ impl CountedEdges {
     }
 
     /// The edges, for their rows and for dropout control.
+    #[inline(always)]
     pub fn lend(&self) -> &[Edge]
         ensures { result.now ≡ self.now.edges }
     {
@@ -171,10 +172,7 @@ impl CountedEdges {
         requires within { walk.old.entry.edge < length self.old.edges }
         requires edge { EdgeFits (edge_of self.old.edges walk.old.entry) }
         requires margin { margin ≤ margin_limit }
-        requires sloped { (edge_of self.old.edges walk.old.entry).ay ≢ (edge_of self.old.edges walk.old.entry).by }
-        requires met { is_between (edge_of self.old.edges walk.old.entry).ay (edge_of self.old.edges walk.old.entry).by y ≡ true }
-        requires above { is_between (edge_of self.old.edges walk.old.entry).ay (edge_of self.old.edges walk.old.entry).by (y +ℤ pos 8192) ≡ true }
-        requires walk { IsWalk (edge_of self.old.edges walk.old.entry) margin (y +ℤ pos 8192) walk.old }
+        requires below { GoesBelow (edge_of self.old.edges walk.old.entry) margin y walk.old }
         requires count { self.old.crosses < 2 ^ 63 }
         ensures exact { IsCross (edge_of self.old.edges walk.old.entry) margin y result }
         ensures bound { unsigned_abs result.turn ≤ 1 }

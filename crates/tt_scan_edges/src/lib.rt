@@ -9,7 +9,8 @@
 //! counted.rt     the edges of a glyph; each crossing is counted
 //! pixel.rt       one pixel by all edges
 //! entry.rt       an edge by its number, with its rows; row_order.rt sorts entries by their first rows
-//! mark.rt        what a crossing leaves in its row: a mark for its turn, and a black span
+//! left.rt        what crossings leave in a row: black spans, where edges touch centres (rule 2), and marks of turns
+//! mark.rt        a mark, and a span
 //! stretch.rt     the marks in order of their columns, and black spans where their sum isn't 0 (rule 1)
 //! insertion.rt   sorting marks and walks, which are nearly in order
 //! bounds.rt      the least and the greatest black column
@@ -24,6 +25,7 @@ mod crossing;
 mod edge;
 mod entry;
 mod insertion;
+mod left;
 mod mark;
 mod pixel;
 mod quotient;
@@ -36,7 +38,7 @@ pub use counted::CountedEdges;
 pub use crossing::row_height;
 pub use edge::{Cross, Edge, Frame};
 pub use entry::Entry;
-pub use mark::{Mark, Span};
+pub use left::RowLeft;
+pub use mark::Span;
 pub use row_order::sort_by_first_row;
-pub use stretch::{is_rising, settle, sink, wind};
-pub use walk::{Walk, settle_walks, sink_walk};
+pub use walk::{Walk, add_walk, settle_walks};

@@ -7,11 +7,11 @@ use crate::insertion::HasColumn;
 
 /// An edge turns left of the centres from this column on.
 #[derive(Clone, Copy)]
-pub struct Mark {
-    pub first: i32,
+pub(crate) struct Mark {
+    pub(crate) first: i32,
     /// Not below 0 where the edge rises: the edge adds 1 to the winding of those centres. Below 0 where it falls: it
     /// subtracts 1.
-    pub sign: i32,
+    pub(crate) sign: i32,
 }
 
 impl HasColumn for Mark {

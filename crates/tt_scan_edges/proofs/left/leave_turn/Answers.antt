@@ -1,6 +1,6 @@
 use Rattle.std.proofs.Common.{◌∙◌, ap, of_z, w8}
 use Rattle.tt_scan_edges.proofs.Stretches.{turns_permuted}
-use Rattle.tt_scan.proofs.collect.leave_turn.Goals as goal
+use Rattle.tt_scan_edges.proofs.left.leave_turn.Goals as goal
 
 pub leave_mark-requires-clause-some : goal.leave_mark-requires-clause-some
 leave_mark-requires-clause-some c = λ same. c.if-cross-ne0.true (ap (of_z w8) same)

@@ -3,7 +3,7 @@ use Rattle.std.proofs.lemmas.Int.{ints, to_z-of_z}
 use Rattle.tt_scan_edges.specs.Marks.{turns}
 use Rattle.tt_scan_edges.proofs.Stretches.{turns_more}
 use Rattle.tt_scan_edges.proofs.Visits.{sign_is}
-use Rattle.tt_scan.proofs.collect.leave_mark.Goals as goal
+use Rattle.tt_scan_edges.proofs.left.leave_mark.Goals as goal
 
 pub returns-clause-turns : goal.returns-clause-turns
 returns-clause-turns c = λ at.
